@@ -1,0 +1,9 @@
+pub mod FieldLemmas
+pub mod NameLemmas
+pub mod PatternLemmas
+pub mod RowLemmas
+pub mod SameLemmas
+pub mod WordLemmas
+pub mod OnlyLemmas
+pub mod Unique
+pub mod LowestLemmas

@@ -1,0 +1,28 @@
+//! Words of the ARM2 to instructions, and back.
+//!
+//! The formats are those of the VL86C010 data sheet. Where it leaves a word open, the word is
+//! undefined or unallocated by a choice of our own: see [`Unallocated`].
+#![tactic(auto)]
+
+mod clashes;
+mod field;
+mod flags;
+mod instr;
+mod laws;
+mod names;
+mod reading;
+#[cfg(test)]
+mod tests;
+mod writing;
+
+pub use field::Field;
+pub use flags::{Flags, holds};
+pub use instr::{
+    Block, Branch, Coprocessor, CoprocessorTransfer, DataImmediate, DataRegister,
+    DataRegisterShift, Instr, Multiply, Operation, SingleImmediate, SingleRegister, Swi,
+    Unallocated, UndefinedTransfer,
+};
+pub use laws::{decode_encoded, encode_decoded};
+pub use names::{Cond, Opcode, Register, Shift};
+pub use reading::decode;
+pub use writing::encode;

@@ -1,0 +1,192 @@
+ghost use Rattle.std.specs.Prelude.{◌≡◌, ◌<◌};
+ghost use Rattle.arm2_decode.specs.Names.{cond_number, opcode_number, shift_number, register_number};
+
+// The variant of a number: the last one stands for all numbers that follow.
+macro_rules! variant {
+    ($number:expr, $type:ident: $($n:literal $name:ident)+, $last:ident) => {
+        match $number {
+            $($n => $type::$name,)+
+            _ => $type::$last,
+        }
+    };
+}
+
+/// When an instruction is carried out, by the flags; bits 31 to 28 of a word, from 0.
+#[derive(Clone, Copy, Debug, PartialEq, Eq)]
+pub enum Cond {
+    /// Z set.
+    Eq,
+    /// Z clear.
+    Ne,
+    /// C set.
+    Cs,
+    /// C clear.
+    Cc,
+    /// N set.
+    Mi,
+    /// N clear.
+    Pl,
+    /// V set.
+    Vs,
+    /// V clear.
+    Vc,
+    /// C set and Z clear.
+    Hi,
+    /// C clear or Z set.
+    Ls,
+    /// N equals V.
+    Ge,
+    /// N differs from V.
+    Lt,
+    /// Z clear, and N equals V.
+    Gt,
+    /// Z set, or N differs from V.
+    Le,
+    /// Always.
+    Al,
+    /// Never.
+    Nv,
+}
+
+impl Cond {
+    /// The number in a word, in the order of the variants from 0.
+    pub fn number(self) -> u32
+        ensures number { result ≡ cond_number self }
+        ensures fits { result < 16 }
+    {
+        self as u32
+    }
+
+    /// The one with the number, from 0 to 15.
+    pub fn of(number: u32) -> Self
+        requires { number < 16 }
+        ensures { cond_number result ≡ number }
+    {
+        variant!(number, Cond: 0 Eq 1 Ne 2 Cs 3 Cc 4 Mi 5 Pl 6 Vs 7 Vc 8 Hi 9 Ls 10 Ge 11 Lt 12 Gt 13 Le 14 Al, Nv)
+    }
+}
+
+/// What a data processing instruction computes; bits 24 to 21 of a word, from 0.
+#[derive(Clone, Copy, Debug, PartialEq, Eq)]
+pub enum Opcode {
+    /// rn AND operand.
+    And,
+    /// rn exclusive OR operand.
+    Eor,
+    /// rn - operand.
+    Sub,
+    /// operand - rn.
+    Rsb,
+    /// rn + operand.
+    Add,
+    /// rn + operand + C.
+    Adc,
+    /// rn - operand, and - 1 where C is clear.
+    Sbc,
+    /// operand - rn, and - 1 where C is clear.
+    Rsc,
+    /// The flags of AND alone.
+    Tst,
+    /// The flags of EOR alone.
+    Teq,
+    /// The flags of SUB alone.
+    Cmp,
+    /// The flags of ADD alone.
+    Cmn,
+    /// rn OR operand.
+    Orr,
+    /// The operand.
+    Mov,
+    /// rn AND NOT operand.
+    Bic,
+    /// NOT operand.
+    Mvn,
+}
+
+impl Opcode {
+    /// The number in a word, in the order of the variants from 0.
+    pub fn number(self) -> u32
+        ensures number { result ≡ opcode_number self }
+        ensures fits { result < 16 }
+    {
+        self as u32
+    }
+
+    /// The one with the number, from 0 to 15.
+    pub fn of(number: u32) -> Self
+        requires { number < 16 }
+        ensures { opcode_number result ≡ number }
+    {
+        variant!(number, Opcode: 0 And 1 Eor 2 Sub 3 Rsb 4 Add 5 Adc 6 Sbc 7 Rsc 8 Tst 9 Teq 10 Cmp 11 Cmn 12 Orr 13 Mov 14 Bic, Mvn)
+    }
+}
+
+/// How an operand is shifted; bits 6 to 5 of a word, from 0.
+#[derive(Clone, Copy, Debug, PartialEq, Eq)]
+pub enum Shift {
+    /// To the left, zeros from below.
+    Lsl,
+    /// To the right, zeros from above.
+    Lsr,
+    /// To the right, copies of the top bit from above.
+    Asr,
+    /// To the right, and round to the top.
+    Ror,
+}
+
+impl Shift {
+    /// The number in a word, in the order of the variants from 0.
+    pub fn number(self) -> u32
+        ensures number { result ≡ shift_number self }
+        ensures fits { result < 4 }
+    {
+        self as u32
+    }
+
+    /// The one with the number, from 0 to 3.
+    pub fn of(number: u32) -> Self
+        requires { number < 4 }
+        ensures { shift_number result ≡ number }
+    {
+        variant!(number, Shift: 0 Lsl 1 Lsr 2 Asr, Ror)
+    }
+}
+
+/// One of the sixteen registers of the current mode. R15 is the program counter with the PSR.
+#[derive(Clone, Copy, Debug, PartialEq, Eq)]
+pub enum Register {
+    R0,
+    R1,
+    R2,
+    R3,
+    R4,
+    R5,
+    R6,
+    R7,
+    R8,
+    R9,
+    R10,
+    R11,
+    R12,
+    R13,
+    R14,
+    R15,
+}
+
+impl Register {
+    /// The number in a word, in the order of the variants from 0.
+    pub fn number(self) -> u32
+        ensures number { result ≡ register_number self }
+        ensures fits { result < 16 }
+    {
+        self as u32
+    }
+
+    /// The one with the number, from 0 to 15.
+    pub fn of(number: u32) -> Self
+        requires { number < 16 }
+        ensures { register_number result ≡ number }
+    {
+        variant!(number, Register: 0 R0 1 R1 2 R2 3 R3 4 R4 5 R5 6 R6 7 R7 8 R8 9 R9 10 R10 11 R11 12 R12 13 R13 14 R14, R15)
+    }
+}

@@ -1,0 +1,362 @@
+ghost use Rattle.std.specs.Prelude.{◌≡◌, ◌≢◌, IfOk, IfErr};
+ghost use Rattle.arm2_decode.specs.Bits.{bits};
+ghost use Rattle.arm2_decode.specs.declared.instr.Instr.{Instr};
+ghost use Rattle.arm2_decode.specs.Table.{Decodes, IsLowestBar, IsUnallocated, Means};
+
+use crate::clashes::{
+    block_clash_number, data_clash_number, data_shift_clash_number, multiply_clash_number,
+    single_clash_number, single_register_clash_number,
+};
+use crate::field::Field;
+use crate::instr::{
+    Block, Branch, Coprocessor, CoprocessorTransfer, DataImmediate, DataRegister,
+    DataRegisterShift, Instr, Multiply, Operation, SingleImmediate, SingleRegister, Swi,
+    Unallocated, UndefinedTransfer,
+};
+use crate::names::{Cond, Opcode, Register, Shift};
+
+#[tactic(auto, using(crate::proofs::RowLemmas::multiply_words))]
+fn multiply(word: u32) -> Result<Instr, Unallocated>
+    requires first { bits 27 22 word ≡ 0 }
+    requires second { bits 7 4 word ≡ 9 }
+    ensures { Decodes word result }
+{
+    let cond = Cond::of(Field::<31, 28>::get(word));
+    let accumulate = Field::<21, 21>::is_set(word);
+    let rd = Field::<19, 16>::get(word);
+    let rn = Field::<15, 12>::get(word);
+    let rs = Field::<11, 8>::get(word);
+    let rm = Field::<3, 0>::get(word);
+    let why = multiply_clash_number(accumulate, rd, rn, rs, rm);
+    if why != 0 {
+        return Err(Unallocated { cond, why });
+    }
+    let fields = Multiply {
+        accumulate,
+        sets_flags: Field::<20, 20>::is_set(word),
+        rd: Register::of(rd),
+        rn: Register::of(rn),
+        rs: Register::of(rs),
+        rm: Register::of(rm),
+    };
+    Ok(Instr {
+        cond,
+        operation: Operation::Multiply(fields),
+    })
+}
+
+#[tactic(auto, using(crate::proofs::RowLemmas::data_register_words))]
+fn data_register(word: u32) -> Result<Instr, Unallocated>
+    requires first { bits 27 25 word ≡ 0 }
+    requires second { bits 4 4 word ≡ 0 }
+    ensures { Decodes word result }
+{
+    let cond = Cond::of(Field::<31, 28>::get(word));
+    let opcode = Field::<24, 21>::get(word);
+    let sets_flags = Field::<20, 20>::is_set(word);
+    let why = data_clash_number(opcode, sets_flags);
+    if why != 0 {
+        return Err(Unallocated { cond, why });
+    }
+    let fields = DataRegister {
+        opcode: Opcode::of(opcode),
+        sets_flags,
+        rn: Register::of(Field::<19, 16>::get(word)),
+        rd: Register::of(Field::<15, 12>::get(word)),
+        amount: Field::<11, 7>::get(word),
+        shift: Shift::of(Field::<6, 5>::get(word)),
+        rm: Register::of(Field::<3, 0>::get(word)),
+    };
+    Ok(Instr {
+        cond,
+        operation: Operation::DataRegister(fields),
+    })
+}
+
+#[tactic(auto, using(crate::proofs::RowLemmas::data_register_shift_words))]
+fn data_register_shift(word: u32) -> Result<Instr, Unallocated>
+    requires first { bits 27 25 word ≡ 0 }
+    requires second { bits 7 7 word ≡ 0 }
+    requires third { bits 4 4 word ≡ 1 }
+    ensures { Decodes word result }
+{
+    let cond = Cond::of(Field::<31, 28>::get(word));
+    let opcode = Field::<24, 21>::get(word);
+    let sets_flags = Field::<20, 20>::is_set(word);
+    let rs = Field::<11, 8>::get(word);
+    let why = data_shift_clash_number(opcode, sets_flags, rs);
+    if why != 0 {
+        return Err(Unallocated { cond, why });
+    }
+    let fields = DataRegisterShift {
+        opcode: Opcode::of(opcode),
+        sets_flags,
+        rn: Register::of(Field::<19, 16>::get(word)),
+        rd: Register::of(Field::<15, 12>::get(word)),
+        rs: Register::of(rs),
+        shift: Shift::of(Field::<6, 5>::get(word)),
+        rm: Register::of(Field::<3, 0>::get(word)),
+    };
+    Ok(Instr {
+        cond,
+        operation: Operation::DataRegisterShift(fields),
+    })
+}
+
+#[tactic(auto, using(crate::proofs::RowLemmas::data_immediate_words))]
+fn data_immediate(word: u32) -> Result<Instr, Unallocated>
+    requires { bits 27 25 word ≡ 1 }
+    ensures { Decodes word result }
+{
+    let cond = Cond::of(Field::<31, 28>::get(word));
+    let opcode = Field::<24, 21>::get(word);
+    let sets_flags = Field::<20, 20>::is_set(word);
+    let why = data_clash_number(opcode, sets_flags);
+    if why != 0 {
+        return Err(Unallocated { cond, why });
+    }
+    let fields = DataImmediate {
+        opcode: Opcode::of(opcode),
+        sets_flags,
+        rn: Register::of(Field::<19, 16>::get(word)),
+        rd: Register::of(Field::<15, 12>::get(word)),
+        rotation: Field::<11, 8>::get(word),
+        value: Field::<7, 0>::get(word),
+    };
+    Ok(Instr {
+        cond,
+        operation: Operation::DataImmediate(fields),
+    })
+}
+
+#[tactic(auto, using(crate::proofs::RowLemmas::single_immediate_words))]
+fn single_immediate(word: u32) -> Result<Instr, Unallocated>
+    requires { bits 27 25 word ≡ 2 }
+    ensures { Decodes word result }
+{
+    let cond = Cond::of(Field::<31, 28>::get(word));
+    let before = Field::<24, 24>::is_set(word);
+    let byte = Field::<22, 22>::is_set(word);
+    let write_back = Field::<21, 21>::is_set(word);
+    let load = Field::<20, 20>::is_set(word);
+    let rn = Field::<19, 16>::get(word);
+    let rd = Field::<15, 12>::get(word);
+    let why = single_clash_number(before, byte, write_back, load, rn, rd);
+    if why != 0 {
+        return Err(Unallocated { cond, why });
+    }
+    let fields = SingleImmediate {
+        before,
+        up: Field::<23, 23>::is_set(word),
+        byte,
+        write_back,
+        load,
+        rn: Register::of(rn),
+        rd: Register::of(rd),
+        offset: Field::<11, 0>::get(word),
+    };
+    Ok(Instr {
+        cond,
+        operation: Operation::SingleImmediate(fields),
+    })
+}
+
+#[tactic(auto, using(crate::proofs::RowLemmas::single_register_words))]
+fn single_register(word: u32) -> Result<Instr, Unallocated>
+    requires first { bits 27 25 word ≡ 3 }
+    requires second { bits 4 4 word ≡ 0 }
+    ensures { Decodes word result }
+{
+    let cond = Cond::of(Field::<31, 28>::get(word));
+    let before = Field::<24, 24>::is_set(word);
+    let byte = Field::<22, 22>::is_set(word);
+    let write_back = Field::<21, 21>::is_set(word);
+    let load = Field::<20, 20>::is_set(word);
+    let rn = Field::<19, 16>::get(word);
+    let rd = Field::<15, 12>::get(word);
+    let rm = Field::<3, 0>::get(word);
+    let why = single_register_clash_number(before, byte, write_back, load, rn, rd, rm);
+    if why != 0 {
+        return Err(Unallocated { cond, why });
+    }
+    let fields = SingleRegister {
+        before,
+        up: Field::<23, 23>::is_set(word),
+        byte,
+        write_back,
+        load,
+        rn: Register::of(rn),
+        rd: Register::of(rd),
+        amount: Field::<11, 7>::get(word),
+        shift: Shift::of(Field::<6, 5>::get(word)),
+        rm: Register::of(rm),
+    };
+    Ok(Instr {
+        cond,
+        operation: Operation::SingleRegister(fields),
+    })
+}
+
+#[tactic(auto, using(crate::proofs::RowLemmas::block_words))]
+fn block(word: u32) -> Result<Instr, Unallocated>
+    requires { bits 27 25 word ≡ 4 }
+    ensures { Decodes word result }
+{
+    let cond = Cond::of(Field::<31, 28>::get(word));
+    let rn = Field::<19, 16>::get(word);
+    let list = Field::<15, 0>::get(word);
+    let why = block_clash_number(rn, list);
+    if why != 0 {
+        return Err(Unallocated { cond, why });
+    }
+    let fields = Block {
+        before: Field::<24, 24>::is_set(word),
+        up: Field::<23, 23>::is_set(word),
+        user: Field::<22, 22>::is_set(word),
+        write_back: Field::<21, 21>::is_set(word),
+        load: Field::<20, 20>::is_set(word),
+        rn: Register::of(rn),
+        list,
+    };
+    Ok(Instr {
+        cond,
+        operation: Operation::Block(fields),
+    })
+}
+
+#[tactic(auto, using(crate::proofs::RowLemmas::branch_words))]
+fn branch(word: u32) -> Result<Instr, Unallocated>
+    requires { bits 27 25 word ≡ 5 }
+    ensures { Decodes word result }
+{
+    let cond = Cond::of(Field::<31, 28>::get(word));
+    let fields = Branch {
+        link: Field::<24, 24>::is_set(word),
+        offset: Field::<23, 0>::get(word),
+    };
+    Ok(Instr {
+        cond,
+        operation: Operation::Branch(fields),
+    })
+}
+
+#[tactic(auto, using(crate::proofs::RowLemmas::swi_words))]
+fn swi(word: u32) -> Result<Instr, Unallocated>
+    requires { bits 27 24 word ≡ 15 }
+    ensures { Decodes word result }
+{
+    let cond = Cond::of(Field::<31, 28>::get(word));
+    let fields = Swi {
+        comment: Field::<23, 0>::get(word),
+    };
+    Ok(Instr {
+        cond,
+        operation: Operation::Swi(fields),
+    })
+}
+
+#[tactic(auto, using(crate::proofs::RowLemmas::undefined_transfer_words))]
+fn undefined_transfer(word: u32) -> Result<Instr, Unallocated>
+    requires first { bits 27 25 word ≡ 3 }
+    requires second { bits 4 4 word ≡ 1 }
+    ensures { Decodes word result }
+{
+    let cond = Cond::of(Field::<31, 28>::get(word));
+    let fields = UndefinedTransfer {
+        high: Field::<24, 5>::get(word),
+        low: Field::<3, 0>::get(word),
+    };
+    Ok(Instr {
+        cond,
+        operation: Operation::UndefinedTransfer(fields),
+    })
+}
+
+#[tactic(auto, using(crate::proofs::RowLemmas::coprocessor_transfer_words))]
+fn coprocessor_transfer(word: u32) -> Result<Instr, Unallocated>
+    requires { bits 27 25 word ≡ 6 }
+    ensures { Decodes word result }
+{
+    let cond = Cond::of(Field::<31, 28>::get(word));
+    let fields = CoprocessorTransfer {
+        bits: Field::<24, 0>::get(word),
+    };
+    Ok(Instr {
+        cond,
+        operation: Operation::CoprocessorTransfer(fields),
+    })
+}
+
+#[tactic(auto, using(crate::proofs::RowLemmas::coprocessor_words))]
+fn coprocessor(word: u32) -> Result<Instr, Unallocated>
+    requires { bits 27 24 word ≡ 14 }
+    ensures { Decodes word result }
+{
+    let cond = Cond::of(Field::<31, 28>::get(word));
+    let fields = Coprocessor {
+        bits: Field::<23, 0>::get(word),
+    };
+    Ok(Instr {
+        cond,
+        operation: Operation::Coprocessor(fields),
+    })
+}
+
+// A word with bits 7 and 4 set among the data words that is no multiply.
+#[tactic(auto, using(crate::proofs::RowLemmas::stray_barred))]
+fn stray(word: u32) -> Result<Instr, Unallocated>
+    requires kind { bits 27 25 word ≡ 0 }
+    requires seven { bits 7 7 word ≡ 1 }
+    requires four { bits 4 4 word ≡ 1 }
+    requires other { bits 27 22 word ≡ 0 → bits 7 4 word ≢ 9 }
+    ensures { Decodes word result }
+{
+    Err(Unallocated {
+        cond: Cond::of(Field::<31, 28>::get(word)),
+        why: 2,
+    })
+}
+
+// A word of kind 0.
+fn data_or_multiply(word: u32) -> Result<Instr, Unallocated>
+    requires { bits 27 25 word ≡ 0 }
+    ensures { Decodes word result }
+{
+    if Field::<4, 4>::get(word) == 0 {
+        data_register(word)
+    } else if Field::<7, 7>::get(word) == 0 {
+        data_register_shift(word)
+    } else if Field::<27, 22>::get(word) == 0 && Field::<7, 4>::get(word) == 9 {
+        multiply(word)
+    } else {
+        stray(word)
+    }
+}
+
+// The instruction of a word, or why there is none.
+fn instr_of(word: u32) -> Result<Instr, Unallocated>
+    ensures { Decodes word result }
+{
+    match Field::<27, 25>::get(word) {
+        0 => data_or_multiply(word),
+        1 => data_immediate(word),
+        2 => single_immediate(word),
+        3 if Field::<4, 4>::get(word) == 0 => single_register(word),
+        3 => undefined_transfer(word),
+        4 => block(word),
+        5 => branch(word),
+        6 => coprocessor_transfer(word),
+        _ if Field::<24, 24>::get(word) == 0 => coprocessor(word),
+        _ => swi(word),
+    }
+}
+
+/// The one instruction of a word, or the lowest number of why there is none.
+pub fn decode(word: u32) -> Result<Instr, Unallocated>
+    ensures found { IfOk result (λ instr. Means word instr) }
+    ensures only { (instr : Instr) → Means word instr → result ≡ Ok instr }
+    ensures unallocated { IfErr result (λ u. IsUnallocated word u) }
+    ensures lowest { IfErr result (λ u. IsLowestBar word u.why) }
+{
+    instr_of(word)
+}

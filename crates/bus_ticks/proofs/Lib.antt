@@ -1,0 +1,4 @@
+pub mod WorstLemmas
+pub mod LeaveLemmas
+pub mod FetchLemmas
+pub mod NumbersLemmas

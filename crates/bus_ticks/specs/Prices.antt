@@ -1,0 +1,60 @@
+-- The prices of accesses, in ticks of the 8 MHz processor (our own cycle profile, shaped on the N and S cycles of
+-- the VL86C010 data sheet).
+use Rattle.std.specs.Prelude.{ℕ, zero, suc, ◌+◌, ◌*◌, ◌/◌, ◌%◌, Bool, nat_lt, ◌==◌, if◌then◌else◌}
+use Rattle.bus_ticks.specs.declared.profile.Profile.{Profile}
+use Rattle.bus_ticks.specs.declared.profile.RomTimes.{RomTimes}
+use Rattle.bus_ticks.specs.declared.profile.Class.{Class}
+use Rattle.bus_ticks.specs.declared.profile.Class.TheVariants.{Ram, Rom, Io, Any}
+
+-- Ram 0000000 to 2FFFFFF; Io 3000000 to 33FFFFF; Rom 3400000 to 3FFFFFF
+abbrev pub class_at : ℕ → Class
+class_at x = if nat_lt x 0x3000000 then Ram else (if nat_lt x 0x3400000 then Io else Rom)
+
+-- a choice by the class of an address, which is never Any
+abbrev pub by_class : {A : Type 0} → Class → A → A → A → A
+by_class Ram ram rom io = ram
+by_class Rom ram rom io = rom
+by_class Io ram rom io = io
+by_class Any ram rom io = io
+
+-- the fourth of four numbers is taken for every number from 3 on
+abbrev pub choice : ℕ → ℕ → ℕ → ℕ → ℕ → ℕ
+choice i a b c d = if i == 0 then a else (if i == 1 then b else (if i == 2 then c else d))
+
+-- an access to ROM, by the time field of its half: 3400000 to 37FFFFF is low
+abbrev pub rom_price : Profile → RomTimes → ℕ → ℕ
+rom_price p rom x = choice (if nat_lt x 0x3800000 then rom.low else rom.high) p.rom_0 p.rom_1 p.rom_2 p.rom_3
+
+-- an access to a device, by address bits 20 and 19
+abbrev pub io_price : Profile → ℕ → ℕ
+io_price p x = choice (x / 0x80000 % 4) p.slow p.medium p.fast p.synchronous
+
+-- an access to Ram that follows the one before
+abbrev pub ram_price : Profile → ℕ → ℕ
+ram_price p x = if x % 16 == 0 then p.quad else p.s
+
+-- a fetch that does not follow the access before it
+abbrev pub n_price : Profile → RomTimes → ℕ → ℕ
+n_price p rom x = by_class (class_at x) p.n (rom_price p rom x) p.unfitted
+
+-- a fetch that follows the access before it
+abbrev pub s_price : Profile → RomTimes → ℕ → ℕ
+s_price p rom x = by_class (class_at x) (ram_price p x) (rom_price p rom x) p.unfitted
+
+-- one word of a transfer: in Ram the first word costs n, and each other follows; a store in Rom goes to a control register
+abbrev pub word_price : Profile → RomTimes → Bool → Bool → ℕ → ℕ
+word_price p rom store first x =
+    by_class
+    (class_at x)
+    (if first then p.n else ram_price p x)
+    (if store then p.control else rom_price p rom x)
+    (io_price p x)
+
+-- where word number i of a block stands: at a multiple of 4, wrapped at 2 ^ 26
+abbrev pub word_address : ℕ → ℕ → ℕ
+word_address address i = 4 * (address / 4 + i) % 0x4000000
+
+-- the first words of a block, together
+unfoldable pub block_price : Profile → RomTimes → Bool → ℕ → ℕ → ℕ
+block_price p rom store address zero = 0
+block_price p rom store address (suc k) = block_price p rom store address k + word_price p rom store (k == 0) (word_address address k)

@@ -1,0 +1,74 @@
+-- The greatest prices over all accesses of a class, in ticks (our own cycle profile).
+use Rattle.std.specs.Prelude.{ℕ, ◌+◌, ◌-◌, ◌*◌, ◌/◌, ◌%◌, ◌≤◌, ◌<◌, ◌≡◌, Bool, if◌then◌else◌, max}
+use Rattle.bus_ticks.specs.declared.profile.Profile.{Profile}
+use Rattle.bus_ticks.specs.declared.profile.RomTimes.{RomTimes}
+use Rattle.bus_ticks.specs.declared.profile.Class.{Class}
+use Rattle.bus_ticks.specs.declared.profile.Class.TheVariants.{Ram, Rom, Io, Any}
+use Rattle.bus_ticks.specs.Prices.{class_at, by_class, n_price, ram_price, s_price, block_price, word_address}
+use Rattle.bus_ticks.specs.Ranges.{greatest}
+
+-- an address of the class; each is of Any
+abbrev pub IsOf : Class → ℕ → Type 0
+IsOf Any x = Unit {0}
+IsOf Ram x = class_at x ≡ Ram
+IsOf Rom x = class_at x ≡ Rom
+IsOf Io x = class_at x ≡ Io
+
+-- where an access begins, and the time fields while it lasts
+pub record Access : Type 0 where
+  pub address : ℕ
+  pub rom : RomTimes
+
+-- all words of the block are of the class
+pub record IsBlockOf (class : Class) (words : ℕ) (b : Access) : Type 0 where
+  pub below : b.address < 0x4000000
+  pub each : (i : ℕ) → i < words → IsOf class (word_address b.address i)
+
+-- a target of the class
+pub record IsTargetOf (class : Class) (t : Access) : Type 0 where
+  pub below : t.address < 0x4000000
+  pub is_of : IsOf class t.address
+
+-- no price exceeds top, and something has it
+pub record IsGreatest {A : Type 0} (P : A → Type 0) (price : A → ℕ) (top : ℕ) : Type 0 where
+  pub none_above : (x : A) → P x → price x ≤ top
+  pub reached : (x : A) × P x × (price x ≡ top)
+
+-- any time fields of Rom
+abbrev pub IsAnyTimes : RomTimes → Type 0
+IsAnyTimes rom = Unit {0}
+
+abbrev pub transfer_price : Profile → ℕ → Bool → Access → ℕ
+transfer_price p words store b = block_price p b.rom store b.address words
+
+-- the fetch at a target, and the one that follows
+abbrev pub leave_price : Profile → Access → ℕ
+leave_price p t = n_price p t.rom t.address + s_price p t.rom ((t.address + 4) % 0x4000000)
+
+-- ROM at its dearest time field, and the dearest device
+abbrev pub worst_rom : Profile → ℕ
+worst_rom p = greatest p.rom_0 p.rom_1 p.rom_2 p.rom_3
+
+abbrev pub worst_io : Profile → ℕ
+worst_io p = greatest p.slow p.medium p.fast p.synchronous
+
+-- the fetches at an address, with Rom at its dearest field
+abbrev pub worst_n_price : Profile → ℕ → ℕ
+worst_n_price p x = by_class (class_at x) p.n (worst_rom p) p.unfitted
+
+abbrev pub worst_s_price : Profile → ℕ → ℕ
+worst_s_price p x = by_class (class_at x) (ram_price p x) (worst_rom p) p.unfitted
+
+-- the greatest price of a transfer of k words: in Ram at most (k + 2) / 4 words after the first stand at multiples of 16
+abbrev pub worst_block : Profile → Class → ℕ → Bool → ℕ
+worst_block p Ram k store = p.n + (k - 1) * p.s + (k + 2) / 4 * (p.quad - p.s)
+worst_block p Rom k store = if store then k * p.control else k * worst_rom p
+worst_block p Io k store = k * worst_io p
+worst_block p Any k store = k * worst_io p
+
+-- the greatest price of the two fetches at a target: the second may be of the class that follows
+abbrev pub worst_leave_of : Profile → Class → ℕ
+worst_leave_of p Ram = p.n + max p.quad p.unfitted
+worst_leave_of p Rom = worst_rom p + max (worst_rom p) p.quad
+worst_leave_of p Io = p.unfitted + max p.unfitted (worst_rom p)
+worst_leave_of p Any = max (max (p.n + max p.quad p.unfitted) (worst_rom p + max (worst_rom p) p.quad)) (p.unfitted + max p.unfitted (worst_rom p))

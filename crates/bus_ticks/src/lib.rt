@@ -1,0 +1,15 @@
+//! Prices of bus accesses, in ticks.
+//!
+//! A tick is one cycle of the 8 MHz processor. What an access costs depends on the class of its
+//! address, on whether it follows the access before it, and on the fifteen numbers of a [`Profile`].
+#![tactic(auto)]
+
+mod prices;
+mod profile;
+#[cfg(test)]
+mod tests;
+mod worst;
+
+pub use prices::{class_of, fetch_n, fetch_s, transfer};
+pub use profile::{Class, NumbersFault, Profile, RomTimes};
+pub use worst::{worst_fetch_n, worst_fetch_s, worst_leave, worst_transfer};

@@ -1,0 +1,129 @@
+ghost use Rattle.std.specs.Prelude.{◌≡◌, ◌<◌, ◌≤◌, ◌*◌};
+ghost use Rattle.bus_ticks.specs.Prices.{class_at, rom_price, io_price, n_price, ram_price, s_price, word_price, block_price};
+
+use crate::profile::{Class, Profile, RomTimes};
+
+/// The class of an address below 4000000: never `Any`.
+pub fn class_of(address: u32) -> Class
+    requires { address < 0x4000000 }
+    ensures { result ≡ class_at address }
+{
+    if address < 0x3000000 {
+        Class::Ram
+    } else if address < 0x3400000 {
+        Class::Io
+    } else {
+        Class::Rom
+    }
+}
+
+// The price of a field of two bits.
+macro_rules! pick {
+    ($field:expr, $($number:literal => $price:expr),+; $last:expr) => {
+        match $field {
+            $($number => $price,)+
+            _ => $last,
+        }
+    };
+}
+
+fn rom_access(profile: &Profile, rom: RomTimes, address: u32) -> u32
+    ensures price { result ≡ rom_price profile.now rom address }
+    ensures small { result < 256 }
+{
+    let field = if address < 0x3800000 {
+        rom.low
+    } else {
+        rom.high
+    };
+    pick!(field, 0 => profile.rom_0, 1 => profile.rom_1, 2 => profile.rom_2; profile.rom_3)
+}
+
+/// The ticks of an instruction fetch that does not follow the access before it.
+pub fn fetch_n(profile: &Profile, address: u32, rom: RomTimes) -> u32
+    requires { address < 0x4000000 }
+    ensures price { result ≡ n_price profile.now rom address }
+    ensures small { result < 256 }
+{
+    match class_of(address) {
+        Class::Ram => profile.n,
+        Class::Rom => rom_access(profile, rom, address),
+        Class::Io | Class::Any => profile.unfitted,
+    }
+}
+
+/// The ticks of an access to RAM that follows the one before it.
+pub fn ram_following(profile: &Profile, address: u32) -> u32
+    ensures price { result ≡ ram_price profile.now address }
+    ensures small { result < 256 }
+{
+    if address % 16 == 0 {
+        profile.quad
+    } else {
+        profile.s
+    }
+}
+
+/// The ticks of an instruction fetch that follows the access before it.
+pub fn fetch_s(profile: &Profile, address: u32, rom: RomTimes) -> u32
+    requires { address < 0x4000000 }
+    ensures price { result ≡ s_price profile.now rom address }
+    ensures small { result < 256 }
+{
+    match class_of(address) {
+        Class::Ram => ram_following(profile, address),
+        Class::Rom => rom_access(profile, rom, address),
+        Class::Io | Class::Any => profile.unfitted,
+    }
+}
+
+fn io_access(profile: &Profile, address: u32) -> u32
+    ensures price { result ≡ io_price profile.now address }
+    ensures small { result < 256 }
+{
+    pick!(address / 0x80000 % 4, 0 => profile.slow, 1 => profile.medium, 2 => profile.fast; profile.synchronous)
+}
+
+fn word_ticks(profile: &Profile, address: u32, first: bool, store: bool, rom: RomTimes) -> u32
+    requires { address < 0x4000000 }
+    ensures price { result ≡ word_price profile.now rom store first address }
+    ensures small { result < 256 }
+{
+    match class_of(address) {
+        Class::Ram => {
+            if first {
+                profile.n
+            } else {
+                ram_following(profile, address)
+            }
+        }
+        Class::Rom => {
+            if store {
+                profile.control
+            } else {
+                rom_access(profile, rom, address)
+            }
+        }
+        Class::Io | Class::Any => io_access(profile, address),
+    }
+}
+
+/// The ticks of a transfer of 1 to 16 words, each priced by the class of its own address.
+///
+/// The words lie one after another from the word that holds `address`, and wrap at 4000000. A byte
+/// costs as much as the word that holds it.
+#[tactic(auto, unfolding(crate::specs::Prices::block_price))]
+pub fn transfer(profile: &Profile, address: u32, words: u32, store: bool, rom: RomTimes) -> u32
+    requires in_space { address < 0x4000000 }
+    requires some { 1 ≤ words }
+    requires few { words ≤ 16 }
+    ensures price { result ≡ block_price profile.now rom store address words }
+    ensures small { result ≤ 255 * words }
+{
+    let first = address / 4;
+    let mut ticks = 0;
+    for i in 0..words {
+        ticks += word_ticks(profile, 4 * (first + i) % 0x4000000, i == 0, store, rom);
+    }
+    ticks
+}

@@ -1,0 +1,133 @@
+ghost use Rattle.std.specs.Prelude.{◌≡◌, ◌<◌, ◌≤◌, ◌*◌};
+ghost use Rattle.bus_ticks.specs.Prices.{n_price, s_price};
+ghost use Rattle.bus_ticks.specs.Ranges.{greatest};
+ghost use Rattle.bus_ticks.specs.Worst.{worst_block, worst_leave_of, worst_n_price, worst_rom, worst_s_price, IsAnyTimes, IsGreatest, IsBlockOf, IsTargetOf, transfer_price, leave_price};
+
+use crate::prices::{class_of, ram_following};
+use crate::profile::{Class, Profile};
+
+fn greatest_of(a: u32, b: u32, c: u32, d: u32) -> u32
+    ensures { result ≡ greatest a b c d }
+{
+    a.max(b).max(c.max(d))
+}
+
+fn worst_rom_ticks(profile: &Profile) -> u32
+    ensures { result ≡ worst_rom profile.now }
+{
+    greatest_of(profile.rom_0, profile.rom_1, profile.rom_2, profile.rom_3)
+}
+
+// The greatest price as a number.
+fn worst_n_ticks(profile: &Profile, address: u32) -> u32
+    requires { address < 0x4000000 }
+    ensures { result ≡ worst_n_price profile.now address }
+{
+    match class_of(address) {
+        Class::Ram => profile.n,
+        Class::Rom => worst_rom_ticks(profile),
+        Class::Io | Class::Any => profile.unfitted,
+    }
+}
+
+// The greatest price as a number.
+fn worst_s_ticks(profile: &Profile, address: u32) -> u32
+    requires { address < 0x4000000 }
+    ensures { result ≡ worst_s_price profile.now address }
+{
+    match class_of(address) {
+        Class::Ram => ram_following(profile, address),
+        Class::Rom => worst_rom_ticks(profile),
+        Class::Io | Class::Any => profile.unfitted,
+    }
+}
+
+/// The greatest ticks, over all time fields of ROM, of a fetch that does not follow the access
+/// before it.
+pub fn worst_fetch_n(profile: &Profile, address: u32) -> u32
+    requires { address < 0x4000000 }
+    ensures number { result ≡ worst_n_price profile.now address }
+    ensures greatest { IsGreatest IsAnyTimes (λ rom. n_price profile.now rom address) result }
+    ensures small { result < 256 }
+{
+    worst_n_ticks(profile, address)
+}
+
+/// The greatest ticks, over all time fields of ROM, of a fetch that follows the access before it.
+pub fn worst_fetch_s(profile: &Profile, address: u32) -> u32
+    requires { address < 0x4000000 }
+    ensures number { result ≡ worst_s_price profile.now address }
+    ensures greatest { IsGreatest IsAnyTimes (λ rom. s_price profile.now rom address) result }
+    ensures small { result < 256 }
+{
+    worst_s_ticks(profile, address)
+}
+
+// The greatest price as a number.
+fn worst_block_ticks(profile: &Profile, class: Class, words: u32, store: bool) -> u32
+    requires some { 1 ≤ words }
+    requires few { words ≤ 16 }
+    ensures { result ≡ worst_block profile.now class words store }
+{
+    match class {
+        Class::Ram => {
+            profile.n
+                + (words - 1) * profile.s
+                + (words - 1).div_ceil(4) * (profile.quad - profile.s)
+        }
+        Class::Rom => {
+            if store {
+                words * profile.control
+            } else {
+                words * worst_rom_ticks(profile)
+            }
+        }
+        Class::Io | Class::Any => {
+            words
+                * greatest_of(
+                    profile.slow,
+                    profile.medium,
+                    profile.fast,
+                    profile.synchronous,
+                )
+        }
+    }
+}
+
+/// The greatest ticks of a transfer of 1 to 16 words that are all of the class, over all addresses
+/// and time fields of ROM.
+pub fn worst_transfer(profile: &Profile, class: Class, words: u32, store: bool) -> u32
+    requires some { 1 ≤ words }
+    requires few { words ≤ 16 }
+    ensures number { result ≡ worst_block profile.now class words store }
+    ensures greatest { IsGreatest (IsBlockOf class words) (transfer_price profile.now words store) result }
+    ensures small { result ≤ 255 * words }
+{
+    worst_block_ticks(profile, class, words, store)
+}
+
+// The greatest price as a number.
+fn worst_leave_ticks(profile: &Profile, class: Class) -> u32
+    ensures { result ≡ worst_leave_of profile.now class }
+{
+    let worst_rom = worst_rom_ticks(profile);
+    let ram = profile.n + profile.quad.max(profile.unfitted);
+    let rom = worst_rom + worst_rom.max(profile.quad);
+    let io = profile.unfitted + profile.unfitted.max(worst_rom);
+    match class {
+        Class::Ram => ram,
+        Class::Rom => rom,
+        Class::Io => io,
+        Class::Any => ram.max(rom).max(io),
+    }
+}
+
+/// The greatest ticks of the first two fetches after a jump to an address of the class, over all
+/// addresses and time fields of ROM.
+pub fn worst_leave(profile: &Profile, class: Class) -> u32
+    ensures number { result ≡ worst_leave_of profile.now class }
+    ensures greatest { IsGreatest (IsTargetOf class) (leave_price profile.now) result }
+    ensures small { result < 512 }
+{
+    worst_leave_ticks(profile, class)
+}

@@ -1,0 +1,43 @@
+-- An image: which words stand at which addresses. Source: our own image format; the memory map is the
+-- MEMC data sheet's (VL86C110), with I/O from 3000000 to 33FFFFF.
+use Rattle.std.specs.Prelude.{ℕ, ◌+◌, ◌%◌, Bool, ◌&&◌, ◌||◌, ◌==◌, not, nat_lt, nat_le, if◌then◌else◌, List, [], ◌∷◌, length, Option, Some, None, is_some}
+use Rattle.loader.specs.declared.image.ImageFault.{ImageFault}
+use Rattle.loader.specs.declared.image.ImageFault.TheVariants.{OutOfRange, TooLong}
+
+-- addresses and their words, the addresses ascending
+abbrev pub Words : Type 0
+Words = List (ℕ × ℕ)
+
+-- the word at an address
+abbrev pub word_of : Words → ℕ → Option ℕ
+word_of [] address = None
+word_of (e ∷ rest) address = if e.0 == address then Some e.1 else word_of rest address
+
+-- the words with one more, which stands nowhere yet
+abbrev pub with_word : Words → ℕ → ℕ → Words
+with_word [] address word = (address, word) ∷ []
+with_word (e ∷ rest) address word = if nat_lt address e.0 then (address, word) ∷ e ∷ rest else e ∷ with_word rest address word
+
+-- a multiple of 4 up to 3FFFFFC, and not in I/O
+abbrev pub may_hold : ℕ → Bool
+may_hold address = address % 4 == 0 && nat_lt address 0x4000000 && not (nat_le 0x3000000 address && nat_lt address 0x3400000)
+
+-- 1 where a word does not follow the word before it, and so begins a run
+abbrev pub begins : Option ℕ → ℕ → ℕ
+begins None address = 1
+begins (Some before) address = if address == before + 4 then 0 else 1
+
+-- the runs of words side by side, behind a word or behind none
+abbrev pub runs_behind : Option ℕ → Words → ℕ
+runs_behind before [] = 0
+runs_behind before (e ∷ rest) = begins before e.0 + runs_behind (Some e.0) rest
+
+-- the number of maximal runs
+abbrev pub runs_of : Words → ℕ
+runs_of words = runs_behind None words
+
+-- why a word cannot be put: the lowest reason
+abbrev pub put_fault : Words → ℕ → ℕ → Option ImageFault
+put_fault words address word =
+    if not (may_hold address) || is_some (word_of words address) then Some OutOfRange
+    else (if nat_le 65536 (length words) || nat_lt 16 (runs_of (with_word words address word)) then Some TooLong else None)

@@ -1,0 +1,174 @@
+ghost use Rattle.std.specs.Prelude.{◌≡◌, ◌⊎◌, [], IsTrue, IsSome, OnOk, OnErr, IfErr};
+ghost use Rattle.loader.specs.Image.{may_hold, put_fault, runs_of, with_word, word_of};
+
+use std::alloc::{AllocFailed, Global};
+use std::collections::BTreeMap;
+use std::marker::Model;
+use thiserror::Error;
+
+/// The most words of an image.
+const MOST_WORDS: usize = 65_536;
+
+/// The most maximal runs of words side by side.
+const MOST_RUNS: usize = 16;
+
+/// Why an image does not take a word.
+#[derive(Clone, Copy, Debug, PartialEq, Eq, Drop, Error)]
+pub enum ImageFault {
+    /// A growth was refused.
+    #[error("Memory")]
+    Memory,
+    /// The address is no multiple of 4, in I/O or past 3FFFFFC, or it holds a word already.
+    #[error("OutOfRange")]
+    OutOfRange,
+    /// There would be more than 65,536 words, or more than 16 runs of words side by side.
+    #[error("TooLong")]
+    TooLong,
+}
+
+impl<T: Drop> From<AllocFailed<T>> for ImageFault {
+    ghost use Rattle.std.specs.Prelude.{◌≡◌};
+    ghost use Rattle.loader.specs.declared.image.ImageFault.TheVariants.{Memory};
+
+    ghost from_gives = { λ _ fault. fault ≡ Memory };
+
+    fn from(_refused: AllocFailed<T>) -> ImageFault {
+        ImageFault::Memory
+    }
+}
+
+/// The words of a program by their addresses, which are below 2^26.
+#[derive(Drop)]
+pub struct Image {
+    words: BTreeMap<u32, u32>,
+    runs: usize,
+}
+
+impl Model for Image {
+    ghost use Rattle.loader.specs.Image.{Words};
+
+    ghost Value = { Words };
+
+    ghost use Rattle.loader.specs.Inside.{words_in, IsImage};
+
+    ghost view = { words_in };
+
+    ghost invariant = { IsImage };
+}
+
+fn can_hold(address: u32) -> bool
+    ensures { result ≡ may_hold address }
+{
+    address % 4 == 0 && address < 0x400_0000 && !(address >= 0x300_0000 && address < 0x340_0000)
+}
+
+impl Image {
+    /// An image without a word. It takes no memory.
+    pub fn new(alloc: Global) -> Self
+        ensures { result ≡ [] }
+    {
+        Image {
+            words: BTreeMap::new(alloc),
+            runs: 0,
+        }
+    }
+
+    /// The word at an address.
+    pub fn word_at(&self, address: u32) -> Option<u32>
+        ensures value { result ≡ word_of self.now address }
+        ensures held { IsSome result → IsTrue (may_hold address) }
+    {
+        self.words.get(&address).copied()
+    }
+
+    // The number of runs with one more word, which joins the runs beside it.
+    fn runs_with(&self, address: u32, word: u32) -> usize
+        requires free { word_of self.now address ≡ None }
+        requires place { IsTrue (may_hold address) }
+        ensures { result ≡ runs_of (with_word self.now address word) }
+    {
+        let before = self.words.contains_key(&address.saturating_sub(4));
+        let after = self.words.contains_key(&(address + 4));
+        self.runs + 1 - usize::from(before) - usize::from(after)
+    }
+
+    // Why the word cannot be put.
+    fn fault_of(&self, address: u32, word: u32) -> Option<ImageFault>
+        ensures { result ≡ put_fault self.now address word }
+    {
+        if !can_hold(address) {
+            return Some(ImageFault::OutOfRange);
+        }
+        if self.words.contains_key(&address) {
+            return Some(ImageFault::OutOfRange);
+        }
+        if self.words.len() >= MOST_WORDS {
+            return Some(ImageFault::TooLong);
+        }
+        if self.runs_with(address, word) > MOST_RUNS {
+            return Some(ImageFault::TooLong);
+        }
+        None
+    }
+
+    /// Puts a word where none stands.
+    ///
+    /// `OutOfRange`: the address is no multiple of 4, in I/O (3000000 to 33FFFFF) or past 3FFFFFC, or it
+    /// holds a word already. `TooLong`: a 65,537th word, or a 17th run of words side by side.
+    pub fn put(&mut self, _alloc: Global, address: u32, word: u32) -> Result<(), ImageFault>
+        ensures ok { OnOk result ((self.new ≡ with_word self.old address word) × (put_fault self.old address word ≡ None)) }
+        ensures fault { IfErr result (λ fault. (fault ≡ ImageFault.Memory) ⊎ (put_fault self.old address word ≡ Some fault)) }
+        ensures same { OnErr result (self.new ≡ self.old) }
+    {
+        if let Some(fault) = self.fault_of(address, word) {
+            return Err(fault);
+        }
+        let runs = self.runs_with(address, word);
+        self.words.insert(address, word)?;
+        self.runs = runs;
+        Ok(())
+    }
+}
+
+#[cfg(test)]
+mod tests {
+    use super::*;
+    use std::test::Fail;
+
+    #[test]
+    fn word_put_twice(rt: HostRuntime) -> Result<(), Fail> {
+        let mut image = Image::new(rt.alloc());
+        image.put(rt.alloc(), 0x8000, 0xE3A0_0003)?;
+        assert_eq!(rt;
+            image.put(rt.alloc(), 0x8000, 0),
+            Err(ImageFault::OutOfRange)
+        );
+        assert_eq!(rt; image.word_at(0x8000), Some(0xE3A0_0003));
+        assert_eq!(rt; image.word_at(0x8004), None);
+        assert_eq!(rt;
+            image.put(rt.alloc(), 0x8002, 0),
+            Err(ImageFault::OutOfRange)
+        );
+        assert_eq!(rt;
+            image.put(rt.alloc(), 0x300_0000, 0),
+            Err(ImageFault::OutOfRange)
+        );
+        assert_eq!(rt;
+            image.put(rt.alloc(), 0x400_0000, 0),
+            Err(ImageFault::OutOfRange)
+        );
+        Ok(())
+    }
+
+    #[test]
+    fn seventeen_runs(rt: HostRuntime) -> Result<(), Fail> {
+        let mut image = Image::new(rt.alloc());
+        for run in 0u32..16 {
+            image.put(rt.alloc(), run * 8, run)?;
+        }
+        assert_eq!(rt; image.put(rt.alloc(), 0x80, 0), Err(ImageFault::TooLong));
+        image.put(rt.alloc(), 4, 0)?;
+        image.put(rt.alloc(), 0x80, 0)?;
+        Ok(())
+    }
+}

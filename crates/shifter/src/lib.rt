@@ -1,0 +1,8 @@
+//! The barrel shifter of the ARM2, and the cycles of its multiply.
+#![tactic(auto)]
+
+mod shifts;
+#[cfg(test)]
+mod tests;
+
+pub use shifts::{Shifted, multiply_cycles, rotate_imm, shift_imm, shift_reg};
