@@ -1,0 +1,16 @@
+//! Tests that cross crates: worked handlers from their sources to their reports, and runs of the program
+//! over files in memory. Their expected values were worked out by hand from the price table.
+#![tactic(auto)]
+
+#[cfg(test)]
+mod files;
+#[cfg(test)]
+mod handlers;
+#[cfg(test)]
+mod limits;
+#[cfg(test)]
+mod outputs;
+#[cfg(test)]
+mod program_runs;
+#[cfg(test)]
+mod sources;

@@ -1,0 +1,19 @@
+use Rattle.std.proofs.Common.{rules}
+use Rattle.arcwcet.proofs.ReportLemmas.{accepted, graphs_refusal, reported}
+use Rattle.arcwcet.proofs.bound.text_of.Goals as goal
+
+pub returns-in_err-found-clause-fault : goal.returns-in_err-found-clause-fault
+returns-in_err-found-clause-fault c =
+    let h = c.in_ok-handler.handler in
+    let refused = graphs_refusal c.args.source.now c.args.statement.now c.args.profile.now h.statement h.graph c.in_err-found.field-0.0 (search rules) (search rules) in
+    search (rules, refused)
+
+pub returns-clause-report : goal.returns-clause-report
+returns-clause-report c =
+    let h = c.in_ok-handler.handler in
+    reported c.args.source.now c.args.statement.now c.args.profile.now h.statement h.graph c.in_ok-found.found.bound c.in_ok-found.found.walk c.in_ok-text.text.items (search rules) (search rules) (search rules)
+
+pub returns-clause-accepted : goal.returns-clause-accepted
+returns-clause-accepted c =
+    let h = c.in_ok-handler.handler in
+    accepted c.args.source.now c.args.statement.now c.args.profile.now h.statement h.graph (search rules) (search rules)

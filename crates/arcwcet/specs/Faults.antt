@@ -1,0 +1,33 @@
+-- Faults of the parts as a report's: want of memory is one for all. Our own.
+use Rattle.flow_graph.specs.declared.faults.BuildFault.{BuildFault}
+use Rattle.flow_graph.specs.declared.faults.BuildFault.TheVariants as build_fault
+use Rattle.flow_graph.specs.declared.faults.StatementFault.{StatementFault}
+use Rattle.flow_graph.specs.declared.faults.StatementFault.TheVariants as statement_fault
+use Rattle.loop_bounds.specs.declared.fault.NestFault.{NestFault}
+use Rattle.loop_bounds.specs.declared.fault.NestFault.TheVariants as nest_fault
+use Rattle.longest_walk.specs.declared.fault.WalkFault.{WalkFault}
+use Rattle.longest_walk.specs.declared.fault.WalkFault.TheVariants as walk_fault
+use Rattle.arcwcet.specs.declared.fault.ReportFault.{ReportFault}
+use Rattle.arcwcet.specs.declared.fault.ReportFault.TheVariants.{Memory, Source, Statement, Graph, Loops, Walk}
+use Rattle.arcwcet.specs.declared.source.fault.AsmFault.{AsmFault}
+use Rattle.arcwcet.specs.declared.source.fault.AsmFault.TheVariants as asm_fault
+
+abbrev pub of_source : AsmFault → ReportFault
+of_source asm_fault.Memory = Memory
+of_source fault = Source fault
+
+abbrev pub of_statement : StatementFault → ReportFault
+of_statement statement_fault.Memory = Memory
+of_statement fault = Statement fault
+
+abbrev pub of_graph : BuildFault → ReportFault
+of_graph build_fault.Memory = Memory
+of_graph fault = Graph fault
+
+abbrev pub of_loops : NestFault → ReportFault
+of_loops nest_fault.Memory = Memory
+of_loops fault = Loops fault
+
+abbrev pub of_walk : WalkFault → ReportFault
+of_walk walk_fault.Memory = Memory
+of_walk fault = Walk fault

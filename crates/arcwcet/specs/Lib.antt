@@ -1,0 +1,11 @@
+pub mod Bound
+pub mod Faults
+pub mod Image
+pub mod Kept
+pub mod Line
+pub mod Output
+pub mod Report
+pub mod ReportText
+pub mod Run
+pub mod Source
+pub mod Store

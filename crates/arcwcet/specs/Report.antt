@@ -1,0 +1,109 @@
+-- Reports of a handler's greatest run time, which sources and statements have one, and why the others have
+-- none. Our own.
+use Rattle.std.specs.Prelude.{◌≡◌, ◌≢◌, ℕ, List, Ok, Err}
+use Rattle.bus_ticks.specs.declared.profile.Profile.{Profile}
+use Rattle.loader.specs.Image.{Words}
+use Rattle.flow_graph.specs.Flow.{Flow, edge_shape}
+use Rattle.flow_graph.specs.Graph.{IsBuildFault, IsFlowGraph}
+use Rattle.flow_graph.specs.Stated.{Stated}
+use Rattle.flow_graph.specs.Statement.{IsStatement}
+use Rattle.flow_graph.specs.declared.faults.BuildFault.{BuildFault}
+use Rattle.flow_graph.specs.declared.faults.BuildFault.TheVariants as build_fault
+use Rattle.flow_graph.specs.declared.faults.StatementFault.{StatementFault}
+use Rattle.flow_graph.specs.declared.faults.StatementFault.TheVariants as statement_fault
+use Rattle.flow_graph.specs.declared.stated.Loop.{Loop}
+use Rattle.walks.specs.Walk.{cost_of}
+use Rattle.loop_bounds.specs.Bounds.{IsCompleteWalk, IsGreatestCost, KeepsTheBounds}
+use Rattle.loop_bounds.specs.Nest.{IsNestFault}
+use Rattle.loop_bounds.specs.declared.fault.NestFault.{NestFault}
+use Rattle.loop_bounds.specs.declared.fault.NestFault.TheVariants as nest_fault
+use Rattle.longest_walk.specs.Folded.{unfolded}
+use Rattle.longest_walk.specs.declared.folded.Item.{Item}
+use Rattle.longest_walk.specs.Longest.{IsWalkFault}
+use Rattle.longest_walk.specs.declared.fault.WalkFault.{WalkFault}
+use Rattle.longest_walk.specs.declared.fault.WalkFault.TheVariants as walk_fault
+use Rattle.arcwcet.specs.Image.{source_of}
+use Rattle.arcwcet.specs.ReportText.{spelling}
+use Rattle.arcwcet.specs.declared.fault.ReportFault.{ReportFault}
+use Rattle.arcwcet.specs.declared.fault.ReportFault.TheVariants as report_fault
+use Rattle.arcwcet.specs.declared.source.fault.AsmFault.TheVariants as asm_fault
+
+-- the bound is the greatest cost, and the items unfold to a complete walk of that cost that keeps the bounds
+pub record IsGreatestWalk (flow : Flow) (loops : List Loop) (bound : ℕ) (items : List Item) : Type 0 where
+  pub greatest : IsGreatestCost flow loops bound
+  pub complete : IsCompleteWalk flow (unfolded items)
+  pub kept : KeepsTheBounds flow loops (unfolded items)
+  pub costs : cost_of edge_shape (unfolded items) ≡ bound
+
+-- the source has an image and the statement a value, no refusal of a graph holds, and this is the graph
+pub record HasGraph (source statement : List ℕ) (profile : Profile) (stated : Stated) (flow : Flow) : Type 0 where
+  pub words : Words
+  pub source_is : source_of source ≡ Ok words
+  pub statement_is : IsStatement statement (Ok stated)
+  pub no_fault : (f : BuildFault) → f ≢ build_fault.Memory → IsBuildFault words stated profile f → ⊥
+  pub graph_is : IsFlowGraph words stated profile flow
+
+-- and no refusal of the loops holds
+pub record HasLoops (source statement : List ℕ) (profile : Profile) (stated : Stated) (flow : Flow) : Type 0 where
+  pub graph : HasGraph source statement profile stated flow
+  pub no_fault : (f : NestFault) → f ≢ nest_fault.Memory → IsNestFault flow stated.loops f → ⊥
+
+-- and none of the walk
+pub record IsAccepted (source statement : List ℕ) (profile : Profile) : Type 0 where
+  pub stated : Stated
+  pub flow : Flow
+  pub loops : HasLoops source statement profile stated flow
+  pub no_fault : (f : WalkFault) → f ≢ walk_fault.Memory → IsWalkFault flow f → ⊥
+
+-- a report for a source and a statement
+pub record IsReport (source statement : List ℕ) (profile : Profile) (text : List ℕ) : Type 0 where
+  pub stated : Stated
+  pub flow : Flow
+  pub bound : ℕ
+  pub items : List Item
+  pub graph : HasGraph source statement profile stated flow
+  pub walk : IsGreatestWalk flow stated.loops bound items
+  pub spelled : text ≡ spelling bound items
+
+-- a fault of the statement, of a source that has an image
+pub record IsStatementRefused (source statement : List ℕ) (fault : StatementFault) : Type 0 where
+  pub words : Words
+  pub source_is : source_of source ≡ Ok words
+  pub not_memory : fault ≢ statement_fault.Memory
+  pub statement_is : IsStatement statement (Err fault)
+
+-- a fault of the graph, of a source and a statement that can be read
+pub record IsGraphRefused (source statement : List ℕ) (profile : Profile) (fault : BuildFault) : Type 0 where
+  pub words : Words
+  pub stated : Stated
+  pub source_is : source_of source ≡ Ok words
+  pub statement_is : IsStatement statement (Ok stated)
+  pub not_memory : fault ≢ build_fault.Memory
+  pub holds : IsBuildFault words stated profile fault
+
+-- a fault of the loops, of a graph
+pub record AreLoopsRefused (source statement : List ℕ) (profile : Profile) (fault : NestFault) : Type 0 where
+  pub stated : Stated
+  pub flow : Flow
+  pub graph : HasGraph source statement profile stated flow
+  pub not_memory : fault ≢ nest_fault.Memory
+  pub holds : IsNestFault flow stated.loops fault
+
+-- a fault of the walk, of a graph and its loops
+pub record IsWalkRefused (source statement : List ℕ) (profile : Profile) (fault : WalkFault) : Type 0 where
+  pub stated : Stated
+  pub flow : Flow
+  pub loops : HasLoops source statement profile stated flow
+  pub not_memory : fault ≢ walk_fault.Memory
+  pub holds : IsWalkFault flow fault
+
+-- when each refusal is answered: the first in the order of the work. A growth is refused, and an output fails, whatever
+-- the source and the statement
+abbrev pub IsRefused : List ℕ → List ℕ → Profile → ReportFault → Type 0
+IsRefused source statement profile report_fault.Memory = Unit {0}
+IsRefused source statement profile (report_fault.Source fault) = (source_of source ≡ Err fault) × (fault ≢ asm_fault.Memory)
+IsRefused source statement profile (report_fault.Statement fault) = IsStatementRefused source statement fault
+IsRefused source statement profile (report_fault.Graph fault) = IsGraphRefused source statement profile fault
+IsRefused source statement profile (report_fault.Loops fault) = AreLoopsRefused source statement profile fault
+IsRefused source statement profile (report_fault.Walk fault) = IsWalkRefused source statement profile fault
+IsRefused source statement profile report_fault.Device = Unit {0}

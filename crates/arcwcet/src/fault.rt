@@ -1,0 +1,127 @@
+use crate::source::AsmFault;
+use flow_graph::{BuildFault, StatementFault};
+use longest_walk::WalkFault;
+use loop_bounds::NestFault;
+use std::alloc::AllocError;
+use thiserror::Error;
+
+/// Why a store gave or took no file.
+#[derive(Clone, Copy, Debug, PartialEq, Eq, Drop, Error)]
+pub enum StoreFault {
+    /// A growth was refused.
+    #[error("Memory")]
+    Memory,
+    /// The file could not be opened, read or written.
+    #[error("Device")]
+    Device,
+    /// The file has more than 16,777,216 bytes.
+    #[error("InputTooLong")]
+    InputTooLong,
+}
+
+/// Why there is no report. None but `Memory` holds a refused growth.
+#[derive(Clone, Copy, Debug, PartialEq, Eq, Drop, Error)]
+pub enum ReportFault {
+    /// A growth was refused.
+    #[error("Memory")]
+    Memory,
+    /// The source has no image.
+    #[error("{0}")]
+    Source(AsmFault),
+    /// The statement cannot be read.
+    #[error("{0}")]
+    Statement(StatementFault),
+    /// The handler has no flow graph.
+    #[error("{0}")]
+    Graph(BuildFault),
+    /// A cycle of the flow graph has no bound.
+    #[error("{0}")]
+    Loops(NestFault),
+    /// No complete walk keeps the bounds, or one costs too much.
+    #[error("{0}")]
+    Walk(WalkFault),
+    /// The output failed.
+    #[error("Device")]
+    Device,
+}
+
+impl From<AllocError> for ReportFault {
+    ghost use Rattle.std.specs.Prelude.{◌≡◌};
+    ghost use Rattle.arcwcet.specs.declared.fault.ReportFault.TheVariants.{Memory};
+
+    ghost from_gives = { λ _ fault. fault ≡ Memory };
+
+    fn from(_refused: AllocError) -> ReportFault {
+        ReportFault::Memory
+    }
+}
+
+impl From<AsmFault> for ReportFault {
+    ghost use Rattle.std.specs.Prelude.{◌≡◌};
+    ghost use Rattle.arcwcet.specs.Faults.{of_source};
+
+    ghost from_gives = { λ lower fault. fault ≡ of_source lower };
+
+    fn from(lower: AsmFault) -> ReportFault {
+        match lower {
+            AsmFault::Memory => ReportFault::Memory,
+            _ => ReportFault::Source(lower),
+        }
+    }
+}
+
+impl From<StatementFault> for ReportFault {
+    ghost use Rattle.std.specs.Prelude.{◌≡◌};
+    ghost use Rattle.arcwcet.specs.Faults.{of_statement};
+
+    ghost from_gives = { λ lower fault. fault ≡ of_statement lower };
+
+    fn from(lower: StatementFault) -> ReportFault {
+        match lower {
+            StatementFault::Memory => ReportFault::Memory,
+            _ => ReportFault::Statement(lower),
+        }
+    }
+}
+
+impl From<BuildFault> for ReportFault {
+    ghost use Rattle.std.specs.Prelude.{◌≡◌};
+    ghost use Rattle.arcwcet.specs.Faults.{of_graph};
+
+    ghost from_gives = { λ lower fault. fault ≡ of_graph lower };
+
+    fn from(lower: BuildFault) -> ReportFault {
+        match lower {
+            BuildFault::Memory => ReportFault::Memory,
+            _ => ReportFault::Graph(lower),
+        }
+    }
+}
+
+impl From<NestFault> for ReportFault {
+    ghost use Rattle.std.specs.Prelude.{◌≡◌};
+    ghost use Rattle.arcwcet.specs.Faults.{of_loops};
+
+    ghost from_gives = { λ lower fault. fault ≡ of_loops lower };
+
+    fn from(lower: NestFault) -> ReportFault {
+        match lower {
+            NestFault::Memory => ReportFault::Memory,
+            _ => ReportFault::Loops(lower),
+        }
+    }
+}
+
+impl From<WalkFault> for ReportFault {
+    ghost use Rattle.std.specs.Prelude.{◌≡◌};
+    ghost use Rattle.arcwcet.specs.Faults.{of_walk};
+
+    ghost from_gives = { λ lower fault. fault ≡ of_walk lower };
+
+    fn from(lower: WalkFault) -> ReportFault {
+        match lower {
+            WalkFault::Memory => ReportFault::Memory,
+            _ => ReportFault::Walk(lower),
+        }
+    }
+}

@@ -1,0 +1,74 @@
+ghost use Rattle.std.specs.Prelude.{◌≡◌, ◌+◌, ◌≤◌, [], Some, Ok, length, IfOk, IfErr};
+ghost use Rattle.std.specs.Io.KnownBytes.{WriteAppends};
+ghost use Rattle.arcwcet.specs.Output.{failures_after};
+
+use crate::fault::ReportFault;
+use crate::output::{Output, OutputFault};
+use std::alloc::Global;
+use std::marker::Model;
+
+/// An output that keeps what it takes.
+#[derive(Drop)]
+pub struct MemoryOutput {
+    bytes: Vec<u8>,
+    room: usize,
+    failures: u64,
+}
+
+impl Model for MemoryOutput {
+    ghost use Rattle.std.specs.Prelude.{◌≤◌, vec_capacity};
+    ghost use Rattle.arcwcet.specs.Kept.{Kept};
+
+    ghost Value = { Kept };
+
+    ghost view = { λ m. record { bytes = m.bytes.items; room = m.room; failures = m.failures } };
+
+    ghost invariant = { λ m. m.room ≤ vec_capacity m.bytes };
+}
+
+impl MemoryOutput {
+    /// An empty output that has taken memory for `room` bytes. The only refusal is `Memory`.
+    pub fn with_room(alloc: Global, room: usize) -> Result<MemoryOutput, ReportFault>
+        ensures empty { IfOk result (λ m. m.bytes ≡ []) }
+        ensures room { IfOk result (λ m. m.room ≡ room) }
+        ensures failures { IfOk result (λ m. m.failures ≡ 0) }
+        ensures memory { IfErr result (λ e. e ≡ ReportFault.Memory) }
+    {
+        let bytes = Vec::with_capacity(alloc, room)?;
+        Ok(MemoryOutput {
+            bytes,
+            room,
+            failures: 0,
+        })
+    }
+
+    /// What was taken.
+    pub fn bytes(&self) -> &[u8]
+        ensures { result.now ≡ self.now.bytes }
+    {
+        self.bytes.as_slice()
+    }
+}
+
+impl Output for MemoryOutput {
+    ghost taken = { λ m. Some m.bytes };
+
+    ghost failures = { λ m. m.failures };
+
+    // A write within the room takes the whole slice; past it, a refused growth is a failure.
+    fn write(&mut self, bytes: &[u8]) -> Result<usize, OutputFault>
+        ensures bound { IfOk result (λ n. n ≤ length bytes.now) }
+        ensures bytes { WriteAppends (Some self.old.bytes) (Some self.new.bytes) result bytes.now }
+        ensures failures { self.new.failures ≡ failures_after result bytes.now self.old.failures }
+        ensures room { self.new.room ≡ self.old.room }
+        ensures fits { length self.old.bytes + length bytes.now ≤ self.old.room → result ≡ Ok (length bytes.now) }
+    {
+        match self.bytes.extend_from_slice(bytes) {
+            Ok(()) => Ok(bytes.len()),
+            Err(_) => {
+                self.failures = self.failures.saturating_add(1);
+                Err(OutputFault::Failed)
+            }
+        }
+    }
+}

@@ -1,0 +1,10 @@
+pub mod KeyLemmas
+pub mod PlaceLemmas
+pub mod FoundLemmas
+pub mod GrowLemmas
+pub mod SortedLemmas
+pub mod EdgeLemmas
+pub mod BuildLemmas
+pub mod TurnLemmas
+pub mod FlowLemmas
+pub mod Unique

@@ -1,0 +1,16 @@
+pub mod Calls
+pub mod Places
+pub mod Flow
+pub mod GraphParts
+pub mod Kinds
+pub mod Edges
+pub mod Graph
+pub mod Search
+pub mod Stated
+pub mod StatementParts
+pub mod Statement
+pub use Rattle.walks.specs.Walk
+pub use Rattle.bus_ticks.specs.Prices
+pub use Rattle.bus_ticks.specs.Worst
+pub use Rattle.loader.specs.Image
+pub use Rattle.arm2_decode.specs.Table

@@ -1,0 +1,5 @@
+mod DistanceLemmas
+mod FoldLemmas
+mod SpreadLemmas
+mod TraceLemmas
+mod WalkLemmas

@@ -1,0 +1,14 @@
+pub mod Edges
+pub mod Order
+pub mod Search
+pub mod Instance
+pub mod Nest
+pub mod Bounds
+pub mod Tree
+pub mod TreeParts
+pub use Rattle.walks.specs.Walk
+pub use Rattle.walks.specs.Stretch
+pub use Rattle.walks.specs.Greatest
+pub use Rattle.flow_graph.specs.Flow
+pub use Rattle.flow_graph.specs.Places
+pub use Rattle.flow_graph.specs.Stated
