@@ -1,4 +1,4 @@
-ghost use Rattle.std.specs.Prelude.{◌≡◌, ◌≤◌, ℕ, List, Result, IfOk, vec_len};
+ghost use Rattle.std.specs.Prelude.{◌≡◌, ◌≤◌, ℕ, List, Result, IfOk, IfErr, vec_len};
 ghost use Rattle.arcwcet.specs.Store.{bytes_read};
 ghost use Rattle.arcwcet.specs.declared.fault.StoreFault.{StoreFault};
 
@@ -19,8 +19,13 @@ pub trait Store {
         ensures gives { read_gives self.old name.now (bytes_read result) self.new }
         ensures limit { IfOk result (λ v. vec_len v ≤ 16777216) };
 
-    /// Makes the bytes the file's.
-    fn write(&mut self, name: &str, bytes: &[u8]) -> Result<(), StoreFault>;
+    /// What a write of bytes to a name may give, and the store after it; the default says nothing.
+    ghost write_gives: { Self → List ℕ → List ℕ → Result (Unit {0}) StoreFault → Self → Type 0 } = { λ _ _ _ _ _. Unit {0} };
+
+    /// Makes the bytes the file's. The only refusal is `Device`.
+    fn write(&mut self, name: &str, bytes: &[u8]) -> Result<(), StoreFault>
+        ensures gives { write_gives self.old name.now bytes.now result self.new }
+        ensures device { IfErr result (λ e. e ≡ StoreFault.Device) };
 }
 
 /// The files of the system.
