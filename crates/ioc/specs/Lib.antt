@@ -1,0 +1,4 @@
+pub mod Timers
+pub mod Interrupts
+pub mod Registers
+pub mod Law

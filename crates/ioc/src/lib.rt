@@ -1,0 +1,209 @@
+//! IOC, the I/O controller, as a source of interrupts: lines, masks, latched requests and two timers.
+//!
+//! By the VL86C410 data sheet; where it leaves a choice, by our own profile. A tick is one cycle of the
+//! 8 MHz processor. Every call takes constant time.
+#![tactic(auto)]
+
+mod banks;
+mod law;
+mod lines;
+#[cfg(test)]
+mod tests;
+mod timers;
+
+ghost use Rattle.std.specs.Prelude.{◌≡◌, ◌≤◌, ◌<◌};
+ghost use Rattle.ioc.specs.Interrupts.{Controller, fresh, bit_where as bit_of, status_a as is_status_a, status_b as is_status_b, status_f as is_status_f, fiq_of, irq_of, with_lines, with_flyback, advanced};
+ghost use Rattle.ioc.specs.Registers.{read_at, read_of, write_at, write_of, is_register};
+
+pub use banks::{Fiq, IrqA, IrqB};
+use bitflags::Flags;
+pub use law::ticks_add_up;
+pub use lines::Lines;
+use std::marker::Model;
+use timers::{Timer, Timers};
+
+/// IOC: what its registers hold, and the lines that come in.
+#[derive(Drop)]
+pub struct Ioc {
+    lines: Lines,
+    a2_rose: bool,
+    flyback_rose: bool,
+    mask_a: IrqA,
+    mask_b: IrqB,
+    mask_f: Fiq,
+    timers: Timers,
+}
+
+impl Model for Ioc {
+    ghost Value = { Controller };
+
+    ghost view = { λ i. record { lines = i.lines.0; a2_rose = i.a2_rose; flyback_rose = i.flyback_rose; mask_a = i.mask_a.0; mask_b = i.mask_b.0; mask_f = i.mask_f.0; timers = i.timers } };
+
+    ghost invariant = { λ i. i.timers.phase < 4 };
+}
+
+/// Which of the processor's two interrupts IOC asks for.
+#[derive(Clone, Copy, PartialEq, Eq, Debug)]
+pub struct Asserted {
+    pub fiq: bool,
+    pub irq: bool,
+}
+
+impl Ioc {
+    /// IOC with no line active, nothing latched, all masks 0, and timers whose count, latch, output and
+    /// phase are 0.
+    pub fn new() -> Ioc
+        ensures { result ≡ fresh }
+    {
+        Ioc {
+            lines: Lines::empty(),
+            a2_rose: false,
+            flyback_rose: false,
+            mask_a: IrqA::empty(),
+            mask_b: IrqB::empty(),
+            mask_f: Fiq::empty(),
+            timers: Timers {
+                phase: 0,
+                timer_0: Timer::new(),
+                timer_1: Timer::new(),
+            },
+        }
+    }
+
+    /// Sets all lines to what they are now. [`Lines::A2`] is latched where it becomes active; the others
+    /// are levels.
+    pub fn lines(&mut self, lines: Lines)
+        ensures { self.new ≡ with_lines lines.0 self.old }
+    {
+        let rises = lines.contains(Lines::A2) && !self.lines.contains(Lines::A2);
+        self.a2_rose = self.a2_rose || rises;
+        self.lines = lines;
+    }
+
+    /// Latches a flyback, IRQ A bit 3.
+    pub fn flyback(&mut self)
+        ensures { self.new ≡ with_flyback self.old }
+    {
+        self.flyback_rose = true;
+    }
+
+    /// Lets `ticks` ticks pass, of any number. Each fourth tick decrements both timers, counted on from
+    /// one call to the next. A timer moves only where neither its count nor its latch is 0; a decrement
+    /// from 1 loads the latch and latches the timer's request, IRQ A bit 5 or 6.
+    pub fn advance(&mut self, ticks: u32)
+        ensures { self.new ≡ advanced ticks self.old }
+    {
+        self.timers.advance(ticks);
+    }
+
+    /// Whether FIQ and IRQ are asserted: each where a status and its mask share a bit.
+    pub fn asserted(&self) -> Asserted
+        ensures fiq { result.fiq ≡ fiq_of self.now }
+        ensures irq { result.irq ≡ irq_of self.now }
+    {
+        let fiq = self.status_f().intersects(self.mask_f);
+        let a = self.status_a().intersects(self.mask_a);
+        let b = self.status_b().intersects(self.mask_b);
+        Asserted { fiq, irq: a || b }
+    }
+
+    /// Whether an address is a register's: 3200000 to 320007F. Bits 1:0 choose no other register.
+    pub fn is_register(address: u32) -> bool
+        ensures { result ≡ is_register address }
+    {
+        address / 0x80 == 0x6_4000
+    }
+
+    /// The register at an address, a byte in bits 7:0. What can only be written, and an address that is no
+    /// register's, read as 0. The request register of a bank reads its status and mask.
+    #[tactic(auto, unfolding(crate::specs::Registers::read_of))]
+    pub fn read(&self, address: u32) -> u32
+        ensures read { result ≡ read_at address self.now }
+        ensures byte { result < 0x100 }
+    {
+        if !Ioc::is_register(address) {
+            return 0;
+        }
+        match address / 4 % 0x20 * 4 {
+            0x10 => self.status_a().bits() as u32,
+            0x14 => self.status_a().intersection(self.mask_a).bits() as u32,
+            0x18 => self.mask_a.bits() as u32,
+            0x20 => self.status_b().bits() as u32,
+            0x24 => self.status_b().intersection(self.mask_b).bits() as u32,
+            0x28 => self.mask_b.bits() as u32,
+            0x30 => self.status_f().bits() as u32,
+            0x34 => self.status_f().intersection(self.mask_f).bits() as u32,
+            0x38 => self.mask_f.bits() as u32,
+            0x40 => self.timers.timer_0.output as u32 % 0x100,
+            0x44 => self.timers.timer_0.output as u32 / 0x100,
+            0x50 => self.timers.timer_1.output as u32 % 0x100,
+            0x54 => self.timers.timer_1.output as u32 / 0x100,
+            _ => 0,
+        }
+    }
+
+    /// Writes bits 23:16 of a word to the register at an address; what can only be read, and an address
+    /// that is no register's, ignore it. A write to offset 14 clears all four latched requests (IRQ A
+    /// bits 2, 3, 5 and 6) whatever its byte, where the chip clears those whose bit in the byte is 1.
+    #[tactic(auto, unfolding(crate::specs::Registers::write_of))]
+    pub fn write(&mut self, address: u32, word: u32)
+        ensures { self.new ≡ write_at address word self.old }
+    {
+        if !Ioc::is_register(address) {
+            return;
+        }
+        let byte = (word / 0x1_0000 % 0x100) as u8;
+        match address / 4 % 0x20 * 4 {
+            0x14 => {
+                self.a2_rose = false;
+                self.flyback_rose = false;
+                self.timers.timer_0 = self.timers.timer_0.cleared();
+                self.timers.timer_1 = self.timers.timer_1.cleared();
+            }
+            0x18 => self.mask_a = IrqA::from_bits_retain(byte),
+            0x28 => self.mask_b = IrqB::from_bits_retain(byte),
+            0x38 => self.mask_f = Fiq::from_bits_retain(byte),
+            0x40 => self.timers.timer_0 = self.timers.timer_0.with_low(byte),
+            0x44 => self.timers.timer_0 = self.timers.timer_0.with_high(byte),
+            0x48 => self.timers.timer_0 = self.timers.timer_0.started(),
+            0x4C => self.timers.timer_0 = self.timers.timer_0.sampled(),
+            0x50 => self.timers.timer_1 = self.timers.timer_1.with_low(byte),
+            0x54 => self.timers.timer_1 = self.timers.timer_1.with_high(byte),
+            0x58 => self.timers.timer_1 = self.timers.timer_1.started(),
+            0x5C => self.timers.timer_1 = self.timers.timer_1.sampled(),
+            _ => {}
+        }
+    }
+
+    fn status_a(&self) -> IrqA
+        ensures { result.0 ≡ is_status_a self.now }
+    {
+        let lines = (self.lines.bits() % 4) as u8;
+        let a2 = bit_where(self.a2_rose, IrqA::A2);
+        let flyback = bit_where(self.flyback_rose, IrqA::FLYBACK);
+        let timer_0 = bit_where(self.timers.timer_0.request, IrqA::TIMER_0);
+        let timer_1 = bit_where(self.timers.timer_1.request, IrqA::TIMER_1);
+        IrqA::from_bits_retain(lines + a2 + flyback + timer_0 + timer_1 + IrqA::ALWAYS.bits())
+    }
+
+    fn status_b(&self) -> IrqB
+        ensures { result.0 ≡ is_status_b self.now }
+    {
+        IrqB::from_bits_retain((self.lines.bits() / 0x100 % 0x100) as u8)
+    }
+
+    fn status_f(&self) -> Fiq
+        ensures { result.0 ≡ is_status_f self.now }
+    {
+        let lines = self.lines.bits();
+        Fiq::from_bits_retain((lines / 0x1_0000 % 0x40 + lines / 0x100 % 2 * 0x40 + 0x80) as u8)
+    }
+}
+
+// A bit of IRQ A that is set where its condition holds.
+fn bit_where(on: bool, bit: IrqA) -> u8
+    ensures bit { result ≡ bit_of on bit.0 }
+    ensures most { result ≤ bit.0 }
+{
+    if on { bit.bits() } else { 0 }
+}

@@ -1,0 +1,124 @@
+// The two timers: each fourth tick is a decrement of both.
+
+ghost use Rattle.std.specs.Prelude.{◌≡◌, ◌<◌};
+ghost use Rattle.ioc.specs.Timers.{after_decrements, ticked};
+ghost use Rattle.ioc.specs.Interrupts.{still};
+ghost use Rattle.ioc.specs.Registers.{with_low, with_high, started, sampled, cleared};
+
+/// A timer: its count, the latch that it loads, the count that its registers show, and its latched request.
+#[derive(Clone, Copy, Debug, PartialEq, Eq)]
+pub struct Timer {
+    pub(crate) count: u16,
+    pub(crate) latch: u16,
+    pub(crate) output: u16,
+    pub(crate) request: bool,
+}
+
+/// Two timers, and the ticks from 0 to 3 since their last decrement.
+#[derive(Clone, Copy, Debug, PartialEq, Eq)]
+pub struct Timers {
+    pub(crate) phase: u8,
+    pub(crate) timer_0: Timer,
+    pub(crate) timer_1: Timer,
+}
+
+impl Timers {
+    // So many ticks on, in constant time.
+    pub(crate) fn advance(&mut self, ticks: u32)
+        requires { self.old.phase < 4 }
+        ensures ticked { self.new ≡ ticked ticks self.old }
+        ensures phase { self.new.phase < 4 }
+    {
+        let since = self.phase as u32 + ticks % 4;
+        let times = ticks / 4 + since / 4;
+        self.phase = (since % 4) as u8;
+        self.timer_0 = self.timer_0.decremented(times);
+        self.timer_1 = self.timer_1.decremented(times);
+    }
+}
+
+impl Timer {
+    // All 0, and no request.
+    pub(crate) fn new() -> Timer
+        ensures { result ≡ still }
+    {
+        Timer {
+            count: 0,
+            latch: 0,
+            output: 0,
+            request: false,
+        }
+    }
+
+    // So many decrements on, in constant time.
+    pub(crate) fn decremented(self, times: u32) -> Timer
+        ensures { result ≡ after_decrements times self }
+    {
+        let count = self.count as u32;
+        let latch = self.latch as u32;
+        if count == 0 || latch == 0 {
+            self
+        } else if times < count {
+            Timer {
+                count: (count - times) as u16,
+                ..self
+            }
+        } else {
+            Timer {
+                count: (latch - (times - count) % latch) as u16,
+                request: true,
+                ..self
+            }
+        }
+    }
+
+    // With a new low byte of the latch.
+    pub(crate) fn with_low(self, byte: u8) -> Timer
+        ensures { result ≡ with_low byte self }
+    {
+        Timer {
+            latch: self.latch / 0x100 * 0x100 + byte as u16,
+            ..self
+        }
+    }
+
+    // With a new high byte of the latch.
+    pub(crate) fn with_high(self, byte: u8) -> Timer
+        ensures { result ≡ with_high byte self }
+    {
+        Timer {
+            latch: byte as u16 * 0x100 + self.latch % 0x100,
+            ..self
+        }
+    }
+
+    // With the latch as the count.
+    pub(crate) fn started(self) -> Timer
+        ensures { result ≡ started self }
+    {
+        Timer {
+            count: self.latch,
+            ..self
+        }
+    }
+
+    // With the count as the output.
+    pub(crate) fn sampled(self) -> Timer
+        ensures { result ≡ sampled self }
+    {
+        Timer {
+            output: self.count,
+            ..self
+        }
+    }
+
+    // Without a request.
+    pub(crate) fn cleared(self) -> Timer
+        ensures { result ≡ cleared self }
+    {
+        Timer {
+            request: false,
+            ..self
+        }
+    }
+}

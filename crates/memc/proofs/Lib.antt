@@ -1,0 +1,5 @@
+pub mod Inverse
+pub mod Places
+pub mod Fresh
+pub mod Rom
+pub mod Times

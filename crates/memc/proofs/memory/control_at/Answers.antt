@@ -1,0 +1,5 @@
+use Rattle.memc.proofs.Times.{control_same}
+use Rattle.memc.proofs.memory.control_at.Goals as goal
+
+pub returns : goal.returns
+returns c = control_same c.args.address _ _

@@ -1,0 +1,4 @@
+pub mod Paged
+pub mod Memory
+pub mod Table
+pub mod View

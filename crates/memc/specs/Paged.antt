@@ -1,0 +1,53 @@
+-- RAM and its page map as plain maps: from physical place to word, and from logical page to physical page and
+-- level. Sources: the data sheet of the VL86C110 (MEMC) for pages and levels; our own profile for the rest.
+use Rattle.std.specs.Prelude.{◌≡◌, ℕ, ◌+◌, ◌*◌, ◌/◌, ◌%◌, ◌^◌, ◌<◌, ◌≤◌, ◌==◌, if◌then◌else◌, Option, Some, None, List, length, map, slice_index_or, slice_set, All}
+use Rattle.memc.specs.declared.pages.Entry.{Entry}
+
+-- the sizes of a page: 4, 8, 16 and 32 KB
+abbrev pub IsShift : ℕ → Type 0
+IsShift shift = (12 ≤ shift) × (shift ≤ 15)
+
+-- the word at the physical place 4 * i, and the page of each logical page
+pub record Paged : Type 0 where
+  pub words : List ℕ
+  pub pages : List (Option Entry)
+
+-- where a logical page lies
+abbrev pub page_at : Paged → ℕ → Option Entry
+page_at p logical = slice_index_or p.pages logical None
+
+-- the physical place of the word that an address names, on a physical page
+abbrev pub place_of : ℕ → ℕ → ℕ → ℕ
+place_of shift physical address = physical * 2 ^ shift + address % 2 ^ shift / 4 * 4
+
+-- an entry, unless it lies on the physical page
+abbrev pub off : ℕ → Option Entry → Option Entry
+off physical None = None
+off physical (Some e) = if e.physical == physical then None else Some e
+
+-- the map once no logical page lies on the physical page
+abbrev pub unmapped : ℕ → Paged → Paged
+unmapped physical p = record { words = p.words; pages = map (off physical) p.pages }
+
+-- the map once the logical page lies on the physical page, and nothing else does
+abbrev pub mapped : ℕ → ℕ → ℕ → Paged → Paged
+mapped physical logical level p =
+    record { words = p.words; pages = slice_set (map (off physical) p.pages) logical (Some (record { physical = physical; level = level })) }
+
+-- as a machine starts: all words 0, and the logical pages 0 to 127 each on the physical page of its number, at level 0
+pub record IsFresh (shift : ℕ) (p : Paged) : Type 0 where
+  pub size : length p.words ≡ 2 ^ (shift + 5)
+  pub zero_words : All (λ w. w ≡ 0) p.words
+  pub count : length p.pages * 2 ^ shift ≡ 2 ^ 25
+  pub low : (i : ℕ) → i < 128 → page_at p i ≡ Some (record { physical = i; level = 0 })
+  pub high : (i : ℕ) → 128 ≤ i → page_at p i ≡ None
+
+-- what every memory is: 128 physical pages of 2 ^ shift bytes, 2 ^ 25 bytes of logical pages, levels 0 to 3, and at
+-- most one logical page on each physical page
+pub record IsWhole (shift : ℕ) (p : Paged) : Type 0 where
+  pub size : IsShift shift
+  pub words : length p.words ≡ 2 ^ (shift + 5)
+  pub count : length p.pages * 2 ^ shift ≡ 2 ^ 25
+  pub physical_below : (l : ℕ) (e : Entry) → page_at p l ≡ Some e → e.physical < 128
+  pub level_below : (l : ℕ) (e : Entry) → page_at p l ≡ Some e → e.level < 4
+  pub alone : (k l : ℕ) (e f : Entry) → page_at p k ≡ Some e → page_at p l ≡ Some f → e.physical ≡ f.physical → k ≡ l

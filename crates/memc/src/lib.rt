@@ -1,0 +1,11 @@
+//! The memory controller: RAM in pages of one of four sizes, who may use them, and what answers at an address.
+#![tactic(auto)]
+
+mod memory;
+mod pages;
+mod spots;
+#[cfg(test)]
+mod tests;
+
+pub use memory::Memc;
+pub use spots::{MapFault, MemcFault, PageSize, Refused, Spot};

@@ -1,0 +1,336 @@
+ghost use Rattle.std.specs.Prelude.{◌≡◌, ℕ, ◌*◌, ◌/◌, ◌^◌, ◌<◌, ◌≤◌, IfOk, ◌↔◌, OnErr, OnOk, IfSome};
+ghost use Rattle.memc.specs.Paged.{page_at, place_of, IsWhole};
+ghost use Rattle.memc.specs.Memory.{located, logical_at, physical_at, written_at, shift_of_size, IsStart, IsOutOfRange, IsMemorySpot, IsRamSpot, Fits, word_at, stored, with_map, without_page, translated, with_control, with_rom, rom_word, last_word, control_of, allowed as is_allowed};
+
+use crate::pages::{Entry, Pages};
+use crate::spots::{MapFault, MemcFault, PageSize, Refused, Spot};
+use bus_ticks::RomTimes;
+use std::alloc::Global;
+use std::collections::BTreeMap;
+use std::marker::Model;
+
+/// Where physical RAM, the devices, ROM and, for stores, the DMA and control range and the translator begin.
+const PHYSICAL_RAM: u32 = 0x200_0000;
+
+const DEVICES: u32 = 0x300_0000;
+
+const ROM: u32 = 0x340_0000;
+
+const DMA_AND_CONTROL: u32 = 0x360_0000;
+
+const TRANSLATOR: u32 = 0x380_0000;
+
+/// The pages, of one of four sizes.
+#[derive(Drop)]
+enum Sized {
+    K4(Pages<12>),
+    K8(Pages<13>),
+    K16(Pages<14>),
+    K32(Pages<15>),
+}
+
+/// What a store to the control range sets, but the page size. The fields of the video and sound DMA have no effect.
+#[derive(Clone, Copy)]
+struct ControlFields {
+    rom_times: RomTimes,
+    video_dma: bool,
+    sound_dma: bool,
+    system: bool,
+}
+
+/// The memory controller, with the RAM and the ROM words behind it.
+#[derive(Drop)]
+pub struct Memc {
+    sized: Sized,
+    control: ControlFields,
+    rom: BTreeMap<u32, u32>,
+}
+
+impl Model for Memc {
+    ghost use Rattle.memc.specs.Memory.{Memory};
+
+    ghost Value = { Memory };
+
+    ghost use Rattle.memc.specs.View.{memory_in};
+
+    ghost view = { memory_in };
+}
+
+macro_rules! each_size {
+    ($sized:expr, $pages:ident, $body:expr) => {
+        match $sized {
+            Sized::K4($pages) => $body,
+            Sized::K8($pages) => $body,
+            Sized::K16($pages) => $body,
+            Sized::K32($pages) => $body,
+        }
+    };
+}
+
+impl Memc {
+    /// All words of RAM 0, no ROM words, and all control fields 0.
+    ///
+    /// Logical page i lies on physical page i at level 0, for i from 0 to 127. `Memory`: a growth was refused.
+    pub fn new(alloc: Global, size: PageSize) -> Result<Memc, MemcFault>
+        ensures { IfOk result (λ m. IsStart (shift_of_size size) m) }
+    {
+        let sized = match size {
+            PageSize::K4 => Sized::K4(Pages::new(alloc)?),
+            PageSize::K8 => Sized::K8(Pages::new(alloc)?),
+            PageSize::K16 => Sized::K16(Pages::new(alloc)?),
+            PageSize::K32 => Sized::K32(Pages::new(alloc)?),
+        };
+        Ok(Memc {
+            sized,
+            control: control_at(0),
+            rom: BTreeMap::new(alloc),
+        })
+    }
+
+    /// Where an access at an address below 2^26 goes, or the first reason why it is refused.
+    pub fn locate(&self, address: u32, user: bool, store: bool) -> Result<Spot, Refused>
+        requires { address < 2 ^ 26 }
+        ensures located { result ≡ located self.now address user store }
+        ensures fitted { IfOk result (Fits self.now.shift) }
+        ensures whole { IsWhole self.now.shift self.now.paged }
+    {
+        let limit = self.limit();
+        if address < PHYSICAL_RAM {
+            return self.logical(address, user, store);
+        }
+        if address < DEVICES {
+            return physical(address - PHYSICAL_RAM, limit, user);
+        }
+        if user && (store || address < ROM) {
+            return Err(Refused::Protected);
+        }
+        if address < ROM {
+            return Ok(Spot::Io(address));
+        }
+        if store {
+            return self.written(address);
+        }
+        Ok(Spot::Rom(address))
+    }
+
+    /// The word at a spot of RAM or ROM that `locate` gave. It is 0 where ROM has no word.
+    pub fn load(&self, spot: Spot) -> u32
+        requires { IsMemorySpot self.now.shift spot }
+        ensures { result ≡ word_at self.now spot }
+    {
+        match spot {
+            Spot::Ram(place) => each_size!(&self.sized, pages, pages.load(place)),
+            Spot::Rom(address) => self.rom.get(&(address / 4 * 4)).copied().unwrap_or(0),
+            _ => unreachable!(),
+        }
+    }
+
+    /// Puts a word at a spot of RAM that `locate` gave.
+    pub fn store(&mut self, spot: Spot, word: u32)
+        requires { IsRamSpot self.old.shift spot }
+        ensures { self.new ≡ stored spot word self.old }
+    {
+        match spot {
+            Spot::Ram(place) => each_size!(&mut self.sized, pages, pages.store(place, word)),
+            _ => unreachable!(),
+        }
+    }
+
+    /// Sets the control fields by the address of a control write. The page size stays.
+    pub fn control(&mut self, address: u32)
+        ensures { self.new ≡ with_control address self.old }
+    {
+        self.control = control_at(address);
+    }
+
+    /// Maps a page of 4 KB by the address of a translator write, which names both pages and the level.
+    ///
+    /// Both pages lose what they had. No words move.
+    pub fn translator(&mut self, address: u32)
+        requires { self.old.shift ≡ 12 }
+        ensures { self.new ≡ translated address self.old }
+    {
+        let physical = address % 0x80;
+        let logical = address / 0x400 % 4 * 0x800 + address / 0x1000 % 0x800;
+        let level = address / 0x100 % 4;
+        match &mut self.sized {
+            Sized::K4(pages) => pages.map(physical as u8, logical as u16, level as u8),
+            _ => unreachable!(),
+        }
+    }
+
+    /// Puts a logical page on a physical page. Both lose what they had. No words move.
+    ///
+    /// `OutOfRange`: a physical page above 127, a logical page past 2^25 bytes or a level above 3.
+    pub fn map(&mut self, physical: u32, logical: u32, level: u32) -> Result<(), MapFault>
+        ensures ok { OnOk result (self.new ≡ with_map physical logical level self.old) }
+        ensures err { OnErr result (self.new ≡ self.old) }
+        ensures refused { (result ≡ Err MapFault.OutOfRange) ↔ IsOutOfRange self.old.shift physical logical level }
+    {
+        if physical >= 128 || level > 3 || logical >= 1 << (25 - self.shift()) {
+            return Err(MapFault::OutOfRange);
+        }
+        each_size!(
+            &mut self.sized,
+            pages,
+            pages.map(physical as u8, logical as u16, level as u8)
+        );
+        Ok(())
+    }
+
+    /// Takes a physical page off the map. No words move.
+    ///
+    /// `OutOfRange`: a physical page above 127.
+    pub fn unmap(&mut self, physical: u32) -> Result<(), MapFault>
+        ensures ok { OnOk result (self.new ≡ without_page physical self.old) }
+        ensures err { OnErr result (self.new ≡ self.old) }
+        ensures refused { (result ≡ Err MapFault.OutOfRange) ↔ (128 ≤ physical) }
+    {
+        if physical >= 128 {
+            return Err(MapFault::OutOfRange);
+        }
+        each_size!(&mut self.sized, pages, pages.unmap(physical as u8));
+        Ok(())
+    }
+
+    /// Puts words into ROM, each by its address, a multiple of 4 from 3400000 to 3FFFFFC.
+    ///
+    /// A word that is there, or earlier in the list, is replaced. No load finds a word at another address. It
+    /// copies the words that are there, so a caller gives all words in one call. `Memory`: a growth was refused.
+    pub fn add_rom(&mut self, _alloc: Global, words: &[(u32, u32)]) -> Result<(), MemcFault>
+        ensures ok { OnOk result (self.new ≡ with_rom words.now self.old) }
+        ensures words { OnOk result ((address : ℕ) → rom_word self.new.rom address ≡ last_word words.now address (rom_word self.old.rom address)) }
+        ensures err { OnErr result (self.new ≡ self.old) }
+    {
+        let mut rom = self.rom.clone()?;
+        for &(address, word) in words {
+            rom.insert(address, word)?;
+        }
+        self.rom = rom;
+        Ok(())
+    }
+
+    /// The time fields of low and high ROM.
+    pub fn rom_times(&self) -> RomTimes
+        ensures { result ≡ self.now.control.rom_times }
+    {
+        self.control.rom_times
+    }
+
+    fn logical(&self, address: u32, user: bool, store: bool) -> Result<Spot, Refused>
+        requires { address < 2 ^ 25 }
+        ensures located { result ≡ logical_at self.now address user store }
+        ensures fitted { IfOk result (Fits self.now.shift) }
+    {
+        match self.page(address) {
+            None => Err(Refused::NoPage),
+            Some(entry) => {
+                if self.allowed(entry.level, user, store) {
+                    Ok(Spot::Ram(self.place(entry.physical, address)))
+                } else {
+                    Err(Refused::Protected)
+                }
+            }
+        }
+    }
+
+    // What a store from 3400000 on reaches.
+    fn written(&self, address: u32) -> Result<Spot, Refused>
+        ensures located { result ≡ written_at self.now.shift address }
+        ensures fitted { IfOk result (Fits self.now.shift) }
+    {
+        if address < DMA_AND_CONTROL {
+            return Ok(Spot::Vidc(address));
+        }
+        if address < TRANSLATOR {
+            if address / 0x2_0000 % 8 != 7 {
+                return Ok(Spot::Ignored(address));
+            }
+            if address / 4 % 4 + 12 == self.shift() {
+                return Ok(Spot::Control(address));
+            }
+            return Err(Refused::UnsupportedWrite);
+        }
+        if self.shift() == 12 {
+            return Ok(Spot::Translator(address));
+        }
+        Err(Refused::UnsupportedWrite)
+    }
+
+    fn shift(&self) -> u32
+        ensures shift { result ≡ self.now.shift }
+        ensures bounds { (12 ≤ result) × (result ≤ 15) }
+    {
+        match &self.sized {
+            Sized::K4(_) => 12,
+            Sized::K8(_) => 13,
+            Sized::K16(_) => 14,
+            Sized::K32(_) => 15,
+        }
+    }
+
+    fn limit(&self) -> u32
+        ensures bytes { result ≡ 128 * 2 ^ self.now.shift }
+        ensures whole { IsWhole self.now.shift self.now.paged }
+    {
+        each_size!(&self.sized, pages, pages.limit())
+    }
+
+    fn page(&self, address: u32) -> Option<Entry>
+        requires { address < 2 ^ 25 }
+        ensures page { result ≡ page_at self.now.paged (address / 2 ^ self.now.shift) }
+        ensures fitted { IfSome result (λ e. e.physical < 128) }
+    {
+        each_size!(&self.sized, pages, pages.page(address))
+    }
+
+    fn place(&self, physical: u8, address: u32) -> u32
+        requires { physical < 128 }
+        ensures place { result ≡ place_of self.now.shift physical address }
+        ensures fitted { result < 128 * 2 ^ self.now.shift }
+    {
+        each_size!(&self.sized, pages, pages.place(physical, address))
+    }
+
+    // Whether a level of protection lets an access pass.
+    fn allowed(&self, level: u8, user: bool, store: bool) -> bool
+        ensures { result ≡ is_allowed self.now.control.system level user store }
+    {
+        !user
+            || level == 0
+            || if store {
+                self.control.system && level == 1
+            } else {
+                self.control.system || level == 1
+            }
+    }
+}
+
+// An access to physical RAM, of which `limit` bytes are fitted.
+fn physical(place: u32, limit: u32, user: bool) -> Result<Spot, Refused>
+    ensures located { result ≡ physical_at limit place user }
+    ensures fitted { (shift : ℕ) → limit ≡ 128 * 2 ^ shift → IfOk result (Fits shift) }
+{
+    if place >= limit {
+        return Err(Refused::NoPage);
+    }
+    if user {
+        return Err(Refused::Protected);
+    }
+    Ok(Spot::Ram(place / 4 * 4))
+}
+
+// The control fields in the address of a control write.
+fn control_at(address: u32) -> ControlFields
+    ensures { result ≡ control_of address }
+{
+    ControlFields {
+        rom_times: RomTimes {
+            low: address / 0x10 % 4,
+            high: address / 0x40 % 4,
+        },
+        video_dma: address / 0x400 % 2 == 1,
+        sound_dma: address / 0x800 % 2 == 1,
+        system: address / 0x1000 % 2 == 1,
+    }
+}

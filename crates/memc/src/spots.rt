@@ -1,0 +1,88 @@
+ghost use Rattle.std.specs.Prelude.{◌≡◌};
+
+use std::alloc::{AllocError, AllocFailed};
+use thiserror::Error;
+
+/// The size of a page.
+#[derive(Clone, Copy, Debug, PartialEq, Eq)]
+pub enum PageSize {
+    /// 4 KB
+    K4,
+    /// 8 KB
+    K8,
+    /// 16 KB
+    K16,
+    /// 32 KB
+    K32,
+}
+
+/// What answers an access.
+#[derive(Clone, Copy, Debug, PartialEq, Eq)]
+pub enum Spot {
+    /// A word of the fitted RAM, by its place in bytes: a multiple of 4 below 128 pages.
+    Ram(u32),
+    /// A load from ROM, from 3400000 on, by its address.
+    Rom(u32),
+    /// The devices, from 3000000 to 33FFFFF, by the address.
+    Io(u32),
+    /// A store to the video controller, from 3400000 to 35FFFFF, by its address.
+    Vidc(u32),
+    /// A store that sets the control fields, by its address, which holds them.
+    Control(u32),
+    /// A store that maps a page of 4 KB, from 3800000 on, by its address, which names the pages.
+    Translator(u32),
+    /// A store to a DMA address register, which has no effect, by its address.
+    Ignored(u32),
+}
+
+/// Why an access is refused. Where several hold, the first of them is answered.
+#[derive(Clone, Copy, Debug, PartialEq, Eq, Drop, Error)]
+pub enum Refused {
+    /// No physical page holds the logical address, or the physical address is past the fitted RAM.
+    #[error("NoPage")]
+    NoPage,
+    /// User mode has no right to the access.
+    #[error("Protected")]
+    Protected,
+    /// A store that would change the page size, or a translator write with pages of another size than 4 KB.
+    #[error("UnsupportedWrite")]
+    UnsupportedWrite,
+}
+
+/// Why pages are not mapped.
+#[derive(Clone, Copy, Debug, PartialEq, Eq, Drop, Error)]
+pub enum MapFault {
+    /// A physical page above 127, a logical page past 2^25 bytes or a level above 3.
+    #[error("OutOfRange")]
+    OutOfRange,
+}
+
+/// Why a memory is not made, or does not take ROM words.
+#[derive(Clone, Copy, Debug, PartialEq, Eq, Drop, Error)]
+pub enum MemcFault {
+    /// A growth was refused.
+    #[error("Memory")]
+    Memory,
+}
+
+impl From<AllocError> for MemcFault {
+    ghost use Rattle.std.specs.Prelude.{◌≡◌};
+    ghost use Rattle.memc.specs.declared.spots.MemcFault.TheVariants.{Memory};
+
+    ghost from_gives = { λ _ fault. fault ≡ Memory };
+
+    fn from(_refused: AllocError) -> MemcFault {
+        MemcFault::Memory
+    }
+}
+
+impl<T: Drop> From<AllocFailed<T>> for MemcFault {
+    ghost use Rattle.std.specs.Prelude.{◌≡◌};
+    ghost use Rattle.memc.specs.declared.spots.MemcFault.TheVariants.{Memory};
+
+    ghost from_gives = { λ _ fault. fault ≡ Memory };
+
+    fn from(_refused: AllocFailed<T>) -> MemcFault {
+        MemcFault::Memory
+    }
+}

@@ -1,0 +1,3 @@
+pub mod RemainderLemmas
+pub mod FrameLemmas
+pub mod VideoLemmas

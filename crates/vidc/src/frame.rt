@@ -1,0 +1,55 @@
+// The position in a frame: times in sixths of a tick, `ticks` in whole ticks.
+
+ghost use Rattle.std.specs.Prelude.{◌≡◌, ◌≤◌, ◌<◌, ◌*◌, ◌^◌};
+ghost use Rattle.vidc.specs.Frame.{arrivals as arrivals_in, position_after as position_in};
+ghost use Rattle.vidc.specs.Video.{raster_of};
+
+use crate::PixelRate;
+
+// What a raster takes.
+pub(crate) fn raster(horizontal_cycle: u32, rate: PixelRate) -> u32
+    requires { horizontal_cycle < 0x400 }
+    ensures raster { result ≡ raster_of horizontal_cycle rate }
+    ensures least { 4 ≤ result }
+    ensures most { result ≤ 0x3000 }
+{
+    let pixels = 2 * horizontal_cycle + 2;
+    match rate {
+        PixelRate::Mhz8 => pixels * 6,
+        PixelRate::Mhz12 => pixels * 4,
+        PixelRate::Mhz16 => pixels * 3,
+        PixelRate::Mhz24 => pixels * 2,
+    }
+}
+
+// What so many rasters take.
+pub(crate) fn rasters(raster: u32, count: u32) -> u32
+    requires raster { raster ≤ 0x3000 }
+    requires count { count ≤ 0x400 }
+    ensures product { result ≡ raster * count }
+    ensures below { result < 2 ^ 26 }
+{
+    raster * count
+}
+
+// The position so many ticks after another.
+pub(crate) fn position_after(ticks: u32, frame: u32, from: u32) -> u32
+    requires { from < frame }
+    ensures position { result ≡ position_in (ticks * 6) frame from }
+    ensures within { result < frame }
+{
+    ((from as u64 + ticks as u64 * 6) % frame as u64) as u32
+}
+
+// How often the position comes to a mark while so many ticks pass.
+pub(crate) fn arrivals(ticks: u32, frame: u32, mark: u32, from: u32) -> u32
+    requires frame { 8 ≤ frame }
+    requires mark { mark < frame }
+    requires from { from < frame }
+    ensures { result ≡ arrivals_in (ticks * 6) frame mark from }
+{
+    let frame = frame as u64;
+    // as if the position had last been at the mark so long ago
+    let since = (from as u64 + (frame - mark as u64)) % frame;
+    ((since + ticks as u64 * 6) / frame) as u32
+}
