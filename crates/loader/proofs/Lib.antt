@@ -1,1 +1,9 @@
 mod WordLemmas
+mod LabelLemmas
+mod ReadLemmas
+mod SegmentLemmas
+mod RunLemmas
+mod SpellLemmas
+mod WrittenLemmas
+mod AcceptLemmas
+mod LoadLemmas

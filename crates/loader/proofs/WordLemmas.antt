@@ -1,5 +1,5 @@
 -- One word more in a list of addresses and words.
-use Rattle.std.proofs.Common.{◌≡◌, ◌≢◌, ◌∙◌, ℕ, ◌+◌, ◌-◌, ◌%◌, ◌<◌, ◌≤◌, Bool, true, false, cond, eqb, [], ◌∷◌, length, Option, Some, None, refl, sym, ap, inl, inr, arith, subst}
+use Rattle.std.proofs.Common.{◌≡◌, ◌≢◌, ◌∙◌, ℕ, suc, ◌+◌, ◌-◌, ◌%◌, ◌<◌, ◌≤◌, Bool, true, false, cond, eqb, [], ◌∷◌, length, Option, Some, None, refl, sym, ap, inl, inr, arith, subst}
 use Rattle.std.specs.Prelude.{IsTrue, IsSome, is_some, nat_le, nat_lt, not, ◌||◌}
 use Rattle.std.specs.List.{AllByRecursion}
 use Rattle.std.specs.Map.{lookup}
@@ -45,7 +45,7 @@ insert-with_word (e ∷ rest) a w none = elim (cases_lt a e.0) [
 
 -- ## Order and places
 
-all_with_word : (P : ℕ × ℕ → Type 0) (words : Words) (a w : ℕ) → AllByRecursion P words → P (a, w) → AllByRecursion P (with_word words a w)
+pub all_with_word : (P : ℕ × ℕ → Type 0) (words : Words) (a w : ℕ) → AllByRecursion P words → P (a, w) → AllByRecursion P (with_word words a w)
 all_with_word P [] a w all p = (p, tt)
 all_with_word P (e ∷ rest) a w all p = elim (cases_lt a e.0) [
   | inl lt ↦ rw (lt-ltb a e.0 lt) (p, all)
@@ -212,6 +212,14 @@ has_counted words a found n is counted =
     as_number true = refl
     as_number false = refl
 
+pub length_with_word : (words : Words) (a w : ℕ) → length (with_word words a w) ≡ suc (length words)
+length_with_word [] a w = refl
+length_with_word (e ∷ rest) a w = longer (nat_lt a e.0) (length_with_word rest a w)
+  where
+    longer : (b : Bool) → length (with_word rest a w) ≡ suc (length rest) → length (cond b ((a, w) ∷ e ∷ rest) (e ∷ with_word rest a w)) ≡ suc (suc (length rest))
+    longer true more = refl
+    longer false more = ap suc more
+
 -- ## Why a word cannot be put
 
 abbrev pub fault_by : (may is_held full long : Bool) → Option ImageFault
@@ -244,8 +252,11 @@ pub record MayPut (words : Words) (a w : ℕ) : Type 0 where
   pub may : IsTrue (may_hold a)
   pub free : word_of words a ≡ None
   pub few : runs_of (with_word words a w) ≤ 16
+  pub short : length (with_word words a w) ≤ 65536
 
 pub may_put : (words : Words) (a w : ℕ) → put_fault words a w ≡ None → MayPut words a w
 may_put words a w e =
     let p = parts (may_hold a) (is_some (word_of words a)) (nat_le 65536 (length words)) (nat_lt 16 (runs_of (with_word words a w))) e in
-    record { may = p.0; free = none_held _ p.1; few = ltb-false 16 _ p.3 }
+    let room = p.2 in
+    let more = length_with_word words a w in
+    record { may = p.0; free = none_held _ p.1; few = ltb-false 16 _ p.3; short = grind (arith, nat_tests, room, more) }

@@ -1,7 +1,8 @@
 -- What an image keeps of its words.
-use Rattle.std.specs.Prelude.{◌≡◌, ◌<◌, ◌≤◌, IsTrue, [], ◌∷◌}
+use Rattle.std.specs.Prelude.{◌≡◌, ◌<◌, ◌≤◌, ◌+◌, ◌-◌, ◌*◌, ◌^◌, ℕ, true, IsTrue, List, [], ◌∷◌, length, None, is_some}
 use Rattle.std.specs.List.{AllByRecursion}
-use Rattle.loader.specs.Image.{Words, may_hold, runs_of}
+use Rattle.loader.specs.Image.{Words, may_hold, runs_of, word_of}
+use Rattle.loader.specs.ImageBytes.{numbers, with_words}
 use Rattle.loader.specs.declared.image.Image.TheInside.{Inside}
 
 abbrev pub words_in : Inside → Words
@@ -16,8 +17,30 @@ Ascends (e ∷ rest) = AllByRecursion (λ f. e.0 < f.0) rest × Ascends rest
 abbrev pub MayStand : Words → Type 0
 MayStand words = AllByRecursion (λ e. IsTrue (may_hold e.0)) words
 
+-- words of 32 bits
+abbrev pub HasNumbers : Words → Type 0
+HasNumbers words = AllByRecursion (λ e. e.1 < 2 ^ 32) words
+
 pub record IsImage (image : Inside) : Type 0 where
   pub ascends : Ascends image.words.entries
   pub may_stand : MayStand image.words.entries
+  pub numbers : HasNumbers image.words.entries
   pub counted : image.runs ≡ runs_of image.words.entries
   pub few_runs : image.runs ≤ 16
+  pub few_words : length image.words.entries ≤ 65536
+
+-- what every image keeps, by its words alone
+pub record AreWhole (words : Words) : Type 0 where
+  pub ascends : Ascends words
+  pub may_stand : MayStand words
+  pub numbers : HasNumbers words
+  pub few_runs : runs_of words ≤ 16
+  pub few_words : length words ≤ 65536
+
+-- so many words of a segment are put behind the old ones, and the rest of it is free
+pub record IsPartly (old : Words) (address count : ℕ) (bytes : List ℕ) (done : ℕ) (new : Words) : Type 0 where
+  pub is : new ≡ with_words old address (numbers done bytes)
+  pub free : (a : ℕ) → address + 4 * done ≤ a → a < address + 4 * count → word_of new a ≡ None
+  pub long : length new ≡ length old + done
+  pub few : runs_of new ≤ runs_of old + 1
+  pub last : 0 < done → is_some (word_of new (address + 4 * done - 4)) ≡ true

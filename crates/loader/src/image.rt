@@ -1,7 +1,10 @@
-ghost use Rattle.std.specs.Prelude.{◌≡◌, ◌⊎◌, [], IsTrue, IsSome, OnOk, OnErr, IfErr};
+ghost use Rattle.std.specs.Prelude.{◌≡◌, ◌≤◌, ◌⊎◌, [], IsTrue, IsSome, IfOk, OnOk, OnErr, IfErr, length, map};
+ghost use Rattle.std.specs.List.{slice_get};
+ghost use Rattle.loader.specs.ImageBytes.{segments_of};
+ghost use Rattle.loader.specs.Inside.{AreWhole};
 ghost use Rattle.loader.specs.Image.{may_hold, put_fault, runs_of, with_word, word_of};
 
-use std::alloc::{AllocFailed, Global};
+use std::alloc::{AllocError, AllocFailed, Global};
 use std::collections::BTreeMap;
 use std::marker::Model;
 use thiserror::Error;
@@ -26,6 +29,17 @@ pub enum ImageFault {
     TooLong,
 }
 
+impl From<AllocError> for ImageFault {
+    ghost use Rattle.std.specs.Prelude.{◌≡◌};
+    ghost use Rattle.loader.specs.declared.image.ImageFault.TheVariants.{Memory};
+
+    ghost from_gives = { λ _ fault. fault ≡ Memory };
+
+    fn from(_refused: AllocError) -> ImageFault {
+        ImageFault::Memory
+    }
+}
+
 impl<T: Drop> From<AllocFailed<T>> for ImageFault {
     ghost use Rattle.std.specs.Prelude.{◌≡◌};
     ghost use Rattle.loader.specs.declared.image.ImageFault.TheVariants.{Memory};
@@ -40,8 +54,8 @@ impl<T: Drop> From<AllocFailed<T>> for ImageFault {
 /// The words of a program by their addresses, which are below 2^26.
 #[derive(Drop)]
 pub struct Image {
-    words: BTreeMap<u32, u32>,
-    runs: usize,
+    pub(crate) words: BTreeMap<u32, u32>,
+    pub(crate) runs: usize,
 }
 
 impl Model for Image {
@@ -56,7 +70,8 @@ impl Model for Image {
     ghost invariant = { IsImage };
 }
 
-fn can_hold(address: u32) -> bool
+// Whether a word may stand at an address.
+pub(crate) fn can_hold(address: u32) -> bool
     ensures { result ≡ may_hold address }
 {
     address % 4 == 0 && address < 0x400_0000 && !(address >= 0x300_0000 && address < 0x340_0000)
@@ -79,6 +94,46 @@ impl Image {
         ensures held { IsSome result → IsTrue (may_hold address) }
     {
         self.words.get(&address).copied()
+    }
+
+    /// The number of words, at most 65,536.
+    pub fn words(&self) -> u32
+        ensures { result ≡ length self.now }
+    {
+        self.words.len() as u32
+    }
+
+    /// The number of segments, which are the maximal runs of words side by side: at most 16.
+    pub fn segments(&self) -> u32
+        ensures runs { result ≡ runs_of self.now }
+        ensures written { result ≡ length (segments_of self.now) }
+    {
+        self.runs as u32
+    }
+
+    /// The address of the n-th word by ascending addresses, counted from 0. It takes time linear in n.
+    pub fn address(&self, n: u32) -> Option<u32>
+        ensures { result ≡ slice_get (map (λ e. e.0) self.now) n }
+    {
+        self.words.keys().nth(n as usize).copied()
+    }
+
+    // What every image keeps.
+    pub(crate) fn whole(&self)
+        ensures { AreWhole self.now }
+    {
+        let _runs = self.runs;
+    }
+
+    // The words with their addresses, which ascend.
+    pub(crate) fn listed(&self, alloc: Global) -> Result<Vec<(u32, u32)>, AllocError>
+        ensures words { IfOk result (λ words. words.items ≡ self.now) }
+        ensures few { length self.now ≤ 65536 }
+    {
+        self.words
+            .iter()
+            .map(|(address, word)| (*address, *word))
+            .collect(alloc)
     }
 
     // The number of runs with one more word, which joins the runs beside it.
@@ -126,49 +181,6 @@ impl Image {
         let runs = self.runs_with(address, word);
         self.words.insert(address, word)?;
         self.runs = runs;
-        Ok(())
-    }
-}
-
-#[cfg(test)]
-mod tests {
-    use super::*;
-    use std::test::Fail;
-
-    #[test]
-    fn word_put_twice(rt: HostRuntime) -> Result<(), Fail> {
-        let mut image = Image::new(rt.alloc());
-        image.put(rt.alloc(), 0x8000, 0xE3A0_0003)?;
-        assert_eq!(rt;
-            image.put(rt.alloc(), 0x8000, 0),
-            Err(ImageFault::OutOfRange)
-        );
-        assert_eq!(rt; image.word_at(0x8000), Some(0xE3A0_0003));
-        assert_eq!(rt; image.word_at(0x8004), None);
-        assert_eq!(rt;
-            image.put(rt.alloc(), 0x8002, 0),
-            Err(ImageFault::OutOfRange)
-        );
-        assert_eq!(rt;
-            image.put(rt.alloc(), 0x300_0000, 0),
-            Err(ImageFault::OutOfRange)
-        );
-        assert_eq!(rt;
-            image.put(rt.alloc(), 0x400_0000, 0),
-            Err(ImageFault::OutOfRange)
-        );
-        Ok(())
-    }
-
-    #[test]
-    fn seventeen_runs(rt: HostRuntime) -> Result<(), Fail> {
-        let mut image = Image::new(rt.alloc());
-        for run in 0u32..16 {
-            image.put(rt.alloc(), run * 8, run)?;
-        }
-        assert_eq!(rt; image.put(rt.alloc(), 0x80, 0), Err(ImageFault::TooLong));
-        image.put(rt.alloc(), 4, 0)?;
-        image.put(rt.alloc(), 0x80, 0)?;
         Ok(())
     }
 }

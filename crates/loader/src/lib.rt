@@ -3,3 +3,9 @@
 
 pub mod image;
 pub mod labels;
+pub mod law;
+pub mod loading;
+pub mod reading;
+#[cfg(test)]
+mod tests;
+pub mod writing;

@@ -1,0 +1,169 @@
+-- What each instruction does that is no load or store (VL86C010 data sheet, instruction set).
+use Rattle.std.specs.Prelude.{ℕ, ◌+◌, ◌*◌, ◌%◌, ◌^◌, ◌==◌, nat_lt, zero, suc, ◌-◌, Bool, true, false, if◌then◌else◌, List, [], ◌∷◌}
+use Rattle.arm2_decode.specs.Names.{register_number}
+use Rattle.arm2_decode.specs.declared.names.Opcode.{Opcode}
+use Rattle.arm2_decode.specs.declared.instr.Operation.{Operation}
+use Rattle.arm2_decode.specs.declared.instr.Operation.TheVariants as row
+use Rattle.arm2_decode.specs.declared.instr.DataRegister.{DataRegister}
+use Rattle.arm2_decode.specs.declared.instr.DataRegisterShift.{DataRegisterShift}
+use Rattle.arm2_decode.specs.declared.instr.DataImmediate.{DataImmediate}
+use Rattle.arm2_decode.specs.declared.instr.Multiply.{Multiply}
+use Rattle.arm2_decode.specs.declared.instr.Branch.{Branch}
+use Rattle.arm2_effect.specs.declared.outcomes.Outcome.{Outcome}
+use Rattle.arm2_effect.specs.declared.exceptions.Vector.TheVariants as vector
+use Rattle.arm2_effect.specs.declared.done.Kind.TheVariants.{Plain}
+use Rattle.arm2_effect.specs.Modes.{r15_in, register_in, with_r15, with_register}
+use Rattle.arm2_effect.specs.ProgramCounter.{address_of, ahead_of, flags_of, jumped_of, mode_of, psr_of, psr_with, r15_ahead, r15_of, restored_of}
+use Rattle.arm2_effect.specs.Effects.{Effect, Internal, onward, straight}
+use Rattle.arm2_effect.specs.Exceptions.{taken}
+use Rattle.arm2_effect.specs.Operands.{first_of, rotated_byte, shifted_by_amount, shifted_by_register}
+use Rattle.arm2_effect.specs.Outcomes.{flags_after, is_compare, outcome_of}
+
+-- R15 at the next instruction, with the flags of an outcome where they are set
+abbrev pub next_r15 : Bool → Outcome → ℕ → ℕ
+next_r15 sets_flags out r =
+    r15_of (if sets_flags then psr_with (flags_after out) (psr_of r) else psr_of r) (ahead_of (address_of r) 4) (mode_of r)
+
+-- a value enters register rd, which is not R15
+unfoldable pub entered : Bool → ℕ → Outcome → List ℕ → Effect
+entered sets_flags rd out regs =
+    record {
+      kind = Plain;
+      accesses = straight (address_of (r15_in regs));
+      regs = with_r15 (next_r15 sets_flags out (r15_in regs)) (with_register (mode_of (r15_in regs)) rd out.value regs);
+    }
+
+-- a value enters R15: its address bits, and where flags are set the PSR and the mode too
+unfoldable pub jumped : Bool → Outcome → List ℕ → Effect
+jumped sets_flags out regs =
+    record {
+      kind = Plain;
+      accesses = onward (address_of (r15_in regs)) (address_of out.value);
+      regs =
+          with_r15
+          (if sets_flags then restored_of (r15_in regs) out.value (address_of out.value) else jumped_of (r15_in regs) out.value)
+          regs;
+    }
+
+-- a compare sets the flags, and with Rd = R15 the PSR and the mode by the bits of the value
+unfoldable pub compared : ℕ → Outcome → List ℕ → Effect
+compared rd out regs =
+    record {
+      kind = Plain;
+      accesses = straight (address_of (r15_in regs));
+      regs =
+          with_r15
+          (if rd == 15 then restored_of (r15_in regs) out.value (ahead_of (address_of (r15_in regs)) 4) else next_r15 true out (r15_in regs))
+          regs;
+    }
+
+-- what data processing does with its outcome
+unfoldable pub placed : Opcode → Bool → ℕ → Outcome → List ℕ → Effect
+placed opcode sets_flags rd out regs =
+    if is_compare opcode then compared rd out regs
+    else (if rd == 15 then jumped sets_flags out regs else entered sets_flags rd out regs)
+
+-- an effect that takes some internal cycles more
+abbrev pub delayed : ℕ → Effect → Effect
+delayed cycles e = record { kind = e.kind; accesses = Internal cycles ∷ e.accesses; regs = e.regs }
+
+unfoldable pub data_immediate_effect : DataImmediate → List ℕ → Effect
+data_immediate_effect x regs =
+    placed
+    x.opcode
+    x.sets_flags
+    (register_number x.rd)
+    (outcome_of x.opcode (first_of 8 (register_number x.rn) regs) (rotated_byte x.value x.rotation regs) (flags_of (r15_in regs)))
+    regs
+
+unfoldable pub data_register_effect : DataRegister → List ℕ → Effect
+data_register_effect x regs =
+    placed
+    x.opcode
+    x.sets_flags
+    (register_number x.rd)
+    (outcome_of x.opcode (first_of 8 (register_number x.rn) regs) (shifted_by_amount x.shift x.amount (register_number x.rm) regs) (flags_of (r15_in regs)))
+    regs
+
+-- with the amount in a register: one internal cycle more, so the program counter is a word further on
+unfoldable pub data_register_shift_effect : DataRegisterShift → List ℕ → Effect
+data_register_shift_effect x regs =
+    delayed
+    1
+    (placed
+    x.opcode
+    x.sets_flags
+    (register_number x.rd)
+    (outcome_of x.opcode (first_of 12 (register_number x.rn) regs) (shifted_by_register x.shift (register_number x.rs) (register_number x.rm) regs) (flags_of (r15_in regs)))
+    regs)
+
+-- the least m from the given one on with number < 2 ^ (2 * m - 1), or the last one
+unfoldable pub cycles_from : ℕ → ℕ → ℕ → ℕ
+cycles_from zero m number = m
+cycles_from (suc left) m number = if nat_lt number (2 ^ (2 * m - 1)) then m else cycles_from left (m + 1) number
+
+-- the cycles of a multiply by a number: 1 for 0 and 1, 2 up to 7, 3 up to 31, and so on up to 16
+abbrev pub cycles_of : ℕ → ℕ
+cycles_of number = cycles_from 15 1 number
+
+-- the low 32 bits of the product; C and V stay (C by our own choice)
+abbrev pub product_of : Multiply → List ℕ → Outcome
+product_of x regs =
+    let mode = mode_of (r15_in regs) in
+    record {
+      value =
+          (register_in mode (register_number x.rm) regs * register_in mode (register_number x.rs) regs
+          + (if x.accumulate then register_in mode (register_number x.rn) regs else 0))
+          % 2 ^ 32;
+      carry = (flags_of (r15_in regs)).carry;
+      overflow = (flags_of (r15_in regs)).overflow;
+    }
+
+unfoldable pub multiply_effect : Multiply → List ℕ → Effect
+multiply_effect x regs =
+    delayed
+    (cycles_of (register_in (mode_of (r15_in regs)) (register_number x.rs) regs))
+    (entered x.sets_flags (register_number x.rd) (product_of x regs) regs)
+
+-- where a branch leads: its offset in words is signed, which makes no difference modulo 2 ^ 26
+abbrev pub target_of : Branch → ℕ → ℕ
+target_of x r = ahead_of (address_of r) (8 + 4 * x.offset)
+
+-- with a link R14 keeps the PSR, the mode and the way back
+unfoldable pub branch_effect : Branch → List ℕ → Effect
+branch_effect x regs =
+    let r = r15_in regs in
+    record {
+      kind = Plain;
+      accesses = onward (address_of r) (target_of x r);
+      regs =
+          with_r15
+          (r15_of (psr_of r) (target_of x r) (mode_of r))
+          (if x.link then with_register (mode_of r) 14 (r15_ahead r 4) regs else regs);
+    }
+
+-- nothing happens here
+unfoldable pub untouched : List ℕ → Effect
+untouched regs = record { kind = Plain; accesses = []; regs = regs }
+
+-- loads and stores, which reach past the registers
+abbrev pub is_transfer : Operation → Bool
+is_transfer (row.SingleImmediate x) = true
+is_transfer (row.SingleRegister x) = true
+is_transfer (row.Block x) = true
+is_transfer other = false
+
+-- an instruction whose condition holds; loads and stores have no effect by the registers alone
+unfoldable pub operation_effect : Operation → List ℕ → Effect
+operation_effect (row.Multiply x) regs = multiply_effect x regs
+operation_effect (row.DataRegister x) regs = data_register_effect x regs
+operation_effect (row.DataRegisterShift x) regs = data_register_shift_effect x regs
+operation_effect (row.DataImmediate x) regs = data_immediate_effect x regs
+operation_effect (row.SingleImmediate x) regs = untouched regs
+operation_effect (row.SingleRegister x) regs = untouched regs
+operation_effect (row.Block x) regs = untouched regs
+operation_effect (row.Branch x) regs = branch_effect x regs
+operation_effect (row.Swi x) regs = taken vector.Swi regs
+operation_effect (row.UndefinedTransfer x) regs = taken vector.Undefined regs
+operation_effect (row.CoprocessorTransfer x) regs = taken vector.Undefined regs
+operation_effect (row.Coprocessor x) regs = taken vector.Undefined regs

@@ -1,0 +1,53 @@
+-- R15: N Z C V I F in bits 31 to 26, a word address in bits 25 to 2, the mode in bits 1 and 0 (VL86C010 data sheet,
+-- registers).
+use Rattle.std.specs.Prelude.{ℕ, ◌+◌, ◌*◌, ◌/◌, ◌%◌, ◌^◌, ◌==◌, if◌then◌else◌}
+use Rattle.arm2_decode.specs.declared.flags.Flags.{Flags}
+use Rattle.arm2_decode.specs.Allowed.{bit_of}
+use Rattle.arm2_effect.specs.declared.modes.Mode.{Mode}
+use Rattle.arm2_effect.specs.declared.modes.Mode.TheVariants.{User}
+use Rattle.arm2_effect.specs.Modes.{mode_named, mode_number}
+
+-- N Z C V I F, as a number with F lowest
+abbrev pub psr_of : ℕ → ℕ
+psr_of r = r / 2 ^ 26
+
+abbrev pub address_of : ℕ → ℕ
+address_of r = r / 4 % 2 ^ 24 * 4
+
+abbrev pub mode_of : ℕ → Mode
+mode_of r = mode_named (r % 4)
+
+abbrev pub r15_of : ℕ → ℕ → Mode → ℕ
+r15_of psr address mode = psr * 2 ^ 26 + address + mode_number mode
+
+-- an address some bytes on: addresses wrap
+abbrev pub ahead_of : ℕ → ℕ → ℕ
+ahead_of a by = (a + by) % 2 ^ 26
+
+-- the condition flags
+abbrev pub flags_of : ℕ → Flags
+flags_of r =
+    record {
+      negative = r / 2 ^ 31 % 2 == 1;
+      zero = r / 2 ^ 30 % 2 == 1;
+      carry = r / 2 ^ 29 % 2 == 1;
+      overflow = r / 2 ^ 28 % 2 == 1;
+    }
+
+-- the PSR with other condition flags: I and F stay
+abbrev pub psr_with : Flags → ℕ → ℕ
+psr_with f psr = bit_of f.negative * 32 + bit_of f.zero * 16 + bit_of f.carry * 8 + bit_of f.overflow * 4 + psr % 4
+
+-- R15 some bytes on, with its PSR and mode
+abbrev pub r15_ahead : ℕ → ℕ → ℕ
+r15_ahead r by = r15_of (psr_of r) (ahead_of (address_of r) by) (mode_of r)
+
+-- R15 with the address bits of a value alone
+abbrev pub jumped_of : ℕ → ℕ → ℕ
+jumped_of r value = r15_of (psr_of r) (address_of value) (mode_of r)
+
+-- R15 with the PSR and the mode of a value, and an address: in User mode I, F and the mode stay
+abbrev pub restored_of : ℕ → ℕ → ℕ → ℕ
+restored_of r value address =
+    if r % 4 == 0 then r15_of (value / 2 ^ 28 * 4 + psr_of r % 4) address User
+    else r15_of (psr_of value) address (mode_of value)

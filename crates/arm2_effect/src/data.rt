@@ -1,0 +1,181 @@
+ghost use Rattle.std.specs.Prelude.{◌≡◌, ◌<◌, ◌^◌, false};
+ghost use Rattle.arm2_decode.specs.Names.{register_number};
+ghost use Rattle.arm2_effect.specs.Effects.{IsEffect, is_stopped};
+ghost use Rattle.arm2_effect.specs.Operations.{compared, data_immediate_effect, data_register_effect, data_register_shift_effect, entered, jumped as is_jumped, next_r15 as is_next_r15, placed};
+ghost use Rattle.arm2_effect.specs.Outcomes.{is_compare as compares};
+ghost use Rattle.arm2_effect.specs.ProgramCounter.{psr_with as is_psr_with};
+
+use crate::done::{Done, Kind};
+use crate::modes::Reg;
+use crate::outcomes::{Outcome, flags_after, outcome_of};
+use crate::prices::Prices;
+use crate::program_counter::{
+    address_of, ahead, flags_of, jumped, mode_of, psr_of, r15_of, restored,
+};
+use crate::registers::Registers;
+use arm2_decode::{DataImmediate, DataRegister, DataRegisterShift, Flags, Opcode, Register};
+
+fn is_compare(opcode: Opcode) -> bool
+    ensures { result ≡ compares opcode }
+{
+    matches!(
+        opcode,
+        Opcode::Tst | Opcode::Teq | Opcode::Cmp | Opcode::Cmn
+    )
+}
+
+// The PSR with other condition flags, from 0 to 63.
+fn psr_with(flags: Flags, psr: u32) -> u32
+    requires { psr < 64 }
+    ensures psr { result ≡ is_psr_with flags psr }
+    ensures small { result < 64 }
+{
+    u32::from(flags.negative) * 32
+        + u32::from(flags.zero) * 16
+        + u32::from(flags.carry) * 8
+        + u32::from(flags.overflow) * 4
+        + psr % 4
+}
+
+fn next_r15(sets_flags: bool, outcome: Outcome, r15: u32) -> u32
+    ensures { result ≡ is_next_r15 sets_flags outcome r15 }
+{
+    let address = ahead(address_of(r15), 4);
+    if !sets_flags {
+        return r15_of(psr_of(r15), address, mode_of(r15));
+    }
+    r15_of(
+        psr_with(flags_after(outcome), psr_of(r15)),
+        address,
+        mode_of(r15),
+    )
+}
+
+impl Registers {
+    /// Puts a value into a register other than R15, and goes on.
+    #[tactic(auto, unfolding(crate::specs::Operations::entered))]
+    pub(crate) fn enter(
+        &mut self,
+        prices: Prices,
+        sets_flags: bool,
+        rd: Register,
+        outcome: Outcome,
+    ) -> Done
+        ensures effect { IsEffect prices.profile prices.rom result self.new (entered sets_flags (register_number rd) outcome self.old) }
+        ensures goes_on { is_stopped result.kind ≡ false }
+        ensures bound { result.ticks < 2 ^ 10 }
+    {
+        let r15 = self.get(Reg::R15);
+        self.write(mode_of(r15), rd, outcome.value);
+        self.set(Reg::R15, next_r15(sets_flags, outcome, r15));
+        Done {
+            kind: Kind::Plain,
+            ticks: prices.straight(address_of(r15)),
+        }
+    }
+
+    #[tactic(auto, unfolding(crate::specs::Operations::jumped))]
+    fn jump(&mut self, prices: Prices, sets_flags: bool, outcome: Outcome) -> Done
+        ensures effect { IsEffect prices.profile prices.rom result self.new (is_jumped sets_flags outcome self.old) }
+        ensures goes_on { is_stopped result.kind ≡ false }
+        ensures bound { result.ticks < 2 ^ 10 }
+    {
+        let r15 = self.get(Reg::R15);
+        let to = address_of(outcome.value);
+        if sets_flags {
+            self.set(Reg::R15, restored(r15, outcome.value, to));
+        } else {
+            self.set(Reg::R15, jumped(r15, outcome.value));
+        }
+        Done {
+            kind: Kind::Plain,
+            ticks: prices.onward(address_of(r15), to),
+        }
+    }
+
+    #[tactic(auto, unfolding(crate::specs::Operations::compared))]
+    fn compare(&mut self, prices: Prices, rd: Register, outcome: Outcome) -> Done
+        ensures effect { IsEffect prices.profile prices.rom result self.new (compared (register_number rd) outcome self.old) }
+        ensures goes_on { is_stopped result.kind ≡ false }
+        ensures bound { result.ticks < 2 ^ 10 }
+    {
+        let r15 = self.get(Reg::R15);
+        if rd.number() == 15 {
+            self.set(
+                Reg::R15,
+                restored(r15, outcome.value, ahead(address_of(r15), 4)),
+            );
+        } else {
+            self.set(Reg::R15, next_r15(true, outcome, r15));
+        }
+        Done {
+            kind: Kind::Plain,
+            ticks: prices.straight(address_of(r15)),
+        }
+    }
+
+    #[tactic(auto, unfolding(crate::specs::Operations::placed))]
+    fn place(
+        &mut self,
+        prices: Prices,
+        opcode: Opcode,
+        sets_flags: bool,
+        rd: Register,
+        outcome: Outcome,
+    ) -> Done
+        ensures effect { IsEffect prices.profile prices.rom result self.new (placed opcode sets_flags (register_number rd) outcome self.old) }
+        ensures goes_on { is_stopped result.kind ≡ false }
+        ensures bound { result.ticks < 2 ^ 10 }
+    {
+        if is_compare(opcode) {
+            return self.compare(prices, rd, outcome);
+        }
+        if rd.number() == 15 {
+            return self.jump(prices, sets_flags, outcome);
+        }
+        self.enter(prices, sets_flags, rd, outcome)
+    }
+
+    /// Data processing with a byte that is rotated.
+    #[tactic(auto, unfolding(crate::specs::Operations::data_immediate_effect))]
+    pub(crate) fn data_immediate(&mut self, prices: Prices, fields: &DataImmediate) -> Done
+        ensures effect { IsEffect prices.profile prices.rom result self.new (data_immediate_effect fields.now self.old) }
+        ensures goes_on { is_stopped result.kind ≡ false }
+        ensures bound { result.ticks < 2 ^ 16 }
+    {
+        let operand = self.rotated_byte(fields.value, fields.rotation);
+        let flags = flags_of(self.get(Reg::R15));
+        let outcome = outcome_of(fields.opcode, self.first(fields.rn, 8), operand, flags);
+        self.place(prices, fields.opcode, fields.sets_flags, fields.rd, outcome)
+    }
+
+    /// Data processing with a register that is shifted by an amount in the word.
+    #[tactic(auto, unfolding(crate::specs::Operations::data_register_effect))]
+    pub(crate) fn data_register(&mut self, prices: Prices, fields: &DataRegister) -> Done
+        ensures effect { IsEffect prices.profile prices.rom result self.new (data_register_effect fields.now self.old) }
+        ensures goes_on { is_stopped result.kind ≡ false }
+        ensures bound { result.ticks < 2 ^ 16 }
+    {
+        let operand = self.shifted_by_amount(fields.shift, fields.amount, fields.rm);
+        let flags = flags_of(self.get(Reg::R15));
+        let outcome = outcome_of(fields.opcode, self.first(fields.rn, 8), operand, flags);
+        self.place(prices, fields.opcode, fields.sets_flags, fields.rd, outcome)
+    }
+
+    /// Data processing with a register that is shifted by another.
+    #[tactic(auto, unfolding(crate::specs::Operations::data_register_shift_effect))]
+    pub(crate) fn data_register_shift(&mut self, prices: Prices, fields: &DataRegisterShift) -> Done
+        ensures effect { IsEffect prices.profile prices.rom result self.new (data_register_shift_effect fields.now self.old) }
+        ensures goes_on { is_stopped result.kind ≡ false }
+        ensures bound { result.ticks < 2 ^ 16 }
+    {
+        let operand = self.shifted_by_register(fields.shift, fields.rs, fields.rm);
+        let flags = flags_of(self.get(Reg::R15));
+        let outcome = outcome_of(fields.opcode, self.first(fields.rn, 12), operand, flags);
+        let done = self.place(prices, fields.opcode, fields.sets_flags, fields.rd, outcome);
+        Done {
+            kind: done.kind,
+            ticks: prices.internal(1) + done.ticks,
+        }
+    }
+}

@@ -1,0 +1,44 @@
+ghost use Rattle.std.specs.Prelude.{◌≡◌};
+ghost use Rattle.arm2_effect.specs.Effects.{stopped_answer};
+
+use crate::exceptions::Vector;
+
+/// Why a step stops the machine.
+#[derive(Clone, Copy, Debug, PartialEq, Eq)]
+pub enum Why {
+    /// The word is no instruction.
+    Unallocated,
+    /// A store asks for what this machine does not do, as a change of the page size.
+    UnsupportedWrite,
+}
+
+/// How a step ends.
+#[derive(Clone, Copy, Debug, PartialEq, Eq)]
+pub enum Kind {
+    /// An instruction was done, or passed over.
+    Plain,
+    /// An exception was taken.
+    Taken(Vector),
+    /// Nothing was done.
+    Stopped(Why),
+}
+
+/// How a step ended, and how long it took.
+#[derive(Clone, Copy)]
+pub struct Done {
+    pub kind: Kind,
+    /// In ticks of the processor.
+    pub ticks: u32,
+}
+
+impl Done {
+    /// The answer of a step that stops: no time passes.
+    pub fn stopped(why: Why) -> Self
+        ensures { result ≡ stopped_answer why }
+    {
+        Done {
+            kind: Kind::Stopped(why),
+            ticks: 0,
+        }
+    }
+}

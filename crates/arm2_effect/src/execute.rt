@@ -1,0 +1,122 @@
+ghost use Rattle.std.specs.Prelude.{◌≡◌, ◌<◌, ◌≤◌, ◌^◌, false};
+ghost use Rattle.arm2_decode.specs.Conditions.{condition_holds};
+ghost use Rattle.arm2_effect.specs.Modes.{r15_in};
+ghost use Rattle.arm2_effect.specs.ProgramCounter.{flags_of as flags_in};
+ghost use Rattle.arm2_effect.specs.Effects.{IsEffect, is_stopped};
+ghost use Rattle.arm2_effect.specs.Operations.{branch_effect, cycles_of, is_transfer as transfers, multiply_effect, operation_effect, product_of};
+
+use crate::done::{Done, Kind};
+use crate::exceptions::Vector;
+use crate::modes::Reg;
+use crate::outcomes::Outcome;
+use crate::prices::Prices;
+use crate::program_counter::{address_of, advanced, ahead, flags_of, mode_of, psr_of, r15_of};
+use crate::registers::Registers;
+use arm2_decode::{Branch, Cond, Multiply, Operation, Register, holds};
+use shifter::multiply_cycles;
+
+#[tactic(auto, using(crate::proofs::Cycles::cycles_are))]
+fn cycles(multiplier: u32) -> u32
+    ensures cycles { result ≡ cycles_of multiplier }
+    ensures few { result ≤ 16 }
+{
+    multiply_cycles(multiplier)
+}
+
+/// Whether an operation is a load or a store, which reaches past the registers.
+pub fn is_transfer(operation: &Operation) -> bool
+    ensures { result ≡ transfers operation.now }
+{
+    matches!(
+        operation,
+        Operation::Block(_) | Operation::SingleImmediate(_) | Operation::SingleRegister(_)
+    )
+}
+
+impl Registers {
+    fn product(&self, multiply: &Multiply) -> Outcome
+        ensures { result ≡ product_of multiply.now self.now }
+    {
+        let r15 = self.get(Reg::R15);
+        let mode = mode_of(r15);
+        let addend = if multiply.accumulate {
+            self.read(mode, multiply.rn)
+        } else {
+            0
+        };
+        let product = self
+            .read(mode, multiply.rm)
+            .wrapping_mul(self.read(mode, multiply.rs));
+        Outcome {
+            value: product.wrapping_add(addend),
+            carry: flags_of(r15).carry,
+            overflow: flags_of(r15).overflow,
+        }
+    }
+
+    /// MUL and MLA.
+    #[tactic(auto, unfolding(crate::specs::Operations::multiply_effect))]
+    fn multiply(&mut self, prices: Prices, multiply: &Multiply) -> Done
+        ensures effect { IsEffect prices.profile prices.rom result self.new (multiply_effect multiply.now self.old) }
+        ensures goes_on { is_stopped result.kind ≡ false }
+        ensures bound { result.ticks < 2 ^ 16 }
+    {
+        let multiplier = self.read(mode_of(self.get(Reg::R15)), multiply.rs);
+        let outcome = self.product(multiply);
+        let done = self.enter(prices, multiply.sets_flags, multiply.rd, outcome);
+        Done {
+            kind: done.kind,
+            ticks: prices.internal(cycles(multiplier)) + done.ticks,
+        }
+    }
+
+    /// B and BL.
+    #[tactic(auto, unfolding(crate::specs::Operations::branch_effect))]
+    fn branch(&mut self, prices: Prices, branch: &Branch) -> Done
+        ensures effect { IsEffect prices.profile prices.rom result self.new (branch_effect branch.now self.old) }
+        ensures goes_on { is_stopped result.kind ≡ false }
+        ensures bound { result.ticks < 2 ^ 16 }
+    {
+        let r15 = self.get(Reg::R15);
+        let to = ahead(address_of(r15), 8 + 4 * branch.offset);
+        if branch.link {
+            self.write(mode_of(r15), Register::R14, advanced(r15, 4));
+        }
+        self.set(Reg::R15, r15_of(psr_of(r15), to, mode_of(r15)));
+        Done {
+            kind: Kind::Plain,
+            ticks: prices.onward(address_of(r15), to),
+        }
+    }
+
+    /// Whether an instruction of the condition is carried out, by the flags in R15.
+    pub fn passes(&self, cond: Cond) -> bool
+        ensures { result ≡ condition_holds cond (flags_in (r15_in self.now)) }
+    {
+        holds(cond, flags_of(self.get(Reg::R15)))
+    }
+
+    /// Carries out an instruction whose condition holds, and which is no load or store.
+    #[tactic(auto, unfolding(crate::specs::Operations::operation_effect))]
+    pub fn execute(&mut self, prices: Prices, operation: &Operation) -> Done
+        requires { transfers operation.now ≡ false }
+        ensures effect { IsEffect prices.profile prices.rom result self.new (operation_effect operation.now self.old) }
+        ensures goes_on { is_stopped result.kind ≡ false }
+        ensures bound { result.ticks < 2 ^ 16 }
+    {
+        match operation {
+            Operation::Multiply(multiply) => self.multiply(prices, multiply),
+            Operation::DataRegister(fields) => self.data_register(prices, fields),
+            Operation::DataRegisterShift(fields) => self.data_register_shift(prices, fields),
+            Operation::DataImmediate(fields) => self.data_immediate(prices, fields),
+            Operation::Branch(branch) => self.branch(prices, branch),
+            Operation::Swi(_) => self.take(prices, Vector::Swi),
+            Operation::UndefinedTransfer(_)
+            | Operation::CoprocessorTransfer(_)
+            | Operation::Coprocessor(_) => self.take(prices, Vector::Undefined),
+            Operation::SingleImmediate(_) | Operation::SingleRegister(_) | Operation::Block(_) => {
+                unreachable!()
+            }
+        }
+    }
+}

@@ -1,0 +1,28 @@
+//! What an instruction of the ARM2 does to the registers, and the ticks that it takes.
+//!
+//! Everything but loads and stores is here: data processing, multiplies, branches and exceptions.
+//! The rules are those of the VL86C010 data sheet; a step's ticks are the sum of its accesses.
+#![tactic(auto)]
+
+mod data;
+mod done;
+mod exceptions;
+mod execute;
+mod modes;
+mod operands;
+mod outcomes;
+mod prices;
+mod program_counter;
+mod registers;
+#[cfg(test)]
+mod tests;
+
+pub use done::{Done, Kind, Why};
+pub use exceptions::Vector;
+pub use execute::is_transfer;
+pub use modes::{Mode, Reg};
+pub use prices::Prices;
+pub use program_counter::{
+    address_of, advanced, ahead, flags_of, jumped, mode_of, r15_of, restored,
+};
+pub use registers::Registers;

@@ -1,0 +1,97 @@
+//! R15: N Z C V I F in bits 31 to 26, a word address in bits 25 to 2, the mode in bits 1 and 0.
+ghost use Rattle.std.specs.Prelude.{◌≡◌, ◌%◌, ◌^◌, ◌<◌};
+ghost use Rattle.arm2_effect.specs.ProgramCounter.{address_of as is_address_of, ahead_of, flags_of as is_flags_of, jumped_of, mode_of as is_mode_of, psr_of as is_psr_of, r15_ahead, r15_of as is_r15_of, restored_of};
+
+use crate::modes::Mode;
+use arm2_decode::Flags;
+
+/// The address in R15 in bytes: a multiple of 4 below 2^26.
+pub fn address_of(r15: u32) -> u32
+    ensures address { result ≡ is_address_of r15 }
+    ensures below { result < 2 ^ 26 }
+    ensures aligned { result % 4 ≡ 0 }
+{
+    r15 / 4 % 0x100_0000 * 4
+}
+
+/// N Z C V I F, with F lowest: from 0 to 63.
+pub(crate) fn psr_of(r15: u32) -> u32
+    ensures psr { result ≡ is_psr_of r15 }
+    ensures small { result < 64 }
+{
+    r15 / 0x400_0000
+}
+
+/// The mode in R15.
+pub fn mode_of(r15: u32) -> Mode
+    ensures { result ≡ is_mode_of r15 }
+{
+    Mode::of(r15 % 4)
+}
+
+/// The condition flags in R15.
+pub fn flags_of(r15: u32) -> Flags
+    ensures { result ≡ is_flags_of r15 }
+{
+    Flags {
+        negative: r15 / 0x8000_0000 % 2 == 1,
+        zero: r15 / 0x4000_0000 % 2 == 1,
+        carry: r15 / 0x2000_0000 % 2 == 1,
+        overflow: r15 / 0x1000_0000 % 2 == 1,
+    }
+}
+
+/// An address some bytes on: addresses wrap at 2^26.
+pub fn ahead(address: u32, by: u32) -> u32
+    requires below { address < 2 ^ 26 }
+    requires aligned { address % 4 ≡ 0 }
+    requires words { by % 4 ≡ 0 }
+    requires small { by < 2 ^ 28 }
+    ensures ahead { result ≡ ahead_of address by }
+    ensures below { result < 2 ^ 26 }
+    ensures aligned { result % 4 ≡ 0 }
+{
+    (address + by) % 0x400_0000
+}
+
+/// R15 of its parts: the PSR from 0 to 63, and a word address below 2^26.
+pub fn r15_of(psr: u32, address: u32, mode: Mode) -> u32
+    requires psr { psr < 64 }
+    requires below { address < 2 ^ 26 }
+    requires aligned { address % 4 ≡ 0 }
+    ensures { result ≡ is_r15_of psr address mode }
+{
+    psr * 0x400_0000 + address + mode.number()
+}
+
+/// R15 some bytes on, with its PSR and mode.
+pub fn advanced(r15: u32, by: u32) -> u32
+    requires words { by % 4 ≡ 0 }
+    requires small { by < 2 ^ 28 }
+    ensures { result ≡ r15_ahead r15 by }
+{
+    r15_of(psr_of(r15), ahead(address_of(r15), by), mode_of(r15))
+}
+
+/// R15 with the address bits of a value alone.
+pub fn jumped(r15: u32, value: u32) -> u32
+    ensures { result ≡ jumped_of r15 value }
+{
+    r15_of(psr_of(r15), address_of(value), mode_of(r15))
+}
+
+/// R15 with the PSR and the mode of a value, and an address: in User mode I, F and the mode stay.
+pub fn restored(r15: u32, value: u32, address: u32) -> u32
+    requires below { address < 2 ^ 26 }
+    requires aligned { address % 4 ≡ 0 }
+    ensures { result ≡ restored_of r15 value address }
+{
+    if r15 % 4 == 0 {
+        return r15_of(
+            value / 0x1000_0000 * 4 + psr_of(r15) % 4,
+            address,
+            Mode::User,
+        );
+    }
+    r15_of(psr_of(value), address, mode_of(value))
+}

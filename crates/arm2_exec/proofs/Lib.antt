@@ -1,0 +1,4 @@
+mod WorkLemmas
+mod StillLemmas
+mod StepLemmas
+mod RunLemmas

@@ -1,0 +1,37 @@
+-- A run: steps, one input each, up to the first that is stopped.
+use Rattle.std.specs.Prelude.{◌≡◌, ℕ, ◌+◌, ◌*◌, List, [], ◌∷◌, Option, Some, None}
+use Rattle.arm2_effect.specs.declared.done.Kind.{Kind}
+use Rattle.arm2_effect.specs.declared.done.Kind.TheVariants.{Plain, Taken, Stopped}
+use Rattle.arm2_effect.specs.declared.done.Why.{Why}
+use Rattle.arm2_exec.specs.declared.machine.Input.{Input}
+use Rattle.arm2_exec.specs.declared.machine.Ran.{Ran}
+use Rattle.arm2_exec.specs.declared.machine.Stepped.{Stepped}
+use Rattle.arm2_exec.specs.State.{State}
+use Rattle.arm2_exec.specs.Step.{Step}
+
+-- why a step stopped, if it did
+abbrev pub why_stopped : Kind → Option Why
+why_stopped Plain = None
+why_stopped (Taken vector) = None
+why_stopped (Stopped why) = Some why
+
+-- no steps
+abbrev pub at_rest : Option Why → Ran
+at_rest why = record { steps = 0; ticks = 0; elapsed = 0; stopped = why }
+
+-- one step before others: its ticks, and those that pass with its bursts
+abbrev pub counted : (burst : ℕ) → Input → Stepped → Ran → Ran
+counted burst i told rest =
+    record { steps = 1 + rest.steps; ticks = told.ticks + rest.ticks; elapsed = told.ticks + burst * i.bursts + rest.elapsed; stopped = rest.stopped }
+
+-- a stopped step ends the run and does not count; behind any other the run goes on
+abbrev pub Ends : Option Why → State → Ran → State → (goes_on : Type 0) → Type 0
+Ends (Some why) s ran after goes_on = (ran ≡ at_rest (Some why)) × (after ≡ s)
+Ends None s ran after goes_on = goes_on
+
+-- the run from a state by some inputs, what it tells and where it ends
+abbrev pub Runs : State → List Input → Ran → State → Type 0
+Runs s [] ran after = (ran ≡ at_rest None) × (after ≡ s)
+Runs s (i ∷ rest) ran after =
+    (told : Stepped) × (next : State) × Step s i told next
+    × Ends (why_stopped told.kind) s ran after ((more : Ran) × Runs next rest more after × (ran ≡ counted s.profile.burst i told more))

@@ -1,0 +1,261 @@
+ghost use Rattle.std.specs.Prelude.{◌≡◌, ◌<◌, ◌*◌, ◌^◌, IfOk};
+ghost use Rattle.std.specs.Borrow.{sem};
+ghost use Rattle.memc.specs.Memory.{shift_of_size};
+ghost use Rattle.arm2_exec.specs.State.{IsReset, register_of, reset_r15, with_register_of};
+ghost use Rattle.arm2_exec.specs.Step.{HasOneOutcome, Step};
+ghost use Rattle.arm2_exec.specs.Run.{Runs};
+ghost use Rattle.arm2_exec.specs.Lent.{LendsIoc, LendsMemc, LendsVidc};
+ghost use Rattle.arm2_effect.specs.declared.modes.Reg.TheVariants.{R15};
+
+use crate::work::{elapse, fetch, work};
+use arm2_decode::decode;
+use arm2_effect::{Kind, Prices, Reg, Registers, Why, address_of};
+use arm2_transfer::Bus;
+use bus_ticks::Profile;
+use ioc::{Ioc, Lines};
+use memc::{Memc, MemcFault, PageSize};
+use std::alloc::Global;
+use std::marker::Model;
+use thiserror::Error;
+use vidc::Vidc;
+
+/// Why a machine is not made.
+#[derive(Clone, Copy, Debug, PartialEq, Eq, Drop, Error)]
+pub enum MachineFault {
+    /// A growth was refused.
+    #[error("Memory")]
+    Memory,
+}
+
+impl From<MemcFault> for MachineFault {
+    ghost use Rattle.std.specs.Prelude.{◌≡◌};
+    ghost use Rattle.arm2_exec.specs.declared.machine.MachineFault.TheVariants.{Memory};
+
+    ghost from_gives = { λ _ fault. fault ≡ Memory };
+
+    fn from(_refused: MemcFault) -> MachineFault {
+        MachineFault::Memory
+    }
+}
+
+/// What comes from outside in a step.
+#[derive(Clone, Copy, Debug, PartialEq, Eq)]
+pub struct Input {
+    /// DMA bursts that stretch the step.
+    pub bursts: u16,
+    /// The interrupt lines that are active.
+    pub lines: Lines,
+    /// The word that a load among the devices gives where IOC has no register.
+    pub port: u32,
+}
+
+/// What a step did.
+#[derive(Clone, Copy, Debug, PartialEq, Eq)]
+pub struct Stepped {
+    pub kind: Kind,
+    /// Processor ticks, without those of bursts; 0 where the machine stopped.
+    pub ticks: u32,
+    /// The address of the instruction, in bytes.
+    pub from: u32,
+    /// The address of the next one.
+    pub to: u32,
+}
+
+/// What a run did.
+#[derive(Clone, Copy, Debug, PartialEq, Eq)]
+pub struct Ran {
+    /// The steps before the one that stopped.
+    pub steps: u64,
+    /// Their processor ticks.
+    pub ticks: u128,
+    /// The ticks that passed, with those of bursts.
+    pub elapsed: u128,
+    /// Why the machine stopped, if it did.
+    pub stopped: Option<Why>,
+}
+
+/// The machine: processor, memory, devices, and the prices of their accesses.
+#[derive(Drop)]
+pub struct Machine {
+    registers: Registers,
+    bus: Bus,
+    profile: Profile,
+}
+
+impl Model for Machine {
+    ghost use Rattle.arm2_exec.specs.State.{State};
+
+    ghost Value = { State };
+
+    ghost view = { λ m. record { regs = m.registers; bus = m.bus; profile = m.profile } };
+}
+
+impl Machine {
+    /// A machine in the reset state: R15 is 0C000003 (address 0, SVC mode, IRQ and FIQ masked), every other
+    /// register and all RAM 0, logical page i on physical page i for i from 0 to 127, and IOC and VIDC at their start.
+    ///
+    /// `Memory`: a growth was refused.
+    pub fn new(alloc: Global, size: PageSize, profile: Profile) -> Result<Machine, MachineFault>
+        ensures { IfOk result (λ m. IsReset (shift_of_size size) profile m) }
+    {
+        let mut machine = Machine {
+            registers: Registers::new(),
+            bus: Bus {
+                memc: Memc::new(alloc, size)?,
+                ioc: Ioc::new(),
+                vidc: Vidc::new(),
+            },
+            profile,
+        };
+        machine.reset();
+        Ok(machine)
+    }
+
+    /// Sets R15 to 0C000003, and changes nothing else.
+    pub fn reset(&mut self)
+        ensures { self.new ≡ with_register_of R15 reset_r15 self.old }
+    {
+        self.set(Reg::R15, 0x0C00_0003);
+    }
+
+    /// The word in a register.
+    pub fn get(&self, register: Reg) -> u32
+        ensures { result ≡ register_of register self.now }
+    {
+        self.registers.get(register)
+    }
+
+    /// Puts a word into a register.
+    pub fn set(&mut self, register: Reg, word: u32)
+        ensures { self.new ≡ with_register_of register word self.old }
+    {
+        self.registers.set(register, word);
+    }
+
+    /// The memory controller, with its RAM and ROM.
+    pub fn memc(&self) -> &Memc
+        ensures { result.now ≡ self.now.bus.memc }
+    {
+        &self.bus.memc
+    }
+
+    /// The memory controller, to be changed.
+    pub fn memc_mut(&mut self) -> &mut Memc
+        ensures* writes_back { sem 𝓛 (LendsMemc self.entry result) }
+        ensures value { result.now ≡ self.old.bus.memc }
+    {
+        &mut self.bus.memc
+    }
+
+    /// IOC.
+    pub fn ioc(&self) -> &Ioc
+        ensures { result.now ≡ self.now.bus.ioc }
+    {
+        &self.bus.ioc
+    }
+
+    /// IOC, to be changed.
+    pub fn ioc_mut(&mut self) -> &mut Ioc
+        ensures* writes_back { sem 𝓛 (LendsIoc self.entry result) }
+        ensures value { result.now ≡ self.old.bus.ioc }
+    {
+        &mut self.bus.ioc
+    }
+
+    /// VIDC.
+    pub fn vidc(&self) -> &Vidc
+        ensures { result.now ≡ self.now.bus.vidc }
+    {
+        &self.bus.vidc
+    }
+
+    /// VIDC, to be changed.
+    pub fn vidc_mut(&mut self) -> &mut Vidc
+        ensures* writes_back { sem 𝓛 (LendsVidc self.entry result) }
+        ensures value { result.now ≡ self.old.bus.vidc }
+    {
+        &mut self.bus.vidc
+    }
+
+    /// The prices of accesses.
+    pub fn profile(&self) -> Profile
+        ensures { result ≡ self.now.profile }
+    {
+        self.profile
+    }
+
+    /// One step: an interrupt is taken, or the instruction at the address in R15 is carried out or passed over. It takes
+    /// constant time and no memory.
+    #[tactic(auto, unfolding(crate::specs::Step::answer_of, crate::specs::Step::state_after))]
+    pub fn step(&mut self, input: Input) -> Stepped
+        ensures step { Step self.old input result self.new }
+        ensures bound { result.ticks < 2 ^ 16 }
+    {
+        let from = address_of(self.registers.get(Reg::R15));
+        let prices = Prices {
+            profile: self.profile,
+            rom: self.bus.memc.rom_times(),
+        };
+        let ioc = self.bus.ioc.snapshot();
+        self.bus.ioc.lines(input.lines);
+        let done = work(&mut self.registers, &mut self.bus, input.port, prices);
+        if let Kind::Stopped(_) = done.kind {
+            self.bus.ioc = ioc;
+            return Stepped {
+                kind: done.kind,
+                ticks: 0,
+                from,
+                to: from,
+            };
+        }
+        let stretched = stretched(self.profile, input.bursts);
+        elapse(&mut self.bus, done.ticks + stretched);
+        Stepped {
+            kind: done.kind,
+            ticks: done.ticks,
+            from,
+            to: address_of(self.registers.get(Reg::R15)),
+        }
+    }
+
+    /// Steps, one for each input, up to the first that is stopped.
+    pub fn run(&mut self, inputs: &[Input]) -> Ran
+        ensures { Runs self.old inputs.now result self.new }
+    {
+        let mut ran = Ran {
+            steps: 0,
+            ticks: 0,
+            elapsed: 0,
+            stopped: None,
+        };
+        for input in inputs {
+            let stepped = self.step(*input);
+            if let Kind::Stopped(why) = stepped.kind {
+                ran.stopped = Some(why);
+                return ran;
+            }
+            let stretched = stretched(self.profile, input.bursts);
+            ran.steps += 1;
+            ran.ticks += u128::from(stepped.ticks);
+            ran.elapsed += u128::from(stepped.ticks) + u128::from(stretched);
+        }
+        ran
+    }
+
+    /// Every state and input have exactly one outcome.
+    pub fn one_outcome(&self, input: Input)
+        ensures { HasOneOutcome self.now input }
+    {
+        if let Some(word) = fetch(&self.bus.memc, self.registers.get(Reg::R15)) {
+            let _instruction = decode(word);
+        }
+    }
+}
+
+// The ticks of DMA bursts.
+fn stretched(profile: Profile, bursts: u16) -> u32
+    ensures ticks { result ≡ profile.burst * bursts }
+    ensures bound { result < 2 ^ 24 }
+{
+    profile.burst * u32::from(bursts)
+}

@@ -1,0 +1,113 @@
+ghost use Rattle.std.specs.Prelude.{◌≡◌, ◌<◌, ◌^◌};
+ghost use Rattle.arm2_effect.specs.Modes.{r15_in};
+ghost use Rattle.arm2_transfer.specs.Moved.{IsMoved};
+ghost use Rattle.arm2_exec.specs.Step.{elapsed, fetched, instruction_moved, interrupt_due, unallocated_moved};
+ghost use Rattle.arm2_exec.specs.Work.{Obeyed, Worked};
+
+use arm2_decode::{Instr, Unallocated, decode};
+use arm2_effect::{Done, Mode, Prices, Reg, Registers, Vector, Why, address_of, mode_of};
+use arm2_transfer::{Bus, execute};
+use memc::{Memc, Spot};
+
+// The interrupt that is due: FIQ, or else IRQ, each unless R15 masks it.
+fn interrupt(bus: &Bus, r15: u32) -> Option<Vector>
+    ensures { result ≡ interrupt_due bus.now r15 }
+{
+    let asserted = bus.ioc.asserted();
+    if asserted.fiq && r15 / 0x400_0000 % 2 != 1 {
+        return Some(Vector::Fiq);
+    }
+    if asserted.irq && r15 / 0x800_0000 % 2 != 1 {
+        return Some(Vector::Irq);
+    }
+    None
+}
+
+// The word at the address in R15, if the mode may fetch one there.
+pub(crate) fn fetch(memc: &Memc, r15: u32) -> Option<u32>
+    ensures { result ≡ fetched memc.now r15 }
+{
+    let user = matches!(mode_of(r15), Mode::User);
+    match memc.locate(address_of(r15), user, false) {
+        Ok(spot @ (Spot::Ram(_) | Spot::Rom(_))) => Some(memc.load(spot)),
+        _ => None,
+    }
+}
+
+// Carries out an instruction, or passes over it where its condition fails.
+fn obey_instruction(
+    registers: &mut Registers,
+    bus: &mut Bus,
+    port: u32,
+    prices: Prices,
+    instr: &Instr,
+) -> Done
+    ensures moved { IsMoved prices.profile prices.rom result registers.new bus.new (instruction_moved instr.now port registers.old bus.old) }
+    ensures bound { result.ticks < 2 ^ 16 }
+{
+    if registers.passes(instr.cond) {
+        return execute(registers, bus, port, prices, &instr.operation);
+    }
+    registers.skip(prices)
+}
+
+// Stops at a word that is no instruction, or passes over it where its condition fails.
+#[tactic(auto, unfolding(arm2_effect::specs::Effects::stopped))]
+fn obey_unallocated(
+    registers: &mut Registers,
+    bus: &Bus,
+    prices: Prices,
+    unallocated: Unallocated,
+) -> Done
+    ensures moved { IsMoved prices.profile prices.rom result registers.new bus.now (unallocated_moved unallocated registers.old bus.now) }
+    ensures bound { result.ticks < 2 ^ 16 }
+{
+    if registers.passes(unallocated.cond) {
+        return Done::stopped(Why::Unallocated);
+    }
+    registers.skip(prices)
+}
+
+// Does what a word says, or takes the prefetch abort where there is none.
+fn obey(
+    registers: &mut Registers,
+    bus: &mut Bus,
+    port: u32,
+    prices: Prices,
+    word: Option<u32>,
+) -> Done
+    ensures obeyed { Obeyed prices.profile prices.rom word port registers.old bus.old result registers.new bus.new }
+    ensures bound { result.ticks < 2 ^ 16 }
+{
+    let Some(word) = word else {
+        return registers.take(prices, Vector::PrefetchAbort);
+    };
+    match decode(word) {
+        Ok(instr) => obey_instruction(registers, bus, port, prices, &instr),
+        Err(unallocated) => obey_unallocated(registers, bus, prices, unallocated),
+    }
+}
+
+// What a step does before time passes: an interrupt, or the word at the address.
+pub(crate) fn work(registers: &mut Registers, bus: &mut Bus, port: u32, prices: Prices) -> Done
+    ensures worked { Worked prices.profile prices.rom (interrupt_due bus.old (r15_in registers.old)) port registers.old bus.old result registers.new bus.new }
+    ensures bound { result.ticks < 2 ^ 16 }
+{
+    let r15 = registers.get(Reg::R15);
+    if let Some(vector) = interrupt(bus, r15) {
+        return registers.take(prices, vector);
+    }
+    let word = fetch(&bus.memc, r15);
+    obey(registers, bus, port, prices, word)
+}
+
+// Lets time pass for the devices.
+pub(crate) fn elapse(bus: &mut Bus, ticks: u32)
+    ensures { bus.new ≡ elapsed ticks bus.old }
+{
+    let rises = bus.vidc.advance(ticks);
+    bus.ioc.advance(ticks);
+    if rises != 0 {
+        bus.ioc.flyback();
+    }
+}

@@ -1,0 +1,4 @@
+pub mod Ticks
+pub mod Verdict
+pub mod Listed
+pub mod Chosen

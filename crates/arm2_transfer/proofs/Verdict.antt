@@ -1,0 +1,92 @@
+-- The verdict over the words of a block, on the way.
+use Rattle.std.proofs.Common.{◌≡◌, ℕ, ◌+◌, ◌<◌, ◌≤◌, Bool, true, false, ◌||◌, if◌then◌else◌, List, [], ◌∷◌, ◌++◌, length, drop, get_or, Result, Ok, Err, refl, sym, arith, ◌∙◌, ap, append_assoc}
+use Rattle.std.proofs.lemmas.List.{at_drop_more, length_push}
+use Rattle.std.proofs.lemmas.List.Elements.{All-push}
+use Rattle.std.specs.List.{list_any}
+use Rattle.arm2_decode.specs.declared.names.Register.{Register}
+use Rattle.memc.specs.Memory.{Memory, located, Fits}
+use Rattle.memc.specs.declared.spots.Spot.{Spot}
+use Rattle.memc.specs.declared.spots.Refused.{Refused}
+use Rattle.memc.specs.declared.spots.Refused.TheVariants.{NoPage, Protected, UnsupportedWrite}
+use Rattle.arm2_transfer.specs.declared.words.Move.{Move}
+use Rattle.arm2_transfer.specs.declared.words.Trouble.{Trouble}
+use Rattle.arm2_transfer.specs.declared.words.Trouble.TheVariants as trouble
+use Rattle.bus_ticks.specs.Prices.{word_address}
+use Rattle.arm2_transfer.specs.Words.{Word, words_from, is_abort, is_unsupported, moves_of, met, AllFit}
+
+-- the verdict where some words before these were moves, or were unsupported
+abbrev pub verdict_after : Bool → List Move → List Word → Result (List Move) Trouble
+verdict_after unsupported moves words =
+    if list_any (λ (word : Word). is_abort word.1) words then Err trouble.DataAbort
+    else (if unsupported || list_any (λ (word : Word). is_unsupported word.1) words then Err trouble.UnsupportedWrite
+    else Ok (moves ++ moves_of words))
+
+-- one word on: it was located, it aborts, or it is unsupported
+after-ok : (unsupported : Bool) (moves : List Move) (register : Register) (spot : Spot) (found : Result Spot Refused) (words : List Word) → met found ≡ Ok spot →
+    verdict_after unsupported (moves ++ record { register = register; spot = spot } ∷ []) words ≡ verdict_after unsupported moves ((register, found) ∷ words)
+after-ok unsupported moves register spot (Ok other) words e =
+    let same : other ≡ spot = cc in
+    rw same
+    (ap
+    (λ (all : List Move).
+    if list_any (λ (word : Word). is_abort word.1) words then Err trouble.DataAbort
+    else (if unsupported || list_any (λ (word : Word). is_unsupported word.1) words then Err trouble.UnsupportedWrite else Ok all))
+    (append_assoc moves (record { register = register; spot = spot } ∷ []) (moves_of words)))
+after-ok unsupported moves register spot (Err NoPage) words e = cc
+after-ok unsupported moves register spot (Err Protected) words e = cc
+after-ok unsupported moves register spot (Err UnsupportedWrite) words e = cc
+
+after-abort : (unsupported : Bool) (moves : List Move) (register : Register) (found : Result Spot Refused) (words : List Word) → met found ≡ Err trouble.DataAbort →
+    Err trouble.DataAbort ≡ verdict_after unsupported moves ((register, found) ∷ words)
+after-abort unsupported moves register (Ok spot) words e = cc
+after-abort unsupported moves register (Err NoPage) words e = refl
+after-abort unsupported moves register (Err Protected) words e = refl
+after-abort unsupported moves register (Err UnsupportedWrite) words e = cc
+
+after-unsupported : (unsupported : Bool) (moves : List Move) (register : Register) (found : Result Spot Refused) (words : List Word) → met found ≡ Err trouble.UnsupportedWrite →
+    verdict_after true moves words ≡ verdict_after unsupported moves ((register, found) ∷ words)
+after-unsupported unsupported moves register (Ok spot) words e = cc
+after-unsupported unsupported moves register (Err NoPage) words e = cc
+after-unsupported unsupported moves register (Err Protected) words e = cc
+after-unsupported true moves register (Err UnsupportedWrite) words e = refl
+after-unsupported false moves register (Err UnsupportedWrite) words e = refl
+
+-- the words from number i on
+abbrev pub words_on : Memory → (user store : Bool) → (lowest : ℕ) → List Register → ℕ → List Word
+words_on m user store lowest registers i = words_from m user store lowest i (drop i registers)
+
+words_on-more : (m : Memory) (user store : Bool) (lowest : ℕ) (registers : List Register) (i : ℕ) (d : Register) → i < length registers →
+    words_on m user store lowest registers i ≡ (get_or registers i d, located m (word_address lowest i) user store) ∷ words_on m user store lowest registers (i + 1)
+words_on-more m user store lowest registers i d h = at_drop_more (words_from m user store lowest i) registers i d h
+
+pub verdict-ok : (m : Memory) (user store unsupported : Bool) (lowest at : ℕ) (registers : List Register) (i : ℕ) (d : Register) (moves new : List Move) (spot : Spot) →
+    i < length registers → at ≡ word_address lowest i → met (located m at user store) ≡ Ok spot → new ≡ moves ++ record { register = get_or registers i d; spot = spot } ∷ [] →
+    verdict_after unsupported new (words_on m user store lowest registers (i + 1)) ≡ verdict_after unsupported moves (words_on m user store lowest registers i)
+verdict-ok m user store unsupported lowest at registers i d moves new spot h here ok pushed =
+    let found : met (located m (word_address lowest i) user store) ≡ Ok spot = ap (λ (x : ℕ). met (located m x user store)) (sym here) ∙ ok in
+    ap (λ (all : List Move). verdict_after unsupported all (words_on m user store lowest registers (i + 1))) pushed
+    ∙ after-ok unsupported moves (get_or registers i d) spot (located m (word_address lowest i) user store) (words_on m user store lowest registers (i + 1)) found
+    ∙ ap (λ (words : List Word). verdict_after unsupported moves words) (sym (words_on-more m user store lowest registers i d h))
+
+pub verdict-abort : (m : Memory) (user store unsupported : Bool) (lowest at : ℕ) (registers : List Register) (i : ℕ) (d : Register) (moves : List Move) →
+    i < length registers → at ≡ word_address lowest i → met (located m at user store) ≡ Err trouble.DataAbort →
+    Err trouble.DataAbort ≡ verdict_after unsupported moves (words_on m user store lowest registers i)
+verdict-abort m user store unsupported lowest at registers i d moves h here err =
+    let found : met (located m (word_address lowest i) user store) ≡ Err trouble.DataAbort = ap (λ (x : ℕ). met (located m x user store)) (sym here) ∙ err in
+    after-abort unsupported moves (get_or registers i d) (located m (word_address lowest i) user store) (words_on m user store lowest registers (i + 1)) found
+    ∙ ap (λ (words : List Word). verdict_after unsupported moves words) (sym (words_on-more m user store lowest registers i d h))
+
+pub verdict-unsupported : (m : Memory) (user store unsupported : Bool) (lowest at : ℕ) (registers : List Register) (i : ℕ) (d : Register) (moves : List Move) →
+    i < length registers → at ≡ word_address lowest i → met (located m at user store) ≡ Err trouble.UnsupportedWrite →
+    verdict_after true moves (words_on m user store lowest registers (i + 1)) ≡ verdict_after unsupported moves (words_on m user store lowest registers i)
+verdict-unsupported m user store unsupported lowest at registers i d moves h here err =
+    let found : met (located m (word_address lowest i) user store) ≡ Err trouble.UnsupportedWrite = ap (λ (x : ℕ). met (located m x user store)) (sym here) ∙ err in
+    after-unsupported unsupported moves (get_or registers i d) (located m (word_address lowest i) user store) (words_on m user store lowest registers (i + 1)) found
+    ∙ ap (λ (words : List Word). verdict_after unsupported moves words) (sym (words_on-more m user store lowest registers i d h))
+
+pub fit_push : (shift : ℕ) (moves new : List Move) (register : Register) (spot : Spot) → Fits shift spot → AllFit shift moves → new ≡ moves ++ record { register = register; spot = spot } ∷ [] → AllFit shift new
+fit_push shift moves new register spot fits all pushed =
+    rw pushed (All-push (λ (move : Move). Fits shift move.spot) moves (record { register = register; spot = spot }) all fits)
+
+pub few_push : (n : ℕ) (moves new : List Move) (move : Move) → length moves ≤ n → new ≡ moves ++ move ∷ [] → length new ≤ n + 1
+few_push n moves new move few pushed = omega (arith, few, ap (λ (all : List Move). length all) pushed, length_push moves move)

@@ -1,0 +1,62 @@
+-- What a whole transfer does, and what it costs (VL86C010 data sheet, instruction cycles; the prices are our own).
+use Rattle.std.specs.Prelude.{◌≡◌, ℕ, zero, suc, ◌==◌, Bool, true, false, if◌then◌else◌, List, [], ◌∷◌, ◌++◌}
+use Rattle.bus_ticks.specs.declared.profile.Profile.{Profile}
+use Rattle.bus_ticks.specs.declared.profile.RomTimes.{RomTimes}
+use Rattle.bus_ticks.specs.Prices.{word_address}
+use Rattle.arm2_effect.specs.declared.done.Kind.{Kind}
+use Rattle.arm2_effect.specs.declared.done.Why.TheVariants.{UnsupportedWrite}
+use Rattle.arm2_effect.specs.declared.done.Done.{Done}
+use Rattle.arm2_effect.specs.declared.exceptions.Vector.TheVariants as vector
+use Rattle.arm2_effect.specs.Effects.{Access, FetchN, Word, Internal, ticks_of, Effect, straight, refill, stopped}
+use Rattle.arm2_effect.specs.Exceptions.{taken}
+use Rattle.arm2_effect.specs.ProgramCounter.{ahead_of}
+use Rattle.arm2_transfer.specs.declared.bus.Bus.{Bus}
+use Rattle.arm2_transfer.specs.declared.words.Trouble.{Trouble}
+use Rattle.arm2_transfer.specs.declared.words.Trouble.TheVariants as trouble
+
+-- how a step ends, its accesses, and the registers and the bus after it
+pub record Moved : Type 0 where
+  pub kind : Kind
+  pub accesses : List Access
+  pub regs : List ℕ
+  pub bus : Bus
+
+-- the code's answer, and the registers and the bus after it, are those of a transfer
+pub record IsMoved (p : Profile) (rom : RomTimes) (done : Done) (new : List ℕ) (now : Bus) (m : Moved) : Type 0 where
+  pub kind : done.kind ≡ m.kind
+  pub ticks : done.ticks ≡ ticks_of p rom m.accesses
+  pub regs : new ≡ m.regs
+  pub bus : now ≡ m.bus
+
+-- what the registers alone do, with the bus as it was
+abbrev pub on_bus : Bus → Effect → Moved
+on_bus bus e = record { kind = e.kind; accesses = e.accesses; regs = e.regs; bus = bus }
+
+-- An address of 2 ^ 26 or more, and words that are not moved: of an aborted transfer nothing is done or priced but the
+-- exception, and an unsupported write stops the machine.
+abbrev pub out_of_space : List ℕ → Bus → Moved
+out_of_space regs bus = on_bus bus (taken vector.AddressException regs)
+
+abbrev pub troubled : Trouble → List ℕ → Bus → Moved
+troubled trouble.DataAbort regs bus = on_bus bus (taken vector.DataAbort regs)
+troubled trouble.UnsupportedWrite regs bus = on_bus bus (stopped UnsupportedWrite regs)
+
+-- the first k words from an address on
+unfoldable pub words_at : (store : Bool) → (address k : ℕ) → List Access
+words_at store address zero = []
+words_at store address (suc k) = words_at store address k ++ Word store (k == 0) (word_address address k) ∷ []
+
+-- a load at a: the words, one cycle to take the last of them, and a refill at t where R15 is written
+abbrev pub load_accesses : (a address k : ℕ) → (jumps : Bool) → (t : ℕ) → List Access
+load_accesses a address k jumps t =
+    straight a ++ words_at false address k ++ Internal 1 ∷ (if jumps then refill t else [])
+
+-- a store at a: the next fetch does not follow the access before it
+abbrev pub store_accesses : (a address k : ℕ) → List Access
+store_accesses a address k = FetchN (ahead_of a 8) ∷ words_at true address k
+
+-- nothing is changed, and no ticks pass
+pub record ChangesNothing (done : Done) (old new : List ℕ) (before after : Bus) : Type 0 where
+  pub ticks : done.ticks ≡ 0
+  pub regs : new ≡ old
+  pub bus : after ≡ before

@@ -1,0 +1,95 @@
+-- Single transfers (VL86C010 data sheet, single data transfer; our own profile for what a store of the base and the
+-- address exception do).
+use Rattle.std.specs.Prelude.{ℕ, ◌^◌, Bool, false, not, ◌&&◌, ◌||◌, nat_lt, if◌then◌else◌, List, Result, Ok, Err}
+use Rattle.memc.specs.Memory.{located}
+use Rattle.memc.specs.declared.spots.Spot.{Spot}
+use Rattle.arm2_decode.specs.declared.instr.SingleImmediate.{SingleImmediate}
+use Rattle.arm2_decode.specs.declared.instr.SingleRegister.{SingleRegister}
+use Rattle.arm2_effect.specs.declared.modes.Mode.{Mode}
+use Rattle.arm2_effect.specs.declared.done.Kind.TheVariants.{Plain}
+use Rattle.arm2_effect.specs.Modes.{r15_in}
+use Rattle.arm2_effect.specs.Operands.{first_of, shifted_by_amount}
+use Rattle.arm2_decode.specs.Names.{register_number}
+use Rattle.arm2_effect.specs.ProgramCounter.{address_of, mode_of}
+use Rattle.arm2_transfer.specs.declared.bus.Bus.{Bus}
+use Rattle.arm2_transfer.specs.declared.words.Trouble.{Trouble}
+use Rattle.arm2_transfer.specs.declared.single.Single.{Single}
+use Rattle.arm2_transfer.specs.Bus.{seen, made_of, put_single}
+use Rattle.arm2_transfer.specs.Words.{met}
+use Rattle.arm2_transfer.specs.Registers.{is_user, is_r15, moved_by, given, with_loaded, with_base, passed}
+use Rattle.arm2_transfer.specs.Moved.{Moved, out_of_space, troubled, load_accesses, store_accesses}
+
+-- the address, of 32 bits: the base, moved before the access where P is set
+abbrev pub address_for : Single → (base : ℕ) → ℕ
+address_for x base = if x.before then moved_by x.up base x.offset else base
+
+-- whether the access has the rights of User: in User mode, and where W is set although P is not
+abbrev pub has_user_rights : Single → Mode → Bool
+has_user_rights x mode = is_user mode || x.write_back && not x.before
+
+-- whether the moved base is written back: where W is set, and always where P is not
+abbrev pub writes_base : Single → Bool
+writes_base x = x.write_back || not x.before
+
+-- R15 one instruction on, and the moved base in its register of the current mode where it is written back
+abbrev pub base_after : Single → (base : ℕ) → List ℕ → List ℕ
+base_after x base regs = with_base (writes_base x) (mode_of (r15_in regs)) x.rn (moved_by x.up base x.offset) (passed regs)
+
+-- a load's registers: the word comes after the base is written back, so that it stays where both name one register
+unfoldable pub single_loaded : Single → (base port : ℕ) → Spot → List ℕ → Bus → List ℕ
+single_loaded x base port spot regs bus =
+    let r = r15_in regs in
+    let word = made_of x.byte (address_for x base) (seen bus port spot) in
+    with_loaded false (mode_of r) r x.rd word (base_after x base regs)
+
+-- a load
+unfoldable pub single_loads : Single → (base port : ℕ) → Spot → List ℕ → Bus → Moved
+single_loads x base port spot regs bus =
+    let after = single_loaded x base port spot regs bus in
+    record {
+      kind = Plain;
+      accesses = load_accesses (address_of (r15_in regs)) (address_for x base) 1 (is_r15 x.rd) (address_of (r15_in after));
+      regs = after;
+      bus = bus;
+    }
+
+-- a store: the value is that of before the write-back
+unfoldable pub single_stores : Single → (base : ℕ) → Spot → List ℕ → Bus → Moved
+single_stores x base spot regs bus =
+    let r = r15_in regs in
+    record {
+      kind = Plain;
+      accesses = store_accesses (address_of r) (address_for x base) 1;
+      regs = base_after x base regs;
+      bus = put_single x.byte spot (address_for x base) (given (mode_of r) x.rd regs) bus;
+    }
+
+-- a transfer whose word is at hand
+unfoldable pub single_carried_out : Single → (base port : ℕ) → Spot → List ℕ → Bus → Moved
+single_carried_out x base port spot regs bus = if x.load then single_loads x base port spot regs bus else single_stores x base spot regs bus
+
+-- a transfer by what the memory controller says of its word
+unfoldable pub single_by : Single → (base port : ℕ) → Result Spot Trouble → List ℕ → Bus → Moved
+single_by x base port (Err trouble) regs bus = troubled trouble regs bus
+single_by x base port (Ok spot) regs bus = single_carried_out x base port spot regs bus
+
+-- a transfer by its base: an address of 2 ^ 26 or more is an exception
+unfoldable pub single_at : Single → (base port : ℕ) → List ℕ → Bus → Moved
+single_at x base port regs bus =
+    if nat_lt (address_for x base) (2 ^ 26) then
+    single_by x base port (met (located bus.memc (address_for x base) (has_user_rights x (mode_of (r15_in regs))) (not x.load))) regs bus
+    else out_of_space regs bus
+
+-- a single transfer: R15 as the base stands two words on, without its PSR and mode
+abbrev pub single_moved : Single → (port : ℕ) → List ℕ → Bus → Moved
+single_moved x port regs bus = single_at x (first_of 8 (register_number x.rn) regs) port regs bus
+
+-- with the offset in the word
+abbrev pub of_immediate : SingleImmediate → Single
+of_immediate x =
+    record { before = x.before; up = x.up; byte = x.byte; write_back = x.write_back; load = x.load; rn = x.rn; rd = x.rd; offset = x.offset }
+
+-- with the offset in a register, shifted by an amount in the word
+abbrev pub of_register : SingleRegister → List ℕ → Single
+of_register x regs =
+    record { before = x.before; up = x.up; byte = x.byte; write_back = x.write_back; load = x.load; rn = x.rn; rd = x.rd; offset = (shifted_by_amount x.shift x.amount (register_number x.rm) regs).value }

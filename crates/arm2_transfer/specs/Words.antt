@@ -1,0 +1,74 @@
+-- The words of a block: their registers, their addresses, and what the memory controller says of them all together
+-- (VL86C010 data sheet, block data transfer; our own profile where it is silent: all words are located before the first is
+-- moved, an abort comes before an unsupported write, and the addresses wrap at 2 ^ 26).
+use Rattle.std.specs.Prelude.{ℕ, ◌+◌, ◌/◌, ◌%◌, ◌^◌, ◌==◌, Bool, true, false, if◌then◌else◌, List, [], ◌∷◌, filter, All, Result, Ok, Err}
+use Rattle.std.specs.List.{list_any}
+use Rattle.arm2_decode.specs.declared.names.Register.{Register}
+use Rattle.arm2_decode.specs.declared.names.Register.TheVariants.{R0, R1, R2, R3, R4, R5, R6, R7, R8, R9, R10, R11, R12, R13, R14, R15}
+use Rattle.arm2_decode.specs.Names.{register_number}
+use Rattle.bus_ticks.specs.Prices.{word_address}
+use Rattle.memc.specs.Memory.{Memory, located, Fits}
+use Rattle.memc.specs.declared.spots.Spot.{Spot}
+use Rattle.memc.specs.declared.spots.Refused.{Refused}
+use Rattle.memc.specs.declared.spots.Refused.TheVariants.{NoPage, Protected, UnsupportedWrite}
+use Rattle.arm2_transfer.specs.declared.words.Move.{Move}
+use Rattle.arm2_transfer.specs.declared.words.Trouble.{Trouble}
+use Rattle.arm2_transfer.specs.declared.words.Trouble.TheVariants as trouble
+
+unfoldable pub all_registers : List Register
+all_registers = R0 ∷ R1 ∷ R2 ∷ R3 ∷ R4 ∷ R5 ∷ R6 ∷ R7 ∷ R8 ∷ R9 ∷ R10 ∷ R11 ∷ R12 ∷ R13 ∷ R14 ∷ R15 ∷ []
+
+-- bit n of a list stands for register n
+abbrev pub is_listed : ℕ → Register → Bool
+is_listed list register = list / 2 ^ register_number register % 2 == 1
+
+-- the registers of a list, the lowest first
+abbrev pub registers_in : ℕ → List Register
+registers_in list = filter (is_listed list) all_registers
+
+-- A word of a transfer: its register, and what the memory controller says of its address.
+abbrev pub Word : Type 0
+Word = Register × Result Spot Refused
+
+-- the words of some registers, from word number i on: the lowest register at the lowest address
+abbrev pub words_from : Memory → (user store : Bool) → (lowest i : ℕ) → List Register → List Word
+words_from m user store lowest i [] = []
+words_from m user store lowest i (register ∷ rest) =
+    (register, located m (word_address lowest i) user store) ∷ words_from m user store lowest (i + 1) rest
+
+-- whether a word aborts its instruction, and whether it stops the machine
+abbrev pub is_abort : Result Spot Refused → Bool
+is_abort (Ok spot) = false
+is_abort (Err NoPage) = true
+is_abort (Err Protected) = true
+is_abort (Err UnsupportedWrite) = false
+
+abbrev pub is_unsupported : Result Spot Refused → Bool
+is_unsupported (Ok spot) = false
+is_unsupported (Err NoPage) = false
+is_unsupported (Err Protected) = false
+is_unsupported (Err UnsupportedWrite) = true
+
+-- the words that were located
+abbrev pub moves_of : List Word → List Move
+moves_of [] = []
+moves_of ((register, Ok spot) ∷ rest) = record { register = register; spot = spot } ∷ moves_of rest
+moves_of ((register, Err why) ∷ rest) = moves_of rest
+
+-- all words together: any abort, or else any unsupported write, or else where each goes
+abbrev pub verdict_of : List Word → Result (List Move) Trouble
+verdict_of words =
+    if list_any (λ (word : Word). is_abort word.1) words then Err trouble.DataAbort
+    else (if list_any (λ (word : Word). is_unsupported word.1) words then Err trouble.UnsupportedWrite
+    else Ok (moves_of words))
+
+-- the one word of a single transfer
+abbrev pub met : Result Spot Refused → Result Spot Trouble
+met (Ok spot) = Ok spot
+met (Err NoPage) = Err trouble.DataAbort
+met (Err Protected) = Err trouble.DataAbort
+met (Err UnsupportedWrite) = Err trouble.UnsupportedWrite
+
+-- each move goes to a spot of a memory with pages of 2 ^ shift bytes
+abbrev pub AllFit : ℕ → List Move → Type 0
+AllFit shift moves = All (λ (move : Move). Fits shift move.spot) moves

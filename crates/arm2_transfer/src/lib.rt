@@ -1,0 +1,23 @@
+//! What an instruction of the ARM2 does to the registers, to memory and to the devices, and the ticks that it
+//! takes.
+//!
+//! Loads and stores are here, single ones and those of a list of registers; all other instructions are
+//! `arm2_effect`'s. The rules are those of the VL86C010 data sheet, and where it is silent our own: all words of
+//! a transfer are located before the first is moved, so an aborted one changes nothing. Every call takes constant time.
+#![tactic(auto)]
+
+mod blocks;
+mod bus;
+mod few;
+mod moved;
+mod operations;
+mod registers;
+mod single;
+mod singles;
+mod span;
+#[cfg(test)]
+mod tests;
+mod words;
+
+pub use bus::Bus;
+pub use operations::execute;

@@ -1,0 +1,57 @@
+ghost use Rattle.std.specs.Prelude.{◌≡◌, true, ◌<◌, ◌≤◌, ◌^◌, ◌%◌};
+ghost use Rattle.arm2_effect.specs.Effects.{is_stopped, ticks_of};
+ghost use Rattle.arm2_transfer.specs.Moved.{ChangesNothing, IsMoved, troubled, load_accesses, store_accesses};
+
+use crate::bus::Bus;
+use crate::words::Trouble;
+use arm2_effect::{Done, Prices, Registers, Vector, Why, ahead};
+use bus_ticks::{fetch_n, transfer};
+
+/// What comes of a transfer none of whose words is moved.
+#[tactic(auto, unfolding(arm2_effect::specs::Effects::stopped))]
+pub fn refuse(registers: &mut Registers, bus: &Bus, prices: Prices, trouble: Trouble) -> Done
+    ensures moved { IsMoved prices.profile prices.rom result registers.new bus.now (troubled trouble registers.old bus.now) }
+    ensures bound { result.ticks < 2 ^ 16 }
+    ensures stopped { is_stopped result.kind ≡ true → ChangesNothing result registers.old registers.new bus.now bus.now }
+{
+    match trouble {
+        Trouble::DataAbort => registers.take(prices, Vector::DataAbort),
+        Trouble::UnsupportedWrite => Done::stopped(Why::UnsupportedWrite),
+    }
+}
+
+/// The ticks of a load by the instruction at `from`, of so many words from `address` on; where it writes R15 it jumps to
+/// `to`.
+pub fn load_ticks(prices: Prices, from: u32, address: u32, words: u32, jumps: bool, to: u32) -> u32
+    requires from { from < 2 ^ 26 }
+    requires from_aligned { from % 4 ≡ 0 }
+    requires address { address < 2 ^ 26 }
+    requires some { 1 ≤ words }
+    requires few { words ≤ 16 }
+    requires to { to < 2 ^ 26 }
+    requires to_aligned { to % 4 ≡ 0 }
+    ensures ticks { result ≡ ticks_of prices.profile prices.rom (load_accesses from address words jumps to) }
+    ensures bound { result < 2 ^ 16 }
+{
+    let moved = transfer(&prices.profile, address, words, false, prices.rom);
+    let ticks = prices.straight(from) + moved + prices.internal(1);
+    if jumps {
+        ticks + prices.refill(to)
+    } else {
+        ticks
+    }
+}
+
+/// The ticks of a store by the instruction at `from`, of so many words from `address` on.
+pub fn store_ticks(prices: Prices, from: u32, address: u32, words: u32) -> u32
+    requires from { from < 2 ^ 26 }
+    requires from_aligned { from % 4 ≡ 0 }
+    requires address { address < 2 ^ 26 }
+    requires some { 1 ≤ words }
+    requires few { words ≤ 16 }
+    ensures ticks { result ≡ ticks_of prices.profile prices.rom (store_accesses from address words) }
+    ensures bound { result < 2 ^ 16 }
+{
+    fetch_n(&prices.profile, ahead(from, 8), prices.rom)
+        + transfer(&prices.profile, address, words, true, prices.rom)
+}

@@ -1,0 +1,37 @@
+ghost use Rattle.std.specs.Prelude.{◌≡◌, true, ◌<◌, ◌^◌};
+ghost use Rattle.arm2_effect.specs.Effects.{is_stopped};
+ghost use Rattle.arm2_transfer.specs.Moved.{ChangesNothing, IsMoved};
+ghost use Rattle.arm2_transfer.specs.Operations.{operation_moved};
+
+use crate::blocks::block;
+use crate::bus::Bus;
+use crate::singles::{single_immediate, single_register};
+use arm2_decode::Operation;
+use arm2_effect::{Done, Prices, Registers};
+
+/// Carries out an instruction whose condition holds, at the address in R15.
+///
+/// `port` is the word that a load sees among the devices where no register of IOC stands. A store
+/// that asks for what the machine does not do stops it, and changes nothing.
+pub fn execute(
+    registers: &mut Registers,
+    bus: &mut Bus,
+    port: u32,
+    prices: Prices,
+    operation: &Operation,
+) -> Done
+    ensures moved { IsMoved prices.profile prices.rom result registers.new bus.new (operation_moved operation.now port registers.old bus.old) }
+    ensures bound { result.ticks < 2 ^ 16 }
+    ensures stopped { is_stopped result.kind ≡ true → ChangesNothing result registers.old registers.new bus.old bus.new }
+{
+    match operation {
+        Operation::SingleImmediate(transfer) => single_immediate(
+            registers, bus, port, prices, transfer,
+        ),
+        Operation::SingleRegister(transfer) => single_register(
+            registers, bus, port, prices, transfer,
+        ),
+        Operation::Block(transfer) => block(registers, bus, port, prices, transfer),
+        _ => registers.execute(prices, operation),
+    }
+}

@@ -1,0 +1,84 @@
+ghost use Rattle.std.specs.Prelude.{◌≡◌, ◌<◌, ◌^◌};
+ghost use Rattle.arm2_transfer.specs.Registers.{is_r15 as is_program_counter, is_user as is_user_mode, moved_by as is_moved_by, given, with_loaded, with_base, passed, loaded_r15};
+
+use arm2_decode::Register;
+use arm2_effect::{Mode, Reg, Registers, address_of, advanced, jumped, restored};
+
+pub fn is_user(mode: Mode) -> bool
+    ensures { result ≡ is_user_mode mode }
+{
+    matches!(mode, Mode::User)
+}
+
+pub fn is_r15(register: Register) -> bool
+    ensures { result ≡ is_program_counter register }
+{
+    register.number() == 15
+}
+
+/// A base and an offset, on 32 bits.
+pub fn moved_by(up: bool, base: u32, offset: u32) -> u32
+    ensures { result ≡ is_moved_by up base offset }
+{
+    if up {
+        base.wrapping_add(offset)
+    } else {
+        base.wrapping_sub(offset)
+    }
+}
+
+/// What a store takes from a register.
+pub fn give(registers: &Registers, mode: Mode, register: Register) -> u32
+    ensures { result ≡ given mode register registers.now }
+{
+    if is_r15(register) {
+        advanced(registers.get(Reg::R15), 12)
+    } else {
+        registers.read(mode, register)
+    }
+}
+
+fn load_r15(psr: bool, r15: u32, word: u32) -> u32
+    ensures { result ≡ loaded_r15 psr r15 word }
+{
+    if psr {
+        restored(r15, word, address_of(word))
+    } else {
+        jumped(r15, word)
+    }
+}
+
+/// A loaded word enters its register; `r15` is R15 as it was before the instruction.
+pub fn enter(
+    registers: &mut Registers,
+    psr: bool,
+    mode: Mode,
+    r15: u32,
+    register: Register,
+    word: u32,
+)
+    ensures { registers.new ≡ with_loaded psr mode r15 register word registers.old }
+{
+    if is_r15(register) {
+        registers.set(Reg::R15, load_r15(psr, r15, word));
+    } else {
+        registers.write(mode, register, word);
+    }
+}
+
+/// The base is written back, where it is.
+pub fn write_base(registers: &mut Registers, write_back: bool, mode: Mode, rn: Register, base: u32)
+    ensures { registers.new ≡ with_base write_back mode rn base registers.old }
+{
+    if write_back {
+        registers.write(mode, rn, base);
+    }
+}
+
+/// R15 goes on by one instruction.
+pub fn pass(registers: &mut Registers)
+    ensures { registers.new ≡ passed registers.old }
+{
+    let r15 = registers.get(Reg::R15);
+    registers.set(Reg::R15, advanced(r15, 4));
+}

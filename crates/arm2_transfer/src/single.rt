@@ -1,0 +1,62 @@
+use crate::registers::{is_user, moved_by, pass, write_base};
+use arm2_decode::Register;
+use arm2_effect::{Mode, Reg, Registers, mode_of};
+
+/// A single transfer, with its offset as a number.
+#[derive(Clone, Copy)]
+pub struct Single {
+    /// P: whether the base is moved before the access.
+    pub before: bool,
+    /// U: whether the offset is added, not subtracted.
+    pub up: bool,
+    /// B: a byte, not a word.
+    pub byte: bool,
+    /// W.
+    pub write_back: bool,
+    /// L: a load, not a store.
+    pub load: bool,
+    /// The base.
+    pub rn: Register,
+    /// The register that is loaded or stored.
+    pub rd: Register,
+    /// In bytes.
+    pub offset: u32,
+}
+
+impl Single {
+    ghost use Rattle.std.specs.Prelude.{◌≡◌};
+    ghost use Rattle.arm2_transfer.specs.Single.{address_for, has_user_rights as is_as_user, base_after};
+
+    // The address, of 32 bits.
+    pub fn address(self, base: u32) -> u32
+        ensures { result ≡ address_for self base }
+    {
+        if self.before {
+            moved_by(self.up, base, self.offset)
+        } else {
+            base
+        }
+    }
+
+    // Whether the access has the rights of User.
+    pub fn has_user_rights(self, mode: Mode) -> bool
+        ensures { result ≡ is_as_user self mode }
+    {
+        is_user(mode) || self.write_back && !self.before
+    }
+
+    // R15 goes on, and the moved base is written back where it is.
+    pub fn write_base(self, registers: &mut Registers, base: u32)
+        ensures { registers.new ≡ base_after self base registers.old }
+    {
+        let mode = mode_of(registers.get(Reg::R15));
+        pass(registers);
+        write_base(
+            registers,
+            self.write_back || !self.before,
+            mode,
+            self.rn,
+            moved_by(self.up, base, self.offset),
+        );
+    }
+}

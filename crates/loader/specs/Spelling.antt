@@ -1,0 +1,26 @@
+-- The segments that spell an image. Source: our own image format.
+use Rattle.std.specs.Prelude.{◌≡◌, ◌<◌, ◌≤◌, ◌^◌, ℕ, List, [], ◌∷◌, length, None}
+use Rattle.std.specs.List.{AllByRecursion}
+use Rattle.loader.specs.Image.{Words}
+use Rattle.loader.specs.ImageBytes.{Segment, segment_fault, with_words}
+
+-- the words of segments, behind others
+abbrev pub with_segments : Words → List Segment → Words
+with_segments words [] = words
+with_segments words (s ∷ rest) = with_segments (with_words words s.address s.words) rest
+
+-- each segment can stand behind the words before it: a multiple of 4, some words, in memory, and none on another's place
+abbrev pub CanFollow : Words → List Segment → Type 0
+CanFollow words [] = Unit {0}
+CanFollow words (s ∷ rest) = (segment_fault words s.address (length s.words) ≡ None) × CanFollow (with_words words s.address s.words) rest
+
+-- words of 32 bits
+abbrev pub AreNumbers : List ℕ → Type 0
+AreNumbers words = AllByRecursion (λ w. w < 2 ^ 32) words
+
+-- an image is the words of at most 16 segments, each of which can stand behind those before it
+pub record Spell (segments : List Segment) (words : Words) : Type 0 where
+  pub few : length segments ≤ 16
+  pub numbers : AllByRecursion (λ s. AreNumbers s.words) segments
+  pub follow : CanFollow [] segments
+  pub words_are : words ≡ with_segments [] segments

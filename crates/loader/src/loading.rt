@@ -1,0 +1,124 @@
+ghost use Rattle.std.specs.Prelude.{◌≡◌, ◌⊎◌, ◌<◌, ◌^◌, false, true, All, IfOk, IfErr, OnOk, OnErr};
+ghost use Rattle.loader.specs.Loading.{lacks_page, loaded, put_at, rom_words, spot_of, with_image, with_ram};
+
+use crate::image::Image;
+use arm2_exec::Machine;
+use memc::{Memc, MemcFault, Spot};
+use std::alloc::{AllocError, AllocFailed, Global};
+use thiserror::Error;
+
+/// Why an image is not loaded.
+#[derive(Clone, Copy, Debug, PartialEq, Eq, Drop, Error)]
+pub enum LoadFault {
+    /// A growth was refused.
+    #[error("Memory")]
+    Memory,
+    /// A word lies at a logical address without a page, or at a physical address past the fitted RAM.
+    #[error("NoPage")]
+    NoPage,
+}
+
+impl From<AllocError> for LoadFault {
+    ghost use Rattle.std.specs.Prelude.{◌≡◌};
+    ghost use Rattle.loader.specs.declared.loading.LoadFault.TheVariants.{Memory};
+
+    ghost from_gives = { λ _ fault. fault ≡ Memory };
+
+    fn from(_refused: AllocError) -> LoadFault {
+        LoadFault::Memory
+    }
+}
+
+impl<T: Drop> From<AllocFailed<T>> for LoadFault {
+    ghost use Rattle.std.specs.Prelude.{◌≡◌};
+    ghost use Rattle.loader.specs.declared.loading.LoadFault.TheVariants.{Memory};
+
+    ghost from_gives = { λ _ fault. fault ≡ Memory };
+
+    fn from(_refused: AllocFailed<T>) -> LoadFault {
+        LoadFault::Memory
+    }
+}
+
+impl From<MemcFault> for LoadFault {
+    ghost use Rattle.std.specs.Prelude.{◌≡◌};
+    ghost use Rattle.loader.specs.declared.loading.LoadFault.TheVariants.{Memory};
+
+    ghost from_gives = { λ _ fault. fault ≡ Memory };
+
+    fn from(_refused: MemcFault) -> LoadFault {
+        LoadFault::Memory
+    }
+}
+
+// The words that go to ROM, where each word goes to RAM or ROM.
+fn rom_words(alloc: Global, memc: &Memc, words: &[(u32, u32)]) -> Result<Vec<(u32, u32)>, LoadFault>
+    requires below { All (λ e. e.0 < 2 ^ 26) words.now }
+    ensures rom { IfOk result (λ rom. rom.items ≡ rom_words memc.now words.now) }
+    ensures fits { OnOk result (lacks_page memc.now words.now ≡ false) }
+    ensures fault { IfErr result (λ fault. (fault ≡ LoadFault.Memory) ⊎ ((fault ≡ LoadFault.NoPage) × (lacks_page memc.now words.now ≡ true))) }
+{
+    let mut rom = Vec::new(alloc);
+    for &(address, word) in words {
+        match memc.locate(address, false, false) {
+            Ok(Spot::Rom(address)) => rom.push((address, word))?,
+            Ok(_) => {}
+            Err(_) => return Err(LoadFault::NoPage),
+        }
+    }
+    Ok(rom)
+}
+
+// Stores a word where it goes to RAM.
+fn store_word(memc: &mut Memc, address: u32, word: u32)
+    requires below { address < 2 ^ 26 }
+    ensures { memc.new ≡ put_at (spot_of memc.old address) word memc.old }
+{
+    if let Ok(Spot::Ram(place)) = memc.locate(address, false, false) {
+        memc.store(Spot::Ram(place), word);
+    }
+}
+
+// Stores the words that go to RAM, in turn.
+fn store_words(memc: &mut Memc, words: &[(u32, u32)])
+    requires below { All (λ e. e.0 < 2 ^ 26) words.now }
+    ensures { memc.new ≡ with_ram words.now memc.old }
+{
+    for &(address, word) in words {
+        store_word(memc, address, word);
+    }
+}
+
+// Puts the words of an image into memory.
+fn load_words(alloc: Global, memc: &mut Memc, image: &Image) -> Result<(), LoadFault>
+    ensures ok { OnOk result (memc.new ≡ loaded image.now memc.old) }
+    ensures fits { OnOk result (lacks_page memc.old image.now ≡ false) }
+    ensures fault { IfErr result (λ fault. (fault ≡ LoadFault.Memory) ⊎ ((fault ≡ LoadFault.NoPage) × (lacks_page memc.old image.now ≡ true))) }
+    ensures same { OnErr result (memc.new ≡ memc.old) }
+{
+    image.whole();
+    let words = image.listed(alloc)?;
+    let rom = rom_words(alloc, memc, &words)?;
+    memc.add_rom(alloc, &rom)?;
+    store_words(memc, &words);
+    Ok(())
+}
+
+/// Puts the words of an image into a machine's memory: each where a privileged load of its address reads, and in the
+/// order of their addresses, so that a place that two addresses name holds the higher one's word.
+///
+/// All other words, the page map, the control fields, the registers and the devices stay. It takes time linear in the
+/// words of the image and of ROM.
+///
+/// # Errors
+///
+/// `NoPage`: a word lies at a logical address without a page, or at a physical address past the fitted RAM.
+/// `Memory`: a growth was refused. After either the machine is as it was.
+pub fn load(alloc: Global, machine: &mut Machine, image: &Image) -> Result<(), LoadFault>
+    ensures ok { OnOk result (machine.new ≡ with_image image.now machine.old) }
+    ensures fits { OnOk result (lacks_page machine.old.bus.memc image.now ≡ false) }
+    ensures fault { IfErr result (λ fault. (fault ≡ LoadFault.Memory) ⊎ ((fault ≡ LoadFault.NoPage) × (lacks_page machine.old.bus.memc image.now ≡ true))) }
+    ensures same { OnErr result (machine.new ≡ machine.old) }
+{
+    load_words(alloc, machine.memc_mut(), image)
+}

@@ -1,0 +1,240 @@
+ghost use Rattle.std.specs.Prelude.{suc, [], ◌≡◌, ◌⊎◌, ◌+◌, ◌*◌, ◌<◌, ◌≤◌, ℕ, List, Ok, Err, Some, None, IsTrue, IfOk, IfErr, OnOk, OnErr, drop, length};
+ghost use Rattle.loader.specs.Image.{runs_of};
+ghost use Rattle.loader.specs.ImageBytes.{Segment, cut_fault, head_address, head_count, image_bytes, image_read, is_taken, lies_in_memory as is_in_memory, numbers, overlaps, segment_fault, segments_read, with_words};
+ghost use Rattle.loader.specs.Spelling.{Spell};
+
+use crate::image::{Image, ImageFault, can_hold};
+use byteorder::{ByteOrder, LittleEndian};
+use std::alloc::Global;
+use thiserror::Error;
+
+/// The bytes with which every image begins.
+pub const MAGIC: [u8; 8] = *b"ARC2IMG1";
+
+/// The most words of an image.
+const MOST_WORDS: usize = 65_536;
+
+/// The most segments of an image.
+const MOST_SEGMENTS: u32 = 16;
+
+/// Why bytes are no image.
+#[derive(Clone, Copy, Debug, PartialEq, Eq, Drop, Error)]
+pub enum ReadFault {
+    /// A growth was refused.
+    #[error("Memory")]
+    Memory,
+    /// The bytes do not begin with the magic.
+    #[error("BadMagic")]
+    BadMagic,
+    /// Bytes are missing at the end.
+    #[error("Truncated")]
+    Truncated,
+    /// A segment has a word at the address of an earlier segment's.
+    #[error("Overlap")]
+    Overlap,
+    /// A segment's address is no multiple of 4.
+    #[error("Misaligned")]
+    Misaligned,
+    /// Bytes stand behind the last segment.
+    #[error("TrailingBytes")]
+    TrailingBytes,
+    /// More than 16 segments, a segment of no words, in I/O (3000000 to 33FFFFF) or past 4000000, or more than
+    /// 65,536 words in all.
+    #[error("OutOfRange")]
+    OutOfRange,
+}
+
+// What a segment's head says, or can at least say where bytes of it are missing.
+#[derive(Clone, Copy)]
+struct Head {
+    address: u32,
+    count: u32,
+}
+
+impl Head {
+    fn of(bytes: &[u8]) -> Head
+        ensures address { result.address ≡ head_address bytes.now }
+        ensures count { result.count ≡ head_count bytes.now }
+    {
+        let mut padded = [0; 8];
+        let standing = bytes.len().min(8);
+        padded[..standing].copy_from_slice(&bytes[..standing]);
+        let address = LittleEndian::read_u32(&padded);
+        let count = LittleEndian::read_u32(&padded[4..]);
+        if count > 0 || standing == 8 {
+            return Head { address, count };
+        }
+        let count = match standing.saturating_sub(4) {
+            0 => 1,
+            1 => 0x100,
+            2 => 0x1_0000,
+            _ => 0x100_0000,
+        };
+        Head { address, count }
+    }
+}
+
+// Whether a segment lies below I/O, or above it and below 4000000.
+fn lies_in_memory(address: u32, count: u32) -> bool
+    ensures { result ≡ is_in_memory address count }
+{
+    let end = address as u64 + 4 * count as u64;
+    end <= 0x300_0000 || (address >= 0x340_0000 && end <= 0x400_0000)
+}
+
+impl Image {
+    // Whether a word stands at one of `count` addresses of words.
+    fn overlaps(&self, address: u32, count: u32) -> bool
+        requires inside { address + 4 * count ≤ 0x400_0000 }
+        ensures { result ≡ overlaps self.now address count }
+    {
+        self.words
+            .range(address..address + 4 * count)
+            .next()
+            .is_some()
+    }
+
+    // Why a segment cannot stand behind the words of the earlier ones.
+    fn segment_fault(&self, head: Head) -> Option<ReadFault>
+        ensures { result ≡ segment_fault self.now head.address head.count }
+    {
+        if head.address % 4 != 0 {
+            return Some(ReadFault::Misaligned);
+        }
+        if head.count == 0 || !lies_in_memory(head.address, head.count) {
+            return Some(ReadFault::OutOfRange);
+        }
+        if self.words.len() + head.count as usize > MOST_WORDS {
+            return Some(ReadFault::OutOfRange);
+        }
+        if self.overlaps(head.address, head.count) {
+            return Some(ReadFault::Overlap);
+        }
+        None
+    }
+
+    // Whether no word can be put at an address.
+    fn is_taken(&self, address: u32) -> bool
+        ensures { result ≡ is_taken self.now address }
+    {
+        !can_hold(address) || self.word_at(address).is_some()
+    }
+
+    // Why no segment can stand behind the words of the earlier ones where its head ends within the address.
+    fn cut_fault(&self, bytes: &[u8]) -> ReadFault
+        requires cut { length bytes.now < 4 }
+        ensures { result ≡ cut_fault self.now bytes.now }
+    {
+        let low = Head::of(bytes).address;
+        if low % 4 != 0 {
+            return ReadFault::Misaligned;
+        }
+        if self.words.len() >= MOST_WORDS {
+            return ReadFault::OutOfRange;
+        }
+        if bytes.len() == 3
+            && self.is_taken(low)
+            && self.is_taken(low + 0x100_0000)
+            && self.is_taken(low + 0x200_0000)
+            && self.is_taken(low + 0x300_0000)
+        {
+            return ReadFault::Overlap;
+        }
+        ReadFault::Truncated
+    }
+
+    // Puts the words of a segment that can stand behind those of the image.
+    fn put_segment(&mut self, alloc: Global, head: Head, bytes: &[u8]) -> Result<(), ReadFault>
+        requires allowed { segment_fault self.old head.address head.count ≡ None }
+        requires standing { 4 * head.count ≤ length bytes.now }
+        requires room { runs_of self.old ≤ 15 }
+        ensures ok { OnOk result (self.new ≡ with_words self.old head.address (numbers head.count bytes.now)) }
+        ensures few { OnOk result (runs_of self.new ≤ runs_of self.old + 1) }
+        ensures memory { IfErr result (λ fault. fault ≡ ReadFault.Memory) }
+    {
+        for next in 0..head.count {
+            self.whole();
+            let word = LittleEndian::read_u32(&bytes[4 * next as usize..]);
+            match self.put(alloc, head.address + 4 * next, word) {
+                Ok(()) => {}
+                Err(ImageFault::Memory) => return Err(ReadFault::Memory),
+                Err(ImageFault::OutOfRange) => unreachable!(),
+                Err(ImageFault::TooLong) => unreachable!(),
+            }
+        }
+        Ok(())
+    }
+}
+
+// Puts the words of the segment that the bytes begin with, and answers the bytes behind it.
+fn read_segment<'a>(
+    alloc: Global,
+    image: &mut Image,
+    bytes: &'a [u8],
+) -> Result<&'a [u8], ReadFault>
+    requires room { runs_of image.old ≤ 15 }
+    ensures rest { IfOk result (λ rest. (left : ℕ) → segments_read (suc left) image.old bytes.now ≡ segments_read left image.new rest.now) }
+    ensures few { OnOk result (runs_of image.new ≤ runs_of image.old + 1) }
+    ensures fault { IfErr result (λ fault. (fault ≡ ReadFault.Memory) ⊎ ((left : ℕ) → segments_read (suc left) image.old bytes.now ≡ Err fault)) }
+{
+    if bytes.len() < 4 {
+        return Err(image.cut_fault(bytes));
+    }
+    let head = Head::of(bytes);
+    if let Some(fault) = image.segment_fault(head) {
+        return Err(fault);
+    }
+    let end = 8 + 4 * head.count as usize;
+    if bytes.len() < end {
+        return Err(ReadFault::Truncated);
+    }
+    image.put_segment(alloc, head, &bytes[8..])?;
+    Ok(&bytes[end..])
+}
+
+// The number of segments, and the bytes behind it.
+fn read_count(bytes: &[u8]) -> Result<(u32, &[u8]), ReadFault>
+    ensures count { IfOk result (λ start. (image_read bytes.now ≡ segments_read start.0 [] start.1.now) × (start.0 ≤ 16)) }
+    ensures fault { IfErr result (λ fault. image_read bytes.now ≡ Err fault) }
+{
+    let standing = bytes.len().min(8);
+    if bytes[..standing] != MAGIC[..standing] {
+        return Err(ReadFault::BadMagic);
+    }
+    if bytes.len() < 8 {
+        return Err(ReadFault::Truncated);
+    }
+    let count = Head::of(&bytes[8..]).address;
+    if count > MOST_SEGMENTS {
+        return Err(ReadFault::OutOfRange);
+    }
+    if bytes.len() < 12 {
+        return Err(ReadFault::Truncated);
+    }
+    Ok((count, &bytes[12..]))
+}
+
+/// Reads an image from its bytes: [`MAGIC`], the number of segments, and of each segment its address, its number of
+/// words and its words, every number in 32 bits, the lowest byte first.
+///
+/// # Errors
+///
+/// The first from the front: `BadMagic`, `OutOfRange`, `Misaligned` and `Overlap` as soon as the bytes cannot be those
+/// of an image, `Truncated` where they end too early, `TrailingBytes` where they go on, and `Memory` where a
+/// growth was refused.
+pub fn read_image(alloc: Global, bytes: &[u8]) -> Result<Image, ReadFault>
+    ensures image { IfOk result (λ image. image_read bytes.now ≡ Ok image) }
+    ensures spelled { IfOk result (λ image. (segments : List Segment) × (bytes.now ≡ image_bytes segments) × Spell segments image) }
+    ensures fault { IfErr result (λ fault. (fault ≡ ReadFault.Memory) ⊎ (image_read bytes.now ≡ Err fault)) }
+{
+    let (count, start) = read_count(bytes)?;
+    let mut rest = start;
+    let mut image = Image::new(alloc);
+    for _ in 0..count {
+        rest = read_segment(alloc, &mut image, rest)?;
+    }
+    if !rest.is_empty() {
+        return Err(ReadFault::TrailingBytes);
+    }
+    Ok(image)
+}
