@@ -1,0 +1,17 @@
+pub mod PlaceLemmas
+pub mod FoundLemmas
+pub mod GrowLemmas
+pub mod SortedLemmas
+pub mod WorkLemmas
+pub mod EdgeLemmas
+pub mod StrayLemmas
+pub mod BuildLemmas
+pub mod TurnLemmas
+pub mod FlowLemmas
+pub mod Unique
+pub mod StepRegisters
+pub mod StepTicks
+pub mod StepWords
+pub mod StepOperations
+pub mod StepEdges
+pub mod StepLemmas

@@ -1,0 +1,16 @@
+-- Lists of call addresses (our own format: at most eight, since calls nest no deeper in a handler).
+use Rattle.std.specs.Prelude.{◌≡◌, ℕ, ◌-◌, ◌≤◌, ◌<◌, ◌^◌, List, ◌++◌, length, take, replicate, All}
+use Rattle.flow_graph_whole.specs.declared.call_list.Calls.TheInside.{Inside}
+
+-- the first `len` slots are the addresses, and the others are 0
+pub record IsCalls (calls : Inside) : Type 0 where
+  pub few : calls.len ≤ 8
+  pub whole : length calls.slots ≡ 8
+  pub padded : calls.slots ≡ take calls.len calls.slots ++ replicate (8 - calls.len) 0
+  pub small : All (λ a. a < 2 ^ 26) (take calls.len calls.slots)
+
+abbrev pub addresses_of : Inside → List ℕ
+addresses_of calls = take calls.len calls.slots
+
+abbrev pub calls_of : List ℕ → Inside
+calls_of addresses = record { len = length addresses; slots = addresses ++ replicate (8 - length addresses) 0 }

@@ -1,0 +1,28 @@
+-- The order of places (our own: it is that of certificates).
+use Rattle.std.specs.Prelude.{ℕ, ◌<◌, ◌≤◌, ◌^◌, List, length, slice_index_or, All}
+use Rattle.std.specs.Ordering.{nat_cmp, ordering_then}
+use Rattle.std.specs.Cmp.Lexicographic.{slice_cmp}
+use Rattle.std.specs.declared.cmp.Ordering.{Ordering}
+use Rattle.std.specs.declared.cmp.Ordering.TheVariants.{Less, Equal, Greater}
+use Rattle.flow_graph_whole.specs.declared.places.Place.{Place}
+use Rattle.flow_graph_whole.specs.declared.places.Place.TheVariants.{At, Exit}
+
+-- call lists address by address, a prefix first; then the address; Exit last
+abbrev pub place_cmp : Place → Place → Ordering
+place_cmp (At c a) (At d b) = ordering_then (slice_cmp nat_cmp c d) (nat_cmp a b)
+place_cmp (At c a) Exit = Less
+place_cmp Exit (At d b) = Greater
+place_cmp Exit Exit = Equal
+
+-- the place of a number: Exit past the end
+abbrev pub place_at : List Place → ℕ → Place
+place_at places n = slice_index_or places n Exit
+
+-- addresses lie below 4000000, and calls nest at most eight deep
+abbrev pub IsInRange : List ℕ → ℕ → Type 0
+IsInRange calls address = (address < 2 ^ 26) × (length calls ≤ 8) × All (λ c. c < 2 ^ 26) calls
+
+-- Exit, or an address below 4000000
+abbrev pub IsInSpace : Place → Type 0
+IsInSpace (At calls address) = address < 2 ^ 26
+IsInSpace Exit = Unit {0}

@@ -1,0 +1,121 @@
+ghost use Rattle.std.specs.Prelude.{◌≡◌, ◌≢◌, OnOk, IfErr, IfOk};
+ghost use Rattle.flow_graph_whole.specs.Graph.{ArePlaces, IsBuildFault, IsFlowGraph, start_of};
+ghost use Rattle.flow_graph_whole.specs.Search.{AreInTurn, IsAllowed, IsFound, IsSearch, IsTurnFault, IsVisited, IsVisitFault};
+ghost use Rattle.statement.specs.Stated.{IsStated};
+ghost use Rattle.flow_graph_whole.specs.declared.faults.BuildFault.{BuildFault};
+
+use crate::call_list::Calls;
+use crate::edges::Edge;
+use crate::faults::BuildFault;
+use crate::flow::Graph;
+use crate::places::Place;
+use crate::pushing::push_edges;
+use crate::search::{add, add_ends, sorted};
+use crate::strays::stray_target;
+use bus_ticks::Profile;
+use loader::image::Image;
+use statement::Statement;
+use std::alloc::Global;
+use std::collections::BTreeSet;
+
+// Where a walk starts.
+fn start(statement: &Statement) -> Place
+    ensures value { result ≡ start_of statement.now }
+    ensures is_stated { IsStated statement.now }
+{
+    Place::At(Calls::new(), statement.entry())
+}
+
+// Adds the places to which the place leads.
+fn visit(
+    alloc: Global,
+    image: &Image,
+    statement: &Statement,
+    profile: &Profile,
+    seen: &mut BTreeSet<Place>,
+    order: &mut Vec<Place>,
+    place: &Place,
+) -> Result<(), BuildFault>
+    requires { IsFound seen.old order.old.items }
+    ensures found { OnOk result (IsFound seen.new order.new.items) }
+    ensures visited { OnOk result (IsVisited image.now statement.now profile.now order.old.items place.now order.new.items) }
+    ensures err { IfErr result (IsVisitFault image.now statement.now profile.now order.old.items place.now) }
+{
+    let mut edges = Vec::new(alloc);
+    push_edges(&mut edges, image, statement, profile, place)?;
+    add_ends(seen, order, &edges)
+}
+
+// Finds the places. The list grows at its end while its next place is visited, so each is visited once.
+fn explore(
+    alloc: Global,
+    image: &Image,
+    statement: &Statement,
+    profile: &Profile,
+) -> Result<BTreeSet<Place>, BuildFault>
+    ensures places { IfOk result (λ seen. ArePlaces image.now statement.now profile.now seen.keys) }
+    ensures allowed { IfOk result (λ seen. IsAllowed image.now statement.now profile.now seen.keys) }
+    ensures fault { IfErr result (IsBuildFault image.now statement.now profile.now) }
+{
+    let mut seen = BTreeSet::new(alloc);
+    let mut order = Vec::new(alloc);
+    add(&mut seen, &mut order, &start(statement))?;
+    let mut next = 0;
+    while next < order.len() {
+        let place = order[next];
+        visit(
+            alloc, image, statement, profile, &mut seen, &mut order, &place,
+        )?;
+        next += 1;
+    }
+    Ok(seen)
+}
+
+// The edges of each place in turn, and where those of each begin.
+fn edges_in_turn(
+    alloc: Global,
+    image: &Image,
+    statement: &Statement,
+    profile: &Profile,
+    places: &[Place],
+) -> Result<(Vec<Edge>, Vec<usize>), BuildFault>
+    ensures turn { IfOk result (λ made. AreInTurn image.now statement.now profile.now places.now made.0.items made.1.items) }
+    ensures fault { IfErr result (IsTurnFault image.now statement.now places.now) }
+{
+    let mut edges = Vec::new(alloc);
+    let mut firsts = Vec::new(alloc);
+    for place in places {
+        firsts.push(edges.len())?;
+        push_edges(&mut edges, image, statement, profile, place)?;
+    }
+    firsts.push(edges.len())?;
+    Ok((edges, firsts))
+}
+
+/// The flow graph of a handler: the places that are reached from its entry, and their edges.
+///
+/// Any refusal whose condition holds may be answered; `Memory` only where a growth was refused.
+pub fn build(
+    alloc: Global,
+    image: &Image,
+    statement: &Statement,
+    profile: &Profile,
+) -> Result<Graph, BuildFault>
+    ensures graph { IfOk result (IsFlowGraph image.now statement.now profile.now) }
+    ensures allowed { OnOk result ((fault : BuildFault) → fault ≢ BuildFault.Memory → IsBuildFault image.now statement.now profile.now fault → ⊥) }
+    ensures fault { IfErr result (IsBuildFault image.now statement.now profile.now) }
+{
+    if let Some(address) = stray_target(image, statement) {
+        return Err(BuildFault::TargetNotWriter(address));
+    }
+    let seen = explore(alloc, image, statement, profile)?;
+    let places = sorted(alloc, &seen)?;
+    let (edges, firsts) = edges_in_turn(alloc, image, statement, profile, &places)?;
+    Ok(Graph {
+        entry: start(statement),
+        places,
+        edges,
+        firsts,
+        profile: *profile,
+    })
+}

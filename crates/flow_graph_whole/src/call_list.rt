@@ -1,0 +1,130 @@
+ghost use Rattle.std.specs.Prelude.{◌≡◌, ℕ, ◌<◌, ◌≤◌, ◌↔◌, List, [], ◌∷◌, ◌++◌, length, take, ◌^◌, ◌-◌, IfSome, IsNone, ◌==◌};
+ghost use Rattle.std.proofs.Common.{rules};
+ghost use Rattle.std.specs.Cmp.{partial_order_from_own_ties};
+ghost use Rattle.std.specs.Cmp.Rules.{comparing};
+ghost use Rattle.std.specs.Cmp.Lexicographic.{slice_cmp, pointwise};
+ghost use Rattle.std.specs.Ordering.{nat_cmp, as_partial_cmp};
+
+use std::cmp::Ordering;
+use std::marker::Model;
+
+/// How many call addresses a list holds at most.
+pub const DEPTH: usize = 8;
+
+/// The addresses of the calls that a place is inside of, the outermost first: at most eight, each below 4000000.
+#[derive(Clone, Copy)]
+pub struct Calls {
+    len: usize,
+    slots: [u32; 8],
+}
+
+impl Model for Calls {
+    ghost use Rattle.std.specs.Prelude.{ℕ, List};
+
+    ghost Value = { List ℕ };
+
+    ghost use Rattle.flow_graph_whole.specs.Calls.{IsCalls, addresses_of, calls_of};
+
+    ghost view = { addresses_of };
+
+    ghost invariant = { IsCalls };
+
+    ghost inverse = { calls_of };
+}
+
+impl Calls {
+    /// No calls.
+    pub fn new() -> Calls
+        ensures { result ≡ [] }
+    {
+        Calls {
+            len: 0,
+            slots: [0; 8],
+        }
+    }
+
+    /// The list with one more address, or None where it holds eight.
+    pub fn with(self, address: u32) -> Option<Calls>
+        requires { address < 2 ^ 26 }
+        ensures longer { IfSome result (λ calls. calls ≡ self ++ address ∷ []) }
+        ensures full { IsNone result ↔ (length self ≡ 8) }
+        ensures few { length self ≤ 8 }
+    {
+        if self.len == DEPTH {
+            return None;
+        }
+        let mut slots = self.slots;
+        slots[self.len] = address;
+        Some(Calls {
+            len: self.len + 1,
+            slots,
+        })
+    }
+
+    /// The list without its last address, and that address, or None where it is empty.
+    pub fn split_last(self) -> Option<(Calls, u32)>
+        ensures parts { IfSome result (λ parts. self ≡ parts.0 ++ parts.1 ∷ []) }
+        ensures empty { IsNone result ↔ (self ≡ []) }
+        ensures small { IfSome result (λ parts. parts.1 < 2 ^ 26) }
+    {
+        if self.len == 0 {
+            return None;
+        }
+        let last = self.slots[self.len - 1];
+        let mut slots = self.slots;
+        slots[self.len - 1] = 0;
+        Some((
+            Calls {
+                len: self.len - 1,
+                slots,
+            },
+            last,
+        ))
+    }
+
+    /// The addresses, the outermost call's first.
+    pub fn as_slice(&self) -> &[u32]
+        ensures value { result.now ≡ self.now }
+        ensures few { length self.now ≤ 8 }
+    {
+        &self.slots[..self.len]
+    }
+}
+
+impl PartialEq for Calls {
+    ghost eq = { pointwise ◌==◌ };
+
+    ghost laws = { Prim.search (comparing, rules) };
+
+    fn eq(&self, other: &Calls) -> bool {
+        self.as_slice() == other.as_slice()
+    }
+}
+
+impl Eq for Calls {
+    ghost laws = { Prim.search (comparing, rules) };
+}
+
+impl Ord for Calls {
+    ghost cmp = { slice_cmp nat_cmp };
+
+    ghost total = { Prim.search (comparing, rules) };
+
+    ghost matches_partial_cmp = { Prim.search (comparing, rules) };
+
+    ghost matches_eq = { Prim.search (comparing, rules) };
+
+    fn cmp(&self, other: &Calls) -> Ordering {
+        self.as_slice().cmp(other.as_slice())
+    }
+}
+
+impl PartialOrd for Calls {
+    ghost partial_cmp = { as_partial_cmp (slice_cmp nat_cmp) };
+
+    ghost laws = { partial_order_from_own_ties (Prim.search (comparing, rules)) (Prim.search (comparing, rules)) };
+
+    fn partial_cmp(&self, other: &Calls) -> Option<Ordering> {
+        Some(self.cmp(other))
+    }
+}

@@ -1,0 +1,28 @@
+//! The control-flow graph of a handler: its places, and the edges between them with their costs in ticks. The statement
+//! that it is built from is given on as it is.
+#![tactic(auto)]
+
+mod building;
+mod call_list;
+mod edges;
+mod faults;
+mod flow;
+mod kinds;
+mod law;
+mod places;
+mod pushing;
+mod search;
+mod strays;
+#[cfg(test)]
+mod tests;
+mod ticks;
+
+pub use building::build;
+pub use call_list::{Calls, DEPTH};
+pub use edges::{Edge, Label};
+pub use faults::BuildFault;
+pub use flow::Graph;
+pub use law::{run_law, step_law};
+pub use places::{Place, order_of_places};
+pub use search::MOST_PLACES;
+pub use statement::{Loop, Statement, StatementFault, Target, TargetKind, read_statement};

@@ -1,0 +1,104 @@
+ghost use Rattle.std.specs.Prelude.{◌≡◌, ◌+◌, ◌*◌, ◌<◌, ◌^◌};
+ghost use Rattle.bus_ticks.specs.Worst.{worst_n_price, worst_s_price};
+ghost use Rattle.flow_graph_whole.specs.Edges.{arriving, doing, fetching, jumping, passing, target, working, wrapped};
+ghost use Rattle.flow_graph_whole.specs.Kinds.{IsWork};
+ghost use Rattle.flow_graph_whole.specs.Places.{IsInSpace};
+
+use crate::kinds::{Action, Kind, Work};
+use crate::places::Place;
+use bus_ticks::{Class, Profile, worst_fetch_n, worst_fetch_s, worst_leave, worst_transfer};
+use statement::Statement;
+
+/// How many bytes the addresses span.
+const SPACE: u32 = 1 << 26;
+
+/// The address so many bytes on.
+pub fn after(address: u32, bytes: u32) -> u32
+    requires { bytes < 2 ^ 32 }
+    ensures sum { result ≡ wrapped (address + bytes) }
+    ensures fits { result < 2 ^ 26 }
+{
+    address.wrapping_add(bytes) % SPACE
+}
+
+/// The address to which a branch leads.
+pub fn branch_target(address: u32, offset: u32) -> u32
+    ensures sum { result ≡ target address offset }
+    ensures fits { result < 2 ^ 26 }
+{
+    after(after(address, 8), offset.wrapping_mul(4))
+}
+
+/// What a word costs that is passed over: the fetch of the word after the next.
+pub fn passing_ticks(profile: &Profile, address: u32) -> u32
+    ensures ticks { result ≡ passing profile.now address }
+    ensures small { result < 256 }
+{
+    worst_fetch_s(profile, after(address, 8))
+}
+
+// The fetch of the word after the next.
+fn fetch_ticks(profile: &Profile, address: u32, work: Work) -> u32
+    ensures ticks { result ≡ fetching profile.now address work }
+    ensures small { result < 256 }
+{
+    match work {
+        Work::Internal(_) | Work::Load(_) => passing_ticks(profile, address),
+        Work::Store(_) => worst_fetch_n(profile, after(address, 8)),
+    }
+}
+
+// What a word costs besides its fetches.
+fn work_ticks(profile: &Profile, class: Class, work: Work) -> u32
+    requires { IsWork work }
+    ensures ticks { result ≡ working profile.now class work }
+    ensures small { result < 4400 }
+{
+    match work {
+        Work::Internal(cycles) => cycles * profile.internal,
+        Work::Load(words) => worst_transfer(profile, class, words, false) + profile.internal,
+        Work::Store(words) => worst_transfer(profile, class, words, true),
+    }
+}
+
+// What the fetches after a jump cost: of the word at its target, and of the next.
+fn jump_ticks(profile: &Profile, leave: Class, to: &Place) -> u32
+    requires { IsInSpace to.now }
+    ensures ticks { result ≡ jumping leave profile.now to.now }
+    ensures small { result < 512 }
+{
+    match to {
+        Place::At(_, address) => {
+            worst_fetch_n(profile, *address) + worst_fetch_s(profile, after(*address, 4))
+        }
+        Place::Exit => worst_leave(profile, leave),
+    }
+}
+
+fn arrival_ticks(profile: &Profile, leave: Class, kind: Kind, to: &Place) -> u32
+    requires { IsInSpace to.now }
+    ensures ticks { result ≡ arriving leave profile.now kind to.now }
+    ensures small { result < 512 }
+{
+    match kind {
+        Kind::Branch(_) | Kind::Call(_) | Kind::Writer => jump_ticks(profile, leave, to),
+        Kind::Plain | Kind::Trap | Kind::Unallocated => 0,
+    }
+}
+
+/// What a word costs that is done, and so goes to that place.
+pub fn do_ticks(
+    statement: &Statement,
+    profile: &Profile,
+    address: u32,
+    action: Action,
+    to: &Place,
+) -> u32
+    requires work { IsWork action.work }
+    requires to { IsInSpace to.now }
+    ensures { result ≡ doing statement.now profile.now address action to.now }
+{
+    fetch_ticks(profile, address, action.work)
+        + work_ticks(profile, statement.class_at(address), action.work)
+        + arrival_ticks(profile, statement.leave(), action.kind, to)
+}

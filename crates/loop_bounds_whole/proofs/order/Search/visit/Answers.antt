@@ -1,0 +1,14 @@
+use Rattle.loop_bounds_whole.proofs.Visit.{visit_starts, visit_met, step_nearer}
+use Rattle.loop_bounds_whole.proofs.order.Search.visit.Goals as goal
+
+pub loop-self-init : goal.loop-self-init
+loop-self-init c =
+    let firsts = c.args.firsts.now in
+    let edges = c.args.edges.now in
+    record {
+      searching = rw c.in_ok-push.ensures.items (visit_starts firsts edges c.requires.grouped c.args.self.now c.args.node c.requires.searched c.requires.inside c.requires.white);
+      met = visit_met firsts edges c.requires.grouped c.args.self.now c.args.node c.requires.searched c.requires.inside;
+    }
+
+pub loop-self-smaller : goal.loop-self-smaller
+loop-self-smaller c = step_nearer c.args.firsts.now c.args.edges.now c.requires.grouped c.loop-self.self c.step.new.self c.in_ok-step.ensures.searching c.in_ok-step.ensures.step

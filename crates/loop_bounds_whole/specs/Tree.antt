@@ -1,0 +1,111 @@
+-- The tree of a handler's loop instances, and an order of its places in which each instance is an interval
+-- (our own format).
+use Rattle.std.specs.Prelude.{◌≡◌, ◌≢◌, ℕ, ◌+◌, ◌<◌, ◌≤◌, ◌⊎◌, Bool, true, false, ◌&&◌, ◌==◌, nat_le, List, length, Contains, count_by, slice_index, slice_index_or, AllPairs}
+use Rattle.flow_graph_whole.specs.declared.places.Place.{Place}
+use Rattle.flow_graph_whole.specs.declared.places.Place.TheVariants.{Exit}
+use Rattle.flow_graph_whole.specs.declared.edges.Edge.{Edge}
+use Rattle.flow_graph_whole.specs.Flow.{Flow}
+use Rattle.flow_graph_whole.specs.Places.{place_at}
+use Rattle.loop_bounds_whole.specs.declared.numbering.NumberedEdge.{NumberedEdge}
+use Rattle.loop_bounds_whole.specs.declared.span.Span.{Span}
+use Rattle.loop_bounds_whole.specs.Instance.{Instance, is_member, is_header}
+
+-- the instances with the inner ones before the outer ones, and the span of each; for each number the position of
+-- its place among the places of the flow graph, Exit's last; the flow graph's edges in turn, between numbers
+pub record Tree : Type 0 where
+  pub instances : List Instance
+  pub spans : List Span
+  pub order : List ℕ
+  pub edges : List NumberedEdge
+
+-- the place of a number
+abbrev pub place_in : Flow → Tree → ℕ → Place
+place_in flow tree n = place_at flow.places (slice_index_or tree.order n (length flow.places))
+
+-- the number lies in the span
+abbrev pub is_in : Span → ℕ → Bool
+is_in s n = nat_le s.header n && nat_le n s.last
+
+-- ## Edges between numbers
+
+-- each number below that of Exit stands for one place
+pub record ArePlaceNumbers (flow : Flow) (place_of : ℕ → Place) : Type 0 where
+  pub exit : place_of (length flow.places) ≡ Exit
+  pub place : (n : ℕ) → n < length flow.places → Contains flow.places (place_of n)
+  pub number : (p : Place) → Contains flow.places p → (n : ℕ) × (n < length flow.places) × (place_of n ≡ p)
+  pub once : (m n : ℕ) → m < length flow.places → n < length flow.places → place_of m ≡ place_of n → m ≡ n
+
+-- the numbers stand for the places as told, and `exit` for Exit
+pub record NumbersEdge (place_of : ℕ → Place) (exit : ℕ) (e : Edge) (n : NumberedEdge) : Type 0 where
+  pub from_is : place_of n.from ≡ e.from
+  pub to_is : place_of n.to ≡ e.to
+  pub cost_is : n.cost ≡ e.cost
+  pub from_in : n.from < exit
+  pub to_in : n.to ≤ exit
+
+-- each edge of the flow graph, in its order
+pub record IsNumbered (flow : Flow) (place_of : ℕ → Place) (edges : List NumberedEdge) : Type 0 where
+  pub same : length edges ≡ length flow.edges
+  pub each : (k : ℕ) (e : Edge) (n : NumberedEdge) → k < length flow.edges → NumbersEdge place_of (length flow.places) (slice_index_or flow.edges k e) (slice_index_or edges k n)
+
+-- ## Spans of instances
+
+-- the span holds the numbers of the members, and begins with that of the header
+pub record IsSpanOf (flow : Flow) (tree : Tree) (i : Instance) (s : Span) : Type 0 where
+  pub members : (n : ℕ) → n ≤ length flow.places → is_member i (place_in flow tree n) ≡ is_in s n
+  pub headers : (n : ℕ) → n ≤ length flow.places → is_header i (place_in flow tree n) ≡ (n == s.header)
+  pub bound : s.bound ≡ i.bound
+
+-- each instance has its span
+pub record AreSpansOf (flow : Flow) (tree : Tree) : Type 0 where
+  pub same : length tree.spans ≡ length tree.instances
+  pub each : (k : ℕ) (i : Instance) (s : Span) → k < length tree.instances → IsSpanOf flow tree (slice_index_or tree.instances k i) (slice_index_or tree.spans k s)
+
+-- ## What holds of the numbers
+
+-- an edge leads to a greater number, or back from a member to the header
+abbrev pub GoesUpOrBack : List Span → NumberedEdge → Type 0
+GoesUpOrBack spans e = (e.from < e.to) ⊎ ((s : Span) × Contains spans s × (is_in s e.from ≡ true) × (e.to ≡ s.header))
+
+-- some edge leads to the number from a smaller one
+abbrev pub IsEnteredUp : List NumberedEdge → ℕ → Type 0
+IsEnteredUp edges n = (e : NumberedEdge) × Contains edges e × (e.to ≡ n) × (e.from < n)
+
+-- the inner ones first: by their last numbers, and then by their headers downwards
+abbrev pub ClosesBefore : Span → Span → Type 0
+ClosesBefore s t = (s.last < t.last) ⊎ ((s.last ≡ t.last) × (t.header < s.header))
+
+abbrev pub HoldsAll : Span → Span → Type 0
+HoldsAll outer inner = (n : ℕ) → is_in inner n ≡ true → is_in outer n ≡ true
+
+-- Edges and spans over the numbers of places, where the number of the entry is 0 and that of Exit the greatest: all
+-- that searches for greatest walks rest on.
+pub record IsOrdered (exit : ℕ) (edges : List NumberedEdge) (spans : List Span) : Type 0 where
+  pub some : 0 < exit
+  pub places : (e : NumberedEdge) → Contains edges e → (e.from < exit) × (e.to ≤ exit)
+  pub goes_up : (e : NumberedEdge) → Contains edges e → GoesUpOrBack spans e
+  pub entered_up : (n : ℕ) → 0 < n → n < exit → IsEnteredUp edges n
+  pub shape : (s : Span) → Contains spans s → (s.header ≤ s.last) × (s.last < exit) × (s.bound ≤ 1048576)
+  pub headers_differ : AllPairs (λ s t. s.header ≢ t.header) spans
+  pub closing : AllPairs ClosesBefore spans
+  -- two that share a number lie one within the other
+  pub nested : (s t : Span) → Contains spans s → Contains spans t → (n : ℕ) → is_in s n ≡ true → is_in t n ≡ true → HoldsAll t s ⊎ HoldsAll s t
+  -- an instance is entered at its header alone
+  pub entered : (e : NumberedEdge) → Contains edges e → (s : Span) → Contains spans s → is_in s e.from ≡ false → is_in s e.to ≡ true → e.to ≡ s.header
+  -- an entry that is a member is the header
+  pub entry_at_header : (s : Span) → Contains spans s → is_in s 0 ≡ true → 0 ≡ s.header
+  pub shallow : (n : ℕ) → count_by (λ s. is_in s n) spans ≤ 16
+
+-- ## The tree
+
+-- each place has one number, the entry 0 and Exit the last
+pub record IsTree (flow : Flow) (tree : Tree) : Type 0 where
+  pub whole : length tree.order ≡ length flow.places + 1
+  pub entry_first : place_in flow tree 0 ≡ flow.entry
+  pub exit_last : slice_index tree.order (length flow.places) ≡ length flow.places
+  pub inside : (n : ℕ) → n < length flow.places → slice_index tree.order n < length flow.places
+  pub all : (v : ℕ) → v < length flow.places → (n : ℕ) × (n < length flow.places) × (slice_index tree.order n ≡ v)
+  pub distinct : (m n : ℕ) → m < n → n < length tree.order → slice_index tree.order m ≡ slice_index tree.order n → ⊥
+  pub numbered : IsNumbered flow (place_in flow tree) tree.edges
+  pub spans_are : AreSpansOf flow tree
+  pub ordered : IsOrdered (length flow.places) tree.edges tree.spans

@@ -1,0 +1,52 @@
+use std::alloc::{AllocError, AllocFailed};
+use thiserror::Error;
+
+/// Why the loops of a handler have no tree. Of those that apply the first is answered, in this order.
+#[derive(Clone, Copy, Debug, PartialEq, Eq, Error)]
+pub enum NestFault {
+    /// A growth was refused.
+    #[error("Memory")]
+    Memory,
+
+    /// Two instances share a member, and each has one that the other has not.
+    #[error("LoopsCross")]
+    LoopsCross,
+
+    /// Two stated loops have one header address.
+    #[error("SharedHeader")]
+    SharedHeader,
+
+    /// A member other than the header is the entry, or is reached by an edge from a place that is no member.
+    #[error("EntersMidLoop")]
+    EntersMidLoop,
+
+    /// A cycle without a back edge of a stated loop.
+    #[error("UnboundedCycle")]
+    UnboundedCycle,
+
+    /// A place is a member of more than 16 instances.
+    #[error("NestedTooDeep")]
+    NestedTooDeep,
+}
+
+impl From<AllocError> for NestFault {
+    ghost use Rattle.std.specs.Prelude.{◌≡◌};
+    ghost use Rattle.loop_bounds_whole.specs.declared.fault.NestFault.TheVariants.{Memory};
+
+    ghost from_gives = { λ _ fault. fault ≡ Memory };
+
+    fn from(_: AllocError) -> NestFault {
+        NestFault::Memory
+    }
+}
+
+impl<T: Drop> From<AllocFailed<T>> for NestFault {
+    ghost use Rattle.std.specs.Prelude.{◌≡◌};
+    ghost use Rattle.loop_bounds_whole.specs.declared.fault.NestFault.TheVariants.{Memory};
+
+    ghost from_gives = { λ _ fault. fault ≡ Memory };
+
+    fn from(_: AllocFailed<T>) -> NestFault {
+        NestFault::Memory
+    }
+}

@@ -1,0 +1,165 @@
+ghost use Rattle.std.specs.Prelude.{◌≡◌, ◌≢◌, ◌↔◌, ◌<◌, All, Contains, IfOk, OnOk, IfErr, List, length, map};
+ghost use Rattle.statement.specs.Stated.{IsLoop};
+ghost use Rattle.loop_bounds_whole.specs.Extents.{found_instance};
+ghost use Rattle.loop_bounds_whole.specs.Ground.{IsGround, IsNesting};
+ghost use Rattle.loop_bounds_whole.specs.Keys.{IsListed};
+ghost use Rattle.loop_bounds_whole.specs.Layout.{AreParted};
+ghost use Rattle.loop_bounds_whole.specs.Tree.{IsTree};
+ghost use Rattle.loop_bounds_whole.specs.Instance.{Instance, IsInstance};
+ghost use Rattle.loop_bounds_whole.specs.Nest.{Applies, HasSharedHeader, IsNestFault};
+
+use crate::crossing::have_crossing;
+use crate::fault::NestFault;
+use crate::find::{Found, by_header, shares_header};
+use crate::ground::{Ground, lay_ground};
+use crate::keys::listed;
+use crate::layout::{indexes, numbers, order, renumbered, spans};
+use crate::nesting::{Nesting, nest_extents};
+use crate::numbering::NumberedEdge;
+use crate::span::Span;
+use flow_graph_whole::{Graph, Loop, Place, Statement};
+use std::alloc::{AllocError, Global};
+use std::marker::Model;
+
+/// The loops of a flow graph: the instances with their spans, and the graph's edges between the numbers of an order
+/// in which each instance is an interval.
+#[derive(Drop)]
+pub struct LoopTree {
+    instances: Vec<Found>,
+    spans: Vec<Span>,
+    order: Vec<usize>,
+    edges: Vec<NumberedEdge>,
+}
+
+impl Model for LoopTree {
+    ghost use Rattle.loop_bounds_whole.specs.Tree.{Tree};
+
+    ghost Value = { Tree };
+
+    ghost use Rattle.loop_bounds_whole.specs.TreeParts.{tree_of};
+
+    ghost view = { tree_of };
+}
+
+impl LoopTree {
+    /// For each number the index of its place among the graph's places; Exit, the last, has their number.
+    pub fn order(&self) -> &[usize]
+        ensures { result.now ≡ self.now.order }
+    {
+        &self.order
+    }
+
+    /// The graph's edges in its order, between numbers.
+    pub fn edges(&self) -> &[NumberedEdge]
+        ensures { result.now ≡ self.now.edges }
+    {
+        &self.edges
+    }
+
+    /// The instances' spans, the inner ones before the outer ones.
+    pub fn spans(&self) -> &[Span]
+        ensures { result.now ≡ self.now.spans }
+    {
+        &self.spans
+    }
+}
+
+// The instances in the order of their spans, with these.
+fn in_closing_order(
+    alloc: Global,
+    found: &[Found],
+    closing: &[(Span, usize)],
+) -> Result<(Vec<Found>, Vec<Span>), AllocError>
+    requires { All (λ x. x.1 < length found.now) closing.now }
+    ensures { IfOk result (λ parts. AreParted found.now closing.now parts.0.items parts.1.items (length closing.now)) }
+{
+    let mut instances = Vec::with_capacity(alloc, closing.len())?;
+    let mut spans = Vec::with_capacity(alloc, closing.len())?;
+    for (span, instance) in closing {
+        instances.push(found[*instance])?;
+        spans.push(*span)?;
+    }
+    Ok((instances, spans))
+}
+
+// The tree of what was found.
+fn laid_out(
+    alloc: Global,
+    graph: &Graph,
+    ground: &Ground,
+    nesting: &Nesting,
+) -> Result<LoopTree, AllocError>
+    requires ground { (loops : List Loop) × IsGround graph.now loops ground.now }
+    requires nesting { IsNesting (length graph.now.places) ground.now.edges.items ground.now.entry ground.now.extents.items nesting.now }
+    ensures tree { IfOk result (IsTree graph.now) }
+    ensures instances { IfOk result (λ tree. (i : Instance) → Contains tree.instances i ↔ Contains (map found_instance ground.now.found.items) i) }
+{
+    let places = graph.places();
+    let exit = places.len();
+    let order = order(
+        alloc,
+        &ground.extents,
+        &nesting.parents,
+        &nesting.chains,
+        &nesting.ranks,
+        exit,
+    )?;
+    let numbers = numbers(alloc, &order)?;
+    let closing = spans(alloc, &ground.extents, &ground.found, &numbers)?;
+    let (instances, spans) = in_closing_order(alloc, &ground.found, &closing)?;
+    Ok(LoopTree {
+        instances,
+        spans,
+        order: indexes(alloc, places, &ground.listed, &order)?,
+        edges: renumbered(alloc, &ground.edges, &numbers)?,
+    })
+}
+
+// Why loops of which two have one header are refused.
+fn shared_fault(
+    alloc: Global,
+    graph: &Graph,
+    listed: &[Place],
+    loops: &[Loop],
+) -> Result<NestFault, AllocError>
+    requires listed { IsListed graph.now.places listed.now }
+    requires stated { All IsLoop loops.now }
+    requires shared { HasSharedHeader loops.now }
+    ensures { IfOk result (IsNestFault graph.now loops.now) }
+{
+    if have_crossing(alloc, graph, listed, loops)? {
+        Ok(NestFault::LoopsCross)
+    } else {
+        Ok(NestFault::SharedHeader)
+    }
+}
+
+/// Reads the loops of a handler's graph, by its statement.
+///
+/// # Errors
+///
+/// Of `LoopsCross`, `SharedHeader`, `EntersMidLoop`, `UnboundedCycle` and `NestedTooDeep` the first that applies, and
+/// `Memory` where a growth was refused.
+pub fn nest(alloc: Global, graph: &Graph, statement: &Statement) -> Result<LoopTree, NestFault>
+    ensures instances { IfOk result (λ tree. (i : Instance) → Contains tree.instances i ↔ IsInstance graph.now statement.now.loops i) }
+    ensures tree { IfOk result (IsTree graph.now) }
+    ensures allowed { OnOk result ((fault : NestFault) → fault ≢ NestFault.Memory → Applies graph.now statement.now.loops fault → ⊥) }
+    ensures fault { IfErr result (IsNestFault graph.now statement.now.loops) }
+{
+    let places = graph.places();
+    let loops = statement.loops();
+    let listed = listed(alloc, places)?;
+    let sorted = by_header(alloc, loops)?;
+    if shares_header(alloc, loops)? {
+        return Err(shared_fault(alloc, graph, &listed, loops)?);
+    }
+    let ground = lay_ground(alloc, graph, listed, &sorted, loops)?;
+    let nesting = nest_extents(
+        alloc,
+        &ground.extents,
+        &ground.edges,
+        ground.entry,
+        places.len(),
+    )?;
+    Ok(laid_out(alloc, graph, &ground, &nesting)?)
+}

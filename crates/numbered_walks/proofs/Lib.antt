@@ -1,0 +1,14 @@
+pub mod Members
+pub mod Reaching
+pub mod Overflow
+pub mod Nesting
+pub mod WalkOf
+pub mod PassLemmas
+pub mod Passing
+pub mod Finishing
+pub mod LeastNumbers
+pub mod Grouping
+pub mod Holding
+pub mod Heading
+pub mod Tracing
+pub mod Paths

@@ -1,0 +1,5 @@
+pub mod Ordered
+pub mod Tables
+pub mod Index
+pub mod Found
+pub mod Reach

@@ -1,0 +1,38 @@
+use std::alloc::{AllocError, AllocFailed};
+use thiserror::Error;
+
+/// Why there is no greatest walk.
+#[derive(Clone, Copy, Debug, PartialEq, Eq, Error)]
+pub enum WalkFault {
+    /// A growth was refused.
+    #[error("Memory")]
+    Memory,
+    /// No walk from the entry leaves the handler.
+    #[error("NoCompleteWalk")]
+    NoCompleteWalk,
+    /// Some walk from the entry that keeps the bounds costs 2^63 ticks or more.
+    #[error("BoundTooLarge")]
+    BoundTooLarge,
+}
+
+impl From<AllocError> for WalkFault {
+    ghost use Rattle.std.specs.Prelude.{◌≡◌};
+    ghost use Rattle.numbered_walks.specs.declared.fault.WalkFault.TheVariants.{Memory};
+
+    ghost from_gives = { λ _ fault. fault ≡ Memory };
+
+    fn from(_: AllocError) -> WalkFault {
+        WalkFault::Memory
+    }
+}
+
+impl<T: Drop> From<AllocFailed<T>> for WalkFault {
+    ghost use Rattle.std.specs.Prelude.{◌≡◌};
+    ghost use Rattle.numbered_walks.specs.declared.fault.WalkFault.TheVariants.{Memory};
+
+    ghost from_gives = { λ _ fault. fault ≡ Memory };
+
+    fn from(_: AllocFailed<T>) -> WalkFault {
+        WalkFault::Memory
+    }
+}

@@ -1,0 +1,76 @@
+ghost use Rattle.std.specs.Prelude.{◌≡◌, ◌^◌, ◌<◌, ◌≤◌, MatchOption, All, length};
+ghost use Rattle.numbered_walks.specs.Ordered.{is_in};
+ghost use Rattle.numbered_walks.specs.Index.{AreHolders, edge_at, edges_of};
+ghost use Rattle.numbered_walks.specs.Tables.{IsHeaviest, IsNotFit, needed, stay_of};
+
+use crate::span::{NumberedEdge, Span};
+use crate::tables::{Tables, arrival, distance, round};
+
+// Whether the number is that of a member.
+fn holds(span: &Span, number: usize) -> bool
+    ensures { result ≡ is_in span.now number }
+{
+    span.header <= number && number <= span.last
+}
+
+// What a whole stay costs, if it is below 2^64.
+fn stay(tables: &Tables, span: &Span) -> Option<u64>
+    ensures { MatchOption result (2 ^ 64 ≤ stay_of tables.now span.now) (λ n. n ≡ stay_of tables.now span.now) }
+{
+    u64::from(span.bound)
+        .checked_mul(round(tables, span))?
+        .checked_add(arrival(tables, span))
+}
+
+// What the edge's row asks for with these spans, if it is below 2^64.
+fn needed_with(spans: &[Span], tables: &Tables, edge: &NumberedEdge) -> Option<u64>
+    ensures { MatchOption result (2 ^ 64 ≤ needed spans.now tables.now edge.now) (λ n. n ≡ needed spans.now tables.now edge.now) }
+{
+    let mut sum = 0u64;
+    for span in spans {
+        if holds(span, edge.from) && !holds(span, edge.to) {
+            sum = sum.checked_add(stay(tables, span)?)?;
+        }
+    }
+    distance(tables, edge.from)
+        .checked_add(sum)?
+        .checked_add(u64::from(edge.cost))
+}
+
+/// What the edge's row asks for, in ticks, by the spans that hold its beginning alone; `None` from 2^64 on.
+pub fn needed_in(
+    spans: &[Span],
+    holders: &[Vec<Span>],
+    tables: &Tables,
+    edge: &NumberedEdge,
+) -> Option<u64>
+    requires known { edge.now.from < length holders.now }
+    requires held { AreHolders spans.now holders.now }
+    ensures { MatchOption result (2 ^ 64 ≤ needed spans.now tables.now edge.now) (λ n. n ≡ needed spans.now tables.now edge.now) }
+{
+    let _all = spans;
+    needed_with(&holders[edge.from], tables, edge)
+}
+
+/// The most that one of the group's edges needs, in ticks, if each needs less than 2^63.
+pub(crate) fn heaviest(
+    spans: &[Span],
+    holders: &[Vec<Span>],
+    tables: &Tables,
+    edges: &[NumberedEdge],
+    group: &[usize],
+) -> Option<u64>
+    requires known { All (λ k. (k < length edges.now) × ((edge_at edges.now k).from < length holders.now)) group.now }
+    requires held { AreHolders spans.now holders.now }
+    ensures { MatchOption result (IsNotFit spans.now tables.now (edges_of edges.now group.now)) (IsHeaviest spans.now tables.now (edges_of edges.now group.now)) }
+{
+    let mut best = 0u64;
+    for number in group {
+        let needed = needed_in(spans, holders, tables, &edges[*number])?;
+        if needed >= 1 << 63 {
+            return None;
+        }
+        best = best.max(needed);
+    }
+    Some(best)
+}

@@ -1,0 +1,4 @@
+pub mod KeyLemmas
+pub mod DistinctLemmas
+pub mod ReadingLemmas
+pub mod Unique

@@ -1,0 +1,15 @@
+-- A statement as it is stored (our own).
+use Rattle.statement.specs.declared.stated.Statement.TheInside.{Inside}
+use Rattle.statement.specs.Stated.{Stated, IsStated}
+
+abbrev pub stated_of : Inside → Stated
+stated_of statement = record {
+  entry = statement.entry;
+  leave = statement.leave;
+  loops = statement.loops.items;
+  targets = statement.targets.entries;
+  accesses = statement.accesses.entries;
+}
+
+abbrev pub IsStatement : Inside → Type 0
+IsStatement statement = IsStated (stated_of statement)

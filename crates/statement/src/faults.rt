@@ -1,0 +1,40 @@
+use std::alloc::AllocError;
+use thiserror::Error;
+
+/// Why a text is no statement. Of several faults over the whole text the first of these is answered.
+#[derive(Clone, Copy, Debug, PartialEq, Eq, Drop, Error)]
+pub enum StatementFault {
+    /// A growth was refused.
+    #[error("Memory")]
+    Memory,
+    /// The bytes are not UTF-8 or no TOML document.
+    #[error("NotToml")]
+    NotToml,
+    /// The statement, or a table of its lists, has a key that it may not have.
+    #[error("UnknownKey")]
+    UnknownKey,
+    /// A key is missing, a value has another type or is another word than its key takes, or `to` is empty or misplaced.
+    #[error("WrongKind")]
+    WrongKind,
+    /// A text in place of an address names no label.
+    #[error("UnknownLabel")]
+    UnknownLabel,
+    /// An address is no multiple of 4 or not from 0 to 3FFFFFC, a bound is not from 0 to 1,048,576, a header lies outside
+    /// first to last, or there are more than 256 loops, 1,024 targets, 64 destinations or 4,096 accesses.
+    #[error("OutOfRange")]
+    OutOfRange,
+    /// Two targets or two accesses are stated for one address, or a destination twice.
+    #[error("Twice")]
+    Twice,
+}
+
+impl From<AllocError> for StatementFault {
+    ghost use Rattle.std.specs.Prelude.{◌≡◌};
+    ghost use Rattle.statement.specs.declared.faults.StatementFault.TheVariants.{Memory};
+
+    ghost from_gives = { λ _ fault. fault ≡ Memory };
+
+    fn from(_refused: AllocError) -> StatementFault {
+        StatementFault::Memory
+    }
+}

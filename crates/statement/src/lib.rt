@@ -1,0 +1,17 @@
+//! What an author states of a handler, read from TOML: the entry, the class of the addresses to which it leaves, the
+//! loops, the targets of words that write R15, and the classes of transfers.
+#![tactic(auto)]
+
+mod distinct;
+mod entries;
+mod faults;
+mod keys;
+mod reading;
+mod readings;
+mod stated;
+#[cfg(test)]
+mod tests;
+
+pub use faults::StatementFault;
+pub use reading::read_statement;
+pub use stated::{Loop, Statement, Target, TargetKind};

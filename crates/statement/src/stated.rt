@@ -1,0 +1,133 @@
+ghost use Rattle.std.specs.Prelude.{◌≡◌, ◌<◌, ◌≤◌, ◌^◌, length, map, All, option_map};
+ghost use Rattle.statement.specs.Stated.{IsLoop, IsStated, class_of, target_of};
+
+use bus_ticks::Class;
+use indexmap::IndexMap;
+use std::marker::Model;
+
+/// A loop that an author states: the addresses of its header and of its first and last instruction, and the most
+/// back edges that one stay takes.
+#[derive(Clone, Copy, Debug, PartialEq, Eq)]
+pub struct Loop {
+    pub header: u32,
+    pub first: u32,
+    pub last: u32,
+    pub bound: u32,
+}
+
+/// What a word that writes R15 may be stated to do.
+#[derive(Clone, Copy)]
+pub enum TargetKind {
+    /// It goes on at one of the destinations, inside the same calls.
+    Jump,
+    /// It calls one of the destinations.
+    Call,
+    /// It goes past the last call, or out of the handler where there is none.
+    Return,
+    /// It leaves the handler.
+    Leave,
+}
+
+/// What a word that writes R15 is stated to do. A return and a leave have no destinations.
+#[derive(Drop)]
+pub struct Target {
+    pub(crate) kind: TargetKind,
+    pub(crate) to: Vec<u32>,
+}
+
+impl Model for Target {
+    ghost use Rattle.std.specs.Prelude.{◌<◌, ◌^◌, All};
+    ghost use Rattle.statement.specs.Stated.{Target};
+
+    ghost Value = { Target };
+
+    ghost view = { λ target. record { kind = target.kind; to = target.to.items } };
+
+    ghost invariant = { λ target. All (λ a. a < 2 ^ 26) target.to.items };
+}
+
+impl Target {
+    /// What the word does.
+    pub fn kind(&self) -> TargetKind
+        ensures { result ≡ self.now.kind }
+    {
+        self.kind
+    }
+
+    /// The addresses to which a jump or a call goes, in the text's order.
+    pub fn to(&self) -> &[u32]
+        ensures value { result.now ≡ self.now.to }
+        ensures small { All (λ a. a < 2 ^ 26) self.now.to }
+    {
+        &self.to
+    }
+}
+
+/// What an author states of a handler.
+#[derive(Drop)]
+pub struct Statement {
+    pub(crate) entry: u32,
+    pub(crate) leave: Class,
+    pub(crate) loops: Vec<Loop>,
+    pub(crate) targets: IndexMap<u32, Target>,
+    pub(crate) accesses: IndexMap<u32, Class>,
+}
+
+impl Model for Statement {
+    ghost use Rattle.statement.specs.Stated.{Stated};
+
+    ghost Value = { Stated };
+
+    ghost use Rattle.statement.specs.StatementParts.{IsStatement, stated_of};
+
+    ghost view = { stated_of };
+
+    ghost invariant = { IsStatement };
+}
+
+impl Statement {
+    /// The address of the handler's first instruction.
+    pub fn entry(&self) -> u32
+        ensures value { result ≡ self.now.entry }
+        ensures is_stated { IsStated self.now }
+    {
+        self.entry
+    }
+
+    /// The class of the addresses to which the handler leaves.
+    pub fn leave(&self) -> Class
+        ensures { result ≡ self.now.leave }
+    {
+        self.leave
+    }
+
+    /// The loops, in the order of the text.
+    pub fn loops(&self) -> &[Loop]
+        ensures value { result.now ≡ self.now.loops }
+        ensures within { All IsLoop result.now }
+        ensures few { length result.now ≤ 256 }
+    {
+        &self.loops
+    }
+
+    /// The target that is stated for the word at an address.
+    pub fn target_at(&self, address: u32) -> Option<&Target>
+        ensures value { option_map (λ target. target.now) result ≡ target_of self.now address }
+    {
+        self.targets.get(&address)
+    }
+
+    /// The targets by the addresses of their words, in the order of the text.
+    pub fn targets(&self) -> &IndexMap<u32, Target>
+        ensures { result.now.entries ≡ self.now.targets }
+    {
+        &self.targets
+    }
+
+    /// The class that is stated for what the word at an address transfers: any where none is stated.
+    pub fn class_at(&self, address: u32) -> Class
+        ensures { result ≡ class_of self.now address }
+    {
+        self.accesses.get(&address).copied().unwrap_or(Class::Any)
+    }
+}
