@@ -1,9 +1,10 @@
 -- The search finds exactly the reached places, or says why not.
-use Rattle.std.proofs.Common.{◌≡◌, ℕ, ◌+◌, ◌<◌, ◌≤◌, Bool, true, false, cond, List, [], ◌∷◌, ◌++◌, length, get_or, ◌⊎◌, inl, inr, ⊎_elim, refl, sym, ap, ◌∙◌, subst, arith, length-append}
+use Rattle.std.proofs.Common.{◌≡◌, ℕ, ◌+◌, ◌<◌, ◌≤◌, Bool, true, false, cond, ltb, Option, List, [], ◌∷◌, ◌++◌, length, get_or, ◌⊎◌, inl, inr, ⊎_elim, refl, sym, ap, ◌∙◌, subst, arith, length-append}
 use Rattle.std.specs.Prelude.{Contains, Some, None}
 use Rattle.std.specs.BTreeSet.{BTreeSet}
 use Rattle.std.specs.List.{AllZip}
 use Rattle.std.specs.List.Sorted.{IsStrictlySortedBy}
+use Rattle.std.proofs.lemmas.Bool.{ltb-false, le-ltb}
 use Rattle.std.proofs.lemmas.List.{get_or_append_left, get_or_read}
 use Rattle.std.proofs.lemmas.List.Elements.{Contains-append_left, Contains-push, Contains-push_cases}
 use Rattle.std.proofs.lemmas.Map.Views.{btree_set_contains_iff}
@@ -12,19 +13,21 @@ use Rattle.loader.specs.Image.{Words}
 use Rattle.walks.specs.Walk.{Leads}
 use Rattle.flow_graph.specs.Edges.{AreEdgesOf, HasAction, IsEdge}
 use Rattle.flow_graph.specs.Flow.{edge_shape}
-use Rattle.flow_graph.specs.Graph.{ArePlaces, IsBuildFault, IsCrowd, IsFlowGraph, IsReached, IsReachedAddress, MayDo, start_of}
+use Rattle.flow_graph.specs.Graph.{ArePlaces, IsBuildFault, IsCrowd, IsFlowGraph, IsReached, IsStray, MayDo, is_call, makes_call, start_of, states_call}
 use Rattle.flow_graph.specs.Kinds.{is_never}
 use Rattle.flow_graph.specs.Places.{place_cmp}
-use Rattle.flow_graph.specs.Search.{AddsEdges, AreInTurn, EndsOne, Grows, IsAllowed, IsCrowded, IsCrowdedBy, IsDone, IsEdgeFault, IsFound, IsIn, IsPlaceFault, IsSearch, IsSound, IsTurnFault, IsVisited, IsVisitFault, action_fault, kind_fault}
-use Rattle.flow_graph.specs.Stated.{Stated}
+use Rattle.flow_graph.specs.Search.{AddsEdges, AreInTurn, EndsOne, Grows, IsAllowed, IsCrowded, IsCrowdedBy, IsDone, IsEdgeFault, IsFound, IsIn, IsPlaceFault, IsSearch, IsSound, IsTurnFault, IsVisited, IsVisitFault, action_fault, call_fault, kind_fault, stated_fault, writer_fault}
+use Rattle.statement.specs.Stated.{Stated, Target, target_of}
 use Rattle.flow_graph.specs.declared.edges.Edge.{Edge}
 use Rattle.flow_graph.specs.declared.faults.BuildFault.{BuildFault}
 use Rattle.flow_graph.specs.declared.faults.BuildFault.TheVariants as fault
 use Rattle.flow_graph.specs.declared.kinds.Action.{Action}
 use Rattle.flow_graph.specs.declared.kinds.Kind.{Kind}
-use Rattle.flow_graph.specs.declared.kinds.Kind.TheVariants.{Plain, Branch, Return, Unallocated, NotYet}
+use Rattle.flow_graph.specs.declared.kinds.Kind.TheVariants.{Plain, Branch, Call, Writer, Trap, Unallocated}
 use Rattle.flow_graph.specs.declared.places.Place.{Place}
 use Rattle.flow_graph.specs.declared.places.Place.TheVariants.{At, Exit}
+use Rattle.statement.specs.declared.stated.TargetKind.{TargetKind}
+use Rattle.statement.specs.declared.stated.TargetKind.TheVariants as stated
 use Rattle.flow_graph.proofs.EdgeLemmas.{among_edges, is_edge, leaves, no_edge_at_exit, one_action_at}
 use Rattle.flow_graph.proofs.GrowLemmas.{wider}
 use Rattle.flow_graph.proofs.PlaceLemmas.{by_order_total, by_order_exact, place_total}
@@ -37,7 +40,7 @@ module _ (words : Words) (st : Stated) (profile : Profile) where
   added : (before after now : List Edge) (place : Place) → before ≡ [] → now ≡ after → (adds : AddsEdges words st profile place before after) → now ≡ adds.edges
   added before after now place none same adds = same ∙ adds.is ∙ ap (λ xs. xs ++ adds.edges) none
 
-  pub visited : (old new : List Place) (before after now : List Edge) (place : Place) → before ≡ [] → now ≡ after → AddsEdges words st profile place before after → IsSound words place → Grows old now new → IsVisited words st profile old place new
+  pub visited : (old new : List Place) (before after now : List Edge) (place : Place) → before ≡ [] → now ≡ after → AddsEdges words st profile place before after → IsSound words st place → Grows old now new → IsVisited words st profile old place new
   visited old new before after now place none same adds sound grows = record {
     sound = sound;
     edges = adds.edges;
@@ -116,30 +119,63 @@ module _ (words : Words) (st : Stated) (profile : Profile) where
 
   -- ## Refusals
 
-  action_refused : (address : ℕ) (f : BuildFault) (k : Kind) (never : Bool) → IsReachedAddress words st profile address → (a : Action) → HasAction words address a → a.kind ≡ k → is_never a.cond ≡ never → cond never None (kind_fault address k) ≡ Some f → IsBuildFault words st profile f
-  action_refused address f k true r a has is never h = cc
-  action_refused address f Plain false r a has is never h = cc
-  action_refused address f (Branch offset) false r a has is never h = cc
-  action_refused address f Return false r a has is never h = cc
-  action_refused address f Unallocated false r a has is never h =
-      let e : fault.UnallocatedWord address ≡ f = cc in
-      subst (IsBuildFault words st profile) e (r, (a, has, is, never))
-  action_refused address f NotYet false r a has is never h =
-      let e : fault.NotYet address ≡ f = cc in
-      subst (IsBuildFault words st profile) e (r, (a, has, is, never))
+  -- a call that is refused is made from a place with eight calls
+  deep_call : (calls : List ℕ) (f : BuildFault) (b : Bool) → ltb (length calls) 8 ≡ b → cond b None (Some fault.TooDeep) ≡ Some f → (fault.TooDeep ≡ f) × (8 ≤ length calls)
+  deep_call calls f true e h = cc
+  deep_call calls f false e h = (cc, ltb-false (length calls) 8 e)
 
-  place_refused : (p : Place) (f : BuildFault) → IsReached words st profile p → IsPlaceFault words p f → IsBuildFault words st profile f
+  stated_calls : (calls : List ℕ) (k : TargetKind) (f : BuildFault) → stated_fault calls k ≡ Some f → (call_fault calls ≡ Some f) × (is_call k ≡ true)
+  stated_calls calls stated.Jump f h = cc
+  stated_calls calls stated.Call f h = (h, refl)
+  stated_calls calls stated.Return f h = cc
+  stated_calls calls stated.Leave f h = cc
+
+  writer_calls : (calls : List ℕ) (t : Option Target) (f : BuildFault) → writer_fault calls t ≡ Some f → (call_fault calls ≡ Some f) × (states_call t ≡ true)
+  writer_calls calls None f h = cc
+  writer_calls calls (Some t) f h = stated_calls calls t.kind f h
+
+  too_deep : (calls : List ℕ) (address : ℕ) (f : BuildFault) → IsReached words st profile (At calls address) → (a : Action) → HasAction words address a → is_never a.cond ≡ false → makes_call a.kind (target_of st address) ≡ true → call_fault calls ≡ Some f → IsBuildFault words st profile f
+  too_deep calls address f r a has may call h =
+      let d = deep_call calls f (ltb (length calls) 8) refl h in
+      subst (IsBuildFault words st profile) d.0 (record {
+        calls = calls;
+        address = address;
+        reached = r;
+        full = d.1;
+        action = a;
+        has = has;
+        is_call = call;
+        may = may;
+      })
+
+  action_refused : (calls : List ℕ) (address : ℕ) (f : BuildFault) (k : Kind) (never : Bool) → IsReached words st profile (At calls address) → (a : Action) → HasAction words address a → a.kind ≡ k → is_never a.cond ≡ never → cond never None (kind_fault st calls address k) ≡ Some f → IsBuildFault words st profile f
+  action_refused calls address f k true r a has is never h = cc
+  action_refused calls address f Plain false r a has is never h = cc
+  action_refused calls address f (Branch offset) false r a has is never h = cc
+  action_refused calls address f (Call offset) false r a has is never h =
+      too_deep calls address f r a has never (subst (λ x. makes_call x (target_of st address) ≡ true) (sym is) refl) h
+  action_refused calls address f Writer false r a has is never h =
+      let w = writer_calls calls (target_of st address) f h in
+      too_deep calls address f r a has never (subst (λ x. makes_call x (target_of st address) ≡ true) (sym is) w.1) w.0
+  action_refused calls address f Trap false r a has is never h =
+      let e : fault.TrapInHandler address ≡ f = cc in
+      subst (IsBuildFault words st profile) e ((calls, r), (a, has, is, never))
+  action_refused calls address f Unallocated false r a has is never h =
+      let e : fault.UnallocatedWord address ≡ f = cc in
+      subst (IsBuildFault words st profile) e ((calls, r), (a, has, is, never))
+
+  place_refused : (p : Place) (f : BuildFault) → IsReached words st profile p → IsPlaceFault words st p f → IsBuildFault words st profile f
   place_refused (At calls address) f r h =
       ⊎_elim
       (λ out. subst (IsBuildFault words st profile) (sym out.1) ((calls, r), out.0))
-      (λ act. action_refused address f (act.0).kind (is_never (act.0).cond) (calls, r) act.0 act.1 refl refl act.2)
+      (λ act. action_refused calls address f (act.0).kind (is_never (act.0).cond) r act.0 act.1 refl refl act.2)
       h
   place_refused Exit f r h = absurd h
 
   pub memory_refused : (f : BuildFault) → f ≡ fault.Memory → IsBuildFault words st profile f
   memory_refused f e = subst (IsBuildFault words st profile) (sym e) tt
 
-  edge_refused : (p : Place) (f : BuildFault) → IsReached words st profile p → IsEdgeFault words p f → IsBuildFault words st profile f
+  edge_refused : (p : Place) (f : BuildFault) → IsReached words st profile p → IsEdgeFault words st p f → IsBuildFault words st profile f
   edge_refused p f r h = ⊎_elim (λ e. memory_refused f e) (λ why. place_refused p f r why) h
 
   -- a crowd of places, each found or where an edge of a reached place ends
@@ -209,36 +245,60 @@ module _ (words : Words) (st : Stated) (profile : Profile) where
 
   -- ## No reason to refuse
 
-  kind_allowed : (address : ℕ) (k : Kind) (f : BuildFault) (a b : Action) → kind_fault address k ≡ Some f → HasAction words address a → a.kind ≡ k → is_never a.cond ≡ false → HasAction words address b → action_fault address b ≡ None → ⊥
-  kind_allowed address k f a b some has is never sound none =
+  kind_allowed : (calls : List ℕ) (address : ℕ) (k : Kind) (f : BuildFault) (a b : Action) → kind_fault st calls address k ≡ Some f → HasAction words address a → a.kind ≡ k → is_never a.cond ≡ false → HasAction words address b → action_fault st calls address b ≡ None → ⊥
+  kind_allowed calls address k f a b some has is never sound none =
       let same : b ≡ a = one_action_at words address b a sound has in
-      let at_a : cond (is_never a.cond) None (kind_fault address a.kind) ≡ None = subst (λ x. action_fault address x ≡ None) same none in
-      let at_k : kind_fault address k ≡ None = rw (never, is) at at_a in
+      let at_a : cond (is_never a.cond) None (kind_fault st calls address a.kind) ≡ None = subst (λ x. action_fault st calls address x ≡ None) same none in
+      let at_k : kind_fault st calls address k ≡ None = rw (never, is) at at_a in
       let both : Some f ≡ None = sym some ∙ at_k in
       cc
 
-  may_do_allowed : (places : List Place) (address : ℕ) (k : Kind) (f : BuildFault) → ArePlaces words st profile places → IsAllowed words st profile places → kind_fault address k ≡ Some f → IsReachedAddress words st profile address → MayDo words st profile address k → ⊥
-  may_do_allowed places address k f are allowed some r may =
-      let here : Contains places (At r.0 address) = (are (At r.0 address)).1 (r.1, λ e. cc) in
-      let sound = allowed.sound (At r.0 address) here in
-      kind_allowed address k f may.0 sound.0 some may.1 may.2 may.3 sound.1 sound.2
+  at_allowed : (places : List Place) (calls : List ℕ) (address : ℕ) (k : Kind) (f : BuildFault) → ArePlaces words st profile places → IsAllowed words st profile places → kind_fault st calls address k ≡ Some f → IsReached words st profile (At calls address) → MayDo words st profile address k → ⊥
+  at_allowed places calls address k f are allowed some r may =
+      let here : Contains places (At calls address) = (are (At calls address)).1 (r, λ e. cc) in
+      let sound = allowed.sound (At calls address) here in
+      kind_allowed calls address k f may.0 sound.0 some may.1 may.2 may.3 sound.1 sound.2
 
-  pub none_refused : (places : List Place) → IsStrictlySortedBy place_cmp places → ArePlaces words st profile places → IsAllowed words st profile places → (f : BuildFault) → (f ≡ fault.Memory → ⊥) → IsBuildFault words st profile f → ⊥
-  none_refused places ordered are allowed fault.Memory other h = other refl
-  none_refused places ordered are allowed (fault.OutsideImage address) other h =
+  deep_fault : (calls : List ℕ) → 8 ≤ length calls → call_fault calls ≡ Some fault.TooDeep
+  deep_fault calls full = ap (λ b. cond b None (Some fault.TooDeep)) (le-ltb (length calls) 8 full)
+
+  stated_deep : (calls : List ℕ) (k : TargetKind) → is_call k ≡ true → 8 ≤ length calls → stated_fault calls k ≡ Some fault.TooDeep
+  stated_deep calls stated.Jump call full = cc
+  stated_deep calls stated.Call call full = deep_fault calls full
+  stated_deep calls stated.Return call full = cc
+  stated_deep calls stated.Leave call full = cc
+
+  writer_deep : (calls : List ℕ) (t : Option Target) → states_call t ≡ true → 8 ≤ length calls → writer_fault calls t ≡ Some fault.TooDeep
+  writer_deep calls None call full = cc
+  writer_deep calls (Some t) call full = stated_deep calls t.kind call full
+
+  kind_deep : (calls : List ℕ) (address : ℕ) (k : Kind) → makes_call k (target_of st address) ≡ true → 8 ≤ length calls → kind_fault st calls address k ≡ Some fault.TooDeep
+  kind_deep calls address Plain call full = cc
+  kind_deep calls address (Branch offset) call full = cc
+  kind_deep calls address (Call offset) call full = deep_fault calls full
+  kind_deep calls address Writer call full = writer_deep calls (target_of st address) call full
+  kind_deep calls address Trap call full = cc
+  kind_deep calls address Unallocated call full = cc
+
+  pub none_refused : (places : List Place) → IsStrictlySortedBy place_cmp places → ArePlaces words st profile places → IsAllowed words st profile places → ((address : ℕ) → IsStray words st address → ⊥) → (f : BuildFault) → (f ≡ fault.Memory → ⊥) → IsBuildFault words st profile f → ⊥
+  none_refused places ordered are allowed strays fault.Memory other h = other refl
+  none_refused places ordered are allowed strays (fault.OutsideImage address) other h =
       let calls : List ℕ = (h.0).0 in
       let here : Contains places (At calls address) = (are (At calls address)).1 ((h.0).1, λ e. cc) in
       let has = (allowed.sound (At calls address) here).1 in
       let both : Some has.word ≡ None = sym has.stands ∙ h.1 in
       cc
-  none_refused places ordered are allowed (fault.UnallocatedWord address) other h = may_do_allowed places address Unallocated (fault.UnallocatedWord address) are allowed refl h.0 h.1
-  none_refused places ordered are allowed fault.TooManyPlaces other h =
+  none_refused places ordered are allowed strays (fault.UnallocatedWord address) other h = at_allowed places (h.0).0 address Unallocated (fault.UnallocatedWord address) are allowed refl (h.0).1 h.1
+  none_refused places ordered are allowed strays (fault.TrapInHandler address) other h = at_allowed places (h.0).0 address Trap (fault.TrapInHandler address) are allowed refl (h.0).1 h.1
+  none_refused places ordered are allowed strays fault.TooDeep other h =
+      at_allowed places h.calls h.address (h.action).kind fault.TooDeep are allowed (kind_deep h.calls h.address (h.action).kind h.is_call h.full) h.reached (h.action, h.has, refl, h.may)
+  none_refused places ordered are allowed strays fault.TooManyPlaces other h =
       let within : length h.places ≤ length places = length_within place_total h.places places h.ordered ordered
       (λ p w. (are p).1 (h.reached p w, λ e. h.no_exit (subst (Contains h.places) e w))) in
       absurd (omega (arith, h.many, allowed.few))
-  none_refused places ordered are allowed (fault.NotYet address) other h = may_do_allowed places address NotYet (fault.NotYet address) are allowed refl h.0 h.1
+  none_refused places ordered are allowed strays (fault.TargetNotWriter address) other h = strays address h
 
-  pub turn_refused : (seen places : List Place) (f : BuildFault) → places ≡ seen → ArePlaces words st profile seen → IsTurnFault words places f → IsBuildFault words st profile f
+  pub turn_refused : (seen places : List Place) (f : BuildFault) → places ≡ seen → ArePlaces words st profile seen → IsTurnFault words st places f → IsBuildFault words st profile f
   turn_refused seen places f same are h =
       ⊎_elim
       (λ e. memory_refused f e)

@@ -1,24 +1,36 @@
 -- A place has one list of edges; they leave the place, and their costs fit.
-use Rattle.std.proofs.Common.{◌≡◌, ℕ, ◌+◌, ◌%◌, ◌<◌, Bool, true, false, cond, List, [], ◌∷◌, map, ⊎_elim, refl, sym, ap, ◌∙◌, subst, arith, eqb}
-use Rattle.std.specs.Prelude.{Contains, All, Some}
-use Rattle.std.proofs.lemmas.List.Elements.{All-nil, All-cons, All-append, All-contains}
+use Rattle.std.proofs.Common.{◌≡◌, ℕ, ◌+◌, ◌-◌, ◌*◌, ◌%◌, ◌^◌, ◌<◌, ◌≤◌, Bool, true, false, cond, List, [], ◌∷◌, ◌++◌, length, get_or, take, map, Option, Some, None, IfSome, nat_eq, ⊎_elim, refl, sym, ap, ◌∙◌, subst, arith, eqb, ltb, length-append}
+use Rattle.std.specs.Prelude.{Contains, All}
+use Rattle.std.proofs.lemmas.List.{length-take-le}
+use Rattle.std.proofs.lemmas.List.Elements.{All-nil, All-cons, All-head, All-tail, All-append, All-contains, All-take, All-map, All-push, All-weaker}
+use Rattle.std.proofs.lemmas.Map.Entries.{All-lookup}
+use Rattle.std.proofs.lemmas.Bool.{ltb-true}
+use Rattle.std.proofs.lemmas.Nat.{mul-le}
 use Rattle.arm2_decode.proofs.Unique.{one_instr, never_both, one_unallocated}
+use Rattle.bus_ticks.proofs.WorstLemmas.{worst_block_small}
 use Rattle.bus_ticks.specs.Prices.{by_class, class_at}
-use Rattle.bus_ticks.specs.Worst.{worst_n_price, worst_s_price, worst_rom, worst_leave_of}
+use Rattle.bus_ticks.specs.Ranges.{IsPrice}
+use Rattle.bus_ticks.specs.Worst.{worst_block, worst_n_price, worst_s_price, worst_rom, worst_leave_of}
 use Rattle.bus_ticks.specs.declared.profile.Class.{Class}
 use Rattle.bus_ticks.specs.declared.profile.Class.TheVariants.{Any, Ram, Rom, Io}
 use Rattle.bus_ticks.specs.declared.profile.Profile.{Profile}
 use Rattle.loader.specs.Image.{Words}
-use Rattle.flow_graph.specs.Edges.{AreEdgesOf, HasAction, IsEdge, do_edge, doing, dos, jumping, landings, returning, skip_edge, skips, word_edges, wrapped}
-use Rattle.flow_graph.specs.Kinds.{IsAction, action, is_always, is_never, kind_of}
-use Rattle.flow_graph.specs.Stated.{Stated}
+use Rattle.flow_graph.specs.Edges.{AreEdgesOf, HasAction, IsEdge, arriving, calling, do_edge, done, dos, fetching, inside, jumping, landings, returning, skip_edge, skips, stated_landings, target, word_edges, working, wrapped, writer_landings}
+use Rattle.flow_graph.specs.Kinds.{IsAction, IsWork, instr_action, is_always, is_never, unallocated_action}
+use Rattle.flow_graph.specs.Places.{IsInRange}
+use Rattle.statement.specs.Stated.{IsStated, IsTarget, Stated, Target, class_of, target_of}
 use Rattle.flow_graph.specs.declared.edges.Edge.{Edge}
 use Rattle.flow_graph.specs.declared.kinds.Action.{Action}
 use Rattle.flow_graph.specs.declared.kinds.Kind.{Kind}
-use Rattle.flow_graph.specs.declared.kinds.Kind.TheVariants.{Plain, Branch, Return, Unallocated, NotYet}
+use Rattle.flow_graph.specs.declared.kinds.Kind.TheVariants.{Plain, Branch, Call, Writer, Trap, Unallocated}
+use Rattle.flow_graph.specs.declared.kinds.Work.{Work}
+use Rattle.flow_graph.specs.declared.kinds.Work.TheVariants.{Internal, Load, Store}
 use Rattle.flow_graph.specs.declared.places.Place.{Place}
 use Rattle.flow_graph.specs.declared.places.Place.TheVariants.{At, Exit}
+use Rattle.statement.specs.declared.stated.TargetKind.{TargetKind}
+use Rattle.statement.specs.declared.stated.TargetKind.TheVariants as stated
 use Rattle.flow_graph.proofs.SortedLemmas.{no_member}
+use Rattle.flow_graph.proofs.WorkLemmas.{action_fits}
 
 -- ## One list
 
@@ -26,12 +38,12 @@ pub one_action : (word : ℕ) (a b : Action) → IsAction word a → IsAction wo
 one_action word a b h k =
     ⊎_elim
     (λ m. ⊎_elim
-    (λ n. m.2 ∙ ap (λ i. action i.cond (kind_of i.operation)) (one_instr word m.0 n.0 m.1 n.1) ∙ sym n.2)
+    (λ n. m.2 ∙ ap instr_action (one_instr word m.0 n.0 m.1 n.1) ∙ sym n.2)
     (λ v. absurd (never_both word m.0 v.0 m.1 v.1))
     k)
     (λ u. ⊎_elim
     (λ n. absurd (never_both word n.0 u.0 n.1 u.1))
-    (λ v. u.2 ∙ ap (λ x. action x.cond Unallocated) (one_unallocated word u.0 v.0 u.1 v.1) ∙ sym v.2)
+    (λ v. u.2 ∙ ap unallocated_action (one_unallocated word u.0 v.0 u.1 v.1) ∙ sym v.2)
     k)
     h
 
@@ -43,99 +55,184 @@ one_action_at words address a b h k =
 
 pub one_list : (words : Words) (st : Stated) (profile : Profile) (p : Place) (edges others : List Edge) → AreEdgesOf words st profile p edges → AreEdgesOf words st profile p others → edges ≡ others
 one_list words st profile (At calls address) edges others h k =
-    h.2 ∙ ap (word_edges st.leave profile calls address) (one_action_at words address h.0 k.0 h.1 k.1) ∙ sym k.2
+    h.2 ∙ ap (word_edges st profile calls address) (one_action_at words address h.0 k.0 h.1 k.1) ∙ sym k.2
 one_list words st profile Exit edges others h k = h ∙ sym k
 
--- ## Prices are small
+-- ## Prices are small, and none is 0
 
-by_class_below : (c : Class) (a b d n : ℕ) → a < n → b < n → d < n → by_class c a b d < n
-by_class_below Ram a b d n h k l = h
-by_class_below Rom a b d n h k l = k
-by_class_below Io a b d n h k l = l
-by_class_below Any a b d n h k l = l
+by_class_all : (P : ℕ → Type 0) (c : Class) (a b d : ℕ) → P a → P b → P d → P (by_class c a b d)
+by_class_all P Ram a b d h k l = h
+by_class_all P Rom a b d h k l = k
+by_class_all P Io a b d h k l = l
+by_class_all P Any a b d h k l = l
 
-cond_below : (t : Bool) (a b n : ℕ) → a < n → b < n → cond t a b < n
-cond_below true a b n h k = h
-cond_below false a b n h k = k
+cond_all : {A : Type 0} (P : A → Type 0) (t : Bool) (a b : A) → P a → P b → P (cond t a b)
+cond_all P true a b h k = h
+cond_all P false a b h k = k
 
-rom_small : (p : Profile) → worst_rom p < 256
-rom_small p = omega (arith, p.rom_0_price, p.rom_1_price, p.rom_2_price, p.rom_3_price)
+rom_is_price : (p : Profile) → IsPrice (worst_rom p)
+rom_is_price p = (omega (arith, p.rom_0_price), omega (arith, p.rom_0_price, p.rom_1_price, p.rom_2_price, p.rom_3_price))
 
-n_small : (p : Profile) (x : ℕ) → worst_n_price p x < 256
-n_small p x = by_class_below (class_at x) p.n (worst_rom p) p.unfitted 256 p.n_price.1 (rom_small p) p.unfitted_price.1
+n_is_price : (p : Profile) (x : ℕ) → IsPrice (worst_n_price p x)
+n_is_price p x = by_class_all IsPrice (class_at x) p.n (worst_rom p) p.unfitted p.n_price (rom_is_price p) p.unfitted_price
 
-s_small : (p : Profile) (x : ℕ) → worst_s_price p x < 256
-s_small p x =
-    by_class_below
+s_is_price : (p : Profile) (x : ℕ) → IsPrice (worst_s_price p x)
+s_is_price p x =
+    by_class_all
+    IsPrice
     (class_at x)
     (cond (eqb (x % 16) 0) p.quad p.s)
     (worst_rom p)
     p.unfitted
-    256
-    (cond_below (eqb (x % 16) 0) p.quad p.s 256 p.quad_price.1 p.s_price.1)
-    (rom_small p)
-    p.unfitted_price.1
+    (cond_all IsPrice (eqb (x % 16) 0) p.quad p.s p.quad_price p.s_price)
+    (rom_is_price p)
+    p.unfitted_price
 
 leave_small : (p : Profile) (c : Class) → worst_leave_of p c < 512
 leave_small p Ram = omega (arith, p.n_price, p.quad_price, p.unfitted_price)
-leave_small p Rom = omega (arith, rom_small p, p.quad_price)
-leave_small p Io = omega (arith, rom_small p, p.unfitted_price)
-leave_small p Any = omega (arith, rom_small p, p.n_price, p.quad_price, p.unfitted_price)
+leave_small p Rom = omega (arith, rom_is_price p, p.quad_price)
+leave_small p Io = omega (arith, rom_is_price p, p.unfitted_price)
+leave_small p Any = omega (arith, rom_is_price p, p.n_price, p.quad_price, p.unfitted_price)
 
 jumping_small : (leave : Class) (p : Profile) (to : Place) → jumping leave p to < 512
-jumping_small leave p (At calls t) = omega (arith, n_small p t, s_small p (wrapped (t + 4)))
+jumping_small leave p (At calls t) = omega (arith, n_is_price p t, s_is_price p (wrapped (t + 4)))
 jumping_small leave p Exit = leave_small p leave
 
-doing_small : (leave : Class) (p : Profile) (k : Kind) (to : Place) → doing leave p k to < 512
-doing_small leave p Plain to = omega arith
-doing_small leave p (Branch offset) to = jumping_small leave p to
-doing_small leave p Return to = jumping_small leave p to
-doing_small leave p Unallocated to = omega arith
-doing_small leave p NotYet to = omega arith
+arriving_small : (leave : Class) (p : Profile) (k : Kind) (to : Place) → arriving leave p k to < 512
+arriving_small leave p Plain to = omega arith
+arriving_small leave p (Branch offset) to = jumping_small leave p to
+arriving_small leave p (Call offset) to = jumping_small leave p to
+arriving_small leave p Writer to = jumping_small leave p to
+arriving_small leave p Trap to = omega arith
+arriving_small leave p Unallocated to = omega arith
+
+fetching_is_price : (p : Profile) (address : ℕ) (w : Work) → IsPrice (fetching p address w)
+fetching_is_price p address (Internal cycles) = s_is_price p (wrapped (address + 8))
+fetching_is_price p address (Load words) = s_is_price p (wrapped (address + 8))
+fetching_is_price p address (Store words) = n_is_price p (wrapped (address + 8))
+
+working_small : (p : Profile) (c : Class) (w : Work) → IsWork w → working p c w < 4400
+working_small p c (Internal cycles) few = omega (arith, mul-le cycles p.internal 16 255 few (omega (arith, p.internal_price)))
+working_small p c (Load words) fits = omega (arith, worst_block_small p c words false (worst_block p c words false) fits.0 fits.1 refl, fits.1, p.internal_price)
+working_small p c (Store words) fits = omega (arith, worst_block_small p c words true (worst_block p c words true) fits.0 fits.1 refl, fits.1)
+
+-- ## Places are in range
+
+abbrev pub IsSmall : Place → Type 0
+IsSmall (At calls address) = IsInRange calls address
+IsSmall Exit = Unit {0}
+
+wrapped_in_range : (calls : List ℕ) (address n : ℕ) → IsInRange calls address → IsInRange calls (wrapped n)
+wrapped_in_range calls address n h = (omega arith, h.1, h.2)
+
+returning_in_range : (calls : List ℕ) (address : ℕ) → IsInRange calls address → IsSmall (returning calls)
+returning_in_range calls address h =
+    cond_all
+    IsSmall
+    (eqb (length calls) 0)
+    Exit
+    (At (take (length calls - 1) calls) (wrapped (get_or calls (length calls - 1) 0 + 4)))
+    tt
+    (omega arith, let e : length (take (length calls - 1) calls) ≡ length calls - 1 = length-take-le (length calls - 1) calls (omega arith) in omega (arith, h.1), All-take (λ c. c < 2 ^ 26) (length calls - 1) calls h.2)
+
+inside_in_range : (calls to : List ℕ) → length calls ≤ 8 → All (λ c. c < 2 ^ 26) calls → All (λ a. a < 2 ^ 26) to → All IsSmall (inside calls to)
+inside_in_range calls to few small all = All-map IsSmall (λ (a : ℕ). At calls a) to (All-weaker (λ a. a < 2 ^ 26) (λ (a : ℕ). IsInRange calls a) (λ a h. (h, few, small)) to all)
+
+-- the places to which a call leads, by whether the calls are fewer than eight
+calling_in_range : (calls : List ℕ) (address : ℕ) (to : List ℕ) → IsInRange calls address → All (λ a. a < 2 ^ 26) to → All IsSmall (calling calls address to)
+calling_in_range calls address to h all =
+    elim (ltb (length calls) 8) as (λ b. ltb (length calls) 8 ≡ b → All IsSmall (cond b (inside (calls ++ address ∷ []) to) [])) [
+      | true ↦ λ e.
+          let few : length calls < 8 = ltb-true (length calls) 8 e in
+          inside_in_range (calls ++ address ∷ []) to (omega (arith, length-append calls (address ∷ []))) (All-push (λ c. c < 2 ^ 26) calls address h.2 h.0) all
+      | false ↦ λ e. All-nil IsSmall
+    ] refl
+
+one_in_range : (p : Place) → IsSmall p → All IsSmall (p ∷ [])
+one_in_range p h = All-cons IsSmall p [] h (All-nil IsSmall)
+
+stated_in_range : (calls : List ℕ) (address : ℕ) (k : TargetKind) (to : List ℕ) → IsInRange calls address → All (λ a. a < 2 ^ 26) to → All IsSmall (stated_landings calls address k to)
+stated_in_range calls address stated.Jump to h all = inside_in_range calls to h.1 h.2 all
+stated_in_range calls address stated.Call to h all = calling_in_range calls address to h all
+stated_in_range calls address stated.Return to h all = one_in_range (returning calls) (returning_in_range calls address h)
+stated_in_range calls address stated.Leave to h all = one_in_range Exit tt
+
+writer_in_range : (calls : List ℕ) (address : ℕ) (t : Option Target) → IsInRange calls address → IfSome t IsTarget → All IsSmall (writer_landings calls address t)
+writer_in_range calls address None h target = one_in_range (returning calls) (returning_in_range calls address h)
+writer_in_range calls address (Some t) h target = stated_in_range calls address t.kind t.to h target
+
+landings_in_range : (st : Stated) (calls : List ℕ) (address : ℕ) (k : Kind) → IsStated st → IsInRange calls address → All IsSmall (landings st calls address k)
+landings_in_range st calls address Plain s h = one_in_range (At calls (wrapped (address + 4))) (wrapped_in_range calls address (address + 4) h)
+landings_in_range st calls address (Branch offset) s h = one_in_range (At calls (target address offset)) (wrapped_in_range calls address (address + 8 + 4 * offset) h)
+landings_in_range st calls address (Call offset) s h =
+    let small : target address offset < 2 ^ 26 = omega arith in
+    calling_in_range calls address (target address offset ∷ []) h (All-cons (λ a. a < 2 ^ 26) (target address offset) [] small (All-nil (λ a. a < 2 ^ 26)))
+landings_in_range st calls address Writer s h = writer_in_range calls address (target_of st address) h (All-lookup IsTarget (nat_eq address) st.targets s.destinations)
+landings_in_range st calls address Trap s h = All-nil IsSmall
+landings_in_range st calls address Unallocated s h = All-nil IsSmall
 
 -- ## Each edge of a place
 
--- it leaves the place, at a small cost
-pub record Leaves (p : Place) (e : Edge) : Type 0 where
+-- it leaves the place, at a small cost that is not 0, and ends in range
+pub record Leaves (st : Stated) (p : Place) (e : Edge) : Type 0 where
   pub from : e.from ≡ p
-  pub small : e.cost < 1024
+  pub some : 0 < e.cost
+  pub small : e.cost < 8192
+  pub ends : IsStated st → IsSmall p → IsSmall e.to
 
-module _ (leave : Class) (profile : Profile) (calls : List ℕ) (address : ℕ) where
-  skip_leaves : Leaves (At calls address) (skip_edge profile calls address)
-  skip_leaves = record { from = refl; small = omega (arith, s_small profile (wrapped (address + 8))) }
+module _ (st : Stated) (profile : Profile) (calls : List ℕ) (address : ℕ) where
+  abbrev pub AllLeave : List Edge → Type 0
+  AllLeave edges = All (Leaves st (At calls address)) edges
 
-  do_leaves : (k : Kind) (to : Place) → Leaves (At calls address) (do_edge leave profile calls address k to)
-  do_leaves k to = record { from = refl; small = omega (arith, s_small profile (wrapped (address + 8)), doing_small leave profile k to) }
+  none_leaves : AllLeave []
+  none_leaves = All-nil (Leaves st (At calls address))
 
-  one_leaves : (e : Edge) → Leaves (At calls address) e → All (Leaves (At calls address)) (e ∷ [])
-  one_leaves e h = All-cons (Leaves (At calls address)) e [] h (All-nil (Leaves (At calls address)))
+  skip_leaves : AllLeave (skip_edge profile calls address ∷ [])
+  skip_leaves =
+      All-cons
+      (Leaves st (At calls address))
+      (skip_edge profile calls address)
+      []
+      (record {
+        from = refl;
+        some = (s_is_price profile (wrapped (address + 8))).0;
+        small = omega (arith, s_is_price profile (wrapped (address + 8)));
+        ends = λ s h. wrapped_in_range calls address (address + 4) h;
+      })
+      none_leaves
 
-  none_leaves : All (Leaves (At calls address)) []
-  none_leaves = All-nil (Leaves (At calls address))
+  do_leaves : (a : Action) → IsWork a.work → (to : Place) → (IsStated st → IsInRange calls address → IsSmall to) → Leaves st (At calls address) (do_edge st profile calls address a to)
+  do_leaves a fits to ends = record {
+    from = refl;
+    some = omega (arith, (fetching_is_price profile address a.work).0);
+    small = omega (arith, (fetching_is_price profile address a.work).1, working_small profile (class_of st address) a.work fits, arriving_small st.leave profile a.kind to);
+    ends = ends;
+  }
 
-  skips_leave : (always : Bool) → All (Leaves (At calls address)) (cond always [] (skip_edge profile calls address ∷ []))
-  skips_leave true = none_leaves
-  skips_leave false = one_leaves (skip_edge profile calls address) skip_leaves
+  done_leaves : (a : Action) → IsWork a.work → (to : List Place) → (IsStated st → IsInRange calls address → All IsSmall to) → AllLeave (map (do_edge st profile calls address a) to)
+  done_leaves a fits [] ends = none_leaves
+  done_leaves a fits (p ∷ to) ends =
+      All-cons
+      (Leaves st (At calls address))
+      (do_edge st profile calls address a p)
+      (map (do_edge st profile calls address a) to)
+      (do_leaves a fits p (λ s h. All-head IsSmall p to (ends s h)))
+      (done_leaves a fits to (λ s h. All-tail IsSmall p to (ends s h)))
 
-  landings_leave : (k : Kind) → All (Leaves (At calls address)) (map (do_edge leave profile calls address k) (landings calls address k))
-  landings_leave Plain = one_leaves _ (do_leaves Plain (At calls (wrapped (address + 4))))
-  landings_leave (Branch offset) = one_leaves _ (do_leaves (Branch offset) _)
-  landings_leave Return = one_leaves _ (do_leaves Return (returning calls))
-  landings_leave Unallocated = none_leaves
-  landings_leave NotYet = none_leaves
-
-  dos_leave : (never : Bool) (k : Kind) → All (Leaves (At calls address)) (cond never [] (map (do_edge leave profile calls address k) (landings calls address k)))
-  dos_leave true k = none_leaves
-  dos_leave false k = landings_leave k
-
-  word_leaves : (a : Action) → All (Leaves (At calls address)) (word_edges leave profile calls address a)
-  word_leaves a =
-      All-append (Leaves (At calls address)) (skips profile calls address a) (dos leave profile calls address a) (skips_leave (is_always a.cond)) (dos_leave (is_never a.cond) a.kind)
+  word_leaves : (a : Action) → IsWork a.work → AllLeave (word_edges st profile calls address a)
+  word_leaves a fits =
+      All-append
+      (Leaves st (At calls address))
+      (skips profile calls address a)
+      (dos st profile calls address a)
+      (cond_all AllLeave (is_always a.cond) [] (skip_edge profile calls address ∷ []) none_leaves skip_leaves)
+      (cond_all AllLeave (is_never a.cond) [] (done st profile calls address a) none_leaves (done_leaves a fits (landings st calls address a.kind) (λ s h. landings_in_range st calls address a.kind s h)))
 
 module _ (words : Words) (st : Stated) (profile : Profile) where
-  pub leaves : (p : Place) (edges : List Edge) (e : Edge) → AreEdgesOf words st profile p edges → Contains edges e → Leaves p e
+  pub leaves : (p : Place) (edges : List Edge) (e : Edge) → AreEdgesOf words st profile p edges → Contains edges e → Leaves st p e
   leaves (At calls address) edges e are has =
-      All-contains (Leaves (At calls address)) (word_edges st.leave profile calls address are.0) e (word_leaves st.leave profile calls address are.0) (subst (λ xs. Contains xs e) are.2 has)
+      let fits : IsWork (are.0).work = action_fits (are.1).word are.0 (are.1).is in
+      All-contains (Leaves st (At calls address)) (word_edges st profile calls address are.0) e (word_leaves st profile calls address are.0 fits) (subst (λ xs. Contains xs e) are.2 has)
   leaves Exit edges e are has = absurd (no_member e (subst (λ xs. Contains xs e) are has))
 
   -- the edges of a place are edges

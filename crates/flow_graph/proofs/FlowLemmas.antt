@@ -3,7 +3,7 @@
 use Rattle.std.proofs.Common.{◌≡◌, ℕ, suc, ◌+◌, ◌<◌, ◌≤◌, ◌^◌, List, [], ◌∷◌, length, get_or, ◌⊎◌, inl, inr, ⊎_elim, refl, sym, ap, ◌∙◌, subst, arith, add-one}
 use Rattle.std.specs.Prelude.{Contains}
 use Rattle.std.proofs.lemmas.List.{get_or_read}
-use Rattle.std.proofs.lemmas.List.Elements.{Contains-get_or}
+use Rattle.std.proofs.lemmas.List.Elements.{All-nil, Contains-get_or}
 use Rattle.bus_ticks.specs.declared.profile.Profile.{Profile}
 use Rattle.loader.specs.Image.{Words}
 use Rattle.walks.specs.Walk.{Leads}
@@ -11,12 +11,12 @@ use Rattle.flow_graph.specs.Edges.{AreEdgesOf, IsEdge}
 use Rattle.flow_graph.specs.Flow.{Flow, HasEdge, IsWellFormed, edge_shape}
 use Rattle.flow_graph.specs.Graph.{IsFlowGraph, IsReached, start_of}
 use Rattle.flow_graph.specs.Places.{place_at}
-use Rattle.flow_graph.specs.Stated.{Stated}
+use Rattle.statement.specs.Stated.{IsStated, Stated}
 use Rattle.flow_graph.specs.declared.edges.Edge.{Edge}
 use Rattle.flow_graph.specs.declared.places.Place.{Place}
 use Rattle.flow_graph.specs.declared.places.Place.TheVariants.{At, Exit}
 use Rattle.flow_graph.proofs.BuildLemmas.{reached_push}
-use Rattle.flow_graph.proofs.EdgeLemmas.{among_edges, is_edge, leaves, no_edge_at_exit}
+use Rattle.flow_graph.proofs.EdgeLemmas.{IsSmall, Leaves, among_edges, is_edge, leaves, no_edge_at_exit}
 use Rattle.flow_graph.proofs.TurnLemmas.{before, before_all, before_more, in_part, joined, length_starts, part_joined, some_part, starts_at, zip_at, zip_length}
 
 pub exit_or : (p : Place) → (p ≡ Exit) ⊎ (p ≡ Exit → ⊥)
@@ -63,7 +63,11 @@ module _ (words : Words) (st : Stated) (profile : Profile) (flow : Flow) (g : Is
       let has : Contains (get_or g.parts v []) e = among_edges words st profile (place_at flow.places v) (get_or g.parts v []) e (part_of v lt) is from in
       subst (λ es. Contains es e) (sym g.edges_are) (part_joined g.parts v e (omega (arith, same_length)) has)
 
-  -- ## Well formed
+  -- ## Parts
+
+  -- an edge of the graph leaves its place
+  edge_leaves : (e : Edge) → HasEdge flow e → Leaves st e.from e
+  edge_leaves e h = let is = has_edge_is_edge e h in leaves words st profile e.from is.0 e is.1 is.2
 
   starts_in : (e : Edge) → HasEdge flow e → Contains flow.places e.from
   starts_in e h =
@@ -71,10 +75,7 @@ module _ (words : Words) (st : Stated) (profile : Profile) (flow : Flow) (g : Is
       subst (Contains flow.places) (sym ((leaves words st profile (place_at flow.places p.number) (get_or g.parts p.number []) e (part_of p.number p.below) p.among).from)) (has_place_at p.number p.below)
 
   fits : (e : Edge) → HasEdge flow e → e.cost < 2 ^ 32
-  fits e h =
-      let p = of_part e h in
-      let small : e.cost < 1024 = (leaves words st profile (place_at flow.places p.number) (get_or g.parts p.number []) e (part_of p.number p.below) p.among).small in
-      omega arith
+  fits e h = omega (arith, (edge_leaves e h).small)
 
   reached_in : (p : Place) → IsReached words st profile p → (p ≡ Exit) ⊎ Contains flow.places p
   reached_in p r = ⊎_elim (λ e. inl e) (λ other. inr ((g.exact p).1 (r, other))) (exit_or p)
@@ -106,21 +107,8 @@ module _ (words : Words) (st : Stated) (profile : Profile) (flow : Flow) (g : Is
       let has_it : Contains (get_or g.parts v []) (get_or flow.edges k d) = subst (λ es. Contains (get_or g.parts v []) (get_or es k d)) (sym g.edges_are) has in
       (leaves words st profile (place_at flow.places v) (get_or g.parts v []) (get_or flow.edges k d) (part_of v lt) has_it).from
 
-  pub well_formed : length flow.places ≤ 16384 → IsWellFormed flow
-  well_formed few = record {
-    ordered = g.ordered;
-    no_exit = λ h. ((g.exact Exit).0 h).1 refl;
-    few = few;
-    entry_in = rw g.entry_is ((g.exact (start_of st)).1 (([], refl), λ e. cc));
-    starts = starts_in;
-    ends = ends_in;
-    costs_fit = fits;
-    whole = whole;
-    first_zero = first_is 0 0 (omega arith);
-    last_all = last_all;
-    rising = rising;
-    part = lies;
-  }
+  entry_in : Contains flow.places flow.entry
+  entry_in = rw g.entry_is ((g.exact (start_of st)).1 (([], refl), λ e. cc))
 
   -- ## Walks
 
@@ -145,3 +133,33 @@ module _ (words : Words) (st : Stated) (profile : Profile) (flow : Flow) (g : Is
   pub walk_of_flow : (p q : Place) (walk : List Edge) → Leads edge_shape (HasEdge flow) p walk q → Leads edge_shape (IsEdge words st profile) p walk q
   walk_of_flow p q [] h = h
   walk_of_flow p q (e ∷ walk) h = (has_edge_is_edge e h.0, h.1, walk_of_flow e.to q walk h.2)
+
+  -- ## Well formed
+
+  costs_some : (e : Edge) → HasEdge flow e → 0 < e.cost
+  costs_some e h = (edge_leaves e h).some
+
+  -- a walk from a place in range ends in range
+  leads_in_range : (p q : Place) (walk : List Edge) → IsStated st → IsSmall p → Leads edge_shape (IsEdge words st profile) p walk q → IsSmall q
+  leads_in_range p q [] s small h = subst IsSmall h small
+  leads_in_range p q (e ∷ walk) s small h = leads_in_range e.to q walk s ((leaves words st profile p h.0.0 e (subst (λ x. AreEdgesOf words st profile x h.0.0) h.1 h.0.1) h.0.2).ends s small) h.2
+
+  pub well_formed : length flow.places ≤ 16384 → IsStated st → IsWellFormed flow
+  well_formed few s = record {
+    ordered = g.ordered;
+    no_exit = λ h. ((g.exact Exit).0 h).1 refl;
+    few = few;
+    small = λ calls a h. let r = ((g.exact (At calls a)).0 h).0 in leads_in_range (start_of st) (At calls a) r.0 s (s.entry_small, omega arith, All-nil (λ c. c < 2 ^ 26)) r.1;
+    starts_outside = (st.entry, g.entry_is);
+    entry_in = entry_in;
+    reached = λ p h. let r = ((g.exact p).0 h).0 in (r.0, walk_in_flow flow.entry p r.0 entry_in (rw g.entry_is r.1));
+    starts = starts_in;
+    ends = ends_in;
+    costs_some = costs_some;
+    costs_fit = fits;
+    whole = whole;
+    first_zero = first_is 0 0 (omega arith);
+    last_all = last_all;
+    rising = rising;
+    part = lies;
+  }

@@ -9,7 +9,7 @@ use Rattle.loader.specs.Image.{Words}
 use Rattle.flow_graph.specs.Edges.{AreEdgesOf}
 use Rattle.flow_graph.specs.Graph.{starts_from}
 use Rattle.flow_graph.specs.Search.{AddsEdges, AreInTurn}
-use Rattle.flow_graph.specs.Stated.{Stated}
+use Rattle.statement.specs.Stated.{Stated}
 use Rattle.flow_graph.specs.declared.edges.Edge.{Edge}
 use Rattle.flow_graph.specs.declared.places.Place.{Place}
 use Rattle.flow_graph.proofs.SortedLemmas.{no_member}

@@ -1,17 +1,13 @@
--- A handler has one flow graph, and a text one answer.
-use Rattle.std.proofs.Common.{◌≡◌, ℕ, List, [], ◌∷◌, ⊎_elim, refl, sym, ap, ◌∙◌, subst}
-use Rattle.std.specs.Prelude.{Result, Some, None}
+-- A handler has one flow graph.
+use Rattle.std.proofs.Common.{◌≡◌, List, [], ◌∷◌, refl, sym, ap, ◌∙◌, subst}
 use Rattle.std.specs.List.{AllZip}
 use Rattle.bus_ticks.specs.declared.profile.Profile.{Profile}
 use Rattle.loader.specs.Image.{Words}
-use Rattle.toml.specs.Data.{Members}
 use Rattle.flow_graph.specs.Edges.{AreEdgesOf}
 use Rattle.flow_graph.specs.Flow.{Flow}
 use Rattle.flow_graph.specs.Graph.{IsFlowGraph, starts_from}
-use Rattle.flow_graph.specs.Stated.{Stated}
-use Rattle.flow_graph.specs.Statement.{IsDocument, IsNoDocument, IsStatement, statement_of}
+use Rattle.statement.specs.Stated.{Stated}
 use Rattle.flow_graph.specs.declared.edges.Edge.{Edge}
-use Rattle.flow_graph.specs.declared.faults.StatementFault.{StatementFault}
 use Rattle.flow_graph.specs.declared.places.Place.{Place}
 use Rattle.flow_graph.proofs.EdgeLemmas.{one_list}
 use Rattle.flow_graph.proofs.PlaceLemmas.{place_total}
@@ -45,26 +41,3 @@ module _ (words : Words) (st : Stated) (profile : Profile) where
       (h.edges_are ∙ ap joined parts ∙ sym k.edges_are)
       (h.firsts_are ∙ ap (starts_from 0) parts ∙ sym k.firsts_are)
       (h.profile_is ∙ sym k.profile_is)
-
-never_both : (text : List ℕ) (ms : Members) → IsDocument text ms → IsNoDocument text → ⊥
-never_both text ms document none =
-    let both : Some ms ≡ None = sym document.parsed ∙ none document.utf8 in
-    cc
-
-one_document : (text : List ℕ) (ms ns : Members) → IsDocument text ms → IsDocument text ns → ms ≡ ns
-one_document text ms ns h k =
-    let both : Some ms ≡ Some ns = sym h.parsed ∙ k.parsed in
-    cc
-
-pub one_statement : (text : List ℕ) (answer other : Result Stated StatementFault) → IsStatement text answer → IsStatement text other → answer ≡ other
-one_statement text answer other h k =
-    ⊎_elim
-    (λ m. ⊎_elim
-    (λ n. m.2 ∙ ap statement_of (one_document text m.0 n.0 m.1 n.1) ∙ sym n.2)
-    (λ none. absurd (never_both text m.0 m.1 none.0))
-    k)
-    (λ none. ⊎_elim
-    (λ n. absurd (never_both text n.0 n.1 none.0))
-    (λ same. none.1 ∙ sym same.1)
-    k)
-    h

@@ -1,19 +1,23 @@
--- The edges of a place, and their costs in ticks. Source: our own cycle profile, with each access to ROM at its
--- dearest time field; where a word leads is the ARM data sheet's.
-use Rattle.std.specs.Prelude.{◌≡◌, ℕ, ◌+◌, ◌-◌, ◌*◌, ◌%◌, ◌^◌, cond, nat_eq, List, [], ◌∷◌, ◌++◌, length, take, map, slice_index, Some, Contains}
-use Rattle.bus_ticks.specs.Worst.{worst_n_price, worst_s_price, worst_leave_of}
+-- The edges of a place, and their costs in ticks. Source: our own cycle profile, with each access at its dearest; where
+-- a word leads is the ARM data sheet's, and the author's for a word that writes R15.
+use Rattle.std.specs.Prelude.{◌≡◌, ℕ, ◌+◌, ◌-◌, ◌*◌, ◌%◌, ◌^◌, true, false, cond, nat_eq, nat_lt, List, [], ◌∷◌, ◌++◌, length, take, map, slice_index, Option, Some, None, Contains}
+use Rattle.bus_ticks.specs.Worst.{worst_n_price, worst_s_price, worst_block, worst_leave_of}
 use Rattle.bus_ticks.specs.declared.profile.Class.{Class}
 use Rattle.bus_ticks.specs.declared.profile.Profile.{Profile}
 use Rattle.loader.specs.Image.{Words, word_of}
 use Rattle.flow_graph.specs.Kinds.{IsAction, is_always, is_never}
-use Rattle.flow_graph.specs.Stated.{Stated}
+use Rattle.statement.specs.Stated.{Stated, Target, class_of, target_of}
 use Rattle.flow_graph.specs.declared.edges.Edge.{Edge}
 use Rattle.flow_graph.specs.declared.edges.Label.TheVariants.{Skip, Do}
 use Rattle.flow_graph.specs.declared.kinds.Action.{Action}
 use Rattle.flow_graph.specs.declared.kinds.Kind.{Kind}
-use Rattle.flow_graph.specs.declared.kinds.Kind.TheVariants.{Plain, Branch, Return, Unallocated, NotYet}
+use Rattle.flow_graph.specs.declared.kinds.Kind.TheVariants.{Plain, Branch, Call, Writer, Trap, Unallocated}
+use Rattle.flow_graph.specs.declared.kinds.Work.{Work}
+use Rattle.flow_graph.specs.declared.kinds.Work.TheVariants.{Internal, Load, Store}
 use Rattle.flow_graph.specs.declared.places.Place.{Place}
 use Rattle.flow_graph.specs.declared.places.Place.TheVariants.{At, Exit}
+use Rattle.statement.specs.declared.stated.TargetKind.{TargetKind}
+use Rattle.statement.specs.declared.stated.TargetKind.TheVariants as stated
 
 -- ## Where a word leads
 
@@ -30,52 +34,94 @@ target address offset = wrapped (address + 8 + 4 * offset)
 abbrev pub returning : List ℕ → Place
 returning calls = cond (nat_eq (length calls) 0) Exit (At (take (length calls - 1) calls) (wrapped (slice_index calls (length calls - 1) + 4)))
 
+-- at each of the addresses, inside the calls
+abbrev pub inside : List ℕ → List ℕ → List Place
+inside calls addresses = map (λ a. At calls a) addresses
+
+-- a call appends its own address; from a place with eight calls it leads nowhere
+abbrev pub calling : List ℕ → ℕ → List ℕ → List Place
+calling calls address to = cond (nat_lt (length calls) 8) (inside (calls ++ address ∷ []) to) []
+
+-- a stated jump keeps the calls
+abbrev pub stated_landings : List ℕ → ℕ → TargetKind → List ℕ → List Place
+stated_landings calls address stated.Jump to = inside calls to
+stated_landings calls address stated.Call to = calling calls address to
+stated_landings calls address stated.Return to = returning calls ∷ []
+stated_landings calls address stated.Leave to = Exit ∷ []
+
+-- a word that writes R15 returns where nothing is stated of it
+abbrev pub writer_landings : List ℕ → ℕ → Option Target → List Place
+writer_landings calls address None = returning calls ∷ []
+writer_landings calls address (Some t) = stated_landings calls address t.kind t.to
+
 -- the places to which a word leads where its condition holds
-abbrev pub landings : List ℕ → ℕ → Kind → List Place
-landings calls address Plain = At calls (wrapped (address + 4)) ∷ []
-landings calls address (Branch offset) = At calls (target address offset) ∷ []
-landings calls address Return = returning calls ∷ []
-landings calls address Unallocated = []
-landings calls address NotYet = []
+abbrev pub landings : Stated → List ℕ → ℕ → Kind → List Place
+landings st calls address Plain = At calls (wrapped (address + 4)) ∷ []
+landings st calls address (Branch offset) = At calls (target address offset) ∷ []
+landings st calls address (Call offset) = calling calls address (target address offset ∷ [])
+landings st calls address Writer = writer_landings calls address (target_of st address)
+landings st calls address Trap = []
+landings st calls address Unallocated = []
 
 -- ## Costs in ticks
 
--- each instruction fetches the word after the next
+-- an instruction fetches the word after the next, which follows the access before it
 abbrev pub passing : Profile → ℕ → ℕ
 passing profile address = worst_s_price profile (wrapped (address + 8))
+
+-- but after a store it does not follow it
+abbrev pub fetching : Profile → ℕ → Work → ℕ
+fetching profile address (Internal cycles) = passing profile address
+fetching profile address (Load words) = passing profile address
+fetching profile address (Store words) = worst_n_price profile (wrapped (address + 8))
+
+-- besides its fetches: internal cycles, and words of the stated class
+abbrev pub working : Profile → Class → Work → ℕ
+working profile class (Internal cycles) = cycles * profile.internal
+working profile class (Load words) = worst_block profile class words false + profile.internal
+working profile class (Store words) = worst_block profile class words true
 
 -- a jump fetches the word at its target, and the next; out of the handler, at any address of the stated class
 abbrev pub jumping : Class → Profile → Place → ℕ
 jumping leave profile (At calls t) = worst_n_price profile t + worst_s_price profile (wrapped (t + 4))
 jumping leave profile Exit = worst_leave_of profile leave
 
--- what a word costs besides where its condition holds
-abbrev pub doing : Class → Profile → Kind → Place → ℕ
-doing leave profile Plain to = 0
-doing leave profile (Branch offset) to = jumping leave profile to
-doing leave profile Return to = jumping leave profile to
-doing leave profile Unallocated to = 0
-doing leave profile NotYet to = 0
+-- which words jump
+abbrev pub arriving : Class → Profile → Kind → Place → ℕ
+arriving leave profile Plain to = 0
+arriving leave profile (Branch offset) to = jumping leave profile to
+arriving leave profile (Call offset) to = jumping leave profile to
+arriving leave profile Writer to = jumping leave profile to
+arriving leave profile Trap to = 0
+arriving leave profile Unallocated to = 0
+
+-- what a word costs where its condition holds
+abbrev pub doing : Stated → Profile → ℕ → Action → Place → ℕ
+doing st profile address action to =
+    fetching profile address action.work + working profile (class_of st address) action.work + arriving st.leave profile action.kind to
 
 -- ## Edges
 
 abbrev pub skip_edge : Profile → List ℕ → ℕ → Edge
 skip_edge profile calls address = record { from = At calls address; label = Skip; to = At calls (wrapped (address + 4)); cost = passing profile address }
 
-abbrev pub do_edge : Class → Profile → List ℕ → ℕ → Kind → Place → Edge
-do_edge leave profile calls address kind to = record { from = At calls address; label = Do; to = to; cost = passing profile address + doing leave profile kind to }
+abbrev pub do_edge : Stated → Profile → List ℕ → ℕ → Action → Place → Edge
+do_edge st profile calls address action to = record { from = At calls address; label = Do; to = to; cost = doing st profile address action to }
 
 abbrev pub skips : Profile → List ℕ → ℕ → Action → List Edge
 skips profile calls address action = cond (is_always action.cond) [] (skip_edge profile calls address ∷ [])
 
-abbrev pub dos : Class → Profile → List ℕ → ℕ → Action → List Edge
-dos leave profile calls address action = cond (is_never action.cond) [] (map (do_edge leave profile calls address action.kind) (landings calls address action.kind))
+abbrev pub done : Stated → Profile → List ℕ → ℕ → Action → List Edge
+done st profile calls address action = map (do_edge st profile calls address action) (landings st calls address action.kind)
+
+abbrev pub dos : Stated → Profile → List ℕ → ℕ → Action → List Edge
+dos st profile calls address action = cond (is_never action.cond) [] (done st profile calls address action)
 
 -- a word may be passed over unless its condition always holds, and done unless it never does
-abbrev pub word_edges : Class → Profile → List ℕ → ℕ → Action → List Edge
-word_edges leave profile calls address action = skips profile calls address action ++ dos leave profile calls address action
+abbrev pub word_edges : Stated → Profile → List ℕ → ℕ → Action → List Edge
+word_edges st profile calls address action = skips profile calls address action ++ dos st profile calls address action
 
--- the image has a word at the address, of that condition and kind
+-- the image has a word at the address, which does this
 pub record HasAction (words : Words) (address : ℕ) (action : Action) : Type 0 where
   pub word : ℕ
   pub stands : word_of words address ≡ Some word
@@ -84,7 +130,7 @@ pub record HasAction (words : Words) (address : ℕ) (action : Action) : Type 0 
 module _ (words : Words) (st : Stated) (profile : Profile) where
   -- the edges that a place has by its word
   abbrev pub AreEdgesOf : Place → List Edge → Type 0
-  AreEdgesOf (At calls address) edges = (action : Action) × HasAction words address action × (edges ≡ word_edges st.leave profile calls address action)
+  AreEdgesOf (At calls address) edges = (action : Action) × HasAction words address action × (edges ≡ word_edges st profile calls address action)
   AreEdgesOf Exit edges = edges ≡ []
 
   -- one of the edges that its first place has

@@ -1,12 +1,12 @@
 -- A flow graph as a value: its places in order, and the edges of each in turn (our own format).
-use Rattle.std.specs.Prelude.{◌≡◌, ℕ, ◌+◌, ◌<◌, ◌≤◌, ◌^◌, List, length, slice_index, slice_index_or, Contains, ◌⊎◌}
+use Rattle.std.specs.Prelude.{◌≡◌, ℕ, ◌+◌, ◌<◌, ◌≤◌, ◌^◌, List, [], length, slice_index, slice_index_or, Contains, ◌⊎◌}
 use Rattle.std.specs.List.Sorted.{IsStrictlySortedBy}
-use Rattle.walks.specs.Walk.{Shape}
+use Rattle.walks.specs.Walk.{Shape, IsReached}
 use Rattle.bus_ticks.specs.declared.profile.Profile.{Profile}
 use Rattle.flow_graph.specs.declared.places.Place.{Place}
-use Rattle.flow_graph.specs.declared.places.Place.TheVariants.{Exit}
+use Rattle.flow_graph.specs.declared.places.Place.TheVariants.{At, Exit}
 use Rattle.flow_graph.specs.declared.edges.Edge.{Edge}
-use Rattle.flow_graph.specs.Places.{place_cmp, place_at}
+use Rattle.flow_graph.specs.Places.{IsInRange, place_cmp, place_at}
 
 -- where walks start, the places but Exit, their edges, where the edges of each place begin (and at the end the
 -- number of edges), and the profile of the costs
@@ -29,9 +29,13 @@ pub record IsWellFormed (flow : Flow) : Type 0 where
   pub ordered : IsStrictlySortedBy place_cmp flow.places
   pub no_exit : Contains flow.places Exit → ⊥
   pub few : length flow.places ≤ 16384
+  pub small : (calls : List ℕ) (a : ℕ) → Contains flow.places (At calls a) → IsInRange calls a
+  pub starts_outside : (a : ℕ) × (flow.entry ≡ At [] a)
   pub entry_in : Contains flow.places flow.entry
+  pub reached : (p : Place) → Contains flow.places p → IsReached edge_shape (HasEdge flow) flow.entry p
   pub starts : (e : Edge) → Contains flow.edges e → Contains flow.places e.from
   pub ends : (e : Edge) → Contains flow.edges e → (e.to ≡ Exit) ⊎ Contains flow.places e.to
+  pub costs_some : (e : Edge) → Contains flow.edges e → 0 < e.cost
   pub costs_fit : (e : Edge) → Contains flow.edges e → e.cost < 2 ^ 32
   pub whole : length flow.firsts ≡ length flow.places + 1
   pub first_zero : slice_index flow.firsts 0 ≡ 0

@@ -1,15 +1,16 @@
 -- The flow graph of a handler, and why there is none (our own format).
-use Rattle.std.specs.Prelude.{◌≡◌, ℕ, ◌+◌, ◌<◌, false, List, [], ◌∷◌, length, None, Contains, ◌↔◌}
+use Rattle.std.specs.Prelude.{◌≡◌, ℕ, ◌+◌, ◌<◌, ◌≤◌, Bool, true, false, List, [], ◌∷◌, length, Option, Some, None, Contains, ◌↔◌}
 use Rattle.std.specs.List.{AllZip, flat_map}
 use Rattle.std.specs.List.Sorted.{IsStrictlySortedBy}
+use Rattle.std.specs.Map.{keys_of}
 use Rattle.walks.specs.Walk as walks
 use Rattle.bus_ticks.specs.declared.profile.Profile.{Profile}
 use Rattle.loader.specs.Image.{Words, word_of}
 use Rattle.flow_graph.specs.Edges.{AreEdgesOf, HasAction, IsEdge}
 use Rattle.flow_graph.specs.Flow.{Flow, edge_shape}
-use Rattle.flow_graph.specs.Kinds.{is_never}
+use Rattle.flow_graph.specs.Kinds.{is_never, is_writer}
 use Rattle.flow_graph.specs.Places.{place_cmp}
-use Rattle.flow_graph.specs.Stated.{Stated}
+use Rattle.statement.specs.Stated.{Stated, Target, target_of}
 use Rattle.flow_graph.specs.declared.edges.Edge.{Edge}
 use Rattle.flow_graph.specs.declared.faults.BuildFault.{BuildFault}
 use Rattle.flow_graph.specs.declared.faults.BuildFault.TheVariants as fault
@@ -18,6 +19,8 @@ use Rattle.flow_graph.specs.declared.kinds.Kind.{Kind}
 use Rattle.flow_graph.specs.declared.kinds.Kind.TheVariants as kind
 use Rattle.flow_graph.specs.declared.places.Place.{Place}
 use Rattle.flow_graph.specs.declared.places.Place.TheVariants.{At, Exit}
+use Rattle.statement.specs.declared.stated.TargetKind.{TargetKind}
+use Rattle.statement.specs.declared.stated.TargetKind.TheVariants as stated
 
 -- the handler starts at its entry, inside no calls
 abbrev pub start_of : Stated → Place
@@ -27,6 +30,36 @@ start_of st = At [] st.entry
 abbrev pub starts_from : ℕ → List (List Edge) → List ℕ
 starts_from n [] = n ∷ []
 starts_from n (part ∷ parts) = n ∷ starts_from (n + length part) parts
+
+-- ## Words that call or write R15
+
+abbrev pub is_call : TargetKind → Bool
+is_call stated.Jump = false
+is_call stated.Call = true
+is_call stated.Return = false
+is_call stated.Leave = false
+
+abbrev pub states_call : Option Target → Bool
+states_call None = false
+states_call (Some t) = is_call t.kind
+
+-- BL, and a word that writes R15 and is stated to call
+abbrev pub makes_call : Kind → Option Target → Bool
+makes_call kind.Plain t = false
+makes_call (kind.Branch offset) t = false
+makes_call (kind.Call offset) t = true
+makes_call kind.Writer t = states_call t
+makes_call kind.Trap t = false
+makes_call kind.Unallocated t = false
+
+-- the image has a word at the address that writes R15, whatever its condition
+abbrev pub IsWriterAt : Words → ℕ → Type 0
+IsWriterAt words address = (a : Action) × HasAction words address a × (is_writer a.kind ≡ true)
+
+-- a target is stated for the address, where no word writes R15
+pub record IsStray (words : Words) (st : Stated) (address : ℕ) : Type 0 where
+  pub is_stated : Contains (keys_of st.targets) address
+  pub no_writer : IsWriterAt words address → ⊥
 
 module _ (words : Words) (st : Stated) (profile : Profile) where
   -- some walk from the start ends there
@@ -60,6 +93,17 @@ module _ (words : Words) (st : Stated) (profile : Profile) where
   abbrev pub MayDo : ℕ → Kind → Type 0
   MayDo address k = (a : Action) × HasAction words address a × (a.kind ≡ k) × (is_never a.cond ≡ false)
 
+  -- a call that may be done, from a reached place with eight calls
+  pub record IsTooDeep : Type 0 where
+    pub calls : List ℕ
+    pub address : ℕ
+    pub reached : IsReached (At calls address)
+    pub full : 8 ≤ length calls
+    pub action : Action
+    pub has : HasAction words address action
+    pub is_call : makes_call action.kind (target_of st address) ≡ true
+    pub may : is_never action.cond ≡ false
+
   -- more places are reached than a graph may have
   pub record IsCrowd : Type 0 where
     pub places : List Place
@@ -73,5 +117,7 @@ module _ (words : Words) (st : Stated) (profile : Profile) where
   IsBuildFault fault.Memory = Unit {0}
   IsBuildFault (fault.OutsideImage address) = IsReachedAddress address × (word_of words address ≡ None)
   IsBuildFault (fault.UnallocatedWord address) = IsReachedAddress address × MayDo address kind.Unallocated
+  IsBuildFault (fault.TrapInHandler address) = IsReachedAddress address × MayDo address kind.Trap
+  IsBuildFault fault.TooDeep = IsTooDeep
   IsBuildFault fault.TooManyPlaces = IsCrowd
-  IsBuildFault (fault.NotYet address) = IsReachedAddress address × MayDo address kind.NotYet
+  IsBuildFault (fault.TargetNotWriter address) = IsStray words st address

@@ -1,19 +1,24 @@
--- What a word does to the flow of control. Source: the ARM data sheet (VL86C010), by the table of instruction words.
-use Rattle.std.specs.Prelude.{◌≡◌, ℕ, Bool, true, false, not, ◌&&◌, ◌==◌, if◌then◌else◌, ◌⊎◌}
+-- What a word does: to the flow of control, and besides its fetches. Source: the ARM data sheet (VL86C010), by the table
+-- of instruction words; its cycle types, with a multiply at its most internal cycles.
+use Rattle.std.specs.Prelude.{◌≡◌, ℕ, ◌≤◌, Bool, true, false, not, nat_le, count_ones, ◌&&◌, ◌==◌, if◌then◌else◌, ◌⊎◌}
 use Rattle.arm2_decode.specs.Names.{register_number}
 use Rattle.arm2_decode.specs.Table.{Means, IsUnallocated}
 use Rattle.arm2_decode.specs.declared.instr.Instr.{Instr}
 use Rattle.arm2_decode.specs.declared.instr.Unallocated.{Unallocated}
-use Rattle.arm2_decode.specs.declared.instr.DataImmediate.{DataImmediate}
 use Rattle.arm2_decode.specs.declared.instr.Operation.{Operation}
 use Rattle.arm2_decode.specs.declared.instr.Operation.TheVariants as operation
 use Rattle.arm2_decode.specs.declared.names.Cond.{Cond}
 use Rattle.arm2_decode.specs.declared.names.Cond.TheVariants as condition
 use Rattle.arm2_decode.specs.declared.names.Opcode.{Opcode}
 use Rattle.arm2_decode.specs.declared.names.Opcode.TheVariants as opcode
+use Rattle.arm2_decode.specs.declared.names.Register.{Register}
 use Rattle.flow_graph.specs.declared.kinds.Kind.{Kind}
 use Rattle.flow_graph.specs.declared.kinds.Kind.TheVariants as kind
+use Rattle.flow_graph.specs.declared.kinds.Work.{Work}
+use Rattle.flow_graph.specs.declared.kinds.Work.TheVariants as work
 use Rattle.flow_graph.specs.declared.kinds.Action.{Action}
+
+-- ## The flow of control
 
 -- the compares, which write no register
 abbrev pub is_compare : Opcode → Bool
@@ -23,33 +28,85 @@ is_compare opcode.Cmp = true
 is_compare opcode.Cmn = true
 is_compare _ = false
 
--- data processing that writes R15
-abbrev pub writes_pc : DataImmediate → Bool
-writes_pc data_processing = (register_number data_processing.rd == 15) && not (is_compare data_processing.opcode)
+abbrev pub is_pc : Register → Bool
+is_pc register = register_number register == 15
 
--- data processing of an immediate and B are handled, and no other instruction yet
+-- bit 15 of a list, the highest, stands for R15
+abbrev pub lists_pc : ℕ → Bool
+lists_pc list = nat_le 0x8000 list
+
+-- a word that writes R15 where the test holds
+abbrev pub writer_if : Bool → Kind
+writer_if writes = if writes then kind.Writer else kind.Plain
+
+abbrev pub data_kind : Opcode → Register → Kind
+data_kind o rd = writer_if (is_pc rd && not (is_compare o))
+
 abbrev pub kind_of : Operation → Kind
-kind_of (operation.Multiply x) = kind.NotYet
-kind_of (operation.DataRegister x) = kind.NotYet
-kind_of (operation.DataRegisterShift x) = kind.NotYet
-kind_of (operation.DataImmediate x) = if writes_pc x then kind.Return else kind.Plain
-kind_of (operation.SingleImmediate x) = kind.NotYet
-kind_of (operation.SingleRegister x) = kind.NotYet
-kind_of (operation.Block x) = kind.NotYet
-kind_of (operation.Branch x) = if x.link then kind.NotYet else kind.Branch x.offset
-kind_of (operation.Swi x) = kind.NotYet
-kind_of (operation.UndefinedTransfer x) = kind.NotYet
-kind_of (operation.CoprocessorTransfer x) = kind.NotYet
-kind_of (operation.Coprocessor x) = kind.NotYet
+kind_of (operation.Multiply x) = kind.Plain
+kind_of (operation.DataRegister x) = data_kind x.opcode x.rd
+kind_of (operation.DataRegisterShift x) = data_kind x.opcode x.rd
+kind_of (operation.DataImmediate x) = data_kind x.opcode x.rd
+kind_of (operation.SingleImmediate x) = writer_if (x.load && is_pc x.rd)
+kind_of (operation.SingleRegister x) = writer_if (x.load && is_pc x.rd)
+kind_of (operation.Block x) = writer_if (x.load && lists_pc x.list)
+kind_of (operation.Branch x) = if x.link then kind.Call x.offset else kind.Branch x.offset
+kind_of (operation.Swi x) = kind.Trap
+kind_of (operation.UndefinedTransfer x) = kind.Trap
+kind_of (operation.CoprocessorTransfer x) = kind.Trap
+kind_of (operation.Coprocessor x) = kind.Trap
 
-abbrev pub action : Cond → Kind → Action
-action c k = record { cond = c; kind = k }
+-- a word that writes R15, other than a branch or a call
+abbrev pub is_writer : Kind → Bool
+is_writer kind.Plain = false
+is_writer (kind.Branch offset) = false
+is_writer (kind.Call offset) = false
+is_writer kind.Writer = true
+is_writer kind.Trap = false
+is_writer kind.Unallocated = false
 
--- the condition and the kind of a word, which is an instruction or unallocated
+-- ## Besides the fetches
+
+abbrev pub transfer : Bool → ℕ → Work
+transfer load words = if load then work.Load words else work.Store words
+
+-- a shift by a register's amount takes one internal cycle, and a multiply at most 16
+abbrev pub work_of : Operation → Work
+work_of (operation.Multiply x) = work.Internal 16
+work_of (operation.DataRegister x) = work.Internal 0
+work_of (operation.DataRegisterShift x) = work.Internal 1
+work_of (operation.DataImmediate x) = work.Internal 0
+work_of (operation.SingleImmediate x) = transfer x.load 1
+work_of (operation.SingleRegister x) = transfer x.load 1
+work_of (operation.Block x) = transfer x.load (count_ones x.list)
+work_of (operation.Branch x) = work.Internal 0
+work_of (operation.Swi x) = work.Internal 0
+work_of (operation.UndefinedTransfer x) = work.Internal 0
+work_of (operation.CoprocessorTransfer x) = work.Internal 0
+work_of (operation.Coprocessor x) = work.Internal 0
+
+-- a block has 1 to 16 words
+abbrev pub IsWork : Work → Type 0
+IsWork (work.Internal cycles) = cycles ≤ 16
+IsWork (work.Load words) = (1 ≤ words) × (words ≤ 16)
+IsWork (work.Store words) = (1 ≤ words) × (words ≤ 16)
+
+-- ## Words
+
+abbrev pub action : Cond → Kind → Work → Action
+action c k w = record { cond = c; kind = k; work = w }
+
+abbrev pub instr_action : Instr → Action
+instr_action i = action i.cond (kind_of i.operation) (work_of i.operation)
+
+abbrev pub unallocated_action : Unallocated → Action
+unallocated_action u = action u.cond kind.Unallocated (work.Internal 0)
+
+-- when a word is carried out and what it then does; it is an instruction or unallocated
 abbrev pub IsAction : ℕ → Action → Type 0
 IsAction word a =
-    ((i : Instr) × Means word i × (a ≡ action i.cond (kind_of i.operation)))
-    ⊎ ((u : Unallocated) × IsUnallocated word u × (a ≡ action u.cond kind.Unallocated))
+    ((i : Instr) × Means word i × (a ≡ instr_action i))
+    ⊎ ((u : Unallocated) × IsUnallocated word u × (a ≡ unallocated_action u))
 
 -- the condition that always holds, and the one that never does
 abbrev pub is_always : Cond → Bool

@@ -6,11 +6,12 @@ pub mod Kinds
 pub mod Edges
 pub mod Graph
 pub mod Search
-pub mod Stated
-pub mod StatementParts
-pub mod Statement
+pub mod StepLaw
 pub use Rattle.walks.specs.Walk
 pub use Rattle.bus_ticks.specs.Prices
 pub use Rattle.bus_ticks.specs.Worst
 pub use Rattle.loader.specs.Image
 pub use Rattle.arm2_decode.specs.Table
+pub use Rattle.statement.specs.Stated
+pub use Rattle.statement.specs.Statement
+pub use Rattle.statement.specs.Readings

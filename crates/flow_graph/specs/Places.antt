@@ -1,5 +1,5 @@
 -- The order of places (our own: it is that of certificates).
-use Rattle.std.specs.Prelude.{ℕ, List, slice_index_or}
+use Rattle.std.specs.Prelude.{ℕ, ◌<◌, ◌≤◌, ◌^◌, List, length, slice_index_or, All}
 use Rattle.std.specs.Ordering.{nat_cmp, ordering_then}
 use Rattle.std.specs.Cmp.Lexicographic.{slice_cmp}
 use Rattle.std.specs.declared.cmp.Ordering.{Ordering}
@@ -17,3 +17,12 @@ place_cmp Exit Exit = Equal
 -- the place of a number: Exit past the end
 abbrev pub place_at : List Place → ℕ → Place
 place_at places n = slice_index_or places n Exit
+
+-- addresses lie below 4000000, and calls nest at most eight deep
+abbrev pub IsInRange : List ℕ → ℕ → Type 0
+IsInRange calls address = (address < 2 ^ 26) × (length calls ≤ 8) × All (λ c. c < 2 ^ 26) calls
+
+-- Exit, or an address below 4000000
+abbrev pub IsInSpace : Place → Type 0
+IsInSpace (At calls address) = address < 2 ^ 26
+IsInSpace Exit = Unit {0}

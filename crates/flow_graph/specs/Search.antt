@@ -1,5 +1,5 @@
 -- What the search for places knows on its way (our own).
-use Rattle.std.specs.Prelude.{◌≡◌, ℕ, ◌<◌, ◌≤◌, cond, List, [], ◌∷◌, ◌++◌, length, slice_index_or, Option, Some, None, Contains, IsTrue, ◌↔◌, ◌⊎◌}
+use Rattle.std.specs.Prelude.{◌≡◌, ℕ, ◌<◌, ◌≤◌, cond, nat_lt, List, [], ◌∷◌, ◌++◌, length, slice_index_or, Option, Some, None, Contains, IsTrue, ◌↔◌, ◌⊎◌}
 use Rattle.std.specs.List.{AllZip, flat_map}
 use Rattle.std.specs.List.Sorted.{IsStrictlySortedBy}
 use Rattle.std.specs.BTreeSet.{BTreeSet, contains, btree_set_len}
@@ -10,7 +10,7 @@ use Rattle.flow_graph.specs.Edges.{AreEdgesOf, HasAction}
 use Rattle.flow_graph.specs.Graph.{IsReached, start_of, starts_from}
 use Rattle.flow_graph.specs.Kinds.{is_never}
 use Rattle.flow_graph.specs.Places.{place_cmp}
-use Rattle.flow_graph.specs.Stated.{Stated}
+use Rattle.statement.specs.Stated.{Stated, Target, target_of}
 use Rattle.flow_graph.specs.contracts.places.PlaceOrd.TheImpl as PlaceOrder
 use Rattle.flow_graph.specs.declared.edges.Edge.{Edge}
 use Rattle.flow_graph.specs.declared.faults.BuildFault.{BuildFault}
@@ -20,6 +20,8 @@ use Rattle.flow_graph.specs.declared.kinds.Kind.{Kind}
 use Rattle.flow_graph.specs.declared.kinds.Kind.TheVariants as kind
 use Rattle.flow_graph.specs.declared.places.Place.{Place}
 use Rattle.flow_graph.specs.declared.places.Place.TheVariants.{At, Exit}
+use Rattle.statement.specs.declared.stated.TargetKind.{TargetKind}
+use Rattle.statement.specs.declared.stated.TargetKind.TheVariants as stated
 
 -- ## Places found
 
@@ -69,31 +71,46 @@ pub record IsCrowdedBy (old : List Place) (edges : List Edge) : Type 0 where
 
 -- ## Edges of one place
 
--- why a word that is done is refused
-abbrev pub kind_fault : ℕ → Kind → Option BuildFault
-kind_fault address kind.Plain = None
-kind_fault address (kind.Branch offset) = None
-kind_fault address kind.Return = None
-kind_fault address kind.Unallocated = Some (fault.UnallocatedWord address)
-kind_fault address kind.NotYet = Some (fault.NotYet address)
+-- why a call is refused
+abbrev pub call_fault : List ℕ → Option BuildFault
+call_fault calls = cond (nat_lt (length calls) 8) None (Some fault.TooDeep)
 
-abbrev pub action_fault : ℕ → Action → Option BuildFault
-action_fault address action = cond (is_never action.cond) None (kind_fault address action.kind)
+abbrev pub stated_fault : List ℕ → TargetKind → Option BuildFault
+stated_fault calls stated.Jump = None
+stated_fault calls stated.Call = call_fault calls
+stated_fault calls stated.Return = None
+stated_fault calls stated.Leave = None
+
+abbrev pub writer_fault : List ℕ → Option Target → Option BuildFault
+writer_fault calls None = None
+writer_fault calls (Some t) = stated_fault calls t.kind
+
+-- why a word that is done is refused
+abbrev pub kind_fault : Stated → List ℕ → ℕ → Kind → Option BuildFault
+kind_fault st calls address kind.Plain = None
+kind_fault st calls address (kind.Branch offset) = None
+kind_fault st calls address (kind.Call offset) = call_fault calls
+kind_fault st calls address kind.Writer = writer_fault calls (target_of st address)
+kind_fault st calls address kind.Trap = Some (fault.TrapInHandler address)
+kind_fault st calls address kind.Unallocated = Some (fault.UnallocatedWord address)
+
+abbrev pub action_fault : Stated → List ℕ → ℕ → Action → Option BuildFault
+action_fault st calls address action = cond (is_never action.cond) None (kind_fault st calls address action.kind)
 
 -- the place has an image word that is not refused
-abbrev pub IsSound : Words → Place → Type 0
-IsSound words (At calls address) = (action : Action) × HasAction words address action × (action_fault address action ≡ None)
-IsSound words Exit = Unit {0}
+abbrev pub IsSound : Words → Stated → Place → Type 0
+IsSound words st (At calls address) = (action : Action) × HasAction words address action × (action_fault st calls address action ≡ None)
+IsSound words st Exit = Unit {0}
 
 -- why the place has no edges
-abbrev pub IsPlaceFault : Words → Place → BuildFault → Type 0
-IsPlaceFault words (At calls address) f =
+abbrev pub IsPlaceFault : Words → Stated → Place → BuildFault → Type 0
+IsPlaceFault words st (At calls address) f =
     ((word_of words address ≡ None) × (f ≡ fault.OutsideImage address))
-    ⊎ ((action : Action) × HasAction words address action × (action_fault address action ≡ Some f))
-IsPlaceFault words Exit f = ⊥
+    ⊎ ((action : Action) × HasAction words address action × (action_fault st calls address action ≡ Some f))
+IsPlaceFault words st Exit f = ⊥
 
-abbrev pub IsEdgeFault : Words → Place → BuildFault → Type 0
-IsEdgeFault words place f = (f ≡ fault.Memory) ⊎ IsPlaceFault words place f
+abbrev pub IsEdgeFault : Words → Stated → Place → BuildFault → Type 0
+IsEdgeFault words st place f = (f ≡ fault.Memory) ⊎ IsPlaceFault words st place f
 
 module _ (words : Words) (st : Stated) (profile : Profile) where
   -- new is old with the edges of the place
@@ -106,7 +123,7 @@ module _ (words : Words) (st : Stated) (profile : Profile) where
 
   -- the place is not refused, and its edges end at known places
   pub record IsDone (order : List Place) (p : Place) : Type 0 where
-    pub sound : IsSound words p
+    pub sound : IsSound words st p
     pub edges : List Edge
     pub are : AreEdgesOf words st profile p edges
     pub closed : (e : Edge) → Contains edges e → IsIn order e.to
@@ -120,7 +137,7 @@ module _ (words : Words) (st : Stated) (profile : Profile) where
 
   -- the places to which a place leads are added, and it is not refused
   pub record IsVisited (old : List Place) (p : Place) (new : List Place) : Type 0 where
-    pub sound : IsSound words p
+    pub sound : IsSound words st p
     pub edges : List Edge
     pub are : AreEdgesOf words st profile p edges
     pub grows : Grows old edges new
@@ -128,13 +145,13 @@ module _ (words : Words) (st : Stated) (profile : Profile) where
   -- why the places to which a place leads are not added
   abbrev pub IsVisitFault : List Place → Place → BuildFault → Type 0
   IsVisitFault order p f =
-      IsEdgeFault words p f
+      IsEdgeFault words st p f
       ⊎ ((f ≡ fault.TooManyPlaces) × (edges : List Edge) × AreEdgesOf words st profile p edges × IsCrowdedBy order edges)
 
   -- no reason to refuse
   pub record IsAllowed (places : List Place) : Type 0 where
     pub few : length places ≤ 16384
-    pub sound : (p : Place) → Contains places p → IsSound words p
+    pub sound : (p : Place) → Contains places p → IsSound words st p
 
   -- ## Edges of all places
 
@@ -146,5 +163,5 @@ module _ (words : Words) (st : Stated) (profile : Profile) where
     pub firsts_are : firsts ≡ starts_from 0 parts
 
 -- why the edges of the places are not put one after another
-abbrev pub IsTurnFault : Words → List Place → BuildFault → Type 0
-IsTurnFault words places f = (f ≡ fault.Memory) ⊎ ((p : Place) × Contains places p × IsPlaceFault words p f)
+abbrev pub IsTurnFault : Words → Stated → List Place → BuildFault → Type 0
+IsTurnFault words st places f = (f ≡ fault.Memory) ⊎ ((p : Place) × Contains places p × IsPlaceFault words st p f)

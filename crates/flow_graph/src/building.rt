@@ -1,6 +1,7 @@
 ghost use Rattle.std.specs.Prelude.{◌≡◌, ◌≢◌, OnOk, IfErr, IfOk};
 ghost use Rattle.flow_graph.specs.Graph.{ArePlaces, IsBuildFault, IsFlowGraph, start_of};
 ghost use Rattle.flow_graph.specs.Search.{AreInTurn, IsAllowed, IsFound, IsSearch, IsTurnFault, IsVisited, IsVisitFault};
+ghost use Rattle.statement.specs.Stated.{IsStated};
 ghost use Rattle.flow_graph.specs.declared.faults.BuildFault.{BuildFault};
 
 use crate::call_list::Calls;
@@ -10,15 +11,17 @@ use crate::flow::Graph;
 use crate::places::Place;
 use crate::pushing::push_edges;
 use crate::search::{add, add_ends, sorted};
-use crate::stated::Statement;
+use crate::strays::stray_target;
 use bus_ticks::Profile;
 use loader::image::Image;
+use statement::Statement;
 use std::alloc::Global;
 use std::collections::BTreeSet;
 
 // Where a walk starts.
 fn start(statement: &Statement) -> Place
-    ensures { result ≡ start_of statement.now }
+    ensures value { result ≡ start_of statement.now }
+    ensures is_stated { IsStated statement.now }
 {
     Place::At(Calls::new(), statement.entry())
 }
@@ -77,7 +80,7 @@ fn edges_in_turn(
     places: &[Place],
 ) -> Result<(Vec<Edge>, Vec<usize>), BuildFault>
     ensures turn { IfOk result (λ made. AreInTurn image.now statement.now profile.now places.now made.0.items made.1.items) }
-    ensures fault { IfErr result (IsTurnFault image.now places.now) }
+    ensures fault { IfErr result (IsTurnFault image.now statement.now places.now) }
 {
     let mut edges = Vec::new(alloc);
     let mut firsts = Vec::new(alloc);
@@ -102,6 +105,9 @@ pub fn build(
     ensures allowed { OnOk result ((fault : BuildFault) → fault ≢ BuildFault.Memory → IsBuildFault image.now statement.now profile.now fault → ⊥) }
     ensures fault { IfErr result (IsBuildFault image.now statement.now profile.now) }
 {
+    if let Some(address) = stray_target(image, statement) {
+        return Err(BuildFault::TargetNotWriter(address));
+    }
     let seen = explore(alloc, image, statement, profile)?;
     let places = sorted(alloc, &seen)?;
     let (edges, firsts) = edges_in_turn(alloc, image, statement, profile, &places)?;

@@ -1,7 +1,7 @@
 use std::alloc::{AllocError, AllocFailed};
 use thiserror::Error;
 
-/// Why there is no flow graph. An address is that of a reached place.
+/// Why there is no flow graph. An address is that of a reached place, but for that of `TargetNotWriter`.
 #[derive(Clone, Copy, Debug, PartialEq, Eq, Drop, Error)]
 pub enum BuildFault {
     /// A growth was refused.
@@ -13,12 +13,18 @@ pub enum BuildFault {
     /// The word there is no instruction, and its condition is not NV.
     #[error("UnallocatedWord at {0:X}")]
     UnallocatedWord(u32),
+    /// The word there is a software interrupt or undefined, and its condition is not NV.
+    #[error("TrapInHandler at {0:X}")]
+    TrapInHandler(u32),
+    /// A place with eight calls has a word that calls, and its condition is not NV.
+    #[error("TooDeep")]
+    TooDeep,
     /// More than 16,384 places are reached, besides Exit.
     #[error("TooManyPlaces")]
     TooManyPlaces,
-    /// The word there is an instruction that no graph takes yet, and its condition is not NV.
-    #[error("NotYet at {0:X}")]
-    NotYet(u32),
+    /// A target is stated for that address, where the image has no word that writes R15.
+    #[error("TargetNotWriter at {0:X}")]
+    TargetNotWriter(u32),
 }
 
 impl From<AllocError> for BuildFault {
@@ -41,24 +47,4 @@ impl<T: Drop> From<AllocFailed<T>> for BuildFault {
     fn from(_refused: AllocFailed<T>) -> BuildFault {
         BuildFault::Memory
     }
-}
-
-/// Why a text is no statement.
-#[derive(Clone, Copy, Debug, PartialEq, Eq, Drop, Error)]
-pub enum StatementFault {
-    /// A growth was refused.
-    #[error("Memory")]
-    Memory,
-    /// The bytes are not UTF-8 or no TOML document.
-    #[error("NotToml")]
-    NotToml,
-    /// There is another key than `entry` and `leave`.
-    #[error("UnknownKey")]
-    UnknownKey,
-    /// `entry` is missing or no integer, or `leave` is none of the four words.
-    #[error("WrongKind")]
-    WrongKind,
-    /// `entry` is no multiple of 4, or not from 0 to 3FFFFFC.
-    #[error("OutOfRange")]
-    OutOfRange,
 }

@@ -1,28 +1,42 @@
 ghost use Rattle.std.specs.Prelude.{◌≡◌};
-ghost use Rattle.flow_graph.specs.Kinds.{IsAction, is_always, is_compare, is_never, kind_of, writes_pc};
+ghost use Rattle.flow_graph.specs.Kinds.{IsAction, IsWork, data_kind, is_always, is_compare, is_never, is_pc, is_writer, kind_of, transfer, work_of, writer_if};
 
-use arm2_decode::{Cond, DataImmediate, Opcode, Operation, Register, decode};
+use arm2_decode::{Cond, Opcode, Operation, Register, decode};
 
 /// What a word does to the flow of control where its condition holds.
-#[derive(Clone, Copy, Debug, PartialEq, Eq)]
+#[derive(Clone, Copy)]
 pub enum Kind {
     /// It goes on at the next word.
     Plain,
     /// It jumps, by a number of words that is signed in 24 bits.
     Branch(u32),
-    /// It writes R15, and so returns.
-    Return,
+    /// It calls, by a number of words that is signed in 24 bits.
+    Call(u32),
+    /// It writes R15 in another way, and so returns where nothing is stated.
+    Writer,
+    /// It is a software interrupt or undefined.
+    Trap,
     /// It is no instruction.
     Unallocated,
-    /// It is an instruction that no graph takes yet.
-    NotYet,
+}
+
+/// What an instruction does besides its fetches.
+#[derive(Clone, Copy)]
+pub enum Work {
+    /// It takes at most so many internal cycles: 0 to 16.
+    Internal(u32),
+    /// It loads so many words, or one byte: 1 to 16; and takes one internal cycle.
+    Load(u32),
+    /// It stores so many words, or one byte: 1 to 16.
+    Store(u32),
 }
 
 /// When a word is carried out, and what it then does.
-#[derive(Clone, Copy, Debug, PartialEq, Eq)]
+#[derive(Clone, Copy)]
 pub struct Action {
     pub cond: Cond,
     pub kind: Kind,
+    pub work: Work,
 }
 
 fn compares(opcode: Opcode) -> bool
@@ -34,57 +48,102 @@ fn compares(opcode: Opcode) -> bool
     )
 }
 
-fn returns(data_processing: &DataImmediate) -> bool
-    ensures { result ≡ writes_pc data_processing.now }
+fn is_r15(register: Register) -> bool
+    ensures { result ≡ is_pc register }
 {
-    data_processing.rd.number() == 15 && !compares(data_processing.opcode)
+    register.number() == 15
+}
+
+fn kind_if(writes: bool) -> Kind
+    ensures { result ≡ writer_if writes }
+{
+    if writes { Kind::Writer } else { Kind::Plain }
+}
+
+fn data_processing(opcode: Opcode, rd: Register) -> Kind
+    ensures { result ≡ data_kind opcode rd }
+{
+    kind_if(is_r15(rd) && !compares(opcode))
 }
 
 fn operation_kind(operation: &Operation) -> Kind
     ensures { result ≡ kind_of operation.now }
 {
     match operation {
-        Operation::DataImmediate(data_processing) => {
-            if returns(data_processing) {
-                Kind::Return
+        Operation::Multiply(_) => Kind::Plain,
+        Operation::DataRegister(x) => data_processing(x.opcode, x.rd),
+        Operation::DataRegisterShift(x) => data_processing(x.opcode, x.rd),
+        Operation::DataImmediate(x) => data_processing(x.opcode, x.rd),
+        Operation::SingleImmediate(x) => kind_if(x.load && is_r15(x.rd)),
+        Operation::SingleRegister(x) => kind_if(x.load && is_r15(x.rd)),
+        Operation::Block(x) => kind_if(x.load && x.list >= 0x8000),
+        Operation::Branch(x) => {
+            if x.link {
+                Kind::Call(x.offset)
             } else {
-                Kind::Plain
+                Kind::Branch(x.offset)
             }
         }
-        Operation::Branch(branch) => {
-            if branch.link {
-                Kind::NotYet
-            } else {
-                Kind::Branch(branch.offset)
-            }
-        }
-        Operation::Multiply(_)
-        | Operation::DataRegister(_)
-        | Operation::DataRegisterShift(_)
-        | Operation::SingleImmediate(_)
-        | Operation::SingleRegister(_)
-        | Operation::Block(_)
+        Operation::Swi(_)
+        | Operation::UndefinedTransfer(_)
+        | Operation::CoprocessorTransfer(_)
+        | Operation::Coprocessor(_) => Kind::Trap,
+    }
+}
+
+fn transferred(load: bool, words: u32) -> Work
+    ensures { result ≡ transfer load words }
+{
+    if load {
+        Work::Load(words)
+    } else {
+        Work::Store(words)
+    }
+}
+
+fn operation_work(operation: &Operation) -> Work
+    ensures { result ≡ work_of operation.now }
+{
+    match operation {
+        Operation::Multiply(_) => Work::Internal(16),
+        Operation::DataRegisterShift(_) => Work::Internal(1),
+        Operation::SingleImmediate(x) => transferred(x.load, 1),
+        Operation::SingleRegister(x) => transferred(x.load, 1),
+        Operation::Block(x) => transferred(x.load, x.list.count_ones()),
+        Operation::DataRegister(_)
+        | Operation::DataImmediate(_)
+        | Operation::Branch(_)
         | Operation::Swi(_)
         | Operation::UndefinedTransfer(_)
         | Operation::CoprocessorTransfer(_)
-        | Operation::Coprocessor(_) => Kind::NotYet,
+        | Operation::Coprocessor(_) => Work::Internal(0),
     }
 }
 
 /// When a word is carried out, and what it then does.
 pub fn action_of(word: u32) -> Action
-    ensures { IsAction word result }
+    ensures value { IsAction word result }
+    ensures fits { IsWork result.work }
 {
     match decode(word) {
         Ok(instr) => Action {
             cond: instr.cond,
             kind: operation_kind(&instr.operation),
+            work: operation_work(&instr.operation),
         },
         Err(unallocated) => Action {
             cond: unallocated.cond,
             kind: Kind::Unallocated,
+            work: Work::Internal(0),
         },
     }
+}
+
+/// Whether the word writes R15, other than a branch or a call.
+pub fn is_r15_writer(kind: Kind) -> bool
+    ensures { result ≡ is_writer kind }
+{
+    matches!(kind, Kind::Writer)
 }
 
 /// Whether the condition holds always.

@@ -1,5 +1,5 @@
-//! The control-flow graph of a handler: its statement, its places, and the edges between them with their costs
-//! in ticks.
+//! The control-flow graph of a handler: its places, and the edges between them with their costs in ticks. The statement
+//! that it is built from is given on as it is.
 #![tactic(auto)]
 
 mod building;
@@ -7,13 +7,12 @@ mod call_list;
 mod edges;
 mod faults;
 mod flow;
-mod keys;
 mod kinds;
+mod law;
 mod places;
 mod pushing;
-mod reading;
 mod search;
-mod stated;
+mod strays;
 #[cfg(test)]
 mod tests;
 mod ticks;
@@ -21,9 +20,9 @@ mod ticks;
 pub use building::build;
 pub use call_list::{Calls, DEPTH};
 pub use edges::{Edge, Label};
-pub use faults::{BuildFault, StatementFault};
+pub use faults::BuildFault;
 pub use flow::Graph;
+pub use law::{run_law, step_law};
 pub use places::{Place, order_of_places};
-pub use reading::read_statement;
 pub use search::MOST_PLACES;
-pub use stated::{Loop, Statement};
+pub use statement::{Loop, Statement, StatementFault, Target, TargetKind, read_statement};

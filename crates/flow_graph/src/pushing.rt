@@ -1,137 +1,196 @@
-ghost use Rattle.std.specs.Prelude.{◌≡◌, ◌++◌, ◌∷◌, [], map, IfErr, IfOk, OnOk, Some, None, ◌⊎◌, ◌<◌};
-ghost use Rattle.flow_graph.specs.Edges.{do_edge, doing, jumping, landings, returning, skip_edge, word_edges};
-ghost use Rattle.flow_graph.specs.Search.{AddsEdges, IsEdgeFault, IsSound, action_fault, kind_fault};
+ghost use Rattle.std.specs.Prelude.{◌≡◌, ◌++◌, ◌∷◌, [], map, All, IfErr, OnOk, Some, None, ◌⊎◌, ◌<◌, ◌^◌};
+ghost use Rattle.flow_graph.specs.Edges.{calling, do_edge, done, inside, returning, skip_edge, word_edges, writer_landings};
+ghost use Rattle.flow_graph.specs.Kinds.{IsWork};
+ghost use Rattle.flow_graph.specs.Places.{IsInSpace};
+ghost use Rattle.statement.specs.Stated.{target_of};
+ghost use Rattle.flow_graph.specs.Search.{AddsEdges, IsEdgeFault, IsSound, action_fault, call_fault, kind_fault, writer_fault};
 
 use crate::call_list::Calls;
 use crate::edges::{Edge, Label};
 use crate::faults::BuildFault;
 use crate::kinds::{Action, Kind, action_of, holds_always, holds_never};
 use crate::places::Place;
-use crate::stated::Statement;
-use crate::ticks::{after, branch_target, jump_ticks, leave_ticks, passing_ticks};
-use bus_ticks::{Class, Profile};
+use crate::ticks::{after, branch_target, do_ticks, passing_ticks};
+use bus_ticks::Profile;
 use loader::image::Image;
+use statement::{Statement, TargetKind};
+
+// A word of the image at a place, and what it does.
+#[derive(Clone, Copy)]
+struct Site {
+    calls: Calls,
+    address: u32,
+    action: Action,
+}
 
 // The edge that passes over the word.
-fn push_skip(
-    out: &mut Vec<Edge>,
-    profile: &Profile,
-    calls: &Calls,
-    address: u32,
-) -> Result<(), BuildFault>
-    ensures ok { OnOk result (out.new.items ≡ out.old.items ++ skip_edge profile.now calls.now address ∷ []) }
+fn push_skip(out: &mut Vec<Edge>, profile: &Profile, site: &Site) -> Result<(), BuildFault>
+    ensures ok { OnOk result (out.new.items ≡ out.old.items ++ skip_edge profile.now site.now.calls site.now.address ∷ []) }
     ensures err { IfErr result (λ fault. fault ≡ BuildFault.Memory) }
 {
     out.push(Edge {
-        from: Place::At(*calls, address),
+        from: Place::At(site.calls, site.address),
         label: Label::Skip,
-        to: Place::At(*calls, after(address, 4)),
-        cost: passing_ticks(profile, address),
+        to: Place::At(site.calls, after(site.address, 4)),
+        cost: passing_ticks(profile, site.address),
     })?;
     Ok(())
 }
 
-// A place to which a word leads where its condition holds, and what the word then costs besides.
-#[derive(Clone, Copy)]
-struct Landing {
-    to: Place,
-    ticks: u32,
-}
-
-// Where a return leads.
-fn return_landing(leave: Class, profile: &Profile, calls: &Calls) -> Landing
-    ensures place { result.to ≡ returning calls.now }
-    ensures ticks { result.ticks ≡ jumping leave profile.now result.to }
-    ensures small { result.ticks < 512 }
-{
-    match calls.split_last() {
-        Some((outer, last)) => {
-            let to = after(last, 4);
-            Landing {
-                to: Place::At(outer, to),
-                ticks: jump_ticks(profile, to),
-            }
-        }
-        None => Landing {
-            to: Place::Exit,
-            ticks: leave_ticks(profile, leave),
-        },
-    }
-}
-
-// Where a word leads.
-fn landing_of(
-    leave: Class,
-    profile: &Profile,
-    calls: &Calls,
-    address: u32,
-    kind: Kind,
-) -> Result<Landing, BuildFault>
-    ensures place { IfOk result (λ landing. landings calls.now address kind ≡ landing.to ∷ []) }
-    ensures ticks { IfOk result (λ landing. landing.ticks ≡ doing leave profile.now kind landing.to) }
-    ensures small { IfOk result (λ landing. landing.ticks < 512) }
-    ensures sound { OnOk result (kind_fault address kind ≡ None) }
-    ensures fault { IfErr result (λ fault. kind_fault address kind ≡ Some fault) }
-{
-    match kind {
-        Kind::Plain => Ok(Landing {
-            to: Place::At(*calls, after(address, 4)),
-            ticks: 0,
-        }),
-        Kind::Branch(offset) => {
-            let to = branch_target(address, offset);
-            Ok(Landing {
-                to: Place::At(*calls, to),
-                ticks: jump_ticks(profile, to),
-            })
-        }
-        Kind::Return => Ok(return_landing(leave, profile, calls)),
-        Kind::Unallocated => Err(BuildFault::UnallocatedWord(address)),
-        Kind::NotYet => Err(BuildFault::NotYet(address)),
-    }
-}
-
-// The edge that does the word.
+// The edge that does the word and goes to that place.
 fn push_do(
     out: &mut Vec<Edge>,
-    leave: Class,
+    statement: &Statement,
     profile: &Profile,
-    calls: &Calls,
-    address: u32,
-    kind: Kind,
+    site: &Site,
+    to: Place,
 ) -> Result<(), BuildFault>
-    ensures ok { OnOk result (out.new.items ≡ out.old.items ++ map (do_edge leave profile.now calls.now address kind) (landings calls.now address kind)) }
-    ensures sound { OnOk result (kind_fault address kind ≡ None) }
-    ensures err { IfErr result (λ fault. (fault ≡ BuildFault.Memory) ⊎ (kind_fault address kind ≡ Some fault)) }
+    requires work { IsWork site.now.action.work }
+    requires to { IsInSpace to }
+    ensures ok { OnOk result (out.new.items ≡ out.old.items ++ do_edge statement.now profile.now site.now.calls site.now.address site.now.action to ∷ []) }
+    ensures err { IfErr result (λ fault. fault ≡ BuildFault.Memory) }
 {
-    let landing = landing_of(leave, profile, calls, address, kind)?;
     out.push(Edge {
-        from: Place::At(*calls, address),
+        from: Place::At(site.calls, site.address),
         label: Label::Do,
-        to: landing.to,
-        cost: passing_ticks(profile, address) + landing.ticks,
+        to,
+        cost: do_ticks(statement, profile, site.address, site.action, &to),
     })?;
     Ok(())
+}
+
+// The edges that do the word and go to those addresses, inside the calls.
+fn push_inside(
+    out: &mut Vec<Edge>,
+    statement: &Statement,
+    profile: &Profile,
+    site: &Site,
+    calls: &Calls,
+    to: &[u32],
+) -> Result<(), BuildFault>
+    requires work { IsWork site.now.action.work }
+    requires to { All (λ a. a < 2 ^ 26) to.now }
+    ensures ok { OnOk result (out.new.items ≡ out.old.items ++ map (do_edge statement.now profile.now site.now.calls site.now.address site.now.action) (inside calls.now to.now)) }
+    ensures err { IfErr result (λ fault. fault ≡ BuildFault.Memory) }
+{
+    for address in to {
+        push_do(out, statement, profile, site, Place::At(*calls, *address))?;
+    }
+    Ok(())
+}
+
+// The edges of a word that calls one of those addresses.
+fn push_call(
+    out: &mut Vec<Edge>,
+    statement: &Statement,
+    profile: &Profile,
+    site: &Site,
+    to: &[u32],
+) -> Result<(), BuildFault>
+    requires address { site.now.address < 2 ^ 26 }
+    requires work { IsWork site.now.action.work }
+    requires to { All (λ a. a < 2 ^ 26) to.now }
+    ensures ok { OnOk result (out.new.items ≡ out.old.items ++ map (do_edge statement.now profile.now site.now.calls site.now.address site.now.action) (calling site.now.calls site.now.address to.now)) }
+    ensures sound { OnOk result (call_fault site.now.calls ≡ None) }
+    ensures err { IfErr result (λ fault. (fault ≡ BuildFault.Memory) ⊎ (call_fault site.now.calls ≡ Some fault)) }
+{
+    match site.calls.with(site.address) {
+        Some(calls) => push_inside(out, statement, profile, site, &calls, to),
+        None => Err(BuildFault::TooDeep),
+    }
+}
+
+// Where a return goes.
+fn return_place(calls: &Calls) -> Place
+    ensures value { result ≡ returning calls.now }
+    ensures fits { IsInSpace result }
+{
+    match calls.split_last() {
+        Some((outer, last)) => Place::At(outer, after(last, 4)),
+        None => Place::Exit,
+    }
+}
+
+// The edges of a word that writes R15, by what is stated of it.
+fn push_writer(
+    out: &mut Vec<Edge>,
+    statement: &Statement,
+    profile: &Profile,
+    site: &Site,
+) -> Result<(), BuildFault>
+    requires address { site.now.address < 2 ^ 26 }
+    requires work { IsWork site.now.action.work }
+    ensures ok { OnOk result (out.new.items ≡ out.old.items ++ map (do_edge statement.now profile.now site.now.calls site.now.address site.now.action) (writer_landings site.now.calls site.now.address (target_of statement.now site.now.address))) }
+    ensures sound { OnOk result (writer_fault site.now.calls (target_of statement.now site.now.address) ≡ None) }
+    ensures err { IfErr result (λ fault. (fault ≡ BuildFault.Memory) ⊎ (writer_fault site.now.calls (target_of statement.now site.now.address) ≡ Some fault)) }
+{
+    let Some(target) = statement.target_at(site.address) else {
+        return push_do(out, statement, profile, site, return_place(&site.calls));
+    };
+    match target.kind() {
+        TargetKind::Jump => push_inside(out, statement, profile, site, &site.calls, target.to()),
+        TargetKind::Call => push_call(out, statement, profile, site, target.to()),
+        TargetKind::Return => push_do(out, statement, profile, site, return_place(&site.calls)),
+        TargetKind::Leave => push_do(out, statement, profile, site, Place::Exit),
+    }
+}
+
+// The edges that do the word.
+fn push_done(
+    out: &mut Vec<Edge>,
+    statement: &Statement,
+    profile: &Profile,
+    site: &Site,
+) -> Result<(), BuildFault>
+    requires address { site.now.address < 2 ^ 26 }
+    requires work { IsWork site.now.action.work }
+    ensures ok { OnOk result (out.new.items ≡ out.old.items ++ done statement.now profile.now site.now.calls site.now.address site.now.action) }
+    ensures sound { OnOk result (kind_fault statement.now site.now.calls site.now.address site.now.action.kind ≡ None) }
+    ensures err { IfErr result (λ fault. (fault ≡ BuildFault.Memory) ⊎ (kind_fault statement.now site.now.calls site.now.address site.now.action.kind ≡ Some fault)) }
+{
+    let address = site.address;
+    match site.action.kind {
+        Kind::Plain => {
+            let next = Place::At(site.calls, after(address, 4));
+            push_do(out, statement, profile, site, next)
+        }
+        Kind::Branch(offset) => {
+            let to = Place::At(site.calls, branch_target(address, offset));
+            push_do(out, statement, profile, site, to)
+        }
+        Kind::Call(offset) => {
+            push_call(
+                out,
+                statement,
+                profile,
+                site,
+                &[branch_target(address, offset)],
+            )
+        }
+        Kind::Writer => push_writer(out, statement, profile, site),
+        Kind::Trap => Err(BuildFault::TrapInHandler(address)),
+        Kind::Unallocated => Err(BuildFault::UnallocatedWord(address)),
+    }
 }
 
 // The edges of a word.
 fn push_word(
     out: &mut Vec<Edge>,
-    leave: Class,
+    statement: &Statement,
     profile: &Profile,
-    calls: &Calls,
-    address: u32,
-    action: Action,
+    site: &Site,
 ) -> Result<(), BuildFault>
-    ensures ok { OnOk result (out.new.items ≡ out.old.items ++ word_edges leave profile.now calls.now address action) }
-    ensures sound { OnOk result (action_fault address action ≡ None) }
-    ensures err { IfErr result (λ fault. (fault ≡ BuildFault.Memory) ⊎ (action_fault address action ≡ Some fault)) }
+    requires address { site.now.address < 2 ^ 26 }
+    requires work { IsWork site.now.action.work }
+    ensures ok { OnOk result (out.new.items ≡ out.old.items ++ word_edges statement.now profile.now site.now.calls site.now.address site.now.action) }
+    ensures sound { OnOk result (action_fault statement.now site.now.calls site.now.address site.now.action ≡ None) }
+    ensures err { IfErr result (λ fault. (fault ≡ BuildFault.Memory) ⊎ (action_fault statement.now site.now.calls site.now.address site.now.action ≡ Some fault)) }
 {
-    if !holds_always(action.cond) {
-        push_skip(out, profile, calls, address)?;
+    if !holds_always(site.action.cond) {
+        push_skip(out, profile, site)?;
     }
-    if !holds_never(action.cond) {
-        push_do(out, leave, profile, calls, address, action.kind)?;
+    if !holds_never(site.action.cond) {
+        push_done(out, statement, profile, site)?;
     }
     Ok(())
 }
@@ -145,8 +204,8 @@ pub fn push_edges(
     place: &Place,
 ) -> Result<(), BuildFault>
     ensures adds { OnOk result (AddsEdges image.now statement.now profile.now place.now out.old.items out.new.items) }
-    ensures sound { OnOk result (IsSound image.now place.now) }
-    ensures err { IfErr result (IsEdgeFault image.now place.now) }
+    ensures sound { OnOk result (IsSound image.now statement.now place.now) }
+    ensures err { IfErr result (IsEdgeFault image.now statement.now place.now) }
 {
     let (calls, address) = match place {
         Place::Exit => return Ok(()),
@@ -155,12 +214,10 @@ pub fn push_edges(
     let Some(word) = image.word_at(address) else {
         return Err(BuildFault::OutsideImage(address));
     };
-    push_word(
-        out,
-        statement.leave(),
-        profile,
-        calls,
+    let site = Site {
+        calls: *calls,
         address,
-        action_of(word),
-    )
+        action: action_of(word),
+    };
+    push_word(out, statement, profile, &site)
 }

@@ -1,8 +1,13 @@
 ghost use Rattle.std.specs.Prelude.{◌≡◌, ◌+◌, ◌*◌, ◌<◌, ◌^◌};
-ghost use Rattle.bus_ticks.specs.Worst.{worst_leave_of, worst_n_price, worst_s_price};
-ghost use Rattle.flow_graph.specs.Edges.{passing, target, wrapped};
+ghost use Rattle.bus_ticks.specs.Worst.{worst_n_price, worst_s_price};
+ghost use Rattle.flow_graph.specs.Edges.{arriving, doing, fetching, jumping, passing, target, working, wrapped};
+ghost use Rattle.flow_graph.specs.Kinds.{IsWork};
+ghost use Rattle.flow_graph.specs.Places.{IsInSpace};
 
-use bus_ticks::{Class, Profile, worst_fetch_n, worst_fetch_s, worst_leave};
+use crate::kinds::{Action, Kind, Work};
+use crate::places::Place;
+use bus_ticks::{Class, Profile, worst_fetch_n, worst_fetch_s, worst_leave, worst_transfer};
+use statement::Statement;
 
 /// How many bytes the addresses span.
 const SPACE: u32 = 1 << 26;
@@ -24,7 +29,7 @@ pub fn branch_target(address: u32, offset: u32) -> u32
     after(after(address, 8), offset.wrapping_mul(4))
 }
 
-/// What each word costs: the fetch of the word after the next.
+/// What a word costs that is passed over: the fetch of the word after the next.
 pub fn passing_ticks(profile: &Profile, address: u32) -> u32
     ensures ticks { result ≡ passing profile.now address }
     ensures small { result < 256 }
@@ -32,19 +37,68 @@ pub fn passing_ticks(profile: &Profile, address: u32) -> u32
     worst_fetch_s(profile, after(address, 8))
 }
 
-/// What a jump to the address costs besides: the fetch of the word there, and of the next.
-pub fn jump_ticks(profile: &Profile, to: u32) -> u32
-    requires { to < 2 ^ 26 }
-    ensures ticks { result ≡ worst_n_price profile.now to + worst_s_price profile.now (wrapped (to + 4)) }
-    ensures small { result < 512 }
+// The fetch of the word after the next.
+fn fetch_ticks(profile: &Profile, address: u32, work: Work) -> u32
+    ensures ticks { result ≡ fetching profile.now address work }
+    ensures small { result < 256 }
 {
-    worst_fetch_n(profile, to) + worst_fetch_s(profile, after(to, 4))
+    match work {
+        Work::Internal(_) | Work::Load(_) => passing_ticks(profile, address),
+        Work::Store(_) => worst_fetch_n(profile, after(address, 8)),
+    }
 }
 
-/// What a jump out of the handler costs besides.
-pub fn leave_ticks(profile: &Profile, class: Class) -> u32
-    ensures ticks { result ≡ worst_leave_of profile.now class }
+// What a word costs besides its fetches.
+fn work_ticks(profile: &Profile, class: Class, work: Work) -> u32
+    requires { IsWork work }
+    ensures ticks { result ≡ working profile.now class work }
+    ensures small { result < 4400 }
+{
+    match work {
+        Work::Internal(cycles) => cycles * profile.internal,
+        Work::Load(words) => worst_transfer(profile, class, words, false) + profile.internal,
+        Work::Store(words) => worst_transfer(profile, class, words, true),
+    }
+}
+
+// What the fetches after a jump cost: of the word at its target, and of the next.
+fn jump_ticks(profile: &Profile, leave: Class, to: &Place) -> u32
+    requires { IsInSpace to.now }
+    ensures ticks { result ≡ jumping leave profile.now to.now }
     ensures small { result < 512 }
 {
-    worst_leave(profile, class)
+    match to {
+        Place::At(_, address) => {
+            worst_fetch_n(profile, *address) + worst_fetch_s(profile, after(*address, 4))
+        }
+        Place::Exit => worst_leave(profile, leave),
+    }
+}
+
+fn arrival_ticks(profile: &Profile, leave: Class, kind: Kind, to: &Place) -> u32
+    requires { IsInSpace to.now }
+    ensures ticks { result ≡ arriving leave profile.now kind to.now }
+    ensures small { result < 512 }
+{
+    match kind {
+        Kind::Branch(_) | Kind::Call(_) | Kind::Writer => jump_ticks(profile, leave, to),
+        Kind::Plain | Kind::Trap | Kind::Unallocated => 0,
+    }
+}
+
+/// What a word costs that is done, and so goes to that place.
+pub fn do_ticks(
+    statement: &Statement,
+    profile: &Profile,
+    address: u32,
+    action: Action,
+    to: &Place,
+) -> u32
+    requires work { IsWork action.work }
+    requires to { IsInSpace to.now }
+    ensures { result ≡ doing statement.now profile.now address action to.now }
+{
+    fetch_ticks(profile, address, action.work)
+        + work_ticks(profile, statement.class_at(address), action.work)
+        + arrival_ticks(profile, statement.leave(), action.kind, to)
 }

@@ -1,23 +1,44 @@
--- A walk written with repeats, and the edges that it unfolds to.
-use Rattle.std.specs.Prelude.{ℕ, zero, suc, List, [], ◌∷◌, ◌++◌, flat_map}
+-- A walk written with repeats, and what it unfolds to (our own format).
+use Rattle.std.specs.Prelude.{ℕ, ◌+◌, max, List, [], ◌∷◌, flat_map}
+use Rattle.walks.specs.Segments.{repeated}
 use Rattle.flow_graph.specs.declared.edges.Edge.{Edge}
 use Rattle.longest_walk.specs.declared.folded.Item.{Item}
 use Rattle.longest_walk.specs.declared.folded.Item.TheOpen.{Item-F}
 use Rattle.longest_walk.specs.declared.folded.Item.TheFolds.{fold-Item}
 
--- a walk, k times
-abbrev pub repeated : {E : Type 0} → ℕ → List E → List E
-repeated zero walk = []
-repeated (suc k) walk = walk ++ repeated k walk
+-- the edges; of the repeats, inner ones included, the counts and the edges of one turn; and how deep repeats stand
+pub record Opened : Type 0 where
+  pub walk : List Edge
+  pub counts : List ℕ
+  pub bodies : List (List Edge)
+  pub depth : ℕ
 
--- an item whose body's items are unfolded already
-abbrev pub unfold_step : Item-F (List Edge) → List Edge
-unfold_step (Item-F.Step e) = e ∷ []
-unfold_step (Item-F.Repeat k body) = repeated k (flat_map (λ walk. walk) body.value.items)
+abbrev pub deepest : List Opened → ℕ
+deepest [] = 0
+deepest (o ∷ rest) = max o.depth (deepest rest)
 
-abbrev pub unfold_item : Item → List Edge
-unfold_item = fold-Item (List Edge) unfold_step
+-- items in a row
+abbrev pub joined : List Opened → Opened
+joined items = record { walk = flat_map (λ o. o.walk) items; counts = flat_map (λ o. o.counts) items; bodies = flat_map (λ o. o.bodies) items; depth = deepest items }
+
+-- a body, so many times
+abbrev pub turned : ℕ → Opened → Opened
+turned k body = record { walk = repeated k body.walk; counts = k ∷ body.counts; bodies = body.walk ∷ body.bodies; depth = body.depth + 1 }
+
+-- an item whose body's items are opened already
+abbrev pub open_step : Item-F Opened → Opened
+open_step (Item-F.Step e) = record { walk = e ∷ []; counts = []; bodies = []; depth = 0 }
+open_step (Item-F.Repeat k body) = turned k (joined body.value.items)
+
+abbrev pub open_item : Item → Opened
+open_item = fold-Item Opened open_step
+
+abbrev pub open_items : List Item → Opened
+open_items items = record { walk = flat_map (λ item. (open_item item).walk) items; counts = flat_map (λ item. (open_item item).counts) items; bodies = flat_map (λ item. (open_item item).bodies) items; depth = deepest_item items } where
+  deepest_item : List Item → ℕ
+  deepest_item [] = 0
+  deepest_item (item ∷ rest) = max (open_item item).depth (deepest_item rest)
 
 -- the edges of a folded walk in order
 abbrev pub unfolded : List Item → List Edge
-unfolded items = flat_map unfold_item items
+unfolded items = (open_items items).walk

@@ -1,14 +1,4 @@
-pub mod Distances
 pub mod Folded
+pub mod Rows
 pub mod Longest
-pub mod Steps
-pub use Rattle.flow_graph.specs.Flow
-pub use Rattle.flow_graph.specs.Places
-pub use Rattle.loop_bounds.specs.Bounds
-pub use Rattle.loop_bounds.specs.Edges
-pub use Rattle.loop_bounds.specs.Instance
-pub use Rattle.loop_bounds.specs.Order
-pub use Rattle.loop_bounds.specs.Tree
-pub use Rattle.walks.specs.Walk
-pub use Rattle.walks.specs.Stretch
-pub use Rattle.walks.specs.Greatest
+pub mod Built

@@ -1,33 +1,71 @@
 -- What the greatest walk through a flow graph and its tree of loop instances is (our own profile).
-use Rattle.std.specs.Prelude.{◌≡◌, List, Contains}
-use Rattle.walks.specs.Walk.{cost_of}
-use Rattle.walks.specs.Greatest.{KeepsBounds, IsGreatest, TooLarge}
+use Rattle.std.specs.Prelude.{◌≡◌, ◌≢◌, ℕ, ◌<◌, ◌≤◌, true, List, [], All, Contains}
+use Rattle.std.specs.List.{AllPass}
+use Rattle.walks.specs.Walk.{Leads, cost_of}
+use Rattle.walks.specs.Greatest.{KeepsBounds, IsGreatest, TooLarge, is_inside}
+use Rattle.flow_graph.specs.declared.places.Place.{Place}
 use Rattle.flow_graph.specs.declared.places.Place.TheVariants.{Exit}
 use Rattle.flow_graph.specs.declared.edges.Edge.{Edge}
 use Rattle.flow_graph.specs.Flow.{Flow, edge_shape, HasEdge}
 use Rattle.loop_bounds.specs.Bounds.{IsCompleteWalk}
-use Rattle.loop_bounds.specs.Instance.{place_loops}
+use Rattle.loop_bounds.specs.Instance.{Instance, is_header, place_loops}
 use Rattle.loop_bounds.specs.Tree.{Tree}
-use Rattle.longest_walk.specs.Folded.{unfolded}
-use Rattle.longest_walk.specs.declared.fault.WalkFault.{WalkFault}
-use Rattle.longest_walk.specs.declared.fault.WalkFault.TheVariants.{Memory, NoCompleteWalk}
+use Rattle.longest_walk.specs.Folded.{open_items, unfolded}
+use Rattle.longest_walk.specs.Rows.{AreLeast, AreRowsOf, RowsFit, RowsHold, potentials_of}
+use Rattle.numbered_walks.specs.declared.fault.WalkFault.{WalkFault}
+use Rattle.numbered_walks.specs.declared.fault.WalkFault.TheVariants.{Memory, NoCompleteWalk, BoundTooLarge}
+use Rattle.longest_walk.specs.declared.folded.Item.{Item}
 use Rattle.longest_walk.specs.declared.folded.Longest.{Longest}
 
 -- the walk keeps the bound of each instance of the tree
 abbrev pub KeepsTree : Tree → List Edge → Type 0
 KeepsTree tree walk = KeepsBounds edge_shape place_loops (Contains tree.instances) walk
 
--- the bound is the greatest cost of a complete walk that keeps the bounds, and the folded walk unfolds to
--- such a walk of that cost
+-- some walk from the entry, wherever it ends, keeps the bounds and costs 2^63 ticks or more
+abbrev pub TreeTooLarge : Flow → Tree → Type 0
+TreeTooLarge flow tree = TooLarge edge_shape (HasEdge flow) (KeepsTree tree) flow.entry Exit
+
+-- ## The walk
+
+-- rounds of one instance: from its header to its header, among its members
+pub record IsBody (flow : Flow) (tree : Tree) (body : List Edge) : Type 0 where
+  pub some : body ≢ []
+  pub instance : Instance
+  pub in_tree : Contains tree.instances instance
+  pub header : Place
+  pub header_is : is_header instance header ≡ true
+  pub turns : Leads edge_shape (HasEdge flow) header body header
+  pub stays : AllPass (is_inside edge_shape place_loops instance) body
+
+-- what a certificate asks of repeats
+pub record AreRepeats (flow : Flow) (tree : Tree) (items : List Item) : Type 0 where
+  pub bodies : All (IsBody flow tree) (open_items items).bodies
+  pub counts : All (λ k. (0 < k) × (k ≤ 1048576)) (open_items items).counts
+  pub shallow : (open_items items).depth ≤ 16
+
+-- a complete walk that keeps the bounds and costs so much
+pub record IsWalkOf (flow : Flow) (tree : Tree) (cost : ℕ) (items : List Item) : Type 0 where
+  pub complete : IsCompleteWalk flow (unfolded items)
+  pub kept : KeepsTree tree (unfolded items)
+  pub costs : cost_of edge_shape (unfolded items) ≡ cost
+  pub repeats : AreRepeats flow tree items
+
+-- ## The whole answer
+
+-- the bound is the greatest cost of a complete walk that keeps the bounds, the folded walk is such a walk of that cost,
+-- and the numbers are the least that meet all rows
 pub record IsLongest (flow : Flow) (tree : Tree) (l : Longest) : Type 0 where
   pub greatest : IsGreatest edge_shape (HasEdge flow) (KeepsTree tree) flow.entry Exit l.bound
-  pub complete : IsCompleteWalk flow (unfolded l.walk)
-  pub kept : KeepsTree tree (unfolded l.walk)
-  pub costs : cost_of edge_shape (unfolded l.walk) ≡ l.bound
-  pub none_too_large : TooLarge edge_shape (HasEdge flow) (KeepsTree tree) flow.entry Exit → ⊥
+  pub walk_is : IsWalkOf flow tree l.bound l.walk
+  pub none_too_large : TreeTooLarge flow tree → ⊥
+  pub rows_are : AreRowsOf flow tree l.potentials.places l.potentials.instances
+  pub rows_hold : RowsHold flow tree (potentials_of l.bound l.potentials.places l.potentials.instances)
+  pub rows_fit : RowsFit flow tree (potentials_of l.bound l.potentials.places l.potentials.instances)
+  pub least : AreLeast flow tree (potentials_of l.bound l.potentials.places l.potentials.instances)
   pub profile : l.profile ≡ flow.profile
 
--- when each refusal comes
-abbrev pub IsWalkFault : Flow → WalkFault → Type 0
-IsWalkFault flow Memory = Unit {0}
-IsWalkFault flow NoCompleteWalk = (walk : List Edge) → IsCompleteWalk flow walk → ⊥
+-- when each refusal comes: no walk leads to Exit; or one does, and some walk that keeps the bounds costs too much
+abbrev pub IsWalkFault : Flow → Tree → WalkFault → Type 0
+IsWalkFault flow tree Memory = Unit {0}
+IsWalkFault flow tree NoCompleteWalk = (walk : List Edge) → IsCompleteWalk flow walk → ⊥
+IsWalkFault flow tree BoundTooLarge = ((walk : List Edge) × IsCompleteWalk flow walk) × TreeTooLarge flow tree

@@ -1,8 +1,9 @@
 ghost use Rattle.std.specs.Prelude.{◌≡◌, [], ◌∷◌, ◌++◌, OnOk, OnErr, IfErr};
 
-use crate::fault::WalkFault;
+use crate::rows::Potentials;
 use bus_ticks::Profile;
 use flow_graph::Edge;
+use numbered_walks::WalkFault;
 use std::alloc::Global;
 use std::marker::Model;
 use std::rc::Rc;
@@ -65,13 +66,15 @@ impl FoldedWalk {
     }
 }
 
-/// The greatest cost of a complete walk that keeps the loop bounds, and such a walk.
+/// The greatest cost of a complete walk that keeps the loop bounds, such a walk, and the numbers that prove it greatest.
 #[derive(Drop)]
 pub struct Longest {
     /// The greatest cost, in ticks, below 2^63.
     pub bound: u64,
     /// A walk of that cost.
     pub walk: FoldedWalk,
+    /// The least numbers that meet the rows of all edges.
+    pub potentials: Potentials,
     /// The prices of the graph's costs.
     pub profile: Profile,
 }

@@ -1,13 +1,10 @@
-//! The greatest cost of a complete walk through a handler's flow graph that keeps the loop bounds, and
-//! such a walk, written with repeats.
+//! The greatest cost of a complete walk through a handler's flow graph that keeps the loop bounds, such a walk, written
+//! with repeats, and the least numbers by which a checker sees that none costs more.
 #![tactic(auto)]
 
-mod distances;
-mod fault;
 mod folded;
-mod greatest;
-mod trace;
+mod rows;
 
-pub use fault::WalkFault;
 pub use folded::{FoldedWalk, Item, Longest};
-pub use greatest::longest;
+pub use numbered_walks::WalkFault;
+pub use rows::{InstanceRow, PlaceRow, Potentials, Rows};

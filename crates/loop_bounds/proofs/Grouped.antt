@@ -3,7 +3,7 @@ use Rattle.std.proofs.Common.{◌≡◌, ℕ, zero, suc, ◌+◌, ◌-◌, ◌<�
 use Rattle.std.specs.Prelude.{Contains}
 use Rattle.std.proofs.lemmas.List.{get_or_default}
 use Rattle.std.proofs.lemmas.Bool.{cases_lt}
-use Rattle.loop_bounds.specs.declared.numbering.NumberedEdge.{NumberedEdge}
+use Rattle.numbered_walks.specs.declared.span.NumberedEdge.{NumberedEdge}
 use Rattle.loop_bounds.specs.Edges.{IsGrouped, exit_of}
 
 pub has_edge : (edges : List NumberedEdge) (k : ℕ) (d : NumberedEdge) → k < length edges → Contains edges (get_or edges k d)

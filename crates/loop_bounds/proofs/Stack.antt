@@ -5,10 +5,11 @@ use Rattle.std.proofs.lemmas.List.{get_or_append_left, get_or_default, get_or_re
 use Rattle.std.proofs.Math.Seq.{get_or-append_seam}
 use Rattle.std.proofs.lemmas.Bool.{cases_eq, cases_lt}
 use Rattle.walks.specs.Walk.{Leads, Cycle, IsReached}
-use Rattle.loop_bounds.specs.declared.numbering.NumberedEdge.{NumberedEdge}
+use Rattle.numbered_walks.specs.declared.span.NumberedEdge.{NumberedEdge}
 use Rattle.loop_bounds.specs.declared.order.Colour.{Colour}
 use Rattle.loop_bounds.specs.declared.order.Colour.TheVariants.{White, Grey, Black}
-use Rattle.loop_bounds.specs.Edges.{IsGrouped, exit_of, number_shape}
+use Rattle.numbered_walks.specs.Ordered.{number_shape}
+use Rattle.loop_bounds.specs.Edges.{IsGrouped, exit_of}
 use Rattle.loop_bounds.specs.Search.{colour_at, IsStacked, IsSeen, AreRanged, IsAtHand}
 use Rattle.loop_bounds.proofs.Grouped.{has_edge, firsts_inside}
 use Rattle.loop_bounds.proofs.Post.{at_push, post_push, post_met}

@@ -5,7 +5,7 @@ use Rattle.std.proofs.lemmas.List.{get_or-set_same, get_or-set_other, length-set
 use Rattle.std.proofs.lemmas.List.Elements.{All-from_get_or}
 use Rattle.std.proofs.lemmas.List.Sums.{sum_by-le}
 use Rattle.std.proofs.lemmas.Bool.{cases_eq, cases_lt}
-use Rattle.loop_bounds.specs.declared.numbering.NumberedEdge.{NumberedEdge}
+use Rattle.numbered_walks.specs.declared.span.NumberedEdge.{NumberedEdge}
 use Rattle.loop_bounds.specs.declared.order.Colour.{Colour}
 use Rattle.loop_bounds.specs.declared.order.Colour.TheVariants.{White, Grey, Black}
 use Rattle.loop_bounds.specs.declared.order.Search.{Search}

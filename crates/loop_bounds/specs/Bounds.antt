@@ -4,7 +4,7 @@ use Rattle.walks.specs.Walk.{Leads}
 use Rattle.walks.specs.Greatest.{KeepsBounds, IsGreatest, TooLarge}
 use Rattle.flow_graph.specs.declared.places.Place.TheVariants.{Exit}
 use Rattle.flow_graph.specs.declared.edges.Edge.{Edge}
-use Rattle.flow_graph.specs.declared.stated.Loop.{Loop}
+use Rattle.statement.specs.declared.stated.Loop.{Loop}
 use Rattle.flow_graph.specs.Flow.{Flow, edge_shape, HasEdge}
 use Rattle.loop_bounds.specs.Instance.{IsInstance, place_loops}
 

@@ -1,11 +1,7 @@
 -- Numbered nodes and their edges. The nodes are the numbers from 0 to that of the exit, which no edge
 -- leaves. Our own form of the flow graph, for searches in linear time.
 use Rattle.std.specs.Prelude.{◌≡◌, ℕ, ◌+◌, ◌-◌, ◌<◌, ◌≤◌, List, length, slice_index, slice_index_or}
-use Rattle.loop_bounds.specs.declared.numbering.NumberedEdge.{NumberedEdge}
-use Rattle.walks.specs.Walk.{Shape}
-
-abbrev pub number_shape : Shape ℕ NumberedEdge
-number_shape = record { from = λ e. e.from; to = λ e. e.to; cost = λ e. e.cost }
+use Rattle.numbered_walks.specs.declared.span.NumberedEdge.{NumberedEdge}
 
 -- the exit's number
 abbrev pub exit_of : List ℕ → ℕ

@@ -4,11 +4,15 @@ pub mod Search
 pub mod Instance
 pub mod Nest
 pub mod Bounds
+pub mod Keys
+pub mod Extents
+pub mod Layout
 pub mod Tree
+pub mod Ground
 pub mod TreeParts
 pub use Rattle.walks.specs.Walk
 pub use Rattle.walks.specs.Stretch
 pub use Rattle.walks.specs.Greatest
 pub use Rattle.flow_graph.specs.Flow
 pub use Rattle.flow_graph.specs.Places
-pub use Rattle.flow_graph.specs.Stated
+pub use Rattle.statement.specs.Stated

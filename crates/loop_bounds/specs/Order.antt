@@ -1,9 +1,9 @@
 -- Orders of numbered nodes in which every edge leads to an earlier node. Our own profile.
 use Rattle.std.specs.Prelude.{◌≡◌, ℕ, ◌<◌, List, length, Contains, slice_index}
-use Rattle.loop_bounds.specs.declared.numbering.NumberedEdge.{NumberedEdge}
+use Rattle.numbered_walks.specs.declared.span.NumberedEdge.{NumberedEdge}
 use Rattle.loop_bounds.specs.declared.fault.NestFault.{NestFault}
-use Rattle.loop_bounds.specs.declared.fault.NestFault.TheVariants.{Memory, UnboundedCycle}
-use Rattle.loop_bounds.specs.Edges.{number_shape}
+use Rattle.loop_bounds.specs.declared.fault.NestFault.TheVariants.{Memory, LoopsCross, SharedHeader, EntersMidLoop, UnboundedCycle, NestedTooDeep}
+use Rattle.numbered_walks.specs.Ordered.{number_shape}
 use Rattle.walks.specs.Walk.{Cycle}
 
 -- each node once, and after all to which it has an edge
@@ -17,3 +17,7 @@ pub record IsOrder (nodes : ℕ) (edges : List NumberedEdge) (order : List ℕ) 
 abbrev pub IsOrderFault : List NumberedEdge → NestFault → Type 0
 IsOrderFault edges Memory = Unit {0}
 IsOrderFault edges UnboundedCycle = Cycle number_shape (Contains edges)
+IsOrderFault edges LoopsCross = ⊥
+IsOrderFault edges SharedHeader = ⊥
+IsOrderFault edges EntersMidLoop = ⊥
+IsOrderFault edges NestedTooDeep = ⊥

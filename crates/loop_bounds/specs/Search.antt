@@ -1,6 +1,6 @@
 -- What the depth-first search knows between two of its steps.
 use Rattle.std.specs.Prelude.{◌≡◌, ℕ, ◌+◌, ◌-◌, ◌*◌, ◌<◌, ◌≤◌, ◌⊎◌, List, [], ◌∷◌, length, replicate, sum, Contains, slice_index, slice_index_or, slice_set}
-use Rattle.loop_bounds.specs.declared.numbering.NumberedEdge.{NumberedEdge}
+use Rattle.numbered_walks.specs.declared.span.NumberedEdge.{NumberedEdge}
 use Rattle.loop_bounds.specs.declared.order.Colour.{Colour}
 use Rattle.loop_bounds.specs.declared.order.Colour.TheVariants.{White, Grey, Black}
 use Rattle.loop_bounds.specs.declared.order.Search.{Search}

@@ -1,35 +1,73 @@
--- A flow graph made ready for searches in linear time: its edges between numbers, and an order of its places
+-- The tree of a handler's loop instances, and an order of its places in which each instance is an interval
 -- (our own format).
-use Rattle.std.specs.Prelude.{◌≡◌, ℕ, ◌+◌, ◌<◌, ◌≤◌, List, [], length, slice_index_or}
+use Rattle.std.specs.Prelude.{◌≡◌, ◌≢◌, ℕ, ◌+◌, ◌<◌, ◌≤◌, ◌⊎◌, Bool, true, false, ◌&&◌, ◌==◌, nat_le, List, length, Contains, count_by, slice_index, slice_index_or, AllPairs}
 use Rattle.flow_graph.specs.declared.places.Place.{Place}
+use Rattle.flow_graph.specs.declared.places.Place.TheVariants.{Exit}
 use Rattle.flow_graph.specs.declared.edges.Edge.{Edge}
 use Rattle.flow_graph.specs.Flow.{Flow}
 use Rattle.flow_graph.specs.Places.{place_at}
-use Rattle.loop_bounds.specs.declared.numbering.NumberedEdge.{NumberedEdge}
-use Rattle.loop_bounds.specs.Instance.{Instance}
-use Rattle.loop_bounds.specs.Order.{IsOrder}
+use Rattle.numbered_walks.specs.declared.span.NumberedEdge.{NumberedEdge}
+use Rattle.numbered_walks.specs.declared.span.Span.{Span}
+use Rattle.numbered_walks.specs.Ordered.{IsOrdered, is_in}
+use Rattle.loop_bounds.specs.Instance.{Instance, is_member, is_header}
 
--- the instances of the stated loops, the flow graph's edges between numbers, and an order of the numbers
+-- the instances with the inner ones before the outer ones, and the span of each; for each number the position of
+-- its place among the places of the flow graph, Exit's last; the flow graph's edges in turn, between numbers
 pub record Tree : Type 0 where
   pub instances : List Instance
-  pub edges : List NumberedEdge
+  pub spans : List Span
   pub order : List ℕ
+  pub edges : List NumberedEdge
 
--- the number of a place is its position among the places, and Exit is the number past them
-pub record NumbersEdge (places : List Place) (e : Edge) (n : NumberedEdge) : Type 0 where
-  pub from_is : place_at places n.from ≡ e.from
-  pub to_is : place_at places n.to ≡ e.to
+-- the place of a number
+abbrev pub place_in : Flow → Tree → ℕ → Place
+place_in flow tree n = place_at flow.places (slice_index_or tree.order n (length flow.places))
+
+-- ## Edges between numbers
+
+-- each number below that of Exit stands for one place
+pub record ArePlaceNumbers (flow : Flow) (place_of : ℕ → Place) : Type 0 where
+  pub exit : place_of (length flow.places) ≡ Exit
+  pub place : (n : ℕ) → n < length flow.places → Contains flow.places (place_of n)
+  pub number : (p : Place) → Contains flow.places p → (n : ℕ) × (n < length flow.places) × (place_of n ≡ p)
+  pub once : (m n : ℕ) → m < length flow.places → n < length flow.places → place_of m ≡ place_of n → m ≡ n
+
+-- the numbers stand for the places as told, and `exit` for Exit
+pub record NumbersEdge (place_of : ℕ → Place) (exit : ℕ) (e : Edge) (n : NumberedEdge) : Type 0 where
+  pub from_is : place_of n.from ≡ e.from
+  pub to_is : place_of n.to ≡ e.to
   pub cost_is : n.cost ≡ e.cost
-  pub from_in : n.from < length places
-  pub to_in : n.to ≤ length places
+  pub from_in : n.from < exit
+  pub to_in : n.to ≤ exit
 
 -- each edge of the flow graph, in its order
-pub record IsNumbered (flow : Flow) (edges : List NumberedEdge) : Type 0 where
+pub record IsNumbered (flow : Flow) (place_of : ℕ → Place) (edges : List NumberedEdge) : Type 0 where
   pub same : length edges ≡ length flow.edges
-  pub each : (k : ℕ) (e : Edge) (n : NumberedEdge) → k < length flow.edges → NumbersEdge flow.places (slice_index_or flow.edges k e) (slice_index_or edges k n)
+  pub each : (k : ℕ) (e : Edge) (n : NumberedEdge) → k < length flow.edges → NumbersEdge place_of (length flow.places) (slice_index_or flow.edges k e) (slice_index_or edges k n)
 
--- until loops are read there are no instances, so every edge of the graph leads to an earlier place of the order
+-- ## Spans of instances
+
+-- the span holds the numbers of the members, and begins with that of the header
+pub record IsSpanOf (flow : Flow) (tree : Tree) (i : Instance) (s : Span) : Type 0 where
+  pub members : (n : ℕ) → n ≤ length flow.places → is_member i (place_in flow tree n) ≡ is_in s n
+  pub headers : (n : ℕ) → n ≤ length flow.places → is_header i (place_in flow tree n) ≡ (n == s.header)
+  pub bound : s.bound ≡ i.bound
+
+-- each instance has its span
+pub record AreSpansOf (flow : Flow) (tree : Tree) : Type 0 where
+  pub same : length tree.spans ≡ length tree.instances
+  pub each : (k : ℕ) (i : Instance) (s : Span) → k < length tree.instances → IsSpanOf flow tree (slice_index_or tree.instances k i) (slice_index_or tree.spans k s)
+
+-- ## The tree
+
+-- each place has one number, the entry 0 and Exit the last
 pub record IsTree (flow : Flow) (tree : Tree) : Type 0 where
-  pub no_instances : tree.instances ≡ []
-  pub numbered : IsNumbered flow tree.edges
-  pub ordered : IsOrder (length flow.places + 1) tree.edges tree.order
+  pub whole : length tree.order ≡ length flow.places + 1
+  pub entry_first : place_in flow tree 0 ≡ flow.entry
+  pub exit_last : slice_index tree.order (length flow.places) ≡ length flow.places
+  pub inside : (n : ℕ) → n < length flow.places → slice_index tree.order n < length flow.places
+  pub all : (v : ℕ) → v < length flow.places → (n : ℕ) × (n < length flow.places) × (slice_index tree.order n ≡ v)
+  pub distinct : (m n : ℕ) → m < n → n < length tree.order → slice_index tree.order m ≡ slice_index tree.order n → ⊥
+  pub numbered : IsNumbered flow (place_in flow tree) tree.edges
+  pub spans_are : AreSpansOf flow tree
+  pub ordered : IsOrdered (length flow.places) tree.edges tree.spans

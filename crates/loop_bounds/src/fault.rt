@@ -1,16 +1,32 @@
 use std::alloc::{AllocError, AllocFailed};
 use thiserror::Error;
 
-/// Why the places of a flow graph have no order.
+/// Why the loops of a handler have no tree. Of those that apply the first is answered, in this order.
 #[derive(Clone, Copy, Debug, PartialEq, Eq, Error)]
 pub enum NestFault {
     /// A growth was refused.
     #[error("Memory")]
     Memory,
 
-    /// A cycle that no stated loop bounds.
+    /// Two instances share a member, and each has one that the other has not.
+    #[error("LoopsCross")]
+    LoopsCross,
+
+    /// Two stated loops have one header address.
+    #[error("SharedHeader")]
+    SharedHeader,
+
+    /// A member other than the header is the entry, or is reached by an edge from a place that is no member.
+    #[error("EntersMidLoop")]
+    EntersMidLoop,
+
+    /// A cycle without a back edge of a stated loop.
     #[error("UnboundedCycle")]
     UnboundedCycle,
+
+    /// A place is a member of more than 16 instances.
+    #[error("NestedTooDeep")]
+    NestedTooDeep,
 }
 
 impl From<AllocError> for NestFault {

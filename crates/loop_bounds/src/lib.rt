@@ -1,14 +1,24 @@
-//! The loops of a handler's flow graph: the instances of its stated loops, and an order of its places in
-//! which each edge leads on. A cycle that no stated loop bounds is refused.
+//! The loops of a handler's flow graph: the instances of its stated loops, each inside the smallest that contains
+//! it, and an order of its places in which each instance is an interval. Loops that bound nothing are refused.
 #![tactic(auto)]
 
+mod chains;
+mod crossing;
+mod extents;
 mod fault;
+mod find;
+mod ground;
+mod keys;
+mod layout;
+mod nesting;
 mod numbering;
 mod order;
+mod parents;
+mod plain;
 #[cfg(test)]
 mod tests;
 mod tree;
 
 pub use fault::NestFault;
-pub use numbering::NumberedEdge;
+pub use find::Found;
 pub use tree::{LoopTree, nest};

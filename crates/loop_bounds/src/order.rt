@@ -4,7 +4,7 @@ ghost use Rattle.loop_bounds.specs.Order.{IsOrder, IsOrderFault};
 ghost use Rattle.loop_bounds.specs.Search.{IsBegun, IsSearching, IsSearched, IsAtHand, IsStep, colour_at};
 
 use crate::fault::NestFault;
-use crate::numbering::NumberedEdge;
+use numbered_walks::NumberedEdge;
 use std::alloc::Global;
 
 /// How far the search is at a node.

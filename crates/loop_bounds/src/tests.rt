@@ -1,56 +1,211 @@
+ghost use Rattle.std.specs.Prelude.{◌<◌};
+
 use crate::fault::NestFault;
-use crate::numbering::NumberedEdge;
 use crate::tree::{LoopTree, nest};
 use bus_ticks::Profile;
 use flow_graph::{build, read_statement};
 use loader::image::Image;
 use loader::labels::Labels;
+use numbered_walks::{NumberedEdge, Span};
 use std::alloc::Global;
 use std::test::Fail;
 
-fn nested(alloc: Global, words: &[(u32, u32)]) -> Result<Result<LoopTree, NestFault>, Fail> {
+// A loop as a statement's text has it: header, first, last and bound.
+type Stated = (u32, u32, u32, u32);
+
+// Words from 8000 on, and loops.
+fn nested(
+    alloc: Global,
+    words: &[u32],
+    loops: &[Stated],
+) -> Result<Result<LoopTree, NestFault>, Fail> {
     let mut image = Image::new(alloc);
-    for (address, word) in words {
-        image.put(alloc, *address, *word)?;
+    let mut address = 0x8000;
+    for word in words {
+        image.put(alloc, address, *word)?;
+        address = u32::wrapping_add(address, 4);
     }
-    let statement = read_statement(alloc, b"entry = 0x8000", &Labels::new(alloc))?;
+    let mut text = format!(in alloc; "entry = 0x8000\n")?;
+    for (header, first, last, bound) in loops {
+        let one = format!(in alloc;
+            "[[loop]]\nheader = {header}\nfirst = {first}\nlast = {last}\nbound = {bound}\n"
+        )?;
+        text.push_str(&one)?;
+    }
+    let statement = read_statement(alloc, text.as_bytes(), &Labels::new(alloc))?;
     let graph = build(alloc, &image, &statement, &Profile::one())?;
     Ok(nest(alloc, &graph, &statement))
 }
 
+// MOV R0,#3; SUBS R0,R0,#1; BNE 8004; SUBS PC,R14,#4
+const COUNTDOWN: [u32; 4] = [0xE3A0_0003, 0xE250_0001, 0x1AFF_FFFD, 0xE25E_F004];
+
 // SUBS R0,R0,#1; BEQ 800C; MOV R0,#3; SUBS PC,R14,#4: both ways meet at 800C, and there is one order.
 #[test]
 fn orders_a_branch(rt: HostRuntime) -> Result<(), Fail> {
-    let words = [
-        (0x8000, 0xE250_0001),
-        (0x8004, 0x0A00_0000),
-        (0x8008, 0xE3A0_0003),
-        (0x800C, 0xE25E_F004),
-    ];
-    let tree = nested(rt.alloc(), &words)??;
+    let words = [0xE250_0001, 0x0A00_0000, 0xE3A0_0003, 0xE25E_F004];
+    let tree = nested(rt.alloc(), &words, &[])??;
     let expected = [(0, 1, 1), (1, 2, 1), (1, 3, 5), (2, 3, 2), (3, 4, 9)];
     assert_eq!(rt; tree.edges().len(), expected.len());
     for (edge, (from, to, cost)) in tree.edges().iter().zip(expected) {
         assert_eq!(rt; *edge, NumberedEdge { from, to, cost });
     }
-    assert_eq!(rt; tree.order(), [4, 3, 2, 1, 0].as_slice());
+    assert_eq!(rt; tree.order(), [0, 1, 2, 3, 4].as_slice());
+    assert_eq!(rt; tree.spans().len(), 0);
     Ok(())
 }
 
 #[test]
-fn refuses_cycles(rt: HostRuntime) -> Result<(), Fail> {
+fn refuses_unbounded_cycles(rt: HostRuntime) -> Result<(), Fail> {
     // B 8000
-    let endless_branch = [(0x8000, 0xEAFF_FFFE)];
-    // MOV R0,#3; SUBS R0,R0,#1; BNE 8004; SUBS PC,R14,#4
-    let countdown = [
-        (0x8000, 0xE3A0_0003),
-        (0x8004, 0xE250_0001),
-        (0x8008, 0x1AFF_FFFD),
-        (0x800C, 0xE25E_F004),
-    ];
-    for words in [endless_branch.as_slice(), countdown.as_slice()] {
-        let fault = nested(rt.alloc(), words)?.err();
+    let endless_branch = [0xEAFF_FFFE];
+    for words in [endless_branch.as_slice(), COUNTDOWN.as_slice()] {
+        let fault = nested(rt.alloc(), words, &[])?.err();
         assert_eq!(rt; fault, Some(NestFault::UnboundedCycle));
     }
+    Ok(())
+}
+
+#[test]
+fn loop_structure_refusals(rt: HostRuntime) -> Result<(), Fail> {
+    let twice = [(0x8004, 0x8004, 0x8008, 2), (0x8004, 0x8004, 0x8008, 2)];
+    let fault = nested(rt.alloc(), &COUNTDOWN, &twice)?.err();
+    assert_eq!(rt; fault, Some(NestFault::SharedHeader));
+    let crossing = [(0x8000, 0x8000, 0x8004, 2), (0x8004, 0x8004, 0x8008, 2)];
+    let fault = nested(rt.alloc(), &COUNTDOWN, &crossing)?.err();
+    assert_eq!(rt; fault, Some(NestFault::LoopsCross));
+    // two of one header that cross a third: the crossing is told
+    let both = [
+        (0x8000, 0x8000, 0x8004, 2),
+        (0x8004, 0x8004, 0x8008, 2),
+        (0x8004, 0x8004, 0x8008, 2),
+    ];
+    let fault = nested(rt.alloc(), &COUNTDOWN, &both)?.err();
+    assert_eq!(rt; fault, Some(NestFault::LoopsCross));
+    // headers that are never reached
+    let unreached = [(0x9000, 0x9000, 0x9000, 0), (0x9000, 0x9000, 0x9004, 0)];
+    let fault = nested(rt.alloc(), &[0xE25E_F004], &unreached)?.err();
+    assert_eq!(rt; fault, Some(NestFault::SharedHeader));
+    let tree = nested(rt.alloc(), &[0xE25E_F004], &unreached[..1])??;
+    assert_eq!(rt; tree.spans().len(), 0);
+    Ok(())
+}
+
+#[test]
+fn countdown_wrong_header(rt: HostRuntime) -> Result<(), Fail> {
+    let loops = [(0x8008, 0x8004, 0x8008, 2)];
+    let fault = nested(rt.alloc(), &COUNTDOWN, &loops)?.err();
+    assert_eq!(rt; fault, Some(NestFault::EntersMidLoop));
+    Ok(())
+}
+
+#[test]
+fn nested_countdown(rt: HostRuntime) -> Result<(), Fail> {
+    let words = [
+        0xE3A0_1002,
+        0xE3A0_0003,
+        0xE250_0001,
+        0x1AFF_FFFD,
+        0xE251_1001,
+        0x1AFF_FFFA,
+        0xE25E_F004,
+    ];
+    let loops = [(0x8004, 0x8004, 0x8014, 1), (0x8008, 0x8008, 0x800C, 2)];
+    let tree = nested(rt.alloc(), &words, &loops)??;
+    assert_eq!(rt; tree.order(), [0, 1, 2, 3, 4, 5, 6, 7].as_slice());
+    let inner = Span {
+        header: 2,
+        last: 3,
+        bound: 2,
+    };
+    let outer = Span {
+        header: 1,
+        last: 5,
+        bound: 1,
+    };
+    assert_eq!(rt; tree.spans(), [inner, outer].as_slice());
+    Ok(())
+}
+
+// 8000: BL 8010; SUBS R0,R0,#1; BNE 8000; SUBS PC,R14,#4; 8010: MOV PC,R14. The function's place is a member.
+#[test]
+fn call_in_a_loop(rt: HostRuntime) -> Result<(), Fail> {
+    let words = [
+        0xEB00_0002,
+        0xE250_0001,
+        0x1AFF_FFFC,
+        0xE25E_F004,
+        0xE1A0_F00E,
+    ];
+    let tree = nested(rt.alloc(), &words, &[(0x8000, 0x8000, 0x8008, 3)])??;
+    assert_eq!(rt; tree.order(), [0, 4, 1, 2, 3, 5].as_slice());
+    let span = Span {
+        header: 0,
+        last: 3,
+        bound: 3,
+    };
+    assert_eq!(rt; tree.spans(), [span].as_slice());
+    Ok(())
+}
+
+// 8000: BL 8010; BL 8010; SUBS PC,R14,#4; 8010: SUBS R0,R0,#1; BNE 8010; MOV PC,R14. Each call has its own instance.
+#[test]
+fn loop_in_a_function_called_twice(rt: HostRuntime) -> Result<(), Fail> {
+    let words = [
+        0xEB00_0002,
+        0xEB00_0001,
+        0xE25E_F004,
+        0,
+        0xE250_0001,
+        0x1AFF_FFFD,
+        0xE1A0_F00E,
+    ];
+    let tree = nested(rt.alloc(), &words, &[(0x8010, 0x8010, 0x8014, 5)])??;
+    assert_eq!(rt; tree.order(), [0, 3, 4, 5, 1, 6, 7, 8, 2, 9].as_slice());
+    let first = Span {
+        header: 1,
+        last: 2,
+        bound: 5,
+    };
+    let second = Span {
+        header: 5,
+        last: 6,
+        bound: 5,
+    };
+    assert_eq!(rt; tree.spans(), [first, second].as_slice());
+    Ok(())
+}
+
+// As many MOVNV R0,R0, as many BNE, each to the MOVNV before that of the one before, and SUBS PC,R14,#4, with a loop
+// round each pair.
+fn deep(alloc: Global, count: u32) -> Result<Result<LoopTree, NestFault>, Fail>
+    requires { count < 32 }
+{
+    let mut words = Vec::new(alloc);
+    let mut loops = Vec::new(alloc);
+    for _ in 0..count {
+        words.push(0xF1A0_0000)?;
+    }
+    for j in 0..count {
+        words.push(0x1AFF_FFFD - 2 * j)?;
+        let header = 0x8000 + 4 * j;
+        loops.push((header, header, 0x8000 + 4 * (2 * count - 1 - j), 7))?;
+    }
+    words.push(0xE25E_F004)?;
+    nested(alloc, &words, &loops)
+}
+
+#[test]
+fn sixteen_deep(rt: HostRuntime) -> Result<(), Fail> {
+    let tree = deep(rt.alloc(), 16)??;
+    assert_eq!(rt; tree.spans().len(), 16);
+    let innermost = Span {
+        header: 15,
+        last: 16,
+        bound: 7,
+    };
+    assert_eq!(rt; tree.spans()[0], innermost);
+    let fault = deep(rt.alloc(), 17)?.err();
+    assert_eq!(rt; fault, Some(NestFault::NestedTooDeep));
     Ok(())
 }

@@ -1,21 +1,33 @@
-ghost use Rattle.std.specs.Prelude.{◌≡◌, ◌↔◌, Contains, IfOk, OnOk, IfErr};
+ghost use Rattle.std.specs.Prelude.{◌≡◌, ◌≢◌, ◌↔◌, ◌<◌, All, Contains, IfOk, OnOk, IfErr, List, length, map};
+ghost use Rattle.statement.specs.Stated.{IsLoop};
+ghost use Rattle.loop_bounds.specs.Extents.{found_instance};
+ghost use Rattle.loop_bounds.specs.Ground.{IsGround, IsNesting};
+ghost use Rattle.loop_bounds.specs.Keys.{IsListed};
+ghost use Rattle.loop_bounds.specs.Layout.{AreParted};
 ghost use Rattle.loop_bounds.specs.Tree.{IsTree};
 ghost use Rattle.loop_bounds.specs.Instance.{Instance, IsInstance};
-ghost use Rattle.loop_bounds.specs.Nest.{HasUnboundedCycle, IsNestFault};
+ghost use Rattle.loop_bounds.specs.Nest.{Applies, HasSharedHeader, IsNestFault};
 
+use crate::crossing::have_crossing;
 use crate::fault::NestFault;
-use crate::numbering::{NumberedEdge, number_edges};
-use crate::order::find_order;
-use flow_graph::{Graph, Statement};
-use std::alloc::Global;
+use crate::find::{Found, by_header, shares_header};
+use crate::ground::{Ground, lay_ground};
+use crate::keys::listed;
+use crate::layout::{indexes, numbers, order, renumbered, spans};
+use crate::nesting::{Nesting, nest_extents};
+use flow_graph::{Graph, Loop, Place, Statement};
+use numbered_walks::{NumberedEdge, Span};
+use std::alloc::{AllocError, Global};
 use std::marker::Model;
 
-/// A flow graph made ready for searches in linear time: its edges between numbers, and an order of the
-/// numbers.
+/// The loops of a flow graph: the instances with their spans, and the graph's edges between the numbers of an order
+/// in which each instance is an interval.
 #[derive(Drop)]
 pub struct LoopTree {
-    edges: Vec<NumberedEdge>,
+    instances: Vec<Found>,
+    spans: Vec<Span>,
     order: Vec<usize>,
+    edges: Vec<NumberedEdge>,
 }
 
 impl Model for LoopTree {
@@ -29,18 +41,102 @@ impl Model for LoopTree {
 }
 
 impl LoopTree {
-    /// The graph's edges in its order, between the numbers of their places.
+    /// For each number the index of its place among the graph's places; Exit, the last, has their number.
+    pub fn order(&self) -> &[usize]
+        ensures { result.now ≡ self.now.order }
+    {
+        &self.order
+    }
+
+    /// The graph's edges in its order, between numbers.
     pub fn edges(&self) -> &[NumberedEdge]
         ensures { result.now ≡ self.now.edges }
     {
         &self.edges
     }
 
-    /// The numbers of all places and of Exit, each after those to which it has an edge.
-    pub fn order(&self) -> &[usize]
-        ensures { result.now ≡ self.now.order }
+    /// The instances, the inner ones before the outer ones.
+    pub fn instances(&self) -> &[Found]
+        ensures { map found_instance result.now ≡ self.now.instances }
     {
-        &self.order
+        &self.instances
+    }
+
+    /// The instances' spans, in the order of the instances.
+    pub fn spans(&self) -> &[Span]
+        ensures { result.now ≡ self.now.spans }
+    {
+        &self.spans
+    }
+}
+
+// The instances in the order of their spans, with these.
+fn in_closing_order(
+    alloc: Global,
+    found: &[Found],
+    closing: &[(Span, usize)],
+) -> Result<(Vec<Found>, Vec<Span>), AllocError>
+    requires { All (λ x. x.1 < length found.now) closing.now }
+    ensures { IfOk result (λ parts. AreParted found.now closing.now parts.0.items parts.1.items (length closing.now)) }
+{
+    let mut instances = Vec::with_capacity(alloc, closing.len())?;
+    let mut spans = Vec::with_capacity(alloc, closing.len())?;
+    for (span, instance) in closing {
+        instances.push(found[*instance])?;
+        spans.push(*span)?;
+    }
+    Ok((instances, spans))
+}
+
+// The tree of what was found.
+fn laid_out(
+    alloc: Global,
+    graph: &Graph,
+    ground: &Ground,
+    nesting: &Nesting,
+) -> Result<LoopTree, AllocError>
+    requires ground { (loops : List Loop) × IsGround graph.now loops ground.now }
+    requires nesting { IsNesting (length graph.now.places) ground.now.edges.items ground.now.entry ground.now.extents.items nesting.now }
+    ensures tree { IfOk result (IsTree graph.now) }
+    ensures instances { IfOk result (λ tree. (i : Instance) → Contains tree.instances i ↔ Contains (map found_instance ground.now.found.items) i) }
+{
+    let places = graph.places();
+    let exit = places.len();
+    let order = order(
+        alloc,
+        &ground.extents,
+        &nesting.parents,
+        &nesting.chains,
+        &nesting.ranks,
+        exit,
+    )?;
+    let numbers = numbers(alloc, &order)?;
+    let closing = spans(alloc, &ground.extents, &ground.found, &numbers)?;
+    let (instances, spans) = in_closing_order(alloc, &ground.found, &closing)?;
+    Ok(LoopTree {
+        instances,
+        spans,
+        order: indexes(alloc, places, &ground.listed, &order)?,
+        edges: renumbered(alloc, &ground.edges, &numbers)?,
+    })
+}
+
+// Why loops of which two have one header are refused.
+fn shared_fault(
+    alloc: Global,
+    graph: &Graph,
+    listed: &[Place],
+    loops: &[Loop],
+) -> Result<NestFault, AllocError>
+    requires listed { IsListed graph.now.places listed.now }
+    requires stated { All IsLoop loops.now }
+    requires shared { HasSharedHeader loops.now }
+    ensures { IfOk result (IsNestFault graph.now loops.now) }
+{
+    if have_crossing(alloc, graph, listed, loops)? {
+        Ok(NestFault::LoopsCross)
+    } else {
+        Ok(NestFault::SharedHeader)
     }
 }
 
@@ -48,17 +144,28 @@ impl LoopTree {
 ///
 /// # Errors
 ///
-/// `UnboundedCycle` where a cycle has no back edge of a stated loop, and `Memory` where a growth was refused.
+/// Of `LoopsCross`, `SharedHeader`, `EntersMidLoop`, `UnboundedCycle` and `NestedTooDeep` the first that applies, and
+/// `Memory` where a growth was refused.
 pub fn nest(alloc: Global, graph: &Graph, statement: &Statement) -> Result<LoopTree, NestFault>
     ensures instances { IfOk result (λ tree. (i : Instance) → Contains tree.instances i ↔ IsInstance graph.now statement.now.loops i) }
     ensures tree { IfOk result (IsTree graph.now) }
-    ensures bounded { OnOk result (HasUnboundedCycle graph.now statement.now.loops → ⊥) }
+    ensures allowed { OnOk result ((fault : NestFault) → fault ≢ NestFault.Memory → Applies graph.now statement.now.loops fault → ⊥) }
     ensures fault { IfErr result (IsNestFault graph.now statement.now.loops) }
 {
-    // Until loops are read a statement has none, and no edge is a back edge.
+    let places = graph.places();
     let loops = statement.loops();
-    prove!(loops.is_empty());
-    let edges = number_edges(alloc, graph)?;
-    let order = find_order(alloc, graph.firsts(), &edges)?;
-    Ok(LoopTree { edges, order })
+    let listed = listed(alloc, places)?;
+    let sorted = by_header(alloc, loops)?;
+    if shares_header(alloc, loops)? {
+        return Err(shared_fault(alloc, graph, &listed, loops)?);
+    }
+    let ground = lay_ground(alloc, graph, listed, &sorted, loops)?;
+    let nesting = nest_extents(
+        alloc,
+        &ground.extents,
+        &ground.edges,
+        ground.entry,
+        places.len(),
+    )?;
+    Ok(laid_out(alloc, graph, &ground, &nesting)?)
 }

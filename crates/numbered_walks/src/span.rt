@@ -1,5 +1,5 @@
 /// An edge between numbers of places; that of Exit is the number of places.
-#[derive(Clone, Copy)]
+#[derive(Clone, Copy, Debug, PartialEq, Eq)]
 pub struct NumberedEdge {
     /// The number that it leaves.
     pub from: usize,
@@ -10,7 +10,7 @@ pub struct NumberedEdge {
 }
 
 /// An instance in the order of a tree: the numbers of its members, from its header's to the greatest.
-#[derive(Clone, Copy)]
+#[derive(Clone, Copy, Debug, PartialEq, Eq)]
 pub struct Span {
     /// The header's number, the least of the members'.
     pub header: usize,

@@ -1,5 +1,7 @@
-use Rattle.loop_bounds.specs.TreeParts.{IsNumbering}
+use Rattle.std.proofs.Common.{length}
+use Rattle.flow_graph.specs.Places.{place_at}
+use Rattle.loop_bounds.specs.TreeParts.{AreNumberedUpto}
 use Rattle.loop_bounds.proofs.numbering.number_edges.Given as goal
 
 abbrev pub invariant-loop-edge : goal.invariant-loop-edge
-invariant-loop-edge l = IsNumbering l.graph l.numbered.items l.edge-index
+invariant-loop-edge l = AreNumberedUpto l.graph (place_at l.listed) (length l.graph.places) l.numbered.items l.edge-index

@@ -1,5 +1,5 @@
 use Rattle.std.proofs.Common.{◌≡◌, length, arith}
-use Rattle.loop_bounds.specs.declared.numbering.NumberedEdge.{NumberedEdge}
+use Rattle.numbered_walks.specs.declared.span.NumberedEdge.{NumberedEdge}
 use Rattle.loop_bounds.proofs.Stack.{top_in_next, stacked_pop, stacked_skip, stacked_push, stacked_cycle, end_colour, k_in}
 use Rattle.loop_bounds.proofs.order.Search.step.Goals as goal
 

@@ -1,0 +1,175 @@
+-- The edges of a place, by their labels and by where they end.
+use Rattle.std.proofs.Common.{◌≡◌, ℕ, ◌+◌, ◌^◌, ◌<◌, ◌≤◌, ◌⊎◌, inl, inr, Bool, true, false, cond, List, [], ◌∷◌, ◌++◌, length, map, refl, sym, subst, arith}
+use Rattle.std.specs.Prelude.{Contains}
+use Rattle.std.proofs.lemmas.Bool.{lt-ltb}
+use Rattle.std.proofs.lemmas.Bool.Decides.{eqb_tells}
+use Rattle.std.proofs.lemmas.List.Elements.{Contains-append_cases, Contains-append_left, Contains-append_right}
+use Rattle.bus_ticks.specs.declared.profile.Class.{Class}
+use Rattle.bus_ticks.specs.declared.profile.Class.TheVariants.{Any, Ram, Rom, Io}
+use Rattle.bus_ticks.specs.declared.profile.Profile.{Profile}
+use Rattle.bus_ticks.specs.declared.profile.RomTimes.{RomTimes}
+use Rattle.bus_ticks.specs.Prices.{class_at, n_price, s_price}
+use Rattle.bus_ticks.specs.Worst.{IsOf, worst_leave_of, worst_n_price, worst_s_price}
+use Rattle.bus_ticks.proofs.LeaveLemmas.{worst_leave_greatest}
+use Rattle.arm2_decode.specs.Conditions.{condition_holds}
+use Rattle.arm2_decode.specs.declared.flags.Flags.{Flags}
+use Rattle.arm2_decode.specs.declared.names.Cond.{Cond}
+use Rattle.arm2_decode.specs.declared.names.Cond.TheVariants as condition
+use Rattle.flow_graph.specs.Edges.{arriving, calling, do_edge, done, dos, inside, jumping, landings, skip_edge, skips, target, word_edges, wrapped, writer_landings}
+use Rattle.flow_graph.specs.Kinds.{is_always, is_never, is_writer}
+use Rattle.flow_graph.specs.StepLaw.{IsPlaceOf}
+use Rattle.flow_graph.specs.declared.edges.Edge.{Edge}
+use Rattle.flow_graph.specs.declared.kinds.Action.{Action}
+use Rattle.flow_graph.specs.declared.kinds.Kind.{Kind}
+use Rattle.flow_graph.specs.declared.kinds.Kind.TheVariants as kind
+use Rattle.flow_graph.specs.declared.places.Place.{Place}
+use Rattle.flow_graph.specs.declared.places.Place.TheVariants.{At, Exit}
+use Rattle.statement.specs.Stated.{Stated, target_of}
+use Rattle.flow_graph.proofs.SortedLemmas.{cons_cases, here, no_member, there}
+use Rattle.flow_graph.proofs.StepTicks.{Reaches, jump_price, n_most, s_most}
+
+-- ## Conditions
+
+pub never_holds : (c : Cond) (f : Flags) → condition_holds c f ≡ true → is_never c ≡ false
+never_holds condition.Nv f h = absurd (cc)
+never_holds _ f h = refl
+
+pub always_holds : (c : Cond) (f : Flags) → condition_holds c f ≡ false → is_always c ≡ false
+always_holds condition.Al f h = absurd (cc)
+always_holds _ f h = refl
+
+-- ## Lists
+
+contains_map : {X Y : Type 0} (f : X → Y) (xs : List X) (y : Y) → Contains (map f xs) y → (x : X) × Contains xs x × (f x ≡ y)
+contains_map f [] y h = absurd (no_member y h)
+contains_map f (x ∷ xs) y h = by_place (λ more. contains_map f xs y more) (cons_cases (f x) (map f xs) y h)
+  where
+    by_place : (Contains (map f xs) y → (z : _) × Contains xs z × (f z ≡ y)) → (f x ≡ y) ⊎ Contains (map f xs) y → (z : _) × Contains (x ∷ xs) z × (f z ≡ y)
+    by_place rest (inl e) = (x, here x xs, e)
+    by_place rest (inr more) = let w = rest more in (w.0, there x xs w.0 w.1, w.2)
+
+map_contains : {X Y : Type 0} (f : X → Y) (xs : List X) (x : X) → Contains xs x → Contains (map f xs) (f x)
+map_contains f [] x h = absurd (no_member x h)
+map_contains f (z ∷ xs) x h = by_place (λ more. map_contains f xs x more) (cons_cases z xs x h)
+  where
+    by_place : (Contains xs x → Contains (map f xs) (f x)) → (z ≡ x) ⊎ Contains xs x → Contains (f z ∷ map f xs) (f x)
+    by_place rest (inl e) = subst (λ w. Contains (f z ∷ map f xs) (f w)) e (here (f z) (map f xs))
+    by_place rest (inr more) = there (f z) (map f xs) (f x) (rest more)
+
+cond_contains : (b : Bool) (xs : List Edge) (e : Edge) → Contains (cond b [] xs) e → Contains xs e
+cond_contains true xs e h = absurd (no_member e h)
+cond_contains false xs e h = h
+
+contains_cond : (b : Bool) (xs : List Edge) (e : Edge) → b ≡ false → Contains xs e → Contains (cond b [] xs) e
+contains_cond b xs e off h = subst (λ t. Contains (cond t [] xs) e) (sym off) h
+
+only_one : (x e : Edge) → Contains (x ∷ []) e → x ≡ e
+only_one x e h = by_place (cons_cases x [] e h)
+  where
+    by_place : (x ≡ e) ⊎ Contains [] e → x ≡ e
+    by_place (inl same) = same
+    by_place (inr none) = absurd (no_member e none)
+
+-- ## Which edges a place has
+
+module _ (st : Stated) (profile : Profile) (calls : List ℕ) (a : ℕ) (action : Action) where
+  -- the edge where the word is passed over, or one of those where it is done
+  abbrev pub Which : Edge → Type 0
+  Which e = (skip_edge profile calls a ≡ e) ⊎ ((to : Place) × Contains (landings st calls a action.kind) to × (do_edge st profile calls a action to ≡ e))
+
+  pub which_edge : (e : Edge) → Contains (word_edges st profile calls a action) e → Which e
+  which_edge e h = by_part (Contains-append_cases (skips profile calls a action) (dos st profile calls a action) e h)
+    where
+      by_part : Contains (skips profile calls a action) e ⊎ Contains (dos st profile calls a action) e → Which e
+      by_part (inl skip) = inl (only_one (skip_edge profile calls a) e (cond_contains (is_always action.cond) (skip_edge profile calls a ∷ []) e skip))
+      by_part (inr more) = inr (contains_map (do_edge st profile calls a action) (landings st calls a action.kind) e (cond_contains (is_never action.cond) (done st profile calls a action) e more))
+
+  pub skip_among : is_always action.cond ≡ false → Contains (word_edges st profile calls a action) (skip_edge profile calls a)
+  skip_among may =
+      Contains-append_left (skips profile calls a action) (dos st profile calls a action) (skip_edge profile calls a)
+      (contains_cond (is_always action.cond) (skip_edge profile calls a ∷ []) (skip_edge profile calls a) may (here (skip_edge profile calls a) []))
+
+  pub do_among : (to : Place) → is_never action.cond ≡ false → Contains (landings st calls a action.kind) to → Contains (word_edges st profile calls a action) (do_edge st profile calls a action to)
+  do_among to may lands =
+      Contains-append_right (skips profile calls a action) (dos st profile calls a action) (do_edge st profile calls a action to)
+      (contains_cond (is_never action.cond) (done st profile calls a action) (do_edge st profile calls a action to) may
+      (map_contains (do_edge st profile calls a action) (landings st calls a action.kind) to lands))
+
+-- ## Where edges end
+
+same_class : (c d : Class) → (c ≡ d) ⊎ (c ≡ d → ⊥)
+same_class Any Any = inl refl
+same_class Any Ram = inr (λ e. cc)
+same_class Any Rom = inr (λ e. cc)
+same_class Any Io = inr (λ e. cc)
+same_class Ram Any = inr (λ e. cc)
+same_class Ram Ram = inl refl
+same_class Ram Rom = inr (λ e. cc)
+same_class Ram Io = inr (λ e. cc)
+same_class Rom Any = inr (λ e. cc)
+same_class Rom Ram = inr (λ e. cc)
+same_class Rom Rom = inl refl
+same_class Rom Io = inr (λ e. cc)
+same_class Io Any = inr (λ e. cc)
+same_class Io Ram = inr (λ e. cc)
+same_class Io Rom = inr (λ e. cc)
+same_class Io Io = inl refl
+
+of_class_or : (c : Class) (t : ℕ) → IsOf c t ⊎ (IsOf c t → ⊥)
+of_class_or Any t = inl tt
+of_class_or Ram t = same_class (class_at t) Ram
+of_class_or Rom t = same_class (class_at t) Rom
+of_class_or Io t = same_class (class_at t) Io
+
+place_or : (st : Stated) (t : ℕ) (p : Place) → IsPlaceOf st t p ⊎ (IsPlaceOf st t p → ⊥)
+place_or st t (At calls a) = elim (eqb_tells a t) [ inl e ↦ inl e.1 | inr e ↦ inr e.1 ]
+place_or st t Exit = of_class_or st.leave t
+
+-- one of the places is that of the address, or none is
+abbrev pub Found : Stated → ℕ → List Place → Type 0
+Found st t places = ((p : Place) × Contains places p × IsPlaceOf st t p) ⊎ ((p : Place) → Contains places p → IsPlaceOf st t p → ⊥)
+
+find_place : (st : Stated) (t : ℕ) (places : List Place) → Found st t places
+find_place st t [] = inr (λ p h is. no_member p h)
+find_place st t (x ∷ rest) = by_first (place_or st t x) (find_place st t rest)
+  where
+    by_first : IsPlaceOf st t x ⊎ (IsPlaceOf st t x → ⊥) → Found st t rest → Found st t (x ∷ rest)
+    by_first (inl is) more = inl (x, here x rest, is)
+    by_first (inr apart) (inl w) = inl (w.0, there x rest w.0 w.1, w.2)
+    by_first (inr apart) (inr none) = inr (λ p h is. elim (cons_cases x rest p h) [ inl e ↦ apart (subst (IsPlaceOf st t) (sym e) is) | inr more ↦ none p more is ])
+
+-- a place of the address to which the word leads; or the word writes R15, and there is none
+abbrev pub Lands : Stated → List ℕ → ℕ → Kind → ℕ → Type 0
+Lands st calls a k t =
+    ((p : Place) × Contains (landings st calls a k) p × IsPlaceOf st t p)
+    ⊎ ((is_writer k ≡ true) × ((p : Place) → Contains (landings st calls a k) p → IsPlaceOf st t p → ⊥))
+
+call_lands : (calls : List ℕ) (a to : ℕ) → length calls < 8 → Contains (calling calls a (to ∷ [])) (At (calls ++ a ∷ []) to)
+call_lands calls a to few =
+    subst (λ b. Contains (cond b (inside (calls ++ a ∷ []) (to ∷ [])) []) (At (calls ++ a ∷ []) to)) (sym (lt-ltb (length calls) 8 few))
+    (here (At (calls ++ a ∷ []) to) [])
+
+pub lands : (st : Stated) (p : Profile) (rom : RomTimes) (class : Class) (calls : List ℕ) (a : ℕ) (k : Kind) (t : ℕ) → Reaches p rom class a k t → ((offset : ℕ) → k ≡ kind.Call offset → length calls < 8) → Lands st calls a k t
+lands st p rom class calls a kind.Plain t e few = inl (At calls (wrapped (a + 4)), here (At calls (wrapped (a + 4))) [], sym e)
+lands st p rom class calls a (kind.Branch offset) t e few = inl (At calls (target a offset), here (At calls (target a offset)) [], sym e)
+lands st p rom class calls a (kind.Call offset) t e few = inl (At (calls ++ a ∷ []) (target a offset), call_lands calls a (target a offset) (few offset refl), sym e)
+lands st p rom class calls a kind.Writer t e few = elim (find_place st t (writer_landings calls a (target_of st a))) [ inl w ↦ inl w | inr none ↦ inr (refl, none) ]
+lands st p rom class calls a kind.Trap t e few = absurd e
+lands st p rom class calls a kind.Unallocated t e few = absurd e
+
+-- ## What a jump costs
+
+jump_arrives : (st : Stated) (p : Profile) (rom : RomTimes) (class : Class) (a : ℕ) (to : Place) (t : ℕ) → t < 2 ^ 26 → IsPlaceOf st t to → n_price p rom t + s_price p rom (wrapped (t + 4)) ≤ jumping st.leave p to
+jump_arrives st p rom class a (At calls x) t small e =
+    subst (λ y. n_price p rom y + s_price p rom (wrapped (y + 4)) ≤ worst_n_price p x + worst_s_price p (wrapped (x + 4))) e
+    (omega (arith, n_most p rom class a x, s_most p rom class a (wrapped (x + 4))))
+jump_arrives st p rom class a Exit t small is =
+    (worst_leave_greatest p st.leave (worst_leave_of p st.leave) refl).none_above (record { address = t; rom = rom }) (record { below = small; is_of = is })
+
+pub arrives : (st : Stated) (p : Profile) (rom : RomTimes) (class : Class) (a : ℕ) (k : Kind) (to : Place) (t : ℕ) → t < 2 ^ 26 → IsPlaceOf st t to → jump_price p rom class a k t ≤ arriving st.leave p k to
+arrives st p rom class a kind.Plain to t small is = omega arith
+arrives st p rom class a (kind.Branch offset) to t small is = jump_arrives st p rom class a to t small is
+arrives st p rom class a (kind.Call offset) to t small is = jump_arrives st p rom class a to t small is
+arrives st p rom class a kind.Writer to t small is = jump_arrives st p rom class a to t small is
+arrives st p rom class a kind.Trap to t small is = omega arith
+arrives st p rom class a kind.Unallocated to t small is = omega arith

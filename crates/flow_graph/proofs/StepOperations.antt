@@ -1,0 +1,337 @@
+-- What each instruction does, against the kind and the work of its word.
+use Rattle.std.proofs.Common.{◌≡◌, ℕ, zero, suc, ◌+◌, ◌*◌, ◌-◌, ◌%◌, ◌^◌, ◌<◌, ◌≤◌, ◌==◌, ◌&&◌, ◌||◌, not, nat_lt, ltb, Bool, true, false, cond, List, length, Result, Ok, Err, count_ones, refl, sym, ap, subst, ◌∙◌, arith}
+use Rattle.std.proofs.lemmas.Bool.{ltb-true}
+use Rattle.bus_ticks.specs.declared.profile.Class.{Class}
+use Rattle.bus_ticks.specs.declared.profile.Profile.{Profile}
+use Rattle.bus_ticks.specs.declared.profile.RomTimes.{RomTimes}
+use Rattle.arm2_decode.specs.Allowed.{bit_of, single_clash, is_bad_base}
+use Rattle.arm2_decode.specs.Names.{register_number}
+use Rattle.arm2_decode.specs.declared.instr.Block.{Block}
+use Rattle.arm2_decode.specs.declared.instr.Branch.{Branch}
+use Rattle.arm2_decode.specs.declared.instr.Multiply.{Multiply}
+use Rattle.arm2_decode.specs.declared.instr.Operation.{Operation}
+use Rattle.arm2_decode.specs.declared.instr.Operation.TheVariants as operation
+use Rattle.arm2_decode.specs.declared.names.Opcode.{Opcode}
+use Rattle.arm2_decode.specs.declared.names.Opcode.TheVariants.{And, Eor, Sub, Rsb, Add, Adc, Sbc, Rsc, Tst, Teq, Cmp, Cmn, Orr, Mov, Bic, Mvn}
+use Rattle.arm2_decode.specs.declared.names.Register.{Register}
+use Rattle.arm2_decode.specs.declared.names.Register.TheVariants.{R15}
+use Rattle.memc.specs.declared.spots.Spot.{Spot}
+use Rattle.arm2_effect.specs.declared.done.Kind.TheVariants as ended
+use Rattle.arm2_effect.specs.declared.exceptions.Vector.{Vector}
+use Rattle.arm2_effect.specs.declared.done.Why.{Why}
+use Rattle.arm2_effect.specs.Effects.{Effect, onward, skipped, stopped}
+use Rattle.arm2_effect.specs.Exceptions.{taken}
+use Rattle.arm2_effect.specs.Modes.{r15_in, register_in, with_r15, with_register}
+use Rattle.arm2_effect.specs.Operations.{branch_effect, compared, cycles_from, cycles_of, data_immediate_effect, data_register_effect, data_register_shift_effect, entered, jumped, multiply_effect, next_r15, operation_effect, placed, product_of}
+use Rattle.arm2_effect.specs.Outcomes as effect
+use Rattle.arm2_effect.specs.ProgramCounter.{address_of, ahead_of, jumped_of, mode_of, psr_of, psr_with, r15_ahead, r15_of, restored_of}
+use Rattle.arm2_transfer.specs.declared.bus.Bus.{Bus}
+use Rattle.arm2_transfer.specs.declared.single.Single.{Single}
+use Rattle.arm2_transfer.specs.declared.span.Span.{Span}
+use Rattle.arm2_transfer.specs.declared.words.Move.{Move}
+use Rattle.arm2_transfer.specs.declared.words.Trouble.{Trouble}
+use Rattle.arm2_transfer.specs.declared.words.Trouble.TheVariants as trouble
+use Rattle.arm2_transfer.specs.Block.{block_at, block_by, block_carried_out, block_loads, block_moved, block_stores, mode_for, span_of}
+use Rattle.arm2_transfer.specs.Moved.{Moved, on_bus, troubled}
+use Rattle.arm2_transfer.specs.Operations.{operation_moved}
+use Rattle.arm2_transfer.specs.Registers.{is_r15, is_user, moved_by, passed, with_base}
+use Rattle.arm2_transfer.specs.Single.{address_for, base_after, of_immediate, of_register, single_at, single_by, single_carried_out, single_loaded, single_loads, single_stores, writes_base}
+use Rattle.arm2_transfer.specs.Words.{is_listed, registers_in}
+use Rattle.flow_graph.specs.Edges.{target}
+use Rattle.flow_graph.specs.Kinds.{IsWork, data_kind, is_compare, is_pc, kind_of, lists_pc, transfer, work_of, writer_if}
+use Rattle.flow_graph.specs.StepLaw.{TransfersIn}
+use Rattle.flow_graph.specs.declared.kinds.Kind.{Kind}
+use Rattle.flow_graph.specs.declared.kinds.Kind.TheVariants as kind
+use Rattle.flow_graph.specs.declared.kinds.Work.{Work}
+use Rattle.flow_graph.specs.declared.kinds.Work.TheVariants as work
+use Rattle.flow_graph.proofs.StepRegisters.{IsWordAddress, address_ahead, address_jumped, address_put, address_restored, base_stays, goes, loaded_stays, long_with, passed_goes, word_address_ahead, word_address_of}
+use Rattle.flow_graph.proofs.StepTicks.{Costs, branch_costs, call_costs, delayed_costs, jump_costs, load_block, load_costs, store_block, store_costs, straight_costs}
+use Rattle.flow_graph.proofs.StepWords.{AllMoveOther, all_stay, pc_listed, verdict_others, words_are}
+
+same_compares : (o : Opcode) → effect.is_compare o ≡ is_compare o
+same_compares And = refl
+same_compares Eor = refl
+same_compares Sub = refl
+same_compares Rsb = refl
+same_compares Add = refl
+same_compares Adc = refl
+same_compares Sbc = refl
+same_compares Rsc = refl
+same_compares Tst = refl
+same_compares Teq = refl
+same_compares Cmp = refl
+same_compares Cmn = refl
+same_compares Orr = refl
+same_compares Mov = refl
+same_compares Bic = refl
+same_compares Mvn = refl
+
+cycles_few : (left m number : ℕ) → cycles_from left m number ≤ m + left
+unfolding cycles_from
+cycles_few zero m number = omega arith
+cycles_few (suc left) m number = by_test (cycles_few left (m + 1) number) (ltb number (2 ^ (2 * m - 1)))
+  where
+    by_test : cycles_from left (m + 1) number ≤ m + 1 + left → (b : Bool) → cond b m (cycles_from left (m + 1) number) ≤ m + suc left
+    by_test rest true = omega arith
+    by_test rest false = omega arith
+
+-- ## What the words of the table rule out
+
+refused_not : (b : Bool) (m n : ℕ) → ◌≡◌ {A = ℕ} (cond b (suc m) n) 0 → b ≡ false
+refused_not true m n e = absurd (omega (arith, e))
+refused_not false m n e = refl
+
+refused_else : (b : Bool) (m n : ℕ) → ◌≡◌ {A = ℕ} (cond b (suc m) n) 0 → n ≡ 0
+refused_else true m n e = absurd (omega (arith, e))
+refused_else false m n e = e
+
+base_by : (is_pc before write_back : Bool) → (is_pc && ((bit_of before == 0) || (bit_of write_back == 1))) ≡ false → (write_back || not before) ≡ true → is_pc ≡ false
+base_by false before write_back h w = refl
+base_by true false write_back h w = absurd (cc)
+base_by true true true h w = absurd (cc)
+base_by true true false h w = absurd (cc)
+
+base_other : (before byte write_back load : Bool) (rn rd : Register) → single_clash (bit_of before) (bit_of byte) (bit_of write_back) (bit_of load) (register_number rn) (register_number rd) ≡ 0 → (write_back || not before) ≡ true → is_r15 rn ≡ false
+base_other before byte write_back load rn rd h w =
+    base_by (is_r15 rn) before write_back (refused_not (is_bad_base (bit_of before) (bit_of write_back) (register_number rn)) 5 _ h) w
+
+words_fit : (load : Bool) (words : ℕ) → IsWork (transfer load words) → (1 ≤ words) × (words ≤ 16)
+words_fit true words h = h
+words_fit false words h = h
+
+module _ (p : Profile) (rom : RomTimes) (class : Class) (regs : List ℕ) (long : 26 < length regs) where
+  -- the effect is one of a word of the kind and the work
+  abbrev EffectCosts : Kind → Work → Effect → Type 0
+  EffectCosts k w e = Costs p rom class (address_of (r15_in regs)) k w e.accesses (address_of (r15_in e.regs))
+
+  -- so is the transfer, where it ends as other instructions do, and its words are of the class
+  abbrev pub MovedCosts : Kind → Work → Moved → Type 0
+  MovedCosts k w m = TransfersIn class m.accesses → m.kind ≡ ended.Plain → Costs p rom class (address_of (r15_in regs)) k w m.accesses (address_of (r15_in m.regs))
+
+  -- ## Data processing
+
+  next_address : (psr : ℕ) → address_of (r15_of psr (ahead_of (address_of (r15_in regs)) 4) (mode_of (r15_in regs))) ≡ ahead_of (address_of (r15_in regs)) 4
+  next_address psr = address_put psr (ahead_of (address_of (r15_in regs)) 4) (mode_of (r15_in regs)) (word_address_ahead (r15_in regs) 1)
+
+  entered_costs : (sets_flags : Bool) (rd : ℕ) (out : _) → EffectCosts kind.Plain (work.Internal 0) (entered sets_flags rd out regs)
+  unfolding entered
+  entered_costs sets_flags rd out =
+      straight_costs p rom class (address_of (r15_in regs)) _
+      (goes (with_register (mode_of (r15_in regs)) rd out.value regs) (next_r15 sets_flags out (r15_in regs)) (ahead_of (address_of (r15_in regs)) 4)
+      (long_with (mode_of (r15_in regs)) rd out.value regs long)
+      (next_address (cond sets_flags (psr_with (effect.flags_after out) (psr_of (r15_in regs))) (psr_of (r15_in regs)))))
+
+  either_goes : (b : Bool) (x y t : ℕ) → address_of x ≡ t → address_of y ≡ t → address_of (r15_in (with_r15 (cond b x y) regs)) ≡ t
+  either_goes true x y t h k = goes regs x t long h
+  either_goes false x y t h k = goes regs y t long k
+
+  compared_costs : (rd : ℕ) (out : _) → EffectCosts kind.Plain (work.Internal 0) (compared rd out regs)
+  unfolding compared
+  compared_costs rd out =
+      straight_costs p rom class (address_of (r15_in regs)) _
+      (either_goes (rd == 15) (restored_of (r15_in regs) out.value (ahead_of (address_of (r15_in regs)) 4)) (next_r15 true out (r15_in regs)) (ahead_of (address_of (r15_in regs)) 4)
+      (address_restored (r15_in regs) out.value (ahead_of (address_of (r15_in regs)) 4) (word_address_ahead (r15_in regs) 1))
+      (next_address (psr_with (effect.flags_after out) (psr_of (r15_in regs)))))
+
+  jumped_costs : (sets_flags : Bool) (out : _) → EffectCosts kind.Writer (work.Internal 0) (jumped sets_flags out regs)
+  unfolding jumped
+  jumped_costs sets_flags out =
+      subst (Costs p rom class (address_of (r15_in regs)) kind.Writer (work.Internal 0) (onward (address_of (r15_in regs)) (address_of out.value)))
+      (sym (either_goes sets_flags (restored_of (r15_in regs) out.value (address_of out.value)) (jumped_of (r15_in regs) out.value) (address_of out.value)
+      (address_restored (r15_in regs) out.value (address_of out.value) (word_address_of out.value))
+      (address_jumped (r15_in regs) out.value)))
+      (jump_costs p rom class (address_of (r15_in regs)) (address_of out.value))
+
+  placed_by : (compares to_pc : Bool) (c j e : Effect) → EffectCosts kind.Plain (work.Internal 0) c → EffectCosts kind.Writer (work.Internal 0) j → EffectCosts kind.Plain (work.Internal 0) e →
+      EffectCosts (writer_if (to_pc && not compares)) (work.Internal 0) (cond compares c (cond to_pc j e))
+  placed_by true true c j e hc hj he = hc
+  placed_by true false c j e hc hj he = hc
+  placed_by false true c j e hc hj he = hj
+  placed_by false false c j e hc hj he = he
+
+  placed_costs : (o : Opcode) (sets_flags : Bool) (rd : Register) (out : _) → EffectCosts (data_kind o rd) (work.Internal 0) (placed o sets_flags (register_number rd) out regs)
+  unfolding placed
+  placed_costs o sets_flags rd out =
+      subst (λ b. EffectCosts (writer_if (is_pc rd && not b)) (work.Internal 0) (placed o sets_flags (register_number rd) out regs)) (same_compares o)
+      (placed_by (effect.is_compare o) (register_number rd == 15) (compared (register_number rd) out regs) (jumped sets_flags out regs) (entered sets_flags (register_number rd) out regs)
+      (compared_costs (register_number rd) out) (jumped_costs sets_flags out) (entered_costs sets_flags (register_number rd) out))
+
+  multiply_costs : (x : Multiply) → EffectCosts kind.Plain (work.Internal 16) (multiply_effect x regs)
+  unfolding multiply_effect
+  multiply_costs x =
+      let number : ℕ = register_in (mode_of (r15_in regs)) (register_number x.rs) regs in
+      let few : cycles_from 15 1 number ≤ 1 + 15 = cycles_few 15 1 number in
+      delayed_costs p rom class (address_of (r15_in regs)) (cycles_of number) 16 kind.Plain _ _ (omega arith) (entered_costs x.sets_flags (register_number x.rd) (product_of x regs))
+
+  -- ## Branches
+
+  linked : (link : Bool) → 26 < length (cond link (with_register (mode_of (r15_in regs)) 14 (r15_ahead (r15_in regs) 4) regs) regs)
+  linked true = long_with (mode_of (r15_in regs)) 14 (r15_ahead (r15_in regs) 4) regs long
+  linked false = long
+
+  branch_by : (link : Bool) (offset t : ℕ) → t ≡ target (address_of (r15_in regs)) offset →
+      Costs p rom class (address_of (r15_in regs)) (cond link (kind.Call offset) (kind.Branch offset)) (work.Internal 0) (onward (address_of (r15_in regs)) t) t
+  branch_by true offset t e = call_costs p rom class (address_of (r15_in regs)) offset t e
+  branch_by false offset t e = branch_costs p rom class (address_of (r15_in regs)) offset t e
+
+  branch_goes : (x : Branch) → EffectCosts (cond x.link (kind.Call x.offset) (kind.Branch x.offset)) (work.Internal 0) (branch_effect x regs)
+  unfolding branch_effect
+  branch_goes x =
+      let t : ℕ = ahead_of (address_of (r15_in regs)) (8 + 4 * x.offset) in
+      let same : t ≡ target (address_of (r15_in regs)) x.offset = ap (λ n. n % 2 ^ 26) (let e : address_of (r15_in regs) + (8 + 4 * x.offset) ≡ address_of (r15_in regs) + 8 + 4 * x.offset = omega arith in e) in
+      let is_word : IsWordAddress t = (omega arith, omega arith) in
+      subst (Costs p rom class (address_of (r15_in regs)) (cond x.link (kind.Call x.offset) (kind.Branch x.offset)) (work.Internal 0) (onward (address_of (r15_in regs)) t))
+      (sym (goes (cond x.link (with_register (mode_of (r15_in regs)) 14 (r15_ahead (r15_in regs) 4) regs) regs) (r15_of (psr_of (r15_in regs)) t (mode_of (r15_in regs))) t (linked x.link) (address_put (psr_of (r15_in regs)) t (mode_of (r15_in regs)) is_word)))
+      (branch_by x.link x.offset t same)
+
+  -- ## What ends in another way
+
+  choose : (k : Kind) (w : Work) (b : Bool) (m n : Moved) → (b ≡ true → MovedCosts k w m) → MovedCosts k w n → MovedCosts k w (cond b m n)
+  choose k w true m n h g = h refl
+  choose k w false m n h g = g
+
+  taken_costs : (k : Kind) (w : Work) (vector : Vector) (bus : Bus) → MovedCosts k w (on_bus bus (taken vector regs))
+  unfolding taken
+  taken_costs k w vector bus in_class plain = absurd (cc)
+
+  troubled_costs : (k : Kind) (w : Work) (why : Trouble) (bus : Bus) → MovedCosts k w (troubled why regs bus)
+  unfolding taken stopped
+  troubled_costs k w trouble.DataAbort bus in_class plain = absurd (cc)
+  troubled_costs k w trouble.UnsupportedWrite bus in_class plain = absurd (cc)
+
+  -- ## Single transfers
+
+  base_passed : (x : Single) (base : ℕ) → (writes_base x ≡ true → is_r15 x.rn ≡ false) → address_of (r15_in (base_after x base regs)) ≡ ahead_of (address_of (r15_in regs)) 4
+  base_passed x base other =
+      ap address_of (base_stays (writes_base x) (mode_of (r15_in regs)) x.rn (moved_by x.up base x.offset) (passed regs) other) ∙ passed_goes regs long
+
+  single_loads_cost : (x : Single) (base port : ℕ) (spot : Spot) (bus : Bus) → (writes_base x ≡ true → is_r15 x.rn ≡ false) → address_for x base < 2 ^ 26 →
+      MovedCosts (writer_if (is_pc x.rd)) (work.Load 1) (single_loads x base port spot regs bus)
+  unfolding single_loads single_loaded
+  single_loads_cost x base port spot bus other below in_class plain =
+      load_costs p rom class (address_of (r15_in regs)) (address_for x base) 1 (is_r15 x.rd) _ (omega arith) (omega arith)
+      (load_block class rom (address_of (r15_in regs)) (address_for x base) 1 (is_r15 x.rd) _ below in_class)
+      (λ stays. ap address_of (loaded_stays false (mode_of (r15_in regs)) (r15_in regs) x.rd _ (base_after x base regs) stays) ∙ base_passed x base other)
+
+  single_stores_cost : (x : Single) (base : ℕ) (spot : Spot) (bus : Bus) → (writes_base x ≡ true → is_r15 x.rn ≡ false) → address_for x base < 2 ^ 26 →
+      MovedCosts kind.Plain (work.Store 1) (single_stores x base spot regs bus)
+  unfolding single_stores
+  single_stores_cost x base spot bus other below in_class plain =
+      store_costs p rom class (address_of (r15_in regs)) (address_for x base) 1 _ (omega arith) (omega arith)
+      (store_block class rom (address_of (r15_in regs)) (address_for x base) 1 below in_class)
+      (base_passed x base other)
+
+  -- a load or a store
+  either_costs : (load to_pc : Bool) (words : ℕ) (m n : Moved) → MovedCosts (writer_if to_pc) (work.Load words) m → MovedCosts kind.Plain (work.Store words) n → MovedCosts (writer_if (load && to_pc)) (transfer load words) (cond load m n)
+  either_costs true to_pc words m n h g = h
+  either_costs false to_pc words m n h g = g
+
+  single_by_costs : (x : Single) (base port : ℕ) (found : Result Spot Trouble) (bus : Bus) → (writes_base x ≡ true → is_r15 x.rn ≡ false) → address_for x base < 2 ^ 26 →
+      MovedCosts (writer_if (x.load && is_pc x.rd)) (transfer x.load 1) (single_by x base port found regs bus)
+  unfolding single_by single_carried_out
+  single_by_costs x base port (Err why) bus other below = troubled_costs _ _ why bus
+  single_by_costs x base port (Ok spot) bus other below =
+      either_costs x.load (is_pc x.rd) 1 (single_loads x base port spot regs bus) (single_stores x base spot regs bus)
+      (single_loads_cost x base port spot bus other below)
+      (single_stores_cost x base spot bus other below)
+
+  single_costs : (x : Single) (base port : ℕ) (bus : Bus) → (writes_base x ≡ true → is_r15 x.rn ≡ false) → MovedCosts (writer_if (x.load && is_pc x.rd)) (transfer x.load 1) (single_at x base port regs bus)
+  unfolding single_at
+  single_costs x base port bus other =
+      choose (writer_if (x.load && is_pc x.rd)) (transfer x.load 1) (nat_lt (address_for x base) (2 ^ 26)) _ _
+      (λ inside. single_by_costs x base port _ bus other (ltb-true (address_for x base) (2 ^ 26) inside))
+      (taken_costs _ _ _ bus)
+
+  -- ## Block transfers
+
+  block_loads_cost : (x : Block) (span : Span) (port : ℕ) (moves : List Move) (bus : Bus) → is_r15 x.rn ≡ false → span.lowest < 2 ^ 26 → 1 ≤ span.words → span.words ≤ 16 → (is_listed x.list R15 ≡ false → AllMoveOther moves) →
+      MovedCosts (writer_if (is_listed x.list R15)) (work.Load span.words) (block_loads x span port moves regs bus)
+  unfolding block_loads
+  block_loads_cost x span port moves bus other below some few others in_class plain =
+      load_costs p rom class (address_of (r15_in regs)) span.lowest span.words (is_listed x.list R15) _ some few
+      (load_block class rom (address_of (r15_in regs)) span.lowest span.words (is_listed x.list R15) _ below in_class)
+      (λ none.
+      ap address_of
+      (all_stay x.user (mode_for x (mode_of (r15_in regs))) (r15_in regs) bus port moves (with_base x.write_back (mode_of (r15_in regs)) x.rn span.base (passed regs)) (others none)
+      ∙ base_stays x.write_back (mode_of (r15_in regs)) x.rn span.base (passed regs) (λ w. other))
+      ∙ passed_goes regs long)
+
+  based_long : (write_back : Bool) (rn : Register) (base : ℕ) → 26 < length (with_base write_back (mode_of (r15_in regs)) rn base regs)
+  based_long true rn base = long_with (mode_of (r15_in regs)) (register_number rn) base regs long
+  based_long false rn base = long
+
+  block_stores_cost : (x : Block) (span : Span) (moves : List Move) (bus : Bus) → is_r15 x.rn ≡ false → span.lowest < 2 ^ 26 → 1 ≤ span.words → span.words ≤ 16 →
+      MovedCosts kind.Plain (work.Store span.words) (block_stores x span moves regs bus)
+  unfolding block_stores
+  block_stores_cost x span moves bus other below some few in_class plain =
+      store_costs p rom class (address_of (r15_in regs)) span.lowest span.words _ some few
+      (store_block class rom (address_of (r15_in regs)) span.lowest span.words below in_class)
+      (passed_goes (with_base x.write_back (mode_of (r15_in regs)) x.rn span.base regs) (based_long x.write_back x.rn span.base)
+      ∙ ap (λ r. ahead_of (address_of r) 4) (base_stays x.write_back (mode_of (r15_in regs)) x.rn span.base regs (λ w. other)))
+
+  block_by_costs : (x : Block) (span : Span) (port : ℕ) (verdict : Result (List Move) Trouble) (bus : Bus) → is_r15 x.rn ≡ false → span.lowest < 2 ^ 26 → 1 ≤ span.words → span.words ≤ 16 →
+      ((moves : List Move) → verdict ≡ Ok moves → is_listed x.list R15 ≡ false → AllMoveOther moves) →
+      MovedCosts (writer_if (x.load && is_listed x.list R15)) (transfer x.load span.words) (block_by x span port verdict regs bus)
+  unfolding block_by block_carried_out
+  block_by_costs x span port (Err why) bus other below some few others = troubled_costs _ _ why bus
+  block_by_costs x span port (Ok moves) bus other below some few others =
+      either_costs x.load (is_listed x.list R15) span.words (block_loads x span port moves regs bus) (block_stores x span moves regs bus)
+      (block_loads_cost x span port moves bus other below some few (others moves refl))
+      (block_stores_cost x span moves bus other below some few)
+
+  block_costs : (x : Block) (span : Span) (port : ℕ) (bus : Bus) → is_r15 x.rn ≡ false → 1 ≤ span.words → span.words ≤ 16 →
+      MovedCosts (writer_if (x.load && is_listed x.list R15)) (transfer x.load span.words) (block_at x span port regs bus)
+  unfolding block_at
+  block_costs x span port bus other some few =
+      choose (writer_if (x.load && is_listed x.list R15)) (transfer x.load span.words) (nat_lt span.lowest (2 ^ 26)) _ _
+      (λ inside. block_by_costs x span port _ bus other (ltb-true span.lowest (2 ^ 26) inside) some few
+      (λ moves e none. verdict_others bus.memc (is_user (mode_of (r15_in regs))) (not x.load) span.lowest x.list moves e none))
+      (taken_costs _ _ _ bus)
+
+  block_done : (x : Block) (port : ℕ) (bus : Bus) → IsWork (transfer x.load (count_ones x.list)) → MovedCosts (writer_if (x.load && lists_pc x.list)) (transfer x.load (count_ones x.list)) (block_moved x port regs bus)
+  unfolding block_moved
+  block_done x port bus fits =
+      let words : length (registers_in x.list) ≡ count_ones x.list = words_are x.list x.list_fits in
+      let fit = words_fit x.load (count_ones x.list) fits in
+      let other : is_r15 x.rn ≡ false = refused_not (is_r15 x.rn) 6 _ x.allocated in
+      let base : ℕ = register_in (mode_of (r15_in regs)) (register_number x.rn) regs in
+      let moved : Moved = block_at x (span_of x base (length (registers_in x.list))) port regs bus in
+      subst (λ n. MovedCosts (writer_if (x.load && lists_pc x.list)) (transfer x.load n) moved) words
+      (subst (λ b. MovedCosts (writer_if (x.load && b)) (transfer x.load (length (registers_in x.list))) moved) (sym (pc_listed x.list x.list_fits))
+      (block_costs x (span_of x base (length (registers_in x.list))) port bus other (omega (arith, words, fit.0)) (omega (arith, words, fit.1))))
+
+  -- ## Any instruction
+
+  pub operation_costs : (o : Operation) (port : ℕ) (bus : Bus) → IsWork (work_of o) → MovedCosts (kind_of o) (work_of o) (operation_moved o port regs bus)
+  unfolding operation_effect data_register_effect data_register_shift_effect data_immediate_effect
+  operation_costs (operation.Multiply x) port bus fits = λ in_class plain. multiply_costs x
+  operation_costs (operation.DataRegister x) port bus fits = λ in_class plain. placed_costs x.opcode x.sets_flags x.rd _
+  operation_costs (operation.DataRegisterShift x) port bus fits =
+      λ in_class plain. delayed_costs p rom class (address_of (r15_in regs)) 1 1 (data_kind x.opcode x.rd) _ _ (omega arith) (placed_costs x.opcode x.sets_flags x.rd _)
+  operation_costs (operation.DataImmediate x) port bus fits = λ in_class plain. placed_costs x.opcode x.sets_flags x.rd _
+  operation_costs (operation.SingleImmediate x) port bus fits =
+      single_costs (of_immediate x) _ port bus (base_other x.before x.byte x.write_back x.load x.rn x.rd x.allocated)
+  operation_costs (operation.SingleRegister x) port bus fits =
+      single_costs (of_register x regs) _ port bus (base_other x.before x.byte x.write_back x.load x.rn x.rd (refused_else (register_number x.rm == 15) 4 _ x.allocated))
+  operation_costs (operation.Block x) port bus fits = block_done x port bus fits
+  operation_costs (operation.Branch x) port bus fits = λ in_class plain. branch_goes x
+  operation_costs (operation.Swi x) port bus fits = taken_costs _ _ _ bus
+  operation_costs (operation.UndefinedTransfer x) port bus fits = taken_costs _ _ _ bus
+  operation_costs (operation.CoprocessorTransfer x) port bus fits = taken_costs _ _ _ bus
+  operation_costs (operation.Coprocessor x) port bus fits = taken_costs _ _ _ bus
+
+  -- a word that is passed over
+  pub skipped_costs : (bus : Bus) → MovedCosts kind.Plain (work.Internal 0) (on_bus bus (skipped regs))
+  unfolding skipped
+  skipped_costs bus in_class plain =
+      straight_costs p rom class (address_of (r15_in regs)) _
+      (goes regs (r15_ahead (r15_in regs) 4) (ahead_of (address_of (r15_in regs)) 4) long (address_ahead (r15_in regs)))
+
+  pub stopped_costs : (k : Kind) (w : Work) (why : Why) (bus : Bus) → MovedCosts k w (on_bus bus (stopped why regs))
+  unfolding stopped
+  stopped_costs k w why bus in_class plain = absurd (cc)
+
+  -- a word that is done or passed over
+  pub either_done : (holds : Bool) (k : Kind) (w : Work) (m n : Moved) → MovedCosts k w m → MovedCosts kind.Plain (work.Internal 0) n → MovedCosts (cond holds k kind.Plain) (cond holds w (work.Internal 0)) (cond holds m n)
+  either_done true k w m n h g = h
+  either_done false k w m n h g = g

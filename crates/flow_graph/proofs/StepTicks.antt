@@ -1,0 +1,126 @@
+-- What the accesses of a step cost at most.
+use Rattle.std.proofs.Common.{◌≡◌, ℕ, zero, suc, ◌+◌, ◌*◌, ◌^◌, ◌<◌, ◌≤◌, ◌==◌, ◌⊎◌, inl, inr, Bool, true, false, List, [], ◌∷◌, ◌++◌, refl, sym, subst, arith}
+use Rattle.std.specs.Prelude.{Contains}
+use Rattle.std.proofs.Math.Nat.{eq-or-lt_of_le}
+use Rattle.std.proofs.lemmas.Nat.{mul-le}
+use Rattle.std.proofs.lemmas.List.Elements.{Contains-append_left, Contains-append_right, Contains-push}
+use Rattle.bus_ticks.specs.declared.profile.Class.{Class}
+use Rattle.bus_ticks.specs.declared.profile.Profile.{Profile}
+use Rattle.bus_ticks.specs.declared.profile.RomTimes.{RomTimes}
+use Rattle.bus_ticks.specs.Prices.{block_price, n_price, s_price, word_address}
+use Rattle.bus_ticks.specs.Worst.{IsBlockOf, worst_block, worst_n_price, worst_s_price}
+use Rattle.bus_ticks.proofs.FetchLemmas.{n_greatest, s_greatest}
+use Rattle.bus_ticks.proofs.WorstLemmas.{worst_transfer_greatest}
+use Rattle.arm2_effect.specs.Effects.{Access, FetchN, FetchS, Internal, Word, straight, refill, ticks_of}
+use Rattle.arm2_effect.specs.ProgramCounter.{ahead_of}
+use Rattle.arm2_transfer.proofs.Ticks.{load_ticks-jumps, load_ticks-passes, ticks_of-append, ticks_of-words_at}
+use Rattle.arm2_transfer.specs.Moved.{load_accesses, store_accesses, words_at}
+use Rattle.flow_graph.specs.Edges.{fetching, passing, target, working, wrapped}
+use Rattle.flow_graph.specs.Kinds.{writer_if}
+use Rattle.flow_graph.specs.StepLaw.{TransfersIn}
+use Rattle.flow_graph.specs.declared.kinds.Kind.{Kind}
+use Rattle.flow_graph.specs.declared.kinds.Kind.TheVariants as kind
+use Rattle.flow_graph.specs.declared.kinds.Work.{Work}
+use Rattle.flow_graph.specs.declared.kinds.Work.TheVariants as work
+use Rattle.flow_graph.proofs.SortedLemmas.{there}
+
+-- the first words of a transfer stand among its accesses
+words_there : (store : Bool) (address k i : ℕ) → i < k → Contains (words_at store address k) (Word store (i == 0) (word_address address i))
+unfolding words_at
+words_there store address zero i h = absurd (omega arith)
+words_there store address (suc k) i h = by_place (λ less. words_there store address k i less) (eq-or-lt_of_le (let le : i ≤ k = omega arith in le))
+  where
+    by_place : (i < k → Contains (words_at store address k) (Word store (i == 0) (word_address address i))) → (i ≡ k) ⊎ (i < k) → Contains (words_at store address k ++ Word store (k == 0) (word_address address k) ∷ []) (Word store (i == 0) (word_address address i))
+    by_place before (inl e) =
+        subst (λ n. Contains (words_at store address k ++ Word store (k == 0) (word_address address k) ∷ []) (Word store (n == 0) (word_address address n))) (sym e)
+        (Contains-push (words_at store address k) (Word store (k == 0) (word_address address k)))
+    by_place before (inr less) = Contains-append_left (words_at store address k) (Word store (k == 0) (word_address address k) ∷ []) _ (before less)
+
+pub load_block : (class : Class) (rom : RomTimes) (a address k : ℕ) (jumps : Bool) (t : ℕ) → address < 2 ^ 26 → TransfersIn class (load_accesses a address k jumps t) → IsBlockOf class k (record { address = address; rom = rom })
+load_block class rom a address k jumps t below in_class = record {
+  below = below;
+  each = λ i h. in_class false (i == 0) (word_address address i)
+      (Contains-append_left (straight a ++ words_at false address k) _ _
+      (Contains-append_right (straight a) (words_at false address k) _ (words_there false address k i h)));
+}
+
+pub store_block : (class : Class) (rom : RomTimes) (a address k : ℕ) → address < 2 ^ 26 → TransfersIn class (store_accesses a address k) → IsBlockOf class k (record { address = address; rom = rom })
+store_block class rom a address k below in_class = record {
+  below = below;
+  each = λ i h. in_class true (i == 0) (word_address address i)
+      (there (FetchN (ahead_of a 8)) (words_at true address k) _ (words_there true address k i h));
+}
+
+module _ (p : Profile) (rom : RomTimes) (class : Class) (a : ℕ) where
+  pub n_most : (x : ℕ) → n_price p rom x ≤ worst_n_price p x
+  n_most x = (n_greatest p x (worst_n_price p x) refl).none_above rom tt
+
+  pub s_most : (x : ℕ) → s_price p rom x ≤ worst_s_price p x
+  s_most x = (s_greatest p x (worst_s_price p x) refl).none_above rom tt
+
+  -- where a word of the kind leads from address a, by its own fields
+  abbrev pub Reaches : Kind → ℕ → Type 0
+  Reaches kind.Plain t = t ≡ wrapped (a + 4)
+  Reaches (kind.Branch offset) t = t ≡ target a offset
+  Reaches (kind.Call offset) t = t ≡ target a offset
+  Reaches kind.Writer t = Unit {0}
+  Reaches kind.Trap t = ⊥
+  Reaches kind.Unallocated t = ⊥
+
+  -- the two fetches of a word that jumps
+  abbrev pub jump_price : Kind → ℕ → ℕ
+  jump_price kind.Plain t = 0
+  jump_price (kind.Branch offset) t = n_price p rom t + s_price p rom (wrapped (t + 4))
+  jump_price (kind.Call offset) t = n_price p rom t + s_price p rom (wrapped (t + 4))
+  jump_price kind.Writer t = n_price p rom t + s_price p rom (wrapped (t + 4))
+  jump_price kind.Trap t = 0
+  jump_price kind.Unallocated t = 0
+
+  -- a step of these accesses that ends at t is one of a word of the kind and the work, and costs no more than they do
+  pub record Costs (k : Kind) (w : Work) (accesses : List Access) (t : ℕ) : Type 0 where
+    pub reaches : Reaches k t
+    pub most : ticks_of p rom accesses ≤ fetching p a w + working p class w + jump_price k t
+
+  pub straight_costs : (t : ℕ) → t ≡ wrapped (a + 4) → Costs kind.Plain (work.Internal 0) (straight a) t
+  straight_costs t e = record { reaches = e; most = omega (arith, s_most (wrapped (a + 8))) }
+
+  pub jump_costs : (t : ℕ) → Costs kind.Writer (work.Internal 0) (FetchS (ahead_of a 8) ∷ refill t) t
+  jump_costs t = record { reaches = tt; most = omega (arith, s_most (wrapped (a + 8))) }
+
+  pub branch_costs : (offset t : ℕ) → t ≡ target a offset → Costs (kind.Branch offset) (work.Internal 0) (FetchS (ahead_of a 8) ∷ refill t) t
+  branch_costs offset t e = record { reaches = e; most = omega (arith, s_most (wrapped (a + 8))) }
+
+  pub call_costs : (offset t : ℕ) → t ≡ target a offset → Costs (kind.Call offset) (work.Internal 0) (FetchS (ahead_of a 8) ∷ refill t) t
+  call_costs offset t e = record { reaches = e; most = omega (arith, s_most (wrapped (a + 8))) }
+
+  -- internal cycles before
+  pub delayed_costs : (cycles most : ℕ) (k : Kind) (accesses : List Access) (t : ℕ) → cycles ≤ most → Costs k (work.Internal 0) accesses t → Costs k (work.Internal most) (Internal cycles ∷ accesses) t
+  delayed_costs cycles most k accesses t few h = record {
+    reaches = h.reaches;
+    most =
+        let all = ticks_of-append p rom (Internal cycles ∷ []) accesses in
+        let product : cycles * p.internal ≤ most * p.internal = mul-le cycles p.internal most p.internal few (omega arith) in
+        let before : ticks_of p rom accesses ≤ passing p a + 0 * p.internal + jump_price k t = h.most in
+        omega (arith, all, product, before);
+  }
+
+  block_most : (address k : ℕ) (store : Bool) → 1 ≤ k → k ≤ 16 → IsBlockOf class k (record { address = address; rom = rom }) → block_price p rom store address k ≤ worst_block p class k store
+  block_most address k store some few of_class = (worst_transfer_greatest p class k store (worst_block p class k store) some few refl).none_above (record { address = address; rom = rom }) of_class
+
+  pub load_costs : (address k : ℕ) (jumps : Bool) (t : ℕ) → 1 ≤ k → k ≤ 16 → IsBlockOf class k (record { address = address; rom = rom }) → (jumps ≡ false → t ≡ wrapped (a + 4)) → Costs (writer_if jumps) (work.Load k) (load_accesses a address k jumps t) t
+  load_costs address k true t some few of_class to = record {
+    reaches = tt;
+    most = omega (arith, load_ticks-jumps p rom a address k t, s_most (wrapped (a + 8)), block_most address k false some few of_class);
+  }
+  load_costs address k false t some few of_class to = record {
+    reaches = to refl;
+    most = omega (arith, load_ticks-passes p rom a address k t, s_most (wrapped (a + 8)), block_most address k false some few of_class);
+  }
+
+  pub store_costs : (address k t : ℕ) → 1 ≤ k → k ≤ 16 → IsBlockOf class k (record { address = address; rom = rom }) → t ≡ wrapped (a + 4) → Costs kind.Plain (work.Store k) (store_accesses a address k) t
+  store_costs address k t some few of_class to = record {
+    reaches = to;
+    most =
+        let all = ticks_of-append p rom (FetchN (ahead_of a 8) ∷ []) (words_at true address k) in
+        omega (arith, all, ticks_of-words_at p rom true address k, n_most (wrapped (a + 8)), block_most address k true some few of_class);
+  }

@@ -1,0 +1,147 @@
+-- The words of a block: as many as its list has bits, and R15 stays where the list has none for it.
+use Rattle.std.proofs.Common.{◌≡◌, ℕ, zero, suc, ◌+◌, ◌/◌, ◌%◌, ◌^◌, ◌<◌, ◌==◌, Bool, true, false, cond, List, [], ◌∷◌, length, filter, count_ones, Result, Ok, Err, refl, sym, ap, subst, ◌∙◌, arith}
+use Rattle.std.proofs.Math.Nat.{div-div-eq-div-mul, pow-suc}
+use Rattle.std.proofs.lemmas.Bool.{false≢true}
+use Rattle.std.proofs.lemmas.Nat.{ones_le_self}
+use Rattle.std.proofs.lemmas.Bool.Decides.{nat_tests}
+use lib.Count.{ones_step}
+use Rattle.arm2_decode.specs.Names.{register_number}
+use Rattle.arm2_decode.specs.declared.names.Register.{Register}
+use Rattle.arm2_decode.specs.declared.names.Register.TheVariants.{R0, R1, R2, R3, R4, R5, R6, R7, R8, R9, R10, R11, R12, R13, R14, R15}
+use Rattle.memc.specs.Memory.{Memory}
+use Rattle.memc.specs.declared.spots.Refused.{Refused}
+use Rattle.memc.specs.declared.spots.Spot.{Spot}
+use Rattle.memc.specs.Memory.{located}
+use Rattle.bus_ticks.specs.Prices.{word_address}
+use Rattle.arm2_effect.specs.declared.modes.Mode.{Mode}
+use Rattle.arm2_effect.specs.Modes.{r15_in}
+use Rattle.arm2_transfer.specs.declared.bus.Bus.{Bus}
+use Rattle.arm2_transfer.specs.declared.words.Move.{Move}
+use Rattle.arm2_transfer.specs.declared.words.Trouble.{Trouble}
+use Rattle.arm2_transfer.specs.declared.words.Trouble.TheVariants as trouble
+use Rattle.arm2_transfer.specs.Block.{all_loaded}
+use Rattle.arm2_transfer.specs.Bus.{seen}
+use Rattle.arm2_transfer.specs.Registers.{is_r15, with_loaded}
+use Rattle.arm2_transfer.specs.Words.{Word, all_registers, is_abort, is_listed, is_unsupported, moves_of, registers_in, verdict_of, words_from}
+use Rattle.std.specs.List.{list_any}
+use Rattle.flow_graph.specs.Kinds.{lists_pc}
+use Rattle.flow_graph.proofs.StepRegisters.{loaded_stays}
+
+-- ## As many words as bits
+
+-- registers whose numbers count up from n
+abbrev Counted : ℕ → List Register → Type 0
+Counted n [] = Unit {0}
+Counted n (r ∷ rest) = (register_number r ≡ n) × Counted (suc n) rest
+
+-- one more where a test holds
+kept_one : (b : Bool) (x : Register) (xs : List Register) (n : ℕ) → length (cond b (x ∷ xs) xs) + n ≡ cond b 1 0 + (length xs + n)
+kept_one true x xs n = omega arith
+kept_one false x xs n = omega arith
+
+low_bit : (n : ℕ) → n < 2 → ◌≡◌ {A = ℕ} (cond (n == 1) 1 0) n
+low_bit zero h = refl
+low_bit (suc zero) h = refl
+low_bit (suc (suc n)) h = absurd (omega arith)
+
+halved : (list n : ℕ) → list / 2 ^ n / 2 ≡ list / 2 ^ suc n
+halved list n = div-div-eq-div-mul list (2 ^ n) 2 ∙ ap (λ m. list / m) (sym (pow-suc 2 n))
+
+bits_kept : (list n : ℕ) (rs : List Register) → Counted n rs → length (filter (is_listed list) rs) + count_ones (list / 2 ^ (n + length rs)) ≡ count_ones (list / 2 ^ n)
+bits_kept list n [] h =
+    let e : n + 0 ≡ n = omega arith in
+    let same : 0 + count_ones (list / 2 ^ (n + 0)) ≡ count_ones (list / 2 ^ (n + 0)) = omega arith in
+    same ∙ ap (λ m. count_ones (list / 2 ^ m)) e
+bits_kept list n (r ∷ rest) h =
+    let rest_kept = bits_kept list (suc n) rest h.1 in
+    let e : n + suc (length rest) ≡ suc n + length rest = omega arith in
+    let bit : cond (is_listed list r) 1 0 ≡ list / 2 ^ n % 2 = ap (λ m. cond (list / 2 ^ m % 2 == 1) 1 0) h.0 ∙ low_bit (list / 2 ^ n % 2) (omega arith) in
+    kept_one (is_listed list r) r (filter (is_listed list) rest) (count_ones (list / 2 ^ (n + suc (length rest))))
+    ∙ ap (λ m. cond (is_listed list r) 1 0 + (length (filter (is_listed list) rest) + count_ones (list / 2 ^ m))) e
+    ∙ ap (λ m. cond (is_listed list r) 1 0 + m) rest_kept
+    ∙ ap (λ m. m + count_ones (list / 2 ^ suc n)) bit
+    ∙ ap (λ m. list / 2 ^ n % 2 + count_ones m) (sym (halved list n))
+    ∙ sym (ones_step (list / 2 ^ n))
+
+all_counted : Counted 0 all_registers
+unfolding all_registers
+all_counted = (refl, (refl, (refl, (refl, (refl, (refl, (refl, (refl, (refl, (refl, (refl, (refl, (refl, (refl, (refl, (refl, tt))))))))))))))))
+
+sixteen : length all_registers ≡ 16
+unfolding all_registers
+sixteen = refl
+
+pub words_are : (list : ℕ) → list < 2 ^ 16 → length (registers_in list) ≡ count_ones list
+words_are list fits =
+    let whole = bits_kept list 0 all_registers all_counted in
+    let none : list / 2 ^ 16 ≡ 0 = omega arith in
+    let past : count_ones (list / 2 ^ (0 + length all_registers)) ≡ count_ones 0 = ap (λ n. count_ones (list / 2 ^ (0 + n))) sixteen ∙ ap count_ones none in
+    let first : list / 2 ^ 0 ≡ list = omega arith in
+    omega (arith, whole, past, ones_le_self 0, ap count_ones first)
+
+-- ## R15
+
+pub pc_listed : (list : ℕ) → list < 2 ^ 16 → lists_pc list ≡ is_listed list R15
+pc_listed list fits = grind (arith, nat_tests)
+
+-- no register of the list is R15
+abbrev AllOther : List Register → Type 0
+AllOther [] = Unit {0}
+AllOther (r ∷ rest) = (is_r15 r ≡ false) × AllOther rest
+
+other_register : (list : ℕ) → is_listed list R15 ≡ false → (r : Register) → is_listed list r ≡ true → is_r15 r ≡ false
+other_register list none R0 h = refl
+other_register list none R1 h = refl
+other_register list none R2 h = refl
+other_register list none R3 h = refl
+other_register list none R4 h = refl
+other_register list none R5 h = refl
+other_register list none R6 h = refl
+other_register list none R7 h = refl
+other_register list none R8 h = refl
+other_register list none R9 h = refl
+other_register list none R10 h = refl
+other_register list none R11 h = refl
+other_register list none R12 h = refl
+other_register list none R13 h = refl
+other_register list none R14 h = refl
+other_register list none R15 h = absurd (false≢true (sym none ∙ h))
+
+kept_others : (test : Register → Bool) → ((r : Register) → test r ≡ true → is_r15 r ≡ false) → (rs : List Register) → AllOther (filter test rs)
+kept_others test other [] = tt
+kept_others test other (r ∷ rest) = by_test (kept_others test other rest) (test r) refl
+  where
+    by_test : AllOther (filter test rest) → (b : Bool) → test r ≡ b → AllOther (cond b (r ∷ filter test rest) (filter test rest))
+    by_test more true e = (other r e, more)
+    by_test more false e = more
+
+-- no move loads R15
+abbrev pub AllMoveOther : List Move → Type 0
+AllMoveOther [] = Unit {0}
+AllMoveOther (move ∷ rest) = (is_r15 move.register ≡ false) × AllMoveOther rest
+
+moves_others : (m : Memory) (user store : Bool) (lowest i : ℕ) (rs : List Register) → AllOther rs → AllMoveOther (moves_of (words_from m user store lowest i rs))
+moves_others m user store lowest i [] h = tt
+moves_others m user store lowest i (r ∷ rest) h = by_place (moves_others m user store lowest (i + 1) rest h.1) (located m (word_address lowest i) user store)
+  where
+    by_place : AllMoveOther (moves_of (words_from m user store lowest (i + 1) rest)) → (found : Result Spot Refused) → AllMoveOther (moves_of ((r, found) ∷ words_from m user store lowest (i + 1) rest))
+    by_place more (Ok spot) = (h.0, more)
+    by_place more (Err why) = more
+
+by_verdict : (aborts unsupported : Bool) (all moves : List Move) → ◌≡◌ {A = Result (List Move) Trouble} (cond aborts (Err trouble.DataAbort) (cond unsupported (Err trouble.UnsupportedWrite) (Ok all))) (Ok moves) → all ≡ moves
+by_verdict true unsupported all moves e = absurd (cc)
+by_verdict false true all moves e = absurd (cc)
+by_verdict false false all moves e = cc
+
+pub verdict_others : (m : Memory) (user store : Bool) (lowest list : ℕ) (moves : List Move) → verdict_of (words_from m user store lowest 0 (registers_in list)) ≡ Ok moves → is_listed list R15 ≡ false → AllMoveOther moves
+verdict_others m user store lowest list moves e none =
+    let words : List Word = words_from m user store lowest 0 (registers_in list) in
+    subst AllMoveOther
+    (by_verdict (list_any (λ (word : Word). is_abort word.1) words) (list_any (λ (word : Word). is_unsupported word.1) words) (moves_of words) moves e)
+    (moves_others m user store lowest 0 (registers_in list) (kept_others (is_listed list) (other_register list none) all_registers))
+
+pub all_stay : (psr : Bool) (mode : Mode) (r : ℕ) (bus : Bus) (port : ℕ) (moves : List Move) (regs : List ℕ) → AllMoveOther moves → r15_in (all_loaded psr mode r bus port moves regs) ≡ r15_in regs
+all_stay psr mode r bus port [] regs h = refl
+all_stay psr mode r bus port (move ∷ rest) regs h =
+    all_stay psr mode r bus port rest (with_loaded psr mode r move.register (seen bus port move.spot) regs) h.1
+    ∙ loaded_stays psr mode r move.register (seen bus port move.spot) regs h.0

@@ -1,6 +1,0 @@
--- A flow graph as it is stored (our own).
-use Rattle.flow_graph_whole.specs.declared.flow.Graph.TheInside.{Inside}
-use Rattle.flow_graph_whole.specs.Flow.{Flow}
-
-abbrev pub flow_of : Inside → Flow
-flow_of graph = record { entry = graph.entry; places = graph.places.items; edges = graph.edges.items; firsts = graph.firsts.items; profile = graph.profile }

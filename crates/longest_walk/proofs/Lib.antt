@@ -1,5 +1,0 @@
-mod DistanceLemmas
-mod FoldLemmas
-mod SpreadLemmas
-mod TraceLemmas
-mod WalkLemmas

@@ -1,0 +1,170 @@
+-- Keys of places: how they compare, and where they stand.
+use Rattle.std.proofs.Common.{◌≡◌, ℕ, zero, suc, ◌+◌, ◌<◌, ◌≤◌, ◌⊎◌, Bool, true, false, eqb, ltb, List, [], ◌∷◌, ◌++◌, length, take, get_or, sym, refl, ap, ◌∙◌, inl, inr, ⊎_elim, arith}
+use Rattle.std.specs.Prelude.{not, ◌&&◌, ◌||◌}
+use Rattle.std.specs.Cmp.{IsStrictWeakOrder}
+use Rattle.std.specs.Cmp.Lexicographic.{slice_cmp}
+use Rattle.std.specs.Ordering.{nat_cmp, ordering_then, is_lt}
+use Rattle.std.specs.declared.cmp.Ordering.{Ordering}
+use Rattle.std.specs.declared.cmp.Ordering.TheVariants.{Less, Equal, Greater}
+use Rattle.std.specs.List.Sorted.{IsSorted, IsPartitionedBy, IsPartitionPoint}
+use Rattle.std.proofs.lemmas.Bool.{both_ways, cases_order, lt-ltb, le-ltb, eq-eqb, ne_eqb}
+use Rattle.std.proofs.lemmas.Bool.Decides.{nat_tests}
+use Rattle.std.proofs.lemmas.Cmp.{nat_list_cmp_total, same_from_slice_cmp}
+use Rattle.std.proofs.lemmas.List.Sorted.{ranks_by, sorted_far}
+use Rattle.flow_graph.specs.declared.places.Place.{Place}
+use Rattle.flow_graph.specs.declared.places.Place.TheVariants.{At, Exit}
+use Rattle.flow_graph.specs.Places.{place_at}
+use Rattle.loop_bounds.specs.Instance.{holds}
+use Rattle.loop_bounds.specs.Keys.{key_of, by_key, is_before, IsPoint}
+
+-- ## How keys compare
+
+length_less : (n : ℕ) → nat_cmp 0 (suc n) ≡ Less
+length_less n = grind (arith, nat_tests)
+
+length_greater : (n : ℕ) → nat_cmp (suc n) 0 ≡ Greater
+length_greater n = grind (arith, nat_tests)
+
+length_same : (m n : ℕ) → nat_cmp (suc m) (suc n) ≡ nat_cmp m n
+length_same m n = grind (arith, nat_tests)
+
+then_equal : (o : Ordering) → ordering_then o Equal ≡ o
+then_equal Less = refl
+then_equal Equal = refl
+then_equal Greater = refl
+
+then_further : (o p q r : Ordering) → ordering_then (ordering_then (ordering_then o p) q) r ≡ ordering_then o (ordering_then (ordering_then p q) r)
+then_further Less p q r = refl
+then_further Equal p q r = refl
+then_further Greater p q r = refl
+
+behind : (xs : List ℕ) (b : ℕ) → slice_cmp nat_cmp [] (xs ++ b ∷ []) ≡ Less
+behind [] b = refl
+behind (x ∷ xs) b = refl
+
+pub before : (xs : List ℕ) (a : ℕ) → slice_cmp nat_cmp (xs ++ a ∷ []) [] ≡ Greater
+before [] a = refl
+before (x ∷ xs) a = refl
+
+-- the common part first, then the next address, and then the lengths
+pub compared : (c d : List ℕ) (a b n : ℕ) → n ≤ length c → n ≤ length d → (n ≡ length c) ⊎ (n ≡ length d) → slice_cmp nat_cmp (c ++ a ∷ []) (d ++ b ∷ []) ≡ ordering_then (ordering_then (slice_cmp nat_cmp (take n c) (take n d)) (nat_cmp (get_or (c ++ a ∷ []) n 0) (get_or (d ++ b ∷ []) n 0))) (nat_cmp (length c) (length d))
+compared [] [] a b zero u v at = refl
+compared [] (y ∷ d) a b zero u v at = rw (length_less (length d), behind d b) refl
+compared (x ∷ c) [] a b zero u v at = rw (length_greater (length c), before c a) refl
+compared (x ∷ c) (y ∷ d) a b zero u v at = absurd (⊎_elim (λ e. omega arith) (λ e. omega arith) at)
+compared [] d a b (suc n) u v at = absurd (omega arith)
+compared (x ∷ c) [] a b (suc n) u v at = absurd (omega arith)
+compared (x ∷ c) (y ∷ d) a b (suc n) u v at =
+    let rest = compared c d a b n (omega arith) (omega arith) (⊎_elim (λ e. inl (omega arith)) (λ e. inr (omega arith)) at) in
+    rw (length_same (length c) (length d), rest)
+    (sym (then_further (nat_cmp x y) (slice_cmp nat_cmp (take n c) (take n d)) (nat_cmp (get_or (c ++ a ∷ []) n 0) (get_or (d ++ b ∷ []) n 0)) (nat_cmp (length c) (length d))))
+
+-- ## The order as a test
+
+pub before_is : (x y : List ℕ) → is_lt (slice_cmp nat_cmp x y) ≡ is_before x y
+before_is x y = same_from_slice_cmp nat_cmp is_lt is_before refl (λ _ _. refl) (λ _ _. refl) (λ x y xs ys o h. grind (arith, nat_tests)) x y (slice_cmp nat_cmp x y) refl
+
+upto_step : (x y z : ℕ) (a b d : Bool) → (a ≡ false → b ≡ true → d ≡ true) → (ltb y x || (eqb y x && a)) ≡ false → (ltb y z || (eqb y z && b)) ≡ true → (ltb x z || (eqb x z && d)) ≡ true
+upto_step x y z a b d ih h k = grind (arith, nat_tests)
+
+-- what is not before x is not before what x is not after
+pub before_upto : (x y z : List ℕ) → is_before y x ≡ false → is_before y z ≡ true → is_before x z ≡ true
+before_upto [] [] z h k = k
+before_upto [] (y ∷ ys) [] h k = k
+before_upto [] (y ∷ ys) (z ∷ zs) h k = refl
+before_upto (x ∷ xs) [] z h k = cc
+before_upto (x ∷ xs) (y ∷ ys) [] h k = k
+before_upto (x ∷ xs) (y ∷ ys) (z ∷ zs) h k = upto_step x y z (is_before ys xs) (is_before ys zs) (is_before xs zs) (before_upto xs ys zs) h k
+
+pub not_before_itself : (x : List ℕ) → is_before x x ≡ false
+not_before_itself [] = refl
+not_before_itself (x ∷ xs) = rw (le-ltb x x (omega arith), eq-eqb x x refl) (not_before_itself xs)
+
+one_or_other : (x y : ℕ) (a b : Bool) (xs ys : List ℕ) → (a ≡ false → b ≡ false → xs ≡ ys) → (ltb x y || (eqb x y && a)) ≡ false → (ltb y x || (eqb y x && b)) ≡ false → (x ≡ y) × (xs ≡ ys)
+one_or_other x y a b xs ys ih h k = ⊎_elim
+    (λ same. (same, ih (let p : (ltb x y || (eqb x y && a)) ≡ false = h in grind (arith, nat_tests)) (let p : (ltb y x || (eqb y x && b)) ≡ false = k in grind (arith, nat_tests))))
+    (λ apart. ⊎_elim
+    (λ below. absurd (both_ways (ltb x y || (eqb x y && a)) h (rw (lt-ltb x y below) refl)))
+    (λ above. absurd (both_ways (ltb y x || (eqb y x && b)) k (rw (lt-ltb y x above) refl)))
+    apart)
+    (cases_order x y)
+
+-- of two lists one stands before the other, or they are one
+pub same_by_order : (x y : List ℕ) → is_before x y ≡ false → is_before y x ≡ false → x ≡ y
+same_by_order [] [] h k = refl
+same_by_order [] (y ∷ ys) h k = cc
+same_by_order (x ∷ xs) [] h k = cc
+same_by_order (x ∷ xs) (y ∷ ys) h k =
+    let e = one_or_other x y (is_before xs ys) (is_before ys xs) xs ys (same_by_order xs ys) h k in
+    (λ i. e.0 i ∷ e.1 i)
+
+-- ## Members are the keys between two
+
+span_base : (f l k : ℕ) (key : List ℕ) → holds f l [] (k ∷ key) ≡ (not (is_before (k ∷ key) (f ∷ [])) && is_before (k ∷ key) ((l + 1) ∷ []))
+span_base f l k [] = grind (arith, nat_tests)
+span_base f l k (x ∷ key) = grind (arith, nat_tests)
+
+-- an instance's members are the keys from the one bound up to the other
+pub holds_span : (f l : ℕ) (c key : List ℕ) → holds f l c key ≡ (not (is_before key (c ++ f ∷ [])) && is_before key (c ++ (l + 1) ∷ []))
+holds_span f l [] [] = refl
+holds_span f l [] (k ∷ key) = span_base f l k key
+holds_span f l (x ∷ c) [] = refl
+holds_span f l (x ∷ c) (k ∷ key) = ⊎_elim
+    (λ same. rw (eq-eqb k x same, le-ltb k x (omega arith)) (holds_span f l c key))
+    (λ apart. ⊎_elim
+    (λ below. rw (ne_eqb k x (λ e. absurd (omega arith)), lt-ltb k x below) refl)
+    (λ above. rw (ne_eqb k x (λ e. absurd (omega arith)), le-ltb k x (omega arith)) refl)
+    apart)
+    (cases_order k x)
+
+-- ## Sorted places
+
+-- the test of the order by key is a strict weak order
+pub by_key_ranks : IsStrictWeakOrder (λ (p q : Place). is_lt (by_key p q))
+by_key_ranks = ranks_by nat_list_cmp_total key_of
+
+pub ascends : (listed : List Place) → IsSorted by_key listed → (i j : ℕ) (d : Place) → i ≤ j → j < length listed → is_before (key_of (get_or listed j d)) (key_of (get_or listed i d)) ≡ false
+ascends listed sorted i j d le lt = sym (before_is (key_of (get_or listed j d)) (key_of (get_or listed i d))) ∙ sorted_far (λ (p q : Place). is_lt (by_key p q)) by_key_ranks listed sorted i j d le lt
+
+pub parted : (listed : List Place) (bound : Place) → IsSorted by_key listed → IsPartitionedBy (λ (p : Place). is_lt (by_key p bound)) listed
+parted listed bound sorted i j d le lt h =
+    before_is (key_of (get_or listed i d)) (key_of bound)
+    ∙ before_upto (key_of (get_or listed i d)) (key_of (get_or listed j d)) (key_of bound) (ascends listed sorted i j d le lt) (sym (before_is (key_of (get_or listed j d)) (key_of bound)) ∙ h)
+
+pub point_from : (listed : List Place) (bound : Place) (n : ℕ) → n ≤ length listed → IsPartitionPoint (λ p. is_lt (by_key p bound) ≡ true) (λ p. is_lt (by_key p bound) ≡ false) listed n → IsPoint listed (key_of bound) n
+point_from listed bound n le parts = record {
+  inside = le;
+  below = λ k lt. sym (before_is (key_of (place_at listed k)) (key_of bound)) ∙ parts.0 k Exit (omega arith) lt;
+  from = λ k ge lt. sym (before_is (key_of (place_at listed k)) (key_of bound)) ∙ parts.1 k Exit ge lt;
+}
+
+-- ## Places with one key
+
+last_call : (a : ℕ) (c : List ℕ) (b : ℕ) → a ∷ [] ≡ c ++ b ∷ [] → (c ≡ []) × (a ≡ b)
+last_call a [] b e = (refl, ap (λ (xs : List ℕ). get_or xs 0 0) e)
+last_call a (x ∷ []) b e = cc
+last_call a (x ∷ y ∷ c) b e = cc
+
+tail_of : List ℕ → List ℕ
+tail_of [] = []
+tail_of (x ∷ xs) = xs
+
+pub one_key : (c d : List ℕ) (a b : ℕ) → c ++ a ∷ [] ≡ d ++ b ∷ [] → (c ≡ d) × (a ≡ b)
+one_key [] d a b e = let h = last_call a d b e in (sym h.0, h.1)
+one_key (x ∷ c) [] a b e = let h = last_call b (x ∷ c) a (sym e) in (h.0, sym h.1)
+one_key (x ∷ c) (y ∷ d) a b e =
+    let here : x ≡ y = ap (λ (xs : List ℕ). get_or xs 0 0) e in
+    let rest : c ++ a ∷ [] ≡ d ++ b ∷ [] = unfold tail_of in ap tail_of e in
+    let h = one_key c d a b rest in
+    ((λ i. here i ∷ h.0 i), h.1)
+
+not_empty : (c : List ℕ) (a : ℕ) → [] ≡ c ++ a ∷ [] → ⊥
+not_empty [] a e = cc
+not_empty (x ∷ c) a e = cc
+
+-- the key tells the place
+pub same_key : (p q : Place) → key_of p ≡ key_of q → p ≡ q
+same_key (At c a) (At d b) e = let h = one_key c d a b e in (λ i. At (h.0 i) (h.1 i))
+same_key (At c a) Exit e = absurd (not_empty c a (sym e))
+same_key Exit (At d b) e = absurd (not_empty d b e)
+same_key Exit Exit e = refl

@@ -1,0 +1,41 @@
+-- The order of places by their keys, in which the members of an instance stand side by side (our own).
+use Rattle.std.specs.Prelude.{◌≡◌, ℕ, ◌<◌, ◌≤◌, Bool, true, false, nat_lt, nat_eq, ◌&&◌, ◌||◌, List, [], ◌∷◌, ◌++◌, length}
+use Rattle.std.specs.Ordering.{nat_cmp}
+use Rattle.std.specs.Cmp.Lexicographic.{slice_cmp}
+use Rattle.std.specs.List.Sorted.{IsPermutation, IsSorted}
+use Rattle.std.specs.declared.cmp.Ordering.{Ordering}
+use Rattle.flow_graph.specs.declared.places.Place.{Place}
+use Rattle.flow_graph.specs.declared.places.Place.TheVariants.{At, Exit}
+use Rattle.flow_graph.specs.Places.{place_at}
+
+-- the calls and then the address
+abbrev pub key_of : Place → List ℕ
+key_of (At calls address) = calls ++ address ∷ []
+key_of Exit = []
+
+-- address by address, a prefix first
+abbrev pub by_key : Place → Place → Ordering
+by_key p q = slice_cmp nat_cmp (key_of p) (key_of q)
+
+-- the same order, as a test
+abbrev pub is_before : List ℕ → List ℕ → Bool
+is_before [] [] = false
+is_before [] (y ∷ ys) = true
+is_before (x ∷ xs) [] = false
+is_before (x ∷ xs) (y ∷ ys) = nat_lt x y || (nat_eq x y && is_before xs ys)
+
+-- the same places, ascending by key
+pub record IsListed (places listed : List Place) : Type 0 where
+  pub moved : IsPermutation places listed
+  pub ascending : IsSorted by_key listed
+
+-- the places before the position are those whose keys stand before this one
+pub record IsPoint (listed : List Place) (key : List ℕ) (n : ℕ) : Type 0 where
+  pub inside : n ≤ length listed
+  pub below : (k : ℕ) → k < n → is_before (key_of (place_at listed k)) key ≡ true
+  pub from : (k : ℕ) → n ≤ k → k < length listed → is_before (key_of (place_at listed k)) key ≡ false
+
+-- ascending by key, and each place stands once
+pub record AreByKey (listed : List Place) : Type 0 where
+  pub ascending : IsSorted by_key listed
+  pub once : (m n : ℕ) → m < length listed → n < length listed → place_at listed m ≡ place_at listed n → m ≡ n

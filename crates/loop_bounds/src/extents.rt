@@ -1,0 +1,68 @@
+ghost use Rattle.std.specs.Prelude.{◌≡◌, ◌↔◌, ℕ, ◌+◌, ◌<◌, ◌≤◌, IfOk, IsTrue, length, All, Contains};
+ghost use Rattle.statement.specs.Stated.{IsLoop};
+ghost use Rattle.flow_graph.specs.declared.places.Place.TheVariants.{At};
+ghost use Rattle.loop_bounds.specs.Keys.{AreByKey};
+ghost use Rattle.loop_bounds.specs.Extents.{AreExtents, AreExtentsOf, IsExtentOf, IsWithin, found_instance};
+
+use crate::find::Found;
+use crate::keys::point;
+use flow_graph::Place;
+use std::alloc::{AllocError, Global};
+use std::cmp::Reverse;
+
+/// The positions of an instance's members in the order of keys: from `first` up to, and without, `end`.
+#[derive(Clone, Copy)]
+pub(crate) struct Extent {
+    pub first: usize,
+    pub end: usize,
+    // the header's position
+    pub header: usize,
+    // the instance's index among those that were found
+    pub instance: usize,
+}
+
+impl Extent {
+    /// Whether the position is a member's.
+    pub(crate) fn holds(&self, position: usize) -> bool
+        ensures { IsTrue result ↔ IsWithin self.now position }
+    {
+        self.first <= position && position < self.end
+    }
+}
+
+// The extent of an instance.
+fn extent_of(listed: &[Place], found: &Found, instance: usize) -> Extent
+    requires listed { AreByKey listed.now }
+    requires stated { IsLoop found.now.stated }
+    requires reached { Contains listed.now (At found.now.list found.now.stated.header) }
+    ensures is { IsExtentOf listed.now (found_instance found.now) result }
+    ensures named { result.instance ≡ instance }
+    ensures some { result.first < result.end }
+{
+    Extent {
+        first: point(listed, found.list, found.stated.first),
+        end: point(listed, found.list, found.stated.last + 1),
+        header: point(listed, found.list, found.stated.header),
+        instance,
+    }
+}
+
+/// The extents of instances, in order.
+pub(crate) fn extents(
+    alloc: Global,
+    listed: &[Place],
+    found: &[Found],
+) -> Result<Vec<Extent>, AllocError>
+    requires listed { AreByKey listed.now }
+    requires stated { All (λ f. IsLoop f.stated) found.now }
+    requires reached { All (λ f. Contains listed.now (At f.list f.stated.header)) found.now }
+    ensures of { IfOk result (λ extents. AreExtentsOf listed.now found.now extents.items) }
+    ensures ordered { IfOk result (λ extents. AreExtents extents.items) }
+{
+    let mut extents = Vec::with_capacity(alloc, found.len())?;
+    for (instance, one) in found.iter().enumerate() {
+        extents.push(extent_of(listed, one, instance))?;
+    }
+    extents.sort_unstable_by_key(|extent| (extent.first, Reverse(extent.end)));
+    Ok(extents)
+}

@@ -1,0 +1,163 @@
+ghost use Rattle.std.specs.Prelude.{◌≡◌, ℕ, ◌+◌, ◌<◌, ◌≤◌, IfOk, IfErr, IfSome, All, Contains, EachIndex, MatchOption, length, slice_index, slice_index_or};
+ghost use Rattle.std.specs.List.Sorted.{IsPermutation, IsStrictlySortedBy};
+ghost use Rattle.flow_graph.specs.Places.{place_cmp, place_at};
+ghost use Rattle.loop_bounds.specs.Extents.{AreNested};
+ghost use Rattle.loop_bounds.specs.Layout.{AreChains, AreNumbers, IsLaidOut, ArePlaced, AreMoved, Moves, IsShown, AreShown, AreKeyed, items_of, key_in};
+ghost use Rattle.loop_bounds.specs.Keys.{IsListed};
+
+use crate::chains::extended;
+use crate::extents::Extent;
+use crate::find::Found;
+use crate::numbering::index_of;
+use crate::parents::innermost;
+use flow_graph::Place;
+use numbered_walks::{NumberedEdge, Span};
+use std::alloc::{AllocError, Global};
+use std::cmp::Reverse;
+
+// Each position with the ranks of the headers of the extents that hold it, the outermost first, and its own.
+fn keyed(
+    alloc: Global,
+    extents: &[Extent],
+    parents: &[Option<usize>],
+    chains: &[Vec<usize>],
+    ranks: &[usize],
+    exit: usize,
+) -> Result<Vec<(Vec<usize>, usize)>, AllocError>
+    requires nested { AreNested extents.now parents.now }
+    requires whole { length chains.now ≡ length extents.now }
+    requires chains { AreChains (slice_index ranks.now) extents.now (items_of chains.now) (length extents.now) }
+    requires ranks { length ranks.now ≡ exit + 1 }
+    ensures { IfOk result (λ keyed. AreKeyed (key_in (slice_index ranks.now) extents.now) exit keyed.items) }
+{
+    let mut keyed = Vec::with_capacity(alloc, exit)?;
+    for position in 0..exit {
+        let inner = innermost(extents, parents, position);
+        keyed.push((extended(alloc, chains, inner, ranks[position])?, position))?;
+    }
+    Ok(keyed)
+}
+
+/// The positions in the order of those keys, and at the end that of Exit.
+pub(crate) fn order(
+    alloc: Global,
+    extents: &[Extent],
+    parents: &[Option<usize>],
+    chains: &[Vec<usize>],
+    ranks: &[usize],
+    exit: usize,
+) -> Result<Vec<usize>, AllocError>
+    requires nested { AreNested extents.now parents.now }
+    requires whole { length chains.now ≡ length extents.now }
+    requires chains { AreChains (slice_index ranks.now) extents.now (items_of chains.now) (length extents.now) }
+    requires ranks { length ranks.now ≡ exit + 1 }
+    ensures { IfOk result (λ order. IsLaidOut (key_in (slice_index ranks.now) extents.now) exit order.items) }
+{
+    let mut keyed = keyed(alloc, extents, parents, chains, ranks, exit)?;
+    keyed.sort_unstable();
+    let mut order = Vec::with_capacity(alloc, exit + 1)?;
+    for (_, position) in &keyed {
+        order.push(*position)?;
+    }
+    order.push(exit)?;
+    Ok(order)
+}
+
+/// The number of each position in the order.
+pub(crate) fn numbers(alloc: Global, order: &[usize]) -> Result<Vec<usize>, AllocError>
+    requires inside { (k : ℕ) → k < length order.now → slice_index order.now k < length order.now }
+    requires once { (j k : ℕ) → j < k → k < length order.now → slice_index order.now j ≡ slice_index order.now k → ⊥ }
+    ensures { IfOk result (λ numbers. AreNumbers order.now numbers.items (length order.now)) }
+{
+    let mut numbers = vec![in alloc; 0; order.len()]?;
+    for (number, position) in order.iter().enumerate() {
+        numbers[*position] = number;
+    }
+    Ok(numbers)
+}
+
+/// The edges between the new numbers.
+pub(crate) fn renumbered(
+    alloc: Global,
+    edges: &[NumberedEdge],
+    numbers: &[usize],
+) -> Result<Vec<NumberedEdge>, AllocError>
+    requires { All (λ e. (e.from < length numbers.now) × (e.to < length numbers.now)) edges.now }
+    ensures { IfOk result (λ moved. AreMoved numbers.now edges.now moved.items (length edges.now)) }
+{
+    let mut moved = Vec::with_capacity(alloc, edges.len())?;
+    for edge in edges {
+        moved.push(NumberedEdge {
+            from: numbers[edge.from],
+            to: numbers[edge.to],
+            cost: edge.cost,
+        })?;
+    }
+    Ok(moved)
+}
+
+// The greatest of the numbers.
+fn greatest(numbers: &[usize]) -> Option<usize>
+    ensures most { MatchOption result (length numbers.now ≡ 0) (λ m. EachIndex numbers.now (λ k. slice_index numbers.now k ≤ m)) }
+    ensures attained { IfSome result (Contains numbers.now) }
+{
+    numbers.iter().copied().max()
+}
+
+// The span of an extent.
+fn span_of(extent: &Extent, found: &Found, numbers: &[usize]) -> Span
+    requires some { extent.now.first < extent.now.end }
+    requires inside { extent.now.end ≤ length numbers.now }
+    requires header { extent.now.header < length numbers.now }
+    ensures { IsShown numbers.now extent.now found.now.stated.bound result }
+{
+    let header = numbers[extent.header];
+    Span {
+        header,
+        last: greatest(&numbers[extent.first..extent.end]).unwrap_or(header),
+        bound: found.stated.bound,
+    }
+}
+
+/// The spans of the extents, each with its instance: by their last numbers, and then by their headers downwards.
+pub(crate) fn spans(
+    alloc: Global,
+    extents: &[Extent],
+    found: &[Found],
+    numbers: &[usize],
+) -> Result<Vec<(Span, usize)>, AllocError>
+    requires some { All (λ s. s.first < s.end) extents.now }
+    requires inside { All (λ s. s.end ≤ length numbers.now) extents.now }
+    requires headers { All (λ s. s.header < length numbers.now) extents.now }
+    requires named { All (λ s. s.instance < length found.now) extents.now }
+    ensures { IfOk result (λ spans. AreShown numbers.now found.now extents.now spans.items) }
+{
+    let mut spans = Vec::with_capacity(alloc, extents.len())?;
+    for extent in extents {
+        let instance = extent.instance;
+        spans.push((span_of(extent, &found[instance], numbers), instance))?;
+    }
+    spans.sort_unstable_by_key(|(span, _)| (span.last, Reverse(span.header)));
+    Ok(spans)
+}
+
+/// The indexes in the graph of the places in the order, and at the end their number.
+pub(crate) fn indexes(
+    alloc: Global,
+    places: &[Place],
+    listed: &[Place],
+    order: &[usize],
+) -> Result<Vec<usize>, AllocError>
+    requires ordered { IsStrictlySortedBy place_cmp places.now }
+    requires listed { IsListed places.now listed.now }
+    requires order { length order.now ≡ length places.now + 1 }
+    requires inside { (n : ℕ) → n < length places.now → slice_index order.now n < length places.now }
+    ensures { IfOk result (λ indexes. ArePlaced places.now listed.now order.now indexes.items) }
+{
+    let mut indexes = Vec::with_capacity(alloc, order.len())?;
+    for n in 0..places.len() {
+        indexes.push(index_of(places, &listed[order[n]]))?;
+    }
+    indexes.push(places.len())?;
+    Ok(indexes)
+}

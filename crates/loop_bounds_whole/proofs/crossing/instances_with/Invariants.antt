@@ -1,5 +1,0 @@
-use Rattle.loop_bounds_whole.proofs.FindLemmas.{AreWith}
-use Rattle.loop_bounds_whole.proofs.crossing.instances_with.Given as goal
-
-abbrev pub invariant-loop-stated : goal.invariant-loop-stated
-invariant-loop-stated l = AreWith l.places l.loops l.list l.found.items l.stated-index

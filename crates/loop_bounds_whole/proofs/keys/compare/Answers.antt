@@ -1,6 +1,0 @@
-use Rattle.std.proofs.Common.{sym}
-use Rattle.loop_bounds_whole.proofs.KeyLemmas.{before}
-use Rattle.loop_bounds_whole.proofs.keys.compare.Goals as goal
-
-pub returns-in-Exit-right : goal.returns-in-Exit-right
-returns-in-Exit-right c = rw (c.in-At.is, c.in-Exit-right.is) (sym (before c.in-At.calls c.in-At.address))

@@ -1,5 +1,0 @@
-use Rattle.loop_bounds_whole.specs.Layout.{AreIndexes}
-use Rattle.loop_bounds_whole.proofs.layout.indexes.Given as goal
-
-abbrev pub invariant-loop-n : goal.invariant-loop-n
-invariant-loop-n l = AreIndexes l.places l.listed l.order l.indexes.items l.n

@@ -1,5 +1,0 @@
-use Rattle.loop_bounds_whole.specs.Layout.{AreNumbers}
-use Rattle.loop_bounds_whole.proofs.layout.numbers.Given as goal
-
-abbrev pub invariant-loop-number : goal.invariant-loop-number
-invariant-loop-number l = AreNumbers l.order l.numbers.items l.number

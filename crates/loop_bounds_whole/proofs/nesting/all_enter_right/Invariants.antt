@@ -1,7 +1,0 @@
-use Rattle.std.proofs.Common.{take, All}
-use Rattle.loop_bounds_whole.specs.declared.numbering.NumberedEdge.{NumberedEdge}
-use Rattle.loop_bounds_whole.specs.Extents.{EntersRight}
-use Rattle.loop_bounds_whole.proofs.nesting.all_enter_right.Given as goal
-
-abbrev pub invariant-loop-edge : goal.invariant-loop-edge
-invariant-loop-edge l = All (λ (e : NumberedEdge). EntersRight l.extents e.from e.to) (take l.edge-index l.edges)

@@ -1,7 +1,0 @@
-use Rattle.std.proofs.Common.{length}
-use Rattle.flow_graph_whole.specs.Places.{place_at}
-use Rattle.loop_bounds_whole.specs.TreeParts.{AreNumberedUpto}
-use Rattle.loop_bounds_whole.proofs.numbering.number_edges.Given as goal
-
-abbrev pub invariant-loop-edge : goal.invariant-loop-edge
-invariant-loop-edge l = AreNumberedUpto l.graph (place_at l.listed) (length l.graph.places) l.numbered.items l.edge-index

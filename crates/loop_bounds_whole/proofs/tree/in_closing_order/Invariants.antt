@@ -1,5 +1,0 @@
-use Rattle.loop_bounds_whole.specs.Layout.{AreParted}
-use Rattle.loop_bounds_whole.proofs.tree.in_closing_order.Given as goal
-
-abbrev pub invariant-loop-span : goal.invariant-loop-span
-invariant-loop-span l = AreParted l.found l.closing l.instances.items l.spans.items l.span-index
