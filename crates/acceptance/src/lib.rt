@@ -3,14 +3,24 @@
 #![tactic(auto)]
 
 #[cfg(test)]
+mod calls;
+#[cfg(test)]
+mod enumeration;
+#[cfg(test)]
 mod files;
 #[cfg(test)]
 mod handlers;
 #[cfg(test)]
 mod limits;
 #[cfg(test)]
+mod loops;
+#[cfg(test)]
+mod machine_runs;
+#[cfg(test)]
 mod outputs;
 #[cfg(test)]
 mod program_runs;
 #[cfg(test)]
 mod sources;
+#[cfg(test)]
+mod support;

@@ -5,26 +5,27 @@ use Rattle.bus_ticks.specs.declared.profile.Profile.{Profile}
 use Rattle.loader.specs.Image.{Words}
 use Rattle.flow_graph.specs.Flow.{Flow}
 use Rattle.flow_graph.specs.Graph.{IsBuildFault, IsFlowGraph}
-use Rattle.flow_graph.specs.Stated.{Stated}
-use Rattle.flow_graph.specs.declared.stated.Loop.{Loop}
-use Rattle.flow_graph.proofs.Unique.{one_flow, one_statement}
+use Rattle.statement.specs.Stated.{Stated}
+use Rattle.statement.specs.declared.stated.Loop.{Loop}
+use Rattle.flow_graph.proofs.Unique.{one_flow}
+use Rattle.statement.proofs.Unique.{one_statement}
 use Rattle.flow_graph.specs.declared.edges.Edge.{Edge}
-use Rattle.loop_bounds.specs.Bounds.{IsGreatestCost, KeepsTheBounds}
+use Rattle.loop_bounds.specs.Bounds.{IsGreatestCost, IsTooLarge, KeepsTheBounds}
 use Rattle.loop_bounds.specs.Instance.{Instance, IsInstance}
-use Rattle.loop_bounds.specs.Nest.{HasUnboundedCycle, IsNestFault}
+use Rattle.loop_bounds.specs.Nest.{Applies, IsNestFault}
 use Rattle.loop_bounds.specs.Tree.{Tree}
 use Rattle.loop_bounds.specs.declared.fault.NestFault.{NestFault}
 use Rattle.loop_bounds.specs.declared.fault.NestFault.TheVariants as nest_fault
 use Rattle.longest_walk.specs.Folded.{unfolded}
-use Rattle.longest_walk.specs.Longest.{IsLongest, IsWalkFault, KeepsTree}
-use Rattle.longest_walk.specs.declared.fault.WalkFault.{WalkFault}
-use Rattle.longest_walk.specs.declared.fault.WalkFault.TheVariants as walk_fault
+use Rattle.longest_walk.specs.Longest.{IsLongest, IsWalkFault, KeepsTree, TreeTooLarge}
+use Rattle.numbered_walks.specs.declared.fault.WalkFault.{WalkFault}
+use Rattle.numbered_walks.specs.declared.fault.WalkFault.TheVariants as walk_fault
 use Rattle.longest_walk.specs.declared.folded.Longest.{Longest}
-use Rattle.arcwcet.specs.Faults.{of_walk}
+use Rattle.arcwcet.specs.Faults.{of_loops, of_walk}
 use Rattle.longest_walk.specs.declared.folded.Item.{Item}
 use Rattle.arcwcet.specs.Bound.{HasNoFault, IsGraphsFault}
 use Rattle.arcwcet.specs.Image.{source_of}
-use Rattle.arcwcet.specs.Report.{HasGraph, IsAccepted, IsGreatestWalk, IsRefused, IsReport}
+use Rattle.arcwcet.specs.Report.{HasGraph, IsAccepted, IsGreatestWalk, IsRefused, IsReport, IsWalkRefusal, no_names}
 use Rattle.arcwcet.specs.ReportText.{spelling}
 use Rattle.arcwcet.specs.declared.fault.ReportFault.{ReportFault}
 use Rattle.arcwcet.specs.declared.fault.ReportFault.TheVariants.{Memory, Source, Statement, Graph, Loops, Walk, Device}
@@ -45,11 +46,20 @@ pub record AreSame (st su : Stated) (flow other : Flow) : Type 0 where
 one_graph : (source statement : List ℕ) (profile : Profile) (st su : Stated) (flow other : Flow) → HasGraph source statement profile st flow → HasGraph source statement profile su other → AreSame st su flow other
 one_graph source statement profile st su flow other g h =
     let words : h.words ≡ g.words = one_ok h.words g.words (source_of source) h.source_is g.source_is in
-    let ok : Ok su ≡ Ok st = one_statement statement (Ok su) (Ok st) h.statement_is g.statement_is in
+    let ok : Ok su ≡ Ok st = one_statement statement no_names (Ok su) (Ok st) h.statement_is g.statement_is in
     let stated : su ≡ st = cc ok in
     let graph : IsFlowGraph g.words st profile other =
     subst (λ (s : Stated). IsFlowGraph g.words s profile other) stated (subst (λ (w : Words). IsFlowGraph w su profile other) words h.graph_is) in
     record { same_stated = sym stated; same_flow = one_flow g.words st profile flow other g.graph_is graph }
+
+-- a refusal of the loops tells what applies
+applies : (flow : Flow) (loops : List Loop) (f : NestFault) → IsNestFault flow loops f → Applies flow loops f
+applies flow loops nest_fault.Memory h = h
+applies flow loops nest_fault.LoopsCross h = h
+applies flow loops nest_fault.SharedHeader h = h.1
+applies flow loops nest_fault.EntersMidLoop h = h.2
+applies flow loops nest_fault.UnboundedCycle h = h.3
+applies flow loops nest_fault.NestedTooDeep h = h.4
 
 -- ## Accepted
 
@@ -62,20 +72,20 @@ accepted_refusals source statement profile (Source f) a r =
     let g = a.loops.graph in
     absurd (never_both g.words f (source_of source) g.source_is r.0)
 accepted_refusals source statement profile (Statement f) a r =
-    let both : Ok a.stated ≡ Err f = one_statement statement (Ok a.stated) (Err f) a.loops.graph.statement_is r.statement_is in
+    let both : Ok a.stated ≡ Err f = one_statement statement no_names (Ok a.stated) (Err f) a.loops.graph.statement_is r.statement_is in
     absurd (cc both)
 accepted_refusals source statement profile (Graph f) a r =
     let g = a.loops.graph in
     let words : r.words ≡ g.words = one_ok r.words g.words (source_of source) r.source_is g.source_is in
-    let ok : Ok r.stated ≡ Ok a.stated = one_statement statement (Ok r.stated) (Ok a.stated) r.statement_is g.statement_is in
+    let ok : Ok r.stated ≡ Ok a.stated = one_statement statement no_names (Ok r.stated) (Ok a.stated) r.statement_is g.statement_is in
     let stated : r.stated ≡ a.stated = cc ok in
     absurd (g.no_fault f r.not_memory (subst (λ (s : Stated). IsBuildFault g.words s profile f) stated (subst (λ (w : Words). IsBuildFault w r.stated profile f) words r.holds)))
 accepted_refusals source statement profile (Loops f) a r =
     let same = one_graph source statement profile r.stated a.stated r.flow a.flow r.graph a.loops.graph in
-    absurd (a.loops.no_fault f r.not_memory (subst (λ (s : Stated). IsNestFault a.flow s.loops f) same.same_stated (subst (λ (w : Flow). IsNestFault w r.stated.loops f) same.same_flow r.holds)))
+    absurd (a.loops.no_fault f r.not_memory (subst (λ (s : Stated). Applies a.flow s.loops f) same.same_stated (subst (λ (w : Flow). Applies w r.stated.loops f) same.same_flow (applies r.flow r.stated.loops f r.holds))))
 accepted_refusals source statement profile (Walk f) a r =
     let same = one_graph source statement profile r.stated a.stated r.flow a.flow r.loops.graph a.loops.graph in
-    absurd (a.no_fault f r.not_memory (subst (λ (w : Flow). IsWalkFault w f) same.same_flow r.holds))
+    absurd (a.no_fault f r.not_memory (subst (λ (s : Stated). IsWalkRefusal a.flow s.loops f) same.same_stated (subst (λ (w : Flow). IsWalkRefusal w r.stated.loops f) same.same_flow r.holds)))
 
 -- the same of an answer
 pub only_memory : {T : Type 0} (source statement : List ℕ) (profile : Profile) (r : Result T ReportFault) → IfErr r (λ e. (e ≢ Device) × IsRefused source statement profile e)
@@ -117,21 +127,38 @@ module _ (flow : Flow) (loops : List Loop) (tree : Tree) (same : (i : Instance) 
       let g = l.greatest in
       let greatest : IsGreatestCost flow loops found.bound =
       record { walk = g.walk; complete = g.complete; kept = kept_here g.walk g.kept; costs = g.costs; upper = λ other complete kept. g.upper other complete (kept_there other kept) } in
-      record { greatest = greatest; complete = l.complete; kept = kept_here (unfolded found.walk) l.kept; costs = l.costs }
+      record { greatest = greatest; complete = l.walk_is.complete; kept = kept_here (unfolded found.walk) l.walk_is.kept; costs = l.walk_is.costs }
 
--- ## The faults of the loops and of the walk
+  too_large_here : TreeTooLarge flow tree → IsTooLarge flow loops
+  too_large_here t = record { place = t.place; walk = t.walk; leads = t.leads; kept = kept_here t.walk t.kept; costs = t.costs }
 
-pub no_fault : (flow : Flow) (loops : List Loop) → (HasUnboundedCycle flow loops → ⊥) → ((f : WalkFault) → f ≢ walk_fault.Memory → IsWalkFault flow f → ⊥) → HasNoFault flow loops
-no_fault flow loops bounded walks = record { of_loops = no_cycle; of_walk = walks }
-  where
-    no_cycle : (f : NestFault) → f ≢ nest_fault.Memory → IsNestFault flow loops f → ⊥
-    no_cycle nest_fault.Memory not_memory h = not_memory refl
-    no_cycle nest_fault.UnboundedCycle not_memory h = bounded h
+  too_large_there : IsTooLarge flow loops → TreeTooLarge flow tree
+  too_large_there t = record { place = t.place; walk = t.walk; leads = t.leads; kept = kept_there t.walk t.kept; costs = t.costs }
 
-pub walks_fault : (flow : Flow) (loops : List Loop) (f : WalkFault) → (HasUnboundedCycle flow loops → ⊥) → IsWalkFault flow f → IsGraphsFault flow loops (of_walk f)
-walks_fault flow loops walk_fault.Memory bounded h = tt
-walks_fault flow loops walk_fault.NoCompleteWalk bounded h = record { no_fault = no_cycle; not_memory = λ e. cc e; holds = h }
-  where
-    no_cycle : (f : NestFault) → f ≢ nest_fault.Memory → IsNestFault flow loops f → ⊥
-    no_cycle nest_fault.Memory not_memory other = not_memory refl
-    no_cycle nest_fault.UnboundedCycle not_memory other = bounded other
+  fault_here : (f : WalkFault) → IsWalkFault flow tree f → IsWalkRefusal flow loops f
+  fault_here walk_fault.Memory h = tt
+  fault_here walk_fault.NoCompleteWalk h = h
+  fault_here walk_fault.BoundTooLarge h = (h.0, too_large_here h.1)
+
+  fault_there : (f : WalkFault) → IsWalkRefusal flow loops f → IsWalkFault flow tree f
+  fault_there walk_fault.Memory h = tt
+  fault_there walk_fault.NoCompleteWalk h = h
+  fault_there walk_fault.BoundTooLarge h = (h.0, too_large_there h.1)
+
+  pub no_fault : ((f : NestFault) → f ≢ nest_fault.Memory → Applies flow loops f → ⊥) → ((f : WalkFault) → f ≢ walk_fault.Memory → IsWalkFault flow tree f → ⊥) → HasNoFault flow loops
+  no_fault of_loops of_walk = record { of_loops = of_loops; of_walk = λ f not_memory h. of_walk f not_memory (fault_there f h) }
+
+  pub walks_fault : ((f : NestFault) → f ≢ nest_fault.Memory → Applies flow loops f → ⊥) → (f : WalkFault) → IsWalkFault flow tree f → IsGraphsFault flow loops (of_walk f)
+  walks_fault of_loops walk_fault.Memory h = tt
+  walks_fault of_loops walk_fault.NoCompleteWalk h = record { no_fault = of_loops; not_memory = λ e. cc e; holds = h }
+  walks_fault of_loops walk_fault.BoundTooLarge h = record { no_fault = of_loops; not_memory = λ e. cc e; holds = fault_here walk_fault.BoundTooLarge h }
+
+-- ## The faults of the loops
+
+pub loops_fault : (flow : Flow) (loops : List Loop) (f : NestFault) → IsNestFault flow loops f → IsGraphsFault flow loops (of_loops f)
+loops_fault flow loops nest_fault.Memory h = tt
+loops_fault flow loops nest_fault.LoopsCross h = (λ e. cc e, h)
+loops_fault flow loops nest_fault.SharedHeader h = (λ e. cc e, h)
+loops_fault flow loops nest_fault.EntersMidLoop h = (λ e. cc e, h)
+loops_fault flow loops nest_fault.UnboundedCycle h = (λ e. cc e, h)
+loops_fault flow loops nest_fault.NestedTooDeep h = (λ e. cc e, h)

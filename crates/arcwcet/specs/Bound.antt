@@ -4,15 +4,14 @@ use Rattle.std.specs.Io.KnownBytes.{Appends}
 use Rattle.bus_ticks.specs.Numbers.{numbers_of, profile_one}
 use Rattle.bus_ticks.specs.declared.profile.Profile.{Profile}
 use Rattle.flow_graph.specs.Flow.{Flow}
-use Rattle.flow_graph.specs.declared.stated.Loop.{Loop}
-use Rattle.loop_bounds.specs.Nest.{IsNestFault}
+use Rattle.statement.specs.declared.stated.Loop.{Loop}
+use Rattle.loop_bounds.specs.Nest.{Applies, IsNestFault}
 use Rattle.loop_bounds.specs.declared.fault.NestFault.{NestFault}
 use Rattle.loop_bounds.specs.declared.fault.NestFault.TheVariants as nest_fault
-use Rattle.longest_walk.specs.Longest.{IsWalkFault}
-use Rattle.longest_walk.specs.declared.fault.WalkFault.{WalkFault}
-use Rattle.longest_walk.specs.declared.fault.WalkFault.TheVariants as walk_fault
+use Rattle.numbered_walks.specs.declared.fault.WalkFault.{WalkFault}
+use Rattle.numbered_walks.specs.declared.fault.WalkFault.TheVariants as walk_fault
 use Rattle.arcwcet.specs.Output.{TakesFront, FailsSince}
-use Rattle.arcwcet.specs.Report.{IsAccepted, IsRefused, IsReport}
+use Rattle.arcwcet.specs.Report.{IsAccepted, IsRefused, IsReport, IsWalkRefusal}
 use Rattle.arcwcet.specs.declared.fault.ReportFault.{ReportFault}
 use Rattle.arcwcet.specs.declared.fault.ReportFault.TheVariants.{Memory, Source, Statement, Graph, Loops, Walk, Device}
 
@@ -48,14 +47,14 @@ pub record ReportsByOne {O T : Type 0} (taken : O → Option (List ℕ)) (failur
 
 -- no refusal of the loops holds, and none of the walk
 pub record HasNoFault (flow : Flow) (loops : List Loop) : Type 0 where
-  pub of_loops : (f : NestFault) → f ≢ nest_fault.Memory → IsNestFault flow loops f → ⊥
-  pub of_walk : (f : WalkFault) → f ≢ walk_fault.Memory → IsWalkFault flow f → ⊥
+  pub of_loops : (f : NestFault) → f ≢ nest_fault.Memory → Applies flow loops f → ⊥
+  pub of_walk : (f : WalkFault) → f ≢ walk_fault.Memory → IsWalkRefusal flow loops f → ⊥
 
 -- no refusal of the loops holds, but this one of the walk
 pub record IsWalkFaultOnly (flow : Flow) (loops : List Loop) (fault : WalkFault) : Type 0 where
-  pub no_fault : (f : NestFault) → f ≢ nest_fault.Memory → IsNestFault flow loops f → ⊥
+  pub no_fault : (f : NestFault) → f ≢ nest_fault.Memory → Applies flow loops f → ⊥
   pub not_memory : fault ≢ walk_fault.Memory
-  pub holds : IsWalkFault flow fault
+  pub holds : IsWalkRefusal flow loops fault
 
 -- when each refusal comes of a graph
 abbrev pub IsGraphsFault : Flow → List Loop → ReportFault → Type 0

@@ -1,12 +1,12 @@
 -- Faults of the parts as a report's: want of memory is one for all. Our own.
 use Rattle.flow_graph.specs.declared.faults.BuildFault.{BuildFault}
 use Rattle.flow_graph.specs.declared.faults.BuildFault.TheVariants as build_fault
-use Rattle.flow_graph.specs.declared.faults.StatementFault.{StatementFault}
-use Rattle.flow_graph.specs.declared.faults.StatementFault.TheVariants as statement_fault
+use Rattle.statement.specs.declared.faults.StatementFault.{StatementFault}
+use Rattle.statement.specs.declared.faults.StatementFault.TheVariants as statement_fault
 use Rattle.loop_bounds.specs.declared.fault.NestFault.{NestFault}
 use Rattle.loop_bounds.specs.declared.fault.NestFault.TheVariants as nest_fault
-use Rattle.longest_walk.specs.declared.fault.WalkFault.{WalkFault}
-use Rattle.longest_walk.specs.declared.fault.WalkFault.TheVariants as walk_fault
+use Rattle.numbered_walks.specs.declared.fault.WalkFault.{WalkFault}
+use Rattle.numbered_walks.specs.declared.fault.WalkFault.TheVariants as walk_fault
 use Rattle.arcwcet.specs.declared.fault.ReportFault.{ReportFault}
 use Rattle.arcwcet.specs.declared.fault.ReportFault.TheVariants.{Memory, Source, Statement, Graph, Loops, Walk}
 use Rattle.arcwcet.specs.declared.source.fault.AsmFault.{AsmFault}

@@ -1,27 +1,28 @@
 -- Reports of a handler's greatest run time, which sources and statements have one, and why the others have
 -- none. Our own.
-use Rattle.std.specs.Prelude.{◌≡◌, ◌≢◌, ℕ, List, Ok, Err}
+use Rattle.std.specs.Prelude.{◌≡◌, ◌≢◌, ℕ, List, [], Ok, Err}
 use Rattle.bus_ticks.specs.declared.profile.Profile.{Profile}
 use Rattle.loader.specs.Image.{Words}
+use Rattle.loader.specs.Labels.{Names}
+use Rattle.flow_graph.specs.declared.edges.Edge.{Edge}
 use Rattle.flow_graph.specs.Flow.{Flow, edge_shape}
 use Rattle.flow_graph.specs.Graph.{IsBuildFault, IsFlowGraph}
-use Rattle.flow_graph.specs.Stated.{Stated}
-use Rattle.flow_graph.specs.Statement.{IsStatement}
+use Rattle.statement.specs.Stated.{Stated}
+use Rattle.statement.specs.Statement.{IsStatement}
 use Rattle.flow_graph.specs.declared.faults.BuildFault.{BuildFault}
 use Rattle.flow_graph.specs.declared.faults.BuildFault.TheVariants as build_fault
-use Rattle.flow_graph.specs.declared.faults.StatementFault.{StatementFault}
-use Rattle.flow_graph.specs.declared.faults.StatementFault.TheVariants as statement_fault
-use Rattle.flow_graph.specs.declared.stated.Loop.{Loop}
+use Rattle.statement.specs.declared.faults.StatementFault.{StatementFault}
+use Rattle.statement.specs.declared.faults.StatementFault.TheVariants as statement_fault
+use Rattle.statement.specs.declared.stated.Loop.{Loop}
 use Rattle.walks.specs.Walk.{cost_of}
-use Rattle.loop_bounds.specs.Bounds.{IsCompleteWalk, IsGreatestCost, KeepsTheBounds}
-use Rattle.loop_bounds.specs.Nest.{IsNestFault}
+use Rattle.loop_bounds.specs.Bounds.{IsCompleteWalk, IsGreatestCost, IsTooLarge, KeepsTheBounds}
+use Rattle.loop_bounds.specs.Nest.{Applies, IsNestFault}
 use Rattle.loop_bounds.specs.declared.fault.NestFault.{NestFault}
 use Rattle.loop_bounds.specs.declared.fault.NestFault.TheVariants as nest_fault
 use Rattle.longest_walk.specs.Folded.{unfolded}
 use Rattle.longest_walk.specs.declared.folded.Item.{Item}
-use Rattle.longest_walk.specs.Longest.{IsWalkFault}
-use Rattle.longest_walk.specs.declared.fault.WalkFault.{WalkFault}
-use Rattle.longest_walk.specs.declared.fault.WalkFault.TheVariants as walk_fault
+use Rattle.numbered_walks.specs.declared.fault.WalkFault.{WalkFault}
+use Rattle.numbered_walks.specs.declared.fault.WalkFault.TheVariants as walk_fault
 use Rattle.arcwcet.specs.Image.{source_of}
 use Rattle.arcwcet.specs.ReportText.{spelling}
 use Rattle.arcwcet.specs.declared.fault.ReportFault.{ReportFault}
@@ -35,25 +36,35 @@ pub record IsGreatestWalk (flow : Flow) (loops : List Loop) (bound : ℕ) (items
   pub kept : KeepsTheBounds flow loops (unfolded items)
   pub costs : cost_of edge_shape (unfolded items) ≡ bound
 
+-- no walk leads to Exit; or one does, and some walk that keeps the bounds, wherever it ends, costs 2^63 ticks or more
+abbrev pub IsWalkRefusal : Flow → List Loop → WalkFault → Type 0
+IsWalkRefusal flow loops walk_fault.Memory = Unit {0}
+IsWalkRefusal flow loops walk_fault.NoCompleteWalk = (walk : List Edge) → IsCompleteWalk flow walk → ⊥
+IsWalkRefusal flow loops walk_fault.BoundTooLarge = ((walk : List Edge) × IsCompleteWalk flow walk) × IsTooLarge flow loops
+
+-- a source of ORG and DCD lines names no addresses
+abbrev pub no_names : Names
+no_names = []
+
 -- the source has an image and the statement a value, no refusal of a graph holds, and this is the graph
 pub record HasGraph (source statement : List ℕ) (profile : Profile) (stated : Stated) (flow : Flow) : Type 0 where
   pub words : Words
   pub source_is : source_of source ≡ Ok words
-  pub statement_is : IsStatement statement (Ok stated)
+  pub statement_is : IsStatement statement no_names (Ok stated)
   pub no_fault : (f : BuildFault) → f ≢ build_fault.Memory → IsBuildFault words stated profile f → ⊥
   pub graph_is : IsFlowGraph words stated profile flow
 
 -- and no refusal of the loops holds
 pub record HasLoops (source statement : List ℕ) (profile : Profile) (stated : Stated) (flow : Flow) : Type 0 where
   pub graph : HasGraph source statement profile stated flow
-  pub no_fault : (f : NestFault) → f ≢ nest_fault.Memory → IsNestFault flow stated.loops f → ⊥
+  pub no_fault : (f : NestFault) → f ≢ nest_fault.Memory → Applies flow stated.loops f → ⊥
 
 -- and none of the walk
 pub record IsAccepted (source statement : List ℕ) (profile : Profile) : Type 0 where
   pub stated : Stated
   pub flow : Flow
   pub loops : HasLoops source statement profile stated flow
-  pub no_fault : (f : WalkFault) → f ≢ walk_fault.Memory → IsWalkFault flow f → ⊥
+  pub no_fault : (f : WalkFault) → f ≢ walk_fault.Memory → IsWalkRefusal flow stated.loops f → ⊥
 
 -- a report for a source and a statement
 pub record IsReport (source statement : List ℕ) (profile : Profile) (text : List ℕ) : Type 0 where
@@ -70,14 +81,14 @@ pub record IsStatementRefused (source statement : List ℕ) (fault : StatementFa
   pub words : Words
   pub source_is : source_of source ≡ Ok words
   pub not_memory : fault ≢ statement_fault.Memory
-  pub statement_is : IsStatement statement (Err fault)
+  pub statement_is : IsStatement statement no_names (Err fault)
 
 -- a fault of the graph, of a source and a statement that can be read
 pub record IsGraphRefused (source statement : List ℕ) (profile : Profile) (fault : BuildFault) : Type 0 where
   pub words : Words
   pub stated : Stated
   pub source_is : source_of source ≡ Ok words
-  pub statement_is : IsStatement statement (Ok stated)
+  pub statement_is : IsStatement statement no_names (Ok stated)
   pub not_memory : fault ≢ build_fault.Memory
   pub holds : IsBuildFault words stated profile fault
 
@@ -95,7 +106,7 @@ pub record IsWalkRefused (source statement : List ℕ) (profile : Profile) (faul
   pub flow : Flow
   pub loops : HasLoops source statement profile stated flow
   pub not_memory : fault ≢ walk_fault.Memory
-  pub holds : IsWalkFault flow fault
+  pub holds : IsWalkRefusal flow stated.loops fault
 
 -- when each refusal is answered: the first in the order of the work. A growth is refused, and an output fails, whatever
 -- the source and the statement

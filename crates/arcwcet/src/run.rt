@@ -1,6 +1,6 @@
 ghost use Rattle.std.specs.Prelude.{◌≡◌, ◌≢◌, ◌⊎◌, ◌<◌, ℕ, List, None, Some};
 ghost use Rattle.arcwcet.specs.Line.{asked_in, bound};
-ghost use Rattle.arcwcet.specs.Run.{IsFailedRun, IsPrinted, IsRefusedRun, RunsBound, report_status, store_status};
+ghost use Rattle.arcwcet.specs.Run.{IsFailedRun, IsPrinted, IsRefusedRun, IsStarvedRun, RunsBound, report_status, store_status};
 
 use crate::bound::bound_report;
 use crate::fault::{ReportFault, StoreFault};
@@ -85,6 +85,7 @@ fn run_bound<S: Store, O: Output, E: Output>(
     ensures failed { result ≡ 4
         → IsFailedRun S.read_gives store.old store.new source.now statement.now (O.taken out.old) (O.taken out.new)
         (O.failures out.old) (O.failures out.new) }
+    ensures starved { result ≡ 3 → IsStarvedRun S.read_gives store.old store.new source.now statement.now }
     ensures quiet { (result ≡ 1) ⊎ (result ≡ 3) → out.new ≡ out.old }
     ensures silent { result ≡ 0 → err.new ≡ err.old }
     ensures known { (result ≡ 0) ⊎ ((result ≡ 1) ⊎ ((result ≡ 3) ⊎ (result ≡ 4))) }
@@ -113,12 +114,12 @@ pub fn program<S: Store, I: Read, O: Output, E: Output>(
     alloc: Global,
     words: &[String],
     store: &mut S,
-    _input: &mut I,
+    input: &mut I,
     out: &mut O,
     err: &mut E,
 ) -> u8
     // Words that ask for nothing are wrong usage, and no others are.
-    ensures usage { asked_in words.now ≡ None → ((result ≡ 2) ⊎ (result ≡ 3)) × (out.new ≡ out.old) }
+    ensures usage { asked_in words.now ≡ None → ((result ≡ 2) ⊎ (result ≡ 3)) × (out.new ≡ out.old) × (store.new ≡ store.old) }
     ensures no_usage { asked_in words.now ≢ None → result ≢ 2 }
 
     // What `bound` did.
@@ -127,7 +128,11 @@ pub fn program<S: Store, I: Read, O: Output, E: Output>(
 
     // Nothing is told at 0.
     ensures silent { result ≡ 0 → err.new ≡ err.old }
+
+    // No command reads standard input.
+    ensures input { input.new ≡ input.old }
 {
+    let _input = input;
     match request(alloc, words) {
         Ok(Request::Bound { source, statement }) => {
             run_bound(alloc, source, statement, store, out, err)

@@ -3,8 +3,10 @@
 #![tactic(auto)]
 
 mod folded;
+mod greatest;
 mod rows;
 
 pub use folded::{FoldedWalk, Item, Longest};
+pub use greatest::longest;
 pub use numbered_walks::WalkFault;
 pub use rows::{InstanceRow, PlaceRow, Potentials, Rows};

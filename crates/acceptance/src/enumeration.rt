@@ -1,0 +1,204 @@
+//! Small handlers made by a fixed generator: the greatest walk found in the folded way beside the greatest of all walks
+//! that keep the bounds, unrolled.
+
+use crate::support::{Stated, statement_of};
+use bus_ticks::Profile;
+use flow_graph::{Edge, Graph, Place, build, read_statement};
+use loader::image::Image;
+use loader::labels::Labels;
+use longest_walk::longest;
+use loop_bounds::nest;
+use std::alloc::{AllocError, Global};
+use std::test::Fail;
+
+/// The words of a handler before its return.
+const WORDS: u32 = 8;
+
+/// Numbers that look like random ones, the same in each run.
+struct Numbers {
+    state: u64,
+}
+
+impl Numbers {
+    // A number below the limit.
+    fn below(&mut self, limit: u32) -> u32 {
+        self.state = self
+            .state
+            .wrapping_mul(6_364_136_223_846_793_005)
+            .wrapping_add(1_442_695_040_888_963_407);
+        let high = (self.state >> 33) as u32;
+        if limit == 0 { 0 } else { high % limit }
+    }
+}
+
+// A branch from one word of the handler to another, where flags say so.
+fn branch(from: u32, to: u32) -> u32 {
+    0x1A00_0000 | (to.wrapping_sub(from).wrapping_sub(2) & 0x00FF_FFFF)
+}
+
+// Words that cost different numbers of ticks, with up to three loops and some branches forward.
+fn handler(alloc: Global, numbers: &mut Numbers) -> Result<(Vec<u32>, Vec<Stated>), AllocError> {
+    let mut words = Vec::new(alloc);
+    for at in 0..WORDS {
+        let word = match numbers.below(4) {
+            0 => 0xE250_0001,
+            1 => 0xE002_0493,
+            2 => branch(
+                at,
+                at.wrapping_add(2).wrapping_add(numbers.below(2)).min(WORDS),
+            ),
+            _ => 0xE3A0_0003,
+        };
+        words.push(word)?;
+    }
+    words.push(0xE25E_F004)?;
+    let mut loops = Vec::new(alloc);
+    for _ in 0..numbers.below(4) {
+        let header = numbers.below(WORDS);
+        let last = header.wrapping_add(numbers.below(WORDS.wrapping_sub(header)));
+        if let Some(word) = words.get_mut(last as usize) {
+            *word = branch(last, header);
+        }
+        let first = 0x8000u32.wrapping_add(header.wrapping_mul(4));
+        let end = 0x8000u32.wrapping_add(last.wrapping_mul(4));
+        loops.push((first, first, end, numbers.below(3)))?;
+    }
+    Ok((words, loops))
+}
+
+fn address_of(place: &Place) -> Option<u32> {
+    match place {
+        Place::At(_, address) => Some(*address),
+        Place::Exit => None,
+    }
+}
+
+// The rounds that a stay has taken of each loop, after one more edge; none where that breaks a bound.
+fn after(rounds: [u32; 3], edge: &Edge, loops: &[Stated]) -> Option<[u32; 3]> {
+    let mut new = [0; 3];
+    let from = address_of(&edge.from)?;
+    let Some(to) = address_of(&edge.to) else {
+        return Some(new);
+    };
+    for (number, (header, first, last, bound)) in loops.iter().enumerate() {
+        let inside = *first <= from && from <= *last && *first <= to && to <= *last;
+        if !inside || number >= 3 {
+            continue;
+        }
+        let taken = rounds[number];
+        let turns = u32::from(to == *header);
+        if taken.saturating_add(turns) > *bound {
+            return None;
+        }
+        new[number] = taken.saturating_add(turns);
+    }
+    Some(new)
+}
+
+/// A walk's end, the rounds of the stays that go on there, and the walk's cost.
+#[derive(Clone, Copy)]
+struct Reached {
+    place: Place,
+    rounds: [u32; 3],
+    cost: u64,
+}
+
+// The walks that are one edge longer; of those to one end with the same rounds only the dearest.
+fn longer(
+    alloc: Global,
+    graph: &Graph,
+    loops: &[Stated],
+    walks: &[Reached],
+) -> Result<Vec<Reached>, AllocError> {
+    let mut next: Vec<Reached> = Vec::new(alloc);
+    for walk in walks {
+        for edge in graph.edges() {
+            if edge.from != walk.place {
+                continue;
+            }
+            let Some(rounds) = after(walk.rounds, edge, loops) else {
+                continue;
+            };
+            let cost = walk.cost.saturating_add(u64::from(edge.cost));
+            keep_dearest(
+                &mut next,
+                Reached {
+                    place: edge.to,
+                    rounds,
+                    cost,
+                },
+            )?;
+        }
+    }
+    Ok(next)
+}
+
+fn keep_dearest(walks: &mut Vec<Reached>, new: Reached) -> Result<(), AllocError> {
+    for known in walks.iter_mut() {
+        if known.place == new.place && known.rounds == new.rounds {
+            known.cost = known.cost.max(new.cost);
+            return Ok(());
+        }
+    }
+    walks.push(new)
+}
+
+// The greatest cost of a walk to Exit that keeps the bounds, of at most so many edges.
+fn enumerated(alloc: Global, graph: &Graph, loops: &[Stated]) -> Result<Option<u64>, AllocError> {
+    let mut best = None;
+    let mut walks = Vec::new(alloc);
+    walks.push(Reached {
+        place: graph.entry(),
+        rounds: [0; 3],
+        cost: 0,
+    })?;
+    for _ in 0..1000 {
+        if walks.is_empty() {
+            return Ok(best);
+        }
+        walks = longer(alloc, graph, loops, &walks)?;
+        for walk in &walks {
+            if walk.place == Place::Exit {
+                best = best.max(Some(walk.cost));
+            }
+        }
+    }
+    Ok(None)
+}
+
+// Whether the handler has a tree of loops and both ways agree on its bound; none where it has no tree.
+fn agrees(alloc: Global, words: &[u32], loops: &[Stated]) -> Result<Option<bool>, Fail> {
+    let mut image = Image::new(alloc);
+    let mut address = 0x8000u32;
+    for word in words {
+        image.put(alloc, address, *word)?;
+        address = address.wrapping_add(4);
+    }
+    let text = statement_of(alloc, 0x8000, loops, "")?;
+    let statement = read_statement(alloc, text.as_bytes(), &Labels::new(alloc))?;
+    let graph = build(alloc, &image, &statement, &Profile::one())?;
+    let Ok(tree) = nest(alloc, &graph, &statement) else {
+        return Ok(None);
+    };
+    let bound = match longest(alloc, &graph, &tree) {
+        Ok(found) => Some(found.bound),
+        Err(_) => None,
+    };
+    Ok(Some(enumerated(alloc, &graph, loops)? == bound))
+}
+
+#[test]
+fn folded_and_unrolled_agree(rt: HostRuntime) -> Result<(), Fail> {
+    let alloc = rt.alloc();
+    let mut numbers = Numbers { state: 2 };
+    let mut compared = 0u32;
+    for number in 0..1000u32 {
+        let (words, loops) = handler(alloc, &mut numbers)?;
+        if let Some(same) = agrees(alloc, &words, &loops)? {
+            assert!(rt; same, "handler {number}");
+            compared = compared.saturating_add(1);
+        }
+    }
+    assert!(rt; compared >= 300, "compared {compared}");
+    Ok(())
+}
