@@ -1,11 +1,17 @@
 -- An accepted source and statement have no refusal, and what a graph's refusals say of them.
 use Rattle.std.proofs.Common.{◌≡◌, ◌≢◌, ◌⊎◌, ◌∙◌, ℕ, List, Result, Ok, Err, refl, sym, subst, inl, inr}
 use Rattle.std.specs.Prelude.{Contains, IfErr, ◌↔◌}
+use Rattle.std.specs.Result.{IsErrAnd}
 use Rattle.bus_ticks.specs.declared.profile.Profile.{Profile}
 use Rattle.loader.specs.Image.{Words}
 use Rattle.flow_graph.specs.Flow.{Flow}
 use Rattle.flow_graph.specs.Graph.{IsBuildFault, IsFlowGraph}
 use Rattle.statement.specs.Stated.{Stated}
+use Rattle.statement.specs.Statement.{IsStatement}
+use Rattle.statement.specs.declared.faults.StatementFault.{StatementFault}
+use Rattle.statement.specs.declared.faults.StatementFault.TheVariants as statement_fault
+use Rattle.flow_graph.specs.declared.faults.BuildFault.{BuildFault}
+use Rattle.flow_graph.specs.declared.faults.BuildFault.TheVariants as build_fault
 use Rattle.statement.specs.declared.stated.Loop.{Loop}
 use Rattle.flow_graph.proofs.Unique.{one_flow}
 use Rattle.statement.proofs.Unique.{one_statement}
@@ -21,7 +27,7 @@ use Rattle.longest_walk.specs.Longest.{IsLongest, IsWalkFault, KeepsTree, TreeTo
 use Rattle.numbered_walks.specs.declared.fault.WalkFault.{WalkFault}
 use Rattle.numbered_walks.specs.declared.fault.WalkFault.TheVariants as walk_fault
 use Rattle.longest_walk.specs.declared.folded.Longest.{Longest}
-use Rattle.arcwcet.specs.Faults.{of_loops, of_walk}
+use Rattle.arcwcet.specs.Faults.{of_graph, of_loops, of_statement, of_walk}
 use Rattle.longest_walk.specs.declared.folded.Item.{Item}
 use Rattle.arcwcet.specs.Bound.{HasNoFault, IsGraphsFault}
 use Rattle.arcwcet.specs.Image.{source_of}
@@ -162,3 +168,30 @@ loops_fault flow loops nest_fault.SharedHeader h = (λ e. cc e, h)
 loops_fault flow loops nest_fault.EntersMidLoop h = (λ e. cc e, h)
 loops_fault flow loops nest_fault.UnboundedCycle h = (λ e. cc e, h)
 loops_fault flow loops nest_fault.NestedTooDeep h = (λ e. cc e, h)
+
+-- what holds of a fault holds of an answer that is that fault
+pub refused_as : {T : Type 0} (r : Result T ReportFault) (e : ReportFault) (P : ReportFault → Type 0) → IsErrAnd r (λ x. x ≡ e) → P e → IfErr r P
+refused_as (Ok x) e P h p = tt
+refused_as (Err x) e P h p = subst P (sym h) p
+
+-- ## The faults of the statement and of the graph
+
+pub statement_refusal : (source statement : List ℕ) (profile : Profile) (words : Words) (f : StatementFault) → source_of source ≡ Ok words → (f ≢ statement_fault.Memory → IsStatement statement no_names (Err f))
+    → (of_statement f ≢ Device) × IsRefused source statement profile (of_statement f)
+statement_refusal source statement profile words statement_fault.Memory image h = (λ e. cc e, tt)
+statement_refusal source statement profile words statement_fault.NotToml image h = (λ e. cc e, record { words = words; source_is = image; not_memory = λ e. cc e; statement_is = h (λ e. cc e) })
+statement_refusal source statement profile words statement_fault.UnknownKey image h = (λ e. cc e, record { words = words; source_is = image; not_memory = λ e. cc e; statement_is = h (λ e. cc e) })
+statement_refusal source statement profile words statement_fault.WrongKind image h = (λ e. cc e, record { words = words; source_is = image; not_memory = λ e. cc e; statement_is = h (λ e. cc e) })
+statement_refusal source statement profile words statement_fault.UnknownLabel image h = (λ e. cc e, record { words = words; source_is = image; not_memory = λ e. cc e; statement_is = h (λ e. cc e) })
+statement_refusal source statement profile words statement_fault.OutOfRange image h = (λ e. cc e, record { words = words; source_is = image; not_memory = λ e. cc e; statement_is = h (λ e. cc e) })
+statement_refusal source statement profile words statement_fault.Twice image h = (λ e. cc e, record { words = words; source_is = image; not_memory = λ e. cc e; statement_is = h (λ e. cc e) })
+
+pub graph_refusal : (source statement : List ℕ) (profile : Profile) (words : Words) (st : Stated) (f : BuildFault) → source_of source ≡ Ok words → IsStatement statement no_names (Ok st) → IsBuildFault words st profile f
+    → (of_graph f ≢ Device) × IsRefused source statement profile (of_graph f)
+graph_refusal source statement profile words st build_fault.Memory image read h = (λ e. cc e, tt)
+graph_refusal source statement profile words st (build_fault.OutsideImage a) image read h = (λ e. cc e, record { words = words; stated = st; source_is = image; statement_is = read; not_memory = λ e. cc e; holds = h })
+graph_refusal source statement profile words st (build_fault.UnallocatedWord a) image read h = (λ e. cc e, record { words = words; stated = st; source_is = image; statement_is = read; not_memory = λ e. cc e; holds = h })
+graph_refusal source statement profile words st (build_fault.TrapInHandler a) image read h = (λ e. cc e, record { words = words; stated = st; source_is = image; statement_is = read; not_memory = λ e. cc e; holds = h })
+graph_refusal source statement profile words st build_fault.TooDeep image read h = (λ e. cc e, record { words = words; stated = st; source_is = image; statement_is = read; not_memory = λ e. cc e; holds = h })
+graph_refusal source statement profile words st build_fault.TooManyPlaces image read h = (λ e. cc e, record { words = words; stated = st; source_is = image; statement_is = read; not_memory = λ e. cc e; holds = h })
+graph_refusal source statement profile words st (build_fault.TargetNotWriter a) image read h = (λ e. cc e, record { words = words; stated = st; source_is = image; statement_is = read; not_memory = λ e. cc e; holds = h })

@@ -1,6 +1,7 @@
 -- What a run of `bound` did, from what its reads and its report gave.
-use Rattle.std.proofs.Common.{◌≡◌, ℕ, List, Option, Result, Ok, Err, refl, inr, arith}
+use Rattle.std.proofs.Common.{◌≡◌, ◌∙◌, ℕ, List, Option, Some, Result, Ok, Err, refl, sym, subst, inr, arith}
 use Rattle.arcwcet.specs.Bound.{ReportsByOne}
+use Rattle.arcwcet.specs.Line.{Asked, bound}
 use Rattle.arcwcet.specs.Run.{FailsToPrint, HasNoReport, IsFailedRun, IsPrinted, IsRefusedRun, ReadsBoth, report_status}
 use Rattle.arcwcet.specs.declared.fault.ReportFault.{ReportFault}
 use Rattle.arcwcet.specs.declared.fault.ReportFault.TheVariants.{Memory, Source, Statement, Graph, Loops, Walk, Device}
@@ -43,3 +44,11 @@ module _ {S O T : Type 0} (reads : S → List ℕ → Result (List ℕ) StoreFau
       let fails : FailsToPrint reads old new source statement (taken before) (taken after) (failures before) (failures after) =
       record { one = one; two = two; read = r; profile = b.profile; numbers = b.numbers; fails = b.reports.device refl } in
       inr fails
+
+-- words ask for one thing, so what is known of the files that a run took holds of those that are asked for
+pub asked_as : {one two source statement : List ℕ} (P : List ℕ → List ℕ → Type 0) → P one two → (asked : Option Asked) → asked ≡ Some (bound one two) → asked ≡ Some (bound source statement) → P source statement
+asked_as {one} {two} {source} {statement} P p asked taken wanted =
+    let same : Some (bound one two) ≡ Some (bound source statement) = sym taken ∙ wanted in
+    let first : one ≡ source = cc same in
+    let second : two ≡ statement = cc same in
+    subst (λ x. P x statement) first (subst (λ y. P one y) second p)

@@ -91,16 +91,15 @@ module _ {S : Type 0} (reads : S → List ℕ → Result (List ℕ) StoreFault �
     IsFailedRun out_old out_new before after =
         (FailsToRead source statement store_fault.Device × (out_new ≡ out_old)) ⊎ FailsToPrint out_old out_new before after
 
-    -- status 3: nothing was read, or a file could not be read for want of memory, or both were
+    -- status 3: unless the store is as it was, a file could not be read for want of memory, or both were read
     abbrev pub IsStarvedRun : Type 0
-    IsStarvedRun = (new ≡ old) ⊎ (FailsToRead source statement store_fault.Memory ⊎ HasRead)
+    IsStarvedRun = (new ≡ old → ⊥) → FailsToRead source statement store_fault.Memory ⊎ HasRead
 
 -- what a run of `bound` did, by its status: nothing is printed but at 0 and 4
 pub record RunsBound {S O : Type 0} (reads : S → List ℕ → Result (List ℕ) StoreFault → S → Type 0) (taken : O → Option (List ℕ)) (failures : O → ℕ)
     (source statement : List ℕ) (old new : S) (before after : O) (status : ℕ) : Type 0 where
   pub printed : status ≡ 0 → IsPrinted reads old new source statement (taken before) (taken after)
   pub refused : status ≡ 1 → IsRefusedRun reads old new source statement
-  pub starved : status ≡ 3 → IsStarvedRun reads old new source statement
   pub failed : status ≡ 4 → IsFailedRun reads old new source statement (taken before) (taken after) (failures before) (failures after)
   pub quiet : (status ≡ 1) ⊎ (status ≡ 3) → after ≡ before
   pub known : (status ≡ 0) ⊎ ((status ≡ 1) ⊎ ((status ≡ 3) ⊎ (status ≡ 4)))

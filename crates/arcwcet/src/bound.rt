@@ -1,6 +1,7 @@
-ghost use Rattle.std.specs.Prelude.{◌≢◌, IfOk, IfErr, OnOk};
+ghost use Rattle.std.specs.Prelude.{◌≢◌, Err, IfOk, IfErr, OnOk};
 ghost use Rattle.arcwcet.specs.Bound.{HasNoFault, IsGraphsFault, Reports, ReportsByOne};
-ghost use Rattle.arcwcet.specs.Report.{HasGraph, IsAccepted, IsGreatestWalk, IsRefused, IsReport};
+ghost use Rattle.statement.specs.Statement.{IsStatement};
+ghost use Rattle.arcwcet.specs.Report.{HasGraph, IsAccepted, IsGreatestWalk, IsRefused, IsReport, no_names};
 
 use crate::fault::ReportFault;
 use crate::output::Output;
@@ -8,7 +9,7 @@ use crate::report_text::report_text;
 use crate::source::read_source;
 use crate::whole::write_whole;
 use bus_ticks::Profile;
-use flow_graph::{Graph, Statement, build, read_statement};
+use flow_graph::{Graph, Statement, StatementFault, build, read_statement};
 use loader::labels::Labels;
 use longest_walk::{Longest, longest};
 use loop_bounds::nest;
@@ -21,6 +22,13 @@ struct Handler {
     graph: Graph,
 }
 
+// The statement of a source that names no addresses.
+fn without_names(alloc: Global, text: &[u8]) -> Result<Statement, StatementFault>
+    ensures { result ≢ Err StatementFault.Memory → IsStatement text.now no_names result }
+{
+    read_statement(alloc, text, &Labels::new(alloc))
+}
+
 fn read_handler(
     alloc: Global,
     source: &[u8],
@@ -31,7 +39,7 @@ fn read_handler(
     ensures fault { IfErr result (λ e. (e ≢ ReportFault.Device) × IsRefused source.now statement.now profile.now e) }
 {
     let image = read_source(alloc, source)?;
-    let statement = read_statement(alloc, statement, &Labels::new(alloc))?;
+    let statement = without_names(alloc, statement)?;
     let graph = build(alloc, &image, &statement, profile)?;
     Ok(Handler { statement, graph })
 }

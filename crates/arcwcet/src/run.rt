@@ -125,6 +125,8 @@ pub fn program<S: Store, I: Read, O: Output, E: Output>(
     // What `bound` did.
     ensures bound { (source statement : List ℕ) → asked_in words.now ≡ Some (bound source statement)
         → RunsBound S.read_gives O.taken O.failures source statement store.old store.new out.old out.new result }
+    ensures starved { (source statement : List ℕ) → asked_in words.now ≡ Some (bound source statement)
+        → result ≡ 3 → IsStarvedRun S.read_gives store.old store.new source statement }
 
     // Nothing is told at 0.
     ensures silent { result ≡ 0 → err.new ≡ err.old }

@@ -1,12 +1,15 @@
-use Rattle.std.proofs.Common.{rules}
-use Rattle.arcwcet.proofs.ReportLemmas.{accepted, graphs_refusal, reported}
+use Rattle.std.proofs.Common.{rules, ◌≢◌}
+use Rattle.arcwcet.specs.Report.{IsRefused}
+use Rattle.arcwcet.specs.declared.fault.ReportFault.TheVariants.{Device}
+use Rattle.arcwcet.proofs.ReportLemmas.{accepted, graphs_refusal, refused_as, reported}
 use Rattle.arcwcet.proofs.bound.text_of.Goals as goal
 
 pub returns-in_err-found-clause-fault : goal.returns-in_err-found-clause-fault
 returns-in_err-found-clause-fault c =
     let h = c.in_ok-handler.handler in
-    let refused = graphs_refusal c.args.source.now c.args.statement.now c.args.profile.now h.statement h.graph c.in_err-found.field-0.0 (search rules) (search rules) in
-    search (rules, refused)
+    let e = c.in_err-found.field-0.0 in
+    refused_as c.from_residual-in_err-found.result e (λ e. (e ≢ Device) × IsRefused c.args.source.now c.args.statement.now c.args.profile.now e) c.from_residual-in_err-found.ensures.1
+    (graphs_refusal c.args.source.now c.args.statement.now c.args.profile.now h.statement h.graph e (search rules) (search rules))
 
 pub returns-clause-report : goal.returns-clause-report
 returns-clause-report c =
