@@ -41,14 +41,15 @@ pub(crate) fn place_rows(
     let mut rows = Vec::with_capacity(alloc, places.len())?;
     for index in 0..places.len() {
         // No place of a graph is Exit.
-        if let Place::At(list, address) = places[index] {
-            let distance = tables.distances[numbers[index]];
-            rows.push(PlaceRow {
-                list,
-                address,
-                distance,
-            })?;
-        }
+        let Place::At(list, address) = places[index] else {
+            continue;
+        };
+        let distance = tables.distances[numbers[index]];
+        rows.push(PlaceRow {
+            list,
+            address,
+            distance,
+        })?;
     }
     Ok(Rows::of(rows))
 }
