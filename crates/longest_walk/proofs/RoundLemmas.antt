@@ -5,6 +5,7 @@ use Rattle.std.proofs.lemmas.Bool.{cases_eq, cases_lt, both_ways}
 use Rattle.std.proofs.lemmas.List.{get_or-set_same, get_or-set_other, get_or_default, map-append}
 use Rattle.std.proofs.lemmas.List.Elements.{Contains-get_or}
 use Rattle.walks.specs.Segments.{repeated}
+use Rattle.flow_graph.specs.declared.edges.Edge.{Edge}
 use Rattle.flow_graph.specs.Flow.{Flow}
 use Rattle.numbered_walks.specs.declared.span.Span.{Span}
 use Rattle.numbered_walks.specs.declared.tables.Tables.{Tables}
@@ -19,11 +20,13 @@ use Rattle.numbered_walks.proofs.Paths as P
 use Rattle.loop_bounds.specs.Tree.{Tree}
 use Rattle.longest_walk.specs.Folded.{Opened, joined, one_edge, open_item, open_items, turned}
 use Rattle.longest_walk.specs.Built.{IsBuilt, step_at}
-use Rattle.longest_walk.specs.Ways.{AreSearched, AreRounds, HasRounds, IsAlong, IsFollowed, IsRound, IsRounds, depth_at, holds, opened_rounds, rounds_at, start_of}
+use Rattle.longest_walk.specs.Ways.{AreSearched, AreRounds, HasRounds, IsAlong, IsFollowed, IsRound, IsRounds, IsWay, depth_at, holds, opened_rounds, opened_way, rounds_at, start_of}
 use Rattle.longest_walk.specs.declared.folded.Item.{Item}
+use Rattle.longest_walk.specs.declared.folded.Item.TheVariants.{Step}
 use Rattle.longest_walk.specs.declared.rounds.Rounds.{Rounds}
 use Rattle.longest_walk.proofs.Along.{along_append, along_edge, along_none, along_repeat, along_room}
-use Rattle.longest_walk.proofs.Opening.{map-repeated}
+use Rattle.longest_walk.proofs.Opening.{map-repeated, open-step, opened-more}
+use Rattle.longest_walk.proofs.WayLemmas.{follow_entry, follow_header, follow_way}
 use Rattle.longest_walk.proofs.Levels.{before}
 
 not_none : (ks : List ℕ) (k : ℕ) → ks ++ k ∷ [] ≢ []
@@ -47,6 +50,16 @@ module _ (flow : Flow) (tree : Tree) (index : Index) (c : Tables) (g : AreSearch
             (along_edge flow tree c level k (along_room flow tree c level f.numbers (joined items) f.along) (omega (arith, by.inside, g.tree_is.numbered.same)));
       }
 
+  -- the items of a way from the header, and a back edge
+  pub round_made : (s : Span) → Contains tree.spans s → (k : ℕ) → IsTurning tree.edges tree.spans c s k → (table : List (Option Rounds)) → HasRounds flow tree c (Some s) table → (way : List ℕ) (items pushed : List Item) (e : Edge) → IsWay tree.edges tree.spans c (Some s) s.header way (edge_at tree.edges k).from
+      → map open_item items ≡ opened_way flow tree table way → pushed ≡ items ++ Step e ∷ [] → e ≡ get_or flow.edges k e → IsRound flow tree c s (map open_item pushed)
+  round_made s s_in k by table has way items pushed e is_way items_are pushed_is e_is =
+      let step : e ≡ step_at flow.edges k = e_is ∙ get_or_default flow.edges k e _ (omega (arith, by.inside, g.tree_is.numbered.same)) in
+      let followed = follow_way flow tree index c g table (Some s) s_in has s.header (edge_at tree.edges k).from way [] (follow_header flow tree index c g s s_in) is_way in
+      subst (IsRound flow tree c s)
+      (sym (ap (map open_item) pushed_is ∙ opened-more items (Step e) (one_edge e) (open-step e) ∙ ap (λ (os : List Opened). os ++ one_edge e ∷ []) items_are ∙ ap (λ (x : Edge). opened_way flow tree table way ++ one_edge x ∷ []) step))
+      (round_closed s s_in k by (opened_way flow tree table way) followed)
+
   -- as many rounds as the bound says
   pub rounds_some : (s : Span) → Contains tree.spans s → (r : Rounds) → r.count ≡ s.bound → IsRound flow tree c s (map open_item r.body.value.items) → IsRounds flow tree c s (Some r)
   rounds_some s s_in r count one = record {
@@ -65,6 +78,9 @@ module _ (flow : Flow) (tree : Tree) (index : Index) (c : Tables) (g : AreSearch
   }
 
   -- ## The rounds of all instances
+
+  pub rounds_first : (table : List (Option Rounds)) → length table ≡ exit + 1 → ((p : ℕ) → rounds_at table p ≡ None) → AreRounds flow tree c 0 table
+  rounds_first table whole none = record { whole = whole; known = λ n low inside. absurd (omega arith); plain = λ p no_header. none p }
 
   pub rounds_more : (done : ℕ) (table : List (Option Rounds)) (entry : Option Rounds) → done < length tree.spans → AreRounds flow tree c done table → IsRounds flow tree c (nth tree.spans done) entry → AreRounds flow tree c (done + 1) (set table (nth tree.spans done).header entry)
   rounds_more done table entry lt all one =
@@ -108,7 +124,7 @@ module _ (flow : Flow) (tree : Tree) (index : Index) (c : Tables) (g : AreSearch
 
   -- ## The whole walk
 
-  pub built : (items : List Item) → IsFollowed flow tree c None exit (map open_item items) → IsBuilt flow tree c items
+  built : (items : List Item) → IsFollowed flow tree c None exit (map open_item items) → IsBuilt flow tree c items
   built items f = record {
     numbers = f.numbers;
     inside = f.along.inside;
@@ -118,3 +134,9 @@ module _ (flow : Flow) (tree : Tree) (index : Index) (c : Tables) (g : AreSearch
     counts = f.along.counts;
     shallow = omega (arith, f.along.shallow);
   }
+
+  -- the rounds of an instance that begins at the entry, and the items of a way to Exit
+  pub walk_made : (table : List (Option Rounds)) → AreRounds flow tree c (length tree.spans) table → (way : List ℕ) (items : List Item) → IsWay tree.edges tree.spans c None 0 way exit → map open_item items ≡ opened_rounds (rounds_at table 0) ++ opened_way flow tree table way → IsBuilt flow tree c items
+  walk_made table all way items is_way items_are =
+      let first = follow_entry flow tree index c g table (rounds_known table all) all.plain in
+      built items (subst (IsFollowed flow tree c None exit) (sym items_are) (follow_way flow tree index c g table None tt (rounds_whole table all) 0 exit way (opened_rounds (rounds_at table 0)) first is_way))

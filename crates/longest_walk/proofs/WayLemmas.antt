@@ -3,7 +3,7 @@ use Rattle.std.proofs.Common.{◌≡◌, ◌≢◌, ◌∙◌, ℕ, ◌+◌, ◌
 use Rattle.std.proofs.lemmas.Bool.{cases_Bool}
 use Rattle.std.specs.Prelude.{reverse}
 use Rattle.std.proofs.lemmas.List.{map-append, reverse-append}
-use Rattle.std.proofs.lemmas.List.Elements.{All-nil, All-cons}
+use Rattle.std.proofs.lemmas.List.Elements.{All-nil, All-cons, All-weaker}
 use Rattle.walks.specs.Segments.{repeated}
 use Rattle.flow_graph.specs.Flow.{Flow}
 use Rattle.numbered_walks.specs.declared.span.NumberedEdge.{NumberedEdge}
@@ -83,6 +83,14 @@ module _ (flow : Flow) (tree : Tree) (index : Index) (c : Tables) (g : AreSearch
 
   inside_flow : (k : ℕ) → k < length tree.edges → k < length flow.edges
   inside_flow k lt = omega (arith, g.tree_is.numbered.same)
+
+  pub from_low : (k : ℕ) → k < length tree.edges → (edge_at tree.edges k).from ≤ exit
+  from_low k lt = omega (arith, (g.tree_is.ordered.places (edge_at tree.edges k) (edge_at-in tree.edges k lt)).0)
+
+  -- what the code asks of a way
+  pub way_known : (many : ℕ) → many ≡ exit + 1 → (context : Option Span) (from to : ℕ) (ks : List ℕ) → IsWay tree.edges tree.spans c context from ks to → All (λ k. (k < length flow.edges) × (k < length tree.edges) × ((edge_at tree.edges k).to < many)) ks
+  way_known many whole context from to ks way = All-weaker (λ k. (k < length tree.edges) × ((edge_at tree.edges k).to ≤ exit)) (λ k. (k < length flow.edges) × (k < length tree.edges) × ((edge_at tree.edges k).to < many))
+      (λ k h. (inside_flow k h.0, h.0, omega (arith, h.1, whole))) ks (way_inside exit tree.edges tree.spans c g.tree_is.ordered context from to ks way)
 
   -- one edge further, and all rounds of the instance that it enters
   follow_edge : (table : List (Option Rounds)) (context : Option Span) → InTree tree.spans context → HasRounds flow tree c context table → (from k : ℕ) (items : List Opened) → IsFollowed flow tree c context from items → (edge_at tree.edges k).from ≡ from → IsEntering tree.edges tree.spans c (edge_at tree.edges k).to k → holds context (edge_at tree.edges k).to ≡ true → start_of context < (edge_at tree.edges k).to

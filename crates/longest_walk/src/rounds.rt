@@ -1,4 +1,4 @@
-ghost use Rattle.std.specs.Prelude.{◌≡◌, ◌+◌, ◌<◌, ◌++◌, All, Contains, IfOk, length, map, Some};
+ghost use Rattle.std.specs.Prelude.{◌≡◌, ◌+◌, ◌<◌, ◌++◌, All, Contains, IfOk, length, map, Some, None, ℕ};
 ghost use Rattle.numbered_walks.specs.Index.{edge_at};
 ghost use Rattle.numbered_walks.specs.Found.{IsTurning};
 ghost use Rattle.longest_walk.specs.Folded.{open_item};
@@ -102,7 +102,19 @@ fn rounds_of(
     }))
 }
 
-/// The rounds of each instance by the number of its header, the inner ones first.
+// No rounds of any number below that.
+fn no_rounds(alloc: Global, size: usize) -> Result<Vec<Option<Rounds>>, AllocError>
+    ensures length { IfOk result (λ rounds. length rounds.items ≡ size) }
+    ensures none { IfOk result (λ rounds. (p : ℕ) → rounds_at rounds.items p ≡ None) }
+{
+    let mut rounds = Vec::with_capacity(alloc, size)?;
+    for _ in 0..size {
+        rounds.push(None)?;
+    }
+    Ok(rounds)
+}
+
+/// The rounds of each instance by the number of its header.
 pub(crate) fn all_rounds(
     alloc: Global,
     graph: &Graph,
@@ -113,11 +125,8 @@ pub(crate) fn all_rounds(
     requires { AreSearched graph.now tree.now index.now tables.now }
     ensures { IfOk result (λ rounds. AreRounds graph.now tree.now tables.now (length tree.now.spans) rounds.items) }
 {
-    let size = graph.places().len() + 1;
-    let mut rounds = Vec::with_capacity(alloc, size)?;
-    for _ in 0..size {
-        rounds.push(None)?;
-    }
+    let mut rounds = no_rounds(alloc, graph.places().len() + 1)?;
+    // The inner ones come before the outer ones.
     for span in tree.spans() {
         rounds[span.header] = rounds_of(alloc, graph, tree, index, tables, &rounds, span)?;
     }
