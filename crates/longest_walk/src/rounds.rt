@@ -1,4 +1,4 @@
-ghost use Rattle.std.specs.Prelude.{◌≡◌, ◌+◌, ◌<◌, ◌++◌, All, Contains, IfOk, length, map, Some, None, ℕ};
+ghost use Rattle.std.specs.Prelude.{◌≡◌, ◌+◌, ◌<◌, ◌++◌, All, Contains, IfOk, IfErr, length, map, Some, None, ℕ};
 ghost use Rattle.numbered_walks.specs.Index.{edge_at};
 ghost use Rattle.numbered_walks.specs.Found.{IsTurning};
 ghost use Rattle.longest_walk.specs.Folded.{open_item};
@@ -90,7 +90,8 @@ fn rounds_of(
     requires searched { AreSearched graph.now tree.now index.now tables.now }
     requires known { Contains tree.now.spans span.now }
     requires rounds { HasRounds graph.now tree.now tables.now (Some span.now) rounds.now }
-    ensures { IfOk result (IsRounds graph.now tree.now tables.now span.now) }
+    ensures rounds { IfOk result (IsRounds graph.now tree.now tables.now span.now) }
+    ensures memory { IfErr result (λ fault. fault ≡ WalkFault.Memory) }
 {
     let Some(last) = last_turn(graph, tree, index, tables, span) else {
         return Ok(None);
@@ -123,7 +124,8 @@ pub(crate) fn all_rounds(
     tables: &Tables,
 ) -> Result<Vec<Option<Rounds>>, WalkFault>
     requires { AreSearched graph.now tree.now index.now tables.now }
-    ensures { IfOk result (λ rounds. AreRounds graph.now tree.now tables.now (length tree.now.spans) rounds.items) }
+    ensures rounds { IfOk result (λ rounds. AreRounds graph.now tree.now tables.now (length tree.now.spans) rounds.items) }
+    ensures memory { IfErr result (λ fault. fault ≡ WalkFault.Memory) }
 {
     let mut rounds = no_rounds(alloc, graph.places().len() + 1)?;
     // The inner ones come before the outer ones.

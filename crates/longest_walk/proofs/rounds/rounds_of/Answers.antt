@@ -1,14 +1,13 @@
-use Rattle.std.proofs.Common.{rules, ◌≡◌, ◌+◌, ◌<◌, ◌++◌, All, Contains, IfOk, length, map, Some, None, ℕ, ◌-◌, ◌*◌, ◌≤◌, ◌/◌, ◌%◌, Bool, true, false, nat_eq, nat_lt, List, [], ◌∷◌, slice_index_or, slice_set, bit_and, bit_or, Fits, w8, w32, w64, Bor, MutBor}
-use Rattle.numbered_walks.specs.Index.{edge_at}
-use Rattle.numbered_walks.specs.Found.{IsTurning}
-use Rattle.longest_walk.specs.Folded.{open_item}
-use Rattle.longest_walk.specs.Ways.{AreRounds, AreSearched, HasRounds, IsRound, IsRounds, opened_rounds, opened_way, rounds_at}
+use Rattle.std.proofs.Common.{map, refl, sym, subst, List, ap}
+use Rattle.longest_walk.specs.Folded.{Opened, open_item}
+use Rattle.longest_walk.specs.Ways.{IsRound}
+use Rattle.longest_walk.proofs.RoundLemmas.{rounds_none, rounds_some}
 use Rattle.longest_walk.proofs.rounds.rounds_of.Goals as goal
 
--- src/rounds.rt:96:9
-pub returns-in_default : goal.returns-in_default
-returns-in_default c = ?
+pub returns-in_default-clause-rounds : goal.returns-in_default-clause-rounds
+returns-in_default-clause-rounds c = rounds_none c.args.graph.now c.args.tree.now c.args.index.now c.args.tables.now c.requires.searched c.args.span.now c.in_default.ensures
 
--- src/rounds.rt:81:1
-pub returns : goal.returns
-returns c = ?
+pub returns-clause-rounds : goal.returns-clause-rounds
+returns-clause-rounds c =
+    rounds_some c.args.graph.now c.args.tree.now c.args.index.now c.args.tables.now c.requires.searched c.args.span.now c.requires.known (record { count = c.args.span.now.bound; body = c.in_ok-new.field-0 }) refl
+    (subst (λ (items : List Opened). IsRound c.args.graph.now c.args.tree.now c.args.tables.now c.args.span.now items) (sym (ap (λ v. map open_item v.items) c.in_ok-new.ensures.ok)) c.in_ok-body.ensures)
