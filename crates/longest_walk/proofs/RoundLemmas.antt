@@ -79,6 +79,9 @@ module _ (flow : Flow) (tree : Tree) (index : Index) (c : Tables) (g : AreSearch
 
   -- ## The rounds of all instances
 
+  pub header_inside : (n : ℕ) → n < length tree.spans → (nth tree.spans n).header < exit + 1
+  header_inside n lt = let shape = g.tree_is.ordered.shape (nth tree.spans n) (Contains-get_or tree.spans n _ lt) in omega (arith, shape.0, shape.1)
+
   pub rounds_first : (table : List (Option Rounds)) → length table ≡ exit + 1 → ((p : ℕ) → rounds_at table p ≡ None) → AreRounds flow tree c 0 table
   rounds_first table whole none = record { whole = whole; known = λ n low inside. absurd (omega arith); plain = λ p no_header. none p }
 
@@ -87,7 +90,7 @@ module _ (flow : Flow) (tree : Tree) (index : Index) (c : Tables) (g : AreSearch
       let d : Span = record { header = 0; last = 0; bound = 0 } in
       let s = nth tree.spans done in
       let s_in : Contains tree.spans s = Contains-get_or tree.spans done d lt in
-      let small : s.header < length table = let shape = g.tree_is.ordered.shape s s_in in omega (arith, shape.0, shape.1, all.whole) in
+      let small : s.header < length table = omega (arith, header_inside done lt, all.whole) in
       record {
         whole = length-set table s.header entry ∙ all.whole;
         known = λ n low inside. ⊎_elim

@@ -1,18 +1,25 @@
-use Rattle.std.proofs.Common.{rules, ◌≡◌, ◌+◌, ◌<◌, ◌++◌, All, Contains, IfOk, IfErr, length, map, Some, None, ℕ, ◌-◌, ◌*◌, ◌≤◌, ◌/◌, ◌%◌, Bool, true, false, nat_eq, nat_lt, List, [], ◌∷◌, slice_index_or, slice_set, bit_and, bit_or, Fits, w8, w32, w64, Bor, MutBor}
-use Rattle.numbered_walks.specs.Index.{edge_at}
-use Rattle.numbered_walks.specs.Found.{IsTurning}
-use Rattle.longest_walk.specs.Folded.{open_item}
-use Rattle.longest_walk.specs.Ways.{AreRounds, AreSearched, HasRounds, IsRound, IsRounds, opened_rounds, opened_way, rounds_at}
+use Rattle.std.proofs.Common.{◌<◌, List, length, get_or, subst, arith}
+use Rattle.std.proofs.lemmas.List.Elements.{Contains-get_or}
+use Rattle.numbered_walks.specs.declared.span.Span.{Span}
+use Rattle.numbered_walks.specs.Tables.{nth}
+use Rattle.longest_walk.specs.Ways.{AreRounds, IsRounds}
+use Rattle.longest_walk.proofs.RoundLemmas.{header_inside, rounds_first, rounds_inside, rounds_more}
 use Rattle.longest_walk.proofs.rounds.all_rounds.Goals as goal
 
--- src/rounds.rt:133:31
 pub rounds_of-requires-clause-rounds : goal.rounds_of-requires-clause-rounds
-rounds_of-requires-clause-rounds c = ?
+rounds_of-requires-clause-rounds c =
+    let lt : c.loop-span.span-index < length c.args.tree.now.spans = subst (λ (l : List Span). c.loop-span.span-index < length l) c.spans-span-items.ensures c.loop-span-test.true in
+    rw (c.deref.ensures.value, c.spans-span-items.ensures) (rounds_inside c.args.graph.now c.args.tree.now c.args.index.now c.args.tables.now c.requires c.loop-span.span-index c.loop-span.rounds.items lt c.loop-span.invariant)
 
--- src/rounds.rt:133:9
 pub index_mut-requires : goal.index_mut-requires
-index_mut-requires c = ?
+index_mut-requires c =
+    let lt : c.loop-span.span-index < length c.args.tree.now.spans = subst (λ (l : List Span). c.loop-span.span-index < length l) c.spans-span-items.ensures c.loop-span-test.true in
+    rw c.spans-span-items.ensures (omega (arith, header_inside c.args.graph.now c.args.tree.now c.args.index.now c.args.tables.now c.requires c.loop-span.span-index lt, c.loop-span.invariant.whole))
 
--- src/rounds.rt:132:5
 pub loop-span-preserved : goal.loop-span-preserved
-loop-span-preserved c = ?
+loop-span-preserved c =
+    let tree = c.args.tree.now in
+    let lt : c.loop-span.span-index < length tree.spans = subst (λ (l : List Span). c.loop-span.span-index < length l) c.spans-span-items.ensures c.loop-span-test.true in
+    let one : IsRounds c.args.graph.now tree c.args.tables.now (nth tree.spans c.loop-span.span-index) c.in_ok-rounds-2.field-0 =
+    subst (λ (l : List Span). IsRounds c.args.graph.now tree c.args.tables.now (nth l c.loop-span.span-index) c.in_ok-rounds-2.field-0) c.spans-span-items.ensures c.in_ok-rounds-2.ensures.rounds in
+    rw c.spans-span-items.ensures (rounds_more c.args.graph.now tree c.args.index.now c.args.tables.now c.requires c.loop-span.span-index c.loop-span.rounds.items c.in_ok-rounds-2.field-0 lt c.loop-span.invariant one)
