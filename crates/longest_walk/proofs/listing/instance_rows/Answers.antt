@@ -1,4 +1,4 @@
-use Rattle.std.proofs.Common.{◌≡◌, ◌∙◌, ℕ, ◌<◌, ◌≤◌, false, List, length, get_or, map, ap, sym, subst, rules, arith}
+use Rattle.std.proofs.Common.{◌≡◌, ◌∙◌, ℕ, ◌+◌, ◌<◌, ◌≤◌, false, List, length, get_or, map, ap, sym, subst, rules, arith}
 use Rattle.std.specs.Ordering.{is_lt}
 use Rattle.std.specs.List.Sorted.{IsSortedByKey}
 use Rattle.std.proofs.lemmas.List.{get_or_default, length-map}
@@ -39,5 +39,5 @@ returns c =
     let sorted = c.sort_unstable_by_key.new.self.items in
     let ended : length c.args.tree.now.instances ≤ c.loop-index.index = omega (arith, ap length c.instances-found.ensures, length-map c.instances-found.result.now found_instance, c.loop-index-test.false) in
     let raw = c.sort_unstable_by_key.ensures.sorted header_of_row (answers_always _ _ _ (λ f a r g called. search rules)) in
-    let up : IsSortedByKey header_of_row place_cmp sorted = λ k d low high. ap is_lt (sym (c.order_of_places.ensures _ _)) ∙ raw k d low high in
+    let up : IsSortedByKey header_of_row place_cmp sorted = λ k d low high. ap is_lt (sym (c.order_of_places.ensures (header_of_row (get_or sorted (k + 1) d)) (header_of_row (get_or sorted k d)))) ∙ raw k d low high in
     rw c.of.ensures (instance_rows_all c.args.graph.now c.args.tree.now c.args.tables.now c.requires.tree c.loop-index.index c.loop-index.rows.items sorted ended c.loop-index.invariant c.sort_unstable_by_key.ensures.permutation up)
