@@ -1,5 +1,5 @@
 -- A walk written with repeats, and what it unfolds to (our own format).
-use Rattle.std.specs.Prelude.{ℕ, ◌+◌, max, List, [], ◌∷◌, flat_map}
+use Rattle.std.specs.Prelude.{ℕ, ◌+◌, max, List, [], ◌∷◌, flat_map, map}
 use Rattle.walks.specs.Segments.{repeated}
 use Rattle.flow_graph.specs.declared.edges.Edge.{Edge}
 use Rattle.longest_walk.specs.declared.folded.Item.{Item}
@@ -25,19 +25,19 @@ joined items = record { walk = flat_map (λ o. o.walk) items; counts = flat_map 
 abbrev pub turned : ℕ → Opened → Opened
 turned k body = record { walk = repeated k body.walk; counts = k ∷ body.counts; bodies = body.walk ∷ body.bodies; depth = body.depth + 1 }
 
+abbrev pub one_edge : Edge → Opened
+one_edge e = record { walk = e ∷ []; counts = []; bodies = []; depth = 0 }
+
 -- an item whose body's items are opened already
 abbrev pub open_step : Item-F Opened → Opened
-open_step (Item-F.Step e) = record { walk = e ∷ []; counts = []; bodies = []; depth = 0 }
+open_step (Item-F.Step e) = one_edge e
 open_step (Item-F.Repeat k body) = turned k (joined body.value.items)
 
 abbrev pub open_item : Item → Opened
 open_item = fold-Item Opened open_step
 
 abbrev pub open_items : List Item → Opened
-open_items items = record { walk = flat_map (λ item. (open_item item).walk) items; counts = flat_map (λ item. (open_item item).counts) items; bodies = flat_map (λ item. (open_item item).bodies) items; depth = deepest_item items } where
-  deepest_item : List Item → ℕ
-  deepest_item [] = 0
-  deepest_item (item ∷ rest) = max (open_item item).depth (deepest_item rest)
+open_items items = joined (map open_item items)
 
 -- the edges of a folded walk in order
 abbrev pub unfolded : List Item → List Edge

@@ -2,3 +2,4 @@ pub mod Folded
 pub mod Rows
 pub mod Longest
 pub mod Built
+pub mod Ways

@@ -46,6 +46,13 @@ impl FoldedWalk {
         }
     }
 
+    /// The walk of these items.
+    pub(crate) fn of(list: Vec<Item>) -> FoldedWalk
+        ensures { result ≡ list.items }
+    {
+        FoldedWalk { list }
+    }
+
     /// Adds an item at the end. `Memory`: a growth was refused, and the walk is as it was.
     pub fn push(&mut self, _alloc: Global, item: Item) -> Result<(), WalkFault>
         ensures ok { OnOk result (self.new ≡ self.old ++ item ∷ []) }

@@ -1,19 +1,42 @@
 ghost use Rattle.std.specs.Prelude.{◌≢◌, IfErr, IfOk, OnOk};
 ghost use Rattle.loop_bounds.specs.Tree.{IsTree};
-ghost use Rattle.numbered_walks.specs.declared.fault.WalkFault.{WalkFault};
 ghost use Rattle.longest_walk.specs.Longest.{IsLongest, IsWalkFault};
+ghost use Rattle.numbered_walks.specs.declared.fault.WalkFault.{WalkFault};
 
+use crate::builder::fold_walk;
 use crate::folded::Longest;
+use crate::listing::{instance_rows, place_rows};
+use crate::rows::Potentials;
 use flow_graph::Graph;
 use loop_bounds::LoopTree;
-use numbered_walks::WalkFault;
+use numbered_walks::{Index, WalkFault, find_tables};
 use std::alloc::Global;
 
-pub fn longest(_alloc: Global, _graph: &Graph, _tree: &LoopTree) -> Result<Longest, WalkFault>
-    requires { IsTree _graph.now _tree.now }
-    ensures longest { IfOk result (IsLongest _graph.now _tree.now) }
-    ensures allowed { OnOk result ((fault : WalkFault) → fault ≢ WalkFault.Memory → IsWalkFault _graph.now _tree.now fault → ⊥) }
-    ensures fault { IfErr result (IsWalkFault _graph.now _tree.now) }
+/// The greatest cost of a complete walk that keeps the bounds of a graph's loops, such a walk, and the least numbers
+/// that prove it greatest.
+///
+/// The tree is the one that `nest` gave for the graph.
+///
+/// # Errors
+///
+/// `NoCompleteWalk` where no walk from the entry leaves the handler, else `BoundTooLarge` where a walk from the entry
+/// that keeps the bounds costs 2^63 ticks or more, wherever it ends. `Memory`: a growth was refused.
+pub fn longest(alloc: Global, graph: &Graph, tree: &LoopTree) -> Result<Longest, WalkFault>
+    requires { IsTree graph.now tree.now }
+    ensures longest { IfOk result (IsLongest graph.now tree.now) }
+    ensures allowed { OnOk result ((fault : WalkFault) → fault ≢ WalkFault.Memory → IsWalkFault graph.now tree.now fault → ⊥) }
+    ensures fault { IfErr result (IsWalkFault graph.now tree.now) }
 {
-    Err(WalkFault::Memory)
+    let exit = graph.places().len();
+    let index = Index::of(alloc, tree.edges(), tree.spans(), exit)?;
+    let tables = find_tables(alloc, tree.edges(), tree.spans(), exit, &index)?;
+    let walk = fold_walk(alloc, graph, tree, &index, &tables)?;
+    let places = place_rows(alloc, graph, tree, &tables)?;
+    let instances = instance_rows(alloc, graph, tree, &tables)?;
+    Ok(Longest {
+        bound: tables.bound,
+        walk,
+        potentials: Potentials { places, instances },
+        profile: graph.profile(),
+    })
 }

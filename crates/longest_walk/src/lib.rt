@@ -2,9 +2,15 @@
 //! with repeats, and the least numbers by which a checker sees that none costs more.
 #![tactic(auto)]
 
+mod builder;
 mod folded;
 mod greatest;
+mod listing;
+mod rounds;
 mod rows;
+#[cfg(test)]
+mod tests;
+mod trace;
 
 pub use folded::{FoldedWalk, Item, Longest};
 pub use greatest::longest;

@@ -56,6 +56,13 @@ impl<T: Drop> Rows<T> {
         }
     }
 
+    /// These rows.
+    pub(crate) fn of(list: Vec<T>) -> Rows<T>
+        ensures { result ≡ list.items }
+    {
+        Rows { list }
+    }
+
     /// Adds a row at the end. `Memory`: a growth was refused, and the rows are as they were.
     pub fn push(&mut self, _alloc: Global, row: T) -> Result<(), WalkFault>
         ensures ok { OnOk result (self.new ≡ self.old ++ row ∷ []) }

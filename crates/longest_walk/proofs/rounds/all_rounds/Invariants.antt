@@ -1,0 +1,5 @@
+use Rattle.longest_walk.specs.Ways.{AreRounds}
+use Rattle.longest_walk.proofs.rounds.all_rounds.Given as goal
+
+abbrev pub invariant-loop-span : goal.invariant-loop-span
+invariant-loop-span l = AreRounds l.graph l.tree l.tables l.span-index l.rounds.items

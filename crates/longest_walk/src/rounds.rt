@@ -1,0 +1,136 @@
+ghost use Rattle.std.specs.Prelude.{◌≡◌, ◌+◌, ◌<◌, ◌++◌, All, Contains, IfOk, IfErr, length, map, Some, None, ℕ};
+ghost use Rattle.numbered_walks.specs.Index.{edge_at};
+ghost use Rattle.numbered_walks.specs.Found.{IsTurning};
+ghost use Rattle.longest_walk.specs.Folded.{open_item};
+ghost use Rattle.longest_walk.specs.Ways.{AreRounds, AreSearched, HasRounds, IsRound, IsRounds, opened_rounds, opened_way, rounds_at};
+
+use crate::folded::Item;
+use crate::trace::{last_turn, trace};
+use flow_graph::Graph;
+use loop_bounds::LoopTree;
+use numbered_walks::{Index, Span, Tables, WalkFault};
+use std::alloc::{AllocError, Global};
+use std::rc::Rc;
+
+/// All rounds of an instance: how many, and the items of one.
+#[derive(Drop)]
+pub(crate) struct Rounds {
+    count: u32,
+    body: Rc<Vec<Item>>,
+}
+
+/// Adds the rounds of the instance that begins at the number, if it takes any.
+pub(crate) fn add_rounds(
+    walk: &mut Vec<Item>,
+    rounds: &[Option<Rounds>],
+    number: usize,
+) -> Result<(), AllocError>
+    requires { number < length rounds.now }
+    ensures { IfOk result (λ _. map open_item walk.new.items ≡ map open_item walk.old.items ++ opened_rounds (rounds_at rounds.now number)) }
+{
+    if let Some(all) = &rounds[number] {
+        walk.push(Item::Repeat(all.count, all.body.clone()?))?;
+    }
+    Ok(())
+}
+
+/// Adds the edges of a way, and behind each the rounds of the instance at whose header it ends.
+pub(crate) fn add_way(
+    walk: &mut Vec<Item>,
+    graph: &Graph,
+    tree: &LoopTree,
+    rounds: &[Option<Rounds>],
+    way: &[usize],
+) -> Result<(), AllocError>
+    requires known { All (λ k. (k < length graph.now.edges) × (k < length tree.now.edges) × ((edge_at tree.now.edges k).to < length rounds.now)) way.now }
+    ensures { IfOk result (λ _. map open_item walk.new.items ≡ map open_item walk.old.items ++ opened_way graph.now tree.now rounds.now way.now) }
+{
+    for number in way {
+        walk.push(Item::Step(graph.edges()[*number]))?;
+        add_rounds(walk, rounds, tree.edges()[*number].to)?;
+    }
+    Ok(())
+}
+
+// One round of the span's instance, whose last edge is given.
+fn one_round(
+    alloc: Global,
+    graph: &Graph,
+    tree: &LoopTree,
+    index: &Index,
+    tables: &Tables,
+    rounds: &[Option<Rounds>],
+    span: &Span,
+    last: usize,
+) -> Result<Vec<Item>, AllocError>
+    requires searched { AreSearched graph.now tree.now index.now tables.now }
+    requires known { Contains tree.now.spans span.now }
+    requires turns { IsTurning tree.now.edges tree.now.spans tables.now span.now last }
+    requires rounds { HasRounds graph.now tree.now tables.now (Some span.now) rounds.now }
+    ensures { IfOk result (λ body. IsRound graph.now tree.now tables.now span.now (map open_item body.items)) }
+{
+    let mut body = Vec::new(alloc);
+    let from = tree.edges()[last].from;
+    let way = trace(alloc, graph, tree, index, tables, Some(*span), from)?;
+    add_way(&mut body, graph, tree, rounds, &way)?;
+    body.push(Item::Step(graph.edges()[last]))?;
+    Ok(body)
+}
+
+// All rounds of the span's instance; `None` where a stay takes none.
+fn rounds_of(
+    alloc: Global,
+    graph: &Graph,
+    tree: &LoopTree,
+    index: &Index,
+    tables: &Tables,
+    rounds: &[Option<Rounds>],
+    span: &Span,
+) -> Result<Option<Rounds>, WalkFault>
+    requires searched { AreSearched graph.now tree.now index.now tables.now }
+    requires known { Contains tree.now.spans span.now }
+    requires rounds { HasRounds graph.now tree.now tables.now (Some span.now) rounds.now }
+    ensures rounds { IfOk result (IsRounds graph.now tree.now tables.now span.now) }
+    ensures memory { IfErr result (λ fault. fault ≡ WalkFault.Memory) }
+{
+    let Some(last) = last_turn(graph, tree, index, tables, span) else {
+        return Ok(None);
+    };
+    let body = one_round(alloc, graph, tree, index, tables, rounds, span, last)?;
+    Ok(Some(Rounds {
+        count: span.bound,
+        body: Rc::new(alloc, body)?,
+    }))
+}
+
+// No rounds of any number below that.
+fn no_rounds(alloc: Global, size: usize) -> Result<Vec<Option<Rounds>>, AllocError>
+    ensures length { IfOk result (λ rounds. length rounds.items ≡ size) }
+    ensures none { IfOk result (λ rounds. (p : ℕ) → rounds_at rounds.items p ≡ None) }
+{
+    let mut rounds = Vec::with_capacity(alloc, size)?;
+    for _ in 0..size {
+        rounds.push(None)?;
+    }
+    Ok(rounds)
+}
+
+/// The rounds of each instance by the number of its header.
+pub(crate) fn all_rounds(
+    alloc: Global,
+    graph: &Graph,
+    tree: &LoopTree,
+    index: &Index,
+    tables: &Tables,
+) -> Result<Vec<Option<Rounds>>, WalkFault>
+    requires { AreSearched graph.now tree.now index.now tables.now }
+    ensures rounds { IfOk result (λ rounds. AreRounds graph.now tree.now tables.now (length tree.now.spans) rounds.items) }
+    ensures memory { IfErr result (λ fault. fault ≡ WalkFault.Memory) }
+{
+    let mut rounds = no_rounds(alloc, graph.places().len() + 1)?;
+    // The inner ones come before the outer ones.
+    for span in tree.spans() {
+        rounds[span.header] = rounds_of(alloc, graph, tree, index, tables, &rounds, span)?;
+    }
+    Ok(rounds)
+}
