@@ -4,3 +4,9 @@ pub mod Levels
 pub mod WayLemmas
 pub mod RoundLemmas
 pub mod RowLemmas
+pub mod CarryKeeps
+pub mod CarryWalks
+pub mod CarryFind
+pub mod CarryRows
+pub mod CarryPotentials
+pub mod Carrying

@@ -55,8 +55,7 @@ module _ (exit : ℕ) (edges : List NumberedEdge) (spans : List Span) (c : Table
       let low : start_of context < here = omega (arith, starts_low context here inside, differ) in
       let goes_in : holds context e.to ≡ true = subst (λ (x : ℕ). holds context x ≡ true) (sym by.ends) inside in
       let later : start_of context < e.to = omega (arith, by.ends) in
-      let longer : k ∷ reverse ks ≡ reverse (ks ++ k ∷ []) = sym (reverse-append ks (k ∷ [])) in
-      (
+      let longer : k ∷ reverse ks ≡ reverse (ks ++ k ∷ []) = sym (reverse-append ks (k ∷ [])) in (
         begins_in context in_tree e in_graph goes_in later,
         omega (arith, (order.places e in_graph).0),
         subst (λ (l : List ℕ). IsWay edges spans c context e.from l to) longer

@@ -1,6 +1,7 @@
 ghost use Rattle.std.specs.Prelude.{◌≢◌, IfErr, IfOk, OnOk};
 ghost use Rattle.loop_bounds.specs.Tree.{IsTree};
 ghost use Rattle.longest_walk.specs.Longest.{IsLongest, IsWalkFault};
+ghost use Rattle.longest_walk.specs.Ways.{AreSearched};
 ghost use Rattle.numbered_walks.specs.declared.fault.WalkFault.{WalkFault};
 
 use crate::builder::fold_walk;
@@ -9,8 +10,20 @@ use crate::listing::{instance_rows, place_rows};
 use crate::rows::Potentials;
 use flow_graph::Graph;
 use loop_bounds::LoopTree;
-use numbered_walks::{Index, WalkFault, find_tables};
+use numbered_walks::{Index, Tables, WalkFault, find_tables};
 use std::alloc::Global;
+
+// The numbers of the greatest walk, and the edges and spans by number.
+fn search(alloc: Global, graph: &Graph, tree: &LoopTree) -> Result<(Index, Tables), WalkFault>
+    requires { IsTree graph.now tree.now }
+    ensures found { IfOk result (λ found. AreSearched graph.now tree.now found.0 found.1) }
+    ensures fault { IfErr result (IsWalkFault graph.now tree.now) }
+{
+    let exit = graph.places().len();
+    let index = Index::of(alloc, tree.edges(), tree.spans(), exit)?;
+    let tables = find_tables(alloc, tree.edges(), tree.spans(), exit, &index)?;
+    Ok((index, tables))
+}
 
 /// The greatest cost of a complete walk that keeps the bounds of a graph's loops, such a walk, and the least numbers
 /// that prove it greatest.
@@ -27,9 +40,7 @@ pub fn longest(alloc: Global, graph: &Graph, tree: &LoopTree) -> Result<Longest,
     ensures allowed { OnOk result ((fault : WalkFault) → fault ≢ WalkFault.Memory → IsWalkFault graph.now tree.now fault → ⊥) }
     ensures fault { IfErr result (IsWalkFault graph.now tree.now) }
 {
-    let exit = graph.places().len();
-    let index = Index::of(alloc, tree.edges(), tree.spans(), exit)?;
-    let tables = find_tables(alloc, tree.edges(), tree.spans(), exit, &index)?;
+    let (index, tables) = search(alloc, graph, tree)?;
     let walk = fold_walk(alloc, graph, tree, &index, &tables)?;
     let places = place_rows(alloc, graph, tree, &tables)?;
     let instances = instance_rows(alloc, graph, tree, &tables)?;
