@@ -15,6 +15,7 @@ use std::test::Fail;
 const WORDS: u32 = 8;
 
 /// Numbers that look like random ones, the same in each run.
+#[derive(Drop)]
 struct Numbers {
     state: u64,
 }
@@ -140,7 +141,8 @@ fn keep_dearest(walks: &mut Vec<Reached>, new: Reached) -> Result<(), AllocError
             return Ok(());
         }
     }
-    walks.push(new)
+    walks.push(new)?;
+    Ok(())
 }
 
 // The greatest cost of a walk to Exit that keeps the bounds, of at most so many edges.

@@ -1,6 +1,6 @@
 //! Runs on the machine beside the bounds of their handlers: both worked countdowns reach theirs.
 
-use crate::support::{Stated, has_bound, report_of};
+use crate::support::{has_bound, report_of};
 use arm2_exec::{Input, Machine, Ran, Reg};
 use bitflags::Flags;
 use bus_ticks::Profile;
@@ -33,31 +33,22 @@ fn run_of(alloc: Global, words: &[u32], steps: usize) -> Result<(Ran, u32), Fail
     Ok((ran, machine.get(Reg::R15) & 0x03FF_FFFC))
 }
 
-// The run of so many steps ends at 100C after as many ticks as the bound where the handler leaves to RAM.
-fn reaches(
-    rt: &HostRuntime,
-    words: &[u32],
-    loops: &[Stated],
-    steps: usize,
-    bound: u64,
-) -> Result<(), Fail> {
-    let out = report_of(rt.alloc(), words, loops, "leave = \"ram\"")?;
-    assert!(rt; has_bound(rt.alloc(), &out, bound)?);
-    let (ran, address) = run_of(rt.alloc(), words, steps)?;
-    assert_eq!(rt; ran.ticks, u128::from(bound));
-    assert_eq!(rt; ran.steps, steps as u64);
+#[test]
+fn countdown_reaches_its_bound(rt: HostRuntime) -> Result<(), Fail> {
+    let alloc = rt.alloc();
+    let words = [0xE3A0_0003, 0xE250_0001, 0x1AFF_FFFD, 0xE25E_F004];
+    let loops = [(0x8004, 0x8004, 0x8008, 2)];
+    let out = report_of(alloc, &words, &loops, "leave = \"ram\"")?;
+    assert!(rt; has_bound(alloc, &out, 21)?);
+    let (ran, address) = run_of(alloc, &words, 8)?;
+    assert_eq!(rt; (ran.steps, ran.ticks, ran.elapsed), (8, 21, 21));
     assert_eq!(rt; address, 0x100C);
     Ok(())
 }
 
 #[test]
-fn countdown_reaches_its_bound(rt: HostRuntime) -> Result<(), Fail> {
-    let words = [0xE3A0_0003, 0xE250_0001, 0x1AFF_FFFD, 0xE25E_F004];
-    reaches(&rt, &words, &[(0x8004, 0x8004, 0x8008, 2)], 8, 21)
-}
-
-#[test]
 fn nested_countdown_reaches_its_bound(rt: HostRuntime) -> Result<(), Fail> {
+    let alloc = rt.alloc();
     let words = [
         0xE3A0_1002,
         0xE3A0_0003,
@@ -68,5 +59,10 @@ fn nested_countdown_reaches_its_bound(rt: HostRuntime) -> Result<(), Fail> {
         0xE25E_F004,
     ];
     let loops = [(0x8004, 0x8004, 0x8014, 1), (0x8008, 0x8008, 0x800C, 2)];
-    reaches(&rt, &words, &loops, 20, 46)
+    let out = report_of(alloc, &words, &loops, "leave = \"ram\"")?;
+    assert!(rt; has_bound(alloc, &out, 46)?);
+    let (ran, address) = run_of(alloc, &words, 20)?;
+    assert_eq!(rt; (ran.steps, ran.ticks, ran.elapsed), (20, 46, 46));
+    assert_eq!(rt; address, 0x100C);
+    Ok(())
 }

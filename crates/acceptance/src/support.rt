@@ -49,6 +49,6 @@ pub(crate) fn report_of(
 
 /// Whether a report of that bound was written.
 pub(crate) fn has_bound(alloc: Global, out: &MemoryOutput, bound: u64) -> Result<bool, AllocError> {
-    let head = format!(in alloc; "arcwcet certificate 1\nbound {bound}\nstep ")?;
+    let head = format!(in alloc; "arcwcet certificate 1\nbound {bound}\n")?;
     Ok(out.bytes().starts_with(head.as_bytes()))
 }
