@@ -81,7 +81,11 @@ fn countdown_largest(rt: HostRuntime) -> Result<(), Fail> {
     let loops = [(0x8004, 0x8004, 0x8008, 1_048_576)];
     let found = greatest(rt.alloc(), &COUNTDOWN, &loops)??;
     assert_eq!(rt; found.bound, 13 + 6 * 1_048_576);
-    assert_eq!(rt; shape(rt.alloc(), found.walk.items())?[1], (1_048_576, 2));
+    let expected = [(0, 1), (1_048_576, 2), (0, 1), (0, 2), (0, 9)];
+    assert_eq!(rt;
+        shape(rt.alloc(), found.walk.items())?.as_slice(),
+        expected.as_slice()
+    );
     Ok(())
 }
 
@@ -116,10 +120,17 @@ fn nested_countdown(rt: HostRuntime) -> Result<(), Fail> {
         shape(rt.alloc(), found.walk.items())?.as_slice(),
         expected.as_slice()
     );
-    if let Item::Repeat(_, body) = &found.walk.items()[1] {
+    if let Some(Item::Repeat(_, body)) = found.walk.items().get(1) {
         let expected = [(0, 1), (2, 2), (0, 2), (0, 1), (0, 1), (0, 4)];
         assert_eq!(rt; shape(rt.alloc(), body)?.as_slice(), expected.as_slice());
     }
+    Ok(())
+}
+
+#[test]
+fn nested_countdown_numbers(rt: HostRuntime) -> Result<(), Fail> {
+    let loops = [(0x8004, 0x8004, 0x8014, 1), (0x8008, 0x8008, 0x800C, 2)];
+    let found = greatest(rt.alloc(), &NESTED, &loops)??;
     let places = found.potentials.places.items();
     let expected = [0, 0, 0, 2, 16, 17, 40];
     assert_eq!(rt; places.len(), expected.len());
