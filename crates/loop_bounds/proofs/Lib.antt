@@ -22,3 +22,5 @@ pub mod NestLemmas
 pub mod ExtentLemmas
 pub mod EnterLemmas
 pub mod RankLemmas
+pub mod NestedSpans
+pub mod NestedLemmas
