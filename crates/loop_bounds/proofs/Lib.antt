@@ -24,3 +24,5 @@ pub mod EnterLemmas
 pub mod RankLemmas
 pub mod NestedSpans
 pub mod NestedLemmas
+pub mod NestedPlaces
+pub mod NestedView

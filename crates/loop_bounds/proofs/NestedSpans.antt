@@ -53,6 +53,10 @@ ascending_more xs n y le sorted below i j d ij inside =
       (cut xs n y i d le (omega arith)))
     (cut xs n y j d le inside)
 
+-- the span at `inner` lies in the span at `outer`, and none stands between
+abbrev pub IsDirectlyIn : List Span → ℕ → ℕ → Type 0
+IsDirectlyIn spans outer inner = (inner < length spans) × HoldsSpan spans outer inner × ((m : ℕ) → m < length spans → HoldsSpan spans m inner → HoldsSpan spans outer m → ⊥)
+
 module _ (exit : ℕ) (edges : List NumberedEdge) (spans : List Span) (o : IsOrdered exit edges spans) where
   abbrev S : ℕ → Span
   S k = span_at spans k
@@ -136,7 +140,7 @@ module _ (exit : ℕ) (edges : List NumberedEdge) (spans : List Span) (o : IsOrd
     apart_at p less h = omega (arith, apart p less, header_at p (omega (arith, len)), h.0)
 
     abbrev IsDirect : ℕ → Type 0
-    IsDirect j = (j < length spans) × HoldsSpan spans k j × ((m : ℕ) → m < length spans → HoldsSpan spans m j → HoldsSpan spans k m → ⊥)
+    IsDirect = IsDirectlyIn spans k
 
     pub direct_from : (p : ℕ) → first ≤ p → p < length indexes → IsDirect (get_or indexes p 0)
     direct_from p from inside = (
@@ -167,21 +171,21 @@ module _ (exit : ℕ) (edges : List NumberedEdge) (spans : List Span) (o : IsOrd
 
     below : (p : ℕ) → p < length more → get_or more p 0 < k + 1
     below p inside = ⊎_elim
-        (λ (x : (p < first) × (get_or more p 0 ≡ get_or indexes p 0)). omega (arith, x.1, a.below p (omega (arith, x.0))))
+        (λ (x : (p < first) × (get_or more p 0 ≡ get_or indexes p 0)). omega (arith, x.1, a.below p (omega (arith, x.0, first_of))))
         (λ (y : (p ≡ first) × (get_or more p 0 ≡ k)). omega (arith, y.1))
         (cut indexes first k p 0 first_of inside)
 
     alone_old : (p m : ℕ) → p < first → m < k + 1 → HoldsSpan spans m (get_or indexes p 0) → ⊥
-    alone_old p m less below h = ⊎_elim
-        (λ (before : m < k). a.alone p m (omega arith) before h)
+    alone_old p m less under h = ⊎_elim
+        (λ (before : m < k). a.alone p m (omega (arith, first_of)) before h)
         (λ (ge : k ≤ m).
         let same : m ≡ k = omega arith in
         apart_at p less (subst (λ (x : ℕ). HoldsSpan spans x (get_or indexes p 0)) same h))
         (cases_lt m k)
 
     alone : (p m : ℕ) → p < length more → m < k + 1 → HoldsSpan spans m (get_or more p 0) → ⊥
-    alone p m inside below h = ⊎_elim
-        (λ (x : (p < first) × (get_or more p 0 ≡ get_or indexes p 0)). alone_old p m x.0 below (subst (HoldsSpan spans m) x.1 h))
+    alone p m inside under h = ⊎_elim
+        (λ (x : (p < first) × (get_or more p 0 ≡ get_or indexes p 0)). alone_old p m x.0 under (subst (HoldsSpan spans m) x.1 h))
         (λ (y : (p ≡ first) × (get_or more p 0 ≡ k)). not_later m k (omega arith) lt (subst (HoldsSpan spans m) y.1 h))
         (cut indexes first k p 0 first_of inside)
 
@@ -200,7 +204,7 @@ module _ (exit : ℕ) (edges : List NumberedEdge) (spans : List Span) (o : IsOrd
         (a.rest j before)
 
     rest : (j : ℕ) → j < k + 1 → Rest j
-    rest j below = ⊎_elim
+    rest j under = ⊎_elim
         (λ (before : j < k). rest_old j before)
         (λ (ge : k ≤ j).
         let same : k ≡ j = omega arith in
