@@ -6,14 +6,19 @@ use Rattle.std.proofs.lemmas.List.Elements.{All-nil, All-push, Contains-get_or}
 use Rattle.flow_graph.specs.declared.places.Place.{Place}
 use Rattle.flow_graph.specs.Flow.{Flow}
 use Rattle.numbered_walks.specs.declared.span.Span.{Span}
+use Rattle.loop_bounds.specs.declared.find.Found.{Found}
 use Rattle.loop_bounds.specs.declared.nested.Outermost.{Outermost}
+use Rattle.loop_bounds.specs.Extents.{found_instance}
 use Rattle.loop_bounds.specs.Instance.{Instance}
-use Rattle.loop_bounds.specs.Nested.{IsDirectlyInside, IsInside, IsNestedView, IsOutermost, Node, heads, members, nodes}
+use Rattle.loop_bounds.specs.Nested.{IsDirectlyInside, IsInside, IsNestedView, IsOutermost, Node, heads, instance_in, members, nodes}
 use Rattle.loop_bounds.specs.NestedParts.{AreNestedUpto, AreOutermost, Encloses, HoldsSpan, IsShown, instance_at, span_at}
 use Rattle.loop_bounds.specs.Tree.{IsTree, Tree}
 use Rattle.loop_bounds.proofs.Moved.{at_map}
 use Rattle.loop_bounds.proofs.NestedSpans.{IsDirectlyIn, direct_from, direct_to, outermost_more}
 use Rattle.loop_bounds.proofs.NestedPlaces.{as_many, inside_from, inside_to, is_of}
+
+pub found_at : (found : List Found) (instances : List Instance) (k : ℕ) (f : Found) → map found_instance found ≡ instances → k < length found → f ≡ get_or found k f → found_instance f ≡ instance_at instances k
+found_at found instances k f same lt is = ap found_instance is ∙ sym (at_map found_instance found k f _ lt) ∙ ap (λ (is : List Instance). instance_at is k) same
 
 module _ (flow : Flow) (tree : Tree) (t : IsTree flow tree) where
   abbrev I : ℕ → Instance
@@ -104,6 +109,12 @@ module _ (flow : Flow) (tree : Tree) (t : IsTree flow tree) where
       (subst (λ (hs : List ℕ). AreOutermost tree.instances tree.spans hs (take e.first outer ++ I k ∷ []) (k + 1)) (sym e.headers_are)
       (outermost_more (length flow.places) tree.edges tree.spans t.ordered tree.instances old.headers.items outer k in_spans a.outer e.first e.first_in e.apart e.within));
     }
+
+  pub as_many_headers : (o : Outermost) (k : ℕ) → AreNestedUpto flow tree o k → length o.headers.items ≡ length o.instances.items
+  as_many_headers o k a =
+      let headers = ap length (a.outer).headers_are ∙ length-map (a.outer).indexes (λ (j : ℕ). (S j).header) in
+      let outers = ap length (a.outer).outer_are ∙ length-map (a.outer).indexes (instance_at tree.instances) in
+      headers ∙ sym outers ∙ length-map o.instances.items instance_in
 
   -- ## None, and all
 

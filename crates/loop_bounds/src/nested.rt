@@ -151,9 +151,10 @@ impl LoopTree {
             headers: Vec::new(alloc),
             instances: Vec::new(alloc),
         };
-        for (found, span) in self.instances().iter().zip(self.spans()) {
+        let instances = self.instances();
+        for (k, span) in self.spans().iter().enumerate() {
             let places = places_of(alloc, graph.places(), self.order(), span)?;
-            outermost.enclose(span.header, *found, places)?;
+            outermost.enclose(span.header, instances[k], places)?;
         }
         Ok(Instances {
             list: outermost.instances,
