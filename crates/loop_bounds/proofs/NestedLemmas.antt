@@ -5,13 +5,13 @@ use Rattle.std.proofs.lemmas.List.{append-nil, append_assoc, drop-map, map-appen
 use Rattle.std.proofs.lemmas.List.Folds.{flat_map-map}
 use Rattle.flow_graph.specs.declared.places.Place.{Place}
 use Rattle.loop_bounds.specs.declared.find.Found.{Found}
-use Rattle.loop_bounds.specs.declared.nested.Instance.{Instance as Nested, roll-Instance}
+use Rattle.loop_bounds.specs.declared.nested.Instance.{Instance as Nested, out-Instance, roll-Instance}
 use Rattle.loop_bounds.specs.declared.nested.Instance.TheOpen.{Instance-F}
-use Rattle.loop_bounds.specs.declared.nested.Instance.TheFolds.{fold-roll-Instance}
+use Rattle.loop_bounds.specs.declared.nested.Instance.TheFolds.{fold-roll-Instance, fold_out-Instance}
 use Rattle.loop_bounds.specs.declared.nested.Outermost.{Outermost}
 use Rattle.loop_bounds.specs.Extents.{found_instance}
 use Rattle.loop_bounds.specs.Instance.{Instance}
-use Rattle.loop_bounds.specs.Nested.{Node, Outline, heads, instance_in, nodes, outline, outline_step}
+use Rattle.loop_bounds.specs.Nested.{Node, Outline, heads, inner_in, instance_in, node_of, nodes, outline, outline_step, places_in}
 use Rattle.loop_bounds.specs.NestedParts.{Encloses}
 
 map_twice : {A B C : Type 0} (f : B → C) (g : A → B) (xs : List A) → map f (map g xs) ≡ map (λ x. f (g x)) xs
@@ -27,11 +27,23 @@ nodes_of i = (outline i).nodes
 instance_roll : (x : Instance-F Nested) → instance_in (roll-Instance x) ≡ found_instance x.found
 instance_roll x = ap (λ (o : Outline). o.instance) (fold-roll-Instance Outline outline_step x)
 
-nodes_roll : (x : Instance-F Nested) → nodes_of (roll-Instance x) ≡ nodes x.inner.items ++ node x.found x.places.items (heads x.inner.items) ∷ []
-nodes_roll x =
-    ap (λ (o : Outline). o.nodes) (fold-roll-Instance Outline outline_step x)
-    ∙ ap (λ (ns : List Node). ns ++ node x.found x.places.items (map (λ (o : Outline). o.instance) (map outline x.inner.items)) ∷ []) (flat_map-map (λ (o : Outline). o.nodes) outline x.inner.items)
+abbrev stepped : Instance-F Nested → List Node
+stepped x = flat_map (λ (o : Outline). o.nodes) (map outline x.inner.items) ++ node x.found x.places.items (map (λ (o : Outline). o.instance) (map outline x.inner.items)) ∷ []
+
+nodes_stepped : (x : Instance-F Nested) → stepped x ≡ nodes x.inner.items ++ node x.found x.places.items (heads x.inner.items) ∷ []
+nodes_stepped x =
+    ap (λ (ns : List Node). ns ++ node x.found x.places.items (map (λ (o : Outline). o.instance) (map outline x.inner.items)) ∷ []) (flat_map-map (λ (o : Outline). o.nodes) outline x.inner.items)
     ∙ ap (λ (is : List Instance). nodes x.inner.items ++ node x.found x.places.items is ∷ []) (map_twice (λ (o : Outline). o.instance) outline x.inner.items)
+
+nodes_roll : (x : Instance-F Nested) → nodes_of (roll-Instance x) ≡ nodes x.inner.items ++ node x.found x.places.items (heads x.inner.items) ∷ []
+nodes_roll x = ap (λ (o : Outline). o.nodes) (fold-roll-Instance Outline outline_step x) ∙ nodes_stepped x
+
+-- what is shown of those inside an instance, and then of it
+pub nodes_out : (i : Nested) → nodes_of i ≡ nodes (inner_in i) ++ node_of i ∷ []
+nodes_out i =
+    ap (λ (o : Outline). o.nodes) (fold_out-Instance Outline outline_step i)
+    ∙ nodes_stepped (out-Instance i)
+    ∙ ap (λ (j : Instance). nodes (inner_in i) ++ record { instance = j; places = places_in i; inner = heads (inner_in i) } ∷ []) (sym (ap (λ (o : Outline). o.instance) (fold_out-Instance Outline outline_step i)))
 
 heads_more : (xs : List Nested) (first : ℕ) (x : Instance-F Nested) → heads (take first xs ++ roll-Instance x ∷ []) ≡ take first (heads xs) ++ found_instance x.found ∷ []
 heads_more xs first x =

@@ -3,8 +3,8 @@
 use Rattle.std.proofs.Common.{◌≡◌, ◌≢◌, ℕ, zero, suc, ◌+◌, ◌-◌, ◌<◌, ◌≤◌, ◌⊎◌, Bool, true, false, List, [], ◌∷◌, ◌++◌, length, map, take, drop, get_or, sym, refl, ap, ◌∙◌, subst, inl, inr, ⊎_elim, rules, arith}
 use Rattle.std.specs.Prelude.{Contains, All, ◌↔◌, filter, slice_index}
 use Rattle.std.proofs.lemmas.Bool.{both_ways, cases_lt, cases_Bool}
-use Rattle.std.proofs.lemmas.List.{drop-take, drop_all, get_or-drop, get_or_default, length-append, length-drop, length-map, take_all, take_more}
-use Rattle.std.proofs.lemmas.List.Elements.{Contains-get_or}
+use Rattle.std.proofs.lemmas.List.{drop-take, drop_all, get_or-drop, get_or_default, get_or_past, length-drop, length-map, take_all, take_more}
+use Rattle.std.proofs.lemmas.List.Elements.{All-filter, Contains-get_or, filter_passes}
 use Rattle.flow_graph.specs.declared.places.Place.{Place}
 use Rattle.flow_graph.specs.declared.places.Place.TheVariants.{Exit}
 use Rattle.flow_graph.specs.Flow.{Flow}
@@ -18,6 +18,7 @@ use Rattle.loop_bounds.specs.Nested.{IsDirectlyInside, IsInside, IsNestedView, I
 use Rattle.loop_bounds.specs.NestedParts.{AreNestedUpto, AreOutermost, Encloses, HoldsSpan, IsShown, instance_at, span_at}
 use Rattle.loop_bounds.specs.Tree.{IsSpanOf, IsTree, Tree, place_in}
 use Rattle.loop_bounds.proofs.Moved.{at_map}
+use Rattle.loop_bounds.proofs.NestLemmas.{filter_has}
 use Rattle.loop_bounds.proofs.NestedSpans.{direct_from, direct_to, in_from, in_parts, later, outermost_more, shape_at}
 
 -- ## The places of a span's numbers
@@ -118,6 +119,38 @@ module _ (flow : Flow) (tree : Tree) (t : IsTree flow tree) where
       (λ p d inside most. ap (is_member (I k)) (in_order p d inside) ∙ outside_at k lt p (omega (arith, len)) (inr (omega arith))) in
       sym (drop-take low (high - low) all) ∙ ap (λ (n : ℕ). drop low (take n all)) sum ∙ sym stretch
 
+  -- ## The list of members
+
+  abbrev all_places : List Place
+  all_places = map (place_at flow.places) tree.order
+
+  last_place : place_in flow tree exit ≡ Exit
+  last_place = ap (place_at flow.places) (get_or_default tree.order exit exit 0 (omega (arith, t.whole)) ∙ t.exit_last) ∙ get_or_past flow.places exit Exit (omega arith)
+
+  no_exit : (i : Instance) (n : ℕ) (p : Place) → exit ≤ n → n < length all_places → place_in flow tree n ≡ p → is_member i p ≡ true → ⊥
+  no_exit i n p ge lt is passes =
+      let last : exit ≡ n = omega (arith, length-map tree.order (place_at flow.places), t.whole) in
+      both_ways (is_member i Exit) refl (ap (is_member i) (sym last_place ∙ ap (place_in flow tree) last ∙ is) ∙ passes)
+
+  pub member_from : (i : Instance) (p : Place) → Contains (members flow tree i) p → Contains flow.places p × (is_member i p ≡ true)
+  member_from i p has =
+      let in_all : Contains all_places p = subst (Contains all_places) has.2 (All-filter (is_member i) (Contains all_places) all_places (λ k d lt. Contains-get_or all_places k d lt) has.0 p has.1) in
+      let passes : is_member i p ≡ true = subst (λ (q : Place). is_member i q ≡ true) has.2 (filter_passes (is_member i) all_places has.0 p has.1) in
+      let n : ℕ = in_all.0 in
+      let is : place_in flow tree n ≡ p = sym (in_order n p in_all.1) ∙ in_all.2 in (
+        ⊎_elim
+            (λ (lt : n < exit). subst (Contains flow.places) is (place_known n lt))
+            (λ (ge : exit ≤ n). absurd (no_exit i n p ge in_all.1 is passes))
+            (cases_lt n exit),
+        passes,
+      )
+
+  pub member_to : (i : Instance) (p : Place) → Contains flow.places p × (is_member i p ≡ true) → Contains (members flow tree i) p
+  member_to i p both =
+      let n = number_of p both.0 in
+      let lt : n.0 < length all_places = omega (arith, n.1, length-map tree.order (place_at flow.places), t.whole) in
+      filter_has (is_member i) all_places p (n.0, lt, in_order n.0 p lt ∙ n.2) both.1
+
   -- ## Inside
 
   pub inside_from : (outer inner : ℕ) → outer < length tree.instances → inner < length tree.instances → HoldsSpan tree.spans outer inner → IsInside flow (I inner) (I outer)
@@ -125,9 +158,9 @@ module _ (flow : Flow) (tree : Tree) (t : IsTree flow tree) where
       let begins : (S outer).header < exit = omega (arith, (shape outer olt).0, (shape outer olt).1) in
       record {
         all = λ p has is.
-        let n = number_of p has in
-        let within = member_in inner ilt n.0 n.1 (ap (is_member (I inner)) n.2 ∙ is) in
-        sym (ap (is_member (I outer)) n.2) ∙ member_at outer olt n.0 n.1 (omega (arith, h.0, within.0)) (omega (arith, h.1, within.1));
+            let n = number_of p has in
+            let within = member_in inner ilt n.0 n.1 (ap (is_member (I inner)) n.2 ∙ is) in
+            sym (ap (is_member (I outer)) n.2) ∙ member_at outer olt n.0 n.1 (omega (arith, h.0, within.0)) (omega (arith, h.1, within.1));
         more = (
           place_in flow tree (S outer).header,
           place_known (S outer).header begins,

@@ -44,13 +44,13 @@ ascending_more xs n y le sorted below i j d ij inside =
     let default : (p : ℕ) → p < n → get_or xs p d ≡ get_or xs p 0 = λ p lt. get_or_default xs p d 0 (omega arith) in
     ⊎_elim
     (λ (b : (j < n) × (get_or (take n xs ++ y ∷ []) j d ≡ get_or xs j d)). ⊎_elim
-      (λ (a : (i < n) × (get_or (take n xs ++ y ∷ []) i d ≡ get_or xs i d)). omega (arith, a.1, b.1, sorted i j d ij (omega (arith, b.0))))
-      (λ (a : (i ≡ n) × (get_or (take n xs ++ y ∷ []) i d ≡ y)). absurd (omega (arith, a.0, b.0)))
-      (cut xs n y i d le (omega arith)))
+    (λ (a : (i < n) × (get_or (take n xs ++ y ∷ []) i d ≡ get_or xs i d)). omega (arith, a.1, b.1, sorted i j d ij (omega (arith, b.0))))
+    (λ (a : (i ≡ n) × (get_or (take n xs ++ y ∷ []) i d ≡ y)). absurd (omega (arith, a.0, b.0)))
+    (cut xs n y i d le (omega arith)))
     (λ (b : (j ≡ n) × (get_or (take n xs ++ y ∷ []) j d ≡ y)). ⊎_elim
-      (λ (a : (i < n) × (get_or (take n xs ++ y ∷ []) i d ≡ get_or xs i d)). omega (arith, a.1, b.1, default i a.0, below i a.0))
-      (λ (a : (i ≡ n) × (get_or (take n xs ++ y ∷ []) i d ≡ y)). omega (arith, a.1, b.1))
-      (cut xs n y i d le (omega arith)))
+    (λ (a : (i < n) × (get_or (take n xs ++ y ∷ []) i d ≡ get_or xs i d)). omega (arith, a.1, b.1, default i a.0, below i a.0))
+    (λ (a : (i ≡ n) × (get_or (take n xs ++ y ∷ []) i d ≡ y)). omega (arith, a.1, b.1))
+    (cut xs n y i d le (omega arith)))
     (cut xs n y j d le inside)
 
 -- the span at `inner` lies in the span at `outer`, and none stands between
@@ -72,9 +72,9 @@ module _ (exit : ℕ) (edges : List NumberedEdge) (spans : List Span) (o : IsOrd
   not_later : (outer inner : ℕ) → outer ≤ inner → inner < length spans → HoldsSpan spans outer inner → ⊥
   not_later outer inner le lt h = ⊎_elim
       (λ (before : outer < inner). ⊎_elim
-        (λ (a : (S outer).last < (S inner).last). omega (arith, h.1))
-        (λ (b : ((S outer).last ≡ (S inner).last) × ((S inner).header < (S outer).header)). omega (arith, h.0, b.1))
-        (o.closing outer inner no_span before lt))
+      (λ (a : (S outer).last < (S inner).last). omega (arith, h.1))
+      (λ (b : ((S outer).last ≡ (S inner).last) × ((S inner).header < (S outer).header)). omega (arith, h.0, b.1))
+      (o.closing outer inner no_span before lt))
       (λ (ge : inner ≤ outer).
       let same : outer ≡ inner = omega arith in
       let e : (S outer).header ≡ (S inner).header = ap (λ (k : ℕ). (S k).header) same in
@@ -88,13 +88,12 @@ module _ (exit : ℕ) (edges : List NumberedEdge) (spans : List Span) (o : IsOrd
   -- it holds those that close before it and begin within it
   pub taken : (k j : ℕ) → j < k → k < length spans → (S k).header ≤ (S j).header → HoldsSpan spans k j
   taken k j before lt le =
-      let differ : (S j).header ≢ (S k).header = o.headers_differ j k no_span before lt in
-      (
+      let differ : (S j).header ≢ (S k).header = o.headers_differ j k no_span before lt in (
         ⊎_elim (λ (less : (S k).header < (S j).header). less) (λ (ge : (S j).header ≤ (S k).header). absurd (differ (omega arith))) (cases_lt (S k).header (S j).header),
         ⊎_elim
-        (λ (a : (S j).last < (S k).last). omega arith)
-        (λ (b : ((S j).last ≡ (S k).last) × ((S k).header < (S j).header)). omega (arith, b.0))
-        (o.closing j k no_span before lt),
+            (λ (a : (S j).last < (S k).last). omega arith)
+            (λ (b : ((S j).last ≡ (S k).last) × ((S k).header < (S j).header)). omega (arith, b.0))
+            (o.closing j k no_span before lt),
       )
 
   -- of two that hold a third the later holds the earlier
@@ -195,11 +194,11 @@ module _ (exit : ℕ) (edges : List NumberedEdge) (spans : List Span) (o : IsOrd
     rest_old : (j : ℕ) → j < k → Rest j
     rest_old j before = ⊎_elim
         (λ (has : Contains indexes j). ⊎_elim
-          (λ (less : has.0 < first). inl (Contains-append_left (take first indexes) (k ∷ []) j (take_at indexes first has.0 j less has.1 has.2)))
-          (λ (ge : first ≤ has.0).
-          let is : get_or indexes has.0 0 ≡ j = get_or_default indexes has.0 0 j has.1 ∙ has.2 in
-          inr (k, omega arith, subst (HoldsSpan spans k) is (holds_at has.0 ge has.1)))
-          (cases_lt has.0 first))
+        (λ (less : has.0 < first). inl (Contains-append_left (take first indexes) (k ∷ []) j (take_at indexes first has.0 j less has.1 has.2)))
+        (λ (ge : first ≤ has.0).
+        let is : get_or indexes has.0 0 ≡ j = get_or_default indexes has.0 0 j has.1 ∙ has.2 in
+        inr (k, omega arith, subst (HoldsSpan spans k) is (holds_at has.0 ge has.1)))
+        (cases_lt has.0 first))
         (λ (other : (m : ℕ) × (m < k) × HoldsSpan spans m j). inr (other.0, omega (arith, other.1), other.2))
         (a.rest j before)
 

@@ -1,5 +1,5 @@
 -- Each instance is shown under the smallest that it is inside of.
-use Rattle.std.proofs.Common.{◌≡◌, ℕ, ◌+◌, ◌-◌, ◌<◌, ◌≤◌, ◌⊎◌, List, [], ◌∷◌, ◌++◌, length, map, take, drop, get_or, sym, refl, ap, ◌∙◌, subst, inl, inr, ⊎_elim, arith}
+use Rattle.std.proofs.Common.{◌≡◌, true, ℕ, ◌+◌, ◌-◌, ◌<◌, ◌≤◌, ◌⊎◌, List, [], ◌∷◌, ◌++◌, length, map, take, drop, get_or, sym, refl, ap, ◌∙◌, subst, inl, inr, ⊎_elim, arith}
 use Rattle.std.specs.Prelude.{Contains, All, ◌↔◌}
 use Rattle.std.proofs.lemmas.List.{get_or-drop, get_or_default, length-drop, length-map, map-append, take_all, take_more}
 use Rattle.std.proofs.lemmas.List.Elements.{All-nil, All-push, Contains-get_or}
@@ -9,13 +9,13 @@ use Rattle.numbered_walks.specs.declared.span.Span.{Span}
 use Rattle.loop_bounds.specs.declared.find.Found.{Found}
 use Rattle.loop_bounds.specs.declared.nested.Outermost.{Outermost}
 use Rattle.loop_bounds.specs.Extents.{found_instance}
-use Rattle.loop_bounds.specs.Instance.{Instance}
+use Rattle.loop_bounds.specs.Instance.{Instance, is_member}
 use Rattle.loop_bounds.specs.Nested.{IsDirectlyInside, IsInside, IsNestedView, IsOutermost, Node, heads, instance_in, members, nodes}
 use Rattle.loop_bounds.specs.NestedParts.{AreNestedUpto, AreOutermost, Encloses, HoldsSpan, IsShown, instance_at, span_at}
 use Rattle.loop_bounds.specs.Tree.{IsTree, Tree}
 use Rattle.loop_bounds.proofs.Moved.{at_map}
 use Rattle.loop_bounds.proofs.NestedSpans.{IsDirectlyIn, direct_from, direct_to, outermost_more}
-use Rattle.loop_bounds.proofs.NestedPlaces.{as_many, inside_from, inside_to, is_of}
+use Rattle.loop_bounds.proofs.NestedPlaces.{as_many, inside_from, inside_to, is_of, member_from, member_to}
 
 pub found_at : (found : List Found) (instances : List Instance) (k : ℕ) (f : Found) → map found_instance found ≡ instances → k < length found → f ≡ get_or found k f → found_instance f ≡ instance_at instances k
 found_at found instances k f same lt is = ap found_instance is ∙ sym (at_map found_instance found k f _ lt) ∙ ap (λ (is : List Instance). instance_at is k) same
@@ -41,10 +41,10 @@ module _ (flow : Flow) (tree : Tree) (t : IsTree flow tree) where
       record {
         inside = inside_from flow tree t k j klt jlt d.1;
         none_between = λ i has ji ik.
-        let same : I has.0 ≡ i = is_of flow tree t has.0 i has.1 has.2 in
-        d.2 has.0 (omega (arith, has.1, spans_len))
-        (inside_to flow tree t has.0 j has.1 jlt (subst (IsInside flow (I j)) (sym same) ji))
-        (inside_to flow tree t k has.0 klt has.1 (subst (λ (x : Instance). IsInside flow x (I k)) (sym same) ik));
+            let same : I has.0 ≡ i = is_of flow tree t has.0 i has.1 has.2 in
+            d.2 has.0 (omega (arith, has.1, spans_len))
+            (inside_to flow tree t has.0 j has.1 jlt (subst (IsInside flow (I j)) (sym same) ji))
+            (inside_to flow tree t k has.0 klt has.1 (subst (λ (x : Instance). IsInside flow x (I k)) (sym same) ik));
       }
 
   inside_shows : (k j : ℕ) → k < length tree.instances → j < length tree.instances → IsDirectlyInside flow tree.instances (I j) (I k) → IsDirectlyIn tree.spans k j
@@ -52,8 +52,8 @@ module _ (flow : Flow) (tree : Tree) (t : IsTree flow tree) where
     omega (arith, spans_len),
     inside_to flow tree t k j klt jlt d.inside,
     (λ m lt mj km.
-    let mlt : m < length tree.instances = omega (arith, spans_len) in
-    d.none_between (I m) (known m mlt) (inside_from flow tree t m j mlt jlt mj) (inside_from flow tree t k m klt mlt km)),
+        let mlt : m < length tree.instances = omega (arith, spans_len) in
+        d.none_between (I m) (known m mlt) (inside_from flow tree t m j mlt jlt mj) (inside_from flow tree t k m klt mlt km)),
   )
 
   -- ## One instance more
@@ -106,8 +106,8 @@ module _ (flow : Flow) (tree : Tree) (t : IsTree flow tree) where
       each_once = ap (map (λ (n : Node). n.instance)) e.nodes_are ∙ map-append (λ (n : Node). n.instance) (nodes old.instances.items) (own ∷ []) ∙ ap (λ (is : List Instance). is ++ I k ∷ []) a.each_once ∙ sym (take_more tree.instances k _ lt);
       shown = subst (All (IsShown flow tree)) (sym e.nodes_are) (All-push (IsShown flow tree) (nodes old.instances.items) own a.shown (members_are, (λ i. (inner_from i, inner_to i))));
       outer = subst (λ (is : List Instance). AreOutermost tree.instances tree.spans new.headers.items is (k + 1)) (sym e.heads_are)
-      (subst (λ (hs : List ℕ). AreOutermost tree.instances tree.spans hs (take e.first outer ++ I k ∷ []) (k + 1)) (sym e.headers_are)
-      (outermost_more (length flow.places) tree.edges tree.spans t.ordered tree.instances old.headers.items outer k in_spans a.outer e.first e.first_in e.apart e.within));
+          (subst (λ (hs : List ℕ). AreOutermost tree.instances tree.spans hs (take e.first outer ++ I k ∷ []) (k + 1)) (sym e.headers_are)
+          (outermost_more (length flow.places) tree.edges tree.spans t.ordered tree.instances old.headers.items outer k in_spans a.outer e.first e.first_in e.apart e.within));
     }
 
   pub as_many_headers : (o : Outermost) (k : ℕ) → AreNestedUpto flow tree o k → length o.headers.items ≡ length o.instances.items
@@ -158,8 +158,8 @@ module _ (flow : Flow) (tree : Tree) (t : IsTree flow tree) where
         subst IsOuter same (
           known j jlt,
           (λ x in_tree inside_x.
-          let is : I in_tree.0 ≡ x = is_of flow tree t in_tree.0 x in_tree.1 in_tree.2 in
-          (a.outer).alone has.0 in_tree.0 inside in_tree.1 (inside_to flow tree t in_tree.0 j in_tree.1 jlt (subst (IsInside flow (I j)) (sym is) inside_x))),
+              let is : I in_tree.0 ≡ x = is_of flow tree t in_tree.0 x in_tree.1 in_tree.2 in
+              (a.outer).alone has.0 in_tree.0 inside in_tree.1 (inside_to flow tree t in_tree.0 j in_tree.1 jlt (subst (IsInside flow (I j)) (sym is) inside_x))),
         )
 
     outer_to : (i : Instance) → IsOuter i → Contains outers i
@@ -178,7 +178,8 @@ module _ (flow : Flow) (tree : Tree) (t : IsTree flow tree) where
     pub nested_all : IsNestedView flow tree o.instances.items
     nested_all = record {
       each_once = a.each_once ∙ take_all (length tree.instances) tree.instances (omega arith);
-      members_are = λ k d lt. (a.shown k d lt).0;
+      members_are = λ k d lt p. subst (λ (ps : List Place). Contains ps p ↔ (Contains flow.places p × (is_member (get_or (nodes o.instances.items) k d).instance p ≡ true))) (sym (a.shown k d lt).0) (member_from flow tree t (get_or (nodes o.instances.items) k d).instance p, member_to flow tree t (get_or (nodes o.instances.items) k d).instance p);
+      in_order = λ k d lt. (a.shown k d lt).0;
       inner_are = λ k d lt. (a.shown k d lt).1;
       outermost_are = λ i. (outer_from i, outer_to i);
     }

@@ -33,7 +33,7 @@ pub record Node : Type 0 where
   pub places : List Place
   pub inner : List Instance
 
--- an instance, and the nodes of all inside it and then its own
+-- an instance, and the nodes of all that are inside it and then its own
 pub record Outline : Type 0 where
   pub instance : Instance
   pub nodes : List Node
@@ -54,23 +54,28 @@ places_in i = (out-Instance i).places.items
 abbrev pub inner_in : Nested → List Nested
 inner_in i = (out-Instance i).inner.items
 
--- the outermost ones
 abbrev pub heads : List Nested → List Instance
 heads all = map instance_in all
 
--- those of all, the inner ones before the outer ones
+-- what is shown of the instance itself
+abbrev pub node_of : Nested → Node
+node_of i = record { instance = instance_in i; places = places_in i; inner = heads (inner_in i) }
+
+-- the nodes of all, the inner ones before the outer ones
 abbrev pub nodes : List Nested → List Node
 nodes all = flat_map (λ i. (outline i).nodes) all
 
 -- ## The nested view
 
--- the members by their numbers, the header's first
+-- the members in the order of their numbers, the header first
 abbrev pub members : Flow → Tree → Instance → List Place
 members flow tree i = filter (is_member i) (map (place_at flow.places) tree.order)
 
--- a node for each instance of the tree, with its members, under the smallest instance that it is inside of
+-- a node for each instance of the tree, with its members and with the instances directly inside it; the list itself is of
+-- those that are inside none
 pub record IsNestedView (flow : Flow) (tree : Tree) (shown : List Nested) : Type 0 where
   pub each_once : map (λ n. n.instance) (nodes shown) ≡ tree.instances
-  pub members_are : All (λ n. n.places ≡ members flow tree n.instance) (nodes shown)
+  pub members_are : All (λ n. (p : Place) → Contains n.places p ↔ (Contains flow.places p × (is_member n.instance p ≡ true))) (nodes shown)
+  pub in_order : All (λ n. n.places ≡ members flow tree n.instance) (nodes shown)
   pub inner_are : All (λ n. (i : Instance) → Contains n.inner i ↔ (Contains tree.instances i × IsDirectlyInside flow tree.instances i n.instance)) (nodes shown)
   pub outermost_are : (i : Instance) → Contains (heads shown) i ↔ (Contains tree.instances i × IsOutermost flow tree.instances i)

@@ -1,8 +1,8 @@
-ghost use Rattle.std.specs.Prelude.{◌≡◌, ◌-◌, ◌+◌, ◌≤◌, ◌<◌, ℕ, IfOk, OnOk, length, map, take, drop, slice_index};
+ghost use Rattle.std.specs.Prelude.{◌≡◌, [], ◌∷◌, ◌++◌, ◌-◌, ◌+◌, ◌≤◌, ◌<◌, ℕ, IfOk, OnOk, length, map, take, drop, slice_index};
 ghost use Rattle.std.specs.List.Sorted.{IsNonDecreasingBy};
 ghost use Rattle.flow_graph.specs.Places.{place_at};
 ghost use Rattle.loop_bounds.specs.Extents.{found_instance};
-ghost use Rattle.loop_bounds.specs.Nested.{IsNestedView, inner_in, instance_in, places_in};
+ghost use Rattle.loop_bounds.specs.Nested.{IsNestedView, inner_in, instance_in, node_of, nodes, outline, places_in};
 ghost use Rattle.loop_bounds.specs.NestedParts.{Encloses};
 ghost use Rattle.loop_bounds.specs.Tree.{IsTree};
 
@@ -29,14 +29,14 @@ impl Instance {
         self.found.list
     }
 
-    /// The address of the loop's header.
+    /// The address of the loop's header, a multiple of 4 below 4000000.
     pub fn header(&self) -> u32
         ensures { result ≡ (instance_in self.now).header }
     {
         self.found.stated.header
     }
 
-    /// The most back edges that one stay takes.
+    /// The most back edges that one stay takes, from 0 to 1,048,576.
     pub fn bound(&self) -> u32
         ensures { result ≡ (instance_in self.now).bound }
     {
@@ -51,8 +51,10 @@ impl Instance {
     }
 
     /// The instances directly inside it, by the last of their numbers.
+    #[tactic(auto, using(crate::proofs::NestedLemmas::nodes_out))]
     pub fn inner(&self) -> &[Instance]
-        ensures { result.now ≡ inner_in self.now }
+        ensures value { result.now ≡ inner_in self.now }
+        ensures shown { (outline self.now).nodes ≡ nodes result.now ++ node_of self.now ∷ [] }
     {
         &self.inner
     }
@@ -95,12 +97,7 @@ struct Outermost {
 
 impl Outermost {
     // Adds an instance that ends after all, and takes those that begin within it.
-    fn enclose(
-        &mut self,
-        header: usize,
-        found: Found,
-        places: Vec<Place>,
-    ) -> Result<(), AllocError>
+    fn enclose(&mut self, header: usize, found: Found, places: Vec<Place>) -> Result<(), AllocError>
         requires same { length self.old.headers.items ≡ length self.old.instances.items }
         requires ascending { IsNonDecreasingBy (λ h. h) self.old.headers.items }
         ensures { OnOk result (Encloses self.old self.new header (found_instance found) places.items) }
@@ -138,7 +135,8 @@ fn places_of(
 }
 
 impl LoopTree {
-    /// The instances, each directly inside the smallest that holds it. It reads the places of each instance once.
+    /// The instances, each directly inside the smallest that holds it, and the outermost in the list. The graph is the one
+    /// that the tree was made of.
     ///
     /// # Errors
     ///
