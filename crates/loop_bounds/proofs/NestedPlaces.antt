@@ -1,7 +1,7 @@
 -- The places of an instance are those of its span's numbers, and it is inside another exactly where that one's span holds
 -- its own.
-use Rattle.std.proofs.Common.{◌≡◌, ◌≢◌, ℕ, zero, suc, ◌+◌, ◌-◌, ◌<◌, ◌≤◌, ◌⊎◌, Bool, true, false, List, [], ◌∷◌, ◌++◌, length, map, take, drop, get_or, sym, refl, ap, ◌∙◌, subst, inl, inr, ⊎_elim, rules, arith}
-use Rattle.std.specs.Prelude.{Contains, All, ◌↔◌, filter, slice_index}
+use Rattle.std.proofs.Common.{◌≡◌, ◌≢◌, ℕ, zero, suc, ◌+◌, ◌-◌, ◌<◌, ◌≤◌, ◌⊎◌, Bool, true, false, List, [], ◌∷◌, ◌++◌, length, map, take, drop, get_or, sym, refl, ap, ◌∙◌, subst, inl, inr, ⊎_elim, arith}
+use Rattle.std.specs.Prelude.{Contains, filter, slice_index}
 use Rattle.std.proofs.lemmas.Bool.{both_ways, cases_lt, cases_Bool}
 use Rattle.std.proofs.lemmas.List.{drop-take, drop_all, get_or-drop, get_or_default, get_or_past, length-drop, length-map, take_all, take_more}
 use Rattle.std.proofs.lemmas.List.Elements.{All-filter, Contains-get_or, filter_passes}
@@ -9,17 +9,14 @@ use Rattle.flow_graph.specs.declared.places.Place.{Place}
 use Rattle.flow_graph.specs.declared.places.Place.TheVariants.{Exit}
 use Rattle.flow_graph.specs.Flow.{Flow}
 use Rattle.flow_graph.specs.Places.{place_at}
-use Rattle.numbered_walks.specs.declared.span.NumberedEdge.{NumberedEdge}
 use Rattle.numbered_walks.specs.declared.span.Span.{Span}
-use Rattle.numbered_walks.specs.Ordered.{is_in}
-use Rattle.loop_bounds.specs.declared.nested.Outermost.{Outermost}
 use Rattle.loop_bounds.specs.Instance.{Instance, is_member}
-use Rattle.loop_bounds.specs.Nested.{IsDirectlyInside, IsInside, IsNestedView, IsOutermost, Node, heads, members, nodes}
-use Rattle.loop_bounds.specs.NestedParts.{AreNestedUpto, AreOutermost, Encloses, HoldsSpan, IsShown, instance_at, span_at}
+use Rattle.loop_bounds.specs.Nested.{IsInside, members}
+use Rattle.loop_bounds.specs.NestedParts.{HoldsSpan, instance_at, span_at}
 use Rattle.loop_bounds.specs.Tree.{IsSpanOf, IsTree, Tree, place_in}
 use Rattle.loop_bounds.proofs.Moved.{at_map}
 use Rattle.loop_bounds.proofs.NestLemmas.{filter_has}
-use Rattle.loop_bounds.proofs.NestedSpans.{direct_from, direct_to, in_from, in_parts, later, outermost_more, shape_at}
+use Rattle.loop_bounds.proofs.NestedSpans.{in_from, in_parts, shape_at}
 
 -- ## The places of a span's numbers
 

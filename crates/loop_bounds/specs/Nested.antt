@@ -1,5 +1,5 @@
 -- The instances of a tree with those directly inside each (our own format).
-use Rattle.std.specs.Prelude.{◌≡◌, Bool, true, false, ◌↔◌, List, [], ◌∷◌, ◌++◌, map, filter, flat_map, Contains, All}
+use Rattle.std.specs.Prelude.{◌≡◌, true, false, ◌↔◌, List, [], ◌∷◌, ◌++◌, map, filter, flat_map, Contains, All}
 use Rattle.flow_graph.specs.declared.places.Place.{Place}
 use Rattle.flow_graph.specs.Flow.{Flow}
 use Rattle.flow_graph.specs.Places.{place_at}
