@@ -22,3 +22,7 @@ pub mod NestLemmas
 pub mod ExtentLemmas
 pub mod EnterLemmas
 pub mod RankLemmas
+pub mod NestedSpans
+pub mod NestedLemmas
+pub mod NestedPlaces
+pub mod NestedView

@@ -51,7 +51,7 @@ no_longer (x ∷ xs) ys differ inside =
     omega arith
 
 -- what a filter keeps
-filter_has : {X : Type 0} (f : X → Bool) (xs : List X) (x : X) → Contains xs x → f x ≡ true → Contains (filter f xs) x
+pub filter_has : {X : Type 0} (f : X → Bool) (xs : List X) (x : X) → Contains xs x → f x ≡ true → Contains (filter f xs) x
 filter_has f [] x has yes_ = absurd (omega (arith, has.1))
 filter_has f (y ∷ xs) x (zero, lt, is) yes_ = rw (ap f is ∙ yes_) (0, omega arith, is)
 filter_has f (y ∷ xs) x (suc k, lt, is) yes_ = ⊎_elim

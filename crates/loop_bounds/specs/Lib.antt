@@ -10,6 +10,8 @@ pub mod Layout
 pub mod Tree
 pub mod Ground
 pub mod TreeParts
+pub mod Nested
+pub mod NestedParts
 pub use Rattle.walks.specs.Walk
 pub use Rattle.walks.specs.Stretch
 pub use Rattle.walks.specs.Greatest

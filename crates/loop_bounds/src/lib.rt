@@ -10,6 +10,7 @@ mod find;
 mod ground;
 mod keys;
 mod layout;
+mod nested;
 mod nesting;
 mod numbering;
 mod order;
@@ -21,4 +22,5 @@ mod tree;
 
 pub use fault::NestFault;
 pub use find::Found;
+pub use nested::{Instance, Instances};
 pub use tree::{LoopTree, nest};

@@ -1,9 +1,10 @@
 ghost use Rattle.std.specs.Prelude.{◌<◌};
 
 use crate::fault::NestFault;
+use crate::nested::{Instance, Instances};
 use crate::tree::{LoopTree, nest};
 use bus_ticks::Profile;
-use flow_graph::{build, read_statement};
+use flow_graph::{Graph, Place, Statement, build, read_statement};
 use loader::image::Image;
 use loader::labels::Labels;
 use numbered_walks::{NumberedEdge, Span};
@@ -13,12 +14,8 @@ use std::test::Fail;
 // A loop as a statement's text has it: header, first, last and bound.
 type Stated = (u32, u32, u32, u32);
 
-// Words from 8000 on, and loops.
-fn nested(
-    alloc: Global,
-    words: &[u32],
-    loops: &[Stated],
-) -> Result<Result<LoopTree, NestFault>, Fail> {
+// The graph of words from 8000 on, with loops.
+fn graph_of(alloc: Global, words: &[u32], loops: &[Stated]) -> Result<(Graph, Statement), Fail> {
     let mut image = Image::new(alloc);
     let mut address = 0x8000;
     for word in words {
@@ -34,7 +31,23 @@ fn nested(
     }
     let statement = read_statement(alloc, text.as_bytes(), &Labels::new(alloc))?;
     let graph = build(alloc, &image, &statement, &Profile::one())?;
+    Ok((graph, statement))
+}
+
+fn nested(
+    alloc: Global,
+    words: &[u32],
+    loops: &[Stated],
+) -> Result<Result<LoopTree, NestFault>, Fail> {
+    let (graph, statement) = graph_of(alloc, words, loops)?;
     Ok(nest(alloc, &graph, &statement))
+}
+
+// The instances with those directly inside each.
+fn instances(alloc: Global, words: &[u32], loops: &[Stated]) -> Result<Instances, Fail> {
+    let (graph, statement) = graph_of(alloc, words, loops)?;
+    let tree = nest(alloc, &graph, &statement)?;
+    Ok(tree.nested(alloc, &graph)?)
 }
 
 // MOV R0,#3; SUBS R0,R0,#1; BNE 8004; SUBS PC,R14,#4
@@ -99,19 +112,21 @@ fn countdown_wrong_header(rt: HostRuntime) -> Result<(), Fail> {
     Ok(())
 }
 
+// MOV R1,#2; MOV R0,#3; SUBS R0,R0,#1; BNE 8008; SUBS R1,R1,#1; BNE 8004; SUBS PC,R14,#4
+const NESTED_COUNTDOWN: [u32; 7] = [
+    0xE3A0_1002,
+    0xE3A0_0003,
+    0xE250_0001,
+    0x1AFF_FFFD,
+    0xE251_1001,
+    0x1AFF_FFFA,
+    0xE25E_F004,
+];
+
 #[test]
 fn nested_countdown(rt: HostRuntime) -> Result<(), Fail> {
-    let words = [
-        0xE3A0_1002,
-        0xE3A0_0003,
-        0xE250_0001,
-        0x1AFF_FFFD,
-        0xE251_1001,
-        0x1AFF_FFFA,
-        0xE25E_F004,
-    ];
     let loops = [(0x8004, 0x8004, 0x8014, 1), (0x8008, 0x8008, 0x800C, 2)];
-    let tree = nested(rt.alloc(), &words, &loops)??;
+    let tree = nested(rt.alloc(), &NESTED_COUNTDOWN, &loops)??;
     assert_eq!(rt; tree.order(), [0, 1, 2, 3, 4, 5, 6, 7].as_slice());
     let inner = Span {
         header: 2,
@@ -149,18 +164,19 @@ fn call_in_a_loop(rt: HostRuntime) -> Result<(), Fail> {
 }
 
 // 8000: BL 8010; BL 8010; SUBS PC,R14,#4; 8010: SUBS R0,R0,#1; BNE 8010; MOV PC,R14. Each call has its own instance.
+const CALLED_TWICE: [u32; 7] = [
+    0xEB00_0002,
+    0xEB00_0001,
+    0xE25E_F004,
+    0,
+    0xE250_0001,
+    0x1AFF_FFFD,
+    0xE1A0_F00E,
+];
+
 #[test]
 fn loop_in_a_function_called_twice(rt: HostRuntime) -> Result<(), Fail> {
-    let words = [
-        0xEB00_0002,
-        0xEB00_0001,
-        0xE25E_F004,
-        0,
-        0xE250_0001,
-        0x1AFF_FFFD,
-        0xE1A0_F00E,
-    ];
-    let tree = nested(rt.alloc(), &words, &[(0x8010, 0x8010, 0x8014, 5)])??;
+    let tree = nested(rt.alloc(), &CALLED_TWICE, &[(0x8010, 0x8010, 0x8014, 5)])??;
     assert_eq!(rt; tree.order(), [0, 3, 4, 5, 1, 6, 7, 8, 2, 9].as_slice());
     let first = Span {
         header: 1,
@@ -207,5 +223,116 @@ fn sixteen_deep(rt: HostRuntime) -> Result<(), Fail> {
     assert_eq!(rt; tree.spans()[0], innermost);
     let fault = deep(rt.alloc(), 17)?.err();
     assert_eq!(rt; fault, Some(NestFault::NestedTooDeep));
+    Ok(())
+}
+
+// The headers of instances.
+fn headers(alloc: Global, instances: &[Instance]) -> Result<Vec<u32>, Fail> {
+    let mut headers = Vec::new(alloc);
+    for instance in instances {
+        headers.push(instance.header())?;
+    }
+    Ok(headers)
+}
+
+// The addresses of an instance's places.
+fn addresses(alloc: Global, instance: &Instance) -> Result<Vec<u32>, Fail> {
+    let mut addresses = Vec::new(alloc);
+    for place in instance.places() {
+        if let Place::At(_, address) = place {
+            addresses.push(*address)?;
+        }
+    }
+    Ok(addresses)
+}
+
+#[test]
+fn instance_inside_an_instance(rt: HostRuntime) -> Result<(), Fail> {
+    let alloc = rt.alloc();
+    let loops = [(0x8004, 0x8004, 0x8014, 1), (0x8008, 0x8008, 0x800C, 2)];
+    let instances = instances(alloc, &NESTED_COUNTDOWN, &loops)?;
+    assert_eq!(rt;
+        headers(alloc, instances.items())?.as_slice(),
+        [0x8004].as_slice()
+    );
+    for outer in instances.items() {
+        assert_eq!(rt; outer.bound(), 1);
+        let expected = [0x8004, 0x8008, 0x800C, 0x8010, 0x8014];
+        assert_eq!(rt; addresses(alloc, outer)?.as_slice(), expected.as_slice());
+        assert_eq!(rt;
+            headers(alloc, outer.inner())?.as_slice(),
+            [0x8008].as_slice()
+        );
+        for inner in outer.inner() {
+            assert_eq!(rt; inner.bound(), 2);
+            assert_eq!(rt;
+                addresses(alloc, inner)?.as_slice(),
+                [0x8008, 0x800C].as_slice()
+            );
+            assert_eq!(rt; inner.inner().len(), 0);
+        }
+    }
+    Ok(())
+}
+
+// MOV R1,#2; 8004: MOV R0,#3; SUBS R0,R0,#1; BNE 8008; MOV R0,#3; SUBS R0,R0,#1; BNE 8014; SUBS R1,R1,#1; BNE 8004;
+// SUBS PC,R14,#4
+#[test]
+fn instances_side_by_side(rt: HostRuntime) -> Result<(), Fail> {
+    let alloc = rt.alloc();
+    let words = [
+        0xE3A0_1002,
+        0xE3A0_0003,
+        0xE250_0001,
+        0x1AFF_FFFD,
+        0xE3A0_0003,
+        0xE250_0001,
+        0x1AFF_FFFD,
+        0xE251_1001,
+        0x1AFF_FFF7,
+        0xE25E_F004,
+    ];
+    let loops = [
+        (0x8014, 0x8014, 0x8018, 3),
+        (0x8004, 0x8004, 0x8020, 1),
+        (0x8008, 0x8008, 0x800C, 2),
+    ];
+    let instances = instances(alloc, &words, &loops)?;
+    assert_eq!(rt;
+        headers(alloc, instances.items())?.as_slice(),
+        [0x8004].as_slice()
+    );
+    for outer in instances.items() {
+        let inner = outer.inner();
+        assert_eq!(rt;
+            headers(alloc, inner)?.as_slice(),
+            [0x8008, 0x8014].as_slice()
+        );
+        for (one, bound) in inner.iter().zip([2, 3]) {
+            assert_eq!(rt; one.bound(), bound);
+            assert_eq!(rt; one.inner().len(), 0);
+            assert_eq!(rt; one.places().len(), 2);
+        }
+    }
+    Ok(())
+}
+
+#[test]
+fn an_instance_for_each_call(rt: HostRuntime) -> Result<(), Fail> {
+    let alloc = rt.alloc();
+    let instances = instances(alloc, &CALLED_TWICE, &[(0x8010, 0x8010, 0x8014, 5)])?;
+    assert_eq!(rt; instances.items().len(), 2);
+    for (instance, call) in instances.items().iter().zip([0x8000, 0x8004]) {
+        assert_eq!(rt; instance.list().as_slice(), [call].as_slice());
+        assert_eq!(rt; instance.header(), 0x8010);
+        assert_eq!(rt; instance.bound(), 5);
+        assert_eq!(rt;
+            addresses(alloc, instance)?.as_slice(),
+            [0x8010, 0x8014].as_slice()
+        );
+        let header = Place::At(instance.list(), 0x8010);
+        assert!(rt; instance.places().contains(&header));
+        assert_eq!(rt; instance.inner().len(), 0);
+    }
     Ok(())
 }

@@ -1,0 +1,161 @@
+ghost use Rattle.std.specs.Prelude.{◌≡◌, [], ◌∷◌, ◌++◌, ◌-◌, ◌+◌, ◌≤◌, ◌<◌, ℕ, IfOk, OnOk, length, map, take, drop, slice_index};
+ghost use Rattle.std.specs.List.Sorted.{IsNonDecreasingBy};
+ghost use Rattle.flow_graph.specs.Places.{place_at};
+ghost use Rattle.loop_bounds.specs.Extents.{found_instance};
+ghost use Rattle.loop_bounds.specs.Nested.{IsNestedView, inner_in, instance_in, node_of, nodes, outline, places_in};
+ghost use Rattle.loop_bounds.specs.NestedParts.{Encloses};
+ghost use Rattle.loop_bounds.specs.Tree.{IsTree};
+
+use crate::find::Found;
+use crate::tree::LoopTree;
+use flow_graph::{Calls, Graph, Place};
+use numbered_walks::Span;
+use std::alloc::{AllocError, Global};
+use std::marker::Model;
+
+/// An instance of a loop, with its places and the instances directly inside it.
+#[derive(Drop)]
+pub struct Instance {
+    found: Found,
+    places: Vec<Place>,
+    inner: Vec<Instance>,
+}
+
+impl Instance {
+    /// The calls inside of which the loop is taken.
+    pub fn list(&self) -> Calls
+        ensures { result ≡ (instance_in self.now).list }
+    {
+        self.found.list
+    }
+
+    /// The address of the loop's header, a multiple of 4 below 4000000.
+    pub fn header(&self) -> u32
+        ensures { result ≡ (instance_in self.now).header }
+    {
+        self.found.stated.header
+    }
+
+    /// The most back edges that one stay takes, from 0 to 1,048,576.
+    pub fn bound(&self) -> u32
+        ensures { result ≡ (instance_in self.now).bound }
+    {
+        self.found.stated.bound
+    }
+
+    /// The places of the instance by their numbers in the tree's order, the header's first.
+    pub fn places(&self) -> &[Place]
+        ensures { result.now ≡ places_in self.now }
+    {
+        &self.places
+    }
+
+    /// The instances directly inside it, by the last of their numbers.
+    #[tactic(auto, using(crate::proofs::NestedLemmas::nodes_out))]
+    pub fn inner(&self) -> &[Instance]
+        ensures value { result.now ≡ inner_in self.now }
+        ensures shown { (outline self.now).nodes ≡ nodes result.now ++ node_of self.now ∷ [] }
+    {
+        &self.inner
+    }
+}
+
+/// The instances that are inside no other, each with those inside it.
+#[derive(Drop)]
+pub struct Instances {
+    list: Vec<Instance>,
+}
+
+impl Model for Instances {
+    ghost use Rattle.std.specs.Prelude.{List};
+    ghost use Rattle.std.specs.Coded.{codes};
+    ghost use Rattle.loop_bounds.specs.declared.nested.Instance.{Instance};
+    ghost use Rattle.loop_bounds.specs.contracts.nested.Instance as instance;
+
+    ghost Value = { List Instance };
+
+    ghost coded = { Prim.hlevel (codes, instance.the_row.coded) };
+
+    ghost view = { λ instances. instances.list.items };
+}
+
+impl Instances {
+    /// The instances, by the last of their numbers.
+    pub fn items(&self) -> &[Instance]
+        ensures { result.now ≡ self.now }
+    {
+        &self.list
+    }
+}
+
+// Of the instances so far those that are inside no other, and the numbers of their headers.
+#[derive(Drop)]
+struct Outermost {
+    headers: Vec<usize>,
+    instances: Vec<Instance>,
+}
+
+impl Outermost {
+    // Adds an instance that ends after all, and takes those that begin within it.
+    fn enclose(&mut self, header: usize, found: Found, places: Vec<Place>) -> Result<(), AllocError>
+        requires same { length self.old.headers.items ≡ length self.old.instances.items }
+        requires ascending { IsNonDecreasingBy (λ h. h) self.old.headers.items }
+        ensures { OnOk result (Encloses self.old self.new header (found_instance found) places.items) }
+    {
+        let first = self.headers.partition_point(|inner| *inner < header);
+        let inner = self.instances.split_off(first)?;
+        self.headers.truncate(first);
+        self.headers.push(header)?;
+        self.instances.push(Instance {
+            found,
+            places,
+            inner,
+        })?;
+        Ok(())
+    }
+}
+
+// The places of a span's numbers.
+fn places_of(
+    alloc: Global,
+    places: &[Place],
+    order: &[usize],
+    span: &Span,
+) -> Result<Vec<Place>, AllocError>
+    requires whole { length order.now ≡ length places.now + 1 }
+    requires inside { (n : ℕ) → n < length places.now → slice_index order.now n < length places.now }
+    requires span { (span.now.header ≤ span.now.last) × (span.now.last < length places.now) }
+    ensures { IfOk result (λ members. members.items ≡ take (span.now.last + 1 - span.now.header) (drop span.now.header (map (place_at places.now) order.now))) }
+{
+    let mut members = Vec::new(alloc);
+    for number in span.header..span.last + 1 {
+        members.push(places[order[number]])?;
+    }
+    Ok(members)
+}
+
+impl LoopTree {
+    /// The instances, each directly inside the smallest that holds it, and the outermost in the list. The graph is the one
+    /// that the tree was made of.
+    ///
+    /// # Errors
+    ///
+    /// Where a growth was refused.
+    pub fn nested(&self, alloc: Global, graph: &Graph) -> Result<Instances, AllocError>
+        requires { IsTree graph.now self.now }
+        ensures { IfOk result (IsNestedView graph.now self.now) }
+    {
+        let mut outermost = Outermost {
+            headers: Vec::new(alloc),
+            instances: Vec::new(alloc),
+        };
+        let instances = self.instances();
+        for (k, span) in self.spans().iter().enumerate() {
+            let places = places_of(alloc, graph.places(), self.order(), span)?;
+            outermost.enclose(span.header, instances[k], places)?;
+        }
+        Ok(Instances {
+            list: outermost.instances,
+        })
+    }
+}
