@@ -1,10 +1,12 @@
 -- An accepted source and statement have no refusal, and what a graph's refusals say of them.
-use Rattle.std.proofs.Common.{◌≡◌, ◌≢◌, ◌⊎◌, ◌∙◌, ℕ, List, Result, Ok, Err, refl, sym, subst, inl, inr}
+use Rattle.std.proofs.Common.{◌≡◌, ◌≢◌, ◌⊎◌, ◌∙◌, ℕ, ◌≤◌, List, Result, Ok, Err, refl, sym, subst, inl, inr, arith}
 use Rattle.std.specs.Prelude.{Contains, IfErr, ◌↔◌}
 use Rattle.std.specs.Result.{IsErrAnd}
 use Rattle.bus_ticks.specs.declared.profile.Profile.{Profile}
 use Rattle.loader.specs.Image.{Words}
-use Rattle.flow_graph.specs.Flow.{Flow}
+use Rattle.walks.specs.Walk.{cost_of}
+use Rattle.flow_graph.specs.Flow.{Flow, edge_shape}
+use Rattle.flow_graph.specs.StepLaw.{IsWithin, RunLaw}
 use Rattle.flow_graph.specs.Graph.{IsBuildFault, IsFlowGraph}
 use Rattle.statement.specs.Stated.{Stated}
 use Rattle.statement.specs.Statement.{IsStatement}
@@ -31,6 +33,7 @@ use Rattle.arcwcet.specs.Faults.{of_graph, of_loops, of_statement, of_walk}
 use Rattle.longest_walk.specs.declared.folded.Item.{Item}
 use Rattle.arcwcet.specs.Bound.{HasNoFault, IsGraphsFault}
 use Rattle.arcwcet.specs.Image.{source_of}
+use Rattle.arcwcet.specs.Keeping.{BoundsRuns}
 use Rattle.arcwcet.specs.Report.{HasGraph, IsAccepted, IsGreatestWalk, IsRefused, IsReport, IsWalkRefusal, no_names}
 use Rattle.arcwcet.specs.ReportText.{spelling}
 use Rattle.arcwcet.specs.declared.fault.ReportFault.{ReportFault}
@@ -115,9 +118,17 @@ graphs_refusal source statement profile st flow (Walk f) g h =
 pub accepted : (source statement : List ℕ) (profile : Profile) (st : Stated) (flow : Flow) → HasGraph source statement profile st flow → HasNoFault flow st.loops → IsAccepted source statement profile
 accepted source statement profile st flow g h = record { stated = st; flow = flow; loops = record { graph = g; no_fault = h.of_loops }; no_fault = h.of_walk }
 
-pub reported : (source statement : List ℕ) (profile : Profile) (st : Stated) (flow : Flow) (bound : ℕ) (items : List Item) (text : List ℕ) → HasGraph source statement profile st flow
+-- a run whose steps are the edges of a walk takes at most the walk, and no such walk costs more than the greatest
+bounds_runs : (words : Words) (profile : Profile) (st : Stated) (flow : Flow) (bound : ℕ) → RunLaw → IsGreatestCost flow st.loops bound → BoundsRuns words st profile flow bound
+bounds_runs words profile st flow bound law greatest s inputs ran after keeps runs =
+    let within : IsWithin profile keeps.walk inputs ran = law words st profile s inputs keeps.walk ran after runs keeps.follows in
+    let most : cost_of edge_shape keeps.walk ≤ bound = greatest.upper keeps.walk keeps.complete keeps.kept in
+    record { ticks = omega (arith, within.ticks, most); elapsed = omega (arith, within.elapsed, most) }
+
+pub reported : (source statement : List ℕ) (profile : Profile) (st : Stated) (flow : Flow) (bound : ℕ) (items : List Item) (text : List ℕ) → RunLaw → HasGraph source statement profile st flow
     → IsGreatestWalk flow st.loops bound items → text ≡ spelling bound items → IsReport source statement profile text
-reported source statement profile st flow bound items text g w e = record { stated = st; flow = flow; bound = bound; items = items; graph = g; walk = w; spelled = e }
+reported source statement profile st flow bound items text law g w e =
+    record { stated = st; flow = flow; bound = bound; items = items; graph = g; walk = w; runs = bounds_runs g.words profile st flow bound law w.greatest; spelled = e }
 
 -- ## A walk that keeps the bounds of a tree's instances keeps those of the stated loops
 

@@ -1,6 +1,7 @@
 pub mod Bound
 pub mod Faults
 pub mod Image
+pub mod Keeping
 pub mod Kept
 pub mod Line
 pub mod Output

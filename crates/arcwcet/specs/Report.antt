@@ -24,6 +24,7 @@ use Rattle.longest_walk.specs.declared.folded.Item.{Item}
 use Rattle.numbered_walks.specs.declared.fault.WalkFault.{WalkFault}
 use Rattle.numbered_walks.specs.declared.fault.WalkFault.TheVariants as walk_fault
 use Rattle.arcwcet.specs.Image.{source_of}
+use Rattle.arcwcet.specs.Keeping.{BoundsRuns}
 use Rattle.arcwcet.specs.ReportText.{spelling}
 use Rattle.arcwcet.specs.declared.fault.ReportFault.{ReportFault}
 use Rattle.arcwcet.specs.declared.fault.ReportFault.TheVariants as report_fault
@@ -66,7 +67,8 @@ pub record IsAccepted (source statement : List ℕ) (profile : Profile) : Type 0
   pub loops : HasLoops source statement profile stated flow
   pub no_fault : (f : WalkFault) → f ≢ walk_fault.Memory → IsWalkRefusal flow stated.loops f → ⊥
 
--- a report for a source and a statement
+-- A report for a source and a statement: its bound is the greatest cost, its walk has it, and every machine run that keeps the
+-- statement takes at most the bound.
 pub record IsReport (source statement : List ℕ) (profile : Profile) (text : List ℕ) : Type 0 where
   pub stated : Stated
   pub flow : Flow
@@ -74,6 +76,7 @@ pub record IsReport (source statement : List ℕ) (profile : Profile) (text : Li
   pub items : List Item
   pub graph : HasGraph source statement profile stated flow
   pub walk : IsGreatestWalk flow stated.loops bound items
+  pub runs : BoundsRuns graph.words stated profile flow bound
   pub spelled : text ≡ spelling bound items
 
 -- a fault of the statement, of a source that has an image

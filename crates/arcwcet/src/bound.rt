@@ -9,7 +9,7 @@ use crate::report_text::report_text;
 use crate::source::read_source;
 use crate::whole::write_whole;
 use bus_ticks::Profile;
-use flow_graph::{Graph, Statement, StatementFault, build, read_statement};
+use flow_graph::{Graph, Statement, StatementFault, build, read_statement, run_law};
 use loader::labels::Labels;
 use longest_walk::{Longest, longest};
 use loop_bounds::nest;
@@ -66,12 +66,14 @@ fn text_of(
 {
     let handler = read_handler(alloc, source, statement, profile)?;
     let found = greatest_walk(alloc, &handler)?;
+    run_law();
     let text = report_text(alloc, found.bound, found.walk.items())?;
     Ok(text)
 }
 
 /// Writes the report of a source and a statement by the first profile: the greatest cost, in ticks, of a
-/// complete walk of the handler's flow graph that keeps the bounds, and such a walk.
+/// complete walk of the handler's flow graph that keeps the bounds, and such a walk. Every machine run that keeps the
+/// statement takes at most that many ticks, and the profile's burst price for each DMA burst more.
 ///
 /// The whole report is made before its first byte is written. Of several faults the first in the order of the work is
 /// answered: source, statement, graph, loops, walk. After any but `Device` nothing was written.

@@ -14,7 +14,7 @@ returns-in_err-found-clause-fault c =
 pub returns-clause-report : goal.returns-clause-report
 returns-clause-report c =
     let h = c.in_ok-handler.handler in
-    reported c.args.source.now c.args.statement.now c.args.profile.now h.statement h.graph c.in_ok-found.found.bound c.in_ok-found.found.walk c.in_ok-text.text.items (search rules) (search rules) (search rules)
+    reported c.args.source.now c.args.statement.now c.args.profile.now h.statement h.graph c.in_ok-found.found.bound c.in_ok-found.found.walk c.in_ok-text.text.items c.run_law.ensures (search rules) (search rules) (search rules)
 
 pub returns-clause-accepted : goal.returns-clause-accepted
 returns-clause-accepted c =
