@@ -1,0 +1,57 @@
+-- Where a text is cut at a byte, it is cut in one way.
+use Rattle.std.proofs.Common.{◌≡◌, ◌∙◌, ◌&&◌, Bool, true, false, not, eqb, true≢false, eq-eqb, ℕ, zero, suc, List, [], ◌∷◌, ◌++◌, length, take, drop, ◌+◌, ◌==◌, Option, Some, None, MatchOption, refl, sym, ap, ap₂, take-append-drop, arith}
+use Rattle.std.specs.Cmp.Lexicographic.{bytes_decides, pointwise}
+use Rattle.std.specs.List.{list_all}
+use Rattle.certificate.specs.Words.{Lacks}
+
+both-left : (a b : Bool) → a && b ≡ true → a ≡ true
+both-left true b e = refl
+both-left false b e = e
+
+both-right : (a b : Bool) → a && b ≡ true → b ≡ true
+both-right true b e = e
+both-right false b e = absurd (true≢false (sym e))
+
+pub Lacks-rest : (c b : ℕ) (bs : List ℕ) → Lacks c (b ∷ bs) → Lacks c bs
+Lacks-rest c b bs h k lt = h (suc k) (omega arith)
+
+pub Lacks-middle : (c : ℕ) (a b : List ℕ) → Lacks c (a ++ c ∷ b) → ⊥
+Lacks-middle c [] b h = h 0 (omega arith) refl
+Lacks-middle c (x ∷ a) b h = Lacks-middle c a b (Lacks-rest c x (a ++ c ∷ b) h)
+
+pub one_cut : (c : ℕ) (a x b y : List ℕ) → Lacks c a → Lacks c x → a ++ c ∷ b ≡ x ++ c ∷ y → (a ≡ x) × (b ≡ y)
+one_cut c [] [] b y h k e = (refl, cc)
+one_cut c [] (d ∷ x) b y h k e = let same : d ≡ c = cc in absurd (k 0 (omega arith) same)
+one_cut c (d ∷ a) [] b y h k e = let same : d ≡ c = cc in absurd (h 0 (omega arith) same)
+one_cut c (d ∷ a) (f ∷ x) b y h k e =
+    let head : d ≡ f = cc in
+    let rest : a ++ c ∷ b ≡ x ++ c ∷ y = cc in
+    let deeper = one_cut c a x b y (Lacks-rest c d a h) (Lacks-rest c f x k) rest in
+    let same : a ≡ x = deeper.0 in
+    (cc, deeper.1)
+
+pub Lacks-append : (c : ℕ) (a b : List ℕ) → Lacks c a → Lacks c b → Lacks c (a ++ b)
+Lacks-append c [] b h k i lt = k i lt
+Lacks-append c (x ∷ a) b h k zero lt = h 0 (omega arith)
+Lacks-append c (x ∷ a) b h k (suc i) lt = Lacks-append c a b (Lacks-rest c x a h) k i (omega arith)
+
+-- bytes that are written out
+pub Lacks-tested : (c : ℕ) (bs : List ℕ) → list_all (λ b. not (eqb b c)) bs ≡ true → Lacks c bs
+Lacks-tested c [] t k lt = absurd (omega arith)
+Lacks-tested c (x ∷ bs) t zero lt = λ e. true≢false (sym (both-left _ _ t) ∙ ap not (eq-eqb x c e))
+Lacks-tested c (x ∷ bs) t (suc k) lt = Lacks-tested c bs (both-right (not (eqb x c)) _ t) k (omega arith)
+
+front_taken : (front rest : List ℕ) → take (length front) (front ++ rest) ≡ front
+front_taken [] rest = refl
+front_taken (x ∷ front) rest = ap (λ (xs : List ℕ). x ∷ xs) (front_taken front rest)
+
+-- what stands behind a front, by a test of the front's length of bytes
+pub behind_from : {A : Type 0} (now : A → List ℕ) (r : Option A) (words front : List ℕ)
+    → MatchOption r (pointwise ◌==◌ (take (length front) words) front ≡ false) (λ x. (pointwise ◌==◌ (take (length front) words) front ≡ true) × (now x ≡ drop (length front) words) × (length (now x) + length front ≡ length words))
+    → MatchOption r ((rest : List ℕ) → words ≡ front ++ rest → ⊥) (λ x. words ≡ front ++ now x)
+behind_from now None words front e = λ rest is.
+    let same : take (length front) words ≡ front = ap (take (length front)) is ∙ front_taken front rest in
+    true≢false (sym ((bytes_decides (take (length front) words) front).1 same) ∙ e)
+behind_from now (Some x) words front e =
+    let same : take (length front) words ≡ front = (bytes_decides (take (length front) words) front).0 e.0 in
+    sym (take-append-drop (length front) words) ∙ ap₂ (λ (a b : List ℕ). a ++ b) same (sym e.1)

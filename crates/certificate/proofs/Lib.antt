@@ -1,0 +1,16 @@
+pub mod CutLaws
+pub mod NumberLaws
+pub mod WalkLaws
+pub mod JoinLaws
+pub mod FieldLaws
+pub mod CallLaws
+pub mod PriceLaws
+pub mod FollowLaws
+pub mod ParseLaws
+pub mod CertLaws
+pub mod TextLaws
+pub mod WriteLaws
+pub mod ReadLaws
+pub mod FaultLaws
+pub mod LongestLaws
+pub mod LeastLaws

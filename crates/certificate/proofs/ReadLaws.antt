@@ -1,0 +1,43 @@
+-- What the lines that are read say of the text.
+use Rattle.std.proofs.Common.{◌≡◌, ◌∙◌, ℕ, ◌+◌, List, [], ◌∷◌, ◌++◌, Some, None, length, sym, ap, subst, append_assoc, length-append}
+use Rattle.std.specs.List.{AllByRecursion}
+use Rattle.certificate.specs.declared.line.Line.{Line}
+use Rattle.certificate.specs.Faults.{Follow}
+use Rattle.certificate.specs.Follows.{Reached, follows, start}
+use Rattle.certificate.specs.Words.{LineFits, ended, line_words, text_of}
+use Rattle.certificate.proofs.FollowLaws.{follow-end}
+use Rattle.certificate.proofs.TextLaws.{one_line}
+use Rattle.certificate.proofs.WalkLaws.{flat_map-end}
+
+-- a line that is cut off
+pub cut_off : (text : List ℕ) (lines : List Line) (rest words after : List ℕ) → text ≡ text_of lines ++ rest → rest ≡ words ++ 10 ∷ after → text ≡ text_of lines ++ (ended words ++ after)
+cut_off text lines rest words after e cut = e ∙ ap (λ (t : List ℕ). text_of lines ++ t) (cut ∙ sym (append_assoc words (10 ∷ []) after))
+
+all_end : (lines : List Line) (x : Line) → AllByRecursion LineFits lines → LineFits x → AllByRecursion LineFits (lines ++ x ∷ [])
+all_end [] x all fits = (fits, tt)
+all_end (y ∷ lines) x all fits = (all.0, all_end lines x all.1 fits)
+
+-- what is read, and what is left
+pub record Front (text : List ℕ) (lines : List Line) (to : Reached) (rest : List ℕ) : Type 0 where
+  pub follow : Follow lines to
+  pub text_is : text ≡ text_of lines ++ rest
+  pub count : ℕ
+  pub count_is : count ≡ length lines
+
+pub front_grows : (text : List ℕ) (lines longer : List Line) (to next : Reached) (rest words after : List ℕ) (x : Line) → text ≡ text_of lines ++ rest → Follow lines to
+    → rest ≡ words ++ 10 ∷ after → words ≡ line_words x → LineFits x → follows to x ≡ Some next → longer ≡ lines ++ x ∷ [] → Front text longer next after
+front_grows text lines longer to next rest words after x e follow cut is fits goes more =
+    let text_is : text ≡ text_of (lines ++ x ∷ []) ++ after =
+    cut_off text lines rest words after e cut ∙ ap (λ (t : List ℕ). text_of lines ++ (ended t ++ after)) is
+    ∙ sym (append_assoc (text_of lines) (ended (line_words x)) after) ∙ ap (λ (t : List ℕ). t ++ after) (sym (flat_map-end (λ y. ended (line_words y)) lines x)) in
+    let grown : Front text (lines ++ x ∷ []) next after = record {
+      follow = record { fit = all_end lines x follow.fit fits; reached = follow-end follows start to next lines x follow.reached goes };
+      text_is = text_is;
+      count = length lines + 1;
+      count_is = sym (length-append lines (x ∷ []));
+    } in
+    subst (λ (ls : List Line). Front text ls next after) (sym more) grown
+
+-- a line that may not follow has no other reading
+pub no_other : (to : Reached) (words : List ℕ) (x : Line) → LineFits x → words ≡ line_words x → follows to x ≡ None → (y : Line) → LineFits y → words ≡ line_words y → follows to y ≡ None
+no_other to words x fits is none y other same = ap (follows to) (one_line y x other fits (sym same ∙ is)) ∙ none

@@ -1,0 +1,72 @@
+-- The lines of a walk, as it grows by a line.
+use Rattle.std.proofs.Common.{◌≡◌, ◌∙◌, Bool, true, ℕ, suc, List, [], ◌∷◌, ◌++◌, length, Vec, Some, None, map, refl, sym, ap, arith, append_assoc, append-nil, length-append, if◌then◌else◌}
+use Rattle.std.specs.List.{flat_map}
+use Rattle.std.specs.declared.alloc.Global.{Global}
+use Rattle.certificate.specs.declared.walk.StepLine.{StepLine}
+use Rattle.certificate.specs.declared.walk.CertItem.{CertItem}
+use Rattle.certificate.specs.declared.walk.CertItem.TheOpen.{CertItem-F}
+use Rattle.certificate.specs.declared.walk.CertItem.TheVariants.{Step, Repeat, rolls-Step, rolls-Repeat}
+use Rattle.certificate.specs.declared.walk.CertItem.TheFolds.{fold-CertItem, fold-roll-CertItem}
+use Rattle.certificate.specs.declared.open_walk.OpenRepeat.{OpenRepeat}
+use Rattle.certificate.specs.declared.line.WalkLine.{WalkLine}
+use Rattle.certificate.specs.declared.line.WalkLine.TheVariants as w
+use Rattle.certificate.specs.Walk.{cert_item_lines, cert_item_step, cert_walk_lines, closed, repeated_lines}
+use Rattle.certificate.specs.Drafts.{front_lines, is_some_item, open_lines}
+
+pub flat_map-joined : {A B : Type 0} (f : A → List B) (xs : List A) → flat_map (λ x. x) (map f xs) ≡ flat_map f xs
+flat_map-joined f [] = refl
+flat_map-joined f (x ∷ xs) = ap (λ rest. f x ++ rest) (flat_map-joined f xs)
+
+pub flat_map-end : {A B : Type 0} (f : A → List B) (xs : List A) (y : A) → flat_map f (xs ++ y ∷ []) ≡ flat_map f xs ++ f y
+flat_map-end f [] y = append-nil (f y)
+flat_map-end f (x ∷ xs) y = ap (λ rest. f x ++ rest) (flat_map-end f xs y) ∙ sym (append_assoc (f x) (flat_map f xs) (f y))
+
+-- ## One item
+
+pub lines-step : (s : StepLine) → cert_item_lines (Step s) ≡ w.Step s ∷ []
+lines-step s = ap (fold-CertItem (List WalkLine) cert_item_step) (sym (rolls-Step s)) ∙ fold-roll-CertItem (List WalkLine) cert_item_step (CertItem-F.Step s)
+
+pub lines-repeat : (k : ℕ) (body : Vec CertItem Global) → cert_item_lines (Repeat k body) ≡ repeated_lines k (cert_walk_lines body.items)
+lines-repeat k body =
+    ap (fold-CertItem (List WalkLine) cert_item_step) (sym (rolls-Repeat k body)) ∙ fold-roll-CertItem (List WalkLine) cert_item_step (CertItem-F.Repeat k body)
+    ∙ ap (repeated_lines k) (flat_map-joined cert_item_lines body.items)
+
+-- ## A front that grows
+
+pub front-step : (os : List OpenRepeat) (items : List CertItem) (s : StepLine) → front_lines os (items ++ Step s ∷ []) ≡ front_lines os items ++ w.Step s ∷ []
+front-step os items s =
+    ap (λ (ls : List WalkLine). flat_map open_lines os ++ ls) (flat_map-end cert_item_lines items (Step s) ∙ ap (λ (ls : List WalkLine). cert_walk_lines items ++ ls) (lines-step s))
+    ∙ sym (append_assoc (flat_map open_lines os) (cert_walk_lines items) (w.Step s ∷ []))
+
+pub front-repeat : (os : List OpenRepeat) (o : OpenRepeat) → front_lines (os ++ o ∷ []) [] ≡ front_lines os o.before.items ++ w.Repeat o.count ∷ []
+front-repeat os o =
+    append-nil (flat_map open_lines (os ++ o ∷ [])) ∙ flat_map-end open_lines os o
+    ∙ sym (append_assoc (flat_map open_lines os) (cert_walk_lines o.before.items) (w.Repeat o.count ∷ []))
+
+pub front-end : (os : List OpenRepeat) (o : OpenRepeat) (body : Vec CertItem Global)
+    → front_lines os (o.before.items ++ Repeat o.count body ∷ []) ≡ front_lines (os ++ o ∷ []) body.items ++ w.End ∷ []
+front-end os o body =
+    let inner = cert_walk_lines body.items in
+    let before = cert_walk_lines o.before.items in
+    let front = flat_map open_lines os in
+    ap (λ (ls : List WalkLine). front ++ ls) (flat_map-end cert_item_lines o.before.items (Repeat o.count body) ∙ ap (λ (ls : List WalkLine). before ++ ls) (lines-repeat o.count body))
+    ∙ ap (λ (ls : List WalkLine). front ++ ls) (sym (append_assoc before (w.Repeat o.count ∷ []) (inner ++ w.End ∷ [])))
+    ∙ sym (append_assoc front (open_lines o) (inner ++ w.End ∷ []))
+    ∙ ap (λ (ls : List WalkLine). ls ++ (inner ++ w.End ∷ [])) (sym (flat_map-end open_lines os o))
+    ∙ sym (append_assoc (flat_map open_lines (os ++ o ∷ [])) inner (w.End ∷ []))
+
+-- ## How it nests
+
+pub some_end : (items : List CertItem) (i : CertItem) → is_some_item (items ++ i ∷ []) ≡ true
+some_end [] i = refl
+some_end (x ∷ items) i = refl
+
+pub some_from : (items : List CertItem) → (items ≡ [] → ⊥) → is_some_item items ≡ true
+some_from [] some = absurd (some refl)
+some_from (x ∷ items) some = refl
+
+pub nest-end : (opened os : List OpenRepeat) (o : OpenRepeat) (some last : Bool) → opened ≡ os ++ o ∷ [] → some ≡ true → last ≡ true
+    → (if some then closed (length opened) else None) ≡ Some (record { opened = length os; some = last })
+nest-end opened os o some last is stands goes =
+    let longer : length opened ≡ suc (length os) = omega (arith, ap length is, length-append os (o ∷ [])) in
+    rw (stands, longer, goes) refl

@@ -1,0 +1,101 @@
+-- The text of a certificate, section by section.
+use Rattle.std.proofs.Common.{◌≡◌, ◌∙◌, ◌==◌, ℕ, List, [], ◌∷◌, ◌++◌, Bool, false, Vec, codes, map, refl, sym, ap, append_assoc, append-nil, Result, Ok, Err, OnOk, is_ok, ◌<◌, ◌≤◌, length, take, get_or, arith, take_all, if◌then◌else◌}
+use Rattle.certificate.specs.declared.line.Version.TheVariants.{One, Two}
+use Rattle.certificate.proofs.NumberLaws.{behind_first, behind_is}
+use Rattle.std.specs.declared.rc.Rc.{Rc}
+use Rattle.std.specs.List.{flat_map, join_with_byte}
+use Rattle.std.specs.Fmt.{decimal}
+use Rattle.std.specs.declared.alloc.Global.{Global}
+use Rattle.std.specs.Cmp.Lexicographic.{pointwise}
+use Rattle.bus_ticks.specs.Numbers.{profile_one}
+use Rattle.flow_graph.specs.declared.edges.Edge.{Edge}
+use Rattle.longest_walk.specs.declared.folded.Item.{Item}
+use Rattle.longest_walk.specs.declared.folded.Item.TheOpen.{Item-F}
+use Rattle.longest_walk.specs.declared.folded.Item.TheVariants.{Step, Repeat, rolls-Step, rolls-Repeat}
+use Rattle.longest_walk.specs.declared.folded.Item.TheFolds.{fold-Item, fold-roll-Item}
+use Rattle.longest_walk.specs.declared.rows.PlaceRow.{PlaceRow}
+use Rattle.longest_walk.specs.declared.rows.InstanceRow.{InstanceRow}
+use Rattle.certificate.specs.declared.line.WalkLine.{WalkLine}
+use Rattle.certificate.specs.declared.line.WalkLine.TheVariants as w
+use Rattle.certificate.specs.declared.line.Line.{Line}
+use Rattle.certificate.specs.declared.line.Line.TheVariants as l
+use Rattle.certificate.specs.Lines.{Said, cert_text, head_lines}
+use Rattle.certificate.specs.Walk.{item_lines, item_step, repeated_lines, step_of, walk_lines}
+use Rattle.certificate.specs.Words.{ended, hex, instance_words, line_words, list_words, place_words, step_words, text_of, walk_words}
+use Rattle.certificate.specs.Written.{head_text, instances_text, places_text, walk_text}
+use Rattle.certificate.proofs.WalkLaws.{flat_map-joined}
+
+pub flat_map-append : {A B : Type 0} (f : A → List B) (xs ys : List A) → flat_map f (xs ++ ys) ≡ flat_map f xs ++ flat_map f ys
+flat_map-append f [] ys = refl
+flat_map-append f (x ∷ xs) ys = ap (λ rest. f x ++ rest) (flat_map-append f xs ys) ∙ sym (append_assoc (f x) (flat_map f xs) (flat_map f ys))
+
+-- ## The walk
+
+pub lines-step : (e : Edge) → item_lines (Step e) ≡ w.Step (step_of e) ∷ []
+lines-step e = ap (fold-Item (List WalkLine) item_step) (sym (rolls-Step e)) ∙ fold-roll-Item (List WalkLine) item_step (Item-F.Step e)
+
+pub text-step : (e : Edge) → walk_text (item_lines (Step e)) ≡ ended (step_words (step_of e))
+text-step e = ap walk_text (lines-step e) ∙ append-nil (ended (step_words (step_of e)))
+
+pub text-repeat : (k : ℕ) (body : Rc (Vec Item Global) Global) → walk_text (item_lines (Repeat k body)) ≡ ended (codes "repeat " ++ decimal k) ++ (walk_text (walk_lines body.value.items) ++ codes "end\n")
+text-repeat k body =
+    ap walk_text (ap (fold-Item (List WalkLine) item_step) (sym (rolls-Repeat k body)) ∙ fold-roll-Item (List WalkLine) item_step (Item-F.Repeat k body) ∙ ap (repeated_lines k) (flat_map-joined item_lines body.value.items))
+    ∙ ap (λ (t : List ℕ). ended (codes "repeat " ++ decimal k) ++ t) (flat_map-append (λ x. ended (walk_words x)) (walk_lines body.value.items) (w.End ∷ []))
+
+-- what a push adds
+pub push_done : {T E : Type 0} (r : Result T E) (old new added : List ℕ) (Q : Type 0) → new ≡ (if is_ok r then old ++ added else old) → (new ≡ old ++ added → Q) → OnOk r Q
+push_done (Ok x) old new added Q e q = q e
+push_done (Err f) old new added Q e q = tt
+
+pub by_items : (items : List Item) → flat_map (λ i. walk_text (item_lines i)) items ≡ walk_text (walk_lines items)
+by_items [] = refl
+by_items (i ∷ items) = ap (λ (t : List ℕ). walk_text (item_lines i) ++ t) (by_items items) ∙ sym (flat_map-append (λ x. ended (walk_words x)) (item_lines i) (walk_lines items))
+
+-- ## Calls and prices
+
+pub joined_behind : (mark : ℕ) (spell : ℕ → List ℕ) (n : ℕ) (ns : List ℕ) → join_with_byte mark (map spell (n ∷ ns)) ≡ spell n ++ flat_map (λ x. mark ∷ spell x) ns
+joined_behind mark spell n [] = sym (append-nil (spell n))
+joined_behind mark spell n (m ∷ ns) = ap (λ (t : List ℕ). spell n ++ mark ∷ t) (joined_behind mark spell m ns)
+
+-- ## The whole
+
+walk_part : (ws : List WalkLine) → text_of (map l.Walk ws) ≡ walk_text ws
+walk_part [] = refl
+walk_part (x ∷ ws) = ap (λ (t : List ℕ). ended (walk_words x) ++ t) (walk_part ws)
+
+places_part : (rows : List PlaceRow) → text_of (map l.Place rows) ≡ places_text rows
+places_part [] = refl
+places_part (r ∷ rows) = ap (λ (t : List ℕ). ended (place_words r) ++ t) (places_part rows)
+
+instances_part : (rows : List InstanceRow) → text_of (map l.Instance rows) ≡ instances_text rows
+instances_part [] = refl
+instances_part (r ∷ rows) = ap (λ (t : List ℕ). ended (instance_words r) ++ t) (instances_part rows)
+
+text_of-append : (xs ys : List Line) → text_of (xs ++ ys) ≡ text_of xs ++ text_of ys
+text_of-append xs ys = flat_map-append (λ x. ended (line_words x)) xs ys
+
+pub sections : (c : Said) → cert_text c ≡ head_text c.numbers ++ (ended (codes "bound " ++ decimal c.bound) ++ (walk_text c.walk ++ (codes "close\n" ++ (places_text c.places ++ (instances_text c.instances ++ codes "stop\n")))))
+sections c =
+    text_of-append (head_lines c.numbers) _
+    ∙ ap (λ (t : List ℕ). head_text c.numbers ++ (ended (codes "bound " ++ decimal c.bound) ++ t)) (text_of-append (map l.Walk c.walk) _ ∙ ap (λ (t : List ℕ). t ++ text_of (l.Close ∷ (map l.Place c.places ++ (map l.Instance c.instances ++ l.Stop ∷ [])))) (walk_part c.walk)
+    ∙ ap (λ (t : List ℕ). walk_text c.walk ++ (codes "close\n" ++ t)) (text_of-append (map l.Place c.places) _ ∙ ap (λ (t : List ℕ). t ++ text_of (map l.Instance c.instances ++ l.Stop ∷ [])) (places_part c.places)
+    ∙ ap (λ (t : List ℕ). places_text c.places ++ t) (text_of-append (map l.Instance c.instances) (l.Stop ∷ []) ∙ ap (λ (t : List ℕ). t ++ codes "stop\n") (instances_part c.instances))))
+
+-- ## Lists that are written word by word
+
+pub listed : (calls : List ℕ) (i : ℕ) → 0 < length calls → length (behind_first calls) ≤ i → list_words calls ≡ hex (get_or calls 0 0) ++ flat_map (λ c. 47 ∷ hex c) (take i (behind_first calls))
+listed [] i some le = absurd (omega arith)
+listed (x ∷ xs) i some le =
+    joined_behind 47 hex x xs
+    ∙ ap (λ (ys : List ℕ). hex x ++ flat_map (λ c. 47 ∷ hex c) ys) (sym (take_all i (behind_first (x ∷ xs)) le ∙ behind_is x xs))
+
+pub head_other : (ns : List ℕ) → length ns ≡ 15 → pointwise ◌==◌ ns profile_one ≡ false → head_text ns ≡ codes "arcwcet certificate 2\nprofile" ++ (flat_map (λ n. 32 ∷ decimal n) ns ++ codes "\n")
+head_other [] n other = absurd (omega (arith, n))
+head_other (x ∷ ns) n other =
+    ap (λ (b : Bool). text_of (if b then l.Title One ∷ [] else l.Title Two ∷ l.Profile (x ∷ ns) ∷ [])) other
+    ∙ ap (λ (t : List ℕ). codes "arcwcet certificate 2\nprofile " ++ t) (append-nil (join_with_byte 32 (map decimal (x ∷ ns)) ++ codes "\n") ∙ ap (λ (t : List ℕ). t ++ codes "\n") (joined_behind 32 decimal x ns))
+
+pub seven : (o h b w c p i s : List ℕ) → ((((((o ++ h) ++ b) ++ w) ++ c) ++ p) ++ i) ++ s ≡ o ++ (h ++ (b ++ (w ++ (c ++ (p ++ (i ++ s))))))
+seven o h b w c p i s =
+    append_assoc (((((o ++ h) ++ b) ++ w) ++ c) ++ p) i s ∙ append_assoc ((((o ++ h) ++ b) ++ w) ++ c) p (i ++ s) ∙ append_assoc (((o ++ h) ++ b) ++ w) c (p ++ (i ++ s))
+    ∙ append_assoc ((o ++ h) ++ b) w (c ++ (p ++ (i ++ s))) ∙ append_assoc (o ++ h) b (w ++ (c ++ (p ++ (i ++ s)))) ∙ append_assoc o h (b ++ (w ++ (c ++ (p ++ (i ++ s)))))

@@ -1,0 +1,20 @@
+-- The sections of a certificate's text (our own format).
+use Rattle.std.specs.Prelude.{ℕ, List}
+use Rattle.std.specs.List.{flat_map}
+use Rattle.longest_walk.specs.declared.rows.PlaceRow.{PlaceRow}
+use Rattle.longest_walk.specs.declared.rows.InstanceRow.{InstanceRow}
+use Rattle.certificate.specs.declared.line.WalkLine.{WalkLine}
+use Rattle.certificate.specs.Lines.{head_lines}
+use Rattle.certificate.specs.Words.{ended, instance_words, place_words, text_of, walk_words}
+
+abbrev pub head_text : List ℕ → List ℕ
+head_text numbers = text_of (head_lines numbers)
+
+abbrev pub walk_text : List WalkLine → List ℕ
+walk_text lines = flat_map (λ w. ended (walk_words w)) lines
+
+abbrev pub places_text : List PlaceRow → List ℕ
+places_text rows = flat_map (λ r. ended (place_words r)) rows
+
+abbrev pub instances_text : List InstanceRow → List ℕ
+instances_text rows = flat_map (λ r. ended (instance_words r)) rows

@@ -1,0 +1,38 @@
+ghost use Rattle.std.specs.Prelude.{◌≡◌};
+ghost use Rattle.certificate.specs.declared.fault.CertFault.TheVariants.{Memory};
+
+use std::alloc::{AllocError, AllocFailed};
+use thiserror::Error;
+
+/// Why a text is no certificate.
+#[derive(Clone, Copy, Debug, PartialEq, Eq, Error)]
+pub enum CertFault {
+    /// A growth was refused.
+    #[error("out of memory")]
+    Memory,
+    /// The whole line of this number, counted from 1, does not fit.
+    #[error("line {0} does not fit")]
+    BadLine(usize),
+    /// The text ends within a line or before the line `stop`.
+    #[error("the text ends too early")]
+    Truncated,
+    /// Bytes stand after the line `stop`.
+    #[error("bytes stand after the end")]
+    TrailingBytes,
+}
+
+impl From<AllocError> for CertFault {
+    ghost from_gives = { λ _ fault. fault ≡ Memory };
+
+    fn from(_error: AllocError) -> CertFault {
+        CertFault::Memory
+    }
+}
+
+impl<T: Drop> From<AllocFailed<T>> for CertFault {
+    ghost from_gives = { λ _ fault. fault ≡ Memory };
+
+    fn from(_error: AllocFailed<T>) -> CertFault {
+        CertFault::Memory
+    }
+}

@@ -1,0 +1,28 @@
+//! The text of a certificate: the bound, a walk written with repeats, and the numbers that prove the bound. Each
+//! certificate has one spelling, which [`write_cert`] writes and [`read_cert`] reads.
+#![tactic(auto)]
+
+mod cert;
+mod cuts;
+mod draft;
+mod fault;
+mod fields;
+mod law;
+mod line;
+mod line_reading;
+mod numbers;
+mod open_walk;
+mod reading;
+#[cfg(test)]
+mod tests;
+mod walk;
+mod writing;
+
+pub use cert::Cert;
+pub use fault::CertFault;
+pub use law::one_text_each;
+pub use line::WalkLine;
+pub use longest_walk::{InstanceRow, PlaceRow, Rows};
+pub use reading::read_cert;
+pub use walk::{CertItem, CertWalk, StepLine, To};
+pub use writing::write_cert;

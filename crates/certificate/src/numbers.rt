@@ -1,0 +1,65 @@
+ghost use Rattle.std.specs.Prelude.{◌≡◌, ◌<◌, ◌^◌, ℕ, true, MatchOption};
+ghost use Rattle.std.specs.Fmt.{decimal, digit_glyph};
+ghost use Rattle.certificate.specs.Words.{hex};
+
+use itoa::Buffer;
+
+fn decimal_in(text: &str) -> Option<u64>
+    ensures { MatchOption result ((n : ℕ) → n < 2 ^ 63 → text.now ≡ decimal n → ⊥) (λ n. (n < 2 ^ 63) × (text.now ≡ decimal n)) }
+{
+    match text.parse::<u64>() {
+        Ok(number) => {
+            if number >= 1 << 63 {
+                return None;
+            }
+            // A sign or a leading zero is no part of the one spelling.
+            if Buffer::new().format(number) != text {
+                return None;
+            }
+            Some(number)
+        }
+        Err(_) => None,
+    }
+}
+
+/// The number below 2^63 that the bytes spell in decimal.
+pub(crate) fn decimal_at(word: &[u8]) -> Option<u64>
+    ensures { MatchOption result ((n : ℕ) → n < 2 ^ 63 → word.now ≡ decimal n → ⊥) (λ n. (n < 2 ^ 63) × (word.now ≡ decimal n)) }
+{
+    match std::str::from_utf8(word) {
+        Ok(text) => decimal_in(text),
+        Err(_) => None,
+    }
+}
+
+/// The value of an upper-case hex digit.
+fn digit_at(byte: u8) -> Option<u32>
+    ensures { MatchOption result ((d : ℕ) → d < 16 → byte ≡ digit_glyph true d → ⊥) (λ d. (d < 16) × (byte ≡ digit_glyph true d)) }
+{
+    match byte {
+        b'0'..=b'9' => Some(u32::from(byte - b'0')),
+        b'A'..=b'F' => Some(u32::from(byte - b'A') + 10),
+        _ => None,
+    }
+}
+
+/// The number below 4000000 (hex) that the bytes spell in upper-case hex.
+pub(crate) fn hex_at(word: &[u8]) -> Option<u32>
+    ensures { MatchOption result ((n : ℕ) → n < 2 ^ 26 → word.now ≡ hex n → ⊥) (λ n. (n < 2 ^ 26) × (word.now ≡ hex n)) }
+{
+    let [first, rest @ ..] = word else {
+        return None;
+    };
+    let mut number = digit_at(*first)?;
+    for byte in rest {
+        // A leading zero is no part of the one spelling, and the number is to stay below 2^26.
+        if number == 0 {
+            return None;
+        }
+        if number >= 1 << 22 {
+            return None;
+        }
+        number = number * 16 + digit_at(*byte)?;
+    }
+    Some(number)
+}
