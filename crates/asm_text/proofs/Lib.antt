@@ -1,0 +1,7 @@
+pub mod PieceLaws
+pub mod WordLaws
+pub mod Capped
+pub mod ListLaws
+pub mod ValueLaws
+pub mod SourceLaws
+pub mod ShownLaws

@@ -1,0 +1,341 @@
+-- What is read is spelled so, and what is spelled so is read.
+use Rattle.std.specs.Prelude.{IfSome, IfOk}
+use Rattle.std.proofs.Common.{◌≡◌, ◌<◌, length-take, ℕ, Bool, true, false, cond, List, [], ◌∷◌, ◌++◌, length, take, drop, Option, Some, None, Result, Ok, Err, codes, refl, sym, ap, subst, ◌∙◌, inl, inr, ◌⊎◌, arith}
+use Rattle.std.specs.Str.{bytes_eq}
+use Rattle.std.proofs.lemmas.List.{take-append-drop, append-nil}
+use Rattle.std.proofs.lemmas.Slice.Eq.{bytes_eq-Decides}
+use Rattle.arm2_decode.specs.declared.names.Cond.{Cond}
+use Rattle.arm2_decode.specs.declared.names.Cond.TheVariants.{Eq, Ne, Cs, Cc, Mi, Pl, Vs, Vc, Hi, Ls, Ge, Lt, Gt, Le, Al, Nv}
+use Rattle.arm2_decode.specs.declared.names.Opcode.{Opcode}
+use Rattle.arm2_decode.specs.declared.names.Opcode.TheVariants.{And, Eor, Sub, Rsb, Add, Adc, Sbc, Rsc, Tst, Teq, Cmp, Cmn, Orr, Mov, Bic, Mvn}
+use Rattle.asm_text.specs.declared.names.Head.{Head}
+use Rattle.asm_text.specs.declared.names.Head.TheVariants.{Data, Multiply, Single, Block, Swi, Adr}
+use Rattle.asm_text.specs.declared.names.Suffix.{Suffix}
+use Rattle.asm_text.specs.declared.names.Suffix.TheVariants.{Bare, S, P, B, T, Bt, Ia, Ib, Da, Db, Fd, Ed, Fa, Ea}
+use Rattle.asm_text.specs.declared.word.Word.{Word}
+use Rattle.asm_text.specs.declared.word.Word.TheVariants.{Plain, Branch, Org, Dcd}
+use Rattle.asm_text.specs.Names.{cond_name, head_name, suffix_name, conds, heads, suffixes, named, cond_of, head_of, suffix_of, may_have}
+use Rattle.asm_text.specs.Words.{IsCond, branch_name, IsWord, IsSpelling, is_one_case, upper, spelled_word_of, word_of_cond, whole_cond, linked, branch_rest, branch_of, allowed, with_suffix, head_cond, head_rest, plain_of, plain_unless, word_of}
+
+pub chosen : {A : Type 0} (b : Bool) (x y z : A) → cond b x y ≡ z → ((b ≡ true) × (x ≡ z)) ⊎ ((b ≡ false) × (y ≡ z))
+chosen true x y z e = inl (refl, e)
+chosen false x y z e = inr (refl, e)
+
+some_is : {A : Type 0} (x y : A) → Some x ≡ Some y → x ≡ y
+some_is x y e = cc
+
+equal_bytes : (xs ys : List ℕ) → bytes_eq xs ys ≡ true → xs ≡ ys
+equal_bytes xs ys e = (bytes_eq-Decides xs ys).0 e
+
+-- what the text names has that name
+pub named_is : {A : Type 0} (name : A → List ℕ) (all : List A) (text : List ℕ) (a : A) → named name all text ≡ Some a → text ≡ name a
+named_is name [] text a e = absurd cc
+named_is name (x ∷ xs) text a e =
+    elim (chosen (bytes_eq text (name x)) (Some x) (named name xs text) (Some a) e) [
+      | inl w ↦ equal_bytes text (name x) w.0 ∙ ap name (some_is x a w.1)
+      | inr w ↦ named_is name xs text a w.1
+    ]
+
+-- ---- each name is its own
+
+cond_again : (c : Cond) (rest : List ℕ) → cond_of (take 2 (cond_name c ++ rest)) ≡ Some c
+cond_again Eq rest = refl
+cond_again Ne rest = refl
+cond_again Cs rest = refl
+cond_again Cc rest = refl
+cond_again Mi rest = refl
+cond_again Pl rest = refl
+cond_again Vs rest = refl
+cond_again Vc rest = refl
+cond_again Hi rest = refl
+cond_again Ls rest = refl
+cond_again Ge rest = refl
+cond_again Lt rest = refl
+cond_again Gt rest = refl
+cond_again Le rest = refl
+cond_again Al rest = refl
+cond_again Nv rest = refl
+
+whole_again : (c : Cond) → whole_cond (cond_name c) ≡ Some c
+whole_again Eq = refl
+whole_again Ne = refl
+whole_again Cs = refl
+whole_again Cc = refl
+whole_again Mi = refl
+whole_again Pl = refl
+whole_again Vs = refl
+whole_again Vc = refl
+whole_again Hi = refl
+whole_again Ls = refl
+whole_again Ge = refl
+whole_again Lt = refl
+whole_again Gt = refl
+whole_again Le = refl
+whole_again Al = refl
+whole_again Nv = refl
+
+after_cond : (c : Cond) (rest : List ℕ) → drop 2 (cond_name c ++ rest) ≡ rest
+after_cond Eq rest = refl
+after_cond Ne rest = refl
+after_cond Cs rest = refl
+after_cond Cc rest = refl
+after_cond Mi rest = refl
+after_cond Pl rest = refl
+after_cond Vs rest = refl
+after_cond Vc rest = refl
+after_cond Hi rest = refl
+after_cond Ls rest = refl
+after_cond Ge rest = refl
+after_cond Lt rest = refl
+after_cond Gt rest = refl
+after_cond Le rest = refl
+after_cond Al rest = refl
+after_cond Nv rest = refl
+
+head_again : (h : Head) (rest : List ℕ) → word_of (head_name h ++ rest) ≡ head_cond h (cond_of (take 2 rest)) rest
+unfolding word_of
+head_again (Data And) rest = refl
+head_again (Data Eor) rest = refl
+head_again (Data Sub) rest = refl
+head_again (Data Rsb) rest = refl
+head_again (Data Add) rest = refl
+head_again (Data Adc) rest = refl
+head_again (Data Sbc) rest = refl
+head_again (Data Rsc) rest = refl
+head_again (Data Tst) rest = refl
+head_again (Data Teq) rest = refl
+head_again (Data Cmp) rest = refl
+head_again (Data Cmn) rest = refl
+head_again (Data Orr) rest = refl
+head_again (Data Mov) rest = refl
+head_again (Data Bic) rest = refl
+head_again (Data Mvn) rest = refl
+head_again (Multiply false) rest = refl
+head_again (Multiply true) rest = refl
+head_again (Single true) rest = refl
+head_again (Single false) rest = refl
+head_again (Block true) rest = refl
+head_again (Block false) rest = refl
+head_again Swi rest = refl
+head_again Adr rest = refl
+
+branch_again : (c : Cond) → word_of (branch_name false ++ cond_name c) ≡ Some (Branch false c)
+unfolding word_of
+branch_again Eq = refl
+branch_again Ne = refl
+branch_again Cs = refl
+branch_again Cc = refl
+branch_again Mi = refl
+branch_again Pl = refl
+branch_again Vs = refl
+branch_again Vc = refl
+branch_again Hi = refl
+branch_again Ls = refl
+branch_again Ge = refl
+branch_again Lt = refl
+branch_again Gt = refl
+branch_again Le = refl
+branch_again Al = refl
+branch_again Nv = refl
+
+link_again : (c : Cond) → word_of (branch_name true ++ cond_name c) ≡ Some (Branch true c)
+unfolding word_of
+link_again Eq = refl
+link_again Ne = refl
+link_again Cs = refl
+link_again Cc = refl
+link_again Mi = refl
+link_again Pl = refl
+link_again Vs = refl
+link_again Vc = refl
+link_again Hi = refl
+link_again Ls = refl
+link_again Ge = refl
+link_again Lt = refl
+link_again Gt = refl
+link_again Le = refl
+link_again Al = refl
+link_again Nv = refl
+
+no_cond : (s : Suffix) → cond_of (take 2 (suffix_name s)) ≡ None
+no_cond Bare = refl
+no_cond S = refl
+no_cond P = refl
+no_cond B = refl
+no_cond T = refl
+no_cond Bt = refl
+no_cond Ia = refl
+no_cond Ib = refl
+no_cond Da = refl
+no_cond Db = refl
+no_cond Fd = refl
+no_cond Ed = refl
+no_cond Fa = refl
+no_cond Ea = refl
+
+suffix_again : (s : Suffix) → suffix_of (suffix_name s) ≡ Some s
+suffix_again Bare = refl
+suffix_again S = refl
+suffix_again P = refl
+suffix_again B = refl
+suffix_again T = refl
+suffix_again Bt = refl
+suffix_again Ia = refl
+suffix_again Ib = refl
+suffix_again Da = refl
+suffix_again Db = refl
+suffix_again Fd = refl
+suffix_again Ed = refl
+suffix_again Fa = refl
+suffix_again Ea = refl
+
+suffixed_again : (h : Head) (c : Cond) (s : Suffix) → may_have h s ≡ true → with_suffix h c (suffix_of (suffix_name s)) ≡ Some (Plain h c s)
+suffixed_again h c s m = ap (with_suffix h c) (suffix_again s) ∙ rw m refl
+
+-- what is spelled so is read
+pub word_again : (text : List ℕ) (w : Word) → IsWord text w → word_of text ≡ Some w
+word_again text (Plain h c s) m =
+    let whole = ap word_of m.3 ∙ head_again h (m.0 ++ suffix_name s) in
+    elim m.1 [
+      | inl is ↦ whole ∙ rw (is, cond_again c (suffix_name s), after_cond c (suffix_name s)) (suffixed_again h c s m.2)
+      | inr is ↦ whole ∙ rw (is.0, no_cond s, is.1) (suffixed_again h Al s m.2)
+    ]
+word_again text (Branch false c) h =
+    elim h.1 [
+      | inl is ↦ ap word_of (h.2 ∙ ap (λ (t : List ℕ). branch_name false ++ t) is) ∙ branch_again c
+      | inr is ↦ ap word_of (h.2 ∙ ap (λ (t : List ℕ). branch_name false ++ t) is.0) ∙ (let one : word_of (codes "B") ≡ Some (Branch false Al) = unfold word_of in refl in one) ∙ ap (λ (d : Cond). Some (Branch false d)) (sym is.1)
+    ]
+word_again text (Branch true c) h =
+    elim h.1 [
+      | inl is ↦ ap word_of (h.2 ∙ ap (λ (t : List ℕ). branch_name true ++ t) is) ∙ link_again c
+      | inr is ↦ ap word_of (h.2 ∙ ap (λ (t : List ℕ). branch_name true ++ t) is.0) ∙ (let one : word_of (codes "BL") ≡ Some (Branch true Al) = unfold word_of in refl in one) ∙ ap (λ (d : Cond). Some (Branch true d)) (sym is.1)
+    ]
+word_again text Org h = ap word_of h ∙ (let one : word_of (codes "ORG") ≡ Some Org = unfold word_of in refl in one)
+word_again text Dcd h = ap word_of h ∙ (let one : word_of (codes "DCD") ≡ Some Dcd = unfold word_of in refl in one)
+
+-- ---- what is read is spelled so
+
+whole_is : (text : List ℕ) (c : Cond) → whole_cond text ≡ Some c → IsCond text c
+whole_is [] c e = inr (refl, sym (some_is Al c e))
+whole_is (b ∷ bs) c e = inl (named_is cond_name conds (b ∷ bs) c e)
+
+made_is : (make : Cond → Word) (o : Option Cond) (w : Word) → word_of_cond make o ≡ Some w → (c : Cond) × (o ≡ Some c) × (make c ≡ w)
+made_is make None w e = absurd cc
+made_is make (Some c) w e = (c, refl, some_is (make c) w e)
+
+nothing_is : {A : Type 0} (w : A) → None ≡ Some w → ⊥
+nothing_is w e = cc
+
+linked_is : (text : List ℕ) (w : Word) → linked text ≡ Some w → (rest : List ℕ) × (c : Cond) × (text ≡ codes "L" ++ rest) × IsCond rest c × (w ≡ Branch true c)
+linked_is [] w e = absurd cc
+linked_is (b ∷ rest) w e =
+    elim (chosen (bytes_eq (b ∷ []) (codes "L")) (word_of_cond (Branch true) (whole_cond rest)) None (Some w) e) [
+      | inl h ↦
+          let m = made_is (Branch true) (whole_cond rest) w h.1 in
+          (rest, m.0, ap (λ (t : List ℕ). t ++ rest) (equal_bytes (b ∷ []) (codes "L") h.0), whole_is rest m.0 m.1, sym m.2)
+      | inr h ↦ absurd (nothing_is w h.1)
+    ]
+
+branch_rest_is : (o : Option Cond) (rest : List ℕ) (w : Word) → whole_cond rest ≡ o → branch_rest o rest ≡ Some w → IsWord (codes "B" ++ rest) w
+branch_rest_is (Some c) rest w is e = subst (IsWord (codes "B" ++ rest)) (some_is (Branch false c) w e) (rest, whole_is rest c is, refl)
+branch_rest_is None rest w is e =
+    let l = linked_is rest w e in
+    subst (IsWord (codes "B" ++ rest)) (sym l.4) (l.0, l.3, ap (λ (t : List ℕ). codes "B" ++ t) l.2)
+
+branch_is : (text : List ℕ) (w : Word) → branch_of text ≡ Some w → IsWord text w
+branch_is [] w e = absurd cc
+branch_is (b ∷ rest) w e =
+    elim (chosen (bytes_eq (b ∷ []) (codes "B")) (branch_rest (whole_cond rest) rest) None (Some w) e) [
+      | inl h ↦ subst (λ (t : List ℕ). IsWord (t ++ rest) w) (sym (equal_bytes (b ∷ []) (codes "B") h.0)) (branch_rest_is (whole_cond rest) rest w refl h.1)
+      | inr h ↦ absurd (nothing_is w h.1)
+    ]
+
+suffixed_is : (h : Head) (c : Cond) (o : Option Suffix) (rest : List ℕ) (w : Word) → suffix_of rest ≡ o → with_suffix h c o ≡ Some w → (s : Suffix) × (may_have h s ≡ true) × (rest ≡ suffix_name s) × (w ≡ Plain h c s)
+suffixed_is h c None rest w is e = absurd cc
+suffixed_is h c (Some s) rest w is e =
+    elim (chosen (may_have h s) (Some (Plain h c s)) None (Some w) e) [
+      | inl m ↦ (s, m.0, named_is suffix_name suffixes rest s is, sym (some_is (Plain h c s) w m.1))
+      | inr m ↦ absurd (nothing_is w m.1)
+    ]
+
+head_cond_is : (h : Head) (o : Option Cond) (rest : List ℕ) (w : Word) → cond_of (take 2 rest) ≡ o → head_cond h o rest ≡ Some w → IsWord (head_name h ++ rest) w
+head_cond_is h (Some c) rest w is e =
+    let m = suffixed_is h c (suffix_of (drop 2 rest)) (drop 2 rest) w refl e in
+    let name = named_is cond_name conds (take 2 rest) c is in
+    let parts : rest ≡ cond_name c ++ suffix_name m.0 = sym (take-append-drop 2 rest) ∙ ap (λ (t : List ℕ). t ++ drop 2 rest) name ∙ ap (λ (t : List ℕ). cond_name c ++ t) m.2 in
+    subst (IsWord (head_name h ++ rest)) (sym m.3) (cond_name c, inl refl, m.1, ap (λ (t : List ℕ). head_name h ++ t) parts)
+head_cond_is h None rest w is e =
+    let m = suffixed_is h Al (suffix_of rest) rest w refl e in
+    subst (IsWord (head_name h ++ rest)) (sym m.3) ([], inr (refl, refl), m.1, ap (λ (t : List ℕ). head_name h ++ t) m.2)
+
+head_rest_is : (o : Option Head) (text : List ℕ) (w : Word) → head_of (take 3 text) ≡ o → head_rest o (drop 3 text) ≡ Some w → IsWord text w
+head_rest_is None text w is e = absurd cc
+head_rest_is (Some h) text w is e =
+    let name = named_is head_name heads (take 3 text) h is in
+    let parts : head_name h ++ drop 3 text ≡ text = rw (← name) (take-append-drop 3 text) in
+    subst (λ (t : List ℕ). IsWord t w) parts (head_cond_is h (cond_of (take 2 (drop 3 text))) (drop 3 text) w refl e)
+
+unless_is : (o : Option Word) (text : List ℕ) (w : Word) → branch_of text ≡ o → plain_unless o text ≡ Some w → IsWord text w
+unless_is (Some v) text w is e = branch_is text w (is ∙ e)
+unless_is None text w is e = head_rest_is (head_of (take 3 text)) text w refl e
+
+pub word_is : (text : List ℕ) (w : Word) → word_of text ≡ Some w → IsWord text w
+unfolding word_of
+word_is text w e =
+    elim (chosen (bytes_eq text (codes "ORG")) (Some Org) _ (Some w) e) [
+      | inl h ↦ subst (IsWord text) (some_is Org w h.1) (equal_bytes text (codes "ORG") h.0)
+      | inr g ↦ elim (chosen (bytes_eq text (codes "DCD")) (Some Dcd) _ (Some w) g.1) [
+        | inl h ↦ subst (IsWord text) (some_is Dcd w h.1) (equal_bytes text (codes "DCD") h.0)
+        | inr h ↦ unless_is (branch_of text) text w refl h.1
+      ]
+    ]
+
+cond_len : (c : Cond) → length (cond_name c) ≡ 2
+cond_len Eq = refl
+cond_len Ne = refl
+cond_len Cs = refl
+cond_len Cc = refl
+cond_len Mi = refl
+cond_len Pl = refl
+cond_len Vs = refl
+cond_len Vc = refl
+cond_len Hi = refl
+cond_len Ls = refl
+cond_len Ge = refl
+cond_len Lt = refl
+cond_len Gt = refl
+cond_len Le = refl
+cond_len Al = refl
+cond_len Nv = refl
+
+short_named : (o : Option Cond) (text : List ℕ) → cond_of text ≡ o → length text < 2 → o ≡ None
+short_named None text is lt = refl
+short_named (Some c) text is lt = absurd (omega (arith, ap length (named_is cond_name conds text c is), cond_len c))
+
+-- a text of less than two letters names no condition
+pub short_cond : (text : List ℕ) → length text < 2 → cond_of (take 2 text) ≡ None
+short_cond text lt = short_named (cond_of (take 2 text)) (take 2 text) refl (omega (arith, length-take 2 text))
+
+-- ---- in either case
+
+spelled_is : (text : List ℕ) (w : Word) → spelled_word_of text ≡ Some w → IsSpelling text w
+spelled_is text w e =
+    elim (chosen (is_one_case text) (word_of (upper text)) None (Some w) e) [
+      | inl h ↦ (h.0, word_is (upper text) w h.1)
+      | inr h ↦ absurd (nothing_is w h.1)
+    ]
+
+pub spelled_again : (text : List ℕ) (w : Word) → IsSpelling text w → spelled_word_of text ≡ Some w
+spelled_again text w h = rw h.0 (word_again (upper text) w h.1)
+
+found_is : (text : List ℕ) (o : Option Word) → o ≡ spelled_word_of text → IfSome o (λ w. IsSpelling text w)
+found_is text (Some w) is = spelled_is text w (sym is)
+found_is text None is = tt
+
+pub ok_found : {E : Type 0} (text : List ℕ) (r : Result (Option Word) E) → IfOk r (λ o. o ≡ spelled_word_of text) → IfOk r (λ o. IfSome o (λ w. IsSpelling text w))
+ok_found text (Ok o) is = found_is text o is
+ok_found text (Err e) is = tt
+
+pub ok_only : {E : Type 0} (text : List ℕ) (r : Result (Option Word) E) → IfOk r (λ o. o ≡ spelled_word_of text) → IfOk r (λ o. (w : Word) → IsSpelling text w → o ≡ Some w)
+ok_only text (Ok o) is = λ w h. is ∙ spelled_again text w h
+ok_only text (Err e) is = tt

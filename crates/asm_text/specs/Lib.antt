@@ -1,0 +1,11 @@
+pub mod Pieces
+pub mod Lines
+pub mod Names
+pub mod Words
+pub mod Numbers
+pub mod Registers
+pub mod Said
+pub mod Operands
+pub mod Statements
+pub mod Source
+pub mod Shown

@@ -1,0 +1,49 @@
+-- Numbers of the source: decimal, and hexadecimal behind `0x` or `&`, below 2^32 (our own source format).
+use Rattle.std.specs.Prelude.{◌==◌, ◌&&◌, ◌^◌, nat_lt, min, ℕ, List, [], ◌∷◌, length, Option, Some, None, if◌then◌else◌, option_map}
+use Rattle.std.specs.Char.{is_digit}
+use Rattle.std.specs.List.{list_all}
+use Rattle.std.specs.Str.Parse.{digits_value}
+use Rattle.asm_text.specs.Pieces.{Piece, Run, Comma, Sign, Gap}
+use Rattle.asm_text.specs.declared.token.Mark.{Mark}
+use Rattle.asm_text.specs.declared.token.Mark.TheVariants.{Ampersand}
+
+-- one digit or more, of either case
+abbrev pub digits_of : ℕ → List ℕ → Option ℕ
+digits_of radix d = if nat_lt 0 (length d) && list_all (λ c. is_digit c radix) d then Some (digits_value radix d) else None
+
+-- a number of 32 bits
+abbrev pub fits : Option ℕ → Option ℕ
+fits None = None
+fits (Some n) = if nat_lt n (2 ^ 32) then Some n else None
+
+-- a number that is too large, cut to 2^32
+abbrev pub capped : Option ℕ → Option ℕ
+capped None = None
+capped (Some n) = Some (min n (2 ^ 32))
+
+abbrev pub number_by : ℕ → List ℕ → Option ℕ
+number_by radix d = fits (digits_of radix d)
+
+abbrev pub after_zero : List ℕ → Option ℕ
+after_zero [] = number_by 10 (48 ∷ [])
+after_zero (c ∷ d) = if c == 120 then number_by 16 d else number_by 10 (48 ∷ c ∷ d)
+
+-- behind `0x` hexadecimal, else decimal
+abbrev pub run_number : List ℕ → Option ℕ
+run_number [] = None
+run_number (c ∷ d) = if c == 48 then after_zero d else number_by 10 (c ∷ d)
+
+-- what was read, and the pieces behind it
+abbrev pub with_rest : {A : Type 0} → List Piece → Option A → Option (A × List Piece)
+with_rest ps None = None
+with_rest ps (Some a) = Some (a, ps)
+
+abbrev pub hex_first : List Piece → Option (ℕ × List Piece)
+hex_first (Run d ∷ ps) = with_rest ps (number_by 16 d)
+hex_first _ = None
+
+-- a number at the front
+abbrev pub number_first : List Piece → Option (ℕ × List Piece)
+number_first (Run d ∷ ps) = with_rest ps (run_number d)
+number_first (Sign Ampersand ∷ ps) = hex_first ps
+number_first _ = None

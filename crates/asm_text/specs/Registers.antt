@@ -1,0 +1,45 @@
+-- The names of registers and shifts, wholly in upper or in lower case (our own source format).
+use Rattle.std.specs.Prelude.{ℕ, Bool, ◌||◌, List, [], ◌∷◌, ◌++◌, codes, Option, Some, None, map, if◌then◌else◌}
+use Rattle.std.specs.Str.{bytes_eq, str_to_ascii_lowercase}
+use Rattle.asm_text.specs.Pieces.{Piece, Run, Comma, Sign, Gap}
+use Rattle.asm_text.specs.Numbers.{with_rest}
+use Rattle.arm2_decode.specs.declared.names.Register.{Register}
+use Rattle.arm2_decode.specs.declared.names.Register.TheVariants.{R0, R1, R2, R3, R4, R5, R6, R7, R8, R9, R10, R11, R12, R13, R14, R15}
+use Rattle.arm2_decode.specs.declared.names.Shift.{Shift}
+use Rattle.arm2_decode.specs.declared.names.Shift.TheVariants.{Lsl, Lsr, Asr, Ror}
+
+abbrev pub register_names : List (List ℕ × Register)
+register_names = (codes "R0", R0) ∷ (codes "R1", R1) ∷ (codes "R2", R2) ∷ (codes "R3", R3) ∷ (codes "R4", R4) ∷ (codes "R5", R5) ∷ (codes "R6", R6) ∷ (codes "R7", R7)
+    ∷ (codes "R8", R8) ∷ (codes "R9", R9) ∷ (codes "R10", R10) ∷ (codes "R11", R11) ∷ (codes "R12", R12) ∷ (codes "R13", R13) ∷ (codes "R14", R14) ∷ (codes "R15", R15)
+    ∷ (codes "SP", R13) ∷ (codes "LR", R14) ∷ (codes "PC", R15) ∷ []
+
+abbrev pub shift_names : List (List ℕ × Shift)
+shift_names = (codes "LSL", Lsl) ∷ (codes "LSR", Lsr) ∷ (codes "ASR", Asr) ∷ (codes "ROR", Ror) ∷ []
+
+-- the names, and the same in lower case
+abbrev pub in_both_cases : {A : Type 0} → List (List ℕ × A) → List (List ℕ × A)
+in_both_cases names = names ++ map (λ e. (str_to_ascii_lowercase e.0, e.1)) names
+
+-- what the text names
+abbrev pub found : {A : Type 0} → List (List ℕ × A) → List ℕ → Option A
+found [] text = None
+found (e ∷ es) text = if bytes_eq text e.0 then Some e.1 else found es text
+
+abbrev pub register_of : List ℕ → Option Register
+register_of text = found (in_both_cases register_names) text
+
+abbrev pub shift_of : List ℕ → Option Shift
+shift_of text = found (in_both_cases shift_names) text
+
+abbrev pub is_rrx : List ℕ → Bool
+is_rrx text = bytes_eq text (codes "RRX") || bytes_eq text (codes "rrx")
+
+-- a register at the front
+abbrev pub register_first : List Piece → Option (Register × List Piece)
+register_first (Run r ∷ ps) = with_rest ps (register_of r)
+register_first _ = None
+
+-- a register and a comma
+abbrev pub register_comma_first : List Piece → Option (Register × List Piece)
+register_comma_first (Run r ∷ Comma ∷ ps) = with_rest ps (register_of r)
+register_comma_first _ = None

@@ -1,0 +1,34 @@
+-- The lines of a source (our own source format).
+use Rattle.std.specs.Prelude.{ℕ, ◌==◌, ◌&&◌, not, Bool, true, false, List, [], ◌∷◌, if◌then◌else◌, option_map}
+use Rattle.std.specs.List.{prefix_len}
+use Rattle.asm_text.specs.Said.{said}
+use Rattle.asm_text.specs.Statements.{Parsed}
+use Rattle.asm_text.specs.declared.lines.Line.{Line}
+
+-- what a line says, its label by its bytes
+abbrev pub line_view : Line → Parsed
+line_view line = record { label = option_map (λ name. name.now) line.label; said = option_map said line.statement }
+
+abbrev pub starts_feed : List ℕ → Bool
+starts_feed [] = false
+starts_feed (b ∷ bs) = b == 10
+
+-- a byte in front of lines
+abbrev pub in_front : ℕ → List (List ℕ) → List (List ℕ)
+in_front b [] = (b ∷ []) ∷ []
+in_front b (line ∷ lines) = (b ∷ line) ∷ lines
+
+-- lines end with LF or CR LF; the last may lack it
+unfoldable pub lines_of : List ℕ → List (List ℕ)
+lines_of [] = []
+lines_of (b ∷ bs) = if b == 10 then [] ∷ lines_of bs else (if b == 13 && starts_feed bs then lines_of bs else in_front b (lines_of bs))
+
+-- the bytes in front of the first LF
+abbrev pub feed_len : List ℕ → ℕ
+feed_len text = prefix_len (λ b. not (b == 10)) text
+
+-- a line without the CR at its end
+unfoldable pub no_return : List ℕ → List ℕ
+no_return [] = []
+no_return (b ∷ []) = if b == 13 then [] else b ∷ []
+no_return (b ∷ c ∷ rest) = b ∷ no_return (c ∷ rest)

@@ -1,0 +1,184 @@
+-- Statements, by the pieces that spell them, and lines (our own source format).
+use Rattle.std.specs.Prelude.{ℕ, ◌==◌, ◌&&◌, ◌||◌, not, nat_le, nat_lt, Bool, true, false, List, [], ◌∷◌, Option, Some, None, Result, Ok, Err, option_map, option_and_then, if◌then◌else◌, length, take, drop}
+use Rattle.std.specs.Char.{is_ascii_alphabetic}
+use Rattle.std.specs.List.{list_all, prefix_len}
+use Rattle.arm2_decode.specs.declared.names.Cond.{Cond}
+use Rattle.arm2_decode.specs.declared.names.Register.{Register}
+use Rattle.asm_text.specs.Pieces.{Piece, Run, Comma, Sign, Gap, is_name, pieces}
+use Rattle.asm_text.specs.Numbers.{hex_first, number_by, number_first, run_number, with_rest}
+use Rattle.asm_text.specs.Registers.{register_comma_first}
+use Rattle.asm_text.specs.Words.{spelled_word_of}
+use Rattle.asm_text.specs.Said.{Target, Number, Label, Said, Codes, Refers, Orgs, Lists}
+use Rattle.asm_text.specs.Operands.{address_of, block_of, data_of, is_byte, is_user, product_of, whole}
+use Rattle.asm_text.specs.declared.token.Mark.{Mark}
+use Rattle.asm_text.specs.declared.token.Mark.TheVariants.{Ampersand, OpenBracket}
+use Rattle.asm_text.specs.declared.names.Head.{Head}
+use Rattle.asm_text.specs.declared.names.Head.TheVariants as head
+use Rattle.asm_text.specs.declared.names.Suffix.{Suffix}
+use Rattle.asm_text.specs.declared.word.Word.{Word}
+use Rattle.asm_text.specs.declared.word.Word.TheVariants.{Plain, Branch, Org, Dcd}
+use Rattle.asm_text.specs.declared.said.Action.{Action}
+use Rattle.asm_text.specs.declared.said.Action.TheVariants as action
+use Rattle.asm_text.specs.declared.said.Use.{Use}
+use Rattle.asm_text.specs.declared.said.Use.TheVariants as use_of
+use Rattle.asm_text.specs.declared.statement.Expects.{Expects}
+use Rattle.asm_text.specs.declared.statement.Expects.TheVariants.{Start, Hex, Behind}
+use Rattle.asm_text.specs.declared.statement.Wrong.{Wrong}
+use Rattle.asm_text.specs.declared.statement.Wrong.TheVariants.{NotText, UnknownWord, BadOperand}
+
+-- a letter or `_`, then letters, digits, `_`, at most 32
+abbrev pub is_label : List ℕ → Bool
+is_label [] = false
+is_label (c ∷ cs) = (is_ascii_alphabetic c || c == 95) && (list_all is_name cs && nat_lt (length cs) 32)
+
+-- ---- targets
+
+abbrev pub target_by : Option ℕ → List ℕ → Option Target
+target_by (Some n) d = Some (Number n)
+target_by None d = if is_label d then Some (Label d) else None
+
+-- a number or a label
+abbrev pub run_target : List ℕ → Option Target
+run_target d = target_by (run_number d) d
+
+abbrev pub target_first : List Piece → Option (Target × List Piece)
+target_first (Run d ∷ ps) = with_rest ps (run_target d)
+target_first (Sign Ampersand ∷ ps) = option_map (λ f. (Number f.0, f.1)) (hex_first ps)
+target_first _ = None
+
+abbrev pub only_target : List Piece → Option Target
+only_target ps = whole (target_first ps)
+
+abbrev pub only_number : List Piece → Option ℕ
+only_number ps = whole (number_first ps)
+
+-- ---- the operands of each word
+
+abbrev pub refers : Cond → Use → List Piece → Option Said
+refers c how ps = option_map (Refers (record { cond = c; how = how })) (only_target ps)
+
+abbrev pub single_with : Cond → Bool → Suffix → Register → List Piece → Option Said
+single_with c load s d (Sign OpenBracket ∷ ps) =
+    option_map (λ a. Codes (record { cond = c; action = action.Single (record { load = load; byte = is_byte s; rd = d; address = a }) })) (address_of (is_user s) ps)
+single_with c load s d ps = if is_user s then None else refers c (use_of.Transfer load (is_byte s) d) ps
+
+-- Rd and an address in brackets or a target
+abbrev pub single_said : Cond → Bool → Suffix → List Piece → Option Said
+single_said c load s ps = option_and_then (λ f. single_with c load s f.0 f.1) (register_comma_first ps)
+
+-- Rd and a target
+abbrev pub adr_said : Cond → List Piece → Option Said
+adr_said c ps = option_and_then (λ f. refers c (use_of.Adr f.0) f.1) (register_comma_first ps)
+
+abbrev pub action_of : Head → Suffix → List Piece → Option Action
+action_of (head.Data op) s ps = option_map action.Data (data_of op s ps)
+action_of (head.Multiply a) s ps = option_map action.Multiply (product_of a s ps)
+action_of (head.Block l) s ps = option_map action.Block (block_of l s ps)
+action_of head.Swi s ps = option_map action.Swi (only_number ps)
+action_of _ s ps = None
+
+abbrev pub code_said : Head → Cond → Suffix → List Piece → Option Said
+code_said h c s ps = option_map (λ a. Codes (record { cond = c; action = a })) (action_of h s ps)
+
+abbrev pub plain_said : Head → Cond → Suffix → List Piece → Option Said
+plain_said (head.Single load) c s ps = single_said c load s ps
+plain_said head.Adr c s ps = adr_said c ps
+plain_said h c s ps = code_said h c s ps
+
+abbrev pub org_said : List Piece → Option Said
+org_said ps = option_map Orgs (only_number ps)
+
+-- what a piece adds to a list of values, and what comes next
+abbrev pub value_step : Expects → Piece → Option (Option Target × Expects)
+value_step Start (Run d) = option_map (λ v. (Some v, Behind)) (run_target d)
+value_step Start (Sign Ampersand) = Some (None, Hex)
+value_step Hex (Run d) = option_map (λ n. (Some (Number n), Behind)) (number_by 16 d)
+value_step Behind Comma = Some (None, Start)
+value_step _ _ = None
+
+abbrev pub with_value : Option Target → List Target → List Target
+with_value None vs = vs
+with_value (Some v) vs = v ∷ vs
+
+abbrev pub no_values : Expects → Option (List Target)
+no_values Behind = Some []
+no_values _ = None
+
+-- values with commas between them
+abbrev pub values_in : Expects → List Piece → Option (List Target)
+values_in expects [] = no_values expects
+values_in expects (p ∷ ps) = option_and_then (λ f. option_map (with_value f.0) (values_in f.1 ps)) (value_step expects p)
+
+abbrev pub dcd_said : List Piece → Option Said
+dcd_said ps = option_map Lists (values_in Start ps)
+
+abbrev pub operands_of : Word → List Piece → Option Said
+operands_of (Plain h c s) ps = plain_said h c s ps
+operands_of (Branch link c) ps = refers c (use_of.Branch link) ps
+operands_of Org ps = org_said ps
+operands_of Dcd ps = dcd_said ps
+
+-- ---- statements
+
+abbrev pub or_bad : Option Said → Result Said Wrong
+or_bad None = Err BadOperand
+or_bad (Some s) = Ok s
+
+-- a blank and operands behind a word; a word ends at a blank or a comma
+abbrev pub behind_word : Word → List Piece → Result Said Wrong
+behind_word w (Gap ∷ ps) = or_bad (operands_of w ps)
+behind_word w (Sign m ∷ ps) = Err UnknownWord
+behind_word w _ = Err BadOperand
+
+abbrev pub with_word : Option Word → List Piece → Result Said Wrong
+with_word None ps = Err UnknownWord
+with_word (Some w) ps = behind_word w ps
+
+abbrev pub statement_of : List Piece → Result Said Wrong
+statement_of (Run w ∷ ps) = with_word (spelled_word_of w) ps
+statement_of _ = Err UnknownWord
+
+-- ---- lines
+
+-- what a line says: a label, and a statement
+pub record Parsed : Type 0 where
+  pub label : Option (List ℕ)
+  pub said : Option Said
+
+abbrev pub with_label : Option (List ℕ) → Result Said Wrong → Result Parsed Wrong
+with_label label (Ok s) = Ok (record { label = label; said = Some s })
+with_label label (Err wrong) = Err wrong
+
+abbrev pub behind_label : List ℕ → List Piece → Result Parsed Wrong
+behind_label l [] = Ok (record { label = Some l; said = None })
+behind_label l (Gap ∷ ps) = with_label (Some l) (statement_of ps)
+behind_label l _ = Err UnknownWord
+
+-- [label] [blank word [operands]]
+abbrev pub parsed : List Piece → Result Parsed Wrong
+parsed [] = Ok (record { label = None; said = None })
+parsed (Gap ∷ ps) = with_label None (statement_of ps)
+parsed (Run l ∷ ps) = if is_label l then behind_label l ps else Err UnknownWord
+parsed _ = Err UnknownWord
+
+-- 20 to 7E, and a tab
+abbrev pub is_text : ℕ → Bool
+is_text b = (nat_le 32 b && nat_le b 126) || b == 9
+
+-- behind a `;` also 80 to FF
+abbrev pub is_comment_text : ℕ → Bool
+is_comment_text b = is_text b || nat_le 128 b
+
+abbrev pub body_len : List ℕ → ℕ
+body_len line = prefix_len (λ b. not (b == 59)) line
+
+-- in front of the first `;`
+abbrev pub body : List ℕ → List ℕ
+body line = take (body_len line) line
+
+abbrev pub is_text_line : List ℕ → Bool
+is_text_line line = list_all is_text (body line) && list_all is_comment_text (drop (body_len line) line)
+
+-- what a line says
+abbrev pub line_of : List ℕ → Result Parsed Wrong
+line_of line = if is_text_line line then parsed (pieces (body line)) else Err NotText

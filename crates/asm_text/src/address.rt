@@ -1,0 +1,142 @@
+ghost use Rattle.std.specs.Prelude.{◌≡◌, map, option_map};
+ghost use Rattle.asm_text.specs.Pieces.{behind, piece_of};
+ghost use Rattle.asm_text.specs.Operands.{address_of, after_of, bang_of, based as based_of, before_of, address as address_by, closed_of, plain_of, signed_offset as signed_offset_of, number_offset as number_offset_of, offset_first, register_offset as register_offset_of, whole};
+
+use crate::number::first_number;
+use crate::operand::first_shifting;
+use crate::register::first_register;
+use crate::said::{Address, Distance, Shifting};
+use crate::token::{Mark, Token};
+use arm2_decode::Register;
+
+// Whether an offset is added, and its distance.
+type Offset = (bool, Distance);
+
+fn register_offset<'a, 'b>(up: bool, tokens: &'a [Token<'b>]) -> Option<(Offset, &'a [Token<'b>])>
+    ensures { option_map behind result ≡ register_offset_of up (map piece_of tokens.now) }
+{
+    let (m, rest) = first_register(tokens)?;
+    let (shifting, rest) = first_shifting(rest)?;
+    match shifting {
+        Shifting::Amount(amount) => {
+            let distance = Distance::Register(m, amount);
+            Some(((up, distance), rest))
+        }
+        Shifting::Register(_, _) => None,
+    }
+}
+
+fn signed_offset<'a, 'b>(up: bool, tokens: &'a [Token<'b>]) -> Option<(Offset, &'a [Token<'b>])>
+    ensures { option_map behind result ≡ signed_offset_of up (map piece_of tokens.now) }
+{
+    let (n, rest) = first_number(tokens)?;
+    let distance = Distance::Number(n);
+    Some(((up, distance), rest))
+}
+
+fn number_offset<'a, 'b>(tokens: &'a [Token<'b>]) -> Option<(Offset, &'a [Token<'b>])>
+    ensures { option_map behind result ≡ number_offset_of (map piece_of tokens.now) }
+{
+    match tokens {
+        [Token::Sign(Mark::Minus), rest @ ..] => signed_offset(false, rest),
+        _ => signed_offset(true, tokens),
+    }
+}
+
+fn first_offset<'a, 'b>(tokens: &'a [Token<'b>]) -> Option<(Offset, &'a [Token<'b>])>
+    ensures { option_map behind result ≡ offset_first (map piece_of tokens.now) }
+{
+    match tokens {
+        [Token::Sign(Mark::Hash), rest @ ..] => number_offset(rest),
+        [Token::Sign(Mark::Minus), rest @ ..] => register_offset(false, rest),
+        _ => register_offset(true, tokens),
+    }
+}
+
+// An offset, and nothing behind it.
+fn only_offset(tokens: &[Token<'_>]) -> Option<Offset>
+    ensures { result ≡ whole (offset_first (map piece_of tokens.now)) }
+{
+    let (offset, rest) = first_offset(tokens)?;
+    match rest {
+        [] => Some(offset),
+        _ => None,
+    }
+}
+
+// Nothing, or the mark of a base that is written back.
+fn write_back(tokens: &[Token<'_>]) -> Option<bool>
+    ensures { result ≡ bang_of (map piece_of tokens.now) }
+{
+    match tokens {
+        [] => Some(false),
+        [Token::Sign(Mark::Bang)] => Some(true),
+        _ => None,
+    }
+}
+
+fn closed(tokens: &[Token<'_>]) -> Option<bool>
+    ensures { result ≡ closed_of (map piece_of tokens.now) }
+{
+    match tokens {
+        [Token::Sign(Mark::CloseBracket), rest @ ..] => write_back(rest),
+        _ => None,
+    }
+}
+
+fn address_with(rn: Register, before: bool, write_back: bool, offset: Offset) -> Address
+    ensures { result ≡ address_by rn before write_back offset }
+{
+    Address {
+        rn,
+        before,
+        up: offset.0,
+        write_back,
+        distance: offset.1,
+    }
+}
+
+fn before(rn: Register, tokens: &[Token<'_>]) -> Option<Address>
+    ensures { result ≡ before_of rn (map piece_of tokens.now) }
+{
+    let (offset, rest) = first_offset(tokens)?;
+    let write_back = closed(rest)?;
+    Some(address_with(rn, true, write_back, offset))
+}
+
+fn plain(rn: Register, tokens: &[Token<'_>]) -> Option<Address>
+    ensures { result ≡ plain_of rn (map piece_of tokens.now) }
+{
+    let write_back = write_back(tokens)?;
+    Some(address_with(rn, true, write_back, (true, Distance::Number(0))))
+}
+
+fn after(user: bool, rn: Register, tokens: &[Token<'_>]) -> Option<Address>
+    ensures { result ≡ after_of user rn (map piece_of tokens.now) }
+{
+    match tokens {
+        [Token::Comma, rest @ ..] => {
+            let offset = only_offset(rest)?;
+            Some(address_with(rn, false, user, offset))
+        }
+        _ => { if user { None } else { plain(rn, tokens) } }
+    }
+}
+
+fn based(user: bool, rn: Register, tokens: &[Token<'_>]) -> Option<Address>
+    ensures { result ≡ based_of user rn (map piece_of tokens.now) }
+{
+    match tokens {
+        [Token::Sign(Mark::CloseBracket), rest @ ..] => after(user, rn, rest),
+        [Token::Comma, rest @ ..] => { if user { None } else { before(rn, rest) } }
+        _ => None,
+    }
+}
+
+/// An address behind its bracket; that of a User access is post-indexed.
+pub fn address(user: bool, tokens: &[Token<'_>]) -> Option<Address>
+    ensures { result ≡ address_of user (map piece_of tokens.now) }
+{
+    let (rn, rest) = first_register(tokens)?;
+    based(user, rn, rest)
+}

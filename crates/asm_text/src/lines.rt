@@ -1,0 +1,167 @@
+ghost use Rattle.std.specs.Prelude.{◌≡◌, ◌∷◌, [], ◌<◌, ◌≤◌, ◌⊎◌, MatchOption, IfOk, IfErr, Ok, Err, drop, length, map};
+ghost use Rattle.std.specs.List.{list_all};
+ghost use Rattle.asm_text.specs.Pieces.{piece_of};
+ghost use Rattle.asm_text.specs.Statements.{behind_label as label_behind, body_len as body_length, is_comment_text, is_text, is_text_line as text_line, line_of, parsed};
+ghost use Rattle.asm_text.specs.Source.{feed_len, line_view, lines_of, no_return};
+
+use crate::said::Statement;
+use crate::statement::{Wrong, is_label, read_statement};
+use crate::token::{Token, tokens};
+use std::alloc::Global;
+
+/// What a line says.
+#[derive(Drop)]
+pub struct Line<'a> {
+    /// The label in its first column.
+    pub label: Option<&'a [u8]>,
+    pub statement: Option<Statement<'a>>,
+}
+
+fn body_len(text: &[u8]) -> usize
+    ensures len { result ≡ body_length text.now }
+    ensures within { result ≤ length text.now }
+{
+    text.iter().take_while(|b| **b != b';').count()
+}
+
+fn is_text_byte(b: u8) -> bool
+    ensures { result ≡ is_text b }
+{
+    (b >= b' ' && b <= b'~') || b == b'\t'
+}
+
+fn is_comment_byte(b: u8) -> bool
+    ensures { result ≡ is_comment_text b }
+{
+    is_text_byte(b) || b >= 0x80
+}
+
+fn are_text_bytes(text: &[u8]) -> bool
+    ensures { result ≡ list_all is_text text.now }
+{
+    text.iter().all(|b| is_text_byte(*b))
+}
+
+fn are_comment_bytes(text: &[u8]) -> bool
+    ensures { result ≡ list_all is_comment_text text.now }
+{
+    text.iter().all(|b| is_comment_byte(*b))
+}
+
+fn is_text_line(text: &[u8]) -> bool
+    ensures { result ≡ text_line text.now }
+{
+    let (body, comment) = text.split_at(body_len(text));
+    are_text_bytes(body) && are_comment_bytes(comment)
+}
+
+fn behind_label<'a>(alloc: Global, label: &'a [u8], tokens: &[Token<'a>]) -> Result<Line<'a>, Wrong>
+    ensures ok { IfOk result (λ line. label_behind label.now (map piece_of tokens.now) ≡ Ok (line_view line)) }
+    ensures err { IfErr result (λ wrong. (wrong ≡ Wrong.Memory) ⊎ (label_behind label.now (map piece_of tokens.now) ≡ Err wrong)) }
+{
+    match tokens {
+        [] => Ok(Line {
+            label: Some(label),
+            statement: None,
+        }),
+        [Token::Gap, rest @ ..] => {
+            let statement = read_statement(alloc, rest)?;
+            Ok(Line {
+                label: Some(label),
+                statement: Some(statement),
+            })
+        }
+        _ => Err(Wrong::UnknownWord),
+    }
+}
+
+fn parse<'a>(alloc: Global, tokens: &[Token<'a>]) -> Result<Line<'a>, Wrong>
+    ensures ok { IfOk result (λ line. parsed (map piece_of tokens.now) ≡ Ok (line_view line)) }
+    ensures err { IfErr result (λ wrong. (wrong ≡ Wrong.Memory) ⊎ (parsed (map piece_of tokens.now) ≡ Err wrong)) }
+{
+    match tokens {
+        [] => Ok(Line {
+            label: None,
+            statement: None,
+        }),
+        [Token::Gap, rest @ ..] => {
+            let statement = read_statement(alloc, rest)?;
+            Ok(Line {
+                label: None,
+                statement: Some(statement),
+            })
+        }
+        [Token::Run(label), rest @ ..] => {
+            if is_label(label) {
+                behind_label(alloc, label, rest)
+            } else {
+                Err(Wrong::UnknownWord)
+            }
+        }
+        _ => Err(Wrong::UnknownWord),
+    }
+}
+
+/// Reads a line without its end.
+///
+/// # Errors
+///
+/// `NotText`: a byte other than 20 to 7E and a tab, or behind a `;` 80 to FF. `UnknownWord`: the first column holds
+/// neither a blank nor a label, or the text behind it is no word. `BadOperand`: what stands behind the word does
+/// not belong to it. `Memory`: a growth was refused.
+pub fn read_line<'a>(alloc: Global, text: &'a [u8]) -> Result<Line<'a>, Wrong>
+    ensures ok { IfOk result (λ line. line_of text.now ≡ Ok (line_view line)) }
+    ensures err { IfErr result (λ wrong. (wrong ≡ Wrong.Memory) ⊎ (line_of text.now ≡ Err wrong)) }
+{
+    if !is_text_line(text) {
+        return Err(Wrong::NotText);
+    }
+    let body = &text[..body_len(text)];
+    let tokens = tokens(alloc, body)?;
+    parse(alloc, &tokens)
+}
+
+// The bytes before the first line feed.
+fn line_len(text: &[u8]) -> usize
+    ensures len { result ≡ feed_len text.now }
+    ensures within { result ≤ length text.now }
+{
+    text.iter().take_while(|b| **b != b'\n').count()
+}
+
+fn behind(text: &[u8], start: usize) -> &[u8]
+    requires { start ≤ length text.now }
+    ensures { result.now ≡ drop start text.now }
+{
+    &text[start..]
+}
+
+// A line without the CR at its end.
+#[tactic(auto, using(crate::proofs::SourceLaws::return_at, crate::proofs::SourceLaws::return_empty))]
+fn without_return(line: &[u8]) -> &[u8]
+    ensures { result.now ≡ no_return line.now }
+{
+    let len = line.len();
+    if len == 0 {
+        return line;
+    }
+    if line[len - 1] == b'\r' {
+        &line[..len - 1]
+    } else {
+        line
+    }
+}
+
+/// The first line of a source, without its end, and what stands behind it. None where nothing stands.
+pub fn first_line(source: &[u8]) -> Option<(&[u8], &[u8])>
+    ensures { MatchOption result (lines_of source.now ≡ []) (λ f. (lines_of source.now ≡ f.0.now ∷ lines_of f.1.now) × (length f.1.now < length source.now)) }
+{
+    if source.is_empty() {
+        return None;
+    }
+    let len = line_len(source);
+    if len == source.len() {
+        return Some((source, behind(source, len)));
+    }
+    Some((without_return(&source[..len]), behind(source, len + 1)))
+}

@@ -1,0 +1,207 @@
+ghost use Rattle.std.specs.Prelude.{◌≡◌, ◌<◌, ◌≤◌, ◌^◌, IfSome, length, map, option_map};
+ghost use Rattle.asm_text.specs.Pieces.{behind, piece_of};
+ghost use Rattle.asm_text.specs.Operands.{behind_step, block_before, block_based, block_of, block_up, braced as braced_of, caret_of, first_step, list_behind, list_of, list_step, run_bits as run_bits_of, with_bits};
+ghost use Rattle.asm_text.specs.declared.list.Place.TheVariants.{Start};
+
+use crate::names::Suffix;
+use crate::register::{first_register, named_register};
+use crate::said::BlockTransfer;
+use crate::token::{Mark, Token};
+use arm2_decode::Register;
+
+// The registers from one to another, as bits.
+fn run_bits(first: Register, last: Register) -> Option<u32>
+    ensures value { result ≡ run_bits_of first last }
+    ensures fits { IfSome result (λ bits. bits < 2 ^ 16) }
+{
+    let first = first.number();
+    let last = last.number();
+    if first <= last {
+        Some((1 << (last + 1)) - (1 << first))
+    } else {
+        None
+    }
+}
+
+/// Where a reader of a list of registers stands.
+#[derive(Clone, Copy)]
+pub enum Place {
+    /// A register or a run of them comes next.
+    Start,
+    /// Behind a register, which may begin a run.
+    First(Register),
+    /// Behind the mark of a run from a register.
+    To(Register),
+    /// Behind a run.
+    Behind,
+}
+
+/// What a piece does in a list of registers.
+#[derive(Clone, Copy)]
+pub enum Step {
+    /// The list goes on.
+    Goes(u32, Place),
+    /// The list ends.
+    Ends(u32),
+}
+
+// A list with the registers from one to another.
+fn with_run(list: u32, first: Register, last: Register) -> Option<u32>
+    requires { list < 2 ^ 16 }
+    ensures value { result ≡ with_bits list (run_bits_of first last) }
+    ensures fits { IfSome result (λ more. more < 2 ^ 16) }
+{
+    let bits = run_bits(first, last)?;
+    Some(list | bits)
+}
+
+fn step_behind(list: u32, token: Token<'_>) -> Option<Step>
+    requires { list < 2 ^ 16 }
+    ensures value { result ≡ behind_step list (piece_of token.entry) }
+    ensures fits { IfSome result (λ step. list_of step < 2 ^ 16) }
+{
+    match token {
+        Token::Comma => Some(Step::Goes(list, Place::Start)),
+        Token::Sign(Mark::CloseBrace) => Some(Step::Ends(list)),
+        _ => None,
+    }
+}
+
+fn step_first(list: u32, first: Register, token: Token<'_>) -> Option<Step>
+    requires { list < 2 ^ 16 }
+    ensures value { result ≡ first_step list first (piece_of token.entry) }
+    ensures fits { IfSome result (λ step. list_of step < 2 ^ 16) }
+{
+    match token {
+        Token::Sign(Mark::Minus) => Some(Step::Goes(list, Place::To(first))),
+        _ => {
+            let more = with_run(list, first, first)?;
+            step_behind(more, token)
+        }
+    }
+}
+
+fn next_step(list: u32, place: Place, token: Token<'_>) -> Option<Step>
+    requires { list < 2 ^ 16 }
+    ensures value { result ≡ list_step list place (piece_of token.entry) }
+    ensures fits { IfSome result (λ step. list_of step < 2 ^ 16) }
+{
+    match place {
+        Place::Start => match token {
+            Token::Run(name) => {
+                let first = named_register(name)?;
+                Some(Step::Goes(list, Place::First(first)))
+            }
+            _ => None,
+        },
+        Place::First(first) => step_first(list, first, token),
+        Place::To(first) => match token {
+            Token::Run(name) => {
+                let last = named_register(name)?;
+                let more = with_run(list, first, last)?;
+                Some(Step::Goes(more, Place::Behind))
+            }
+            _ => None,
+        },
+        Place::Behind => step_behind(list, token),
+    }
+}
+
+// The registers of a list behind its brace, and the tokens behind it.
+#[tactic(auto, using(crate::proofs::ListLaws::list_turn))]
+fn first_list<'a, 'b>(tokens: &'a [Token<'b>]) -> Option<(u32, &'a [Token<'b>])>
+    ensures value { option_map behind result ≡ list_behind 0 Start (map piece_of tokens.now) }
+    ensures fits { IfSome result (λ f. f.0 < 2 ^ 16) }
+{
+    let mut list = 0;
+    let mut place = Place::Start;
+    for (index, token) in tokens.iter().enumerate() {
+        match next_step(list, place, *token)? {
+            Step::Goes(more, next) => {
+                list = more;
+                place = next;
+            }
+            Step::Ends(whole) => return Some((whole, &tokens[index + 1..])),
+        }
+    }
+    None
+}
+
+// Nothing, or the mark of User registers.
+fn caret(tokens: &[Token<'_>]) -> Option<bool>
+    ensures { result ≡ caret_of (map piece_of tokens.now) }
+{
+    match tokens {
+        [] => Some(false),
+        [Token::Sign(Mark::Caret)] => Some(true),
+        _ => None,
+    }
+}
+
+// Whether the address moves before each word. Stacks grow the other way for loads.
+fn moves_before(load: bool, suffix: Suffix) -> bool
+    ensures { result ≡ block_before load suffix }
+{
+    match suffix {
+        Suffix::Ib | Suffix::Db => true,
+        Suffix::Ed | Suffix::Ea => load,
+        Suffix::Fd | Suffix::Fa => !load,
+        _ => false,
+    }
+}
+
+// Whether the address moves upwards.
+fn moves_up(load: bool, suffix: Suffix) -> bool
+    ensures { result ≡ block_up load suffix }
+{
+    match suffix {
+        Suffix::Ia | Suffix::Ib => true,
+        Suffix::Fd | Suffix::Ed => load,
+        Suffix::Fa | Suffix::Ea => !load,
+        _ => false,
+    }
+}
+
+fn braced(
+    load: bool,
+    suffix: Suffix,
+    rn: Register,
+    write_back: bool,
+    tokens: &[Token<'_>],
+) -> Option<BlockTransfer>
+    ensures { result ≡ braced_of load suffix rn write_back (map piece_of tokens.now) }
+{
+    match tokens {
+        [Token::Comma, Token::Sign(Mark::OpenBrace), rest @ ..] => {
+            let (list, rest) = first_list(rest)?;
+            let user = caret(rest)?;
+            Some(BlockTransfer {
+                load,
+                before: moves_before(load, suffix),
+                up: moves_up(load, suffix),
+                user,
+                write_back,
+                rn,
+                list,
+            })
+        }
+        _ => None,
+    }
+}
+
+fn based(load: bool, suffix: Suffix, rn: Register, tokens: &[Token<'_>]) -> Option<BlockTransfer>
+    ensures { result ≡ block_based load suffix rn (map piece_of tokens.now) }
+{
+    match tokens {
+        [Token::Sign(Mark::Bang), rest @ ..] => braced(load, suffix, rn, true, rest),
+        _ => braced(load, suffix, rn, false, tokens),
+    }
+}
+
+/// The operands of LDM, which loads, or of STM.
+pub fn block(load: bool, suffix: Suffix, tokens: &[Token<'_>]) -> Option<BlockTransfer>
+    ensures { result ≡ block_of load suffix (map piece_of tokens.now) }
+{
+    let (rn, rest) = first_register(tokens)?;
+    based(load, suffix, rn, rest)
+}

@@ -1,0 +1,185 @@
+ghost use Rattle.std.specs.Prelude.{◌≡◌};
+ghost use Rattle.asm_text.specs.Names.{cond_of, head_of, may_have as may_have_suffix, suffix_of, is_compare, is_block_suffix};
+
+use arm2_decode::{Cond, Opcode};
+
+/// The first three letters of a word, but for B, BL, ORG and DCD.
+#[derive(Clone, Copy, Debug, PartialEq, Eq)]
+pub enum Head {
+    /// A data processing word.
+    Data(Opcode),
+    /// MUL, or MLA, which accumulates (true).
+    Multiply(bool),
+    /// STR, or LDR, which loads (true).
+    Single(bool),
+    /// STM, or LDM, which loads (true).
+    Block(bool),
+    /// SWI.
+    Swi,
+    /// ADR.
+    Adr,
+}
+
+/// What stands behind the condition of a word.
+#[derive(Clone, Copy, Debug, PartialEq, Eq)]
+pub enum Suffix {
+    /// Nothing.
+    Bare,
+    /// The flags are set.
+    S,
+    /// The PSR is written by a compare.
+    P,
+    /// A byte.
+    B,
+    /// A User access.
+    T,
+    /// A byte by a User access.
+    Bt,
+    /// Increment after.
+    Ia,
+    /// Increment before.
+    Ib,
+    /// Decrement after.
+    Da,
+    /// Decrement before.
+    Db,
+    /// Full descending stack.
+    Fd,
+    /// Empty descending stack.
+    Ed,
+    /// Full ascending stack.
+    Fa,
+    /// Empty ascending stack.
+    Ea,
+}
+
+// The variant that a text names.
+macro_rules! named {
+    ($text:expr; $($name:literal => $variant:expr,)+) => {
+        match $text {
+            $($name => Some($variant),)+
+            _ => None,
+        }
+    };
+}
+
+/// The condition that a text in upper case names.
+pub fn named_cond(text: &[u8]) -> Option<Cond>
+    ensures { result ≡ cond_of text.now }
+{
+    named!(text;
+        b"EQ" => Cond::Eq,
+        b"NE" => Cond::Ne,
+        b"CS" => Cond::Cs,
+        b"CC" => Cond::Cc,
+        b"MI" => Cond::Mi,
+        b"PL" => Cond::Pl,
+        b"VS" => Cond::Vs,
+        b"VC" => Cond::Vc,
+        b"HI" => Cond::Hi,
+        b"LS" => Cond::Ls,
+        b"GE" => Cond::Ge,
+        b"LT" => Cond::Lt,
+        b"GT" => Cond::Gt,
+        b"LE" => Cond::Le,
+        b"AL" => Cond::Al,
+        b"NV" => Cond::Nv,
+    )
+}
+
+/// The head that a text in upper case names.
+pub fn named_head(text: &[u8]) -> Option<Head>
+    ensures { result ≡ head_of text.now }
+{
+    named!(text;
+        b"AND" => Head::Data(Opcode::And),
+        b"EOR" => Head::Data(Opcode::Eor),
+        b"SUB" => Head::Data(Opcode::Sub),
+        b"RSB" => Head::Data(Opcode::Rsb),
+        b"ADD" => Head::Data(Opcode::Add),
+        b"ADC" => Head::Data(Opcode::Adc),
+        b"SBC" => Head::Data(Opcode::Sbc),
+        b"RSC" => Head::Data(Opcode::Rsc),
+        b"TST" => Head::Data(Opcode::Tst),
+        b"TEQ" => Head::Data(Opcode::Teq),
+        b"CMP" => Head::Data(Opcode::Cmp),
+        b"CMN" => Head::Data(Opcode::Cmn),
+        b"ORR" => Head::Data(Opcode::Orr),
+        b"MOV" => Head::Data(Opcode::Mov),
+        b"BIC" => Head::Data(Opcode::Bic),
+        b"MVN" => Head::Data(Opcode::Mvn),
+        b"MUL" => Head::Multiply(false),
+        b"MLA" => Head::Multiply(true),
+        b"LDR" => Head::Single(true),
+        b"STR" => Head::Single(false),
+        b"LDM" => Head::Block(true),
+        b"STM" => Head::Block(false),
+        b"SWI" => Head::Swi,
+        b"ADR" => Head::Adr,
+    )
+}
+
+/// The suffix that a text in upper case names.
+pub fn named_suffix(text: &[u8]) -> Option<Suffix>
+    ensures { result ≡ suffix_of text.now }
+{
+    named!(text;
+        b"" => Suffix::Bare,
+        b"S" => Suffix::S,
+        b"P" => Suffix::P,
+        b"B" => Suffix::B,
+        b"T" => Suffix::T,
+        b"BT" => Suffix::Bt,
+        b"IA" => Suffix::Ia,
+        b"IB" => Suffix::Ib,
+        b"DA" => Suffix::Da,
+        b"DB" => Suffix::Db,
+        b"FD" => Suffix::Fd,
+        b"ED" => Suffix::Ed,
+        b"FA" => Suffix::Fa,
+        b"EA" => Suffix::Ea,
+    )
+}
+
+/// Whether a word writes the flags alone.
+pub fn compares(opcode: Opcode) -> bool
+    ensures { result ≡ is_compare opcode }
+{
+    matches!(
+        opcode,
+        Opcode::Tst | Opcode::Teq | Opcode::Cmp | Opcode::Cmn
+    )
+}
+
+fn orders_block(suffix: Suffix) -> bool
+    ensures { result ≡ is_block_suffix suffix }
+{
+    matches!(
+        suffix,
+        Suffix::Ia
+            | Suffix::Ib
+            | Suffix::Da
+            | Suffix::Db
+            | Suffix::Fd
+            | Suffix::Ed
+            | Suffix::Fa
+            | Suffix::Ea
+    )
+}
+
+/// Whether a word of the head may have the suffix.
+pub fn may_have(head: Head, suffix: Suffix) -> bool
+    ensures { result ≡ may_have_suffix head suffix }
+{
+    match head {
+        Head::Data(opcode) => match suffix {
+            Suffix::Bare | Suffix::S => true,
+            Suffix::P => compares(opcode),
+            _ => false,
+        },
+        Head::Multiply(_) => matches!(suffix, Suffix::Bare | Suffix::S),
+        Head::Single(_) => matches!(suffix, Suffix::Bare | Suffix::B | Suffix::T | Suffix::Bt),
+        Head::Block(_) => orders_block(suffix),
+        Head::Swi | Head::Adr => matches!(suffix, Suffix::Bare),
+    }
+}

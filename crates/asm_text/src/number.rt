@@ -1,0 +1,81 @@
+ghost use Rattle.std.specs.Prelude.{◌≡◌, ◌^◌, ◌≤◌, ◌⊎◌, map, option_map};
+ghost use Rattle.asm_text.specs.Pieces.{behind, piece_of};
+ghost use Rattle.asm_text.specs.Numbers.{capped, digits_of, hex_first, number_by, number_first, run_number};
+
+use crate::token::{Mark, Token};
+
+// The first number that has no 32 bits.
+const LIMIT: u64 = 0x1_0000_0000;
+
+// The number of the digits, or 2^32 where it is larger.
+fn capped_number(radix: u32, text: &[u8]) -> Option<u64>
+    requires { (radix ≡ 10) ⊎ (radix ≡ 16) }
+    ensures { result ≡ capped (digits_of radix text.now) }
+{
+    if text.is_empty() {
+        return None;
+    }
+    let mut value = 0;
+    for byte in text {
+        let digit = char::from(*byte).to_digit(radix)?;
+        value = (value * u64::from(radix) + u64::from(digit)).min(LIMIT);
+    }
+    Some(value)
+}
+
+#[tactic(auto, using(crate::proofs::Capped::capped_fits))]
+fn number(radix: u32, text: &[u8]) -> Option<u32>
+    requires { (radix ≡ 10) ⊎ (radix ≡ 16) }
+    ensures { result ≡ number_by radix text.now }
+{
+    let value = capped_number(radix, text)?;
+    if value < LIMIT {
+        Some(value as u32)
+    } else {
+        None
+    }
+}
+
+/// The number that a run of letters and digits spells: decimal, or hexadecimal behind `0x`, below 2^32.
+pub fn read_number(text: &[u8]) -> Option<u32>
+    ensures { result ≡ run_number text.now }
+{
+    match text {
+        [b'0', b'x', hex @ ..] => read_hex(hex),
+        _ => number(10, text),
+    }
+}
+
+/// The number that hexadecimal digits spell, below 2^32.
+pub fn read_hex(text: &[u8]) -> Option<u32>
+    ensures { result ≡ number_by 16 text.now }
+{
+    number(16, text)
+}
+
+/// The hexadecimal number that some tokens begin with, and those behind it.
+pub fn first_hex<'a, 'b>(tokens: &'a [Token<'b>]) -> Option<(u32, &'a [Token<'b>])>
+    ensures { option_map behind result ≡ hex_first (map piece_of tokens.now) }
+{
+    match tokens {
+        [Token::Run(text), rest @ ..] => {
+            let n = read_hex(text)?;
+            Some((n, rest))
+        }
+        _ => None,
+    }
+}
+
+/// The number that some tokens begin with, and those behind it.
+pub fn first_number<'a, 'b>(tokens: &'a [Token<'b>]) -> Option<(u32, &'a [Token<'b>])>
+    ensures { option_map behind result ≡ number_first (map piece_of tokens.now) }
+{
+    match tokens {
+        [Token::Run(text), rest @ ..] => {
+            let n = read_number(text)?;
+            Some((n, rest))
+        }
+        [Token::Sign(Mark::Ampersand), rest @ ..] => first_hex(rest),
+        _ => None,
+    }
+}

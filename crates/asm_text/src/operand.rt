@@ -1,0 +1,235 @@
+ghost use Rattle.std.specs.Prelude.{◌≡◌, map, option_map};
+ghost use Rattle.asm_text.specs.Pieces.{behind, piece_of};
+ghost use Rattle.asm_text.specs.Operands.{amount_behind, compare_of, data_behind, data_of, factors_of, is_move, is_s, compare_rd as rd_of_compare, move_of, operand_of, product_of, shift_by, shift_first, shift_words, shifting_first, sum_of, three_of, whole};
+ghost use Rattle.asm_text.specs.Registers.{register_first};
+
+use crate::names::{Suffix, compares};
+use crate::number::first_number;
+use crate::register::{
+    first_register, first_register_comma, named_register, named_shift, names_rrx,
+};
+use crate::said::{Amount, Data, Operand, Product, Shifting};
+use crate::token::{Mark, Token};
+use arm2_decode::{Opcode, Register, Shift};
+
+fn first_amount<'a, 'b>(
+    shift: Shift,
+    tokens: &'a [Token<'b>],
+) -> Option<(Shifting, &'a [Token<'b>])>
+    ensures { option_map behind result ≡ amount_behind shift (map piece_of tokens.now) }
+{
+    let (n, rest) = first_number(tokens)?;
+    Some((Shifting::Amount(Amount::By(shift, n)), rest))
+}
+
+fn first_shift_by<'a, 'b>(
+    shift: Shift,
+    tokens: &'a [Token<'b>],
+) -> Option<(Shifting, &'a [Token<'b>])>
+    ensures { option_map behind result ≡ shift_by shift (map piece_of tokens.now) }
+{
+    match tokens {
+        [Token::Sign(Mark::Hash), rest @ ..] => first_amount(shift, rest),
+        [Token::Run(text), rest @ ..] => {
+            let r = named_register(text)?;
+            Some((Shifting::Register(shift, r), rest))
+        }
+        _ => None,
+    }
+}
+
+fn first_shift_words<'a, 'b>(
+    name: &[u8],
+    tokens: &'a [Token<'b>],
+) -> Option<(Shifting, &'a [Token<'b>])>
+    ensures { option_map behind result ≡ shift_words name.now (map piece_of tokens.now) }
+{
+    match tokens {
+        [Token::Gap, rest @ ..] => {
+            let shift = named_shift(name)?;
+            first_shift_by(shift, rest)
+        }
+        _ => {
+            if names_rrx(name) {
+                Some((Shifting::Amount(Amount::Rrx), tokens))
+            } else {
+                None
+            }
+        }
+    }
+}
+
+fn first_shift<'a, 'b>(tokens: &'a [Token<'b>]) -> Option<(Shifting, &'a [Token<'b>])>
+    ensures { option_map behind result ≡ shift_first (map piece_of tokens.now) }
+{
+    match tokens {
+        [Token::Run(name), rest @ ..] => first_shift_words(name, rest),
+        _ => None,
+    }
+}
+
+/// How a register is shifted that stands in front of some tokens, and the tokens behind the shift.
+pub fn first_shifting<'a, 'b>(tokens: &'a [Token<'b>]) -> Option<(Shifting, &'a [Token<'b>])>
+    ensures { option_map behind result ≡ shifting_first (map piece_of tokens.now) }
+{
+    match tokens {
+        [Token::Comma, rest @ ..] => first_shift(rest),
+        _ => Some((Shifting::Amount(Amount::By(Shift::Lsl, 0)), tokens)),
+    }
+}
+
+/// A register, and nothing behind it.
+pub fn only_register(tokens: &[Token<'_>]) -> Option<Register>
+    ensures { result ≡ whole (register_first (map piece_of tokens.now)) }
+{
+    let (r, rest) = first_register(tokens)?;
+    if rest.is_empty() { Some(r) } else { None }
+}
+
+fn operand(tokens: &[Token<'_>]) -> Option<Operand>
+    ensures { result ≡ operand_of (map piece_of tokens.now) }
+{
+    match tokens {
+        [Token::Sign(Mark::Hash), rest @ ..] => {
+            let (n, rest) = first_number(rest)?;
+            if rest.is_empty() {
+                Some(Operand::Immediate(n))
+            } else {
+                None
+            }
+        }
+        [Token::Run(text), rest @ ..] => {
+            let m = named_register(text)?;
+            let (shifting, rest) = first_shifting(rest)?;
+            if rest.is_empty() {
+                Some(Operand::Shifted(m, shifting))
+            } else {
+                None
+            }
+        }
+        _ => None,
+    }
+}
+
+fn moves(opcode: Opcode) -> bool
+    ensures { result ≡ is_move opcode }
+{
+    matches!(opcode, Opcode::Mov | Opcode::Mvn)
+}
+
+fn sets_flags(suffix: Suffix) -> bool
+    ensures { result ≡ is_s suffix }
+{
+    matches!(suffix, Suffix::S)
+}
+
+fn compare_rd(suffix: Suffix) -> Register
+    ensures { result ≡ rd_of_compare suffix }
+{
+    match suffix {
+        Suffix::P => Register::R15,
+        _ => Register::R0,
+    }
+}
+
+fn compare(opcode: Opcode, suffix: Suffix, rn: Register, tokens: &[Token<'_>]) -> Option<Data>
+    ensures { result ≡ compare_of opcode suffix rn (map piece_of tokens.now) }
+{
+    let operand = operand(tokens)?;
+    Some(Data {
+        opcode,
+        sets_flags: true,
+        rn,
+        rd: compare_rd(suffix),
+        operand,
+    })
+}
+
+fn move_data(opcode: Opcode, suffix: Suffix, rd: Register, tokens: &[Token<'_>]) -> Option<Data>
+    ensures { result ≡ move_of opcode suffix rd (map piece_of tokens.now) }
+{
+    let operand = operand(tokens)?;
+    Some(Data {
+        opcode,
+        sets_flags: sets_flags(suffix),
+        rn: Register::R0,
+        rd,
+        operand,
+    })
+}
+
+fn three(opcode: Opcode, suffix: Suffix, rd: Register, tokens: &[Token<'_>]) -> Option<Data>
+    ensures { result ≡ three_of opcode suffix rd (map piece_of tokens.now) }
+{
+    let (rn, rest) = first_register_comma(tokens)?;
+    let operand = operand(rest)?;
+    Some(Data {
+        opcode,
+        sets_flags: sets_flags(suffix),
+        rn,
+        rd,
+        operand,
+    })
+}
+
+fn data_with(opcode: Opcode, suffix: Suffix, r: Register, tokens: &[Token<'_>]) -> Option<Data>
+    ensures { result ≡ data_behind opcode suffix r (map piece_of tokens.now) }
+{
+    if compares(opcode) {
+        compare(opcode, suffix, r, tokens)
+    } else if moves(opcode) {
+        move_data(opcode, suffix, r, tokens)
+    } else {
+        three(opcode, suffix, r, tokens)
+    }
+}
+
+/// The operands of a data processing word.
+pub fn data(opcode: Opcode, suffix: Suffix, tokens: &[Token<'_>]) -> Option<Data>
+    ensures { result ≡ data_of opcode suffix (map piece_of tokens.now) }
+{
+    let (r, rest) = first_register_comma(tokens)?;
+    data_with(opcode, suffix, r, rest)
+}
+
+fn factors(suffix: Suffix, rd: Register, rm: Register, tokens: &[Token<'_>]) -> Option<Product>
+    ensures { result ≡ factors_of suffix rd rm (map piece_of tokens.now) }
+{
+    let rs = only_register(tokens)?;
+    Some(Product {
+        accumulate: false,
+        sets_flags: sets_flags(suffix),
+        rd,
+        rn: Register::R0,
+        rs,
+        rm,
+    })
+}
+
+fn sum(suffix: Suffix, rd: Register, rm: Register, tokens: &[Token<'_>]) -> Option<Product>
+    ensures { result ≡ sum_of suffix rd rm (map piece_of tokens.now) }
+{
+    let (rs, rest) = first_register_comma(tokens)?;
+    let rn = only_register(rest)?;
+    Some(Product {
+        accumulate: true,
+        sets_flags: sets_flags(suffix),
+        rd,
+        rn,
+        rs,
+        rm,
+    })
+}
+
+/// The operands of MUL, or of MLA, which accumulates.
+pub fn product(accumulate: bool, suffix: Suffix, tokens: &[Token<'_>]) -> Option<Product>
+    ensures { result ≡ product_of accumulate suffix (map piece_of tokens.now) }
+{
+    let (rd, rest) = first_register_comma(tokens)?;
+    let (rm, rest) = first_register_comma(rest)?;
+    if accumulate {
+        sum(suffix, rd, rm, rest)
+    } else {
+        factors(suffix, rd, rm, rest)
+    }
+}

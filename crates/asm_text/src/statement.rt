@@ -1,0 +1,356 @@
+ghost use Rattle.std.specs.Prelude.{◌≡◌, ◌++◌, ◌⊎◌, IfOk, IfErr, OnOk, Ok, Err, [], map, option_map};
+ghost use Rattle.std.specs.List.{list_all};
+ghost use Rattle.asm_text.specs.Pieces.{is_name, piece_of};
+ghost use Rattle.asm_text.specs.Operands.{alone, is_byte, is_user};
+ghost use Rattle.asm_text.specs.Said.{said, target_of};
+ghost use Rattle.asm_text.specs.Statements.{action_of, adr_said, code_said, dcd_said, org_said, refers, behind_word as statement_behind, operands_of, only_number as only_number_of, only_target as only_target_of, is_label as label_is, plain_said, run_target as target_of_run, target_first, with_value, single_said, single_with, statement_of, value_step, values_in};
+ghost use Rattle.asm_text.specs.declared.statement.Expects.TheVariants.{Start};
+
+use crate::address::address;
+use crate::list::block;
+use crate::names::{Head, Suffix};
+use crate::number::{first_hex, first_number, read_hex, read_number};
+use crate::operand::{data, product};
+use crate::register::first_register_comma;
+use crate::said::{Action, Code, Reference, Statement, Transfer, Use, Value};
+use crate::token::{Mark, Token};
+use crate::word::{Word, spelled_word};
+use arm2_decode::{Cond, Register};
+use std::alloc::{AllocError, Global};
+
+/// Why a line says nothing.
+#[derive(Clone, Copy, Debug, PartialEq, Eq)]
+pub enum Wrong {
+    /// A growth was refused.
+    Memory,
+    /// A byte that no source has.
+    NotText,
+    /// The line begins with no label or blank, or the text behind is no word.
+    UnknownWord,
+    /// What stands behind the word is no operand of it.
+    BadOperand,
+}
+
+impl From<AllocError> for Wrong {
+    ghost use Rattle.std.specs.Prelude.{◌≡◌};
+    ghost use Rattle.asm_text.specs.declared.statement.Wrong.TheVariants.{Memory};
+
+    ghost from_gives = { λ _ wrong. wrong ≡ Memory };
+
+    fn from(_refused: AllocError) -> Wrong {
+        Wrong::Memory
+    }
+}
+
+/// What may come next in a list of values.
+#[derive(Clone, Copy)]
+pub enum Expects {
+    /// A value.
+    Start,
+    /// The digits behind `&`.
+    Hex,
+    /// A comma, or the end.
+    Behind,
+}
+
+fn letters(text: &[u8]) -> bool
+    ensures { result ≡ list_all is_name text.now }
+{
+    text.iter().all(|b| b.is_ascii_alphanumeric() || *b == b'_')
+}
+
+/// Whether a text is a label: a letter or `_`, then letters, digits and `_`, at most 32 in all.
+pub fn is_label(text: &[u8]) -> bool
+    ensures { result ≡ label_is text.now }
+{
+    match text {
+        [first, rest @ ..] => {
+            (first.is_ascii_alphabetic() || *first == b'_') && letters(rest) && rest.len() < 32
+        }
+        _ => false,
+    }
+}
+
+fn run_target<'a>(text: &'a [u8]) -> Option<Value<'a>>
+    ensures { option_map target_of result ≡ target_of_run text.now }
+{
+    if let Some(n) = read_number(text) {
+        Some(Value::Number(n))
+    } else if is_label(text) {
+        Some(Value::Label(text))
+    } else {
+        None
+    }
+}
+
+// The number that is all of some tokens.
+fn only_number(tokens: &[Token<'_>]) -> Option<u32>
+    ensures { result ≡ only_number_of (map piece_of tokens.now) }
+{
+    let (n, rest) = first_number(tokens)?;
+    match rest {
+        [] => Some(n),
+        _ => None,
+    }
+}
+
+// The number or label that some tokens begin with, and those behind it.
+fn first_target<'a, 'b>(tokens: &'a [Token<'b>]) -> Option<(Value<'b>, &'a [Token<'b>])>
+    ensures { option_map (λ f. (target_of f.0, map piece_of f.1.now)) result ≡ target_first (map piece_of tokens.now) }
+{
+    match tokens {
+        [Token::Run(text), rest @ ..] => {
+            let value = run_target(text)?;
+            Some((value, rest))
+        }
+        [Token::Sign(Mark::Ampersand), rest @ ..] => {
+            let (n, rest) = first_hex(rest)?;
+            Some((Value::Number(n), rest))
+        }
+        _ => None,
+    }
+}
+
+// A value with nothing behind it.
+fn alone_target<'a>(value: Value<'a>, rest: &[Token<'_>]) -> Option<Value<'a>>
+    ensures { option_map target_of result ≡ alone (target_of value.entry) (map piece_of rest.now) }
+{
+    match rest {
+        [] => Some(value),
+        _ => None,
+    }
+}
+
+// The number or label that is all of some tokens.
+fn only_target<'a>(tokens: &[Token<'a>]) -> Option<Value<'a>>
+    ensures { option_map target_of result ≡ only_target_of (map piece_of tokens.now) }
+{
+    let (value, rest) = first_target(tokens)?;
+    alone_target(value, rest)
+}
+
+fn is_byte_suffix(suffix: Suffix) -> bool
+    ensures { result ≡ is_byte suffix }
+{
+    matches!(suffix, Suffix::B | Suffix::Bt)
+}
+
+fn is_user_suffix(suffix: Suffix) -> bool
+    ensures { result ≡ is_user suffix }
+{
+    matches!(suffix, Suffix::T | Suffix::Bt)
+}
+
+pub fn refer<'a>(cond: Cond, how: Use, tokens: &[Token<'a>]) -> Option<Statement<'a>>
+    ensures { option_map said result ≡ refers cond how (map piece_of tokens.now) }
+{
+    let value = only_target(tokens)?;
+    Some(Statement::Refer(Reference { cond, how }, value))
+}
+
+fn single_at<'a>(
+    cond: Cond,
+    load: bool,
+    suffix: Suffix,
+    rd: Register,
+    tokens: &[Token<'a>],
+) -> Option<Statement<'a>>
+    ensures { option_map said result ≡ single_with cond load suffix rd (map piece_of tokens.now) }
+{
+    let byte = is_byte_suffix(suffix);
+    let user = is_user_suffix(suffix);
+    match tokens {
+        [Token::Sign(Mark::OpenBracket), rest @ ..] => {
+            let address = address(user, rest)?;
+            let transfer = Transfer {
+                load,
+                byte,
+                rd,
+                address,
+            };
+            let action = Action::Single(transfer);
+            Some(Statement::Code(Code { cond, action }))
+        }
+        _ => {
+            if user {
+                None
+            } else {
+                refer(cond, Use::Transfer(load, byte, rd), tokens)
+            }
+        }
+    }
+}
+
+fn single<'a>(cond: Cond, load: bool, suffix: Suffix, tokens: &[Token<'a>]) -> Option<Statement<'a>>
+    ensures { option_map said result ≡ single_said cond load suffix (map piece_of tokens.now) }
+{
+    let (rd, rest) = first_register_comma(tokens)?;
+    single_at(cond, load, suffix, rd, rest)
+}
+
+fn adr<'a>(cond: Cond, tokens: &[Token<'a>]) -> Option<Statement<'a>>
+    ensures { option_map said result ≡ adr_said cond (map piece_of tokens.now) }
+{
+    let (rd, rest) = first_register_comma(tokens)?;
+    refer(cond, Use::Adr(rd), rest)
+}
+
+// The action of a word without a target.
+fn action(head: Head, suffix: Suffix, tokens: &[Token<'_>]) -> Option<Action>
+    ensures { result ≡ action_of head suffix (map piece_of tokens.now) }
+{
+    match head {
+        Head::Data(opcode) => {
+            let data = data(opcode, suffix, tokens)?;
+            Some(Action::Data(data))
+        }
+        Head::Multiply(accumulate) => {
+            let product = product(accumulate, suffix, tokens)?;
+            Some(Action::Multiply(product))
+        }
+        Head::Block(load) => {
+            let block = block(load, suffix, tokens)?;
+            Some(Action::Block(block))
+        }
+        Head::Swi => {
+            let n = only_number(tokens)?;
+            Some(Action::Swi(n))
+        }
+        Head::Single(_) | Head::Adr => None,
+    }
+}
+
+fn code<'a>(head: Head, cond: Cond, suffix: Suffix, tokens: &[Token<'a>]) -> Option<Statement<'a>>
+    ensures { option_map said result ≡ code_said head cond suffix (map piece_of tokens.now) }
+{
+    let action = action(head, suffix, tokens)?;
+    Some(Statement::Code(Code { cond, action }))
+}
+
+pub fn plain<'a>(
+    head: Head,
+    cond: Cond,
+    suffix: Suffix,
+    tokens: &[Token<'a>],
+) -> Option<Statement<'a>>
+    ensures { option_map said result ≡ plain_said head cond suffix (map piece_of tokens.now) }
+{
+    match head {
+        Head::Single(load) => single(cond, load, suffix, tokens),
+        Head::Adr => adr(cond, tokens),
+        _ => code(head, cond, suffix, tokens),
+    }
+}
+
+fn org<'a>(tokens: &[Token<'a>]) -> Option<Statement<'a>>
+    ensures { option_map said result ≡ org_said (map piece_of tokens.now) }
+{
+    let n = only_number(tokens)?;
+    Some(Statement::Org(n))
+}
+
+// What a piece adds to a list of values, and what comes next.
+fn next_value<'a>(expects: Expects, token: Token<'a>) -> Option<(Option<Value<'a>>, Expects)>
+    ensures { option_map (λ f. (option_map target_of f.0, f.1)) result ≡ value_step expects (piece_of token.entry) }
+{
+    match expects {
+        Expects::Start => match token {
+            Token::Run(text) => {
+                let value = run_target(text)?;
+                Some((Some(value), Expects::Behind))
+            }
+            Token::Sign(Mark::Ampersand) => Some((None, Expects::Hex)),
+            _ => None,
+        },
+        Expects::Hex => match token {
+            Token::Run(text) => {
+                let n = read_hex(text)?;
+                Some((Some(Value::Number(n)), Expects::Behind))
+            }
+            _ => None,
+        },
+        Expects::Behind => match token {
+            Token::Comma => Some((None, Expects::Start)),
+            _ => None,
+        },
+    }
+}
+
+fn push_some<'a>(values: &mut Vec<Value<'a>>, value: Option<Value<'a>>) -> Result<(), AllocError>
+    ensures { OnOk result (map target_of values.new.items ≡ map target_of values.old.items ++ with_value (option_map target_of value.entry) []) }
+{
+    if let Some(value) = value {
+        values.push(value)?;
+    }
+    Ok(())
+}
+
+fn values<'a>(alloc: Global, tokens: &[Token<'a>]) -> Result<Option<Vec<Value<'a>>>, AllocError>
+    ensures { IfOk result (λ found. option_map (λ v. map target_of v.items) found ≡ values_in Start (map piece_of tokens.now)) }
+{
+    let mut values = Vec::new(alloc);
+    let mut expects = Expects::Start;
+    for token in tokens {
+        let Some((value, next)) = next_value(expects, *token) else {
+            return Ok(None);
+        };
+        push_some(&mut values, value)?;
+        expects = next;
+    }
+    match expects {
+        Expects::Behind => Ok(Some(values)),
+        _ => Ok(None),
+    }
+}
+
+fn dcd<'a>(alloc: Global, tokens: &[Token<'a>]) -> Result<Option<Statement<'a>>, AllocError>
+    ensures { IfOk result (λ found. option_map said found ≡ dcd_said (map piece_of tokens.now)) }
+{
+    match values(alloc, tokens)? {
+        Some(values) => Ok(Some(Statement::Dcd(values))),
+        None => Ok(None),
+    }
+}
+
+fn operands<'a>(
+    alloc: Global,
+    word: Word,
+    tokens: &[Token<'a>],
+) -> Result<Option<Statement<'a>>, AllocError>
+    ensures { IfOk result (λ found. option_map said found ≡ operands_of word (map piece_of tokens.now)) }
+{
+    match word {
+        Word::Plain(head, cond, suffix) => Ok(plain(head, cond, suffix, tokens)),
+        Word::Branch(link, cond) => Ok(refer(cond, Use::Branch(link), tokens)),
+        Word::Org => Ok(org(tokens)),
+        Word::Dcd => dcd(alloc, tokens),
+    }
+}
+
+fn behind_word<'a>(alloc: Global, word: Word, tokens: &[Token<'a>]) -> Result<Statement<'a>, Wrong>
+    ensures ok { IfOk result (λ s. statement_behind word (map piece_of tokens.now) ≡ Ok (said s)) }
+    ensures err { IfErr result (λ wrong. (wrong ≡ Wrong.Memory) ⊎ (statement_behind word (map piece_of tokens.now) ≡ Err wrong)) }
+{
+    match tokens {
+        [Token::Gap, rest @ ..] => match operands(alloc, word, rest)? {
+            Some(statement) => Ok(statement),
+            None => Err(Wrong::BadOperand),
+        },
+        [Token::Sign(_), ..] => Err(Wrong::UnknownWord),
+        _ => Err(Wrong::BadOperand),
+    }
+}
+
+/// What the tokens of a line say behind its label and a blank.
+pub fn read_statement<'a>(alloc: Global, tokens: &[Token<'a>]) -> Result<Statement<'a>, Wrong>
+    ensures ok { IfOk result (λ s. statement_of (map piece_of tokens.now) ≡ Ok (said s)) }
+    ensures err { IfErr result (λ wrong. (wrong ≡ Wrong.Memory) ⊎ (statement_of (map piece_of tokens.now) ≡ Err wrong)) }
+{
+    match tokens {
+        [Token::Run(text), rest @ ..] => match spelled_word(alloc, text)? {
+            Some(word) => behind_word(alloc, word, rest),
+            None => Err(Wrong::UnknownWord),
+        },
+        _ => Err(Wrong::UnknownWord),
+    }
+}

@@ -1,0 +1,158 @@
+ghost use Rattle.std.specs.Prelude.{◌≡◌, ◌++◌, ◌∷◌, ◌<◌, ◌≤◌, ℕ, length, map, take, drop, MatchOption, IfOk, [], List, false};
+ghost use Rattle.std.specs.List.{prefix_len};
+ghost use Rattle.asm_text.specs.Pieces.{is_blank, is_name, mark_of, pieces, piece_of, Piece, first_blank};
+ghost use Rattle.asm_text.specs.Lines.{Written, WellSpaced};
+
+use std::alloc::{AllocError, Global};
+
+/// A byte that is no letter, digit, `_`, blank or comma.
+#[derive(Clone, Copy, Debug, PartialEq, Eq)]
+pub enum Mark {
+    /// `#`
+    Hash,
+    /// `-`
+    Minus,
+    /// `!`
+    Bang,
+    /// `^`
+    Caret,
+    /// `&`
+    Ampersand,
+    /// `[`
+    OpenBracket,
+    /// `]`
+    CloseBracket,
+    /// `{`
+    OpenBrace,
+    /// `}`
+    CloseBrace,
+    /// Any other, which stands in no statement.
+    Other,
+}
+
+/// A piece of a line.
+#[derive(Clone, Copy, Debug)]
+pub enum Token<'a> {
+    /// Letters, digits and `_`, as many as stand side by side.
+    Run(&'a [u8]),
+    /// A comma, with the blanks round it.
+    Comma,
+    /// Any other byte.
+    Sign(Mark),
+    /// Blanks between two pieces, neither of them a comma.
+    Gap,
+}
+
+fn read_mark(b: u8) -> Mark
+    ensures { result ≡ mark_of b }
+{
+    match b {
+        b'#' => Mark::Hash,
+        b'-' => Mark::Minus,
+        b'!' => Mark::Bang,
+        b'^' => Mark::Caret,
+        b'&' => Mark::Ampersand,
+        b'[' => Mark::OpenBracket,
+        b']' => Mark::CloseBracket,
+        b'{' => Mark::OpenBrace,
+        b'}' => Mark::CloseBrace,
+        _ => Mark::Other,
+    }
+}
+
+fn is_blank_byte(b: u8) -> bool
+    ensures { result ≡ is_blank b }
+{
+    b == b' ' || b == b'\t'
+}
+
+fn is_name_byte(b: u8) -> bool
+    ensures { result ≡ is_name b }
+{
+    b.is_ascii_alphanumeric() || b == b'_'
+}
+
+fn blanks_len(text: &[u8]) -> usize
+    ensures len { result ≡ prefix_len is_blank text.now }
+    ensures within { result ≤ length text.now }
+{
+    text.iter().take_while(|b| is_blank_byte(**b)).count()
+}
+
+fn name_len(text: &[u8]) -> usize
+    ensures len { result ≡ prefix_len is_name text.now }
+    ensures within { result ≤ length text.now }
+{
+    text.iter().take_while(|b| is_name_byte(**b)).count()
+}
+
+fn tail(text: &[u8]) -> &[u8]
+    requires { 0 < length text.now }
+    ensures { result.now ≡ drop 1 text.now }
+{
+    &text[1..]
+}
+
+fn after_blanks(text: &[u8]) -> &[u8]
+    ensures rest { result.now ≡ drop (prefix_len is_blank text.now) text.now }
+    ensures within { length result.now ≤ length text.now }
+{
+    &text[blanks_len(text)..]
+}
+
+// The first piece of a text that begins with no blank, and the text after it.
+fn solid(text: &[u8]) -> Option<(Token<'_>, &[u8])>
+    requires { first_blank text.now ≡ false }
+    ensures { MatchOption result (text.now ≡ []) (λ found.
+        (pieces text.now ≡ piece_of found.0 ∷ pieces found.1.now) × (length found.1.now < length text.now)) }
+{
+    if text.is_empty() {
+        return None;
+    }
+    let b = text[0];
+    if b == b',' {
+        Some((Token::Comma, after_blanks(tail(text))))
+    } else if is_name_byte(b) {
+        let (run, after) = text.split_at(name_len(text));
+        Some((Token::Run(run), after))
+    } else {
+        Some((Token::Sign(read_mark(b)), tail(text)))
+    }
+}
+
+/// The first piece, and the text after it.
+pub fn next(text: &[u8]) -> Option<(Token<'_>, &[u8])>
+    ensures { MatchOption result (pieces text.now ≡ []) (λ found.
+        (pieces text.now ≡ piece_of found.0 ∷ pieces found.1.now) × (length found.1.now < length text.now)) }
+{
+    let rest = after_blanks(text);
+    if rest.is_empty() {
+        None
+    } else if rest[0] != b',' && rest.len() < text.len() {
+        Some((Token::Gap, rest))
+    } else {
+        solid(rest)
+    }
+}
+
+/// The pieces of a line without its comment: the one list that is written so. Refused where memory is.
+pub fn tokens(alloc: Global, line: &[u8]) -> Result<Vec<Token<'_>>, AllocError>
+    ensures written { IfOk result (λ v. Written (map piece_of v.items) line.now) }
+    ensures spaced { IfOk result (λ v. WellSpaced (map piece_of v.items)) }
+    ensures only { IfOk result (λ v. (ps : List Piece) → Written ps line.now → WellSpaced ps → map piece_of v.items ≡ ps) }
+    ensures exact { IfOk result (λ v. map piece_of v.items ≡ pieces line.now) }
+{
+    read_tokens(alloc, line)
+}
+
+fn read_tokens(alloc: Global, line: &[u8]) -> Result<Vec<Token<'_>>, AllocError>
+    ensures exact { IfOk result (λ v. map piece_of v.items ≡ pieces line.now) }
+{
+    let mut found = Vec::new(alloc);
+    let mut rest = line;
+    while let Some((token, after)) = next(rest) {
+        found.push(token)?;
+        rest = after;
+    }
+    Ok(found)
+}

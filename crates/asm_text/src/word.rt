@@ -1,0 +1,123 @@
+ghost use Rattle.std.specs.Prelude.{◌≡◌, ℕ, List, Some, IfSome, IfOk};
+ghost use Rattle.asm_text.specs.Words.{IsSpelling, IsWord, branch_of, plain_of, spelled_word_of, whole_cond, with_suffix as suffixed, is_one_case as one_case, word_of};
+ghost use Rattle.asm_text.specs.Names.{suffix_of};
+ghost use Rattle.std.specs.Prelude.{◌||◌};
+ghost use Rattle.std.specs.Str.{bytes_eq};
+ghost use Rattle.asm_text.specs.declared.word.Word.{Word};
+
+use crate::names::{Head, Suffix, may_have, named_cond, named_head, named_suffix};
+use arm2_decode::Cond;
+use std::alloc::{AllocError, Global};
+
+/// A word of the source, without its spelling.
+#[derive(Clone, Copy, Debug, PartialEq, Eq)]
+pub enum Word {
+    /// A head, a condition and a suffix.
+    Plain(Head, Cond, Suffix),
+    /// B, or BL, which links (true).
+    Branch(bool, Cond),
+    /// ORG.
+    Org,
+    /// DCD.
+    Dcd,
+}
+
+fn full_cond(text: &[u8]) -> Option<Cond>
+    ensures { result ≡ whole_cond text.now }
+{
+    if text.is_empty() {
+        Some(Cond::Al)
+    } else {
+        named_cond(text)
+    }
+}
+
+fn branch(text: &[u8]) -> Option<Word>
+    ensures { result ≡ branch_of text.now }
+{
+    match text {
+        [b'B', rest @ ..] => {
+            if let Some(c) = full_cond(rest) {
+                return Some(Word::Branch(false, c));
+            }
+            match rest {
+                [b'L', after @ ..] => full_cond(after).map(|c| Word::Branch(true, c)),
+                _ => None,
+            }
+        }
+        _ => None,
+    }
+}
+
+fn with_suffix(head: Head, cond: Cond, text: &[u8]) -> Option<Word>
+    ensures { result ≡ suffixed head cond (suffix_of text.now) }
+{
+    let suffix = named_suffix(text)?;
+    if may_have(head, suffix) {
+        Some(Word::Plain(head, cond, suffix))
+    } else {
+        None
+    }
+}
+
+fn plain(text: &[u8]) -> Option<Word>
+    ensures { result ≡ plain_of text.now }
+{
+    if text.len() < 3 {
+        return None;
+    }
+    let (name, rest) = text.split_at(3);
+    let head = named_head(name)?;
+    if rest.len() < 2 {
+        return with_suffix(head, Cond::Al, rest);
+    }
+    let (front, after) = rest.split_at(2);
+    match named_cond(front) {
+        Some(c) => with_suffix(head, c, after),
+        None => with_suffix(head, Cond::Al, rest),
+    }
+}
+
+/// The word that a text in upper case spells.
+#[tactic(auto, unfolding(crate::specs::Words::word_of))]
+pub fn read_word(text: &[u8]) -> Option<Word>
+    ensures { result ≡ word_of text.now }
+{
+    if text == b"ORG".as_slice() {
+        Some(Word::Org)
+    } else if text == b"DCD".as_slice() {
+        Some(Word::Dcd)
+    } else if let Some(w) = branch(text) {
+        Some(w)
+    } else {
+        plain(text)
+    }
+}
+
+// Whether no two letters differ in case; the first slice is the text in upper case, the second in lower case.
+fn is_one_case(text: &[u8], upper: &[u8], lower: &[u8]) -> bool
+    ensures { result ≡ (bytes_eq text.now upper.now || bytes_eq text.now lower.now) }
+{
+    text == upper || text == lower
+}
+
+fn read_spelling(alloc: Global, text: &[u8]) -> Result<Option<Word>, AllocError>
+    ensures { IfOk result (λ word. word ≡ spelled_word_of text.now) }
+{
+    let upper = text.to_ascii_uppercase(alloc)?;
+    let lower = text.to_ascii_lowercase(alloc)?;
+    if is_one_case(text, &upper, &lower) {
+        Ok(read_word(&upper))
+    } else {
+        Ok(None)
+    }
+}
+
+/// The word that a text spells, wholly in upper or in lower case. No text spells two. Refused where memory is.
+pub fn spelled_word(alloc: Global, text: &[u8]) -> Result<Option<Word>, AllocError>
+    ensures found { IfOk result (λ word. IfSome word (λ w. IsSpelling text.now w)) }
+    ensures only { IfOk result (λ word. (w : Word) → IsSpelling text.now w → word ≡ Some w) }
+    ensures exact { IfOk result (λ word. word ≡ spelled_word_of text.now) }
+{
+    read_spelling(alloc, text)
+}

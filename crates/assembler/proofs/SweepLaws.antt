@@ -1,0 +1,38 @@
+-- Names as a function, segments as pairs, and one value more.
+use Rattle.std.proofs.Common.{◌≡◌, ℕ, ◌+◌, ◌<◌, ◌&&◌, ◌||◌, Bool, List, [], ◌∷◌, Option, Some, cond, map, refl, ap, get_or, drop, length}
+use Rattle.std.specs.Prelude.{nat_lt}
+use Rattle.std.specs.List.{list_any}
+use Rattle.std.proofs.lemmas.List.{drop_more}
+use Rattle.std.specs.Str.{bytes_eq}
+use Rattle.loader.specs.Labels.{Names, address_of}
+use Rattle.assembler.specs.Sweeps.{Names as SpecNames, State, all_placed, filled, filled_on, item_step, line_step, overlaps, placed, swept, swept_on, value_pending, with_name}
+use Rattle.assembler.specs.Views.{item_of, span_of}
+use Rattle.assembler.specs.declared.item.Item.{Item as CodeItem}
+use Rattle.loader.specs.Image.{Words}
+use Rattle.asm_text.specs.Source.{lines_of}
+use Rattle.asm_text.specs.Statements.{line_of}
+use Rattle.assembler.specs.declared.sweep.Span.{Span}
+use Rattle.asm_text.specs.Said.{target_of}
+use Rattle.asm_text.specs.declared.said.Value.{Value}
+
+-- a name more
+pub named_more : (old new : Names) (name : List ℕ) (at : ℕ) → ((other : List ℕ) → address_of new other ≡ cond (bytes_eq other name) (Some at) (address_of old other)) → address_of new ≡ with_name name at (address_of old)
+named_more old new name at h = λ i other. h other i
+
+pub any_spans : (spans : List Span) (from to : ℕ) → list_any (λ s. nat_lt s.from to && nat_lt from s.to) spans ≡ overlaps (map span_of spans) from to
+any_spans [] from to = refl
+any_spans (s ∷ spans) from to = ap (λ (b : Bool). (nat_lt s.from to && nat_lt from s.to) || b) (any_spans spans from to)
+
+pub placed_more : (s : State) (k : ℕ) (values : List Value) (i : ℕ) (d : Value) → i < length values
+    → all_placed s k (map target_of (drop i values)) ≡ all_placed (placed s k (value_pending (target_of (get_or values i d)))) k (map target_of (drop (i + 1) values))
+placed_more s k values i d lt = rw (drop_more values i d lt) refl
+
+pub filled_more : (names : SpecNames) (image : Words) (items : List CodeItem) (i : ℕ) (d : CodeItem) → i < length items
+    → filled names image (map item_of (drop i items)) ≡ filled_on (get_or items i d).line (item_step names image (item_of (get_or items i d))) (λ more. filled names more (map item_of (drop (i + 1) items)))
+unfolding filled
+filled_more names image items i d lt = rw (drop_more items i d lt) refl
+
+pub swept_more : (s : State) (k : ℕ) (text line : List ℕ) (rest : List ℕ) → lines_of text ≡ line ∷ lines_of rest
+    → swept s k (lines_of text) ≡ swept_on k (line_step s k (line_of line)) (λ t. swept t (k + 1) (lines_of rest))
+unfolding swept
+swept_more s k text line rest e = rw e refl

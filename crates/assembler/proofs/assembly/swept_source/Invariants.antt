@@ -1,0 +1,15 @@
+use Rattle.std.proofs.Common.{◌≡◌, ◌≤◌, ◌+◌, ◌^◌, length}
+use Rattle.asm_text.specs.Source.{lines_of}
+use Rattle.assembler.specs.Sweeps.{at_first, swept}
+use Rattle.assembler.specs.Views.{state_of}
+use Rattle.assembler.proofs.assembly.swept_source.Given as goal
+
+abbrev pub invariant-loop-text : goal.invariant-loop-text
+invariant-loop-text l = record {
+  within : l.sweep.at ≤ 2 ^ 26;
+  count : l.number + length l.rest ≤ length l.source + 1;
+  same : swept (state_of l.sweep) l.number (lines_of l.rest) ≡ swept at_first 1 (lines_of l.source);
+}
+
+abbrev pub decreases-loop-text : goal.decreases-loop-text
+decreases-loop-text l = length l.rest

@@ -1,0 +1,22 @@
+-- The order of faults (our own).
+use Rattle.std.specs.Prelude.{ℕ, nat_lt, Option, Some, None, if◌then◌else◌}
+use Rattle.assembler.specs.declared.fault.Fault.{Fault}
+use Rattle.assembler.specs.declared.fault.Fault.TheVariants.{NotText, UnknownWord, BadOperand, ImmediateNotRotated, BranchTooFar, LabelTwice, LabelMissing, OutOfRange, Unallocated, TooLong}
+
+abbrev pub number : Fault → ℕ
+number NotText = 2
+number UnknownWord = 3
+number BadOperand = 4
+number ImmediateNotRotated = 5
+number BranchTooFar = 6
+number LabelTwice = 7
+number LabelMissing = 8
+number OutOfRange = 9
+number Unallocated = 10
+number TooLong = 11
+
+-- the one of the lower number
+abbrev pub lower : Option Fault → Option Fault → Option Fault
+lower None other = other
+lower (Some a) None = Some a
+lower (Some a) (Some b) = if nat_lt (number b) (number a) then Some b else Some a

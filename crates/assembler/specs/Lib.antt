@@ -1,0 +1,5 @@
+pub mod Faults
+pub mod Codes
+pub mod Sweeps
+pub mod Views
+pub mod Shown

@@ -1,0 +1,28 @@
+-- Words as lines (our own source format).
+use Rattle.std.specs.Prelude.{◌≡◌, ℕ, zero, suc, ◌+◌, ◌/◌, ◌%◌, nat_lt, List, [], ◌∷◌, ◌++◌, codes, Option, Some, None, Result, Ok, Err, if◌then◌else◌}
+use Rattle.asm_text.specs.Said.{Target, Number, Label, Said, Codes, Refers, Orgs, Lists}
+use Rattle.asm_text.specs.Statements.{Parsed, line_of}
+use Rattle.assembler.specs.Codes.{encoded, refer}
+
+-- the statement's word at an address
+abbrev pub Says : Said → ℕ → ℕ → Type 0
+Says (Codes c) at word = encoded c at ≡ Ok word
+Says (Refers r (Number n)) at word = encoded (refer r at n) at ≡ Ok word
+Says (Lists (Number n ∷ [])) at word = n ≡ word
+Says _ at word = ⊥
+
+-- behind a blank the text is a line of a statement alone, which has the word at the address
+abbrev pub Gives : List ℕ → ℕ → ℕ → Type 0
+Gives text at word = (s : Said) × (line_of (32 ∷ text) ≡ Ok (record { label = None; said = Some s })) × Says s at word
+
+abbrev pub hex_char : ℕ → ℕ
+hex_char d = if nat_lt d 10 then 48 + d else 55 + d
+
+-- so many hexadecimal digits of a number
+abbrev pub hex_chars : ℕ → ℕ → List ℕ
+hex_chars zero n = []
+hex_chars (suc places) n = hex_chars places (n / 16) ++ hex_char (n % 16) ∷ []
+
+-- DCD and eight digits
+abbrev pub hex_line : ℕ → List ℕ
+hex_line word = codes "DCD &" ++ hex_chars 8 word

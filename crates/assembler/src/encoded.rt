@@ -1,0 +1,360 @@
+ghost use Rattle.std.specs.Prelude.{◌≡◌, ◌<◌, ◌≤◌, ◌∷◌, ◌^◌, ◌*◌, [], Ok, Err, IfSome, not, ◌==◌};
+ghost use Rattle.std.specs.Int.{w32, rotate_left};
+ghost use Rattle.arm2_decode.specs.Allowed.{bit_of, block_clash, data_clash, data_shift_clash, multiply_clash, single_clash, single_register_clash};
+ghost use Rattle.arm2_decode.specs.Names.{cond_number, opcode_number, register_number, shift_number};
+ghost use Rattle.assembler.specs.Codes.{action_word, amount_field, amount_fits as fits_of, amount_shift, block_word, branch_offset as offset_of, branch_word, encoded as encoded_of, immediate_word, is_far as far, is_target as target_is, number_transfer, operand_word, product_word, register_shift_word, register_transfer, register_word, rotated_word, rotation_from, rotation_of, shifted_word, swi_word, transfer_word, word_in};
+ghost use Rattle.arm2_decode.specs.Table.{operands, row_of};
+
+use crate::fault::Fault;
+use arm2_decode::{
+    Block, Branch, Cond, DataImmediate, DataRegister, DataRegisterShift, Instr, Multiply, Opcode,
+    Operation, Register, Shift, SingleImmediate, SingleRegister, Swi, encode,
+};
+use asm_text::{
+    Action, Amount, BlockTransfer, Code, Data, Distance, Operand, Product, Shifting, Transfer,
+};
+
+// The word of an operation: its row's fixed bits and its fields.
+#[tactic(auto, using(crate::proofs::CodeLaws::means_word))]
+fn word_of(cond: Cond, operation: Operation) -> u32
+    ensures { result ≡ word_in (row_of operation) (cond_number cond ∷ operands operation) }
+{
+    encode(&Instr { cond, operation })
+}
+
+// Whether a data processing word with these is no instruction.
+fn is_bad_data(opcode: Opcode, sets_flags: bool) -> bool
+    ensures { result ≡ not (data_clash (opcode_number opcode) (bit_of sets_flags) == 0) }
+{
+    opcode.number() / 4 == 2 && !sets_flags
+}
+
+// The lowest rotation that gives a number: to the left by twice as many places it is a byte.
+#[tactic(auto, using(crate::proofs::CodeLaws::rotation_on, crate::proofs::CodeLaws::rotation_here))]
+fn rotation(n: u32) -> Option<u32>
+    ensures value { result ≡ rotation_of n }
+    ensures fits { IfSome result (λ k. k < 16) }
+    ensures byte { IfSome result (λ k. rotate_left w32 n (2 * k) < 256) }
+{
+    for k in 0..16u32 {
+        if n.rotate_left(2 * k) < 256 {
+            return Some(k);
+        }
+    }
+    None
+}
+
+fn immediate(cond: Cond, fields: Data, n: u32) -> Result<u32, Fault>
+    ensures { result ≡ immediate_word (cond_number cond) fields n }
+{
+    let Some(rotation) = rotation(n) else {
+        return Err(Fault::ImmediateNotRotated);
+    };
+    if is_bad_data(fields.opcode, fields.sets_flags) {
+        return Err(Fault::Unallocated);
+    }
+    let operation = Operation::DataImmediate(DataImmediate {
+        opcode: fields.opcode,
+        sets_flags: fields.sets_flags,
+        rn: fields.rn,
+        rd: fields.rd,
+        rotation,
+        value: n.rotate_left(2 * rotation),
+    });
+    Ok(word_of(cond, operation))
+}
+
+fn amount_fits(amount: Amount) -> bool
+    ensures { result ≡ fits_of amount }
+{
+    match amount {
+        Amount::By(shift, n) => match shift {
+            Shift::Lsl => n < 32,
+            Shift::Lsr | Shift::Asr => 1 <= n && n <= 32,
+            Shift::Ror => 1 <= n && n < 32,
+        },
+        Amount::Rrx => true,
+    }
+}
+
+// The amount as a word has it, in which 32 is 0.
+fn places(amount: Amount) -> u32
+    ensures value { result ≡ amount_field amount }
+    ensures fits { result < 32 }
+{
+    match amount {
+        Amount::By(_, n) => n % 32,
+        Amount::Rrx => 0,
+    }
+}
+
+// The shift as a word has it, in which RRX is ROR.
+fn shift(amount: Amount) -> Shift
+    ensures { result ≡ amount_shift amount }
+{
+    match amount {
+        Amount::By(shift, _) => shift,
+        Amount::Rrx => Shift::Ror,
+    }
+}
+
+fn register(cond: Cond, fields: Data, rm: Register, amount: Amount) -> Result<u32, Fault>
+    ensures { result ≡ register_word (cond_number cond) fields rm amount }
+{
+    if !amount_fits(amount) {
+        return Err(Fault::OutOfRange);
+    }
+    if is_bad_data(fields.opcode, fields.sets_flags) {
+        return Err(Fault::Unallocated);
+    }
+    let operation = Operation::DataRegister(DataRegister {
+        opcode: fields.opcode,
+        sets_flags: fields.sets_flags,
+        rn: fields.rn,
+        rd: fields.rd,
+        amount: places(amount),
+        shift: shift(amount),
+        rm,
+    });
+    Ok(word_of(cond, operation))
+}
+
+fn register_shift(
+    cond: Cond,
+    fields: Data,
+    rm: Register,
+    shift: Shift,
+    rs: Register,
+) -> Result<u32, Fault>
+    ensures { result ≡ register_shift_word (cond_number cond) fields rm shift rs }
+{
+    if is_bad_data(fields.opcode, fields.sets_flags) {
+        return Err(Fault::Unallocated);
+    }
+    if rs.number() == 15 {
+        return Err(Fault::Unallocated);
+    }
+    let operation = Operation::DataRegisterShift(DataRegisterShift {
+        opcode: fields.opcode,
+        sets_flags: fields.sets_flags,
+        rn: fields.rn,
+        rd: fields.rd,
+        rs,
+        shift,
+        rm,
+    });
+    Ok(word_of(cond, operation))
+}
+
+fn shifted(cond: Cond, fields: Data, rm: Register, shifting: Shifting) -> Result<u32, Fault>
+    ensures { result ≡ shifted_word (cond_number cond) fields rm shifting }
+{
+    match shifting {
+        Shifting::Amount(amount) => register(cond, fields, rm, amount),
+        Shifting::Register(shift, rs) => register_shift(cond, fields, rm, shift, rs),
+    }
+}
+
+fn operand(cond: Cond, fields: Data, operand: Operand) -> Result<u32, Fault>
+    ensures { result ≡ operand_word (cond_number cond) fields operand }
+{
+    match operand {
+        Operand::Immediate(n) => immediate(cond, fields, n),
+        Operand::Shifted(rm, shifting) => shifted(cond, fields, rm, shifting),
+    }
+}
+
+fn is_bad_product(product: Product) -> bool
+    ensures { result ≡ not (multiply_clash (bit_of product.accumulate) (register_number product.rd) (register_number product.rn) (register_number product.rs) (register_number product.rm) == 0) }
+{
+    let rd = product.rd.number();
+    let rm = product.rm.number();
+    rd == rm
+        || rd == 15
+        || rm == 15
+        || product.rs.number() == 15
+        || (product.accumulate && product.rn.number() == 15)
+}
+
+fn product(cond: Cond, product: Product) -> Result<u32, Fault>
+    ensures { result ≡ product_word (cond_number cond) product }
+{
+    if is_bad_product(product) {
+        return Err(Fault::Unallocated);
+    }
+    let operation = Operation::Multiply(Multiply {
+        accumulate: product.accumulate,
+        sets_flags: product.sets_flags,
+        rd: product.rd,
+        rn: product.rn,
+        rs: product.rs,
+        rm: product.rm,
+    });
+    Ok(word_of(cond, operation))
+}
+
+fn is_bad_transfer(transfer: Transfer) -> bool
+    ensures { result ≡ not (single_clash (bit_of transfer.address.before) (bit_of transfer.byte) (bit_of transfer.address.write_back) (bit_of transfer.load) (register_number transfer.address.rn) (register_number transfer.rd) == 0) }
+{
+    let rn = transfer.address.rn.number();
+    let rd = transfer.rd.number();
+    let writes_back = !transfer.address.before || transfer.address.write_back;
+    if rn == 15 && writes_back {
+        return true;
+    }
+    if transfer.load && writes_back && rd == rn {
+        return true;
+    }
+    transfer.byte && rd == 15
+}
+
+fn number_offset(cond: Cond, transfer: Transfer, n: u32) -> Result<u32, Fault>
+    ensures { result ≡ number_transfer (cond_number cond) transfer n }
+{
+    if n >= 4096 {
+        return Err(Fault::OutOfRange);
+    }
+    if is_bad_transfer(transfer) {
+        return Err(Fault::Unallocated);
+    }
+    let operation = Operation::SingleImmediate(SingleImmediate {
+        before: transfer.address.before,
+        up: transfer.address.up,
+        byte: transfer.byte,
+        write_back: transfer.address.write_back,
+        load: transfer.load,
+        rn: transfer.address.rn,
+        rd: transfer.rd,
+        offset: n,
+    });
+    Ok(word_of(cond, operation))
+}
+
+fn register_offset(
+    cond: Cond,
+    transfer: Transfer,
+    rm: Register,
+    amount: Amount,
+) -> Result<u32, Fault>
+    ensures { result ≡ register_transfer (cond_number cond) transfer rm amount }
+{
+    if !amount_fits(amount) {
+        return Err(Fault::OutOfRange);
+    }
+    if rm.number() == 15 {
+        return Err(Fault::Unallocated);
+    }
+    if is_bad_transfer(transfer) {
+        return Err(Fault::Unallocated);
+    }
+    let operation = Operation::SingleRegister(SingleRegister {
+        before: transfer.address.before,
+        up: transfer.address.up,
+        byte: transfer.byte,
+        write_back: transfer.address.write_back,
+        load: transfer.load,
+        rn: transfer.address.rn,
+        rd: transfer.rd,
+        amount: places(amount),
+        shift: shift(amount),
+        rm,
+    });
+    Ok(word_of(cond, operation))
+}
+
+fn transfer(cond: Cond, transfer: Transfer) -> Result<u32, Fault>
+    ensures { result ≡ transfer_word (cond_number cond) transfer transfer.address.distance }
+{
+    match transfer.address.distance {
+        Distance::Number(n) => number_offset(cond, transfer, n),
+        Distance::Register(rm, amount) => register_offset(cond, transfer, rm, amount),
+    }
+}
+
+fn block(cond: Cond, block: BlockTransfer) -> Result<u32, Fault>
+    ensures { result ≡ block_word (cond_number cond) block }
+{
+    if block.list >= 0x1_0000 {
+        return Err(Fault::OutOfRange);
+    }
+    if block.rn.number() == 15 {
+        return Err(Fault::Unallocated);
+    }
+    if block.list == 0 {
+        return Err(Fault::Unallocated);
+    }
+    let operation = Operation::Block(Block {
+        before: block.before,
+        up: block.up,
+        user: block.user,
+        write_back: block.write_back,
+        load: block.load,
+        rn: block.rn,
+        list: block.list,
+    });
+    Ok(word_of(cond, operation))
+}
+
+fn is_far(at: u32, target: u32) -> bool
+    ensures { result ≡ far at target }
+{
+    let next = at as u64 + 8;
+    let target = target as u64;
+    target > next + 0x1FF_FFFC || target + 0x200_0000 < next
+}
+
+fn is_target(target: u32) -> bool
+    ensures { result ≡ target_is target }
+{
+    target % 4 == 0 && target <= 0x3FF_FFFC
+}
+
+// The words from the address two words on to the target, as 24 bits of two's complement.
+fn branch_offset(at: u32, target: u32) -> u32
+    ensures value { result ≡ offset_of at target }
+    ensures fits { result < 2 ^ 24 }
+{
+    let next = at as u64 + 8;
+    let bytes = target as u64 + 0x2_0000_0000 - next;
+    (bytes / 4 % 0x100_0000) as u32
+}
+
+fn branch(cond: Cond, at: u32, link: bool, target: u32) -> Result<u32, Fault>
+    ensures { result ≡ branch_word (cond_number cond) at link target }
+{
+    if is_far(at, target) {
+        return Err(Fault::BranchTooFar);
+    }
+    if !is_target(target) {
+        return Err(Fault::OutOfRange);
+    }
+    let operation = Operation::Branch(Branch {
+        link,
+        offset: branch_offset(at, target),
+    });
+    Ok(word_of(cond, operation))
+}
+
+fn swi(cond: Cond, comment: u32) -> Result<u32, Fault>
+    ensures { result ≡ swi_word (cond_number cond) comment }
+{
+    if comment >= 0x100_0000 {
+        return Err(Fault::OutOfRange);
+    }
+    let operation = Operation::Swi(Swi { comment });
+    Ok(word_of(cond, operation))
+}
+
+/// The word of a statement at an address, or the lowest of the faults for which it has none.
+pub fn encoded(code: Code, at: u32) -> Result<u32, Fault>
+    ensures { result ≡ encoded_of code at }
+{
+    match code.action {
+        Action::Data(fields) => operand(code.cond, fields, fields.operand),
+        Action::Multiply(factors) => product(code.cond, factors),
+        Action::Single(single) => transfer(code.cond, single),
+        Action::Block(list) => block(code.cond, list),
+        Action::Branch(link, target) => branch(code.cond, at, link, target),
+        Action::Swi(comment) => swi(code.cond, comment),
+    }
+}

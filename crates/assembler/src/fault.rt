@@ -1,0 +1,117 @@
+ghost use Rattle.std.specs.Prelude.{◌≡◌, IfNone, None, Some};
+ghost use Rattle.assembler.specs.Faults.{lower as lower_of, number};
+
+use std::alloc::{AllocError, AllocFailed};
+use thiserror::Error;
+
+/// Why a line cannot be assembled. Of several that hold in a line the first of this order is answered.
+#[derive(Clone, Copy, Debug, PartialEq, Eq, Drop, Error)]
+pub enum Fault {
+    /// A byte that no source has.
+    #[error("NotText")]
+    NotText,
+    /// No label or blank in the first column, or no word behind it.
+    #[error("UnknownWord")]
+    UnknownWord,
+    /// Operands that do not belong to the word, or a number of 2^32 or more.
+    #[error("BadOperand")]
+    BadOperand,
+    /// No byte that is rotated by an even number of places gives the immediate operand.
+    #[error("ImmediateNotRotated")]
+    ImmediateNotRotated,
+    /// A branch of less than -2^25 or more than 2^25 - 4 bytes from the address two words on.
+    #[error("BranchTooFar")]
+    BranchTooFar,
+    /// A label that an earlier line has.
+    #[error("LabelTwice")]
+    LabelTwice,
+    /// A label that no line has.
+    #[error("LabelMissing")]
+    LabelMissing,
+    /// A number past its field, a branch target that is no multiple of 4 or past 3FFFFFC, or an address of an ORG or a
+    /// word that is no multiple of 4, in I/O, past 3FFFFFC or taken.
+    #[error("OutOfRange")]
+    OutOfRange,
+    /// A word that is no instruction.
+    #[error("Unallocated")]
+    Unallocated,
+    /// The 65,537th word or the 17th segment.
+    #[error("TooLong")]
+    TooLong,
+}
+
+/// Why a source cannot be assembled.
+#[derive(Clone, Copy, Debug, PartialEq, Eq, Drop, Error)]
+pub enum AsmFault {
+    /// A growth was refused.
+    #[error("Memory")]
+    Memory,
+    /// A line's fault, and its number from 1.
+    #[error("{0}")]
+    Line(Fault, usize),
+}
+
+impl From<AllocError> for AsmFault {
+    ghost use Rattle.std.specs.Prelude.{◌≡◌};
+    ghost use Rattle.assembler.specs.declared.fault.AsmFault.TheVariants.{Memory};
+
+    ghost from_gives = { λ _ fault. fault ≡ Memory };
+
+    fn from(_refused: AllocError) -> AsmFault {
+        AsmFault::Memory
+    }
+}
+
+impl<T: Drop> From<AllocFailed<T>> for AsmFault {
+    ghost use Rattle.std.specs.Prelude.{◌≡◌};
+    ghost use Rattle.assembler.specs.declared.fault.AsmFault.TheVariants.{Memory};
+
+    ghost from_gives = { λ _ fault. fault ≡ Memory };
+
+    fn from(_refused: AllocFailed<T>) -> AsmFault {
+        AsmFault::Memory
+    }
+}
+
+impl Fault {
+    fn order(self) -> u32
+        ensures { result ≡ number self }
+    {
+        match self {
+            Fault::NotText => 2,
+            Fault::UnknownWord => 3,
+            Fault::BadOperand => 4,
+            Fault::ImmediateNotRotated => 5,
+            Fault::BranchTooFar => 6,
+            Fault::LabelTwice => 7,
+            Fault::LabelMissing => 8,
+            Fault::OutOfRange => 9,
+            Fault::Unallocated => 10,
+            Fault::TooLong => 11,
+        }
+    }
+}
+
+/// The first of two faults in the order of their names.
+pub fn lower(one: Option<Fault>, other: Option<Fault>) -> Option<Fault>
+    ensures value { result ≡ lower_of one other }
+    ensures none { IfNone result ((one ≡ None) × (other ≡ None)) }
+{
+    match one {
+        None => other,
+        Some(a) => match other {
+            None => one,
+            Some(b) => { if b.order() < a.order() { other } else { one } }
+        },
+    }
+}
+
+/// The first of a fault and another in the order of their names.
+pub fn lowest(fault: Fault, other: Option<Fault>) -> Fault
+    ensures { Some result ≡ lower_of (Some fault) other }
+{
+    match other {
+        None => fault,
+        Some(b) => { if b.order() < fault.order() { b } else { fault } }
+    }
+}

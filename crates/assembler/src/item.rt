@@ -1,0 +1,24 @@
+ghost use Rattle.std.specs.Prelude.{◌≡◌, ◌≤◌, ◌^◌};
+
+use asm_text::Reference;
+
+/// What stands at an address.
+#[derive(Clone, Copy)]
+pub enum Pending<'a> {
+    /// A word.
+    Fixed(u32),
+    /// A word with a target.
+    Waits(Reference, &'a [u8]),
+    /// A label's address.
+    Address(&'a [u8]),
+}
+
+/// One word of the source.
+#[derive(Clone, Copy)]
+pub struct Item<'a> {
+    /// The number of its line, from 1.
+    pub line: usize,
+    pub at: u32,
+    pub pending: Pending<'a>,
+    ghost within: { at ≤ 2 ^ 26 },
+}

@@ -1,0 +1,18 @@
+//! The assembler: source text to an image and its labels, and words to lines of source.
+#![tactic(auto)]
+
+mod assembly;
+mod encoded;
+mod fault;
+mod item;
+mod reference;
+mod shown;
+mod sweep;
+#[cfg(test)]
+mod tests;
+mod text;
+
+pub use assembly::{Assembly, assemble};
+pub use fault::{AsmFault, Fault};
+pub use shown::disassemble;
+pub use text::Line;

@@ -1,0 +1,79 @@
+ghost use Rattle.std.specs.Prelude.{◌≡◌, ◌≤◌, ◌+◌, ◌^◌};
+ghost use Rattle.assembler.specs.Codes.{apart as apart_of, is_ahead as ahead, refer as refer_of, use_action, use_fault as fault_of_use};
+
+use crate::fault::Fault;
+use arm2_decode::{Opcode, Register};
+use asm_text::{Action, Address, Code, Data, Distance, Operand, Reference, Transfer, Use};
+
+fn is_ahead(at: u32, target: u32) -> bool
+    requires { at ≤ 2 ^ 26 }
+    ensures { result ≡ ahead at target }
+{
+    at + 8 <= target
+}
+
+// How far a target is from the address two words on.
+fn apart(at: u32, target: u32) -> u32
+    requires { at ≤ 2 ^ 26 }
+    ensures { result ≡ apart_of at target }
+{
+    if is_ahead(at, target) {
+        target - (at + 8)
+    } else {
+        at + 8 - target
+    }
+}
+
+fn action(how: Use, at: u32, target: u32) -> Action
+    requires { at ≤ 2 ^ 26 }
+    ensures { result ≡ use_action how at target }
+{
+    match how {
+        Use::Branch(link) => Action::Branch(link, target),
+        Use::Adr(rd) => Action::Data(Data {
+            opcode: if is_ahead(at, target) {
+                Opcode::Add
+            } else {
+                Opcode::Sub
+            },
+            sets_flags: false,
+            rn: Register::R15,
+            rd,
+            operand: Operand::Immediate(apart(at, target)),
+        }),
+        Use::Transfer(load, byte, rd) => Action::Single(Transfer {
+            load,
+            byte,
+            rd,
+            address: Address {
+                rn: Register::R15,
+                before: true,
+                up: is_ahead(at, target),
+                write_back: false,
+                distance: Distance::Number(apart(at, target)),
+            },
+        }),
+    }
+}
+
+/// What a word with a target does at an address: a branch to the target; for ADR the sum of R15 and a number, or
+/// their difference; a transfer by R15 and a number.
+pub fn refer(reference: Reference, at: u32, target: u32) -> Code
+    requires { at ≤ 2 ^ 26 }
+    ensures { result ≡ refer_of reference at target }
+{
+    Code {
+        cond: reference.cond,
+        action: action(reference.how, at, target),
+    }
+}
+
+/// Why a word with a target has no word, whatever the target is.
+pub fn use_fault(how: Use) -> Option<Fault>
+    ensures { result ≡ fault_of_use how }
+{
+    match how {
+        Use::Transfer(_, true, Register::R15) => Some(Fault::Unallocated),
+        _ => None,
+    }
+}
