@@ -1,0 +1,29 @@
+use Rattle.std.proofs.Common.{◌∙◌, ◌<◌, ◌≤◌, ℕ, length, ap, arith, refl, sym}
+use Rattle.std.proofs.lemmas.Bool.{false≢true}
+use Rattle.std.proofs.lemmas.List.Elements.{Contains-get_or}
+use Rattle.longest_walk.specs.Built.{step_at}
+use Rattle.longest_walk.proofs.CarryWalks.{no_edge}
+use Rattle.cert_check.specs.Weighing.{EdgePasses}
+use Rattle.cert_check.proofs.PassLemmas.{every_edge, one_more}
+use Rattle.cert_check.proofs.row_tests.all_pass.Goals as goal
+
+pub returns-then-not-edge_passes : goal.returns-then-not-edge_passes
+returns-then-not-edge_passes c =
+    let edges = c.args.graph.now.edges in
+    let n = c.loop-number.number in
+    let lt : n < length edges = omega (arith, c.loop-number-test.true, ap length c.edges-number-end.ensures.value) in (
+      λ yes. absurd (false≢true yes),
+      λ all. absurd (false≢true (sym c.if-not-edge_passes.true ∙ c.edge_passes.ensures.1 (all (step_at edges n) (Contains-get_or edges n no_edge lt)))),
+    )
+
+pub loop-number-preserved : goal.loop-number-preserved
+loop-number-preserved c =
+    one_more (λ (k : ℕ). EdgePasses c.args.tree.now c.args.cert.now c.args.test (step_at c.args.graph.now.edges k)) c.loop-number.number c.loop-number.invariant (c.edge_passes.ensures.0 c.if-not-edge_passes.false)
+
+pub returns : goal.returns
+returns c =
+    let edges = c.args.graph.now.edges in
+    let le : length edges ≤ c.loop-number.number = omega (arith, c.loop-number-test.false, ap length c.edges-number-end.ensures.value) in (
+      λ yes. every_edge edges (EdgePasses c.args.tree.now c.args.cert.now c.args.test) c.loop-number.number le c.loop-number.invariant,
+      λ all. refl,
+    )

@@ -1,0 +1,4 @@
+pub mod Followed
+pub mod Verdict
+pub mod Columns
+pub mod Weighing

@@ -1,0 +1,128 @@
+ghost use Rattle.std.specs.Prelude.{◌≡◌, ◌<◌, IfOk, length, map};
+ghost use Rattle.std.specs.List.Sorted.{IsStrictlySortedBy};
+ghost use Rattle.flow_graph.specs.Places.{place_cmp};
+ghost use Rattle.loop_bounds.specs.Tree.{IsTree, place_in};
+ghost use Rattle.longest_walk.specs.Rows.{distance_in, header_of_row, place_of_row};
+ghost use Rattle.cert_check.specs.Columns.{AreTablesOf, Ascends, IsColumn, arrival_in, by_number, round_in};
+
+use crate::finding::{instance_row, place_row};
+use certificate::{Cert, InstanceRow, PlaceRow};
+use flow_graph::{Graph, Place};
+use loop_bounds::LoopTree;
+use numbered_walks::Tables;
+use std::alloc::{AllocError, Global};
+
+// The distance that is stated for a place, and 0 without a row.
+fn distance_at(rows: &[PlaceRow], place: &Place) -> u64
+    requires ascending { IsStrictlySortedBy place_cmp (map place_of_row rows.now) }
+    ensures { result ≡ distance_in rows.now place.now }
+{
+    match place_row(rows, place) {
+        Some(row) => row.distance,
+        None => 0,
+    }
+}
+
+// The arrival that is stated for the instance with the header, and 0 without a row.
+fn arrival_at(rows: &[InstanceRow], header: &Place) -> u64
+    requires ascending { IsStrictlySortedBy place_cmp (map header_of_row rows.now) }
+    ensures { result ≡ arrival_in rows.now header.now }
+{
+    match instance_row(rows, header) {
+        Some(row) => row.arrival,
+        None => 0,
+    }
+}
+
+// The round that is stated for the instance with the header, and 0 without a row.
+fn round_at(rows: &[InstanceRow], header: &Place) -> u64
+    requires ascending { IsStrictlySortedBy place_cmp (map header_of_row rows.now) }
+    ensures { result ≡ round_in rows.now header.now }
+{
+    match instance_row(rows, header) {
+        Some(row) => row.round,
+        None => 0,
+    }
+}
+
+// The place of a number.
+fn place_of(graph: &Graph, tree: &LoopTree, number: usize) -> Place
+    requires tree { IsTree graph.now tree.now }
+    requires inside { number < length graph.now.places }
+    ensures { result ≡ place_in graph.now tree.now number }
+{
+    graph.places()[tree.order()[number]]
+}
+
+fn distances(
+    alloc: Global,
+    graph: &Graph,
+    tree: &LoopTree,
+    rows: &[PlaceRow],
+) -> Result<Vec<u64>, AllocError>
+    requires tree { IsTree graph.now tree.now }
+    requires ascending { IsStrictlySortedBy place_cmp (map place_of_row rows.now) }
+    ensures { IfOk result (λ column. IsColumn (by_number graph.now tree.now (distance_in rows.now)) (length graph.now.places) column.items) }
+{
+    let size = graph.places().len();
+    let mut column = Vec::with_capacity(alloc, size)?;
+    for number in 0..size {
+        column.push(distance_at(rows, &place_of(graph, tree, number)))?;
+    }
+    Ok(column)
+}
+
+fn arrivals(
+    alloc: Global,
+    graph: &Graph,
+    tree: &LoopTree,
+    rows: &[InstanceRow],
+) -> Result<Vec<u64>, AllocError>
+    requires tree { IsTree graph.now tree.now }
+    requires ascending { IsStrictlySortedBy place_cmp (map header_of_row rows.now) }
+    ensures { IfOk result (λ column. IsColumn (by_number graph.now tree.now (arrival_in rows.now)) (length graph.now.places) column.items) }
+{
+    let size = graph.places().len();
+    let mut column = Vec::with_capacity(alloc, size)?;
+    for number in 0..size {
+        column.push(arrival_at(rows, &place_of(graph, tree, number)))?;
+    }
+    Ok(column)
+}
+
+fn rounds(
+    alloc: Global,
+    graph: &Graph,
+    tree: &LoopTree,
+    rows: &[InstanceRow],
+) -> Result<Vec<u64>, AllocError>
+    requires tree { IsTree graph.now tree.now }
+    requires ascending { IsStrictlySortedBy place_cmp (map header_of_row rows.now) }
+    ensures { IfOk result (λ column. IsColumn (by_number graph.now tree.now (round_in rows.now)) (length graph.now.places) column.items) }
+{
+    let size = graph.places().len();
+    let mut column = Vec::with_capacity(alloc, size)?;
+    for number in 0..size {
+        column.push(round_at(rows, &place_of(graph, tree, number)))?;
+    }
+    Ok(column)
+}
+
+/// The numbers that the certificate states, by the numbers of the tree's order.
+pub(crate) fn tables_of(
+    alloc: Global,
+    graph: &Graph,
+    tree: &LoopTree,
+    cert: &Cert,
+) -> Result<Tables, AllocError>
+    requires tree { IsTree graph.now tree.now }
+    requires ascending { Ascends cert.now }
+    ensures { IfOk result (AreTablesOf graph.now tree.now cert.now) }
+{
+    Ok(Tables {
+        bound: cert.bound,
+        distances: distances(alloc, graph, tree, cert.places.items())?,
+        arrivals: arrivals(alloc, graph, tree, cert.instances.items())?,
+        rounds: rounds(alloc, graph, tree, cert.instances.items())?,
+    })
+}

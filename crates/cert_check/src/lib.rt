@@ -1,0 +1,19 @@
+//! The checker of certificates: whether the numbers and the walk of a certificate, whoever wrote it, prove that its bound
+//! is the greatest cost of a complete walk that keeps the loop bounds.
+#![tactic(auto)]
+
+mod columns;
+mod fault;
+mod finding;
+mod law;
+mod row_check;
+mod row_tests;
+#[cfg(test)]
+mod tests;
+mod verdict;
+mod weighing;
+
+pub use fault::CheckFault;
+pub use law::yes_means_greatest;
+pub use row_check::check_rows;
+pub use verdict::{Objection, Verdict};

@@ -1,0 +1,170 @@
+ghost use Rattle.std.specs.Prelude.{◌≡◌, ◌≢◌, ◌↔◌, ◌<◌, ℕ, IsTrue, AllPairs, length, nat_eq, not};
+ghost use Rattle.std.specs.List.{find, list_any};
+ghost use Rattle.walks.specs.Rows.{limit_of};
+ghost use Rattle.numbered_walks.specs.Index.{AreHeaders, is_up};
+ghost use Rattle.numbered_walks.specs.Ordered.{is_in, number_shape, span_loops};
+ghost use Rattle.numbered_walks.specs.Tables.{arrival_of, distance_of, is_exit, potentials_of, round_of};
+ghost use Rattle.cert_check.specs.Weighing.{CanWeigh, NumberFits, NumberHolds, NumberPasses, leaves};
+
+use numbered_walks::{Index, NumberedEdge, Span, Tables, needed_in};
+
+/// What a row is tested for.
+#[derive(Clone, Copy)]
+pub(crate) enum RowTest {
+    /// It asks for less than 2^63.
+    Fits,
+    /// It holds, where the edge neither goes back nor leaves an instance.
+    Plain,
+    /// It holds, where the edge goes back.
+    Round,
+    /// It holds, where the edge leaves an instance and does not go back.
+    Leave,
+}
+
+// Whether the number is that of a member.
+fn holds(span: &Span, number: usize) -> bool
+    ensures { result ≡ is_in span.now number }
+{
+    span.header <= number && number <= span.last
+}
+
+fn distance(tables: &Tables, number: usize) -> u64
+    ensures { result ≡ distance_of tables.now number }
+{
+    tables.distances.get(number).copied().unwrap_or(0)
+}
+
+fn arrival(tables: &Tables, span: &Span) -> u64
+    ensures { result ≡ arrival_of tables.now span.now }
+{
+    tables.arrivals.get(span.header).copied().unwrap_or(0)
+}
+
+fn round(tables: &Tables, span: &Span) -> u64
+    ensures { result ≡ round_of tables.now span.now }
+{
+    tables.rounds.get(span.header).copied().unwrap_or(0)
+}
+
+// The span that begins at the number.
+fn span_at(spans: &[Span], headers: &[Option<Span>], number: usize) -> Option<Span>
+    requires headers { AreHeaders spans.now headers.now }
+    requires differ { AllPairs (λ s t. s.header ≢ t.header) spans.now }
+    requires inside { number < length headers.now }
+    ensures { result ≡ find (λ s. nat_eq number s.header) spans.now }
+{
+    let _all = spans;
+    headers[number]
+}
+
+// The number that the edge's row is about: none for a back edge of bound 0.
+fn limit(
+    spans: &[Span],
+    index: &Index,
+    tables: &Tables,
+    exit: usize,
+    edge: &NumberedEdge,
+) -> Option<u64>
+    requires { CanWeigh spans.now index.now edge.now }
+    ensures { result ≡ limit_of number_shape span_loops spans.now (potentials_of tables.now) (is_exit exit) edge.now }
+{
+    match span_at(spans, &index.headers, edge.to) {
+        Some(span) => {
+            if holds(&span, edge.from) {
+                if span.bound == 0 {
+                    None
+                } else {
+                    Some(round(tables, &span))
+                }
+            } else {
+                Some(arrival(tables, &span))
+            }
+        }
+        None => {
+            if edge.to == exit {
+                Some(tables.bound)
+            } else {
+                Some(distance(tables, edge.to))
+            }
+        }
+    }
+}
+
+fn row_fits(
+    spans: &[Span],
+    index: &Index,
+    tables: &Tables,
+    exit: usize,
+    edge: &NumberedEdge,
+) -> bool
+    requires { CanWeigh spans.now index.now edge.now }
+    ensures { IsTrue result ↔ NumberFits exit spans.now tables.now edge.now }
+{
+    match limit(spans, index, tables, exit, edge) {
+        None => true,
+        Some(_) => match needed_in(spans, &index.holders, tables, edge) {
+            None => false,
+            Some(needed) => needed < 1 << 63,
+        },
+    }
+}
+
+fn row_holds(
+    spans: &[Span],
+    index: &Index,
+    tables: &Tables,
+    exit: usize,
+    edge: &NumberedEdge,
+) -> bool
+    requires { CanWeigh spans.now index.now edge.now }
+    ensures { IsTrue result ↔ NumberHolds exit spans.now tables.now edge.now }
+{
+    match limit(spans, index, tables, exit, edge) {
+        None => true,
+        Some(limit) => match needed_in(spans, &index.holders, tables, edge) {
+            None => false,
+            Some(needed) => needed <= limit,
+        },
+    }
+}
+
+// Whether the number lies outside one of these.
+fn is_outside(spans: &[Span], number: usize) -> bool
+    ensures { result ≡ list_any (λ s. not (is_in s number)) spans.now }
+{
+    spans.iter().any(|span| !holds(span, number))
+}
+
+// Whether the edge leaves an instance.
+fn goes_out(spans: &[Span], index: &Index, edge: &NumberedEdge) -> bool
+    requires { CanWeigh spans.now index.now edge.now }
+    ensures { result ≡ leaves spans.now edge.now }
+{
+    let _all = spans;
+    is_outside(&index.holders[edge.from], edge.to)
+}
+
+/// Whether the edge's row passes the test.
+pub(crate) fn passes(
+    spans: &[Span],
+    index: &Index,
+    tables: &Tables,
+    exit: usize,
+    test: RowTest,
+    edge: &NumberedEdge,
+) -> bool
+    requires { CanWeigh spans.now index.now edge.now }
+    ensures { IsTrue result ↔ NumberPasses exit spans.now tables.now test edge.now }
+{
+    let back = edge.to <= edge.from;
+    match test {
+        RowTest::Fits => row_fits(spans, index, tables, exit, edge),
+        RowTest::Plain => {
+            back || goes_out(spans, index, edge) || row_holds(spans, index, tables, exit, edge)
+        }
+        RowTest::Round => !back || row_holds(spans, index, tables, exit, edge),
+        RowTest::Leave => {
+            back || !goes_out(spans, index, edge) || row_holds(spans, index, tables, exit, edge)
+        }
+    }
+}
