@@ -11,7 +11,7 @@ fn call_once(rt: HostRuntime) -> Result<(), Fail> {
     let words = [0xE1A0_400E, 0xEB00_0001, 0xE254_F004, 0, 0xE1A0_F00E];
     let out = report_of(rt.alloc(), &words, &[], "")?;
     let text =
-        "arcwcet certificate 1\nbound 19\nstep 8000 do 8004 1\nstep 8004 do 8010 4\nstep 8010 do 8008 4\nstep 8008 do exit 10\nclose\n";
+        "arcwcet certificate 1\nbound 19\nstep 8000 do 8004 1\nstep 8004 do 8010 4\nstep 8010 do 8008 4\nstep 8008 do exit 10\nclose\nplace - 8000 0\nplace - 8004 1\nplace - 8008 9\nplace 8004 8010 5\nstop\n";
     assert_eq!(rt; out.bytes(), text.as_bytes());
     Ok(())
 }
@@ -80,7 +80,7 @@ fn never_done(rt: HostRuntime) -> Result<(), Fail> {
     for word in [0xFBFF_FFFE, 0xFF00_0000, 0xFE00_0000, 0xF101_0002] {
         let out = report_of(rt.alloc(), &[word, 0xE25E_F004], &[], "")?;
         let text =
-            "arcwcet certificate 1\nbound 10\nstep 8000 skip 8004 1\nstep 8004 do exit 9\nclose\n";
+            "arcwcet certificate 1\nbound 10\nstep 8000 skip 8004 1\nstep 8004 do exit 9\nclose\nplace - 8000 0\nplace - 8004 1\nstop\n";
         assert_eq!(rt; out.bytes(), text.as_bytes());
     }
     Ok(())

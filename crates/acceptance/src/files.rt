@@ -3,11 +3,12 @@
 use arcwcet::{Store, StoreFault, read_limited};
 use std::alloc::Global;
 
-/// Two files, `source` and `statement`; there are no others.
+/// Three files, `source`, `statement` and `certificate`; there are no others.
 #[derive(Drop)]
 pub(crate) struct Files<'a> {
     pub(crate) source: &'a [u8],
     pub(crate) statement: &'a [u8],
+    pub(crate) certificate: &'a [u8],
 }
 
 impl Store for Files<'_> {
@@ -15,6 +16,7 @@ impl Store for Files<'_> {
         let mut bytes = match name {
             "source" => self.source,
             "statement" => self.statement,
+            "certificate" => self.certificate,
             _ => return Err(StoreFault::Device),
         };
         read_limited(alloc, &mut bytes)

@@ -22,7 +22,7 @@ fn report(alloc: Global, source: &str, statement: &str) -> Result<MemoryOutput, 
 #[test]
 fn lone_return(rt: HostRuntime) -> Result<(), Fail> {
     let out = report(rt.alloc(), LONE_RETURN, "entry = 0x1C\n")?;
-    let text = "arcwcet certificate 1\nbound 9\nstep 1C do exit 9\nclose\n";
+    let text = "arcwcet certificate 1\nbound 9\nstep 1C do exit 9\nclose\nplace - 1C 0\nstop\n";
     assert_eq!(rt; out.bytes(), text.as_bytes());
     Ok(())
 }
@@ -30,7 +30,7 @@ fn lone_return(rt: HostRuntime) -> Result<(), Fail> {
 #[test]
 fn lone_return_to_ram(rt: HostRuntime) -> Result<(), Fail> {
     let out = report(rt.alloc(), LONE_RETURN, "entry = 28\nleave = \"ram\"\n")?;
-    let text = "arcwcet certificate 1\nbound 5\nstep 1C do exit 5\nclose\n";
+    let text = "arcwcet certificate 1\nbound 5\nstep 1C do exit 5\nclose\nplace - 1C 0\nstop\n";
     assert_eq!(rt; out.bytes(), text.as_bytes());
     Ok(())
 }
@@ -39,7 +39,7 @@ fn lone_return_to_ram(rt: HostRuntime) -> Result<(), Fail> {
 fn branch_or_fall_through(rt: HostRuntime) -> Result<(), Fail> {
     let out = report(rt.alloc(), BRANCH_OR_FALL_THROUGH, "entry = 0x8000\n")?;
     let text =
-        "arcwcet certificate 1\nbound 15\nstep 8000 do 8004 1\nstep 8004 do 800C 5\nstep 800C do exit 9\nclose\n";
+        "arcwcet certificate 1\nbound 15\nstep 8000 do 8004 1\nstep 8004 do 800C 5\nstep 800C do exit 9\nclose\nplace - 8000 0\nplace - 8004 1\nplace - 8008 2\nplace - 800C 6\nstop\n";
     assert_eq!(rt; out.bytes(), text.as_bytes());
     Ok(())
 }

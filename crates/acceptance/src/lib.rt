@@ -5,6 +5,8 @@
 #[cfg(test)]
 mod calls;
 #[cfg(test)]
+mod certificates;
+#[cfg(test)]
 mod enumeration;
 #[cfg(test)]
 mod files;
@@ -18,6 +20,8 @@ mod loops;
 mod machine_runs;
 #[cfg(test)]
 mod outputs;
+#[cfg(test)]
+mod part_writes;
 #[cfg(test)]
 mod program_runs;
 #[cfg(test)]

@@ -1,6 +1,8 @@
 //! Handlers with loops: their bounds and walks, or their refusals.
 
-use crate::support::{Stated, has_bound, report_of};
+use crate::support::{
+    COUNTDOWN, NESTED_COUNTDOWN, Stated, countdown_loop, has_bound, nested_loops, report_of,
+};
 use arcwcet::ReportFault;
 use flow_graph::{BuildFault, StatementFault};
 use longest_walk::WalkFault;
@@ -8,36 +10,11 @@ use loop_bounds::NestFault;
 use std::alloc::{AllocError, Global};
 use std::test::Fail;
 
-// MOV R0,#3; SUBS R0,R0,#1; BNE 8004; SUBS PC,R14,#4
-const COUNTDOWN: [u32; 4] = [0xE3A0_0003, 0xE250_0001, 0x1AFF_FFFD, 0xE25E_F004];
-
-// MOV R1,#2; MOV R0,#3; SUBS R0,R0,#1; BNE 8008; SUBS R1,R1,#1; BNE 8004; SUBS PC,R14,#4
-const NESTED_COUNTDOWN: [u32; 7] = [
-    0xE3A0_1002,
-    0xE3A0_0003,
-    0xE250_0001,
-    0x1AFF_FFFD,
-    0xE251_1001,
-    0x1AFF_FFFA,
-    0xE25E_F004,
-];
-
-fn countdown_loop(bound: u32) -> Stated {
-    (0x8004, 0x8004, 0x8008, bound)
-}
-
-fn nested_loops(outer: u32, inner: u32) -> [Stated; 2] {
-    [
-        (0x8004, 0x8004, 0x8014, outer),
-        (0x8008, 0x8008, 0x800C, inner),
-    ]
-}
-
 #[test]
 fn countdown(rt: HostRuntime) -> Result<(), Fail> {
     let out = report_of(rt.alloc(), &COUNTDOWN, &[countdown_loop(2)], "")?;
     let text =
-        "arcwcet certificate 1\nbound 25\nstep 8000 do 8004 1\nrepeat 2\nstep 8004 do 8008 1\nstep 8008 do 8004 5\nend\nstep 8004 do 8008 1\nstep 8008 skip 800C 2\nstep 800C do exit 9\nclose\n";
+        "arcwcet certificate 1\nbound 25\nstep 8000 do 8004 1\nrepeat 2\nstep 8004 do 8008 1\nstep 8008 do 8004 5\nend\nstep 8004 do 8008 1\nstep 8008 skip 800C 2\nstep 800C do exit 9\nclose\nplace - 8000 0\nplace - 8004 0\nplace - 8008 1\nplace - 800C 16\ninstance - 8004 1 6\nstop\n";
     assert_eq!(rt; out.bytes(), text.as_bytes());
     Ok(())
 }
@@ -46,7 +23,7 @@ fn countdown(rt: HostRuntime) -> Result<(), Fail> {
 fn countdown_without_a_round(rt: HostRuntime) -> Result<(), Fail> {
     let out = report_of(rt.alloc(), &COUNTDOWN, &[countdown_loop(0)], "")?;
     let text =
-        "arcwcet certificate 1\nbound 13\nstep 8000 do 8004 1\nstep 8004 do 8008 1\nstep 8008 skip 800C 2\nstep 800C do exit 9\nclose\n";
+        "arcwcet certificate 1\nbound 13\nstep 8000 do 8004 1\nstep 8004 do 8008 1\nstep 8008 skip 800C 2\nstep 800C do exit 9\nclose\nplace - 8000 0\nplace - 8004 0\nplace - 8008 1\nplace - 800C 4\ninstance - 8004 1 0\nstop\n";
     assert_eq!(rt; out.bytes(), text.as_bytes());
     Ok(())
 }
@@ -67,7 +44,7 @@ fn nested_countdown(rt: HostRuntime) -> Result<(), Fail> {
     let inner =
         "repeat 2\nstep 8008 do 800C 2\nstep 800C do 8008 4\nend\nstep 8008 do 800C 2\nstep 800C skip 8010 1\n";
     let text = format!(in rt.alloc();
-        "arcwcet certificate 1\nbound 50\nstep 8000 do 8004 1\nrepeat 1\nstep 8004 do 8008 1\n{inner}step 8010 do 8014 1\nstep 8014 do 8004 4\nend\nstep 8004 do 8008 1\n{inner}step 8010 do 8014 1\nstep 8014 skip 8018 1\nstep 8018 do exit 10\nclose\n"
+        "arcwcet certificate 1\nbound 50\nstep 8000 do 8004 1\nrepeat 1\nstep 8004 do 8008 1\n{inner}step 8010 do 8014 1\nstep 8014 do 8004 4\nend\nstep 8004 do 8008 1\n{inner}step 8010 do 8014 1\nstep 8014 skip 8018 1\nstep 8018 do exit 10\nclose\nplace - 8000 0\nplace - 8004 0\nplace - 8008 0\nplace - 800C 2\nplace - 8010 16\nplace - 8014 17\nplace - 8018 40\ninstance - 8004 1 21\ninstance - 8008 1 6\nstop\n"
     )?;
     assert_eq!(rt; out.bytes(), text.as_bytes());
     Ok(())

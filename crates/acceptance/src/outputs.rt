@@ -5,20 +5,22 @@ ghost use Rattle.std.specs.Prelude.{Some};
 use arcwcet::{Output, OutputFault};
 use std::alloc::Global;
 
-/// Takes at most one byte a write and `left` bytes in all, and then nothing.
+/// Takes at most `step` bytes a write and `left` bytes in all, and then nothing.
 #[derive(Drop)]
 pub(crate) struct Narrow {
     pub(crate) bytes: Vec<u8>,
+    pub(crate) failures: u64,
+    step: usize,
     left: usize,
-    failures: u64,
 }
 
 impl Narrow {
-    pub(crate) fn new(alloc: Global, left: usize) -> Narrow {
+    pub(crate) fn new(alloc: Global, step: usize, left: usize) -> Narrow {
         Narrow {
             bytes: Vec::new(alloc),
-            left,
             failures: 0,
+            step,
+            left,
         }
     }
 }
@@ -29,18 +31,20 @@ impl Output for Narrow {
     ghost failures = { λ n. n.failures };
 
     fn write(&mut self, bytes: &[u8]) -> Result<usize, OutputFault> {
-        if bytes.is_empty() {
-            return Ok(0);
-        }
-        if self.left == 0 {
+        let n = bytes.len().min(self.step).min(self.left);
+        if n == 0 && !bytes.is_empty() {
             self.failures = self.failures.saturating_add(1);
             return Ok(0);
         }
-        if self.bytes.push(bytes[0]).is_err() {
-            self.failures = self.failures.saturating_add(1);
-            return Err(OutputFault::Failed);
+        match self.bytes.extend_from_slice(&bytes[..n]) {
+            Ok(()) => {
+                self.left -= n;
+                Ok(n)
+            }
+            Err(_) => {
+                self.failures = self.failures.saturating_add(1);
+                Err(OutputFault::Failed)
+            }
         }
-        self.left -= 1;
-        Ok(1)
     }
 }

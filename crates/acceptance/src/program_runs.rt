@@ -8,7 +8,8 @@ use std::test::Fail;
 
 const SOURCE: &str = " ORG &1C\n DCD &E25EF004\n";
 
-const REPORT: &str = "arcwcet certificate 1\nbound 9\nstep 1C do exit 9\nclose\n";
+const REPORT: &str =
+    "arcwcet certificate 1\nbound 9\nstep 1C do exit 9\nclose\nplace - 1C 0\nstop\n";
 
 fn line(alloc: Global, words: &[&str]) -> Result<Vec<String>, AllocError> {
     let mut line = Vec::new(alloc);
@@ -28,7 +29,11 @@ fn run(
     let words = line(alloc, words)?;
     let mut out = MemoryOutput::with_room(alloc, 0)?;
     let mut err = MemoryOutput::with_room(alloc, 0)?;
-    let mut files = Files { source, statement };
+    let mut files = Files {
+        source,
+        statement,
+        certificate: b"",
+    };
     let mut input: &[u8] = b"";
     let status = program(alloc, &words, &mut files, &mut input, &mut out, &mut err);
     Ok((status, out, err))
@@ -115,22 +120,70 @@ fn a_long_file_is_refused(rt: HostRuntime) -> Result<(), Fail> {
 fn the_output_may_take_little(rt: HostRuntime) -> Result<(), Fail> {
     let alloc = rt.alloc();
     let words = line(alloc, &["arcwcet", "bound", "source", "statement"])?;
-    for (left, status) in [(0, 4), (17, 4), (53, 4), (54, 0)] {
-        let mut out = Narrow::new(alloc, left);
+    for (left, status) in [(0, 4), (17, 4), (71, 4), (72, 0)] {
+        let mut out = Narrow::new(alloc, 1, left);
         // What standard error takes changes no status.
-        let mut err = Narrow::new(alloc, 0);
+        let mut err = Narrow::new(alloc, 1, 0);
         let mut files = Files {
             source: SOURCE.as_bytes(),
             statement: b"entry = 0x1C",
+            certificate: b"",
         };
         let mut input: &[u8] = b"";
         let answer = program(alloc, &words, &mut files, &mut input, &mut out, &mut err);
         assert_eq!(rt; answer, status, "at {left}");
         assert_eq!(rt;
             out.bytes.as_slice(),
-            &REPORT.as_bytes()[..left.min(54)],
+            &REPORT.as_bytes()[..left.min(72)],
             "at {left}"
         );
     }
+    Ok(())
+}
+
+/// A check of a certificate: its status, and what it wrote to standard output and standard error.
+fn run_check(
+    alloc: Global,
+    certificate: &str,
+) -> Result<(u8, MemoryOutput, MemoryOutput), ReportFault> {
+    let words = line(
+        alloc,
+        &["arcwcet", "check", "source", "statement", "certificate"],
+    )?;
+    let mut out = MemoryOutput::with_room(alloc, 0)?;
+    let mut err = MemoryOutput::with_room(alloc, 0)?;
+    let mut files = Files {
+        source: SOURCE.as_bytes(),
+        statement: b"entry = 0x1C",
+        certificate: certificate.as_bytes(),
+    };
+    let mut input: &[u8] = b"";
+    let status = program(alloc, &words, &mut files, &mut input, &mut out, &mut err);
+    Ok((status, out, err))
+}
+
+#[test]
+fn check_prints_the_verdict(rt: HostRuntime) -> Result<(), Fail> {
+    let (status, out, err) = run_check(rt.alloc(), REPORT)?;
+    assert_eq!(rt; status, 0);
+    assert_eq!(rt; out.bytes(), b"yes\n".as_slice());
+    assert_eq!(rt; err.bytes(), b"".as_slice());
+    let dearer = "arcwcet certificate 1\nbound 10\nstep 1C do exit 9\nclose\nplace - 1C 0\nstop\n";
+    let (status, out, err) = run_check(rt.alloc(), dearer)?;
+    assert_eq!(rt; status, 1);
+    assert_eq!(rt; out.bytes(), b"no: WalkCost\n".as_slice());
+    assert_eq!(rt; err.bytes(), b"".as_slice());
+    Ok(())
+}
+
+#[test]
+fn a_certificate_fault_has_its_line(rt: HostRuntime) -> Result<(), Fail> {
+    let (status, out, err) = run_check(rt.alloc(), "arcwcet certificate 1\nbound 09\n")?;
+    assert_eq!(rt; status, 1);
+    assert_eq!(rt; out.bytes(), b"".as_slice());
+    assert_eq!(rt; err.bytes(), b"refused: BadLine at line 2\n".as_slice());
+    let (status, _, err) = run_check(rt.alloc(), "arcwcet certificate 1\nbound 9\n")?;
+    assert_eq!(rt; status, 1);
+    assert_eq!(rt; err.bytes(), b"refused: Truncated\n".as_slice());
     Ok(())
 }

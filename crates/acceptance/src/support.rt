@@ -6,6 +6,33 @@ use std::alloc::{AllocError, Global};
 /// A loop as a statement gives it: header, first, last and bound.
 pub(crate) type Stated = (u32, u32, u32, u32);
 
+/// MOV R0,#3; SUBS R0,R0,#1; BNE 8004; SUBS PC,R14,#4
+pub(crate) const COUNTDOWN: [u32; 4] = [0xE3A0_0003, 0xE250_0001, 0x1AFF_FFFD, 0xE25E_F004];
+
+/// MOV R1,#2; MOV R0,#3; SUBS R0,R0,#1; BNE 8008; SUBS R1,R1,#1; BNE 8004; SUBS PC,R14,#4
+pub(crate) const NESTED_COUNTDOWN: [u32; 7] = [
+    0xE3A0_1002,
+    0xE3A0_0003,
+    0xE250_0001,
+    0x1AFF_FFFD,
+    0xE251_1001,
+    0x1AFF_FFFA,
+    0xE25E_F004,
+];
+
+/// The loop of the countdown, with a bound.
+pub(crate) fn countdown_loop(bound: u32) -> Stated {
+    (0x8004, 0x8004, 0x8008, bound)
+}
+
+/// The loops of the nested countdown, with their bounds.
+pub(crate) fn nested_loops(outer: u32, inner: u32) -> [Stated; 2] {
+    [
+        (0x8004, 0x8004, 0x8014, outer),
+        (0x8008, 0x8008, 0x800C, inner),
+    ]
+}
+
 /// The source of these words from an address on.
 pub(crate) fn source_of(alloc: Global, address: u32, words: &[u32]) -> Result<String, AllocError> {
     let mut source = format!(in alloc; " ORG &{address:X}\n")?;

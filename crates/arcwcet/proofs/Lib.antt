@@ -1,8 +1,9 @@
+pub mod CheckLemmas
 pub mod Cuts
 pub mod DigitLemmas
 pub mod Fronts
+pub mod HandlerLemmas
 pub mod LineLaws
 pub mod ReportLemmas
 pub mod RunLemmas
 pub mod SourceLemmas
-pub mod WalkTexts

@@ -1,74 +1,37 @@
--- An accepted source and statement have no refusal, and what a graph's refusals say of them.
-use Rattle.std.proofs.Common.{◌≡◌, ◌≢◌, ◌⊎◌, ◌∙◌, ℕ, ◌≤◌, List, Result, Ok, Err, refl, sym, subst, inl, inr, arith}
+-- A report and its refusals, from what is found of a source and a statement.
+use Rattle.std.proofs.Common.{◌≡◌, ◌≢◌, ◌⊎◌, ℕ, ◌≤◌, List, Result, Ok, Err, refl, subst, inl, inr, arith}
 use Rattle.std.specs.Prelude.{Contains, IfErr, ◌↔◌}
-use Rattle.std.specs.Result.{IsErrAnd}
 use Rattle.bus_ticks.specs.declared.profile.Profile.{Profile}
 use Rattle.loader.specs.Image.{Words}
+use Rattle.walks.specs.Greatest.{IsGreatest}
 use Rattle.walks.specs.Walk.{cost_of}
-use Rattle.flow_graph.specs.Flow.{Flow, edge_shape}
+use Rattle.flow_graph.specs.declared.places.Place.TheVariants.{Exit}
+use Rattle.flow_graph.specs.Flow.{Flow, HasEdge, IsWellFormed, edge_shape}
 use Rattle.flow_graph.specs.StepLaw.{IsWithin, RunLaw}
-use Rattle.flow_graph.specs.Graph.{IsBuildFault, IsFlowGraph}
 use Rattle.statement.specs.Stated.{Stated}
-use Rattle.statement.specs.Statement.{IsStatement}
-use Rattle.statement.specs.declared.faults.StatementFault.{StatementFault}
-use Rattle.statement.specs.declared.faults.StatementFault.TheVariants as statement_fault
-use Rattle.flow_graph.specs.declared.faults.BuildFault.{BuildFault}
-use Rattle.flow_graph.specs.declared.faults.BuildFault.TheVariants as build_fault
 use Rattle.statement.specs.declared.stated.Loop.{Loop}
-use Rattle.flow_graph.proofs.Unique.{one_flow}
-use Rattle.statement.proofs.Unique.{one_statement}
 use Rattle.flow_graph.specs.declared.edges.Edge.{Edge}
 use Rattle.loop_bounds.specs.Bounds.{IsGreatestCost, IsTooLarge, KeepsTheBounds}
 use Rattle.loop_bounds.specs.Instance.{Instance, IsInstance}
-use Rattle.loop_bounds.specs.Nest.{Applies, IsNestFault}
 use Rattle.loop_bounds.specs.Tree.{Tree}
-use Rattle.loop_bounds.specs.declared.fault.NestFault.{NestFault}
-use Rattle.loop_bounds.specs.declared.fault.NestFault.TheVariants as nest_fault
 use Rattle.longest_walk.specs.Folded.{unfolded}
 use Rattle.longest_walk.specs.Longest.{IsLongest, IsWalkFault, KeepsTree, TreeTooLarge}
+use Rattle.longest_walk.specs.Rows.{header_of}
 use Rattle.numbered_walks.specs.declared.fault.WalkFault.{WalkFault}
 use Rattle.numbered_walks.specs.declared.fault.WalkFault.TheVariants as walk_fault
 use Rattle.longest_walk.specs.declared.folded.Longest.{Longest}
-use Rattle.arcwcet.specs.Faults.{of_graph, of_loops, of_statement, of_walk}
-use Rattle.longest_walk.specs.declared.folded.Item.{Item}
-use Rattle.arcwcet.specs.Bound.{HasNoFault, IsGraphsFault}
-use Rattle.arcwcet.specs.Image.{source_of}
+use Rattle.certificate.specs.Lines.{cert_text, said_by, said_of}
+use Rattle.certificate.specs.declared.cert.Cert.{Cert}
+use Rattle.cert_check.specs.Verdict.{IsVerdict}
+use Rattle.cert_check.specs.declared.verdict.Verdict.TheVariants.{Yes}
+use Rattle.certificate.proofs.LongestLaws.{spelled_of}
+use Rattle.arcwcet.specs.Faults.{of_walk}
 use Rattle.arcwcet.specs.Keeping.{BoundsRuns}
-use Rattle.arcwcet.specs.Report.{HasGraph, IsAccepted, IsGreatestWalk, IsRefused, IsReport, IsWalkRefusal, no_names}
-use Rattle.arcwcet.specs.ReportText.{spelling}
+use Rattle.arcwcet.specs.Report.{HasLoops, IsAccepted, IsGreatestWalk, IsHandlerRefused, IsRefused, IsReport, IsTreeOf, IsWalkRefusal}
 use Rattle.arcwcet.specs.declared.fault.ReportFault.{ReportFault}
 use Rattle.arcwcet.specs.declared.fault.ReportFault.TheVariants.{Memory, Source, Statement, Graph, Loops, Walk, Device}
-
--- ## A source has one image, a statement one value, and both one graph
-
-one_ok : {T E : Type 0} (x y : T) (r : Result T E) → r ≡ Ok x → r ≡ Ok y → x ≡ y
-one_ok x y r p q = let same : Ok x ≡ Ok y = sym p ∙ q in cc same
-
-never_both : {T E : Type 0} (x : T) (e : E) (r : Result T E) → r ≡ Ok x → r ≡ Err e → ⊥
-never_both x e r p q = let same : Ok x ≡ Err e = sym p ∙ q in cc same
-
--- two graphs of the same texts
-pub record AreSame (st su : Stated) (flow other : Flow) : Type 0 where
-  pub same_stated : st ≡ su
-  pub same_flow : flow ≡ other
-
-one_graph : (source statement : List ℕ) (profile : Profile) (st su : Stated) (flow other : Flow) → HasGraph source statement profile st flow → HasGraph source statement profile su other → AreSame st su flow other
-one_graph source statement profile st su flow other g h =
-    let words : h.words ≡ g.words = one_ok h.words g.words (source_of source) h.source_is g.source_is in
-    let ok : Ok su ≡ Ok st = one_statement statement no_names (Ok su) (Ok st) h.statement_is g.statement_is in
-    let stated : su ≡ st = cc ok in
-    let graph : IsFlowGraph g.words st profile other =
-    subst (λ (s : Stated). IsFlowGraph g.words s profile other) stated (subst (λ (w : Words). IsFlowGraph w su profile other) words h.graph_is) in
-    record { same_stated = sym stated; same_flow = one_flow g.words st profile flow other g.graph_is graph }
-
--- a refusal of the loops tells what applies
-applies : (flow : Flow) (loops : List Loop) (f : NestFault) → IsNestFault flow loops f → Applies flow loops f
-applies flow loops nest_fault.Memory h = h
-applies flow loops nest_fault.LoopsCross h = h
-applies flow loops nest_fault.SharedHeader h = h.1
-applies flow loops nest_fault.EntersMidLoop h = h.2
-applies flow loops nest_fault.UnboundedCycle h = h.3
-applies flow loops nest_fault.NestedTooDeep h = h.4
+use Rattle.arcwcet.specs.declared.fault.ReportFault.TheVariants as report_fault
+use Rattle.arcwcet.proofs.HandlerLemmas.{handler_refusals, one_graph}
 
 -- ## Accepted
 
@@ -77,24 +40,14 @@ pub accepted_refusals : (source statement : List ℕ) (profile : Profile) (e : R
     → (e ≡ Memory) ⊎ (e ≡ Device)
 accepted_refusals source statement profile Memory a r = inl refl
 accepted_refusals source statement profile Device a r = inr refl
-accepted_refusals source statement profile (Source f) a r =
-    let g = a.loops.graph in
-    absurd (never_both g.words f (source_of source) g.source_is r.0)
-accepted_refusals source statement profile (Statement f) a r =
-    let both : Ok a.stated ≡ Err f = one_statement statement no_names (Ok a.stated) (Err f) a.loops.graph.statement_is r.statement_is in
-    absurd (cc both)
-accepted_refusals source statement profile (Graph f) a r =
-    let g = a.loops.graph in
-    let words : r.words ≡ g.words = one_ok r.words g.words (source_of source) r.source_is g.source_is in
-    let ok : Ok r.stated ≡ Ok a.stated = one_statement statement no_names (Ok r.stated) (Ok a.stated) r.statement_is g.statement_is in
-    let stated : r.stated ≡ a.stated = cc ok in
-    absurd (g.no_fault f r.not_memory (subst (λ (s : Stated). IsBuildFault g.words s profile f) stated (subst (λ (w : Words). IsBuildFault w r.stated profile f) words r.holds)))
-accepted_refusals source statement profile (Loops f) a r =
-    let same = one_graph source statement profile r.stated a.stated r.flow a.flow r.graph a.loops.graph in
-    absurd (a.loops.no_fault f r.not_memory (subst (λ (s : Stated). Applies a.flow s.loops f) same.same_stated (subst (λ (w : Flow). Applies w r.stated.loops f) same.same_flow (applies r.flow r.stated.loops f r.holds))))
 accepted_refusals source statement profile (Walk f) a r =
     let same = one_graph source statement profile r.stated a.stated r.flow a.flow r.loops.graph a.loops.graph in
     absurd (a.no_fault f r.not_memory (subst (λ (s : Stated). IsWalkRefusal a.flow s.loops f) same.same_stated (subst (λ (w : Flow). IsWalkRefusal w r.stated.loops f) same.same_flow r.holds)))
+accepted_refusals source statement profile (Source f) a r = inl (handler_refusals source statement profile a.stated a.flow (Source f) a.loops r)
+accepted_refusals source statement profile (Statement f) a r = inl (handler_refusals source statement profile a.stated a.flow (Statement f) a.loops r)
+accepted_refusals source statement profile (Graph f) a r = inl (handler_refusals source statement profile a.stated a.flow (Graph f) a.loops r)
+accepted_refusals source statement profile (Loops f) a r = inl (handler_refusals source statement profile a.stated a.flow (Loops f) a.loops r)
+accepted_refusals source statement profile (report_fault.Cert f) a r = inl (handler_refusals source statement profile a.stated a.flow (report_fault.Cert f) a.loops r)
 
 -- the same of an answer
 pub only_memory : {T : Type 0} (source statement : List ℕ) (profile : Profile) (r : Result T ReportFault) → IfErr r (λ e. (e ≢ Device) × IsRefused source statement profile e)
@@ -102,33 +55,16 @@ pub only_memory : {T : Type 0} (source statement : List ℕ) (profile : Profile)
 only_memory source statement profile (Ok x) h a = tt
 only_memory source statement profile (Err e) h a = accepted_refusals source statement profile e a h.1
 
--- ## What is found of a graph, said of the texts
-
-pub graphs_refusal : (source statement : List ℕ) (profile : Profile) (st : Stated) (flow : Flow) (e : ReportFault) → HasGraph source statement profile st flow → IsGraphsFault flow st.loops e
-    → (e ≢ Device) × IsRefused source statement profile e
-graphs_refusal source statement profile st flow Memory g h = (λ e. cc e, tt)
-graphs_refusal source statement profile st flow Device g h = absurd h
-graphs_refusal source statement profile st flow (Source f) g h = absurd h
-graphs_refusal source statement profile st flow (Statement f) g h = absurd h
-graphs_refusal source statement profile st flow (Graph f) g h = absurd h
-graphs_refusal source statement profile st flow (Loops f) g h = (λ e. cc e, record { stated = st; flow = flow; graph = g; not_memory = h.0; holds = h.1 })
-graphs_refusal source statement profile st flow (Walk f) g h =
-    (λ e. cc e, record { stated = st; flow = flow; loops = record { graph = g; no_fault = h.no_fault }; not_memory = h.not_memory; holds = h.holds })
-
-pub accepted : (source statement : List ℕ) (profile : Profile) (st : Stated) (flow : Flow) → HasGraph source statement profile st flow → HasNoFault flow st.loops → IsAccepted source statement profile
-accepted source statement profile st flow g h = record { stated = st; flow = flow; loops = record { graph = g; no_fault = h.of_loops }; no_fault = h.of_walk }
-
--- a run whose steps are the edges of a walk takes at most the walk, and no such walk costs more than the greatest
-bounds_runs : (words : Words) (profile : Profile) (st : Stated) (flow : Flow) (bound : ℕ) → RunLaw → IsGreatestCost flow st.loops bound → BoundsRuns words st profile flow bound
-bounds_runs words profile st flow bound law greatest s inputs ran after keeps runs =
-    let within : IsWithin profile keeps.walk inputs ran = law words st profile s inputs keeps.walk ran after runs keeps.follows in
-    let most : cost_of edge_shape keeps.walk ≤ bound = greatest.upper keeps.walk keeps.complete keeps.kept in
-    record { ticks = omega (arith, within.ticks, most); elapsed = omega (arith, within.elapsed, most) }
-
-pub reported : (source statement : List ℕ) (profile : Profile) (st : Stated) (flow : Flow) (bound : ℕ) (items : List Item) (text : List ℕ) → RunLaw → HasGraph source statement profile st flow
-    → IsGreatestWalk flow st.loops bound items → text ≡ spelling bound items → IsReport source statement profile text
-reported source statement profile st flow bound items text law g w e =
-    record { stated = st; flow = flow; bound = bound; items = items; graph = g; walk = w; runs = bounds_runs g.words profile st flow bound law w.greatest; spelled = e }
+-- what refuses a source and a statement up to the loops refuses their report
+pub report_refusal : (source statement : List ℕ) (profile : Profile) (e : ReportFault) → IsHandlerRefused source statement profile e → (e ≢ Device) × IsRefused source statement profile e
+report_refusal source statement profile Memory h = (λ e. cc e, tt)
+report_refusal source statement profile Device h = absurd h
+report_refusal source statement profile (Walk f) h = absurd h
+report_refusal source statement profile (Source f) h = (λ e. cc e, h)
+report_refusal source statement profile (Statement f) h = (λ e. cc e, h)
+report_refusal source statement profile (Graph f) h = (λ e. cc e, h)
+report_refusal source statement profile (Loops f) h = (λ e. cc e, h)
+report_refusal source statement profile (report_fault.Cert f) h = (λ e. cc e, h)
 
 -- ## A walk that keeps the bounds of a tree's instances keeps those of the stated loops
 
@@ -139,12 +75,14 @@ module _ (flow : Flow) (loops : List Loop) (tree : Tree) (same : (i : Instance) 
   kept_there : (walk : List Edge) → KeepsTheBounds flow loops walk → KeepsTree tree walk
   kept_there walk kept i is = kept i ((same i).0 is)
 
+  -- the greatest cost by the tree's instances is that by the stated loops
+  pub tree_is_greatest : (n : ℕ) → IsGreatest edge_shape (HasEdge flow) (KeepsTree tree) flow.entry Exit n → IsGreatestCost flow loops n
+  tree_is_greatest n g =
+      record { walk = g.walk; complete = g.complete; kept = kept_here g.walk g.kept; costs = g.costs; upper = λ other complete kept. g.upper other complete (kept_there other kept) }
+
   pub greatest_walk : (found : Longest) → IsLongest flow tree found → IsGreatestWalk flow loops found.bound found.walk
   greatest_walk found l =
-      let g = l.greatest in
-      let greatest : IsGreatestCost flow loops found.bound =
-      record { walk = g.walk; complete = g.complete; kept = kept_here g.walk g.kept; costs = g.costs; upper = λ other complete kept. g.upper other complete (kept_there other kept) } in
-      record { greatest = greatest; complete = l.walk_is.complete; kept = kept_here (unfolded found.walk) l.walk_is.kept; costs = l.walk_is.costs }
+      record { greatest = tree_is_greatest found.bound l.greatest; complete = l.walk_is.complete; kept = kept_here (unfolded found.walk) l.walk_is.kept; costs = l.walk_is.costs }
 
   too_large_here : TreeTooLarge flow tree → IsTooLarge flow loops
   too_large_here t = record { place = t.place; walk = t.walk; leads = t.leads; kept = kept_here t.walk t.kept; costs = t.costs }
@@ -162,47 +100,47 @@ module _ (flow : Flow) (loops : List Loop) (tree : Tree) (same : (i : Instance) 
   fault_there walk_fault.NoCompleteWalk h = h
   fault_there walk_fault.BoundTooLarge h = (h.0, too_large_there h.1)
 
-  pub no_fault : ((f : NestFault) → f ≢ nest_fault.Memory → Applies flow loops f → ⊥) → ((f : WalkFault) → f ≢ walk_fault.Memory → IsWalkFault flow tree f → ⊥) → HasNoFault flow loops
-  no_fault of_loops of_walk = record { of_loops = of_loops; of_walk = λ f not_memory h. of_walk f not_memory (fault_there f h) }
+-- ## The report
 
-  pub walks_fault : ((f : NestFault) → f ≢ nest_fault.Memory → Applies flow loops f → ⊥) → (f : WalkFault) → IsWalkFault flow tree f → IsGraphsFault flow loops (of_walk f)
-  walks_fault of_loops walk_fault.Memory h = tt
-  walks_fault of_loops walk_fault.NoCompleteWalk h = record { no_fault = of_loops; not_memory = λ e. cc e; holds = h }
-  walks_fault of_loops walk_fault.BoundTooLarge h = record { no_fault = of_loops; not_memory = λ e. cc e; holds = fault_here walk_fault.BoundTooLarge h }
+-- a run whose steps are the edges of a walk takes at most the walk, and no such walk costs more than the greatest
+bounds_runs : (words : Words) (profile : Profile) (st : Stated) (flow : Flow) (bound : ℕ) → RunLaw → IsGreatestCost flow st.loops bound → BoundsRuns words st profile flow bound
+bounds_runs words profile st flow bound law greatest s inputs ran after keeps runs =
+    let within : IsWithin profile keeps.walk inputs ran = law words st profile s inputs keeps.walk ran after runs keeps.follows in
+    let most : cost_of edge_shape keeps.walk ≤ bound = greatest.upper keeps.walk keeps.complete keeps.kept in
+    record { ticks = omega (arith, within.ticks, most); elapsed = omega (arith, within.elapsed, most) }
 
--- ## The faults of the loops
+-- the header of an instance of the tree is a place of the graph
+header_is_place : (flow : Flow) (loops : List Loop) (tree : Tree) → IsTreeOf flow loops tree → (i : Instance) → Contains tree.instances i → Contains flow.places (header_of i)
+header_is_place flow loops tree of i has = ((of.instances i).0 has).reached
 
-pub loops_fault : (flow : Flow) (loops : List Loop) (f : NestFault) → IsNestFault flow loops f → IsGraphsFault flow loops (of_loops f)
-loops_fault flow loops nest_fault.Memory h = tt
-loops_fault flow loops nest_fault.LoopsCross h = (λ e. cc e, h)
-loops_fault flow loops nest_fault.SharedHeader h = (λ e. cc e, h)
-loops_fault flow loops nest_fault.EntersMidLoop h = (λ e. cc e, h)
-loops_fault flow loops nest_fault.UnboundedCycle h = (λ e. cc e, h)
-loops_fault flow loops nest_fault.NestedTooDeep h = (λ e. cc e, h)
+module _ (source statement : List ℕ) (profile : Profile) (st : Stated) (flow : Flow) (tree : Tree) (loops : HasLoops source statement profile st flow) (of : IsTreeOf flow st.loops tree) where
+  pub reported : (l : Longest) (text : List ℕ) → RunLaw → IsWellFormed flow → IsLongest flow tree l → ((cert : Cert) → said_by cert ≡ said_of l → IsVerdict flow tree cert Yes)
+      → text ≡ cert_text (said_of l) → IsReport source statement profile text
+  reported l text law formed is judged e =
+      let walk = greatest_walk flow st.loops tree of.instances l is in
+      record {
+        stated = st;
+        flow = flow;
+        tree = tree;
+        longest = l;
+        graph = loops.graph;
+        tree_of = of;
+        longest_is = is;
+        walk = walk;
+        judged = judged;
+        runs = bounds_runs loops.graph.words profile st flow l.bound law walk.greatest;
+        can_spell = spelled_of flow formed tree l is (header_is_place flow st.loops tree of);
+        spelled = e;
+      }
 
--- what holds of a fault holds of an answer that is that fault
-pub refused_as : {T : Type 0} (r : Result T ReportFault) (e : ReportFault) (P : ReportFault → Type 0) → IsErrAnd r (λ x. x ≡ e) → P e → IfErr r P
-refused_as (Ok x) e P h p = tt
-refused_as (Err x) e P h p = subst P (sym h) p
+  -- no refusal of the walk holds
+  pub accepted : ((f : WalkFault) → f ≢ walk_fault.Memory → IsWalkFault flow tree f → ⊥) → IsAccepted source statement profile
+  accepted allowed = record { stated = st; flow = flow; loops = loops; no_fault = λ f not_memory h. allowed f not_memory (fault_there flow st.loops tree of.instances f h) }
 
--- ## The faults of the statement and of the graph
-
-pub statement_refusal : (source statement : List ℕ) (profile : Profile) (words : Words) (f : StatementFault) → source_of source ≡ Ok words → (f ≢ statement_fault.Memory → IsStatement statement no_names (Err f))
-    → (of_statement f ≢ Device) × IsRefused source statement profile (of_statement f)
-statement_refusal source statement profile words statement_fault.Memory image h = (λ e. cc e, tt)
-statement_refusal source statement profile words statement_fault.NotToml image h = (λ e. cc e, record { words = words; source_is = image; not_memory = λ e. cc e; statement_is = h (λ e. cc e) })
-statement_refusal source statement profile words statement_fault.UnknownKey image h = (λ e. cc e, record { words = words; source_is = image; not_memory = λ e. cc e; statement_is = h (λ e. cc e) })
-statement_refusal source statement profile words statement_fault.WrongKind image h = (λ e. cc e, record { words = words; source_is = image; not_memory = λ e. cc e; statement_is = h (λ e. cc e) })
-statement_refusal source statement profile words statement_fault.UnknownLabel image h = (λ e. cc e, record { words = words; source_is = image; not_memory = λ e. cc e; statement_is = h (λ e. cc e) })
-statement_refusal source statement profile words statement_fault.OutOfRange image h = (λ e. cc e, record { words = words; source_is = image; not_memory = λ e. cc e; statement_is = h (λ e. cc e) })
-statement_refusal source statement profile words statement_fault.Twice image h = (λ e. cc e, record { words = words; source_is = image; not_memory = λ e. cc e; statement_is = h (λ e. cc e) })
-
-pub graph_refusal : (source statement : List ℕ) (profile : Profile) (words : Words) (st : Stated) (f : BuildFault) → source_of source ≡ Ok words → IsStatement statement no_names (Ok st) → IsBuildFault words st profile f
-    → (of_graph f ≢ Device) × IsRefused source statement profile (of_graph f)
-graph_refusal source statement profile words st build_fault.Memory image read h = (λ e. cc e, tt)
-graph_refusal source statement profile words st (build_fault.OutsideImage a) image read h = (λ e. cc e, record { words = words; stated = st; source_is = image; statement_is = read; not_memory = λ e. cc e; holds = h })
-graph_refusal source statement profile words st (build_fault.UnallocatedWord a) image read h = (λ e. cc e, record { words = words; stated = st; source_is = image; statement_is = read; not_memory = λ e. cc e; holds = h })
-graph_refusal source statement profile words st (build_fault.TrapInHandler a) image read h = (λ e. cc e, record { words = words; stated = st; source_is = image; statement_is = read; not_memory = λ e. cc e; holds = h })
-graph_refusal source statement profile words st build_fault.TooDeep image read h = (λ e. cc e, record { words = words; stated = st; source_is = image; statement_is = read; not_memory = λ e. cc e; holds = h })
-graph_refusal source statement profile words st build_fault.TooManyPlaces image read h = (λ e. cc e, record { words = words; stated = st; source_is = image; statement_is = read; not_memory = λ e. cc e; holds = h })
-graph_refusal source statement profile words st (build_fault.TargetNotWriter a) image read h = (λ e. cc e, record { words = words; stated = st; source_is = image; statement_is = read; not_memory = λ e. cc e; holds = h })
+  -- a refusal of the walk
+  pub walk_refusal : (f : WalkFault) → IsWalkFault flow tree f → (of_walk f ≢ Device) × IsRefused source statement profile (of_walk f)
+  walk_refusal walk_fault.Memory h = (λ e. cc e, tt)
+  walk_refusal walk_fault.NoCompleteWalk h =
+      (λ e. cc e, record { stated = st; flow = flow; loops = loops; not_memory = λ e. cc e; holds = fault_here flow st.loops tree of.instances walk_fault.NoCompleteWalk h })
+  walk_refusal walk_fault.BoundTooLarge h =
+      (λ e. cc e, record { stated = st; flow = flow; loops = loops; not_memory = λ e. cc e; holds = fault_here flow st.loops tree of.instances walk_fault.BoundTooLarge h })

@@ -7,8 +7,10 @@ use Rattle.loop_bounds.specs.declared.fault.NestFault.{NestFault}
 use Rattle.loop_bounds.specs.declared.fault.NestFault.TheVariants as nest_fault
 use Rattle.numbered_walks.specs.declared.fault.WalkFault.{WalkFault}
 use Rattle.numbered_walks.specs.declared.fault.WalkFault.TheVariants as walk_fault
+use Rattle.certificate.specs.declared.fault.CertFault.{CertFault}
+use Rattle.certificate.specs.declared.fault.CertFault.TheVariants as cert_fault
 use Rattle.arcwcet.specs.declared.fault.ReportFault.{ReportFault}
-use Rattle.arcwcet.specs.declared.fault.ReportFault.TheVariants.{Memory, Source, Statement, Graph, Loops, Walk}
+use Rattle.arcwcet.specs.declared.fault.ReportFault.TheVariants.{Memory, Source, Statement, Graph, Loops, Walk, Cert}
 use Rattle.arcwcet.specs.declared.source.fault.AsmFault.{AsmFault}
 use Rattle.arcwcet.specs.declared.source.fault.AsmFault.TheVariants as asm_fault
 
@@ -31,3 +33,7 @@ of_loops fault = Loops fault
 abbrev pub of_walk : WalkFault → ReportFault
 of_walk walk_fault.Memory = Memory
 of_walk fault = Walk fault
+
+abbrev pub of_cert : CertFault → ReportFault
+of_cert cert_fault.Memory = Memory
+of_cert fault = Cert fault

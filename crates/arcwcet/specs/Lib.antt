@@ -1,4 +1,6 @@
+pub mod Answers
 pub mod Bound
+pub mod Check
 pub mod Faults
 pub mod Image
 pub mod Keeping
@@ -6,7 +8,6 @@ pub mod Kept
 pub mod Line
 pub mod Output
 pub mod Report
-pub mod ReportText
 pub mod Run
 pub mod Source
 pub mod Store

@@ -1,6 +1,6 @@
 -- Reports of a handler's greatest run time, which sources and statements have one, and why the others have
 -- none. Our own.
-use Rattle.std.specs.Prelude.{◌≡◌, ◌≢◌, ℕ, List, [], Ok, Err}
+use Rattle.std.specs.Prelude.{◌≡◌, ◌≢◌, ◌↔◌, ℕ, List, [], Ok, Err, Contains}
 use Rattle.bus_ticks.specs.declared.profile.Profile.{Profile}
 use Rattle.loader.specs.Image.{Words}
 use Rattle.loader.specs.Labels.{Names}
@@ -16,16 +16,23 @@ use Rattle.statement.specs.declared.faults.StatementFault.TheVariants as stateme
 use Rattle.statement.specs.declared.stated.Loop.{Loop}
 use Rattle.walks.specs.Walk.{cost_of}
 use Rattle.loop_bounds.specs.Bounds.{IsCompleteWalk, IsGreatestCost, IsTooLarge, KeepsTheBounds}
+use Rattle.loop_bounds.specs.Instance.{Instance, IsInstance}
 use Rattle.loop_bounds.specs.Nest.{Applies, IsNestFault}
+use Rattle.loop_bounds.specs.Tree.{IsTree, Tree}
 use Rattle.loop_bounds.specs.declared.fault.NestFault.{NestFault}
 use Rattle.loop_bounds.specs.declared.fault.NestFault.TheVariants as nest_fault
 use Rattle.longest_walk.specs.Folded.{unfolded}
+use Rattle.longest_walk.specs.Longest.{IsLongest}
 use Rattle.longest_walk.specs.declared.folded.Item.{Item}
+use Rattle.longest_walk.specs.declared.folded.Longest.{Longest}
 use Rattle.numbered_walks.specs.declared.fault.WalkFault.{WalkFault}
 use Rattle.numbered_walks.specs.declared.fault.WalkFault.TheVariants as walk_fault
+use Rattle.certificate.specs.Lines.{CanSpell, cert_text, said_by, said_of}
+use Rattle.certificate.specs.declared.cert.Cert.{Cert}
+use Rattle.cert_check.specs.Verdict.{IsVerdict}
+use Rattle.cert_check.specs.declared.verdict.Verdict.TheVariants.{Yes}
 use Rattle.arcwcet.specs.Image.{source_of}
 use Rattle.arcwcet.specs.Keeping.{BoundsRuns}
-use Rattle.arcwcet.specs.ReportText.{spelling}
 use Rattle.arcwcet.specs.declared.fault.ReportFault.{ReportFault}
 use Rattle.arcwcet.specs.declared.fault.ReportFault.TheVariants as report_fault
 use Rattle.arcwcet.specs.declared.source.fault.AsmFault.TheVariants as asm_fault
@@ -60,6 +67,11 @@ pub record HasLoops (source statement : List ℕ) (profile : Profile) (stated : 
   pub graph : HasGraph source statement profile stated flow
   pub no_fault : (f : NestFault) → f ≢ nest_fault.Memory → Applies flow stated.loops f → ⊥
 
+-- the tree has exactly the instances of the stated loops
+pub record IsTreeOf (flow : Flow) (loops : List Loop) (tree : Tree) : Type 0 where
+  pub tree_is : IsTree flow tree
+  pub instances : (i : Instance) → Contains tree.instances i ↔ IsInstance flow loops i
+
 -- and none of the walk
 pub record IsAccepted (source statement : List ℕ) (profile : Profile) : Type 0 where
   pub stated : Stated
@@ -67,17 +79,21 @@ pub record IsAccepted (source statement : List ℕ) (profile : Profile) : Type 0
   pub loops : HasLoops source statement profile stated flow
   pub no_fault : (f : WalkFault) → f ≢ walk_fault.Memory → IsWalkRefusal flow stated.loops f → ⊥
 
--- A report for a source and a statement: its bound is the greatest cost, its walk has it, and every machine run that keeps the
--- statement takes at most the bound.
+-- A report for a source and a statement, the certificate of a greatest walk: its bound is the greatest cost, its walk has it, each
+-- certificate that says the same is judged Yes, and every machine run that keeps the statement takes at most the bound.
 pub record IsReport (source statement : List ℕ) (profile : Profile) (text : List ℕ) : Type 0 where
   pub stated : Stated
   pub flow : Flow
-  pub bound : ℕ
-  pub items : List Item
+  pub tree : Tree
+  pub longest : Longest
   pub graph : HasGraph source statement profile stated flow
-  pub walk : IsGreatestWalk flow stated.loops bound items
-  pub runs : BoundsRuns graph.words stated profile flow bound
-  pub spelled : text ≡ spelling bound items
+  pub tree_of : IsTreeOf flow stated.loops tree
+  pub longest_is : IsLongest flow tree longest
+  pub walk : IsGreatestWalk flow stated.loops longest.bound longest.walk
+  pub judged : (cert : Cert) → said_by cert ≡ said_of longest → IsVerdict flow tree cert Yes
+  pub runs : BoundsRuns graph.words stated profile flow longest.bound
+  pub can_spell : CanSpell (said_of longest)
+  pub spelled : text ≡ cert_text (said_of longest)
 
 -- a fault of the statement, of a source that has an image
 pub record IsStatementRefused (source statement : List ℕ) (fault : StatementFault) : Type 0 where
@@ -111,13 +127,20 @@ pub record IsWalkRefused (source statement : List ℕ) (profile : Profile) (faul
   pub not_memory : fault ≢ walk_fault.Memory
   pub holds : IsWalkRefusal flow stated.loops fault
 
--- when each refusal is answered: the first in the order of the work. A growth is refused, and an output fails, whatever
--- the source and the statement
+-- when each refusal of a source and a statement is answered, up to the loops: the first in the order of the work. A growth is
+-- refused whatever they are
+abbrev pub IsHandlerRefused : List ℕ → List ℕ → Profile → ReportFault → Type 0
+IsHandlerRefused source statement profile report_fault.Memory = Unit {0}
+IsHandlerRefused source statement profile (report_fault.Source fault) = (source_of source ≡ Err fault) × (fault ≢ asm_fault.Memory)
+IsHandlerRefused source statement profile (report_fault.Statement fault) = IsStatementRefused source statement fault
+IsHandlerRefused source statement profile (report_fault.Graph fault) = IsGraphRefused source statement profile fault
+IsHandlerRefused source statement profile (report_fault.Loops fault) = AreLoopsRefused source statement profile fault
+IsHandlerRefused source statement profile (report_fault.Walk fault) = ⊥
+IsHandlerRefused source statement profile (report_fault.Cert fault) = ⊥
+IsHandlerRefused source statement profile report_fault.Device = ⊥
+
+-- when each refusal of a report is answered; an output fails whatever the source and the statement
 abbrev pub IsRefused : List ℕ → List ℕ → Profile → ReportFault → Type 0
-IsRefused source statement profile report_fault.Memory = Unit {0}
-IsRefused source statement profile (report_fault.Source fault) = (source_of source ≡ Err fault) × (fault ≢ asm_fault.Memory)
-IsRefused source statement profile (report_fault.Statement fault) = IsStatementRefused source statement fault
-IsRefused source statement profile (report_fault.Graph fault) = IsGraphRefused source statement profile fault
-IsRefused source statement profile (report_fault.Loops fault) = AreLoopsRefused source statement profile fault
 IsRefused source statement profile (report_fault.Walk fault) = IsWalkRefused source statement profile fault
 IsRefused source statement profile report_fault.Device = Unit {0}
+IsRefused source statement profile fault = IsHandlerRefused source statement profile fault

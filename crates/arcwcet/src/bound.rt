@@ -1,58 +1,17 @@
-ghost use Rattle.std.specs.Prelude.{◌≢◌, Err, IfOk, IfErr, OnOk};
-ghost use Rattle.arcwcet.specs.Bound.{HasNoFault, IsGraphsFault, Reports, ReportsByOne};
-ghost use Rattle.statement.specs.Statement.{IsStatement};
-ghost use Rattle.arcwcet.specs.Report.{HasGraph, IsAccepted, IsGreatestWalk, IsRefused, IsReport, no_names};
+ghost use Rattle.std.specs.Prelude.{◌≢◌, IfErr, IfOk, OnOk};
+ghost use Rattle.arcwcet.specs.Bound.{Reports, ReportsByOne};
+ghost use Rattle.arcwcet.specs.Report.{IsAccepted, IsRefused, IsReport};
 
 use crate::fault::ReportFault;
+use crate::handler::read_handler;
 use crate::output::Output;
-use crate::report_text::report_text;
-use crate::source::read_source;
 use crate::whole::write_whole;
 use bus_ticks::Profile;
-use flow_graph::{Graph, Statement, StatementFault, build, read_statement, run_law};
-use loader::labels::Labels;
-use longest_walk::{Longest, longest};
-use loop_bounds::nest;
+use cert_check::longest_gets_yes;
+use certificate::write_cert;
+use flow_graph::run_law;
+use longest_walk::longest;
 use std::alloc::Global;
-
-/// A handler's statement and its flow graph.
-#[derive(Drop)]
-struct Handler {
-    statement: Statement,
-    graph: Graph,
-}
-
-// The statement of a source that names no addresses.
-fn without_names(alloc: Global, text: &[u8]) -> Result<Statement, StatementFault>
-    ensures { result ≢ Err StatementFault.Memory → IsStatement text.now no_names result }
-{
-    read_statement(alloc, text, &Labels::new(alloc))
-}
-
-fn read_handler(
-    alloc: Global,
-    source: &[u8],
-    statement: &[u8],
-    profile: &Profile,
-) -> Result<Handler, ReportFault>
-    ensures graph { IfOk result (λ h. HasGraph source.now statement.now profile.now h.statement h.graph) }
-    ensures fault { IfErr result (λ e. (e ≢ ReportFault.Device) × IsRefused source.now statement.now profile.now e) }
-{
-    let image = read_source(alloc, source)?;
-    let statement = without_names(alloc, statement)?;
-    let graph = build(alloc, &image, &statement, profile)?;
-    Ok(Handler { statement, graph })
-}
-
-fn greatest_walk(alloc: Global, handler: &Handler) -> Result<Longest, ReportFault>
-    ensures walk { IfOk result (λ l. IsGreatestWalk handler.now.graph handler.now.statement.loops l.bound l.walk) }
-    ensures allowed { OnOk result (HasNoFault handler.now.graph handler.now.statement.loops) }
-    ensures fault { IfErr result (IsGraphsFault handler.now.graph handler.now.statement.loops) }
-{
-    let tree = nest(alloc, &handler.graph, &handler.statement)?;
-    let found = longest(alloc, &handler.graph, &tree)?;
-    Ok(found)
-}
 
 fn text_of(
     alloc: Global,
@@ -65,15 +24,17 @@ fn text_of(
     ensures fault { IfErr result (λ e. (e ≢ ReportFault.Device) × IsRefused source.now statement.now profile.now e) }
 {
     let handler = read_handler(alloc, source, statement, profile)?;
-    let found = greatest_walk(alloc, &handler)?;
+    let found = longest(alloc, &handler.graph, &handler.tree)?;
     run_law();
-    let text = report_text(alloc, found.bound, found.walk.items())?;
+    longest_gets_yes();
+    let text = write_cert(alloc, &found)?;
     Ok(text)
 }
 
-/// Writes the report of a source and a statement by the first profile: the greatest cost, in ticks, of a
-/// complete walk of the handler's flow graph that keeps the bounds, and such a walk. Every machine run that keeps the
-/// statement takes at most that many ticks, and the profile's burst price for each DMA burst more.
+/// Writes the report of a source and a statement by the first profile, the certificate of a greatest walk: the greatest cost,
+/// in ticks, of a complete walk of the handler's flow graph that keeps the bounds, such a walk, and the numbers that prove it
+/// greatest. Whatever text says the same is judged `yes` by [`check_report`](crate::check_report). Every machine run that
+/// keeps the statement takes at most that many ticks, and the profile's burst price for each DMA burst more.
 ///
 /// The whole report is made before its first byte is written. Of several faults the first in the order of the work is
 /// answered: source, statement, graph, loops, walk. After any but `Device` nothing was written.

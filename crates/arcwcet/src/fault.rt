@@ -1,4 +1,6 @@
 use crate::source::AsmFault;
+use cert_check::CheckFault;
+use certificate::CertFault;
 use flow_graph::{BuildFault, StatementFault};
 use longest_walk::WalkFault;
 use loop_bounds::NestFault;
@@ -19,7 +21,7 @@ pub enum StoreFault {
     InputTooLong,
 }
 
-/// Why there is no report. None but `Memory` holds a refused growth.
+/// Why there is no report and no verdict. None but `Memory` holds a refused growth.
 #[derive(Clone, Copy, Debug, PartialEq, Eq, Drop, Error)]
 pub enum ReportFault {
     /// A growth was refused.
@@ -40,6 +42,9 @@ pub enum ReportFault {
     /// No complete walk keeps the bounds, or one costs too much.
     #[error("{0}")]
     Walk(WalkFault),
+    /// The text is no certificate.
+    #[error("{0}")]
+    Cert(CertFault),
     /// The output failed.
     #[error("Device")]
     Device,
@@ -123,5 +128,30 @@ impl From<WalkFault> for ReportFault {
             WalkFault::Memory => ReportFault::Memory,
             _ => ReportFault::Walk(lower),
         }
+    }
+}
+
+impl From<CertFault> for ReportFault {
+    ghost use Rattle.std.specs.Prelude.{◌≡◌};
+    ghost use Rattle.arcwcet.specs.Faults.{of_cert};
+
+    ghost from_gives = { λ lower fault. fault ≡ of_cert lower };
+
+    fn from(lower: CertFault) -> ReportFault {
+        match lower {
+            CertFault::Memory => ReportFault::Memory,
+            _ => ReportFault::Cert(lower),
+        }
+    }
+}
+
+impl From<CheckFault> for ReportFault {
+    ghost use Rattle.std.specs.Prelude.{◌≡◌};
+    ghost use Rattle.arcwcet.specs.declared.fault.ReportFault.TheVariants.{Memory};
+
+    ghost from_gives = { λ _ fault. fault ≡ Memory };
+
+    fn from(_lower: CheckFault) -> ReportFault {
+        ReportFault::Memory
     }
 }

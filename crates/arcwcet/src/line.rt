@@ -4,7 +4,16 @@ use clap::Error;
 #[derive(Clone, Copy)]
 pub(crate) enum Request<'a> {
     /// The longest run time of the handler in a source, under a statement: the names of two files.
-    Bound { source: &'a str, statement: &'a str },
+    Bound {
+        source: &'a str,
+        statement: &'a str,
+    },
+    /// The verdict on a certificate of that: the names of three files.
+    Check {
+        source: &'a str,
+        statement: &'a str,
+        cert: &'a str,
+    },
 }
 
 /// Why a line of words asks for nothing.

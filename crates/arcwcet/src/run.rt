@@ -1,8 +1,9 @@
-ghost use Rattle.std.specs.Prelude.{◌≡◌, ◌≢◌, ◌⊎◌, ◌<◌, ℕ, List, None, Some};
-ghost use Rattle.arcwcet.specs.Line.{asked_in, bound};
-ghost use Rattle.arcwcet.specs.Run.{IsFailedRun, IsPrinted, IsRefusedRun, IsStarvedRun, RunsBound, report_status, store_status};
+ghost use Rattle.std.specs.Prelude.{◌≡◌, ◌≢◌, ◌⊎◌, ℕ, List, [], ◌∷◌, None, Some, IfOk, IfErr};
+ghost use Rattle.arcwcet.specs.Line.{asked_in, bound, check};
+ghost use Rattle.arcwcet.specs.Run.{FailsToRead, ReadsAll, RunsBound, RunsCheck, report_status, store_status};
 
 use crate::bound::bound_report;
+use crate::check::check_report;
 use crate::fault::{ReportFault, StoreFault};
 use crate::line::{LineFault, Request};
 use crate::output::Output;
@@ -70,6 +71,50 @@ fn told_report<E: Output>(fault: ReportFault, err: &mut E) -> u8
     }
 }
 
+/// The bytes of a source and a statement.
+#[derive(Drop)]
+struct HandlerFiles {
+    source: Vec<u8>,
+    statement: Vec<u8>,
+}
+
+/// The same, and those of a certificate.
+#[derive(Drop)]
+struct CertFiles {
+    handler: HandlerFiles,
+    cert: Vec<u8>,
+}
+
+fn read_two<S: Store>(
+    alloc: Global,
+    source: &str,
+    statement: &str,
+    store: &mut S,
+) -> Result<HandlerFiles, StoreFault>
+    ensures read { IfOk result (λ f. ReadsAll S.read_gives store.old (source.now ∷ statement.now ∷ []) (f.source.items ∷ f.statement.items ∷ []) store.new) }
+    ensures fault { IfErr result (λ e. FailsToRead S.read_gives store.old (source.now ∷ statement.now ∷ []) e store.new) }
+{
+    let source = store.read(alloc, source)?;
+    let statement = store.read(alloc, statement)?;
+    Ok(HandlerFiles { source, statement })
+}
+
+fn read_three<S: Store>(
+    alloc: Global,
+    source: &str,
+    statement: &str,
+    cert: &str,
+    store: &mut S,
+) -> Result<CertFiles, StoreFault>
+    ensures read { IfOk result (λ f. ReadsAll S.read_gives store.old (source.now ∷ statement.now ∷ cert.now ∷ [])
+        (f.handler.source.items ∷ f.handler.statement.items ∷ f.cert.items ∷ []) store.new) }
+    ensures fault { IfErr result (λ e. FailsToRead S.read_gives store.old (source.now ∷ statement.now ∷ cert.now ∷ []) e store.new) }
+{
+    let handler = read_two(alloc, source, statement, store)?;
+    let cert = store.read(alloc, cert)?;
+    Ok(CertFiles { handler, cert })
+}
+
 /// `bound`: reads the two files and prints the report.
 fn run_bound<S: Store, O: Output, E: Output>(
     alloc: Global,
@@ -79,34 +124,47 @@ fn run_bound<S: Store, O: Output, E: Output>(
     out: &mut O,
     err: &mut E,
 ) -> u8
-    ensures printed { result ≡ 0
-        → IsPrinted S.read_gives store.old store.new source.now statement.now (O.taken out.old) (O.taken out.new) }
-    ensures refused { result ≡ 1 → IsRefusedRun S.read_gives store.old store.new source.now statement.now }
-    ensures failed { result ≡ 4
-        → IsFailedRun S.read_gives store.old store.new source.now statement.now (O.taken out.old) (O.taken out.new)
-        (O.failures out.old) (O.failures out.new) }
-    ensures starved { result ≡ 3 → IsStarvedRun S.read_gives store.old store.new source.now statement.now }
-    ensures quiet { (result ≡ 1) ⊎ (result ≡ 3) → out.new ≡ out.old }
+    ensures ran { RunsBound S.read_gives O.taken O.failures source.now statement.now store.old store.new out.old out.new result }
     ensures silent { result ≡ 0 → err.new ≡ err.old }
-    ensures known { (result ≡ 0) ⊎ ((result ≡ 1) ⊎ ((result ≡ 3) ⊎ (result ≡ 4))) }
 {
-    let source = match store.read(alloc, source) {
-        Ok(source) => source,
+    let files = match read_two(alloc, source, statement, store) {
+        Ok(files) => files,
         Err(fault) => return told_store(fault, err),
     };
-    let statement = match store.read(alloc, statement) {
-        Ok(statement) => statement,
-        Err(fault) => return told_store(fault, err),
-    };
-    match bound_report(alloc, &source, &statement, out) {
+    match bound_report(alloc, &files.source, &files.statement, out) {
         Ok(()) => 0,
         Err(fault) => told_report(fault, err),
     }
 }
 
+/// `check`: reads the three files and prints the verdict.
+fn run_check<S: Store, O: Output, E: Output>(
+    alloc: Global,
+    source: &str,
+    statement: &str,
+    cert: &str,
+    store: &mut S,
+    out: &mut O,
+    err: &mut E,
+) -> u8
+    ensures ran { RunsCheck S.read_gives O.taken O.failures source.now statement.now cert.now store.old store.new out.old out.new result }
+    ensures silent { result ≡ 0 → err.new ≡ err.old }
+{
+    let files = match read_three(alloc, source, statement, cert, store) {
+        Ok(files) => files,
+        Err(fault) => return told_store(fault, err),
+    };
+    let handler = &files.handler;
+    match check_report(alloc, &handler.source, &handler.statement, &files.cert, out) {
+        Ok(true) => 0,
+        Ok(false) => 1,
+        Err(fault) => told_report(fault, err),
+    }
+}
+
 /// Runs the program on its words, of which the first is its name, and answers its exit status: 0; 1
-/// where the work is refused; 2 for wrong usage; 3 for want of memory; 4 where a file, a stream or the
-/// output fails.
+/// where the work is refused, or a certificate's verdict is No; 2 for wrong usage; 3 for want of memory; 4 where a file, a
+/// stream or the output fails.
 ///
 /// A refusal is one line on `err`, whose failures change no status. All input is read before the work, in the order
 /// of the words; no memory is taken once the words are refused.
@@ -125,8 +183,10 @@ pub fn program<S: Store, I: Read, O: Output, E: Output>(
     // What `bound` did.
     ensures bound { (source statement : List ℕ) → asked_in words.now ≡ Some (bound source statement)
         → RunsBound S.read_gives O.taken O.failures source statement store.old store.new out.old out.new result }
-    ensures starved { (source statement : List ℕ) → asked_in words.now ≡ Some (bound source statement)
-        → result ≡ 3 → IsStarvedRun S.read_gives store.old store.new source statement }
+
+    // What `check` did.
+    ensures check { (source statement cert : List ℕ) → asked_in words.now ≡ Some (check source statement cert)
+        → RunsCheck S.read_gives O.taken O.failures source statement cert store.old store.new out.old out.new result }
 
     // Nothing is told at 0.
     ensures silent { result ≡ 0 → err.new ≡ err.old }
@@ -139,6 +199,13 @@ pub fn program<S: Store, I: Read, O: Output, E: Output>(
         Ok(Request::Bound { source, statement }) => {
             run_bound(alloc, source, statement, store, out, err)
         }
+        Ok(
+            Request::Check {
+                source,
+                statement,
+                cert,
+            },
+        ) => run_check(alloc, source, statement, cert, store, out, err),
         Err(fault) => told_line(fault, err),
     }
 }

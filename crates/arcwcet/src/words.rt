@@ -4,7 +4,7 @@ ghost use Rattle.clap.specs.Simple.{app_of};
 ghost use Rattle.clap.specs.Walk.{rows_of};
 ghost use Rattle.clap.specs.Words.{kind_of, subcommand_rows_of};
 ghost use Rattle.clap.specs.declared.builder.command.Command.TheViews.{out-Command};
-ghost use Rattle.arcwcet.specs.Line.{bound_command, arcwcet_command, asked_in, asked_by, asked_bound, asked_of};
+ghost use Rattle.arcwcet.specs.Line.{arcwcet_command, asked_bound, asked_by, asked_check, asked_in, asked_of, bound_command, check_command};
 
 use crate::line::{LineFault, Request};
 use clap::error::ErrorKind;
@@ -21,14 +21,30 @@ fn bound<'a>(alloc: Global) -> Result<Command<'a>, AllocError>
     Command::new(alloc, "bound").arg(source)?.arg(statement)
 }
 
+/// The command `check SOURCE STATEMENT CERT`.
+fn check<'a>(alloc: Global) -> Result<Command<'a>, AllocError>
+    ensures shape { IfOk result (λ c. app_of c ≡ check_command) }
+    ensures no_globals { IfOk result (λ c. (out-Command c).has_globals ≡ false) }
+{
+    let source = Arg::new(alloc, "source").required(true);
+    let statement = Arg::new(alloc, "statement").required(true);
+    let cert = Arg::new(alloc, "cert").required(true);
+    Command::new(alloc, "check")
+        .arg(source)?
+        .arg(statement)?
+        .arg(cert)
+}
+
 /// The program's command.
 fn arcwcet<'a>(alloc: Global) -> Result<Command<'a>, AllocError>
     ensures { IfOk result (λ c. app_of c ≡ arcwcet_command) }
 {
     let bound = bound(alloc)?;
+    let check = check(alloc)?;
     Command::new(alloc, "arcwcet")
         .subcommand_required(true)
-        .subcommand(bound)
+        .subcommand(bound)?
+        .subcommand(check)
 }
 
 /// What `bound` is asked with.
@@ -40,6 +56,20 @@ fn bound_in<'a>(values: &ArgMatches<'a>) -> Option<Request<'a>>
     Some(Request::Bound { source, statement })
 }
 
+/// What `check` is asked with.
+fn check_in<'a>(values: &ArgMatches<'a>) -> Option<Request<'a>>
+    ensures { option_map asked_of result ≡ asked_check (rows_of (found_of values.now)) }
+{
+    let source = values.get_str("source")?;
+    let statement = values.get_str("statement")?;
+    let cert = values.get_str("cert")?;
+    Some(Request::Check {
+        source,
+        statement,
+        cert,
+    })
+}
+
 /// What the matches ask for.
 fn request_in<'a>(matches: &ArgMatches<'a>) -> Option<Request<'a>>
     ensures { option_map asked_of result ≡ option_and_then asked_by (subcommand_rows_of matches.now) }
@@ -47,6 +77,9 @@ fn request_in<'a>(matches: &ArgMatches<'a>) -> Option<Request<'a>>
     let (name, values) = matches.subcommand()?;
     if name == "bound" {
         return bound_in(values);
+    }
+    if name == "check" {
+        return check_in(values);
     }
     None
 }

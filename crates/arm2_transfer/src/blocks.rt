@@ -242,7 +242,7 @@ fn block_at(
 
 /// A load or store of the registers of a list.
 #[tactic(auto, unfolding(crate::specs::Block::block_moved))]
-pub fn block(
+pub(crate) fn block(
     registers: &mut Registers,
     bus: &mut Bus,
     port: u32,

@@ -21,7 +21,7 @@ impl<T: Copy> Model for Few<T> {
 
 impl<T: Copy> Few<T> {
     /// None. The filler stands where no item does, and is never seen.
-    pub fn new(filler: T) -> Self
+    pub(crate) fn new(filler: T) -> Self
         ensures { result ≡ [] }
     {
         Few {
@@ -30,7 +30,7 @@ impl<T: Copy> Few<T> {
         }
     }
 
-    pub fn push(&mut self, item: T)
+    pub(crate) fn push(&mut self, item: T)
         requires { length self.old < 16 }
         ensures { self.new ≡ self.old ++ item ∷ [] }
     {
@@ -38,7 +38,7 @@ impl<T: Copy> Few<T> {
         self.count += 1;
     }
 
-    pub fn as_slice(&self) -> &[T]
+    pub(crate) fn as_slice(&self) -> &[T]
         ensures { result.now ≡ self.now }
     {
         &self.items[..self.count]

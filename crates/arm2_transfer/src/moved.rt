@@ -9,7 +9,7 @@ use bus_ticks::{fetch_n, transfer};
 
 /// What comes of a transfer none of whose words is moved.
 #[tactic(auto, unfolding(arm2_effect::specs::Effects::stopped))]
-pub fn refuse(registers: &mut Registers, bus: &Bus, prices: Prices, trouble: Trouble) -> Done
+pub(crate) fn refuse(registers: &mut Registers, bus: &Bus, prices: Prices, trouble: Trouble) -> Done
     ensures moved { IsMoved prices.profile prices.rom result registers.new bus.now (troubled trouble registers.old bus.now) }
     ensures bound { result.ticks < 2 ^ 16 }
     ensures stopped { is_stopped result.kind ≡ true → ChangesNothing result registers.old registers.new bus.now bus.now }
@@ -22,7 +22,14 @@ pub fn refuse(registers: &mut Registers, bus: &Bus, prices: Prices, trouble: Tro
 
 /// The ticks of a load by the instruction at `from`, of so many words from `address` on; where it writes R15 it jumps to
 /// `to`.
-pub fn load_ticks(prices: Prices, from: u32, address: u32, words: u32, jumps: bool, to: u32) -> u32
+pub(crate) fn load_ticks(
+    prices: Prices,
+    from: u32,
+    address: u32,
+    words: u32,
+    jumps: bool,
+    to: u32,
+) -> u32
     requires from { from < 2 ^ 26 }
     requires from_aligned { from % 4 ≡ 0 }
     requires address { address < 2 ^ 26 }
@@ -43,7 +50,7 @@ pub fn load_ticks(prices: Prices, from: u32, address: u32, words: u32, jumps: bo
 }
 
 /// The ticks of a store by the instruction at `from`, of so many words from `address` on.
-pub fn store_ticks(prices: Prices, from: u32, address: u32, words: u32) -> u32
+pub(crate) fn store_ticks(prices: Prices, from: u32, address: u32, words: u32) -> u32
     requires from { from < 2 ^ 26 }
     requires from_aligned { from % 4 ≡ 0 }
     requires address { address < 2 ^ 26 }

@@ -4,20 +4,20 @@ ghost use Rattle.arm2_transfer.specs.Registers.{is_r15 as is_program_counter, is
 use arm2_decode::Register;
 use arm2_effect::{Mode, Reg, Registers, address_of, advanced, jumped, restored};
 
-pub fn is_user(mode: Mode) -> bool
+pub(crate) fn is_user(mode: Mode) -> bool
     ensures { result ≡ is_user_mode mode }
 {
     matches!(mode, Mode::User)
 }
 
-pub fn is_r15(register: Register) -> bool
+pub(crate) fn is_r15(register: Register) -> bool
     ensures { result ≡ is_program_counter register }
 {
     register.number() == 15
 }
 
 /// A base and an offset, on 32 bits.
-pub fn moved_by(up: bool, base: u32, offset: u32) -> u32
+pub(crate) fn moved_by(up: bool, base: u32, offset: u32) -> u32
     ensures { result ≡ is_moved_by up base offset }
 {
     if up {
@@ -28,7 +28,7 @@ pub fn moved_by(up: bool, base: u32, offset: u32) -> u32
 }
 
 /// What a store takes from a register.
-pub fn give(registers: &Registers, mode: Mode, register: Register) -> u32
+pub(crate) fn give(registers: &Registers, mode: Mode, register: Register) -> u32
     ensures { result ≡ given mode register registers.now }
 {
     if is_r15(register) {
@@ -49,7 +49,7 @@ fn load_r15(psr: bool, r15: u32, word: u32) -> u32
 }
 
 /// A loaded word enters its register; `r15` is R15 as it was before the instruction.
-pub fn enter(
+pub(crate) fn enter(
     registers: &mut Registers,
     psr: bool,
     mode: Mode,
@@ -67,7 +67,13 @@ pub fn enter(
 }
 
 /// The base is written back, where it is.
-pub fn write_base(registers: &mut Registers, write_back: bool, mode: Mode, rn: Register, base: u32)
+pub(crate) fn write_base(
+    registers: &mut Registers,
+    write_back: bool,
+    mode: Mode,
+    rn: Register,
+    base: u32,
+)
     ensures { registers.new ≡ with_base write_back mode rn base registers.old }
 {
     if write_back {
@@ -76,7 +82,7 @@ pub fn write_base(registers: &mut Registers, write_back: bool, mode: Mode, rn: R
 }
 
 /// R15 goes on by one instruction.
-pub fn pass(registers: &mut Registers)
+pub(crate) fn pass(registers: &mut Registers)
     ensures { registers.new ≡ passed registers.old }
 {
     let r15 = registers.get(Reg::R15);

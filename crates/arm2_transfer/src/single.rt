@@ -28,7 +28,7 @@ impl Single {
     ghost use Rattle.arm2_transfer.specs.Single.{address_for, has_user_rights as is_as_user, base_after};
 
     // The address, of 32 bits.
-    pub fn address(self, base: u32) -> u32
+    pub(crate) fn address(self, base: u32) -> u32
         ensures { result ≡ address_for self base }
     {
         if self.before {
@@ -39,14 +39,14 @@ impl Single {
     }
 
     // Whether the access has the rights of User.
-    pub fn has_user_rights(self, mode: Mode) -> bool
+    pub(crate) fn has_user_rights(self, mode: Mode) -> bool
         ensures { result ≡ is_as_user self mode }
     {
         is_user(mode) || self.write_back && !self.before
     }
 
     // R15 goes on, and the moved base is written back where it is.
-    pub fn write_base(self, registers: &mut Registers, base: u32)
+    pub(crate) fn write_base(self, registers: &mut Registers, base: u32)
         ensures { registers.new ≡ base_after self base registers.old }
     {
         let mode = mode_of(registers.get(Reg::R15));

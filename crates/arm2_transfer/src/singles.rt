@@ -152,7 +152,7 @@ fn single(
 }
 
 /// A load or store with its offset in the word.
-pub fn single_immediate(
+pub(crate) fn single_immediate(
     registers: &mut Registers,
     bus: &mut Bus,
     port: u32,
@@ -177,7 +177,7 @@ pub fn single_immediate(
 }
 
 /// A load or store with its offset in a register.
-pub fn single_register(
+pub(crate) fn single_register(
     registers: &mut Registers,
     bus: &mut Bus,
     port: u32,

@@ -34,14 +34,14 @@ fn all_registers() -> [Register; 16]
 }
 
 /// Whether a list has a register.
-pub fn is_listed(list: u32, register: Register) -> bool
+pub(crate) fn is_listed(list: u32, register: Register) -> bool
     ensures { result ≡ is_in_list list register }
 {
     (list >> register.number()) % 2 == 1
 }
 
 /// The registers of a list, the lowest first.
-pub fn registers_in(list: u32) -> Few<Register>
+pub(crate) fn registers_in(list: u32) -> Few<Register>
     ensures registers { result ≡ are_registers_in list }
     ensures few { length result ≤ 16 }
 {
@@ -55,7 +55,12 @@ pub fn registers_in(list: u32) -> Few<Register>
 }
 
 /// Where the one word of a transfer goes or comes from.
-pub fn locate_word(memc: &Memc, address: u32, user: bool, store: bool) -> Result<Spot, Trouble>
+pub(crate) fn locate_word(
+    memc: &Memc,
+    address: u32,
+    user: bool,
+    store: bool,
+) -> Result<Spot, Trouble>
     requires { address < 2 ^ 26 }
     ensures met { result ≡ met (located memc.now address user store) }
     ensures fitted { IfOk result (Fits memc.now.shift) }
@@ -77,7 +82,7 @@ fn word_address(lowest: u32, word: u32) -> u32
 }
 
 /// Where the words of some registers go or come from, from the lowest address on.
-pub fn locate_block(
+pub(crate) fn locate_block(
     memc: &Memc,
     registers: &[Register],
     lowest: u32,

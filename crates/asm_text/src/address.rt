@@ -134,7 +134,7 @@ fn based(user: bool, rn: Register, tokens: &[Token<'_>]) -> Option<Address>
 }
 
 /// An address behind its bracket; that of a User access is post-indexed.
-pub fn address(user: bool, tokens: &[Token<'_>]) -> Option<Address>
+pub(crate) fn address(user: bool, tokens: &[Token<'_>]) -> Option<Address>
     ensures { result ≡ address_of user (map piece_of tokens.now) }
 {
     let (rn, rest) = first_register(tokens)?;

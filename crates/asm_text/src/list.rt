@@ -199,7 +199,7 @@ fn based(load: bool, suffix: Suffix, rn: Register, tokens: &[Token<'_>]) -> Opti
 }
 
 /// The operands of LDM, which loads, or of STM.
-pub fn block(load: bool, suffix: Suffix, tokens: &[Token<'_>]) -> Option<BlockTransfer>
+pub(crate) fn block(load: bool, suffix: Suffix, tokens: &[Token<'_>]) -> Option<BlockTransfer>
     ensures { result ≡ block_of load suffix (map piece_of tokens.now) }
 {
     let (rn, rest) = first_register(tokens)?;

@@ -64,7 +64,7 @@ macro_rules! named {
 }
 
 /// The condition that a text in upper case names.
-pub fn named_cond(text: &[u8]) -> Option<Cond>
+pub(crate) fn named_cond(text: &[u8]) -> Option<Cond>
     ensures { result ≡ cond_of text.now }
 {
     named!(text;
@@ -88,7 +88,7 @@ pub fn named_cond(text: &[u8]) -> Option<Cond>
 }
 
 /// The head that a text in upper case names.
-pub fn named_head(text: &[u8]) -> Option<Head>
+pub(crate) fn named_head(text: &[u8]) -> Option<Head>
     ensures { result ≡ head_of text.now }
 {
     named!(text;
@@ -120,7 +120,7 @@ pub fn named_head(text: &[u8]) -> Option<Head>
 }
 
 /// The suffix that a text in upper case names.
-pub fn named_suffix(text: &[u8]) -> Option<Suffix>
+pub(crate) fn named_suffix(text: &[u8]) -> Option<Suffix>
     ensures { result ≡ suffix_of text.now }
 {
     named!(text;
@@ -142,7 +142,7 @@ pub fn named_suffix(text: &[u8]) -> Option<Suffix>
 }
 
 /// Whether a word writes the flags alone.
-pub fn compares(opcode: Opcode) -> bool
+pub(crate) fn compares(opcode: Opcode) -> bool
     ensures { result ≡ is_compare opcode }
 {
     matches!(
@@ -168,7 +168,7 @@ fn orders_block(suffix: Suffix) -> bool
 }
 
 /// Whether a word of the head may have the suffix.
-pub fn may_have(head: Head, suffix: Suffix) -> bool
+pub(crate) fn may_have(head: Head, suffix: Suffix) -> bool
     ensures { result ≡ may_have_suffix head suffix }
 {
     match head {

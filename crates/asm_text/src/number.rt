@@ -37,7 +37,7 @@ fn number(radix: u32, text: &[u8]) -> Option<u32>
 }
 
 /// The number that a run of letters and digits spells: decimal, or hexadecimal behind `0x`, below 2^32.
-pub fn read_number(text: &[u8]) -> Option<u32>
+pub(crate) fn read_number(text: &[u8]) -> Option<u32>
     ensures { result ≡ run_number text.now }
 {
     match text {
@@ -47,14 +47,14 @@ pub fn read_number(text: &[u8]) -> Option<u32>
 }
 
 /// The number that hexadecimal digits spell, below 2^32.
-pub fn read_hex(text: &[u8]) -> Option<u32>
+pub(crate) fn read_hex(text: &[u8]) -> Option<u32>
     ensures { result ≡ number_by 16 text.now }
 {
     number(16, text)
 }
 
 /// The hexadecimal number that some tokens begin with, and those behind it.
-pub fn first_hex<'a, 'b>(tokens: &'a [Token<'b>]) -> Option<(u32, &'a [Token<'b>])>
+pub(crate) fn first_hex<'a, 'b>(tokens: &'a [Token<'b>]) -> Option<(u32, &'a [Token<'b>])>
     ensures { option_map behind result ≡ hex_first (map piece_of tokens.now) }
 {
     match tokens {
@@ -67,7 +67,7 @@ pub fn first_hex<'a, 'b>(tokens: &'a [Token<'b>]) -> Option<(u32, &'a [Token<'b>
 }
 
 /// The number that some tokens begin with, and those behind it.
-pub fn first_number<'a, 'b>(tokens: &'a [Token<'b>]) -> Option<(u32, &'a [Token<'b>])>
+pub(crate) fn first_number<'a, 'b>(tokens: &'a [Token<'b>]) -> Option<(u32, &'a [Token<'b>])>
     ensures { option_map behind result ≡ number_first (map piece_of tokens.now) }
 {
     match tokens {

@@ -69,7 +69,7 @@ fn first_shift<'a, 'b>(tokens: &'a [Token<'b>]) -> Option<(Shifting, &'a [Token<
 }
 
 /// How a register is shifted that stands in front of some tokens, and the tokens behind the shift.
-pub fn first_shifting<'a, 'b>(tokens: &'a [Token<'b>]) -> Option<(Shifting, &'a [Token<'b>])>
+pub(crate) fn first_shifting<'a, 'b>(tokens: &'a [Token<'b>]) -> Option<(Shifting, &'a [Token<'b>])>
     ensures { option_map behind result ≡ shifting_first (map piece_of tokens.now) }
 {
     match tokens {
@@ -79,7 +79,7 @@ pub fn first_shifting<'a, 'b>(tokens: &'a [Token<'b>]) -> Option<(Shifting, &'a 
 }
 
 /// A register, and nothing behind it.
-pub fn only_register(tokens: &[Token<'_>]) -> Option<Register>
+pub(crate) fn only_register(tokens: &[Token<'_>]) -> Option<Register>
     ensures { result ≡ whole (register_first (map piece_of tokens.now)) }
 {
     let (r, rest) = first_register(tokens)?;
@@ -185,7 +185,7 @@ fn data_with(opcode: Opcode, suffix: Suffix, r: Register, tokens: &[Token<'_>]) 
 }
 
 /// The operands of a data processing word.
-pub fn data(opcode: Opcode, suffix: Suffix, tokens: &[Token<'_>]) -> Option<Data>
+pub(crate) fn data(opcode: Opcode, suffix: Suffix, tokens: &[Token<'_>]) -> Option<Data>
     ensures { result ≡ data_of opcode suffix (map piece_of tokens.now) }
 {
     let (r, rest) = first_register_comma(tokens)?;
@@ -222,7 +222,7 @@ fn sum(suffix: Suffix, rd: Register, rm: Register, tokens: &[Token<'_>]) -> Opti
 }
 
 /// The operands of MUL, or of MLA, which accumulates.
-pub fn product(accumulate: bool, suffix: Suffix, tokens: &[Token<'_>]) -> Option<Product>
+pub(crate) fn product(accumulate: bool, suffix: Suffix, tokens: &[Token<'_>]) -> Option<Product>
     ensures { result ≡ product_of accumulate suffix (map piece_of tokens.now) }
 {
     let (rd, rest) = first_register_comma(tokens)?;

@@ -6,7 +6,7 @@ use crate::token::Token;
 use arm2_decode::{Register, Shift};
 
 /// The register that a text names.
-pub fn named_register(text: &[u8]) -> Option<Register>
+pub(crate) fn named_register(text: &[u8]) -> Option<Register>
     ensures { result ≡ register_of text.now }
 {
     match text {
@@ -31,7 +31,7 @@ pub fn named_register(text: &[u8]) -> Option<Register>
 }
 
 /// The shift that a text names.
-pub fn named_shift(text: &[u8]) -> Option<Shift>
+pub(crate) fn named_shift(text: &[u8]) -> Option<Shift>
     ensures { result ≡ shift_of text.now }
 {
     match text {
@@ -44,14 +44,14 @@ pub fn named_shift(text: &[u8]) -> Option<Shift>
 }
 
 /// Whether a text names the rotation by one place through the carry.
-pub fn names_rrx(text: &[u8]) -> bool
+pub(crate) fn names_rrx(text: &[u8]) -> bool
     ensures { result ≡ is_rrx text.now }
 {
     matches!(text, b"RRX" | b"rrx")
 }
 
 /// The register that some tokens begin with, and those behind it.
-pub fn first_register<'a, 'b>(tokens: &'a [Token<'b>]) -> Option<(Register, &'a [Token<'b>])>
+pub(crate) fn first_register<'a, 'b>(tokens: &'a [Token<'b>]) -> Option<(Register, &'a [Token<'b>])>
     ensures { option_map behind result ≡ register_first (map piece_of tokens.now) }
 {
     match tokens {
@@ -64,7 +64,9 @@ pub fn first_register<'a, 'b>(tokens: &'a [Token<'b>]) -> Option<(Register, &'a 
 }
 
 /// A register and a comma that some tokens begin with, and those behind them.
-pub fn first_register_comma<'a, 'b>(tokens: &'a [Token<'b>]) -> Option<(Register, &'a [Token<'b>])>
+pub(crate) fn first_register_comma<'a, 'b>(
+    tokens: &'a [Token<'b>],
+) -> Option<(Register, &'a [Token<'b>])>
     ensures { option_map behind result ≡ register_comma_first (map piece_of tokens.now) }
 {
     match tokens {

@@ -1,4 +1,4 @@
-ghost use Rattle.std.specs.Prelude.{◌≡◌, ◌++◌, ◌∷◌, [], None, Some, Ok, IfSome, map, true};
+ghost use Rattle.std.specs.Prelude.{◌≡◌, ◌++◌, ◌∷◌, [], None, Some, Ok, IfSome, IsNone, length, map, true};
 ghost use Rattle.std.specs.List.{list_all};
 ghost use Rattle.asm_text.specs.Pieces.{piece_of, pieces};
 ghost use Rattle.asm_text.specs.Shown.{is_shown, is_upper as upper_is, parsed_shown, shown_said};
@@ -39,7 +39,7 @@ impl<T: Copy> Model for Few<T> {
 
 impl<T: Copy> Few<T> {
     /// None. The filler stands where no item does, and is never seen.
-    pub fn new(filler: T) -> Self
+    pub(crate) fn new(filler: T) -> Self
         ensures { result ≡ [] }
     {
         Few {
@@ -49,8 +49,9 @@ impl<T: Copy> Few<T> {
     }
 
     /// None where it is full.
-    pub fn push(&mut self, item: T) -> Option<()>
-        ensures { IfSome result (λ _. self.new ≡ self.old ++ item ∷ []) }
+    pub(crate) fn push(&mut self, item: T) -> Option<()>
+        ensures pushed { IfSome result (λ _. self.new ≡ self.old ++ item ∷ []) }
+        ensures full { IsNone result → (self.new ≡ self.old) × (length self.old ≡ 64) }
     {
         if self.count >= 64 {
             return None;
@@ -60,7 +61,7 @@ impl<T: Copy> Few<T> {
         Some(())
     }
 
-    pub fn as_slice(&self) -> &[T]
+    pub(crate) fn as_slice(&self) -> &[T]
         ensures { result.now ≡ self.now }
     {
         &self.items[..self.count]

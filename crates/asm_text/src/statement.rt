@@ -60,7 +60,7 @@ fn letters(text: &[u8]) -> bool
 }
 
 /// Whether a text is a label: a letter or `_`, then letters, digits and `_`, at most 32 in all.
-pub fn is_label(text: &[u8]) -> bool
+pub(crate) fn is_label(text: &[u8]) -> bool
     ensures { result ≡ label_is text.now }
 {
     match text {
@@ -141,7 +141,7 @@ fn is_user_suffix(suffix: Suffix) -> bool
     matches!(suffix, Suffix::T | Suffix::Bt)
 }
 
-pub fn refer<'a>(cond: Cond, how: Use, tokens: &[Token<'a>]) -> Option<Statement<'a>>
+pub(crate) fn refer<'a>(cond: Cond, how: Use, tokens: &[Token<'a>]) -> Option<Statement<'a>>
     ensures { option_map said result ≡ refers cond how (map piece_of tokens.now) }
 {
     let value = only_target(tokens)?;
@@ -227,7 +227,7 @@ fn code<'a>(head: Head, cond: Cond, suffix: Suffix, tokens: &[Token<'a>]) -> Opt
     Some(Statement::Code(Code { cond, action }))
 }
 
-pub fn plain<'a>(
+pub(crate) fn plain<'a>(
     head: Head,
     cond: Cond,
     suffix: Suffix,
@@ -342,7 +342,10 @@ fn behind_word<'a>(alloc: Global, word: Word, tokens: &[Token<'a>]) -> Result<St
 }
 
 /// What the tokens of a line say behind its label and a blank.
-pub fn read_statement<'a>(alloc: Global, tokens: &[Token<'a>]) -> Result<Statement<'a>, Wrong>
+pub(crate) fn read_statement<'a>(
+    alloc: Global,
+    tokens: &[Token<'a>],
+) -> Result<Statement<'a>, Wrong>
     ensures ok { IfOk result (λ s. statement_of (map piece_of tokens.now) ≡ Ok (said s)) }
     ensures err { IfErr result (λ wrong. (wrong ≡ Wrong.Memory) ⊎ (statement_of (map piece_of tokens.now) ≡ Err wrong)) }
 {

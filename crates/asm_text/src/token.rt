@@ -121,7 +121,7 @@ fn solid(text: &[u8]) -> Option<(Token<'_>, &[u8])>
 }
 
 /// The first piece, and the text after it.
-pub fn next(text: &[u8]) -> Option<(Token<'_>, &[u8])>
+pub(crate) fn next(text: &[u8]) -> Option<(Token<'_>, &[u8])>
     ensures { MatchOption result (pieces text.now ≡ []) (λ found.
         (pieces text.now ≡ piece_of found.0 ∷ pieces found.1.now) × (length found.1.now < length text.now)) }
 {

@@ -80,7 +80,7 @@ fn plain(text: &[u8]) -> Option<Word>
 
 /// The word that a text in upper case spells.
 #[tactic(auto, unfolding(crate::specs::Words::word_of))]
-pub fn read_word(text: &[u8]) -> Option<Word>
+pub(crate) fn read_word(text: &[u8]) -> Option<Word>
     ensures { result ≡ word_of text.now }
 {
     if text == b"ORG".as_slice() {

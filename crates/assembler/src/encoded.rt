@@ -346,7 +346,7 @@ fn swi(cond: Cond, comment: u32) -> Result<u32, Fault>
 }
 
 /// The word of a statement at an address, or the lowest of the faults for which it has none.
-pub fn encoded(code: Code, at: u32) -> Result<u32, Fault>
+pub(crate) fn encoded(code: Code, at: u32) -> Result<u32, Fault>
     ensures { result ≡ encoded_of code at }
 {
     match code.action {

@@ -93,7 +93,7 @@ impl Fault {
 }
 
 /// The first of two faults in the order of their names.
-pub fn lower(one: Option<Fault>, other: Option<Fault>) -> Option<Fault>
+pub(crate) fn lower(one: Option<Fault>, other: Option<Fault>) -> Option<Fault>
     ensures value { result ≡ lower_of one other }
     ensures none { IfNone result ((one ≡ None) × (other ≡ None)) }
 {
@@ -107,7 +107,7 @@ pub fn lower(one: Option<Fault>, other: Option<Fault>) -> Option<Fault>
 }
 
 /// The first of a fault and another in the order of their names.
-pub fn lowest(fault: Fault, other: Option<Fault>) -> Fault
+pub(crate) fn lowest(fault: Fault, other: Option<Fault>) -> Fault
     ensures { Some result ≡ lower_of (Some fault) other }
 {
     match other {

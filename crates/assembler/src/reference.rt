@@ -58,7 +58,7 @@ fn action(how: Use, at: u32, target: u32) -> Action
 
 /// What a word with a target does at an address: a branch to the target; for ADR the sum of R15 and a number, or
 /// their difference; a transfer by R15 and a number.
-pub fn refer(reference: Reference, at: u32, target: u32) -> Code
+pub(crate) fn refer(reference: Reference, at: u32, target: u32) -> Code
     requires { at ≤ 2 ^ 26 }
     ensures { result ≡ refer_of reference at target }
 {
@@ -69,7 +69,7 @@ pub fn refer(reference: Reference, at: u32, target: u32) -> Code
 }
 
 /// Why a word with a target has no word, whatever the target is.
-pub fn use_fault(how: Use) -> Option<Fault>
+pub(crate) fn use_fault(how: Use) -> Option<Fault>
     ensures { result ≡ fault_of_use how }
 {
     match how {

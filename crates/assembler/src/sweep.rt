@@ -112,7 +112,7 @@ fn value_at<'a>(value: Value<'a>) -> Pending<'a>
 
 impl<'a> Sweep<'a> {
     /// The state in front of the first line. It takes no memory.
-    pub fn new(alloc: Global) -> Self
+    pub(crate) fn new(alloc: Global) -> Self
         ensures { state_of result ≡ at_first }
     {
         Sweep {
@@ -359,7 +359,12 @@ impl<'a> Sweep<'a> {
     }
 
     /// Goes behind a line, or answers its lowest fault.
-    pub fn read(&mut self, alloc: Global, line: usize, text: &'a [u8]) -> Result<(), AsmFault>
+    pub(crate) fn read(
+        &mut self,
+        alloc: Global,
+        line: usize,
+        text: &'a [u8],
+    ) -> Result<(), AsmFault>
         requires { self.old.at ≤ 2 ^ 26 }
         ensures ok { OnOk result (line_step (state_of self.old) line (line_of text.now) ≡ Ok (state_of self.new)) }
         ensures within { OnOk result (self.new.at ≤ 2 ^ 26) }

@@ -20,7 +20,7 @@ use Rattle.longest_walk.specs.Rows.{header_of_row, is_at, place_of_row}
 use Rattle.longest_walk.specs.declared.rows.PlaceRow.{PlaceRow}
 use Rattle.longest_walk.specs.declared.rows.InstanceRow.{InstanceRow}
 
-not_less : (a b : Ordering) → a ≡ ordering_reverse b → b ≡ Less → is_lt a ≡ false
+pub not_less : (a b : Ordering) → a ≡ ordering_reverse b → b ≡ Less → is_lt a ≡ false
 not_less a b is less = ap is_lt (is ∙ ap ordering_reverse less)
 
 pub none_or_some : {X : Type 0} (o : Option X) → ((x : X) → o ≡ Some x → ⊥) → o ≡ None

@@ -4,4 +4,16 @@ pub mod ColumnLemmas
 pub mod SpanLemmas
 pub mod AnyLemmas
 pub mod PassLemmas
-pub mod SameRows
+pub mod ProfileLemmas
+pub mod NamedEdges
+pub mod FollowLemmas
+pub mod LineLemmas
+pub mod LongestYes
+pub mod VerdictLemmas
+pub mod PresenceLemmas
+pub mod WalkTelling
+pub mod WalkNamed
+pub mod WalkParts
+pub mod WalkFollowing
+pub mod WalkSteps
+pub mod WalkVerdict

@@ -20,8 +20,7 @@ use Rattle.loop_bounds.specs.Tree.{IsTree, Tree, place_in}
 use Rattle.loop_bounds.proofs.ExtentOf.{header_place}
 use Rattle.longest_walk.specs.Built.{step_at}
 use Rattle.longest_walk.specs.Rows.{header_of, is_exit}
-use Rattle.longest_walk.proofs.CarryPotentials.{AreSame}
-use Rattle.cert_check.proofs.SameRows.{same_row}
+use Rattle.longest_walk.proofs.CarryPotentials.{AreSame, same_row}
 use Rattle.longest_walk.proofs.CarryRows.{SameRow, fit_back, row_back, row_there}
 use Rattle.longest_walk.proofs.CarryWalks.{edge_same, no_edge}
 use Rattle.certificate.specs.declared.cert.Cert.{Cert}

@@ -2,3 +2,5 @@ pub mod Followed
 pub mod Verdict
 pub mod Columns
 pub mod Weighing
+pub mod Presence
+pub mod Walking

@@ -99,9 +99,17 @@ Passes flow tree cert o.WalkCost = CostsBound flow tree cert
 abbrev pub objections : List Objection
 objections = o.WrongProfile ∷ o.MissingPlace ∷ o.ExtraPlace ∷ o.NumberTooLarge ∷ o.EdgeTooHeavy ∷ o.RoundTooHeavy ∷ o.LeaveTooHeavy ∷ o.BrokenWalk ∷ o.WalkOverBound ∷ o.WalkCost ∷ []
 
+-- those that the prices and the list of rows can meet
+abbrev pub presence_objections : List Objection
+presence_objections = o.WrongProfile ∷ o.MissingPlace ∷ o.ExtraPlace ∷ []
+
 -- those that the rows can meet
 abbrev pub row_objections : List Objection
 row_objections = o.NumberTooLarge ∷ o.EdgeTooHeavy ∷ o.RoundTooHeavy ∷ o.LeaveTooHeavy ∷ []
+
+-- those that the walk can meet
+abbrev pub walk_objections : List Objection
+walk_objections = o.BrokenWalk ∷ o.WalkOverBound ∷ o.WalkCost ∷ []
 
 -- No with the first of these that is not passed, and Yes where all are
 abbrev pub IsFirstOf : Flow → Tree → Cert → List Objection → Verdict → Type 0

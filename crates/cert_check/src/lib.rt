@@ -2,18 +2,24 @@
 //! is the greatest cost of a complete walk that keeps the loop bounds.
 #![tactic(auto)]
 
+mod checking;
 mod columns;
 mod fault;
 mod finding;
 mod law;
+mod presence;
 mod row_check;
 mod row_tests;
 #[cfg(test)]
 mod tests;
 mod verdict;
+mod walk_check;
+mod walk_trace;
+mod walker;
 mod weighing;
 
+pub use checking::check;
 pub use fault::CheckFault;
-pub use law::yes_means_greatest;
+pub use law::{longest_gets_yes, yes_means_greatest};
 pub use row_check::check_rows;
 pub use verdict::{Objection, Verdict};

@@ -20,8 +20,8 @@ use loop_bounds::LoopTree;
 use numbered_walks::{Index, Tables};
 use std::alloc::Global;
 
-// The first of the four tests of rows that is not passed.
-fn verdict_on_rows(
+/// The first of the four tests of rows that is not passed.
+pub(crate) fn verdict_on_rows(
     graph: &Graph,
     tree: &LoopTree,
     cert: &Cert,

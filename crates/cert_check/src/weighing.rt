@@ -21,8 +21,8 @@ pub(crate) enum RowTest {
     Leave,
 }
 
-// Whether the number is that of a member.
-fn holds(span: &Span, number: usize) -> bool
+/// Whether the number is that of a member.
+pub(crate) fn holds(span: &Span, number: usize) -> bool
     ensures { result ≡ is_in span.now number }
 {
     span.header <= number && number <= span.last

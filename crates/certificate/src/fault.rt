@@ -8,16 +8,16 @@ use thiserror::Error;
 #[derive(Clone, Copy, Debug, PartialEq, Eq, Error)]
 pub enum CertFault {
     /// A growth was refused.
-    #[error("out of memory")]
+    #[error("Memory")]
     Memory,
     /// The whole line of this number, counted from 1, does not fit.
-    #[error("line {0} does not fit")]
+    #[error("BadLine at line {0}")]
     BadLine(usize),
     /// The text ends within a line or before the line `stop`.
-    #[error("the text ends too early")]
+    #[error("Truncated")]
     Truncated,
     /// Bytes stand after the line `stop`.
-    #[error("bytes stand after the end")]
+    #[error("TrailingBytes")]
     TrailingBytes,
 }
 

@@ -105,7 +105,7 @@ fn refused(rt: &impl Abort, alloc: Global, text: &[u8], line: usize) {
 }
 
 #[test]
-fn lines_that_do_not_fit(rt: HostRuntime) {
+fn first_lines_that_do_not_fit(rt: HostRuntime) {
     let alloc = rt.alloc();
     refused(&rt, alloc, b"arcwcet certificate 3\n", 1);
     refused(&rt, alloc, b"arcwcet certificate 1\nbound 09\n", 2);
@@ -117,6 +117,13 @@ fn lines_that_do_not_fit(rt: HostRuntime) {
         2,
     );
     refused(&rt, alloc, b"arcwcet certificate 1\nbound 9\nbound 9\n", 3);
+    // An unfinished line does not hide an earlier one.
+    refused(&rt, alloc, b"arcwcet certificate 1\nbound 09\nst", 2);
+}
+
+#[test]
+fn steps_that_do_not_fit(rt: HostRuntime) {
+    let alloc = rt.alloc();
     refused(
         &rt,
         alloc,
@@ -153,6 +160,11 @@ fn lines_that_do_not_fit(rt: HostRuntime) {
         b"arcwcet certificate 1\nbound 9\nstep 1C do exit 9 \n",
         3,
     );
+}
+
+#[test]
+fn repeats_that_do_not_fit(rt: HostRuntime) {
+    let alloc = rt.alloc();
     refused(&rt, alloc, b"arcwcet certificate 1\nbound 9\nrepeat 0\n", 3);
     refused(
         &rt,
@@ -173,6 +185,11 @@ fn lines_that_do_not_fit(rt: HostRuntime) {
         b"arcwcet certificate 1\nbound 9\nrepeat 2\nstep 1C do exit 9\nclose\n",
         5,
     );
+}
+
+#[test]
+fn rows_that_do_not_fit(rt: HostRuntime) {
+    let alloc = rt.alloc();
     refused(
         &rt,
         alloc,
@@ -203,8 +220,6 @@ fn lines_that_do_not_fit(rt: HostRuntime) {
         b"arcwcet certificate 1\nbound 9\nclose\ninstance - 8004 1 6\nplace - 8004 0\n",
         5,
     );
-    // An unfinished line does not hide an earlier one.
-    refused(&rt, alloc, b"arcwcet certificate 1\nbound 09\nst", 2);
 }
 
 #[test]

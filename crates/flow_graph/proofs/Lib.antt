@@ -15,3 +15,4 @@ pub mod StepWords
 pub mod StepOperations
 pub mod StepEdges
 pub mod StepLemmas
+pub mod NameLemmas

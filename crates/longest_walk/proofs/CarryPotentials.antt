@@ -69,7 +69,8 @@ module _ (flow : Flow) (tree : Tree) (well : IsWellFormed flow) (t : IsTree flow
       (cases_lt n exit)
 
   module _ (c : Potentials Place Instance) (d : Potentials ℕ Span) (same : AreSame c d) where
-    same_row : (k : ℕ) → k < length flow.edges → SameRow edge_shape place_loops is_exit c number_shape span_loops (T.is_exit (length flow.places)) d tree.instances tree.spans (step_at flow.edges k) (edge_at tree.edges k)
+    -- an edge's row by place and by number asks the same
+    pub same_row : (k : ℕ) → k < length flow.edges → SameRow edge_shape place_loops is_exit c number_shape span_loops (T.is_exit (length flow.places)) d tree.instances tree.spans (step_at flow.edges k) (edge_at tree.edges k)
     same_row k lt =
         let e : Edge = step_at flow.edges k in
         let f : NumberedEdge = edge_at tree.edges k in

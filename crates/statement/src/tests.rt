@@ -4,6 +4,7 @@ use crate::stated::{Loop, Statement, TargetKind};
 use bus_ticks::Class;
 use loader::labels::Labels;
 use std::alloc::Global;
+use std::process::Abort;
 use std::test::Fail;
 
 fn read(alloc: Global, text: &[u8]) -> Result<Statement, StatementFault> {
@@ -58,76 +59,57 @@ fn reads_whole_statements(rt: HostRuntime) -> Result<(), Fail> {
     Ok(())
 }
 
-#[test]
-fn statement_refusals(rt: HostRuntime) {
-    let cases = [
-        (b"entry =".as_slice(), StatementFault::NotToml),
-        (b"entry = 0 # \xFF".as_slice(), StatementFault::NotToml),
-        (
-            b"entry = 0x8000\ncolour = 1".as_slice(),
-            StatementFault::UnknownKey,
-        ),
-        (
-            b"entry = true\n[[loop]]\nheader = true\n[[access]]\ncolour = 1".as_slice(),
-            StatementFault::UnknownKey,
-        ),
-        (b"entry = true".as_slice(), StatementFault::WrongKind),
-        (b"leave = \"ram\"".as_slice(), StatementFault::WrongKind),
-        (
-            b"entry = \"nowhere\"\nleave = \"rom?\"".as_slice(),
-            StatementFault::WrongKind,
-        ),
-        (
-            b"entry = 4\nloop = [1]".as_slice(),
-            StatementFault::WrongKind,
-        ),
-        (
-            b"entry = 4\n[loop]\nheader = 4".as_slice(),
-            StatementFault::WrongKind,
-        ),
-        (
-            b"entry = 4\n[[loop]]\nheader = 4\nfirst = 4\nlast = 4".as_slice(),
-            StatementFault::WrongKind,
-        ),
-        (
-            b"entry = 4\n[[target]]\nat = 4\nkind = \"return\"\nto = [4]".as_slice(),
-            StatementFault::WrongKind,
-        ),
-        (
-            b"entry = 4\n[[target]]\nat = 4\nkind = \"jump\"\nto = []".as_slice(),
-            StatementFault::WrongKind,
-        ),
-        (
-            b"entry = 4\n[[target]]\nat = 4\nkind = \"call\"".as_slice(),
-            StatementFault::WrongKind,
-        ),
-        (
-            b"entry = \"nowhere\"".as_slice(),
-            StatementFault::UnknownLabel,
-        ),
-        (
-            b"entry = 2\n[[access]]\nat = \"nowhere\"\nclass = \"io\"".as_slice(),
-            StatementFault::UnknownLabel,
-        ),
-        (b"entry = 0x8002".as_slice(), StatementFault::OutOfRange),
-        (b"entry = 0x4000000".as_slice(), StatementFault::OutOfRange),
-        (b"entry = -4".as_slice(), StatementFault::OutOfRange),
-        (
-            b"entry = 4\n[[loop]]\nheader = 4\nfirst = 4\nlast = 4\nbound = 1048577".as_slice(),
-            StatementFault::OutOfRange,
-        ),
-        (
-            b"entry = 4\n[[loop]]\nheader = 4\nfirst = 8\nlast = 12\nbound = 1".as_slice(),
-            StatementFault::OutOfRange,
-        ),
-        (
-            b"entry = 4\n[[target]]\nat = 4\nkind = \"jump\"\nto = [8, 0x8]".as_slice(),
-            StatementFault::Twice,
-        ),
-    ];
-    for (text, fault) in cases {
-        assert_eq!(rt; read(rt.alloc(), text).err(), Some(fault));
+// Each text has that fault.
+fn have_fault(rt: &impl Abort, alloc: Global, fault: StatementFault, texts: &[&[u8]]) {
+    for text in texts {
+        assert_eq!(rt; read(alloc, text).err(), Some(fault));
     }
+}
+
+#[test]
+fn texts_and_keys_refused(rt: HostRuntime) {
+    let texts = [b"entry =".as_slice(), b"entry = 0 # \xFF"];
+    have_fault(&rt, rt.alloc(), StatementFault::NotToml, &texts);
+    let texts = [
+        b"entry = 0x8000\ncolour = 1".as_slice(),
+        b"entry = true\n[[loop]]\nheader = true\n[[access]]\ncolour = 1",
+    ];
+    have_fault(&rt, rt.alloc(), StatementFault::UnknownKey, &texts);
+}
+
+#[test]
+fn kinds_refused(rt: HostRuntime) {
+    let texts = [
+        b"entry = true".as_slice(),
+        b"leave = \"ram\"",
+        b"entry = \"nowhere\"\nleave = \"rom?\"",
+        b"entry = 4\nloop = [1]",
+        b"entry = 4\n[loop]\nheader = 4",
+        b"entry = 4\n[[loop]]\nheader = 4\nfirst = 4\nlast = 4",
+        b"entry = 4\n[[target]]\nat = 4\nkind = \"return\"\nto = [4]",
+        b"entry = 4\n[[target]]\nat = 4\nkind = \"jump\"\nto = []",
+        b"entry = 4\n[[target]]\nat = 4\nkind = \"call\"",
+    ];
+    have_fault(&rt, rt.alloc(), StatementFault::WrongKind, &texts);
+}
+
+#[test]
+fn labels_and_ranges_refused(rt: HostRuntime) {
+    let texts = [
+        b"entry = \"nowhere\"".as_slice(),
+        b"entry = 2\n[[access]]\nat = \"nowhere\"\nclass = \"io\"",
+    ];
+    have_fault(&rt, rt.alloc(), StatementFault::UnknownLabel, &texts);
+    let texts = [
+        b"entry = 0x8002".as_slice(),
+        b"entry = 0x4000000",
+        b"entry = -4",
+        b"entry = 4\n[[loop]]\nheader = 4\nfirst = 4\nlast = 4\nbound = 1048577",
+        b"entry = 4\n[[loop]]\nheader = 4\nfirst = 8\nlast = 12\nbound = 1",
+    ];
+    have_fault(&rt, rt.alloc(), StatementFault::OutOfRange, &texts);
+    let twice = b"entry = 4\n[[target]]\nat = 4\nkind = \"jump\"\nto = [8, 0x8]";
+    have_fault(&rt, rt.alloc(), StatementFault::Twice, &[twice]);
 }
 
 fn read_repeated(

@@ -4,7 +4,7 @@ use Rattle.arcwcet.proofs.bound.bound_report_with.Goals as goal
 
 pub returns-in_err-text : goal.returns-in_err-text
 returns-in_err-text g c = record {
-  report = search rules;
+  printed = search rules;
   accepted = search rules;
   only = only_memory c.args.source.now c.args.statement.now c.args.profile.now c.from_residual.result (search rules);
   fault = search rules;

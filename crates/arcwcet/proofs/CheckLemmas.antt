@@ -1,0 +1,93 @@
+-- A verdict and the refusals of a check, from what is found of the three texts.
+use Rattle.std.proofs.Common.{◌≡◌, ◌≢◌, ◌⊎◌, ℕ, List, Result, Ok, Err, refl, ap, inl, true, false}
+use Rattle.std.specs.Prelude.{IfErr, IsErrOf}
+use Rattle.bus_ticks.specs.declared.profile.Profile.{Profile}
+use Rattle.walks.specs.Greatest.{IsGreatest}
+use Rattle.flow_graph.specs.declared.places.Place.TheVariants.{Exit}
+use Rattle.flow_graph.specs.Flow.{Flow, HasEdge, edge_shape}
+use Rattle.statement.specs.Stated.{Stated}
+use Rattle.loop_bounds.specs.Tree.{Tree}
+use Rattle.longest_walk.specs.Longest.{KeepsTree}
+use Rattle.certificate.specs.Faults.{EndsEarly, GoesOn, HasBadLine, Reads}
+use Rattle.certificate.specs.Lines.{CanSpell, Said, cert_text, said_by}
+use Rattle.certificate.specs.declared.cert.Cert.{Cert}
+use Rattle.certificate.specs.declared.fault.CertFault.{CertFault}
+use Rattle.certificate.specs.declared.fault.CertFault.TheVariants as cert_fault
+use Rattle.cert_check.specs.Columns.{Ascends}
+use Rattle.cert_check.specs.Verdict.{IsVerdict}
+use Rattle.cert_check.specs.declared.verdict.Verdict.{Verdict}
+use Rattle.cert_check.specs.declared.verdict.Verdict.TheVariants.{Yes, No}
+use Rattle.arcwcet.specs.Answers.{OfSome}
+use Rattle.arcwcet.specs.Check.{IsAnswer, IsCheckRefused, IsCheckable, IsJudged, verdict_line}
+use Rattle.arcwcet.specs.Faults.{of_cert}
+use Rattle.arcwcet.specs.Report.{HasLoops, IsHandlerRefused, IsTreeOf}
+use Rattle.arcwcet.specs.declared.fault.ReportFault.{ReportFault}
+use Rattle.arcwcet.specs.declared.fault.ReportFault.TheVariants.{Memory, Source, Statement, Graph, Loops, Walk, Device}
+use Rattle.arcwcet.specs.declared.fault.ReportFault.TheVariants as report_fault
+use Rattle.arcwcet.proofs.HandlerLemmas.{handler_refusals}
+use Rattle.arcwcet.proofs.ReportLemmas.{tree_is_greatest}
+
+-- ## Refusals
+
+-- what refuses a source and a statement up to the loops refuses a check
+pub check_refusal : (source statement text : List ℕ) (profile : Profile) (e : ReportFault) → IsHandlerRefused source statement profile e → (e ≢ Device) × IsCheckRefused source statement text profile e
+check_refusal source statement text profile Memory h = (λ e. cc e, tt)
+check_refusal source statement text profile Device h = absurd h
+check_refusal source statement text profile (report_fault.Cert f) h = absurd h
+check_refusal source statement text profile (Source f) h = (λ e. cc e, h)
+check_refusal source statement text profile (Statement f) h = (λ e. cc e, h)
+check_refusal source statement text profile (Graph f) h = (λ e. cc e, h)
+check_refusal source statement text profile (Loops f) h = (λ e. cc e, h)
+check_refusal source statement text profile (Walk f) h = (λ e. cc e, h)
+
+-- .. but not where the three texts can be checked
+pub checkable_refusal : (source statement text : List ℕ) (profile : Profile) (e : ReportFault) → IsHandlerRefused source statement profile e → IsCheckable source statement text profile → e ≡ Memory
+checkable_refusal source statement text profile e h a = handler_refusals source statement profile a.stated a.flow e a.loops h
+
+-- a fault of the text
+pub cert_refusal : (source statement text : List ℕ) (profile : Profile) (st : Stated) (flow : Flow) (f : CertFault) → HasLoops source statement profile st flow
+    → ((n : ℕ) → IsErrOf {T = Cert} (Err f) (cert_fault.BadLine n) → HasBadLine text n) → (IsErrOf {T = Cert} (Err f) cert_fault.Truncated → EndsEarly text) → (IsErrOf {T = Cert} (Err f) cert_fault.TrailingBytes → GoesOn text)
+    → (of_cert f ≢ Device) × IsCheckRefused source statement text profile (of_cert f)
+cert_refusal source statement text profile st flow cert_fault.Memory loops bad early on = (λ e. cc e, tt)
+cert_refusal source statement text profile st flow (cert_fault.BadLine n) loops bad early on = (λ e. cc e, record { stated = st; flow = flow; loops = loops; not_memory = λ e. cc e; holds = bad n refl })
+cert_refusal source statement text profile st flow cert_fault.Truncated loops bad early on = (λ e. cc e, record { stated = st; flow = flow; loops = loops; not_memory = λ e. cc e; holds = early refl })
+cert_refusal source statement text profile st flow cert_fault.TrailingBytes loops bad early on = (λ e. cc e, record { stated = st; flow = flow; loops = loops; not_memory = λ e. cc e; holds = on refl })
+
+-- .. but not where it is a certificate
+pub readable_refusal : (source statement text : List ℕ) (profile : Profile) (f : CertFault) → ((said : Said) → CanSpell said → text ≡ cert_text said → Reads said (Err f)) → IsCheckable source statement text profile → of_cert f ≡ Memory
+readable_refusal source statement text profile f only a = ap of_cert (only a.said a.can_spell a.spelled)
+
+-- ## The verdict
+
+pub ascends : (cert : Cert) → CanSpell (said_by cert) → Ascends cert
+ascends cert spell = record { places = spell.places_ascend; instances = spell.instances_ascend }
+
+pub judged : (source statement text : List ℕ) (profile : Profile) (st : Stated) (flow : Flow) (tree : Tree) (cert : Cert) (v : Verdict) → HasLoops source statement profile st flow → IsTreeOf flow st.loops tree
+    → CanSpell (said_by cert) × (text ≡ cert_text (said_by cert)) → IsVerdict flow tree cert v → (v ≡ Yes → IsGreatest edge_shape (HasEdge flow) (KeepsTree tree) flow.entry Exit cert.bound)
+    → IsJudged source statement text profile v
+judged source statement text profile st flow tree cert v loops of read is greatest = record {
+  stated = st;
+  flow = flow;
+  tree = tree;
+  cert = cert;
+  loops = loops;
+  tree_of = of;
+  can_spell = read.0;
+  spelled = read.1;
+  verdict_is = is;
+  greatest = λ yes. tree_is_greatest flow st.loops tree of.instances cert.bound (greatest yes);
+}
+
+-- what is judged can be checked
+pub checkable : (source statement text : List ℕ) (profile : Profile) (v : Verdict) → IsJudged source statement text profile v → IsCheckable source statement text profile
+checkable source statement text profile v j = record { stated = j.stated; flow = j.flow; said = said_by j.cert; loops = j.loops; can_spell = j.can_spell; spelled = j.spelled }
+
+-- a verdict's line is that of one of the answers
+pub of_some : (source statement text : List ℕ) (profile : Profile) (v : Verdict) (line : List ℕ) → IsJudged source statement text profile v → line ≡ verdict_line v → OfSome (IsAnswer source statement text profile) line
+of_some source statement text profile Yes line j e = (true, record { verdict = Yes; judged = j; answer_is = (λ t. refl, λ e. refl); line_is = e })
+of_some source statement text profile (No o) line j e = (false, record { verdict = No o; judged = j; answer_is = (λ t. absurd (cc t), λ e. absurd (cc e)); line_is = e })
+
+-- the same of an answer
+pub only_memory : {T : Type 0} (r : Result T ReportFault) → IfErr r (λ e. e ≡ Memory) → IfErr r (λ e. (e ≡ Memory) ⊎ (e ≡ Device))
+only_memory (Ok x) h = tt
+only_memory (Err e) h = inl h

@@ -1,0 +1,40 @@
+use Rattle.std.proofs.Common.{rules, subst}
+use Rattle.flow_graph.specs.Flow.{IsWellFormed}
+use Rattle.arcwcet.specs.Faults.{of_graph, of_loops}
+use Rattle.arcwcet.specs.Report.{HasGraph, IsHandlerRefused}
+use Rattle.arcwcet.proofs.HandlerLemmas.{graph_refusal, loops_refusal, refused_as}
+use Rattle.arcwcet.proofs.handler.read_handler.Goals as goal
+
+pub returns-in_err-graph-clause-fault : goal.returns-in_err-graph-clause-fault
+returns-in_err-graph-clause-fault c =
+    let f = c.in_err-graph.field-0.0 in
+    refused_as c.from_residual-in_err-graph.result (of_graph f) (IsHandlerRefused c.args.source.now c.args.statement.now c.args.profile.now) c.from_residual-in_err-graph.ensures.1
+    (graph_refusal c.args.source.now c.args.statement.now c.args.profile.now c.in_ok-image.image c.in_ok-statement.statement f (search rules) (search rules) (search rules))
+
+pub returns-in_err-tree-clause-fault : goal.returns-in_err-tree-clause-fault
+returns-in_err-tree-clause-fault c =
+    let f = c.in_err-tree.field-0.0 in
+    let graph : HasGraph c.args.source.now c.args.statement.now c.args.profile.now c.in_ok-statement.statement c.in_ok-graph.graph = record {
+      words = c.in_ok-image.image;
+      source_is = search rules;
+      statement_is = c.in_ok-statement.ensures (λ e. cc e);
+      no_fault = c.in_ok-graph.ensures.allowed;
+      graph_is = c.in_ok-graph.ensures.graph;
+    } in
+    refused_as c.from_residual-in_err-tree.result (of_loops f) (IsHandlerRefused c.args.source.now c.args.statement.now c.args.profile.now) c.from_residual-in_err-tree.ensures.1
+    (loops_refusal c.args.source.now c.args.statement.now c.args.profile.now c.in_ok-statement.statement c.in_ok-graph.graph f graph (search rules))
+
+pub returns-clause-loops : goal.returns-clause-loops
+returns-clause-loops c = record {
+  graph = record {
+    words = c.in_ok-image.image;
+    source_is = search rules;
+    statement_is = c.in_ok-statement.ensures (λ e. cc e);
+    no_fault = c.in_ok-graph.ensures.allowed;
+    graph_is = c.in_ok-graph.ensures.graph;
+  };
+  no_fault = c.in_ok-tree.ensures.allowed;
+}
+
+pub returns-clause-formed : goal.returns-clause-formed
+returns-clause-formed c = subst IsWellFormed c.graph.view_is c.graph.invariant

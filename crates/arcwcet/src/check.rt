@@ -1,0 +1,99 @@
+ghost use Rattle.std.specs.Prelude.{◌≡◌, ◌≢◌, ◌↔◌, IfErr, IfOk, IsTrue};
+ghost use Rattle.arcwcet.specs.Check.{Checks, ChecksByOne, IsCheckable, IsCheckRefused, IsJudged, objection_line, verdict_line};
+
+use crate::fault::ReportFault;
+use crate::handler::read_handler;
+use crate::output::Output;
+use crate::whole::write_whole;
+use bus_ticks::Profile;
+use cert_check::{Objection, Verdict, check};
+use certificate::read_cert;
+use std::alloc::Global;
+
+fn objected(objection: Objection) -> &'static [u8]
+    ensures { result.now ≡ objection_line objection }
+{
+    match objection {
+        Objection::MissingPlace => b"no: MissingPlace\n",
+        Objection::ExtraPlace => b"no: ExtraPlace\n",
+        Objection::EdgeTooHeavy => b"no: EdgeTooHeavy\n",
+        Objection::RoundTooHeavy => b"no: RoundTooHeavy\n",
+        Objection::LeaveTooHeavy => b"no: LeaveTooHeavy\n",
+        Objection::BrokenWalk => b"no: BrokenWalk\n",
+        Objection::WalkOverBound => b"no: WalkOverBound\n",
+        Objection::WalkCost => b"no: WalkCost\n",
+        Objection::NumberTooLarge => b"no: NumberTooLarge\n",
+        Objection::WrongProfile => b"no: WrongProfile\n",
+    }
+}
+
+fn line_of(verdict: Verdict) -> &'static [u8]
+    ensures { result.now ≡ verdict_line verdict }
+{
+    match verdict {
+        Verdict::Yes => b"yes\n",
+        Verdict::No(objection) => objected(objection),
+    }
+}
+
+fn is_yes(verdict: Verdict) -> bool
+    ensures { IsTrue result ↔ (verdict ≡ Verdict.Yes) }
+{
+    match verdict {
+        Verdict::Yes => true,
+        Verdict::No(_) => false,
+    }
+}
+
+fn verdict_of(
+    alloc: Global,
+    source: &[u8],
+    statement: &[u8],
+    cert: &[u8],
+    profile: &Profile,
+) -> Result<Verdict, ReportFault>
+    ensures judged { IfOk result (IsJudged source.now statement.now cert.now profile.now) }
+    ensures fault { IfErr result (λ e. (e ≢ ReportFault.Device) × IsCheckRefused source.now statement.now cert.now profile.now e) }
+    ensures only { IsCheckable source.now statement.now cert.now profile.now → IfErr result (λ e. e ≡ ReportFault.Memory) }
+{
+    let handler = read_handler(alloc, source, statement, profile)?;
+    let read = read_cert(alloc, cert)?;
+    let verdict = check(alloc, &handler.graph, &handler.tree, &read)?;
+    Ok(verdict)
+}
+
+/// Judges the text of a certificate, whoever wrote it, by the handler of a source and a statement and the first profile, and
+/// writes one line: `yes`, which is answered as `true` and means that the certificate's bound is the greatest cost of a
+/// complete walk that keeps the bounds, or `no: ` and the name of the first [`Objection`].
+///
+/// The verdict is found before its line's first byte is written. Of several faults the first in the order of the work is
+/// answered: source, statement, graph, loops, certificate. After any but `Device` nothing was written.
+pub fn check_report<O: Output>(
+    alloc: Global,
+    source: &[u8],
+    statement: &[u8],
+    cert: &[u8],
+    out: &mut O,
+) -> Result<bool, ReportFault>
+    ensures { ChecksByOne O.taken O.failures source.now statement.now cert.now out.old out.new result }
+{
+    check_report_with(alloc, source, statement, cert, &Profile::one(), out)
+}
+
+/// The same by any profile.
+pub fn check_report_with<O: Output>(
+    alloc: Global,
+    source: &[u8],
+    statement: &[u8],
+    cert: &[u8],
+    profile: &Profile,
+    out: &mut O,
+) -> Result<bool, ReportFault>
+    ensures { Checks O.taken O.failures source.now statement.now cert.now profile.now out.old out.new result }
+{
+    let verdict = verdict_of(alloc, source, statement, cert, profile)?;
+    match write_whole(out, line_of(verdict)) {
+        Ok(()) => Ok(is_yes(verdict)),
+        Err(_) => Err(ReportFault::Device),
+    }
+}

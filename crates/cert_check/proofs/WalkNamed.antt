@@ -1,0 +1,110 @@
+-- The edge that a line names: it is among the edges of its place.
+use Rattle.std.proofs.Common.{◌≡◌, ◌∙◌, ℕ, zero, suc, ◌+◌, ◌-◌, ◌<◌, ◌≤◌, Bool, true, false, cond, ◌&&◌, List, [], ◌∷◌, length, get_or, Some, None, ⊎_elim, refl, sym, ap, subst, arith, add-one}
+use Rattle.std.specs.List.{find}
+use Rattle.std.proofs.lemmas.Bool.{cases_Bool, cases_lt, false≢true}
+use Rattle.std.proofs.lemmas.List.{get_or_default}
+use Rattle.flow_graph.specs.declared.places.Place.{Place}
+use Rattle.flow_graph.specs.declared.places.Place.TheVariants.{At, Exit}
+use Rattle.flow_graph.specs.declared.edges.Edge.{Edge}
+use Rattle.flow_graph.specs.Flow.{Flow, IsWellFormed}
+use Rattle.flow_graph.specs.Places.{place_at}
+use Rattle.loop_bounds.specs.Tree.{IsTree, Tree, place_in}
+use Rattle.loop_bounds.proofs.Positions.{places_once}
+use Rattle.loop_bounds.proofs.Grouped.{rises_to}
+use Rattle.longest_walk.specs.Built.{step_at}
+use Rattle.longest_walk.specs.Rows.{is_at}
+use Rattle.longest_walk.proofs.CarryFind.{at_place}
+use Rattle.longest_walk.proofs.CarryWalks.{exit_place, no_edge}
+use Rattle.certificate.specs.declared.walk.StepLine.{StepLine}
+use Rattle.cert_check.specs.Followed.{edge_named, is_named}
+use Rattle.cert_check.specs.Walking.{IsPartOf}
+
+-- ## Finding
+
+pub find_first : {X : Type 0} (test : X → Bool) (xs : List X) (k : ℕ) (d : X) → k < length xs → ((j : ℕ) → j < k → test (get_or xs j d) ≡ false) → test (get_or xs k d) ≡ true → find test xs ≡ Some (get_or xs k d)
+find_first test [] k d lt before pass = absurd (omega arith)
+find_first test (x ∷ xs) zero d lt before pass = ap (λ (b : Bool). cond b (Some x) (find test xs)) pass
+find_first test (x ∷ xs) (suc k) d lt before pass =
+    ap (λ (b : Bool). cond b (Some x) (find test xs)) (before 0 (omega arith)) ∙ find_first test xs k d (omega arith) (λ j less. before (suc j) (omega arith)) pass
+
+pub find_nothing : {X : Type 0} (test : X → Bool) (xs : List X) (d : X) → ((j : ℕ) → j < length xs → test (get_or xs j d) ≡ false) → find test xs ≡ None
+find_nothing test [] d none = refl
+find_nothing test (x ∷ xs) d none =
+    ap (λ (b : Bool). cond b (Some x) (find test xs)) (none 0 (omega arith)) ∙ find_nothing test xs d (λ j less. none (suc j) (omega arith))
+
+-- ## Edges of a place
+
+first_holds : (a b c d e : Bool) → (a && b && c && d && e) ≡ true → a ≡ true
+first_holds true b c d e is = refl
+first_holds false b c d e is = is
+
+-- a line names an edge where it stands
+pub named_from : (p : Place) (line : StepLine) (e : Edge) → is_named p line e ≡ true → e.from ≡ p
+named_from (At calls a) line e is = sym (at_place calls a e.from (first_holds (is_at calls a e.from) _ _ _ _ is))
+named_from Exit line e is = absurd (false≢true is)
+
+module _ (flow : Flow) (well : IsWellFormed flow) where
+  -- an edge that stands before the part of a place belongs to an earlier place
+  owner : (u k : ℕ) → u ≤ length flow.places → k < get_or flow.firsts u 0 → (v : ℕ) × (v < u) × (get_or flow.firsts v 0 ≤ k) × (k < get_or flow.firsts (v + 1) 0)
+  owner zero k le below = let z : get_or flow.firsts 0 0 ≡ 0 = well.first_zero in absurd (omega arith)
+  owner (suc u) k le below =
+      ⊎_elim
+      (λ (l : k < get_or flow.firsts u 0). let w = owner u k (omega arith) l in let m : w.0 < u = w.1 in (w.0, omega arith, w.2, w.3))
+      (λ (m : get_or flow.firsts u 0 ≤ k). (u, omega arith, m, subst (λ n. k < get_or flow.firsts n 0) (sym (add-one u)) below))
+      (cases_lt k (get_or flow.firsts u 0))
+
+  -- an edge that leaves a place stands in its part
+  pub part_of : (v k : ℕ) → v < length flow.places → k < length flow.edges → (step_at flow.edges k).from ≡ place_at flow.places v → (get_or flow.firsts v 0 ≤ k) × (k < get_or flow.firsts (v + 1) 0)
+  part_of v k v_in k_in from_is =
+      let all : get_or flow.firsts (length flow.places) 0 ≡ length flow.edges = well.last_all in
+      let w = owner (length flow.places) k (omega arith) (omega (arith, k_in, all)) in
+      let is : w.0 ≡ v = places_once flow.places well.ordered w.0 v Exit w.1 v_in (sym (well.part w.0 k no_edge w.1 w.2 w.3) ∙ from_is) in
+      (subst (λ n. get_or flow.firsts n 0 ≤ k) is w.2, subst (λ n. k < get_or flow.firsts (n + 1) 0) is w.3)
+
+  module _ (tree : Tree) (t : IsTree flow tree) where
+    -- the place of a number
+    pub place_is : (n : ℕ) → n ≤ length flow.places → place_in flow tree n ≡ place_at flow.places (get_or tree.order n 0)
+    place_is n le = ap (λ (v : ℕ). place_at flow.places v) (get_or_default tree.order n (length flow.places) 0 (omega (arith, t.whole)))
+
+    pub none_at_exit : (n : ℕ) (line : StepLine) → n ≡ length flow.places → None ≡ edge_named flow (place_in flow tree n) line
+    none_at_exit n line is =
+        let at : place_in flow tree n ≡ Exit = ap (place_in flow tree) is ∙ exit_place flow tree well t in
+        sym (ap (λ (p : Place). edge_named flow p line) at ∙ find_nothing (is_named Exit line) flow.edges no_edge (λ j less. refl))
+
+    part_at : (v : ℕ) → v < length flow.places → IsPartOf flow (place_at flow.places v) (get_or flow.firsts v 0) (get_or flow.firsts (v + 1) 0)
+    part_at v v_in = record {
+      ordered = well.rising v v_in;
+      fits = rises_to flow.firsts (length flow.places) (length flow.edges) well.rising well.last_all (length flow.places - (v + 1)) (v + 1) (omega arith);
+      own = λ k low high. well.part v k no_edge v_in low high;
+      whole = λ k k_in is. part_of v k v_in k_in is;
+    }
+
+    pub part_of_number : (n : ℕ) → n < length flow.places → IsPartOf flow (place_in flow tree n) (get_or flow.firsts (get_or tree.order n 0) 0) (get_or flow.firsts (get_or tree.order n 0 + 1) 0)
+    part_of_number n lt =
+        subst (λ (p : Place). IsPartOf flow p (get_or flow.firsts (get_or tree.order n 0) 0) (get_or flow.firsts (get_or tree.order n 0 + 1) 0)) (sym (place_is n (omega arith))) (part_at (get_or tree.order n 0) (t.inside n lt))
+
+module _ (flow : Flow) (p : Place) (line : StepLine) (first end : ℕ) (part : IsPartOf flow p first end) where
+  fails_outside : (k : ℕ) → k < length flow.edges → (first ≤ k → k < end → ⊥) → is_named p line (step_at flow.edges k) ≡ false
+  fails_outside k k_in outside = ⊎_elim
+      (λ is. let own = part.whole k k_in (named_from p line (step_at flow.edges k) is) in absurd (outside own.0 own.1))
+      (λ fails. fails)
+      (cases_Bool (is_named p line (step_at flow.edges k)))
+
+  pub fail_before : (k : ℕ) → k < first → is_named p line (step_at flow.edges k) ≡ false
+  fail_before k less = fails_outside k (omega (arith, part.ordered, part.fits)) (λ low high. omega arith)
+
+  -- what is tested at the edge's own place
+  module _ (k : ℕ) (low : first ≤ k) (high : k < end) (e : Edge) (r : Bool) (es : List Edge) (are : es ≡ flow.edges) (at : e ≡ get_or es k e) (is : r ≡ is_named e.from line e) where
+    pub tested_here : (b : Bool) → r ≡ b → is_named p line (step_at flow.edges k) ≡ b
+    tested_here b answer =
+        let same : e ≡ step_at flow.edges k = at ∙ ap (λ (xs : List Edge). get_or xs k e) are ∙ get_or_default flow.edges k e no_edge (omega (arith, high, part.fits)) in
+        ap (λ (q : Place). is_named q line (step_at flow.edges k)) (sym (part.own k low high)) ∙ sym (ap (λ (x : Edge). is_named x.from line x) same) ∙ sym is ∙ answer
+
+    pub found_here : ((j : ℕ) → j < k → is_named p line (step_at flow.edges j) ≡ false) → r ≡ true → Some (step_at flow.edges k) ≡ edge_named flow p line
+    found_here before answer = sym (find_first (is_named p line) flow.edges k no_edge (omega (arith, high, part.fits)) before (tested_here true answer))
+
+  pub found_nowhere : (k : ℕ) → end ≤ k → ((j : ℕ) → j < k → is_named p line (step_at flow.edges j) ≡ false) → None ≡ edge_named flow p line
+  found_nowhere k past before = sym (find_nothing (is_named p line) flow.edges no_edge (λ j j_in. ⊎_elim
+      (λ (less : j < k). before j less)
+      (λ (more : k ≤ j). fails_outside j j_in (λ low high. omega arith))
+      (cases_lt j k)))

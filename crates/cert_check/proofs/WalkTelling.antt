@@ -1,0 +1,366 @@
+-- What is told of a walk, with an edge more, and with the rounds of a repeat in place of one.
+use Rattle.std.proofs.Common.{◌≡◌, ◌≢◌, ◌∙◌, ℕ, zero, suc, ◌+◌, ◌-◌, ◌*◌, ◌<◌, ◌≤◌, ◌^◌, min, max, Bool, true, false, cond, ◌||◌, ◌&&◌, List, [], ◌∷◌, ◌++◌, length, get_or, slice_set, All, Contains, Option, Some, None, ⊎_elim, refl, sym, ap, subst, arith, append-nil, get_or-set_same, get_or-set_other}
+use Rattle.std.proofs.lemmas.Bool.{and_from, cases_Bool, cases_eq, cases_lt, eq-eqb, lt-ltb, ltb-true, ne_eqb, or_cases, true≢false}
+use Rattle.std.proofs.lemmas.List.Elements.{All-head, All-tail, All-weaker}
+use Rattle.std.proofs.lemmas.List.Sums.{sum_by-cons}
+use Rattle.walks.specs.Segments.{count, head, most, repeated, tail, whole}
+use Rattle.walks.proofs.Joins as J
+use Rattle.walks.proofs.Leading.{cost-append, cost-repeated}
+use Rattle.walks.proofs.Segments.{rounds_head, tail-le-most, tail_outside}
+use Rattle.numbered_walks.specs.declared.span.NumberedEdge.{NumberedEdge}
+use Rattle.numbered_walks.specs.declared.span.Span.{Span}
+use Rattle.numbered_walks.specs.Index.{AreHeaders}
+use Rattle.numbered_walks.specs.Ordered.{HoldsAll, IsOrdered, Leads, cost_of, ends_at_header, is_in, is_inside, number_shape}
+use Rattle.numbered_walks.specs.Reach.{most_in}
+use Rattle.numbered_walks.proofs.Members.{header_in, member_header}
+use Rattle.numbered_walks.proofs.Nesting.{same_header}
+use Rattle.cert_check.specs.declared.walker.Walker.{Walker}
+use Rattle.cert_check.specs.Walking.{Adds, Arrives, Tells, breaks, capped, gained, header_at, turns_after, turns_at_end}
+
+-- ## Numbers
+
+times-le : (k d : ℕ) → 0 < k → d ≤ k * d
+times-le k d some = grind arith
+
+gained-exact : (limit a b k : ℕ) → 0 < k → min (min (min a limit) limit + k * (min (min (a + b) limit) limit - min a limit)) limit ≡ min (a + k * b) limit
+gained-exact limit a b k some = ⊎_elim
+    (λ (small : a + b < limit).
+    let once : min (min (a + b) limit) limit - min a limit ≡ b = omega arith in
+    rw once (omega arith))
+    (λ (large : limit ≤ a + b).
+    let d : ℕ = min (min (a + b) limit) limit - min a limit in
+    let up : d ≤ k * d = times-le k d some in
+    let most_b : b ≤ k * b = times-le k b some in
+    let reaches : min (min a limit) limit + d ≡ limit = omega arith in
+    let left : min (min (min a limit) limit + k * d) limit ≡ limit = omega arith in
+    let right : min (a + k * b) limit ≡ limit = omega arith in
+    left ∙ sym right)
+    (cases_lt (a + b) limit)
+
+pub gained_is : (a b k : ℕ) → 0 < k → gained (capped a) (capped (a + b)) k ≡ capped (a + k * b)
+gained_is a b k some = gained-exact (2 ^ 64) a b k some
+
+or_none : (x y : Bool) → (x || y) ≡ false → (x ≡ false) × (y ≡ false)
+or_none true y is = absurd (true≢false is)
+or_none false y is = (refl, is)
+
+breaks_some : (o : Option Span) (turns : ℕ) → breaks o turns ≡ true → (s : Span) × (o ≡ Some s) × (s.bound < turns)
+breaks_some None turns is = absurd (true≢false (sym is))
+breaks_some (Some s) turns is = (s, refl, ltb-true s.bound turns is)
+
+breaks_none : (o : Option Span) (turns : ℕ) (s : Span) → o ≡ Some s → breaks o turns ≡ false → turns ≤ s.bound
+breaks_none o turns s at is = ⊎_elim
+    (λ (more : s.bound < turns). absurd (true≢false (sym (ap (λ (x : Option Span). breaks x turns) at ∙ lt-ltb s.bound turns more) ∙ is)))
+    (λ few. few)
+    (cases_lt s.bound turns)
+
+-- ## Stretches
+
+module _ {E : Type 0} (inside turns : E → Bool) (w : List E) where
+  module _ (e : E) where
+    pub edge_out : inside e ≡ false → (most inside turns (w ++ e ∷ []) ≡ most inside turns w) × (tail inside turns (w ++ e ∷ []) ≡ 0)
+    edge_out out =
+        let none : cond (inside e) (cond (turns e) 1 0 + 0) 0 ≡ 0 = rw out refl in
+        let joins : most inside turns (w ++ e ∷ []) ≡ max (max (most inside turns w) (max (cond (inside e) (cond (turns e) 1 0 + 0) 0) 0)) (tail inside turns w + cond (inside e) (cond (turns e) 1 0 + 0) 0) = J.most-append inside turns w (e ∷ []) in
+        (omega (arith, joins, none, tail-le-most inside turns w), tail_outside inside turns w e out)
+
+    one : count inside turns (e ∷ []) ≡ cond (turns e) 1 0 + 0
+    one = sum_by-cons (λ x. cond (turns x) 1 0) e []
+
+    tail_in : inside e ≡ true → tail inside turns (w ++ e ∷ []) ≡ tail inside turns w + cond (turns e) 1 0
+    tail_in inner =
+        let joins : tail inside turns (w ++ e ∷ []) ≡ cond (inside e && true) (tail inside turns w + count inside turns (e ∷ [])) (tail inside turns (e ∷ [])) = J.tail-append inside turns w (e ∷ []) in
+        let long : tail inside turns (w ++ e ∷ []) ≡ tail inside turns w + count inside turns (e ∷ []) = joins ∙ ap (λ (b : Bool). cond (b && true) (tail inside turns w + count inside turns (e ∷ [])) (tail inside turns (e ∷ []))) inner in
+        omega (arith, long, one)
+
+    most_in_it : inside e ≡ true → most inside turns (w ++ e ∷ []) ≡ max (most inside turns w) (tail inside turns w + cond (turns e) 1 0)
+    most_in_it inner =
+        let here : cond (inside e) (cond (turns e) 1 0 + 0) 0 ≡ cond (turns e) 1 0 = rw inner (omega arith) in
+        let joins : most inside turns (w ++ e ∷ []) ≡ max (max (most inside turns w) (max (cond (inside e) (cond (turns e) 1 0 + 0) 0) 0)) (tail inside turns w + cond (inside e) (cond (turns e) 1 0 + 0) 0) = J.most-append inside turns w (e ∷ []) in
+        omega (arith, joins, here, tail-le-most inside turns w)
+
+    pub edge_turn : inside e ≡ true → turns e ≡ true → (most inside turns (w ++ e ∷ []) ≡ max (most inside turns w) (tail inside turns w + 1)) × (tail inside turns (w ++ e ∷ []) ≡ tail inside turns w + 1)
+    edge_turn inner turn =
+        let c : cond {A = ℕ} (turns e) 1 0 ≡ 1 = rw turn refl in
+        (omega (arith, most_in_it inner, c), omega (arith, tail_in inner, c))
+
+    pub edge_plain : inside e ≡ true → turns e ≡ false → (most inside turns (w ++ e ∷ []) ≡ most inside turns w) × (tail inside turns (w ++ e ∷ []) ≡ tail inside turns w)
+    edge_plain inner plain =
+        let c : cond {A = ℕ} (turns e) 1 0 ≡ 0 = rw plain refl in
+        (omega (arith, most_in_it inner, c, tail-le-most inside turns w), omega (arith, tail_in inner, c))
+
+  -- a walk that lies inside, behind another
+  pub whole_behind : (u : List E) → whole inside turns u ≡ true → (most inside turns (w ++ u) ≡ max (most inside turns w) (tail inside turns w + count inside turns u)) × (tail inside turns (w ++ u) ≡ tail inside turns w + count inside turns u)
+  whole_behind u all =
+      let first : head inside turns u ≡ count inside turns u = J.head_whole inside turns u all in
+      let own : most inside turns u ≡ count inside turns u = J.most_whole inside turns u all in
+      let joins : tail inside turns (w ++ u) ≡ cond (whole inside turns u) (tail inside turns w + count inside turns u) (tail inside turns u) = J.tail-append inside turns w u in (
+        omega (arith, J.most-append inside turns w u, first, own),
+        joins ∙ ap (λ (b : Bool). cond b (tail inside turns w + count inside turns u) (tail inside turns u)) all,
+      )
+
+  -- the most of rounds that begin outside is that of one
+  pub rounds_apart : (k : ℕ) (r : List E) → 0 < k → head inside turns r ≡ 0 → whole inside turns r ≡ false → most inside turns (w ++ repeated k r) ≡ most inside turns (w ++ r)
+  rounds_apart k r some none part =
+      let same : most inside turns (repeated k r) ≡ most inside turns r = of k some in
+      omega (arith, same, J.most-append inside turns w (repeated k r), J.most-append inside turns w r, rounds_head inside turns k r none, none)
+    where
+      of : (n : ℕ) → 0 < n → most inside turns (repeated n r) ≡ most inside turns r
+      of zero positive = absurd (omega arith)
+      of (suc zero) positive = ap (most inside turns) (append-nil r)
+      of (suc (suc n)) positive = omega (arith, J.most-repeated inside turns n r part, none, tail-le-most inside turns r)
+
+-- ## One edge more, or rounds
+
+module _ (exit : ℕ) (edges : List NumberedEdge) (spans : List Span) (order : IsOrdered exit edges spans) (headers : List (Option Span)) (all : AreHeaders spans headers) where
+  -- the span that begins at a number is the one that the index has there
+  pub span_there : (m : ℕ) (s : Span) → Contains spans s → s.header ≡ m → header_at headers m ≡ Some s
+  span_there m s has is =
+      let found = all.all s has in
+      let known = all.known s.header found.0 found.1 in
+      let same : found.0 ≡ s = same_header spans order.headers_differ found.0 s known.0 has known.1 in
+      ap (header_at headers) (sym is) ∙ found.1 ∙ ap (λ (x : Span). Some x) same
+
+  -- what holds the header of an instance holds all of it
+  pub holds_whole : (s r : Span) → Contains spans s → Contains spans r → is_in s r.header ≡ true → HoldsAll s r
+  holds_whole s r s_in r_in here = ⊎_elim
+      (λ (inner : HoldsAll r s).
+      let low : r.header ≤ s.header = member_header r s.header (inner s.header (header_in exit edges spans order s s_in)) in
+      let high : s.header ≤ r.header = member_header s r.header here in
+      let same : r ≡ s = same_header spans order.headers_differ r s r_in s_in (omega (arith, low, high)) in
+      λ n is. subst (λ (x : Span). is_in x n ≡ true) same is)
+      (λ outer. outer)
+      (order.nested s r s_in r_in r.header here (header_in exit edges spans order r r_in))
+
+  -- how stays change from one walk to another, when the walker comes to a number
+  pub record Changes (from to : ℕ) (v w : List NumberedEdge) : Type 0 where
+    pub there : (s : Span) → Contains spans s → s.header ≡ to → most_in s w ≡ max (most_in s v) (turns_at_end s w)
+    pub elsewhere : (s : Span) → Contains spans s → s.header ≢ to → most_in s w ≡ most_in s v
+    pub same_stay : (s : Span) → Contains spans s → s.header ≢ to → is_in s to ≡ true → (is_in s from ≡ true) × (turns_at_end s w ≡ turns_at_end s v)
+
+  module _ (old new : Walker) (v w : List NumberedEdge) (to cost turns : ℕ) (goes : Arrives headers to cost turns old new) (change : Changes old.number to v w) (told : Tells spans old v)
+      (room : to < length old.turns.items) (cost_is : cost ≡ capped (cost_of w)) (turns_is : (s : Span) → Contains spans s → s.header ≡ to → turns ≡ capped (turns_at_end s w)) where
+    no_less : (s : Span) → Contains spans s → most_in s v ≤ most_in s w
+    no_less s has = ⊎_elim
+        (λ (is : s.header ≡ to). omega (arith, change.there s has is))
+        (λ (other : s.header ≢ to). omega (arith, change.elsewhere s has other))
+        (cases_eq s.header to)
+
+    stays_told : (s : Span) → Contains spans s → is_in s new.number ≡ true → get_or new.turns.items s.header 0 ≡ capped (turns_at_end s w)
+    stays_told s has here = ⊎_elim
+        (λ (is : s.header ≡ to).
+        ap (λ (xs : List ℕ). get_or xs s.header 0) goes.turns_are ∙ ap (λ (k : ℕ). get_or (slice_set old.turns.items to turns) k 0) is ∙ get_or-set_same old.turns.items to turns 0 room ∙ turns_is s has is)
+        (λ (other : s.header ≢ to).
+        let stay = change.same_stay s has other (subst (λ (k : ℕ). is_in s k ≡ true) goes.number_is here) in
+        ap (λ (xs : List ℕ). get_or xs s.header 0) goes.turns_are ∙ get_or-set_other old.turns.items to s.header turns 0 other ∙ told.turns_are s has stay.0 ∙ ap capped (sym stay.1))
+        (cases_eq s.header to)
+
+    broken_told : new.over ≡ true → (s : Span) × Contains spans s × (s.bound < most_in s w)
+    broken_told is = ⊎_elim
+        (λ before. let s = told.broken before in (s.0, s.1, omega (arith, s.2, no_less s.0 s.1)))
+        (λ now.
+        let s = breaks_some (header_at headers to) turns now in
+        let known = all.known to s.0 s.1 in
+        let t : turns ≡ capped (turns_at_end s.0 w) = turns_is s.0 known.0 known.1 in
+        (s.0, known.0, omega (arith, s.2, t, change.there s.0 known.0 known.1)))
+        (or_cases old.over (breaks (header_at headers to) turns) (sym goes.over_is ∙ is))
+
+    kept_told : new.over ≡ false → (s : Span) → Contains spans s → most_in s w ≤ s.bound
+    kept_told is s has =
+        let parts = or_none old.over (breaks (header_at headers to) turns) (sym goes.over_is ∙ is) in
+        let before : most_in s v ≤ s.bound = told.kept parts.0 s has in
+        ⊎_elim
+        (λ (at : s.header ≡ to).
+        let t : turns ≡ capped (turns_at_end s w) = turns_is s has at in
+        let few : turns ≤ s.bound = breaks_none (header_at headers to) turns s (span_there to s has at) parts.1 in
+        let small : s.bound ≤ 1048576 = (order.shape s has).2 in
+        omega (arith, t, few, small, before, change.there s has at))
+        (λ (other : s.header ≢ to). omega (arith, before, change.elsewhere s has other))
+        (cases_eq s.header to)
+
+    pub tells_on : Tells spans new w
+    tells_on = record { cost_is = goes.cost_is ∙ cost_is; turns_are = stays_told; broken = broken_told; kept = kept_told }
+
+  -- ## An edge
+
+  module _ (e : NumberedEdge) (in_graph : Contains edges e) (w : List NumberedEdge) where
+    outside : (s : Span) → is_in s e.from ≡ false → is_inside s e ≡ false
+    outside s out = ap (λ (b : Bool). b && is_in s e.to) out
+
+    -- in an instance that the edge does not enter at its header it begins too
+    stays_in : (s : Span) → Contains spans s → s.header ≢ e.to → is_in s e.to ≡ true → is_in s e.from ≡ true
+    stays_in s has other here = ⊎_elim
+        (λ is. is)
+        (λ out. absurd (other (sym (order.entered e in_graph s has out here))))
+        (cases_Bool (is_in s e.from))
+
+    edge_there : (s : Span) → Contains spans s → s.header ≡ e.to → (is_in s e.from ≡ true → (most_in s (w ++ e ∷ []) ≡ max (most_in s w) (turns_at_end s w + 1)) × (turns_at_end s (w ++ e ∷ []) ≡ turns_at_end s w + 1)) × (is_in s e.from ≡ false → (most_in s (w ++ e ∷ []) ≡ most_in s w) × (turns_at_end s (w ++ e ∷ []) ≡ 0))
+    edge_there s has is =
+        let holds : is_in s e.to ≡ true = subst (λ (n : ℕ). is_in s n ≡ true) is (header_in exit edges spans order s has) in (
+          λ from_in. edge_turn (is_inside s) (ends_at_header s) w e (and_from (is_in s e.from) (is_in s e.to) from_in holds) (eq-eqb e.to s.header (sym is)),
+          λ out. edge_out (is_inside s) (ends_at_header s) w e (outside s out),
+        )
+
+    no_turn : (s : Span) → s.header ≢ e.to → ends_at_header s e ≡ false
+    no_turn s other = ne_eqb e.to s.header (λ is. other (sym is))
+
+    edge_changes : Changes e.from e.to w (w ++ e ∷ [])
+    edge_changes = record {
+      there = λ s has is.
+          let h = edge_there s has is in
+          ⊎_elim
+          (λ (from_in : is_in s e.from ≡ true). let b = h.0 from_in in omega (arith, b.0, b.1))
+          (λ (out : is_in s e.from ≡ false). let b = h.1 out in omega (arith, b.0, b.1))
+          (cases_Bool (is_in s e.from));
+      elsewhere = λ s has other. ⊎_elim
+          (λ (is : is_inside s e ≡ true). (edge_plain (is_inside s) (ends_at_header s) w e is (no_turn s other)).0)
+          (λ (out : is_inside s e ≡ false). (edge_out (is_inside s) (ends_at_header s) w e out).0)
+          (cases_Bool (is_inside s e));
+      same_stay = λ s has other here.
+          let from_in : is_in s e.from ≡ true = stays_in s has other here in
+          (from_in, (edge_plain (is_inside s) (ends_at_header s) w e (and_from (is_in s e.from) (is_in s e.to) from_in here) (no_turn s other)).1);
+    }
+
+    turned : (o : Option Span) (s : Span) (from turns : ℕ) → o ≡ Some s → turns_after o from turns ≡ cond (is_in s from) (capped (turns + 1)) 0
+    turned o s from turns is = ap (λ (x : Option Span). turns_after x from turns) is
+
+    edge_turns : (old : Walker) → old.number ≡ e.from → Tells spans old w → (s : Span) → Contains spans s → s.header ≡ e.to → turns_after (header_at headers e.to) e.from (get_or old.turns.items e.to 0) ≡ capped (turns_at_end s (w ++ e ∷ []))
+    edge_turns old from_is told s has is =
+        let h = edge_there s has is in
+        turned (header_at headers e.to) s e.from (get_or old.turns.items e.to 0) (span_there e.to s has is)
+        ∙ ⊎_elim
+        (λ (from_in : is_in s e.from ≡ true).
+        let before : get_or old.turns.items s.header 0 ≡ capped (turns_at_end s w) = told.turns_are s has (subst (λ (n : ℕ). is_in s n ≡ true) (sym from_is) from_in) in
+        let here : get_or old.turns.items e.to 0 ≡ capped (turns_at_end s w) = ap (λ (n : ℕ). get_or old.turns.items n 0) (sym is) ∙ before in
+        let after : turns_at_end s (w ++ e ∷ []) ≡ turns_at_end s w + 1 = (h.0 from_in).1 in
+        let more : capped (get_or old.turns.items e.to 0 + 1) ≡ capped (turns_at_end s (w ++ e ∷ [])) = omega (arith, here, after) in
+        ap (λ (b : Bool). cond b (capped (get_or old.turns.items e.to 0 + 1)) 0) from_in ∙ more)
+        (λ (out : is_in s e.from ≡ false).
+        let after : turns_at_end s (w ++ e ∷ []) ≡ 0 = (h.1 out).1 in
+        let none : 0 ≡ capped (turns_at_end s (w ++ e ∷ [])) = omega (arith, after) in
+        ap (λ (b : Bool). cond b (capped (get_or old.turns.items e.to 0 + 1)) 0) out ∙ none)
+        (cases_Bool (is_in s e.from))
+
+    edge_told : (old new : Walker) → old.number ≡ e.from → e.to < length old.turns.items → Arrives headers e.to (capped (old.cost + e.cost)) (turns_after (header_at headers e.to) e.from (get_or old.turns.items e.to 0)) old new → Tells spans old w → Tells spans new (w ++ e ∷ [])
+    edge_told old new from_is room goes told =
+        tells_on old new w (w ++ e ∷ []) e.to (capped (old.cost + e.cost)) (turns_after (header_at headers e.to) e.from (get_or old.turns.items e.to 0)) goes
+        (subst (λ (n : ℕ). Changes n e.to w (w ++ e ∷ [])) (sym from_is) edge_changes) told room
+        (let sum : cost_of (w ++ e ∷ []) ≡ cost_of w + cost_of (e ∷ []) = cost-append number_shape w (e ∷ []) in
+        let last : cost_of (e ∷ []) ≡ e.cost + 0 = sum_by-cons (λ (x : NumberedEdge). x.cost) e [] in
+        omega (arith, sum, last, told.cost_is))
+        (edge_turns old from_is told)
+
+  pub edge_adds : (e : NumberedEdge) → Contains edges e → (old new : Walker) → old.number ≡ e.from → e.to < length old.turns.items → Arrives headers e.to (capped (old.cost + e.cost)) (turns_after (header_at headers e.to) e.from (get_or old.turns.items e.to 0)) old new → Adds spans old new (e ∷ [])
+  edge_adds e in_graph old new from_is room goes w told = edge_told e in_graph w old new from_is room goes told
+
+  -- ## Rounds
+
+  -- a walk whose edges end inside, from inside, lies inside
+  pub whole_in : (s : Span) (p q : ℕ) (v : List NumberedEdge) → Leads edges p v q → is_in s p ≡ true → All (λ e. is_in s e.to ≡ true) v → whole (is_inside s) (ends_at_header s) v ≡ true
+  whole_in s p q [] leads here ends = refl
+  whole_in s p q (e ∷ v) (in_graph, starts, leads) here ends =
+      let to_in : is_in s e.to ≡ true = All-head (λ (x : NumberedEdge). is_in s x.to ≡ true) e v ends in
+      let from_in : is_in s e.from ≡ true = subst (λ (n : ℕ). is_in s n ≡ true) (sym starts) here in
+      and_from (is_inside s e) (whole (is_inside s) (ends_at_header s) v) (and_from (is_in s e.from) (is_in s e.to) from_in to_in) (whole_in s e.to q v leads to_in (All-tail (λ (x : NumberedEdge). is_in s x.to ≡ true) e v ends))
+
+  -- one that begins outside turns first elsewhere
+  starts_out : (s : Span) (p q : ℕ) (v : List NumberedEdge) → v ≢ [] → Leads edges p v q → is_in s p ≡ false → (head (is_inside s) (ends_at_header s) v ≡ 0) × (whole (is_inside s) (ends_at_header s) v ≡ false)
+  starts_out s p q [] some leads out = absurd (some refl)
+  starts_out s p q (e ∷ v) some (in_graph, starts, leads) out =
+      let from_out : is_in s e.from ≡ false = subst (λ (n : ℕ). is_in s n ≡ false) (sym starts) out in
+      let turn : ℕ = cond (ends_at_header s e) 1 0 in (
+        ap (λ (b : Bool). cond (b && is_in s e.to) (turn + head (is_inside s) (ends_at_header s) v) 0) from_out,
+        ap (λ (b : Bool). (b && is_in s e.to) && whole (is_inside s) (ends_at_header s) v) from_out,
+      )
+
+  -- inside an instance no edge ends before its header
+  no_turns : (r s : Span) (v : List NumberedEdge) → s.header < r.header → All (λ e. is_in r e.to ≡ true) v → count (is_inside s) (ends_at_header s) v ≡ 0
+  no_turns r s [] before ends = refl
+  no_turns r s (e ∷ v) before ends =
+      let low : r.header ≤ e.to = member_header r e.to (All-head (λ (x : NumberedEdge). is_in r x.to ≡ true) e v ends) in
+      let plain : ends_at_header s e ≡ false = ne_eqb e.to s.header (λ is. omega (arith, is, low)) in
+      let rest : count (is_inside s) (ends_at_header s) v ≡ 0 = no_turns r s v before (All-tail (λ (x : NumberedEdge). is_in r x.to ≡ true) e v ends) in
+      let first : cond {A = ℕ} (ends_at_header s e) 1 0 ≡ 0 = ap (λ (b : Bool). cond b 1 0) plain in
+      omega (arith, sum_by-cons (λ (x : NumberedEdge). cond {A = ℕ} (ends_at_header s x) 1 0) e v, rest, first)
+
+  module _ (r : Span) (r_in : Contains spans r) (n k : ℕ) (at : r.header ≡ n) (v : List NumberedEdge) (some : v ≢ []) (leads : Leads edges n v n) (ends : All (λ e. is_in r e.to ≡ true) v) (w : List NumberedEdge) where
+    -- an instance that holds the header holds the round
+    held : (s : Span) → Contains spans s → is_in s n ≡ true → whole (is_inside s) (ends_at_header s) v ≡ true
+    held s s_in here =
+        let outer : HoldsAll s r = holds_whole s r s_in r_in (subst (λ (p : ℕ). is_in s p ≡ true) (sym at) here) in
+        whole_in s n n v leads here (All-weaker (λ (e : NumberedEdge). is_in r e.to ≡ true) (λ (e : NumberedEdge). is_in s e.to ≡ true) (λ e is. outer e.to is) v ends)
+
+    -- and takes no turn of its own in it
+    plain : (s : Span) → Contains spans s → s.header ≢ n → is_in s n ≡ true → count (is_inside s) (ends_at_header s) v ≡ 0
+    plain s s_in other here =
+        let low : s.header ≤ n = member_header s n here in
+        no_turns r s v (omega (arith, low, at, other)) ends
+
+    holds_header : (s : Span) → Contains spans s → s.header ≡ n → is_in s n ≡ true
+    holds_header s s_in is = subst (λ (p : ℕ). is_in s p ≡ true) is (header_in exit edges spans order s s_in)
+
+    joined_once : (s : Span) → Contains spans s → is_in s n ≡ true → (most_in s (w ++ v) ≡ max (most_in s w) (turns_at_end s w + count (is_inside s) (ends_at_header s) v)) × (turns_at_end s (w ++ v) ≡ turns_at_end s w + count (is_inside s) (ends_at_header s) v)
+    joined_once s s_in here = whole_behind (is_inside s) (ends_at_header s) w v (held s s_in here)
+
+    joined_rounds : (s : Span) → Contains spans s → is_in s n ≡ true → (most_in s (w ++ repeated k v) ≡ max (most_in s w) (turns_at_end s w + k * count (is_inside s) (ends_at_header s) v)) × (turns_at_end s (w ++ repeated k v) ≡ turns_at_end s w + k * count (is_inside s) (ends_at_header s) v)
+    joined_rounds s s_in here =
+        let all_in : whole (is_inside s) (ends_at_header s) (repeated k v) ≡ true = J.whole-repeated (is_inside s) (ends_at_header s) k v (held s s_in here) in
+        let times : count (is_inside s) (ends_at_header s) (repeated k v) ≡ k * count (is_inside s) (ends_at_header s) v = J.count-repeated (is_inside s) (ends_at_header s) k v in
+        let b = whole_behind (is_inside s) (ends_at_header s) w (repeated k v) all_in in
+        (b.0 ∙ ap (λ (x : ℕ). max (most_in s w) (turns_at_end s w + x)) times, b.1 ∙ ap (λ (x : ℕ). turns_at_end s w + x) times)
+
+    none_many : (c : ℕ) → c ≡ 0 → k * c ≡ 0
+    none_many c is = rw is (omega arith)
+
+    rounds_change : 0 < k → Changes n n (w ++ v) (w ++ repeated k v)
+    rounds_change positive = record {
+      there = λ s s_in is.
+          let here = holds_header s s_in is in
+          let c : ℕ = count (is_inside s) (ends_at_header s) v in
+          let up : c ≤ k * c = times-le k c positive in
+          let once = joined_once s s_in here in
+          let many = joined_rounds s s_in here in
+          let p : ℕ = k * c in
+          omega (arith, once.0, many.0, many.1, up);
+      elsewhere = λ s s_in other. ⊎_elim
+          (λ (here : is_in s n ≡ true).
+          let none = plain s s_in other here in
+          let once = joined_once s s_in here in
+          let many = joined_rounds s s_in here in
+          omega (arith, once.0, many.0, none, none_many (count (is_inside s) (ends_at_header s) v) none))
+          (λ (out : is_in s n ≡ false).
+          let first = starts_out s n n v some leads out in
+          rounds_apart (is_inside s) (ends_at_header s) w k v positive first.0 first.1)
+          (cases_Bool (is_in s n));
+      same_stay = λ s s_in other here.
+          let none = plain s s_in other here in
+          let once = joined_once s s_in here in
+          let many = joined_rounds s s_in here in
+          (here, omega (arith, once.1, many.1, none, none_many (count (is_inside s) (ends_at_header s) v) none));
+    }
+
+    module _ (old mid new : Walker) (start : old.number ≡ n) (back : mid.number ≡ n) (room : n < length mid.turns.items) (positive : 0 < k)
+        (goes : Arrives headers n (gained old.cost mid.cost k) (gained (get_or old.turns.items n 0) (get_or mid.turns.items n 0) k) mid new) (before : Tells spans old w) (once : Tells spans mid (w ++ v)) where
+      rounds_cost : gained old.cost mid.cost k ≡ capped (cost_of (w ++ repeated k v))
+      rounds_cost =
+          let more : mid.cost ≡ capped (cost_of w + cost_of v) = once.cost_is ∙ ap capped (cost-append number_shape w v) in
+          let all_of : cost_of (w ++ repeated k v) ≡ cost_of w + k * cost_of v = cost-append number_shape w (repeated k v) ∙ ap (λ (x : ℕ). cost_of w + x) (cost-repeated number_shape k v) in
+          (λ i. gained (before.cost_is i) (more i) k) ∙ gained_is (cost_of w) (cost_of v) k positive ∙ ap capped (sym all_of)
+
+      rounds_turns : (s : Span) → Contains spans s → s.header ≡ n → gained (get_or old.turns.items n 0) (get_or mid.turns.items n 0) k ≡ capped (turns_at_end s (w ++ repeated k v))
+      rounds_turns s s_in is =
+          let here = holds_header s s_in is in
+          let c : ℕ = count (is_inside s) (ends_at_header s) v in
+          let first : get_or old.turns.items n 0 ≡ capped (turns_at_end s w) = ap (λ (p : ℕ). get_or old.turns.items p 0) (sym is) ∙ before.turns_are s s_in (subst (λ (p : ℕ). is_in s p ≡ true) (sym start) here) in
+          let second : get_or mid.turns.items n 0 ≡ capped (turns_at_end s w + c) = ap (λ (p : ℕ). get_or mid.turns.items p 0) (sym is) ∙ once.turns_are s s_in (subst (λ (p : ℕ). is_in s p ≡ true) (sym back) here) ∙ ap capped (joined_once s s_in here).1 in
+          (λ i. gained (first i) (second i) k) ∙ gained_is (turns_at_end s w) c k positive ∙ ap capped (sym (joined_rounds s s_in here).1)
+
+      rounds_told : Tells spans new (w ++ repeated k v)
+      rounds_told =
+          tells_on mid new (w ++ v) (w ++ repeated k v) n (gained old.cost mid.cost k) (gained (get_or old.turns.items n 0) (get_or mid.turns.items n 0) k) goes
+          (subst (λ (m : ℕ). Changes m n (w ++ v) (w ++ repeated k v)) (sym back) (rounds_change positive)) once room rounds_cost rounds_turns
+
+  pub rounds_add : (r : Span) → Contains spans r → (n k : ℕ) → r.header ≡ n → (v : List NumberedEdge) → v ≢ [] → Leads edges n v n → All (λ e. is_in r e.to ≡ true) v → (old mid new : Walker) → old.number ≡ n → mid.number ≡ n → n < length mid.turns.items → 0 < k
+      → Arrives headers n (gained old.cost mid.cost k) (gained (get_or old.turns.items n 0) (get_or mid.turns.items n 0) k) mid new → Adds spans old mid v → Adds spans old new (repeated k v)
+  rounds_add r r_in n k at v some leads ends old mid new start back room positive goes adds w told =
+      rounds_told r r_in n k at v some leads ends w old mid new start back room positive goes told (adds w told)

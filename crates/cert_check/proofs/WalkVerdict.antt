@@ -1,0 +1,124 @@
+-- The verdict on a walk, from what following its lines told.
+use Rattle.std.proofs.Common.{◌≡◌, ◌≢◌, ◌∙◌, ℕ, ◌+◌, ◌<◌, ◌≤◌, ◌^◌, true, false, List, [], length, get_or, sym, ap, subst, arith}
+use Rattle.std.proofs.lemmas.List.{get_or-replicate, length-replicate}
+use Rattle.std.proofs.lemmas.Bool.{false≢true}
+use Rattle.std.proofs.lemmas.Option.{same_Some}
+use Rattle.walks.specs.Walk.{Leads, cost_of}
+use Rattle.walks.proofs.Joins.{keeps_from_most, most_from_keeps}
+use Rattle.flow_graph.specs.declared.places.Place.{Place}
+use Rattle.flow_graph.specs.declared.places.Place.TheVariants.{Exit}
+use Rattle.flow_graph.specs.declared.edges.Edge.{Edge}
+use Rattle.flow_graph.specs.Flow.{Flow, HasEdge, IsWellFormed, edge_shape}
+use Rattle.numbered_walks.specs.declared.span.NumberedEdge.{NumberedEdge}
+use Rattle.numbered_walks.specs.declared.span.Span.{Span}
+use Rattle.numbered_walks.specs.declared.index.Index.{Index}
+use Rattle.numbered_walks.specs.Index.{IsIndex, edges_of}
+use Rattle.numbered_walks.specs.Ordered as O
+use Rattle.numbered_walks.specs.Reach.{most_in}
+use Rattle.numbered_walks.proofs.Members.{is_member, member_last}
+use Rattle.loop_bounds.specs.Tree.{IsTree, Tree, place_in}
+use Rattle.longest_walk.specs.Built.{steps_of}
+use Rattle.longest_walk.specs.Longest.{KeepsTree}
+use Rattle.longest_walk.proofs.CarryWalks.{costs_same, exit_is, exit_place, keeps_down, keeps_up}
+use Rattle.certificate.specs.declared.cert.Cert.{Cert}
+use Rattle.cert_check.specs.declared.walker.Walker.{Walker}
+use Rattle.cert_check.specs.Followed.{Followed, followed}
+use Rattle.cert_check.specs.Verdict.{CostsBound, IsFollowed, KeepsAll}
+use Rattle.cert_check.specs.Walking.{CanFollow, IsFresh, IsRefused, IsTaken, Tells, capped, whole}
+use Rattle.cert_check.proofs.WalkFollowing.{leads_of}
+use Rattle.cert_check.proofs.WalkParts.{ends_same}
+
+module _ (flow : Flow) (tree : Tree) (index : Index) (well : IsWellFormed flow) (t : IsTree flow tree) (indexed : IsIndex (length flow.places) tree.edges tree.spans index) (x : Walker) (fresh : IsFresh (length flow.places) x) where
+  abbrev exit : ℕ
+  exit = length flow.places
+
+  abbrev place : ℕ → Place
+  place = place_in flow tree
+
+  at_entry : place_in flow tree x.number ≡ flow.entry
+  at_entry = ap place fresh.number_is ∙ t.entry_first
+
+  pub ready : CanFollow flow tree index (whole flow) x
+  ready = record {
+    well_formed = well;
+    tree_is = t;
+    indexed = indexed;
+    holds_inner = λ s s_in here n is.
+        let shape = t.ordered.shape s s_in in
+        is_member (whole flow) n (omega arith) (omega (arith, member_last s n is, shape.1));
+    known = omega (arith, fresh.number_is);
+    inside = is_member (whole flow) x.number (omega arith) (omega (arith, fresh.number_is));
+    room = ap length fresh.turns_are ∙ length-replicate (exit + 1) 0;
+  }
+
+  nothing_told : Tells tree.spans x []
+  nothing_told = record {
+    cost_is = omega (arith, fresh.cost_is);
+    turns_are = λ s s_in here.
+        let shape = t.ordered.shape s s_in in
+        let none : get_or x.turns.items s.header 0 ≡ 0 = ap (λ (xs : List ℕ). get_or xs s.header 0) fresh.turns_are ∙ get_or-replicate (exit + 1) s.header 0 0 (omega (arith, shape.0, shape.1)) in
+        omega (arith, none);
+    broken = λ is. absurd (false≢true (sym fresh.over_is ∙ is));
+    kept = λ is s s_in. omega arith;
+  }
+
+  module _ (cert : Cert) where
+    pub refused_whole : IsRefused flow tree (whole flow) 16 (followed flow cert.walk) x.number → (walk : Followed) × IsFollowed flow tree cert.walk walk → ⊥
+    refused_whole refused (f, is) =
+        refused f Exit (ap (followed flow cert.walk) at_entry ∙ is.followed_is) (subst (λ (p : Place). Leads edge_shape (HasEdge flow) p f.opened.walk Exit) (sym at_entry) is.complete)
+        (λ k d lt n le to. is_member (whole flow) n (omega arith) le)
+        (record { bodies = is.bodies; counts = is.counts; shallow = is.shallow })
+
+    module _ (y : Walker) (a : IsTaken flow tree index (whole flow) 16 (length cert.walk) (followed flow cert.walk) x y) where
+      abbrev v : List NumberedEdge
+      v = edges_of tree.edges a.numbers
+
+      leads : Leads edge_shape (HasEdge flow) flow.entry a.walk.opened.walk (place_in flow tree y.number)
+      leads = subst (λ (p : Place). Leads edge_shape (HasEdge flow) p a.walk.opened.walk (place y.number)) at_entry (leads_of flow tree index well (whole flow) 16 (length cert.walk) (followed flow cert.walk) x y t a)
+
+      is_walk : (f : Followed) → IsFollowed flow tree cert.walk f → a.walk ≡ f
+      is_walk f is = same_Some a.walk f (sym a.walk_is ∙ ap (followed flow cert.walk) at_entry ∙ is.followed_is)
+
+      pub unfinished : y.number ≢ length flow.places → (walk : Followed) × IsFollowed flow tree cert.walk walk → ⊥
+      unfinished other (f, is) =
+          let there : Leads edge_shape (HasEdge flow) flow.entry f.opened.walk (place y.number) = subst (λ (g : Followed). Leads edge_shape (HasEdge flow) flow.entry g.opened.walk (place y.number)) (is_walk f is) leads in
+          other (exit_is flow tree well t y.number a.ready.known (ends_same edge_shape (HasEdge flow) flow.entry (place y.number) Exit f.opened.walk there is.complete))
+
+      module _ (done : y.number ≡ length flow.places) where
+        pub finished : IsFollowed flow tree cert.walk a.walk
+        finished = record {
+          followed_is = ap (followed flow cert.walk) (sym at_entry) ∙ a.walk_is;
+          complete = subst (λ (p : Place). Leads edge_shape (HasEdge flow) flow.entry a.walk.opened.walk p) (ap place done ∙ exit_place flow tree well t) leads;
+          bodies = a.rounds.bodies;
+          counts = a.rounds.counts;
+          shallow = a.rounds.shallow;
+        }
+
+        told : Tells tree.spans y (edges_of tree.edges a.numbers)
+        told = a.told [] nothing_told
+
+        pub over_bound : y.over ≡ true → KeepsAll flow tree cert → ⊥
+        over_bound over keeps =
+            let s = told.broken over in
+            let span : Span = s.0 in
+            let kept : KeepsTree tree (steps_of flow.edges a.numbers) = subst (λ (w : List Edge). KeepsTree tree w) a.edges_are (keeps a.walk finished) in
+            let few : most_in span (edges_of tree.edges a.numbers) ≤ span.bound = most_from_keeps (O.is_inside span) (O.ends_at_header span) span.bound (edges_of tree.edges a.numbers) (keeps_down flow tree well t a.numbers a.inside kept span s.1) in
+            omega (arith, few, s.2)
+
+        pub within_bounds : y.over ≡ false → KeepsAll flow tree cert
+        within_bounds fine f is =
+            let kept : KeepsTree tree (steps_of flow.edges a.numbers) = keeps_up flow tree well t a.numbers a.inside (λ s s_in. keeps_from_most (O.is_inside s) (O.ends_at_header s) s.bound (edges_of tree.edges a.numbers) (told.kept fine s s_in)) in
+            subst (λ (g : Followed). KeepsTree tree g.opened.walk) (is_walk f is) (subst (λ (w : List Edge). KeepsTree tree w) (sym a.edges_are) kept)
+
+        cost_told : y.cost ≡ capped (cost_of edge_shape a.walk.opened.walk)
+        cost_told = told.cost_is ∙ ap capped (sym (ap (λ (w : List Edge). cost_of edge_shape w) a.edges_are ∙ costs_same flow tree well t a.numbers a.inside))
+
+        pub other_cost : cert.bound < 2 ^ 64 → y.cost ≢ cert.bound → CostsBound flow tree cert → ⊥
+        other_cost fits other costs =
+            let is : cost_of edge_shape a.walk.opened.walk ≡ cert.bound = costs a.walk finished in
+            other (omega (arith, cost_told, is, fits))
+
+        pub same_cost : cert.bound < 2 ^ 64 → y.cost ≡ cert.bound → CostsBound flow tree cert
+        same_cost fits same f is =
+            let here : cost_of edge_shape a.walk.opened.walk ≡ cert.bound = omega (arith, cost_told, same, fits) in
+            subst (λ (g : Followed). cost_of edge_shape g.opened.walk ≡ cert.bound) (is_walk f is) here

@@ -1,0 +1,149 @@
+-- What following a certificate's walk tells of it (our own).
+use Rattle.std.specs.Prelude.{◌≡◌, ℕ, ◌+◌, ◌-◌, ◌*◌, ◌<◌, ◌≤◌, ◌^◌, min, Bool, true, false, cond, nat_lt, ◌||◌, List, ◌++◌, length, replicate, slice_index, slice_index_or, slice_set, All, Contains, Option, Some, None}
+use Rattle.walks.specs.Walk.{Leads}
+use Rattle.walks.specs.Segments.{tail}
+use Rattle.flow_graph.specs.declared.places.Place.{Place}
+use Rattle.flow_graph.specs.declared.edges.Edge.{Edge}
+use Rattle.flow_graph.specs.Flow.{Flow, HasEdge, IsWellFormed, edge_shape}
+use Rattle.numbered_walks.specs.declared.span.NumberedEdge.{NumberedEdge}
+use Rattle.numbered_walks.specs.declared.span.Span.{Span}
+use Rattle.numbered_walks.specs.declared.index.Index.{Index}
+use Rattle.numbered_walks.specs.Index.{IsIndex, edges_of}
+use Rattle.numbered_walks.specs.Ordered as O
+use Rattle.numbered_walks.specs.Ordered.{HoldsAll, ends_at_header, is_in, is_inside}
+use Rattle.numbered_walks.specs.Reach.{most_in}
+use Rattle.loop_bounds.specs.Tree.{IsTree, Tree, place_in}
+use Rattle.longest_walk.specs.Built.{step_at, steps_of}
+use Rattle.longest_walk.specs.Folded.{Opened}
+use Rattle.longest_walk.specs.Longest.{IsBody}
+use Rattle.cert_check.specs.declared.walker.Walker.{Walker}
+use Rattle.cert_check.specs.declared.walker.Round.{Round}
+use Rattle.cert_check.specs.Followed.{Followed}
+
+-- ## What is told of a walk
+
+-- sums are told up to 2^64, which is more than any bound
+abbrev pub capped : ℕ → ℕ
+capped n = min n (2 ^ 64)
+
+-- the back edges of the stay in the instance in which the walk ends
+abbrev pub turns_at_end : Span → List NumberedEdge → ℕ
+turns_at_end s walk = tail (is_inside s) (ends_at_header s) walk
+
+-- its cost; the back edges of its stay in each instance where it stands; and whether a stay has more of them than the bound
+pub record Tells (spans : List Span) (x : Walker) (walk : List NumberedEdge) : Type 0 where
+  pub cost_is : x.cost ≡ capped (O.cost_of walk)
+  pub turns_are : (s : Span) → Contains spans s → is_in s x.number ≡ true → slice_index x.turns.items s.header ≡ capped (turns_at_end s walk)
+  pub broken : x.over ≡ true → (s : Span) × Contains spans s × (s.bound < most_in s walk)
+  pub kept : x.over ≡ false → (s : Span) → Contains spans s → most_in s walk ≤ s.bound
+
+-- what was told of any walk is told of it with this one behind it
+abbrev pub Adds : List Span → Walker → Walker → List NumberedEdge → Type 0
+Adds spans old new more = (walk : List NumberedEdge) → Tells spans old walk → Tells spans new (walk ++ more)
+
+-- nothing is followed yet
+pub record IsFresh (exit : ℕ) (x : Walker) : Type 0 where
+  pub number_is : x.number ≡ 0
+  pub cost_is : x.cost ≡ 0
+  pub turns_are : x.turns.items ≡ replicate (exit + 1) 0
+  pub over_is : x.over ≡ false
+
+-- ## What an edge, and the rounds of a repeat, change
+
+-- the span that begins at a number
+abbrev pub header_at : List (Option Span) → ℕ → Option Span
+header_at headers n = slice_index_or headers n None
+
+-- more back edges than the bound of the instance
+abbrev pub breaks : Option Span → ℕ → Bool
+breaks None turns = false
+breaks (Some s) turns = nat_lt s.bound turns
+
+-- the back edges of the stay at the header after an edge from this number: one more, or none where the edge enters
+abbrev pub turns_after : Option Span → ℕ → ℕ → ℕ
+turns_after None from turns = 0
+turns_after (Some s) from turns = cond (is_in s from) (capped (turns + 1)) 0
+
+-- what was gained once, so many times
+abbrev pub gained : ℕ → ℕ → ℕ → ℕ
+gained before after count = capped (capped before + count * (capped after - before))
+
+-- it stands at the number with this cost, and with these back edges of the stay in the instance that begins there
+pub record Arrives (headers : List (Option Span)) (number cost turns : ℕ) (old new : Walker) : Type 0 where
+  pub number_is : new.number ≡ number
+  pub cost_is : new.cost ≡ cost
+  pub turns_are : new.turns.items ≡ slice_set old.turns.items number turns
+  pub over_is : new.over ≡ (old.over || breaks (header_at headers number) turns)
+
+-- ## Following the lines
+
+-- the edges that leave the place stand from the one number to the other
+pub record IsPartOf (flow : Flow) (p : Place) (first end : ℕ) : Type 0 where
+  pub ordered : first ≤ end
+  pub fits : end ≤ length flow.edges
+  pub own : (k : ℕ) → first ≤ k → k < end → (step_at flow.edges k).from ≡ p
+  pub whole : (k : ℕ) → k < length flow.edges → (step_at flow.edges k).from ≡ p → (first ≤ k) × (k < end)
+
+-- an edge may be followed inside the span, which is that of an instance or of the whole graph
+pub record CanFollow (flow : Flow) (tree : Tree) (index : Index) (within : Span) (x : Walker) : Type 0 where
+  pub well_formed : IsWellFormed flow
+  pub tree_is : IsTree flow tree
+  pub indexed : IsIndex (length flow.places) tree.edges tree.spans index
+  pub holds_inner : (s : Span) → Contains tree.spans s → is_in within s.header ≡ true → HoldsAll within s
+  pub known : x.number ≤ length flow.places
+  pub inside : is_in within x.number ≡ true
+  pub room : length x.turns.items ≡ length flow.places + 1
+
+-- repeats are rounds of one instance, so many as the format allows, and stand no deeper than this
+pub record AreRounds (flow : Flow) (tree : Tree) (levels : ℕ) (o : Opened) : Type 0 where
+  pub bodies : All (IsBody flow tree) o.bodies
+  pub counts : All (λ k. (0 < k) × (k ≤ 1048576)) o.counts
+  pub shallow : o.depth ≤ levels
+
+-- the lines stand for a walk inside the span, of at least so many edges, that was followed
+pub record IsTaken (flow : Flow) (tree : Tree) (index : Index) (within : Span) (levels least : ℕ) (lines : Place → Option Followed) (old new : Walker) : Type 0 where
+  pub walk : Followed
+  pub numbers : List ℕ
+  pub walk_is : lines (place_in flow tree old.number) ≡ Some walk
+  pub ends : walk.at ≡ place_in flow tree new.number
+  pub inside : All (λ k. k < length flow.edges) numbers
+  pub edges_are : walk.opened.walk ≡ steps_of flow.edges numbers
+  pub leads : O.Leads tree.edges old.number (edges_of tree.edges numbers) new.number
+  pub stays : All (λ e. is_in within e.to ≡ true) (edges_of tree.edges numbers)
+  pub long : least ≤ length walk.opened.walk
+  pub rounds : AreRounds flow tree levels walk.opened
+  pub told : Adds tree.spans old new (edges_of tree.edges numbers)
+  pub ready : CanFollow flow tree index within new
+
+-- the edge ends in the span
+abbrev pub EndsIn : Flow → Tree → Span → Edge → Type 0
+EndsIn flow tree within e = (n : ℕ) → n ≤ length flow.places → place_in flow tree n ≡ e.to → is_in within n ≡ true
+
+-- the lines stand for no walk from the number that stays in the span and whose repeats are as they have to be
+abbrev pub IsRefused : Flow → Tree → Span → ℕ → (Place → Option Followed) → ℕ → Type 0
+IsRefused flow tree within levels lines n = (f : Followed) (q : Place) → lines (place_in flow tree n) ≡ Some f → Leads edge_shape (HasEdge flow) (place_in flow tree n) f.opened.walk q → All (EndsIn flow tree within) f.opened.walk → AreRounds flow tree levels f.opened → ⊥
+
+-- by whether the lines were followed
+abbrev pub Follows : Flow → Tree → Index → Span → ℕ → ℕ → (Place → Option Followed) → Walker → Walker → Bool → Type 0
+Follows flow tree index within levels least lines old new true = IsTaken flow tree index within levels least lines old new
+Follows flow tree index within levels least lines old new false = IsRefused flow tree within levels lines old.number
+
+-- the whole graph as a span
+abbrev pub whole : Flow → Span
+whole flow = record { header = 0; last = length flow.places; bound = 0 }
+
+-- ## A repeat
+
+-- what a repeat of so many lines begins with: the instance whose header it stands at, and what is told there
+pub record Begins (headers : List (Option Span)) (x : Walker) (levels count lines : ℕ) (r : Round) : Type 0 where
+  pub span_is : header_at headers x.number ≡ Some r.span
+  pub cost_is : r.cost ≡ x.cost
+  pub turns_are : r.turns ≡ slice_index x.turns.items x.number
+  pub some_level : 0 < levels
+  pub some : 0 < count
+  pub few : count ≤ 1048576
+  pub some_line : 0 < lines
+
+-- none may begin
+abbrev pub CannotBegin : List (Option Span) → Walker → ℕ → ℕ → ℕ → Type 0
+CannotBegin headers x levels count lines = (s : Span) → header_at headers x.number ≡ Some s → 0 < levels → 0 < count → count ≤ 1048576 → 0 < lines → ⊥

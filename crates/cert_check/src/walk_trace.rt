@@ -1,0 +1,180 @@
+ghost use Rattle.std.specs.Prelude.{◌≡◌, ◌<◌, ◌≤◌, ℕ, length, option_map, IfSome, MatchOption};
+ghost use Rattle.loop_bounds.specs.Tree.{IsTree, place_in};
+ghost use Rattle.longest_walk.specs.Built.{step_at};
+ghost use Rattle.cert_check.specs.Followed.{edge_named, follow_edge, follow_item, followed, is_label, is_named, leads_to};
+ghost use Rattle.cert_check.specs.Walking.{Begins, CanFollow, CannotBegin, Follows, IsPartOf};
+
+use crate::walker::{Round, Walker};
+use crate::weighing::holds;
+use certificate::{CertItem, StepLine, To};
+use flow_graph::{Edge, Graph, Label, Place};
+use loop_bounds::LoopTree;
+use numbered_walks::{Index, Span};
+
+fn same_label(label: Label, named: Label) -> bool
+    ensures { result ≡ is_label label named }
+{
+    match (label, named) {
+        (Label::Skip, Label::Skip) | (Label::Do, Label::Do) => true,
+        _ => false,
+    }
+}
+
+fn ends_at(place: &Place, named: To) -> bool
+    ensures { result ≡ leads_to place.now named }
+{
+    match (place, named) {
+        (Place::At(_, address), To::At(to)) => *address == to,
+        (Place::Exit, To::Exit) => true,
+        _ => false,
+    }
+}
+
+// Whether the line names the edge, at the place that it leaves.
+fn is_meant(edge: &Edge, line: &StepLine) -> bool
+    ensures { result ≡ is_named edge.now.from line.now edge.now }
+{
+    match edge.from {
+        Place::At(_, address) => {
+            address == line.address
+                && same_label(edge.label, line.label)
+                && ends_at(&edge.to, line.to)
+                && u64::from(edge.cost) == line.cost
+        }
+        Place::Exit => false,
+    }
+}
+
+// Where the edges of the number's place begin and end.
+fn part(graph: &Graph, tree: &LoopTree, number: usize) -> (usize, usize)
+    requires tree { IsTree graph.now tree.now }
+    requires known { number < length graph.now.places }
+    ensures { IsPartOf graph.now (place_in graph.now tree.now number) result.0 result.1 }
+{
+    let place = tree.order()[number];
+    let firsts = graph.firsts();
+    (firsts[place], firsts[place + 1])
+}
+
+// Which edge of the graph the line names at the place of the number.
+fn named_edge(graph: &Graph, tree: &LoopTree, number: usize, line: &StepLine) -> Option<usize>
+    requires tree { IsTree graph.now tree.now }
+    requires known { number ≤ length graph.now.places }
+    ensures found { option_map (step_at graph.now.edges) result ≡ edge_named graph.now (place_in graph.now tree.now number) line.now }
+    ensures inside { IfSome result (λ k. k < length graph.now.edges) }
+{
+    if number == graph.places().len() {
+        return None;
+    }
+    let (first, end) = part(graph, tree, number);
+    for edge in first..end {
+        if is_meant(&graph.edges()[edge], line) {
+            return Some(edge);
+        }
+    }
+    None
+}
+
+// Follows the edge that the line names, if there is one and it ends inside the span. No level is asked, as no repeat stands
+// here.
+fn follow_step(
+    graph: &Graph,
+    tree: &LoopTree,
+    index: &Index,
+    within: &Span,
+    walker: &mut Walker,
+    line: &StepLine,
+) -> bool
+    requires { CanFollow graph.now tree.now index.now within.now walker.old }
+    ensures { (levels : ℕ) → Follows graph.now tree.now index.now within.now levels 1 (λ p. option_map follow_edge (edge_named graph.now p line.now)) walker.old walker.new result }
+{
+    let Some(number) = named_edge(graph, tree, walker.number, line) else {
+        return false;
+    };
+    let edge = tree.edges()[number];
+    if !holds(within, edge.to) {
+        return false;
+    }
+    walker.take(&index.headers, &edge);
+    true
+}
+
+// Where a repeat begins, if one may stand here. Repeats stand `levels` deep at most.
+fn begin(
+    index: &Index,
+    walker: &Walker,
+    levels: u32,
+    count: u32,
+    body: &[CertItem],
+) -> Option<Round>
+    requires known { walker.now.number < length index.now.headers.items }
+    requires room { walker.now.number < length walker.now.turns.items }
+    ensures { MatchOption result (CannotBegin index.now.headers.items walker.now levels count (length body.now)) (Begins index.now.headers.items walker.now levels count (length body.now)) }
+{
+    if levels == 0 || count == 0 || count > 1_048_576 || body.is_empty() {
+        return None;
+    }
+    match index.headers[walker.number] {
+        Some(span) => Some(Round {
+            span,
+            cost: walker.cost,
+            turns: walker.turns[walker.number],
+        }),
+        None => None,
+    }
+}
+
+// Follows one item: a repeat's body once, inside the instance that begins where the walker stands.
+#[cycle(walk)]
+fn follow_one(
+    graph: &Graph,
+    tree: &LoopTree,
+    index: &Index,
+    within: &Span,
+    levels: u32,
+    walker: &mut Walker,
+    item: &CertItem,
+) -> bool
+    requires { CanFollow graph.now tree.now index.now within.now walker.old }
+    ensures { Follows graph.now tree.now index.now within.now levels 1 (follow_item graph.now item.now) walker.old walker.new result }
+{
+    match item {
+        CertItem::Step(line) => follow_step(graph, tree, index, within, walker, line),
+        CertItem::Repeat(count, body) => {
+            let Some(round) = begin(index, walker, levels, *count, body) else {
+                return false;
+            };
+            if !follow_all(graph, tree, index, &round.span, levels - 1, walker, body) {
+                return false;
+            }
+            if walker.number != round.span.header {
+                return false;
+            }
+            walker.repeat(&index.headers, &round, *count);
+            true
+        }
+    }
+}
+
+/// Follows the lines from where the walker stands, inside the span and with repeats `levels` deep at most, each repeat
+/// once: whether they are such a walk.
+#[cycle(walk)]
+pub(crate) fn follow_all(
+    graph: &Graph,
+    tree: &LoopTree,
+    index: &Index,
+    within: &Span,
+    levels: u32,
+    walker: &mut Walker,
+    items: &[CertItem],
+) -> bool
+    requires { CanFollow graph.now tree.now index.now within.now walker.old }
+    ensures { Follows graph.now tree.now index.now within.now levels (length items.now) (followed graph.now items.now) walker.old walker.new result }
+{
+    for item in items {
+        if !follow_one(graph, tree, index, within, levels, walker, item) {
+            return false;
+        }
+    }
+    true
+}

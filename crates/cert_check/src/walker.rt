@@ -1,0 +1,117 @@
+ghost use Rattle.std.specs.Prelude.{◌≡◌, ◌+◌, ◌<◌, length, slice_index};
+ghost use Rattle.cert_check.specs.Walking.{Arrives, breaks, capped, gained, header_at, turns_after};
+
+use crate::weighing::holds;
+use numbered_walks::{NumberedEdge, Span};
+
+// Sums stop here, above each bound that they are compared with.
+const LIMIT: u128 = 1 << 64;
+
+/// Where a walk stands that is followed from the entry, and what is known of it.
+#[derive(Drop)]
+pub(crate) struct Walker {
+    /// The number of the place where it stands.
+    pub(crate) number: usize,
+    /// What it costs, in ticks, told up to 2^64.
+    pub(crate) cost: u128,
+    /// By the numbers of headers, the back edges of its stay in each instance where it stands, told up to 2^64. What is told
+    /// of other instances means nothing.
+    pub(crate) turns: Vec<u128>,
+    /// Whether some stay took more back edges than the bound.
+    pub(crate) over: bool,
+}
+
+/// Where a repeat begins.
+#[derive(Clone, Copy)]
+pub(crate) struct Round {
+    /// The instance whose rounds it is, which begins at the walker's number.
+    pub(crate) span: Span,
+    /// The walker's cost.
+    pub(crate) cost: u128,
+    /// The back edges of its stay in the instance.
+    pub(crate) turns: u128,
+}
+
+fn capped_sum(sum: u128, more: u32) -> u128
+    ensures { result ≡ capped (sum + more) }
+{
+    if sum < LIMIT {
+        (sum + u128::from(more)).min(LIMIT)
+    } else {
+        LIMIT
+    }
+}
+
+// What was gained once, so many times.
+fn gain(before: u128, after: u128, count: u32) -> u128
+    ensures { result ≡ gained before after count }
+{
+    let start = before.min(LIMIT);
+    let once = after.min(LIMIT).saturating_sub(before);
+    (start + u128::from(count) * once).min(LIMIT)
+}
+
+// Whether these are more back edges than the bound of the instance that begins at the number.
+fn is_over(headers: &[Option<Span>], number: usize, turns: u128) -> bool
+    requires { number < length headers.now }
+    ensures { result ≡ breaks (header_at headers.now number) turns }
+{
+    match headers[number] {
+        Some(span) => u128::from(span.bound) < turns,
+        None => false,
+    }
+}
+
+impl Walker {
+    // The back edges of its stay at the end of the edge, once that is followed.
+    fn turns_along(&self, headers: &[Option<Span>], edge: &NumberedEdge) -> u128
+        requires known { edge.now.to < length headers.now }
+        requires room { edge.now.to < length self.now.turns.items }
+        ensures { result ≡ turns_after (header_at headers.now edge.now.to) edge.now.from (slice_index self.now.turns.items edge.now.to) }
+    {
+        match headers[edge.to] {
+            Some(span) => {
+                if holds(&span, edge.from) {
+                    capped_sum(self.turns[edge.to], 1)
+                } else {
+                    0
+                }
+            }
+            None => 0,
+        }
+    }
+
+    fn arrive(&mut self, headers: &[Option<Span>], number: usize, cost: u128, turns: u128)
+        requires known { number < length headers.now }
+        requires room { number < length self.old.turns.items }
+        ensures { Arrives headers.now number cost turns self.old self.new }
+    {
+        self.number = number;
+        self.cost = cost;
+        self.turns[number] = turns;
+        self.over = self.over || is_over(headers, number, turns);
+    }
+
+    /// Follows an edge from where it stands.
+    pub(crate) fn take(&mut self, headers: &[Option<Span>], edge: &NumberedEdge)
+        requires known { edge.now.to < length headers.now }
+        requires room { edge.now.to < length self.old.turns.items }
+        ensures { Arrives headers.now edge.now.to (capped (self.old.cost + edge.now.cost)) (turns_after (header_at headers.now edge.now.to) edge.now.from (slice_index self.old.turns.items edge.now.to)) self.old self.new }
+    {
+        let cost = capped_sum(self.cost, edge.cost);
+        let turns = self.turns_along(headers, edge);
+        self.arrive(headers, edge.to, cost, turns);
+    }
+
+    /// Takes the round that was followed so many times in place of once.
+    pub(crate) fn repeat(&mut self, headers: &[Option<Span>], round: &Round, count: u32)
+        requires known { self.old.number < length headers.now }
+        requires room { self.old.number < length self.old.turns.items }
+        ensures { Arrives headers.now self.old.number (gained round.now.cost self.old.cost count) (gained round.now.turns (slice_index self.old.turns.items self.old.number) count) self.old self.new }
+    {
+        let number = self.number;
+        let cost = gain(round.cost, self.cost, count);
+        let turns = gain(round.turns, self.turns[number], count);
+        self.arrive(headers, number, cost, turns);
+    }
+}
