@@ -1,7 +1,7 @@
 -- One piece more of a list.
-use Rattle.std.proofs.Common.{◌≡◌, ◌+◌, ◌<◌, ℕ, List, ◌∷◌, get_or, drop, length, map, refl}
+use Rattle.std.proofs.Common.{◌≡◌, ◌+◌, ◌<◌, ℕ, List, get_or, drop, length, map, refl}
 use Rattle.std.proofs.lemmas.List.{drop_more}
-use Rattle.asm_text.specs.Pieces.{Piece, piece_of}
+use Rattle.asm_text.specs.Pieces.{piece_of}
 use Rattle.asm_text.specs.declared.token.Token.{Token}
 use Rattle.asm_text.specs.declared.list.Place.{Place}
 use Rattle.asm_text.specs.Operands.{list_behind, list_by, list_step}

@@ -1,8 +1,8 @@
 -- One piece more of a list of values.
-use Rattle.std.proofs.Common.{◌≡◌, ◌+◌, ◌<◌, ℕ, List, [], ◌∷◌, ◌++◌, Option, Some, None, get_or, drop, length, map, refl, ap, sym, ◌∙◌, append_assoc}
-use Rattle.std.specs.Prelude.{option_map, option_and_then}
+use Rattle.std.proofs.Common.{◌≡◌, ◌+◌, ◌<◌, ℕ, List, [], ◌∷◌, ◌++◌, Option, Some, None, get_or, drop, length, map, refl, ap, sym, append_assoc}
+use Rattle.std.specs.Prelude.{option_map}
 use Rattle.std.proofs.lemmas.List.{drop_more}
-use Rattle.asm_text.specs.Pieces.{Piece, piece_of}
+use Rattle.asm_text.specs.Pieces.{piece_of}
 use Rattle.asm_text.specs.Said.{Target}
 use Rattle.asm_text.specs.declared.token.Token.{Token}
 use Rattle.asm_text.specs.declared.statement.Expects.{Expects}

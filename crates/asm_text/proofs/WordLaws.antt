@@ -2,11 +2,10 @@
 use Rattle.std.specs.Prelude.{IfSome, IfOk}
 use Rattle.std.proofs.Common.{◌≡◌, ◌<◌, length-take, ℕ, Bool, true, false, cond, List, [], ◌∷◌, ◌++◌, length, take, drop, Option, Some, None, Result, Ok, Err, codes, refl, sym, ap, subst, ◌∙◌, inl, inr, ◌⊎◌, arith}
 use Rattle.std.specs.Str.{bytes_eq}
-use Rattle.std.proofs.lemmas.List.{take-append-drop, append-nil}
+use Rattle.std.proofs.lemmas.List.{take-append-drop}
 use Rattle.std.proofs.lemmas.Slice.Eq.{bytes_eq-Decides}
 use Rattle.arm2_decode.specs.declared.names.Cond.{Cond}
 use Rattle.arm2_decode.specs.declared.names.Cond.TheVariants.{Eq, Ne, Cs, Cc, Mi, Pl, Vs, Vc, Hi, Ls, Ge, Lt, Gt, Le, Al, Nv}
-use Rattle.arm2_decode.specs.declared.names.Opcode.{Opcode}
 use Rattle.arm2_decode.specs.declared.names.Opcode.TheVariants.{And, Eor, Sub, Rsb, Add, Adc, Sbc, Rsc, Tst, Teq, Cmp, Cmn, Orr, Mov, Bic, Mvn}
 use Rattle.asm_text.specs.declared.names.Head.{Head}
 use Rattle.asm_text.specs.declared.names.Head.TheVariants.{Data, Multiply, Single, Block, Swi, Adr}
@@ -15,7 +14,7 @@ use Rattle.asm_text.specs.declared.names.Suffix.TheVariants.{Bare, S, P, B, T, B
 use Rattle.asm_text.specs.declared.word.Word.{Word}
 use Rattle.asm_text.specs.declared.word.Word.TheVariants.{Plain, Branch, Org, Dcd}
 use Rattle.asm_text.specs.Names.{cond_name, head_name, suffix_name, conds, heads, suffixes, named, cond_of, head_of, suffix_of, may_have}
-use Rattle.asm_text.specs.Words.{IsCond, branch_name, IsWord, IsSpelling, is_one_case, upper, spelled_word_of, word_of_cond, whole_cond, linked, branch_rest, branch_of, allowed, with_suffix, head_cond, head_rest, plain_of, plain_unless, word_of}
+use Rattle.asm_text.specs.Words.{IsCond, branch_name, IsWord, IsSpelling, is_one_case, upper, spelled_word_of, word_of_cond, whole_cond, linked, branch_rest, branch_of, with_suffix, head_cond, head_rest, plain_unless, word_of}
 
 pub chosen : {A : Type 0} (b : Bool) (x y z : A) → cond b x y ≡ z → ((b ≡ true) × (x ≡ z)) ⊎ ((b ≡ false) × (y ≡ z))
 chosen true x y z e = inl (refl, e)

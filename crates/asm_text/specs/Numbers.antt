@@ -1,10 +1,9 @@
 -- Numbers of the source: decimal, and hexadecimal behind `0x` or `&`, below 2^32 (our own source format).
-use Rattle.std.specs.Prelude.{◌==◌, ◌&&◌, ◌^◌, nat_lt, min, ℕ, List, [], ◌∷◌, length, Option, Some, None, if◌then◌else◌, option_map}
+use Rattle.std.specs.Prelude.{◌==◌, ◌&&◌, ◌^◌, nat_lt, min, ℕ, List, [], ◌∷◌, length, Option, Some, None, if◌then◌else◌}
 use Rattle.std.specs.Char.{is_digit}
 use Rattle.std.specs.List.{list_all}
 use Rattle.std.specs.Str.Parse.{digits_value}
-use Rattle.asm_text.specs.Pieces.{Piece, Run, Comma, Sign, Gap}
-use Rattle.asm_text.specs.declared.token.Mark.{Mark}
+use Rattle.asm_text.specs.Pieces.{Piece, Run, Sign}
 use Rattle.asm_text.specs.declared.token.Mark.TheVariants.{Ampersand}
 
 -- one digit or more, of either case

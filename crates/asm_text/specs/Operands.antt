@@ -8,18 +8,16 @@ use Rattle.arm2_decode.specs.declared.names.Shift.{Shift}
 use Rattle.arm2_decode.specs.declared.names.Shift.TheVariants.{Lsl}
 use Rattle.arm2_decode.specs.Names.{register_number}
 use Rattle.asm_text.specs.Pieces.{Piece, Run, Comma, Sign, Gap}
-use Rattle.asm_text.specs.Numbers.{number_first, with_rest}
+use Rattle.asm_text.specs.Numbers.{number_first}
 use Rattle.asm_text.specs.Registers.{is_rrx, register_comma_first, register_first, register_of, shift_of}
 use Rattle.asm_text.specs.Names.{is_compare}
-use Rattle.asm_text.specs.declared.token.Mark.{Mark}
 use Rattle.asm_text.specs.declared.token.Mark.TheVariants.{Hash, Minus, Bang, Caret, CloseBracket, OpenBrace, CloseBrace}
 use Rattle.asm_text.specs.declared.names.Suffix.{Suffix}
-use Rattle.asm_text.specs.declared.names.Suffix.TheVariants.{S, P, B, T, Bt, Ia, Ib, Da, Db, Fd, Ed, Fa, Ea}
+use Rattle.asm_text.specs.declared.names.Suffix.TheVariants.{S, P, B, T, Bt, Ia, Ib, Db, Fd, Ed, Fa, Ea}
 use Rattle.asm_text.specs.declared.list.Place.{Place}
 use Rattle.asm_text.specs.declared.list.Place.TheVariants.{Start, First, To, Behind}
 use Rattle.asm_text.specs.declared.list.Step.{Step}
 use Rattle.asm_text.specs.declared.list.Step.TheVariants.{Goes, Ends}
-use Rattle.asm_text.specs.declared.said.Amount.{Amount}
 use Rattle.asm_text.specs.declared.said.Amount.TheVariants as amount
 use Rattle.asm_text.specs.declared.said.Shifting.{Shifting}
 use Rattle.asm_text.specs.declared.said.Shifting.TheVariants as shifting

@@ -1,5 +1,5 @@
 -- The pieces of a line without its comment (our own source format).
-use Rattle.std.specs.Prelude.{◌==◌, ◌||◌, ℕ, Bool, true, false, List, [], ◌∷◌, if◌then◌else◌, map}
+use Rattle.std.specs.Prelude.{◌==◌, ◌||◌, ℕ, Bool, false, List, [], ◌∷◌, if◌then◌else◌, map}
 use Rattle.std.specs.Borrow.{Bor}
 use Rattle.std.specs.Char.{is_ascii_alphanumeric}
 use Rattle.asm_text.specs.declared.token.Mark.{Mark}

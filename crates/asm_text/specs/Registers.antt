@@ -1,7 +1,7 @@
 -- The names of registers and shifts, wholly in upper or in lower case (our own source format).
 use Rattle.std.specs.Prelude.{ℕ, Bool, ◌||◌, List, [], ◌∷◌, ◌++◌, codes, Option, Some, None, map, if◌then◌else◌}
 use Rattle.std.specs.Str.{bytes_eq, str_to_ascii_lowercase}
-use Rattle.asm_text.specs.Pieces.{Piece, Run, Comma, Sign, Gap}
+use Rattle.asm_text.specs.Pieces.{Piece, Run, Comma}
 use Rattle.asm_text.specs.Numbers.{with_rest}
 use Rattle.arm2_decode.specs.declared.names.Register.{Register}
 use Rattle.arm2_decode.specs.declared.names.Register.TheVariants.{R0, R1, R2, R3, R4, R5, R6, R7, R8, R9, R10, R11, R12, R13, R14, R15}

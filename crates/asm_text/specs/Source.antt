@@ -1,5 +1,5 @@
 -- The lines of a source (our own source format).
-use Rattle.std.specs.Prelude.{ℕ, ◌==◌, ◌&&◌, not, Bool, true, false, List, [], ◌∷◌, if◌then◌else◌, option_map}
+use Rattle.std.specs.Prelude.{ℕ, ◌==◌, ◌&&◌, not, Bool, false, List, [], ◌∷◌, if◌then◌else◌, option_map}
 use Rattle.std.specs.List.{prefix_len}
 use Rattle.asm_text.specs.Said.{said}
 use Rattle.asm_text.specs.Statements.{Parsed}

@@ -1,5 +1,5 @@
 -- Statements, by the pieces that spell them, and lines (our own source format).
-use Rattle.std.specs.Prelude.{ℕ, ◌==◌, ◌&&◌, ◌||◌, not, nat_le, nat_lt, Bool, true, false, List, [], ◌∷◌, Option, Some, None, Result, Ok, Err, option_map, option_and_then, if◌then◌else◌, length, take, drop}
+use Rattle.std.specs.Prelude.{ℕ, ◌==◌, ◌&&◌, ◌||◌, not, nat_le, nat_lt, Bool, false, List, [], ◌∷◌, Option, Some, None, Result, Ok, Err, option_map, option_and_then, if◌then◌else◌, length, take, drop}
 use Rattle.std.specs.Char.{is_ascii_alphabetic}
 use Rattle.std.specs.List.{list_all, prefix_len}
 use Rattle.arm2_decode.specs.declared.names.Cond.{Cond}
@@ -10,7 +10,6 @@ use Rattle.asm_text.specs.Registers.{register_comma_first}
 use Rattle.asm_text.specs.Words.{spelled_word_of}
 use Rattle.asm_text.specs.Said.{Target, Number, Label, Said, Codes, Refers, Orgs, Lists}
 use Rattle.asm_text.specs.Operands.{address_of, block_of, data_of, is_byte, is_user, product_of, whole}
-use Rattle.asm_text.specs.declared.token.Mark.{Mark}
 use Rattle.asm_text.specs.declared.token.Mark.TheVariants.{Ampersand, OpenBracket}
 use Rattle.asm_text.specs.declared.names.Head.{Head}
 use Rattle.asm_text.specs.declared.names.Head.TheVariants as head

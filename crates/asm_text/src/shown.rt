@@ -1,11 +1,11 @@
-ghost use Rattle.std.specs.Prelude.{◌≡◌, ◌++◌, ◌∷◌, [], None, Some, Ok, IfSome, IsNone, length, map, true};
+ghost use Rattle.std.specs.Prelude.{◌≡◌, ◌++◌, ◌∷◌, ◌≤◌, [], None, Some, Ok, IfSome, IsNone, MatchOption, length, map, true};
 ghost use Rattle.std.specs.List.{list_all};
-ghost use Rattle.asm_text.specs.Pieces.{piece_of, pieces};
-ghost use Rattle.asm_text.specs.Shown.{is_shown, is_upper as upper_is, parsed_shown, shown_said};
-ghost use Rattle.asm_text.specs.Statements.{behind_word as statement_behind, line_of, operands_of, statement_of};
-ghost use Rattle.asm_text.specs.Lines.{starts_run};
-ghost use Rattle.asm_text.specs.Said.{said};
+ghost use Rattle.asm_text.specs.Pieces.{piece_of, pieces, without_gap};
+ghost use Rattle.asm_text.specs.Shown.{is_shown, is_shown_text, is_upper as upper_is, parsed_shown, shown_in, shown_result, upper_pieces};
+ghost use Rattle.asm_text.specs.Statements.{behind_word as statement_behind, line_of, operands_of, or_bad, statement_of, with_word};
 ghost use Rattle.asm_text.specs.Words.{spelled_word_of};
+ghost use Rattle.asm_text.specs.Said.{said};
+ghost use Rattle.asm_text.specs.declared.shown.Shown.{Shown};
 
 use crate::said::{Code, Reference, Statement, Use, Value};
 use crate::statement::{plain, refer};
@@ -70,7 +70,8 @@ impl<T: Copy> Few<T> {
 
 // The tokens of a short text, without memory.
 fn few_tokens<'a>(text: &'a [u8]) -> Option<Few<Token<'a>>>
-    ensures { IfSome result (λ few. map piece_of few ≡ pieces text.now) }
+    requires { length text.now ≤ 64 }
+    ensures { MatchOption result ⊥ (λ few. map piece_of few ≡ pieces text.now) }
 {
     let mut few = Few::new(Token::Comma);
     let mut rest = text;
@@ -93,20 +94,14 @@ fn is_upper(text: &[u8]) -> bool
     text.iter().all(|b| !b.is_ascii_lowercase())
 }
 
-// The word that a text in upper case spells.
-#[tactic(auto, using(crate::proofs::ShownLaws::upper_spelled))]
-fn upper_word(text: &[u8]) -> Option<Word>
-    ensures { IfSome result (λ word. spelled_word_of text.now ≡ Some word) }
+fn is_shown_line(text: &[u8]) -> bool
+    ensures { result ≡ is_shown_text text.now }
 {
-    if is_upper(text) {
-        read_word(text)
-    } else {
-        None
-    }
+    are_shown_bytes(text) && is_upper(text) && text.len() <= 64
 }
 
 fn shown_statement(statement: &Statement<'_>) -> Option<Shown>
-    ensures { IfSome result (λ s. said statement.now ≡ shown_said s) }
+    ensures { result ≡ shown_in (said statement.now) }
 {
     match statement {
         Statement::Code(code) => Some(Shown::Code(*code)),
@@ -115,8 +110,9 @@ fn shown_statement(statement: &Statement<'_>) -> Option<Shown>
     }
 }
 
+#[tactic(auto, using(crate::proofs::ShownLaws::lists_hidden, crate::proofs::ShownLaws::orgs_hidden))]
 fn operands(word: Word, tokens: &[Token<'_>]) -> Option<Shown>
-    ensures { IfSome result (λ s. operands_of word (map piece_of tokens.now) ≡ Some (shown_said s)) }
+    ensures { result ≡ shown_result (or_bad (operands_of word (map piece_of tokens.now))) }
 {
     match word {
         Word::Plain(head, cond, suffix) => {
@@ -127,12 +123,12 @@ fn operands(word: Word, tokens: &[Token<'_>]) -> Option<Shown>
             let statement = refer(cond, Use::Branch(link), tokens)?;
             shown_statement(&statement)
         }
-        _ => None,
+        Word::Org | Word::Dcd => None,
     }
 }
 
 fn behind_word(word: Word, tokens: &[Token<'_>]) -> Option<Shown>
-    ensures { IfSome result (λ s. statement_behind word (map piece_of tokens.now) ≡ Ok (shown_said s)) }
+    ensures { result ≡ shown_result (statement_behind word (map piece_of tokens.now)) }
 {
     match tokens {
         [Token::Gap, rest @ ..] => operands(word, rest),
@@ -140,28 +136,52 @@ fn behind_word(word: Word, tokens: &[Token<'_>]) -> Option<Shown>
     }
 }
 
+// What a word in upper case says with what stands behind it.
+#[tactic(auto, using(crate::proofs::ShownLaws::upper_spelled))]
+fn word_statement(text: &[u8], behind: &[Token<'_>]) -> Option<Shown>
+    requires { upper_is text.now ≡ true }
+    ensures { result ≡ shown_result (with_word (spelled_word_of text.now) (map piece_of behind.now)) }
+{
+    match read_word(text) {
+        Some(word) => behind_word(word, behind),
+        None => None,
+    }
+}
+
+// What tokens say, where no letter is in lower case.
+#[tactic(auto, using(crate::proofs::ShownLaws::upper_run))]
 fn statement(tokens: &[Token<'_>]) -> Option<Shown>
-    ensures value { IfSome result (λ s. statement_of (map piece_of tokens.now) ≡ Ok (shown_said s)) }
-    ensures run { IfSome result (λ s. starts_run (map piece_of tokens.now) ≡ true) }
+    requires { upper_pieces (map piece_of tokens.now) ≡ true }
+    ensures { result ≡ shown_result (statement_of (map piece_of tokens.now)) }
 {
     match tokens {
-        [Token::Run(text), rest @ ..] => {
-            let word = upper_word(text)?;
-            behind_word(word, rest)
-        }
+        [Token::Run(text), rest @ ..] => word_statement(text, rest),
         _ => None,
     }
 }
 
-/// Reads a line behind its blank, without memory, where it is one of at most 64 pieces, in upper case, without a comment,
-/// and says an instruction without a label.
-#[tactic(auto, using(crate::proofs::ShownLaws::shown_line))]
-pub fn read_shown(text: &[u8]) -> Option<Shown>
-    ensures { IfSome result (λ s. line_of (32 ∷ text.now) ≡ Ok (parsed_shown s)) }
+// Blanks may stand in front.
+fn blank_statement(tokens: &[Token<'_>]) -> Option<Shown>
+    requires { upper_pieces (map piece_of tokens.now) ≡ true }
+    ensures { result ≡ shown_result (statement_of (without_gap (map piece_of tokens.now))) }
 {
-    if !are_shown_bytes(text) {
+    match tokens {
+        [Token::Gap, rest @ ..] => statement(rest),
+        _ => statement(tokens),
+    }
+}
+
+/// Reads a line behind its blank, without memory, where it may be shown (in upper case, without a comment, of at most 64
+/// bytes) and says an instruction without a label. Every such line is read.
+#[tactic(auto, using(crate::proofs::ShownLaws::upper_shown, crate::proofs::ShownLaws::short_shown, crate::proofs::ShownLaws::line_shown, crate::proofs::ShownLaws::shown_from))]
+pub fn read_shown(text: &[u8]) -> Option<Shown>
+    ensures found { IfSome result (λ s. line_of (32 ∷ text.now) ≡ Ok (parsed_shown s)) }
+    ensures shown { IfSome result (λ s. is_shown_text text.now ≡ true) }
+    ensures only { (s : Shown) → is_shown_text text.now ≡ true → line_of (32 ∷ text.now) ≡ Ok (parsed_shown s) → result ≡ Some s }
+{
+    if !is_shown_line(text) {
         return None;
     }
     let few = few_tokens(text)?;
-    statement(few.as_slice())
+    blank_statement(few.as_slice())
 }

@@ -1,6 +1,7 @@
 -- A DCD line gives its word; a line that is read again.
-use Rattle.std.proofs.Common.{◌≡◌, ℕ, zero, suc, ◌+◌, ◌*◌, ◌/◌, ◌%◌, ◌^◌, ◌<◌, ◌≤◌, Bool, true, false, cond, not, ◌==◌, ◌&&◌, ltb, List, [], ◌∷◌, ◌++◌, length, Option, Some, None, Result, Ok, Err, codes, refl, sym, ap, ◌∙◌, length-append, arith}
-use Rattle.std.specs.Prelude.{nat_le}
+use Rattle.std.proofs.Common.{◌≡◌, ℕ, zero, suc, ◌*◌, ◌/◌, ◌%◌, ◌^◌, ◌<◌, ◌≤◌, Bool, true, ltb, List, [], ◌∷◌, ◌++◌, length, Option, Some, None, Result, Ok, Err, codes, refl, sym, ap, subst, ◌∙◌, length-append, arith}
+use Rattle.std.specs.Prelude.{decimal}
+use Rattle.std.proofs.lemmas.Fmt.{length-decimal-le}
 use Rattle.std.specs.List.{list_all}
 use Rattle.std.specs.Char.{is_digit, digit_value}
 use Rattle.std.specs.Str.Parse.{digits_value}
@@ -8,29 +9,59 @@ use Rattle.std.proofs.lemmas.Int.Digits.{digits_value_push}
 use Rattle.std.proofs.lemmas.List.{append-nil}
 use Rattle.std.proofs.lemmas.Bool.{lt-ltb, and_parts}
 use Rattle.std.proofs.lemmas.Bool.Decides.{nat_tests}
-use Rattle.asm_text.specs.declared.said.Code.{Code}
-use Rattle.asm_text.specs.declared.said.Reference.{Reference}
 use Rattle.asm_text.specs.declared.shown.Shown.TheVariants as shown
 use Rattle.asm_text.specs.declared.token.Mark.TheVariants.{Ampersand}
-use Rattle.asm_text.specs.declared.word.Word.{Word}
 use Rattle.asm_text.specs.declared.word.Word.TheVariants.{Dcd}
-use Rattle.asm_text.specs.Pieces.{Piece, Run, Comma, Sign, Gap, is_blank, is_name, pieces}
-use Rattle.asm_text.specs.Lines.{Written, WellSpaced}
+use Rattle.asm_text.specs.Pieces.{Run, Sign, Gap, is_name, pieces}
+use Rattle.asm_text.specs.Lines.{Written}
 use Rattle.asm_text.specs.Numbers.{digits_of, fits, number_by}
-use Rattle.asm_text.specs.Said.{Number, Said, Codes, Refers, Lists}
-use Rattle.asm_text.specs.Shown.{is_shown, parsed_shown}
-use Rattle.asm_text.specs.Statements.{line_of, statement_of, value_step, values_in, with_label}
+use Rattle.asm_text.specs.Said.{Number, Codes, Refers, Lists}
+use Rattle.asm_text.specs.Shown.{is_shown}
+use Rattle.asm_text.specs.Statements.{statement_of, with_label}
 use Rattle.asm_text.specs.Words.{spelled_word_of, word_of}
 use Rattle.asm_text.proofs.PieceLaws.{pieces_again}
 use Rattle.asm_text.proofs.ShownLaws.{shown_line, upper_spelled}
 use Rattle.assembler.specs.Codes.{encoded, refer}
-use Rattle.assembler.specs.Shown.{Gives, Says, hex_char, hex_chars, hex_line}
+use Rattle.assembler.specs.declared.fault.Fault.{Fault}
+use Rattle.assembler.specs.declared.fault.Fault.TheVariants.{NotText}
+use Rattle.arm2_decode.specs.declared.instr.Instr.{Instr}
+use Rattle.arm2_decode.specs.declared.instr.Unallocated.{Unallocated}
+use Rattle.arm2_decode.specs.Table.{Means}
+use Rattle.asm_text.specs.declared.said.Use.{Use}
+use Rattle.asm_text.specs.declared.said.Use.TheVariants as use_of
+use Rattle.assembler.specs.ShownLines.{GivesBack, IsShown, numbered, shown_line as spelling, target_word, word_given}
+use Rattle.assembler.specs.Shown.{Gives, hex_char, hex_chars, hex_line}
 
-pub gives_code : (text : List ℕ) (at w : ℕ) (c : Code) → line_of (32 ∷ text) ≡ Ok (parsed_shown (shown.Code c)) → encoded c at ≡ Ok w → Gives text at w
-gives_code text at w c h e = (Codes c, h, e)
+-- ---- what gives a word back is a line of it
 
-pub gives_target : (text : List ℕ) (at w : ℕ) (r : Reference) (n : ℕ) → line_of (32 ∷ text) ≡ Ok (parsed_shown (shown.Refer r n)) → encoded (refer r at n) at ≡ Ok w → Gives text at w
-gives_target text at w r n h e = (Refers r (Number n), h, e)
+abbrev ok_by : Option ℕ → Result ℕ Fault
+ok_by None = Err NotText
+ok_by (Some w) = Ok w
+
+given_ok : (r : Result ℕ Fault) (w : ℕ) → word_given r ≡ Some w → r ≡ Ok w
+given_ok (Ok v) w h = ap ok_by h
+given_ok (Err fault) w h = absurd cc
+
+target_ok : (u : Use) (r : Result ℕ Fault) (w : ℕ) → target_word u r ≡ Some w → r ≡ Ok w
+target_ok (use_of.Branch link) (Ok v) w h = ap ok_by h
+target_ok (use_of.Branch link) (Err fault) w h = absurd cc
+target_ok (use_of.Adr d) r w h = absurd cc
+target_ok (use_of.Transfer load byte d) r w h = absurd cc
+
+pub back_gives : (text : List ℕ) (at w : ℕ) → GivesBack text at w → Gives text at w
+back_gives text at w (shown.Code c, line, word) = (Codes c, line, given_ok (encoded c at) w word)
+back_gives text at w (shown.Refer r n, line, word) = (Refers r (Number n), line, target_ok r.how (encoded (refer r at n) at) w word)
+
+pub and_none : (text : List ℕ) → text ++ [] ≡ text
+and_none text = append-nil text
+
+-- ---- lengths
+
+pub decimal_wide : (n : ℕ) → n < 2 ^ 32 → length (decimal n) ≤ 10
+decimal_wide n lt = length-decimal-le 10 n (omega arith) (omega arith) (omega arith)
+
+pub numbered_short : (n : ℕ) → n < 16 → length (numbered n) ≤ 3
+numbered_short n lt = omega (arith, length-append (codes "R") (decimal n), length-decimal-le 2 n (omega arith) (omega arith) (omega arith))
 
 -- ---- hexadecimal digits
 
@@ -94,3 +125,29 @@ dcd_gives w at lt =
     let line = shown_line (hex_line w) shown-all (rw (dcd_pieces w) refl) in
     let statement = ap statement_of (dcd_pieces w) ∙ dcd_values (Some w) w refl (eight w lt) in
     (Lists (Number w ∷ []), line ∙ ap (with_label None) statement, refl)
+
+-- ---- the line that is shown
+
+abbrev spelling_by : ℕ → Result Instr Unallocated → List ℕ
+spelling_by at (Ok i) = spelling i at
+spelling_by at (Err u) = []
+
+pub same_spelling : (a i : Instr) (at : ℕ) (r : Result Instr Unallocated) → r ≡ Ok a → r ≡ Ok i → spelling a at ≡ spelling i at
+same_spelling a i at r p q = ap (spelling_by at) (sym p ∙ q)
+
+-- a spelling that gives its word back is the line
+pub spelled_shown : (word at : ℕ) (line : List ℕ) (instr : Instr) → ((i : Instr) → Means word i → spelling instr at ≡ spelling i at) → Means word instr
+    → line ≡ spelling instr at → GivesBack line at word → IsShown word at line
+spelled_shown word at line instr only means is back = record {
+  gives = back_gives line at word back;
+  spelled = λ i m b. is ∙ only i m;
+  dcd = λ none. absurd (none instr means (subst (λ (t : List ℕ). Gives t at word) is (back_gives line at word back)));
+}
+
+-- where none does, it is a DCD line
+pub hex_shown : (word at : ℕ) (line : List ℕ) → word < 2 ^ 32 → line ≡ hex_line word → ((i : Instr) → Means word i → Gives (spelling i at) at word → ⊥) → IsShown word at line
+hex_shown word at line below is none = record {
+  gives = subst (λ (t : List ℕ). Gives t at word) (sym is) (dcd_gives word at below);
+  spelled = λ i m b. absurd (none i m b);
+  dcd = λ k. is;
+}

@@ -1,6 +1,7 @@
 -- The word of a statement at an address (VL86C010 data sheet, instruction formats), and why it has none.
-use Rattle.std.specs.Prelude.{ℕ, zero, suc, ◌+◌, ◌-◌, ◌*◌, ◌/◌, ◌%◌, ◌^◌, ◌==◌, ◌&&◌, ◌||◌, not, nat_le, nat_lt, Bool, true, false, List, [], ◌∷◌, Option, Some, None, Result, Ok, Err, if◌then◌else◌}
+use Rattle.std.specs.Prelude.{ℕ, ◌+◌, ◌-◌, ◌*◌, ◌/◌, ◌%◌, ◌^◌, ◌==◌, ◌&&◌, ◌||◌, nat_le, nat_lt, Bool, true, false, List, [], ◌∷◌, Option, Some, None, Result, Ok, Err, if◌then◌else◌}
 use Rattle.std.specs.Int.{w32, rotate_left}
+use Rattle.std.specs.List.{find, range_with_len}
 use Rattle.arm2_decode.specs.declared.names.Opcode.TheVariants as opcode
 use Rattle.arm2_decode.specs.declared.names.Register.{Register}
 use Rattle.arm2_decode.specs.declared.names.Register.TheVariants.{R15}
@@ -52,13 +53,13 @@ in_range fits word = if fits then word else Err OutOfRange
 
 -- ---- data processing
 
--- the lowest rotation, of so many from one on, that gives a number: to the left by twice as many places it is a byte
-abbrev pub rotation_from : ℕ → ℕ → ℕ → Option ℕ
-rotation_from zero k n = None
-rotation_from (suc left) k n = if nat_lt (rotate_left w32 n (2 * k)) 256 then Some k else rotation_from left (k + 1) n
+-- to the left by twice as many places a number is a byte
+abbrev pub is_byte_by : ℕ → ℕ → Bool
+is_byte_by n k = nat_lt (rotate_left w32 n (2 * k)) 256
 
+-- the lowest rotation from 0 to 15 that gives a number
 abbrev pub rotation_of : ℕ → Option ℕ
-rotation_of n = rotation_from 16 0 n
+rotation_of n = find (is_byte_by n) (range_with_len 0 16)
 
 abbrev pub rotated_word : ℕ → Data → ℕ → Option ℕ → Result ℕ Fault
 rotated_word c d n None = Err ImmediateNotRotated

@@ -3,3 +3,4 @@ pub mod Codes
 pub mod Sweeps
 pub mod Views
 pub mod Shown
+pub mod ShownLines

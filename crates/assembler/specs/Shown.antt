@@ -1,7 +1,7 @@
 -- Words as lines (our own source format).
-use Rattle.std.specs.Prelude.{◌≡◌, ℕ, zero, suc, ◌+◌, ◌/◌, ◌%◌, nat_lt, List, [], ◌∷◌, ◌++◌, codes, Option, Some, None, Result, Ok, Err, if◌then◌else◌}
-use Rattle.asm_text.specs.Said.{Target, Number, Label, Said, Codes, Refers, Orgs, Lists}
-use Rattle.asm_text.specs.Statements.{Parsed, line_of}
+use Rattle.std.specs.Prelude.{◌≡◌, ℕ, zero, suc, ◌+◌, ◌/◌, ◌%◌, nat_lt, List, [], ◌∷◌, ◌++◌, codes, Some, None, Ok, if◌then◌else◌}
+use Rattle.asm_text.specs.Said.{Number, Said, Codes, Refers, Lists}
+use Rattle.asm_text.specs.Statements.{line_of}
 use Rattle.assembler.specs.Codes.{encoded, refer}
 
 -- the statement's word at an address

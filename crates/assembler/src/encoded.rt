@@ -2,7 +2,7 @@ ghost use Rattle.std.specs.Prelude.{◌≡◌, ◌<◌, ◌≤◌, ◌∷◌, �
 ghost use Rattle.std.specs.Int.{w32, rotate_left};
 ghost use Rattle.arm2_decode.specs.Allowed.{bit_of, block_clash, data_clash, data_shift_clash, multiply_clash, single_clash, single_register_clash};
 ghost use Rattle.arm2_decode.specs.Names.{cond_number, opcode_number, register_number, shift_number};
-ghost use Rattle.assembler.specs.Codes.{action_word, amount_field, amount_fits as fits_of, amount_shift, block_word, branch_offset as offset_of, branch_word, encoded as encoded_of, immediate_word, is_far as far, is_target as target_is, number_transfer, operand_word, product_word, register_shift_word, register_transfer, register_word, rotated_word, rotation_from, rotation_of, shifted_word, swi_word, transfer_word, word_in};
+ghost use Rattle.assembler.specs.Codes.{action_word, amount_field, amount_fits as fits_of, amount_shift, block_word, branch_offset as offset_of, branch_word, encoded as encoded_of, immediate_word, is_far as far, is_target as target_is, number_transfer, operand_word, product_word, register_shift_word, register_transfer, register_word, rotated_word, rotation_of, shifted_word, swi_word, transfer_word, word_in};
 ghost use Rattle.arm2_decode.specs.Table.{operands, row_of};
 
 use crate::fault::Fault;

@@ -7,6 +7,7 @@ mod fault;
 mod item;
 mod reference;
 mod shown;
+mod spelling;
 mod sweep;
 #[cfg(test)]
 mod tests;

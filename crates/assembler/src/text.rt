@@ -1,6 +1,8 @@
-ghost use Rattle.std.specs.Prelude.{◌≡◌, ◌+◌, ◌<◌, ◌≤◌, ◌++◌, ◌∷◌, [], length};
+ghost use Rattle.std.specs.Prelude.{◌≡◌, ◌+◌, ◌<◌, ◌≤◌, ◌++◌, ◌∷◌, [], decimal, length};
 ghost use Rattle.assembler.specs.Shown.{hex_char};
+ghost use Rattle.assembler.specs.ShownLines.{hex};
 
+use itoa::Buffer;
 use std::marker::Model;
 
 /// A line of at most 64 bytes, in place.
@@ -33,12 +35,14 @@ impl Line {
 
     /// The bytes of the line.
     pub fn items(&self) -> &[u8]
-        ensures { result.now ≡ self.now }
+        ensures bytes { result.now ≡ self.now }
+        ensures short { length result.now ≤ 64 }
     {
         &self.bytes[..self.len]
     }
 
-    fn put(&mut self, b: u8)
+    /// Adds a byte.
+    pub(crate) fn put(&mut self, b: u8)
         requires { length self.old < 64 }
         ensures { self.new ≡ self.old ++ b ∷ [] }
     {
@@ -56,32 +60,36 @@ impl Line {
         }
     }
 
-    // What does not fit any more is left out, and the line is then no line of its word.
-    pub(crate) fn push(&mut self, b: u8) {
-        if self.len < 64 {
-            self.bytes[self.len] = b;
-            self.len += 1;
-        }
+    /// Adds a number in decimal, which fits.
+    pub(crate) fn put_decimal(&mut self, n: u32)
+        requires { length self.old + length (decimal n) ≤ 64 }
+        ensures { self.new ≡ self.old ++ decimal n }
+    {
+        let mut buffer = Buffer::new();
+        self.put_all(buffer.format(n).as_bytes());
     }
 
-    pub(crate) fn push_all(&mut self, text: &[u8]) {
-        for b in text {
-            self.push(*b);
-        }
+    /// Adds a number in decimal.
+    pub(crate) fn push_decimal(&mut self, n: u32)
+        requires { length self.old + 10 ≤ 64 }
+        ensures text { self.new ≡ self.old ++ decimal n }
+        ensures room { length self.new ≤ length self.old + 10 }
+    {
+        self.put_decimal(n);
     }
 
-    pub(crate) fn push_decimal(&mut self, n: u32) {
-        if n >= 10 {
-            self.push_decimal(n / 10);
+    /// Adds a number in upper-case hexadecimal, without leading zeros.
+    #[tactic(auto, using(crate::proofs::HexLaws::hex_one))]
+    pub(crate) fn push_hex(&mut self, n: u64)
+        requires { length self.old + length (hex n) ≤ 64 }
+        ensures { self.new ≡ self.old ++ hex n }
+    {
+        if n < 16 {
+            self.put(hex_digit(n as u32));
+            return;
         }
-        self.push(b'0' + (n % 10) as u8);
-    }
-
-    pub(crate) fn push_hex(&mut self, n: u64) {
-        if n >= 16 {
-            self.push_hex(n / 16);
-        }
-        self.push(hex_digit((n % 16) as u32));
+        self.push_hex(n / 16);
+        self.put(hex_digit((n % 16) as u32));
     }
 }
 

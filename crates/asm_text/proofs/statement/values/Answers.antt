@@ -1,4 +1,4 @@
-use Rattle.std.proofs.Common.{◌≡◌, ◌∙◌, sym, map}
+use Rattle.std.proofs.Common.{◌∙◌, sym, map}
 use Rattle.std.specs.Prelude.{option_map}
 use Rattle.asm_text.specs.Said.{target_of}
 use Rattle.asm_text.proofs.ValueLaws.{values_turn}

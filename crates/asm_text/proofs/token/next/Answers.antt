@@ -1,7 +1,6 @@
 use Rattle.std.proofs.Common.{◌≡◌, ◌<◌, ◌≤◌, ◌⊎◌, inl, inr, get_or, length, arith}
-use Rattle.std.proofs.lemmas.Grind.{common_steps}
 use Rattle.std.proofs.lemmas.Bool.Decides.{nat_tests}
-use Rattle.asm_text.proofs.PieceLaws.{next_none, next_gap, next_same, next_by, stops_blank}
+use Rattle.asm_text.proofs.PieceLaws.{next_none, next_gap, next_same, next_by}
 use Rattle.asm_text.proofs.token.next.Goals as goal
 
 pub returns-then-is_empty : goal.returns-then-is_empty

@@ -1,5 +1,4 @@
-use Rattle.std.proofs.Common.{◌<◌, ◌^◌, arith, rules}
-use Rattle.std.proofs.lemmas.Grind.{common_steps}
+use Rattle.std.proofs.Common.{◌<◌, ◌^◌, rules}
 use Rattle.assembler.proofs.CodeLaws.{means_word}
 use Rattle.assembler.proofs.encoded.word_of.Goals as goal
 

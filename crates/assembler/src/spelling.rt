@@ -1,0 +1,646 @@
+ghost use Rattle.std.specs.Prelude.{◌≡◌, ◌+◌, ◌*◌, ◌<◌, ◌≤◌, ◌/◌, ◌%◌, ◌^◌, ◌==◌, ◌&&◌, ◌++◌, ◌∷◌, [], codes, decimal, length, not, if◌then◌else◌};
+ghost use Rattle.arm2_decode.specs.Names.{register_number};
+ghost use Rattle.asm_text.specs.Names.{opcode_name};
+ghost use Rattle.asm_text.specs.Words.{branch_name};
+ghost use Rattle.assembler.specs.ShownLines.{amount_text, block_name, block_suffix, block_text, branch_text, closed, comma_register, compare_front, cond_text, data_front, data_immediate_text, data_register_shift_text, data_register_text, factors_text, flags_text, has, list_operand, list_text, listed, listed_below, load_name, mark_if, move_front, multiply_text, numbered, offset_text, opened, register_text, shift_text, shifted_text, shown_line, sign_of, single_immediate_text, single_register_text, target_of, three_front, transfer_front, transfer_suffix, is_plain, word_text, compare_text, run_first, run_last, follows, swi_text};
+
+use crate::text::Line;
+use arm2_decode::{
+    Block, Branch, Cond, DataImmediate, DataRegister, DataRegisterShift, Instr, Multiply, Opcode,
+    Operation, Register, Shift, SingleImmediate, SingleRegister, Swi,
+};
+
+fn cond_bytes(cond: Cond) -> &'static [u8]
+    ensures text { result.now ≡ cond_text cond }
+    ensures room { length result.now ≤ 2 }
+{
+    match cond {
+        Cond::Eq => b"EQ",
+        Cond::Ne => b"NE",
+        Cond::Cs => b"CS",
+        Cond::Cc => b"CC",
+        Cond::Mi => b"MI",
+        Cond::Pl => b"PL",
+        Cond::Vs => b"VS",
+        Cond::Vc => b"VC",
+        Cond::Hi => b"HI",
+        Cond::Ls => b"LS",
+        Cond::Ge => b"GE",
+        Cond::Lt => b"LT",
+        Cond::Gt => b"GT",
+        Cond::Le => b"LE",
+        Cond::Al => b"",
+        Cond::Nv => b"NV",
+    }
+}
+
+fn opcode_bytes(opcode: Opcode) -> &'static [u8]
+    ensures text { result.now ≡ opcode_name opcode }
+    ensures room { length result.now ≤ 3 }
+{
+    match opcode {
+        Opcode::And => b"AND",
+        Opcode::Eor => b"EOR",
+        Opcode::Sub => b"SUB",
+        Opcode::Rsb => b"RSB",
+        Opcode::Add => b"ADD",
+        Opcode::Adc => b"ADC",
+        Opcode::Sbc => b"SBC",
+        Opcode::Rsc => b"RSC",
+        Opcode::Tst => b"TST",
+        Opcode::Teq => b"TEQ",
+        Opcode::Cmp => b"CMP",
+        Opcode::Cmn => b"CMN",
+        Opcode::Orr => b"ORR",
+        Opcode::Mov => b"MOV",
+        Opcode::Bic => b"BIC",
+        Opcode::Mvn => b"MVN",
+    }
+}
+
+fn shift_bytes(shift: Shift) -> &'static [u8]
+    ensures text { result.now ≡ shift_text shift }
+    ensures room { length result.now ≤ 5 }
+{
+    match shift {
+        Shift::Lsl => b",LSL ",
+        Shift::Lsr => b",LSR ",
+        Shift::Asr => b",ASR ",
+        Shift::Ror => b",ROR ",
+    }
+}
+
+fn flags_bytes(sets_flags: bool) -> &'static [u8]
+    ensures text { result.now ≡ flags_text sets_flags }
+    ensures room { length result.now ≤ 1 }
+{
+    match sets_flags {
+        true => b"S",
+        false => b"",
+    }
+}
+
+fn compare_bytes(rd: Register) -> &'static [u8]
+    ensures text { result.now ≡ compare_text rd }
+    ensures room { length result.now ≤ 1 }
+{
+    if rd.number() == 15 { b"P" } else { b"" }
+}
+
+fn transfer_bytes(byte: bool, user: bool) -> &'static [u8]
+    ensures text { result.now ≡ transfer_suffix byte user }
+    ensures room { length result.now ≤ 2 }
+{
+    match (byte, user) {
+        (false, false) => b"",
+        (true, false) => b"B",
+        (false, true) => b"T",
+        (true, true) => b"BT",
+    }
+}
+
+fn load_bytes(load: bool) -> &'static [u8]
+    ensures text { result.now ≡ load_name load }
+    ensures room { length result.now ≤ 3 }
+{
+    match load {
+        true => b"LDR",
+        false => b"STR",
+    }
+}
+
+fn block_bytes(load: bool) -> &'static [u8]
+    ensures text { result.now ≡ block_name load }
+    ensures room { length result.now ≤ 3 }
+{
+    match load {
+        true => b"LDM",
+        false => b"STM",
+    }
+}
+
+fn block_suffix_bytes(before: bool, up: bool) -> &'static [u8]
+    ensures text { result.now ≡ block_suffix before up }
+    ensures room { length result.now ≤ 2 }
+{
+    match (before, up) {
+        (false, true) => b"IA",
+        (true, true) => b"IB",
+        (false, false) => b"DA",
+        (true, false) => b"DB",
+    }
+}
+
+fn branch_bytes(link: bool) -> &'static [u8]
+    ensures text { result.now ≡ branch_name link }
+    ensures room { length result.now ≤ 2 }
+{
+    match link {
+        true => b"BL",
+        false => b"B",
+    }
+}
+
+fn open_bytes(before: bool) -> &'static [u8]
+    ensures text { result.now ≡ opened before }
+    ensures room { length result.now ≤ 2 }
+{
+    match before {
+        true => b",",
+        false => b"],",
+    }
+}
+
+fn close_bytes(before: bool, write_back: bool) -> &'static [u8]
+    ensures text { result.now ≡ closed before write_back }
+    ensures room { length result.now ≤ 2 }
+{
+    match (before, write_back) {
+        (false, _) => b"",
+        (true, true) => b"]!",
+        (true, false) => b"]",
+    }
+}
+
+fn sign_bytes(up: bool) -> &'static [u8]
+    ensures text { result.now ≡ sign_of up }
+    ensures room { length result.now ≤ 1 }
+{
+    match up {
+        true => b"",
+        false => b"-",
+    }
+}
+
+// Whether a list has a register, by its number.
+fn holds(list: u32, n: u32) -> bool
+    requires { n < 32 }
+    ensures { result ≡ has list n }
+{
+    (list >> n) & 1 == 1
+}
+
+// Whether a list has no register below a number.
+fn is_lowest(list: u32, n: u32) -> bool
+    requires { n < 32 }
+    ensures { result ≡ (list % 2 ^ n == 0) }
+{
+    list % (1 << n) == 0
+}
+
+impl Line {
+    // A register, by its number.
+    fn push_numbered(&mut self, n: u32)
+        requires { length self.old + length (numbered n) ≤ 64 }
+        ensures { self.new ≡ self.old ++ numbered n }
+    {
+        self.put_all(b"R");
+        self.put_decimal(n);
+    }
+
+    #[tactic(auto, using(crate::proofs::ShownLaws::numbered_short))]
+    fn push_register(&mut self, register: Register)
+        requires { length self.old + 3 ≤ 64 }
+        ensures text { self.new ≡ self.old ++ register_text register }
+        ensures room { length self.new ≤ length self.old + 3 }
+    {
+        self.push_numbered(register.number());
+    }
+
+    fn push_comma_register(&mut self, register: Register)
+        requires { length self.old + 4 ≤ 64 }
+        ensures text { self.new ≡ self.old ++ comma_register register }
+        ensures room { length self.new ≤ length self.old + 4 }
+    {
+        self.put_all(b",");
+        self.push_register(register);
+    }
+
+    // `#` and a number.
+    fn push_number(&mut self, n: u32)
+        requires { length self.old + 11 ≤ 64 }
+        ensures text { self.new ≡ self.old ++ (codes "#" ++ decimal n) }
+        ensures room { length self.new ≤ length self.old + 11 }
+    {
+        self.put_all(b"#");
+        self.push_decimal(n);
+    }
+
+    // A word with its condition and suffix, and the blank behind it.
+    fn push_word(&mut self, name: &[u8], cond: Cond, suffix: &[u8])
+        requires { length self.old + (length name.now + length suffix.now + 3) ≤ 64 }
+        ensures text { self.new ≡ self.old ++ word_text name.now cond suffix.now }
+        ensures room { length self.new ≤ length self.old + (length name.now + length suffix.now + 3) }
+    {
+        self.put_all(name);
+        self.put_all(cond_bytes(cond));
+        self.put_all(suffix);
+        self.put_all(b" ");
+    }
+
+    fn push_amount(&mut self, shift: Shift, amount: u32)
+        requires { length self.old + 16 ≤ 64 }
+        ensures text { self.new ≡ self.old ++ amount_text shift amount }
+        ensures room { length self.new ≤ length self.old + 16 }
+    {
+        self.put_all(shift_bytes(shift));
+        self.push_number(amount);
+    }
+
+    // The shift by an amount, or what an amount of 0 is written as.
+    fn push_amount_or(&mut self, shift: Shift, amount: u32, zero: &[u8])
+        requires { length self.old + (length zero.now + 16) ≤ 64 }
+        ensures text { self.new ≡ self.old ++ (if amount == 0 then zero.now else amount_text shift amount) }
+        ensures room { length self.new ≤ length self.old + (length zero.now + 16) }
+    {
+        if amount == 0 {
+            self.put_all(zero);
+        } else {
+            self.push_amount(shift, amount);
+        }
+    }
+
+    // The shift of a register by an amount as a word has it; a plain register has none.
+    fn push_shift(&mut self, shift: Shift, amount: u32)
+        requires { length self.old + 20 ≤ 64 }
+        ensures text { self.new ≡ self.old ++ shifted_text shift amount }
+        ensures room { length self.new ≤ length self.old + 20 }
+    {
+        match shift {
+            Shift::Lsl => self.push_amount_or(Shift::Lsl, amount, b""),
+            Shift::Lsr => self.push_amount(Shift::Lsr, full_amount(amount)),
+            Shift::Asr => self.push_amount(Shift::Asr, full_amount(amount)),
+            Shift::Ror => self.push_amount_or(Shift::Ror, amount, b",RRX"),
+        }
+    }
+
+    fn push_compare(&mut self, cond: Cond, opcode: Opcode, rn: Register, rd: Register)
+        requires { length self.old + 16 ≤ 64 }
+        ensures text { self.new ≡ self.old ++ compare_front cond opcode rn rd }
+        ensures room { length self.new ≤ length self.old + 16 }
+    {
+        self.push_word(opcode_bytes(opcode), cond, compare_bytes(rd));
+        self.push_register(rn);
+        self.put_all(b",");
+    }
+
+    fn push_move(&mut self, cond: Cond, opcode: Opcode, sets_flags: bool, rd: Register)
+        requires { length self.old + 16 ≤ 64 }
+        ensures text { self.new ≡ self.old ++ move_front cond opcode sets_flags rd }
+        ensures room { length self.new ≤ length self.old + 16 }
+    {
+        self.push_word(opcode_bytes(opcode), cond, flags_bytes(sets_flags));
+        self.push_register(rd);
+        self.put_all(b",");
+    }
+
+    fn push_three(
+        &mut self,
+        cond: Cond,
+        opcode: Opcode,
+        sets_flags: bool,
+        rn: Register,
+        rd: Register,
+    )
+        requires { length self.old + 16 ≤ 64 }
+        ensures text { self.new ≡ self.old ++ three_front cond opcode sets_flags rn rd }
+        ensures room { length self.new ≤ length self.old + 16 }
+    {
+        self.push_word(opcode_bytes(opcode), cond, flags_bytes(sets_flags));
+        self.push_register(rd);
+        self.push_comma_register(rn);
+        self.put_all(b",");
+    }
+
+    // The word, and the registers in front of the last operand.
+    fn push_data(
+        &mut self,
+        cond: Cond,
+        opcode: Opcode,
+        sets_flags: bool,
+        rn: Register,
+        rd: Register,
+    )
+        requires { length self.old + 16 ≤ 64 }
+        ensures text { self.new ≡ self.old ++ data_front cond opcode sets_flags rn rd }
+        ensures room { length self.new ≤ length self.old + 16 }
+    {
+        match opcode {
+            Opcode::Tst | Opcode::Teq | Opcode::Cmp | Opcode::Cmn => {
+                self.push_compare(cond, opcode, rn, rd);
+            }
+            Opcode::Mov | Opcode::Mvn => self.push_move(cond, opcode, sets_flags, rd),
+            _ => self.push_three(cond, opcode, sets_flags, rn, rd),
+        }
+    }
+
+    // LDR or STR with Rd and the base, up to what follows the base.
+    fn push_transfer(
+        &mut self,
+        cond: Cond,
+        load: bool,
+        byte: bool,
+        user: bool,
+        rd: Register,
+        rn: Register,
+    )
+        requires { length self.old + 16 ≤ 64 }
+        ensures text { self.new ≡ self.old ++ transfer_front cond load byte user rd rn }
+        ensures room { length self.new ≤ length self.old + 16 }
+    {
+        self.push_word(load_bytes(load), cond, transfer_bytes(byte, user));
+        self.push_register(rd);
+        self.put_all(b",[");
+        self.push_register(rn);
+    }
+
+    fn push_offset(&mut self, before: bool, up: bool, offset: u32)
+        requires { length self.old + 14 ≤ 64 }
+        ensures text { self.new ≡ self.old ++ offset_text before up offset }
+        ensures room { length self.new ≤ length self.old + 14 }
+    {
+        self.put_all(open_bytes(before));
+        self.put_all(b"#");
+        self.put_all(sign_bytes(up));
+        self.push_decimal(offset);
+    }
+
+    #[tactic(auto, using(crate::proofs::ShownLaws::and_none))]
+    fn push_offset_of(&mut self, x: SingleImmediate)
+        requires { length self.old + 14 ≤ 64 }
+        ensures text { self.new ≡ self.old ++ (if is_plain x then [] else offset_text x.before x.up x.offset) }
+        ensures room { length self.new ≤ length self.old + 14 }
+    {
+        if has_no_offset(x) {
+            return;
+        }
+        self.push_offset(x.before, x.up, x.offset);
+    }
+
+    // A register of a list that is not in a run with the one before.
+    fn push_first(&mut self, list: u32, n: u32)
+        requires number { n < 16 }
+        requires room { length self.old + length (run_first list n) ≤ 64 }
+        ensures { self.new ≡ self.old ++ run_first list n }
+    {
+        if !is_lowest(list, n) {
+            self.put_all(b",");
+            self.push_numbered(n);
+            return;
+        }
+        self.push_numbered(n);
+    }
+
+    // A register of a list behind the one before: the last of its run, or within it.
+    #[tactic(auto, using(crate::proofs::ShownLaws::and_none))]
+    fn push_last(&mut self, list: u32, n: u32)
+        requires number { n < 16 }
+        requires room { length self.old + length (run_last list n) ≤ 64 }
+        ensures { self.new ≡ self.old ++ run_last list n }
+    {
+        if holds(list, n + 1) {
+            return;
+        }
+        self.put_all(b"-");
+        self.push_numbered(n);
+    }
+
+    #[tactic(auto, using(crate::proofs::ShownLaws::and_none))]
+    fn push_listed(&mut self, list: u32, n: u32)
+        requires number { n < 16 }
+        requires room { length self.old + length (listed list n) ≤ 64 }
+        ensures { self.new ≡ self.old ++ listed list n }
+    {
+        if !holds(list, n) {
+            return;
+        }
+        if is_behind(list, n) {
+            self.push_last(list, n);
+        } else {
+            self.push_first(list, n);
+        }
+    }
+
+    fn push_registers(&mut self, list: u32)
+        requires { length self.old + 45 ≤ 64 }
+        ensures text { self.new ≡ self.old ++ listed_below list 16 }
+        ensures room { length self.new ≤ length self.old + 45 }
+    {
+        for n in 0..16u32 {
+            self.push_listed(list, n);
+        }
+    }
+
+    // The registers of a list: those side by side as runs.
+    fn push_list(&mut self, list: u32)
+        requires { length self.old + 47 ≤ 64 }
+        ensures text { self.new ≡ self.old ++ list_text list }
+        ensures room { length self.new ≤ length self.old + 47 }
+    {
+        self.put_all(b"{");
+        self.push_registers(list);
+        self.put_all(b"}");
+    }
+
+    // A mark of one byte, or none.
+    #[tactic(auto, using(crate::proofs::ShownLaws::and_none))]
+    fn push_mark(&mut self, is_set: bool, mark: u8)
+        requires { length self.old + 1 ≤ 64 }
+        ensures text { self.new ≡ self.old ++ mark_if is_set (mark ∷ []) }
+        ensures room { length self.new ≤ length self.old + 1 }
+    {
+        if !is_set {
+            return;
+        }
+        self.put(mark);
+    }
+
+    // The list of a block and its mark.
+    fn push_last_operand(&mut self, list: u32, user: bool)
+        requires { length self.old + 49 ≤ 64 }
+        ensures text { self.new ≡ self.old ++ list_operand list user }
+        ensures room { length self.new ≤ length self.old + 49 }
+    {
+        self.put_all(b",");
+        self.push_list(list);
+        self.push_mark(user, b'^');
+    }
+
+    // Rd,Rm,Rs of a multiply.
+    fn push_factors(&mut self, x: Multiply)
+        requires { length self.old + 11 ≤ 64 }
+        ensures text { self.new ≡ self.old ++ factors_text x }
+        ensures room { length self.new ≤ length self.old + 11 }
+    {
+        self.push_register(x.rd);
+        self.push_comma_register(x.rm);
+        self.push_comma_register(x.rs);
+    }
+}
+
+// An amount of 0 stands for 32.
+fn full_amount(amount: u32) -> u32
+    ensures { result ≡ (if amount == 0 then 32 else amount) }
+{
+    if amount == 0 { 32 } else { amount }
+}
+
+fn has_no_offset(x: SingleImmediate) -> bool
+    ensures { result ≡ is_plain x }
+{
+    x.offset == 0 && x.up && (x.before && !x.write_back)
+}
+
+fn is_behind(list: u32, n: u32) -> bool
+    requires { n < 16 }
+    ensures { result ≡ follows list n }
+{
+    n > 0 && holds(list, n - 1)
+}
+
+fn is_user(before: bool, write_back: bool) -> bool
+    ensures { result ≡ (not before && write_back) }
+{
+    !before && write_back
+}
+
+fn multiply(cond: Cond, x: Multiply) -> Line
+    ensures { result ≡ multiply_text cond x }
+{
+    let mut line = Line::new();
+    if x.accumulate {
+        line.push_word(b"MLA", cond, flags_bytes(x.sets_flags));
+        line.push_factors(x);
+        line.push_comma_register(x.rn);
+        line
+    } else {
+        line.push_word(b"MUL", cond, flags_bytes(x.sets_flags));
+        line.push_factors(x);
+        line
+    }
+}
+
+fn data_register(cond: Cond, x: DataRegister) -> Line
+    ensures { result ≡ data_register_text cond x }
+{
+    let mut line = Line::new();
+    line.push_data(cond, x.opcode, x.sets_flags, x.rn, x.rd);
+    line.push_register(x.rm);
+    line.push_shift(x.shift, x.amount);
+    line
+}
+
+fn data_register_shift(cond: Cond, x: DataRegisterShift) -> Line
+    ensures { result ≡ data_register_shift_text cond x }
+{
+    let mut line = Line::new();
+    line.push_data(cond, x.opcode, x.sets_flags, x.rn, x.rd);
+    line.push_register(x.rm);
+    line.put_all(shift_bytes(x.shift));
+    line.push_register(x.rs);
+    line
+}
+
+fn data_immediate(cond: Cond, x: DataImmediate) -> Line
+    ensures { result ≡ data_immediate_text cond x }
+{
+    let mut line = Line::new();
+    line.push_data(cond, x.opcode, x.sets_flags, x.rn, x.rd);
+    line.push_number(x.value.rotate_right(2 * x.rotation));
+    line
+}
+
+fn single_immediate(cond: Cond, x: SingleImmediate) -> Line
+    ensures { result ≡ single_immediate_text cond x }
+{
+    let user = is_user(x.before, x.write_back);
+    let mut line = Line::new();
+    line.push_transfer(cond, x.load, x.byte, user, x.rd, x.rn);
+    line.push_offset_of(x);
+    line.put_all(close_bytes(x.before, x.write_back));
+    line
+}
+
+fn single_register(cond: Cond, x: SingleRegister) -> Line
+    ensures { result ≡ single_register_text cond x }
+{
+    let user = is_user(x.before, x.write_back);
+    let mut line = Line::new();
+    line.push_transfer(cond, x.load, x.byte, user, x.rd, x.rn);
+    line.put_all(open_bytes(x.before));
+    line.put_all(sign_bytes(x.up));
+    line.push_register(x.rm);
+    line.push_shift(x.shift, x.amount);
+    line.put_all(close_bytes(x.before, x.write_back));
+    line
+}
+
+fn block(cond: Cond, x: Block) -> Line
+    ensures { result ≡ block_text cond x }
+{
+    let mut line = Line::new();
+    line.push_word(
+        block_bytes(x.load),
+        cond,
+        block_suffix_bytes(x.before, x.up),
+    );
+    line.push_register(x.rn);
+    line.push_mark(x.write_back, b'!');
+    line.push_last_operand(x.list, x.user);
+    line
+}
+
+// Where the branch wraps, the line does not give the word.
+fn branch_target(at: u32, offset: u32) -> u64
+    requires { offset < 2 ^ 24 }
+    ensures target { result ≡ target_of at offset }
+    ensures fits { result < 2 ^ 33 }
+{
+    let beyond = u64::from(at) + 8 + 4 * u64::from(offset);
+    if offset < 0x80_0000 {
+        beyond
+    } else {
+        beyond.saturating_sub(0x400_0000)
+    }
+}
+
+#[tactic(auto, using(crate::proofs::HexLaws::hex_room))]
+fn branch(cond: Cond, x: Branch, at: u32) -> Line
+    ensures { result ≡ branch_text cond x at }
+{
+    let mut line = Line::new();
+    line.push_word(branch_bytes(x.link), cond, b"");
+    line.put_all(b"&");
+    line.push_hex(branch_target(at, x.offset));
+    line
+}
+
+fn swi(cond: Cond, x: Swi) -> Line
+    ensures { result ≡ swi_text cond x }
+{
+    let mut line = Line::new();
+    line.push_word(b"SWI", cond, b"");
+    line.push_decimal(x.comment);
+    line
+}
+
+/// The stated spelling of an instruction at an address; empty for a word that has none.
+pub(crate) fn spelled(instr: &Instr, at: u32) -> Line
+    ensures { result ≡ shown_line instr.now at }
+{
+    let cond = instr.cond;
+    match instr.operation {
+        Operation::Multiply(x) => multiply(cond, x),
+        Operation::DataRegister(x) => data_register(cond, x),
+        Operation::DataRegisterShift(x) => data_register_shift(cond, x),
+        Operation::DataImmediate(x) => data_immediate(cond, x),
+        Operation::SingleImmediate(x) => single_immediate(cond, x),
+        Operation::SingleRegister(x) => single_register(cond, x),
+        Operation::Block(x) => block(cond, x),
+        Operation::Branch(x) => branch(cond, x, at),
+        Operation::Swi(x) => swi(cond, x),
+        Operation::UndefinedTransfer(_)
+        | Operation::CoprocessorTransfer(_)
+        | Operation::Coprocessor(_) => Line::new(),
+    }
+}
