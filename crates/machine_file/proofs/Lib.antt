@@ -1,0 +1,4 @@
+pub mod ProfileLemmas
+pub mod InputLemmas
+pub mod PageLemmas
+pub mod StartLemmas

@@ -1,0 +1,9 @@
+pub mod ProfileFaults
+pub mod ProfileFile
+pub mod MachineFaults
+pub mod Names
+pub mod Stated
+pub mod MachineFile
+pub mod Inputs
+pub mod Started
+pub mod StartWork

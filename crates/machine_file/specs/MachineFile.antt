@@ -1,0 +1,230 @@
+-- Which machine a text states, and its faults, of which the lowest over the whole text is answered. Source: our own format of
+-- machine files, over the documents of TOML.
+use Rattle.std.specs.Prelude.{◌==◌, ◌&&◌, not, ◌-◌, ◌%◌, ◌^◌, ℕ, ℤ, pos, negsuc, Bool, List, map, fold, replicate, codes, count_by, nat_lt, nat_le, if◌then◌else◌, Option, Some, None, Ok, Err, option_map}
+use Rattle.std.specs.Int.RustNames.{bit_or}
+use Rattle.std.specs.List.{list_all}
+use Rattle.std.specs.Map.{keys_of}
+use Rattle.std.specs.Option.{option_and_then}
+use Rattle.toml.specs.Data.{Data, Members, get_member, as_integer, as_str, as_table}
+use Rattle.bitflags.specs.Sets.{find_name}
+use Rattle.arm2_effect.specs.declared.modes.Mode.{Mode}
+use Rattle.arm2_effect.specs.declared.modes.Mode.TheVariants.{Svc}
+use Rattle.arm2_effect.specs.declared.modes.Reg.{Reg}
+use Rattle.ioc.specs.declared.lines.Lines.{Lines}
+use Rattle.memc.specs.Memory.{shift_of_size}
+use Rattle.memc.specs.declared.spots.PageSize.{PageSize}
+use Rattle.memc.specs.declared.spots.PageSize.TheVariants.{K4, K8, K16, K32}
+use Rattle.toml_reading.specs.Documents.{IsAnswer, are_distinct, list_at, number_at, number_in, number_or, of_keys, tables_at}
+use Rattle.toml_reading.specs.Readings.{Reading, all, and_then, both, optional, required, seen}
+use Rattle.machine_file.specs.MachineFaults.{machine_faults}
+use Rattle.machine_file.specs.Names.{is_key, line_names, name_of, named_mode, named_registers}
+use Rattle.machine_file.specs.Stated.{Controller, Processor, Schedule, Stated}
+use Rattle.machine_file.specs.declared.events.Event.{Event}
+use Rattle.machine_file.specs.declared.flags.PsrFlags.{PsrFlags}
+use Rattle.machine_file.specs.declared.keys.Sort.TheVariants as sort
+use Rattle.machine_file.specs.declared.machine_faults.MachineFileFault.{MachineFileFault}
+use Rattle.machine_file.specs.declared.machine_faults.MachineFileFault.TheVariants.{NotToml, WrongKind, OutOfRange, Twice}
+use Rattle.machine_file.specs.declared.pages.MappedPage.{MappedPage}
+
+abbrev pub Read : Type 0 → Type 0
+Read A = Reading MachineFileFault A
+
+-- a number of 32 bits
+abbrev pub word_in : List ℕ → Members → Read ℕ
+word_in key ms = number_in machine_faults key (2 ^ 32 - 1) ms
+
+abbrev pub word_or : List ℕ → ℕ → Members → Read ℕ
+word_or key missing ms = number_or machine_faults key (2 ^ 32 - 1) missing ms
+
+-- ## Flags
+
+-- how often a letter stands in a text
+abbrev pub times : ℕ → List ℕ → ℕ
+times letter text = count_by (λ x. x == letter) text
+
+-- the letters N Z C V I F
+abbrev pub is_letter : ℕ → Bool
+is_letter c = not (times c (codes "NZCVIF") == 0)
+
+abbrev pub is_single : List ℕ → Bool
+is_single text = list_all (λ letter. nat_le (times letter text) 1) (codes "NZCVIF")
+
+abbrev pub has : List ℕ → ℕ → Bool
+has text letter = not (times letter text == 0)
+
+-- the flags whose letters stand there are set: 78 N, 90 Z, 67 C, 86 V, 73 I, 70 F
+abbrev pub set_flags : List ℕ → PsrFlags
+set_flags text = record { negative = has text 78; zero = has text 90; carry = has text 67; overflow = has text 86; irq_masked = has text 73; fiq_masked = has text 70 }
+
+abbrev pub lettered : List ℕ → Read PsrFlags
+lettered text = if list_all is_letter text then (if is_single text then Ok (set_flags text) else Err Twice) else Err WrongKind
+
+abbrev pub flags_at : Data → Read PsrFlags
+flags_at d = required machine_faults (as_str d) lettered
+
+-- IRQ and FIQ are masked where the key is missing
+abbrev pub flags_in : Members → Read PsrFlags
+flags_in ms = optional (set_flags (codes "IF")) (get_member (codes "flags") ms) flags_at
+
+-- ## The processor
+
+-- a multiple of 4 from 0 to 3FFFFFC
+abbrev pub in_space : ℤ → Read ℕ
+in_space (pos n) = if n % 4 == 0 && nat_lt n (2 ^ 26) then Ok n else Err OutOfRange
+in_space (negsuc n) = Err OutOfRange
+
+abbrev pub pc_at : Data → Read ℕ
+pc_at d = required machine_faults (as_integer d) in_space
+
+abbrev pub pc_in : Members → Read ℕ
+pc_in ms = required machine_faults (get_member (codes "pc") ms) pc_at
+
+abbrev pub mode_at : Data → Read Mode
+mode_at d = required machine_faults (option_and_then named_mode (as_str d)) (λ m. Ok m)
+
+abbrev pub mode_in : Members → Read Mode
+mode_in ms = optional Svc (get_member (codes "mode") ms) mode_at
+
+-- the words of the 26 registers in their order, 0 where one is not named
+abbrev pub register_in : Members → Reg → Read ℕ
+register_in ms r = word_or (name_of r) 0 ms
+
+abbrev pub registers_of : Members → Read (List ℕ)
+registers_of ms = of_keys machine_faults (is_key sort.Registers) ms (all machine_faults (map (register_in ms) named_registers))
+
+abbrev pub registers_at : Data → Read (List ℕ)
+registers_at d = required machine_faults (as_table d) registers_of
+
+abbrev pub registers_in : Members → Read (List ℕ)
+registers_in ms = optional (replicate 26 0) (get_member (codes "registers") ms) registers_at
+
+abbrev pub processor_of : (ℕ × (Mode × PsrFlags)) × List ℕ → Processor
+processor_of p = record { pc = p.0.0; mode = p.0.1.0; flags = p.0.1.1; registers = p.1 }
+
+abbrev pub processor_in : Members → Read Processor
+processor_in ms =
+    seen processor_of (both machine_faults (both machine_faults (pc_in ms) (both machine_faults (mode_in ms) (flags_in ms))) (registers_in ms))
+
+-- ## The memory controller
+
+-- 4, 8, 16 or 32 KB
+abbrev pub size_of : ℤ → Read PageSize
+size_of (pos n) = if n == 4 then Ok K4 else (if n == 8 then Ok K8 else (if n == 16 then Ok K16 else (if n == 32 then Ok K32 else Err OutOfRange)))
+size_of (negsuc n) = Err OutOfRange
+
+abbrev pub size_at : Data → Read PageSize
+size_at d = required machine_faults (as_integer d) size_of
+
+abbrev pub size_in : Members → Read PageSize
+size_in ms = optional K4 (get_member (codes "pages") ms) size_at
+
+abbrev pub page_of : (ℕ × ℕ) × ℕ → MappedPage
+page_of p = record { logical = p.0.0; physical = p.0.1; level = p.1 }
+
+abbrev pub page_in : Members → Read MappedPage
+page_in ms =
+    of_keys
+    machine_faults
+    (is_key sort.Map)
+    ms
+    (seen page_of (both machine_faults (both machine_faults (word_in (codes "logical") ms) (word_in (codes "physical") ms)) (word_in (codes "level") ms)))
+
+abbrev pub page_at : Data → Read MappedPage
+page_at d = required machine_faults (as_table d) page_in
+
+-- what MEMC maps: 2 ^ 25 bytes of logical pages, 128 physical pages, levels 0 to 3
+abbrev pub is_mappable : ℕ → MappedPage → Bool
+is_mappable shift p = nat_lt p.logical (2 ^ (25 - shift)) && nat_lt p.physical 128 && nat_lt p.level 4
+
+abbrev pub are_single : List MappedPage → Bool
+are_single pages = are_distinct (map (λ p. p.logical) pages) && are_distinct (map (λ p. p.physical) pages)
+
+-- pages of that size that can be mapped beside one another
+abbrev pub mapped : PageSize × List MappedPage → Read (PageSize × List MappedPage)
+mapped p =
+    if list_all (is_mappable (shift_of_size p.0)) p.1 then (if are_single p.1 then Ok p else Err Twice) else Err OutOfRange
+
+abbrev pub pages_in : Members → Read (PageSize × List MappedPage)
+pages_in ms = and_then (both machine_faults (size_in ms) (tables_at machine_faults page_at (get_member (codes "map") ms))) mapped
+
+-- the time fields of low and high ROM
+abbrev pub rom_in : Members → Read (ℕ × ℕ)
+rom_in ms = both machine_faults (number_or machine_faults (codes "low_rom") 3 0 ms) (number_or machine_faults (codes "high_rom") 3 0 ms)
+
+abbrev pub controller_of : (ℕ × ℕ) × (PageSize × List MappedPage) → Controller
+controller_of p = record { size = p.1.0; low_rom = p.0.0; high_rom = p.0.1; pages = p.1.1 }
+
+abbrev pub controller_in : Members → Read Controller
+controller_in ms = seen controller_of (both machine_faults (rom_in ms) (pages_in ms))
+
+-- ## Events
+
+-- the lines of a list of names: a line is active where its name stands there
+abbrev pub union : List Lines → Lines
+union lines = fold (λ (a b : Lines). record { 0 = bit_or a.0 b.0 }) (record { 0 = 0 }) lines
+
+abbrev pub named_line : List ℕ → Option Lines
+named_line name = option_map (λ bits. record { 0 = bits }) (find_name line_names name)
+
+abbrev pub line_at : Data → Read Lines
+line_at d = required machine_faults (option_and_then named_line (as_str d)) (λ l. Ok l)
+
+abbrev pub lines_at : Data → Read (Option Lines)
+lines_at d = seen (λ ls. Some (union ls)) (list_at machine_faults line_at d)
+
+abbrev pub lines_in : Members → Read (Option Lines)
+lines_in ms = optional None (get_member (codes "lines") ms) lines_at
+
+abbrev pub port_at : Data → Read (Option ℕ)
+port_at d = seen (λ word. Some word) (number_at machine_faults (2 ^ 32 - 1) d)
+
+abbrev pub port_in : Members → Read (Option ℕ)
+port_in ms = optional None (get_member (codes "port") ms) port_at
+
+abbrev pub event_of : ℕ × (ℕ × (Option Lines × Option ℕ)) → ℕ × Event
+event_of p = (p.0, record { bursts = p.1.0; lines = p.1.1.0; port = p.1.1.1 })
+
+-- an event, by its step
+abbrev pub event_in : Members → Read (ℕ × Event)
+event_in ms =
+    of_keys
+    machine_faults
+    (is_key sort.Event)
+    ms
+    (seen event_of (both machine_faults (number_in machine_faults (codes "step") 65535 ms) (both machine_faults (number_or machine_faults (codes "bursts") 65535 0 ms) (both machine_faults (lines_in ms) (port_in ms)))))
+
+abbrev pub event_at : Data → Read (ℕ × Event)
+event_at d = required machine_faults (as_table d) event_in
+
+-- one event at most for a step
+abbrev pub once : List (ℕ × Event) → Read (List (ℕ × Event))
+once events = if are_distinct (keys_of events) then Ok events else Err Twice
+
+abbrev pub events_in : Members → Read (List (ℕ × Event))
+events_in ms = and_then (tables_at machine_faults event_at (get_member (codes "event") ms)) once
+
+abbrev pub counts_in : Members → Read (ℕ × ℕ)
+counts_in ms = both machine_faults (number_or machine_faults (codes "steps") 65536 65536 ms) (word_or (codes "port") 0 ms)
+
+abbrev pub schedule_of : (ℕ × ℕ) × List (ℕ × Event) → Schedule
+schedule_of p = record { steps = p.0.0; port = p.0.1; events = p.1 }
+
+abbrev pub schedule_in : Members → Read Schedule
+schedule_in ms = seen schedule_of (both machine_faults (counts_in ms) (events_in ms))
+
+-- ## The file
+
+abbrev pub stated_of : Processor × (Controller × Schedule) → Stated
+stated_of p = record { processor = p.0; controller = p.1.0; schedule = p.1.1 }
+
+abbrev pub machine_in : Members → Read Stated
+machine_in ms =
+    of_keys
+    machine_faults
+    (is_key sort.File)
+    ms
+    (seen stated_of (both machine_faults (processor_in ms) (both machine_faults (controller_in ms) (schedule_in ms))))
+
+-- the answer to a text, but for want of memory
+abbrev pub IsMachineFile : List ℕ → Read Stated → Type 0
+IsMachineFile text answer = IsAnswer NotToml machine_in text answer

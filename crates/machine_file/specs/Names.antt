@@ -1,0 +1,64 @@
+-- The words, letters and names of machine files, and the keys of their tables (our own format; the lines' names and bits are
+-- those of IOC's lines).
+use Rattle.std.specs.Prelude.{ℕ, ◌||◌, Bool, List, [], ◌∷◌, codes, Option, Some, None, if◌then◌else◌}
+use Rattle.std.specs.List.{list_any}
+use Rattle.std.specs.Str.{bytes_eq}
+use Rattle.arm2_effect.specs.declared.modes.Mode.{Mode}
+use Rattle.arm2_effect.specs.declared.modes.Mode.TheVariants.{User, Fiq, Irq, Svc}
+use Rattle.arm2_effect.specs.declared.modes.Reg.{Reg}
+use Rattle.arm2_effect.specs.declared.modes.Reg.TheVariants.{R0, R1, R2, R3, R4, R5, R6, R7, R8, R9, R10, R11, R12, R13, R14, R8Fiq, R9Fiq, R10Fiq, R11Fiq, R12Fiq, R13Fiq, R14Fiq, R13Irq, R14Irq, R13Svc, R14Svc, R15}
+use Rattle.machine_file.specs.declared.keys.Sort.{Sort}
+use Rattle.machine_file.specs.declared.keys.Sort.TheVariants.{File, Registers, Map, Event}
+
+-- the registers that a file may name, in their order
+abbrev pub named_registers : List Reg
+named_registers = R0 ∷ R1 ∷ R2 ∷ R3 ∷ R4 ∷ R5 ∷ R6 ∷ R7 ∷ R8 ∷ R9 ∷ R10 ∷ R11 ∷ R12 ∷ R13 ∷ R14 ∷ R8Fiq ∷ R9Fiq ∷ R10Fiq ∷ R11Fiq ∷ R12Fiq ∷ R13Fiq ∷ R14Fiq ∷ R13Irq ∷ R14Irq ∷ R13Svc ∷ R14Svc ∷ []
+
+abbrev pub name_of : Reg → List ℕ
+name_of R0 = codes "r0"
+name_of R1 = codes "r1"
+name_of R2 = codes "r2"
+name_of R3 = codes "r3"
+name_of R4 = codes "r4"
+name_of R5 = codes "r5"
+name_of R6 = codes "r6"
+name_of R7 = codes "r7"
+name_of R8 = codes "r8"
+name_of R9 = codes "r9"
+name_of R10 = codes "r10"
+name_of R11 = codes "r11"
+name_of R12 = codes "r12"
+name_of R13 = codes "r13"
+name_of R14 = codes "r14"
+name_of R8Fiq = codes "r8_fiq"
+name_of R9Fiq = codes "r9_fiq"
+name_of R10Fiq = codes "r10_fiq"
+name_of R11Fiq = codes "r11_fiq"
+name_of R12Fiq = codes "r12_fiq"
+name_of R13Fiq = codes "r13_fiq"
+name_of R14Fiq = codes "r14_fiq"
+name_of R13Irq = codes "r13_irq"
+name_of R14Irq = codes "r14_irq"
+name_of R13Svc = codes "r13_svc"
+name_of R14Svc = codes "r14_svc"
+name_of R15 = codes "r15"
+
+abbrev pub is_register : List ℕ → Bool
+is_register k = list_any (λ r. bytes_eq (name_of r) k) named_registers
+
+-- the keys of the file and of the tables in it
+abbrev pub is_key : Sort → List ℕ → Bool
+is_key File k =
+    bytes_eq k (codes "pc") || bytes_eq k (codes "pages") || bytes_eq k (codes "mode") || bytes_eq k (codes "flags") || bytes_eq k (codes "low_rom")
+    || bytes_eq k (codes "high_rom") || bytes_eq k (codes "steps") || bytes_eq k (codes "port") || bytes_eq k (codes "registers") || bytes_eq k (codes "map") || bytes_eq k (codes "event")
+is_key Registers k = is_register k
+is_key Map k = bytes_eq k (codes "logical") || bytes_eq k (codes "physical") || bytes_eq k (codes "level")
+is_key Event k = bytes_eq k (codes "step") || bytes_eq k (codes "bursts") || bytes_eq k (codes "lines") || bytes_eq k (codes "port")
+
+abbrev pub named_mode : List ℕ → Option Mode
+named_mode w = if bytes_eq w (codes "user") then Some User else (if bytes_eq w (codes "fiq") then Some Fiq
+    else (if bytes_eq w (codes "irq") then Some Irq else (if bytes_eq w (codes "svc") then Some Svc else None)))
+
+-- the names of the interrupt lines, each with its bit
+abbrev pub line_names : List (List ℕ × ℕ)
+line_names = (codes "A0", 0x1) ∷ (codes "A1", 0x2) ∷ (codes "A2", 0x4) ∷ (codes "IL0", 0x100) ∷ (codes "B1", 0x200) ∷ (codes "B2", 0x400) ∷ (codes "B3", 0x800) ∷ (codes "B4", 0x1000) ∷ (codes "B5", 0x2000) ∷ (codes "B6", 0x4000) ∷ (codes "B7", 0x8000) ∷ (codes "F0", 0x10000) ∷ (codes "F1", 0x20000) ∷ (codes "F2", 0x40000) ∷ (codes "F3", 0x80000) ∷ (codes "F4", 0x100000) ∷ (codes "F5", 0x200000) ∷ []

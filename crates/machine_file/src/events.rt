@@ -1,0 +1,214 @@
+ghost use Rattle.std.specs.Prelude.{◌≡◌, IfOk, codes};
+ghost use Rattle.toml_reading.specs.Readings.{seen};
+ghost use Rattle.toml.specs.View.{table_view, view};
+ghost use Rattle.toml_reading.specs.Documents.{number_at, number_or};
+ghost use Rattle.machine_file.specs.MachineFaults.{machine_faults};
+ghost use Rattle.machine_file.specs.MachineFile.{counts_in, event_at, event_in, events_in, line_at, lines_at, lines_in, named_line, once, port_at, port_in, schedule_in, union};
+
+use crate::keys::Sort;
+use crate::machine_faults::{MachineFileFault, Read};
+use bitflags::Flags;
+use indexmap::IndexMap;
+use ioc::Lines;
+use std::alloc::{AllocError, Global};
+use std::marker::Model;
+use toml::{Table, Value};
+use toml_reading::{
+    Entry, by_number, check, list, number, only_keys, optional_number, pair, required_number,
+    tables, value_at,
+};
+
+/// What comes from outside from a step on.
+#[derive(Clone, Copy, Debug, PartialEq, Eq)]
+pub struct Event {
+    /// DMA bursts that stretch that step alone.
+    pub bursts: u16,
+    /// The lines that are active from that step on, where the event has them.
+    pub lines: Option<Lines>,
+    /// The port's word from that step on, where the event has one.
+    pub port: Option<u32>,
+}
+
+fn line_named(name: &str) -> Option<Lines>
+    ensures { result ≡ named_line name.now }
+{
+    Lines::from_name(name)
+}
+
+fn line(value: &Value) -> Read<Lines>
+    ensures { result ≡ line_at (view value.now) }
+{
+    match value.as_str() {
+        Some(name) => line_named(name).ok_or(MachineFileFault::WrongKind),
+        None => Err(MachineFileFault::WrongKind),
+    }
+}
+
+impl Entry<(), MachineFileFault> for Lines {
+    ghost reads = { λ _. line_at };
+
+    fn read(_alloc: Global, _context: &(), value: &Value) -> Result<Read<Lines>, AllocError> {
+        Ok(line(value))
+    }
+}
+
+fn union(lines: &[Lines]) -> Lines
+    ensures { result ≡ union lines.now }
+{
+    let mut all = Lines::empty();
+    for line in lines {
+        all.insert(*line);
+    }
+    all
+}
+
+fn lines_of(alloc: Global, value: &Value) -> Result<Read<Option<Lines>>, AllocError>
+    ensures { IfOk result (λ lines. lines ≡ lines_at (view value.now)) }
+{
+    match list(alloc, &(), value)? {
+        Ok(lines) => Ok(Ok(Some(union(&lines)))),
+        Err(fault) => Ok(Err(fault)),
+    }
+}
+
+fn lines(alloc: Global, table: &Table) -> Result<Read<Option<Lines>>, AllocError>
+    ensures { IfOk result (λ lines. lines ≡ lines_in (table_view table.now)) }
+{
+    match value_at(table, "lines") {
+        Some(value) => lines_of(alloc, value),
+        None => Ok(Ok(None)),
+    }
+}
+
+fn port_of(value: &Value) -> Read<Option<u32>>
+    ensures { result ≡ port_at (view value.now) }
+{
+    match number(value, u32::MAX) {
+        Ok(word) => Ok(Some(word)),
+        Err(fault) => Err(fault),
+    }
+}
+
+fn port(table: &Table) -> Read<Option<u32>>
+    ensures { result ≡ port_in (table_view table.now) }
+{
+    match value_at(table, "port") {
+        Some(value) => port_of(value),
+        None => Ok(None),
+    }
+}
+
+fn bursts_of(value: &Value) -> Read<u16>
+    ensures { result ≡ number_at machine_faults 65535 (view value.now) }
+{
+    match value.as_integer() {
+        Some(number) => match u16::try_from(number) {
+            Ok(bursts) => Ok(bursts),
+            Err(_) => Err(MachineFileFault::OutOfRange),
+        },
+        None => Err(MachineFileFault::WrongKind),
+    }
+}
+
+fn bursts(table: &Table) -> Read<u16>
+    ensures { result ≡ number_or machine_faults (codes "bursts") 65535 0 (table_view table.now) }
+{
+    match value_at(table, "bursts") {
+        Some(value) => bursts_of(value),
+        None => Ok(0),
+    }
+}
+
+fn read_event(alloc: Global, table: &Table) -> Result<Read<(u32, Event)>, AllocError>
+    ensures { IfOk result (λ event. event ≡ event_in (table_view table.now)) }
+{
+    let held = pair(lines(alloc, table)?, port(table));
+    let rest = pair(bursts(table), held);
+    let event = match pair(required_number(table, "step", 65535), rest) {
+        Ok((step, (bursts, (lines, port)))) => Ok((
+            step,
+            Event {
+                bursts,
+                lines,
+                port,
+            },
+        )),
+        Err(fault) => Err(fault),
+    };
+    Ok(check(
+        only_keys(Sort::Event, table),
+        MachineFileFault::UnknownKey,
+        event,
+    ))
+}
+
+impl Entry<(), MachineFileFault> for (u32, Event) {
+    ghost reads = { λ _. event_at };
+
+    fn read(alloc: Global, _context: &(), value: &Value) -> Result<Read<(u32, Event)>, AllocError> {
+        match value.as_table() {
+            Some(table) => read_event(alloc, table),
+            None => Ok(Err(MachineFileFault::WrongKind)),
+        }
+    }
+}
+
+/// What comes from outside, as a file states it.
+#[derive(Drop)]
+pub(crate) struct Schedule {
+    pub(crate) steps: u32,
+    pub(crate) port: u32,
+    pub(crate) events: IndexMap<u32, Event>,
+}
+
+impl Model for Schedule {
+    ghost use Rattle.machine_file.specs.Stated.{Schedule};
+
+    ghost Value = { Schedule };
+
+    ghost view = { λ s. record { steps = s.steps; port = s.port; events = s.events.entries } };
+}
+
+fn counts(table: &Table) -> Read<(u32, u32)>
+    ensures { result ≡ counts_in (table_view table.now) }
+{
+    pair(
+        optional_number(table, "steps", 65536, 65536),
+        optional_number(table, "port", u32::MAX, 0),
+    )
+}
+
+fn each_once(
+    alloc: Global,
+    events: Vec<(u32, Event)>,
+) -> Result<Read<IndexMap<u32, Event>>, AllocError>
+    ensures { IfOk result (λ reading. seen (λ m. m.entries) reading ≡ once events.items) }
+{
+    match by_number(alloc, events)? {
+        Some(events) => Ok(Ok(events)),
+        None => Ok(Err(MachineFileFault::Twice)),
+    }
+}
+
+fn events(alloc: Global, table: &Table) -> Result<Read<IndexMap<u32, Event>>, AllocError>
+    ensures { IfOk result (λ reading. seen (λ m. m.entries) reading ≡ events_in (table_view table.now)) }
+{
+    match tables(alloc, &(), value_at(table, "event"))? {
+        Ok(events) => each_once(alloc, events),
+        Err(fault) => Ok(Err(fault)),
+    }
+}
+
+/// What the file's table states to come from outside.
+pub(crate) fn read_schedule(alloc: Global, table: &Table) -> Result<Read<Schedule>, AllocError>
+    ensures { IfOk result (λ reading. reading ≡ schedule_in (table_view table.now)) }
+{
+    match pair(counts(table), events(alloc, table)?) {
+        Ok(((steps, port), events)) => Ok(Ok(Schedule {
+            steps,
+            port,
+            events,
+        })),
+        Err(fault) => Ok(Err(fault)),
+    }
+}

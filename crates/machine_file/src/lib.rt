@@ -1,0 +1,26 @@
+//! Machine files and cycle profile files: the state from which a machine starts with its inputs, and the prices of its
+//! accesses, read from TOML.
+#![tactic(auto)]
+
+mod events;
+mod flags;
+mod inputs;
+mod keys;
+mod machine_faults;
+mod machine_files;
+mod pages;
+mod processor;
+mod profile_faults;
+mod profiles;
+mod registers;
+mod start;
+#[cfg(test)]
+mod tests;
+
+pub use events::Event;
+pub use flags::PsrFlags;
+pub use machine_faults::MachineFileFault;
+pub use machine_files::{MachineFile, read_machine};
+pub use pages::MappedPage;
+pub use profile_faults::ProfileFileFault;
+pub use profiles::read_profile;

@@ -1,0 +1,151 @@
+ghost use Rattle.std.specs.Prelude.{◌≡◌, ◌≢◌, ◌≤◌, Err, IfOk, length, true};
+ghost use Rattle.toml.specs.View.{table_view};
+ghost use Rattle.machine_file.specs.MachineFile.{IsMachineFile, machine_in};
+
+use crate::events::{Event, Schedule, read_schedule};
+use crate::flags::PsrFlags;
+use crate::keys::Sort;
+use crate::machine_faults::{MachineFileFault, Read};
+use crate::pages::{Controller, MappedPage, read_controller};
+use crate::processor::{Processor, read_processor};
+use arm2_effect::Mode;
+use indexmap::IndexMap;
+use memc::PageSize;
+use std::alloc::{AllocError, Global};
+use std::marker::Model;
+use toml::Table;
+use toml_reading::{check, document, only_keys, pair};
+
+/// The state from which a machine starts, and what comes from outside in its steps.
+#[derive(Drop)]
+pub struct MachineFile {
+    pub(crate) processor: Processor,
+    pub(crate) controller: Controller,
+    pub(crate) schedule: Schedule,
+}
+
+impl Model for MachineFile {
+    ghost use Rattle.machine_file.specs.Stated.{Stated};
+
+    ghost Value = { Stated };
+
+    ghost view = { λ f. record { processor = f.processor; controller = f.controller; schedule = f.schedule } };
+}
+
+impl MachineFile {
+    /// The address in R15, in bytes: a multiple of 4 from 0 to 3FFFFFC.
+    pub fn pc(&self) -> u32
+        ensures { result ≡ self.now.processor.pc }
+    {
+        self.processor.pc.address
+    }
+
+    /// The processor's mode.
+    pub fn mode(&self) -> Mode
+        ensures { result ≡ self.now.processor.mode }
+    {
+        self.processor.mode
+    }
+
+    /// The flags of R15.
+    pub fn flags(&self) -> PsrFlags
+        ensures { result ≡ self.now.processor.flags }
+    {
+        self.processor.flags
+    }
+
+    /// The words of the registers but R15, in the order of [`arm2_effect::Reg`]: 26.
+    pub fn registers(&self) -> &[u32]
+        ensures words { result.now ≡ self.now.processor.registers }
+        ensures all { length result.now ≡ 26 }
+    {
+        &self.processor.registers.words
+    }
+
+    /// The size of a page.
+    pub fn page_size(&self) -> PageSize
+        ensures { result ≡ self.now.controller.size }
+    {
+        self.controller.pages.size
+    }
+
+    /// MEMC's time field of low ROM.
+    pub fn low_rom(&self) -> u32
+        ensures field { result ≡ self.now.controller.low_rom }
+        ensures range { result ≤ 3 }
+    {
+        self.controller.rom.low
+    }
+
+    /// MEMC's time field of high ROM.
+    pub fn high_rom(&self) -> u32
+        ensures field { result ≡ self.now.controller.high_rom }
+        ensures range { result ≤ 3 }
+    {
+        self.controller.rom.high
+    }
+
+    /// The mapped pages, in the order of the text: none where the map after a reset stays.
+    pub fn pages(&self) -> &[MappedPage]
+        ensures { result.now ≡ self.now.controller.pages }
+    {
+        &self.controller.pages.pages
+    }
+
+    /// How many steps the machine takes.
+    pub fn steps(&self) -> u32
+        ensures { result ≡ self.now.schedule.steps }
+    {
+        self.schedule.steps
+    }
+
+    /// The word that a load among the devices gives where IOC has no register, before any event changes it.
+    pub fn port(&self) -> u32
+        ensures { result ≡ self.now.schedule.port }
+    {
+        self.schedule.port
+    }
+
+    /// The events by their steps, in the order of the text.
+    pub fn events(&self) -> &IndexMap<u32, Event>
+        ensures { result.now.entries ≡ self.now.schedule.events }
+    {
+        &self.schedule.events
+    }
+}
+
+// What the table states.
+fn of_table(alloc: Global, table: &Table) -> Result<Read<MachineFile>, AllocError>
+    ensures { IfOk result (λ reading. reading ≡ machine_in (table_view table.now)) }
+{
+    let processor = read_processor(alloc, table)?;
+    let rest = pair(read_controller(alloc, table)?, read_schedule(alloc, table)?);
+    let file = match pair(processor, rest) {
+        Ok((processor, (controller, schedule))) => Ok(MachineFile {
+            processor,
+            controller,
+            schedule,
+        }),
+        Err(fault) => Err(fault),
+    };
+    Ok(check(
+        only_keys(Sort::File, table),
+        MachineFileFault::UnknownKey,
+        file,
+    ))
+}
+
+/// The machine that a file states.
+///
+/// # Errors
+///
+/// Of several faults over the whole text the first is answered, in the order of [`MachineFileFault`]; `Memory` only where
+/// a growth was refused.
+pub fn read_machine(alloc: Global, text: &[u8]) -> Result<MachineFile, MachineFileFault>
+    ensures { result ≢ Err MachineFileFault.Memory → IsMachineFile text.now result }
+{
+    match document(alloc, text)? {
+        Some(table) => of_table(alloc, &table)?,
+        None => Err(MachineFileFault::NotToml),
+    }
+}

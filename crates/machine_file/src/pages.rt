@@ -1,0 +1,233 @@
+ghost use Rattle.std.specs.Prelude.{◌≡◌, ◌≤◌, IfOk, map};
+ghost use Rattle.std.specs.List.{list_all};
+ghost use Rattle.toml.specs.View.{table_view, view};
+ghost use Rattle.memc.specs.Memory.{shift_of_size};
+ghost use Rattle.toml_reading.specs.Documents.{are_distinct};
+ghost use Rattle.machine_file.specs.MachineFile.{are_single, controller_in, is_mappable, mapped, page_at, page_in, pages_in, rom_in, size_at, size_in, size_of};
+
+use crate::keys::Sort;
+use crate::machine_faults::{MachineFileFault, Read};
+use memc::PageSize;
+use std::alloc::{AllocError, Global};
+use std::marker::Model;
+use toml::{Table, Value};
+use toml_reading::{
+    Entry, are_all_distinct, check, only_keys, optional_number, pair, required_number, tables,
+    value_at,
+};
+
+/// A logical page on a physical page, both by number, with its level of protection.
+#[derive(Clone, Copy, Debug, PartialEq, Eq)]
+pub struct MappedPage {
+    /// Below 2^25 bytes divided by the page size.
+    pub logical: u32,
+    /// From 0 to 127.
+    pub physical: u32,
+    /// From 0 to 3.
+    pub level: u32,
+}
+
+fn size_numbered(number: i64) -> Read<PageSize>
+    ensures { result ≡ size_of number }
+{
+    match u32::try_from(number) {
+        Ok(4) => Ok(PageSize::K4),
+        Ok(8) => Ok(PageSize::K8),
+        Ok(16) => Ok(PageSize::K16),
+        Ok(32) => Ok(PageSize::K32),
+        _ => Err(MachineFileFault::OutOfRange),
+    }
+}
+
+fn size_value(value: &Value) -> Read<PageSize>
+    ensures { result ≡ size_at (view value.now) }
+{
+    match value.as_integer() {
+        Some(number) => size_numbered(number),
+        None => Err(MachineFileFault::WrongKind),
+    }
+}
+
+fn size(table: &Table) -> Read<PageSize>
+    ensures { result ≡ size_in (table_view table.now) }
+{
+    match value_at(table, "pages") {
+        Some(value) => size_value(value),
+        None => Ok(PageSize::K4),
+    }
+}
+
+fn page(table: &Table) -> Read<MappedPage>
+    ensures { result ≡ page_in (table_view table.now) }
+{
+    let numbers = pair(
+        required_number(table, "logical", u32::MAX),
+        required_number(table, "physical", u32::MAX),
+    );
+    let page = match pair(numbers, required_number(table, "level", u32::MAX)) {
+        Ok(((logical, physical), level)) => Ok(MappedPage {
+            logical,
+            physical,
+            level,
+        }),
+        Err(fault) => Err(fault),
+    };
+    check(
+        only_keys(Sort::Map, table),
+        MachineFileFault::UnknownKey,
+        page,
+    )
+}
+
+impl Entry<(), MachineFileFault> for MappedPage {
+    ghost reads = { λ _. page_at };
+
+    fn read(_alloc: Global, _context: &(), value: &Value) -> Result<Read<MappedPage>, AllocError> {
+        match value.as_table() {
+            Some(table) => Ok(page(table)),
+            None => Ok(Err(MachineFileFault::WrongKind)),
+        }
+    }
+}
+
+fn shift_of(size: PageSize) -> u32
+    ensures { result ≡ shift_of_size size }
+{
+    match size {
+        PageSize::K4 => 12,
+        PageSize::K8 => 13,
+        PageSize::K16 => 14,
+        PageSize::K32 => 15,
+    }
+}
+
+fn is_mappable(shift: u32, page: MappedPage) -> bool
+    requires { shift ≤ 15 }
+    ensures { result ≡ is_mappable shift page }
+{
+    page.logical < 1 << (25 - shift) && page.physical < 128 && page.level < 4
+}
+
+fn are_mappable(size: PageSize, pages: &[MappedPage]) -> bool
+    ensures { result ≡ list_all (is_mappable (shift_of_size size)) pages.now }
+{
+    let shift = shift_of(size);
+    pages.iter().all(|page| is_mappable(shift, *page))
+}
+
+// Whether no logical and no physical page stands in the list twice.
+fn are_single(alloc: Global, pages: &[MappedPage]) -> Result<bool, AllocError>
+    ensures { IfOk result (λ test. test ≡ are_single pages.now) }
+{
+    let logical: Vec<u32> = pages.iter().map(|page| page.logical).collect(alloc)?;
+    let physical: Vec<u32> = pages.iter().map(|page| page.physical).collect(alloc)?;
+    let one = are_all_distinct(alloc, &logical)?;
+    let other = are_all_distinct(alloc, &physical)?;
+    Ok(one && other)
+}
+
+/// Pages that can be mapped beside one another.
+#[derive(Drop)]
+pub(crate) struct Pages {
+    pub(crate) size: PageSize,
+    pub(crate) pages: Vec<MappedPage>,
+}
+
+impl Model for Pages {
+    ghost use Rattle.std.specs.Prelude.{◌≡◌, true, List};
+    ghost use Rattle.std.specs.List.{list_all};
+    ghost use Rattle.memc.specs.Memory.{shift_of_size};
+    ghost use Rattle.memc.specs.declared.spots.PageSize.{PageSize};
+    ghost use Rattle.machine_file.specs.MachineFile.{are_single, is_mappable};
+    ghost use Rattle.machine_file.specs.declared.pages.MappedPage.{MappedPage};
+
+    ghost Value = { PageSize × List MappedPage };
+
+    ghost view = { λ p. (p.size, p.pages.items) };
+
+    ghost invariant = { λ p. (list_all (is_mappable (shift_of_size p.size)) p.pages.items ≡ true) × (are_single p.pages.items ≡ true) };
+}
+
+fn mappable(
+    alloc: Global,
+    size: PageSize,
+    pages: Vec<MappedPage>,
+) -> Result<Read<Pages>, AllocError>
+    ensures { IfOk result (λ reading. reading ≡ mapped (size, pages.items)) }
+{
+    if !are_mappable(size, &pages) {
+        return Ok(Err(MachineFileFault::OutOfRange));
+    }
+    if !are_single(alloc, &pages)? {
+        return Ok(Err(MachineFileFault::Twice));
+    }
+    Ok(Ok(Pages { size, pages }))
+}
+
+fn read_pages(alloc: Global, table: &Table) -> Result<Read<Pages>, AllocError>
+    ensures { IfOk result (λ reading. reading ≡ pages_in (table_view table.now)) }
+{
+    let listed = tables(alloc, &(), value_at(table, "map"))?;
+    match pair(size(table), listed) {
+        Ok((size, listed)) => mappable(alloc, size, listed),
+        Err(fault) => Ok(Err(fault)),
+    }
+}
+
+/// MEMC's time fields of low and high ROM, each from 0 to 3.
+#[derive(Clone, Copy)]
+pub(crate) struct RomFields {
+    pub(crate) low: u32,
+    pub(crate) high: u32,
+}
+
+impl Model for RomFields {
+    ghost use Rattle.std.specs.Prelude.{◌≤◌, ℕ};
+
+    ghost Value = { ℕ × ℕ };
+
+    ghost view = { λ f. (f.low, f.high) };
+
+    ghost invariant = { λ f. (f.low ≤ 3) × (f.high ≤ 3) };
+
+    ghost inverse = { λ p. record { low = p.0; high = p.1 } };
+}
+
+fn rom_fields(table: &Table) -> Read<RomFields>
+    ensures { result ≡ rom_in (table_view table.now) }
+{
+    let fields = pair(
+        optional_number(table, "low_rom", 3, 0),
+        optional_number(table, "high_rom", 3, 0),
+    );
+    match fields {
+        Ok((low, high)) => Ok(RomFields { low, high }),
+        Err(fault) => Err(fault),
+    }
+}
+
+/// The memory controller as a file states it.
+#[derive(Drop)]
+pub(crate) struct Controller {
+    pub(crate) rom: RomFields,
+    pub(crate) pages: Pages,
+}
+
+impl Model for Controller {
+    ghost use Rattle.machine_file.specs.Stated.{Controller};
+    ghost use Rattle.machine_file.specs.MachineFile.{controller_of};
+
+    ghost Value = { Controller };
+
+    ghost view = { λ c. controller_of (c.rom, c.pages) };
+}
+
+/// The memory controller that the file's table states.
+pub(crate) fn read_controller(alloc: Global, table: &Table) -> Result<Read<Controller>, AllocError>
+    ensures { IfOk result (λ reading. reading ≡ controller_in (table_view table.now)) }
+{
+    match pair(rom_fields(table), read_pages(alloc, table)?) {
+        Ok((rom, pages)) => Ok(Ok(Controller { rom, pages })),
+        Err(fault) => Ok(Err(fault)),
+    }
+}

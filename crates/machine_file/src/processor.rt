@@ -1,0 +1,129 @@
+ghost use Rattle.std.specs.Prelude.{◌≡◌, IfOk};
+ghost use Rattle.toml.specs.View.{table_view, view};
+ghost use Rattle.machine_file.specs.MachineFile.{in_space, mode_at, mode_in, pc_at, pc_in, processor_in};
+ghost use Rattle.machine_file.specs.Names.{named_mode};
+
+use crate::flags::{PsrFlags, stated_flags};
+use crate::machine_faults::{MachineFileFault, Read};
+use crate::registers::{Bank, stated_registers};
+use arm2_effect::Mode;
+use std::alloc::{AllocError, Global};
+use std::marker::Model;
+use toml::{Table, Value};
+use toml_reading::{pair, value_at};
+
+/// The address in R15, in bytes.
+#[derive(Clone, Copy)]
+pub(crate) struct StartAddress {
+    pub(crate) address: u32,
+}
+
+impl Model for StartAddress {
+    ghost use Rattle.std.specs.Prelude.{◌≤◌, ℕ};
+
+    ghost Value = { ℕ };
+
+    ghost view = { λ a. a.address };
+
+    ghost invariant = { λ a. a.address ≤ 0x3FFFFFC };
+
+    ghost inverse = { λ n. record { address = n } };
+}
+
+/// The registers as a file states them.
+#[derive(Drop)]
+pub(crate) struct Processor {
+    pub(crate) pc: StartAddress,
+    pub(crate) mode: Mode,
+    pub(crate) flags: PsrFlags,
+    pub(crate) registers: Bank,
+}
+
+impl Model for Processor {
+    ghost use Rattle.machine_file.specs.Stated.{Processor};
+
+    ghost Value = { Processor };
+
+    ghost view = { λ p. record { pc = p.pc; mode = p.mode; flags = p.flags; registers = p.registers } };
+}
+
+fn in_space(number: i64) -> Read<StartAddress>
+    ensures { result ≡ in_space number }
+{
+    match u32::try_from(number) {
+        Ok(n) => {
+            if n % 4 == 0 && n < 1 << 26 {
+                Ok(StartAddress { address: n })
+            } else {
+                Err(MachineFileFault::OutOfRange)
+            }
+        }
+        Err(_) => Err(MachineFileFault::OutOfRange),
+    }
+}
+
+fn pc_of(value: &Value) -> Read<StartAddress>
+    ensures { result ≡ pc_at (view value.now) }
+{
+    match value.as_integer() {
+        Some(number) => in_space(number),
+        None => Err(MachineFileFault::WrongKind),
+    }
+}
+
+fn pc(table: &Table) -> Read<StartAddress>
+    ensures { result ≡ pc_in (table_view table.now) }
+{
+    match value_at(table, "pc") {
+        Some(value) => pc_of(value),
+        None => Err(MachineFileFault::WrongKind),
+    }
+}
+
+fn mode_named(word: &str) -> Option<Mode>
+    ensures { result ≡ named_mode word.now }
+{
+    match word {
+        "user" => Some(Mode::User),
+        "fiq" => Some(Mode::Fiq),
+        "irq" => Some(Mode::Irq),
+        "svc" => Some(Mode::Svc),
+        _ => None,
+    }
+}
+
+fn mode_of(value: &Value) -> Read<Mode>
+    ensures { result ≡ mode_at (view value.now) }
+{
+    match value.as_str() {
+        Some(word) => mode_named(word).ok_or(MachineFileFault::WrongKind),
+        None => Err(MachineFileFault::WrongKind),
+    }
+}
+
+fn mode(table: &Table) -> Read<Mode>
+    ensures { result ≡ mode_in (table_view table.now) }
+{
+    match value_at(table, "mode") {
+        Some(value) => mode_of(value),
+        None => Ok(Mode::Svc),
+    }
+}
+
+/// The registers that the file's table states.
+pub(crate) fn read_processor(alloc: Global, table: &Table) -> Result<Read<Processor>, AllocError>
+    ensures { IfOk result (λ reading. reading ≡ processor_in (table_view table.now)) }
+{
+    let psr = pair(mode(table), stated_flags(table));
+    let start = pair(pc(table), psr);
+    let registers = stated_registers(alloc, table)?;
+    match pair(start, registers) {
+        Ok(((pc, (mode, flags)), registers)) => Ok(Ok(Processor {
+            pc,
+            mode,
+            flags,
+            registers,
+        })),
+        Err(fault) => Ok(Err(fault)),
+    }
+}

@@ -1,0 +1,173 @@
+ghost use Rattle.std.specs.Prelude.{◌≡◌, ◌≢◌, Err, map, option_map};
+ghost use Rattle.bus_ticks.specs.Numbers.{numbers_of};
+ghost use Rattle.toml.specs.View.{table_view, view};
+ghost use Rattle.toml_reading.specs.Readings.{required, seen};
+ghost use Rattle.machine_file.specs.ProfileFaults.{profile_faults};
+ghost use Rattle.machine_file.specs.ProfileFile.{IsPriced, IsProfileFile, four_at, four_in, four_of, is_profile_key, joined, numbers_in, other_prices_in, parts_in, ram_prices_in, word_in};
+
+use crate::profile_faults::ProfileFileFault;
+use bus_ticks::{NumbersFault, Profile};
+use std::alloc::Global;
+use toml::{Table, Value};
+use toml_reading::{
+    Keys, Reading, check, document, number, only_keys, pair, required_number, value_at, values_of,
+};
+
+type Read<T> = Reading<T, ProfileFileFault>;
+
+type Four = ((u32, u32), (u32, u32));
+
+type Parts = (((u32, (u32, u32)), (Four, Four)), Four);
+
+/// The one table of a profile file.
+#[derive(Clone, Copy)]
+struct ProfileTable;
+
+impl Keys for ProfileTable {
+    ghost is_key = { λ _. is_profile_key };
+
+    fn has_key(self, key: &str) -> bool {
+        key == "n"
+            || key == "s"
+            || key == "quad"
+            || key == "rom"
+            || key == "io"
+            || key == "control"
+            || key == "unfitted"
+            || key == "internal"
+            || key == "burst"
+    }
+}
+
+fn price(table: &Table, key: &str) -> Read<u32>
+    ensures { result ≡ word_in key.now (table_view table.now) }
+{
+    required_number(table, key, u32::MAX)
+}
+
+fn four_numbers(values: &[Value]) -> Read<Four>
+    ensures { result ≡ four_of (map view values.now) }
+{
+    match values {
+        [a, b, c, d] => pair(
+            pair(number(a, u32::MAX), number(b, u32::MAX)),
+            pair(number(c, u32::MAX), number(d, u32::MAX)),
+        ),
+        _ => Err(ProfileFileFault::WrongKind),
+    }
+}
+
+fn four(value: &Value) -> Read<Four>
+    ensures { result ≡ four_at (view value.now) }
+{
+    match values_of(value) {
+        Some(values) => four_numbers(values),
+        None => Err(ProfileFileFault::WrongKind),
+    }
+}
+
+fn four_prices(table: &Table, key: &str) -> Read<Four>
+    ensures { result ≡ four_in key.now (table_view table.now) }
+{
+    match value_at(table, key) {
+        Some(value) => four(value),
+        None => Err(ProfileFileFault::WrongKind),
+    }
+}
+
+fn ram_prices(table: &Table) -> Read<(u32, (u32, u32))>
+    ensures { result ≡ ram_prices_in (table_view table.now) }
+{
+    pair(
+        price(table, "n"),
+        pair(price(table, "s"), price(table, "quad")),
+    )
+}
+
+// Those of control writes, of fetches among the devices, of internal cycles and of bursts.
+fn other_prices(table: &Table) -> Read<Four>
+    ensures { result ≡ other_prices_in (table_view table.now) }
+{
+    pair(
+        pair(price(table, "control"), price(table, "unfitted")),
+        pair(price(table, "internal"), price(table, "burst")),
+    )
+}
+
+fn parts(table: &Table) -> Read<Parts>
+    ensures { result ≡ parts_in (table_view table.now) }
+{
+    let lists = pair(four_prices(table, "rom"), four_prices(table, "io"));
+    pair(pair(ram_prices(table), lists), other_prices(table))
+}
+
+// The parts as the fifteen numbers, in the order of a profile's fields.
+fn in_order(parts: Parts) -> [u32; 15]
+    ensures { result ≡ joined parts }
+{
+    let (((n, (s, quad)), (rom, io)), ((control, unfitted), (internal, burst))) = parts;
+    let ((rom_0, rom_1), (rom_2, rom_3)) = rom;
+    let ((slow, medium), (fast, synchronous)) = io;
+    [
+        n,
+        s,
+        quad,
+        rom_0,
+        rom_1,
+        rom_2,
+        rom_3,
+        slow,
+        medium,
+        fast,
+        synchronous,
+        control,
+        unfitted,
+        internal,
+        burst,
+    ]
+}
+
+fn numbers(table: &Table) -> Read<[u32; 15]>
+    ensures { result ≡ numbers_in (table_view table.now) }
+{
+    let parts = check(
+        only_keys(ProfileTable, table),
+        ProfileFileFault::UnknownKey,
+        parts(table),
+    );
+    match parts {
+        Ok(parts) => Ok(in_order(parts)),
+        Err(fault) => Err(fault),
+    }
+}
+
+// The profile of the numbers that were read.
+fn priced(numbers: Read<[u32; 15]>) -> Read<Profile>
+    ensures { IsPriced numbers (seen numbers_of result) }
+{
+    let numbers = match numbers {
+        Ok(numbers) => numbers,
+        Err(fault) => return Err(fault),
+    };
+    match Profile::new(numbers) {
+        Ok(profile) => Ok(profile),
+        Err(NumbersFault::OutOfRange) => Err(ProfileFileFault::OutOfRange),
+        Err(NumbersFault::Disordered) => Err(ProfileFileFault::Disordered),
+    }
+}
+
+/// The cycle profile that a file states: `n`, `s` and `quad` for RAM, `rom` by time field 0 to 3, `io` for slow, medium,
+/// fast and synchronous devices, `control`, `unfitted`, `internal` and `burst`, all in ticks and all required.
+///
+/// # Errors
+///
+/// Of several faults over the whole text the first is answered, in the order of [`ProfileFileFault`]; `Memory` only
+/// where a growth was refused.
+pub fn read_profile(alloc: Global, text: &[u8]) -> Result<Profile, ProfileFileFault>
+    ensures { result ≢ Err ProfileFileFault.Memory → IsProfileFile text.now (seen numbers_of result) }
+{
+    match document(alloc, text)? {
+        Some(table) => priced(numbers(&table)),
+        None => Err(ProfileFileFault::NotToml),
+    }
+}

@@ -1,0 +1,120 @@
+ghost use Rattle.std.specs.Prelude.{◌≡◌, ◌≤◌, ◌<◌, IfOk, length, map};
+ghost use Rattle.std.specs.List.{range_with_len};
+ghost use Rattle.arm2_decode.specs.Allowed.{bit_of};
+ghost use Rattle.arm2_effect.specs.Modes.{mode_number, reg_number};
+ghost use Rattle.memc.specs.Memory.{IsStart, shift_of_size};
+ghost use Rattle.machine_file.specs.Started.{IsController, IsResetMap, IsStarted, psr_number, r15_in};
+ghost use Rattle.machine_file.specs.StartWork.{AreMapped, CanMap, IsSameRest, IsUnmapped, with_words};
+
+use crate::flags::PsrFlags;
+use crate::machine_files::MachineFile;
+use crate::pages::{Controller, MappedPage};
+use crate::processor::Processor;
+use crate::registers::REGISTERS;
+use arm2_effect::{Mode, Reg};
+use arm2_exec::{Machine, MachineFault};
+use bus_ticks::Profile;
+use memc::Memc;
+use std::alloc::Global;
+
+fn bit(set: bool) -> u32
+    ensures number { result ≡ bit_of set }
+    ensures bound { result ≤ 1 }
+{
+    if set { 1 } else { 0 }
+}
+
+fn psr_number(flags: PsrFlags) -> u32
+    ensures number { result ≡ psr_number flags }
+    ensures bound { result < 64 }
+{
+    bit(flags.negative) * 32
+        + bit(flags.zero) * 16
+        + bit(flags.carry) * 8
+        + bit(flags.overflow) * 4
+        + bit(flags.irq_masked) * 2
+        + bit(flags.fiq_masked)
+}
+
+fn mode_number(mode: Mode) -> u32
+    ensures number { result ≡ mode_number mode }
+    ensures bound { result < 4 }
+{
+    match mode {
+        Mode::User => 0,
+        Mode::Fiq => 1,
+        Mode::Irq => 2,
+        Mode::Svc => 3,
+    }
+}
+
+fn r15(processor: &Processor) -> u32
+    ensures { result ≡ r15_in processor.now }
+{
+    let psr = psr_number(processor.flags);
+    psr * 0x400_0000 + processor.pc.address + mode_number(processor.mode)
+}
+
+// Puts words into the first registers.
+fn set_words(machine: &mut Machine, registers: &[Reg], words: &[u32])
+    requires ordered { map reg_number registers.now ≡ range_with_len 0 (length registers.now) }
+    requires known { length words.now ≤ length registers.now }
+    requires room { length words.now ≤ length machine.old.regs }
+    ensures { machine.new ≡ with_words words.now machine.old }
+{
+    for (i, word) in words.iter().enumerate() {
+        machine.set(registers[i], *word);
+    }
+}
+
+// Takes all pages off a map as it is after a reset.
+fn clear(memc: &mut Memc)
+    requires { IsResetMap memc.old.paged }
+    ensures gone { IsUnmapped memc.new.paged }
+    ensures rest { IsSameRest memc.old memc.new }
+{
+    for physical in 0..128 {
+        let _ = memc.unmap(physical);
+    }
+}
+
+// Maps pages beside one another.
+fn map_all(memc: &mut Memc, pages: &[MappedPage])
+    requires empty { IsUnmapped memc.old.paged }
+    requires can { CanMap memc.old pages.now }
+    ensures map { AreMapped pages.now memc.new.paged }
+    ensures rest { IsSameRest memc.old memc.new }
+{
+    for page in pages {
+        let _ = memc.map(page.physical, page.logical, page.level);
+    }
+}
+
+// Brings a memory controller from its start to the stated state.
+fn set_controller(memc: &mut Memc, controller: &Controller)
+    requires { IsStart (shift_of_size controller.now.size) memc.old }
+    ensures { IsController controller.now memc.new }
+{
+    memc.control(controller.rom.low * 0x10 + controller.rom.high * 0x40);
+    let pages = &controller.pages.pages;
+    if !pages.is_empty() {
+        clear(memc);
+        map_all(memc, pages);
+    }
+}
+
+impl MachineFile {
+    /// The machine in the stated state, with the prices of a profile: as it is after a reset, but for the registers, the page
+    /// size, the ROM time fields and, where pages are mapped, the page map.
+    ///
+    /// `Memory`: a growth was refused.
+    pub fn machine(&self, alloc: Global, profile: Profile) -> Result<Machine, MachineFault>
+        ensures { IfOk result (λ machine. IsStarted self.now profile machine) }
+    {
+        let mut machine = Machine::new(alloc, self.page_size(), profile)?;
+        set_words(&mut machine, &REGISTERS, self.registers());
+        machine.set(Reg::R15, r15(&self.processor));
+        set_controller(machine.memc_mut(), &self.controller);
+        Ok(machine)
+    }
+}

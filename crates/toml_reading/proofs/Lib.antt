@@ -1,0 +1,3 @@
+pub mod KeyLemmas
+pub mod DistinctLemmas
+pub mod ReadingLemmas

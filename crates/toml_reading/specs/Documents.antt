@@ -1,0 +1,70 @@
+-- What is read of the documents of TOML: the keys of tables, lists, numbers and whole texts (our own).
+use Rattle.std.specs.Prelude.{◌≡◌, ◌&&◌, ◌⊎◌, not, ℕ, Bool, true, List, [], ◌∷◌, map, option_map, Option, Some, None, Err, nat_eq}
+use Rattle.std.specs.List.{list_any}
+use Rattle.std.specs.Str.{IsUtf8}
+use Rattle.toml.specs.Data.{Data, Items, Members, no_items, item, no_members, member, get_member, as_array, as_integer}
+use Rattle.toml.specs.Parse.{parse_document}
+use Rattle.toml_reading.specs.Readings.{Faults, Reading, all, checked, optional, required, up_to}
+
+-- ## Keys
+
+-- the table has no other keys than those
+abbrev pub has_only_keys : (List ℕ → Bool) → Members → Bool
+has_only_keys is_key no_members = true
+has_only_keys is_key (member k d ms) = is_key k && has_only_keys is_key ms
+
+-- a table's reading, where it has no other keys
+abbrev pub of_keys : {F A : Type 0} → Faults F → (List ℕ → Bool) → Members → Reading F A → Reading F A
+of_keys faults is_key ms reading = checked faults (has_only_keys is_key ms) faults.unknown_key reading
+
+-- ## Numbers
+
+abbrev pub number_at : {F : Type 0} → Faults F → ℕ → Data → Reading F ℕ
+number_at faults limit d = required faults (as_integer d) (up_to faults limit)
+
+-- the number at a key that must be there
+abbrev pub number_in : {F : Type 0} → Faults F → List ℕ → ℕ → Members → Reading F ℕ
+number_in faults key limit ms = required faults (get_member key ms) (number_at faults limit)
+
+-- the number at a key, or what stands where the key is missing
+abbrev pub number_or : {F : Type 0} → Faults F → List ℕ → ℕ → ℕ → Members → Reading F ℕ
+number_or faults key limit missing ms = optional missing (get_member key ms) (number_at faults limit)
+
+-- ## Lists
+
+abbrev pub list_of : Items → List Data
+list_of no_items = []
+list_of (item d ds) = d ∷ list_of ds
+
+abbrev pub items_at : Data → Option (List Data)
+items_at d = option_map list_of (as_array d)
+
+-- what is read of each value of a list
+abbrev pub listed : {F A : Type 0} → Faults F → (Data → Reading F A) → List Data → Reading F (List A)
+listed faults reads ds = all faults (map reads ds)
+
+abbrev pub list_at : {F A : Type 0} → Faults F → (Data → Reading F A) → Data → Reading F (List A)
+list_at faults reads d = required faults (items_at d) (listed faults reads)
+
+-- a list that is empty where its key is missing
+abbrev pub tables_at : {F A : Type 0} → Faults F → (Data → Reading F A) → Option Data → Reading F (List A)
+tables_at faults reads o = optional [] o (list_at faults reads)
+
+abbrev pub are_distinct : List ℕ → Bool
+are_distinct [] = true
+are_distinct (x ∷ xs) = not (list_any (nat_eq x) xs) && are_distinct xs
+
+-- ## Texts
+
+-- the text is UTF-8 and the document
+pub record IsDocument (text : List ℕ) (ms : Members) : Type 0 where
+  pub utf8 : IsUtf8 text
+  pub parsed : parse_document text ≡ Some ms
+
+-- the text is not UTF-8 or no document
+abbrev pub IsNoDocument : List ℕ → Type 0
+IsNoDocument text = IsUtf8 text → parse_document text ≡ None
+
+-- the answer to a text: what is read of its document, or that it is none
+abbrev pub IsAnswer : {F A : Type 0} → F → (Members → Reading F A) → List ℕ → Reading F A → Type 0
+IsAnswer not_toml reads text answer = ((ms : Members) × IsDocument text ms × (answer ≡ reads ms)) ⊎ (IsNoDocument text × (answer ≡ Err not_toml))

@@ -1,0 +1,19 @@
+//! Reading formats over TOML: a reading is a value, or the lowest of the faults of its parts.
+//!
+//! A format has a type of faults, which implements [`Fault`], and reads tables by [`value_at`], [`required_number`],
+//! [`tables`] and the like, whose readings [`pair`], [`append`] and [`check`] join.
+#![tactic(auto)]
+
+mod distinct;
+mod documents;
+mod keys;
+mod lists;
+mod numbers;
+mod readings;
+
+pub use distinct::{are_all_distinct, by_number};
+pub use documents::document;
+pub use keys::{Keys, only_keys, value_at};
+pub use lists::{Entry, list, read_list, tables, values_of};
+pub use numbers::{number, optional_number, required_number, up_to};
+pub use readings::{Fault, Reading, append, check, pair};

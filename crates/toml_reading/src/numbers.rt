@@ -1,0 +1,59 @@
+ghost use Rattle.std.specs.Prelude.{◌≡◌};
+ghost use Rattle.toml.specs.View.{table_view, view};
+ghost use Rattle.toml_reading.specs.Documents.{number_at, number_in, number_or};
+ghost use Rattle.toml_reading.specs.Readings.{up_to as is_up_to};
+
+use crate::keys::value_at;
+use crate::readings::{Fault, Reading};
+use toml::{Table, Value};
+
+/// The number, where it is from 0 to the limit.
+pub fn up_to<F: Fault>(number: i64, limit: u32) -> Reading<u32, F>
+    ensures { result ≡ is_up_to F.faults limit number }
+{
+    match u32::try_from(number) {
+        Ok(n) => {
+            if n <= limit {
+                Ok(n)
+            } else {
+                Err(F::out_of_range())
+            }
+        }
+        Err(_) => Err(F::out_of_range()),
+    }
+}
+
+/// A value that is a number from 0 to the limit.
+pub fn number<F: Fault>(value: &Value, limit: u32) -> Reading<u32, F>
+    ensures { result ≡ number_at F.faults limit (view value.now) }
+{
+    match value.as_integer() {
+        Some(number) => up_to(number, limit),
+        None => Err(F::wrong_kind()),
+    }
+}
+
+/// The number from 0 to the limit at a key that must be there.
+pub fn required_number<F: Fault>(table: &Table, key: &str, limit: u32) -> Reading<u32, F>
+    ensures { result ≡ number_in F.faults key.now limit (table_view table.now) }
+{
+    let Some(value) = value_at(table, key) else {
+        return Err(F::wrong_kind());
+    };
+    number(value, limit)
+}
+
+/// The number from 0 to the limit at a key, or another one where the key is missing.
+pub fn optional_number<F: Fault>(
+    table: &Table,
+    key: &str,
+    limit: u32,
+    missing: u32,
+) -> Reading<u32, F>
+    ensures { result ≡ number_or F.faults key.now limit missing (table_view table.now) }
+{
+    match value_at(table, key) {
+        Some(value) => number(value, limit),
+        None => Ok(missing),
+    }
+}
