@@ -1,0 +1,2 @@
+mod TextLaws
+mod RunLaws

@@ -1,0 +1,26 @@
+-- The texts that are put together.
+use Rattle.std.proofs.Common.{◌≡◌, ◌∙◌, ℕ, ◌-◌, ◌^◌, false, true, List, [], ◌++◌, length, Option, Some, Result, Ok, Err, OnOk, refl, sym, ap, subst, append_assoc, arith}
+use Rattle.std.specs.Fmt.{char_count, digits, format_spec, padded_integral}
+use Rattle.std.proofs.lemmas.List.{append-nil}
+use Rattle.assembler.specs.ShownLines.{IsShown}
+use Rattle.trace_text.specs.TraceText.{Adds, IsWordLine, hex8}
+
+-- what `{:08X}` writes
+pub padded_word : (n : ℕ) → padded_integral (format_spec 32 0 4 8 (2 ^ 64 - 1)) false [] (digits 16 true n) ≡ hex8 n
+unfolding padded_integral char_count
+padded_word n =
+    let room : 8 - length (digits 16 true n) - 0 - 0 ≡ 8 - length (digits 16 true n) = omega arith in
+    rw (append-nil (digits 16 true n), room) refl
+
+-- what four calls add, one behind the other
+pub four_done : {T E : Type 0} (r : Result T E) (o a b c d o1 o2 o3 o4 : List ℕ) → o1 ≡ o ++ a → o2 ≡ o1 ++ b → o3 ≡ o2 ++ c → OnOk r (o4 ≡ o3 ++ d)
+    → OnOk r (o4 ≡ o ++ (a ++ (b ++ (c ++ d))))
+four_done (Ok x) o a b c d o1 o2 o3 o4 one two three four =
+    four ∙ ap (λ (t : List ℕ). t ++ d) (three ∙ ap (λ (t : List ℕ). t ++ c) (two ∙ ap (λ (t : List ℕ). t ++ b) one))
+    ∙ append_assoc ((o ++ a) ++ b) c d ∙ append_assoc (o ++ a) b (c ++ d) ∙ append_assoc o a (b ++ (c ++ d))
+four_done (Err e) o a b c d o1 o2 o3 o4 one two three four = tt
+
+-- the line of a word that is there
+pub word_line : {T E : Type 0} (r : Result T E) (o : Option ℕ) (word at : ℕ) (line old new : List ℕ) → o ≡ Some word → IsShown word at line → OnOk r (new ≡ old ++ line) → OnOk r (Adds (IsWordLine o at) old new)
+word_line (Ok x) o word at line old new is shown wrote = (line, subst (λ (w : Option ℕ). IsWordLine w at line) (sym is) shown, wrote)
+word_line (Err e) o word at line old new is shown wrote = tt

@@ -1,0 +1,62 @@
+use Rattle.std.proofs.Common.{◌≡◌, ◌∙◌, ◌+◌, ◌*◌, ap, rules, arith, drop, string_bytes}
+use Rattle.std.specs.Prelude.{slice_index_or}
+use Rattle.std.proofs.lemmas.List.{drop_more}
+use Rattle.std.proofs.Math.ListN.{drop_of_length-le}
+use Rattle.bus_ticks.specs.declared.profile.Profile.{Profile}
+use Rattle.arm2_exec.specs.declared.machine.Input.{Input}
+use Rattle.trace_text.specs.TraceText.{Adds, IsTraceLine}
+use Rattle.trace_text.proofs.RunLaws.{run_ends, run_goes, run_stops, text_ends, text_goes, text_stops}
+use Rattle.trace_text.proofs.run.write_run.Goals as goal
+
+pub returns-in-Stopped-clause-runs : goal.returns-in-Stopped-clause-runs
+returns-in-Stopped-clause-runs c =
+    let inputs = c.args.inputs.now in
+    let index = c.loop-input.input-index in
+    let input : Input = slice_index_or inputs index (record { bursts = 0; lines = record { 0 = 0 }; port = 0 }) in
+    let traced = c.step_traced-traced in
+    run_stops c.args.machine.now inputs c.loop-input.machine traced.new.machine (drop index inputs) (drop (index + 1) inputs) input traced.result
+    (drop_more inputs index _ c.loop-input-test.true) traced.ensures.step c.loop-input.ran c.in-Stopped.why c.loop-input.invariant.0 c.in-Stopped.is
+
+pub returns-in-Stopped-clause-text : goal.returns-in-Stopped-clause-text
+returns-in-Stopped-clause-text c =
+    let inputs = c.args.inputs.now in
+    let index = c.loop-input.input-index in
+    let input : Input = slice_index_or inputs index (record { bursts = 0; lines = record { 0 = 0 }; port = 0 }) in
+    let traced = c.step_traced-traced in
+    text_stops c.args.machine.now inputs c.loop-input.machine traced.new.machine (drop index inputs) (drop (index + 1) inputs) input traced.result
+    (drop_more inputs index _ c.loop-input-test.true) traced.ensures.step c.in-Stopped.why (string_bytes c.args.out.now) (string_bytes c.loop-input.out)
+    traced.ensures.word c.in-Stopped.is c.loop-input.invariant.1
+
+pub loop-input-preserved : goal.loop-input-preserved
+loop-input-preserved c =
+    let inputs = c.args.inputs.now in
+    let index = c.loop-input.input-index in
+    let input : Input = slice_index_or inputs index (record { bursts = 0; lines = record { 0 = 0 }; port = 0 }) in
+    let traced = c.step_traced-traced in
+    let start = c.args.machine.now in
+    let now = c.loop-input.machine in
+    let next = traced.new.machine in
+    let at_hand = drop_more inputs index _ c.loop-input-test.true in
+    let runs = run_goes start inputs now next (drop index inputs) (drop (index + 1) inputs) input traced.result at_hand traced.ensures.step c.loop-input.ran c.loop-input.invariant.0 c.in_default.not-Stopped in
+    let line : Adds (IsTraceLine traced.result) (string_bytes c.loop-input.out) (string_bytes c.write_trace.new.out) = search rules in
+    let told = text_goes start inputs now next (drop index inputs) (drop (index + 1) inputs) input traced.result at_hand traced.ensures.step
+    (string_bytes c.args.out.now) (string_bytes c.loop-input.out) (string_bytes c.write_trace.new.out) traced.ensures.word c.in_default.not-Stopped c.loop-input.invariant.1 line in
+    let stretched : c.from.result ≡ now.profile.burst * input.bursts = c.from.ensures ∙ c.stretched-stretched.ensures.ticks ∙ ap (λ (p : Profile). p.burst * input.bursts) c.profile.ensures in
+    let same = c.from-ticks.ensures in
+    let again = c.from.ensures in
+    let bound = traced.ensures.bound in
+    let stretch = c.stretched-stretched.ensures.bound in
+    let long = c.loop-input.invariant.3 in
+    let spent = c.loop-input.invariant.4 in
+    let passed = c.loop-input.invariant.5 in
+    (rw (same, stretched) runs, told, c.loop-input.invariant.2, omega (arith, long), omega (arith, spent, same, bound), omega (arith, passed, same, bound, again, stretch))
+
+pub returns-clause-runs : goal.returns-clause-runs
+returns-clause-runs c =
+    let left = drop c.loop-input.input-index c.args.inputs.now in
+    run_ends c.args.machine.now c.args.inputs.now c.loop-input.ran c.loop-input.machine left c.loop-input.invariant.0 (drop_of_length-le c.args.inputs.now c.loop-input-test.false) c.loop-input.invariant.2
+
+pub returns-clause-text : goal.returns-clause-text
+returns-clause-text c =
+    let left = drop c.loop-input.input-index c.args.inputs.now in
+    text_ends c.args.machine.now c.args.inputs.now c.loop-input.machine left (string_bytes c.args.out.now) (string_bytes c.loop-input.out) c.loop-input.invariant.1 (drop_of_length-le c.args.inputs.now c.loop-input-test.false)

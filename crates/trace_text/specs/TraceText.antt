@@ -1,0 +1,113 @@
+-- What a machine shows as text (our own format).
+use Rattle.std.specs.Prelude.{◌≡◌, ℕ, ◌+◌, ◌-◌, List, [], ◌∷◌, ◌++◌, codes, decimal, length, replicate, Option, Some, None}
+use Rattle.arm2_effect.specs.declared.done.Kind.{Kind}
+use Rattle.arm2_effect.specs.declared.done.Kind.TheVariants.{Plain, Taken, Stopped}
+use Rattle.arm2_effect.specs.declared.done.Why.{Why}
+use Rattle.arm2_effect.specs.declared.done.Why.TheVariants.{Unallocated, UnsupportedWrite}
+use Rattle.arm2_effect.specs.declared.exceptions.Vector.{Vector}
+use Rattle.arm2_effect.specs.declared.exceptions.Vector.TheVariants.{Undefined, Swi, PrefetchAbort, DataAbort, AddressException, Irq, Fiq}
+use Rattle.arm2_effect.specs.declared.modes.Mode.{Mode}
+use Rattle.arm2_effect.specs.Modes.{r15_in, register_in}
+use Rattle.arm2_effect.specs.ProgramCounter.{mode_of}
+use Rattle.arm2_exec.specs.declared.machine.Input.{Input}
+use Rattle.arm2_exec.specs.Run.{why_stopped}
+use Rattle.arm2_exec.specs.State.{State}
+use Rattle.arm2_exec.specs.Step.{Step, fetched, interrupt_due, with_lines}
+use Rattle.assembler.specs.ShownLines.{IsShown, hex}
+use Rattle.trace_text.specs.declared.trace.Traced.{Traced}
+
+-- eight upper-case hexadecimal digits, with zeros in front
+abbrev pub hex8 : ℕ → List ℕ
+hex8 n = replicate (8 - length (hex n)) 48 ++ hex n
+
+-- a text of a kind stands behind the old one
+abbrev pub Adds : (Is : List ℕ → Type 0) → (old new : List ℕ) → Type 0
+Adds Is old new = (text : List ℕ) × Is text × (new ≡ old ++ text)
+
+-- ---- registers
+
+-- a register of a mode and its word
+abbrev pub register_text : Mode → List ℕ → ℕ → List ℕ
+register_text mode regs n = codes "R" ++ (decimal n ++ (codes "=" ++ hex8 (register_in mode n regs)))
+
+-- a line of four registers, from a number on
+abbrev pub four_text : Mode → List ℕ → ℕ → List ℕ
+four_text mode regs n =
+    (register_text mode regs n ++ codes " ") ++ ((register_text mode regs (n + 1) ++ codes " ")
+    ++ ((register_text mode regs (n + 2) ++ codes " ") ++ (register_text mode regs (n + 3) ++ codes "\n")))
+
+-- the sixteen registers of a mode
+abbrev pub mode_text : Mode → List ℕ → List ℕ
+mode_text mode regs = four_text mode regs 0 ++ (four_text mode regs 4 ++ (four_text mode regs 8 ++ four_text mode regs 12))
+
+-- those of the mode in R15
+abbrev pub registers_text : List ℕ → List ℕ
+registers_text regs = mode_text (mode_of (r15_in regs)) regs
+
+-- ---- ticks and stops
+
+abbrev pub ticks_text : (ticks elapsed : ℕ) → List ℕ
+ticks_text ticks elapsed = codes "ticks " ++ (decimal ticks ++ (codes " elapsed " ++ (decimal elapsed ++ codes "\n")))
+
+abbrev pub why_name : Why → List ℕ
+why_name Unallocated = codes "Unallocated"
+why_name UnsupportedWrite = codes "UnsupportedWrite"
+
+abbrev pub stop_text : Why → (address : ℕ) → List ℕ
+stop_text why address = codes "stopped " ++ (why_name why ++ (codes " at " ++ (hex address ++ codes "\n")))
+
+-- ---- steps
+
+-- an interrupt fetches no word
+abbrev pub word_unless : Option Vector → Option ℕ → Option ℕ
+word_unless (Some interrupt) word = None
+word_unless None word = word
+
+-- the word that a step fetches: none where an interrupt is due, and none where the fetch is refused
+abbrev pub traced_word : State → Input → Option ℕ
+traced_word s i = word_unless (interrupt_due (with_lines i.lines.0 s.bus) (r15_in s.regs)) (fetched s.bus.memc (r15_in s.regs))
+
+abbrev pub exception_name : Vector → List ℕ
+exception_name Undefined = codes "undefined"
+exception_name Swi = codes "swi"
+exception_name PrefetchAbort = codes "prefetch"
+exception_name DataAbort = codes "abort"
+exception_name AddressException = codes "address"
+exception_name Irq = codes "irq"
+exception_name Fiq = codes "fiq"
+
+abbrev pub word_text : Option ℕ → List ℕ
+word_text (Some word) = hex8 word
+word_text None = codes "--------"
+
+-- the address, the word and the ticks, each before a blank
+abbrev pub front_text : Traced → List ℕ
+front_text t = hex8 t.told.from ++ (codes " " ++ (word_text t.word ++ (codes " " ++ (decimal t.told.ticks ++ codes " "))))
+
+-- the line of a word at its address; nothing where there is no word
+abbrev pub IsWordLine : Option ℕ → (at : ℕ) → List ℕ → Type 0
+IsWordLine (Some word) at text = IsShown word at text
+IsWordLine None at text = text ≡ []
+
+-- a stopped step shows nothing; any other its front, and the exception's name or the word's line
+abbrev pub IsLineOf : Kind → Traced → List ℕ → Type 0
+IsLineOf (Stopped why) t line = line ≡ []
+IsLineOf (Taken vector) t line = line ≡ front_text t ++ (exception_name vector ++ codes "\n")
+IsLineOf Plain t line = (text : List ℕ) × IsWordLine t.word t.told.from text × (line ≡ front_text t ++ (text ++ codes "\n"))
+
+abbrev pub IsTraceLine : Traced → List ℕ → Type 0
+IsTraceLine t line = IsLineOf t.told.kind t line
+
+-- ---- runs
+
+-- a stopped step ends the text
+abbrev pub Goes : Option Why → (text : List ℕ) → (goes_on : Type 0) → Type 0
+Goes (Some why) text goes_on = text ≡ []
+Goes None text goes_on = goes_on
+
+-- the trace lines of a run's steps, in their order, up to the first that is stopped
+abbrev pub TracesRun : State → List Input → List ℕ → Type 0
+TracesRun s [] text = text ≡ []
+TracesRun s (i ∷ rest) text =
+    (traced : Traced) × (next : State) × Step s i traced.told next × (traced.word ≡ traced_word s i)
+    × Goes (why_stopped traced.told.kind) text ((line : List ℕ) × IsTraceLine traced line × (more : List ℕ) × TracesRun next rest more × (text ≡ line ++ more))

@@ -1,0 +1,49 @@
+ghost use Rattle.std.specs.Prelude.{◌≡◌, ◌<◌, ◌*◌, ◌^◌, IfOk, OnOk, string_bytes};
+ghost use Rattle.arm2_exec.specs.Run.{Runs};
+ghost use Rattle.trace_text.specs.TraceText.{Adds, TracesRun};
+
+use crate::trace::{step_traced, write_trace};
+use arm2_exec::{Input, Kind, Machine, Ran};
+use bus_ticks::Profile;
+use std::alloc::AllocError;
+
+// The ticks of DMA bursts.
+fn stretched(profile: Profile, bursts: u16) -> u32
+    ensures ticks { result ≡ profile.burst * bursts }
+    ensures bound { result < 2 ^ 24 }
+{
+    profile.burst * u32::from(bursts)
+}
+
+/// Steps a machine, once for each input up to the first step that is stopped, and adds the lines of the steps before it.
+///
+/// An error says that a growth was refused; the machine has then made some of the steps, and a part of the text may stand.
+pub fn write_run(
+    out: &mut String,
+    machine: &mut Machine,
+    inputs: &[Input],
+) -> Result<Ran, AllocError>
+    ensures runs { IfOk result (λ ran. Runs machine.old inputs.now ran machine.new) }
+    ensures text { OnOk result (Adds (TracesRun machine.old inputs.now) (string_bytes out.old) (string_bytes out.new)) }
+{
+    let mut ran = Ran {
+        steps: 0,
+        ticks: 0,
+        elapsed: 0,
+        stopped: None,
+    };
+    for input in inputs {
+        let stretched = stretched(machine.profile(), input.bursts);
+        let traced = step_traced(machine, *input);
+        if let Kind::Stopped(why) = traced.told.kind {
+            ran.stopped = Some(why);
+            return Ok(ran);
+        }
+        write_trace(out, &traced)?;
+        let ticks = u128::from(traced.told.ticks);
+        ran.steps += 1;
+        ran.ticks += ticks;
+        ran.elapsed += ticks + u128::from(stretched);
+    }
+    Ok(ran)
+}

@@ -1,0 +1,138 @@
+ghost use Rattle.std.specs.Prelude.{◌≡◌, ◌++◌, ◌<◌, ◌^◌, OnOk, is_some, string_bytes};
+ghost use Rattle.arm2_effect.specs.Modes.{r15_in};
+ghost use Rattle.arm2_exec.specs.Step.{Step, fetched, interrupt_due, with_lines};
+ghost use Rattle.trace_text.specs.TraceText.{Adds, IsTraceLine, IsWordLine, exception_name, front_text, traced_word};
+
+use crate::figures::HexWord;
+use arm2_effect::{Mode, address_of, mode_of};
+use arm2_exec::{Input, Kind, Machine, Reg, Stepped, Vector};
+use assembler::{Line, disassemble};
+use ioc::Lines;
+use memc::Spot;
+use std::alloc::AllocError;
+use std::fmt::Write;
+
+/// A step and the word that it fetched.
+#[derive(Clone, Copy, Debug, PartialEq, Eq)]
+pub struct Traced {
+    pub told: Stepped,
+    /// None where an interrupt was taken, and where the fetch was refused.
+    pub word: Option<u32>,
+}
+
+// Whether an interrupt is due once the lines are those of a step.
+fn is_due(machine: &Machine, lines: Lines) -> bool
+    ensures { result ≡ is_some (interrupt_due (with_lines lines.0 machine.now.bus) (r15_in machine.now.regs)) }
+{
+    let r15 = machine.get(Reg::R15);
+    let mut ioc = machine.ioc().snapshot();
+    ioc.lines(lines);
+    let asserted = ioc.asserted();
+    if asserted.fiq && r15 / 0x400_0000 % 2 != 1 {
+        return true;
+    }
+    asserted.irq && r15 / 0x800_0000 % 2 != 1
+}
+
+// The word at the address in R15, if the mode may fetch one there.
+fn fetch(machine: &Machine) -> Option<u32>
+    ensures { result ≡ fetched machine.now.bus.memc (r15_in machine.now.regs) }
+{
+    let r15 = machine.get(Reg::R15);
+    let user = matches!(mode_of(r15), Mode::User);
+    match machine.memc().locate(address_of(r15), user, false) {
+        Ok(spot @ (Spot::Ram(_) | Spot::Rom(_))) => Some(machine.memc().load(spot)),
+        _ => None,
+    }
+}
+
+fn word_of_step(machine: &Machine, input: Input) -> Option<u32>
+    ensures { result ≡ traced_word machine.now input }
+{
+    if is_due(machine, input.lines) {
+        return None;
+    }
+    fetch(machine)
+}
+
+/// One step of a machine, with the word that it fetches.
+pub fn step_traced(machine: &mut Machine, input: Input) -> Traced
+    ensures step { Step machine.old input result.told machine.new }
+    ensures word { result.word ≡ traced_word machine.old input }
+    ensures bound { result.told.ticks < 2 ^ 16 }
+{
+    let word = word_of_step(machine, input);
+    let told = machine.step(input);
+    Traced { told, word }
+}
+
+fn name_of(vector: Vector) -> &'static str
+    ensures { result.now ≡ exception_name vector }
+{
+    match vector {
+        Vector::Undefined => "undefined",
+        Vector::Swi => "swi",
+        Vector::PrefetchAbort => "prefetch",
+        Vector::DataAbort => "abort",
+        Vector::AddressException => "address",
+        Vector::Irq => "irq",
+        Vector::Fiq => "fiq",
+    }
+}
+
+// The address, the word and the ticks.
+fn put_front(out: &mut String, traced: &Traced) -> Result<(), AllocError>
+    ensures { OnOk result (string_bytes out.new ≡ string_bytes out.old ++ front_text traced.now) }
+{
+    let from = HexWord(traced.told.from);
+    let ticks = traced.told.ticks;
+    match traced.word {
+        Some(word) => {
+            let word = HexWord(word);
+            write!(out, "{from} {word} {ticks} ")
+        }
+        None => write!(out, "{from} -------- {ticks} "),
+    }
+}
+
+// The assembler shows ASCII alone, though no contract of it says so: the error is never met.
+fn put_line(out: &mut String, line: &Line) -> Result<(), AllocError>
+    ensures { OnOk result (string_bytes out.new ≡ string_bytes out.old ++ line.now) }
+{
+    match str::from_utf8(line.items()) {
+        Ok(text) => out.push_str(text),
+        Err(_) => Err(AllocError),
+    }
+}
+
+// The line of a word at its address.
+fn put_word_line(out: &mut String, word: Option<u32>, at: u32) -> Result<(), AllocError>
+    ensures { OnOk result (Adds (IsWordLine word at) (string_bytes out.old) (string_bytes out.new)) }
+{
+    match word {
+        Some(word) => put_line(out, &disassemble(word, at)),
+        None => Ok(()),
+    }
+}
+
+/// Adds the line of a step: its address, its word, its ticks, and the name of the exception that it took or the word's
+/// line. Of a step that stopped the machine it adds nothing.
+///
+/// An error says that a growth was refused; a part of the text may then stand.
+pub fn write_trace(out: &mut String, traced: &Traced) -> Result<(), AllocError>
+    ensures { OnOk result (Adds (IsTraceLine traced.now) (string_bytes out.old) (string_bytes out.new)) }
+{
+    match traced.told.kind {
+        Kind::Stopped(_) => Ok(()),
+        Kind::Taken(vector) => {
+            put_front(out, traced)?;
+            out.push_str(name_of(vector))?;
+            out.push_str("\n")
+        }
+        Kind::Plain => {
+            put_front(out, traced)?;
+            put_word_line(out, traced.word, traced.told.from)?;
+            out.push_str("\n")
+        }
+    }
+}
