@@ -3,5 +3,5 @@ pub mod SweepLaws
 pub mod ShownLaws
 mod HexLaws
 mod ListedLaws
-mod ByteLaws
+pub mod ByteLaws
 mod SayLaws

@@ -1,2 +1,3 @@
 mod TextLaws
 mod RunLaws
+mod AsciiLaws

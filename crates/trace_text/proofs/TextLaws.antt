@@ -1,5 +1,5 @@
 -- The texts that are put together.
-use Rattle.std.proofs.Common.{◌≡◌, ◌∙◌, ℕ, ◌-◌, ◌^◌, false, true, List, [], ◌++◌, length, Option, Some, Result, Ok, Err, OnOk, refl, sym, ap, subst, append_assoc, arith}
+use Rattle.std.proofs.Common.{◌≡◌, ◌∙◌, ℕ, ◌-◌, ◌^◌, false, true, List, [], ◌++◌, length, Option, Some, Result, Ok, Err, OnOk, is_ok, if◌then◌else◌, refl, sym, ap, subst, append_assoc, arith}
 use Rattle.std.specs.Fmt.{char_count, digits, format_spec, padded_integral}
 use Rattle.std.proofs.lemmas.List.{append-nil}
 use Rattle.assembler.specs.ShownLines.{IsShown}
@@ -21,6 +21,11 @@ four_done (Ok x) o a b c d o1 o2 o3 o4 one two three four =
 four_done (Err e) o a b c d o1 o2 o3 o4 one two three four = tt
 
 -- the line of a word that is there
-pub word_line : {T E : Type 0} (r : Result T E) (o : Option ℕ) (word at : ℕ) (line old new : List ℕ) → o ≡ Some word → IsShown word at line → OnOk r (new ≡ old ++ line) → OnOk r (Adds (IsWordLine o at) old new)
-word_line (Ok x) o word at line old new is shown wrote = (line, subst (λ (w : Option ℕ). IsWordLine w at line) (sym is) shown, wrote)
-word_line (Err e) o word at line old new is shown wrote = tt
+pub word_line : {T E : Type 0} (r : Result T E) (o : Option ℕ) (word at : ℕ) (old new : List ℕ) → o ≡ Some word → OnOk r (Adds (IsShown word at) old new) → OnOk r (Adds (IsWordLine o at) old new)
+word_line (Ok x) o word at old new is wrote = (wrote.0, subst (λ (w : Option ℕ). IsWordLine w at wrote.0) (sym is) wrote.1, wrote.2)
+word_line (Err e) o word at old new is wrote = tt
+
+-- a text that is pushed
+pub pushed : {T E : Type 0} (r : Result T E) (word at : ℕ) (old new text line : List ℕ) → IsShown word at line → text ≡ line → new ≡ (if is_ok r then old ++ text else old) → OnOk r (Adds (IsShown word at) old new)
+pushed (Ok x) word at old new text line is same wrote = (line, is, wrote ∙ ap (λ (t : List ℕ). old ++ t) same)
+pushed (Err e) word at old new text line is same wrote = tt

@@ -1,12 +1,13 @@
 ghost use Rattle.std.specs.Prelude.{◌≡◌, ◌++◌, ◌<◌, ◌^◌, OnOk, is_some, string_bytes};
 ghost use Rattle.arm2_effect.specs.Modes.{r15_in};
 ghost use Rattle.arm2_exec.specs.Step.{Step, fetched, interrupt_due, with_lines};
+ghost use Rattle.assembler.specs.ShownLines.{IsShown};
 ghost use Rattle.trace_text.specs.TraceText.{Adds, IsTraceLine, IsWordLine, exception_name, front_text, traced_word};
 
 use crate::figures::HexWord;
 use arm2_effect::{Mode, address_of, mode_of};
 use arm2_exec::{Input, Kind, Machine, Reg, Stepped, Vector};
-use assembler::{Line, disassemble};
+use assembler::disassemble;
 use ioc::Lines;
 use memc::Spot;
 use std::alloc::AllocError;
@@ -95,22 +96,22 @@ fn put_front(out: &mut String, traced: &Traced) -> Result<(), AllocError>
     }
 }
 
-// The assembler shows ASCII alone, though no contract of it says so: the error is never met.
-fn put_line(out: &mut String, line: &Line) -> Result<(), AllocError>
-    ensures { OnOk result (string_bytes out.new ≡ string_bytes out.old ++ line.now) }
+// The line of a word at its address, which is ASCII.
+fn put_shown(out: &mut String, word: u32, at: u32) -> Result<(), AllocError>
+    ensures { OnOk result (Adds (IsShown word at) (string_bytes out.old) (string_bytes out.new)) }
 {
-    match str::from_utf8(line.items()) {
-        Ok(text) => out.push_str(text),
-        Err(_) => Err(AllocError),
-    }
+    let line = disassemble(word, at);
+    let Ok(text) = str::from_utf8(line.items()) else {
+        unreachable!()
+    };
+    out.push_str(text)
 }
 
-// The line of a word at its address.
 fn put_word_line(out: &mut String, word: Option<u32>, at: u32) -> Result<(), AllocError>
     ensures { OnOk result (Adds (IsWordLine word at) (string_bytes out.old) (string_bytes out.new)) }
 {
     match word {
-        Some(word) => put_line(out, &disassemble(word, at)),
+        Some(word) => put_shown(out, word, at),
         None => Ok(()),
     }
 }
