@@ -58,7 +58,7 @@ fn with_line(alloc: Global, number: usize, line: &str) -> Result<String, AllocEr
     let mut text = String::new(alloc);
     let mut at = 0;
     for old in NESTED_CERTIFICATE.lines() {
-        at += 1;
+        at = usize::saturating_add(at, 1);
         text.push_str(if at == number { line } else { old })?;
         text.push_str("\n")?;
     }
@@ -138,7 +138,7 @@ fn step_costs_changed(rt: HostRuntime) -> Result<(), Fail> {
     ];
     let alloc = rt.alloc();
     for (number, step, cost) in steps {
-        for other in [cost + 1, cost.saturating_sub(1)] {
+        for other in [cost.saturating_add(1), cost.saturating_sub(1)] {
             let line = format!(in alloc; "{step} {other}")?;
             let text = with_line(alloc, number, line.as_str())?;
             match judged_nested(alloc, &text) {
@@ -181,7 +181,7 @@ fn forged_deep_repeat(rt: HostRuntime) -> Result<(), Fail> {
     let mut text = String::new(alloc);
     let mut at = 0;
     for line in NESTED_CERTIFICATE.lines() {
-        at += 1;
+        at = usize::saturating_add(at, 1);
         let times = if at == 16 || at == 19 { 16 } else { 1 };
         for _ in 0..times {
             text.push_str(if at == 16 { "repeat 1048576" } else { line })?;
