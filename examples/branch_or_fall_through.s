@@ -1,5 +1,5 @@
- ORG &8000
- DCD &E2500001 ; SUBS R0,R0,#1
- DCD &0A000000 ; BEQ &800C
- DCD &E3A00003 ; MOV R0,#3
- DCD &E25EF004 ; SUBS PC,R14,#4
+; A branch that is taken costs more than the word that it passes over.
+tick     SUBS   R0,R0,#1
+         BEQ    done
+         MOV    R0,#3
+done     SUBS   PC,R14,#4

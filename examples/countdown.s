@@ -1,5 +1,5 @@
-; MOV R0,#3, and then SUBS R0,R0,#1 and BNE to it three times, and a return.
- DCD &E3A00003
- DCD &E2500001
- DCD &1AFFFFFD
- DCD &E25EF004
+; Counts down from 3, and returns from the interrupt.
+start    MOV    R0,#3
+again    SUBS   R0,R0,#1
+turn     BNE    again
+         SUBS   PC,R14,#4

@@ -4,10 +4,8 @@ use crate::support::{
     COUNTDOWN, NESTED_COUNTDOWN, Stated, countdown_loop, nested_loops, source_of, statement_of,
 };
 use arcwcet::{
-    MemoryOutput, ReportFault, bound_report_with, certificates_are_accepted, check_report,
-    check_report_with,
+    MemoryOutput, ReportFault, bound_report, certificates_are_accepted, check_report,
 };
-use bus_ticks::Profile;
 use certificate::CertFault;
 use std::alloc::{AllocError, Global};
 use std::test::Fail;
@@ -23,7 +21,7 @@ const NESTED_CERTIFICATE: &str =
 const DEARER_CERTIFICATE: &str =
     "arcwcet certificate 2\nprofile 3 1 2 5 4 3 2 8 6 5 10 2 2 1 8\nbound 29\nstep 8000 do 8004 1\nrepeat 2\nstep 8004 do 8008 1\nstep 8008 do 8004 6\nend\nstep 8004 do 8008 1\nstep 8008 skip 800C 2\nstep 800C do exit 11\nclose\nplace - 8000 0\nplace - 8004 0\nplace - 8008 1\nplace - 800C 18\ninstance - 8004 1 7\nstop\n";
 
-const DEARER: [u32; 15] = [3, 1, 2, 5, 4, 3, 2, 8, 6, 5, 10, 2, 2, 1, 8];
+use crate::support::DEARER;
 
 /// What the check of a certificate prints, and whether that is `yes`.
 fn judged(
@@ -40,6 +38,7 @@ fn judged(
         source.as_bytes(),
         statement.as_bytes(),
         certificate.as_bytes(),
+        None,
         &mut out,
     )?;
     Ok((yes, out))
@@ -196,16 +195,13 @@ fn forged_deep_repeat(rt: HostRuntime) -> Result<(), Fail> {
 #[test]
 fn certificates_by_another_profile(rt: HostRuntime) -> Result<(), Fail> {
     let alloc = rt.alloc();
-    let Ok(profile) = Profile::new(DEARER) else {
-        assert!(rt; false);
-        return Ok(());
-    };
+    let profile = Some(DEARER.as_bytes());
     let source = source_of(alloc, 0x8000, &COUNTDOWN)?;
     let source = source.as_bytes();
     let statement = statement_of(alloc, 0x8000, &[countdown_loop(2)], "")?;
     let statement = statement.as_bytes();
     let mut out = MemoryOutput::with_room(alloc, 0)?;
-    bound_report_with(alloc, source, statement, &profile, &mut out)?;
+    bound_report(alloc, source, statement, profile, &mut out)?;
     assert_eq!(rt; out.bytes(), DEARER_CERTIFICATE.as_bytes());
     let rows = [
         (DEARER_CERTIFICATE, "yes\n"),
@@ -213,12 +209,12 @@ fn certificates_by_another_profile(rt: HostRuntime) -> Result<(), Fail> {
     ];
     for (text, said) in rows {
         let mut out = MemoryOutput::with_room(alloc, 0)?;
-        let yes = check_report_with(
+        let yes = check_report(
             alloc,
             source,
             statement,
             text.as_bytes(),
-            &profile,
+            profile,
             &mut out,
         )?;
         assert_eq!(rt; yes, said == "yes\n");

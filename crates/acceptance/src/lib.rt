@@ -3,6 +3,8 @@
 #![tactic(auto)]
 
 #[cfg(test)]
+mod assembly;
+#[cfg(test)]
 mod calls;
 #[cfg(test)]
 mod certificates;
@@ -15,6 +17,8 @@ mod handlers;
 #[cfg(test)]
 mod limits;
 #[cfg(test)]
+mod lines;
+#[cfg(test)]
 mod loops;
 #[cfg(test)]
 mod machine_runs;
@@ -24,6 +28,10 @@ mod outputs;
 mod part_writes;
 #[cfg(test)]
 mod program_runs;
+#[cfg(test)]
+mod reported_runs;
+#[cfg(test)]
+mod sessions;
 #[cfg(test)]
 mod sources;
 #[cfg(test)]

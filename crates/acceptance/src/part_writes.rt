@@ -2,10 +2,9 @@
 
 use crate::outputs::Narrow;
 use arcwcet::{
-    AsmFault, MemoryOutput, ReportFault, bound_report, bound_report_with, check_report,
-    check_report_with, write_whole,
+    MemoryOutput, ReportFault, bound_report, check_report, write_whole,
 };
-use bus_ticks::Profile;
+use assembler::{AsmFault, Fault};
 use certificate::CertFault;
 use std::test::Fail;
 
@@ -32,10 +31,10 @@ const REPORT: &[u8] =
 fn reports_over_part_writes(rt: HostRuntime) -> Result<(), Fail> {
     let alloc = rt.alloc();
     let mut out = MemoryOutput::with_room(alloc, 128)?;
-    bound_report(alloc, SOURCE, STATEMENT, &mut out)?;
+    bound_report(alloc, SOURCE, STATEMENT, None, &mut out)?;
     assert_eq!(rt; out.bytes(), REPORT);
     let mut slow = Narrow::new(alloc, 1, 100);
-    bound_report_with(alloc, SOURCE, STATEMENT, &Profile::one(), &mut slow)?;
+    bound_report(alloc, SOURCE, STATEMENT, None, &mut slow)?;
     assert_eq!(rt; slow.bytes.as_slice(), REPORT);
     Ok(())
 }
@@ -45,7 +44,7 @@ fn device_at_each_cut(rt: HostRuntime) {
     let alloc = rt.alloc();
     for left in 0..REPORT.len() {
         let mut out = Narrow::new(alloc, 7, left);
-        let answer = bound_report(alloc, SOURCE, STATEMENT, &mut out);
+        let answer = bound_report(alloc, SOURCE, STATEMENT, None, &mut out);
         assert_eq!(rt; answer, Err(ReportFault::Device), "at {left}");
         assert_eq!(rt; out.bytes.as_slice(), &REPORT[..left], "at {left}");
         assert_eq!(rt; out.failures, 1, "at {left}");
@@ -56,12 +55,12 @@ fn device_at_each_cut(rt: HostRuntime) {
 fn the_certificate_is_read_last(rt: HostRuntime) -> Result<(), Fail> {
     let alloc = rt.alloc();
     let mut out = MemoryOutput::with_room(alloc, 8)?;
-    let answer = check_report(alloc, b" FROB\n", STATEMENT, b"", &mut out);
-    assert_eq!(rt; answer, Err(ReportFault::Source(AsmFault::UnknownWord(1))));
-    let answer = check_report(alloc, SOURCE, STATEMENT, b"", &mut out);
+    let answer = check_report(alloc, b" FROB\n", STATEMENT, b"", None, &mut out);
+    assert_eq!(rt; answer, Err(ReportFault::Source(AsmFault::Line(Fault::UnknownWord, 1))));
+    let answer = check_report(alloc, SOURCE, STATEMENT, b"", None, &mut out);
     assert_eq!(rt; answer, Err(ReportFault::Cert(CertFault::Truncated)));
     let text = b"arcwcet certificate 3\n";
-    let answer = check_report_with(alloc, SOURCE, STATEMENT, text, &Profile::one(), &mut out);
+    let answer = check_report(alloc, SOURCE, STATEMENT, text, None, &mut out);
     assert_eq!(rt; answer, Err(ReportFault::Cert(CertFault::BadLine(1))));
     assert_eq!(rt; out.bytes(), b"".as_slice());
     Ok(())

@@ -4,6 +4,7 @@ use crate::files::Files;
 use crate::outputs::Narrow;
 use arcwcet::{LIMIT, MemoryOutput, ReportFault, program};
 use std::alloc::{AllocError, Global};
+use std::io::Read;
 use std::test::Fail;
 
 const SOURCE: &str = " ORG &1C\n DCD &E25EF004\n";
@@ -11,7 +12,7 @@ const SOURCE: &str = " ORG &1C\n DCD &E25EF004\n";
 const REPORT: &str =
     "arcwcet certificate 1\nbound 9\nstep 1C do exit 9\nclose\nplace - 1C 0\nstop\n";
 
-fn line(alloc: Global, words: &[&str]) -> Result<Vec<String>, AllocError> {
+pub(crate) fn line(alloc: Global, words: &[&str]) -> Result<Vec<String>, AllocError> {
     let mut line = Vec::new(alloc);
     for word in words {
         line.push(String::from_str(alloc, word)?)?;
@@ -29,13 +30,32 @@ fn run(
     let words = line(alloc, words)?;
     let mut out = MemoryOutput::with_room(alloc, 0)?;
     let mut err = MemoryOutput::with_room(alloc, 0)?;
-    let mut files = Files {
-        source,
-        statement,
-        certificate: b"",
-    };
+    let mut files = Files::new(alloc, source, statement, b"");
     let mut input: &[u8] = b"";
     let status = program(alloc, &words, &mut files, &mut input, &mut out, &mut err);
+    Ok((status, out, err))
+}
+
+/// A run of the program over files: its status, and what it wrote to standard output and standard error.
+pub(crate) fn told(
+    alloc: Global,
+    words: &[String],
+    files: &mut Files<'_>,
+) -> Result<(u8, MemoryOutput, MemoryOutput), ReportFault> {
+    let mut input: &[u8] = b"";
+    told_by(alloc, words, files, &mut input)
+}
+
+/// The same with a standard input.
+pub(crate) fn told_by<I: Read>(
+    alloc: Global,
+    words: &[String],
+    files: &mut Files<'_>,
+    input: &mut I,
+) -> Result<(u8, MemoryOutput, MemoryOutput), ReportFault> {
+    let mut out = MemoryOutput::with_room(alloc, 0)?;
+    let mut err = MemoryOutput::with_room(alloc, 0)?;
+    let status = program(alloc, words, files, input, &mut out, &mut err);
     Ok((status, out, err))
 }
 
@@ -124,11 +144,7 @@ fn the_output_may_take_little(rt: HostRuntime) -> Result<(), Fail> {
         let mut out = Narrow::new(alloc, 1, left);
         // What standard error takes changes no status.
         let mut err = Narrow::new(alloc, 1, 0);
-        let mut files = Files {
-            source: SOURCE.as_bytes(),
-            statement: b"entry = 0x1C",
-            certificate: b"",
-        };
+        let mut files = Files::new(alloc, SOURCE.as_bytes(), b"entry = 0x1C", b"");
         let mut input: &[u8] = b"";
         let answer = program(alloc, &words, &mut files, &mut input, &mut out, &mut err);
         assert_eq!(rt; answer, status, "at {left}");
@@ -152,11 +168,8 @@ fn run_check(
     )?;
     let mut out = MemoryOutput::with_room(alloc, 0)?;
     let mut err = MemoryOutput::with_room(alloc, 0)?;
-    let mut files = Files {
-        source: SOURCE.as_bytes(),
-        statement: b"entry = 0x1C",
-        certificate: certificate.as_bytes(),
-    };
+    let certificate = certificate.as_bytes();
+    let mut files = Files::new(alloc, SOURCE.as_bytes(), b"entry = 0x1C", certificate);
     let mut input: &[u8] = b"";
     let status = program(alloc, &words, &mut files, &mut input, &mut out, &mut err);
     Ok((status, out, err))

@@ -1,13 +1,14 @@
 //! Sources: how a line may be written, and the faults of one that may not.
 
-use arcwcet::{AsmFault, MemoryOutput, ReportFault, bound_report};
+use arcwcet::{MemoryOutput, ReportFault, bound_report};
+use assembler::{AsmFault, Fault};
 use loader::image::{Image, ImageFault};
 use std::alloc::Global;
 use std::test::Fail;
 
 fn report(alloc: Global, source: &[u8]) -> Result<MemoryOutput, ReportFault> {
     let mut out = MemoryOutput::with_room(alloc, 0)?;
-    bound_report(alloc, source, b"entry = 0x8000", &mut out)?;
+    bound_report(alloc, source, b"entry = 0x8000", None, &mut out)?;
     Ok(out)
 }
 
@@ -28,31 +29,32 @@ fn ways_to_write_a_word(rt: HostRuntime) {
 #[test]
 fn source_faults(rt: HostRuntime) {
     let rows = [
-        (b" DCD 1 \x01\n".as_slice(), AsmFault::NotText(1)),
-        (b" DCD 1\n DCD 2\r", AsmFault::NotText(2)),
-        (b" FROB \xE9\n", AsmFault::NotText(1)),
-        (b"label DCD 1\n", AsmFault::UnknownWord(1)),
-        (b" Dcd 1\n", AsmFault::UnknownWord(1)),
-        (b"\n MOV\n DCD x\n", AsmFault::UnknownWord(2)),
-        (b" DCD\n", AsmFault::BadOperand(1)),
-        (b" DCD 1 2\n", AsmFault::BadOperand(1)),
-        (b" DCD 4294967296\n", AsmFault::BadOperand(1)),
-        (b" DCD +1\n", AsmFault::BadOperand(1)),
-        (b" DCD &\n", AsmFault::BadOperand(1)),
-        (b" ORG 0X10\n", AsmFault::BadOperand(1)),
-        (b" ORG &8002\n", AsmFault::OutOfRange(1)),
-        (b" ORG &3000000\n", AsmFault::OutOfRange(1)),
-        (b" ORG &4000000\n", AsmFault::OutOfRange(1)),
-        (b" DCD 1\n ORG &8000\n", AsmFault::OutOfRange(2)),
-        (b" ORG &3FFFFFC\n DCD 1\n DCD 2\n", AsmFault::OutOfRange(3)),
+        (b" DCD 1 \x01\n".as_slice(), (Fault::NotText, 1)),
+        (b" DCD 1\n DCD 2\r", (Fault::NotText, 2)),
+        (b" FROB \xE9\n", (Fault::NotText, 1)),
+        (b"label FROB\n", (Fault::UnknownWord, 1)),
+        (b" Dcd 1\n", (Fault::UnknownWord, 1)),
+        (b"\n MOVX\n DCD x\n", (Fault::UnknownWord, 2)),
+        (b" DCD\n", (Fault::BadOperand, 1)),
+        (b" DCD 1 2\n", (Fault::BadOperand, 1)),
+        (b" DCD 4294967296\n", (Fault::BadOperand, 1)),
+        (b" DCD +1\n", (Fault::BadOperand, 1)),
+        (b" DCD &\n", (Fault::BadOperand, 1)),
+        (b" ORG 0X10\n", (Fault::BadOperand, 1)),
+        (b" ORG &8002\n", (Fault::OutOfRange, 1)),
+        (b" ORG &3000000\n", (Fault::OutOfRange, 1)),
+        (b" ORG &4000000\n", (Fault::OutOfRange, 1)),
+        (b" DCD 1\n ORG &8000\n", (Fault::OutOfRange, 2)),
+        (b" ORG &3FFFFFC\n DCD 1\n DCD 2\n", (Fault::OutOfRange, 3)),
         (
             b" ORG &8004\n DCD 1\n ORG &8000\n DCD 2\n DCD 3\n",
-            AsmFault::OutOfRange(5),
+            (Fault::OutOfRange, 5),
         ),
     ];
-    for (source, fault) in rows {
+    for (source, (fault, line)) in rows {
         let answer = report(rt.alloc(), source).err();
-        assert_eq!(rt; answer, Some(ReportFault::Source(fault)));
+        let wanted = ReportFault::Source(AsmFault::Line(fault, line));
+        assert_eq!(rt; answer, Some(wanted));
     }
 }
 
@@ -65,7 +67,8 @@ fn seventeen_segments(rt: HostRuntime) -> Result<(), Fail> {
         source.push_str(lines.as_str())?;
     }
     let answer = report(rt.alloc(), source.as_bytes()).err();
-    assert_eq!(rt; answer, Some(ReportFault::Source(AsmFault::TooLong(34))));
+    let wanted = ReportFault::Source(AsmFault::Line(Fault::TooLong, 34));
+    assert_eq!(rt; answer, Some(wanted));
     Ok(())
 }
 

@@ -3,6 +3,19 @@
 use arcwcet::{MemoryOutput, ReportFault, bound_report};
 use std::alloc::{AllocError, Global};
 
+/// A cycle profile in which RAM's first access, low ROM and a burst cost more.
+pub(crate) const DEARER: &str = "\
+n = 3
+s = 1
+quad = 2
+rom = [5, 4, 3, 2]
+io = [8, 6, 5, 10]
+control = 2
+unfitted = 2
+internal = 1
+burst = 8
+";
+
 /// A loop as a statement gives it: header, first, last and bound.
 pub(crate) type Stated = (u32, u32, u32, u32);
 
@@ -70,7 +83,7 @@ pub(crate) fn report_of(
     let source = source_of(alloc, 0x8000, words)?;
     let statement = statement_of(alloc, 0x8000, loops, more)?;
     let mut out = MemoryOutput::with_room(alloc, 0)?;
-    bound_report(alloc, source.as_bytes(), statement.as_bytes(), &mut out)?;
+    bound_report(alloc, source.as_bytes(), statement.as_bytes(), None, &mut out)?;
     Ok(out)
 }
 

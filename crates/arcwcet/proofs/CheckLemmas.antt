@@ -22,7 +22,7 @@ use Rattle.arcwcet.specs.Check.{IsAnswer, IsCheckRefused, IsCheckable, IsJudged,
 use Rattle.arcwcet.specs.Faults.{of_cert}
 use Rattle.arcwcet.specs.Report.{HasLoops, IsHandlerRefused, IsTreeOf}
 use Rattle.arcwcet.specs.declared.fault.ReportFault.{ReportFault}
-use Rattle.arcwcet.specs.declared.fault.ReportFault.TheVariants.{Memory, Source, Statement, Graph, Loops, Walk, Device}
+use Rattle.arcwcet.specs.declared.fault.ReportFault.TheVariants.{Memory, Source, Image, Statement, Graph, Loops, Walk, MachineFile, Load, Device}
 use Rattle.arcwcet.specs.declared.fault.ReportFault.TheVariants as report_fault
 use Rattle.arcwcet.proofs.HandlerLemmas.{handler_refusals}
 use Rattle.arcwcet.proofs.ReportLemmas.{tree_is_greatest}
@@ -35,6 +35,10 @@ check_refusal source statement text profile Memory h = (λ e. cc e, tt)
 check_refusal source statement text profile Device h = absurd h
 check_refusal source statement text profile (report_fault.Cert f) h = absurd h
 check_refusal source statement text profile (Source f) h = (λ e. cc e, h)
+check_refusal source statement text profile (Image f) h = (λ e. cc e, h)
+check_refusal source statement text profile (MachineFile f) h = (λ e. cc e, h)
+check_refusal source statement text profile (Load f) h = (λ e. cc e, h)
+check_refusal source statement text profile (report_fault.Profile f) h = (λ e. cc e, h)
 check_refusal source statement text profile (Statement f) h = (λ e. cc e, h)
 check_refusal source statement text profile (Graph f) h = (λ e. cc e, h)
 check_refusal source statement text profile (Loops f) h = (λ e. cc e, h)

@@ -1,9 +1,10 @@
+pub mod AnswerLemmas
 pub mod CheckLemmas
-pub mod Cuts
-pub mod DigitLemmas
+pub mod FileLemmas
 pub mod Fronts
 pub mod HandlerLemmas
 pub mod LineLaws
+pub mod MachineLemmas
 pub mod ReportLemmas
 pub mod RunLemmas
 pub mod SourceLemmas

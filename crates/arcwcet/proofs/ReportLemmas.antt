@@ -29,7 +29,7 @@ use Rattle.arcwcet.specs.Faults.{of_walk}
 use Rattle.arcwcet.specs.Keeping.{BoundsRuns}
 use Rattle.arcwcet.specs.Report.{HasLoops, IsAccepted, IsGreatestWalk, IsHandlerRefused, IsRefused, IsReport, IsTreeOf, IsWalkRefusal}
 use Rattle.arcwcet.specs.declared.fault.ReportFault.{ReportFault}
-use Rattle.arcwcet.specs.declared.fault.ReportFault.TheVariants.{Memory, Source, Statement, Graph, Loops, Walk, Device}
+use Rattle.arcwcet.specs.declared.fault.ReportFault.TheVariants.{Memory, Source, Image, Statement, Graph, Loops, Walk, MachineFile, Load, Device}
 use Rattle.arcwcet.specs.declared.fault.ReportFault.TheVariants as report_fault
 use Rattle.arcwcet.proofs.HandlerLemmas.{handler_refusals, one_graph}
 
@@ -44,6 +44,10 @@ accepted_refusals source statement profile (Walk f) a r =
     let same = one_graph source statement profile r.stated a.stated r.flow a.flow r.loops.graph a.loops.graph in
     absurd (a.no_fault f r.not_memory (subst (λ (s : Stated). IsWalkRefusal a.flow s.loops f) same.same_stated (subst (λ (w : Flow). IsWalkRefusal w r.stated.loops f) same.same_flow r.holds)))
 accepted_refusals source statement profile (Source f) a r = inl (handler_refusals source statement profile a.stated a.flow (Source f) a.loops r)
+accepted_refusals source statement profile (Image f) a r = inl (handler_refusals source statement profile a.stated a.flow (Image f) a.loops r)
+accepted_refusals source statement profile (MachineFile f) a r = inl (handler_refusals source statement profile a.stated a.flow (MachineFile f) a.loops r)
+accepted_refusals source statement profile (Load f) a r = inl (handler_refusals source statement profile a.stated a.flow (Load f) a.loops r)
+accepted_refusals source statement profile (report_fault.Profile f) a r = inl (handler_refusals source statement profile a.stated a.flow (report_fault.Profile f) a.loops r)
 accepted_refusals source statement profile (Statement f) a r = inl (handler_refusals source statement profile a.stated a.flow (Statement f) a.loops r)
 accepted_refusals source statement profile (Graph f) a r = inl (handler_refusals source statement profile a.stated a.flow (Graph f) a.loops r)
 accepted_refusals source statement profile (Loops f) a r = inl (handler_refusals source statement profile a.stated a.flow (Loops f) a.loops r)
@@ -61,6 +65,10 @@ report_refusal source statement profile Memory h = (λ e. cc e, tt)
 report_refusal source statement profile Device h = absurd h
 report_refusal source statement profile (Walk f) h = absurd h
 report_refusal source statement profile (Source f) h = (λ e. cc e, h)
+report_refusal source statement profile (Image f) h = (λ e. cc e, h)
+report_refusal source statement profile (MachineFile f) h = (λ e. cc e, h)
+report_refusal source statement profile (Load f) h = (λ e. cc e, h)
+report_refusal source statement profile (report_fault.Profile f) h = (λ e. cc e, h)
 report_refusal source statement profile (Statement f) h = (λ e. cc e, h)
 report_refusal source statement profile (Graph f) h = (λ e. cc e, h)
 report_refusal source statement profile (Loops f) h = (λ e. cc e, h)

@@ -1,12 +1,21 @@
 -- What a run of a command did, from what its reads and its call gave.
-use Rattle.std.proofs.Common.{◌≡◌, ◌∙◌, ℕ, Bool, true, false, List, [], ◌∷◌, Option, Some, Result, Ok, Err, refl, sym, ap, ap₂, subst, inl, inr, arith}
-use Rattle.arcwcet.specs.Answers.{FailsWithin, OfSome}
-use Rattle.arcwcet.specs.Bound.{ReportsByOne}
-use Rattle.arcwcet.specs.Check.{ChecksByOne}
-use Rattle.arcwcet.specs.Line.{Asked, bound, check}
-use Rattle.arcwcet.specs.Run.{FailsToRead, HasNoReport, HasNoVerdict, HasPrinted, IsAnswerOf, IsReportOf, ReadsAll, Runs, RunsBound, RunsCheck, Texts, report_status, store_status}
+use Rattle.std.proofs.Common.{◌≡◌, ◌≢◌, ◌∙◌, ℕ, Bool, true, false, List, [], ◌∷◌, length, Option, Some, None, Result, Ok, Err, refl, sym, ap, ap₂, subst, inl, inr, arith}
+use Rattle.std.specs.Io.KnownBytes.{Consumes}
+use Rattle.bus_ticks.specs.declared.profile.Profile.{Profile}
+use Rattle.arcwcet.specs.Answers.{Answers, FailsWithin, OfSome}
+use Rattle.arcwcet.specs.Bound.{Reports}
+use Rattle.arcwcet.specs.Check.{Checks, IsAnswer, IsCheckRefused, IsCheckable}
+use Rattle.arcwcet.specs.Debug.{IsDebugReport}
+use Rattle.arcwcet.specs.Files.{FailsToRead, ReadsAll, Reading, Texts, in_front}
+use Rattle.arcwcet.specs.Line.{Asked, asm, run, trace, debug, bound, check}
+use Rattle.arcwcet.specs.Machine.{Front, IsMachineReport, IsRunRefused, IsRunnable, ShowsRegisters, ShowsSteps}
+use Rattle.arcwcet.specs.Priced.{ByProfile, HasNoProfile, IsUnpriced, Priced, PricedFault}
+use Rattle.arcwcet.specs.Assembly.{IsSourceRefused}
+use Rattle.arcwcet.specs.Report.{IsAccepted, IsRefused, IsReport}
+use Rattle.arcwcet.specs.Run.{FailsBefore, FailsToHear, HasNoReport, HasNoRun, HasNoVerdict, HasPrinted, IsAllOf, IsAnswerOf, IsReportOf, IsRunOf, IsSessionOf, OfThree, OfTwo, Runs, RunsAsked, RunsAsm, RunsBound, RunsCheck, RunsDebug, RunsMachine, Writing, answer_status, report_status, store_status}
 use Rattle.arcwcet.specs.declared.fault.ReportFault.{ReportFault}
-use Rattle.arcwcet.specs.declared.fault.ReportFault.TheVariants.{Memory, Source, Statement, Graph, Loops, Walk, Cert, Device}
+use Rattle.arcwcet.specs.declared.fault.ReportFault.TheVariants.{Memory, Source, Image, Statement, Graph, Loops, Walk, MachineFile, Load, Cert, Device}
+use Rattle.arcwcet.specs.declared.fault.ReportFault.TheVariants as report_fault
 use Rattle.arcwcet.specs.declared.fault.StoreFault.{StoreFault}
 use Rattle.arcwcet.specs.declared.fault.StoreFault.TheVariants as store_fault
 
@@ -20,13 +29,17 @@ told : (fault : ReportFault) → Told fault
 told Memory = of_memory refl
 told Device = of_device refl
 told (Source f) = of_other (λ e. cc e) (λ e. cc e) refl
+told (Image f) = of_other (λ e. cc e) (λ e. cc e) refl
+told (MachineFile f) = of_other (λ e. cc e) (λ e. cc e) refl
+told (Load f) = of_other (λ e. cc e) (λ e. cc e) refl
+told (report_fault.Profile f) = of_other (λ e. cc e) (λ e. cc e) refl
 told (Statement f) = of_other (λ e. cc e) (λ e. cc e) refl
 told (Graph f) = of_other (λ e. cc e) (λ e. cc e) refl
 told (Loops f) = of_other (λ e. cc e) (λ e. cc e) refl
 told (Walk f) = of_other (λ e. cc e) (λ e. cc e) refl
 told (Cert f) = of_other (λ e. cc e) (λ e. cc e) refl
 
-module _ {S O : Type 0} (reads : S → List ℕ → Result (List ℕ) StoreFault → S → Type 0) (taken : O → Option (List ℕ)) (failures : O → ℕ)
+module _ {S O : Type 0} (reads : Reading S) (taken : O → Option (List ℕ)) (failures : O → ℕ)
     (IsRunText : Bool → Texts → List ℕ → Type 0) (IsRunFault : Texts → ReportFault → Type 0) (names : Texts) (old new : S) (before after : O) where
   abbrev Ran : ℕ → Type 0
   Ran status = Runs reads taken failures IsRunText IsRunFault names old new before after status
@@ -114,78 +127,204 @@ module _ {S O : Type 0} (reads : S → List ℕ → Result (List ℕ) StoreFault
               }
         ]
 
--- the bytes that were read are those that are worked on
-module _ {S : Type 0} (reads : S → List ℕ → Result (List ℕ) StoreFault → S → Type 0) (names : Texts) (old new : S) where
-  pub two_files : (a b x y : List ℕ) → a ≡ x → b ≡ y → ReadsAll reads old names (x ∷ y ∷ []) new → ReadsAll reads old names (a ∷ b ∷ []) new
-  two_files a b x y p q read = subst (λ (files : Texts). ReadsAll reads old names files new) (sym (ap₂ (λ s t. s ∷ t ∷ []) p q)) read
+-- ## Of a report by a cycle profile
 
-  pub three_files : (a b c x y z : List ℕ) → a ≡ x → b ≡ y → c ≡ z → ReadsAll reads old names (x ∷ y ∷ z ∷ []) new → ReadsAll reads old names (a ∷ b ∷ c ∷ []) new
-  three_files a b c x y z p q r read = subst (λ (files : Texts). ReadsAll reads old names files new) (sym (ap₂ (λ s t. s ∷ t ∷ c ∷ []) p q ∙ ap (λ u. x ∷ y ∷ u ∷ []) r)) read
+module _ {S O T : Type 0} (reads : Reading S) (taken : O → Option (List ℕ)) (failures : O → ℕ)
+    (IsRunText : Bool → Texts → List ℕ → Type 0) (IsRunFault : Texts → ReportFault → Type 0) (names : Texts) (old new : S) (before after : O)
+    (files : Texts) (read : ReadsAll reads old names files new)
+    (file : Option (List ℕ)) (IsText : Profile → T → List ℕ → Type 0) (IsFine : Profile → Type 0) (IsFault : Profile → ReportFault → Type 0) (bool_of : T → Bool)
+    (texts : (x : T) (text : List ℕ) → ByProfile file (λ p. IsText p x text) → IsRunText (bool_of x) files text)
+    (faults : (fault : ReportFault) → PricedFault file IsFault fault → IsRunFault files fault) where
+  abbrev pub Answered : Result T ReportFault → Type 0
+  Answered result = Priced file (λ p. Answers taken failures (IsText p) (IsFine p) (IsFault p) before after result) before after result
 
--- ## `bound`
-
-module _ {S O T : Type 0} (reads : S → List ℕ → Result (List ℕ) StoreFault → S → Type 0) (taken : O → Option (List ℕ)) (failures : O → ℕ)
-    (source statement one two : List ℕ) (old new : S) (before after : O) (read : ReadsAll reads old (source ∷ statement ∷ []) (one ∷ two ∷ []) new) where
-  pub bound_done : (x : T) → ReportsByOne taken failures one two before after (Ok x) → RunsBound reads taken failures source statement old new before after 0
-  bound_done x b =
-      let p = b.holds.printed in
-      done reads taken failures IsReportOf HasNoReport (source ∷ statement ∷ []) old new before after (one ∷ two ∷ []) read (record {
-        files = one ∷ two ∷ [];
-        read = read;
-        printed = record { text = p.text; is_text = record { profile = b.profile; numbers = b.numbers; holds = p.is_text }; printed = p.printed };
-      })
-
-  pub bound_refused : (fault : ReportFault) → ReportsByOne {O = O} {T = T} taken failures one two before after (Err fault) → (status : ℕ) → status ≡ report_status fault
-      → RunsBound reads taken failures source statement old new before after status
-  bound_refused fault b =
-      refused reads taken failures IsReportOf HasNoReport (source ∷ statement ∷ []) old new before after (one ∷ two ∷ []) read fault
-      (record { profile = b.profile; numbers = b.numbers; holds = b.holds.fault }) b.holds.quiet
-      (λ d. let f = b.holds.device (ap Err d) in record { text = f.text; is_text = (true, record { profile = b.profile; numbers = b.numbers; holds = f.is_text.1 }); taken = f.taken; failed = f.failed })
-
--- ## `check`
-
-module _ {S O : Type 0} (reads : S → List ℕ → Result (List ℕ) StoreFault → S → Type 0) (taken : O → Option (List ℕ)) (failures : O → ℕ)
-    (source statement cert one two three : List ℕ) (old new : S) (before after : O) (read : ReadsAll reads old (source ∷ statement ∷ cert ∷ []) (one ∷ two ∷ three ∷ []) new) where
-  answered : (answer : Bool) → ChecksByOne taken failures one two three before after (Ok answer)
-      → HasPrinted reads (source ∷ statement ∷ cert ∷ []) old new (IsAnswerOf answer) (taken before) (taken after)
-  answered answer b =
+  pub priced_printed : (x : T) → Answered (Ok x) → HasPrinted reads names old new (IsRunText (bool_of x)) (taken before) (taken after)
+  priced_printed x (inl b) =
       let p = b.holds.printed in
       record {
-        files = one ∷ two ∷ three ∷ [];
+        files = files;
         read = read;
-        printed = record { text = p.text; is_text = record { profile = b.profile; numbers = b.numbers; holds = p.is_text }; printed = p.printed };
+        printed = record { text = p.text; is_text = texts x p.text (record { profile = b.profile; is = b.is; holds = p.is_text }); printed = p.printed };
       }
+  priced_printed x (inr u) = absurd (cc u.answered)
 
-  pub check_yes : (answer : Bool) → ChecksByOne taken failures one two three before after (Ok answer) → answer ≡ true → RunsCheck reads taken failures source statement cert old new before after 0
-  check_yes false b is = absurd (cc is)
-  check_yes true b is = done reads taken failures IsAnswerOf HasNoVerdict (source ∷ statement ∷ cert ∷ []) old new before after (one ∷ two ∷ three ∷ []) read (answered true b)
+  pub priced_refused : (fault : ReportFault) → Answered (Err fault) → (status : ℕ) → status ≡ report_status fault → Runs reads taken failures IsRunText IsRunFault names old new before after status
+  priced_refused fault (inl b) =
+      refused reads taken failures IsRunText IsRunFault names old new before after files read fault
+      (faults fault (inl (record { profile = b.profile; is = b.is; holds = b.holds.fault }))) b.holds.quiet
+      (λ d.
+      let f = b.holds.device (ap Err d) in
+      record { text = f.text; is_text = (bool_of f.is_text.0, texts f.is_text.0 f.text (record { profile = b.profile; is = b.is; holds = f.is_text.1 })); taken = f.taken; failed = f.failed })
+  priced_refused fault (inr u) =
+      let same : u.fault ≡ fault = cc u.answered in
+      let none : HasNoProfile file fault = subst (HasNoProfile file) same u.no_profile in
+      refused reads taken failures IsRunText IsRunFault names old new before after files read fault (faults fault (inr none)) (λ other. u.same)
+      (λ d. absurd (no_device file (subst (HasNoProfile file) d none)))
+    where
+      no_device : (f : Option (List ℕ)) → HasNoProfile f Device → ⊥
+      no_device None h = h
+      no_device (Some t) h = h
 
-  pub check_no : (answer : Bool) → ChecksByOne taken failures one two three before after (Ok answer) → answer ≡ false → RunsCheck reads taken failures source statement cert old new before after 1
-  check_no true b is = absurd (cc is)
-  check_no false b is = denied reads taken failures IsAnswerOf HasNoVerdict (source ∷ statement ∷ cert ∷ []) old new before after (one ∷ two ∷ three ∷ []) read (answered false b)
+-- the files of a run in front of which a cycle profile's may stand
+pub of_two : (Is : Option (List ℕ) → List ℕ → List ℕ → Type 0) (file : Option (List ℕ)) (a b : List ℕ) → Is file a b → OfTwo Is (in_front file (a ∷ b ∷ []))
+of_two Is None a b h = h
+of_two Is (Some f) a b h = h
 
-  pub check_refused : (fault : ReportFault) → ChecksByOne taken failures one two three before after (Err fault) → (status : ℕ) → status ≡ report_status fault
-      → RunsCheck reads taken failures source statement cert old new before after status
-  check_refused fault b =
-      refused reads taken failures IsAnswerOf HasNoVerdict (source ∷ statement ∷ cert ∷ []) old new before after (one ∷ two ∷ three ∷ []) read fault
-      (record { profile = b.profile; numbers = b.numbers; holds = b.holds.fault }) b.holds.quiet
-      (λ d. let f = b.holds.device (ap Err d) in record { text = f.text; is_text = (f.is_text.0, record { profile = b.profile; numbers = b.numbers; holds = f.is_text.1 }); taken = f.taken; failed = f.failed })
+pub of_three : (Is : Option (List ℕ) → List ℕ → List ℕ → List ℕ → Type 0) (file : Option (List ℕ)) (a b c : List ℕ) → Is file a b c → OfThree Is (in_front file (a ∷ b ∷ c ∷ []))
+of_three Is None a b c h = h
+of_three Is (Some f) a b c h = h
 
--- ## What words ask for
+module _ {S O : Type 0} (reads : Reading S) (taken : O → Option (List ℕ)) (failures : O → ℕ)
+    (IsRunText : Bool → Texts → List ℕ → Type 0) (IsRunFault : Texts → ReportFault → Type 0) (names : Texts) (old new : S) (before after : O)
+    (files : Texts) (read : ReadsAll reads old names files new)
+    (file : Option (List ℕ)) (IsText : Profile → Bool → List ℕ → Type 0) (IsFine : Profile → Type 0) (IsFault : Profile → ReportFault → Type 0)
+    (texts : (x : Bool) (text : List ℕ) → ByProfile file (λ p. IsText p x text) → IsRunText x files text)
+    (faults : (fault : ReportFault) → PricedFault file IsFault fault → IsRunFault files fault) where
+  -- the status of a report that says yes or no
+  pub priced_ran : (result : Result Bool ReportFault) → Priced file (λ p. Answers taken failures (IsText p) (IsFine p) (IsFault p) before after result) before after result
+      → (status : ℕ) → status ≡ answer_status result → Runs reads taken failures IsRunText IsRunFault names old new before after status
+  priced_ran (Ok true) h status is =
+      subst (λ (s : ℕ). Runs reads taken failures IsRunText IsRunFault names old new before after s) (sym is)
+      (done reads taken failures IsRunText IsRunFault names old new before after files read
+      (priced_printed reads taken failures IsRunText IsRunFault names old new before after files read file IsText IsFine IsFault (λ x. x) texts faults true h))
+  priced_ran (Ok false) h status is =
+      subst (λ (s : ℕ). Runs reads taken failures IsRunText IsRunFault names old new before after s) (sym is)
+      (denied reads taken failures IsRunText IsRunFault names old new before after files read
+      (priced_printed reads taken failures IsRunText IsRunFault names old new before after files read file IsText IsFine IsFault (λ x. x) texts faults false h))
+  priced_ran (Err fault) h status is =
+      priced_refused reads taken failures IsRunText IsRunFault names old new before after files read file IsText IsFine IsFault (λ x. x) texts faults fault h status is
 
--- words ask for one thing, so what is known of the files that a run took holds of those that are asked for
-pub bound_as : {one two source statement : List ℕ} (P : List ℕ → List ℕ → Type 0) → P one two → (asked : Option Asked) → asked ≡ Some (bound one two) → asked ≡ Some (bound source statement) → P source statement
-bound_as {one} {two} {source} {statement} P p asked taken wanted =
-    let same : Some (bound one two) ≡ Some (bound source statement) = sym taken ∙ wanted in
-    let first : one ≡ source = cc same in
-    let second : two ≡ statement = cc same in
-    subst (λ x. P x statement) first (subst (λ y. P one y) second p)
+-- ## `asm`
 
-pub check_as : {one two three source statement cert : List ℕ} (P : List ℕ → List ℕ → List ℕ → Type 0) → P one two three → (asked : Option Asked) → asked ≡ Some (check one two three) → asked ≡ Some (check source statement cert)
-    → P source statement cert
-check_as {one} {two} {three} {source} {statement} {cert} P p asked taken wanted =
-    let same : Some (check one two three) ≡ Some (check source statement cert) = sym taken ∙ wanted in
-    let first : one ≡ source = cc same in
-    let second : two ≡ statement = cc same in
-    let third : three ≡ cert = cc same in
-    subst (λ x. P x statement cert) first (subst (λ y. P one y cert) second (subst (λ z. P one two z) third p))
+-- the source is refused
+pub asm_refused : {S O : Type 0} (reads : Reading S) (writes : Writing S) (taken : O → Option (List ℕ)) (failures : O → ℕ) (source image file : List ℕ) (old new : S) (out : O) (fault : ReportFault)
+    → reads old source (Ok file) new → (fault ≢ Device) × IsSourceRefused file fault → (status : ℕ) → status ≡ report_status fault → RunsAsm reads writes taken failures source image old new out out status
+asm_refused reads writes taken failures source image file old new out fault read holds status is =
+    elim (told fault) [
+      | of_memory m ↦
+          let three : status ≡ 3 = is ∙ ap report_status m in
+          record {
+            done = λ e. absurd (omega (arith, e, three));
+            denied = λ e. absurd (omega (arith, e, three));
+            failed = λ e. absurd (omega (arith, e, three));
+            starved = λ e. (λ changed. inr (record { files = file ∷ []; read = (new, read, refl) }), refl);
+            known = inr (inr (inl three));
+          }
+      | of_device d ↦ absurd (holds.0 d)
+      | of_other memory other one ↦
+          let here : status ≡ 1 = is ∙ one in
+          record {
+            done = λ e. absurd (omega (arith, e, here));
+            denied = λ e. (inr (record { files = file ∷ []; read = (new, read, refl); fault = fault; not_memory = memory; not_device = other; refused = holds.1 }), refl);
+            failed = λ e. absurd (omega (arith, e, here));
+            starved = λ e. absurd (omega (arith, e, here));
+            known = inr (inl here);
+          }
+    ]
+
+-- ## Of each command
+
+module _ {S O : Type 0} (reads : Reading S) (taken : O → Option (List ℕ)) (failures : O → ℕ) (profile : Option (List ℕ)) (source second : List ℕ) (file : Option (List ℕ)) (one two : List ℕ)
+    (old new : S) (before after : O) (read : ReadsAll reads old (in_front profile (source ∷ second ∷ [])) (in_front file (one ∷ two ∷ [])) new) where
+  pub machine_ran : (Shows : Front) (result : Result Bool ReportFault)
+      → Priced file (λ p. Answers taken failures (IsMachineReport Shows one two p) (IsRunnable one two p) (IsRunRefused one two p) before after result) before after result
+      → (status : ℕ) → status ≡ answer_status result → RunsMachine Shows reads taken failures profile source second old new before after status
+  machine_ran Shows =
+      priced_ran reads taken failures (IsRunOf Shows) HasNoRun (in_front profile (source ∷ second ∷ [])) old new before after (in_front file (one ∷ two ∷ [])) read
+      file (λ p. IsMachineReport Shows one two p) (λ p. IsRunnable one two p) (λ p. IsRunRefused one two p)
+      (λ x text b. of_two (λ f s m. ByProfile f (λ p. IsMachineReport Shows s m p x text)) file one two b)
+      (λ fault k. of_two (λ f s m. PricedFault f (λ p e. IsRunRefused s m p e) fault) file one two k)
+
+  bound_text : {T : Type 0} (x : T) (text : List ℕ) → ByProfile file (λ p. IsReport one two p text) → IsReportOf true (in_front file (one ∷ two ∷ [])) text
+  bound_text x text b = of_two (λ f s t. ByProfile f (λ p. IsReport s t p text)) file one two b
+
+  bound_fault : (fault : ReportFault) → PricedFault file (λ p e. IsRefused one two p e) fault → HasNoReport (in_front file (one ∷ two ∷ [])) fault
+  bound_fault fault k = of_two (λ f s t. PricedFault f (λ p e. IsRefused s t p e) fault) file one two k
+
+  pub bound_done : {T : Type 0} (x : T) → Priced file (λ p. Reports taken failures one two p before after (Ok x)) before after (Ok x) → RunsBound reads taken failures profile source second old new before after 0
+  bound_done {T} x h =
+      let names = in_front profile (source ∷ second ∷ []) in
+      let files = in_front file (one ∷ two ∷ []) in
+      done reads taken failures IsReportOf HasNoReport names old new before after files read
+      (priced_printed {T = T} reads taken failures IsReportOf HasNoReport names old new before after files read
+      file (λ p y text. IsReport one two p text) (λ p. IsAccepted one two p) (λ p. IsRefused one two p) (λ y. true) bound_text bound_fault x h)
+
+  pub bound_refused : {T : Type 0} (fault : ReportFault) → Priced {T = T} file (λ p. Reports {T = T} taken failures one two p before after (Err fault)) before after (Err fault)
+      → (status : ℕ) → status ≡ report_status fault → RunsBound reads taken failures profile source second old new before after status
+  bound_refused {T} =
+      priced_refused {T = T} reads taken failures IsReportOf HasNoReport (in_front profile (source ∷ second ∷ [])) old new before after (in_front file (one ∷ two ∷ [])) read
+      file (λ p y text. IsReport one two p text) (λ p. IsAccepted one two p) (λ p. IsRefused one two p) (λ y. true) bound_text bound_fault
+
+pub check_ran : {S O : Type 0} (reads : Reading S) (taken : O → Option (List ℕ)) (failures : O → ℕ) (profile : Option (List ℕ)) (source statement cert : List ℕ) (file : Option (List ℕ)) (one two three : List ℕ)
+    (old new : S) (before after : O) → ReadsAll reads old (in_front profile (source ∷ statement ∷ cert ∷ [])) (in_front file (one ∷ two ∷ three ∷ [])) new
+    → (result : Result Bool ReportFault) → Priced file (λ p. Checks taken failures one two three p before after result) before after result
+    → (status : ℕ) → status ≡ answer_status result → RunsCheck reads taken failures profile source statement cert old new before after status
+check_ran reads taken failures profile source statement cert file one two three old new before after read =
+    priced_ran reads taken failures IsAnswerOf HasNoVerdict (in_front profile (source ∷ statement ∷ cert ∷ [])) old new before after (in_front file (one ∷ two ∷ three ∷ [])) read
+    file (λ p. IsAnswer one two three p) (λ p. IsCheckable one two three p) (λ p. IsCheckRefused one two three p)
+    (λ x text b. of_three (λ f s t u. ByProfile f (λ p. IsAnswer s t u p x text)) file one two three b)
+    (λ fault k. of_three (λ f s t u. PricedFault f (λ p e. IsCheckRefused s t u p e) fault) file one two three k)
+
+module _ {S I O : Type 0} (reads : Reading S) (remaining : I → Option (List ℕ)) (taken : O → Option (List ℕ)) (failures : O → ℕ) (profile : Option (List ℕ)) (source machine : List ℕ)
+    (old new : S) (heard_old heard_new : I) (before after : O) where
+  -- a file could not be read
+  pub debug_unread : (fault : StoreFault) → FailsToRead reads old (in_front profile (source ∷ machine ∷ [])) fault new → heard_new ≡ heard_old → after ≡ before → (status : ℕ) → status ≡ store_status fault
+      → RunsDebug reads remaining taken failures profile source machine old new heard_old heard_new before after status
+  debug_unread fault fails unheard same status is = inr (inl (record { fault = fault; fails = fails; status_is = is; unheard = unheard }), same)
+
+  -- standard input could not
+  pub debug_unheard : (files : Texts) (fault : StoreFault) → ReadsAll reads old (in_front profile (source ∷ machine ∷ [])) files new
+      → (fault ≡ store_fault.InputTooLong → (front : List ℕ) × (length front ≡ 16777217) × Consumes (remaining heard_old) (remaining heard_new) front) → after ≡ before → (status : ℕ) → status ≡ store_status fault
+      → RunsDebug reads remaining taken failures profile source machine old new heard_old heard_new before after status
+  debug_unheard files fault read too_long same status is = inr (inr (inl (record { files = files; read = read; fault = fault; status_is = is; too_long = too_long })), same)
+
+  module _ (file : Option (List ℕ)) (one two commands : List ℕ) (read : ReadsAll reads old (in_front profile (source ∷ machine ∷ [])) (in_front file (one ∷ two ∷ [])) new)
+      (heard : IsAllOf (remaining heard_old) commands) where
+    debug_text : {T : Type 0} (x : T) (text : List ℕ) → ByProfile file (λ p. IsDebugReport one two commands p text) → IsSessionOf commands true (in_front file (one ∷ two ∷ [])) text
+    debug_text x text b = of_two (λ f s m. ByProfile f (λ p. IsDebugReport s m commands p text)) file one two b
+
+    debug_fault : (fault : ReportFault) → PricedFault file (λ p e. IsRunRefused one two p e) fault → HasNoRun (in_front file (one ∷ two ∷ [])) fault
+    debug_fault fault k = of_two (λ f s m. PricedFault f (λ p e. IsRunRefused s m p e) fault) file one two k
+
+    abbrev pub DebugAnswers : {T : Type 0} → Result T ReportFault → Type 0
+    DebugAnswers result = Priced file (λ p. Answers taken failures (λ _ text. IsDebugReport one two commands p text) (IsRunnable one two p) (IsRunRefused one two p) before after result) before after result
+
+    pub debug_done : {T : Type 0} (x : T) → DebugAnswers (Ok x) → RunsDebug reads remaining taken failures profile source machine old new heard_old heard_new before after 0
+    debug_done {T} x h =
+        let names = in_front profile (source ∷ machine ∷ []) in
+        let files = in_front file (one ∷ two ∷ []) in
+        inl (commands, heard, done reads taken failures (IsSessionOf commands) HasNoRun names old new before after files read
+        (priced_printed {T = T} reads taken failures (IsSessionOf commands) HasNoRun names old new before after files read
+        file (λ p y text. IsDebugReport one two commands p text) (λ p. IsRunnable one two p) (λ p. IsRunRefused one two p) (λ y. true) debug_text debug_fault x h))
+
+    pub debug_refused : {T : Type 0} (fault : ReportFault) → DebugAnswers {T = T} (Err fault) → (status : ℕ) → status ≡ report_status fault
+        → RunsDebug reads remaining taken failures profile source machine old new heard_old heard_new before after status
+    debug_refused {T} fault h status is =
+        inl (commands, heard, priced_refused {T = T} reads taken failures (IsSessionOf commands) HasNoRun (in_front profile (source ∷ machine ∷ [])) old new before after (in_front file (one ∷ two ∷ [])) read
+        file (λ p y text. IsDebugReport one two commands p text) (λ p. IsRunnable one two p) (λ p. IsRunRefused one two p) (λ y. true) debug_text debug_fault fault h status is)
+
+-- ## Without memory for the words
+
+module _ {S I O : Type 0} (reads : Reading S) (writes : Writing S) (remaining : I → Option (List ℕ)) (taken : O → Option (List ℕ)) (failures : O → ℕ) (store : S) (input : I) (out : O) where
+  starved_run : (IsText : Bool → Texts → List ℕ → Type 0) (IsFault : Texts → ReportFault → Type 0) (names : Texts) → Runs reads taken failures IsText IsFault names store store out out 3
+  starved_run IsText IsFault names = record {
+    done = λ e. absurd (omega (arith, e));
+    denied = λ e. absurd (omega (arith, e));
+    failed = λ e. absurd (omega (arith, e));
+    starved = λ e. (λ changed. absurd (changed refl), refl);
+    known = inr (inr (inl refl));
+  }
+
+  pub starved_asked : (asked : Asked) → RunsAsked reads writes remaining taken failures asked store store input input out out 3
+  starved_asked (asm source image) = (record {
+    done = λ e. absurd (omega (arith, e));
+    denied = λ e. absurd (omega (arith, e));
+    failed = λ e. absurd (omega (arith, e));
+    starved = λ e. (λ changed. absurd (changed refl), refl);
+    known = inr (inr (inl refl));
+  }, refl)
+  starved_asked (debug n) = inr (inr (inr (refl, refl, refl)), refl)
+  starved_asked (run n) = (starved_run (IsRunOf ShowsRegisters) HasNoRun (in_front n.profile (n.first ∷ n.second ∷ [])), refl)
+  starved_asked (trace n) = (starved_run (IsRunOf ShowsSteps) HasNoRun (in_front n.profile (n.first ∷ n.second ∷ [])), refl)
+  starved_asked (bound n) = (starved_run IsReportOf HasNoReport (in_front n.profile (n.first ∷ n.second ∷ [])), refl)
+  starved_asked (check n cert) = (starved_run IsAnswerOf HasNoVerdict (in_front n.profile (n.first ∷ n.second ∷ cert ∷ [])), refl)

@@ -1,46 +1,49 @@
--- What a source says, from what its lines say one after another.
-use Rattle.std.proofs.Common.{◌≡◌, ◌∙◌, ◌+◌, ℕ, List, [], ◌∷◌, Result, Ok, Err, ap}
-use Rattle.std.specs.Str.Lines.{lines}
-use Rattle.arcwcet.specs.Image.{Reached, after_line, after_lines, and_then, source_of, start}
-use Rattle.arcwcet.specs.Source.{line_of}
-use Rattle.arcwcet.specs.declared.source.line.Line.{Line}
-use Rattle.arcwcet.specs.declared.source.fault.AsmFault.{AsmFault}
+-- What reading a source tells.
+use Rattle.std.proofs.Common.{◌≡◌, ◌∙◌, ◌⊎◌, ℕ, Bool, true, false, List, Result, Ok, Err, ap, cond, inl, inr, sym}
+use Rattle.std.specs.Prelude.{IfErr}
+use Rattle.loader.specs.Image.{Words}
+use Rattle.loader.specs.ImageBytes.{image_read}
+use Rattle.loader.specs.declared.reading.ReadFault.{ReadFault}
+use Rattle.loader.specs.declared.reading.ReadFault.TheVariants as read_fault
+use Rattle.statement.specs.Statement.{Names}
+use Rattle.assembler.specs.Sweeps.{assembled}
+use Rattle.assembler.specs.Views.{FaultedAt}
+use Rattle.assembler.specs.declared.fault.AsmFault.{AsmFault}
+use Rattle.assembler.specs.declared.fault.AsmFault.TheVariants as asm_fault
+use Rattle.arcwcet.specs.Faults.{of_image, of_source}
+use Rattle.arcwcet.specs.Source.{IsSourceFault, Said, is_image, no_names, said_by_image, said_by_text, source_of}
 
--- the lines of the text lead to r, and from there those of the rest are to come
-pub record Leads (text : List ℕ) (at : ℕ) (r : Reached) (rest : List ℕ) : Type 0 where
-  pub whole : after_lines 1 start (lines text) ≡ after_lines at r (lines rest)
-
--- the first of the lines to come
-next : (at : ℕ) (r : Reached) (rest line others : List ℕ) → lines rest ≡ line ∷ lines others
-    → after_lines at r (lines rest) ≡ and_then (and_then (line_of at line) (after_line at r)) (λ n. after_lines (at + 1) n (lines others))
-next at r rest line others e = ap (after_lines at r) e
-
-pub step : (text : List ℕ) (at : ℕ) (r s : Reached) (rest line others : List ℕ) (l : Line) → Leads text at r rest → lines rest ≡ line ∷ lines others
-    → line_of at line ≡ Ok l → after_line at r l ≡ Ok s → Leads text (at + 1) s others
-step text at r s rest line others l far cut says takes = record {
-  whole = far.whole ∙ next at r rest line others cut
-      ∙ ap (λ (x : Result Line AsmFault). and_then (and_then x (after_line at r)) (λ n. after_lines (at + 1) n (lines others))) says
-      ∙ ap (λ (x : Result Reached AsmFault). and_then x (λ n. after_lines (at + 1) n (lines others))) takes;
-}
-
-pub misread : (text : List ℕ) (at : ℕ) (r : Reached) (rest line others : List ℕ) (e : AsmFault) → Leads text at r rest → lines rest ≡ line ∷ lines others
-    → line_of at line ≡ Err e → source_of text ≡ Err e
+said_image : (source : List ℕ) → is_image source ≡ true → source_of source ≡ said_by_image (image_read source)
 unfolding source_of
-misread text at r rest line others e far cut says =
-    ap (λ (x : Result Reached AsmFault). and_then x (λ n. Ok n.words))
-    (far.whole ∙ next at r rest line others cut
-    ∙ ap (λ (x : Result Line AsmFault). and_then (and_then x (after_line at r)) (λ n. after_lines (at + 1) n (lines others))) says)
+said_image source is = ap (λ (b : Bool). cond b (said_by_image (image_read source)) (said_by_text (assembled source))) is
 
-pub untaken : (text : List ℕ) (at : ℕ) (r : Reached) (rest line others : List ℕ) (l : Line) (e : AsmFault) → Leads text at r rest → lines rest ≡ line ∷ lines others
-    → line_of at line ≡ Ok l → after_line at r l ≡ Err e → source_of text ≡ Err e
+said_text : (source : List ℕ) → is_image source ≡ false → source_of source ≡ said_by_text (assembled source)
 unfolding source_of
-untaken text at r rest line others l e far cut says takes =
-    ap (λ (x : Result Reached AsmFault). and_then x (λ n. Ok n.words))
-    (far.whole ∙ next at r rest line others cut
-    ∙ ap (λ (x : Result Line AsmFault). and_then (and_then x (after_line at r)) (λ n. after_lines (at + 1) n (lines others))) says
-    ∙ ap (λ (x : Result Reached AsmFault). and_then x (λ n. after_lines (at + 1) n (lines others))) takes)
+said_text source is = ap (λ (b : Bool). cond b (said_by_image (image_read source)) (said_by_text (assembled source))) is
 
-pub ended : (text : List ℕ) (at : ℕ) (r : Reached) (rest : List ℕ) → Leads text at r rest → lines rest ≡ [] → source_of text ≡ Ok r.words
-unfolding source_of
-ended text at r rest far cut =
-    ap (λ (x : Result Reached AsmFault). and_then x (λ n. Ok n.words)) (far.whole ∙ ap (after_lines at r) cut)
+pub image_said : (source : List ℕ) (words : Words) (names : Names) → is_image source ≡ true → image_read source ≡ Ok words → names ≡ no_names → source_of source ≡ Ok (words, names)
+image_said source words names is read none = said_image source is ∙ ap said_by_image read ∙ ap (λ (n : Names). Ok (words, n)) (sym none)
+
+pub text_said : (source : List ℕ) (words : Words) (names : Names) → is_image source ≡ false → assembled source ≡ Ok (words, names) → source_of source ≡ Ok (words, names)
+text_said source words names is read = said_text source is ∙ ap said_by_text read
+
+-- why an image cannot be read
+pub image_fault : (source : List ℕ) (f : ReadFault) → is_image source ≡ true → (f ≡ read_fault.Memory) ⊎ (image_read source ≡ Err f) → IsSourceFault source (of_image f)
+image_fault source read_fault.Memory is h = tt
+image_fault source read_fault.BadMagic is (inl h) = absurd (cc h)
+image_fault source read_fault.BadMagic is (inr h) = said_image source is ∙ ap said_by_image h
+image_fault source read_fault.Truncated is (inl h) = absurd (cc h)
+image_fault source read_fault.Truncated is (inr h) = said_image source is ∙ ap said_by_image h
+image_fault source read_fault.Overlap is (inl h) = absurd (cc h)
+image_fault source read_fault.Overlap is (inr h) = said_image source is ∙ ap said_by_image h
+image_fault source read_fault.Misaligned is (inl h) = absurd (cc h)
+image_fault source read_fault.Misaligned is (inr h) = said_image source is ∙ ap said_by_image h
+image_fault source read_fault.TrailingBytes is (inl h) = absurd (cc h)
+image_fault source read_fault.TrailingBytes is (inr h) = said_image source is ∙ ap said_by_image h
+image_fault source read_fault.OutOfRange is (inl h) = absurd (cc h)
+image_fault source read_fault.OutOfRange is (inr h) = said_image source is ∙ ap said_by_image h
+
+-- why a text cannot be assembled
+pub text_fault : (source : List ℕ) (f : AsmFault) → is_image source ≡ false → FaultedAt f (assembled source) → IsSourceFault source (of_source f)
+text_fault source asm_fault.Memory is h = tt
+text_fault source (asm_fault.Line fault line) is h = said_text source is ∙ ap said_by_text h

@@ -1,8 +1,6 @@
 -- What a call that prints one text answers. Our own.
 use Rattle.std.specs.Prelude.{◌≡◌, ◌≢◌, ◌⊎◌, ℕ, List, Option, Result, Err, OnOk, IfOk, IfErr}
 use Rattle.std.specs.Io.KnownBytes.{Appends}
-use Rattle.bus_ticks.specs.Numbers.{numbers_of, profile_one}
-use Rattle.bus_ticks.specs.declared.profile.Profile.{Profile}
 use Rattle.arcwcet.specs.Output.{TakesFront, FailsSince}
 use Rattle.arcwcet.specs.declared.fault.ReportFault.{ReportFault}
 use Rattle.arcwcet.specs.declared.fault.ReportFault.TheVariants.{Memory, Device}
@@ -35,9 +33,3 @@ pub record Answers {O T : Type 0} (taken : O → Option (List ℕ)) (failures : 
   pub fault : IfErr result IsFault
   pub quiet : IfErr result (λ e. e ≢ Device → new ≡ old)
   pub device : result ≡ Err Device → FailsWithin (OfSome IsText) (taken old) (taken new) (failures old) (failures new)
-
--- the same by the first profile
-pub record ByOne (Holds : Profile → Type 0) : Type 0 where
-  pub profile : Profile
-  pub numbers : numbers_of profile ≡ profile_one
-  pub holds : Holds profile

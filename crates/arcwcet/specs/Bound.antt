@@ -1,7 +1,7 @@
 -- What a report's call answers and prints. Our own.
 use Rattle.std.specs.Prelude.{ℕ, List, Option, Result}
 use Rattle.bus_ticks.specs.declared.profile.Profile.{Profile}
-use Rattle.arcwcet.specs.Answers.{Answers, ByOne}
+use Rattle.arcwcet.specs.Answers.{Answers}
 use Rattle.arcwcet.specs.Report.{IsAccepted, IsRefused, IsReport}
 use Rattle.arcwcet.specs.declared.fault.ReportFault.{ReportFault}
 
@@ -9,7 +9,3 @@ use Rattle.arcwcet.specs.declared.fault.ReportFault.{ReportFault}
 abbrev pub Reports : {O T : Type 0} → (O → Option (List ℕ)) → (O → ℕ) → List ℕ → List ℕ → Profile → O → O → Result T ReportFault → Type 0
 Reports taken failures source statement profile old new result =
     Answers taken failures (λ _ text. IsReport source statement profile text) (IsAccepted source statement profile) (IsRefused source statement profile) old new result
-
--- the answer by the first profile
-abbrev pub ReportsByOne : {O T : Type 0} → (O → Option (List ℕ)) → (O → ℕ) → List ℕ → List ℕ → O → O → Result T ReportFault → Type 0
-ReportsByOne taken failures source statement old new result = ByOne (λ profile. Reports taken failures source statement profile old new result)

@@ -15,7 +15,7 @@ use Rattle.cert_check.specs.declared.verdict.Objection.{Objection}
 use Rattle.cert_check.specs.declared.verdict.Objection.TheVariants as o
 use Rattle.cert_check.specs.declared.verdict.Verdict.{Verdict}
 use Rattle.cert_check.specs.declared.verdict.Verdict.TheVariants.{Yes, No}
-use Rattle.arcwcet.specs.Answers.{Answers, ByOne}
+use Rattle.arcwcet.specs.Answers.{Answers}
 use Rattle.arcwcet.specs.Report.{HasLoops, IsHandlerRefused, IsTreeOf}
 use Rattle.arcwcet.specs.declared.fault.ReportFault.{ReportFault}
 use Rattle.arcwcet.specs.declared.fault.ReportFault.TheVariants as report_fault
@@ -103,7 +103,3 @@ IsCheckRefused source statement text profile fault = IsHandlerRefused source sta
 abbrev pub Checks : {O : Type 0} → (O → Option (List ℕ)) → (O → ℕ) → List ℕ → List ℕ → List ℕ → Profile → O → O → Result Bool ReportFault → Type 0
 Checks taken failures source statement text profile old new result =
     Answers taken failures (IsAnswer source statement text profile) (IsCheckable source statement text profile) (IsCheckRefused source statement text profile) old new result
-
--- the answer by the first profile
-abbrev pub ChecksByOne : {O : Type 0} → (O → Option (List ℕ)) → (O → ℕ) → List ℕ → List ℕ → List ℕ → O → O → Result Bool ReportFault → Type 0
-ChecksByOne taken failures source statement text old new result = ByOne (λ profile. Checks taken failures source statement text profile old new result)

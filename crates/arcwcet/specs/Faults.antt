@@ -1,4 +1,14 @@
 -- Faults of the parts as a report's: want of memory is one for all. Our own.
+use Rattle.assembler.specs.declared.fault.AsmFault.{AsmFault}
+use Rattle.assembler.specs.declared.fault.AsmFault.TheVariants as asm_fault
+use Rattle.loader.specs.declared.reading.ReadFault.{ReadFault}
+use Rattle.loader.specs.declared.reading.ReadFault.TheVariants as read_fault
+use Rattle.loader.specs.declared.loading.LoadFault.{LoadFault}
+use Rattle.loader.specs.declared.loading.LoadFault.TheVariants as load_fault
+use Rattle.machine_file.specs.declared.machine_faults.MachineFileFault.{MachineFileFault}
+use Rattle.machine_file.specs.declared.machine_faults.MachineFileFault.TheVariants as machine_fault
+use Rattle.machine_file.specs.declared.profile_faults.ProfileFileFault.{ProfileFileFault}
+use Rattle.machine_file.specs.declared.profile_faults.ProfileFileFault.TheVariants as profile_fault
 use Rattle.flow_graph.specs.declared.faults.BuildFault.{BuildFault}
 use Rattle.flow_graph.specs.declared.faults.BuildFault.TheVariants as build_fault
 use Rattle.statement.specs.declared.faults.StatementFault.{StatementFault}
@@ -10,9 +20,7 @@ use Rattle.numbered_walks.specs.declared.fault.WalkFault.TheVariants as walk_fau
 use Rattle.certificate.specs.declared.fault.CertFault.{CertFault}
 use Rattle.certificate.specs.declared.fault.CertFault.TheVariants as cert_fault
 use Rattle.arcwcet.specs.declared.fault.ReportFault.{ReportFault}
-use Rattle.arcwcet.specs.declared.fault.ReportFault.TheVariants.{Memory, Source, Statement, Graph, Loops, Walk, Cert}
-use Rattle.arcwcet.specs.declared.source.fault.AsmFault.{AsmFault}
-use Rattle.arcwcet.specs.declared.source.fault.AsmFault.TheVariants as asm_fault
+use Rattle.arcwcet.specs.declared.fault.ReportFault.TheVariants.{Memory, Source, Image, Statement, Graph, Loops, Walk, MachineFile, Load, Cert, Profile}
 
 abbrev pub of_source : AsmFault → ReportFault
 of_source asm_fault.Memory = Memory
@@ -37,3 +45,19 @@ of_walk fault = Walk fault
 abbrev pub of_cert : CertFault → ReportFault
 of_cert cert_fault.Memory = Memory
 of_cert fault = Cert fault
+
+abbrev pub of_image : ReadFault → ReportFault
+of_image read_fault.Memory = Memory
+of_image fault = Image fault
+
+abbrev pub of_machine_file : MachineFileFault → ReportFault
+of_machine_file machine_fault.Memory = Memory
+of_machine_file fault = MachineFile fault
+
+abbrev pub of_load : LoadFault → ReportFault
+of_load load_fault.Memory = Memory
+of_load fault = Load fault
+
+abbrev pub of_profile : ProfileFileFault → ReportFault
+of_profile profile_fault.Memory = Memory
+of_profile fault = Profile fault

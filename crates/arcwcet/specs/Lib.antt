@@ -1,12 +1,16 @@
 pub mod Answers
+pub mod Assembly
 pub mod Bound
 pub mod Check
+pub mod Debug
 pub mod Faults
-pub mod Image
+pub mod Files
 pub mod Keeping
 pub mod Kept
 pub mod Line
+pub mod Machine
 pub mod Output
+pub mod Priced
 pub mod Report
 pub mod Run
 pub mod Source

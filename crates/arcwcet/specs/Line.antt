@@ -1,5 +1,5 @@
 -- What a line of words asks of the program, by clap's function for a simple command. The commands are our own.
-use Rattle.std.specs.Prelude.{true, List, [], ◌∷◌, Option, Some, None, String, codes, map, option_and_then, string_bytes, if◌then◌else◌}
+use Rattle.std.specs.Prelude.{true, List, [], ◌∷◌, Option, Some, None, String, codes, map, option_and_then, option_map, string_bytes, if◌then◌else◌}
 use Rattle.std.specs.declared.alloc.Global.{Global}
 use Rattle.std.specs.Str.{bytes_eq}
 use Rattle.clap.specs.Walk.{Row, Rule, Text, first_of}
@@ -7,57 +7,108 @@ use Rattle.clap.specs.Simple.{App, new_app, new_rule, on_top, subcommand_of, wit
 use Rattle.clap.specs.Faults.{fault_of}
 use Rattle.clap.specs.Kinds.{Kinds}
 use Rattle.arcwcet.specs.declared.line.Request.{Request}
-use Rattle.arcwcet.specs.declared.line.Request.TheVariants.{Bound, Check}
+use Rattle.arcwcet.specs.declared.line.Request.TheVariants as request
+use Rattle.arcwcet.specs.declared.line.Names.{Names}
 
 -- an argument that has to be there, in its place
 abbrev pub wanted : Text → Rule
 wanted id = record (new_rule id) { required = true }
 
--- `bound SOURCE STATEMENT`
+-- `--profile FILE`
+abbrev pub profile_rule : Rule
+profile_rule = record (new_rule (codes "profile")) { long = Some (codes "profile"); value_names = 1 }
+
+-- `asm SOURCE IMAGE`
+abbrev pub asm_command : App
+asm_command = with_rule (with_rule (new_app (codes "asm")) (wanted (codes "source"))) (wanted (codes "image"))
+
+-- `NAME SOURCE SECOND`, with a cycle profile
+abbrev pub priced_command : Text → Text → App
+priced_command name second = with_rule (with_rule (with_rule (new_app name) profile_rule) (wanted (codes "source"))) (wanted second)
+
+abbrev pub run_command : App
+run_command = priced_command (codes "run") (codes "machine")
+
+abbrev pub trace_command : App
+trace_command = priced_command (codes "trace") (codes "machine")
+
+abbrev pub debug_command : App
+debug_command = priced_command (codes "debug") (codes "machine")
+
 abbrev pub bound_command : App
-bound_command = with_rule (with_rule (new_app (codes "bound")) (wanted (codes "source"))) (wanted (codes "statement"))
+bound_command = priced_command (codes "bound") (codes "statement")
+
+-- `check SOURCE STATEMENT CERT`, with a cycle profile
+abbrev pub check_command : App
+check_command = with_rule (priced_command (codes "check") (codes "statement")) (wanted (codes "cert"))
 
 abbrev pub arcwcet_top : App
 arcwcet_top = on_top (λ s. record s { subcommand_required = true }) (new_app (codes "arcwcet"))
 
--- `check SOURCE STATEMENT CERT`
-abbrev pub check_command : App
-check_command = with_rule (with_rule (with_rule (new_app (codes "check")) (wanted (codes "source"))) (wanted (codes "statement"))) (wanted (codes "cert"))
-
 -- the program's command with its subcommands
 abbrev pub arcwcet_command : App
-arcwcet_command = with_subcommand (with_subcommand arcwcet_top bound_command.top) check_command.top
+arcwcet_command =
+    with_subcommand (with_subcommand (with_subcommand (with_subcommand (with_subcommand (with_subcommand arcwcet_top asm_command.top) run_command.top) trace_command.top) debug_command.top) bound_command.top) check_command.top
+
+-- the names of two files, and of a cycle profile's
+pub record FileNames : Type 0 where
+  pub profile : Option Text
+  pub first : Text
+  pub second : Text
 
 -- what is asked for, with the names of files
 pub data Asked : Type 0 where
-  bound : Text → Text → Asked
-  check : Text → Text → Text → Asked
+  asm : Text → Text → Asked
+  run : FileNames → Asked
+  trace : FileNames → Asked
+  debug : FileNames → Asked
+  bound : FileNames → Asked
+  check : FileNames → Text → Asked
+
+abbrev pub names_of : Names → FileNames
+names_of n = record { profile = option_map (λ s. s.now) n.profile; first = n.first.now; second = n.second.now }
 
 abbrev pub asked_of : Request → Asked
-asked_of (Bound source statement) = bound source.now statement.now
-asked_of (Check source statement cert) = check source.now statement.now cert.now
+asked_of (request.Asm source image) = asm source.now image.now
+asked_of (request.Run names) = run (names_of names)
+asked_of (request.Trace names) = trace (names_of names)
+asked_of (request.Debug names) = debug (names_of names)
+asked_of (request.Bound names) = bound (names_of names)
+asked_of (request.Check names cert) = check (names_of names) cert.now
 
-abbrev pub bound_of : Option Text → Option Text → Option Asked
-bound_of (Some source) (Some statement) = Some (bound source statement)
-bound_of _ _ = None
+abbrev pub asm_of : Option Text → Option Text → Option Asked
+asm_of (Some source) (Some image) = Some (asm source image)
+asm_of _ _ = None
 
-abbrev pub check_of : Option Text → Option Text → Option Text → Option Asked
-check_of (Some source) (Some statement) (Some cert) = Some (check source statement cert)
-check_of _ _ _ = None
+abbrev pub named : Option Text → Option Text → Option Text → Option FileNames
+named profile (Some first) (Some second) = Some (record { profile = profile; first = first; second = second })
+named profile _ _ = None
 
--- by the values of `bound`
-abbrev pub asked_bound : List Row → Option Asked
-asked_bound rows = bound_of (first_of (codes "source") rows) (first_of (codes "statement") rows)
+abbrev pub check_of : Option FileNames → Option Text → Option Asked
+check_of (Some names) (Some cert) = Some (check names cert)
+check_of _ _ = None
+
+-- by the values of `asm`
+abbrev pub asked_asm : List Row → Option Asked
+asked_asm rows = asm_of (first_of (codes "source") rows) (first_of (codes "image") rows)
+
+-- by the values of a command with a cycle profile
+abbrev pub names_in : Text → List Row → Option FileNames
+names_in second rows = named (first_of (codes "profile") rows) (first_of (codes "source") rows) (first_of second rows)
 
 -- by the values of `check`
 abbrev pub asked_check : List Row → Option Asked
-asked_check rows = check_of (first_of (codes "source") rows) (first_of (codes "statement") rows) (first_of (codes "cert") rows)
+asked_check rows = check_of (names_in (codes "statement") rows) (first_of (codes "cert") rows)
 
 -- by the subcommand's name and its values
 abbrev pub asked_by : Text × List Row → Option Asked
 asked_by p =
-    if bytes_eq p.0 (codes "bound") then asked_bound p.1
-    else (if bytes_eq p.0 (codes "check") then asked_check p.1 else None)
+    if bytes_eq p.0 (codes "asm") then asked_asm p.1
+    else (if bytes_eq p.0 (codes "run") then option_map run (names_in (codes "machine") p.1)
+    else (if bytes_eq p.0 (codes "trace") then option_map trace (names_in (codes "machine") p.1)
+    else (if bytes_eq p.0 (codes "debug") then option_map debug (names_in (codes "machine") p.1)
+    else (if bytes_eq p.0 (codes "bound") then option_map bound (names_in (codes "statement") p.1)
+    else (if bytes_eq p.0 (codes "check") then asked_check p.1 else None)))))
 
 -- only where there is no fault
 abbrev pub unless_refused : Kinds → Option Asked → Option Asked

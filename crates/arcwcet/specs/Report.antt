@@ -1,14 +1,13 @@
 -- Reports of a handler's greatest run time, which sources and statements have one, and why the others have
 -- none. Our own.
-use Rattle.std.specs.Prelude.{◌≡◌, ◌≢◌, ◌↔◌, ℕ, List, [], Ok, Err, Contains}
+use Rattle.std.specs.Prelude.{◌≡◌, ◌≢◌, ◌↔◌, ℕ, List, Ok, Err, Contains}
 use Rattle.bus_ticks.specs.declared.profile.Profile.{Profile}
 use Rattle.loader.specs.Image.{Words}
-use Rattle.loader.specs.Labels.{Names}
 use Rattle.flow_graph.specs.declared.edges.Edge.{Edge}
 use Rattle.flow_graph.specs.Flow.{Flow, edge_shape}
 use Rattle.flow_graph.specs.Graph.{IsBuildFault, IsFlowGraph}
 use Rattle.statement.specs.Stated.{Stated}
-use Rattle.statement.specs.Statement.{IsStatement}
+use Rattle.statement.specs.Statement.{IsStatement, Names}
 use Rattle.flow_graph.specs.declared.faults.BuildFault.{BuildFault}
 use Rattle.flow_graph.specs.declared.faults.BuildFault.TheVariants as build_fault
 use Rattle.statement.specs.declared.faults.StatementFault.{StatementFault}
@@ -31,11 +30,10 @@ use Rattle.certificate.specs.Lines.{CanSpell, cert_text, said_by, said_of}
 use Rattle.certificate.specs.declared.cert.Cert.{Cert}
 use Rattle.cert_check.specs.Verdict.{IsVerdict}
 use Rattle.cert_check.specs.declared.verdict.Verdict.TheVariants.{Yes}
-use Rattle.arcwcet.specs.Image.{source_of}
 use Rattle.arcwcet.specs.Keeping.{BoundsRuns}
+use Rattle.arcwcet.specs.Source.{source_of}
 use Rattle.arcwcet.specs.declared.fault.ReportFault.{ReportFault}
 use Rattle.arcwcet.specs.declared.fault.ReportFault.TheVariants as report_fault
-use Rattle.arcwcet.specs.declared.source.fault.AsmFault.TheVariants as asm_fault
 
 -- the bound is the greatest cost, and the items unfold to a complete walk of that cost that keeps the bounds
 pub record IsGreatestWalk (flow : Flow) (loops : List Loop) (bound : ℕ) (items : List Item) : Type 0 where
@@ -50,15 +48,12 @@ IsWalkRefusal flow loops walk_fault.Memory = Unit {0}
 IsWalkRefusal flow loops walk_fault.NoCompleteWalk = (walk : List Edge) → IsCompleteWalk flow walk → ⊥
 IsWalkRefusal flow loops walk_fault.BoundTooLarge = ((walk : List Edge) × IsCompleteWalk flow walk) × IsTooLarge flow loops
 
--- a source of ORG and DCD lines names no addresses
-abbrev pub no_names : Names
-no_names = []
-
--- the source has an image and the statement a value, no refusal of a graph holds, and this is the graph
+-- the source has an image, the statement a value by the source's labels, no refusal of a graph holds, and this is the graph
 pub record HasGraph (source statement : List ℕ) (profile : Profile) (stated : Stated) (flow : Flow) : Type 0 where
   pub words : Words
-  pub source_is : source_of source ≡ Ok words
-  pub statement_is : IsStatement statement no_names (Ok stated)
+  pub names : Names
+  pub source_is : source_of source ≡ Ok (words, names)
+  pub statement_is : IsStatement statement names (Ok stated)
   pub no_fault : (f : BuildFault) → f ≢ build_fault.Memory → IsBuildFault words stated profile f → ⊥
   pub graph_is : IsFlowGraph words stated profile flow
 
@@ -98,16 +93,18 @@ pub record IsReport (source statement : List ℕ) (profile : Profile) (text : Li
 -- a fault of the statement, of a source that has an image
 pub record IsStatementRefused (source statement : List ℕ) (fault : StatementFault) : Type 0 where
   pub words : Words
-  pub source_is : source_of source ≡ Ok words
+  pub names : Names
+  pub source_is : source_of source ≡ Ok (words, names)
   pub not_memory : fault ≢ statement_fault.Memory
-  pub statement_is : IsStatement statement no_names (Err fault)
+  pub statement_is : IsStatement statement names (Err fault)
 
 -- a fault of the graph, of a source and a statement that can be read
 pub record IsGraphRefused (source statement : List ℕ) (profile : Profile) (fault : BuildFault) : Type 0 where
   pub words : Words
+  pub names : Names
   pub stated : Stated
-  pub source_is : source_of source ≡ Ok words
-  pub statement_is : IsStatement statement no_names (Ok stated)
+  pub source_is : source_of source ≡ Ok (words, names)
+  pub statement_is : IsStatement statement names (Ok stated)
   pub not_memory : fault ≢ build_fault.Memory
   pub holds : IsBuildFault words stated profile fault
 
@@ -131,13 +128,12 @@ pub record IsWalkRefused (source statement : List ℕ) (profile : Profile) (faul
 -- refused whatever they are
 abbrev pub IsHandlerRefused : List ℕ → List ℕ → Profile → ReportFault → Type 0
 IsHandlerRefused source statement profile report_fault.Memory = Unit {0}
-IsHandlerRefused source statement profile (report_fault.Source fault) = (source_of source ≡ Err fault) × (fault ≢ asm_fault.Memory)
+IsHandlerRefused source statement profile (report_fault.Source fault) = source_of source ≡ Err (report_fault.Source fault)
+IsHandlerRefused source statement profile (report_fault.Image fault) = source_of source ≡ Err (report_fault.Image fault)
 IsHandlerRefused source statement profile (report_fault.Statement fault) = IsStatementRefused source statement fault
 IsHandlerRefused source statement profile (report_fault.Graph fault) = IsGraphRefused source statement profile fault
 IsHandlerRefused source statement profile (report_fault.Loops fault) = AreLoopsRefused source statement profile fault
-IsHandlerRefused source statement profile (report_fault.Walk fault) = ⊥
-IsHandlerRefused source statement profile (report_fault.Cert fault) = ⊥
-IsHandlerRefused source statement profile report_fault.Device = ⊥
+IsHandlerRefused source statement profile fault = ⊥
 
 -- when each refusal of a report is answered; an output fails whatever the source and the statement
 abbrev pub IsRefused : List ℕ → List ℕ → Profile → ReportFault → Type 0

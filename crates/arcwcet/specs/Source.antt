@@ -1,92 +1,42 @@
--- What a source of ORG and DCD lines says. Our own text format.
-use Rattle.std.specs.Prelude.{ℕ, ◌^◌, Bool, false, ◌&&◌, ◌||◌, ◌==◌, not, nat_eq, nat_lt, nat_le, if◌then◌else◌, List, [], ◌∷◌, length, drop, filter, codes, Option, Some, None, option_map, ok_or, Result, Ok, Err}
-use Rattle.std.specs.Char.{digit_value}
-use Rattle.std.specs.List.{before_first, position_or_len, list_all, slice_split, starts_with}
-use Rattle.std.specs.Option.{option_map_or}
-use Rattle.std.specs.Str.{bytes_eq}
-use Rattle.std.specs.Str.Parse.{digits_value}
-use Rattle.arcwcet.specs.declared.source.line.Line.{Line}
-use Rattle.arcwcet.specs.declared.source.line.Line.TheVariants.{Empty, Org, Dcd}
-use Rattle.arcwcet.specs.declared.source.line.Directive.{Directive}
-use Rattle.arcwcet.specs.declared.source.line.Directive.TheVariants as directive
-use Rattle.arcwcet.specs.declared.source.fault.AsmFault.{AsmFault}
-use Rattle.arcwcet.specs.declared.source.fault.AsmFault.TheVariants.{NotText, UnknownWord, BadOperand}
+-- What a source says: an image where it begins as one, which names no addresses, else a text. Our own.
+use Rattle.std.specs.Prelude.{◌≡◌, ℕ, Bool, List, Option, None, Result, Ok, Err, nat_eq, if◌then◌else◌}
+use Rattle.std.specs.List.{starts_with}
+use Rattle.loader.specs.Image.{Words}
+use Rattle.loader.specs.ImageBytes.{image_read, magic}
+use Rattle.loader.specs.declared.reading.ReadFault.{ReadFault}
+use Rattle.statement.specs.Statement.{Names}
+use Rattle.assembler.specs.Sweeps.{assembled}
+use Rattle.assembler.specs.declared.fault.AsmFault.TheVariants.{Line}
+use Rattle.assembler.specs.declared.fault.Fault.{Fault}
+use Rattle.arcwcet.specs.declared.fault.ReportFault.{ReportFault}
+use Rattle.arcwcet.specs.declared.fault.ReportFault.TheVariants.{Memory, Source, Image}
 
--- blanks are spaces and tabs
-abbrev pub is_blank : ℕ → Bool
-is_blank b = b == 32 || b == 9
+-- the words by their addresses, and the addresses of the labels
+abbrev pub Said : Type 0
+Said = Words × Names
 
--- a comment begins at a semicolon
-abbrev pub is_semicolon : ℕ → Bool
-is_semicolon b = b == 59
+abbrev pub is_image : List ℕ → Bool
+is_image source = starts_with nat_eq source magic
 
--- a printable ASCII character or a tab
-abbrev pub is_plain : ℕ → Bool
-is_plain b = b == 9 || (nat_le 32 b && nat_le b 126)
+abbrev pub no_names : Names
+no_names name = None
 
--- a comment may hold the bytes from 80 on too
-abbrev pub is_remark : ℕ → Bool
-is_remark b = is_plain b || nat_le 128 b
+abbrev pub said_by_image : Result Words ReadFault → Result Said ReportFault
+said_by_image (Ok words) = Ok (words, no_names)
+said_by_image (Err fault) = Err (Image fault)
 
--- the bytes from the first that passes on
-abbrev pub from_first : (ℕ → Bool) → List ℕ → List ℕ
-from_first p bytes = drop (position_or_len p bytes) bytes
+-- a fault tells its line
+abbrev pub said_by_text : Result Said (Fault × ℕ) → Result Said ReportFault
+said_by_text (Ok said) = Ok said
+said_by_text (Err fault) = Err (Source (Line fault.0 fault.1))
 
--- what stands before the comment, and the comment
-abbrev pub code_of : List ℕ → List ℕ
-code_of line = before_first is_semicolon line
+-- what a source says, or its fault
+unfoldable pub source_of : List ℕ → Result Said ReportFault
+source_of source = if is_image source then said_by_image (image_read source) else said_by_text (assembled source)
 
-abbrev pub comment_of : List ℕ → List ℕ
-comment_of line = from_first is_semicolon line
-
-abbrev pub is_text : List ℕ → Bool
-is_text line = list_all is_plain (code_of line) && list_all is_remark (comment_of line)
-
--- the words of a text: its parts between blanks that are not empty
-abbrev pub words_of : List ℕ → List (List ℕ)
-words_of text = filter (λ w. not (length w == 0)) (slice_split is_blank text)
-
--- something stands in the first column
-abbrev pub has_label : List ℕ → Bool
-has_label [] = false
-has_label (b ∷ bs) = not (is_blank b)
-
--- one digit or more in the base, of a number below 2^32
-abbrev pub is_number : ℕ → List ℕ → Bool
-is_number base digits = not (length digits == 0) && (list_all (λ d. nat_lt (digit_value d) base) digits && nat_lt (digits_value base digits) (2 ^ 32))
-
-abbrev pub number_in : ℕ → List ℕ → Option ℕ
-number_in base digits = if is_number base digits then Some (digits_value base digits) else None
-
--- a number: decimal, or hex behind `&` or `0x`
-abbrev pub number_of : List ℕ → Option ℕ
-number_of word =
-    if starts_with nat_eq word (codes "&") then number_in 16 (drop 1 word)
-    else (if starts_with nat_eq word (codes "0x") then number_in 16 (drop 2 word) else number_in 10 word)
-
--- the table of words
-abbrev pub directive_of : List ℕ → Option Directive
-directive_of word =
-    if bytes_eq word (codes "ORG") || bytes_eq word (codes "org") then Some directive.Org
-    else (if bytes_eq word (codes "DCD") || bytes_eq word (codes "dcd") then Some directive.Dcd else None)
-
-abbrev pub line_by : Directive → ℕ → Line
-line_by directive.Org n = Org n
-line_by directive.Dcd n = Dcd n
-
--- one operand, which is a number
-abbrev pub with_operands : ℕ → Directive → List (List ℕ) → Result Line AsmFault
-with_operands at directive [] = Err (BadOperand at)
-with_operands at directive (operand ∷ []) = ok_or (option_map (line_by directive) (number_of operand)) (BadOperand at)
-with_operands at directive (operand ∷ more ∷ others) = Err (BadOperand at)
-
--- a word of the table and its operands
-abbrev pub with_words : ℕ → List (List ℕ) → Result Line AsmFault
-with_words at [] = Ok Empty
-with_words at (word ∷ operands) = option_map_or (λ d. with_operands at d operands) (directive_of word) (Err (UnknownWord at))
-
--- what a line says, or the first of its faults in the order of the faults' numbers; `at` is its number, from 1
-abbrev pub line_of : ℕ → List ℕ → Result Line AsmFault
-line_of at line =
-    if not (is_text line) then Err (NotText at)
-    else (if has_label (code_of line) then Err (UnknownWord at) else with_words at (words_of (code_of line)))
+-- when each refusal of a source is answered; a growth is refused whatever it says
+abbrev pub IsSourceFault : List ℕ → ReportFault → Type 0
+IsSourceFault source Memory = Unit {0}
+IsSourceFault source (Source fault) = source_of source ≡ Err (Source fault)
+IsSourceFault source (Image fault) = source_of source ≡ Err (Image fault)
+IsSourceFault source fault = ⊥

@@ -1,10 +1,12 @@
-ghost use Rattle.std.specs.Prelude.{◌≢◌, IfErr, IfOk, OnOk};
-ghost use Rattle.arcwcet.specs.Bound.{Reports, ReportsByOne};
+ghost use Rattle.std.specs.Prelude.{◌≢◌, IfErr, IfOk, OnOk, option_map};
+ghost use Rattle.arcwcet.specs.Bound.{Reports};
+ghost use Rattle.arcwcet.specs.Priced.{Priced};
 ghost use Rattle.arcwcet.specs.Report.{IsAccepted, IsRefused, IsReport};
 
 use crate::fault::ReportFault;
 use crate::handler::read_handler;
 use crate::output::Output;
+use crate::priced::profile_of;
 use crate::whole::write_whole;
 use bus_ticks::Profile;
 use cert_check::longest_gets_yes;
@@ -31,26 +33,27 @@ fn text_of(
     Ok(text)
 }
 
-/// Writes the report of a source and a statement by the first profile, the certificate of a greatest walk: the greatest cost,
-/// in ticks, of a complete walk of the handler's flow graph that keeps the bounds, such a walk, and the numbers that prove it
-/// greatest. Whatever text says the same is judged `yes` by [`check_report`](crate::check_report). Every machine run that
-/// keeps the statement takes at most that many ticks, and the profile's burst price for each DMA burst more.
+/// Writes the report of a source and a statement by a cycle profile's file, or by the first profile, the certificate of a
+/// greatest walk: the greatest cost, in ticks, of a complete walk of the handler's flow graph that keeps the bounds, such a walk, and
+/// the numbers that prove it greatest. Whatever text says the same is judged `yes` by [`check_report`](crate::check_report). Every
+/// machine run that keeps the statement takes at most that many ticks, and the profile's burst price for each DMA burst more.
 ///
 /// The whole report is made before its first byte is written. Of several faults the first in the order of the work is
-/// answered: source, statement, graph, loops, walk. After any but `Device` nothing was written.
+/// answered: profile, source, statement, graph, loops, walk. After any but `Device` nothing was written.
 pub fn bound_report<O: Output>(
     alloc: Global,
     source: &[u8],
     statement: &[u8],
+    profile: Option<&[u8]>,
     out: &mut O,
 ) -> Result<(), ReportFault>
-    ensures { ReportsByOne O.taken O.failures source.now statement.now out.old out.new result }
+    ensures { Priced (option_map (λ f. f.now) profile.entry) (λ p. Reports O.taken O.failures source.now statement.now p out.old out.new result) out.old out.new result }
 {
-    bound_report_with(alloc, source, statement, &Profile::one(), out)
+    let profile = profile_of(alloc, profile)?;
+    priced_report(alloc, source, statement, &profile, out)
 }
 
-/// The same by any profile.
-pub fn bound_report_with<O: Output>(
+fn priced_report<O: Output>(
     alloc: Global,
     source: &[u8],
     statement: &[u8],

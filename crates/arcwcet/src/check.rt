@@ -1,9 +1,11 @@
-ghost use Rattle.std.specs.Prelude.{◌≡◌, ◌≢◌, ◌↔◌, IfErr, IfOk, IsTrue};
-ghost use Rattle.arcwcet.specs.Check.{Checks, ChecksByOne, IsCheckable, IsCheckRefused, IsJudged, objection_line, verdict_line};
+ghost use Rattle.std.specs.Prelude.{◌≡◌, ◌≢◌, ◌↔◌, IfErr, IfOk, IsTrue, option_map};
+ghost use Rattle.arcwcet.specs.Priced.{Priced};
+ghost use Rattle.arcwcet.specs.Check.{Checks, IsCheckable, IsCheckRefused, IsJudged, objection_line, verdict_line};
 
 use crate::fault::ReportFault;
 use crate::handler::read_handler;
 use crate::output::Output;
+use crate::priced::profile_of;
 use crate::whole::write_whole;
 use bus_ticks::Profile;
 use cert_check::{Objection, Verdict, check};
@@ -62,26 +64,27 @@ fn verdict_of(
     Ok(verdict)
 }
 
-/// Judges the text of a certificate, whoever wrote it, by the handler of a source and a statement and the first profile, and
-/// writes one line: `yes`, which is answered as `true` and means that the certificate's bound is the greatest cost of a
-/// complete walk that keeps the bounds, or `no: ` and the name of the first [`Objection`].
+/// Judges the text of a certificate, whoever wrote it, by the handler of a source and a statement and a cycle profile's file, or
+/// the first profile, and writes one line: `yes`, which is answered as `true` and means that the certificate's bound is the greatest
+/// cost of a complete walk that keeps the bounds, or `no: ` and the name of the first [`Objection`].
 ///
 /// The verdict is found before its line's first byte is written. Of several faults the first in the order of the work is
-/// answered: source, statement, graph, loops, certificate. After any but `Device` nothing was written.
+/// answered: profile, source, statement, graph, loops, certificate. After any but `Device` nothing was written.
 pub fn check_report<O: Output>(
     alloc: Global,
     source: &[u8],
     statement: &[u8],
     cert: &[u8],
+    profile: Option<&[u8]>,
     out: &mut O,
 ) -> Result<bool, ReportFault>
-    ensures { ChecksByOne O.taken O.failures source.now statement.now cert.now out.old out.new result }
+    ensures { Priced (option_map (λ f. f.now) profile.entry) (λ p. Checks O.taken O.failures source.now statement.now cert.now p out.old out.new result) out.old out.new result }
 {
-    check_report_with(alloc, source, statement, cert, &Profile::one(), out)
+    let profile = profile_of(alloc, profile)?;
+    priced_check(alloc, source, statement, cert, &profile, out)
 }
 
-/// The same by any profile.
-pub fn check_report_with<O: Output>(
+fn priced_check<O: Output>(
     alloc: Global,
     source: &[u8],
     statement: &[u8],

@@ -1,9 +1,14 @@
-use crate::source::AsmFault;
+use arm2_exec::MachineFault;
+use assembler::AsmFault;
 use cert_check::CheckFault;
 use certificate::CertFault;
+use debugger::DebugFault;
 use flow_graph::{BuildFault, StatementFault};
+use loader::loading::LoadFault;
+use loader::reading::ReadFault;
 use longest_walk::WalkFault;
 use loop_bounds::NestFault;
+use machine_file::{MachineFileFault, ProfileFileFault};
 use std::alloc::AllocError;
 use thiserror::Error;
 
@@ -27,9 +32,12 @@ pub enum ReportFault {
     /// A growth was refused.
     #[error("Memory")]
     Memory,
-    /// The source has no image.
+    /// The source cannot be assembled.
     #[error("{0}")]
     Source(AsmFault),
+    /// The source's bytes are no image.
+    #[error("{0}")]
+    Image(ReadFault),
     /// The statement cannot be read.
     #[error("{0}")]
     Statement(StatementFault),
@@ -42,12 +50,21 @@ pub enum ReportFault {
     /// No complete walk keeps the bounds, or one costs too much.
     #[error("{0}")]
     Walk(WalkFault),
+    /// The machine file cannot be read.
+    #[error("{0}")]
+    MachineFile(MachineFileFault),
+    /// The image does not fit the machine.
+    #[error("{0}")]
+    Load(LoadFault),
     /// The text is no certificate.
     #[error("{0}")]
     Cert(CertFault),
     /// The output failed.
     #[error("Device")]
     Device,
+    /// The cycle profile file cannot be read.
+    #[error("{0}")]
+    Profile(ProfileFileFault),
 }
 
 impl From<AllocError> for ReportFault {
@@ -152,6 +169,85 @@ impl From<CheckFault> for ReportFault {
     ghost from_gives = { λ _ fault. fault ≡ Memory };
 
     fn from(_lower: CheckFault) -> ReportFault {
+        ReportFault::Memory
+    }
+}
+
+impl From<ReadFault> for ReportFault {
+    ghost use Rattle.std.specs.Prelude.{◌≡◌};
+    ghost use Rattle.arcwcet.specs.Faults.{of_image};
+
+    ghost from_gives = { λ lower fault. fault ≡ of_image lower };
+
+    fn from(lower: ReadFault) -> ReportFault {
+        match lower {
+            ReadFault::Memory => ReportFault::Memory,
+            _ => ReportFault::Image(lower),
+        }
+    }
+}
+
+impl From<MachineFileFault> for ReportFault {
+    ghost use Rattle.std.specs.Prelude.{◌≡◌};
+    ghost use Rattle.arcwcet.specs.Faults.{of_machine_file};
+
+    ghost from_gives = { λ lower fault. fault ≡ of_machine_file lower };
+
+    fn from(lower: MachineFileFault) -> ReportFault {
+        match lower {
+            MachineFileFault::Memory => ReportFault::Memory,
+            _ => ReportFault::MachineFile(lower),
+        }
+    }
+}
+
+impl From<LoadFault> for ReportFault {
+    ghost use Rattle.std.specs.Prelude.{◌≡◌};
+    ghost use Rattle.arcwcet.specs.Faults.{of_load};
+
+    ghost from_gives = { λ lower fault. fault ≡ of_load lower };
+
+    fn from(lower: LoadFault) -> ReportFault {
+        match lower {
+            LoadFault::Memory => ReportFault::Memory,
+            _ => ReportFault::Load(lower),
+        }
+    }
+}
+
+impl From<ProfileFileFault> for ReportFault {
+    ghost use Rattle.std.specs.Prelude.{◌≡◌};
+    ghost use Rattle.arcwcet.specs.Faults.{of_profile};
+
+    ghost from_gives = { λ lower fault. fault ≡ of_profile lower };
+
+    fn from(lower: ProfileFileFault) -> ReportFault {
+        match lower {
+            ProfileFileFault::Memory => ReportFault::Memory,
+            _ => ReportFault::Profile(lower),
+        }
+    }
+}
+
+impl From<MachineFault> for ReportFault {
+    ghost use Rattle.std.specs.Prelude.{◌≡◌};
+    ghost use Rattle.arcwcet.specs.declared.fault.ReportFault.TheVariants.{Memory};
+
+    ghost from_gives = { λ _ fault. fault ≡ Memory };
+
+    fn from(_lower: MachineFault) -> ReportFault {
+        ReportFault::Memory
+    }
+}
+
+impl From<DebugFault> for ReportFault {
+    ghost use Rattle.std.specs.Prelude.{◌≡◌};
+    ghost use Rattle.arcwcet.specs.declared.fault.ReportFault.TheVariants.{Memory};
+
+    ghost from_gives = { λ _ fault. fault ≡ Memory };
+
+    // A whole session has no other fault.
+    fn from(_lower: DebugFault) -> ReportFault {
         ReportFault::Memory
     }
 }

@@ -2,31 +2,40 @@
 //! the program that prints them.
 #![tactic(auto)]
 
+mod assembly;
 mod bound;
 mod check;
+mod commands;
+mod debug;
 mod fault;
+mod files;
 mod handler;
 mod law;
 mod line;
+mod machine;
 mod memory_output;
 mod output;
+mod priced;
 mod read;
 mod run;
 mod source;
 mod store;
 mod stream_output;
+mod told;
 mod whole;
 mod words;
 
-pub use bound::{bound_report, bound_report_with};
-pub use check::{check_report, check_report_with};
+pub use assembly::asm_report;
+pub use bound::bound_report;
+pub use check::check_report;
+pub use debug::debug_report;
 pub use fault::{ReportFault, StoreFault};
 pub use law::certificates_are_accepted;
+pub use machine::{run_report, trace_report};
 pub use memory_output::MemoryOutput;
 pub use output::{Output, OutputFault};
 pub use read::{LIMIT, read_limited};
 pub use run::program;
-pub use source::AsmFault;
 pub use store::{HostStore, Store};
 pub use stream_output::StreamOutput;
 pub use whole::write_whole;

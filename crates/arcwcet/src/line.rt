@@ -1,19 +1,28 @@
 use clap::Error;
 
-/// What a line of words asks for.
+/// The names of two files, and of a cycle profile's where one is given.
+#[derive(Clone, Copy)]
+pub(crate) struct Names<'a> {
+    pub(crate) profile: Option<&'a str>,
+    pub(crate) first: &'a str,
+    pub(crate) second: &'a str,
+}
+
+/// What a line of words asks for, with the names of its files.
 #[derive(Clone, Copy)]
 pub(crate) enum Request<'a> {
-    /// The longest run time of the handler in a source, under a statement: the names of two files.
-    Bound {
-        source: &'a str,
-        statement: &'a str,
-    },
-    /// The verdict on a certificate of that: the names of three files.
-    Check {
-        source: &'a str,
-        statement: &'a str,
-        cert: &'a str,
-    },
+    /// The image of a source.
+    Asm { source: &'a str, image: &'a str },
+    /// The registers and the ticks of a run of a source's image, by a machine file.
+    Run(Names<'a>),
+    /// The lines of its steps.
+    Trace(Names<'a>),
+    /// A session of the debugger on that machine, by the commands on standard input.
+    Debug(Names<'a>),
+    /// The longest run time of the handler in a source, under a statement.
+    Bound(Names<'a>),
+    /// The verdict on a certificate of that.
+    Check { names: Names<'a>, cert: &'a str },
 }
 
 /// Why a line of words asks for nothing.

@@ -1,24 +1,40 @@
 ghost use Rattle.std.specs.Prelude.{◌≡◌, ◌≢◌, IfOk, IfErr, Some, None, false, option_map, option_and_then};
 ghost use Rattle.clap.specs.Matches.{found_of};
 ghost use Rattle.clap.specs.Simple.{app_of};
-ghost use Rattle.clap.specs.Walk.{rows_of};
+ghost use Rattle.clap.specs.Walk.{rows_of, rule_of};
 ghost use Rattle.clap.specs.Words.{kind_of, subcommand_rows_of};
 ghost use Rattle.clap.specs.declared.builder.command.Command.TheViews.{out-Command};
-ghost use Rattle.arcwcet.specs.Line.{arcwcet_command, asked_bound, asked_by, asked_check, asked_in, asked_of, bound_command, check_command};
+ghost use Rattle.arcwcet.specs.Line.{arcwcet_command, asked_asm, asked_by, asked_check, asked_in, asked_of, asm_command, check_command, names_in as names_of_rows, names_of, priced_command};
 
-use crate::line::{LineFault, Request};
+use crate::line::{LineFault, Names, Request};
 use clap::error::ErrorKind;
 use clap::{Arg, ArgMatches, Command, Error};
 use std::alloc::{AllocError, Global};
 
-/// The command `bound SOURCE STATEMENT`.
-fn bound<'a>(alloc: Global) -> Result<Command<'a>, AllocError>
-    ensures shape { IfOk result (λ c. app_of c ≡ bound_command) }
+/// The command `asm SOURCE IMAGE`.
+fn asm<'a>(alloc: Global) -> Result<Command<'a>, AllocError>
+    ensures shape { IfOk result (λ c. app_of c ≡ asm_command) }
     ensures no_globals { IfOk result (λ c. (out-Command c).has_globals ≡ false) }
 {
     let source = Arg::new(alloc, "source").required(true);
-    let statement = Arg::new(alloc, "statement").required(true);
-    Command::new(alloc, "bound").arg(source)?.arg(statement)
+    let image = Arg::new(alloc, "image").required(true);
+    Command::new(alloc, "asm").arg(source)?.arg(image)
+}
+
+/// A command `NAME SOURCE SECOND` with a cycle profile.
+fn priced<'a>(alloc: Global, name: &'a str, second: &'a str) -> Result<Command<'a>, AllocError>
+    ensures shape { IfOk result (λ c. app_of c ≡ priced_command name.now second.now) }
+    ensures no_globals { IfOk result (λ c. (out-Command c).has_globals ≡ false) }
+{
+    let profile = Arg::new(alloc, "profile")
+        .long("profile")
+        .value_name("FILE");
+    let source = Arg::new(alloc, "source").required(true);
+    let second = Arg::new(alloc, second).required(true);
+    Command::new(alloc, name)
+        .arg(profile)?
+        .arg(source)?
+        .arg(second)
 }
 
 /// The command `check SOURCE STATEMENT CERT`.
@@ -26,48 +42,60 @@ fn check<'a>(alloc: Global) -> Result<Command<'a>, AllocError>
     ensures shape { IfOk result (λ c. app_of c ≡ check_command) }
     ensures no_globals { IfOk result (λ c. (out-Command c).has_globals ≡ false) }
 {
-    let source = Arg::new(alloc, "source").required(true);
-    let statement = Arg::new(alloc, "statement").required(true);
     let cert = Arg::new(alloc, "cert").required(true);
-    Command::new(alloc, "check")
-        .arg(source)?
-        .arg(statement)?
-        .arg(cert)
+    priced(alloc, "check", "statement")?.arg(cert)
 }
 
 /// The program's command.
 fn arcwcet<'a>(alloc: Global) -> Result<Command<'a>, AllocError>
     ensures { IfOk result (λ c. app_of c ≡ arcwcet_command) }
 {
-    let bound = bound(alloc)?;
+    let asm = asm(alloc)?;
+    let run = priced(alloc, "run", "machine")?;
+    let trace = priced(alloc, "trace", "machine")?;
+    let debug = priced(alloc, "debug", "machine")?;
+    let bound = priced(alloc, "bound", "statement")?;
     let check = check(alloc)?;
     Command::new(alloc, "arcwcet")
         .subcommand_required(true)
+        .subcommand(asm)?
+        .subcommand(run)?
+        .subcommand(trace)?
+        .subcommand(debug)?
         .subcommand(bound)?
         .subcommand(check)
 }
 
-/// What `bound` is asked with.
-fn bound_in<'a>(values: &ArgMatches<'a>) -> Option<Request<'a>>
-    ensures { option_map asked_of result ≡ asked_bound (rows_of (found_of values.now)) }
+/// The names of a profile's file, if there is one, and of two others.
+fn names_in<'a>(values: &ArgMatches<'a>, second: &str) -> Option<Names<'a>>
+    ensures { option_map names_of result ≡ names_of_rows second.now (rows_of (found_of values.now)) }
+{
+    let profile = values.get_str("profile");
+    let first = values.get_str("source")?;
+    let second = values.get_str(second)?;
+    Some(Names {
+        profile,
+        first,
+        second,
+    })
+}
+
+/// What `asm` is asked with.
+fn asm_in<'a>(values: &ArgMatches<'a>) -> Option<Request<'a>>
+    ensures { option_map asked_of result ≡ asked_asm (rows_of (found_of values.now)) }
 {
     let source = values.get_str("source")?;
-    let statement = values.get_str("statement")?;
-    Some(Request::Bound { source, statement })
+    let image = values.get_str("image")?;
+    Some(Request::Asm { source, image })
 }
 
 /// What `check` is asked with.
 fn check_in<'a>(values: &ArgMatches<'a>) -> Option<Request<'a>>
     ensures { option_map asked_of result ≡ asked_check (rows_of (found_of values.now)) }
 {
-    let source = values.get_str("source")?;
-    let statement = values.get_str("statement")?;
+    let names = names_in(values, "statement")?;
     let cert = values.get_str("cert")?;
-    Some(Request::Check {
-        source,
-        statement,
-        cert,
-    })
+    Some(Request::Check { names, cert })
 }
 
 /// What the matches ask for.
@@ -75,8 +103,20 @@ fn request_in<'a>(matches: &ArgMatches<'a>) -> Option<Request<'a>>
     ensures { option_map asked_of result ≡ option_and_then asked_by (subcommand_rows_of matches.now) }
 {
     let (name, values) = matches.subcommand()?;
+    if name == "asm" {
+        return asm_in(values);
+    }
+    if name == "run" {
+        return Some(Request::Run(names_in(values, "machine")?));
+    }
+    if name == "trace" {
+        return Some(Request::Trace(names_in(values, "machine")?));
+    }
+    if name == "debug" {
+        return Some(Request::Debug(names_in(values, "machine")?));
+    }
     if name == "bound" {
-        return bound_in(values);
+        return Some(Request::Bound(names_in(values, "statement")?));
     }
     if name == "check" {
         return check_in(values);

@@ -5,3 +5,8 @@ pub mod ListLaws
 pub mod ValueLaws
 pub mod SourceLaws
 pub mod ShownLaws
+mod SpelledNames
+mod SpelledShifts
+mod SpelledAddresses
+mod SpelledLists
+mod SpelledLines

@@ -3,10 +3,8 @@ use Rattle.std.proofs.Common.{◌≡◌, ℕ, ◌≤◌, Bool, true, false, cond
 use Rattle.std.specs.Prelude.{nat_le, option_and_then, option_map}
 use Rattle.std.specs.Char.{is_ascii_lowercase, to_ascii_uppercase}
 use Rattle.std.specs.List.{list_all}
-use Rattle.std.specs.Str.{bytes_eq}
 use Rattle.std.proofs.lemmas.Bool.{and_parts}
 use Rattle.std.proofs.lemmas.Bool.Decides.{nat_tests}
-use Rattle.std.proofs.lemmas.Slice.Eq.{bytes_eq-Decides}
 use Rattle.asm_text.specs.Pieces.{Piece, Run, Comma, Sign, Gap, gap_before, is_blank, is_name, mark_of, name_before, pieces, without_gap}
 use Rattle.asm_text.specs.Said.{Target, Number, Label, Said, Codes, Refers, Orgs, Lists}
 use Rattle.asm_text.specs.declared.shown.Shown.{Shown}
@@ -17,6 +15,7 @@ use Rattle.asm_text.specs.Lines.{starts_run}
 use Rattle.asm_text.specs.Shown.{is_shown, is_shown_text, is_upper, parsed_shown, shown_in, shown_result, shown_said, upper_pieces}
 use Rattle.asm_text.specs.Statements.{Parsed, body_len, is_text, line_of, or_bad, parsed, statement_of, with_label}
 use Rattle.asm_text.specs.Words.{is_one_case, spelled_word_of, upper, word_of}
+use Rattle.asm_text.proofs.SpelledNames.{same_bytes}
 
 upper_byte : (b : ℕ) → not (is_ascii_lowercase b) ≡ true → to_ascii_uppercase b ≡ b
 upper_byte b h = grind (arith, nat_tests)
@@ -26,9 +25,6 @@ upper_same [] h = refl
 upper_same (b ∷ bs) h =
     let k = and_parts (not (is_ascii_lowercase b)) (is_upper bs) h in
     rw (upper_byte b k.0, upper_same bs k.1) refl
-
-same_bytes : (text : List ℕ) → bytes_eq text text ≡ true
-same_bytes text = (bytes_eq-Decides text text).1 refl
 
 pub upper_spelled : (text : List ℕ) → is_upper text ≡ true → spelled_word_of text ≡ word_of text
 upper_spelled text h =

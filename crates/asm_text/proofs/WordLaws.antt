@@ -20,10 +20,10 @@ pub chosen : {A : Type 0} (b : Bool) (x y z : A) → cond b x y ≡ z → ((b �
 chosen true x y z e = inl (refl, e)
 chosen false x y z e = inr (refl, e)
 
-some_is : {A : Type 0} (x y : A) → Some x ≡ Some y → x ≡ y
+pub some_is : {A : Type 0} (x y : A) → Some x ≡ Some y → x ≡ y
 some_is x y e = cc
 
-equal_bytes : (xs ys : List ℕ) → bytes_eq xs ys ≡ true → xs ≡ ys
+pub equal_bytes : (xs ys : List ℕ) → bytes_eq xs ys ≡ true → xs ≡ ys
 equal_bytes xs ys e = (bytes_eq-Decides xs ys).0 e
 
 -- what the text names has that name
@@ -222,7 +222,7 @@ made_is : (make : Cond → Word) (o : Option Cond) (w : Word) → word_of_cond m
 made_is make None w e = absurd cc
 made_is make (Some c) w e = (c, refl, some_is (make c) w e)
 
-nothing_is : {A : Type 0} (w : A) → None ≡ Some w → ⊥
+pub nothing_is : {A : Type 0} (w : A) → None ≡ Some w → ⊥
 nothing_is w e = cc
 
 linked_is : (text : List ℕ) (w : Word) → linked text ≡ Some w → (rest : List ℕ) × (c : Cond) × (text ≡ codes "L" ++ rest) × IsCond rest c × (w ≡ Branch true c)
@@ -317,7 +317,7 @@ short_cond text lt = short_named (cond_of (take 2 text)) (take 2 text) refl (ome
 
 -- ---- in either case
 
-spelled_is : (text : List ℕ) (w : Word) → spelled_word_of text ≡ Some w → IsSpelling text w
+pub spelled_is : (text : List ℕ) (w : Word) → spelled_word_of text ≡ Some w → IsSpelling text w
 spelled_is text w e =
     elim (chosen (is_one_case text) (word_of (upper text)) None (Some w) e) [
       | inl h ↦ (h.0, word_is (upper text) w h.1)

@@ -9,3 +9,5 @@ pub mod Operands
 pub mod Statements
 pub mod Source
 pub mod Shown
+pub mod SpelledOperands
+pub mod Spelling

@@ -16,6 +16,7 @@
 #![tactic(auto)]
 
 mod address;
+mod law;
 mod lines;
 mod list;
 mod names;
@@ -30,6 +31,7 @@ mod tests;
 mod token;
 mod word;
 
+pub use law::lines_are_spelled;
 pub use lines::{Line, first_line, read_line};
 pub use names::{Head, Suffix};
 pub use said::{

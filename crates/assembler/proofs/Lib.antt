@@ -5,3 +5,13 @@ mod HexLaws
 mod ListedLaws
 pub mod ByteLaws
 mod SayLaws
+mod AssembleBasics
+mod AssembleSteps
+mod AssembleSweep
+mod AssembleFill
+mod AssembleLaws
+mod AssembleBack
+mod AssembleReady
+mod AssembleAll
+mod AssembleRuns
+mod AssembleFull

@@ -47,7 +47,7 @@ pub enum AsmFault {
     #[error("Memory")]
     Memory,
     /// A line's fault, and its number from 1.
-    #[error("{0}")]
+    #[error("{0} at line {1}")]
     Line(Fault, usize),
 }
 

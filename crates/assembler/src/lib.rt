@@ -5,6 +5,7 @@ mod assembly;
 mod encoded;
 mod fault;
 mod item;
+mod law;
 mod reference;
 mod shown;
 mod spelling;
@@ -15,5 +16,6 @@ mod text;
 
 pub use assembly::{Assembly, assemble};
 pub use fault::{AsmFault, Fault};
+pub use law::sources_are_assembled;
 pub use shown::disassemble;
 pub use text::Line;

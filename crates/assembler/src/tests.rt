@@ -143,7 +143,7 @@ fn names_of_faults(rt: HostRuntime) {
         AsmFault::Line(Fault::BadOperand, 3),
         AsmFault::Memory
     );
-    assert_eq!(rt; text.ok().as_deref(), Some("BadOperand Memory"));
+    assert_eq!(rt; text.ok().as_deref(), Some("BadOperand at line 3 Memory"));
 }
 
 // Words at 8000 and their lines.

@@ -10,9 +10,8 @@ use Rattle.flow_graph.specs.declared.edges.Edge.{Edge}
 use Rattle.flow_graph.specs.Flow.{Flow, IsWellFormed, edge_shape}
 use Rattle.numbered_walks.specs.declared.span.NumberedEdge.{NumberedEdge}
 use Rattle.numbered_walks.specs.declared.span.Span.{Span}
-use Rattle.numbered_walks.specs.declared.index.Index.{Index}
 use Rattle.numbered_walks.specs.declared.tables.Tables.{Tables}
-use Rattle.numbered_walks.specs.Index.{IsIndex, edge_at, is_up}
+use Rattle.numbered_walks.specs.Index.{edge_at, is_up}
 use Rattle.numbered_walks.specs.Ordered.{GoesUpOrBack, is_in, number_shape, span_loops}
 use Rattle.numbered_walks.specs.Tables as T
 use Rattle.loop_bounds.specs.Instance.{Instance, place_loops}
@@ -24,9 +23,11 @@ use Rattle.longest_walk.proofs.CarryPotentials.{AreSame, same_row}
 use Rattle.longest_walk.proofs.CarryRows.{SameRow, fit_back, row_back, row_there}
 use Rattle.longest_walk.proofs.CarryWalks.{edge_same, no_edge}
 use Rattle.certificate.specs.declared.cert.Cert.{Cert}
+use Rattle.cert_check.specs.declared.index.Index.{Index}
 use Rattle.cert_check.specs.declared.weighing.RowTest.{RowTest}
 use Rattle.cert_check.specs.declared.weighing.RowTest.TheVariants as t
 use Rattle.cert_check.specs.Columns.{AreTablesOf, arrival_in, round_in}
+use Rattle.cert_check.specs.Index.{IsIndex}
 use Rattle.cert_check.specs.Verdict.{RowHolds, goes_back, goes_out, potentials}
 use Rattle.cert_check.specs.Weighing.{Asks, CanWeigh, EdgePasses, NumberFits, NumberHolds, NumberPasses, RowFits, leaves}
 use Rattle.cert_check.proofs.AnyLemmas.{any_none, any_same, any_some}
@@ -138,7 +139,7 @@ module _ (flow : Flow) (tree : Tree) (well : IsWellFormed flow) (t : IsTree flow
     pub passes_down : (test : RowTest) → EdgePasses tree cert test edge → NumberPasses exit tree.spans c test number
     passes_down test = asks_same test (RowFits tree cert edge) (NumberFits exit tree.spans c number) (RowHolds tree cert edge) (NumberHolds exit tree.spans c number) (goes_back tree edge) (not (is_up number)) (goes_out tree edge) (leaves tree.spans number) fits_down holds_down back_same out_same
 
-    pub can_weigh : (index : Index) → IsIndex exit tree.edges tree.spans index → CanWeigh tree.spans index number
+    pub can_weigh : (index : Index) → IsIndex exit tree.spans index → CanWeigh tree.spans index number
     can_weigh index all =
         let here = edge_same flow tree well t k lt in
         let from_in : number.from < exit = here.from_in in

@@ -1,12 +1,16 @@
--- The span that begins at a number.
-use Rattle.std.proofs.Common.{◌≡◌, ◌≢◌, ◌∙◌, ℕ, ◌<◌, eqb, List, get_or, AllPairs, Contains, Option, Some, None, ⊎_elim, sym, ap, arith}
+-- The span that begins at a number, and where spans end.
+use Rattle.std.proofs.Common.{◌≡◌, ◌≢◌, ◌∙◌, ℕ, ◌<◌, eqb, List, length, get_or, All, AllPairs, Contains, Option, Some, None, ⊎_elim, sym, ap, subst, arith}
 use Rattle.std.specs.List.{find}
 use Rattle.std.proofs.lemmas.Bool.{cases_lt, eq-eqb, eqb-true}
 use Rattle.std.proofs.lemmas.List.{get_or_default}
+use Rattle.std.proofs.lemmas.List.Elements.{Contains-get_or}
 use Rattle.walks.proofs.RowLemmas.{find_some}
 use Rattle.numbered_walks.specs.declared.span.Span.{Span}
 use Rattle.numbered_walks.specs.Index.{AreHeaders}
+use Rattle.flow_graph.specs.Flow.{Flow}
+use Rattle.loop_bounds.specs.Tree.{IsTree, Tree}
 use Rattle.longest_walk.proofs.CarryFind.{find_known}
+use Rattle.cert_check.specs.Index.{EndsBefore}
 use Rattle.cert_check.proofs.FindLemmas.{none_or_some}
 
 module _ (spans : List Span) (differ : AllPairs (λ s t. s.header ≢ t.header) spans) where
@@ -35,3 +39,9 @@ module _ (spans : List Span) (differ : AllPairs (λ s t. s.header ≢ t.header) 
       let found = find_some (λ (t : Span). eqb p t.header) spans some.0 some.1 in
       let same : s ≡ some.0 = one_header s some.0 known.0 found.0 (known.1 ∙ eqb-true p (some.0).header found.1) in
       ap (λ (x : Span). Some x) same ∙ sym some.1
+
+-- the spans of a tree end before Exit
+pub spans_end : (flow : Flow) (tree : Tree) → IsTree flow tree → (spans : List Span) (exit : ℕ) → spans ≡ tree.spans → exit ≡ length flow.places → All (EndsBefore exit) spans
+spans_end flow tree t spans exit are at = subst (λ (xs : List Span). All (EndsBefore exit) xs) (sym are) (λ k d lt.
+    let shape = t.ordered.shape (get_or tree.spans k d) (Contains-get_or tree.spans k d lt) in
+    (shape.0, omega (arith, shape.1, at)))

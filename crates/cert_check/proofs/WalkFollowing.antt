@@ -11,7 +11,6 @@ use Rattle.flow_graph.specs.declared.edges.Edge.{Edge}
 use Rattle.flow_graph.specs.Flow.{Flow, HasEdge, IsWellFormed, edge_shape}
 use Rattle.numbered_walks.specs.declared.span.NumberedEdge.{NumberedEdge}
 use Rattle.numbered_walks.specs.declared.span.Span.{Span}
-use Rattle.numbered_walks.specs.declared.index.Index.{Index}
 use Rattle.numbered_walks.specs.Index.{edge_at, edges_of}
 use Rattle.numbered_walks.specs.Ordered.{HoldsAll, is_in, number_shape}
 use Rattle.numbered_walks.specs.Ordered as O
@@ -25,6 +24,7 @@ use Rattle.certificate.specs.declared.walk.CertItem.TheOpen.{CertItem-F}
 use Rattle.certificate.specs.declared.walk.CertItem.TheVariants.{Repeat, Step, rolls-Repeat, rolls-Step}
 use Rattle.certificate.specs.declared.walk.CertItem.TheFolds.{fold-CertItem, fold-roll-CertItem}
 use Rattle.std.specs.declared.alloc.Global.{Global}
+use Rattle.cert_check.specs.declared.index.Index.{Index}
 use Rattle.cert_check.specs.declared.walker.Walker.{Walker}
 use Rattle.cert_check.specs.Followed.{Followed, edge_named, follow_both, follow_edge, follow_item, follow_row, follow_step, follow_turns, followed, nothing_at}
 use Rattle.cert_check.specs.Walking.{AreRounds, CanFollow, EndsIn, Follows, IsRefused, IsTaken, Tells}

@@ -18,7 +18,6 @@ use Rattle.flow_graph.specs.declared.edges.Edge.{Edge}
 use Rattle.flow_graph.specs.Flow.{Flow, HasEdge, IsWellFormed, edge_shape}
 use Rattle.numbered_walks.specs.declared.span.NumberedEdge.{NumberedEdge}
 use Rattle.numbered_walks.specs.declared.span.Span.{Span}
-use Rattle.numbered_walks.specs.declared.index.Index.{Index}
 use Rattle.numbered_walks.specs.Index.{edge_at, edges_of}
 use Rattle.numbered_walks.specs.Ordered.{HoldsAll, is_in, number_shape}
 use Rattle.numbered_walks.specs.Ordered as O
@@ -34,6 +33,7 @@ use Rattle.certificate.specs.declared.walk.CertItem.{CertItem}
 use Rattle.certificate.specs.declared.walk.CertItem.TheVariants.{Repeat}
 use Rattle.std.specs.declared.alloc.Global.{Global}
 use Rattle.cert_check.specs.declared.walker.Round.{Round}
+use Rattle.cert_check.specs.declared.index.Index.{Index}
 use Rattle.cert_check.specs.declared.walker.Walker.{Walker}
 use Rattle.cert_check.specs.Followed.{Followed, edge_named, follow_edge, follow_item, follow_turns, followed, is_named}
 use Rattle.cert_check.specs.Walking.{Adds, AreRounds, Arrives, Begins, CanFollow, CannotBegin, EndsIn, IsRefused, IsTaken, capped, gained, header_at, turns_after}

@@ -11,8 +11,7 @@ use Rattle.flow_graph.specs.declared.edges.Edge.{Edge}
 use Rattle.flow_graph.specs.Flow.{Flow, HasEdge, IsWellFormed, edge_shape}
 use Rattle.numbered_walks.specs.declared.span.NumberedEdge.{NumberedEdge}
 use Rattle.numbered_walks.specs.declared.span.Span.{Span}
-use Rattle.numbered_walks.specs.declared.index.Index.{Index}
-use Rattle.numbered_walks.specs.Index.{IsIndex, edges_of}
+use Rattle.numbered_walks.specs.Index.{edges_of}
 use Rattle.numbered_walks.specs.Ordered as O
 use Rattle.numbered_walks.specs.Reach.{most_in}
 use Rattle.numbered_walks.proofs.Members.{is_member, member_last}
@@ -21,14 +20,16 @@ use Rattle.longest_walk.specs.Built.{steps_of}
 use Rattle.longest_walk.specs.Longest.{KeepsTree}
 use Rattle.longest_walk.proofs.CarryWalks.{costs_same, exit_is, exit_place, keeps_down, keeps_up}
 use Rattle.certificate.specs.declared.cert.Cert.{Cert}
+use Rattle.cert_check.specs.declared.index.Index.{Index}
 use Rattle.cert_check.specs.declared.walker.Walker.{Walker}
 use Rattle.cert_check.specs.Followed.{Followed, followed}
+use Rattle.cert_check.specs.Index.{IsIndex}
 use Rattle.cert_check.specs.Verdict.{CostsBound, IsFollowed, KeepsAll}
 use Rattle.cert_check.specs.Walking.{CanFollow, IsFresh, IsRefused, IsTaken, Tells, capped, whole}
 use Rattle.cert_check.proofs.WalkFollowing.{leads_of}
 use Rattle.cert_check.proofs.WalkParts.{ends_same}
 
-module _ (flow : Flow) (tree : Tree) (index : Index) (well : IsWellFormed flow) (t : IsTree flow tree) (indexed : IsIndex (length flow.places) tree.edges tree.spans index) (x : Walker) (fresh : IsFresh (length flow.places) x) where
+module _ (flow : Flow) (tree : Tree) (index : Index) (well : IsWellFormed flow) (t : IsTree flow tree) (indexed : IsIndex (length flow.places) tree.spans index) (x : Walker) (fresh : IsFresh (length flow.places) x) where
   abbrev exit : ℕ
   exit = length flow.places
 

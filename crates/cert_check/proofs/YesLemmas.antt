@@ -19,9 +19,8 @@ use Rattle.longest_walk.specs.Longest.{KeepsTree}
 use Rattle.longest_walk.specs.Rows.{RowsHold, is_exit}
 use Rattle.certificate.specs.declared.cert.Cert.{Cert}
 use Rattle.cert_check.specs.declared.verdict.Objection.{Objection}
-use Rattle.cert_check.specs.declared.verdict.Verdict.{Verdict}
 use Rattle.cert_check.specs.declared.verdict.Verdict.TheVariants.{Yes}
-use Rattle.cert_check.specs.Verdict.{EdgesHold, IsFirstOf, IsVerdict, LeavesHold, Passes, RoundsHold, RowHolds, goes_back, goes_out, objections, potentials, row_objections}
+use Rattle.cert_check.specs.Verdict.{EdgesHold, IsFirstOf, IsVerdict, LeavesHold, Passes, RoundsHold, RowHolds, goes_back, goes_out, objections, potentials}
 
 -- the three kinds of rows are all rows
 pub all_rows : (flow : Flow) (tree : Tree) (cert : Cert) → EdgesHold flow tree cert → RoundsHold flow tree cert → LeavesHold flow tree cert → RowsHold flow tree (potentials cert)
@@ -63,12 +62,6 @@ pub all_passed : (flow : Flow) (tree : Tree) (cert : Cert) (xs : List Objection)
 all_passed flow tree cert [] v = tt
 all_passed flow tree cert (x ∷ xs) (inl failed) = absurd (cc failed.0)
 all_passed flow tree cert (x ∷ xs) (inr both) = (both.0, all_passed flow tree cert xs both.1)
-
--- rows that pass bound each walk
-pub rows_bound : (flow : Flow) (tree : Tree) (cert : Cert) → IsWellFormed flow → IsTree flow tree → (v : Verdict) → IsFirstOf flow tree cert row_objections v → v ≡ Yes → (walk : List Edge) → IsCompleteWalk flow walk → KeepsTree tree walk → cost_of edge_shape walk ≤ cert.bound
-rows_bound flow tree cert well t v first is =
-    let (large, (edges, (rounds, (leaves, end)))) = all_passed flow tree cert row_objections (subst (IsFirstOf flow tree cert row_objections) is first) in
-    upper flow tree well t cert (all_rows flow tree cert edges rounds leaves)
 
 pub yes_is_greatest : (flow : Flow) (tree : Tree) (cert : Cert) → IsWellFormed flow → IsTree flow tree → IsVerdict flow tree cert Yes → IsGreatest edge_shape (HasEdge flow) (KeepsTree tree) flow.entry Exit cert.bound
 yes_is_greatest flow tree cert well t v =

@@ -1,6 +1,7 @@
 pub mod Followed
 pub mod Verdict
 pub mod Columns
+pub mod Index
 pub mod Weighing
 pub mod Presence
 pub mod Walking

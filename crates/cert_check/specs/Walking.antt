@@ -7,8 +7,7 @@ use Rattle.flow_graph.specs.declared.edges.Edge.{Edge}
 use Rattle.flow_graph.specs.Flow.{Flow, HasEdge, IsWellFormed, edge_shape}
 use Rattle.numbered_walks.specs.declared.span.NumberedEdge.{NumberedEdge}
 use Rattle.numbered_walks.specs.declared.span.Span.{Span}
-use Rattle.numbered_walks.specs.declared.index.Index.{Index}
-use Rattle.numbered_walks.specs.Index.{IsIndex, edges_of}
+use Rattle.numbered_walks.specs.Index.{edges_of}
 use Rattle.numbered_walks.specs.Ordered as O
 use Rattle.numbered_walks.specs.Ordered.{HoldsAll, ends_at_header, is_in, is_inside}
 use Rattle.numbered_walks.specs.Reach.{most_in}
@@ -16,9 +15,11 @@ use Rattle.loop_bounds.specs.Tree.{IsTree, Tree, place_in}
 use Rattle.longest_walk.specs.Built.{step_at, steps_of}
 use Rattle.longest_walk.specs.Folded.{Opened}
 use Rattle.longest_walk.specs.Longest.{IsBody}
+use Rattle.cert_check.specs.declared.index.Index.{Index}
 use Rattle.cert_check.specs.declared.walker.Walker.{Walker}
 use Rattle.cert_check.specs.declared.walker.Round.{Round}
 use Rattle.cert_check.specs.Followed.{Followed}
+use Rattle.cert_check.specs.Index.{IsIndex}
 
 -- ## What is told of a walk
 
@@ -88,7 +89,7 @@ pub record IsPartOf (flow : Flow) (p : Place) (first end : ℕ) : Type 0 where
 pub record CanFollow (flow : Flow) (tree : Tree) (index : Index) (within : Span) (x : Walker) : Type 0 where
   pub well_formed : IsWellFormed flow
   pub tree_is : IsTree flow tree
-  pub indexed : IsIndex (length flow.places) tree.edges tree.spans index
+  pub indexed : IsIndex (length flow.places) tree.spans index
   pub holds_inner : (s : Span) → Contains tree.spans s → is_in within s.header ≡ true → HoldsAll within s
   pub known : x.number ≤ length flow.places
   pub inside : is_in within x.number ≡ true

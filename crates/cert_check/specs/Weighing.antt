@@ -7,7 +7,6 @@ use Rattle.flow_graph.specs.Flow.{edge_shape}
 use Rattle.loop_bounds.specs.Instance.{place_loops}
 use Rattle.loop_bounds.specs.Tree.{Tree}
 use Rattle.longest_walk.specs.Rows.{is_exit}
-use Rattle.numbered_walks.specs.declared.index.Index.{Index}
 use Rattle.numbered_walks.specs.declared.span.NumberedEdge.{NumberedEdge}
 use Rattle.numbered_walks.specs.declared.span.Span.{Span}
 use Rattle.numbered_walks.specs.declared.tables.Tables.{Tables}
@@ -15,6 +14,7 @@ use Rattle.numbered_walks.specs.Index.{AreHeaders, AreHolders, is_up}
 use Rattle.numbered_walks.specs.Ordered.{number_shape, span_loops}
 use Rattle.numbered_walks.specs.Tables as T
 use Rattle.certificate.specs.declared.cert.Cert.{Cert}
+use Rattle.cert_check.specs.declared.index.Index.{Index}
 use Rattle.cert_check.specs.declared.weighing.RowTest.{RowTest}
 use Rattle.cert_check.specs.declared.weighing.RowTest.TheVariants as t
 use Rattle.cert_check.specs.Verdict.{RowHolds, goes_back, goes_out, potentials}

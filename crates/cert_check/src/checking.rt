@@ -8,6 +8,7 @@ ghost use Rattle.cert_check.specs.Verdict.{IsVerdict};
 
 use crate::columns::tables_of;
 use crate::fault::CheckFault;
+use crate::index::Index;
 use crate::presence::check_presence;
 use crate::row_check::verdict_on_rows;
 use crate::verdict::Verdict;
@@ -15,7 +16,6 @@ use crate::walk_check::check_walk;
 use certificate::Cert;
 use flow_graph::{Graph, Place};
 use loop_bounds::LoopTree;
-use numbered_walks::Index;
 use std::alloc::Global;
 
 /// Checks a certificate, whoever wrote it, whose rows ascend, as those of each certificate that is read do: of all
@@ -42,7 +42,7 @@ pub fn check(
     if let Verdict::No(_) = presence {
         return Ok(presence);
     }
-    let index = Index::of(alloc, tree.edges(), tree.spans(), exit)?;
+    let index = Index::of(alloc, tree.spans(), exit)?;
     let tables = tables_of(alloc, graph, tree, cert)?;
     let rows = verdict_on_rows(graph, tree, cert, &index, &tables);
     if let Verdict::No(_) = rows {

@@ -3,7 +3,6 @@ ghost use Rattle.loop_bounds.specs.Tree.{IsTree};
 
 use crate::checking::check;
 use crate::law::{longest_gets_yes, yes_means_greatest};
-use crate::row_check::check_rows;
 use crate::verdict::{Objection, Verdict};
 use bus_ticks::Profile;
 use certificate::read_cert;
@@ -16,6 +15,10 @@ use std::test::Fail;
 
 // MOV R0,#3; SUBS R0,R0,#1; BNE 8004; SUBS PC,R14,#4
 const COUNTDOWN: [u32; 4] = [0xE3A0_0003, 0xE250_0001, 0x1AFF_FFFD, 0xE25E_F004];
+
+// Two rounds, and the way out.
+const GREATEST: &str =
+    "step 8000 do 8004 1\nrepeat 2\nstep 8004 do 8008 1\nstep 8008 do 8004 5\nend\nstep 8004 do 8008 1\nstep 8008 skip 800C 2\nstep 800C do exit 9\n";
 
 // The countdown with at most two rounds.
 fn countdown(alloc: Global) -> Result<(Graph, LoopTree), Fail>
@@ -35,7 +38,14 @@ fn countdown(alloc: Global) -> Result<(Graph, LoopTree), Fail>
     Ok((graph, tree))
 }
 
-// The verdict on the rows of a certificate of the countdown.
+// The verdict on a certificate of the countdown.
+fn checked(alloc: Global, text: &str) -> Result<Verdict, Fail> {
+    let (graph, tree) = countdown(alloc)?;
+    let cert = read_cert(alloc, text.as_bytes())?;
+    Ok(check(alloc, &graph, &tree, &cert)?)
+}
+
+// The verdict on a certificate of the countdown with its greatest walk and these numbers.
 fn verdict(
     alloc: Global,
     bound: u64,
@@ -43,12 +53,10 @@ fn verdict(
     arrival: u64,
     round: u64,
 ) -> Result<Verdict, Fail> {
-    let (graph, tree) = countdown(alloc)?;
     let text = format!(in alloc;
-        "arcwcet certificate 1\nbound {bound}\nclose\nplace - 8000 0\nplace - 8004 0\nplace - 8008 1\nplace - 800C {distance}\ninstance - 8004 {arrival} {round}\nstop\n"
+        "arcwcet certificate 1\nbound {bound}\n{GREATEST}close\nplace - 8000 0\nplace - 8004 0\nplace - 8008 1\nplace - 800C {distance}\ninstance - 8004 {arrival} {round}\nstop\n"
     )?;
-    let cert = read_cert(alloc, text.as_bytes())?;
-    Ok(check_rows(alloc, &graph, &tree, &cert)?)
+    checked(alloc, text.as_str())
 }
 
 // The word at 8004 costs 1 and a round 6, so the place behind the loop is reached with 1 + 2 * 6 + 1 + 2, and Exit with 9 more.
@@ -56,7 +64,10 @@ fn verdict(
 fn rows_of_the_countdown(rt: HostRuntime) -> Result<(), Fail> {
     let alloc = rt.alloc();
     assert_eq!(rt; verdict(alloc, 25, 16, 1, 6)?, Verdict::Yes);
-    assert_eq!(rt; verdict(alloc, 26, 16, 1, 6)?, Verdict::Yes);
+    assert_eq!(rt;
+        verdict(alloc, 26, 16, 1, 6)?,
+        Verdict::No(Objection::WalkCost)
+    );
     assert_eq!(rt;
         verdict(alloc, 24, 16, 1, 6)?,
         Verdict::No(Objection::EdgeTooHeavy)
@@ -79,13 +90,6 @@ fn rows_of_the_countdown(rt: HostRuntime) -> Result<(), Fail> {
     );
     yes_means_greatest();
     Ok(())
-}
-
-// The verdict on a certificate of the countdown.
-fn checked(alloc: Global, text: &str) -> Result<Verdict, Fail> {
-    let (graph, tree) = countdown(alloc)?;
-    let cert = read_cert(alloc, text.as_bytes())?;
-    Ok(check(alloc, &graph, &tree, &cert)?)
 }
 
 // Other prices, a place without a row, a row too many, and rows that do not hold.

@@ -1,17 +1,18 @@
 ghost use Rattle.std.specs.Prelude.{IfOk, length};
 ghost use Rattle.loop_bounds.specs.Tree.{IsTree};
-ghost use Rattle.numbered_walks.specs.Index.{IsIndex};
 ghost use Rattle.cert_check.specs.Followed.{followed};
+ghost use Rattle.cert_check.specs.Index.{IsIndex};
 ghost use Rattle.cert_check.specs.Verdict.{IsFirstOf, walk_objections};
 ghost use Rattle.cert_check.specs.Walking.{Follows, IsFresh, whole};
 
+use crate::index::Index;
 use crate::verdict::{Objection, Verdict};
 use crate::walk_trace::follow_all;
 use crate::walker::Walker;
 use certificate::Cert;
 use flow_graph::Graph;
 use loop_bounds::LoopTree;
-use numbered_walks::{Index, Span};
+use numbered_walks::Span;
 use std::alloc::{AllocError, Global};
 
 // How deep repeats may stand.
@@ -39,7 +40,7 @@ fn follow_lines(
     walker: &mut Walker,
 ) -> bool
     requires tree { IsTree graph.now tree.now }
-    requires indexed { IsIndex (length graph.now.places) tree.now.edges tree.now.spans index.now }
+    requires indexed { IsIndex (length graph.now.places) tree.now.spans index.now }
     requires fresh { IsFresh (length graph.now.places) walker.old }
     ensures { Follows graph.now tree.now index.now (whole graph.now) 16 (length cert.now.walk) (followed graph.now cert.now.walk) walker.old walker.new result }
 {
@@ -61,7 +62,7 @@ fn verdict_on_walk(
     walker: &mut Walker,
 ) -> Verdict
     requires tree { IsTree graph.now tree.now }
-    requires indexed { IsIndex (length graph.now.places) tree.now.edges tree.now.spans index.now }
+    requires indexed { IsIndex (length graph.now.places) tree.now.spans index.now }
     requires fresh { IsFresh (length graph.now.places) walker.old }
     ensures { IsFirstOf graph.now tree.now cert.now walk_objections result }
 {
@@ -98,7 +99,7 @@ pub(crate) fn check_walk(
     index: &Index,
 ) -> Result<Verdict, AllocError>
     requires tree { IsTree graph.now tree.now }
-    requires indexed { IsIndex (length graph.now.places) tree.now.edges tree.now.spans index.now }
+    requires indexed { IsIndex (length graph.now.places) tree.now.spans index.now }
     ensures { IfOk result (IsFirstOf graph.now tree.now cert.now walk_objections) }
 {
     let mut walker = start(alloc, graph)?;

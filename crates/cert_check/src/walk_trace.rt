@@ -4,12 +4,13 @@ ghost use Rattle.longest_walk.specs.Built.{step_at};
 ghost use Rattle.cert_check.specs.Followed.{edge_named, follow_edge, follow_item, followed, is_label, is_named, leads_to};
 ghost use Rattle.cert_check.specs.Walking.{Begins, CanFollow, CannotBegin, Follows, IsPartOf};
 
+use crate::index::Index;
 use crate::walker::{Round, Walker};
 use crate::weighing::holds;
 use certificate::{CertItem, StepLine, To};
 use flow_graph::{Edge, Graph, Label, Place};
 use loop_bounds::LoopTree;
-use numbered_walks::{Index, Span};
+use numbered_walks::Span;
 
 fn same_label(label: Label, named: Label) -> bool
     ensures { result ≡ is_label label named }

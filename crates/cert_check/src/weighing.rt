@@ -1,12 +1,13 @@
-ghost use Rattle.std.specs.Prelude.{◌≡◌, ◌≢◌, ◌↔◌, ◌<◌, ℕ, IsTrue, AllPairs, length, nat_eq, not};
+ghost use Rattle.std.specs.Prelude.{◌≡◌, ◌≢◌, ◌↔◌, ◌<◌, ◌≤◌, ◌^◌, ℕ, IsTrue, AllPairs, MatchOption, length, nat_eq, not};
 ghost use Rattle.std.specs.List.{find, list_any};
 ghost use Rattle.walks.specs.Rows.{limit_of};
 ghost use Rattle.numbered_walks.specs.Index.{AreHeaders, is_up};
 ghost use Rattle.numbered_walks.specs.Ordered.{is_in, number_shape, span_loops};
-ghost use Rattle.numbered_walks.specs.Tables.{arrival_of, distance_of, is_exit, potentials_of, round_of};
+ghost use Rattle.numbered_walks.specs.Tables.{arrival_of, distance_of, is_exit, needed, potentials_of, round_of, stay_of};
 ghost use Rattle.cert_check.specs.Weighing.{CanWeigh, NumberFits, NumberHolds, NumberPasses, leaves};
 
-use numbered_walks::{Index, NumberedEdge, Span, Tables, needed_in};
+use crate::index::Index;
+use numbered_walks::{NumberedEdge, Span, Tables};
 
 /// What a row is tested for.
 #[derive(Clone, Copy)]
@@ -44,6 +45,37 @@ fn round(tables: &Tables, span: &Span) -> u64
     ensures { result ≡ round_of tables.now span.now }
 {
     tables.rounds.get(span.header).copied().unwrap_or(0)
+}
+
+// What a whole stay in the instance costs, in ticks, if it is below 2^64.
+fn stay(tables: &Tables, span: &Span) -> Option<u64>
+    ensures { MatchOption result (2 ^ 64 ≤ stay_of tables.now span.now) (λ n. n ≡ stay_of tables.now span.now) }
+{
+    u64::from(span.bound)
+        .checked_mul(round(tables, span))?
+        .checked_add(arrival(tables, span))
+}
+
+// What the edge's row asks for with these spans, in ticks, if it is below 2^64.
+fn needed_with(spans: &[Span], tables: &Tables, edge: &NumberedEdge) -> Option<u64>
+    ensures { MatchOption result (2 ^ 64 ≤ needed spans.now tables.now edge.now) (λ n. n ≡ needed spans.now tables.now edge.now) }
+{
+    let mut sum = distance(tables, edge.from).checked_add(u64::from(edge.cost))?;
+    for span in spans {
+        if holds(span, edge.from) && !holds(span, edge.to) {
+            sum = sum.checked_add(stay(tables, span)?)?;
+        }
+    }
+    Some(sum)
+}
+
+// The same by the instances that hold the edge's beginning alone.
+fn needed_at(spans: &[Span], index: &Index, tables: &Tables, edge: &NumberedEdge) -> Option<u64>
+    requires { CanWeigh spans.now index.now edge.now }
+    ensures { MatchOption result (2 ^ 64 ≤ needed spans.now tables.now edge.now) (λ n. n ≡ needed spans.now tables.now edge.now) }
+{
+    let _all = spans;
+    needed_with(&index.holders[edge.from], tables, edge)
 }
 
 // The span that begins at the number.
@@ -102,7 +134,7 @@ fn row_fits(
 {
     match limit(spans, index, tables, exit, edge) {
         None => true,
-        Some(_) => match needed_in(spans, &index.holders, tables, edge) {
+        Some(_) => match needed_at(spans, index, tables, edge) {
             None => false,
             Some(needed) => needed < 1 << 63,
         },
@@ -121,7 +153,7 @@ fn row_holds(
 {
     match limit(spans, index, tables, exit, edge) {
         None => true,
-        Some(limit) => match needed_in(spans, &index.holders, tables, edge) {
+        Some(limit) => match needed_at(spans, index, tables, edge) {
             None => false,
             Some(needed) => needed <= limit,
         },

@@ -7,11 +7,10 @@ use Rattle.std.proofs.lemmas.List.Elements.{All-nil, All-push}
 use Rattle.toml.specs.Data.{Data, Members, as_integer, as_str, as_table, get_member}
 use Rattle.toml.specs.View.{items_of}
 use Rattle.bus_ticks.specs.declared.profile.Class.{Class}
-use Rattle.loader.specs.Labels.{Names, address_of}
 use Rattle.statement.specs.ReadingParts.{AreParts, parts_in}
 use Rattle.statement.specs.Readings.{Reading, after, all, and_then, both, checked, items_in, required, seen}
 use Rattle.statement.specs.Stated.{IsLoop, IsTarget, Target}
-use Rattle.statement.specs.Statement.{accesses_in, address_at, address_in, are_distinct, bound_at, destinations, destinations_at, directed, in_bounds, in_space, items_at, labelled, leave_at, list_of, listed, loop_at, loop_in, loops_in, number_or_name, once, parts_of, placed_loop, some_destinations, tables_at, target_at, target_in, targets_in}
+use Rattle.statement.specs.Statement.{Names, accesses_in, address_at, address_in, are_distinct, bound_at, destinations, destinations_at, directed, in_bounds, in_space, items_at, labelled, leave_at, list_of, listed, loop_at, loop_in, loops_in, number_or_name, once, parts_of, placed_loop, some_destinations, tables_at, target_at, target_in, targets_in}
 use Rattle.statement.specs.declared.faults.StatementFault.{StatementFault}
 use Rattle.statement.specs.declared.faults.StatementFault.TheVariants.{OutOfRange, WrongKind, Twice}
 use Rattle.statement.specs.declared.stated.Loop.{Loop}
@@ -133,7 +132,7 @@ labelled_small None = tt
 
 number_or_name_small : (names : Names) (o : Option ℤ) (name : Option (List ℕ)) → IfOk (number_or_name names o name) IsSmall
 number_or_name_small names (Some z) name = in_space_small z
-number_or_name_small names None (Some name) = labelled_small (address_of names name)
+number_or_name_small names None (Some name) = labelled_small (names name)
 number_or_name_small names None None = tt
 
 address_small : (names : Names) (d : Data) → IfOk (address_at names d) IsSmall

@@ -2,9 +2,8 @@
 use Rattle.std.proofs.Common.{◌≡◌, ℕ, List, ⊎_elim, sym, ap, ◌∙◌}
 use Rattle.std.specs.Prelude.{Result, Some, None}
 use Rattle.toml.specs.Data.{Members}
-use Rattle.loader.specs.Labels.{Names}
 use Rattle.statement.specs.Stated.{Stated}
-use Rattle.statement.specs.Statement.{IsDocument, IsNoDocument, IsStatement, statement_of}
+use Rattle.statement.specs.Statement.{Names, IsDocument, IsNoDocument, IsStatement, statement_of}
 use Rattle.statement.specs.declared.faults.StatementFault.{StatementFault}
 
 never_both : (text : List ℕ) (ms : Members) → IsDocument text ms → IsNoDocument text → ⊥

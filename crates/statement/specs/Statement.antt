@@ -9,7 +9,6 @@ use Rattle.toml.specs.Data.{Data, Items, Members, no_items, item, no_members, me
 use Rattle.toml.specs.Parse.{parse_document}
 use Rattle.bus_ticks.specs.declared.profile.Class.{Class}
 use Rattle.bus_ticks.specs.declared.profile.Class.TheVariants.{Any, Ram, Rom, Io}
-use Rattle.loader.specs.Labels.{Names, address_of}
 use Rattle.statement.specs.Readings.{Reading, all, both, checked, required, and_then}
 use Rattle.statement.specs.Stated.{Stated, Target}
 use Rattle.statement.specs.declared.faults.StatementFault.{StatementFault}
@@ -64,10 +63,14 @@ abbrev pub labelled : Option ℕ → Reading ℕ
 labelled (Some n) = in_space (pos n)
 labelled None = Err UnknownLabel
 
+-- the address that a name stands for, if it stands for one
+abbrev pub Names : Type 0
+Names = List ℕ → Option ℕ
+
 -- an integer, or a text that names a label
 abbrev pub number_or_name : Names → Option ℤ → Option (List ℕ) → Reading ℕ
 number_or_name names (Some z) name = in_space z
-number_or_name names None (Some name) = labelled (address_of names name)
+number_or_name names None (Some name) = labelled (names name)
 number_or_name names None None = Err WrongKind
 
 abbrev pub address_at : Names → Data → Reading ℕ

@@ -1,9 +1,9 @@
 ghost use Rattle.std.specs.Prelude.{◌≡◌, IfOk, map, option_map};
 ghost use Rattle.toml.specs.Data.{Data};
 ghost use Rattle.toml.specs.View.{table_view, view};
-ghost use Rattle.loader.specs.Labels.{Names};
+ghost use Rattle.loader.specs.Labels.{address_of as names_of};
 ghost use Rattle.statement.specs.Readings.{Reading, and_then, items_in, required};
-ghost use Rattle.statement.specs.Statement.{access_at, access_in, address_at, address_in, bound_at, class_at, destinations, destinations_at, directed, in_bounds, in_space, items_at, kind_at, labelled, listed, loop_at, loop_in, named_class, named_kind, once, placed_loop, some_destinations, tables_at, target_at, target_in};
+ghost use Rattle.statement.specs.Statement.{Names, access_at, access_in, address_at, address_in, bound_at, class_at, destinations, destinations_at, directed, in_bounds, in_space, items_at, kind_at, labelled, listed, loop_at, loop_in, named_class, named_kind, once, placed_loop, some_destinations, tables_at, target_at, target_in};
 
 use crate::distinct::are_all_distinct;
 use crate::faults::StatementFault;
@@ -28,7 +28,7 @@ pub(crate) trait Entry: Drop {
     fn read(alloc: Global, labels: &Labels, value: &Value) -> Result<Reading<Self>, AllocError>
     where
         Self: Sized,
-        ensures { IfOk result (λ reading. reading ≡ reads labels.now (view value.now)) };
+        ensures { IfOk result (λ reading. reading ≡ reads (names_of labels.now) (view value.now)) };
 }
 
 // The values of a list.
@@ -48,7 +48,7 @@ fn read_list<T: Entry>(
     values: &[Value],
     limit: usize,
 ) -> Result<Reading<Vec<T>>, AllocError>
-    ensures { IfOk result (λ list. items_in list ≡ listed (T.reads labels.now) limit (map view values.now)) }
+    ensures { IfOk result (λ list. items_in list ≡ listed (T.reads (names_of labels.now)) limit (map view values.now)) }
 {
     let mut list = Ok(Vec::new(alloc));
     for value in values {
@@ -64,7 +64,7 @@ pub(crate) fn tables<T: Entry>(
     value: Option<&Value>,
     limit: usize,
 ) -> Result<Reading<Vec<T>>, AllocError>
-    ensures { IfOk result (λ list. items_in list ≡ tables_at (T.reads labels.now) limit (option_map (λ v. view v.now) value.entry)) }
+    ensures { IfOk result (λ list. items_in list ≡ tables_at (T.reads (names_of labels.now)) limit (option_map (λ v. view v.now) value.entry)) }
 {
     let Some(value) = value else {
         return Ok(Ok(Vec::new(alloc)));
@@ -101,7 +101,7 @@ fn label_address(address: Option<u32>) -> Reading<u32>
 
 // An address, as an integer or as a label's name.
 fn address(labels: &Labels, value: &Value) -> Reading<u32>
-    ensures { result ≡ address_at labels.now (view value.now) }
+    ensures { result ≡ address_at (names_of labels.now) (view value.now) }
 {
     if let Some(number) = value.as_integer() {
         return in_address_space(number);
@@ -114,7 +114,7 @@ fn address(labels: &Labels, value: &Value) -> Reading<u32>
 
 /// The address at a key.
 pub(crate) fn address_of(labels: &Labels, table: &Table, key: &str) -> Reading<u32>
-    ensures { result ≡ address_in labels.now key.now (table_view table.now) }
+    ensures { result ≡ address_in (names_of labels.now) key.now (table_view table.now) }
 {
     match value_at(table, key) {
         Some(value) => address(labels, value),
@@ -176,7 +176,7 @@ fn placed_parts(parts: Reading<((u32, u32), (u32, u32))>) -> Reading<Loop>
 }
 
 fn read_loop(labels: &Labels, table: &Table) -> Reading<Loop>
-    ensures { result ≡ loop_in labels.now (table_view table.now) }
+    ensures { result ≡ loop_in (names_of labels.now) (table_view table.now) }
 {
     let ends = pair(
         address_of(labels, table, "first"),
@@ -237,7 +237,7 @@ pub(crate) fn class(value: &Value) -> Reading<Class>
 }
 
 fn read_access(labels: &Labels, table: &Table) -> Reading<(u32, Class)>
-    ensures { result ≡ access_in labels.now (table_view table.now) }
+    ensures { result ≡ access_in (names_of labels.now) (table_view table.now) }
 {
     let stated = match value_at(table, "class") {
         Some(value) => class(value),
@@ -307,7 +307,7 @@ fn read_destinations(
     labels: &Labels,
     values: &[Value],
 ) -> Result<Reading<Vec<u32>>, AllocError>
-    ensures { IfOk result (λ list. items_in list ≡ some_destinations labels.now (map view values.now)) }
+    ensures { IfOk result (λ list. items_in list ≡ some_destinations (names_of labels.now) (map view values.now)) }
 {
     if values.is_empty() {
         return Ok(Err(StatementFault::WrongKind));
@@ -323,7 +323,7 @@ fn called_or_jumped(
     labels: &Labels,
     value: &Value,
 ) -> Result<Reading<Vec<u32>>, AllocError>
-    ensures { IfOk result (λ list. items_in list ≡ destinations_at labels.now (view value.now)) }
+    ensures { IfOk result (λ list. items_in list ≡ destinations_at (names_of labels.now) (view value.now)) }
 {
     match values_of(value) {
         Some(values) => read_destinations(alloc, labels, values),
@@ -337,7 +337,7 @@ fn destinations_of(
     value: Option<&Value>,
     kind: TargetKind,
 ) -> Result<Reading<Vec<u32>>, AllocError>
-    ensures { IfOk result (λ list. items_in list ≡ destinations labels.now (option_map (λ v. view v.now) value.entry) kind) }
+    ensures { IfOk result (λ list. items_in list ≡ destinations (names_of labels.now) (option_map (λ v. view v.now) value.entry) kind) }
 {
     match kind {
         TargetKind::Jump | TargetKind::Call => match value {
@@ -357,7 +357,7 @@ fn direct(
     value: Option<&Value>,
     kind: Reading<TargetKind>,
 ) -> Result<Reading<Target>, AllocError>
-    ensures { IfOk result (λ reading. reading ≡ and_then kind (directed labels.now (option_map (λ v. view v.now) value.entry))) }
+    ensures { IfOk result (λ reading. reading ≡ and_then kind (directed (names_of labels.now) (option_map (λ v. view v.now) value.entry))) }
 {
     let kind = match kind {
         Ok(kind) => kind,
@@ -374,7 +374,7 @@ fn read_target(
     labels: &Labels,
     table: &Table,
 ) -> Result<Reading<(u32, Target)>, AllocError>
-    ensures { IfOk result (λ reading. reading ≡ target_in labels.now (table_view table.now)) }
+    ensures { IfOk result (λ reading. reading ≡ target_in (names_of labels.now) (table_view table.now)) }
 {
     let kind = kind(value_at(table, "kind"));
     let target = direct(alloc, labels, value_at(table, "to"), kind)?;

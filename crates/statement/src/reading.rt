@@ -1,5 +1,6 @@
 ghost use Rattle.std.specs.Prelude.{◌≡◌, ◌≢◌, Err, IfOk, option_map};
 ghost use Rattle.toml.specs.View.{table_view, view};
+ghost use Rattle.loader.specs.Labels.{address_of as names_of};
 ghost use Rattle.statement.specs.Readings.{and_then, seen};
 ghost use Rattle.statement.specs.ReadingParts.{AreParts, parts_in};
 ghost use Rattle.statement.specs.Statement.{IsStatement, ends_in, leave_at, parts_of, statement_of, whole};
@@ -34,7 +35,7 @@ fn leave(value: Option<&Value>) -> Reading<Class>
 
 // The entry, and the class to leave to.
 fn ends(labels: &Labels, table: &Table) -> Reading<(u32, Class)>
-    ensures { result ≡ ends_in labels.now (table_view table.now) }
+    ensures { result ≡ ends_in (names_of labels.now) (table_view table.now) }
 {
     pair(
         address_of(labels, table, "entry"),
@@ -73,7 +74,7 @@ fn stated(alloc: Global, parts: Reading<Parts>) -> Result<Reading<Statement>, Al
 
 // The parts that the table states.
 fn read_parts(alloc: Global, labels: &Labels, table: &Table) -> Result<Reading<Parts>, AllocError>
-    ensures { IfOk result (λ parts. seen parts_in parts ≡ parts_of labels.now (table_view table.now)) }
+    ensures { IfOk result (λ parts. seen parts_in parts ≡ parts_of (names_of labels.now) (table_view table.now)) }
 {
     let loops = tables(alloc, labels, value_at(table, "loop"), MOST_LOOPS)?;
     let targets = tables(alloc, labels, value_at(table, "target"), MOST_TARGETS)?;
@@ -83,7 +84,7 @@ fn read_parts(alloc: Global, labels: &Labels, table: &Table) -> Result<Reading<P
 
 // What the table states.
 fn of_table(alloc: Global, labels: &Labels, table: &Table) -> Result<Reading<Statement>, AllocError>
-    ensures { IfOk result (λ reading. reading ≡ statement_of labels.now (table_view table.now)) }
+    ensures { IfOk result (λ reading. reading ≡ statement_of (names_of labels.now) (table_view table.now)) }
 {
     let reading = stated(alloc, read_parts(alloc, labels, table)?)?;
     Ok(check(
@@ -100,7 +101,7 @@ pub fn read_statement(
     text: &[u8],
     labels: &Labels,
 ) -> Result<Statement, StatementFault>
-    ensures { result ≢ Err StatementFault.Memory → IsStatement text.now labels.now result }
+    ensures { result ≢ Err StatementFault.Memory → IsStatement text.now (names_of labels.now) result }
 {
     match toml::table_from_slice(alloc, text) {
         Ok(table) => of_table(alloc, labels, &table)?,

@@ -1,5 +1,10 @@
+use Rattle.std.proofs.Common.{ap, length}
+use Rattle.cert_check.proofs.SpanLemmas.{spans_end}
 use Rattle.cert_check.proofs.VerdictLemmas.{greatest_from, rows_refuse, walk_decides}
 use Rattle.cert_check.proofs.checking.check.Goals as goal
+
+pub of-requires-clause-ended : goal.of-requires-clause-ended
+of-requires-clause-ended c = spans_end c.args.graph.now c.args.tree.now c.requires.tree c.spans.result.now (length c.places-exit.result.now) c.spans.ensures (ap length c.places-exit.ensures.value)
 
 pub returns-in-No-rows-clause-verdict : goal.returns-in-No-rows-clause-verdict
 returns-in-No-rows-clause-verdict c =

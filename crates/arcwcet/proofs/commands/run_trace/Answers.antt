@@ -1,0 +1,19 @@
+use Rattle.std.proofs.Common.{[], ◌∷◌, List, ℕ, option_map, sym, subst}
+use Rattle.arcwcet.specs.Files.{ReadsAll, Texts, in_front}
+use Rattle.arcwcet.specs.Machine.{ShowsSteps}
+use Rattle.arcwcet.proofs.RunLemmas.{machine_ran}
+use Rattle.arcwcet.proofs.commands.run_trace.Goals as goal
+
+pub returns-clause-ran : goal.returns-clause-ran
+returns-clause-ran g c =
+    let reads = g.S.Store.read_gives in
+    let names = c.args.names in
+    let profile = option_map (λ n. n.now) names.profile in
+    let file = option_map (λ f. f.now) c.profile.result in
+    let one = c.deref.result.now in
+    let two = c.deref-2.result.now in
+    machine_ran reads g.O.Output.taken g.O.Output.failures profile names.first.now names.second.now file one two c.args.store.now c.read_files.new.store c.args.out.now c.trace_report-answer.new.out
+    (subst (λ (files : Texts). ReadsAll reads c.args.store.now (in_front profile (names.first.now ∷ names.second.now ∷ [])) files c.read_files.new.store)
+    (λ i. in_front (sym c.profile.ensures i) (sym c.deref.ensures.value i ∷ sym c.deref-2.ensures.value i ∷ []))
+    c.in-Ok.ensures.read)
+    ShowsSteps c.trace_report-answer.result c.trace_report-answer.ensures c.told_answer.result c.told_answer.ensures.status

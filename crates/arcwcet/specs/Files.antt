@@ -1,0 +1,29 @@
+-- Reading of files from a store, one after another. Our own.
+use Rattle.std.specs.Prelude.{◌≡◌, ◌⊎◌, ◌++◌, ℕ, List, [], ◌∷◌, Option, Some, None, Result, Ok, Err}
+use Rattle.arcwcet.specs.declared.fault.StoreFault.{StoreFault}
+
+-- the names of files, or their bytes
+abbrev pub Texts : Type 0
+Texts = List (List ℕ)
+
+-- a cycle profile's file comes first, where there is one
+abbrev pub in_front : Option (List ℕ) → Texts → Texts
+in_front None others = others
+in_front (Some file) others = file ∷ others
+
+-- how a store is read: what it was, a name, what the read gives, and the store behind it
+abbrev pub Reading : Type 0 → Type 1
+Reading S = S → List ℕ → Result (List ℕ) StoreFault → S → Type 0
+
+module _ {S : Type 0} (reads : Reading S) where
+  -- the files of these names were read, one after another
+  abbrev pub ReadsAll : S → Texts → Texts → S → Type 0
+  ReadsAll old [] [] new = new ≡ old
+  ReadsAll old (name ∷ names) (file ∷ files) new = (between : S) × reads old name (Ok file) between × ReadsAll between names files new
+  ReadsAll old names files new = ⊥
+
+  -- one of them could not be read, and those before it were
+  abbrev pub FailsToRead : S → Texts → StoreFault → S → Type 0
+  FailsToRead old [] fault new = ⊥
+  FailsToRead old (name ∷ names) fault new =
+      (reads old name (Err fault) new) ⊎ ((between : S) × (file : List ℕ) × reads old name (Ok file) between × FailsToRead between names fault new)

@@ -1,0 +1,117 @@
+-- What the reports of a machine's run print. Our own.
+use Rattle.std.specs.Prelude.{◌≡◌, ◌≢◌, ◌↔◌, ◌++◌, ℕ, Bool, true, false, IsTrue, List, [], Option, Some, None, Ok, Err}
+use Rattle.bus_ticks.specs.declared.profile.Profile.{Profile}
+use Rattle.arm2_effect.specs.declared.done.Why.{Why}
+use Rattle.arm2_effect.specs.Modes.{r15_in}
+use Rattle.arm2_effect.specs.ProgramCounter.{address_of}
+use Rattle.arm2_exec.specs.Run.{Runs}
+use Rattle.arm2_exec.specs.State.{State}
+use Rattle.arm2_exec.specs.declared.machine.Input.{Input}
+use Rattle.arm2_exec.specs.declared.machine.Ran.{Ran}
+use Rattle.loader.specs.Image.{Words}
+use Rattle.loader.specs.Loading.{lacks_page, with_image}
+use Rattle.loader.specs.declared.loading.LoadFault.{LoadFault}
+use Rattle.loader.specs.declared.loading.LoadFault.TheVariants.{NoPage}
+use Rattle.statement.specs.Statement.{Names}
+use Rattle.machine_file.specs.Inputs.{AreInputs}
+use Rattle.machine_file.specs.MachineFile.{IsMachineFile}
+use Rattle.machine_file.specs.Started.{IsStarted}
+use Rattle.machine_file.specs.Stated.{Stated}
+use Rattle.machine_file.specs.declared.machine_faults.MachineFileFault.{MachineFileFault}
+use Rattle.machine_file.specs.declared.machine_faults.MachineFileFault.TheVariants as machine_fault
+use Rattle.trace_text.specs.TraceText.{TracesRun, registers_text, stop_text, ticks_text}
+use Rattle.arcwcet.specs.Source.{source_of}
+use Rattle.arcwcet.specs.declared.fault.ReportFault.{ReportFault}
+use Rattle.arcwcet.specs.declared.fault.ReportFault.TheVariants as report_fault
+
+-- ## The machine
+
+-- the words of a source, and what a machine file states
+pub record IsStated (source machine : List ℕ) (words : Words) (file : Stated) : Type 0 where
+  pub names : Names
+  pub source_is : source_of source ≡ Ok (words, names)
+  pub file_is : IsMachineFile machine (Ok file)
+
+-- the machine before its first step: the file's start, on whose map each word has its place, with the words
+pub record IsPlaced (source machine : List ℕ) (profile : Profile) (file : Stated) (state : State) : Type 0 where
+  pub words : Words
+  pub start : State
+  pub stated : IsStated source machine words file
+  pub started : IsStarted file profile start
+  pub fits : lacks_page start.bus.memc words ≡ false
+  pub loaded : state ≡ with_image words start
+
+-- the same, and the inputs of its steps
+pub record IsLoaded (source machine : List ℕ) (profile : Profile) (state : State) (inputs : List Input) : Type 0 where
+  pub file : Stated
+  pub placed : IsPlaced source machine profile file state
+  pub inputs_are : AreInputs file.schedule inputs
+
+-- ## The texts
+
+-- where and why a machine stopped, if it did
+abbrev pub stopped_text : Option Why → (r15 : ℕ) → List ℕ
+stopped_text None r15 = []
+stopped_text (Some why) r15 = stop_text why (address_of r15)
+
+abbrev pub end_text : Ran → State → List ℕ
+end_text ran after = stopped_text ran.stopped (r15_in after.regs) ++ ticks_text ran.ticks ran.elapsed
+
+-- what stands in front of a report's end: of the machine before the run, its inputs, and the machine behind it
+abbrev pub Front : Type 1
+Front = State → List Input → State → List ℕ → Type 0
+
+abbrev pub ShowsRegisters : Front
+ShowsRegisters state inputs after front = front ≡ registers_text after.regs
+
+abbrev pub ShowsSteps : Front
+ShowsSteps state inputs after front = TracesRun state inputs front
+
+-- the report of the run, and whether it did all its steps
+pub record IsMachineReport (Shows : Front) (source machine : List ℕ) (profile : Profile) (done : Bool) (text : List ℕ) : Type 0 where
+  pub state : State
+  pub inputs : List Input
+  pub ran : Ran
+  pub after : State
+  pub front : List ℕ
+  pub loaded : IsLoaded source machine profile state inputs
+  pub runs : Runs state inputs ran after
+  pub shows : Shows state inputs after front
+  pub done_is : IsTrue done ↔ (ran.stopped ≡ None)
+  pub text_is : text ≡ front ++ end_text ran after
+
+-- ## Refusals
+
+-- both texts can be read, and the machine can be loaded
+pub record IsRunnable (source machine : List ℕ) (profile : Profile) : Type 0 where
+  pub file : Stated
+  pub state : State
+  pub placed : IsPlaced source machine profile file state
+
+-- a fault of the machine file, of a source that has an image
+pub record IsFileRefused (source machine : List ℕ) (fault : MachineFileFault) : Type 0 where
+  pub words : Words
+  pub names : Names
+  pub source_is : source_of source ≡ Ok (words, names)
+  pub not_memory : fault ≢ machine_fault.Memory
+  pub file_is : IsMachineFile machine (Err fault)
+
+-- a word of the image has no place in the machine
+pub record IsLoadRefused (source machine : List ℕ) (profile : Profile) (fault : LoadFault) : Type 0 where
+  pub words : Words
+  pub file : Stated
+  pub start : State
+  pub stated : IsStated source machine words file
+  pub started : IsStarted file profile start
+  pub fault_is : fault ≡ NoPage
+  pub lacks : lacks_page start.bus.memc words ≡ true
+
+-- when each refusal is answered: the first in the order of the work. A growth is refused, and an output fails, whatever the texts
+abbrev pub IsRunRefused : List ℕ → List ℕ → Profile → ReportFault → Type 0
+IsRunRefused source machine profile report_fault.Memory = Unit {0}
+IsRunRefused source machine profile report_fault.Device = Unit {0}
+IsRunRefused source machine profile (report_fault.Source fault) = source_of source ≡ Err (report_fault.Source fault)
+IsRunRefused source machine profile (report_fault.Image fault) = source_of source ≡ Err (report_fault.Image fault)
+IsRunRefused source machine profile (report_fault.MachineFile fault) = IsFileRefused source machine fault
+IsRunRefused source machine profile (report_fault.Load fault) = IsLoadRefused source machine profile fault
+IsRunRefused source machine profile fault = ⊥

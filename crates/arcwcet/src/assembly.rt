@@ -1,0 +1,47 @@
+ghost use Rattle.std.specs.Prelude.{◌≡◌, ◌≢◌, IfErr, IfOk, string_bytes};
+ghost use Rattle.arcwcet.specs.Answers.{Answers};
+ghost use Rattle.arcwcet.specs.Assembly.{IsAsmReport, IsSource, IsSourceRefused, IsWritten};
+
+use crate::fault::ReportFault;
+use crate::output::Output;
+use crate::source::read_source;
+use crate::whole::write_whole;
+use loader::writing::write_image;
+use std::alloc::Global;
+use std::fmt::Write;
+
+/// A source's image as bytes, and the line that tells its size.
+#[derive(Drop)]
+pub(crate) struct Written {
+    pub(crate) bytes: Vec<u8>,
+    pub(crate) line: String,
+}
+
+// The file and the report of a source's image.
+pub(crate) fn image_written(alloc: Global, source: &[u8]) -> Result<Written, ReportFault>
+    ensures is { IfOk result (λ w. IsWritten source.now w.bytes.items (string_bytes w.line)) }
+    ensures fault { IfErr result (λ e. (e ≢ ReportFault.Device) × IsSourceRefused source.now e) }
+    ensures only { IsSource source.now → IfErr result (λ e. e ≡ ReportFault.Memory) }
+{
+    let image = read_source(alloc, source)?.image;
+    let Ok(bytes) = write_image(alloc, &image) else {
+        return Err(ReportFault::Memory);
+    };
+    let words = image.words();
+    let segments = image.segments();
+    let mut line = String::new(alloc);
+    write!(line, "words {words} segments {segments}\n")?;
+    Ok(Written { bytes, line })
+}
+
+/// Writes how many words a source's image has, and how many segments of words side by side. The source is assembly text, or
+/// an image's bytes. After any fault but `Device` nothing was written.
+pub fn asm_report<O: Output>(alloc: Global, source: &[u8], out: &mut O) -> Result<(), ReportFault>
+    ensures { Answers O.taken O.failures (λ _ text. IsAsmReport source.now text) (IsSource source.now) (IsSourceRefused source.now) out.old out.new result }
+{
+    let written = image_written(alloc, source)?;
+    match write_whole(out, written.line.as_bytes()) {
+        Ok(()) => Ok(()),
+        Err(_) => Err(ReportFault::Device),
+    }
+}

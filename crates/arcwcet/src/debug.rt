@@ -1,0 +1,69 @@
+ghost use Rattle.std.specs.Prelude.{◌≡◌, ◌≢◌, IfErr, IfOk, option_map};
+ghost use Rattle.arcwcet.specs.Answers.{Answers};
+ghost use Rattle.arcwcet.specs.Debug.{IsDebugReport};
+ghost use Rattle.arcwcet.specs.Machine.{IsRunRefused, IsRunnable};
+ghost use Rattle.arcwcet.specs.Priced.{Priced};
+
+use crate::fault::ReportFault;
+use crate::machine::place;
+use crate::output::Output;
+use crate::priced::profile_of;
+use crate::whole::write_whole;
+use bus_ticks::Profile;
+use debugger::converse;
+use std::alloc::Global;
+
+// What the session tells.
+fn told(
+    alloc: Global,
+    source: &[u8],
+    machine: &[u8],
+    commands: &[u8],
+    profile: Profile,
+) -> Result<Vec<u8>, ReportFault>
+    ensures told { IfOk result (λ text. IsDebugReport source.now machine.now commands.now profile text.items) }
+    ensures fault { IfErr result (λ e. (e ≢ ReportFault.Device) × IsRunRefused source.now machine.now profile e) }
+    ensures only { IsRunnable source.now machine.now profile → IfErr result (λ e. e ≡ ReportFault.Memory) }
+{
+    let placed = place(alloc, source, machine, profile)?;
+    let port = placed.file.port();
+    let text = converse(alloc, placed.machine, port, commands)?;
+    Ok(text)
+}
+
+/// Writes a session of the debugger on the machine of a source and a machine file, by a cycle profile's file or the first
+/// profile: the answers to the commands, a line each, up to their end or `quit`. A command's refusal stands in its place as
+/// `refused: NAME`, and the session goes on. The port begins with the file's word; its `steps` and events are not used.
+///
+/// The whole report is made before its first byte is written. Of several faults the first in the order of the work is
+/// answered: profile, source, machine file, load. After any but `Device` nothing was written.
+pub fn debug_report<O: Output>(
+    alloc: Global,
+    source: &[u8],
+    machine: &[u8],
+    commands: &[u8],
+    profile: Option<&[u8]>,
+    out: &mut O,
+) -> Result<(), ReportFault>
+    ensures { Priced (option_map (λ f. f.now) profile.entry) (λ p. Answers O.taken O.failures (λ _ text. IsDebugReport source.now machine.now commands.now p text) (IsRunnable source.now machine.now p) (IsRunRefused source.now machine.now p) out.old out.new result) out.old out.new result }
+{
+    let profile = profile_of(alloc, profile)?;
+    priced_session(alloc, source, machine, commands, profile, out)
+}
+
+fn priced_session<O: Output>(
+    alloc: Global,
+    source: &[u8],
+    machine: &[u8],
+    commands: &[u8],
+    profile: Profile,
+    out: &mut O,
+) -> Result<(), ReportFault>
+    ensures { Answers O.taken O.failures (λ _ text. IsDebugReport source.now machine.now commands.now profile text) (IsRunnable source.now machine.now profile) (IsRunRefused source.now machine.now profile) out.old out.new result }
+{
+    let text = told(alloc, source, machine, commands, profile)?;
+    match write_whole(out, &text) {
+        Ok(()) => Ok(()),
+        Err(_) => Err(ReportFault::Device),
+    }
+}

@@ -1,0 +1,196 @@
+ghost use Rattle.std.specs.Prelude.{◌≡◌, ◌≢◌, ◌++◌, IfErr, IfOk, OnOk, option_map, string_bytes};
+ghost use Rattle.std.specs.Io.KnownBytes.{Appends};
+ghost use Rattle.arcwcet.specs.Answers.{Answers};
+ghost use Rattle.arcwcet.specs.Machine.{IsLoaded, IsMachineReport, IsPlaced, IsRunRefused, IsRunnable, ShowsRegisters, ShowsSteps, end_text};
+ghost use Rattle.arcwcet.specs.Output.{FailsSince, TakesFront};
+ghost use Rattle.arcwcet.specs.Priced.{Priced};
+
+use crate::fault::ReportFault;
+use crate::output::Output;
+use crate::priced::profile_of;
+use crate::source::read_source;
+use crate::whole::write_whole;
+use arm2_effect::address_of;
+use arm2_exec::{Input, Machine, Ran, Reg};
+use bus_ticks::Profile;
+use loader::loading::load;
+use machine_file::{MachineFile, read_machine};
+use std::alloc::{AllocError, Global};
+use trace_text::{write_registers, write_run, write_stop, write_ticks};
+
+/// A machine with its image, before its first step, and the file that states it.
+#[derive(Drop)]
+pub(crate) struct Placed {
+    pub(crate) file: MachineFile,
+    pub(crate) machine: Machine,
+}
+
+/// The machine of a source and a machine file, or the first fault in the order of the work.
+pub(crate) fn place(
+    alloc: Global,
+    source: &[u8],
+    machine: &[u8],
+    profile: Profile,
+) -> Result<Placed, ReportFault>
+    ensures placed { IfOk result (λ p. IsPlaced source.now machine.now profile p.file p.machine) }
+    ensures fault { IfErr result (λ e. (e ≢ ReportFault.Device) × IsRunRefused source.now machine.now profile e) }
+    ensures only { IsRunnable source.now machine.now profile → IfErr result (λ e. e ≡ ReportFault.Memory) }
+{
+    let said = read_source(alloc, source)?;
+    let file = read_machine(alloc, machine)?;
+    let mut machine = file.machine(alloc, profile)?;
+    load(alloc, &mut machine, &said.image)?;
+    Ok(Placed { file, machine })
+}
+
+/// The same, and the inputs of its steps.
+#[derive(Drop)]
+struct Loaded {
+    machine: Machine,
+    inputs: Vec<Input>,
+}
+
+/// A report's text, and whether the run did all its steps.
+#[derive(Drop)]
+struct Shown {
+    text: String,
+    done: bool,
+}
+
+fn start(
+    alloc: Global,
+    source: &[u8],
+    machine: &[u8],
+    profile: Profile,
+) -> Result<Loaded, ReportFault>
+    ensures loaded { IfOk result (λ l. IsLoaded source.now machine.now profile l.machine l.inputs.items) }
+    ensures fault { IfErr result (λ e. (e ≢ ReportFault.Device) × IsRunRefused source.now machine.now profile e) }
+    ensures only { IsRunnable source.now machine.now profile → IfErr result (λ e. e ≡ ReportFault.Memory) }
+{
+    let placed = place(alloc, source, machine, profile)?;
+    let inputs = placed.file.inputs(alloc)?;
+    Ok(Loaded {
+        machine: placed.machine,
+        inputs,
+    })
+}
+
+// Why and where the machine stopped, if it did, and the ticks of the run.
+fn put_end(out: &mut String, machine: &Machine, ran: &Ran) -> Result<(), AllocError>
+    ensures { OnOk result (string_bytes out.new ≡ string_bytes out.old ++ end_text ran.now machine.now) }
+{
+    if let Some(why) = ran.stopped {
+        write_stop(out, why, address_of(machine.get(Reg::R15)))?;
+    }
+    write_ticks(out, ran.ticks, ran.elapsed)
+}
+
+fn shown_run(
+    alloc: Global,
+    source: &[u8],
+    machine: &[u8],
+    profile: Profile,
+) -> Result<Shown, ReportFault>
+    ensures shown { IfOk result (λ s. IsMachineReport ShowsRegisters source.now machine.now profile s.done (string_bytes s.text)) }
+    ensures fault { IfErr result (λ e. (e ≢ ReportFault.Device) × IsRunRefused source.now machine.now profile e) }
+    ensures only { IsRunnable source.now machine.now profile → IfErr result (λ e. e ≡ ReportFault.Memory) }
+{
+    let mut loaded = start(alloc, source, machine, profile)?;
+    let ran = loaded.machine.run(&loaded.inputs);
+    let mut text = String::new(alloc);
+    write_registers(&mut text, &loaded.machine)?;
+    put_end(&mut text, &loaded.machine, &ran)?;
+    Ok(Shown {
+        text,
+        done: ran.stopped.is_none(),
+    })
+}
+
+fn shown_trace(
+    alloc: Global,
+    source: &[u8],
+    machine: &[u8],
+    profile: Profile,
+) -> Result<Shown, ReportFault>
+    ensures shown { IfOk result (λ s. IsMachineReport ShowsSteps source.now machine.now profile s.done (string_bytes s.text)) }
+    ensures fault { IfErr result (λ e. (e ≢ ReportFault.Device) × IsRunRefused source.now machine.now profile e) }
+    ensures only { IsRunnable source.now machine.now profile → IfErr result (λ e. e ≡ ReportFault.Memory) }
+{
+    let mut loaded = start(alloc, source, machine, profile)?;
+    let mut text = String::new(alloc);
+    let ran = write_run(&mut text, &mut loaded.machine, &loaded.inputs)?;
+    put_end(&mut text, &loaded.machine, &ran)?;
+    Ok(Shown {
+        text,
+        done: ran.stopped.is_none(),
+    })
+}
+
+// Prints the text, and answers whether the run did all its steps.
+fn print<O: Output>(shown: &Shown, out: &mut O) -> Result<bool, ReportFault>
+    ensures ok { IfOk result (λ done. (done ≡ shown.now.done) × Appends (O.taken out.old) (O.taken out.new) (string_bytes shown.now.text)) }
+    ensures device { IfErr result (λ e. (e ≡ ReportFault.Device) × (TakesFront (O.taken out.old) (O.taken out.new) (string_bytes shown.now.text) × FailsSince (O.failures out.old) (O.failures out.new))) }
+{
+    match write_whole(out, shown.text.as_bytes()) {
+        Ok(()) => Ok(shown.done),
+        Err(_) => Err(ReportFault::Device),
+    }
+}
+
+/// Runs the machine of a source and a machine file, by a cycle profile's file or the first profile, and writes the registers of
+/// the last mode, where the machine stopped (if it did), and the ticks. `false`: it stopped before the file's steps were done.
+///
+/// The whole report is made before its first byte is written. Of several faults the first in the order of the work is
+/// answered: profile, source, machine file, load. After any but `Device` nothing was written.
+pub fn run_report<O: Output>(
+    alloc: Global,
+    source: &[u8],
+    machine: &[u8],
+    profile: Option<&[u8]>,
+    out: &mut O,
+) -> Result<bool, ReportFault>
+    ensures { Priced (option_map (λ f. f.now) profile.entry) (λ p. Answers O.taken O.failures (IsMachineReport ShowsRegisters source.now machine.now p) (IsRunnable source.now machine.now p) (IsRunRefused source.now machine.now p) out.old out.new result) out.old out.new result }
+{
+    let profile = profile_of(alloc, profile)?;
+    priced_run(alloc, source, machine, profile, out)
+}
+
+fn priced_run<O: Output>(
+    alloc: Global,
+    source: &[u8],
+    machine: &[u8],
+    profile: Profile,
+    out: &mut O,
+) -> Result<bool, ReportFault>
+    ensures { Answers O.taken O.failures (IsMachineReport ShowsRegisters source.now machine.now profile) (IsRunnable source.now machine.now profile) (IsRunRefused source.now machine.now profile) out.old out.new result }
+{
+    let shown = shown_run(alloc, source, machine, profile)?;
+    print(&shown, out)
+}
+
+/// The same with the line of each step in place of the registers.
+pub fn trace_report<O: Output>(
+    alloc: Global,
+    source: &[u8],
+    machine: &[u8],
+    profile: Option<&[u8]>,
+    out: &mut O,
+) -> Result<bool, ReportFault>
+    ensures { Priced (option_map (λ f. f.now) profile.entry) (λ p. Answers O.taken O.failures (IsMachineReport ShowsSteps source.now machine.now p) (IsRunnable source.now machine.now p) (IsRunRefused source.now machine.now p) out.old out.new result) out.old out.new result }
+{
+    let profile = profile_of(alloc, profile)?;
+    priced_trace(alloc, source, machine, profile, out)
+}
+
+fn priced_trace<O: Output>(
+    alloc: Global,
+    source: &[u8],
+    machine: &[u8],
+    profile: Profile,
+    out: &mut O,
+) -> Result<bool, ReportFault>
+    ensures { Answers O.taken O.failures (IsMachineReport ShowsSteps source.now machine.now profile) (IsRunnable source.now machine.now profile) (IsRunRefused source.now machine.now profile) out.old out.new result }
+{
+    let shown = shown_trace(alloc, source, machine, profile)?;
+    print(&shown, out)
+}

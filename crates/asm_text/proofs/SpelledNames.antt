@@ -1,0 +1,220 @@
+-- Numbers and names are read as they are spelled.
+use Rattle.std.proofs.Common.{◌≡◌, ◌<◌, ◌^◌, ℕ, zero, suc, Bool, true, false, ◌==◌, ◌&&◌, List, [], ◌∷◌, ◌++◌, length, Option, Some, None, codes, refl, sym, ap, subst, ◌∙◌, inl, inr, ◌⊎◌, arith, eqb-true, get_or}
+use Rattle.std.specs.Prelude.{nat_lt, is_none, option_map, option_and_then}
+use Rattle.std.specs.Char.{is_digit}
+use Rattle.std.specs.List.{Contains, list_all}
+use Rattle.std.specs.Str.{bytes_eq}
+use Rattle.std.specs.Str.Parse.{digits_value}
+use Rattle.std.proofs.lemmas.Bool.{and_parts}
+use Rattle.std.proofs.lemmas.Bool.Decides.{nat_tests}
+use Rattle.std.proofs.lemmas.List.{append-nil}
+use Rattle.std.proofs.lemmas.Slice.Eq.{bytes_eq-Decides}
+use Rattle.arm2_decode.specs.declared.names.Register.{Register}
+use Rattle.arm2_decode.specs.declared.names.Shift.{Shift}
+use Rattle.asm_text.specs.Pieces.{Piece, Run, Comma, Sign}
+use Rattle.asm_text.specs.Numbers.{after_zero, digits_of, fits, number_by, number_first, run_number, with_rest}
+use Rattle.asm_text.specs.Operands.{alone, whole}
+use Rattle.asm_text.specs.Registers.{found, in_both_cases, is_rrx, register_comma_first, register_first, register_names, register_of, shift_names, shift_of}
+use Rattle.asm_text.specs.SpelledOperands.{IsDigits, IsNumber, IsRegister, IsRrx, IsShift, SpellsNumber}
+use Rattle.asm_text.specs.declared.token.Mark.TheVariants.{Ampersand}
+use Rattle.asm_text.proofs.PieceLaws.{cases}
+use Rattle.asm_text.proofs.WordLaws.{chosen, equal_bytes, nothing_is, some_is}
+
+-- ---- what an option came from
+
+pub and_then_is : {A B : Type 0} (f : A → Option B) (o : Option A) (b : B) → option_and_then f o ≡ Some b → (a : A) × (o ≡ Some a) × (f a ≡ Some b)
+and_then_is f None b e = absurd (nothing_is b e)
+and_then_is f (Some a) b e = (a, refl, e)
+
+pub map_is : {A B : Type 0} (f : A → B) (o : Option A) (b : B) → option_map f o ≡ Some b → (a : A) × (o ≡ Some a) × (f a ≡ b)
+map_is f None b e = absurd (nothing_is b e)
+map_is f (Some a) b e = (a, refl, some_is (f a) b e)
+
+pub with_rest_is : {A : Type 0} (ps : List Piece) (o : Option A) (f : A × List Piece) → with_rest ps o ≡ Some f → (o ≡ Some f.0) × (ps ≡ f.1)
+with_rest_is ps None f e = absurd (nothing_is f e)
+with_rest_is ps (Some a) f e = let same = some_is (a, ps) f e in (ap (λ g. Some g.0) same, ap (λ g. g.1) same)
+
+alone_is : {A : Type 0} (a : A) (ps : List Piece) (b : A) → alone a ps ≡ Some b → (ps ≡ []) × (a ≡ b)
+alone_is a [] b e = (refl, some_is a b e)
+alone_is a (p ∷ ps) b e = absurd (nothing_is b e)
+
+pub whole_is : {A : Type 0} (o : Option (A × List Piece)) (a : A) → whole o ≡ Some a → o ≡ Some (a, [])
+whole_is None a e = absurd (nothing_is a e)
+whole_is (Some f) a e = let k = alone_is f.0 f.1 a e in ap Some (rw (← k.0, ← k.1) refl)
+
+pub same_bytes : (text : List ℕ) → bytes_eq text text ≡ true
+same_bytes text = (bytes_eq-Decides text text).1 refl
+
+false_true : {A : Type 0} → false ≡ true → A
+false_true e = absurd cc
+
+-- ---- digits
+
+fits_is : (o : Option ℕ) (n : ℕ) → fits o ≡ Some n → (o ≡ Some n) × (n < 2 ^ 32)
+fits_is None n e = absurd (nothing_is n e)
+fits_is (Some m) n e =
+    elim (chosen (nat_lt m (2 ^ 32)) (Some m) None (Some n) e) [
+      | inl h ↦ let same = some_is m n h.1 in let lt : m < 2 ^ 32 = grind (arith, nat_tests, h.0) in (ap Some same, omega arith)
+      | inr h ↦ absurd (nothing_is n h.1)
+    ]
+
+pub digits_is : (radix : ℕ) (text : List ℕ) (n : ℕ) → number_by radix text ≡ Some n → IsDigits radix text n
+digits_is radix text n e =
+    let f = fits_is (digits_of radix text) n e in
+    elim (chosen (nat_lt 0 (length text) && list_all (λ c. is_digit c radix) text) (Some (digits_value radix text)) None (Some n) f.0) [
+      | inl h ↦
+          let k = and_parts (nat_lt 0 (length text)) (list_all (λ c. is_digit c radix) text) h.0 in
+          record { some = grind (arith, nat_tests, k.0); digits = k.1; value = sym (some_is (digits_value radix text) n h.1); fits = f.1 }
+      | inr h ↦ absurd (nothing_is n h.1)
+    ]
+
+pub digits_again : (radix : ℕ) (text : List ℕ) (n : ℕ) → IsDigits radix text n → number_by radix text ≡ Some n
+digits_again radix text n h =
+    let some : nat_lt 0 (length text) ≡ true = grind (arith, nat_tests, h.some) in
+    let small : nat_lt n (2 ^ 32) ≡ true = grind (arith, nat_tests, h.fits) in
+    let of : digits_of radix text ≡ Some n = rw (some, h.digits) (ap Some (sym h.value)) in
+    ap fits of ∙ rw small refl
+
+-- ---- numbers
+
+zero_is : (d : List ℕ) (n : ℕ) → after_zero d ≡ Some n → IsNumber (48 ∷ d) n
+zero_is [] n e = inl (digits_is 10 (48 ∷ []) n e)
+zero_is (c ∷ d) n e =
+    elim (chosen (c == 120) (number_by 16 d) (number_by 10 (48 ∷ c ∷ d)) (Some n) e) [
+      | inl h ↦ inr (d, ap (λ (b : ℕ). 48 ∷ b ∷ d) (eqb-true c 120 h.0), digits_is 16 d n h.1)
+      | inr h ↦ inl (digits_is 10 (48 ∷ c ∷ d) n h.1)
+    ]
+
+pub number_is : (text : List ℕ) (n : ℕ) → run_number text ≡ Some n → IsNumber text n
+number_is [] n e = absurd (nothing_is n e)
+number_is (c ∷ d) n e =
+    elim (chosen (c == 48) (after_zero d) (number_by 10 (c ∷ d)) (Some n) e) [
+      | inl h ↦ rw (eqb-true c 48 h.0) (zero_is d n h.1)
+      | inr h ↦ inl (digits_is 10 (c ∷ d) n h.1)
+    ]
+
+zero_again : (d : List ℕ) (n : ℕ) → IsDigits 10 (48 ∷ d) n → after_zero d ≡ Some n
+zero_again [] n h = digits_again 10 (48 ∷ []) n h
+zero_again (c ∷ d) n h =
+    elim (cases (c == 120)) [
+      | inl e ↦
+          let k = and_parts (is_digit 48 10) (list_all (λ c. is_digit c 10) (c ∷ d)) h.digits in
+          let m = and_parts (is_digit c 10) (list_all (λ c. is_digit c 10) d) k.1 in
+          false_true (ap (λ b. is_digit b 10) (sym (eqb-true c 120 e)) ∙ m.0)
+      | inr e ↦ rw e (digits_again 10 (48 ∷ c ∷ d) n h)
+    ]
+
+decimal_again : (text : List ℕ) (n : ℕ) → IsDigits 10 text n → run_number text ≡ Some n
+decimal_again [] n h = absurd (omega (arith, h.some))
+decimal_again (c ∷ d) n h =
+    elim (cases (c == 48)) [
+      | inl e ↦ rw e (zero_again d n (subst (λ b. IsDigits 10 (b ∷ d) n) (eqb-true c 48 e) h))
+      | inr e ↦ rw e (digits_again 10 (c ∷ d) n h)
+    ]
+
+pub number_again : (text : List ℕ) (n : ℕ) → IsNumber text n → run_number text ≡ Some n
+number_again text n h = elim h [ inl d ↦ decimal_again text n d | inr d ↦ ap run_number d.1 ∙ digits_again 16 d.0 n d.2 ]
+
+-- ---- a number at the front
+
+pub number_front : (ps : List Piece) (f : ℕ × List Piece) → number_first ps ≡ Some f → (a : List Piece) × (ps ≡ a ++ f.1) × SpellsNumber f.0 a
+number_front (Run d ∷ ps) f e =
+    let k = with_rest_is ps (run_number d) f e in
+    (Run d ∷ [], ap (λ (qs : List Piece). Run d ∷ qs) k.1, inl (d, refl, number_is d f.0 k.0))
+number_front (Sign Ampersand ∷ Run d ∷ ps) f e =
+    let k = with_rest_is ps (number_by 16 d) f e in
+    (Sign Ampersand ∷ Run d ∷ [], ap (λ (qs : List Piece). Sign Ampersand ∷ Run d ∷ qs) k.1, inr (d, refl, digits_is 16 d f.0 k.0))
+number_front _ f e = absurd (nothing_is f e)
+
+pub front_number : (n : ℕ) (a rest : List Piece) → SpellsNumber n a → number_first (a ++ rest) ≡ Some (n, rest)
+front_number n a rest h =
+    elim h [
+      | inl k ↦ rw (k.1, number_again k.0 n k.2) refl
+      | inr k ↦ rw (k.1, digits_again 16 k.0 n k.2) refl
+    ]
+
+pub number_whole : (ps : List Piece) (n : ℕ) → whole (number_first ps) ≡ Some n → SpellsNumber n ps
+number_whole ps n e =
+    let k = number_front ps (n, []) (whole_is (number_first ps) n e) in
+    subst (SpellsNumber n) (sym (append-nil k.0) ∙ sym k.1) k.2
+
+pub whole_number : (n : ℕ) (ps : List Piece) → SpellsNumber n ps → whole (number_first ps) ≡ Some n
+whole_number n ps h = ap (λ (qs : List Piece). whole (number_first qs)) (sym (append-nil ps)) ∙ ap whole (front_number n ps [] h)
+
+-- ---- names
+
+-- no name stands twice
+abbrev once : {A : Type 0} → List (List ℕ × A) → Bool
+once [] = true
+once (e ∷ es) = is_none (found es e.0) && once es
+
+in_more : {A : Type 0} (e : List ℕ × A) (es : List (List ℕ × A)) (x : List ℕ × A) → Contains es x → Contains (e ∷ es) x
+in_more e es x h = (suc h.0, omega (arith, h.1), h.2)
+
+in_cases : {A : Type 0} (e : List ℕ × A) (es : List (List ℕ × A)) (x : List ℕ × A) (k : ℕ) → k < length (e ∷ es) → get_or (e ∷ es) k x ≡ x → (e ≡ x) ⊎ Contains es x
+in_cases e es x zero lt is = inl is
+in_cases e es x (suc k) lt is = inr (k, omega arith, is)
+
+found_is : {A : Type 0} (names : List (List ℕ × A)) (text : List ℕ) (a : A) → found names text ≡ Some a → Contains names (text, a)
+found_is [] text a e = absurd (nothing_is a e)
+found_is (x ∷ xs) text a e =
+    elim (chosen (bytes_eq text x.0) (Some x.1) (found xs text) (Some a) e) [
+      | inl h ↦ (0, omega arith, rw (← (equal_bytes text x.0 h.0), ← (some_is x.1 a h.1)) refl)
+      | inr h ↦ in_more x xs (text, a) (found_is xs text a h.1)
+    ]
+
+found_first : {A : Type 0} (names : List (List ℕ × A)) (text : List ℕ) (a : A) → once names ≡ true → Contains names (text, a) → found names text ≡ Some a
+found_first [] text a u h = absurd (omega (arith, h.1))
+found_first (x ∷ xs) text a u h =
+    let k = and_parts (is_none (found xs x.0)) (once xs) u in
+    elim (in_cases x xs (text, a) h.0 h.1 h.2) [
+      | inl is ↦ rw is (rw (same_bytes text) refl)
+      | inr later ↦
+          let there = found_first xs text a k.1 later in
+          elim (cases (bytes_eq text x.0)) [
+            | inl same ↦ false_true (ap is_none (sym there ∙ ap (found xs) (equal_bytes text x.0 same)) ∙ k.0)
+            | inr other ↦ rw other there
+          ]
+    ]
+
+pub register_is : (text : List ℕ) (r : Register) → register_of text ≡ Some r → IsRegister text r
+register_is text r e = found_is (in_both_cases register_names) text r e
+
+pub register_again : (text : List ℕ) (r : Register) → IsRegister text r → register_of text ≡ Some r
+register_again text r h = found_first (in_both_cases register_names) text r refl h
+
+pub shift_is : (text : List ℕ) (s : Shift) → shift_of text ≡ Some s → IsShift text s
+shift_is text s e = found_is (in_both_cases shift_names) text s e
+
+pub shift_again : (text : List ℕ) (s : Shift) → IsShift text s → shift_of text ≡ Some s
+shift_again text s h = found_first (in_both_cases shift_names) text s refl h
+
+pub rrx_is : (text : List ℕ) → is_rrx text ≡ true → IsRrx text
+rrx_is text e =
+    elim (cases (bytes_eq text (codes "RRX"))) [
+      | inl h ↦ inl (equal_bytes text (codes "RRX") h)
+      | inr h ↦ let k : bytes_eq text (codes "rrx") ≡ true = rw h at e in inr (equal_bytes text (codes "rrx") k)
+    ]
+
+pub rrx_again : (text : List ℕ) → IsRrx text → is_rrx text ≡ true
+rrx_again text h = elim h [ inl e ↦ rw e refl | inr e ↦ rw e refl ]
+
+-- ---- a register at the front
+
+pub register_front : (ps : List Piece) (f : Register × List Piece) → register_first ps ≡ Some f → (t : List ℕ) × (ps ≡ Run t ∷ f.1) × IsRegister t f.0
+register_front (Run t ∷ ps) f e =
+    let k = with_rest_is ps (register_of t) f e in
+    (t, ap (λ (qs : List Piece). Run t ∷ qs) k.1, register_is t f.0 k.0)
+register_front _ f e = absurd (nothing_is f e)
+
+pub front_register : (t : List ℕ) (r : Register) (ps : List Piece) → IsRegister t r → register_first (Run t ∷ ps) ≡ Some (r, ps)
+front_register t r ps h = rw (register_again t r h) refl
+
+pub register_comma_front : (ps : List Piece) (f : Register × List Piece) → register_comma_first ps ≡ Some f → (t : List ℕ) × (ps ≡ Run t ∷ Comma ∷ f.1) × IsRegister t f.0
+register_comma_front (Run t ∷ Comma ∷ ps) f e =
+    let k = with_rest_is ps (register_of t) f e in
+    (t, ap (λ (qs : List Piece). Run t ∷ Comma ∷ qs) k.1, register_is t f.0 k.0)
+register_comma_front _ f e = absurd (nothing_is f e)
+
+pub front_register_comma : (t : List ℕ) (r : Register) (ps : List Piece) → IsRegister t r → register_comma_first (Run t ∷ Comma ∷ ps) ≡ Some (r, ps)
+front_register_comma t r ps h = rw (register_again t r h) refl

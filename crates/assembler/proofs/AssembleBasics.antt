@@ -1,0 +1,67 @@
+-- Lists, tests and words that several of the next lemmas need.
+use Rattle.std.proofs.Common.{◌≡◌, ◌+◌, ℕ, zero, suc, Bool, true, false, cond, not, List, [], ◌∷◌, ◌++◌, length, map, Option, Some, None, refl, ap, inl, inr, ◌⊎◌}
+use Rattle.std.specs.Prelude.{nat_lt}
+use Rattle.std.specs.List.{AllByRecursion}
+use Rattle.std.specs.Str.{bytes_eq}
+use Rattle.std.proofs.lemmas.Slice.Eq.{bytes_eq-Decides}
+use Rattle.loader.specs.Image.{Words, with_word}
+use Rattle.asm_text.specs.Said.{Target}
+use Rattle.assembler.specs.Assembles.{places_from}
+use Rattle.assembler.specs.Sweeps.{State, labelled, value_pending}
+
+pub cases : (b : Bool) → (b ≡ true) ⊎ (b ≡ false)
+cases true = inl refl
+cases false = inr refl
+
+pub chosen : {A : Type 0} (b : Bool) (x y z : A) → cond b x y ≡ z → ((b ≡ true) × (x ≡ z)) ⊎ ((b ≡ false) × (y ≡ z))
+chosen true x y z e = inl (refl, e)
+chosen false x y z e = inr (refl, e)
+
+pub false_true : {A : Type 0} → false ≡ true → A
+false_true e = absurd cc
+
+pub not_false : (a : Bool) → not a ≡ false → a ≡ true
+not_false true e = refl
+not_false false e = absurd cc
+
+pub all_map : {A : Type 0} (P Q : A → Type 0) (xs : List A) → ((x : A) → P x → Q x) → AllByRecursion P xs → AllByRecursion Q xs
+all_map P Q [] f h = tt
+all_map P Q (x ∷ xs) f h = (f x h.0, all_map P Q xs f h.1)
+
+pub all_more : {A : Type 0} (P : A → Type 0) (xs : List A) (x : A) → AllByRecursion P xs → P x → AllByRecursion P (xs ++ x ∷ [])
+all_more P [] x h k = (k, tt)
+all_more P (y ∷ xs) x h k = (h.0, all_more P xs x h.1 k)
+
+pub all_parts : {A : Type 0} (P : A → Type 0) (xs ys : List A) → AllByRecursion P (xs ++ ys) → AllByRecursion P xs × AllByRecursion P ys
+all_parts P [] ys h = (tt, h)
+all_parts P (x ∷ xs) ys h = let k = all_parts P xs ys h.1 in ((h.0, k.0), k.1)
+
+pub all_both : {A : Type 0} (P Q R : A → Type 0) (xs : List A) → ((x : A) → P x → Q x → R x) → AllByRecursion P xs → AllByRecursion Q xs → AllByRecursion R xs
+all_both P Q R [] f h k = tt
+all_both P Q R (x ∷ xs) f h k = (f x h.0 k.0, all_both P Q R xs f h.1 k.1)
+
+pub all_true : {A : Type 0} (P : A → Type 0) (xs : List A) → ((x : A) → P x) → AllByRecursion P xs
+all_true P [] f = tt
+all_true P (x ∷ xs) f = (f x, all_true P xs f)
+
+pub same_bytes : (text : List ℕ) → bytes_eq text text ≡ true
+same_bytes text = (bytes_eq-Decides text text).1 refl
+
+pub equal_bytes : (xs ys : List ℕ) → bytes_eq xs ys ≡ true → xs ≡ ys
+equal_bytes xs ys e = (bytes_eq-Decides xs ys).0 e
+
+pub one_more : (image : Words) (at w : ℕ) → length (with_word image at w) ≡ suc (length image)
+one_more [] at w = refl
+one_more (f ∷ rest) at w = elim (cases (nat_lt at f.0)) [ inl e ↦ rw e refl | inr e ↦ rw e (ap suc (one_more rest at w)) ]
+
+pub count_places : (at n : ℕ) → length (places_from at n) ≡ n
+count_places at zero = refl
+count_places at (suc n) = ap suc (count_places (at + 4) n)
+
+pub count_map : (vs : List Target) → length (map value_pending vs) ≡ length vs
+count_map [] = refl
+count_map (v ∷ vs) = ap suc (count_map vs)
+
+pub labelled_at : (s : State) (label : Option (List ℕ)) → (labelled s label).at ≡ s.at
+labelled_at s None = refl
+labelled_at s (Some name) = refl

@@ -1,0 +1,6 @@
+mod WordLaws
+pub mod HexLaws
+mod WatchLaws
+mod BreakLaws
+mod RowLaws
+mod TalkLaws

@@ -1,0 +1,98 @@
+-- The commands of a session and how a line says them (our own format).
+use Rattle.std.specs.Prelude.{◌==◌, ◌&&◌, ◌+◌, ◌-◌, ◌*◌, ◌%◌, ◌^◌, ◌≤◌, nat_le, ℕ, Bool, true, false, List, [], ◌∷◌, codes, Option, Some, None, Result, Ok, Err, if◌then◌else◌}
+use Rattle.std.specs.Str.{bytes_eq}
+use Rattle.ioc.specs.declared.lines.Lines.{Lines}
+use Rattle.debugger.specs.declared.command.Command.{Command}
+use Rattle.debugger.specs.declared.command.Command.TheVariants.{Step, Run, ListBreaks, Break, Regs, Mem, Dis, Ticks, Burst, Line, Port}
+use Rattle.debugger.specs.declared.fault.DebugFault.{DebugFault}
+use Rattle.debugger.specs.declared.fault.DebugFault.TheVariants.{UnknownCommand, BadNumber}
+use Rattle.debugger.specs.Words.{number_of, words_of}
+
+-- ---- numbers
+
+abbrev pub within : (low high : ℕ) → Option ℕ → Result ℕ DebugFault
+within low high None = Err BadNumber
+within low high (Some n) = if nat_le low n && nat_le n high then Ok n else Err BadNumber
+
+abbrev pub number_in : (low high : ℕ) → List ℕ → Result ℕ DebugFault
+number_in low high word = within low high (number_of word)
+
+-- the address of so many words, none of them past 3FFFFFC
+abbrev pub spanning : (count : ℕ) → Option ℕ → Result ℕ DebugFault
+spanning count None = Err BadNumber
+spanning count (Some a) = if a % 4 == 0 && nat_le (a + 4 * count) (2 ^ 26) then Ok a else Err BadNumber
+
+abbrev pub address_in : (count : ℕ) → List ℕ → Result ℕ DebugFault
+address_in count word = spanning count (number_of word)
+
+abbrev pub given : Result ℕ DebugFault → (ℕ → Command) → Result Command DebugFault
+given (Ok n) command = Ok (command n)
+given (Err fault) command = Err fault
+
+-- ---- the names of the interrupt lines, those of machine files, each with its bit
+
+abbrev pub line_names : List (List ℕ × ℕ)
+line_names = (codes "A0", 0x1) ∷ (codes "A1", 0x2) ∷ (codes "A2", 0x4) ∷ (codes "IL0", 0x100) ∷ (codes "B1", 0x200) ∷ (codes "B2", 0x400) ∷ (codes "B3", 0x800) ∷ (codes "B4", 0x1000) ∷ (codes "B5", 0x2000) ∷ (codes "B6", 0x4000) ∷ (codes "B7", 0x8000) ∷ (codes "F0", 0x10000) ∷ (codes "F1", 0x20000) ∷ (codes "F2", 0x40000) ∷ (codes "F3", 0x80000) ∷ (codes "F4", 0x100000) ∷ (codes "F5", 0x200000) ∷ []
+
+abbrev pub line_in : List (List ℕ × ℕ) → List ℕ → Option Lines
+line_in [] name = None
+line_in (row ∷ rows) name = if bytes_eq name row.0 then Some (record { 0 = row.1 }) else line_in rows name
+
+abbrev pub line_named : List ℕ → Option Lines
+line_named name = line_in line_names name
+
+abbrev pub switched : Option Lines → (on : Bool) → Result Command DebugFault
+switched (Some line) on = Ok (Line line on)
+switched None on = Err UnknownCommand
+
+abbrev pub line_command : (name state : List ℕ) → Result Command DebugFault
+line_command name state =
+    if bytes_eq state (codes "on") then switched (line_named name) true
+    else (if bytes_eq state (codes "off") then switched (line_named name) false else Err UnknownCommand)
+
+-- ---- commands, by the number of their words
+
+abbrev pub one_word : List ℕ → Result Command DebugFault
+one_word name =
+    if bytes_eq name (codes "step") then Ok (Step 1)
+    else (if bytes_eq name (codes "break") then Ok ListBreaks
+    else (if bytes_eq name (codes "regs") then Ok Regs
+    else (if bytes_eq name (codes "ticks") then Ok Ticks else Err UnknownCommand)))
+
+abbrev pub two_words : (name number : List ℕ) → Result Command DebugFault
+two_words name number =
+    if bytes_eq name (codes "step") then given (number_in 1 1024 number) (λ n. Step n)
+    else (if bytes_eq name (codes "run") then given (number_in 1 65536 number) (λ n. Run n)
+    else (if bytes_eq name (codes "break") then given (address_in 1 number) (λ a. Break a)
+    else (if bytes_eq name (codes "burst") then given (number_in 0 65535 number) (λ n. Burst n)
+    else (if bytes_eq name (codes "port") then given (number_in 0 (2 ^ 32 - 1) number) (λ n. Port n) else Err UnknownCommand))))
+
+-- an address and a number of words from 1 to 16
+abbrev pub span : Result ℕ DebugFault → (address : List ℕ) → (ℕ → ℕ → Command) → Result Command DebugFault
+span (Ok count) address command = given (address_in count address) (λ a. command a count)
+span (Err fault) address command = Err fault
+
+abbrev pub three_words : (name first second : List ℕ) → Result Command DebugFault
+three_words name first second =
+    if bytes_eq name (codes "mem") then span (number_in 1 16 second) first (λ a n. Mem a n)
+    else (if bytes_eq name (codes "dis") then span (number_in 1 16 second) first (λ a n. Dis a n)
+    else (if bytes_eq name (codes "line") then line_command first second else Err UnknownCommand))
+
+abbrev pub command_in : List (List ℕ) → Result Command DebugFault
+command_in [] = Err UnknownCommand
+command_in (name ∷ []) = one_word name
+command_in (name ∷ number ∷ []) = two_words name number
+command_in (name ∷ first ∷ second ∷ []) = three_words name first second
+command_in (name ∷ first ∷ second ∷ third ∷ rest) = Err UnknownCommand
+
+-- the command of a line, or why it is none
+abbrev pub command_of : List ℕ → Result Command DebugFault
+command_of line = command_in (words_of line)
+
+-- what is true of every command that a line says
+abbrev pub IsInRange : Command → Type 0
+IsInRange (Step n) = (1 ≤ n) × (n ≤ 1024)
+IsInRange (Run n) = (1 ≤ n) × (n ≤ 65536)
+IsInRange (Mem a n) = (a + 4 * n ≤ 2 ^ 26) × (n ≤ 16)
+IsInRange (Dis a n) = (a + 4 * n ≤ 2 ^ 26) × (n ≤ 16)
+IsInRange _ = Unit {0}

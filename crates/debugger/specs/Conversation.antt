@@ -1,0 +1,33 @@
+-- A whole session (our own format).
+use Rattle.std.specs.Prelude.{◌≡◌, ◌⊎◌, ℕ, Bool, true, false, List, [], ◌∷◌, ◌++◌, codes}
+use Rattle.std.specs.Str.{bytes_eq}
+use Rattle.debugger.specs.declared.fault.DebugFault.{DebugFault}
+use Rattle.debugger.specs.Answers.{AnswersLine, RefusesLine}
+use Rattle.debugger.specs.Faults.{fault_name}
+use Rattle.debugger.specs.SessionState.{SessionState}
+use Rattle.debugger.specs.Words.{words_of}
+
+abbrev pub refusal_text : DebugFault → List ℕ
+refusal_text fault = codes "refused: " ++ (fault_name fault ++ codes "\n")
+
+abbrev pub is_quit_in : List (List ℕ) → Bool
+is_quit_in (word ∷ []) = bytes_eq word (codes "quit")
+is_quit_in _ = false
+
+-- its one word is `quit`
+abbrev pub is_quit : List ℕ → Bool
+is_quit line = is_quit_in (words_of line)
+
+abbrev pub Unless : Bool → List ℕ → (goes_on : Type 0) → Type 0
+Unless true text goes_on = text ≡ []
+Unless false text goes_on = goes_on
+
+-- a command changes the session and adds its answer; a refused one adds a line that names why
+abbrev pub Tells : SessionState → (line text : List ℕ) → SessionState → Type 0
+Tells s line text after = AnswersLine s line text after ⊎ ((fault : DebugFault) × RefusesLine s line fault × (text ≡ refusal_text fault) × (after ≡ s))
+
+-- what a session tells to some lines, in their order, up to one that quits
+abbrev pub Converses : SessionState → (lines : List (List ℕ)) → (text : List ℕ) → Type 0
+Converses s [] text = text ≡ []
+Converses s (line ∷ rest) text = Unless (is_quit line) text (
+    (own : List ℕ) × (after : SessionState) × Tells s line own after × (more : List ℕ) × Converses after rest more × (text ≡ own ++ more))

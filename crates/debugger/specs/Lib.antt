@@ -1,0 +1,7 @@
+pub mod Words
+pub mod Faults
+pub mod Commands
+pub mod SessionState
+pub mod Watching
+pub mod Answers
+pub mod Conversation

@@ -1,0 +1,79 @@
+ghost use Rattle.std.specs.Prelude.{◌≡◌, ◌++◌, IfOk, IfErr, OnOk};
+ghost use Rattle.asm_text.specs.Source.{lines_of};
+ghost use Rattle.trace_text.specs.TraceText.{Adds};
+ghost use Rattle.debugger.specs.Conversation.{Converses, Tells, is_quit as quits, refusal_text};
+ghost use Rattle.debugger.specs.SessionState.{begun};
+
+use crate::fault::{DebugFault, name_of};
+use crate::session::Session;
+use crate::words::first_word;
+use arm2_exec::Machine;
+use asm_text::first_line;
+use std::alloc::{AllocError, Global};
+
+// Whether the line's one word is `quit`.
+fn is_quit(line: &[u8]) -> bool
+    ensures { result ≡ quits line.now }
+{
+    match first_word(line) {
+        Some((b"quit", rest)) => first_word(rest).is_none(),
+        _ => false,
+    }
+}
+
+fn put_refusal(out: &mut Vec<u8>, fault: DebugFault) -> Result<(), AllocError>
+    ensures { OnOk result (out.new.items ≡ out.old.items ++ refusal_text fault) }
+{
+    out.extend_from_slice(b"refused: ")?;
+    out.extend_from_slice(name_of(fault))?;
+    out.extend_from_slice(b"\n")
+}
+
+// Adds what a session tells to a line.
+fn tell(
+    out: &mut Vec<u8>,
+    alloc: Global,
+    session: &mut Session,
+    line: &[u8],
+) -> Result<(), DebugFault>
+    ensures ok { OnOk result (Adds (λ text. Tells session.old line.now text session.new) out.old.items out.new.items) }
+    ensures err { IfErr result (λ fault. fault ≡ DebugFault.Memory) }
+{
+    match session.command(alloc, line) {
+        Ok(answer) => {
+            out.extend_from_slice(&answer)?;
+            Ok(())
+        }
+        Err(DebugFault::Memory) => Err(DebugFault::Memory),
+        Err(fault) => {
+            put_refusal(out, fault)?;
+            Ok(())
+        }
+    }
+}
+
+/// A whole session: what it answers to command lines, in their order, up to a line whose one word is `quit`.
+///
+/// Lines end with LF or CR LF; the last may lack it. A refused command answers `refused: ` and the fault's name, and the
+/// session goes on. `Memory`, the one error: a growth was refused.
+pub fn converse(
+    alloc: Global,
+    machine: Machine,
+    port: u32,
+    commands: &[u8],
+) -> Result<Vec<u8>, DebugFault>
+    ensures ok { IfOk result (λ answers. Converses (begun machine port) (lines_of commands.now) answers.items) }
+    ensures err { IfErr result (λ fault. fault ≡ DebugFault.Memory) }
+{
+    let mut session = Session::with_port(machine, port);
+    let mut out = Vec::new(alloc);
+    let mut rest = commands;
+    while let Some((line, behind)) = first_line(rest) {
+        if is_quit(line) {
+            return Ok(out);
+        }
+        tell(&mut out, alloc, &mut session, line)?;
+        rest = behind;
+    }
+    Ok(out)
+}

@@ -1,0 +1,138 @@
+ghost use Rattle.std.specs.Prelude.{◌≡◌, ◌+◌, ◌*◌, ◌^◌, ◌≤◌, IfOk};
+ghost use Rattle.debugger.specs.Commands.{IsInRange, address_in, command_of as line_says, line_command, line_named, number_in as number_within, one_word as one_says, three_words as three_say, two_words as two_say};
+
+use crate::command::Command;
+use crate::fault::DebugFault;
+use crate::words::{first_word, read_number};
+use ioc::Lines;
+
+/// The first address past memory.
+const END: u32 = 0x400_0000;
+
+fn number_in(low: u32, high: u32, word: &[u8]) -> Result<u32, DebugFault>
+    ensures number { result ≡ number_within low high word.now }
+    ensures bounds { IfOk result (λ n. (low ≤ n) × (n ≤ high)) }
+{
+    match read_number(word) {
+        Some(n) if low <= n && n <= high => Ok(n),
+        _ => Err(DebugFault::BadNumber),
+    }
+}
+
+// The address of so many words.
+fn address_of(count: u32, word: &[u8]) -> Result<u32, DebugFault>
+    requires { count ≤ 16 }
+    ensures address { result ≡ address_in count word.now }
+    ensures bound { IfOk result (λ a. a + 4 * count ≤ 2 ^ 26) }
+{
+    match read_number(word) {
+        Some(a) if a % 4 == 0 && a <= END - 4 * count => Ok(a),
+        _ => Err(DebugFault::BadNumber),
+    }
+}
+
+fn one_word(name: &[u8]) -> Result<Command, DebugFault>
+    ensures command { result ≡ one_says name.now }
+    ensures range { IfOk result IsInRange }
+{
+    match name {
+        b"step" => Ok(Command::Step(1)),
+        b"break" => Ok(Command::ListBreaks),
+        b"regs" => Ok(Command::Regs),
+        b"ticks" => Ok(Command::Ticks),
+        _ => Err(DebugFault::UnknownCommand),
+    }
+}
+
+fn two_words(name: &[u8], number: &[u8]) -> Result<Command, DebugFault>
+    ensures command { result ≡ two_say name.now number.now }
+    ensures range { IfOk result IsInRange }
+{
+    match name {
+        b"step" => Ok(Command::Step(number_in(1, 1024, number)?)),
+        b"run" => Ok(Command::Run(number_in(1, 65536, number)?)),
+        b"break" => Ok(Command::Break(address_of(1, number)?)),
+        b"burst" => Ok(Command::Burst(number_in(0, 65535, number)? as u16)),
+        b"port" => Ok(Command::Port(number_in(0, u32::MAX, number)?)),
+        _ => Err(DebugFault::UnknownCommand),
+    }
+}
+
+// The line of a name.
+fn line_of(name: &[u8]) -> Option<Lines>
+    ensures { result ≡ line_named name.now }
+{
+    match name {
+        b"A0" => Some(Lines::A0),
+        b"A1" => Some(Lines::A1),
+        b"A2" => Some(Lines::A2),
+        b"IL0" => Some(Lines::IL0),
+        b"B1" => Some(Lines::B1),
+        b"B2" => Some(Lines::B2),
+        b"B3" => Some(Lines::B3),
+        b"B4" => Some(Lines::B4),
+        b"B5" => Some(Lines::B5),
+        b"B6" => Some(Lines::B6),
+        b"B7" => Some(Lines::B7),
+        b"F0" => Some(Lines::F0),
+        b"F1" => Some(Lines::F1),
+        b"F2" => Some(Lines::F2),
+        b"F3" => Some(Lines::F3),
+        b"F4" => Some(Lines::F4),
+        b"F5" => Some(Lines::F5),
+        _ => None,
+    }
+}
+
+fn line(name: &[u8], state: &[u8]) -> Result<Command, DebugFault>
+    ensures command { result ≡ line_command name.now state.now }
+    ensures range { IfOk result IsInRange }
+{
+    let on = match state {
+        b"on" => true,
+        b"off" => false,
+        _ => return Err(DebugFault::UnknownCommand),
+    };
+    match line_of(name) {
+        Some(line) => Ok(Command::Line(line, on)),
+        None => Err(DebugFault::UnknownCommand),
+    }
+}
+
+fn three_words(name: &[u8], first: &[u8], second: &[u8]) -> Result<Command, DebugFault>
+    ensures command { result ≡ three_say name.now first.now second.now }
+    ensures range { IfOk result IsInRange }
+{
+    match name {
+        b"mem" => {
+            let count = number_in(1, 16, second)?;
+            Ok(Command::Mem(address_of(count, first)?, count))
+        }
+        b"dis" => {
+            let count = number_in(1, 16, second)?;
+            Ok(Command::Dis(address_of(count, first)?, count))
+        }
+        b"line" => line(first, second),
+        _ => Err(DebugFault::UnknownCommand),
+    }
+}
+
+/// The command that a line says, without its end.
+pub(crate) fn read_command(line: &[u8]) -> Result<Command, DebugFault>
+    ensures command { result ≡ line_says line.now }
+    ensures range { IfOk result IsInRange }
+{
+    let Some((name, rest)) = first_word(line) else {
+        return Err(DebugFault::UnknownCommand);
+    };
+    let Some((first, rest)) = first_word(rest) else {
+        return one_word(name);
+    };
+    let Some((second, rest)) = first_word(rest) else {
+        return two_words(name, first);
+    };
+    if first_word(rest).is_some() {
+        return Err(DebugFault::UnknownCommand);
+    }
+    three_words(name, first, second)
+}

@@ -1,0 +1,309 @@
+ghost use Rattle.std.specs.Prelude.{◌≡◌, ◌⊎◌, ◌+◌, ◌*◌, ◌^◌, ◌<◌, ◌≤◌, ◌≢◌, nat_lt, slice_index, true, false, IfOk, IfErr, OnErr, OnOk, MatchOption, length};
+ghost use Rattle.std.specs.List.{prefix_len};
+ghost use Rattle.trace_text.specs.TraceText.{registers_text, ticks_text};
+ghost use Rattle.debugger.specs.Answers.{Answers, AnswersLine, AnswersRun, AnswersStep, AreSeen, HasGap, IsStopped, Refuses, RefusesLine, Sets, ShowsSpan, breaks_text, seen as word_seen, switched as line_switched};
+ghost use Rattle.debugger.specs.Commands.{IsInRange};
+ghost use Rattle.debugger.specs.SessionState.{Ascending, begun, moved_on, toggled};
+
+use crate::command::Command;
+use crate::fault::DebugFault;
+use crate::printed::LINE_ROOM;
+use crate::reading::read_command;
+use crate::rows::{ROW_ROOM, Row, put_breaks, put_rows};
+use crate::stepping::{Keep, run_watched};
+use arm2_exec::{Input, Machine, Ran};
+use arrayvec::ArrayVec;
+use bitflags::Flags;
+use ioc::Lines;
+use memc::Spot;
+use std::alloc::Global;
+use std::marker::Model;
+use trace_text::{write_registers, write_ticks};
+
+/// The most breakpoints.
+const BREAKS: usize = 16;
+
+/// The most words that `mem` and `dis` show.
+const WORDS: usize = 16;
+
+/// A machine that is stepped by commands, with its breakpoints, the inputs of its next step, and the sums of its ticks.
+#[derive(Drop)]
+pub struct Session {
+    machine: Machine,
+    breaks: ArrayVec<u32, BREAKS>,
+    next: Input,
+    ticks: u128,
+    elapsed: u128,
+}
+
+impl Model for Session {
+    ghost use Rattle.std.specs.Prelude.{◌≤◌, length};
+    ghost use Rattle.debugger.specs.SessionState.{Ascending, SessionState};
+
+    ghost Value = { SessionState };
+
+    ghost view = { λ s. record { machine = s.machine; breaks = s.breaks.items; next = s.next; ticks = s.ticks; elapsed = s.elapsed } };
+
+    ghost invariant = { λ s. Ascending s.breaks.items };
+}
+
+impl Session {
+    /// A session without breakpoints, with no line active, the port's word 0 and sums of 0.
+    pub fn new(machine: Machine) -> Session
+        ensures { result ≡ begun machine 0 }
+    {
+        Session::with_port(machine, 0)
+    }
+
+    // A session with a word for the port.
+    pub(crate) fn with_port(machine: Machine, port: u32) -> Session
+        ensures { result ≡ begun machine port }
+    {
+        Session {
+            machine,
+            breaks: ArrayVec::new(),
+            next: Input {
+                bursts: 0,
+                lines: Lines::empty(),
+                port,
+            },
+            ticks: 0,
+            elapsed: 0,
+        }
+    }
+
+    /// Obeys one command line, without its end. The answer's lines end with LF; a setting answers nothing.
+    ///
+    /// - `step N`, 1 to 1024 steps, 1 where no number stands: their trace lines, up to a step that is stopped.
+    /// - `run N`, 1 to 65,536 steps: the last trace line. It ends before a step that is stopped, and behind its first step
+    ///   also before the instruction at a breakpoint.
+    /// - `break A` adds a breakpoint or removes it, 16 at most; `break` lists them, ascending.
+    /// - `regs`: the registers. `ticks`: the sums of the ticks of all runs, and of those that passed with bursts; they stay
+    ///   at 2^128 - 1.
+    /// - `mem A N`, `dis A N`: 1 to 16 words of RAM or ROM from an address, as a privileged load finds them.
+    /// - `burst N`, 0 to 65,535: DMA bursts in the next step alone. `line NAME on` and `off`, `port N`: the lines and the
+    ///   port's word from the next step on.
+    ///
+    /// A refused command, also one that memory refuses, leaves the session as it was.
+    pub fn command(&mut self, alloc: Global, line: &[u8]) -> Result<Vec<u8>, DebugFault>
+        ensures ok { IfOk result (λ answer. AnswersLine self.old line.now answer.items self.new) }
+        ensures err { IfErr result (λ fault. (fault ≡ DebugFault.Memory) ⊎ RefusesLine self.old line.now fault) }
+        ensures unchanged { OnErr result (self.new ≡ self.old) }
+    {
+        let command = read_command(line)?;
+        self.obey(alloc, command)
+    }
+
+    fn obey(&mut self, alloc: Global, command: Command) -> Result<Vec<u8>, DebugFault>
+        requires { IsInRange command }
+        ensures ok { IfOk result (λ answer. Answers self.old command answer.items self.new) }
+        ensures err { IfErr result (λ fault. (fault ≡ DebugFault.Memory) ⊎ Refuses self.old command fault) }
+        ensures unchanged { OnErr result (self.new ≡ self.old) }
+    {
+        let next = self.next;
+        match command {
+            Command::Step(steps) => self.step(alloc, steps),
+            Command::Run(steps) => self.run(alloc, steps),
+            Command::ListBreaks => self.list_breaks(alloc),
+            Command::Break(address) => self.toggle(alloc, address),
+            Command::Regs => self.registers(alloc),
+            Command::Mem(address, count) => self.span(alloc, Row::Word, address, count),
+            Command::Dis(address, count) => self.span(alloc, Row::Line, address, count),
+            Command::Ticks => self.sums(alloc),
+            Command::Burst(bursts) => Ok(self.set(alloc, Input { bursts, ..next })),
+            Command::Line(line, on) => {
+                let lines = switched(line, on, next.lines);
+                Ok(self.set(alloc, Input { lines, ..next }))
+            }
+            Command::Port(port) => Ok(self.set(alloc, Input { port, ..next })),
+        }
+    }
+
+    fn step(&mut self, alloc: Global, steps: u32) -> Result<Vec<u8>, DebugFault>
+        requires { (1 ≤ steps) × (steps ≤ 1024) }
+        ensures ok { IfOk result (λ answer. AnswersStep self.old steps answer.items self.new) }
+        ensures err { IfErr result (λ fault. (fault ≡ DebugFault.Memory) ⊎ ((fault ≡ DebugFault.MachineStopped) × IsStopped self.old)) }
+        ensures unchanged { OnErr result (self.new ≡ self.old) }
+    {
+        let mut answer = Vec::with_capacity(alloc, steps as usize * LINE_ROOM)?;
+        let ran = run_watched(
+            &mut answer,
+            &mut self.machine,
+            &[],
+            self.next,
+            steps,
+            Keep::All,
+        );
+        if ran.steps == 0 {
+            return Err(DebugFault::MachineStopped);
+        }
+        self.settle(ran);
+        Ok(answer)
+    }
+
+    fn run(&mut self, alloc: Global, steps: u32) -> Result<Vec<u8>, DebugFault>
+        requires { (1 ≤ steps) × (steps ≤ 65536) }
+        ensures ok { IfOk result (λ answer. AnswersRun self.old steps answer.items self.new) }
+        ensures err { IfErr result (λ fault. (fault ≡ DebugFault.Memory) ⊎ ((fault ≡ DebugFault.MachineStopped) × IsStopped self.old)) }
+        ensures unchanged { OnErr result (self.new ≡ self.old) }
+    {
+        let mut answer = Vec::with_capacity(alloc, LINE_ROOM)?;
+        let breaks = self.breaks.as_slice();
+        let ran = run_watched(
+            &mut answer,
+            &mut self.machine,
+            breaks,
+            self.next,
+            steps,
+            Keep::Last,
+        );
+        if ran.steps == 0 {
+            return Err(DebugFault::MachineStopped);
+        }
+        self.settle(ran);
+        Ok(answer)
+    }
+
+    // What a run of the machine leaves of the inputs and the sums.
+    fn settle(&mut self, ran: Ran)
+        ensures { self.new ≡ moved_on self.old ran self.old.machine }
+    {
+        self.next.bursts = 0;
+        self.ticks = self.ticks.saturating_add(ran.ticks);
+        self.elapsed = self.elapsed.saturating_add(ran.elapsed);
+    }
+
+    // The inputs of the next step are set.
+    fn set(&mut self, alloc: Global, next: Input) -> Vec<u8>
+        ensures { Sets result.items self.new (record self.old { next = next }) }
+    {
+        self.next = next;
+        Vec::new(alloc)
+    }
+
+    fn toggle(&mut self, alloc: Global, address: u32) -> Result<Vec<u8>, DebugFault>
+        ensures ok { IfOk result (λ answer. Sets answer.items self.new (record self.old { breaks = toggled address self.old.breaks })) }
+        ensures err { IfErr result (λ fault. (fault ≡ DebugFault.TooManyBreaks) × (16 < length (toggled address self.old.breaks))) }
+        ensures unchanged { OnErr result (self.new ≡ self.old) }
+    {
+        toggle_break(&mut self.breaks, address)?;
+        Ok(Vec::new(alloc))
+    }
+
+    fn list_breaks(&self, alloc: Global) -> Result<Vec<u8>, DebugFault>
+        ensures ok { IfOk result (λ answer. Ascending self.now.breaks × (answer.items ≡ breaks_text self.now.breaks)) }
+        ensures err { IfErr result (λ fault. fault ≡ DebugFault.Memory) }
+    {
+        let mut answer = Vec::with_capacity(alloc, BREAKS * 9)?;
+        put_breaks(&mut answer, self.breaks.as_slice());
+        Ok(answer)
+    }
+
+    fn registers(&self, alloc: Global) -> Result<Vec<u8>, DebugFault>
+        ensures ok { IfOk result (λ answer. answer.items ≡ registers_text self.now.machine.regs) }
+        ensures err { IfErr result (λ fault. fault ≡ DebugFault.Memory) }
+    {
+        let mut text = String::new(alloc);
+        write_registers(&mut text, &self.machine)?;
+        Ok(text.into_bytes())
+    }
+
+    fn sums(&self, alloc: Global) -> Result<Vec<u8>, DebugFault>
+        ensures ok { IfOk result (λ answer. answer.items ≡ ticks_text self.now.ticks self.now.elapsed) }
+        ensures err { IfErr result (λ fault. fault ≡ DebugFault.Memory) }
+    {
+        let mut text = String::new(alloc);
+        write_ticks(&mut text, self.ticks, self.elapsed)?;
+        Ok(text.into_bytes())
+    }
+
+    // The word that a privileged load finds in RAM or ROM.
+    fn seen(&self, address: u32) -> Option<u32>
+        requires { address < 2 ^ 26 }
+        ensures { result ≡ word_seen self.now.machine.bus.memc address }
+    {
+        let memc = self.machine.memc();
+        match memc.locate(address, false, false) {
+            Ok(spot @ (Spot::Ram(_) | Spot::Rom(_))) => Some(memc.load(spot)),
+            _ => None,
+        }
+    }
+
+    fn words(&self, address: u32, count: u32) -> Option<ArrayVec<u32, WORDS>>
+        requires { (address + 4 * count ≤ 2 ^ 26) × (count ≤ 16) }
+        ensures { MatchOption result (HasGap self.now.machine.bus.memc address count) (λ words. AreSeen self.now.machine.bus.memc address words.items × (length words.items ≡ count)) }
+    {
+        let mut words = ArrayVec::new();
+        for k in 0..count {
+            let word = self.seen(address + 4 * k)?;
+            words.push(word);
+        }
+        Some(words)
+    }
+
+    fn span(&self, alloc: Global, row: Row, address: u32, count: u32) -> Result<Vec<u8>, DebugFault>
+        requires { (address + 4 * count ≤ 2 ^ 26) × (count ≤ 16) }
+        ensures ok { IfOk result (λ answer. ShowsSpan row self.now.machine.bus.memc address count answer.items) }
+        ensures err { IfErr result (λ fault. (fault ≡ DebugFault.Memory) ⊎ ((fault ≡ DebugFault.NoPage) × HasGap self.now.machine.bus.memc address count)) }
+    {
+        let mut answer = Vec::with_capacity(alloc, count as usize * ROW_ROOM)?;
+        let Some(words) = self.words(address, count) else {
+            return Err(DebugFault::NoPage);
+        };
+        put_rows(&mut answer, row, address, words.as_slice());
+        Ok(answer)
+    }
+}
+
+// The lines, with one of them active or not.
+fn switched(line: Lines, on: bool, lines: Lines) -> Lines
+    ensures { result ≡ line_switched line on lines }
+{
+    let mut lines = lines;
+    lines.set(line, on);
+    lines
+}
+
+// The number of breakpoints below an address.
+fn below(breaks: &ArrayVec<u32, BREAKS>, address: u32) -> usize
+    ensures len { result ≡ prefix_len (λ a. nat_lt a address) breaks.now.items }
+    ensures within { result ≤ length breaks.now.items }
+{
+    breaks
+        .as_slice()
+        .iter()
+        .take_while(|a| **a < address)
+        .count()
+}
+
+fn has_at(breaks: &ArrayVec<u32, BREAKS>, at: usize, address: u32) -> bool
+    ensures yes { result ≡ true → (at < length breaks.now.items) × (slice_index breaks.now.items at ≡ address) }
+    ensures no { result ≡ false → at < length breaks.now.items → slice_index breaks.now.items at ≢ address }
+{
+    let breaks = breaks.as_slice();
+    if at >= breaks.len() {
+        return false;
+    }
+    breaks[at] == address
+}
+
+// Removes a breakpoint that is there, or adds it.
+fn toggle_break(breaks: &mut ArrayVec<u32, BREAKS>, address: u32) -> Result<(), DebugFault>
+    requires { Ascending breaks.old.items }
+    ensures ok { OnOk result (breaks.new.items ≡ toggled address breaks.old.items) }
+    ensures ascending { Ascending breaks.new.items }
+    ensures err { IfErr result (λ fault. (fault ≡ DebugFault.TooManyBreaks) × (16 < length (toggled address breaks.old.items))) }
+    ensures unchanged { OnErr result (breaks.new.items ≡ breaks.old.items) }
+{
+    let at = below(breaks, address);
+    let stands = has_at(breaks, at, address);
+    if stands {
+        breaks.remove(at);
+        return Ok(());
+    }
+    if breaks.is_full() {
+        return Err(DebugFault::TooManyBreaks);
+    }
+    breaks.insert(at, address);
+    Ok(())
+}

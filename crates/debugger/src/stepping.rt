@@ -1,0 +1,87 @@
+ghost use Rattle.std.specs.Prelude.{◌≡◌, ◌<◌, ◌≤◌, ◌*◌, ◌^◌, ◌+◌, ℕ, List, [], length, vec_capacity};
+ghost use Rattle.trace_text.specs.TraceText.{IsTraceLine};
+ghost use Rattle.debugger.specs.Watching.{HasRoom, Watches, inputs_of, is_break, kept, kept_line};
+
+use crate::printed::put_trace;
+use arm2_effect::address_of;
+use arm2_exec::{Input, Kind, Machine, Ran, Reg};
+use bus_ticks::Profile;
+use trace_text::{Traced, step_traced};
+
+/// Which lines of a run are kept.
+#[derive(Clone, Copy)]
+pub(crate) enum Keep {
+    All,
+    Last,
+}
+
+// The ticks of DMA bursts.
+fn stretched(profile: Profile, bursts: u16) -> u32
+    ensures ticks { result ≡ profile.burst * bursts }
+    ensures bound { result < 2 ^ 24 }
+{
+    profile.burst * u32::from(bursts)
+}
+
+fn is_at_break(breaks: &[u32], machine: &Machine) -> bool
+    ensures { result ≡ is_break breaks.now machine.now }
+{
+    let address = address_of(machine.get(Reg::R15));
+    breaks.iter().any(|a| *a == address)
+}
+
+fn put_line(out: &mut Vec<u8>, keep: Keep, traced: &Traced)
+    requires { HasRoom keep (length out.old.items) 1 (vec_capacity out.old) }
+    ensures text { (line : List ℕ) × IsTraceLine traced.now line × (out.new.items ≡ kept_line keep out.old.items line) }
+    ensures room { (lines : ℕ) → HasRoom keep (length out.old.items) (lines + 1) (vec_capacity out.old) → HasRoom keep (length out.new.items) lines (vec_capacity out.new) }
+{
+    match keep {
+        Keep::All => put_trace(out, traced),
+        Keep::Last => {
+            out.clear();
+            put_trace(out, traced);
+        }
+    }
+}
+
+/// Steps a machine up to so many times: up to a step that is stopped, and behind each step to a breakpoint. It keeps the
+/// trace lines in room that was taken. The bursts of the first input are those of the first step alone.
+pub(crate) fn run_watched(
+    out: &mut Vec<u8>,
+    machine: &mut Machine,
+    breaks: &[u32],
+    first: Input,
+    steps: u32,
+    keep: Keep,
+) -> Ran
+    requires empty { out.old.items ≡ [] }
+    requires room { HasRoom keep 0 steps (vec_capacity out.old) }
+    requires some { 0 < steps }
+    ensures { (lines : List (List ℕ)) × Watches breaks.now machine.old (inputs_of first steps) lines result machine.new × (out.new.items ≡ kept keep lines) }
+{
+    let mut ran = Ran {
+        steps: 0,
+        ticks: 0,
+        elapsed: 0,
+        stopped: None,
+    };
+    let mut input = first;
+    for made in 0..steps {
+        let stretched = stretched(machine.profile(), input.bursts);
+        let traced = step_traced(machine, input);
+        if let Kind::Stopped(why) = traced.told.kind {
+            ran.stopped = Some(why);
+            return ran;
+        }
+        put_line(out, keep, &traced);
+        let ticks = u128::from(traced.told.ticks);
+        ran.steps += 1;
+        ran.ticks += ticks;
+        ran.elapsed += ticks + u128::from(stretched);
+        if is_at_break(breaks, machine) {
+            return ran;
+        }
+        input.bursts = 0;
+    }
+    ran
+}

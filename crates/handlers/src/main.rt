@@ -1,0 +1,48 @@
+//! Judges the sample handlers in `data/`, each with its source, its statement and its machine file in a folder of its
+//! own: a line of its greatest run time, of the checker's verdict on the certificate that says so, and of the ticks of a
+//! run from its entry to the address to which it returns. It fails where a certificate is not accepted, or where a run
+//! takes more ticks than its bound or stops.
+#![tactic(auto)]
+
+mod judgement;
+
+use arcwcet::HostStore;
+use judgement::judge;
+use std::io;
+use std::process::ExitCode;
+
+/// The folders in `data/`.
+const HANDLERS: [&str; 9] = [
+    "floppy",
+    "econet",
+    "podule_block",
+    "timer",
+    "vsync",
+    "keyboard",
+    "serial",
+    "dispatch",
+    "sound",
+];
+
+fn main(rt: HostRuntime) -> io::Result<ExitCode> {
+    let alloc = rt.alloc();
+    let mut store = HostStore::new(&rt);
+    let mut failed = false;
+    for name in HANDLERS {
+        match judge(alloc, &mut store, name) {
+            Ok(judgement) => {
+                println!(rt; "{name}: {judgement}")?;
+                failed = failed || !judgement.holds();
+            }
+            Err(fault) => {
+                println!(rt; "{name}: {fault}")?;
+                failed = true;
+            }
+        }
+    }
+    Ok(if failed {
+        ExitCode::FAILURE
+    } else {
+        ExitCode::SUCCESS
+    })
+}
