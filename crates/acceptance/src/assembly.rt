@@ -19,8 +19,8 @@ round   BNE again
 
 // A segment of four words at 8000.
 const COUNTDOWN_IMAGE: [u8; 36] = [
-    0x41, 0x52, 0x43, 0x32, 0x49, 0x4D, 0x47, 0x31, 1, 0, 0, 0, 0, 0x80, 0, 0, 4, 0, 0, 0, 0x03,
-    0, 0xA0, 0xE3, 0x01, 0, 0x50, 0xE2, 0xFD, 0xFF, 0xFF, 0x1A, 0x04, 0xF0, 0x5E, 0xE2,
+    0x41, 0x52, 0x43, 0x32, 0x49, 0x4D, 0x47, 0x31, 1, 0, 0, 0, 0, 0x80, 0, 0, 4, 0, 0, 0, 0x03, 0,
+    0xA0, 0xE3, 0x01, 0, 0x50, 0xE2, 0xFD, 0xFF, 0xFF, 0x1A, 0x04, 0xF0, 0x5E, 0xE2,
 ];
 
 #[test]
@@ -79,7 +79,10 @@ fn sizes_of_sources(rt: HostRuntime) -> Result<(), Fail> {
     let rows = [
         ("", "words 0 segments 0\n"),
         (" ORG 4\n DCD 1\n ORG 0\n DCD 2\n", "words 2 segments 1\n"),
-        (" ORG 12\n DCD 1\n ORG 0\n DCD 2,3\n DCD 4\n", "words 4 segments 1\n"),
+        (
+            " ORG 12\n DCD 1\n ORG 0\n DCD 2,3\n DCD 4\n",
+            "words 4 segments 1\n",
+        ),
         (" DCD 1\n ORG &9000\n DCD 2\n", "words 2 segments 2\n"),
     ];
     for (source, said) in rows {
@@ -90,7 +93,12 @@ fn sizes_of_sources(rt: HostRuntime) -> Result<(), Fail> {
     Ok(())
 }
 
-fn bound_is(alloc: Global, source: &[u8], statement: &str, bound: u64) -> Result<bool, ReportFault> {
+fn bound_is(
+    alloc: Global,
+    source: &[u8],
+    statement: &str,
+    bound: u64,
+) -> Result<bool, ReportFault> {
     let mut out = MemoryOutput::with_room(alloc, 0)?;
     bound_report(alloc, source, statement.as_bytes(), None, &mut out)?;
     Ok(has_bound(alloc, &out, bound)?)
@@ -99,14 +107,16 @@ fn bound_is(alloc: Global, source: &[u8], statement: &str, bound: u64) -> Result
 #[test]
 fn statements_name_labels(rt: HostRuntime) -> Result<(), Fail> {
     let alloc = rt.alloc();
-    let named = "entry = \"start\"\n[[loop]]\nheader = \"again\"\nfirst = \"again\"\nlast = \"round\"\nbound = 2\n";
+    let named =
+        "entry = \"start\"\n[[loop]]\nheader = \"again\"\nfirst = \"again\"\nlast = \"round\"\nbound = 2\n";
     assert!(rt; bound_is(alloc, COUNTDOWN_TEXT.as_bytes(), named, 25)?);
     // An image names nothing.
     let mut out = MemoryOutput::with_room(alloc, 0)?;
     let answer = bound_report(alloc, &COUNTDOWN_IMAGE, named.as_bytes(), None, &mut out);
     let refused = format!(in alloc; "{}", answer.err().unwrap_or(ReportFault::Memory))?;
     assert_eq!(rt; refused.as_str(), "UnknownLabel");
-    let numbers = "entry = 0x8000\n[[loop]]\nheader = 0x8004\nfirst = 0x8004\nlast = 0x8008\nbound = 2\n";
+    let numbers =
+        "entry = 0x8000\n[[loop]]\nheader = 0x8004\nfirst = 0x8004\nlast = 0x8008\nbound = 2\n";
     assert!(rt; bound_is(alloc, &COUNTDOWN_IMAGE, numbers, 25)?);
     assert!(rt; bound_is(alloc, COUNTDOWN_TEXT.as_bytes(), numbers, 25)?);
     Ok(())
@@ -118,7 +128,11 @@ fn images_that_cannot_be_read(rt: HostRuntime) -> Result<(), Fail> {
     let mut out = MemoryOutput::with_room(alloc, 0)?;
     for length in 8..36 {
         let answer = asm_report(alloc, &COUNTDOWN_IMAGE[..length], &mut out);
-        assert_eq!(rt; answer, Err(ReportFault::Image(ReadFault::Truncated)), "{length}");
+        assert_eq!(rt;
+            answer,
+            Err(ReportFault::Image(ReadFault::Truncated)),
+            "{length}"
+        );
     }
     // Seven bytes do not begin an image: they are a line with a label that is no word.
     let short = asm_report(alloc, &COUNTDOWN_IMAGE[..7], &mut out);
@@ -130,7 +144,10 @@ fn images_that_cannot_be_read(rt: HostRuntime) -> Result<(), Fail> {
 fn a_label_is_put_once(rt: HostRuntime) -> Result<(), Fail> {
     let mut labels = Labels::new(rt.alloc());
     labels.put(rt.alloc(), b"again", 0x8004)?;
-    assert_eq!(rt; labels.put(rt.alloc(), b"again", 0x8008), Err(LabelFault::Twice));
+    assert_eq!(rt;
+        labels.put(rt.alloc(), b"again", 0x8008),
+        Err(LabelFault::Twice)
+    );
     assert_eq!(rt; labels.get(b"again"), Some(0x8004));
     Ok(())
 }

@@ -3,9 +3,7 @@
 use crate::support::{
     COUNTDOWN, NESTED_COUNTDOWN, Stated, countdown_loop, nested_loops, source_of, statement_of,
 };
-use arcwcet::{
-    MemoryOutput, ReportFault, bound_report, certificates_are_accepted, check_report,
-};
+use arcwcet::{MemoryOutput, ReportFault, bound_report, certificates_are_accepted, check_report};
 use certificate::CertFault;
 use std::alloc::{AllocError, Global};
 use std::test::Fail;
@@ -209,14 +207,7 @@ fn certificates_by_another_profile(rt: HostRuntime) -> Result<(), Fail> {
     ];
     for (text, said) in rows {
         let mut out = MemoryOutput::with_room(alloc, 0)?;
-        let yes = check_report(
-            alloc,
-            source,
-            statement,
-            text.as_bytes(),
-            profile,
-            &mut out,
-        )?;
+        let yes = check_report(alloc, source, statement, text.as_bytes(), profile, &mut out)?;
         assert_eq!(rt; yes, said == "yes\n");
         assert_eq!(rt; out.bytes(), said.as_bytes());
     }

@@ -15,7 +15,13 @@ const BRANCH_OR_FALL_THROUGH: &str =
 
 fn report(alloc: Global, source: &str, statement: &str) -> Result<MemoryOutput, ReportFault> {
     let mut out = MemoryOutput::with_room(alloc, 0)?;
-    bound_report(alloc, source.as_bytes(), statement.as_bytes(), None, &mut out)?;
+    bound_report(
+        alloc,
+        source.as_bytes(),
+        statement.as_bytes(),
+        None,
+        &mut out,
+    )?;
     Ok(out)
 }
 

@@ -19,7 +19,13 @@ fn straight_code(alloc: Global, words: u32) -> Result<String, AllocError> {
 fn longest_straight_code(rt: HostRuntime) -> Result<(), Fail> {
     let source = straight_code(rt.alloc(), 16_383)?;
     let mut out = MemoryOutput::with_room(rt.alloc(), 0)?;
-    bound_report(rt.alloc(), source.as_bytes(), b"entry = 0x8000", None, &mut out)?;
+    bound_report(
+        rt.alloc(),
+        source.as_bytes(),
+        b"entry = 0x8000",
+        None,
+        &mut out,
+    )?;
     let head = b"arcwcet certificate 1\nbound 20488\nstep 8000 do 8004 1\n".as_slice();
     assert!(rt; out.bytes().starts_with(head));
     Ok(())
@@ -29,7 +35,13 @@ fn longest_straight_code(rt: HostRuntime) -> Result<(), Fail> {
 fn one_place_more(rt: HostRuntime) -> Result<(), Fail> {
     let source = straight_code(rt.alloc(), 16_384)?;
     let mut out = MemoryOutput::with_room(rt.alloc(), 0)?;
-    let refused = bound_report(rt.alloc(), source.as_bytes(), b"entry = 0x8000", None, &mut out);
+    let refused = bound_report(
+        rt.alloc(),
+        source.as_bytes(),
+        b"entry = 0x8000",
+        None,
+        &mut out,
+    );
     assert_eq!(rt; refused, Err(ReportFault::Graph(BuildFault::TooManyPlaces)));
     Ok(())
 }

@@ -196,7 +196,9 @@ fn shown_words_are_assembled_back(rt: HostRuntime) -> Result<(), Fail> {
     for at in [0u32, 0x1C, 0x8000, 0x2FF_FFFC, 0x3FF_FFFC] {
         for (line, word) in WORDS.iter() {
             // And with one bit changed, which is another instruction or none.
-            for changed in [0u32, 1, 0x10, 0x800, 0x1000, 0x20_0000, 0x100_0000, 0x400_0000] {
+            for changed in [
+                0u32, 1, 0x10, 0x800, 0x1000, 0x20_0000, 0x100_0000, 0x400_0000,
+            ] {
                 let shown = *word ^ changed;
                 assert_eq!(rt; word_back(rt.alloc(), shown, at)?, Some(shown), "{line}");
             }

@@ -1,9 +1,7 @@
 //! Outputs that take a text part by part, or fail within it.
 
 use crate::outputs::Narrow;
-use arcwcet::{
-    MemoryOutput, ReportFault, bound_report, check_report, write_whole,
-};
+use arcwcet::{MemoryOutput, ReportFault, bound_report, check_report, write_whole};
 use assembler::{AsmFault, Fault};
 use certificate::CertFault;
 use std::test::Fail;
@@ -56,7 +54,10 @@ fn the_certificate_is_read_last(rt: HostRuntime) -> Result<(), Fail> {
     let alloc = rt.alloc();
     let mut out = MemoryOutput::with_room(alloc, 8)?;
     let answer = check_report(alloc, b" FROB\n", STATEMENT, b"", None, &mut out);
-    assert_eq!(rt; answer, Err(ReportFault::Source(AsmFault::Line(Fault::UnknownWord, 1))));
+    assert_eq!(rt;
+        answer,
+        Err(ReportFault::Source(AsmFault::Line(Fault::UnknownWord, 1)))
+    );
     let answer = check_report(alloc, SOURCE, STATEMENT, b"", None, &mut out);
     assert_eq!(rt; answer, Err(ReportFault::Cert(CertFault::Truncated)));
     let text = b"arcwcet certificate 3\n";

@@ -10,7 +10,8 @@ use machine_file::{MachineFileFault, ProfileFileFault};
 use std::alloc::Global;
 use std::test::Fail;
 
-pub(crate) const MACHINE: &str = "pc = 0x8000\nmode = \"irq\"\nsteps = 8\n[registers]\nr14_irq = 0x1010\n";
+pub(crate) const MACHINE: &str =
+    "pc = 0x8000\nmode = \"irq\"\nsteps = 8\n[registers]\nr14_irq = 0x1010\n";
 
 const REGISTERS: &str = "\
 R0=00000000 R1=00000000 R2=00000000 R3=00000000
@@ -39,7 +40,13 @@ fn run_of(
     profile: Option<&[u8]>,
 ) -> Result<(bool, MemoryOutput), ReportFault> {
     let mut out = MemoryOutput::with_room(alloc, 0)?;
-    let done = run_report(alloc, source.as_bytes(), machine.as_bytes(), profile, &mut out)?;
+    let done = run_report(
+        alloc,
+        source.as_bytes(),
+        machine.as_bytes(),
+        profile,
+        &mut out,
+    )?;
     Ok((done, out))
 }
 
@@ -71,7 +78,12 @@ fn bursts_pass_time(rt: HostRuntime) -> Result<(), Fail> {
     let (_, out) = run_of(alloc, COUNTDOWN_TEXT, machine.as_str(), None)?;
     let said = format!(in alloc; "{REGISTERS}ticks 21 elapsed 63\n")?;
     assert_eq!(rt; out.bytes(), said.as_bytes());
-    let (_, out) = run_of(alloc, COUNTDOWN_TEXT, machine.as_str(), Some(DEARER.as_bytes()))?;
+    let (_, out) = run_of(
+        alloc,
+        COUNTDOWN_TEXT,
+        machine.as_str(),
+        Some(DEARER.as_bytes()),
+    )?;
     let said = format!(in alloc; "{REGISTERS}ticks 24 elapsed 80\n")?;
     assert_eq!(rt; out.bytes(), said.as_bytes());
     Ok(())
@@ -80,12 +92,23 @@ fn bursts_pass_time(rt: HostRuntime) -> Result<(), Fail> {
 #[test]
 fn another_profile(rt: HostRuntime) -> Result<(), Fail> {
     let alloc = rt.alloc();
-    let statement = b"entry = 0x8000\n[[loop]]\nheader = 0x8004\nfirst = 0x8004\nlast = 0x8008\nbound = 2\n";
+    let statement =
+        b"entry = 0x8000\n[[loop]]\nheader = 0x8004\nfirst = 0x8004\nlast = 0x8008\nbound = 2\n";
     let profile = Some(DEARER.as_bytes());
     let mut out = MemoryOutput::with_room(alloc, 0)?;
-    bound_report(alloc, COUNTDOWN_TEXT.as_bytes(), statement, profile, &mut out)?;
+    bound_report(
+        alloc,
+        COUNTDOWN_TEXT.as_bytes(),
+        statement,
+        profile,
+        &mut out,
+    )?;
     let text = out.bytes();
-    assert!(rt; text.starts_with(b"arcwcet certificate 2\nprofile 3 1 2 5 4 3 2 8 6 5 10 2 2 1 8\nbound 29\n"));
+    assert!(rt;
+        text.starts_with(
+            b"arcwcet certificate 2\nprofile 3 1 2 5 4 3 2 8 6 5 10 2 2 1 8\nbound 29\n"
+        )
+    );
     let (_, out) = run_of(alloc, COUNTDOWN_TEXT, MACHINE, profile)?;
     let said = format!(in alloc; "{REGISTERS}ticks 24 elapsed 24\n")?;
     assert_eq!(rt; out.bytes(), said.as_bytes());
@@ -137,9 +160,18 @@ fn machine_file_refusals(rt: HostRuntime) {
 #[test]
 fn profile_refusals(rt: HostRuntime) {
     let rows = [
-        ("n = 2\ns = 3\nquad = 2\nrom = [4, 3, 2, 2]\nio = [8, 6, 5, 10]\ncontrol = 2\nunfitted = 2\ninternal = 1\nburst = 6\n", ProfileFileFault::Disordered),
-        ("n = 0\ns = 1\nquad = 2\nrom = [4, 3, 2, 2]\nio = [8, 6, 5, 10]\ncontrol = 2\nunfitted = 2\ninternal = 1\nburst = 6\n", ProfileFileFault::OutOfRange),
-        ("n = 2\ns = 1\nquad = 2\nrom = [4, 3, 2, 2]\nio = [8, 6, 5, 10]\ncontrol = 2\nunfitted = 2\ninternal = 1\n", ProfileFileFault::WrongKind),
+        (
+            "n = 2\ns = 3\nquad = 2\nrom = [4, 3, 2, 2]\nio = [8, 6, 5, 10]\ncontrol = 2\nunfitted = 2\ninternal = 1\nburst = 6\n",
+            ProfileFileFault::Disordered,
+        ),
+        (
+            "n = 0\ns = 1\nquad = 2\nrom = [4, 3, 2, 2]\nio = [8, 6, 5, 10]\ncontrol = 2\nunfitted = 2\ninternal = 1\nburst = 6\n",
+            ProfileFileFault::OutOfRange,
+        ),
+        (
+            "n = 2\ns = 1\nquad = 2\nrom = [4, 3, 2, 2]\nio = [8, 6, 5, 10]\ncontrol = 2\nunfitted = 2\ninternal = 1\n",
+            ProfileFileFault::WrongKind,
+        ),
         ("n =", ProfileFileFault::NotToml),
         ("m = 2\n", ProfileFileFault::UnknownKey),
     ];
@@ -160,7 +192,17 @@ fn the_program_runs(rt: HostRuntime) -> Result<(), Fail> {
     assert_eq!(rt; status, 0);
     assert_eq!(rt; out.bytes(), STEPS.as_bytes());
     assert_eq!(rt; err.bytes(), b"".as_slice());
-    let words = line(alloc, &["arcwcet", "run", "--profile", "profile", "source", "machine"])?;
+    let words = line(
+        alloc,
+        &[
+            "arcwcet",
+            "run",
+            "--profile",
+            "profile",
+            "source",
+            "machine",
+        ],
+    )?;
     let (status, out, _) = told(alloc, &words, &mut files)?;
     assert_eq!(rt; status, 0);
     let said = format!(in alloc; "{REGISTERS}ticks 24 elapsed 24\n")?;
@@ -175,7 +217,10 @@ fn the_program_tells_a_stop(rt: HostRuntime) -> Result<(), Fail> {
     let words = line(alloc, &["arcwcet", "trace", "source", "machine"])?;
     let (status, out, err) = told(alloc, &words, &mut files)?;
     assert_eq!(rt; status, 1);
-    assert_eq!(rt; out.bytes(), b"stopped Unallocated at 8000\nticks 0 elapsed 0\n".as_slice());
+    assert_eq!(rt;
+        out.bytes(),
+        b"stopped Unallocated at 8000\nticks 0 elapsed 0\n".as_slice()
+    );
     assert_eq!(rt; err.bytes(), b"".as_slice());
     Ok(())
 }
@@ -186,7 +231,14 @@ fn the_profile_is_read_first(rt: HostRuntime) -> Result<(), Fail> {
     let mut files = Files::new(alloc, b"", b"", b"n =");
     let words = line(
         alloc,
-        &["arcwcet", "bound", "source", "statement", "--profile", "profile"],
+        &[
+            "arcwcet",
+            "bound",
+            "source",
+            "statement",
+            "--profile",
+            "profile",
+        ],
     )?;
     let (status, out, err) = told(alloc, &words, &mut files)?;
     assert_eq!(rt; status, 1);
@@ -195,12 +247,21 @@ fn the_profile_is_read_first(rt: HostRuntime) -> Result<(), Fail> {
     // A file that is not there is answered before one that cannot be read.
     let words = line(
         alloc,
-        &["arcwcet", "bound", "source", "elsewhere", "--profile=profile"],
+        &[
+            "arcwcet",
+            "bound",
+            "source",
+            "elsewhere",
+            "--profile=profile",
+        ],
     )?;
     let (status, _, err) = told(alloc, &words, &mut files)?;
     assert_eq!(rt; status, 4);
     assert_eq!(rt; err.bytes(), b"refused: Device\n".as_slice());
-    let words = line(alloc, &["arcwcet", "asm", "--profile", "profile", "source", "image"])?;
+    let words = line(
+        alloc,
+        &["arcwcet", "asm", "--profile", "profile", "source", "image"],
+    )?;
     let (status, _, _) = told(alloc, &words, &mut files)?;
     assert_eq!(rt; status, 2);
     Ok(())

@@ -50,7 +50,8 @@ refused: NoPage
 
 #[test]
 fn breakpoints_and_bursts(rt: HostRuntime) -> Result<(), Fail> {
-    let commands = "break &8008\r\nrun 100\r\nticks\r\nburst 7\r\nstep\r\nticks\r\nquit\r\nticks\r\n";
+    let commands =
+        "break &8008\r\nrun 100\r\nticks\r\nburst 7\r\nstep\r\nticks\r\nquit\r\nticks\r\n";
     let said = "\
 00008004 E2500001 1 SUBS R0,R0,#1
 ticks 2 elapsed 2
@@ -98,7 +99,8 @@ fn the_program_reads_commands(rt: HostRuntime) -> Result<(), Fail> {
     let mut input: &[u8] = b"run 8\nticks\n\n";
     let (status, out, err) = told_by(alloc, &words, &mut files, &mut input)?;
     assert_eq!(rt; status, 0);
-    let said = "0000800C E25EF004 5 SUBS R15,R14,#4\nticks 21 elapsed 21\nrefused: UnknownCommand\n";
+    let said =
+        "0000800C E25EF004 5 SUBS R15,R14,#4\nticks 21 elapsed 21\nrefused: UnknownCommand\n";
     assert_eq!(rt; out.bytes(), said.as_bytes());
     assert_eq!(rt; err.bytes(), b"".as_slice());
     assert_eq!(rt; input, b"".as_slice());
@@ -130,6 +132,53 @@ impl Read for Endless {
         self.given = self.given.wrapping_add(buf.len());
         Ok(buf.len())
     }
+}
+
+/// A reader that gives a line so many times, and then fails.
+#[derive(Drop)]
+struct Broken {
+    lines: usize,
+}
+
+impl Read for Broken {
+    fn read(&mut self, buf: &mut [u8]) -> io::Result<usize> {
+        if self.lines == 0 {
+            return Err(io::ErrorKind::Other.into());
+        }
+        self.lines -= 1;
+        buf.fill(b'\n');
+        Ok(buf.len())
+    }
+}
+
+#[test]
+fn an_input_that_fails(rt: HostRuntime) -> Result<(), Fail> {
+    let alloc = rt.alloc();
+    let words = line(alloc, &["arcwcet", "debug", "source", "machine"])?;
+    for lines in 0..3 {
+        let mut files = Files::new(alloc, COUNTDOWN_TEXT.as_bytes(), MACHINE.as_bytes(), b"");
+        let mut input = Broken { lines };
+        let (status, out, err) = told_by(alloc, &words, &mut files, &mut input)?;
+        assert_eq!(rt; status, 4);
+        assert_eq!(rt; out.bytes(), b"".as_slice());
+        assert_eq!(rt; err.bytes(), b"refused: Device\n".as_slice());
+        assert_eq!(rt; input.lines, 0);
+    }
+    Ok(())
+}
+
+/// An input that is too long is refused before a source that is none.
+#[test]
+fn input_is_read_before_the_work(rt: HostRuntime) -> Result<(), Fail> {
+    let alloc = rt.alloc();
+    let mut files = Files::new(alloc, b"frob", MACHINE.as_bytes(), b"");
+    let words = line(alloc, &["arcwcet", "debug", "source", "machine"])?;
+    let mut input = Endless { given: 0 };
+    let (status, out, err) = told_by(alloc, &words, &mut files, &mut input)?;
+    assert_eq!(rt; status, 1);
+    assert_eq!(rt; out.bytes(), b"".as_slice());
+    assert_eq!(rt; err.bytes(), b"refused: InputTooLong\n".as_slice());
+    Ok(())
 }
 
 #[test]

@@ -83,7 +83,13 @@ pub(crate) fn report_of(
     let source = source_of(alloc, 0x8000, words)?;
     let statement = statement_of(alloc, 0x8000, loops, more)?;
     let mut out = MemoryOutput::with_room(alloc, 0)?;
-    bound_report(alloc, source.as_bytes(), statement.as_bytes(), None, &mut out)?;
+    bound_report(
+        alloc,
+        source.as_bytes(),
+        statement.as_bytes(),
+        None,
+        &mut out,
+    )?;
     Ok(out)
 }
 

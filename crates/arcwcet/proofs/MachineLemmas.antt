@@ -167,15 +167,18 @@ module _ (source machine : List ℕ) (profile : Profile) where
       pub load_refuses : (f : LoadFault) → (f ≡ load_fault.Memory) ⊎ ((f ≡ load_fault.NoPage) × (lacks_page start.bus.memc words ≡ true)) → Refused (of_load f)
       load_refuses load_fault.Memory h = (λ e. cc e, tt)
       load_refuses load_fault.NoPage (inl h) = absurd (cc h)
-      load_refuses load_fault.NoPage (inr h) = (λ e. cc e, record {
-        words = words;
-        file = file;
-        start = start;
-        stated = record { names = names; source_is = said; file_is = read };
-        started = started;
-        fault_is = h.0;
-        lacks = h.1;
-      })
+      load_refuses load_fault.NoPage (inr h) = (
+        λ e. cc e,
+        record {
+          words = words;
+          file = file;
+          start = start;
+          stated = record { names = names; source_is = said; file_is = read };
+          started = started;
+          fault_is = h.0;
+          lacks = h.1;
+        },
+      )
 
 -- what is shown could be run
 pub runnable : (Shows : Front) (source machine : List ℕ) (profile : Profile) (done : Bool) (text : List ℕ) → IsMachineReport Shows source machine profile done text → IsRunnable source machine profile

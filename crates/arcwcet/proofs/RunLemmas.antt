@@ -1,6 +1,6 @@
 -- What a run of a command did, from what its reads and its call gave.
-use Rattle.std.proofs.Common.{◌≡◌, ◌≢◌, ◌∙◌, ℕ, Bool, true, false, List, [], ◌∷◌, length, Option, Some, None, Result, Ok, Err, refl, sym, ap, ap₂, subst, inl, inr, arith}
-use Rattle.std.specs.Io.KnownBytes.{Consumes}
+use Rattle.std.proofs.Common.{◌≡◌, ◌≢◌, ◌∙◌, ◌≤◌, ℕ, Bool, true, false, List, [], ◌∷◌, length, Option, Some, None, Result, Ok, Err, refl, sym, ap, ap₂, subst, inl, inr, arith}
+use Rattle.std.specs.Io.KnownBytes.{Consumes, IsAtEnd}
 use Rattle.bus_ticks.specs.declared.profile.Profile.{Profile}
 use Rattle.arcwcet.specs.Answers.{Answers, FailsWithin, OfSome}
 use Rattle.arcwcet.specs.Bound.{Reports}
@@ -12,7 +12,7 @@ use Rattle.arcwcet.specs.Machine.{Front, IsMachineReport, IsRunRefused, IsRunnab
 use Rattle.arcwcet.specs.Priced.{ByProfile, HasNoProfile, IsUnpriced, Priced, PricedFault}
 use Rattle.arcwcet.specs.Assembly.{IsSourceRefused}
 use Rattle.arcwcet.specs.Report.{IsAccepted, IsRefused, IsReport}
-use Rattle.arcwcet.specs.Run.{FailsBefore, FailsToHear, HasNoReport, HasNoRun, HasNoVerdict, HasPrinted, IsAllOf, IsAnswerOf, IsReportOf, IsRunOf, IsSessionOf, OfThree, OfTwo, Runs, RunsAsked, RunsAsm, RunsBound, RunsCheck, RunsDebug, RunsMachine, Writing, answer_status, report_status, store_status}
+use Rattle.arcwcet.specs.Run.{FailsBefore, FailsToHear, HasNoReport, HasNoRun, HasNoVerdict, HasHeard, HasPrinted, IsAnswerOf, IsReportOf, IsRunOf, IsSessionOf, OfThree, OfTwo, Runs, RunsAsked, RunsAsm, RunsBound, RunsCheck, RunsDebug, RunsMachine, Writing, answer_status, report_status, store_status}
 use Rattle.arcwcet.specs.declared.fault.ReportFault.{ReportFault}
 use Rattle.arcwcet.specs.declared.fault.ReportFault.TheVariants.{Memory, Source, Image, Statement, Graph, Loops, Walk, MachineFile, Load, Cert, Device}
 use Rattle.arcwcet.specs.declared.fault.ReportFault.TheVariants as report_fault
@@ -56,7 +56,7 @@ module _ {S O : Type 0} (reads : Reading S) (taken : O → Option (List ℕ)) (f
   unread store_fault.Device fails same = record {
     done = λ e. absurd (omega (arith, e));
     denied = λ e. absurd (omega (arith, e));
-    failed = λ e. inl (fails, ap taken same);
+    failed = λ e. inl (fails, same);
     starved = λ e. absurd (omega (arith, e));
     known = inr (inr (inr refl));
   }
@@ -279,7 +279,10 @@ module _ {S I O : Type 0} (reads : Reading S) (remaining : I → Option (List �
   debug_unheard files fault read too_long same status is = inr (inr (inl (record { files = files; read = read; fault = fault; status_is = is; too_long = too_long })), same)
 
   module _ (file : Option (List ℕ)) (one two commands : List ℕ) (read : ReadsAll reads old (in_front profile (source ∷ machine ∷ [])) (in_front file (one ∷ two ∷ [])) new)
-      (heard : IsAllOf (remaining heard_old) commands) where
+      (heard : Consumes (remaining heard_old) (remaining heard_new) commands) (at_end : IsAtEnd (remaining heard_new)) (few : length commands ≤ 16777216) where
+    has_heard : HasHeard reads remaining (in_front profile (source ∷ machine ∷ [])) old new heard_old heard_new commands
+    has_heard = record { files = in_front file (one ∷ two ∷ []); read = read; heard = heard; at_end = at_end; few = few }
+
     debug_text : {T : Type 0} (x : T) (text : List ℕ) → ByProfile file (λ p. IsDebugReport one two commands p text) → IsSessionOf commands true (in_front file (one ∷ two ∷ [])) text
     debug_text x text b = of_two (λ f s m. ByProfile f (λ p. IsDebugReport s m commands p text)) file one two b
 
@@ -293,15 +296,23 @@ module _ {S I O : Type 0} (reads : Reading S) (remaining : I → Option (List �
     debug_done {T} x h =
         let names = in_front profile (source ∷ machine ∷ []) in
         let files = in_front file (one ∷ two ∷ []) in
-        inl (commands, heard, done reads taken failures (IsSessionOf commands) HasNoRun names old new before after files read
-        (priced_printed {T = T} reads taken failures (IsSessionOf commands) HasNoRun names old new before after files read
-        file (λ p y text. IsDebugReport one two commands p text) (λ p. IsRunnable one two p) (λ p. IsRunRefused one two p) (λ y. true) debug_text debug_fault x h))
+        inl (
+          commands,
+          has_heard,
+          done reads taken failures (IsSessionOf commands) HasNoRun names old new before after files read
+              (priced_printed {T = T} reads taken failures (IsSessionOf commands) HasNoRun names old new before after files read
+              file (λ p y text. IsDebugReport one two commands p text) (λ p. IsRunnable one two p) (λ p. IsRunRefused one two p) (λ y. true) debug_text debug_fault x h),
+        )
 
     pub debug_refused : {T : Type 0} (fault : ReportFault) → DebugAnswers {T = T} (Err fault) → (status : ℕ) → status ≡ report_status fault
         → RunsDebug reads remaining taken failures profile source machine old new heard_old heard_new before after status
     debug_refused {T} fault h status is =
-        inl (commands, heard, priced_refused {T = T} reads taken failures (IsSessionOf commands) HasNoRun (in_front profile (source ∷ machine ∷ [])) old new before after (in_front file (one ∷ two ∷ [])) read
-        file (λ p y text. IsDebugReport one two commands p text) (λ p. IsRunnable one two p) (λ p. IsRunRefused one two p) (λ y. true) debug_text debug_fault fault h status is)
+        inl (
+          commands,
+          has_heard,
+          priced_refused {T = T} reads taken failures (IsSessionOf commands) HasNoRun (in_front profile (source ∷ machine ∷ [])) old new before after (in_front file (one ∷ two ∷ [])) read
+              file (λ p y text. IsDebugReport one two commands p text) (λ p. IsRunnable one two p) (λ p. IsRunRefused one two p) (λ y. true) debug_text debug_fault fault h status is,
+        )
 
 -- ## Without memory for the words
 
@@ -316,13 +327,16 @@ module _ {S I O : Type 0} (reads : Reading S) (writes : Writing S) (remaining : 
   }
 
   pub starved_asked : (asked : Asked) → RunsAsked reads writes remaining taken failures asked store store input input out out 3
-  starved_asked (asm source image) = (record {
-    done = λ e. absurd (omega (arith, e));
-    denied = λ e. absurd (omega (arith, e));
-    failed = λ e. absurd (omega (arith, e));
-    starved = λ e. (λ changed. absurd (changed refl), refl);
-    known = inr (inr (inl refl));
-  }, refl)
+  starved_asked (asm source image) = (
+    record {
+      done = λ e. absurd (omega (arith, e));
+      denied = λ e. absurd (omega (arith, e));
+      failed = λ e. absurd (omega (arith, e));
+      starved = λ e. (λ changed. absurd (changed refl), refl);
+      known = inr (inr (inl refl));
+    },
+    refl,
+  )
   starved_asked (debug n) = inr (inr (inr (refl, refl, refl)), refl)
   starved_asked (run n) = (starved_run (IsRunOf ShowsRegisters) HasNoRun (in_front n.profile (n.first ∷ n.second ∷ [])), refl)
   starved_asked (trace n) = (starved_run (IsRunOf ShowsSteps) HasNoRun (in_front n.profile (n.first ∷ n.second ∷ [])), refl)

@@ -12,7 +12,7 @@ use Rattle.flow_graph.specs.declared.edges.Edge.{Edge}
 use Rattle.statement.specs.Stated.{Stated}
 use Rattle.loop_bounds.specs.Bounds.{IsCompleteWalk, KeepsTheBounds}
 
--- From this state the steps are the edges of a walk from the entry to Exit that keeps the loop bounds: each executes the image's
+-- From this state the steps are the edges of a walk from the entry to Exit that keeps the loop bounds: each does the image's
 -- word at its address, takes no exception and does not stop, moves words of the stated class, and goes where its edge
 -- leads; the last one to an address of the leave class.
 pub record KeepsStatement (words : Words) (stated : Stated) (profile : Profile) (flow : Flow) (s : State) (inputs : List Input) : Type 0 where

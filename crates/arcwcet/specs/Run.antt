@@ -1,6 +1,6 @@
 -- What a run of the program does, by its exit status. Our own.
-use Rattle.std.specs.Prelude.{◌≡◌, ◌≢◌, ◌⊎◌, ℕ, Bool, true, false, if◌then◌else◌, List, [], ◌∷◌, length, Option, Some, None, IfSome, Result, Ok, Err}
-use Rattle.std.specs.Io.KnownBytes.{Appends, Consumes}
+use Rattle.std.specs.Prelude.{◌≡◌, ◌≢◌, ◌⊎◌, ◌≤◌, ℕ, Bool, true, false, if◌then◌else◌, List, [], ◌∷◌, length, Option, Some, None, Result, Ok, Err}
+use Rattle.std.specs.Io.KnownBytes.{Appends, Consumes, IsAtEnd}
 use Rattle.arcwcet.specs.Answers.{FailsWithin, OfSome, Prints}
 use Rattle.arcwcet.specs.Assembly.{IsSourceRefused, IsWritten}
 use Rattle.arcwcet.specs.Check.{IsAnswer, IsCheckRefused}
@@ -67,9 +67,9 @@ module _ {S : Type 0} (reads : Reading S) (names : Texts) (old new : S) where
   IsRefusedRun IsFault = FailsToRead reads old names store_fault.InputTooLong new ⊎ HasRefused IsFault
 
   -- status 4: a file could not be read, and nothing was printed, or the output failed
-  abbrev pub IsFailedRun : (Texts → List ℕ → Type 0) → Option (List ℕ) → Option (List ℕ) → ℕ → ℕ → Type 0
-  IsFailedRun IsText out_old out_new before after =
-      (FailsToRead reads old names store_fault.Device new × (out_new ≡ out_old)) ⊎ FailsToPrint IsText out_old out_new before after
+  abbrev pub IsFailedRun : {O : Type 0} → (Texts → List ℕ → Type 0) → (taken : O → Option (List ℕ)) → (failures : O → ℕ) → (before after : O) → Type 0
+  IsFailedRun IsText taken failures before after =
+      (FailsToRead reads old names store_fault.Device new × (after ≡ before)) ⊎ FailsToPrint IsText (taken before) (taken after) (failures before) (failures after)
 
   -- status 3: unless the store is as it was, a file could not be read for want of memory, or all were read
   abbrev pub IsStarvedRun : Type 0
@@ -81,7 +81,7 @@ pub record Runs {S O : Type 0} (reads : Reading S) (taken : O → Option (List �
     (IsText : Bool → Texts → List ℕ → Type 0) (IsFault : Texts → ReportFault → Type 0) (names : Texts) (old new : S) (before after : O) (status : ℕ) : Type 0 where
   pub done : status ≡ 0 → HasPrinted reads names old new (IsText true) (taken before) (taken after)
   pub denied : status ≡ 1 → HasPrinted reads names old new (IsText false) (taken before) (taken after) ⊎ (IsRefusedRun reads names old new IsFault × (after ≡ before))
-  pub failed : status ≡ 4 → IsFailedRun reads names old new (λ files. OfSome (λ answer. IsText answer files)) (taken before) (taken after) (failures before) (failures after)
+  pub failed : status ≡ 4 → IsFailedRun reads names old new (λ files. OfSome (λ answer. IsText answer files)) taken failures before after
   pub starved : status ≡ 3 → IsStarvedRun reads names old new × (after ≡ before)
   pub known : (status ≡ 0) ⊎ ((status ≡ 1) ⊎ ((status ≡ 3) ⊎ (status ≡ 4)))
 
@@ -191,11 +191,15 @@ abbrev pub IsSessionOf : (commands : List ℕ) → Bool → Texts → List ℕ �
 IsSessionOf commands true files text = OfTwo (λ file source machine. ByProfile file (λ p. IsDebugReport source machine commands p text)) files
 IsSessionOf commands false files text = ⊥
 
--- all that standard input has left, where it states that
-abbrev pub IsAllOf : Option (List ℕ) → List ℕ → Type 0
-IsAllOf given commands = IfSome given (λ left. commands ≡ left)
-
 module _ {S I : Type 0} (reads : Reading S) (remaining : I → Option (List ℕ)) (names : Texts) (old new : S) (heard_old heard_new : I) where
+  -- all files were read, and standard input to its end, which these commands are
+  pub record HasHeard (commands : List ℕ) : Type 0 where
+    pub files : Texts
+    pub read : ReadsAll reads old names files new
+    pub heard : Consumes (remaining heard_old) (remaining heard_new) commands
+    pub at_end : IsAtEnd (remaining heard_new)
+    pub few : length commands ≤ 16777216
+
   -- a file could not be read, and standard input was not
   pub record FailsBefore (status : ℕ) : Type 0 where
     pub fault : StoreFault
@@ -214,7 +218,7 @@ module _ {S I : Type 0} (reads : Reading S) (remaining : I → Option (List ℕ)
 -- What `debug` did: the files were read, and then standard input to its end, and the session with these commands is the report.
 abbrev pub RunsDebug : {S I O : Type 0} → Reading S → (I → Option (List ℕ)) → (O → Option (List ℕ)) → (O → ℕ) → Option (List ℕ) → List ℕ → List ℕ → S → S → I → I → O → O → ℕ → Type 0
 RunsDebug reads remaining taken failures profile source machine old new heard_old heard_new before after status =
-    ((commands : List ℕ) × IsAllOf (remaining heard_old) commands × Runs reads taken failures (IsSessionOf commands) HasNoRun (in_front profile (source ∷ machine ∷ [])) old new before after status)
+    ((commands : List ℕ) × HasHeard reads remaining (in_front profile (source ∷ machine ∷ [])) old new heard_old heard_new commands × Runs reads taken failures (IsSessionOf commands) HasNoRun (in_front profile (source ∷ machine ∷ [])) old new before after status)
     ⊎ ((FailsBefore reads remaining (in_front profile (source ∷ machine ∷ [])) old new heard_old heard_new status
     ⊎ (FailsToHear reads remaining (in_front profile (source ∷ machine ∷ [])) old new heard_old heard_new status ⊎ ((status ≡ 3) × (new ≡ old) × (heard_new ≡ heard_old))))
     × (after ≡ before))

@@ -35,10 +35,10 @@ fn text_of(
 
 /// Writes the report of a source and a statement by a cycle profile's file, or by the first profile, the certificate of a
 /// greatest walk: the greatest cost, in ticks, of a complete walk of the handler's flow graph that keeps the bounds, such a walk, and
-/// the numbers that prove it greatest. Whatever text says the same is judged `yes` by [`check_report`](crate::check_report). Every
-/// machine run that keeps the statement takes at most that many ticks, and the profile's burst price for each DMA burst more.
+/// the numbers that prove it greatest. Whatever text says the same is judged `yes` by [`check_report`](crate::check_report). No run of
+/// the machine that keeps the statement takes more ticks, but for the profile's burst price for each DMA burst.
 ///
-/// The whole report is made before its first byte is written. Of several faults the first in the order of the work is
+/// Nothing is written until the report is finished. Of several faults the first in the order of the work is
 /// answered: profile, source, statement, graph, loops, walk. After any but `Device` nothing was written.
 pub fn bound_report<O: Output>(
     alloc: Global,

@@ -68,7 +68,7 @@ fn verdict_of(
 /// the first profile, and writes one line: `yes`, which is answered as `true` and means that the certificate's bound is the greatest
 /// cost of a complete walk that keeps the bounds, or `no: ` and the name of the first [`Objection`].
 ///
-/// The verdict is found before its line's first byte is written. Of several faults the first in the order of the work is
+/// Nothing is written until the verdict is found. Of several faults the first in the order of the work is
 /// answered: profile, source, statement, graph, loops, certificate. After any but `Device` nothing was written.
 pub fn check_report<O: Output>(
     alloc: Global,

@@ -106,7 +106,14 @@ pub(crate) fn run_debug<S: Store, I: Read, O: Output, E: Output>(
         Ok(commands) => commands,
         Err(fault) => return told_store(fault, err),
     };
-    match debug_report(alloc, &files.first, &files.second, &commands, files.profile(), out) {
+    match debug_report(
+        alloc,
+        &files.first,
+        &files.second,
+        &commands,
+        files.profile(),
+        out,
+    ) {
         Ok(()) => 0,
         Err(fault) => told_report(fault, err),
     }
@@ -150,6 +157,13 @@ pub(crate) fn run_check<S: Store, O: Output, E: Output>(
         Err(fault) => return told_store(fault, err),
     };
     let handler = &files.handler;
-    let answer = check_report(alloc, &handler.first, &handler.second, &files.cert, handler.profile(), out);
+    let answer = check_report(
+        alloc,
+        &handler.first,
+        &handler.second,
+        &files.cert,
+        handler.profile(),
+        out,
+    );
     told_answer(answer, err)
 }

@@ -35,7 +35,7 @@ fn told(
 /// profile: the answers to the commands, a line each, up to their end or `quit`. A command's refusal stands in its place as
 /// `refused: NAME`, and the session goes on. The port begins with the file's word; its `steps` and events are not used.
 ///
-/// The whole report is made before its first byte is written. Of several faults the first in the order of the work is
+/// Nothing is written until the session has ended. Of several faults the first in the order of the work is
 /// answered: profile, source, machine file, load. After any but `Device` nothing was written.
 pub fn debug_report<O: Output>(
     alloc: Global,

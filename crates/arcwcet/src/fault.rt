@@ -12,16 +12,16 @@ use machine_file::{MachineFileFault, ProfileFileFault};
 use std::alloc::AllocError;
 use thiserror::Error;
 
-/// Why a store gave or took no file.
+/// Why a store gave or took no file, or a reader not all that it had left.
 #[derive(Clone, Copy, Debug, PartialEq, Eq, Drop, Error)]
 pub enum StoreFault {
     /// A growth was refused.
     #[error("Memory")]
     Memory,
-    /// The file could not be opened, read or written.
+    /// The file could not be opened, read or written, or standard input failed.
     #[error("Device")]
     Device,
-    /// The file has more than 16,777,216 bytes.
+    /// The file, or what standard input has left, has more than 16,777,216 bytes.
     #[error("InputTooLong")]
     InputTooLong,
 }
@@ -44,10 +44,11 @@ pub enum ReportFault {
     /// The handler has no flow graph.
     #[error("{0}")]
     Graph(BuildFault),
-    /// A cycle of the flow graph has no bound.
+    /// The loops of the flow graph and their bounds do not fit each other: a cycle without a bound, loops that cross, an entry
+    /// past a header, or more than 16 deep.
     #[error("{0}")]
     Loops(NestFault),
-    /// No complete walk keeps the bounds, or one costs too much.
+    /// No complete walk keeps the bounds, or some walk costs 2^63 ticks or more.
     #[error("{0}")]
     Walk(WalkFault),
     /// The machine file cannot be read.

@@ -32,6 +32,7 @@ pub use debug::debug_report;
 pub use fault::{ReportFault, StoreFault};
 pub use law::certificates_are_accepted;
 pub use machine::{run_report, trace_report};
+pub use machine_file::{MachineFile, read_machine, read_profile};
 pub use memory_output::MemoryOutput;
 pub use output::{Output, OutputFault};
 pub use read::{LIMIT, read_limited};

@@ -137,11 +137,14 @@ fn print<O: Output>(shown: &Shown, out: &mut O) -> Result<bool, ReportFault>
     }
 }
 
-/// Runs the machine of a source and a machine file, by a cycle profile's file or the first profile, and writes the registers of
-/// the last mode, where the machine stopped (if it did), and the ticks. `false`: it stopped before the file's steps were done.
+/// Runs the machine of a source and a machine file ([`read_machine`](machine_file::read_machine)) for the file's steps, 65,536 at
+/// most, by a cycle profile's file or the first profile. Writes the registers of the mode that it ends in, where it stopped (if
+/// it did), and the ticks of the processor and those that passed, bursts and all. `false`: it stopped before its steps were done.
 ///
-/// The whole report is made before its first byte is written. Of several faults the first in the order of the work is
-/// answered: profile, source, machine file, load. After any but `Device` nothing was written.
+/// # Errors
+///
+/// The first in the order of the work: profile, source, machine file, load. Nothing is written until the run has ended, so
+/// after any fault but `Device` nothing was.
 pub fn run_report<O: Output>(
     alloc: Global,
     source: &[u8],
@@ -168,7 +171,12 @@ fn priced_run<O: Output>(
     print(&shown, out)
 }
 
-/// The same with the line of each step in place of the registers.
+/// Runs the machine as [`run_report`] does, and writes the line of each step (the instruction's address, word, ticks and text)
+/// in place of the registers, with the same end.
+///
+/// # Errors
+///
+/// Those of [`run_report`], in the same order.
 pub fn trace_report<O: Output>(
     alloc: Global,
     source: &[u8],

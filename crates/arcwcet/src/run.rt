@@ -36,8 +36,9 @@ fn obey<S: Store, I: Read, O: Output, E: Output>(
 /// where the work is refused, a certificate's verdict is No, or a machine stopped; 2 for wrong usage; 3 for want of memory; 4
 /// where a file, a stream or the output fails.
 ///
-/// A refusal is one line on `err`, whose failures change no status. All input is read before the work: a cycle profile's file
-/// first, then the others in the order of the words, standard input last, which `debug` alone reads. No memory is taken once the words are refused.
+/// A refusal is one line on `err`, whose failures change no status. The work begins once everything is read: a cycle profile's
+/// file, the others as the words name them, then for `debug` alone standard input, each up to [`LIMIT`](crate::LIMIT) bytes; a
+/// longer one is refused with status 1. No memory is taken once the words are refused.
 pub fn program<S: Store, I: Read, O: Output, E: Output>(
     alloc: Global,
     words: &[String],

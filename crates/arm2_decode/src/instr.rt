@@ -249,7 +249,7 @@ pub struct Unallocated {
     ///
     /// 1. a compare (TST, TEQ, CMP, CMN) that does not set the flags;
     /// 2. bits 27 to 25 clear with bits 7 and 4 set, and not a multiply;
-    /// 3. a multiply with Rd = Rm, with R15 as Rd, Rm or Rs, or with R15 as the Rn that it adds;
+    /// 3. a multiply that names R15 in a field that it uses, or one register as Rd and Rm;
     /// 4. a shift amount in R15;
     /// 5. an offset in R15;
     /// 6. a single transfer whose base R15 is written back;

@@ -16,7 +16,7 @@ mode_number Svc = 3
 abbrev pub mode_named : ℕ → Mode
 mode_named n = if n == 0 then User else (if n == 1 then Fiq else (if n == 2 then Irq else Svc))
 
--- where each register stands in the list of all: R0 to R14 of User, R8 to R14 of FIQ, R13 and R14 of IRQ and of SVC, R15
+-- where each register stands in the list of all: those of User, then the banks of FIQ, IRQ and SVC, and R15 last
 abbrev pub reg_number : Reg → ℕ
 reg_number R0 = 0
 reg_number R1 = 1

@@ -18,7 +18,7 @@ abbrev pub in_front : ℕ → List (List ℕ) → List (List ℕ)
 in_front b [] = (b ∷ []) ∷ []
 in_front b (line ∷ lines) = (b ∷ line) ∷ lines
 
--- lines end with LF or CR LF; the last may lack it
+-- each LF ends a line, with a CR in front of it if there is one; what stands behind the last LF is a line if it is not empty
 unfoldable pub lines_of : List ℕ → List (List ℕ)
 lines_of [] = []
 lines_of (b ∷ bs) = if b == 10 then [] ∷ lines_of bs else (if b == 13 && starts_feed bs then lines_of bs else in_front b (lines_of bs))

@@ -163,7 +163,7 @@ SpellsOffset up (distance.Number n) ps = (number : List Piece) × (ps ≡ Sign H
 SpellsOffset up (distance.Register m a) ps =
     (register : List ℕ) × (shift : List Piece) × (ps ≡ marked (not up) Minus ++ (Run register ∷ shift)) × IsRegister register m × SpellsShifting (shifting.Amount a) shift
 
--- behind [ : Rn] and Rn]! are Rn,#0] and Rn,#0]!
+-- what follows the bracket where no offset stands: Rn] or Rn]!, of offset 0
 pub record SpellsBase (x : Address) (ps : List Piece) : Type 0 where
   pub rn : Register
   pub write_back : Bool

@@ -1,12 +1,14 @@
 ghost use Rattle.std.specs.Prelude.{◌≡◌, [], IfOk, IfErr, OnOk, Ok, Err, map};
 ghost use Rattle.loader.specs.Labels.{address_of};
 ghost use Rattle.asm_text.specs.Source.{lines_of};
+ghost use Rattle.assembler.specs.Assembles.{IsAssembly};
 ghost use Rattle.assembler.specs.Sweeps.{assembled, at_first, filled, item_step, resolved as resolved_word, swept};
 ghost use Rattle.assembler.specs.Views.{Faulted, FaultedAt, item_of, pending_of, state_of};
 
 use crate::encoded::encoded;
 use crate::fault::{AsmFault, Fault};
 use crate::item::{Item, Pending};
+use crate::law::sources_are_assembled;
 use crate::reference::refer;
 use crate::sweep::Sweep;
 use asm_text::first_line;
@@ -86,16 +88,19 @@ fn swept_source<'a>(alloc: Global, source: &'a [u8]) -> Result<Sweep<'a>, AsmFau
 
 /// Assembles a source.
 ///
-/// Lines end with LF or CR LF. The first word stands at 8000, or where an ORG says; each further one behind the last.
+/// The first word stands at 8000, or where an ORG says; each further one behind the last.
 ///
 /// # Errors
 ///
-/// First the faults that need no label's address, from the first line on, and in a line the first in the order of
-/// [`Fault`]; then those that need one, in the same order. `Memory`: a growth was refused.
+/// The lines are gone through twice, the second time for what refers to a label. The first line at fault in the first pass is
+/// answered, else the first in the second; of several faults of a line the first in the order of [`Fault`]. `Memory`: a growth
+/// was refused.
 pub fn assemble(alloc: Global, source: &[u8]) -> Result<Assembly, AsmFault>
     ensures ok { IfOk result (λ a. assembled source.now ≡ Ok (a.image, address_of a.labels)) }
+    ensures means { IfOk result (λ a. IsAssembly source.now a.image (address_of a.labels)) }
     ensures fault { IfErr result (λ fault. FaultedAt fault (assembled source.now)) }
 {
+    sources_are_assembled();
     let sweep = swept_source(alloc, source)?;
     let image = fill(alloc, &sweep.labels, &sweep.items)?;
     Ok(Assembly {

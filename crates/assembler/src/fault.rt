@@ -28,8 +28,8 @@ pub enum Fault {
     /// A label that no line has.
     #[error("LabelMissing")]
     LabelMissing,
-    /// A number past its field, a branch target that is no multiple of 4 or past 3FFFFFC, or an address of an ORG or a
-    /// word that is no multiple of 4, in I/O, past 3FFFFFC or taken.
+    /// A number does not fit its field, a branch leads to no word's address, or an ORG or a word has an address where no
+    /// word of an image may stand or one stands already.
     #[error("OutOfRange")]
     OutOfRange,
     /// A word that is no instruction.

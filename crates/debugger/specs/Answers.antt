@@ -1,5 +1,5 @@
 -- What each command answers and what it leaves, and when it is refused (our own).
-use Rattle.std.specs.Prelude.{◌≡◌, ◌⊎◌, ℕ, ◌+◌, ◌*◌, ◌<◌, Bool, true, false, if◌then◌else◌, List, [], ◌∷◌, ◌++◌, codes, length, Option, Some, None, Ok, Err, is_some}
+use Rattle.std.specs.Prelude.{◌≡◌, ◌⊎◌, ℕ, ◌+◌, ◌*◌, ◌<◌, ◌≤◌, Bool, true, false, if◌then◌else◌, List, [], ◌∷◌, ◌++◌, codes, length, Option, Some, None, Ok, Err, is_some}
 use Rattle.std.specs.Int.RustNames.{bit_or}
 use Rattle.bitflags.specs.Sets.{without}
 use Rattle.ioc.specs.declared.lines.Lines.{Lines}
@@ -105,7 +105,7 @@ abbrev pub Answers : SessionState → Command → (answer : List ℕ) → (after
 Answers s (Step n) answer after = AnswersStep s n answer after
 Answers s (Run n) answer after = AnswersRun s n answer after
 Answers s ListBreaks answer after = Shows s after (Ascending s.breaks × (answer ≡ breaks_text s.breaks))
-Answers s (Break a) answer after = Sets answer after (record s { breaks = toggled a s.breaks })
+Answers s (Break a) answer after = (length (toggled a s.breaks) ≤ 16) × Sets answer after (record s { breaks = toggled a s.breaks })
 Answers s Regs answer after = Shows s after (answer ≡ registers_text s.machine.regs)
 Answers s (Mem a n) answer after = Shows s after (ShowsSpan row.Word s.machine.bus.memc a n answer)
 Answers s (Dis a n) answer after = Shows s after (ShowsSpan row.Line s.machine.bus.memc a n answer)

@@ -54,7 +54,7 @@ fn tell(
 
 /// A whole session: what it answers to command lines, in their order, up to a line whose one word is `quit`.
 ///
-/// Lines end with LF or CR LF; the last may lack it. A refused command answers `refused: ` and the fault's name, and the
+/// The port holds the word `port` until `port N`. Lines are those of a source's text. A refused command answers `refused: ` and the fault's name, and the
 /// session goes on. `Memory`, the one error: a growth was refused.
 pub fn converse(
     alloc: Global,

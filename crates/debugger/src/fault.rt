@@ -4,16 +4,16 @@ ghost use Rattle.debugger.specs.Faults.{fault_name};
 use std::alloc::AllocError;
 use thiserror::Error;
 
-/// Why a command is refused. Where several hold, the first of them is answered.
+/// Why a command is refused. Of two that hold, the first is answered, but for `Memory`, which any growth may give.
 #[derive(Clone, Copy, Debug, PartialEq, Eq, Drop, Error)]
 pub enum DebugFault {
     /// A growth was refused.
     #[error("Memory")]
     Memory,
-    /// A word is unknown, missing or too many, a line name is unknown, or the line is empty.
+    /// The line is empty or begins with no command, has fewer or more words than its command takes, or names no line of IOC.
     #[error("UnknownCommand")]
     UnknownCommand,
-    /// A number is not spelled as one or is out of its range, or an address is no multiple of 4, or its words go past
+    /// What should be a number is none or lies out of its range, or the words asked for are not aligned or reach behind
     /// 3FFFFFC.
     #[error("BadNumber")]
     BadNumber,

@@ -75,16 +75,21 @@ impl Session {
     /// Obeys one command line, without its end. The answer's lines end with LF; a setting answers nothing.
     ///
     /// - `step N`, 1 to 1024 steps, 1 where no number stands: their trace lines, up to a step that is stopped.
-    /// - `run N`, 1 to 65,536 steps: the last trace line. It ends before a step that is stopped, and behind its first step
+    /// - `run N`, 1 to 65,536 steps: the last trace line. It ends before a step that is stopped, and after its first step
     ///   also before the instruction at a breakpoint.
     /// - `break A` adds a breakpoint or removes it, 16 at most; `break` lists them, ascending.
-    /// - `regs`: the registers. `ticks`: the sums of the ticks of all runs, and of those that passed with bursts; they stay
-    ///   at 2^128 - 1.
+    /// - `regs`: the registers. `ticks`: the sums of the processor's ticks in all runs, and of the ticks that passed
+    ///   meanwhile, bursts and all; each stays at 2^128 - 1.
     /// - `mem A N`, `dis A N`: 1 to 16 words of RAM or ROM from an address, as a privileged load finds them.
-    /// - `burst N`, 0 to 65,535: DMA bursts in the next step alone. `line NAME on` and `off`, `port N`: the lines and the
-    ///   port's word from the next step on.
+    /// - `burst N`, 0 to 65,535: DMA bursts in the next step alone. `line NAME on` and `off`, `port N`: IOC's interrupt
+    ///   lines, by the names that a machine file gives them, and the port's word from the next step on.
     ///
     /// A refused command, also one that memory refuses, leaves the session as it was.
+    ///
+    /// # Errors
+    ///
+    /// `UnknownCommand` and `BadNumber` by the line alone. Of a command that is spelled well: `NoPage` of `mem` and `dis`,
+    /// `MachineStopped` of `step` and `run`, `TooManyBreaks` of `break`. `Memory`: a growth was refused, of any command.
     pub fn command(&mut self, alloc: Global, line: &[u8]) -> Result<Vec<u8>, DebugFault>
         ensures ok { IfOk result (λ answer. AnswersLine self.old line.now answer.items self.new) }
         ensures err { IfErr result (λ fault. (fault ≡ DebugFault.Memory) ⊎ RefusesLine self.old line.now fault) }
@@ -182,7 +187,7 @@ impl Session {
     }
 
     fn toggle(&mut self, alloc: Global, address: u32) -> Result<Vec<u8>, DebugFault>
-        ensures ok { IfOk result (λ answer. Sets answer.items self.new (record self.old { breaks = toggled address self.old.breaks })) }
+        ensures ok { IfOk result (λ answer. (length (toggled address self.old.breaks) ≤ 16) × Sets answer.items self.new (record self.old { breaks = toggled address self.old.breaks })) }
         ensures err { IfErr result (λ fault. (fault ≡ DebugFault.TooManyBreaks) × (16 < length (toggled address self.old.breaks))) }
         ensures unchanged { OnErr result (self.new ≡ self.old) }
     {
@@ -268,6 +273,7 @@ fn switched(line: Lines, on: bool, lines: Lines) -> Lines
 fn below(breaks: &ArrayVec<u32, BREAKS>, address: u32) -> usize
     ensures len { result ≡ prefix_len (λ a. nat_lt a address) breaks.now.items }
     ensures within { result ≤ length breaks.now.items }
+    ensures fits { length breaks.now.items ≤ 16 }
 {
     breaks
         .as_slice()
@@ -291,6 +297,7 @@ fn has_at(breaks: &ArrayVec<u32, BREAKS>, at: usize, address: u32) -> bool
 fn toggle_break(breaks: &mut ArrayVec<u32, BREAKS>, address: u32) -> Result<(), DebugFault>
     requires { Ascending breaks.old.items }
     ensures ok { OnOk result (breaks.new.items ≡ toggled address breaks.old.items) }
+    ensures few { OnOk result (length (toggled address breaks.old.items) ≤ 16) }
     ensures ascending { Ascending breaks.new.items }
     ensures err { IfErr result (λ fault. (fault ≡ DebugFault.TooManyBreaks) × (16 < length (toggled address breaks.old.items))) }
     ensures unchanged { OnErr result (breaks.new.items ≡ breaks.old.items) }

@@ -1,5 +1,5 @@
 -- What memory holds once an image is loaded. Source: our own: each word goes where a privileged load of its address reads,
--- and the words go in the order of their addresses, so that a place that two addresses name holds the higher one's word.
+-- and the words go in the order of their addresses, so that of two that lead to one place the higher one's stays.
 use Rattle.std.specs.Prelude.{ℕ, suc, ◌/◌, Bool, true, false, ◌||◌, List, [], ◌∷◌, Result, Ok, Err}
 use Rattle.arm2_exec.specs.State.{State}
 use Rattle.loader.specs.Image.{Words}

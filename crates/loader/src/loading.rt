@@ -13,7 +13,7 @@ pub enum LoadFault {
     /// A growth was refused.
     #[error("Memory")]
     Memory,
-    /// A word lies at a logical address without a page, or at a physical address past the fitted RAM.
+    /// A word's address leads to no RAM or ROM of the machine: its logical page is not mapped, or its physical one not fitted.
     #[error("NoPage")]
     NoPage,
 }
@@ -105,14 +105,14 @@ fn load_words(alloc: Global, memc: &mut Memc, image: &Image) -> Result<(), LoadF
 }
 
 /// Puts the words of an image into a machine's memory: each where a privileged load of its address reads, and in the
-/// order of their addresses, so that a place that two addresses name holds the higher one's word.
+/// order of their addresses, so that of two that lead to one place the higher one's stays.
 ///
 /// All other words, the page map, the control fields, the registers and the devices stay. It takes time linear in the
 /// words of the image and of ROM.
 ///
 /// # Errors
 ///
-/// `NoPage`: a word lies at a logical address without a page, or at a physical address past the fitted RAM.
+/// `NoPage`: a word's address leads to no RAM or ROM of the machine.
 /// `Memory`: a growth was refused. After either the machine is as it was.
 pub fn load(alloc: Global, machine: &mut Machine, image: &Image) -> Result<(), LoadFault>
     ensures ok { OnOk result (machine.new ≡ with_image image.now machine.old) }

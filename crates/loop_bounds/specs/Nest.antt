@@ -20,7 +20,7 @@ pub record HasOwn (flow : Flow) (i j : Instance) : Type 0 where
   pub member : is_member i place ≡ true
   pub other : is_member j place ≡ false
 
--- two instances share a member, and each has one that the other has not
+-- two instances overlap, and neither lies within the other
 pub record HasCrossing (flow : Flow) (loops : List Loop) : Type 0 where
   pub one : Instance
   pub other : Instance

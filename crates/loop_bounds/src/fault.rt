@@ -8,7 +8,7 @@ pub enum NestFault {
     #[error("Memory")]
     Memory,
 
-    /// Two instances share a member, and each has one that the other has not.
+    /// Two instances overlap, and neither lies within the other.
     #[error("LoopsCross")]
     LoopsCross,
 
@@ -16,7 +16,7 @@ pub enum NestFault {
     #[error("SharedHeader")]
     SharedHeader,
 
-    /// A member other than the header is the entry, or is reached by an edge from a place that is no member.
+    /// The handler begins at a member that is not the header, or an edge from outside leads to one.
     #[error("EntersMidLoop")]
     EntersMidLoop,
 

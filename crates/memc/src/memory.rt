@@ -70,7 +70,7 @@ macro_rules! each_size {
 impl Memc {
     /// All words of RAM 0, no ROM words, and all control fields 0.
     ///
-    /// Logical page i lies on physical page i at level 0, for i from 0 to 127. `Memory`: a growth was refused.
+    /// Each of the 128 logical pages lies on the physical page of its number, at level 0. `Memory`: a growth was refused.
     pub fn new(alloc: Global, size: PageSize) -> Result<Memc, MemcFault>
         ensures { IfOk result (λ m. IsStart (shift_of_size size) m) }
     {
@@ -161,7 +161,7 @@ impl Memc {
 
     /// Puts a logical page on a physical page. Both lose what they had. No words move.
     ///
-    /// `OutOfRange`: a physical page above 127, a logical page past 2^25 bytes or a level above 3.
+    /// `OutOfRange`: there are 128 physical pages, logical ones up to 2^25 bytes, and the levels 0 to 3.
     pub fn map(&mut self, physical: u32, logical: u32, level: u32) -> Result<(), MapFault>
         ensures ok { OnOk result (self.new ≡ with_map physical logical level self.old) }
         ensures err { OnErr result (self.new ≡ self.old) }
@@ -195,7 +195,7 @@ impl Memc {
 
     /// Puts words into ROM, each by its address, a multiple of 4 from 3400000 to 3FFFFFC.
     ///
-    /// A word that is there, or earlier in the list, is replaced. No load finds a word at another address. It
+    /// Of two words for one address, and over one that is there, the last stays. No load finds a word at another address. It
     /// copies the words that are there, so a caller gives all words in one call. `Memory`: a growth was refused.
     pub fn add_rom(&mut self, _alloc: Global, words: &[(u32, u32)]) -> Result<(), MemcFault>
         ensures ok { OnOk result (self.new ≡ with_rom words.now self.old) }

@@ -33,7 +33,7 @@ impl<const SHIFT: u32> Model for Pages<SHIFT> {
 }
 
 impl<const SHIFT: u32> Pages<SHIFT> {
-    /// All words 0, and logical page i on physical page i at level 0, for i from 0 to 127.
+    /// All words 0, and each logical page on the physical page of its number, at level 0.
     pub fn new(alloc: Global) -> Result<Self, AllocError>
         requires { IsShift SHIFT }
         ensures { IfOk result (λ p. IsFresh SHIFT p) }

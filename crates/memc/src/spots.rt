@@ -52,7 +52,7 @@ pub enum Refused {
 /// Why pages are not mapped.
 #[derive(Clone, Copy, Debug, PartialEq, Eq, Drop, Error)]
 pub enum MapFault {
-    /// A physical page above 127, a logical page past 2^25 bytes or a level above 3.
+    /// A page or level that there is not: 128 physical pages, logical ones up to 2^25 bytes, levels 0 to 3.
     #[error("OutOfRange")]
     OutOfRange,
 }

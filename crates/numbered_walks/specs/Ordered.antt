@@ -75,7 +75,7 @@ KeepsBounds spans walk = G.KeepsBounds number_shape span_loops (Contains spans) 
 abbrev pub IsComplete : ℕ → List NumberedEdge → List NumberedEdge → Type 0
 IsComplete exit edges walk = Leads edges 0 walk exit
 
--- some complete walk that keeps the bounds costs n, and none costs more
+-- n is the most that a complete walk within the bounds costs, and one does
 abbrev pub IsGreatest : ℕ → List NumberedEdge → List Span → ℕ → Type 0
 IsGreatest exit edges spans n = G.IsGreatest number_shape (Contains edges) (KeepsBounds spans) 0 exit n
 

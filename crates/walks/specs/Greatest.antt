@@ -35,7 +35,7 @@ module _ {P E : Type 0} (shape : Shape P E) (is_edge : E → Type 0) (keeps : Li
   abbrev pub IsComplete : List E → Type 0
   IsComplete walk = Leads shape is_edge entry walk exit
 
-  -- some complete walk that keeps the bounds costs n, and none costs more
+  -- n is the most that a complete walk within the bounds costs, and one does
   pub record IsGreatest (n : ℕ) : Type 0 where
     pub walk : List E
     pub complete : IsComplete walk

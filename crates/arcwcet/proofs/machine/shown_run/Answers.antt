@@ -30,5 +30,5 @@ returns-clause-shown c =
       shows = refl;
       done_is = none_is ran.stopped c.is_none.result c.is_none.ensures;
       text_is = c.in_ok-put_end.ensures
-      ∙ ap (λ (x : List ℕ). x ++ end_text ran after) (c.in_ok-write_registers.ensures ∙ ap (λ (x : List ℕ). x ++ registers_text after.regs) c.new-text.ensures.bytes);
+          ∙ ap (λ (x : List ℕ). x ++ end_text ran after) (c.in_ok-write_registers.ensures ∙ ap (λ (x : List ℕ). x ++ registers_text after.regs) c.new-text.ensures.bytes);
     }
