@@ -16,7 +16,6 @@ mod trace;
 pub use fault::WalkFault;
 pub use find::find_tables;
 pub use index::Index;
-pub use row::needed_in;
 pub use span::{NumberedEdge, Span};
 pub use tables::Tables;
 pub use trace::{entering_edge, turning_edge};

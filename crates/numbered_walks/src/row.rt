@@ -38,7 +38,7 @@ fn needed_with(spans: &[Span], tables: &Tables, edge: &NumberedEdge) -> Option<u
 }
 
 /// What the edge's row asks for, in ticks, by the spans that hold its beginning alone; `None` from 2^64 on.
-pub fn needed_in(
+pub(crate) fn needed_in(
     spans: &[Span],
     holders: &[Vec<Span>],
     tables: &Tables,
