@@ -11,8 +11,6 @@ mod instr;
 mod laws;
 mod names;
 mod reading;
-#[cfg(test)]
-mod tests;
 mod writing;
 
 pub use field::Field;

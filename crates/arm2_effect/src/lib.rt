@@ -14,8 +14,6 @@ mod outcomes;
 mod prices;
 mod program_counter;
 mod registers;
-#[cfg(test)]
-mod tests;
 
 pub use done::{Done, Kind, Why};
 pub use exceptions::Vector;

@@ -5,8 +5,6 @@
 #![tactic(auto)]
 
 mod machine;
-#[cfg(test)]
-mod tests;
 mod work;
 
 pub use arm2_effect::{Kind, Reg, Vector, Why};

@@ -15,8 +15,6 @@ mod registers;
 mod single;
 mod singles;
 mod span;
-#[cfg(test)]
-mod tests;
 mod words;
 
 pub use bus::Bus;

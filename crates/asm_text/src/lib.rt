@@ -26,8 +26,6 @@ mod register;
 mod said;
 mod shown;
 mod statement;
-#[cfg(test)]
-mod tests;
 mod token;
 mod word;
 

@@ -10,8 +10,6 @@ mod reference;
 mod shown;
 mod spelling;
 mod sweep;
-#[cfg(test)]
-mod tests;
 mod text;
 
 pub use assembly::{Assembly, assemble};

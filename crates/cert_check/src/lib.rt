@@ -13,8 +13,6 @@ mod law;
 mod presence;
 mod row_check;
 mod row_tests;
-#[cfg(test)]
-mod tests;
 mod verdict;
 mod walk_check;
 mod walk_trace;

@@ -13,8 +13,6 @@ mod line_reading;
 mod numbers;
 mod open_walk;
 mod reading;
-#[cfg(test)]
-mod tests;
 mod walk;
 mod writing;
 

@@ -13,8 +13,6 @@ mod reading;
 mod rows;
 mod session;
 mod stepping;
-#[cfg(test)]
-mod tests;
 mod words;
 
 pub use conversation::converse;

@@ -13,8 +13,6 @@ mod places;
 mod pushing;
 mod search;
 mod strays;
-#[cfg(test)]
-mod tests;
 mod ticks;
 
 pub use building::build;

@@ -6,6 +6,4 @@ pub mod labels;
 pub mod law;
 pub mod loading;
 pub mod reading;
-#[cfg(test)]
-mod tests;
 pub mod writing;

@@ -8,8 +8,6 @@ mod greatest;
 mod listing;
 mod rounds;
 mod rows;
-#[cfg(test)]
-mod tests;
 mod trace;
 
 pub use folded::{FoldedWalk, Item, Longest};

@@ -16,8 +16,6 @@ mod numbering;
 mod order;
 mod parents;
 mod plain;
-#[cfg(test)]
-mod tests;
 mod tree;
 
 pub use fault::NestFault;

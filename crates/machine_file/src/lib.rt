@@ -14,8 +14,6 @@ mod profile_faults;
 mod profiles;
 mod registers;
 mod start;
-#[cfg(test)]
-mod tests;
 
 pub use events::Event;
 pub use flags::PsrFlags;

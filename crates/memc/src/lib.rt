@@ -4,8 +4,6 @@
 mod memory;
 mod pages;
 mod spots;
-#[cfg(test)]
-mod tests;
 
 pub use memory::Memc;
 pub use spots::{MapFault, MemcFault, PageSize, Refused, Spot};

@@ -9,8 +9,6 @@ mod keys;
 mod reading;
 mod readings;
 mod stated;
-#[cfg(test)]
-mod tests;
 
 pub use faults::StatementFault;
 pub use reading::read_statement;

@@ -4,8 +4,6 @@
 mod figures;
 mod registers;
 mod run;
-#[cfg(test)]
-mod tests;
 mod trace;
 
 pub use figures::{write_stop, write_ticks};

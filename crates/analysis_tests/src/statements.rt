@@ -1,8 +1,6 @@
-use crate::faults::StatementFault;
-use crate::reading::read_statement;
-use crate::stated::{Loop, Statement, TargetKind};
 use bus_ticks::Class;
 use loader::labels::Labels;
+use statement::{Loop, Statement, StatementFault, TargetKind, read_statement};
 use std::alloc::Global;
 use std::process::Abort;
 use std::test::Fail;

@@ -1,6 +1,6 @@
-use crate::{Bus, execute};
 use arm2_decode::decode;
 use arm2_effect::{Done, Kind, Prices, Reg, Registers, Vector, Why};
+use arm2_transfer::{Bus, execute};
 use bus_ticks::{Profile, RomTimes};
 use ioc::{Ioc, Lines};
 use memc::{Memc, PageSize, Spot};

@@ -1,12 +1,10 @@
 ghost use Rattle.std.specs.Prelude.{◌≡◌, ◌<◌};
 
-use crate::folded::{FoldedWalk, Item, Longest};
-use crate::greatest::longest;
-use crate::rows::{InstanceRow, PlaceRow, Rows};
 use bus_ticks::Profile;
 use flow_graph::{Calls, Edge, Label, Place, build, read_statement};
 use loader::image::Image;
 use loader::labels::Labels;
+use longest_walk::{FoldedWalk, InstanceRow, Item, Longest, PlaceRow, Rows, longest};
 use loop_bounds::nest;
 use numbered_walks::WalkFault;
 use std::alloc::Global;

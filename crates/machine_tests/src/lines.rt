@@ -1,8 +1,8 @@
-use crate::{
+use arm2_decode::{Cond, Opcode};
+use asm_text::{
     Head, Line, Shown, Statement, Suffix, Token, Value, Word, Wrong, first_line, read_line,
     read_shown, spelled_word, tokens,
 };
-use arm2_decode::{Cond, Opcode};
 use std::test::Fail;
 
 // Words and what they are, and texts that are none.

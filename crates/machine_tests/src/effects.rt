@@ -1,5 +1,5 @@
-use super::*;
 use arm2_decode::{Register, decode};
+use arm2_effect::*;
 use bus_ticks::{Profile, RomTimes};
 
 fn prices() -> Prices {

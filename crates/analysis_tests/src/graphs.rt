@@ -1,9 +1,5 @@
-use crate::building::build;
-use crate::edges::Label;
-use crate::faults::BuildFault;
-use crate::flow::Graph;
-use crate::places::Place;
 use bus_ticks::Profile;
+use flow_graph::{BuildFault, Graph, Label, Place, build};
 use loader::image::Image;
 use loader::labels::Labels;
 use statement::{Statement, StatementFault, read_statement};

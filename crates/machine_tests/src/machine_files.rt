@@ -1,15 +1,12 @@
-use crate::events::Event;
-use crate::flags::PsrFlags;
-use crate::machine_faults::MachineFileFault;
-use crate::machine_files::{MachineFile, read_machine};
-use crate::pages::MappedPage;
-use crate::profile_faults::ProfileFileFault;
-use crate::profiles::read_profile;
 use arm2_effect::Reg;
 use arm2_exec::Input;
 use bitflags::Flags;
 use bus_ticks::{Profile, RomTimes};
 use ioc::Lines;
+use machine_file::{
+    Event, MachineFile, MachineFileFault, MappedPage, ProfileFileFault, PsrFlags, read_machine,
+    read_profile,
+};
 use memc::{PageSize, Spot};
 use std::alloc::Global;
 use std::process::Abort;

@@ -1,10 +1,8 @@
 ghost use Rattle.std.specs.Prelude.{◌≡◌, IfOk};
 ghost use Rattle.loop_bounds.specs.Tree.{IsTree};
 
-use crate::checking::check;
-use crate::law::{longest_gets_yes, yes_means_greatest};
-use crate::verdict::{Objection, Verdict};
 use bus_ticks::Profile;
+use cert_check::{Objection, Verdict, check, longest_gets_yes, yes_means_greatest};
 use certificate::read_cert;
 use flow_graph::{Graph, build, read_statement};
 use loader::image::Image;

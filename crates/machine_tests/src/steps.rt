@@ -1,5 +1,5 @@
-use crate::machine::{Input, Machine, Ran, Stepped};
 use arm2_effect::{Kind, Reg, Vector, Why};
+use arm2_exec::{Input, Machine, Ran, Stepped};
 use bitflags::Flags;
 use bus_ticks::Profile;
 use ioc::Lines;

@@ -1,12 +1,10 @@
 ghost use Rattle.std.specs.Prelude.{◌<◌};
 
-use crate::fault::NestFault;
-use crate::nested::{Instance, Instances};
-use crate::tree::{LoopTree, nest};
 use bus_ticks::Profile;
 use flow_graph::{Graph, Place, Statement, build, read_statement};
 use loader::image::Image;
 use loader::labels::Labels;
+use loop_bounds::{Instance, Instances, LoopTree, NestFault, nest};
 use numbered_walks::{NumberedEdge, Span};
 use std::alloc::Global;
 use std::test::Fail;

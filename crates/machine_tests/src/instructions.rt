@@ -1,6 +1,6 @@
 mod words;
 
-use super::*;
+use arm2_decode::*;
 use words::*;
 
 // Each word of the table is decoded to the row's fields, and encoded again.

@@ -1,6 +1,3 @@
-use crate::{
-    Traced, step_traced, write_registers, write_run, write_stop, write_ticks, write_trace,
-};
 use arm2_exec::{Input, Kind, Machine, Reg, Stepped, Vector, Why};
 use bitflags::Flags;
 use bus_ticks::Profile;
@@ -10,6 +7,9 @@ use loader::loading::load;
 use memc::PageSize;
 use std::alloc::Global;
 use std::test::Fail;
+use trace_text::{
+    Traced, step_traced, write_registers, write_run, write_stop, write_ticks, write_trace,
+};
 
 fn quiet() -> Input {
     Input {

@@ -1,6 +1,6 @@
-use crate::{DebugFault, Session, converse};
 use arm2_exec::{Machine, Reg};
 use bus_ticks::Profile;
+use debugger::{DebugFault, Session, converse};
 use loader::image::Image;
 use loader::loading::load;
 use memc::PageSize;

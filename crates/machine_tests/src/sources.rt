@@ -1,4 +1,4 @@
-use crate::{AsmFault, Fault, assemble, disassemble};
+use assembler::{AsmFault, Fault, assemble, disassemble};
 use std::test::Fail;
 
 // Lines at 8000 and their words, from the formats of the data sheet.

@@ -1,10 +1,10 @@
-use crate::image::{Image, ImageFault};
-use crate::labels::{LabelFault, Labels};
-use crate::loading::{LoadFault, load};
-use crate::reading::{ReadFault, read_image};
-use crate::writing::write_image;
 use arm2_exec::{Machine, Reg};
 use bus_ticks::Profile;
+use loader::image::{Image, ImageFault};
+use loader::labels::{LabelFault, Labels};
+use loader::loading::{LoadFault, load};
+use loader::reading::{ReadFault, read_image};
+use loader::writing::write_image;
 use memc::{Memc, PageSize, Spot};
 use std::test::Fail;
 

@@ -1,5 +1,5 @@
-use super::*;
 use bus_ticks::Profile;
+use certificate::*;
 use flow_graph::{Calls, Edge, Label, Place};
 use longest_walk::{FoldedWalk, Item, Longest, Potentials};
 use std::alloc::Global;

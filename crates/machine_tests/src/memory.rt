@@ -1,4 +1,4 @@
-use super::*;
+use memc::*;
 use std::alloc::Global;
 use std::collections::BTreeMap;
 use std::test::Fail;
