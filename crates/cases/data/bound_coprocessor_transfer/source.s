@@ -1,0 +1,1 @@
+start    DCD    &EC000000       ; STC

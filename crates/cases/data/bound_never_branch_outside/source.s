@@ -1,0 +1,2 @@
+start    BNV    &8008
+         SUBS   PC,R14,#4

@@ -1,0 +1,2 @@
+start    DCD    &FC000000       ; STC
+         SUBS   PC,R14,#4

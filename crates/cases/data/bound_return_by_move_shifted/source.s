@@ -1,0 +1,1 @@
+         MOV    PC,R0,LSL R1

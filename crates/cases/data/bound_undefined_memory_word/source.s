@@ -1,0 +1,1 @@
+start    DCD    &E6000010       ; a word of the undefined class among LDR and STR

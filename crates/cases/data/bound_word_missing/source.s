@@ -1,0 +1,2 @@
+         ORG    &80F8
+start    MOV    R0,#3
