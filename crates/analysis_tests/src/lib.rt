@@ -1,16 +1,15 @@
-//! Tests of the analysis' crates, one module for each, from statements to verdicts: here, so that those crates are
-//! proved once. Their expected values were worked out by hand.
+//! Tests of what no command of the program shows: calls by themselves, of the analysis' crates, of bus_ticks and
+//! shifter, and of ioc and vidc. They stand here so that those crates are proved once. Their expected values were
+//! worked out by hand. What commands show is in the folders `bound_*` and `check_*` of `crates/cases/data`.
 #![tactic(auto)]
 
 #[cfg(test)]
 mod graphs;
 #[cfg(test)]
-mod greatest;
-#[cfg(test)]
 mod nesting;
+#[cfg(test)]
+mod prices_and_chips;
 #[cfg(test)]
 mod statements;
 #[cfg(test)]
 mod texts;
-#[cfg(test)]
-mod verdicts;
