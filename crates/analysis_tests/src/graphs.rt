@@ -18,8 +18,8 @@ fn built(alloc: Global, first: u32, words: &[u32], statement: &[u8]) -> Result<G
     Ok(build(alloc, &image, &statement, &Profile::one())?)
 }
 
-// Place by place: the cost of each edge, how many calls its end has behind it, and the end's address; for Exit 0
-// and 0.
+// Place by place: the cost of each edge, how many calls its end has behind it, and the end's address; for
+// Exit 0 and 0.
 fn edges(alloc: Global, graph: &Graph) -> Result<Vec<(u32, usize, u32)>, Fail> {
     let mut edges = Vec::new(alloc);
     for edge in graph.edges() {
@@ -40,8 +40,8 @@ const TABLE: [u32; 4] = [0xE08F_F100, 0, 0xE002_0493, 0xE25E_F004];
 #[test]
 fn edges_place_by_place(rt: HostRuntime) -> Result<(), Fail> {
     let alloc = rt.alloc();
-    // MOV R4,R14; BL 8014; BL 8014; SUBS PC,R4,#4; 0; MOV PC,R14: the function is two places, each with its own
-    // return.
+    // MOV R4,R14; BL 8014; BL 8014; SUBS PC,R4,#4; 0; MOV PC,R14: the function is two places, each with its
+    // own return.
     let call_twice = [
         0xE1A0_400E,
         0xEB00_0002,
@@ -52,7 +52,8 @@ fn edges_place_by_place(rt: HostRuntime) -> Result<(), Fail> {
     ];
     // MOV R4,R14; BL 8010; SUBS PC,R4,#4; 0; MOV PC,R14
     let call_once = [0xE1A0_400E, 0xEB00_0001, 0xE254_F004, 0, 0xE1A0_F00E];
-    // SUBS R0,R0,#1; BEQ 800C; MOV R0,#3; SUBS PC,R14,#4: the taken branch and the other walk cost 15 and 13.
+    // SUBS R0,R0,#1; BEQ 800C; MOV R0,#3; SUBS PC,R14,#4: the taken branch and the other walk cost 15 and
+    // 13.
     let branch = [0xE250_0001, 0x0A00_0000, 0xE3A0_0003, 0xE25E_F004];
     let up = b"entry = 0x8000\n[[target]]\nat = 0x8000\nkind = \"jump\"\nto = [0x8008, 0x800C]";
     let down = b"entry = 0x8000\n[[target]]\nat = 0x8000\nkind = \"jump\"\nto = [0x800C, 0x8008]";

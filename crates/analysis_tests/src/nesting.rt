@@ -149,8 +149,8 @@ fn sixteen_deep(rt: HostRuntime) -> Result<(), Fail> {
     Ok(())
 }
 
-// Of each instance: its calls, header and bound, its places with their calls, and how many lie directly inside
-// it.
+// Of each instance: its calls, header and bound, its places with their calls, and how many lie directly
+// inside it.
 fn put_instances(instances: &[Instance], numbers: &mut Vec<u64>) -> Result<(), AllocError> {
     for instance in instances {
         for call in instance.list().as_slice() {
@@ -184,8 +184,8 @@ fn flat(alloc: Global, instances: &Instances) -> Result<Vec<u64>, AllocError> {
 #[test]
 fn instances(rt: HostRuntime) -> Result<(), Fail> {
     let alloc = rt.alloc();
-    // MOV R1,#2; 8004: MOV R0,#3; SUBS R0,R0,#1; BNE 8008; MOV R0,#3; SUBS R0,R0,#1; BNE 8014; SUBS R1,R1,#1;
-    // BNE 8004; SUBS PC,R14,#4
+    // MOV R1,#2; 8004: MOV R0,#3; SUBS R0,R0,#1; BNE 8008; MOV R0,#3; SUBS R0,R0,#1; BNE 8014; SUBS
+    // R1,R1,#1; BNE 8004; SUBS PC,R14,#4
     let side_by_side = [
         0xE3A0_1002,
         0xE3A0_0003,

@@ -25,8 +25,8 @@ const OTHER_PROFILE: &[u8] =
 
 const OTHER_NUMBERS: [u32; 15] = [3, 1, 2, 5, 4, 3, 2, 8, 6, 5, 10, 2, 2, 1, 8];
 
-// A certificate as numbers: its bound; of each item of its walk a step's address, 1 for `do`, destination (1 for
-// Exit) and cost, or a repeat's count and how many items it repeats; its rows.
+// A certificate as numbers: its bound; of each item of its walk a step's address, 1 for `do`, destination
+// (1 for Exit) and cost, or a repeat's count and how many items it repeats; its rows.
 fn numbers_of(alloc: Global, cert: &Cert) -> Result<Vec<u64>, AllocError> {
     let mut numbers = Vec::new(alloc);
     numbers.push(cert.bound)?;
