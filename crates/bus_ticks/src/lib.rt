@@ -6,8 +6,6 @@
 
 mod prices;
 mod profile;
-#[cfg(test)]
-mod tests;
 mod worst;
 
 pub use prices::{class_of, fetch_n, fetch_s, transfer};

@@ -7,8 +7,6 @@
 mod banks;
 mod law;
 mod lines;
-#[cfg(test)]
-mod tests;
 mod timers;
 
 ghost use Rattle.std.specs.Prelude.{◌≡◌, ◌≤◌, ◌<◌};

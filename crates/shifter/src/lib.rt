@@ -2,7 +2,5 @@
 #![tactic(auto)]
 
 mod shifts;
-#[cfg(test)]
-mod tests;
 
 pub use shifts::{Shifted, multiply_cycles, rotate_imm, shift_imm, shift_reg};

@@ -6,8 +6,6 @@
 
 mod frame;
 mod law;
-#[cfg(test)]
-mod tests;
 
 ghost use Rattle.std.specs.Prelude.{◌≡◌, ◌≤◌, ◌<◌, ◌^◌};
 ghost use Rattle.vidc.specs.Video.{Video, InRange, fresh, rate_of, value_of, frame as frame_at, flyback as flyback_at, runs as is_running, written, advanced, flybacks as flybacks_in};
