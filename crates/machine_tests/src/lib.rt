@@ -15,8 +15,6 @@ mod machine_files;
 #[cfg(test)]
 mod memory;
 #[cfg(test)]
-mod sessions;
-#[cfg(test)]
 mod sources;
 #[cfg(test)]
 mod steps;

@@ -1,0 +1,3 @@
+ MOV R0,#3
+ SUBS R0,R0,#1
+ MOV R0

@@ -1,0 +1,1 @@
+ LDRB PC,nowhere

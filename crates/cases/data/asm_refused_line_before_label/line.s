@@ -1,0 +1,2 @@
+ B nowhere
+ LDRB PC,nowhere

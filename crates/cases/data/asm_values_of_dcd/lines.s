@@ -1,0 +1,2 @@
+loop dcd 1 , &Ff,end ; three
+end dcd loop

@@ -1,0 +1,49 @@
+; Lines whose words do not depend on where they stand; x itself stands at 8000.
+x  DCD x , 0
+ MOV R0,#3
+ SUBS R0,R0,#1
+ SUBS PC,R14,#4
+ MUL R2,R3,R4
+ STMFD R13!,{R0-R3}
+ LDMFD R13!,{R0-R3}
+ ADD PC,PC,R0,LSL #2
+ MOV R4,R14
+ MOV PC,R14
+ SWI 0
+ MOVNV R0,R0
+ mov r1,#&ff000000
+ MOV R0,R1,LSR #32
+ MOV R0,R1,RRX
+ MOV R0,R1,LSL R2
+ MVN r3 , #0x0
+ CMP R1,#5
+ CMPS R1,#5
+ TEQP R15,#0
+ TST R0,#1
+ CMN R2,R3
+ RSBEQ R0,R1,R2
+ EOR r0,r0,r1,asr #3
+ ORRS R0,R1,R2,ROR R3
+ MLAS R1,R2,R3,R4
+ LDR R0,[R1]
+ LDR R0,[R1]!
+ LDR R0,[R1,#4]!
+ LDR R0,[R1],#4
+ LDR R0,[R1,#-4]
+ LDR R0,[R1,#-0]
+ LDRB R2,[R3,-R4,LSL #2]
+ STR R5,[SP],-R6
+ LDRT R0,[R1],#0
+ STRBT R0,[R1],R2
+ STMIB r0,{r1,r3-r5,pc}^
+ LDMEA R0,{R1}
+ LDMED R0!,{R1}
+ LDMFA R0,{R1}
+ LDMIA R0,{R1}
+ STMED R0,{R1}
+ STMFA R0,{R1}
+ STMEA R0,{R1}
+ SWINE 5 ; five
+ DCD 4294967295
+ LDRLT R0,[R1]
+ LDRLTB R0,[R1]

@@ -1,0 +1,7 @@
+; R1 is IRQ A's status, and 8 behind it lies IRQ A's mask.
+        LDR   R0,[R1]
+        LDRB  R0,[R1,#1]
+        STRB  R2,[R1,#8]
+        LDR   R3,[R1,#8]
+        ADD   R1,R1,#&70
+        LDR   R0,[R1]

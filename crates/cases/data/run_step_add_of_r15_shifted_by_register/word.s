@@ -1,0 +1,1 @@
+ ADD R0,R15,R1,LSL R2

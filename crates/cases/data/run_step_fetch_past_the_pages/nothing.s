@@ -1,0 +1,1 @@
+; No word: the fetch is refused.

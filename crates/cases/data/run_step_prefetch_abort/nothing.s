@@ -1,0 +1,1 @@
+; No word, since 8000 lies on no page.

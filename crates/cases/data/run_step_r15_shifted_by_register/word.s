@@ -1,0 +1,1 @@
+ MOV R0,R15,LSL R2

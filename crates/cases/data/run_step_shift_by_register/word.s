@@ -1,0 +1,1 @@
+ MOV R0,R1,LSL R2
