@@ -97,6 +97,15 @@ fn machine_of(alloc: Global, text: &[u8]) -> Result<Machine, Fail> {
     Ok(read_machine(alloc, text)?.machine(alloc, Profile::one())?)
 }
 
+fn words_of(machine: &Machine) -> [u32; 4] {
+    [
+        machine.get(Reg::R15),
+        machine.get(Reg::R0),
+        machine.get(Reg::R8Fiq),
+        machine.get(Reg::R14Svc),
+    ]
+}
+
 fn loaded_from(machine: &Machine, address: u32) -> Result<Spot, Refused> {
     machine.memc().locate(address % 0x400_0000, false, false)
 }
@@ -104,13 +113,7 @@ fn loaded_from(machine: &Machine, address: u32) -> Result<Spot, Refused> {
 #[test]
 fn machines(rt: HostRuntime) -> Result<(), Fail> {
     let machine = machine_of(rt.alloc(), WHOLE)?;
-    let found = [
-        machine.get(Reg::R15),
-        machine.get(Reg::R0),
-        machine.get(Reg::R8Fiq),
-        machine.get(Reg::R14Svc),
-    ];
-    assert!(rt; found == [0x87FF_FFFE, 7, 8, 0xFFFF_FFFF]);
+    assert!(rt; words_of(&machine) == [0x87FF_FFFE, 7, 8, 0xFFFF_FFFF]);
     assert!(rt; machine.memc().rom_times() == RomTimes { low: 1, high: 3 });
     let spots = [loaded_from(&machine, 8), loaded_from(&machine, 0x8000)];
     assert!(rt; spots == [Ok(Spot::Ram(0x2_8008)), Err(Refused::NoPage)]);
