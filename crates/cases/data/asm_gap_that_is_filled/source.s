@@ -1,0 +1,5 @@
+         ORG    12
+         DCD    1
+         ORG    0
+         DCD    2,3
+         DCD    4

@@ -1,0 +1,3 @@
+ ORG &3FFFFFC
+ DCD 1
+ DCD 2

@@ -1,0 +1,3 @@
+
+ MOVX
+ DCD x

@@ -1,0 +1,5 @@
+ ORG &8004
+ DCD 1
+ ORG &8000
+ DCD 2
+ DCD 3

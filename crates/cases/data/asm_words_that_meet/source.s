@@ -1,0 +1,4 @@
+         ORG    4
+         DCD    1
+         ORG    0
+         DCD    2

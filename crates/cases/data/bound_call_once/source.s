@@ -1,0 +1,5 @@
+start    MOV    R4,R14
+         BL     callee
+         SUBS   PC,R4,#4
+         DCD    0
+callee   MOV    PC,R14

@@ -1,0 +1,1 @@
+start    DCD    &E1010002       ; TST R1,R2, but without its S

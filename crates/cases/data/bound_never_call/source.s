@@ -1,0 +1,2 @@
+start    BLNV   start
+         SUBS   PC,R14,#4

@@ -1,0 +1,2 @@
+start    SWINV  0
+         SUBS   PC,R14,#4

@@ -1,0 +1,1 @@
+start    SWI    0

@@ -1,0 +1,1 @@
+start    DCD    &EE000000       ; a word of the undefined class
