@@ -1,7 +1,6 @@
 //! Small handlers made by a fixed generator: the greatest walk found in the folded way beside the greatest of all walks
 //! that keep the bounds, unrolled.
 
-use crate::support::{Stated, statement_of};
 use bus_ticks::Profile;
 use flow_graph::{Edge, Graph, Place, build, read_statement};
 use loader::image::Image;
@@ -10,6 +9,9 @@ use longest_walk::longest;
 use loop_bounds::nest;
 use std::alloc::{AllocError, Global};
 use std::test::Fail;
+
+/// A loop as a statement gives it: header, first, last and bound.
+type Stated = (u32, u32, u32, u32);
 
 /// The words of a handler before its return.
 const WORDS: u32 = 8;
@@ -168,6 +170,18 @@ fn enumerated(alloc: Global, graph: &Graph, loops: &[Stated]) -> Result<Option<u
     Ok(None)
 }
 
+/// A statement of the entry 8000 and these loops.
+fn statement_of(alloc: Global, loops: &[Stated]) -> Result<String, AllocError> {
+    let mut text = String::from_str(alloc, "entry = 0x8000\n")?;
+    for (header, first, last, bound) in loops {
+        let table = format!(in alloc;
+            "[[loop]]\nheader = {header}\nfirst = {first}\nlast = {last}\nbound = {bound}\n"
+        )?;
+        text.push_str(table.as_str())?;
+    }
+    Ok(text)
+}
+
 // Whether the handler has a tree of loops and both ways agree on its bound; none where it has no tree.
 fn agrees(alloc: Global, words: &[u32], loops: &[Stated]) -> Result<Option<bool>, Fail> {
     let mut image = Image::new(alloc);
@@ -176,7 +190,7 @@ fn agrees(alloc: Global, words: &[u32], loops: &[Stated]) -> Result<Option<bool>
         image.put(alloc, address, *word)?;
         address = address.wrapping_add(4);
     }
-    let text = statement_of(alloc, 0x8000, loops, "")?;
+    let text = statement_of(alloc, loops)?;
     let statement = read_statement(alloc, text.as_bytes(), &Labels::new(alloc))?;
     let graph = build(alloc, &image, &statement, &Profile::one())?;
     let Ok(tree) = nest(alloc, &graph, &statement) else {

@@ -1,52 +1,35 @@
 //! Files in memory, for runs of the program.
 
 use arcwcet::{Store, StoreFault, read_limited};
-use std::alloc::Global;
+use std::alloc::{AllocError, Global};
 
-/// Three files by their names, and the last one that was written, `image`. No other file can be written.
+/// The files `source` and `second`. None can be written.
 #[derive(Drop)]
 pub(crate) struct Files<'a> {
-    /// `source`
-    source: &'a [u8],
-    /// `statement` and `machine`
-    second: &'a [u8],
-    /// `certificate` and `profile`
-    third: &'a [u8],
-    pub(crate) image: Vec<u8>,
-}
-
-impl<'a> Files<'a> {
-    pub(crate) fn new(
-        alloc: Global,
-        source: &'a [u8],
-        second: &'a [u8],
-        third: &'a [u8],
-    ) -> Files<'a> {
-        Files {
-            source,
-            second,
-            third,
-            image: Vec::new(alloc),
-        }
-    }
+    pub(crate) source: &'a [u8],
+    pub(crate) second: &'a [u8],
 }
 
 impl Store for Files<'_> {
     fn read(&mut self, alloc: Global, name: &str) -> Result<Vec<u8>, StoreFault> {
         let mut bytes = match name {
             "source" => self.source,
-            "statement" | "machine" => self.second,
-            "certificate" | "profile" => self.third,
+            "second" => self.second,
             _ => return Err(StoreFault::Device),
         };
         read_limited(alloc, &mut bytes)
     }
 
-    fn write(&mut self, name: &str, bytes: &[u8]) -> Result<(), StoreFault> {
-        self.image.clear();
-        if name != "image" || self.image.extend_from_slice(bytes).is_err() {
-            return Err(StoreFault::Device);
-        }
-        Ok(())
+    fn write(&mut self, _name: &str, _bytes: &[u8]) -> Result<(), StoreFault> {
+        Err(StoreFault::Device)
     }
+}
+
+/// The program's words for a command on both files.
+pub(crate) fn line(alloc: Global, command: &str) -> Result<Vec<String>, AllocError> {
+    let mut line = Vec::new(alloc);
+    for word in ["arcwcet", command, "source", "second"] {
+        line.push(String::from_str(alloc, word)?)?;
+    }
+    Ok(line)
 }

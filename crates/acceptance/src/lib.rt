@@ -1,11 +1,8 @@
-//! Tests that cross crates: worked handlers from their sources to their reports, and runs of the program
-//! over files in memory. Their expected values were worked out by hand from the price table.
+//! What no run of the program can show: calls by themselves, inputs and outputs that fail, and tables that are gone
+//! through in loops. What a run can show stands in the crate `cases`. Their expected values were worked out by hand from
+//! the price table and the formats of words.
 #![tactic(auto)]
 
-#[cfg(test)]
-mod assembly;
-#[cfg(test)]
-mod calls;
 #[cfg(test)]
 mod certificates;
 #[cfg(test)]
@@ -13,26 +10,12 @@ mod enumeration;
 #[cfg(test)]
 mod files;
 #[cfg(test)]
-mod handlers;
+mod inputs;
 #[cfg(test)]
 mod limits;
 #[cfg(test)]
 mod lines;
 #[cfg(test)]
-mod loops;
-#[cfg(test)]
-mod machine_runs;
+mod loading;
 #[cfg(test)]
 mod outputs;
-#[cfg(test)]
-mod part_writes;
-#[cfg(test)]
-mod program_runs;
-#[cfg(test)]
-mod reported_runs;
-#[cfg(test)]
-mod sessions;
-#[cfg(test)]
-mod sources;
-#[cfg(test)]
-mod support;

@@ -1,21 +1,30 @@
-//! An output that takes little.
+//! Outputs that take a text part by part, or fail within it.
 
 ghost use Rattle.std.specs.Prelude.{Some};
 
-use arcwcet::{Output, OutputFault};
+use crate::files::{Files, line};
+use arcwcet::{MemoryOutput, Output, OutputFault, ReportFault, bound_report, program, write_whole};
 use std::alloc::Global;
+use std::test::Fail;
+
+const SOURCE: &[u8] = b" ORG &1C\n SUBS PC,R14,#4\n";
+
+const STATEMENT: &[u8] = b"entry = 0x1C\n";
+
+const REPORT: &[u8] =
+    b"arcwcet certificate 1\nbound 9\nstep 1C do exit 9\nclose\nplace - 1C 0\nstop\n";
 
 /// Takes at most `step` bytes a write and `left` bytes in all, and then nothing.
 #[derive(Drop)]
-pub(crate) struct Narrow {
-    pub(crate) bytes: Vec<u8>,
-    pub(crate) failures: u64,
+struct Narrow {
+    bytes: Vec<u8>,
+    failures: u64,
     step: usize,
     left: usize,
 }
 
 impl Narrow {
-    pub(crate) fn new(alloc: Global, step: usize, left: usize) -> Narrow {
+    fn new(alloc: Global, step: usize, left: usize) -> Narrow {
         Narrow {
             bytes: Vec::new(alloc),
             failures: 0,
@@ -47,4 +56,57 @@ impl Output for Narrow {
             }
         }
     }
+}
+
+#[test]
+fn outputs_take_all(rt: HostRuntime) -> Result<(), Fail> {
+    let alloc = rt.alloc();
+    let mut memory = MemoryOutput::with_room(alloc, 3)?;
+    write_whole(&mut memory, b"abc")?;
+    let mut slow = Narrow::new(alloc, 1, 9);
+    write_whole(&mut slow, b"abc")?;
+    let mut report = MemoryOutput::with_room(alloc, 128)?;
+    bound_report(alloc, SOURCE, STATEMENT, None, &mut report)?;
+    assert_eq!(rt;
+        (
+            memory.bytes(),
+            slow.bytes.as_slice(),
+            slow.failures,
+            report.bytes()
+        ),
+        (b"abc".as_slice(), b"abc".as_slice(), 0, REPORT)
+    );
+    Ok(())
+}
+
+#[test]
+fn reports_at_each_cut(rt: HostRuntime) -> Result<(), Fail> {
+    let alloc = rt.alloc();
+    let words = line(alloc, "bound")?;
+    for (step, left) in (0..=100).flat_map(|left| [(1, left), (7, left)]) {
+        let kept = &REPORT[..REPORT.len().min(left)];
+        let (answer, status, failures) = if left < REPORT.len() {
+            (Err(ReportFault::Device), 4, 1)
+        } else {
+            (Ok(()), 0, 0)
+        };
+        let mut report = Narrow::new(alloc, step, left);
+        let found = bound_report(alloc, SOURCE, STATEMENT, None, &mut report);
+        assert_eq!(rt;
+            (found, report.bytes.as_slice(), report.failures),
+            (answer, kept, failures),
+            "at {left}"
+        );
+        let mut out = Narrow::new(alloc, step, left);
+        // What standard error takes changes no status.
+        let mut err = Narrow::new(alloc, 1, 0);
+        let mut files = Files {
+            source: SOURCE,
+            second: STATEMENT,
+        };
+        let mut input: &[u8] = b"";
+        let found = program(alloc, &words, &mut files, &mut input, &mut out, &mut err);
+        assert_eq!(rt; (found, out.bytes.as_slice()), (status, kept), "at {left}");
+    }
+    Ok(())
 }
