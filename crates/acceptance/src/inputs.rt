@@ -1,22 +1,60 @@
 //! Runs of the program over files and a standard input that are too long or fail.
 
 use crate::files::{Files, line};
-use arcwcet::{LIMIT, MemoryOutput, program};
+use arcwcet::{LIMIT, MemoryOutput, ReportFault, program};
+use std::alloc::{AllocError, Global};
 use std::io;
 use std::io::Read;
 use std::test::Fail;
 
-const COUNTDOWN: &str = "\
-start   MOV R0,#3
-again   SUBS R0,R0,#1
-        BNE again
-        SUBS PC,R14,#4
-";
+/// So many blanks, and a text behind them.
+type Source = (usize, &'static str);
+
+const COUNTDOWN: Source = (
+    0,
+    "start MOV R0,#3\nagain SUBS R0,R0,#1\n BNE again\n SUBS PC,R14,#4\n",
+);
+
+const NO_SOURCE: Source = (0, "frob");
+
+const LONG_SOURCE: Source = (LIMIT + 1, "");
 
 const MACHINE: &[u8] = b"pc = 0x8000\nmode = \"irq\"\nsteps = 8\n[registers]\nr14_irq = 0x1010\n";
 
+/// A status, and what standard output and standard error then hold.
+type Told = (u8, &'static str, &'static str);
+
+const UNKNOWN_COMMAND: Told = (0, "refused: UnknownCommand\n", "");
+
+const TOO_LONG: Told = (1, "", "refused: InputTooLong\n");
+
+const DEVICE: Told = (4, "", "refused: Device\n");
+
+/// A byte, how often it stands in standard input, and whether that fails then in place of its end.
+type Input = (u8, usize, bool);
+
+const ENDLESS: Input = (b'\n', usize::MAX, false);
+
+/// What stays of an endless input, of which a byte more than the limit is read.
+const UNREAD: usize = usize::MAX - LIMIT - 1;
+
+/// A command, its source, its input, what it tells, and how much of the input it leaves.
+type Row = (&'static str, Source, Input, Told, usize);
+
+const ROWS: [Row; 8] = [
+    ("bound", LONG_SOURCE, (b'\n', 0, false), TOO_LONG, 0),
+    ("asm", COUNTDOWN, (b'\n', 0, false), DEVICE, 0),
+    ("debug", COUNTDOWN, (b'x', LIMIT, false), UNKNOWN_COMMAND, 0),
+    ("debug", COUNTDOWN, (b'\n', 0, true), DEVICE, 0),
+    ("debug", COUNTDOWN, (b'\n', 4096, true), DEVICE, 0),
+    ("debug", COUNTDOWN, (b'\n', 8192, true), DEVICE, 0),
+    ("debug", COUNTDOWN, ENDLESS, TOO_LONG, UNREAD),
+    // The input is refused before a source that is none.
+    ("debug", NO_SOURCE, ENDLESS, TOO_LONG, UNREAD),
+];
+
 /// A reader of one byte so many times, which then ends or fails.
-#[derive(Clone, Copy, Drop)]
+#[derive(Drop)]
 struct Bytes {
     byte: u8,
     left: usize,
@@ -35,120 +73,42 @@ impl Read for Bytes {
     }
 }
 
-const EMPTY: Bytes = Bytes {
-    byte: b'\n',
-    left: 0,
-    fails: false,
-};
+fn bytes_of(alloc: Global, source: &Source) -> Result<Vec<u8>, AllocError> {
+    let (blanks, text) = source;
+    let mut bytes = vec![in alloc; b' '; *blanks]?;
+    bytes.extend_from_slice(text.as_bytes())?;
+    Ok(bytes)
+}
 
-const LONG_LINE: Bytes = Bytes {
-    byte: b'x',
-    left: LIMIT,
-    fails: false,
-};
-
-const ENDLESS: Bytes = Bytes {
-    byte: b'\n',
-    left: usize::MAX,
-    fails: false,
-};
-
-/// So many bytes and then a failure.
-const fn failing(left: usize) -> Bytes {
-    Bytes {
-        byte: b'\n',
-        left,
-        fails: true,
-    }
+/// Whether the program tells that of the command, and leaves so much of the input.
+fn is_told(alloc: Global, row: &Row) -> Result<bool, ReportFault> {
+    let (command, source, (byte, left, fails), (status, said, told), unread) = row;
+    let words = line(alloc, command)?;
+    let source = bytes_of(alloc, source)?;
+    let mut files = Files {
+        source: &source,
+        second: MACHINE,
+    };
+    let mut input = Bytes {
+        byte: *byte,
+        left: *left,
+        fails: *fails,
+    };
+    let mut out = MemoryOutput::with_room(alloc, 0)?;
+    let mut err = MemoryOutput::with_room(alloc, 0)?;
+    let found = program(alloc, &words, &mut files, &mut input, &mut out, &mut err);
+    Ok(
+        found == *status
+            && out.bytes() == said.as_bytes()
+            && err.bytes() == told.as_bytes()
+            && input.left == *unread,
+    )
 }
 
 #[test]
 fn inputs_too_long_or_failing(rt: HostRuntime) -> Result<(), Fail> {
-    let alloc = rt.alloc();
-    let long = vec![in alloc; b' '; LIMIT + 1]?;
-    let countdown = COUNTDOWN.as_bytes();
-    let rows = [
-        (
-            "bound",
-            long.as_slice(),
-            EMPTY,
-            1,
-            "",
-            "refused: InputTooLong\n",
-            0,
-        ),
-        ("asm", countdown, EMPTY, 4, "", "refused: Device\n", 0),
-        (
-            "debug",
-            countdown,
-            LONG_LINE,
-            0,
-            "refused: UnknownCommand\n",
-            "",
-            0,
-        ),
-        (
-            "debug",
-            countdown,
-            failing(0),
-            4,
-            "",
-            "refused: Device\n",
-            0,
-        ),
-        (
-            "debug",
-            countdown,
-            failing(4096),
-            4,
-            "",
-            "refused: Device\n",
-            0,
-        ),
-        (
-            "debug",
-            countdown,
-            failing(8192),
-            4,
-            "",
-            "refused: Device\n",
-            0,
-        ),
-        (
-            "debug",
-            countdown,
-            ENDLESS,
-            1,
-            "",
-            "refused: InputTooLong\n",
-            usize::MAX - LIMIT - 1,
-        ),
-        // The input is refused before a source that is none.
-        (
-            "debug",
-            b"frob",
-            ENDLESS,
-            1,
-            "",
-            "refused: InputTooLong\n",
-            usize::MAX - LIMIT - 1,
-        ),
-    ];
-    for (command, source, input, status, said, told, left) in rows {
-        let words = line(alloc, command)?;
-        let mut files = Files {
-            source,
-            second: MACHINE,
-        };
-        let mut input = input;
-        let mut out = MemoryOutput::with_room(alloc, 0)?;
-        let mut err = MemoryOutput::with_room(alloc, 0)?;
-        let found = program(alloc, &words, &mut files, &mut input, &mut out, &mut err);
-        assert_eq!(rt;
-            (found, out.bytes(), err.bytes(), input.left),
-            (status, said.as_bytes(), told.as_bytes(), left),
-            "{command}"
-        );
+    for (number, row) in ROWS.iter().enumerate() {
+        assert!(rt; is_told(rt.alloc(), row)?, "row {number}");
     }
     Ok(())
 }

@@ -59,6 +59,11 @@ fn words_of(alloc: Global, text: &str) -> Result<Vec<String>, AllocError> {
     Ok(words)
 }
 
+/// The number on a line.
+fn number(line: &[u8]) -> Option<u8> {
+    str::from_utf8(line).ok()?.trim_end().parse().ok()
+}
+
 /// The files of a case's folder.
 #[derive(Drop)]
 struct Folder<'a, R: Files> {
@@ -104,11 +109,10 @@ impl<R: Files + AllocGlobal> Folder<'_, R> {
     }
 
     fn status(&self) -> Result<u8, CaseFault> {
-        let Some(bytes) = self.read_if_any("status")? else {
-            return Ok(0);
-        };
-        let text = str::from_utf8(&bytes).map_err(|_| CaseFault::Status)?;
-        text.trim_end().parse().map_err(|_| CaseFault::Status)
+        match self.read_if_any("status")? {
+            Some(bytes) => number(&bytes).ok_or(CaseFault::Status),
+            None => Ok(0),
+        }
     }
 
     /// The image that `asm SOURCE IMAGE` is to write.

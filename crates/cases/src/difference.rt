@@ -1,8 +1,8 @@
 use std::fmt;
 use std::fmt::Write;
 
-/// A way in which a run differs from what its case wants. Bytes are counted from 1.
-#[derive(Clone, Copy, Debug, Drop)]
+/// How a run differs from what its case wants. Bytes are counted from 1.
+#[derive(Clone, Copy)]
 pub(crate) enum Difference {
     Status { found: u8, wanted: u8 },
     OutAt(usize),
@@ -22,31 +22,5 @@ impl fmt::Display for Difference {
             Difference::NoImage => write!(f, "wrote no image"),
             Difference::ImageUnwanted => write!(f, "wrote an image, where none is wanted"),
         }
-    }
-}
-
-/// What was found about a case: how its run differs from what it wants, if it does.
-#[derive(Debug, Drop)]
-pub(crate) struct Judgement {
-    pub(crate) differences: Vec<Difference>,
-}
-
-impl Judgement {
-    pub(crate) fn holds(&self) -> bool {
-        self.differences.is_empty()
-    }
-}
-
-impl fmt::Display for Judgement {
-    fn fmt<W: Write>(&self, f: &mut fmt::Formatter<W>) -> fmt::Result {
-        if self.differences.is_empty() {
-            return write!(f, "ok");
-        }
-        let mut between = "";
-        for difference in &self.differences {
-            write!(f, "{between}{difference}")?;
-            between = "; ";
-        }
-        Ok(())
     }
 }

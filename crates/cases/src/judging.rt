@@ -1,9 +1,8 @@
 use crate::case::{Case, CaseFault, read_case};
 use crate::case_store::CaseStore;
-use crate::difference::{Difference, Judgement};
+use crate::difference::Difference;
 use crate::wanted::first_difference;
 use arcwcet::{MemoryOutput, program};
-use std::alloc::{AllocError, Global};
 use std::rt::Files;
 
 /// What a run of the program gave.
@@ -15,44 +14,36 @@ struct Found<'a> {
     image: &'a Option<Vec<u8>>,
 }
 
-/// How the image that was written differs from the one that is wanted.
-fn image_difference(wanted: &Option<Vec<u8>>, found: &Option<Vec<u8>>) -> Option<Difference> {
-    match (wanted, found) {
-        (Some(wanted), Some(found)) => first_difference(wanted, found).map(Difference::ImageAt),
+/// The first difference, where there is one.
+fn difference(case: &Case, found: Found<'_>) -> Option<Difference> {
+    if found.status != case.status {
+        return Some(Difference::Status {
+            found: found.status,
+            wanted: case.status,
+        });
+    }
+    if let Some(at) = case.out.differs_at(found.out) {
+        return Some(Difference::OutAt(at));
+    }
+    if let Some(at) = case.err.differs_at(found.err) {
+        return Some(Difference::ErrAt(at));
+    }
+    match (&case.image, found.image) {
+        (Some(wanted), Some(found)) => match first_difference(wanted, found) {
+            Some(at) => Some(Difference::ImageAt(at)),
+            None => None,
+        },
         (Some(_), None) => Some(Difference::NoImage),
         (None, Some(_)) => Some(Difference::ImageUnwanted),
         (None, None) => None,
     }
 }
 
-/// How what the program wrote, and its status, differ from what the case wants.
-fn differences_of(
-    alloc: Global,
-    case: &Case,
-    found: Found<'_>,
-) -> Result<Vec<Difference>, AllocError> {
-    let status = if found.status == case.status {
-        None
-    } else {
-        Some(Difference::Status {
-            found: found.status,
-            wanted: case.status,
-        })
-    };
-    let out = case.out.differs_at(found.out).map(Difference::OutAt);
-    let err = case.err.differs_at(found.err).map(Difference::ErrAt);
-    let image = image_difference(&case.image, found.image);
-    let mut differences = Vec::new(alloc);
-    for difference in [status, out, err, image] {
-        if let Some(difference) = difference {
-            differences.push(difference)?;
-        }
-    }
-    Ok(differences)
-}
-
 /// Judges the case in the folder of that name.
-pub(crate) fn judge<R: Files + AllocGlobal>(rt: &R, name: &str) -> Result<Judgement, CaseFault> {
+pub(crate) fn judge<R: Files + AllocGlobal>(
+    rt: &R,
+    name: &str,
+) -> Result<Option<Difference>, CaseFault> {
     let alloc = rt.alloc();
     let case = read_case(rt, name)?;
     let mut store = CaseStore::new(rt, name);
@@ -73,6 +64,5 @@ pub(crate) fn judge<R: Files + AllocGlobal>(rt: &R, name: &str) -> Result<Judgem
         err: err.bytes(),
         image: &store.written,
     };
-    let differences = differences_of(alloc, &case, found)?;
-    Ok(Judgement { differences })
+    Ok(difference(&case, found))
 }

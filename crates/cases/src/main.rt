@@ -1,5 +1,5 @@
-//! Judges the program `arcwcet` by the cases in `data/`: a line for each, in the order of their names, and a line of
-//! counts. It fails where a case does. A case is a folder with
+//! Judges the program `arcwcet` by the cases in `data/`: a line for each, in the order of their names, with `ok` or the
+//! first difference, and a line of counts. It fails where a case does. A case is a folder with
 //!
 //! - `args`: the words behind the program's name, a word a line; those that name files name files of the folder;
 //! - the files that the words name, and in `stdin` the standard input, else it is empty;
@@ -39,11 +39,10 @@ fn main(rt: HostRuntime) -> io::Result<ExitCode> {
     let mut failed = 0u64;
     for name in &names {
         match judge(&rt, name.as_str()) {
-            Ok(judgement) => {
-                println!(rt; "{name}: {judgement}")?;
-                if !judgement.holds() {
-                    failed = failed.saturating_add(1);
-                }
+            Ok(None) => println!(rt; "{name}: ok")?,
+            Ok(Some(difference)) => {
+                println!(rt; "{name}: {difference}")?;
+                failed = failed.saturating_add(1);
             }
             Err(fault) => {
                 println!(rt; "{name}: {fault}")?;

@@ -1,7 +1,7 @@
 use std::cmp::min;
 
 /// What a stream is to hold.
-#[derive(Debug, Drop)]
+#[derive(Drop)]
 pub(crate) enum Wanted {
     /// These bytes.
     Whole(Vec<u8>),
