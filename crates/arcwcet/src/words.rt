@@ -1,24 +1,42 @@
 ghost use Rattle.std.specs.Prelude.{◌≡◌, ◌≢◌, IfOk, IfErr, Some, None, false, option_map, option_and_then};
 ghost use Rattle.clap.specs.Matches.{found_of};
-ghost use Rattle.clap.specs.Simple.{app_of};
+ghost use Rattle.clap.specs.Simple.{app_of, with_subcommand};
 ghost use Rattle.clap.specs.Walk.{rows_of, rule_of};
 ghost use Rattle.clap.specs.Words.{kind_of, subcommand_rows_of};
 ghost use Rattle.clap.specs.declared.builder.command.Command.TheViews.{out-Command};
-ghost use Rattle.arcwcet.specs.Line.{arcwcet_command, asked_asm, asked_by, asked_check, asked_in, asked_of, asm_command, check_command, names_in as names_of_rows, names_of, priced_command};
+ghost use Rattle.arcwcet.specs.Line.{arcwcet_command, asked_asm, asked_by, asked_check, asked_in, asked_of, asm_command, bound_command, check_command, debug_command, names_in as names_of_rows, names_of, priced_command, profile_rule, run_command, trace_command, wanted};
 
 use crate::line::{LineFault, Names, Request};
 use clap::error::ErrorKind;
 use clap::{Arg, ArgMatches, Command, Error};
 use std::alloc::{AllocError, Global};
 
+/// An argument that has to be there, in its place.
+fn wanted<'a>(alloc: Global, id: &'a str) -> Arg<'a>
+    ensures rule { rule_of result ≡ wanted id.entry.now }
+    ensures local { result.global ≡ false }
+{
+    Arg::new(alloc, id).required(true)
+}
+
+/// `--profile FILE`.
+fn profile<'a>(alloc: Global) -> Arg<'a>
+    ensures rule { rule_of result ≡ profile_rule }
+    ensures local { result.global ≡ false }
+{
+    Arg::new(alloc, "profile")
+        .long("profile")
+        .value_name("FILE")
+}
+
 /// The command `asm SOURCE IMAGE`.
 fn asm<'a>(alloc: Global) -> Result<Command<'a>, AllocError>
     ensures shape { IfOk result (λ c. app_of c ≡ asm_command) }
     ensures no_globals { IfOk result (λ c. (out-Command c).has_globals ≡ false) }
 {
-    let source = Arg::new(alloc, "source").required(true);
-    let image = Arg::new(alloc, "image").required(true);
-    Command::new(alloc, "asm").arg(source)?.arg(image)
+    Command::new(alloc, "asm")
+        .arg(wanted(alloc, "source"))?
+        .arg(wanted(alloc, "image"))
 }
 
 /// A command `NAME SOURCE SECOND` with a cycle profile.
@@ -26,15 +44,10 @@ fn priced<'a>(alloc: Global, name: &'a str, second: &'a str) -> Result<Command<'
     ensures shape { IfOk result (λ c. app_of c ≡ priced_command name.now second.now) }
     ensures no_globals { IfOk result (λ c. (out-Command c).has_globals ≡ false) }
 {
-    let profile = Arg::new(alloc, "profile")
-        .long("profile")
-        .value_name("FILE");
-    let source = Arg::new(alloc, "source").required(true);
-    let second = Arg::new(alloc, second).required(true);
     Command::new(alloc, name)
-        .arg(profile)?
-        .arg(source)?
-        .arg(second)
+        .arg(profile(alloc))?
+        .arg(wanted(alloc, "source"))?
+        .arg(wanted(alloc, second))
 }
 
 /// The command `check SOURCE STATEMENT CERT`.
@@ -42,28 +55,46 @@ fn check<'a>(alloc: Global) -> Result<Command<'a>, AllocError>
     ensures shape { IfOk result (λ c. app_of c ≡ check_command) }
     ensures no_globals { IfOk result (λ c. (out-Command c).has_globals ≡ false) }
 {
-    let cert = Arg::new(alloc, "cert").required(true);
-    priced(alloc, "check", "statement")?.arg(cert)
+    priced(alloc, "check", "statement")?.arg(wanted(alloc, "cert"))
+}
+
+/// A command with one more that has a cycle profile, `NAME SOURCE SECOND`.
+fn with_priced<'a>(
+    alloc: Global,
+    command: Command<'a>,
+    name: &'a str,
+    second: &'a str,
+) -> Result<Command<'a>, AllocError>
+    ensures { IfOk result (λ c. app_of c ≡ with_subcommand (app_of command.entry) (priced_command name.entry.now second.entry.now).top) }
+{
+    command.subcommand(priced(alloc, name, second)?)
+}
+
+/// A command with those that run a machine.
+fn with_machine<'a>(alloc: Global, command: Command<'a>) -> Result<Command<'a>, AllocError>
+    ensures { IfOk result (λ c. app_of c ≡ with_subcommand (with_subcommand (with_subcommand (app_of command.entry) run_command.top) trace_command.top) debug_command.top) }
+{
+    let command = with_priced(alloc, command, "run", "machine")?;
+    let command = with_priced(alloc, command, "trace", "machine")?;
+    with_priced(alloc, command, "debug", "machine")
+}
+
+/// A command with those about a handler's longest run time.
+fn with_analysis<'a>(alloc: Global, command: Command<'a>) -> Result<Command<'a>, AllocError>
+    ensures { IfOk result (λ c. app_of c ≡ with_subcommand (with_subcommand (app_of command.entry) bound_command.top) check_command.top) }
+{
+    let command = with_priced(alloc, command, "bound", "statement")?;
+    command.subcommand(check(alloc)?)
 }
 
 /// The program's command.
 fn arcwcet<'a>(alloc: Global) -> Result<Command<'a>, AllocError>
     ensures { IfOk result (λ c. app_of c ≡ arcwcet_command) }
 {
-    let asm = asm(alloc)?;
-    let run = priced(alloc, "run", "machine")?;
-    let trace = priced(alloc, "trace", "machine")?;
-    let debug = priced(alloc, "debug", "machine")?;
-    let bound = priced(alloc, "bound", "statement")?;
-    let check = check(alloc)?;
-    Command::new(alloc, "arcwcet")
-        .subcommand_required(true)
-        .subcommand(asm)?
-        .subcommand(run)?
-        .subcommand(trace)?
-        .subcommand(debug)?
-        .subcommand(bound)?
-        .subcommand(check)
+    let command = Command::new(alloc, "arcwcet").subcommand_required(true);
+    let command = command.subcommand(asm(alloc)?)?;
+    let command = with_machine(alloc, command)?;
+    with_analysis(alloc, command)
 }
 
 /// The names of a profile's file, if there is one, and of two others.

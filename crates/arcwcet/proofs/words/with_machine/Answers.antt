@@ -1,0 +1,10 @@
+use Rattle.std.proofs.Common.{◌∙◌, ap}
+use Rattle.std.proofs.lemmas.Result.{IfOk-weaker}
+use Rattle.clap.specs.Simple.{App, with_subcommand}
+use Rattle.arcwcet.specs.Line.{debug_command, trace_command}
+use Rattle.arcwcet.proofs.words.with_machine.Goals as goal
+
+pub returns : goal.returns
+returns c =
+    let two = c.in_ok-command-2.ensures ∙ ap (λ (a : App). with_subcommand a trace_command.top) c.in_ok-command.ensures in
+    IfOk-weaker c.with_priced-3.result _ _ (λ r h. h ∙ ap (λ (a : App). with_subcommand a debug_command.top) two) c.with_priced-3.ensures
