@@ -3,7 +3,6 @@ pub mod CheckLemmas
 pub mod FileLemmas
 pub mod Fronts
 pub mod HandlerLemmas
-pub mod LineLaws
 pub mod MachineLemmas
 pub mod ReportLemmas
 pub mod RunLemmas

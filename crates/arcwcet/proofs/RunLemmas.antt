@@ -7,7 +7,7 @@ use Rattle.arcwcet.specs.Bound.{Reports}
 use Rattle.arcwcet.specs.Check.{Checks, IsAnswer, IsCheckRefused, IsCheckable}
 use Rattle.arcwcet.specs.Debug.{IsDebugReport}
 use Rattle.arcwcet.specs.Files.{FailsToRead, ReadsAll, Reading, Texts, in_front}
-use Rattle.arcwcet.specs.Line.{Asked, asm, run, trace, debug, bound, check}
+use Rattle.command_line.specs.Line.{Asked, asm, run, trace, debug, bound, check}
 use Rattle.arcwcet.specs.Machine.{Front, IsMachineReport, IsRunRefused, IsRunnable, ShowsRegisters, ShowsSteps}
 use Rattle.arcwcet.specs.Priced.{ByProfile, HasNoProfile, IsUnpriced, Priced, PricedFault}
 use Rattle.arcwcet.specs.Assembly.{IsSourceRefused}

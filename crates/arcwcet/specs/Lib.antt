@@ -7,7 +7,6 @@ pub mod Faults
 pub mod Files
 pub mod Keeping
 pub mod Kept
-pub mod Line
 pub mod Machine
 pub mod Output
 pub mod Priced

@@ -6,7 +6,7 @@ use Rattle.arcwcet.specs.Assembly.{IsSourceRefused, IsWritten}
 use Rattle.arcwcet.specs.Check.{IsAnswer, IsCheckRefused}
 use Rattle.arcwcet.specs.Debug.{IsDebugReport}
 use Rattle.arcwcet.specs.Files.{FailsToRead, ReadsAll, Reading, Texts, in_front}
-use Rattle.arcwcet.specs.Line.{Asked, asm, run, trace, debug, bound, check}
+use Rattle.command_line.specs.Line.{Asked, asm, run, trace, debug, bound, check}
 use Rattle.arcwcet.specs.Machine.{Front, IsMachineReport, IsRunRefused, ShowsRegisters, ShowsSteps}
 use Rattle.arcwcet.specs.Output.{TakesFront, FailsSince}
 use Rattle.arcwcet.specs.Priced.{ByProfile, PricedFault}

@@ -1,10 +1,12 @@
-ghost use Rattle.std.specs.Prelude.{◌≢◌, IfErr, IfOk, OnOk, option_map};
+ghost use Rattle.std.specs.Prelude.{◌≢◌, List, ℕ, IfErr, IfOk, OnOk, option_map};
+ghost use Rattle.bus_ticks.specs.declared.profile.Profile.{Profile as Prices};
+ghost use Rattle.flow_graph.specs.Flow.{IsWellFormed};
 ghost use Rattle.arcwcet.specs.Bound.{Reports};
 ghost use Rattle.arcwcet.specs.Priced.{Priced};
-ghost use Rattle.arcwcet.specs.Report.{IsAccepted, IsRefused, IsReport};
+ghost use Rattle.arcwcet.specs.Report.{HasLoops, IsAccepted, IsRefused, IsReport, IsTreeOf};
 
 use crate::fault::ReportFault;
-use crate::handler::read_handler;
+use crate::handler::{Handler, read_handler};
 use crate::output::Output;
 use crate::priced::profile_of;
 use crate::whole::write_whole;
@@ -26,6 +28,20 @@ fn text_of(
     ensures fault { IfErr result (λ e. (e ≢ ReportFault.Device) × IsRefused source.now statement.now profile.now e) }
 {
     let handler = read_handler(alloc, source, statement, profile)?;
+    longest_text(alloc, &handler)
+}
+
+// The report of a handler that was read.
+fn longest_text(alloc: Global, handler: &Handler) -> Result<Vec<u8>, ReportFault>
+    requires formed { IsWellFormed handler.now.graph }
+    requires tree { IsTreeOf handler.now.graph handler.now.statement.loops handler.now.tree }
+    ensures report { (source statement : List ℕ) (profile : Prices) → HasLoops source statement profile handler.now.statement handler.now.graph
+        → IfOk result (λ v. IsReport source statement profile v.items) }
+    ensures accepted { (source statement : List ℕ) (profile : Prices) → HasLoops source statement profile handler.now.statement handler.now.graph
+        → OnOk result (IsAccepted source statement profile) }
+    ensures fault { (source statement : List ℕ) (profile : Prices) → HasLoops source statement profile handler.now.statement handler.now.graph
+        → IfErr result (λ e. (e ≢ ReportFault.Device) × IsRefused source statement profile e) }
+{
     let found = longest(alloc, &handler.graph, &handler.tree)?;
     run_law();
     longest_gets_yes();

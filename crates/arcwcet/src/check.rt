@@ -1,9 +1,11 @@
-ghost use Rattle.std.specs.Prelude.{◌≡◌, ◌≢◌, ◌↔◌, IfErr, IfOk, IsTrue, option_map};
+ghost use Rattle.std.specs.Prelude.{◌≡◌, ◌≢◌, ◌↔◌, List, ℕ, IfErr, IfOk, IsTrue, option_map};
+ghost use Rattle.bus_ticks.specs.declared.profile.Profile.{Profile as Prices};
 ghost use Rattle.arcwcet.specs.Priced.{Priced};
 ghost use Rattle.arcwcet.specs.Check.{Checks, IsCheckable, IsCheckRefused, IsJudged, objection_line, verdict_line};
+ghost use Rattle.arcwcet.specs.Report.{HasLoops, IsTreeOf};
 
 use crate::fault::ReportFault;
-use crate::handler::read_handler;
+use crate::handler::{Handler, read_handler};
 use crate::output::Output;
 use crate::priced::profile_of;
 use crate::whole::write_whole;
@@ -59,6 +61,18 @@ fn verdict_of(
     ensures only { IsCheckable source.now statement.now cert.now profile.now → IfErr result (λ e. e ≡ ReportFault.Memory) }
 {
     let handler = read_handler(alloc, source, statement, profile)?;
+    verdict_on(alloc, &handler, cert)
+}
+
+// The same, by a handler that was read.
+fn verdict_on(alloc: Global, handler: &Handler, cert: &[u8]) -> Result<Verdict, ReportFault>
+    requires { IsTreeOf handler.now.graph handler.now.statement.loops handler.now.tree }
+    ensures judged { (source statement : List ℕ) (profile : Prices) → HasLoops source statement profile handler.now.statement handler.now.graph
+        → IfOk result (IsJudged source statement cert.now profile) }
+    ensures fault { (source statement : List ℕ) (profile : Prices) → HasLoops source statement profile handler.now.statement handler.now.graph
+        → IfErr result (λ e. (e ≢ ReportFault.Device) × IsCheckRefused source statement cert.now profile e) }
+    ensures only { (source statement : List ℕ) (profile : Prices) → IsCheckable source statement cert.now profile → IfErr result (λ e. e ≡ ReportFault.Memory) }
+{
     let read = read_cert(alloc, cert)?;
     let verdict = check(alloc, &handler.graph, &handler.tree, &read)?;
     Ok(verdict)

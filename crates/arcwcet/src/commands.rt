@@ -8,13 +8,13 @@ use crate::check::check_report;
 use crate::debug::debug_report;
 use crate::fault::ReportFault;
 use crate::files::{read_check_files, read_files};
-use crate::line::Names;
 use crate::machine::{run_report, trace_report};
 use crate::output::Output;
 use crate::read::read_limited;
 use crate::store::Store;
 use crate::told::{told_answer, told_report, told_store};
 use crate::whole::write_whole;
+use command_line::Names;
 use std::alloc::Global;
 use std::io::Read;
 

@@ -2,8 +2,8 @@ ghost use Rattle.std.specs.Prelude.{◌≡◌, [], ◌∷◌, IfOk, IfErr, optio
 ghost use Rattle.arcwcet.specs.Files.{FailsToRead, ReadsAll, in_front};
 
 use crate::fault::StoreFault;
-use crate::line::Names;
 use crate::store::Store;
+use command_line::Names;
 use std::alloc::Global;
 
 /// The bytes of two files, and of a cycle profile's where one is named.

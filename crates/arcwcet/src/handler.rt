@@ -1,9 +1,12 @@
-ghost use Rattle.std.specs.Prelude.{IfErr, IfOk};
+ghost use Rattle.std.specs.Prelude.{◌≡◌, List, ℕ, Ok, IfErr, IfOk};
+ghost use Rattle.loader.specs.Labels.{address_of};
 ghost use Rattle.flow_graph.specs.Flow.{IsWellFormed};
 ghost use Rattle.arcwcet.specs.Report.{HasLoops, IsHandlerRefused, IsTreeOf};
+ghost use Rattle.arcwcet.specs.Source.{source_of};
 
 use crate::fault::ReportFault;
 use crate::source::read_source;
+use assembler::Assembly;
 use bus_ticks::Profile;
 use flow_graph::{Graph, Statement, build, read_statement};
 use loop_bounds::{LoopTree, nest};
@@ -30,6 +33,23 @@ pub(crate) fn read_handler(
     ensures fault { IfErr result (IsHandlerRefused source.now statement.now profile.now) }
 {
     let said = read_source(alloc, source)?;
+    handler_of(alloc, &said, statement, profile)
+}
+
+// The same, of a source that was read.
+fn handler_of(
+    alloc: Global,
+    said: &Assembly,
+    statement: &[u8],
+    profile: &Profile,
+) -> Result<Handler, ReportFault>
+    ensures loops { (source : List ℕ) → source_of source ≡ Ok (said.now.image, address_of said.now.labels)
+        → IfOk result (λ h. HasLoops source statement.now profile.now h.statement h.graph) }
+    ensures formed { IfOk result (λ h. IsWellFormed h.graph) }
+    ensures tree { IfOk result (λ h. IsTreeOf h.graph h.statement.loops h.tree) }
+    ensures fault { (source : List ℕ) → source_of source ≡ Ok (said.now.image, address_of said.now.labels)
+        → IfErr result (IsHandlerRefused source statement.now profile.now) }
+{
     let statement = read_statement(alloc, statement, &said.labels)?;
     let graph = build(alloc, &said.image, &statement, profile)?;
     let tree = nest(alloc, &graph, &statement)?;

@@ -11,7 +11,6 @@ mod fault;
 mod files;
 mod handler;
 mod law;
-mod line;
 mod machine;
 mod memory_output;
 mod output;
@@ -23,7 +22,6 @@ mod store;
 mod stream_output;
 mod told;
 mod whole;
-mod words;
 
 pub use assembly::asm_report;
 pub use bound::bound_report;

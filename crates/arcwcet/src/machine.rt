@@ -1,9 +1,12 @@
-ghost use Rattle.std.specs.Prelude.{◌≡◌, ◌≢◌, ◌++◌, IfErr, IfOk, OnOk, option_map, string_bytes};
+ghost use Rattle.std.specs.Prelude.{◌≡◌, ◌≢◌, ◌++◌, List, ℕ, Ok, IfErr, IfOk, OnOk, option_map, string_bytes};
 ghost use Rattle.std.specs.Io.KnownBytes.{Appends};
+ghost use Rattle.bus_ticks.specs.declared.profile.Profile.{Profile as Prices};
+ghost use Rattle.loader.specs.Labels.{address_of};
 ghost use Rattle.arcwcet.specs.Answers.{Answers};
-ghost use Rattle.arcwcet.specs.Machine.{IsLoaded, IsMachineReport, IsPlaced, IsRunRefused, IsRunnable, ShowsRegisters, ShowsSteps, end_text};
+ghost use Rattle.arcwcet.specs.Machine.{IsMachineReport, IsPlaced, IsRunRefused, IsRunnable, ShowsRegisters, ShowsSteps, end_text};
 ghost use Rattle.arcwcet.specs.Output.{FailsSince, TakesFront};
 ghost use Rattle.arcwcet.specs.Priced.{Priced};
+ghost use Rattle.arcwcet.specs.Source.{source_of};
 
 use crate::fault::ReportFault;
 use crate::output::Output;
@@ -11,7 +14,8 @@ use crate::priced::profile_of;
 use crate::source::read_source;
 use crate::whole::write_whole;
 use arm2_effect::address_of;
-use arm2_exec::{Input, Machine, Ran, Reg};
+use arm2_exec::{Machine, Ran, Reg};
+use assembler::Assembly;
 use bus_ticks::Profile;
 use loader::loading::load;
 use machine_file::{MachineFile, read_machine};
@@ -37,17 +41,25 @@ pub(crate) fn place(
     ensures only { IsRunnable source.now machine.now profile → IfErr result (λ e. e ≡ ReportFault.Memory) }
 {
     let said = read_source(alloc, source)?;
+    place_image(alloc, &said, machine, profile)
+}
+
+// The same, of a source that was read.
+fn place_image(
+    alloc: Global,
+    said: &Assembly,
+    machine: &[u8],
+    profile: Profile,
+) -> Result<Placed, ReportFault>
+    ensures placed { (source : List ℕ) → source_of source ≡ Ok (said.now.image, address_of said.now.labels)
+        → IfOk result (λ p. IsPlaced source machine.now profile p.file p.machine) }
+    ensures fault { (source : List ℕ) → source_of source ≡ Ok (said.now.image, address_of said.now.labels)
+        → IfErr result (λ e. (e ≢ ReportFault.Device) × IsRunRefused source machine.now profile e) }
+{
     let file = read_machine(alloc, machine)?;
     let mut machine = file.machine(alloc, profile)?;
     load(alloc, &mut machine, &said.image)?;
     Ok(Placed { file, machine })
-}
-
-/// The same, and the inputs of its steps.
-#[derive(Drop)]
-struct Loaded {
-    machine: Machine,
-    inputs: Vec<Input>,
 }
 
 /// A report's text, and whether the run did all its steps.
@@ -55,24 +67,6 @@ struct Loaded {
 struct Shown {
     text: String,
     done: bool,
-}
-
-fn start(
-    alloc: Global,
-    source: &[u8],
-    machine: &[u8],
-    profile: Profile,
-) -> Result<Loaded, ReportFault>
-    ensures loaded { IfOk result (λ l. IsLoaded source.now machine.now profile l.machine l.inputs.items) }
-    ensures fault { IfErr result (λ e. (e ≢ ReportFault.Device) × IsRunRefused source.now machine.now profile e) }
-    ensures only { IsRunnable source.now machine.now profile → IfErr result (λ e. e ≡ ReportFault.Memory) }
-{
-    let placed = place(alloc, source, machine, profile)?;
-    let inputs = placed.file.inputs(alloc)?;
-    Ok(Loaded {
-        machine: placed.machine,
-        inputs,
-    })
 }
 
 // Why and where the machine stopped, if it did, and the ticks of the run.
@@ -95,11 +89,21 @@ fn shown_run(
     ensures fault { IfErr result (λ e. (e ≢ ReportFault.Device) × IsRunRefused source.now machine.now profile e) }
     ensures only { IsRunnable source.now machine.now profile → IfErr result (λ e. e ≡ ReportFault.Memory) }
 {
-    let mut loaded = start(alloc, source, machine, profile)?;
-    let ran = loaded.machine.run(&loaded.inputs);
+    let mut placed = place(alloc, source, machine, profile)?;
+    run_text(alloc, &mut placed)
+}
+
+// The report of a machine that has its image.
+fn run_text(alloc: Global, placed: &mut Placed) -> Result<Shown, ReportFault>
+    ensures shown { (source machine : List ℕ) (profile : Prices) → IsPlaced source machine profile placed.old.file placed.old.machine
+        → IfOk result (λ s. IsMachineReport ShowsRegisters source machine profile s.done (string_bytes s.text)) }
+    ensures memory { IfErr result (λ e. e ≡ ReportFault.Memory) }
+{
+    let inputs = placed.file.inputs(alloc)?;
+    let ran = placed.machine.run(&inputs);
     let mut text = String::new(alloc);
-    write_registers(&mut text, &loaded.machine)?;
-    put_end(&mut text, &loaded.machine, &ran)?;
+    write_registers(&mut text, &placed.machine)?;
+    put_end(&mut text, &placed.machine, &ran)?;
     Ok(Shown {
         text,
         done: ran.stopped.is_none(),
@@ -116,10 +120,20 @@ fn shown_trace(
     ensures fault { IfErr result (λ e. (e ≢ ReportFault.Device) × IsRunRefused source.now machine.now profile e) }
     ensures only { IsRunnable source.now machine.now profile → IfErr result (λ e. e ≡ ReportFault.Memory) }
 {
-    let mut loaded = start(alloc, source, machine, profile)?;
+    let mut placed = place(alloc, source, machine, profile)?;
+    steps_text(alloc, &mut placed)
+}
+
+// The lines of the steps of a machine that has its image.
+fn steps_text(alloc: Global, placed: &mut Placed) -> Result<Shown, ReportFault>
+    ensures shown { (source machine : List ℕ) (profile : Prices) → IsPlaced source machine profile placed.old.file placed.old.machine
+        → IfOk result (λ s. IsMachineReport ShowsSteps source machine profile s.done (string_bytes s.text)) }
+    ensures memory { IfErr result (λ e. e ≡ ReportFault.Memory) }
+{
+    let inputs = placed.file.inputs(alloc)?;
     let mut text = String::new(alloc);
-    let ran = write_run(&mut text, &mut loaded.machine, &loaded.inputs)?;
-    put_end(&mut text, &loaded.machine, &ran)?;
+    let ran = write_run(&mut text, &mut placed.machine, &inputs)?;
+    put_end(&mut text, &placed.machine, &ran)?;
     Ok(Shown {
         text,
         done: ran.stopped.is_none(),

@@ -1,13 +1,12 @@
 ghost use Rattle.std.specs.Prelude.{◌≡◌, ◌≢◌, ◌⊎◌, None, Some};
-ghost use Rattle.arcwcet.specs.Line.{Asked, asked_in, asked_of};
+ghost use Rattle.command_line.specs.Line.{Asked, asked_in, asked_of};
 ghost use Rattle.arcwcet.specs.Run.{RunsAsked};
 
 use crate::commands::{run_asm, run_bound, run_check, run_debug, run_run, run_trace};
-use crate::line::Request;
 use crate::output::Output;
 use crate::store::Store;
 use crate::told::told_line;
-use crate::words::request;
+use command_line::{Request, request};
 use std::alloc::Global;
 use std::io::Read;
 

@@ -2,9 +2,9 @@ ghost use Rattle.std.specs.Prelude.{◌≡◌, ◌≢◌, ◌⊎◌};
 ghost use Rattle.arcwcet.specs.Run.{answer_status, report_status, store_status};
 
 use crate::fault::{ReportFault, StoreFault};
-use crate::line::LineFault;
 use crate::output::Output;
 use crate::whole::write_whole;
+use command_line::LineFault;
 use std::fmt;
 use std::fmt::Write;
 

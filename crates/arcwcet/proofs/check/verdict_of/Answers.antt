@@ -1,8 +1,6 @@
-use Rattle.std.proofs.Common.{◌≡◌, ◌≢◌, Ok, ap, refl}
-use Rattle.arcwcet.specs.Check.{IsCheckRefused}
-use Rattle.arcwcet.specs.Faults.{of_cert}
-use Rattle.arcwcet.specs.declared.fault.ReportFault.TheVariants.{Device, Memory}
-use Rattle.arcwcet.proofs.CheckLemmas.{cert_refusal, checkable_refusal, judged, readable_refusal}
+use Rattle.std.proofs.Common.{◌≡◌}
+use Rattle.arcwcet.specs.declared.fault.ReportFault.TheVariants.{Memory}
+use Rattle.arcwcet.proofs.CheckLemmas.{checkable_refusal}
 use Rattle.arcwcet.proofs.HandlerLemmas.{refused_as}
 use Rattle.arcwcet.proofs.check.verdict_of.Goals as goal
 
@@ -12,27 +10,14 @@ returns-in_err-handler-clause-only c = λ able.
     refused_as c.from_residual.result e (λ e. e ≡ Memory) c.from_residual.ensures.1
     (checkable_refusal c.args.source.now c.args.statement.now c.args.cert.now c.args.profile.now e c.in_err-handler.ensures.fault able)
 
-pub returns-in_err-read-clause-fault : goal.returns-in_err-read-clause-fault
-returns-in_err-read-clause-fault c =
-    let h = c.in_ok-handler.handler in
-    let f = c.in_err-read.field-0.0 in
-    refused_as c.from_residual-in_err-read.result (of_cert f) (λ e. (e ≢ Device) × IsCheckRefused c.args.source.now c.args.statement.now c.args.cert.now c.args.profile.now e) c.from_residual-in_err-read.ensures.1
-    (cert_refusal c.args.source.now c.args.statement.now c.args.cert.now c.args.profile.now h.statement h.graph f c.in_ok-handler.ensures.loops
-    c.in_err-read.ensures.bad_line c.in_err-read.ensures.truncated c.in_err-read.ensures.trailing)
-
-pub returns-in_err-read-clause-only : goal.returns-in_err-read-clause-only
-returns-in_err-read-clause-only c = λ able.
-    let f = c.in_err-read.field-0.0 in
-    refused_as c.from_residual-in_err-read.result (of_cert f) (λ e. e ≡ Memory) c.from_residual-in_err-read.ensures.1
-    (readable_refusal c.args.source.now c.args.statement.now c.args.cert.now c.args.profile.now f c.in_err-read.ensures.only able)
-
-pub returns-in_err-verdict-clause-only : goal.returns-in_err-verdict-clause-only
-returns-in_err-verdict-clause-only c = λ able.
-    refused_as c.from_residual-in_err-verdict.result Memory (λ e. e ≡ Memory) c.from_residual-in_err-verdict.ensures.1 refl
-
-pub returns-clause-judged : goal.returns-clause-judged
-returns-clause-judged c =
-    let h = c.in_ok-handler.handler in
-    judged c.args.source.now c.args.statement.now c.args.cert.now c.args.profile.now h.statement h.graph h.tree c.in_ok-read.read c.in_ok-verdict.verdict
-    c.in_ok-handler.ensures.loops c.in_ok-handler.ensures.tree c.in_ok-read.ensures.found c.in_ok-verdict.ensures.verdict
-    (λ yes. c.in_ok-verdict.ensures.greatest (ap Ok yes))
+pub returns : goal.returns
+returns c =
+    let source = c.args.source.now in
+    let statement = c.args.statement.now in
+    let profile = c.args.profile.now in
+    let loops = c.in_ok-handler.ensures.loops in
+    record {
+      judged = c.verdict_on.ensures.judged source statement profile loops;
+      fault = c.verdict_on.ensures.fault source statement profile loops;
+      only = c.verdict_on.ensures.only source statement profile;
+    }

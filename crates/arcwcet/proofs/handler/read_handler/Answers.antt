@@ -1,9 +1,6 @@
-use Rattle.std.proofs.Common.{rules, subst}
 use Rattle.loader.specs.Labels.{address_of}
-use Rattle.flow_graph.specs.Flow.{IsWellFormed}
-use Rattle.arcwcet.specs.Faults.{of_graph, of_loops, of_statement}
-use Rattle.arcwcet.specs.Report.{HasGraph, IsHandlerRefused}
-use Rattle.arcwcet.proofs.HandlerLemmas.{graph_refusal, loops_refusal, refused_as, source_refusal, statement_refusal}
+use Rattle.arcwcet.specs.Report.{IsHandlerRefused}
+use Rattle.arcwcet.proofs.HandlerLemmas.{refused_as, source_refusal}
 use Rattle.arcwcet.proofs.handler.read_handler.Goals as goal
 
 pub returns-in_err-said-clause-fault : goal.returns-in_err-said-clause-fault
@@ -12,49 +9,12 @@ returns-in_err-said-clause-fault c =
     refused_as c.from_residual.result e (IsHandlerRefused c.args.source.now c.args.statement.now c.args.profile.now) c.from_residual.ensures.1
     (source_refusal c.args.source.now c.args.statement.now c.args.profile.now e c.in_err-said.ensures.fault)
 
-pub returns-in_err-statement-clause-fault : goal.returns-in_err-statement-clause-fault
-returns-in_err-statement-clause-fault c =
-    let said = c.in_ok-said.said in
-    let f = c.in_err-statement.field-0.0 in
-    refused_as c.from_residual-in_err-statement.result (of_statement f) (IsHandlerRefused c.args.source.now c.args.statement.now c.args.profile.now) c.from_residual-in_err-statement.ensures.1
-    (statement_refusal c.args.source.now c.args.statement.now c.args.profile.now said.image (address_of said.labels) c.in_ok-said.ensures.said f (search rules))
-
-pub returns-in_err-graph-clause-fault : goal.returns-in_err-graph-clause-fault
-returns-in_err-graph-clause-fault c =
-    let said = c.in_ok-said.said in
-    let f = c.in_err-graph.field-0.0 in
-    refused_as c.from_residual-in_err-graph.result (of_graph f) (IsHandlerRefused c.args.source.now c.args.statement.now c.args.profile.now) c.from_residual-in_err-graph.ensures.1
-    (graph_refusal c.args.source.now c.args.statement.now c.args.profile.now said.image (address_of said.labels) c.in_ok-said.ensures.said c.in_ok-statement.statement (c.in_ok-statement.ensures (λ e. cc e)) f (search rules))
-
-pub returns-in_err-tree-clause-fault : goal.returns-in_err-tree-clause-fault
-returns-in_err-tree-clause-fault c =
-    let said = c.in_ok-said.said in
-    let f = c.in_err-tree.field-0.0 in
-    let graph : HasGraph c.args.source.now c.args.statement.now c.args.profile.now c.in_ok-statement.statement c.in_ok-graph.graph = record {
-      words = said.image;
-      names = address_of said.labels;
-      source_is = c.in_ok-said.ensures.said;
-      statement_is = c.in_ok-statement.ensures (λ e. cc e);
-      no_fault = c.in_ok-graph.ensures.allowed;
-      graph_is = c.in_ok-graph.ensures.graph;
-    } in
-    refused_as c.from_residual-in_err-tree.result (of_loops f) (IsHandlerRefused c.args.source.now c.args.statement.now c.args.profile.now) c.from_residual-in_err-tree.ensures.1
-    (loops_refusal c.args.source.now c.args.statement.now c.args.profile.now c.in_ok-statement.statement c.in_ok-graph.graph f graph (search rules))
-
-pub returns-clause-loops : goal.returns-clause-loops
-returns-clause-loops c =
-    let said = c.in_ok-said.said in
+pub returns : goal.returns
+returns c =
+    let source = c.args.source.now in
     record {
-      graph = record {
-        words = said.image;
-        names = address_of said.labels;
-        source_is = c.in_ok-said.ensures.said;
-        statement_is = c.in_ok-statement.ensures (λ e. cc e);
-        no_fault = c.in_ok-graph.ensures.allowed;
-        graph_is = c.in_ok-graph.ensures.graph;
-      };
-      no_fault = c.in_ok-tree.ensures.allowed;
+      loops = c.handler_of.ensures.loops source c.in_ok-said.ensures.said;
+      formed = c.handler_of.ensures.formed;
+      tree = c.handler_of.ensures.tree;
+      fault = c.handler_of.ensures.fault source c.in_ok-said.ensures.said;
     }
-
-pub returns-clause-formed : goal.returns-clause-formed
-returns-clause-formed c = subst IsWellFormed c.graph.view_is c.graph.invariant

@@ -1,47 +1,14 @@
-use Rattle.std.proofs.Common.{◌≡◌, refl}
-use Rattle.loader.specs.Labels.{address_of}
-use Rattle.arcwcet.specs.Faults.{of_load, of_machine_file}
-use Rattle.arcwcet.specs.declared.fault.ReportFault.TheVariants.{Memory}
-use Rattle.arcwcet.proofs.HandlerLemmas.{refused_as}
-use Rattle.arcwcet.proofs.MachineLemmas.{Refused, file_refuses, load_refuses, runnable_memory}
+use Rattle.std.proofs.Common.{◌≢◌}
+use Rattle.std.proofs.lemmas.Result.{IfErr-weaker}
+use Rattle.arcwcet.proofs.MachineLemmas.{runnable_memory}
 use Rattle.arcwcet.proofs.machine.place.Goals as goal
 
-pub returns-in_err-file-clause-fault : goal.returns-in_err-file-clause-fault
-returns-in_err-file-clause-fault c =
-    let said = c.in_ok-said.said in
-    let f = c.in_err-file.field-0.0 in
-    refused_as c.from_residual-in_err-file.result (of_machine_file f) (Refused c.args.source.now c.args.machine.now c.args.profile) c.from_residual-in_err-file.ensures.1
-    (file_refuses c.args.source.now c.args.machine.now c.args.profile said.image (address_of said.labels) c.in_ok-said.ensures.said f (λ other. c.in_err-file.ensures (λ e. other (cc e))))
-
-pub returns-in_err-machine-clause-only : goal.returns-in_err-machine-clause-only
-returns-in_err-machine-clause-only c = λ able. refused_as c.from_residual-in_err-machine.result Memory (λ e. e ≡ Memory) c.from_residual-in_err-machine.ensures.1 refl
-
-pub returns-in_err-load-clause-fault : goal.returns-in_err-load-clause-fault
-returns-in_err-load-clause-fault c =
-    let said = c.in_ok-said.said in
-    let f = c.in_err-load.field-0.0 in
-    refused_as c.from_residual-in_err-load.result (of_load f) (Refused c.args.source.now c.args.machine.now c.args.profile) c.from_residual-in_err-load.ensures.1
-    (load_refuses c.args.source.now c.args.machine.now c.args.profile said.image (address_of said.labels) c.in_ok-said.ensures.said c.in_ok-file.file (c.in_ok-file.ensures (λ e. cc e))
-    c.in_ok-machine.machine c.in_ok-machine.ensures f c.in_err-load.ensures.fault)
-
-pub returns-in_err-load-clause-only : goal.returns-in_err-load-clause-only
-returns-in_err-load-clause-only c = λ able.
-    let said = c.in_ok-said.said in
-    let f = c.in_err-load.field-0.0 in
-    refused_as c.from_residual-in_err-load.result (of_load f) (λ e. e ≡ Memory) c.from_residual-in_err-load.ensures.1
-    (runnable_memory c.args.source.now c.args.machine.now c.args.profile (of_load f)
-    (load_refuses c.args.source.now c.args.machine.now c.args.profile said.image (address_of said.labels) c.in_ok-said.ensures.said c.in_ok-file.file (c.in_ok-file.ensures (λ e. cc e))
-    c.in_ok-machine.machine c.in_ok-machine.ensures f c.in_err-load.ensures.fault)
-    able)
-
-pub returns-clause-placed : goal.returns-clause-placed
-returns-clause-placed c =
-    let said = c.in_ok-said.said in
+pub returns : goal.returns
+returns c =
+    let source = c.args.source.now in
+    let said = c.in_ok-said.ensures.said in
     record {
-      words = said.image;
-      start = c.in_ok-machine.machine;
-      stated = record { names = address_of said.labels; source_is = c.in_ok-said.ensures.said; file_is = c.in_ok-file.ensures (λ e. cc e) };
-      started = c.in_ok-machine.ensures;
-      fits = c.in_ok-load.ensures.fits;
-      loaded = c.in_ok-load.ensures.ok;
+      placed = c.place_image.ensures.placed source said;
+      fault = c.place_image.ensures.fault source said;
+      only = λ able. IfErr-weaker c.place_image.result _ _ (λ e h. runnable_memory source c.args.machine.now c.args.profile e h able) (c.place_image.ensures.fault source said);
     }

@@ -9,7 +9,7 @@ use Rattle.clap.specs.Values.{kind_of}
 use Rattle.clap.specs.declared.error.Error.{Error}
 use Rattle.clap.specs.declared.error.kind.ErrorKind.TheVariants.{OutOfMemory}
 use Rattle.clap.specs.declared.error.kind.ErrorKind.{ErrorKind}
-use Rattle.arcwcet.specs.Line.{Asked, arcwcet_command, asked, asked_by, unless_refused}
+use Rattle.command_line.specs.Line.{Asked, arcwcet_command, asked, asked_by, unless_refused}
 
 shut : (kinds : Kinds) (x : Option Asked) (k : ErrorKind) → IsAmong k kinds → unless_refused kinds x ≡ None
 shut [] x k among = absurd among

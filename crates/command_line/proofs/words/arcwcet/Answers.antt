@@ -1,8 +1,8 @@
 use Rattle.std.proofs.Common.{◌≡◌, ◌∙◌, ap, ap₂, true}
 use Rattle.std.proofs.lemmas.Result.{IfOk-weaker}
 use Rattle.clap.specs.Simple.{App, Shape, app_of, app_of_fields, on_top, with_subcommand}
-use Rattle.arcwcet.specs.Line.{arcwcet_top, asm_command, bound_command, check_command, debug_command, run_command, trace_command}
-use Rattle.arcwcet.proofs.words.arcwcet.Goals as goal
+use Rattle.command_line.specs.Line.{arcwcet_top, asm_command, bound_command, check_command, debug_command, run_command, trace_command}
+use Rattle.command_line.proofs.words.arcwcet.Goals as goal
 
 pub returns : goal.returns
 returns c =

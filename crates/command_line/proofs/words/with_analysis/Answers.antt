@@ -1,8 +1,8 @@
 use Rattle.std.proofs.Common.{◌≡◌, ◌∙◌, ap, ap₂}
 use Rattle.std.proofs.lemmas.Result.{IfOk-weaker}
 use Rattle.clap.specs.Simple.{App, app_of, with_subcommand}
-use Rattle.arcwcet.specs.Line.{check_command}
-use Rattle.arcwcet.proofs.words.with_analysis.Goals as goal
+use Rattle.command_line.specs.Line.{check_command}
+use Rattle.command_line.proofs.words.with_analysis.Goals as goal
 
 pub returns : goal.returns
 returns c =

@@ -1,8 +1,8 @@
 use Rattle.std.proofs.Common.{◌∙◌, map, string_bytes, sym}
 use Rattle.clap.specs.Simple.{app_of}
 use Rattle.clap.specs.Words.{subcommand_rows_of}
-use Rattle.arcwcet.proofs.LineLaws.{asked_of_matches, asked_of_error}
-use Rattle.arcwcet.proofs.words.request.Goals as goal
+use Rattle.command_line.proofs.LineLaws.{asked_of_matches, asked_of_error}
+use Rattle.command_line.proofs.words.request.Goals as goal
 
 pub returns-in-Some-clause-read : goal.returns-in-Some-clause-read
 returns-in-Some-clause-read c =

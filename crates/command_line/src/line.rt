@@ -2,15 +2,15 @@ use clap::Error;
 
 /// The names of two files, and of a cycle profile's where one is given.
 #[derive(Clone, Copy)]
-pub(crate) struct Names<'a> {
-    pub(crate) profile: Option<&'a str>,
-    pub(crate) first: &'a str,
-    pub(crate) second: &'a str,
+pub struct Names<'a> {
+    pub profile: Option<&'a str>,
+    pub first: &'a str,
+    pub second: &'a str,
 }
 
 /// What a line of words asks for, with the names of its files.
 #[derive(Clone, Copy)]
-pub(crate) enum Request<'a> {
+pub enum Request<'a> {
     /// The image of a source.
     Asm { source: &'a str, image: &'a str },
     /// The registers and the ticks of a run of a source's image, by a machine file.
@@ -27,7 +27,7 @@ pub(crate) enum Request<'a> {
 
 /// Why a line of words asks for nothing.
 #[derive(Drop)]
-pub(crate) enum LineFault {
+pub enum LineFault {
     /// A growth was refused.
     Memory,
     /// The command-line crate's own refusal, or its help.

@@ -4,7 +4,7 @@ ghost use Rattle.clap.specs.Simple.{app_of, with_subcommand};
 ghost use Rattle.clap.specs.Walk.{rows_of, rule_of};
 ghost use Rattle.clap.specs.Words.{kind_of, subcommand_rows_of};
 ghost use Rattle.clap.specs.declared.builder.command.Command.TheViews.{out-Command};
-ghost use Rattle.arcwcet.specs.Line.{arcwcet_command, asked_asm, asked_by, asked_check, asked_in, asked_of, asm_command, bound_command, check_command, debug_command, names_in as names_of_rows, names_of, priced_command, profile_rule, run_command, trace_command, wanted};
+ghost use Rattle.command_line.specs.Line.{arcwcet_command, asked_asm, asked_by, asked_check, asked_in, asked_of, asm_command, bound_command, check_command, debug_command, names_in as names_of_rows, names_of, priced_command, profile_rule, run_command, trace_command, wanted};
 
 use crate::line::{LineFault, Names, Request};
 use clap::error::ErrorKind;
@@ -166,7 +166,7 @@ fn line_fault(error: Error) -> LineFault
 }
 
 /// What the words ask for, the program's name first.
-pub(crate) fn request<'a>(alloc: Global, words: &'a [String]) -> Result<Request<'a>, LineFault>
+pub fn request<'a>(alloc: Global, words: &'a [String]) -> Result<Request<'a>, LineFault>
     ensures read { IfOk result (λ q. asked_in words.entry.now ≡ Some (asked_of q)) }
     ensures refused { IfErr result (λ e. e ≢ LineFault.Memory → asked_in words.entry.now ≡ None) }
 {

@@ -1,9 +1,9 @@
-use Rattle.std.proofs.Common.{◌∙◌, Some, None, codes, option_map, ap, ap₂}
+use Rattle.std.proofs.Common.{◌∙◌, codes, option_map, ap, ap₂}
 use Rattle.clap.specs.Walk.{first_of, rows_of}
 use Rattle.clap.specs.Matches.{found_of}
 use Rattle.clap.proofs.WalkLemmas.{first_value-rows}
-use Rattle.arcwcet.specs.Line.{asked_of, asm_of}
-use Rattle.arcwcet.proofs.words.asm_in.Goals as goal
+use Rattle.command_line.specs.Line.{asked_of, asm_of}
+use Rattle.command_line.proofs.words.asm_in.Goals as goal
 
 pub returns : goal.returns
 returns c =

@@ -1,8 +1,8 @@
 use Rattle.std.proofs.Common.{◌∙◌, ap}
 use Rattle.std.proofs.lemmas.Result.{IfOk-weaker}
 use Rattle.clap.specs.Simple.{App, with_subcommand}
-use Rattle.arcwcet.specs.Line.{debug_command, trace_command}
-use Rattle.arcwcet.proofs.words.with_machine.Goals as goal
+use Rattle.command_line.specs.Line.{debug_command, trace_command}
+use Rattle.command_line.proofs.words.with_machine.Goals as goal
 
 pub returns : goal.returns
 returns c =

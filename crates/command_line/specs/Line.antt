@@ -6,9 +6,9 @@ use Rattle.clap.specs.Walk.{Row, Rule, Text, first_of}
 use Rattle.clap.specs.Simple.{App, new_app, new_rule, on_top, subcommand_of, with_rule, with_subcommand}
 use Rattle.clap.specs.Faults.{fault_of}
 use Rattle.clap.specs.Kinds.{Kinds}
-use Rattle.arcwcet.specs.declared.line.Request.{Request}
-use Rattle.arcwcet.specs.declared.line.Request.TheVariants as request
-use Rattle.arcwcet.specs.declared.line.Names.{Names}
+use Rattle.command_line.specs.declared.line.Request.{Request}
+use Rattle.command_line.specs.declared.line.Request.TheVariants as request
+use Rattle.command_line.specs.declared.line.Names.{Names}
 
 -- an argument that has to be there, in its place
 abbrev pub wanted : Text → Rule

@@ -1,9 +1,9 @@
-use Rattle.std.proofs.Common.{◌∙◌, Some, None, codes, option_map, ap, ap₂}
+use Rattle.std.proofs.Common.{◌∙◌, Some, codes, option_map, ap, ap₂}
 use Rattle.clap.specs.Walk.{first_of, rows_of}
 use Rattle.clap.specs.Matches.{found_of}
 use Rattle.clap.proofs.WalkLemmas.{first_value-rows}
-use Rattle.arcwcet.specs.Line.{named, names_of}
-use Rattle.arcwcet.proofs.words.names_in.Goals as goal
+use Rattle.command_line.specs.Line.{named, names_of}
+use Rattle.command_line.proofs.words.names_in.Goals as goal
 
 pub returns : goal.returns
 returns c =
