@@ -1,5 +1,5 @@
 -- Files that are read one after another, a cycle profile's first.
-use Rattle.std.proofs.Common.{◌≡◌, ℕ, List, [], ◌∷◌, Option, Some, None, Err, subst, inl, inr}
+use Rattle.std.proofs.Common.{ℕ, List, [], ◌∷◌, Option, Some, None, Err, subst, inl, inr}
 use Rattle.arcwcet.specs.Files.{FailsToRead, ReadsAll, Reading, Texts, in_front}
 use Rattle.arcwcet.specs.declared.fault.StoreFault.{StoreFault}
 

@@ -1,6 +1,6 @@
 -- A machine file states one machine, and what the refusals of a run say.
-use Rattle.std.proofs.Common.{◌≡◌, ◌≢◌, ◌∙◌, ◌⊎◌, ◌<◌, ◌≤◌, ◌*◌, ◌^◌, ◌||◌, ℕ, Bool, true, false, List, [], ◌∷◌, length, Option, Some, None, Result, Ok, Err, refl, sym, ap, subst, inl, inr, ⊎_elim, arith, cond}
-use Rattle.std.specs.Prelude.{◌↔◌, IsTrue, is_some, not, slice_index_or}
+use Rattle.std.proofs.Common.{◌≡◌, ◌≢◌, ◌∙◌, ◌⊎◌, ◌*◌, ◌^◌, ◌||◌, ℕ, Bool, true, false, List, [], ◌∷◌, length, Option, Some, None, Result, Ok, Err, refl, sym, ap, subst, inl, inr, ⊎_elim, arith}
+use Rattle.std.specs.Prelude.{◌↔◌, IsTrue, is_some, not}
 use Rattle.arm2_effect.specs.declared.done.Why.{Why}
 use Rattle.std.proofs.lemmas.Bool.{cases_lt}
 use Rattle.std.proofs.lemmas.List.{ext_get_or}
@@ -19,13 +19,13 @@ use Rattle.memc.specs.declared.memory.ControlFields.{ControlFields}
 use Rattle.memc.specs.declared.spots.PageSize.{PageSize}
 use Rattle.memc.specs.declared.spots.PageSize.TheVariants.{K4, K8, K16, K32}
 use Rattle.machine_file.specs.MachineFile.{IsMachineFile, machine_in}
-use Rattle.machine_file.specs.Started.{IsController, IsMap, IsResetMap, IsStarted}
+use Rattle.machine_file.specs.Started.{IsController, IsMap, IsStarted}
 use Rattle.machine_file.specs.Stated.{Controller, Stated}
 use Rattle.machine_file.specs.declared.machine_faults.MachineFileFault.{MachineFileFault}
 use Rattle.machine_file.specs.declared.machine_faults.MachineFileFault.TheVariants as machine_fault
 use Rattle.machine_file.specs.declared.pages.MappedPage.{MappedPage}
 use Rattle.arcwcet.specs.Faults.{of_load, of_machine_file}
-use Rattle.arcwcet.specs.Machine.{Front, IsFileRefused, IsMachineReport, IsLoadRefused, IsRunRefused, IsRunnable, IsStated}
+use Rattle.arcwcet.specs.Machine.{Front, IsFileRefused, IsMachineReport, IsRunRefused, IsRunnable, IsStated}
 use Rattle.arcwcet.specs.Source.{IsSourceFault, Said, source_of}
 use Rattle.statement.specs.Statement.{Names}
 use Rattle.arcwcet.specs.declared.fault.ReportFault.{ReportFault}

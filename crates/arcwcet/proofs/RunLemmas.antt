@@ -1,5 +1,5 @@
 -- What a run of a command did, from what its reads and its call gave.
-use Rattle.std.proofs.Common.{◌≡◌, ◌≢◌, ◌∙◌, ◌≤◌, ℕ, Bool, true, false, List, [], ◌∷◌, length, Option, Some, None, Result, Ok, Err, refl, sym, ap, ap₂, subst, inl, inr, arith}
+use Rattle.std.proofs.Common.{◌≡◌, ◌≢◌, ◌∙◌, ◌≤◌, ℕ, Bool, true, false, List, [], ◌∷◌, length, Option, Some, None, Result, Ok, Err, refl, sym, ap, subst, inl, inr, arith}
 use Rattle.std.specs.Io.KnownBytes.{Consumes, IsAtEnd}
 use Rattle.bus_ticks.specs.declared.profile.Profile.{Profile}
 use Rattle.arcwcet.specs.Answers.{Answers, FailsWithin, OfSome}
@@ -9,10 +9,10 @@ use Rattle.arcwcet.specs.Debug.{IsDebugReport}
 use Rattle.arcwcet.specs.Files.{FailsToRead, ReadsAll, Reading, Texts, in_front}
 use Rattle.command_line.specs.Line.{Asked, asm, run, trace, debug, bound, check}
 use Rattle.arcwcet.specs.Machine.{Front, IsMachineReport, IsRunRefused, IsRunnable, ShowsRegisters, ShowsSteps}
-use Rattle.arcwcet.specs.Priced.{ByProfile, HasNoProfile, IsUnpriced, Priced, PricedFault}
+use Rattle.arcwcet.specs.Priced.{ByProfile, HasNoProfile, Priced, PricedFault}
 use Rattle.arcwcet.specs.Assembly.{IsSourceRefused}
 use Rattle.arcwcet.specs.Report.{IsAccepted, IsRefused, IsReport}
-use Rattle.arcwcet.specs.Run.{FailsBefore, FailsToHear, HasNoReport, HasNoRun, HasNoVerdict, HasHeard, HasPrinted, IsAnswerOf, IsReportOf, IsRunOf, IsSessionOf, OfThree, OfTwo, Runs, RunsAsked, RunsAsm, RunsBound, RunsCheck, RunsDebug, RunsMachine, Writing, answer_status, report_status, store_status}
+use Rattle.arcwcet.specs.Run.{HasNoReport, HasNoRun, HasNoVerdict, HasHeard, HasPrinted, IsAnswerOf, IsReportOf, IsRunOf, IsSessionOf, OfThree, OfTwo, Runs, RunsAsked, RunsAsm, RunsBound, RunsCheck, RunsDebug, RunsMachine, Writing, answer_status, report_status, store_status}
 use Rattle.arcwcet.specs.declared.fault.ReportFault.{ReportFault}
 use Rattle.arcwcet.specs.declared.fault.ReportFault.TheVariants.{Memory, Source, Image, Statement, Graph, Loops, Walk, MachineFile, Load, Cert, Device}
 use Rattle.arcwcet.specs.declared.fault.ReportFault.TheVariants as report_fault

@@ -1,6 +1,5 @@
 -- What reading a source tells.
-use Rattle.std.proofs.Common.{◌≡◌, ◌∙◌, ◌⊎◌, ℕ, Bool, true, false, List, Result, Ok, Err, ap, cond, inl, inr, sym}
-use Rattle.std.specs.Prelude.{IfErr}
+use Rattle.std.proofs.Common.{◌≡◌, ◌∙◌, ◌⊎◌, ℕ, Bool, true, false, List, Ok, Err, ap, cond, inl, inr, sym}
 use Rattle.loader.specs.Image.{Words}
 use Rattle.loader.specs.ImageBytes.{image_read}
 use Rattle.loader.specs.declared.reading.ReadFault.{ReadFault}
@@ -11,7 +10,7 @@ use Rattle.assembler.specs.Views.{FaultedAt}
 use Rattle.assembler.specs.declared.fault.AsmFault.{AsmFault}
 use Rattle.assembler.specs.declared.fault.AsmFault.TheVariants as asm_fault
 use Rattle.arcwcet.specs.Faults.{of_image, of_source}
-use Rattle.arcwcet.specs.Source.{IsSourceFault, Said, is_image, no_names, said_by_image, said_by_text, source_of}
+use Rattle.arcwcet.specs.Source.{IsSourceFault, is_image, no_names, said_by_image, said_by_text, source_of}
 
 said_image : (source : List ℕ) → is_image source ≡ true → source_of source ≡ said_by_image (image_read source)
 unfolding source_of

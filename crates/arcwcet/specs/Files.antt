@@ -1,5 +1,5 @@
 -- Reading of files from a store, one after another. Our own.
-use Rattle.std.specs.Prelude.{◌≡◌, ◌⊎◌, ◌++◌, ℕ, List, [], ◌∷◌, Option, Some, None, Result, Ok, Err}
+use Rattle.std.specs.Prelude.{◌≡◌, ◌⊎◌, ℕ, List, [], ◌∷◌, Option, Some, None, Result, Ok, Err}
 use Rattle.arcwcet.specs.declared.fault.StoreFault.{StoreFault}
 
 -- the names of files, or their bytes

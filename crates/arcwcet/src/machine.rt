@@ -3,7 +3,7 @@ ghost use Rattle.std.specs.Io.KnownBytes.{Appends};
 ghost use Rattle.bus_ticks.specs.declared.profile.Profile.{Profile as Prices};
 ghost use Rattle.loader.specs.Labels.{address_of};
 ghost use Rattle.arcwcet.specs.Answers.{Answers};
-ghost use Rattle.arcwcet.specs.Machine.{IsMachineReport, IsPlaced, IsRunRefused, IsRunnable, ShowsRegisters, ShowsSteps, end_text};
+ghost use Rattle.arcwcet.specs.Machine.{IsMachineReport, IsPlaced, IsRunRefused, IsRunnable, IsStated, ShowsRegisters, ShowsSteps, end_text};
 ghost use Rattle.arcwcet.specs.Output.{FailsSince, TakesFront};
 ghost use Rattle.arcwcet.specs.Priced.{Priced};
 ghost use Rattle.arcwcet.specs.Source.{source_of};
@@ -17,6 +17,7 @@ use arm2_effect::address_of;
 use arm2_exec::{Machine, Ran, Reg};
 use assembler::Assembly;
 use bus_ticks::Profile;
+use loader::image::Image;
 use loader::loading::load;
 use machine_file::{MachineFile, read_machine};
 use std::alloc::{AllocError, Global};
@@ -57,9 +58,25 @@ fn place_image(
         → IfErr result (λ e. (e ≢ ReportFault.Device) × IsRunRefused source machine.now profile e) }
 {
     let file = read_machine(alloc, machine)?;
-    let mut machine = file.machine(alloc, profile)?;
-    load(alloc, &mut machine, &said.image)?;
+    let machine = loaded(alloc, &said.image, &file, profile)?;
     Ok(Placed { file, machine })
+}
+
+// The file's machine with the image.
+fn loaded(
+    alloc: Global,
+    image: &Image,
+    file: &MachineFile,
+    profile: Profile,
+) -> Result<Machine, ReportFault>
+    ensures loaded { (source machine : List ℕ) → IsStated source machine image.now file.now
+        → IfOk result (λ m. IsPlaced source machine profile file.now m) }
+    ensures fault { (source machine : List ℕ) → IsStated source machine image.now file.now
+        → IfErr result (λ e. (e ≢ ReportFault.Device) × IsRunRefused source machine profile e) }
+{
+    let mut machine = file.machine(alloc, profile)?;
+    load(alloc, &mut machine, image)?;
+    Ok(machine)
 }
 
 /// A report's text, and whether the run did all its steps.

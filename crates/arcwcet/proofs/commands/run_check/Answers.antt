@@ -1,4 +1,4 @@
-use Rattle.std.proofs.Common.{[], ◌∷◌, List, ℕ, option_map, sym, subst}
+use Rattle.std.proofs.Common.{[], ◌∷◌, option_map, sym, subst}
 use Rattle.arcwcet.specs.Files.{ReadsAll, Texts, in_front}
 use Rattle.arcwcet.proofs.RunLemmas.{check_ran}
 use Rattle.arcwcet.proofs.commands.run_check.Goals as goal

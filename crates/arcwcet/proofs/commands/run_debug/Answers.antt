@@ -1,7 +1,7 @@
 use Rattle.std.proofs.Common.{◌≤◌, [], ◌∷◌, List, ℕ, length, option_map, rules, sym, subst}
 use Rattle.std.specs.Io.KnownBytes.{Consumes}
 use Rattle.arcwcet.specs.Files.{ReadsAll, Texts, in_front}
-use Rattle.arcwcet.proofs.RunLemmas.{debug_done, debug_refused, debug_unheard, debug_unread}
+use Rattle.arcwcet.proofs.RunLemmas.{debug_done, debug_refused}
 use Rattle.arcwcet.proofs.commands.run_debug.Goals as goal
 
 pub returns-in-Ok-debug_report-clause-ran : goal.returns-in-Ok-debug_report-clause-ran

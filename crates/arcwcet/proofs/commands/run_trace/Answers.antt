@@ -1,4 +1,4 @@
-use Rattle.std.proofs.Common.{[], ◌∷◌, List, ℕ, option_map, sym, subst}
+use Rattle.std.proofs.Common.{[], ◌∷◌, option_map, sym, subst}
 use Rattle.arcwcet.specs.Files.{ReadsAll, Texts, in_front}
 use Rattle.arcwcet.specs.Machine.{ShowsSteps}
 use Rattle.arcwcet.proofs.RunLemmas.{machine_ran}

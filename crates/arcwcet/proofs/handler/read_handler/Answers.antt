@@ -1,4 +1,3 @@
-use Rattle.loader.specs.Labels.{address_of}
 use Rattle.arcwcet.specs.Report.{IsHandlerRefused}
 use Rattle.arcwcet.proofs.HandlerLemmas.{refused_as, source_refusal}
 use Rattle.arcwcet.proofs.handler.read_handler.Goals as goal

@@ -1,4 +1,3 @@
-use Rattle.std.proofs.Common.{◌≢◌}
 use Rattle.std.proofs.lemmas.Result.{IfErr-weaker}
 use Rattle.arcwcet.proofs.MachineLemmas.{runnable_memory}
 use Rattle.arcwcet.proofs.machine.place.Goals as goal

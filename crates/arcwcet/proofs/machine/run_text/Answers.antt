@@ -1,4 +1,4 @@
-use Rattle.std.proofs.Common.{◌≡◌, ◌∙◌, ◌++◌, ℕ, List, refl, ap, subst, string_bytes}
+use Rattle.std.proofs.Common.{◌∙◌, ◌++◌, ℕ, List, refl, ap, subst}
 use Rattle.arm2_exec.specs.Run.{Runs}
 use Rattle.arm2_exec.specs.declared.machine.Input.{Input}
 use Rattle.trace_text.specs.TraceText.{registers_text}

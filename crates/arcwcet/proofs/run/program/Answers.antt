@@ -1,5 +1,5 @@
-use Rattle.std.proofs.Common.{◌≡◌, ◌∙◌, ℕ, Option, Some, None, sym, subst, inl, inr}
-use Rattle.command_line.specs.Line.{Asked, asked_in, asked_of}
+use Rattle.std.proofs.Common.{◌≡◌, ◌∙◌, ℕ, Some, None, sym, subst, inl, inr}
+use Rattle.command_line.specs.Line.{Asked, asked_of}
 use Rattle.arcwcet.specs.Run.{RunsAsked}
 use Rattle.arcwcet.proofs.RunLemmas.{starved_asked}
 use Rattle.arcwcet.proofs.run.program.Goals as goal

@@ -1,4 +1,4 @@
-use Rattle.std.proofs.Common.{◌≡◌, true, false, rules, ap, ◌∙◌}
+use Rattle.std.proofs.Common.{◌≡◌, true, false, rules, ap}
 use Rattle.loader.specs.Labels.{address_of}
 use Rattle.arcwcet.specs.Faults.{of_image, of_source}
 use Rattle.arcwcet.specs.Source.{IsSourceFault, is_image}

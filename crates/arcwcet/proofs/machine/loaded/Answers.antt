@@ -1,0 +1,22 @@
+use Rattle.arcwcet.specs.Faults.{of_load}
+use Rattle.arcwcet.proofs.HandlerLemmas.{refused_as}
+use Rattle.arcwcet.proofs.MachineLemmas.{Refused, load_refuses}
+use Rattle.arcwcet.proofs.machine.loaded.Goals as goal
+
+pub returns-in_err-load-clause-fault : goal.returns-in_err-load-clause-fault
+returns-in_err-load-clause-fault c = λ source machine is.
+    let f = c.in_err-load.field-0.0 in
+    refused_as c.from_residual-in_err-load.result (of_load f) (Refused source machine c.args.profile) c.from_residual-in_err-load.ensures.1
+    (load_refuses source machine c.args.profile c.args.image.now is.names is.source_is c.args.file.now is.file_is
+    c.in_ok-machine.machine c.in_ok-machine.ensures f c.in_err-load.ensures.fault)
+
+pub returns-clause-loaded : goal.returns-clause-loaded
+returns-clause-loaded c = λ source machine is.
+    record {
+      words = c.args.image.now;
+      start = c.in_ok-machine.machine;
+      stated = is;
+      started = c.in_ok-machine.ensures;
+      fits = c.in_ok-load.ensures.fits;
+      loaded = c.in_ok-load.ensures.ok;
+    }
