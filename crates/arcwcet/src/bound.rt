@@ -1,5 +1,5 @@
 ghost use Rattle.std.specs.Prelude.{◌≢◌, List, ℕ, IfErr, IfOk, OnOk, option_map};
-ghost use Rattle.bus_ticks.specs.declared.profile.Profile.{Profile as Prices};
+ghost use Rattle.bus_ticks.specs.declared.profile.Profile.{Profile};
 ghost use Rattle.flow_graph.specs.Flow.{IsWellFormed};
 ghost use Rattle.arcwcet.specs.Bound.{Reports};
 ghost use Rattle.arcwcet.specs.Priced.{Priced};
@@ -35,11 +35,11 @@ fn text_of(
 fn longest_text(alloc: Global, handler: &Handler) -> Result<Vec<u8>, ReportFault>
     requires formed { IsWellFormed handler.now.graph }
     requires tree { IsTreeOf handler.now.graph handler.now.statement.loops handler.now.tree }
-    ensures report { (source statement : List ℕ) (profile : Prices) → HasLoops source statement profile handler.now.statement handler.now.graph
+    ensures report { (source statement : List ℕ) (profile : Profile) → HasLoops source statement profile handler.now.statement handler.now.graph
         → IfOk result (λ v. IsReport source statement profile v.items) }
-    ensures accepted { (source statement : List ℕ) (profile : Prices) → HasLoops source statement profile handler.now.statement handler.now.graph
+    ensures accepted { (source statement : List ℕ) (profile : Profile) → HasLoops source statement profile handler.now.statement handler.now.graph
         → OnOk result (IsAccepted source statement profile) }
-    ensures fault { (source statement : List ℕ) (profile : Prices) → HasLoops source statement profile handler.now.statement handler.now.graph
+    ensures fault { (source statement : List ℕ) (profile : Profile) → HasLoops source statement profile handler.now.statement handler.now.graph
         → IfErr result (λ e. (e ≢ ReportFault.Device) × IsRefused source statement profile e) }
 {
     let found = longest(alloc, &handler.graph, &handler.tree)?;

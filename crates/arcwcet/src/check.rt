@@ -1,5 +1,5 @@
 ghost use Rattle.std.specs.Prelude.{◌≡◌, ◌≢◌, ◌↔◌, List, ℕ, IfErr, IfOk, IsTrue, option_map};
-ghost use Rattle.bus_ticks.specs.declared.profile.Profile.{Profile as Prices};
+ghost use Rattle.bus_ticks.specs.declared.profile.Profile.{Profile};
 ghost use Rattle.arcwcet.specs.Priced.{Priced};
 ghost use Rattle.arcwcet.specs.Check.{Checks, IsCheckable, IsCheckRefused, IsJudged, objection_line, verdict_line};
 ghost use Rattle.arcwcet.specs.Report.{HasLoops, IsTreeOf};
@@ -67,11 +67,11 @@ fn verdict_of(
 // The same, by a handler that was read.
 fn verdict_on(alloc: Global, handler: &Handler, cert: &[u8]) -> Result<Verdict, ReportFault>
     requires { IsTreeOf handler.now.graph handler.now.statement.loops handler.now.tree }
-    ensures judged { (source statement : List ℕ) (profile : Prices) → HasLoops source statement profile handler.now.statement handler.now.graph
+    ensures judged { (source statement : List ℕ) (profile : Profile) → HasLoops source statement profile handler.now.statement handler.now.graph
         → IfOk result (IsJudged source statement cert.now profile) }
-    ensures fault { (source statement : List ℕ) (profile : Prices) → HasLoops source statement profile handler.now.statement handler.now.graph
+    ensures fault { (source statement : List ℕ) (profile : Profile) → HasLoops source statement profile handler.now.statement handler.now.graph
         → IfErr result (λ e. (e ≢ ReportFault.Device) × IsCheckRefused source statement cert.now profile e) }
-    ensures only { (source statement : List ℕ) (profile : Prices) → IsCheckable source statement cert.now profile → IfErr result (λ e. e ≡ ReportFault.Memory) }
+    ensures only { (source statement : List ℕ) (profile : Profile) → IsCheckable source statement cert.now profile → IfErr result (λ e. e ≡ ReportFault.Memory) }
 {
     let read = read_cert(alloc, cert)?;
     let verdict = check(alloc, &handler.graph, &handler.tree, &read)?;

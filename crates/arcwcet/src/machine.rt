@@ -1,6 +1,6 @@
 ghost use Rattle.std.specs.Prelude.{◌≡◌, ◌≢◌, ◌++◌, List, ℕ, Ok, IfErr, IfOk, OnOk, option_map, string_bytes};
 ghost use Rattle.std.specs.Io.KnownBytes.{Appends};
-ghost use Rattle.bus_ticks.specs.declared.profile.Profile.{Profile as Prices};
+ghost use Rattle.bus_ticks.specs.declared.profile.Profile.{Profile};
 ghost use Rattle.loader.specs.Labels.{address_of};
 ghost use Rattle.arcwcet.specs.Answers.{Answers};
 ghost use Rattle.arcwcet.specs.Machine.{IsMachineReport, IsPlaced, IsRunRefused, IsRunnable, IsStated, ShowsRegisters, ShowsSteps, end_text};
@@ -112,7 +112,7 @@ fn shown_run(
 
 // The report of a machine that has its image.
 fn run_text(alloc: Global, placed: &mut Placed) -> Result<Shown, ReportFault>
-    ensures shown { (source machine : List ℕ) (profile : Prices) → IsPlaced source machine profile placed.old.file placed.old.machine
+    ensures shown { (source machine : List ℕ) (profile : Profile) → IsPlaced source machine profile placed.old.file placed.old.machine
         → IfOk result (λ s. IsMachineReport ShowsRegisters source machine profile s.done (string_bytes s.text)) }
     ensures memory { IfErr result (λ e. e ≡ ReportFault.Memory) }
 {
@@ -143,7 +143,7 @@ fn shown_trace(
 
 // The lines of the steps of a machine that has its image.
 fn steps_text(alloc: Global, placed: &mut Placed) -> Result<Shown, ReportFault>
-    ensures shown { (source machine : List ℕ) (profile : Prices) → IsPlaced source machine profile placed.old.file placed.old.machine
+    ensures shown { (source machine : List ℕ) (profile : Profile) → IsPlaced source machine profile placed.old.file placed.old.machine
         → IfOk result (λ s. IsMachineReport ShowsSteps source machine profile s.done (string_bytes s.text)) }
     ensures memory { IfErr result (λ e. e ≡ ReportFault.Memory) }
 {
