@@ -1,5 +1,5 @@
-//! Small handlers made by a fixed generator: the greatest walk found in the folded way beside the greatest of all walks
-//! that keep the bounds, unrolled.
+//! Small handlers made by a fixed generator: the greatest walk found in the folded way beside the greatest
+//! of all walks that keep the bounds, unrolled.
 
 use bus_ticks::Profile;
 use flow_graph::{Edge, Graph, Place, build, read_statement};

@@ -1,5 +1,5 @@
-//! Lines of source and their words, worked out by the formats of the ARM data sheet, and words that are shown and assembled
-//! back.
+//! Lines of source and their words, worked out by the formats of the ARM data sheet, and words that are
+//! shown and assembled back.
 
 use assembler::{assemble, disassemble};
 use std::alloc::Global;
@@ -180,8 +180,8 @@ fn word_back(alloc: Global, word: u32, at: u32) -> Result<Option<u32>, Fail> {
     Ok(assembly.image.word_at(at))
 }
 
-/// Whether the word is assembled back from what is shown for it at some addresses, and so are words of which one bit is
-/// another, which are other instructions or none.
+/// Whether the word is assembled back from what is shown for it at some addresses, and so are words of
+/// which one bit is another, which are other instructions or none.
 fn comes_back(alloc: Global, word: u32) -> Result<bool, Fail> {
     for at in [0u32, 0x1C, 0x8000, 0x2FF_FFFC, 0x3FF_FFFC] {
         for changed in [

@@ -1,13 +1,15 @@
-//! Judges the program `arcwcet` by the cases in `data/`: a line for each, in the order of their names, with `ok` or the
-//! first difference, and a line of counts. It fails where a case does. A case is a folder with
+//! Judges the program `arcwcet` by the cases in `data/`: a line for each, in the order of their names,
+//! with `ok` or the first difference, and a line of counts. It fails where a case does. A case is a folder with
 //!
 //! - `args`: the words behind the program's name, a word a line; those that name files name files of the folder;
 //! - the files that the words name, and in `stdin` the standard input, else it is empty;
 //! - `stdout`: all that is printed, or `stdout.front`: what it begins with; neither: nothing is printed;
 //! - `stderr`: all of standard error, or `stderr.any`: it is not looked at; neither: there is nothing;
 //! - `status`: the exit status on a line; no such file: 0;
-//! - the image that `asm` writes, byte for byte, and no such file where `asm` refuses: what is written is kept in memory;
+//! - the image that `asm` writes, byte for byte, and no such file where `asm` refuses: it is kept in memory;
 //! - `note`, if there is more to say: what the case shows. It is not read.
+//!
+//! A new case is a folder and its line in `stdout`, which lists all, so that none goes missing.
 #![tactic(auto)]
 
 mod case;
