@@ -1,10 +1,10 @@
 use arm2_effect::Reg;
-use arm2_exec::{Input, Machine};
+use arm2_exec::Input;
 use bitflags::Flags;
 use bus_ticks::{Profile, RomTimes};
 use ioc::Lines;
 use machine_file::{Event, MappedPage, PsrFlags, read_machine, read_profile};
-use memc::{PageSize, Refused, Spot};
+use memc::{Memc, PageSize, Refused, Spot};
 use std::alloc::Global;
 use std::test::Fail;
 
@@ -93,33 +93,39 @@ fn inputs(rt: HostRuntime) -> Result<(), Fail> {
     Ok(())
 }
 
-fn machine_of(alloc: Global, text: &[u8]) -> Result<Machine, Fail> {
-    Ok(read_machine(alloc, text)?.machine(alloc, Profile::one())?)
-}
-
-fn words_of(machine: &Machine) -> [u32; 4] {
-    [
+// What a file's machine has in R15, R0, R8 of FIQ mode and R14 of SVC mode, its ROM times, and where two loads go.
+fn started(
+    alloc: Global,
+    text: &[u8],
+    addresses: [u32; 2],
+) -> Result<([u32; 4], RomTimes, [Result<Spot, Refused>; 2]), Fail> {
+    let machine = read_machine(alloc, text)?.machine(alloc, Profile::one())?;
+    let words = [
         machine.get(Reg::R15),
         machine.get(Reg::R0),
         machine.get(Reg::R8Fiq),
         machine.get(Reg::R14Svc),
-    ]
+    ];
+    let [first, second] = addresses;
+    let spots = [
+        loaded_from(machine.memc(), first),
+        loaded_from(machine.memc(), second),
+    ];
+    Ok((words, machine.memc().rom_times(), spots))
 }
 
-fn loaded_from(machine: &Machine, address: u32) -> Result<Spot, Refused> {
-    machine.memc().locate(address % 0x400_0000, false, false)
+fn loaded_from(memc: &Memc, address: u32) -> Result<Spot, Refused> {
+    memc.locate(address % 0x400_0000, false, false)
 }
 
 #[test]
 fn machines(rt: HostRuntime) -> Result<(), Fail> {
-    let machine = machine_of(rt.alloc(), WHOLE)?;
-    assert!(rt; words_of(&machine) == [0x87FF_FFFE, 7, 8, 0xFFFF_FFFF]);
-    assert!(rt; machine.memc().rom_times() == RomTimes { low: 1, high: 3 });
-    let spots = [loaded_from(&machine, 8), loaded_from(&machine, 0x8000)];
+    let (words, rom, spots) = started(rt.alloc(), WHOLE, [8, 0x8000])?;
+    assert!(rt; words == [0x87FF_FFFE, 7, 8, 0xFFFF_FFFF]);
+    assert!(rt; rom == RomTimes { low: 1, high: 3 });
     assert!(rt; spots == [Ok(Spot::Ram(0x2_8008)), Err(Refused::NoPage)]);
-    let reset = machine_of(rt.alloc(), b"pc = 0")?;
-    let found = (reset.get(Reg::R15), loaded_from(&reset, 0x7F004));
-    assert!(rt; found == (0x0C00_0003, Ok(Spot::Ram(0x7F004))));
+    let ([r15, _, _, _], _, spots) = started(rt.alloc(), b"pc = 0", [0x7F004; 2])?;
+    assert!(rt; (r15, spots) == (0x0C00_0003, [Ok(Spot::Ram(0x7F004)); 2]));
     Ok(())
 }
 
