@@ -50,8 +50,8 @@ fn labels_put(rt: HostRuntime) -> Result<(), Fail> {
     Ok(())
 }
 
-// The countdown's four words at 8000; a word at 0 and one at 8000, where what is left of the second head could still be
-// another address than 0.
+// The countdown's four words at 8000; a word at 0 and one at 8000, where what is left of the second head
+// could still be another address than 0.
 const IMAGES: [&[u8; 36]; 2] = [
     b"ARC2IMG1\x01\0\0\0\0\x80\0\0\x04\0\0\0\x03\0\xA0\xE3\x01\0\x50\xE2\xFD\xFF\xFF\x1A\x04\xF0\x5E\xE2",
     b"ARC2IMG1\x02\0\0\0\0\0\0\0\x01\0\0\0\x01\0\0\0\0\x80\0\0\x01\0\0\0\x02\0\0\0",

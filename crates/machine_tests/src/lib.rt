@@ -1,6 +1,6 @@
-//! Tests of the machine's crates, and of the texts about it, one module for each crate: here, so that those crates are
-//! proved once. Their expected values were worked out by hand. What a command of the program shows is tested by the
-//! cases of the crate `cases`, and only the rest here.
+//! Tests of the machine's crates, and of the texts about it, one module for each crate: here, so that
+//! those crates are proved once. Their expected values were worked out by hand. What a command of the
+//! program shows is tested by the cases of the crate `cases`, and only the rest here.
 #![tactic(auto)]
 
 #[cfg(test)]

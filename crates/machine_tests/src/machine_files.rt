@@ -37,8 +37,8 @@ fn defaults(rt: HostRuntime) -> Result<(), Fail> {
     Ok(())
 }
 
-const WHOLE: &[u8] =
-    b"pc = 0x3FFFFFC\npages = 32\nmode = \"irq\"\nflags = \"FN\"\nlow_rom = 1\nhigh_rom = 3\nsteps = 4\nport = 1\n\
+const WHOLE: &[u8] = b"pc = 0x3FFFFFC\npages = 32\nmode = \"irq\"\nflags = \"FN\"\nlow_rom = 1\n\
+    high_rom = 3\nsteps = 4\nport = 1\n\
     [registers]\nr0 = 7\nr8_fiq = 8\nr14_irq = 0x1010\nr14_svc = 0xFFFFFFFF\n\
     [[map]]\nlogical = 1023\nphysical = 127\nlevel = 3\n[[map]]\nlogical = 0\nphysical = 5\nlevel = 0\n\
     [[event]]\nstep = 2\nport = 9\n\
@@ -93,7 +93,8 @@ fn inputs(rt: HostRuntime) -> Result<(), Fail> {
     Ok(())
 }
 
-// What a file's machine has in R15, R0, R8 of FIQ mode and R14 of SVC mode, its ROM times, and where two loads go.
+// What a file's machine has in R15, R0, R8 of FIQ mode and R14 of SVC mode, its ROM times, and where two
+// loads go.
 fn started(
     alloc: Global,
     text: &[u8],

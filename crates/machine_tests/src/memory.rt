@@ -30,8 +30,8 @@ fn write_to_translator(memc: &mut Memc, address: u32) {
     }
 }
 
-// The bytes 11, 22, 33, 44 at 8100: an address within the word gives the whole word, not yet rotated. A write to the
-// translator puts logical page 8 on physical page 5 at level 1, where logical page 5 was.
+// The bytes 11, 22, 33, 44 at 8100: an address within the word gives the whole word, not yet rotated. A
+// write to the translator puts logical page 8 on physical page 5 at level 1, where logical page 5 was.
 #[test]
 fn pages_of_4_kb(rt: HostRuntime) -> Result<(), Fail> {
     let mut memc = Memc::new(rt.alloc(), PageSize::K4)?;
@@ -108,8 +108,8 @@ enum Step {
 // No word, since the logical page lies nowhere.
 const NO: u32 = 99;
 
-// Each step, and the first and last words behind it of the logical pages 0, 1 and 127 and of these physical pages, from a
-// plain map of pages by their numbers.
+// Each step, and the first and last words behind it of the logical pages 0, 1 and 127 and of these
+// physical pages, from a plain map of pages by their numbers.
 const SCRIPT: [(Step, [u32; 6], [u32; 6]); 18] = [
     (
         Step::Store(0, false, 1),

@@ -65,8 +65,8 @@ fn timer(machine: &mut Machine) -> u32 {
     machine.ioc().read(0x320_0040)
 }
 
-// MOV R0,#3 twice, with a burst in the first step. Timer 0 with latch 2 requests in the second step. VIDC's registers, of
-// 2 pixels to a raster and 2 rasters, give a flyback each 4 ticks.
+// MOV R0,#3 twice, with a burst in the first step. Timer 0 with latch 2 requests in the second step.
+// VIDC's registers, of 2 pixels to a raster and 2 rasters, give a flyback each 4 ticks.
 #[test]
 fn bursts_move_the_timer_and_vidc(rt: HostRuntime) -> Result<(), Fail> {
     let mut machine = machine_at(rt.alloc(), PageSize::K4, 0x8000, [0xE3A0_0003; 2])?;
@@ -93,7 +93,8 @@ fn bursts_move_the_timer_and_vidc(rt: HostRuntime) -> Result<(), Fail> {
     Ok(())
 }
 
-// STR R1,[R0] to MEMC's page tables, whose pages are of 32 KB: A2, which rises in the step that stops, is not latched.
+// STR R1,[R0] to MEMC's page tables, whose pages are of 32 KB: A2, which rises in the step that stops, is
+// not latched.
 #[test]
 fn stopped_step_changes_nothing(rt: HostRuntime) -> Result<(), Fail> {
     let mut machine = machine_at(rt.alloc(), PageSize::K32, 0x1000, [0xE580_1000, 0])?;
