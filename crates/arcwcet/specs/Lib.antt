@@ -14,3 +14,4 @@ pub mod Report
 pub mod Run
 pub mod Source
 pub mod Store
+pub use Rattle.command_line.specs.Line
