@@ -122,16 +122,21 @@ header_is_place : (flow : Flow) (loops : List Loop) (tree : Tree) → IsTreeOf f
 header_is_place flow loops tree of i has = ((of.instances i).0 has).reached
 
 module _ (source statement : List ℕ) (profile : Profile) (st : Stated) (flow : Flow) (tree : Tree) (loops : HasLoops source statement profile st flow) (of : IsTreeOf flow st.loops tree) where
-  pub reported : (l : Longest) (text : List ℕ) → RunLaw → IsWellFormed flow → IsLongest flow tree l → ((cert : Cert) → said_by cert ≡ said_of l → IsVerdict flow tree cert Yes)
-      → text ≡ cert_text (said_of l) → IsReport source statement profile text
-  reported l text law formed is judged e =
+  -- no refusal of the walk holds
+  none_holds : ((f : WalkFault) → f ≢ walk_fault.Memory → IsWalkFault flow tree f → ⊥) → (f : WalkFault) → f ≢ walk_fault.Memory → IsWalkRefusal flow st.loops f → ⊥
+  none_holds allowed f not_memory h = allowed f not_memory (fault_there flow st.loops tree of.instances f h)
+
+  pub accepted : ((f : WalkFault) → f ≢ walk_fault.Memory → IsWalkFault flow tree f → ⊥) → IsAccepted source statement profile
+  accepted allowed = record { stated = st; flow = flow; loops = loops; no_fault = none_holds allowed }
+
+  pub reported : (l : Longest) (text : List ℕ) → RunLaw → IsWellFormed flow → IsLongest flow tree l → ((f : WalkFault) → f ≢ walk_fault.Memory → IsWalkFault flow tree f → ⊥)
+      → ((cert : Cert) → said_by cert ≡ said_of l → IsVerdict flow tree cert Yes) → text ≡ cert_text (said_of l) → IsReport source statement profile text
+  reported l text law formed is allowed judged e =
       let walk = greatest_walk flow st.loops tree of.instances l is in
       record {
-        stated = st;
-        flow = flow;
+        accepted = record { stated = st; flow = flow; loops = loops; no_fault = none_holds allowed };
         tree = tree;
         longest = l;
-        graph = loops.graph;
         tree_of = of;
         longest_is = is;
         walk = walk;
@@ -140,10 +145,6 @@ module _ (source statement : List ℕ) (profile : Profile) (st : Stated) (flow :
         can_spell = spelled_of flow formed tree l is (header_is_place flow st.loops tree of);
         spelled = e;
       }
-
-  -- no refusal of the walk holds
-  pub accepted : ((f : WalkFault) → f ≢ walk_fault.Memory → IsWalkFault flow tree f → ⊥) → IsAccepted source statement profile
-  accepted allowed = record { stated = st; flow = flow; loops = loops; no_fault = λ f not_memory h. allowed f not_memory (fault_there flow st.loops tree of.instances f h) }
 
   -- a refusal of the walk
   pub walk_refusal : (f : WalkFault) → IsWalkFault flow tree f → (of_walk f ≢ Device) × IsRefused source statement profile (of_walk f)

@@ -18,7 +18,7 @@ returns-clause-report c = λ source statement profile loops.
     let h = c.args.handler.now in
     let graph = loops.graph in
     reported source statement profile h.statement h.graph h.tree loops c.requires.tree
-    c.in_ok-found.found c.in_ok-text.text.items c.run_law.ensures c.requires.formed c.in_ok-found.ensures.longest
+    c.in_ok-found.found c.in_ok-text.text.items c.run_law.ensures c.requires.formed c.in_ok-found.ensures.longest c.in_ok-found.ensures.allowed
     (λ cert said. c.longest_gets_yes.ensures graph.words h.statement profile h.graph h.tree c.in_ok-found.found cert graph.graph_is c.requires.formed
     c.requires.tree.tree_is c.in_ok-found.ensures.longest said)
     c.in_ok-text.ensures.text
