@@ -4,7 +4,7 @@ use crate::files::{Files, line};
 use arcwcet::{LIMIT, MemoryOutput, ReportFault, program};
 use std::alloc::{AllocError, Global};
 use std::io;
-use std::io::Read;
+use std::io::{ErrorKind, Read};
 use std::test::Fail;
 
 /// So many blanks, and a text behind them.
@@ -30,10 +30,10 @@ const TOO_LONG: Told = (1, "", "refused: InputTooLong\n");
 
 const DEVICE: Told = (4, "", "refused: Device\n");
 
-/// A byte, how often it stands in standard input, and whether that fails then in place of its end.
-type Input = (u8, usize, bool);
+/// A byte, how often it stands in standard input, and how that fails then in place of its end.
+type Input = (u8, usize, Option<ErrorKind>);
 
-const ENDLESS: Input = (b'\n', usize::MAX, false);
+const ENDLESS: Input = (b'\n', usize::MAX, None);
 
 /// What stays of an endless input, of which a byte more than the limit is read.
 const UNREAD: usize = usize::MAX - LIMIT - 1;
@@ -42,12 +42,13 @@ const UNREAD: usize = usize::MAX - LIMIT - 1;
 type Row = (&'static str, Source, Input, Told, usize);
 
 const ROWS: [Row; 8] = [
-    ("bound", LONG_SOURCE, (b'\n', 0, false), TOO_LONG, 0),
-    ("asm", COUNTDOWN, (b'\n', 0, false), DEVICE, 0),
-    ("debug", COUNTDOWN, (b'x', LIMIT, false), UNKNOWN_COMMAND, 0),
-    ("debug", COUNTDOWN, (b'\n', 0, true), DEVICE, 0),
-    ("debug", COUNTDOWN, (b'\n', 4096, true), DEVICE, 0),
-    ("debug", COUNTDOWN, (b'\n', 8192, true), DEVICE, 0),
+    ("bound", LONG_SOURCE, (b'\n', 0, None), TOO_LONG, 0),
+    ("asm", COUNTDOWN, (b'\n', 0, None), DEVICE, 0),
+    ("debug", COUNTDOWN, (b'x', LIMIT, None), UNKNOWN_COMMAND, 0),
+    ("debug", COUNTDOWN, (b'\n', 0, Some(ErrorKind::Other)), DEVICE, 0),
+    ("debug", COUNTDOWN, (b'\n', 4096, Some(ErrorKind::Other)), DEVICE, 0),
+    // An interrupted read has failed; it is not tried again.
+    ("debug", COUNTDOWN, (b'\n', 8192, Some(ErrorKind::Interrupted)), DEVICE, 0),
     ("debug", COUNTDOWN, ENDLESS, TOO_LONG, UNREAD),
     // The input is refused before a source that is none.
     ("debug", NO_SOURCE, ENDLESS, TOO_LONG, UNREAD),
@@ -58,13 +59,15 @@ const ROWS: [Row; 8] = [
 struct Bytes {
     byte: u8,
     left: usize,
-    fails: bool,
+    fails: Option<ErrorKind>,
 }
 
 impl Read for Bytes {
     fn read(&mut self, buf: &mut [u8]) -> io::Result<usize> {
-        if self.left == 0 && self.fails {
-            return Err(io::ErrorKind::Other.into());
+        if self.left == 0 {
+            if let Some(kind) = self.fails {
+                return Err(kind.into());
+            }
         }
         let n = buf.len().min(self.left);
         buf[..n].fill(self.byte);

@@ -19,3 +19,5 @@ mod lines;
 mod loading;
 #[cfg(test)]
 mod outputs;
+#[cfg(test)]
+mod writers;

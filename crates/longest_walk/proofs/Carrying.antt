@@ -27,13 +27,15 @@ use Rattle.numbered_walks.specs.Tables.{arrival_of, distance_of, round_of, stay_
 use Rattle.numbered_walks.proofs.Finishing.{total-exit}
 use Rattle.loop_bounds.specs.Instance.{place_loops}
 use Rattle.loop_bounds.specs.Tree.{IsTree, Tree, place_in}
-use Rattle.longest_walk.specs.Built.{AreInstanceRowsAt, ArePlaceRowsAt, IsBuilt, IsNumberedBody, step_at, steps_of}
-use Rattle.longest_walk.specs.Longest.{IsBody, IsLongest, IsWalkFault, IsWalkOf, KeepsTree}
+use Rattle.longest_walk.specs.Built.{AreAllNumbered, AreInstanceRowsAt, ArePlaceRowsAt, AreRising, IsBuilt, IsNumberedBody, step_at, steps_of}
+use Rattle.longest_walk.specs.Longest.{AreAllRounds, IsBody, IsLongest, IsWalkFault, IsWalkOf, KeepsTree, LeaveOnce}
 use Rattle.longest_walk.specs.declared.folded.Item.{Item}
 use Rattle.longest_walk.specs.declared.folded.Longest.{Longest}
 use Rattle.longest_walk.proofs.CarryKeeps.{pass_back}
+use Rattle.longest_walk.proofs.CarryOnce.{rising_once}
 use Rattle.longest_walk.proofs.CarryPotentials.{least, rows_fit, rows_hold}
 use Rattle.longest_walk.proofs.CarryWalks.{agree_all, costs_same, exit_place, fault_up, greatest_up, instance_of, keeps_up, leads_up, too_large_down}
+use Rattle.longest_walk.proofs.Opening.{AllZip-weaker}
 
 always : (b : Bool) (n : ℕ) → cond {A = ℕ} (b && true) n 0 ≡ cond b n 0
 always true n = refl
@@ -87,6 +89,10 @@ module _ (flow : Flow) (tree : Tree) (well : IsWellFormed flow) (t : IsTree flow
           stays = subst (λ (w : List Edge). AllPass (G.is_inside edge_shape place_loops i.instance) w) (sym b.body_is) stays;
         }
 
+    rounds_up : (count : ℕ) (body : List Edge) → AreAllNumbered flow tree c count body → AreAllRounds flow tree count body
+    unfolding body_up
+    rounds_up count body a = record { body_is = body_up body a.body_is; count_is = a.count_is ∙ (instance_of flow tree well t a.body_is.span a.body_is.in_tree).span_is.bound }
+
     -- what is built is a greatest walk
     pub walk_up : (items : List Item) (bound : ℕ) → bound ≡ c.bound → IsBuilt flow tree c items → IsWalkOf flow tree bound items
     walk_up items bound bound_is b =
@@ -105,6 +111,11 @@ module _ (flow : Flow) (tree : Tree) (well : IsWellFormed flow) (t : IsTree flow
             bodies = All-weaker (IsNumberedBody flow tree c) (IsBody flow tree) body_up _ b.bodies;
             counts = b.counts;
             shallow = b.shallow;
+          };
+          folded = record {
+            all_rounds = AllZip-weaker (AreAllNumbered flow tree c) (AreAllRounds flow tree) rounds_up _ _ b.all_rounds;
+            walk_once = rising_once flow tree well t _ b.walk_rises;
+            bodies_once = All-weaker (AreRising flow tree) LeaveOnce (rising_once flow tree well t) _ b.bodies_rise;
           };
         }
 

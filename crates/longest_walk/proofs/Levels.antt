@@ -1,12 +1,12 @@
 -- How deep the headers of instances lie in one another, and which are found before which.
-use Rattle.std.proofs.Common.{◌≡◌, ◌≢◌, ◌∙◌, ℕ, ◌+◌, ◌<◌, ◌≤◌, Bool, true, false, cond, List, ⊎_elim, Option, Some, None, All, Contains, length, get_or, sum_by, refl, sym, ap, subst, arith}
-use Rattle.std.proofs.lemmas.Bool.{cases_Bool, cases_lt, cases_eq, both_ways}
+use Rattle.std.proofs.Common.{◌≡◌, ◌∙◌, ℕ, ◌+◌, ◌<◌, ◌≤◌, Bool, true, false, cond, List, ⊎_elim, Option, Some, None, All, Contains, length, get_or, sum_by, refl, sym, ap, subst, arith}
+use Rattle.std.proofs.lemmas.Bool.{cases_Bool, cases_lt}
 use Rattle.std.proofs.lemmas.List.{get_or_default}
 use Rattle.std.proofs.lemmas.List.Elements.{Contains-get_or}
 use Rattle.walks.proofs.SumLe.{sum_by-le_contains}
 use Rattle.numbered_walks.specs.declared.span.NumberedEdge.{NumberedEdge}
 use Rattle.numbered_walks.specs.declared.span.Span.{Span}
-use Rattle.numbered_walks.specs.Ordered.{IsOrdered, HoldsAll, is_in}
+use Rattle.numbered_walks.specs.Ordered.{IsOrdered, is_in}
 use Rattle.numbered_walks.specs.Tables.{nth}
 use Rattle.numbered_walks.proofs.Members.{header_in, member_header, member_last, is_member}
 use Rattle.numbered_walks.proofs.Nesting.{same_header}

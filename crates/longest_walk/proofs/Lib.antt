@@ -1,11 +1,13 @@
 pub mod Opening
 pub mod Along
 pub mod Levels
+pub mod Rising
 pub mod WayLemmas
 pub mod RoundLemmas
 pub mod RowLemmas
 pub mod CarryKeeps
 pub mod CarryWalks
+pub mod CarryOnce
 pub mod CarryFind
 pub mod CarryRows
 pub mod CarryPotentials

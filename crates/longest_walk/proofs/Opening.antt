@@ -1,8 +1,8 @@
 -- The equations of opening a folded walk.
 use Rattle.std.proofs.Common.{◌≡◌, ◌∙◌, ℕ, zero, suc, ◌+◌, ◌<◌, ◌≤◌, List, [], ◌∷◌, ◌++◌, Option, Vec, All, flat_map, length, get_or, map, take, refl, sym, ap, arith, append_assoc}
-use Rattle.std.specs.Prelude.{max}
 use Rattle.std.specs.Global.{Global}
 use Rattle.std.specs.declared.rc.Rc.{Rc}
+use Rattle.std.specs.List.{AllZip}
 use Rattle.std.proofs.lemmas.List.{flat_map_more, get_or_default, map-append, take_more}
 use Rattle.std.proofs.lemmas.List.Elements.{All-nil, All-append}
 use Rattle.walks.specs.Segments.{repeated}
@@ -42,6 +42,18 @@ map-repeated f (suc k) xs = map-append f xs (repeated k xs) ∙ ap (λ rest. map
 pub All-repeated : {A : Type 0} (P : A → Type 0) (k : ℕ) (xs : List A) → All P xs → All P (repeated k xs)
 All-repeated P zero xs all = All-nil P
 All-repeated P (suc k) xs all = All-append P xs (repeated k xs) all (All-repeated P k xs all)
+
+pub AllZip-append : {A B : Type 0} (R : A → B → Type 0) (xs xs' : List A) (ys ys' : List B) → AllZip R xs ys → AllZip R xs' ys' → AllZip R (xs ++ xs') (ys ++ ys')
+AllZip-append R [] xs' [] ys' one two = two
+AllZip-append R [] xs' (y ∷ ys) ys' one two = absurd one
+AllZip-append R (x ∷ xs) xs' [] ys' one two = absurd one
+AllZip-append R (x ∷ xs) xs' (y ∷ ys) ys' one two = (one.0, AllZip-append R xs xs' ys ys' one.1 two)
+
+pub AllZip-weaker : {A B : Type 0} (R S : A → B → Type 0) → ((x : A) (y : B) → R x y → S x y) → (xs : List A) (ys : List B) → AllZip R xs ys → AllZip S xs ys
+AllZip-weaker R S weaker [] [] all = tt
+AllZip-weaker R S weaker [] (y ∷ ys) all = absurd all
+AllZip-weaker R S weaker (x ∷ xs) [] all = absurd all
+AllZip-weaker R S weaker (x ∷ xs) (y ∷ ys) all = (weaker x y all.0, AllZip-weaker R S weaker xs ys all.1)
 
 -- ## Ways
 

@@ -1,7 +1,7 @@
 -- Rounds of instances, inner ones first, and the walk that they make whole.
-use Rattle.std.proofs.Common.{◌≡◌, ◌≢◌, ◌∙◌, ℕ, ◌+◌, ◌<◌, ◌≤◌, Bool, true, false, List, [], ◌∷◌, ◌++◌, ⊎_elim, Option, Some, None, All, Contains, length, get_or, set, map, refl, sym, ap, subst, arith, append-nil}
+use Rattle.std.proofs.Common.{◌≡◌, ◌≢◌, ◌∙◌, ℕ, ◌+◌, ◌<◌, List, [], ◌∷◌, ◌++◌, ⊎_elim, Option, Some, None, Contains, length, get_or, set, map, sym, ap, subst, arith}
 use Rattle.std.proofs.Math.ListN.{length-set}
-use Rattle.std.proofs.lemmas.Bool.{cases_eq, cases_lt, both_ways}
+use Rattle.std.proofs.lemmas.Bool.{cases_lt, both_ways}
 use Rattle.std.proofs.lemmas.List.{get_or-set_same, get_or-set_other, get_or_default, map-append}
 use Rattle.std.proofs.lemmas.List.Elements.{Contains-get_or}
 use Rattle.walks.specs.Segments.{repeated}
@@ -10,7 +10,6 @@ use Rattle.flow_graph.specs.Flow.{Flow}
 use Rattle.numbered_walks.specs.declared.span.Span.{Span}
 use Rattle.numbered_walks.specs.declared.tables.Tables.{Tables}
 use Rattle.numbered_walks.specs.declared.index.Index.{Index}
-use Rattle.numbered_walks.specs.Ordered.{is_in}
 use Rattle.numbered_walks.specs.Index.{edge_at, edges_of}
 use Rattle.numbered_walks.specs.Tables.{is_header_in, nth, round_of}
 use Rattle.numbered_walks.specs.Found.{IsTurning}
@@ -19,8 +18,8 @@ use Rattle.numbered_walks.proofs.Passing.{header_there}
 use Rattle.numbered_walks.proofs.Paths as P
 use Rattle.loop_bounds.specs.Tree.{Tree}
 use Rattle.longest_walk.specs.Folded.{Opened, joined, one_edge, open_item, open_items, turned}
-use Rattle.longest_walk.specs.Built.{IsBuilt, step_at}
-use Rattle.longest_walk.specs.Ways.{AreSearched, AreRounds, HasRounds, IsAlong, IsFollowed, IsRound, IsRounds, IsWay, depth_at, holds, opened_rounds, opened_way, rounds_at, start_of}
+use Rattle.longest_walk.specs.Built.{AreRising, IsBuilt, step_at}
+use Rattle.longest_walk.specs.Ways.{AreSearched, AreRounds, HasRounds, IsAlong, IsFollowed, IsRound, IsRounds, IsWay, depth_at, opened_rounds, opened_way, rounds_at}
 use Rattle.longest_walk.specs.declared.folded.Item.{Item}
 use Rattle.longest_walk.specs.declared.folded.Item.TheVariants.{Step}
 use Rattle.longest_walk.specs.declared.rounds.Rounds.{Rounds}
@@ -28,6 +27,7 @@ use Rattle.longest_walk.proofs.Along.{along_append, along_edge, along_none, alon
 use Rattle.longest_walk.proofs.Opening.{map-repeated, open-step, opened-more}
 use Rattle.longest_walk.proofs.WayLemmas.{follow_entry, follow_header, follow_way}
 use Rattle.longest_walk.proofs.Levels.{before}
+use Rattle.longest_walk.proofs.Rising.{round_rises, walk_rises}
 
 not_none : (ks : List ℕ) (k : ℕ) → ks ++ k ∷ [] ≢ []
 not_none [] k is = cc
@@ -38,8 +38,9 @@ module _ (flow : Flow) (tree : Tree) (index : Index) (c : Tables) (g : AreSearch
   exit = length flow.places
 
   -- a back edge closes a round
-  pub round_closed : (s : Span) → Contains tree.spans s → (k : ℕ) → IsTurning tree.edges tree.spans c s k → (items : List Opened) → IsFollowed flow tree c (Some s) (edge_at tree.edges k).from items → IsRound flow tree c s (items ++ one_edge (step_at flow.edges k) ∷ [])
-  round_closed s s_in k by items f =
+  pub round_closed : (s : Span) → Contains tree.spans s → (k : ℕ) → IsTurning tree.edges tree.spans c s k → (items : List Opened) → IsFollowed flow tree c (Some s) (edge_at tree.edges k).from items
+      → AreRising flow tree (joined (items ++ one_edge (step_at flow.edges k) ∷ [])).own → IsRound flow tree c s (items ++ one_edge (step_at flow.edges k) ∷ [])
+  round_closed s s_in k by items f rising =
       let level : ℕ = depth_at tree.spans s.header + 1 in
       record {
         numbers = f.numbers ++ k ∷ [];
@@ -48,6 +49,7 @@ module _ (flow : Flow) (tree : Tree) (index : Index) (c : Tables) (g : AreSearch
         round = subst (IsRoundOf tree.edges tree.spans c s) (sym (map-append (edge_at tree.edges) f.numbers (k ∷ []))) (P.turn exit tree.edges tree.spans c g.tree_is.ordered g.found s s_in k by (edges_of tree.edges f.numbers) f.path);
         along = along_append flow tree c level f.numbers (k ∷ []) items (one_edge (step_at flow.edges k) ∷ []) f.along
             (along_edge flow tree c level k (along_room flow tree c level f.numbers (joined items) f.along) (omega (arith, by.inside, g.tree_is.numbered.same)));
+        rising = rising;
       }
 
   -- the items of a way from the header, and a back edge
@@ -58,7 +60,7 @@ module _ (flow : Flow) (tree : Tree) (index : Index) (c : Tables) (g : AreSearch
       let followed = follow_way flow tree index c g table (Some s) s_in has s.header (edge_at tree.edges k).from way [] (follow_header flow tree index c g s s_in) is_way in
       subst (IsRound flow tree c s)
       (sym (ap (map open_item) pushed_is ∙ opened-more items (Step e) (one_edge e) (open-step e) ∙ ap (λ (os : List Opened). os ++ one_edge e ∷ []) items_are ∙ ap (λ (x : Edge). opened_way flow tree table way ++ one_edge x ∷ []) step))
-      (round_closed s s_in k by (opened_way flow tree table way) followed)
+      (round_closed s s_in k by (opened_way flow tree table way) followed (round_rises flow tree index c g s k by table way is_way))
 
   -- as many rounds as the bound says
   pub rounds_some : (s : Span) → Contains tree.spans s → (r : Rounds) → r.count ≡ s.bound → IsRound flow tree c s (map open_item r.body.value.items) → IsRounds flow tree c s (Some r)
@@ -66,7 +68,7 @@ module _ (flow : Flow) (tree : Tree) (index : Index) (c : Tables) (g : AreSearch
     numbers = repeated s.bound one.numbers;
     rounds = subst (AreRoundsOf tree.edges tree.spans c s) (sym (map-repeated (edge_at tree.edges) s.bound one.numbers)) (P.rounds exit tree.edges tree.spans c g.tree_is.ordered g.found s s_in (edges_of tree.edges one.numbers) one.round);
     along = subst (λ (n : ℕ). IsAlong flow tree c (depth_at tree.spans s.header) (repeated s.bound one.numbers) (joined (turned n (open_items r.body.value.items) ∷ []))) (sym count)
-        (along_repeat flow tree c s s_in (g.tree_is.ordered.shape s s_in).2 (depth_at tree.spans s.header) one.numbers (open_items r.body.value.items) one.some one.bound_some one.round one.along);
+        (along_repeat flow tree c s s_in (g.tree_is.ordered.shape s s_in).2 (depth_at tree.spans s.header) one.numbers (open_items r.body.value.items) one.some one.bound_some one.round one.along one.rising);
   }
 
   -- no round, where one costs nothing
@@ -127,8 +129,8 @@ module _ (flow : Flow) (tree : Tree) (index : Index) (c : Tables) (g : AreSearch
 
   -- ## The whole walk
 
-  built : (items : List Item) → IsFollowed flow tree c None exit (map open_item items) → IsBuilt flow tree c items
-  built items f = record {
+  built : (items : List Item) → IsFollowed flow tree c None exit (map open_item items) → AreRising flow tree (open_items items).own → IsBuilt flow tree c items
+  built items f rising = record {
     numbers = f.numbers;
     inside = f.along.inside;
     walk_is = f.along.walk_is;
@@ -136,6 +138,9 @@ module _ (flow : Flow) (tree : Tree) (index : Index) (c : Tables) (g : AreSearch
     bodies = f.along.bodies;
     counts = f.along.counts;
     shallow = omega (arith, f.along.shallow);
+    all_rounds = f.along.all_rounds;
+    walk_rises = rising;
+    bodies_rise = f.along.bodies_rise;
   }
 
   -- the rounds of an instance that begins at the entry, and the items of a way to Exit
@@ -143,3 +148,4 @@ module _ (flow : Flow) (tree : Tree) (index : Index) (c : Tables) (g : AreSearch
   walk_made table all way items is_way items_are =
       let first = follow_entry flow tree index c g table (rounds_known table all) all.plain in
       built items (subst (IsFollowed flow tree c None exit) (sym items_are) (follow_way flow tree index c g table None tt (rounds_whole table all) 0 exit way (opened_rounds (rounds_at table 0)) first is_way))
+          (subst (λ (os : List Opened). AreRising flow tree (joined os).own) (sym items_are) (walk_rises flow tree index c g exit (rounds_at table 0) table way is_way))

@@ -1,10 +1,9 @@
 -- Walks along ways, and the items that follow them.
-use Rattle.std.proofs.Common.{◌≡◌, ◌≢◌, ◌∙◌, ℕ, ◌+◌, ◌<◌, ◌≤◌, Bool, true, false, List, [], ◌∷◌, ◌++◌, ⊎_elim, Option, Some, None, All, Contains, length, flat_map, map, refl, sym, ap, subst, arith, append-nil, append_assoc}
+use Rattle.std.proofs.Common.{◌≡◌, ◌≢◌, ◌∙◌, ℕ, ◌+◌, ◌<◌, ◌≤◌, true, false, List, [], ◌∷◌, ◌++◌, ⊎_elim, Option, Some, None, All, Contains, length, refl, sym, ap, subst, arith, append-nil, append_assoc}
 use Rattle.std.proofs.lemmas.Bool.{cases_Bool}
 use Rattle.std.specs.Prelude.{reverse}
 use Rattle.std.proofs.lemmas.List.{map-append, reverse-append}
 use Rattle.std.proofs.lemmas.List.Elements.{All-nil, All-cons, All-weaker}
-use Rattle.walks.specs.Segments.{repeated}
 use Rattle.flow_graph.specs.Flow.{Flow}
 use Rattle.numbered_walks.specs.declared.span.NumberedEdge.{NumberedEdge}
 use Rattle.numbered_walks.specs.declared.span.Span.{Span}
@@ -13,16 +12,16 @@ use Rattle.numbered_walks.specs.declared.index.Index.{Index}
 use Rattle.numbered_walks.specs.Ordered.{IsOrdered, is_in}
 use Rattle.numbered_walks.specs.Index.{edge_at, edges_of}
 use Rattle.numbered_walks.specs.Tables.{is_header_in}
-use Rattle.numbered_walks.specs.Found.{AreFound, IsEntering, IsTurning}
-use Rattle.numbered_walks.specs.Reach.{IsPathTo, IsRoundOf, AreRoundsOf}
+use Rattle.numbered_walks.specs.Found.{AreFound, IsEntering}
+use Rattle.numbered_walks.specs.Reach.{IsPathTo, AreRoundsOf}
 use Rattle.numbered_walks.proofs.Passing.{header_found}
 use Rattle.numbered_walks.proofs.Grouping.{edge_at-in}
-use Rattle.numbered_walks.proofs.Members.{is_member, member_header}
+use Rattle.numbered_walks.proofs.Members.{member_header}
 use Rattle.numbered_walks.proofs.Paths as P
-use Rattle.loop_bounds.specs.Tree.{Tree, IsTree}
+use Rattle.loop_bounds.specs.Tree.{Tree}
 use Rattle.longest_walk.specs.Folded.{Opened, joined, one_edge}
-use Rattle.longest_walk.specs.Built.{step_at, steps_of}
-use Rattle.longest_walk.specs.Ways.{AreSearched, HasRounds, InTree, IsAlong, IsFollowed, IsRound, IsRounds, IsWay, AreRounds, holds, level_in, opened_edge, opened_rounds, opened_way, rounds_at, start_of, depth_at}
+use Rattle.longest_walk.specs.Built.{step_at}
+use Rattle.longest_walk.specs.Ways.{AreSearched, HasRounds, InTree, IsAlong, IsFollowed, IsRounds, IsWay, holds, level_in, opened_edge, opened_rounds, opened_way, rounds_at, start_of, depth_at}
 use Rattle.longest_walk.specs.declared.rounds.Rounds.{Rounds}
 use Rattle.longest_walk.proofs.Along.{along_append, along_edge, along_none, along_room, along_weaker}
 use Rattle.longest_walk.proofs.Levels.{deep_some, level_below}

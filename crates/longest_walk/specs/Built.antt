@@ -1,5 +1,6 @@
 -- What is built from the numbers of a greatest walk, before it is carried over to places (our own format).
-use Rattle.std.specs.Prelude.{◌≡◌, ◌≢◌, ◌↔◌, ℕ, ◌<◌, ◌≤◌, List, [], length, map, slice_index_or, All, Contains, Option, None}
+use Rattle.std.specs.Prelude.{◌≡◌, ◌≢◌, ◌↔◌, ℕ, ◌+◌, ◌<◌, ◌≤◌, List, [], ◌∷◌, length, map, slice_index_or, All, Contains, None}
+use Rattle.std.specs.List.{AllZip}
 use Rattle.std.specs.List.Sorted.{IsStrictlySortedBy}
 use Rattle.flow_graph.specs.declared.places.Place.{Place}
 use Rattle.flow_graph.specs.declared.places.Place.TheVariants.{Exit}
@@ -9,7 +10,7 @@ use Rattle.flow_graph.specs.Flow.{Flow}
 use Rattle.flow_graph.specs.Places.{place_cmp}
 use Rattle.numbered_walks.specs.declared.span.Span.{Span}
 use Rattle.numbered_walks.specs.declared.tables.Tables.{Tables}
-use Rattle.numbered_walks.specs.Index.{edges_of}
+use Rattle.numbered_walks.specs.Index.{edge_at, edges_of}
 use Rattle.numbered_walks.specs.Reach.{IsPathTo, IsRoundOf}
 use Rattle.numbered_walks.specs.Tables.{arrival_of, distance_of, round_of}
 use Rattle.loop_bounds.specs.Instance.{Instance}
@@ -39,6 +40,23 @@ pub record IsNumberedBody (flow : Flow) (tree : Tree) (c : Tables) (body : List 
   pub some : numbers ≢ []
   pub round : IsRoundOf tree.edges tree.spans c span (edges_of tree.edges numbers)
 
+-- a repeat: all rounds of the span of its body
+pub record AreAllNumbered (flow : Flow) (tree : Tree) (c : Tables) (count : ℕ) (body : List Edge) : Type 0 where
+  pub body_is : IsNumberedBody flow tree c body
+  pub count_is : count ≡ body_is.span.bound
+
+-- each edge of these numbers begins behind the one before it, the first at the number or behind it
+abbrev pub Rise : Flow → Tree → ℕ → List ℕ → Type 0
+Rise flow tree least [] = Unit {0}
+Rise flow tree least (k ∷ rest) = (k < length flow.edges) × (least ≤ (edge_at tree.edges k).from) × Rise flow tree ((edge_at tree.edges k).from + 1) rest
+
+-- the edges of numbers that rise
+pub record AreRising (flow : Flow) (tree : Tree) (edges : List Edge) : Type 0 where
+  pub least : ℕ
+  pub numbers : List ℕ
+  pub edges_are : edges ≡ steps_of flow.edges numbers
+  pub rise : Rise flow tree least numbers
+
 -- the folded walk unfolds to the edges of a greatest walk from the entry to Exit
 pub record IsBuilt (flow : Flow) (tree : Tree) (c : Tables) (items : List Item) : Type 0 where
   pub numbers : List ℕ
@@ -48,6 +66,9 @@ pub record IsBuilt (flow : Flow) (tree : Tree) (c : Tables) (items : List Item) 
   pub bodies : All (IsNumberedBody flow tree c) (open_items items).bodies
   pub counts : All (λ k. (0 < k) × (k ≤ 1048576)) (open_items items).counts
   pub shallow : (open_items items).depth ≤ 16
+  pub all_rounds : AllZip (AreAllNumbered flow tree c) (open_items items).counts (open_items items).bodies
+  pub walk_rises : AreRising flow tree (open_items items).own
+  pub bodies_rise : All (AreRising flow tree) (open_items items).body_owns
 
 -- ## The rows
 

@@ -1,6 +1,6 @@
 -- What the greatest walk through a flow graph and its tree of loop instances is (our own profile).
-use Rattle.std.specs.Prelude.{◌≡◌, ◌≢◌, ℕ, ◌<◌, ◌≤◌, true, List, [], All, Contains}
-use Rattle.std.specs.List.{AllPass}
+use Rattle.std.specs.Prelude.{◌≡◌, ◌≢◌, ℕ, ◌<◌, ◌≤◌, true, List, [], All, AllPairs, Contains}
+use Rattle.std.specs.List.{AllPass, AllZip}
 use Rattle.walks.specs.Walk.{Leads, cost_of}
 use Rattle.walks.specs.Greatest.{KeepsBounds, IsGreatest, TooLarge, is_inside}
 use Rattle.flow_graph.specs.declared.places.Place.{Place}
@@ -43,12 +43,29 @@ pub record AreRepeats (flow : Flow) (tree : Tree) (items : List Item) : Type 0 w
   pub counts : All (λ k. (0 < k) × (k ≤ 1048576)) (open_items items).counts
   pub shallow : (open_items items).depth ≤ 16
 
+-- so many rounds of one instance, as many as a stay may take
+pub record AreAllRounds (flow : Flow) (tree : Tree) (count : ℕ) (body : List Edge) : Type 0 where
+  pub body_is : IsBody flow tree body
+  pub count_is : count ≡ body_is.instance.bound
+
+-- no two of the edges leave one place
+abbrev pub LeaveOnce : List Edge → Type 0
+LeaveOnce edges = AllPairs (λ d e. d.from ≢ e.from) edges
+
+-- Nothing is written out that a repeat can say: each repeat takes all rounds of its instance, and outside of its repeats
+-- neither the walk nor a body leaves a place twice.
+pub record IsFolded (flow : Flow) (tree : Tree) (items : List Item) : Type 0 where
+  pub all_rounds : AllZip (AreAllRounds flow tree) (open_items items).counts (open_items items).bodies
+  pub walk_once : LeaveOnce (open_items items).own
+  pub bodies_once : All LeaveOnce (open_items items).body_owns
+
 -- a complete walk that keeps the bounds and costs so much
 pub record IsWalkOf (flow : Flow) (tree : Tree) (cost : ℕ) (items : List Item) : Type 0 where
   pub complete : IsCompleteWalk flow (unfolded items)
   pub kept : KeepsTree tree (unfolded items)
   pub costs : cost_of edge_shape (unfolded items) ≡ cost
   pub repeats : AreRepeats flow tree items
+  pub folded : IsFolded flow tree items
 
 -- ## The whole answer
 

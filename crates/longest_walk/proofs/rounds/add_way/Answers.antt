@@ -1,4 +1,4 @@
-use Rattle.std.proofs.Common.{◌≡◌, ◌∙◌, ℕ, List, length, get_or, map, ap}
+use Rattle.std.proofs.Common.{◌∙◌, List, get_or, map, ap}
 use Rattle.flow_graph.specs.declared.edges.Edge.{Edge}
 use Rattle.numbered_walks.specs.declared.span.NumberedEdge.{NumberedEdge}
 use Rattle.numbered_walks.specs.Index.{edge_at}

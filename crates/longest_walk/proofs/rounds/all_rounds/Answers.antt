@@ -1,9 +1,8 @@
-use Rattle.std.proofs.Common.{◌<◌, List, length, get_or, subst, arith}
-use Rattle.std.proofs.lemmas.List.Elements.{Contains-get_or}
+use Rattle.std.proofs.Common.{◌<◌, List, length, subst, arith}
 use Rattle.numbered_walks.specs.declared.span.Span.{Span}
 use Rattle.numbered_walks.specs.Tables.{nth}
-use Rattle.longest_walk.specs.Ways.{AreRounds, IsRounds}
-use Rattle.longest_walk.proofs.RoundLemmas.{header_inside, rounds_first, rounds_inside, rounds_more}
+use Rattle.longest_walk.specs.Ways.{IsRounds}
+use Rattle.longest_walk.proofs.RoundLemmas.{header_inside, rounds_inside, rounds_more}
 use Rattle.longest_walk.proofs.rounds.all_rounds.Goals as goal
 
 pub rounds_of-requires-clause-rounds : goal.rounds_of-requires-clause-rounds
