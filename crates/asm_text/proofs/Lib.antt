@@ -9,4 +9,5 @@ mod SpelledNames
 mod SpelledShifts
 mod SpelledAddresses
 mod SpelledLists
+mod WordEnds
 mod SpelledLines

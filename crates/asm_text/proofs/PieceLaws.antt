@@ -26,7 +26,7 @@ cases false = inr refl
 pub at_blank : (b : ℕ) (ps : List Piece) → is_blank b ≡ true → byte_before b ps ≡ gap_before ps
 at_blank b ps h = rw h refl
 
-name_no_blank : (b : ℕ) → is_name b ≡ true → is_blank b ≡ false
+pub name_no_blank : (b : ℕ) → is_name b ≡ true → is_blank b ≡ false
 name_no_blank b h = grind (arith, nat_tests)
 
 pub at_name : (b : ℕ) (ps : List Piece) → is_name b ≡ true → byte_before b ps ≡ name_before b ps

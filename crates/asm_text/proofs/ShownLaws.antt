@@ -13,8 +13,9 @@ use Rattle.asm_text.specs.declared.statement.Wrong.{Wrong}
 use Rattle.asm_text.specs.declared.statement.Wrong.TheVariants.{UnknownWord}
 use Rattle.asm_text.specs.Lines.{starts_run}
 use Rattle.asm_text.specs.Shown.{is_shown, is_shown_text, is_upper, parsed_shown, shown_in, shown_result, shown_said, upper_pieces}
-use Rattle.asm_text.specs.Statements.{Parsed, body_len, is_text, line_of, or_bad, parsed, statement_of, with_label}
+use Rattle.asm_text.specs.Statements.{Parsed, body_len, body_says, is_text, line_of, or_bad, parsed, statement_of, with_label}
 use Rattle.asm_text.specs.Words.{is_one_case, spelled_word_of, upper, word_of}
+use Rattle.asm_text.proofs.SpelledLines.{body_is, body_said}
 use Rattle.asm_text.proofs.SpelledNames.{same_bytes}
 
 upper_byte : (b : ℕ) → not (is_ascii_lowercase b) ≡ true → to_ascii_uppercase b ≡ b
@@ -69,13 +70,20 @@ blank_pieces : (text : List ℕ) → pieces (32 ∷ text) ≡ gap_before (pieces
 unfolding pieces
 blank_pieces text = refl
 
-whole_line : (line : List ℕ) → list_all is_shown line ≡ true → line_of line ≡ parsed (pieces line)
+whole_line : (line : List ℕ) → list_all is_shown line ≡ true → line_of line ≡ body_says line
 whole_line line h =
     let n = all_body line h in
     rw (n, take_whole line, drop_whole line, all_text line h) refl
 
-pub shown_line : (text : List ℕ) → list_all is_shown text ≡ true → starts_run (pieces text) ≡ true → line_of (32 ∷ text) ≡ with_label None (statement_of (pieces text))
-shown_line text h run = whole_line (32 ∷ text) h ∙ ap parsed (blank_pieces text) ∙ gap_parsed (pieces text) run
+-- a line behind its blank, by its pieces
+read_blank : (text : List ℕ) (p : Parsed) → list_all is_shown text ≡ true → parsed (gap_before (pieces text)) ≡ Ok p → line_of (32 ∷ text) ≡ Ok p
+read_blank text p h e = whole_line (32 ∷ text) h ∙ body_said (32 ∷ text) p (ap parsed (blank_pieces text) ∙ e)
+
+blank_read : (text : List ℕ) (p : Parsed) → list_all is_shown text ≡ true → line_of (32 ∷ text) ≡ Ok p → parsed (gap_before (pieces text)) ≡ Ok p
+blank_read text p h e = ap parsed (sym (blank_pieces text)) ∙ body_is (32 ∷ text) p (sym (whole_line (32 ∷ text) h) ∙ e)
+
+pub shown_line : (text : List ℕ) (x : Said) → list_all is_shown text ≡ true → starts_run (pieces text) ≡ true → statement_of (pieces text) ≡ Ok x → line_of (32 ∷ text) ≡ Ok (record { label = None; said = Some x })
+shown_line text x h run e = read_blank text (record { label = None; said = Some x }) h (gap_parsed (pieces text) run ∙ ap (with_label None) e)
 
 -- ---- what is read, exactly
 
@@ -173,8 +181,8 @@ alone_pieces (Gap ∷ ps) s h = alone_said (statement_of ps) s h
 bytes_shown : (text : List ℕ) → is_shown_text text ≡ true → list_all is_shown text ≡ true
 bytes_shown text h = (and_parts (list_all is_shown text) (is_upper text) (and_parts (list_all is_shown text && is_upper text) (nat_le (length text) 64) h).0).0
 
-pub blank_line : (text : List ℕ) → is_shown_text text ≡ true → line_of (32 ∷ text) ≡ parsed (gap_before (pieces text))
-blank_line text h = whole_line (32 ∷ text) (bytes_shown text h) ∙ ap parsed (blank_pieces text)
+pub blank_line : (text : List ℕ) (p : Parsed) → is_shown_text text ≡ true → line_of (32 ∷ text) ≡ Ok p → parsed (gap_before (pieces text)) ≡ Ok p
+blank_line text p h e = blank_read text p (bytes_shown text h) e
 
 pub upper_shown : (text : List ℕ) → is_shown_text text ≡ true → upper_pieces (pieces text) ≡ true
 upper_shown text h = upper_text text (and_parts (list_all is_shown text) (is_upper text) (and_parts (list_all is_shown text && is_upper text) (nat_le (length text) 64) h).0).1
@@ -183,7 +191,7 @@ pub short_shown : (text : List ℕ) → is_shown_text text ≡ true → length t
 short_shown text h = grind (arith, nat_tests, (and_parts (list_all is_shown text && is_upper text) (nat_le (length text) 64) h).1)
 
 pub line_shown : (text : List ℕ) (s : Shown) → is_shown_text text ≡ true → shown_result (statement_of (without_gap (pieces text))) ≡ Some s → line_of (32 ∷ text) ≡ Ok (parsed_shown s)
-line_shown text s h e = blank_line text h ∙ pieces_alone (pieces text) s e
+line_shown text s h e = read_blank text (parsed_shown s) (bytes_shown text h) (pieces_alone (pieces text) s e)
 
 pub shown_from : (text : List ℕ) (s : Shown) → is_shown_text text ≡ true → line_of (32 ∷ text) ≡ Ok (parsed_shown s) → shown_result (statement_of (without_gap (pieces text))) ≡ Some s
-shown_from text s h e = alone_pieces (pieces text) s (sym (blank_line text h) ∙ e)
+shown_from text s h e = alone_pieces (pieces text) s (blank_line text (parsed_shown s) h e)

@@ -11,7 +11,7 @@ use Rattle.asm_text.specs.Registers.{register_comma_first}
 use Rattle.asm_text.specs.Words.{IsSpelling, spelled_word_of}
 use Rattle.asm_text.specs.Said.{Target, Number, Label, Said, Codes, Refers, Orgs, Lists}
 use Rattle.asm_text.specs.Operands.{address_of, block_of, data_of, is_byte, is_user, product_of}
-use Rattle.asm_text.specs.Statements.{Parsed, action_of, behind_label, behind_word, body, body_len, code_said, is_comment_text, is_label, is_text, is_text_line, line_of, only_number, only_target, operands_of, or_bad, parsed, plain_said, refers, single_said, single_with, statement_of, values_in, with_label, with_word}
+use Rattle.asm_text.specs.Statements.{Parsed, action_of, behind_label, behind_word, body, body_len, body_says, code_said, is_comment_text, is_label, is_text, is_text_line, line_of, only_number, only_target, operands_of, or_bad, parsed, plain_said, refers, single_said, single_with, statement_of, values_in, with_label, with_word, word_ends}
 use Rattle.asm_text.specs.SpelledOperands.{IsRegister}
 use Rattle.asm_text.specs.Spelling.{IsComment, Spells, SpellsAction, SpellsOperands, SpellsParts, SpellsSaid, SpellsTarget, SpellsUse}
 use Rattle.asm_text.specs.declared.token.Mark.TheVariants.{OpenBracket}
@@ -32,6 +32,7 @@ use Rattle.asm_text.proofs.WordLaws.{chosen, nothing_is, spelled_again, spelled_
 use Rattle.asm_text.proofs.SpelledNames.{and_then_is, front_register_comma, map_is, number_whole, register_comma_front, whole_number}
 use Rattle.asm_text.proofs.SpelledShifts.{data_again, data_is, product_again, product_is}
 use Rattle.asm_text.proofs.SpelledAddresses.{address_again, address_is}
+use Rattle.asm_text.proofs.WordEnds.{parts_end}
 use Rattle.asm_text.proofs.SpelledLists.{block_again, block_is, dcd_again, dcd_is, target_again, target_is}
 
 -- ---- actions
@@ -238,9 +239,21 @@ drop_front : (bs cs : List ℕ) → drop (length bs) (bs ++ cs) ≡ cs
 drop_front [] cs = refl
 drop_front (b ∷ bs) cs = drop_front bs cs
 
+-- a line with a meaning has a word that ends, or none
+pub word_ended : (text : List ℕ) (p : Parsed) → parsed (pieces text) ≡ Ok p → word_ends text ≡ true
+word_ended text p e = parts_end p.label p.said (pieces text) text (pieces_written text) (parts_is (pieces text) p e)
+
+pub body_is : (text : List ℕ) (p : Parsed) → body_says text ≡ Ok p → parsed (pieces text) ≡ Ok p
+body_is text p e =
+    elim (chosen (word_ends text) (parsed (pieces text)) (Err UnknownWord) (Ok p) e) [ inl h ↦ h.1 | inr h ↦ let k = h.1 in absurd cc ]
+
+-- of what has a meaning the test of the word says nothing more
+pub body_said : (text : List ℕ) (p : Parsed) → parsed (pieces text) ≡ Ok p → body_says text ≡ Ok p
+body_said text p e = rw (word_ended text p e) e
+
 pub line_is : (line : List ℕ) (p : Parsed) → line_of line ≡ Ok p → Spells p line
 line_is line p e =
-    elim (chosen (is_text_line line) (parsed (pieces (body line))) (Err NotText) (Ok p) e) [
+    elim (chosen (is_text_line line) (body_says (body line)) (Err NotText) (Ok p) e) [
       | inl h ↦
           let n = body_len line in
           let k = and_parts (list_all is_text (body line)) (list_all is_comment_text (drop n line)) h.0 in
@@ -254,7 +267,7 @@ line_is line p e =
             pieces = pieces (body line);
             written = pieces_written (body line);
             spaced = pieces_spaced (body line);
-            spelled = parts_is (pieces (body line)) p h.1;
+            spelled = parts_is (pieces (body line)) p (body_is (body line) p h.1);
           }
       | inr h ↦ let k = h.1 in absurd cc
     ]
@@ -264,4 +277,5 @@ line_again line p h =
     let len : body_len line ≡ length h.body = ap body_len h.parts ∙ front_len h.body h.comment h.no_semicolon h.comment-is in
     let front : body line ≡ h.body = ap (λ n. take n line) len ∙ ap (take (length h.body)) h.parts ∙ take_front h.body h.comment in
     let behind : drop (body_len line) line ≡ h.comment = ap (λ n. drop n line) len ∙ ap (drop (length h.body)) h.parts ∙ drop_front h.body h.comment in
-    rw (front, behind, h.text, comment_text h.comment h.comment-is, pieces_again h.pieces h.body h.written h.spaced) (parts_again p.label p.said h.pieces h.spelled)
+    let said : parsed (pieces h.body) ≡ Ok p = ap parsed (pieces_again h.pieces h.body h.written h.spaced) ∙ parts_again p.label p.said h.pieces h.spelled in
+    rw (front, behind, h.text, comment_text h.comment h.comment-is) (body_said h.body p said)

@@ -1,10 +1,10 @@
 -- Statements, by the pieces that spell them, and lines (our own source format).
-use Rattle.std.specs.Prelude.{ℕ, ◌==◌, ◌&&◌, ◌||◌, not, nat_le, nat_lt, Bool, false, List, [], ◌∷◌, Option, Some, None, Result, Ok, Err, option_map, option_and_then, if◌then◌else◌, length, take, drop}
+use Rattle.std.specs.Prelude.{ℕ, ◌==◌, ◌&&◌, ◌||◌, not, nat_le, nat_lt, Bool, true, false, List, [], ◌∷◌, Option, Some, None, Result, Ok, Err, option_map, option_and_then, if◌then◌else◌, length, take, drop}
 use Rattle.std.specs.Char.{is_ascii_alphabetic}
 use Rattle.std.specs.List.{list_all, prefix_len}
 use Rattle.arm2_decode.specs.declared.names.Cond.{Cond}
 use Rattle.arm2_decode.specs.declared.names.Register.{Register}
-use Rattle.asm_text.specs.Pieces.{Piece, Run, Comma, Sign, Gap, is_name, pieces}
+use Rattle.asm_text.specs.Pieces.{Piece, Run, Comma, Sign, Gap, is_blank, is_name, pieces}
 use Rattle.asm_text.specs.Numbers.{hex_first, number_by, number_first, run_number, with_rest}
 use Rattle.asm_text.specs.Registers.{register_comma_first}
 use Rattle.asm_text.specs.Words.{spelled_word_of}
@@ -123,10 +123,9 @@ abbrev pub or_bad : Option Said → Result Said Wrong
 or_bad None = Err BadOperand
 or_bad (Some s) = Ok s
 
--- a blank and operands behind a word; a word ends at a blank or a comma
+-- a blank and operands behind a word
 abbrev pub behind_word : Word → List Piece → Result Said Wrong
 behind_word w (Gap ∷ ps) = or_bad (operands_of w ps)
-behind_word w (Sign m ∷ ps) = Err UnknownWord
 behind_word w _ = Err BadOperand
 
 abbrev pub with_word : Option Word → List Piece → Result Said Wrong
@@ -178,6 +177,22 @@ body line = take (body_len line) line
 abbrev pub is_text_line : List ℕ → Bool
 is_text_line line = list_all is_text (body line) && list_all is_comment_text (drop (body_len line) line)
 
+-- a text without the bytes of a sort that it begins with
+abbrev pub past : (ℕ → Bool) → List ℕ → List ℕ
+past sort text = drop (prefix_len sort text) text
+
+abbrev pub begins_blank_or_ends : List ℕ → Bool
+begins_blank_or_ends [] = true
+begins_blank_or_ends (b ∷ bs) = is_blank b
+
+-- a word ends at a blank or with the line: behind a label, blanks and a word, each of them or none, stands nothing else
+abbrev pub word_ends : List ℕ → Bool
+word_ends text = begins_blank_or_ends (past is_name (past is_blank (past is_name text)))
+
+-- what a line without its comment says
+abbrev pub body_says : List ℕ → Result Parsed Wrong
+body_says text = if word_ends text then parsed (pieces text) else Err UnknownWord
+
 -- what a line says
 abbrev pub line_of : List ℕ → Result Parsed Wrong
-line_of line = if is_text_line line then parsed (pieces (body line)) else Err NotText
+line_of line = if is_text_line line then body_says (body line) else Err NotText

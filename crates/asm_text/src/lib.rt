@@ -4,7 +4,7 @@
 //!
 //! - A label begins in the first column, a word behind a blank (a space or a tab). What stands in the first column and
 //!   is no label makes the line an unknown word. `MOV` in the first column is a label.
-//! - A word ends at a blank or a comma; any other byte behind it makes it unknown.
+//! - A word ends at a blank or with the line; any other byte behind it, a comma too, makes it unknown.
 //! - Blanks may stand round commas, in front of a word, behind it and at the end of a line, and one at least stands
 //!   between a shift and its amount or register. Anywhere else they make a bad operand.
 //! - Words, registers and shifts are wholly in upper or in lower case; hexadecimal digits may be of either or both.

@@ -6,7 +6,7 @@ ghost use Rattle.asm_text.specs.Source.{feed_len, line_view, lines_of, no_return
 
 use crate::said::Statement;
 use crate::statement::{Wrong, is_label, read_statement};
-use crate::token::{Token, tokens};
+use crate::token::{Token, tokens, word_ends};
 use std::alloc::Global;
 
 /// What a line says.
@@ -107,8 +107,8 @@ fn parse<'a>(alloc: Global, tokens: &[Token<'a>]) -> Result<Line<'a>, Wrong>
 /// # Errors
 ///
 /// `NotText`: a byte other than 20 to 7E and a tab, or behind a `;` 80 to FF. `UnknownWord`: the first column holds
-/// neither a blank nor a label, or the text behind it is no word. `BadOperand`: what stands behind the word does
-/// not belong to it. `Memory`: a growth was refused.
+/// neither a blank nor a label, or the text behind it is no word that ends at a blank or with the line. `BadOperand`:
+/// what stands behind the word does not belong to it. `Memory`: a growth was refused.
 pub fn read_line<'a>(alloc: Global, text: &'a [u8]) -> Result<Line<'a>, Wrong>
     ensures ok { IfOk result (λ line. line_of text.now ≡ Ok (line_view line)) }
     ensures err { IfErr result (λ wrong. (wrong ≡ Wrong.Memory) ⊎ (line_of text.now ≡ Err wrong)) }
@@ -117,6 +117,9 @@ pub fn read_line<'a>(alloc: Global, text: &'a [u8]) -> Result<Line<'a>, Wrong>
         return Err(Wrong::NotText);
     }
     let body = &text[..body_len(text)];
+    if !word_ends(body) {
+        return Err(Wrong::UnknownWord);
+    }
     let tokens = tokens(alloc, body)?;
     parse(alloc, &tokens)
 }

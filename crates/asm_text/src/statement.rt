@@ -336,7 +336,6 @@ fn behind_word<'a>(alloc: Global, word: Word, tokens: &[Token<'a>]) -> Result<St
             Some(statement) => Ok(statement),
             None => Err(Wrong::BadOperand),
         },
-        [Token::Sign(_), ..] => Err(Wrong::UnknownWord),
         _ => Err(Wrong::BadOperand),
     }
 }

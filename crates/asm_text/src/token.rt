@@ -2,6 +2,7 @@ ghost use Rattle.std.specs.Prelude.{◌≡◌, ◌++◌, ◌∷◌, ◌<◌, ◌
 ghost use Rattle.std.specs.List.{prefix_len};
 ghost use Rattle.asm_text.specs.Pieces.{is_blank, is_name, mark_of, pieces, piece_of, Piece, first_blank};
 ghost use Rattle.asm_text.specs.Lines.{Written, WellSpaced};
+ghost use Rattle.asm_text.specs.Statements.{begins_blank_or_ends as blank_or_end, past, word_ends as line_word_ends};
 
 use std::alloc::{AllocError, Global};
 
@@ -98,6 +99,28 @@ fn after_blanks(text: &[u8]) -> &[u8]
     ensures within { length result.now ≤ length text.now }
 {
     &text[blanks_len(text)..]
+}
+
+fn after_name(text: &[u8]) -> &[u8]
+    ensures { result.now ≡ past is_name text.now }
+{
+    &text[name_len(text)..]
+}
+
+fn begins_blank_or_ends(text: &[u8]) -> bool
+    ensures { result ≡ blank_or_end text.now }
+{
+    match text {
+        [] => true,
+        [b, ..] => is_blank_byte(*b),
+    }
+}
+
+/// Whether a blank or nothing stands behind the word of a line, or where a word would end.
+pub(crate) fn word_ends(line: &[u8]) -> bool
+    ensures { result ≡ line_word_ends line.now }
+{
+    begins_blank_or_ends(after_name(after_blanks(after_name(line))))
 }
 
 // The first piece of a text that begins with no blank, and the text after it.

@@ -414,5 +414,5 @@ says_back text at w (Lists vs) h line says = absurd cc
 
 pub spelling_back : (i : Instr) (at w : ℕ) → is_shown_text (spelling i at) ≡ true → Gives (spelling i at) at w → GivesBack (spelling i at) at w
 spelling_back i at w may (s, line, says) =
-    let plain : plainly s ≡ true = ap plain_of (sym line ∙ blank_line (spelling i at) may) ∙ operation_line i.cond i.operation at in
+    let plain : plainly s ≡ true = ap plain_of (sym (blank_line (spelling i at) (record { label = None; said = Some s }) may line)) ∙ operation_line i.cond i.operation at in
     says_back (spelling i at) at w s plain line says

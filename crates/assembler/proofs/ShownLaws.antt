@@ -17,7 +17,7 @@ use Rattle.asm_text.specs.Lines.{Written}
 use Rattle.asm_text.specs.Numbers.{digits_of, fits, number_by}
 use Rattle.asm_text.specs.Said.{Number, Codes, Refers, Lists}
 use Rattle.asm_text.specs.Shown.{is_shown}
-use Rattle.asm_text.specs.Statements.{statement_of, with_label}
+use Rattle.asm_text.specs.Statements.{statement_of}
 use Rattle.asm_text.specs.Words.{spelled_word_of, word_of}
 use Rattle.asm_text.proofs.PieceLaws.{pieces_again}
 use Rattle.asm_text.proofs.ShownLaws.{shown_line, upper_spelled}
@@ -122,9 +122,8 @@ dcd_values o w e is = rw (dcd_word, is, e) refl
 pub dcd_gives : (w at : ℕ) → w < 2 ^ 32 → Gives (hex_line w) at w
 dcd_gives w at lt =
     let shown-all : list_all is_shown (hex_line w) ≡ true = rw (all_chars is_shown 8 w char_shown) refl in
-    let line = shown_line (hex_line w) shown-all (rw (dcd_pieces w) refl) in
     let statement = ap statement_of (dcd_pieces w) ∙ dcd_values (Some w) w refl (eight w lt) in
-    (Lists (Number w ∷ []), line ∙ ap (with_label None) statement, refl)
+    (Lists (Number w ∷ []), shown_line (hex_line w) (Lists (Number w ∷ [])) shown-all (rw (dcd_pieces w) refl) statement, refl)
 
 -- ---- the line that is shown
 
