@@ -1,5 +1,5 @@
 -- What a walk that is opened says of its lines.
-use Rattle.std.proofs.Common.{◌≡◌, ◌≢◌, ◌∙◌, ◌+◌, ◌<◌, ◌≤◌, ◌^◌, Bool, true, false, ℕ, zero, suc, List, [], ◌∷◌, ◌++◌, Some, None, option_and_then, map-id, map, take, nat_lt, inl, inr, refl, sym, ap, subst, arith, lt-ltb, if◌then◌else◌}
+use Rattle.std.proofs.Common.{◌≡◌, ◌≢◌, ◌∙◌, ◌+◌, ◌<◌, ◌≤◌, ◌^◌, Bool, true, false, ℕ, zero, suc, List, [], ◌∷◌, ◌++◌, Some, None, option_and_then, map-id, map, take, nat_lt, inl, inr, refl, sym, ap, subst, arith, length, get_or, lt-ltb, if◌then◌else◌}
 use Rattle.std.specs.List.{AllByRecursion, find}
 use Rattle.walks.specs.Segments.{repeated}
 use Rattle.flow_graph.specs.declared.edges.Edge.{Edge}
@@ -14,8 +14,8 @@ use Rattle.certificate.specs.Walk.{AreNested, Nest, address_of, follow_all, item
 use Rattle.certificate.specs.Words.{InstanceFits, IsProfile, PlaceFits, StepFits, ToFits, WalkFits}
 use Rattle.std.specs.Prelude.{Contains, ◌⊎◌}
 use Rattle.std.specs.List.Sorted.{IsStrictlySortedBy}
-use Rattle.std.proofs.lemmas.Bool.{cases_lt}
-use Rattle.std.proofs.lemmas.List.Elements.{All-contains, All-from_recursion, All-weaker, recursion_from_All}
+use Rattle.std.proofs.lemmas.Bool.{cases_lt, eq-eqb}
+use Rattle.std.proofs.lemmas.List.Elements.{All-contains, All-from_recursion, All-weaker, Contains-get_or, recursion_from_All}
 use Rattle.bus_ticks.specs.declared.profile.Profile.{Profile}
 use Rattle.bus_ticks.specs.Numbers.{numbers_of}
 use Rattle.bus_ticks.specs.Ranges.{IsPrice}
@@ -25,10 +25,12 @@ use Rattle.flow_graph.specs.declared.places.Place.TheVariants.{At, Exit}
 use Rattle.flow_graph.specs.Flow.{Flow, HasEdge, IsWellFormed, edge_shape}
 use Rattle.flow_graph.specs.Places.{IsInRange, place_cmp}
 use Rattle.flow_graph.proofs.SortedLemmas.{here, there}
-use Rattle.loop_bounds.specs.Instance.{Instance, place_loops}
-use Rattle.loop_bounds.specs.Tree.{Tree}
+use Rattle.loop_bounds.specs.Instance.{Instance, is_header, place_loops}
+use Rattle.loop_bounds.specs.Tree.{IsTree, Tree, place_in}
+use Rattle.loop_bounds.proofs.ExtentOf.{header_place}
 use Rattle.longest_walk.specs.Longest.{IsBody, IsLongest}
 use Rattle.longest_walk.proofs.CarryFind.{from_map, into_map}
+use Rattle.longest_walk.proofs.CarryWalks.{no_span, place_numbers}
 use Rattle.longest_walk.specs.Rows.{distance_in, header_of, header_of_row, is_at, is_exit, number_or_zero, place_of_row, potentials_of, row_of}
 use Rattle.longest_walk.specs.declared.folded.Longest.{Longest}
 use Rattle.longest_walk.specs.declared.rows.InstanceRow.{InstanceRow}
@@ -244,3 +246,18 @@ module _ (flow : Flow) (formed : IsWellFormed flow) where
             arrival = subst (λ n. n < 2 ^ 63) (ap (number_or_zero (λ x. x.arrival)) row) (below.arrivals there.0 there.1);
             round = subst (λ n. n < 2 ^ 63) (ap (number_or_zero (λ x. x.round)) row) (below.rounds there.0 there.1);
           }
+
+  -- the header of an instance of a tree is a place of the graph
+  header_in : (tree : Tree) → IsTree flow tree → (i : Instance) → Contains tree.instances i → Contains flow.places (header_of i)
+  header_in tree t i has =
+      let s = get_or tree.spans has.0 no_span in
+      let shape = t.ordered.shape s (Contains-get_or tree.spans has.0 no_span (omega (arith, has.1, t.spans_are.same))) in
+      let inside : s.header < length flow.places = omega (arith, shape.0, shape.1) in
+      let place : Place = place_in flow tree s.header in
+      let is : is_header (get_or tree.instances has.0 i) place ≡ true = (t.spans_are.each has.0 i no_span has.1).headers s.header (omega (arith, inside)) ∙ eq-eqb s.header s.header refl in
+      let here : place ≡ header_of i = header_place i place (subst (λ (x : Instance). is_header x place ≡ true) has.2 is) in
+      subst (Contains flow.places) here ((place_numbers flow tree formed t).place s.header inside)
+
+  -- so what the certificate of a greatest walk says can be spelled
+  pub longest_is_spelled : (tree : Tree) → IsTree flow tree → (g : Longest) → IsLongest flow tree g → CanSpell (said_of g)
+  longest_is_spelled tree t g is = spelled_of tree g is (header_in tree t)

@@ -18,7 +18,7 @@ mod writing;
 
 pub use cert::Cert;
 pub use fault::CertFault;
-pub use law::one_text_each;
+pub use law::{longest_can_be_spelled, one_text_each};
 pub use line::WalkLine;
 pub use longest_walk::{InstanceRow, PlaceRow, Rows};
 pub use reading::read_cert;
