@@ -1,4 +1,5 @@
 pub mod PieceLaws
+mod NameLaws
 pub mod WordLaws
 pub mod Capped
 pub mod ListLaws

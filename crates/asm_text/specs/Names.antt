@@ -1,5 +1,6 @@
 -- The parts of a word and their names, in upper case (VL86C010 data sheet, assembler syntax; ADR is our own).
-use Rattle.std.specs.Prelude.{ℕ, List, [], ◌∷◌, codes, Bool, true, false, Option, Some, None, if◌then◌else◌}
+use Rattle.std.specs.Prelude.{ℕ, List, [], ◌∷◌, codes, Bool, true, false, Option}
+use Rattle.std.specs.List.{find}
 use Rattle.std.specs.Str.{bytes_eq}
 use Rattle.arm2_decode.specs.declared.names.Cond.{Cond}
 use Rattle.arm2_decode.specs.declared.names.Cond.TheVariants.{Eq, Ne, Cs, Cc, Mi, Pl, Vs, Vc, Hi, Ls, Ge, Lt, Gt, Le, Al, Nv}
@@ -111,8 +112,7 @@ suffixes = Bare ∷ S ∷ P ∷ B ∷ T ∷ Bt ∷ Ia ∷ Ib ∷ Da ∷ Db ∷ F
 
 -- the first of the list that the text names
 abbrev pub named : {A : Type 0} → (A → List ℕ) → List A → List ℕ → Option A
-named name [] text = None
-named name (a ∷ others) text = if bytes_eq text (name a) then Some a else named name others text
+named name list text = find (λ a. bytes_eq text (name a)) list
 
 abbrev pub cond_of : List ℕ → Option Cond
 cond_of text = named cond_name conds text

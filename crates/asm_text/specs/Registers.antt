@@ -1,5 +1,6 @@
 -- The names of registers and shifts, wholly in upper or in lower case (our own source format).
 use Rattle.std.specs.Prelude.{ℕ, Bool, ◌||◌, List, [], ◌∷◌, ◌++◌, codes, Option, Some, None, map, if◌then◌else◌}
+use Rattle.std.specs.Borrow.{Bor}
 use Rattle.std.specs.Str.{bytes_eq, str_to_ascii_lowercase}
 use Rattle.asm_text.specs.Pieces.{Piece, Run, Comma}
 use Rattle.asm_text.specs.Numbers.{with_rest}
@@ -24,6 +25,10 @@ in_both_cases names = names ++ map (λ e. (str_to_ascii_lowercase e.0, e.1)) nam
 abbrev pub found : {A : Type 0} → List (List ℕ × A) → List ℕ → Option A
 found [] text = None
 found (e ∷ es) text = if bytes_eq text e.0 then Some e.1 else found es text
+
+-- a row of the code's table, its name by its bytes
+abbrev pub name_of : {A : Type 0} → Bor (List ℕ) × A → List ℕ × A
+name_of row = (row.0.now, row.1)
 
 abbrev pub register_of : List ℕ → Option Register
 register_of text = found (in_both_cases register_names) text

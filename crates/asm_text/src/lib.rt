@@ -26,6 +26,7 @@ mod register;
 mod said;
 mod shown;
 mod statement;
+mod table;
 mod token;
 mod word;
 

@@ -1,10 +1,11 @@
 ghost use Rattle.std.specs.Prelude.{◌≡◌};
 ghost use Rattle.asm_text.specs.Names.{cond_of, head_of, may_have as may_have_suffix, suffix_of, is_compare, is_block_suffix};
 
+use crate::table::named_in;
 use arm2_decode::{Cond, Opcode};
 
 /// The first three letters of a word, but for B, BL, ORG and DCD.
-#[derive(Clone, Copy, Debug, PartialEq, Eq)]
+#[derive(Clone, Copy)]
 pub enum Head {
     /// A data processing word.
     Data(Opcode),
@@ -21,7 +22,7 @@ pub enum Head {
 }
 
 /// What stands behind the condition of a word.
-#[derive(Clone, Copy, Debug, PartialEq, Eq)]
+#[derive(Clone, Copy)]
 pub enum Suffix {
     /// Nothing.
     Bare,
@@ -53,92 +54,90 @@ pub enum Suffix {
     Ea,
 }
 
-// The variant that a text names.
-macro_rules! named {
-    ($text:expr; $($name:literal => $variant:expr,)+) => {
-        match $text {
-            $($name => Some($variant),)+
-            _ => None,
-        }
-    };
-}
+// Names in upper case.
+
+const CONDS: [(&[u8], Cond); 16] = [
+    (b"EQ", Cond::Eq),
+    (b"NE", Cond::Ne),
+    (b"CS", Cond::Cs),
+    (b"CC", Cond::Cc),
+    (b"MI", Cond::Mi),
+    (b"PL", Cond::Pl),
+    (b"VS", Cond::Vs),
+    (b"VC", Cond::Vc),
+    (b"HI", Cond::Hi),
+    (b"LS", Cond::Ls),
+    (b"GE", Cond::Ge),
+    (b"LT", Cond::Lt),
+    (b"GT", Cond::Gt),
+    (b"LE", Cond::Le),
+    (b"AL", Cond::Al),
+    (b"NV", Cond::Nv),
+];
+
+const HEADS: [(&[u8], Head); 24] = [
+    (b"AND", Head::Data(Opcode::And)),
+    (b"EOR", Head::Data(Opcode::Eor)),
+    (b"SUB", Head::Data(Opcode::Sub)),
+    (b"RSB", Head::Data(Opcode::Rsb)),
+    (b"ADD", Head::Data(Opcode::Add)),
+    (b"ADC", Head::Data(Opcode::Adc)),
+    (b"SBC", Head::Data(Opcode::Sbc)),
+    (b"RSC", Head::Data(Opcode::Rsc)),
+    (b"TST", Head::Data(Opcode::Tst)),
+    (b"TEQ", Head::Data(Opcode::Teq)),
+    (b"CMP", Head::Data(Opcode::Cmp)),
+    (b"CMN", Head::Data(Opcode::Cmn)),
+    (b"ORR", Head::Data(Opcode::Orr)),
+    (b"MOV", Head::Data(Opcode::Mov)),
+    (b"BIC", Head::Data(Opcode::Bic)),
+    (b"MVN", Head::Data(Opcode::Mvn)),
+    (b"MUL", Head::Multiply(false)),
+    (b"MLA", Head::Multiply(true)),
+    (b"LDR", Head::Single(true)),
+    (b"STR", Head::Single(false)),
+    (b"LDM", Head::Block(true)),
+    (b"STM", Head::Block(false)),
+    (b"SWI", Head::Swi),
+    (b"ADR", Head::Adr),
+];
+
+const SUFFIXES: [(&[u8], Suffix); 14] = [
+    (b"", Suffix::Bare),
+    (b"S", Suffix::S),
+    (b"P", Suffix::P),
+    (b"B", Suffix::B),
+    (b"T", Suffix::T),
+    (b"BT", Suffix::Bt),
+    (b"IA", Suffix::Ia),
+    (b"IB", Suffix::Ib),
+    (b"DA", Suffix::Da),
+    (b"DB", Suffix::Db),
+    (b"FD", Suffix::Fd),
+    (b"ED", Suffix::Ed),
+    (b"FA", Suffix::Fa),
+    (b"EA", Suffix::Ea),
+];
 
 /// The condition that a text in upper case names.
 pub(crate) fn named_cond(text: &[u8]) -> Option<Cond>
     ensures { result ≡ cond_of text.now }
 {
-    named!(text;
-        b"EQ" => Cond::Eq,
-        b"NE" => Cond::Ne,
-        b"CS" => Cond::Cs,
-        b"CC" => Cond::Cc,
-        b"MI" => Cond::Mi,
-        b"PL" => Cond::Pl,
-        b"VS" => Cond::Vs,
-        b"VC" => Cond::Vc,
-        b"HI" => Cond::Hi,
-        b"LS" => Cond::Ls,
-        b"GE" => Cond::Ge,
-        b"LT" => Cond::Lt,
-        b"GT" => Cond::Gt,
-        b"LE" => Cond::Le,
-        b"AL" => Cond::Al,
-        b"NV" => Cond::Nv,
-    )
+    named_in(&CONDS, text)
 }
 
 /// The head that a text in upper case names.
 pub(crate) fn named_head(text: &[u8]) -> Option<Head>
     ensures { result ≡ head_of text.now }
 {
-    named!(text;
-        b"AND" => Head::Data(Opcode::And),
-        b"EOR" => Head::Data(Opcode::Eor),
-        b"SUB" => Head::Data(Opcode::Sub),
-        b"RSB" => Head::Data(Opcode::Rsb),
-        b"ADD" => Head::Data(Opcode::Add),
-        b"ADC" => Head::Data(Opcode::Adc),
-        b"SBC" => Head::Data(Opcode::Sbc),
-        b"RSC" => Head::Data(Opcode::Rsc),
-        b"TST" => Head::Data(Opcode::Tst),
-        b"TEQ" => Head::Data(Opcode::Teq),
-        b"CMP" => Head::Data(Opcode::Cmp),
-        b"CMN" => Head::Data(Opcode::Cmn),
-        b"ORR" => Head::Data(Opcode::Orr),
-        b"MOV" => Head::Data(Opcode::Mov),
-        b"BIC" => Head::Data(Opcode::Bic),
-        b"MVN" => Head::Data(Opcode::Mvn),
-        b"MUL" => Head::Multiply(false),
-        b"MLA" => Head::Multiply(true),
-        b"LDR" => Head::Single(true),
-        b"STR" => Head::Single(false),
-        b"LDM" => Head::Block(true),
-        b"STM" => Head::Block(false),
-        b"SWI" => Head::Swi,
-        b"ADR" => Head::Adr,
-    )
+    named_in(&HEADS, text)
 }
 
 /// The suffix that a text in upper case names.
 pub(crate) fn named_suffix(text: &[u8]) -> Option<Suffix>
     ensures { result ≡ suffix_of text.now }
 {
-    named!(text;
-        b"" => Suffix::Bare,
-        b"S" => Suffix::S,
-        b"P" => Suffix::P,
-        b"B" => Suffix::B,
-        b"T" => Suffix::T,
-        b"BT" => Suffix::Bt,
-        b"IA" => Suffix::Ia,
-        b"IB" => Suffix::Ib,
-        b"DA" => Suffix::Da,
-        b"DB" => Suffix::Db,
-        b"FD" => Suffix::Fd,
-        b"ED" => Suffix::Ed,
-        b"FA" => Suffix::Fa,
-        b"EA" => Suffix::Ea,
-    )
+    named_in(&SUFFIXES, text)
 }
 
 /// Whether a word writes the flags alone.

@@ -2,45 +2,76 @@ ghost use Rattle.std.specs.Prelude.{◌≡◌, map, option_map};
 ghost use Rattle.asm_text.specs.Pieces.{behind, piece_of};
 ghost use Rattle.asm_text.specs.Registers.{is_rrx, register_comma_first, register_first, register_of, shift_of};
 
+use crate::table::named_in;
 use crate::token::Token;
 use arm2_decode::{Register, Shift};
+
+// Names, first in upper and then in lower case.
+
+const REGISTERS: [(&[u8], Register); 38] = [
+    (b"R0", Register::R0),
+    (b"R1", Register::R1),
+    (b"R2", Register::R2),
+    (b"R3", Register::R3),
+    (b"R4", Register::R4),
+    (b"R5", Register::R5),
+    (b"R6", Register::R6),
+    (b"R7", Register::R7),
+    (b"R8", Register::R8),
+    (b"R9", Register::R9),
+    (b"R10", Register::R10),
+    (b"R11", Register::R11),
+    (b"R12", Register::R12),
+    (b"R13", Register::R13),
+    (b"R14", Register::R14),
+    (b"R15", Register::R15),
+    (b"SP", Register::R13),
+    (b"LR", Register::R14),
+    (b"PC", Register::R15),
+    (b"r0", Register::R0),
+    (b"r1", Register::R1),
+    (b"r2", Register::R2),
+    (b"r3", Register::R3),
+    (b"r4", Register::R4),
+    (b"r5", Register::R5),
+    (b"r6", Register::R6),
+    (b"r7", Register::R7),
+    (b"r8", Register::R8),
+    (b"r9", Register::R9),
+    (b"r10", Register::R10),
+    (b"r11", Register::R11),
+    (b"r12", Register::R12),
+    (b"r13", Register::R13),
+    (b"r14", Register::R14),
+    (b"r15", Register::R15),
+    (b"sp", Register::R13),
+    (b"lr", Register::R14),
+    (b"pc", Register::R15),
+];
+
+const SHIFTS: [(&[u8], Shift); 8] = [
+    (b"LSL", Shift::Lsl),
+    (b"LSR", Shift::Lsr),
+    (b"ASR", Shift::Asr),
+    (b"ROR", Shift::Ror),
+    (b"lsl", Shift::Lsl),
+    (b"lsr", Shift::Lsr),
+    (b"asr", Shift::Asr),
+    (b"ror", Shift::Ror),
+];
 
 /// The register that a text names.
 pub(crate) fn named_register(text: &[u8]) -> Option<Register>
     ensures { result ≡ register_of text.now }
 {
-    match text {
-        b"R0" | b"r0" => Some(Register::R0),
-        b"R1" | b"r1" => Some(Register::R1),
-        b"R2" | b"r2" => Some(Register::R2),
-        b"R3" | b"r3" => Some(Register::R3),
-        b"R4" | b"r4" => Some(Register::R4),
-        b"R5" | b"r5" => Some(Register::R5),
-        b"R6" | b"r6" => Some(Register::R6),
-        b"R7" | b"r7" => Some(Register::R7),
-        b"R8" | b"r8" => Some(Register::R8),
-        b"R9" | b"r9" => Some(Register::R9),
-        b"R10" | b"r10" => Some(Register::R10),
-        b"R11" | b"r11" => Some(Register::R11),
-        b"R12" | b"r12" => Some(Register::R12),
-        b"R13" | b"r13" | b"SP" | b"sp" => Some(Register::R13),
-        b"R14" | b"r14" | b"LR" | b"lr" => Some(Register::R14),
-        b"R15" | b"r15" | b"PC" | b"pc" => Some(Register::R15),
-        _ => None,
-    }
+    named_in(&REGISTERS, text)
 }
 
 /// The shift that a text names.
 pub(crate) fn named_shift(text: &[u8]) -> Option<Shift>
     ensures { result ≡ shift_of text.now }
 {
-    match text {
-        b"LSL" | b"lsl" => Some(Shift::Lsl),
-        b"LSR" | b"lsr" => Some(Shift::Lsr),
-        b"ASR" | b"asr" => Some(Shift::Asr),
-        b"ROR" | b"ror" => Some(Shift::Ror),
-        _ => None,
-    }
+    named_in(&SHIFTS, text)
 }
 
 /// Whether a text names the rotation by one place through the carry.

@@ -7,7 +7,7 @@ ghost use Rattle.asm_text.specs.Statements.{begins_blank_or_ends as blank_or_end
 use std::alloc::{AllocError, Global};
 
 /// A byte that is no letter, digit, `_`, blank or comma.
-#[derive(Clone, Copy, Debug, PartialEq, Eq)]
+#[derive(Clone, Copy)]
 pub enum Mark {
     /// `#`
     Hash,
@@ -32,7 +32,7 @@ pub enum Mark {
 }
 
 /// A piece of a line.
-#[derive(Clone, Copy, Debug)]
+#[derive(Clone, Copy)]
 pub enum Token<'a> {
     /// Letters, digits and `_`, as many as stand side by side.
     Run(&'a [u8]),

@@ -10,7 +10,7 @@ use arm2_decode::Cond;
 use std::alloc::{AllocError, Global};
 
 /// A word of the source, without its spelling.
-#[derive(Clone, Copy, Debug, PartialEq, Eq)]
+#[derive(Clone, Copy)]
 pub enum Word {
     /// A head, a condition and a suffix.
     Plain(Head, Cond, Suffix),

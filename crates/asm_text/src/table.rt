@@ -1,0 +1,20 @@
+ghost use Rattle.std.specs.Prelude.{◌≡◌, map, option_map};
+ghost use Rattle.std.specs.List.{find};
+ghost use Rattle.std.specs.Str.{bytes_eq};
+ghost use Rattle.asm_text.specs.Registers.{found, name_of};
+
+fn first_row<'a, 'b, T>(table: &'a [(&'b [u8], T)], text: &[u8]) -> Option<&'a (&'b [u8], T)>
+    ensures { option_map (λ row. row.now) result ≡ find (λ row. bytes_eq text.now row.0.now) table.now }
+{
+    table.iter().find(|row| text == row.0)
+}
+
+/// What a text names in a table of names.
+pub(crate) fn named_in<T: Copy>(table: &[(&[u8], T)], text: &[u8]) -> Option<T>
+    ensures { result ≡ found (map name_of table.now) text.now }
+{
+    match first_row(table, text) {
+        Some(row) => Some(row.1),
+        None => None,
+    }
+}
