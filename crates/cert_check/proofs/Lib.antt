@@ -17,3 +17,6 @@ pub mod WalkParts
 pub mod WalkFollowing
 pub mod WalkSteps
 pub mod WalkVerdict
+pub mod SameMembers
+pub mod OtherTree
+pub mod OneVerdict
