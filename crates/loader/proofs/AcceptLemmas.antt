@@ -1,11 +1,10 @@
 -- Bytes that are read as an image are those of segments that spell it.
-use Rattle.std.proofs.Common.{◌≡◌, ◌∙◌, ℕ, zero, suc, ◌+◌, ◌-◌, ◌*◌, ◌/◌, ◌%◌, ◌^◌, ◌<◌, ◌≤◌, Bool, true, false, cond, List, [], ◌∷◌, ◌++◌, length, take, drop, get_or, length-drop, flat_map, Option, Some, None, Result, Ok, Err, refl, sym, ap, subst, arith, append_assoc}
-use Rattle.std.specs.Prelude.{◌||◌, nat_lt, nat_le}
+use Rattle.std.proofs.Common.{◌≡◌, ◌∙◌, ℕ, zero, suc, ◌+◌, ◌*◌, ◌/◌, ◌%◌, ◌^◌, ◌<◌, ◌≤◌, Bool, true, false, cond, List, [], ◌∷◌, ◌++◌, length, take, drop, get_or, length-drop, flat_map, Option, Some, None, Result, Ok, Err, refl, sym, ap, subst, arith, append_assoc}
+use Rattle.std.specs.Prelude.{◌==◌, nat_lt}
 use Rattle.std.specs.List.{AllByRecursion}
 use Rattle.std.specs.Cmp.Lexicographic.{bytes_decides}
 use Rattle.std.specs.Str.{bytes_eq}
 use Rattle.std.proofs.lemmas.Bool.{ltb-false}
-use Rattle.std.proofs.lemmas.Bool.Decides.{nat_tests}
 use Rattle.std.proofs.lemmas.List.{drop-drop, get_or-drop, take-append-drop, take_all}
 use Rattle.byteorder.specs.Endian.{little_bytes, little_number}
 use Rattle.loader.specs.Image.{Words}
@@ -20,10 +19,10 @@ use Rattle.loader.proofs.SegmentLemmas.{length_numbers}
 abbrev pub AreBytes : List ℕ → Type 0
 AreBytes bytes = (k : ℕ) → get_or bytes k 0 < 256
 
-bytes_behind : (n : ℕ) (bytes : List ℕ) → AreBytes bytes → AreBytes (drop n bytes)
+pub bytes_behind : (n : ℕ) (bytes : List ℕ) → AreBytes bytes → AreBytes (drop n bytes)
 bytes_behind n bytes all = λ k. subst (λ (b : ℕ). b < 256) (sym (get_or-drop n bytes k 0)) (all (n + k))
 
-four_split : (bytes : List ℕ) → AreBytes bytes → 4 ≤ length bytes → bytes ≡ little_bytes 4 (little_number 4 bytes) ++ drop 4 bytes
+pub four_split : (bytes : List ℕ) → AreBytes bytes → 4 ≤ length bytes → bytes ≡ little_bytes 4 (little_number 4 bytes) ++ drop 4 bytes
 four_split [] all some = absurd (omega (arith, some))
 four_split (a ∷ []) all some = absurd (omega (arith, some))
 four_split (a ∷ b ∷ []) all some = absurd (omega (arith, some))
@@ -51,7 +50,7 @@ numbers_split (suc count) bytes all some =
     ∙ ap (λ (bs : List ℕ). four ++ bs) (numbers_split count (drop 4 bytes) (bytes_behind 4 bytes all) (omega (arith, some, len)))
     ∙ ap (λ (bs : List ℕ). four ++ (words ++ bs)) (drop-drop (4 * count) 4 bytes ∙ ap (λ (n : ℕ). drop n bytes) (omega arith))
 
-number_fits : (bytes : List ℕ) → AreBytes bytes → little_number 4 bytes < 2 ^ 32
+pub number_fits : (bytes : List ℕ) → AreBytes bytes → little_number 4 bytes < 2 ^ 32
 number_fits bytes all =
     let a : get_or bytes 0 0 < 256 = all 0 in
     let b : get_or bytes 1 0 < 256 = all 1 in
@@ -59,19 +58,34 @@ number_fits bytes all =
     let d : get_or bytes 3 0 < 256 = all 3 in
     omega (arith, a, b, c, d)
 
-numbers_fit : (count : ℕ) (bytes : List ℕ) → AreBytes bytes → AreNumbers (numbers count bytes)
+pub numbers_fit : (count : ℕ) (bytes : List ℕ) → AreBytes bytes → AreNumbers (numbers count bytes)
 numbers_fit zero bytes all = tt
 numbers_fit (suc count) bytes all = (number_fits bytes all, numbers_fit count (drop 4 bytes) (bytes_behind 4 bytes all))
+
+-- behind four bytes nothing counts
+pub number_front : (xs ys : List ℕ) → 4 ≤ length xs → little_number 4 (xs ++ ys) ≡ little_number 4 xs
+number_front [] ys some = absurd (omega (arith, some))
+number_front (a ∷ []) ys some = absurd (omega (arith, some))
+number_front (a ∷ b ∷ []) ys some = absurd (omega (arith, some))
+number_front (a ∷ b ∷ c ∷ []) ys some = absurd (omega (arith, some))
+number_front (a ∷ b ∷ c ∷ d ∷ rest) ys some = refl
 
 -- ## One segment
 
 abbrev pub segment_at : ℕ → List ℕ → Segment
 segment_at count bytes = record { address = head_address bytes; words = numbers count (drop 8 bytes) }
 
-head_counted : (c l : ℕ) → 8 ≤ l → cond (nat_lt 0 c || nat_le 8 l) c (256 ^ (l - 4)) ≡ c
-head_counted c l long = grind (arith, nat_tests, long)
+-- the number of words of a head that is whole
+pub head_counted : (bytes : List ℕ) → 8 ≤ length bytes → head_count bytes ≡ little_number 4 (drop 4 bytes)
+head_counted bytes long =
+    let len = length-drop 4 bytes in
+    either (little_number 4 (drop 4 bytes) == 0) (number_front (drop 4 bytes) (1 ∷ []) (omega (arith, long, len)))
+  where
+    either : {n m : ℕ} (b : Bool) → m ≡ n → cond b m n ≡ n
+    either true same = same
+    either false same = refl
 
-segment_split : (count : ℕ) (bytes : List ℕ) → AreBytes bytes → count ≡ little_number 4 (drop 4 bytes) → 8 + 4 * count ≤ length bytes
+pub segment_split : (count : ℕ) (bytes : List ℕ) → AreBytes bytes → count ≡ little_number 4 (drop 4 bytes) → 8 + 4 * count ≤ length bytes
     → bytes ≡ segment_bytes (segment_at count bytes) ++ drop (8 + 4 * count) bytes
 segment_split count bytes all is long =
     let address = little_bytes 4 (little_number 4 bytes) in
@@ -91,15 +105,15 @@ segment_split count bytes all is long =
 
 -- ## All segments
 
-whole_part : (cut : Bool) (fault : ReadFault) (rest : Result Words ReadFault) (words : Words) → cond cut (Err fault) rest ≡ Ok words → rest ≡ Ok words
+pub whole_part : (cut : Bool) (fault : ReadFault) (rest : Result Words ReadFault) (words : Words) → cond cut (Err fault) rest ≡ Ok words → rest ≡ Ok words
 whole_part true fault rest words e = absurd (cc)
 whole_part false fault rest words e = e
 
-ok_parts : (fault : Option ReadFault) (short : Bool) (rest : Result Words ReadFault) (words : Words) → read_by fault (cond short (Err Truncated) rest) ≡ Ok words
+pub ok_parts : (fault : Option ReadFault) (short : Bool) (end : ReadFault) (rest : Result Words ReadFault) (words : Words) → read_by fault (cond short (Err end) rest) ≡ Ok words
     → (fault ≡ None) × (short ≡ false) × (rest ≡ Ok words)
-ok_parts (Some f) short rest words e = absurd (cc)
-ok_parts None true rest words e = absurd (cc)
-ok_parts None false rest words e = (refl, refl, e)
+ok_parts (Some f) short end rest words e = absurd (cc)
+ok_parts None true end rest words e = absurd (cc)
+ok_parts None false end rest words e = (refl, refl, e)
 
 record IsRead (left : ℕ) (before words : Words) (bytes : List ℕ) : Type 0 where
   segments : List Segment
@@ -114,7 +128,7 @@ one_more : (left : ℕ) (before words : Words) (bytes : List ℕ) → AreBytes b
 one_more left before words bytes all none long others =
     let count = head_count bytes in
     let s = segment_at count bytes in
-    let is : count ≡ little_number 4 (drop 4 bytes) = head_counted (little_number 4 (drop 4 bytes)) (length bytes) (omega (arith, long)) in
+    let is : count ≡ little_number 4 (drop 4 bytes) = head_counted bytes (omega (arith, long)) in
     record {
       segments = s ∷ others.segments;
       count = ap suc others.count;
@@ -128,19 +142,19 @@ all_read : (left : ℕ) (before words : Words) (bytes : List ℕ) → AreBytes b
 all_read zero before words [] all e = record { segments = []; count = refl; bytes_are = refl; numbers_are = tt; follow = tt; words_are = cc }
 all_read zero before words (b ∷ rest) all e = absurd (cc)
 all_read (suc left) before words bytes all e =
-    let p = ok_parts (segment_fault before (head_address bytes) (head_count bytes)) (nat_lt (length bytes) (8 + 4 * head_count bytes)) _ words (whole_part (nat_lt (length bytes) 4) (cut_fault before bytes) _ words e) in
+    let p = ok_parts (segment_fault before (head_address bytes) (head_count bytes)) (nat_lt (length bytes) (8 + 4 * head_count bytes)) _ _ words (whole_part (nat_lt (length bytes) 4) (cut_fault before left bytes) _ words e) in
     one_more left before words bytes all p.0 (ltb-false (length bytes) (8 + 4 * head_count bytes) p.1)
     (all_read left _ words (drop (8 + 4 * head_count bytes) bytes) (bytes_behind (8 + 4 * head_count bytes) bytes all) p.2)
 
 -- ## The magic and the number of segments
 
-magic_parts : (same short : Bool) (rest : Result Words ReadFault) (words : Words) → cond same (cond short (Err Truncated) rest) (Err BadMagic) ≡ Ok words
+pub magic_parts : (same short : Bool) (rest : Result Words ReadFault) (words : Words) → cond same (cond short (Err Truncated) rest) (Err BadMagic) ≡ Ok words
     → (same ≡ true) × (short ≡ false) × (rest ≡ Ok words)
 magic_parts false short rest words e = absurd (cc)
 magic_parts true true rest words e = absurd (cc)
 magic_parts true false rest words e = (refl, refl, e)
 
-count_parts : (many short : Bool) (rest : Result Words ReadFault) (words : Words) → cond many (Err OutOfRange) (cond short (Err Truncated) rest) ≡ Ok words
+pub count_parts : (many short : Bool) (rest : Result Words ReadFault) (words : Words) → cond many (Err OutOfRange) (cond short (Err Truncated) rest) ≡ Ok words
     → (many ≡ false) × (short ≡ false) × (rest ≡ Ok words)
 count_parts true short rest words e = absurd (cc)
 count_parts false true rest words e = absurd (cc)

@@ -5,5 +5,8 @@ mod SegmentLemmas
 mod RunLemmas
 mod SpellLemmas
 mod WrittenLemmas
+mod RoomLemmas
 mod AcceptLemmas
+mod CutLemmas
+mod FrontLemmas
 mod LoadLemmas

@@ -39,19 +39,20 @@ some_more (Some x) xs last P rest h = ap is_more (sym h)
 
 -- ## From the first segment to the last
 
-next_left : (count done : ℕ) → done < count → count - done ≡ suc (count - (done + 1))
-next_left count done lt = omega (arith, lt)
+next_left : (count done others : ℕ) → others ≡ count - (done + 1) → done < count → count - done ≡ suc others
+next_left count done others is lt = omega (arith, is, lt)
 
 -- what is read behind one segment more
 pub read_rest : (bytes rest next : List ℕ) (words new : Words) (count done : ℕ) → image_read bytes ≡ segments_read (count - done) words rest → done < count
-    → ((left : ℕ) → segments_read (suc left) words rest ≡ segments_read left new next) → image_read bytes ≡ segments_read (count - (done + 1)) new next
-read_rest bytes rest next words new count done same lt more = same ∙ ap (λ (n : ℕ). segments_read n words rest) (next_left count done lt) ∙ more (count - (done + 1))
+    → (others : ℕ) → others ≡ count - (done + 1) → segments_read (suc others) words rest ≡ segments_read others new next → image_read bytes ≡ segments_read (count - (done + 1)) new next
+read_rest bytes rest next words new count done same lt others is more =
+    same ∙ ap (λ (n : ℕ). segments_read n words rest) (next_left count done others is lt) ∙ more ∙ ap (λ (n : ℕ). segments_read n new next) is
 
 -- its fault is the image's
 pub read_fault : (bytes rest : List ℕ) (words : Words) (count done : ℕ) (fault : ReadFault) → image_read bytes ≡ segments_read (count - done) words rest → done < count
-    → (fault ≡ Memory) ⊎ ((left : ℕ) → segments_read (suc left) words rest ≡ Err fault) → (fault ≡ Memory) ⊎ (image_read bytes ≡ Err fault)
-read_fault bytes rest words count done fault same lt (inl memory) = inl memory
-read_fault bytes rest words count done fault same lt (inr refused) = inr (same ∙ ap (λ (n : ℕ). segments_read n words rest) (next_left count done lt) ∙ refused (count - (done + 1)))
+    → (others : ℕ) → others ≡ count - (done + 1) → (fault ≡ Memory) ⊎ (segments_read (suc others) words rest ≡ Err fault) → (fault ≡ Memory) ⊎ (image_read bytes ≡ Err fault)
+read_fault bytes rest words count done fault same lt others is (inl memory) = inl memory
+read_fault bytes rest words count done fault same lt others is (inr refused) = inr (same ∙ ap (λ (n : ℕ). segments_read n words rest) (next_left count done others is lt) ∙ refused)
 
 -- behind the last segment
 pub read_end : (bytes rest : List ℕ) (words : Words) (count done : ℕ) → image_read bytes ≡ segments_read (count - done) words rest → done ≤ count → count ≤ done → image_read bytes ≡ segments_read 0 words rest

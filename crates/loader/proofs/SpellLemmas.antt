@@ -1,18 +1,17 @@
 -- The bytes of segments are read as their words.
-use Rattle.std.proofs.Common.{◌≡◌, ◌∙◌, ℕ, suc, ◌+◌, ◌-◌, ◌*◌, ◌^◌, ◌<◌, ◌≤◌, Bool, true, false, cond, List, [], ◌∷◌, ◌++◌, length, take, drop, flat_map, Option, None, Result, Ok, Err, refl, sym, ap, subst, inl, inr, arith, length-append}
-use Rattle.std.specs.Prelude.{◌||◌, nat_lt, nat_le}
+use Rattle.std.proofs.Common.{◌≡◌, ◌∙◌, ℕ, suc, ◌+◌, ◌*◌, ◌^◌, ◌<◌, ◌≤◌, Bool, true, false, cond, List, [], ◌∷◌, ◌++◌, length, take, drop, flat_map, Option, None, Result, Ok, Err, refl, sym, ap, subst, inl, inr, arith, length-append}
+use Rattle.std.specs.Prelude.{◌==◌, nat_lt}
 use Rattle.std.specs.List.{AllByRecursion}
 use Rattle.std.specs.Str.{bytes_eq}
-use Rattle.std.proofs.lemmas.Bool.{le-ltb, lt-ltb}
+use Rattle.std.proofs.lemmas.Bool.{le-ltb, ne_eqb}
 use Rattle.std.proofs.lemmas.List.{take_all, drop-drop}
 use Rattle.std.proofs.Math.Seq.{drop-append_seam}
 use Rattle.byteorder.specs.Endian.{little_bytes, little_number}
 use Rattle.byteorder.specs.Numbers.{little_number-reads_back}
 use Rattle.loader.specs.Image.{Words}
-use Rattle.loader.specs.ImageBytes.{Segment, count_read, cut_fault, head_address, head_count, image_bytes, image_read, magic, numbers, read_by, segment_bytes, segment_fault, segments_read, with_words}
+use Rattle.loader.specs.ImageBytes.{Segment, count_read, cut_fault, end_fault, head_address, head_count, image_bytes, image_read, magic, numbers, read_by, segment_bytes, segment_fault, segments_read, with_words}
 use Rattle.loader.specs.Spelling.{AreNumbers, CanFollow, Spell, with_segments}
 use Rattle.loader.specs.declared.reading.ReadFault.{ReadFault}
-use Rattle.loader.specs.declared.reading.ReadFault.TheVariants.{Truncated}
 use Rattle.loader.proofs.SegmentLemmas.{CanStand, can_stand}
 
 -- ## Numbers
@@ -35,21 +34,21 @@ words_behind words rest = ap (λ (n : ℕ). drop n (flat_map (little_bytes 4) wo
 
 -- ## One segment
 
-count_taken : (c l : ℕ) → 0 < c → cond (nat_lt 0 c || nat_le 8 l) c (256 ^ (l - 4)) ≡ c
-count_taken c l some = rw (lt-ltb 0 c some) refl
+pub count_taken : (c d : ℕ) → 0 < c → cond (c == 0) d c ≡ c
+count_taken c d some = rw (ne_eqb c 0 (λ none. omega (arith, some, none))) refl
 
 passed : {X : Type 0} (b : Bool) (x y : X) → b ≡ false → cond b x y ≡ y
 passed b x y e = rw e refl
 
-no_fault : (fault : Option ReadFault) (short : Bool) (rest : Result Words ReadFault) → fault ≡ None → short ≡ false → read_by fault (cond short (Err Truncated) rest) ≡ rest
-no_fault fault short rest none long = rw (none, long) refl
+no_fault : (fault : Option ReadFault) (short : Bool) (end : ReadFault) (rest : Result Words ReadFault) → fault ≡ None → short ≡ false → read_by fault (cond short (Err end) rest) ≡ rest
+no_fault fault short end rest none long = rw (none, long) refl
 
 -- what is read at a head whose numbers are known
 abbrev pub read_at : ℕ → Words → List ℕ → ℕ → ℕ → Result Words ReadFault
 read_at left before bytes address count =
-    cond (nat_lt (length bytes) 4) (Err (cut_fault before bytes))
+    cond (nat_lt (length bytes) 4) (Err (cut_fault before left bytes))
     (read_by (segment_fault before address count)
-    (cond (nat_lt (length bytes) (8 + 4 * count)) (Err Truncated) (segments_read left (with_words before address (numbers count (drop 8 bytes))) (drop (8 + 4 * count) bytes))))
+    (cond (nat_lt (length bytes) (8 + 4 * count)) (Err (end_fault (length before + count) left)) (segments_read left (with_words before address (numbers count (drop 8 bytes))) (drop (8 + 4 * count) bytes))))
 
 -- one segment is read where its head, which is whole, has no fault
 pub read_step : (left : ℕ) (words new : Words) (bytes rest : List ℕ) (address count : ℕ) → head_address bytes ≡ address → head_count bytes ≡ count → segment_fault words address count ≡ None
@@ -58,7 +57,7 @@ read_step left words new bytes rest address count is_address is_count none long 
     ap (λ (a : ℕ). read_at left words bytes a (head_count bytes)) is_address
     ∙ ap (λ (n : ℕ). read_at left words bytes address n) is_count
     ∙ passed (nat_lt (length bytes) 4) _ _ (le-ltb (length bytes) 4 (omega (arith, long)))
-    ∙ no_fault (segment_fault words address count) (nat_lt (length bytes) (8 + 4 * count)) _ none (le-ltb (length bytes) (8 + 4 * count) long)
+    ∙ no_fault (segment_fault words address count) (nat_lt (length bytes) (8 + 4 * count)) _ _ none (le-ltb (length bytes) (8 + 4 * count) long)
     ∙ ap (λ (ws : Words). segments_read left ws (drop (8 + 4 * count) bytes)) is_new
     ∙ ap (λ (bs : List ℕ). segments_read left new bs) is_rest
 
@@ -73,7 +72,7 @@ segment_read s before rest left none all =
     let address : head_address bytes ≡ s.address = four_read s.address (little_bytes 4 (length s.words) ++ (words ++ rest)) low in
     let number : little_number 4 (drop 4 bytes) ≡ length s.words = four_read (length s.words) (words ++ rest) few in
     let some : 0 < little_number 4 (drop 4 bytes) = subst (λ (n : ℕ). 0 < n) (sym number) can.some in
-    let count : head_count bytes ≡ length s.words = count_taken (little_number 4 (drop 4 bytes)) (length bytes) some ∙ number in
+    let count : head_count bytes ≡ length s.words = count_taken (little_number 4 (drop 4 bytes)) _ some ∙ number in
     let long : length bytes ≡ 8 + 4 * length s.words + length rest = (let l = words_length s.words in let a = length-append words rest in omega (arith, l, a)) in
     let behind : drop (8 + 4 * length s.words) bytes ≡ rest =
     ap (λ (n : ℕ). drop n bytes) (omega arith) ∙ sym (drop-drop (4 * length s.words) 8 bytes) ∙ words_behind s.words rest in

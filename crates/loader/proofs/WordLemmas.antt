@@ -29,10 +29,10 @@ absent_split : (b : Bool) (v : ℕ) (o : Option ℕ) → cond b (Some v) o ≡ N
 absent_split true v o h = absurd (cc)
 absent_split false v o h = (refl, h)
 
-absent_first : (e : ℕ × ℕ) (rest : Words) (a : ℕ) → word_of (e ∷ rest) a ≡ None → e.0 ≢ a
+pub absent_first : (e : ℕ × ℕ) (rest : Words) (a : ℕ) → word_of (e ∷ rest) a ≡ None → e.0 ≢ a
 absent_first e rest a none = eqb-false _ _ (absent_split (eqb e.0 a) e.1 (word_of rest a) none).0
 
-absent_rest : (e : ℕ × ℕ) (rest : Words) (a : ℕ) → word_of (e ∷ rest) a ≡ None → word_of rest a ≡ None
+pub absent_rest : (e : ℕ × ℕ) (rest : Words) (a : ℕ) → word_of (e ∷ rest) a ≡ None → word_of rest a ≡ None
 absent_rest e rest a none = (absent_split (eqb e.0 a) e.1 (word_of rest a) none).1
 
 -- the map's insertion puts the word
@@ -53,7 +53,7 @@ all_with_word P (e ∷ rest) a w all p = elim (cases_lt a e.0) [
 ]
 
 -- addresses above one are above any below it
-above : (x y : ℕ) (words : Words) → x < y → AllByRecursion (λ f. y < f.0) words → AllByRecursion (λ f. x < f.0) words
+pub above : (x y : ℕ) (words : Words) → x < y → AllByRecursion (λ f. y < f.0) words → AllByRecursion (λ f. x < f.0) words
 above x y [] lt all = tt
 above x y (e ∷ rest) lt all = (let h : y < e.0 = all.0 in omega arith, above x y rest lt all.1)
 
@@ -101,7 +101,7 @@ has_below (e ∷ rest) a all = let lt : a < e.0 = all.0 in rw (ne_eqb e.0 a (λ 
 begins_next : (p a : ℕ) → a ≡ p + 4 → begins (Some p) a ≡ 0
 begins_next p a same = rw (eq-eqb a (p + 4) same) refl
 
-begins_new : (p a : ℕ) → a ≢ p + 4 → begins (Some p) a ≡ 1
+pub begins_new : (p a : ℕ) → a ≢ p + 4 → begins (Some p) a ≡ 1
 begins_new p a other = rw (ne_eqb a (p + 4) other) refl
 
 -- a word follows the one before it, or begins a run

@@ -86,7 +86,7 @@ words_last before a (w ∷ ws) all =
 
 -- ## Where a run stands
 
-may_parts : (a : ℕ) → IsTrue (may_hold a) → (a % 4 ≡ 0) × (a < 0x4000000) × ((a < 0x3000000) ⊎ (0x3400000 ≤ a))
+pub may_parts : (a : ℕ) → IsTrue (may_hold a) → (a % 4 ≡ 0) × (a < 0x4000000) × ((a < 0x3000000) ⊎ (0x3400000 ≤ a))
 may_parts a may = elim (cases_lt a 0x3000000) [
   | inl low ↦ (grind (arith, nat_tests, may), grind (arith, nat_tests, may), inl low)
   | inr high ↦ (grind (arith, nat_tests, may), grind (arith, nat_tests, may), inr (grind (arith, nat_tests, may, high)))
@@ -118,7 +118,7 @@ none_overlaps (e ∷ before) a n all = neither _ _ (let lt : e.0 < a = all.0 in 
     neither : (x y : Bool) → x ≡ false → y ≡ false → (x || y) ≡ false
     neither x y p q = rw (p, q) refl
 
-no_fault : (words : Words) (a n : ℕ) → CanStand words a n → segment_fault words a n ≡ None
+pub no_fault : (words : Words) (a n : ℕ) → CanStand words a n → segment_fault words a n ≡ None
 no_fault words a n can =
     let even : (a % 4 == 0) ≡ true = eq-eqb (a % 4) 0 can.aligned in
     let some : (n == 0) ≡ false = ne_eqb n 0 (λ none. let more = can.some in omega (arith, none, more)) in

@@ -1,5 +1,5 @@
 -- Images as bytes. Source: our own image format. Every number has 32 bits, the lowest byte first.
-use Rattle.std.specs.Prelude.{ℕ, zero, suc, ◌+◌, ◌-◌, ◌*◌, ◌%◌, ◌^◌, ◌==◌, ◌&&◌, ◌||◌, not, nat_lt, nat_le, if◌then◌else◌, Bool, List, [], ◌∷◌, ◌++◌, length, drop, take, flat_map, codes, Option, Some, None, is_some, Result, Ok, Err}
+use Rattle.std.specs.Prelude.{ℕ, zero, suc, ◌+◌, ◌*◌, ◌%◌, ◌==◌, ◌&&◌, ◌||◌, not, nat_lt, nat_le, if◌then◌else◌, Bool, List, [], ◌∷◌, ◌++◌, length, drop, take, flat_map, codes, Option, Some, None, is_some, Result, Ok, Err}
 use Rattle.std.specs.List.{list_any}
 use Rattle.std.specs.Str.{bytes_eq}
 use Rattle.byteorder.specs.Endian.{little_bytes, little_number}
@@ -49,15 +49,15 @@ abbrev pub numbers : ℕ → List ℕ → List ℕ
 numbers zero bytes = []
 numbers (suc count) bytes = little_number 4 bytes ∷ numbers count (drop 4 bytes)
 
--- Bytes of a head that are missing are taken as the least that they can be: those of the address as 0, and those of the
--- number of words so that it is not 0.
+-- Bytes of a head that are missing are taken as the least that they can be: as 0, and where that would be no words, the
+-- first that is missing as 1.
 abbrev pub head_address : List ℕ → ℕ
 head_address bytes = little_number 4 bytes
 
 abbrev pub head_count : List ℕ → ℕ
 head_count bytes =
     let count = little_number 4 (drop 4 bytes) in
-    if nat_lt 0 count || nat_le 8 (length bytes) then count else 256 ^ (length bytes - 4)
+    if count == 0 then little_number 4 (drop 4 bytes ++ 1 ∷ []) else count
 
 -- the words lie below I/O, or above it and below 4000000
 abbrev pub lies_in_memory : ℕ → ℕ → Bool
@@ -79,13 +79,17 @@ segment_fault words address count =
 abbrev pub is_taken : Words → ℕ → Bool
 is_taken words address = not (may_hold address) || is_some (word_of words address)
 
--- Why no segment can stand behind words where its head ends within the address. Of the addresses that begin with
--- three bytes all can be taken; of those that begin with fewer some is free, as an image has 65,536 words at most.
-abbrev pub cut_fault : Words → List ℕ → ReadFault
-cut_fault words bytes =
+-- why bytes that end too early are no image's: so many words that they name and one for each segment to come pass 65,536
+abbrev pub end_fault : ℕ → ℕ → ReadFault
+end_fault named to_come = if nat_lt 65536 (named + to_come) then OutOfRange else Truncated
+
+-- Why bytes that end within the address of a segment, with so many others to come, are no image's. Of the addresses that
+-- begin with three bytes all can be taken; of those that begin with fewer some is free.
+abbrev pub cut_fault : Words → ℕ → List ℕ → ReadFault
+cut_fault words others bytes =
     let low = head_address bytes in
     if not (low % 4 == 0) then Misaligned
-    else (if nat_le 65536 (length words) then OutOfRange
+    else (if nat_lt 65536 (length words + suc others) then OutOfRange
     else (if length bytes == 3 && (is_taken words low && (is_taken words (low + 0x1000000) && (is_taken words (low + 0x2000000) && is_taken words (low + 0x3000000)))) then Overlap
     else Truncated))
 
@@ -100,9 +104,9 @@ segments_read zero words (b ∷ rest) = Err TrailingBytes
 segments_read (suc left) words bytes =
     let address = head_address bytes in
     let count = head_count bytes in
-    if nat_lt (length bytes) 4 then Err (cut_fault words bytes)
+    if nat_lt (length bytes) 4 then Err (cut_fault words left bytes)
     else read_by (segment_fault words address count)
-    (if nat_lt (length bytes) (8 + 4 * count) then Err Truncated
+    (if nat_lt (length bytes) (8 + 4 * count) then Err (end_fault (length words + count) left)
     else segments_read left (with_words words address (numbers count (drop 8 bytes))) (drop (8 + 4 * count) bytes))
 
 -- behind the magic: at most 16 segments

@@ -1,8 +1,8 @@
 -- The segments that spell an image. Source: our own image format.
-use Rattle.std.specs.Prelude.{◌≡◌, ◌<◌, ◌≤◌, ◌^◌, ℕ, List, [], ◌∷◌, length, None}
+use Rattle.std.specs.Prelude.{◌≡◌, ◌<◌, ◌≤◌, ◌^◌, ℕ, List, [], ◌∷◌, ◌++◌, length, None}
 use Rattle.std.specs.List.{AllByRecursion}
 use Rattle.loader.specs.Image.{Words}
-use Rattle.loader.specs.ImageBytes.{Segment, segment_fault, with_words}
+use Rattle.loader.specs.ImageBytes.{Segment, image_bytes, segment_fault, with_words}
 
 -- the words of segments, behind others
 abbrev pub with_segments : Words → List Segment → Words
@@ -24,3 +24,13 @@ pub record Spell (segments : List Segment) (words : Words) : Type 0 where
   pub numbers : AllByRecursion (λ s. AreNumbers s.words) segments
   pub follow : CanFollow [] segments
   pub words_are : words ≡ with_segments [] segments
+
+-- the bytes of an image
+abbrev pub AreImage : List ℕ → Type 0
+AreImage bytes = (segments : List Segment) × (words : Words) × Spell segments words × (bytes ≡ image_bytes segments)
+
+-- bytes that end too early: with those that are missing behind them they are an image's
+pub record BeginImage (bytes : List ℕ) : Type 0 where
+  pub missing : List ℕ
+  pub some : 0 < length missing
+  pub whole : AreImage (bytes ++ missing)

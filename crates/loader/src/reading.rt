@@ -1,6 +1,7 @@
-ghost use Rattle.std.specs.Prelude.{suc, [], ◌≡◌, ◌⊎◌, ◌+◌, ◌*◌, ◌<◌, ◌≤◌, ℕ, List, Ok, Err, Some, None, IsTrue, IfOk, IfErr, OnOk, OnErr, drop, length};
+ghost use Rattle.std.specs.Prelude.{suc, [], ◌∷◌, ◌++◌, ◌≡◌, ◌⊎◌, ◌+◌, ◌*◌, ◌<◌, ◌≤◌, ℕ, List, Ok, Err, Some, None, IsTrue, IfOk, IfErr, OnOk, OnErr, drop, length, replicate};
+ghost use Rattle.byteorder.specs.Endian.{little_number};
 ghost use Rattle.loader.specs.Image.{runs_of};
-ghost use Rattle.loader.specs.ImageBytes.{Segment, cut_fault, head_address, head_count, image_bytes, image_read, is_taken, lies_in_memory as is_in_memory, numbers, overlaps, segment_fault, segments_read, with_words};
+ghost use Rattle.loader.specs.ImageBytes.{Segment, cut_fault, end_fault, head_address, head_count, image_bytes, image_read, is_taken, lies_in_memory as is_in_memory, numbers, overlaps, segment_fault, segments_read, with_words};
 ghost use Rattle.loader.specs.Spelling.{Spell};
 
 use crate::image::{Image, ImageFault, can_hold};
@@ -44,6 +45,29 @@ pub enum ReadFault {
     OutOfRange,
 }
 
+// The number in four bytes, the lowest first; those that are missing count as 0.
+fn number_of(bytes: &[u8]) -> u32
+    ensures { result ≡ little_number 4 bytes.now }
+{
+    let mut padded = [0; 4];
+    let standing = bytes.len().min(4);
+    padded[..standing].copy_from_slice(&bytes[..standing]);
+    LittleEndian::read_u32(&padded)
+}
+
+// The least number but 0 whose four bytes begin with so many 0s.
+fn least_count(zeros: usize) -> u32
+    ensures { result ≡ little_number 4 (replicate zeros 0 ++ 1 ∷ []) }
+{
+    match zeros {
+        0 => 1,
+        1 => 0x100,
+        2 => 0x1_0000,
+        3 => 0x100_0000,
+        _ => 0,
+    }
+}
+
 // What a segment's head says, or can at least say where bytes of it are missing.
 #[derive(Clone, Copy)]
 struct Head {
@@ -56,21 +80,16 @@ impl Head {
         ensures address { result.address ≡ head_address bytes.now }
         ensures count { result.count ≡ head_count bytes.now }
     {
-        let mut padded = [0; 8];
-        let standing = bytes.len().min(8);
-        padded[..standing].copy_from_slice(&bytes[..standing]);
-        let address = LittleEndian::read_u32(&padded);
-        let count = LittleEndian::read_u32(&padded[4..]);
-        if count > 0 || standing == 8 {
-            return Head { address, count };
+        let behind = &bytes[bytes.len().min(4)..];
+        let count = number_of(behind);
+        Head {
+            address: number_of(bytes),
+            count: if count == 0 {
+                least_count(behind.len())
+            } else {
+                count
+            },
         }
-        let count = match standing.saturating_sub(4) {
-            0 => 1,
-            1 => 0x100,
-            2 => 0x1_0000,
-            _ => 0x100_0000,
-        };
-        Head { address, count }
     }
 }
 
@@ -120,16 +139,26 @@ impl Image {
         !can_hold(address) || self.word_at(address).is_some()
     }
 
-    // Why no segment can stand behind the words of the earlier ones where its head ends within the address.
-    fn cut_fault(&self, bytes: &[u8]) -> ReadFault
+    // Why bytes that end too early, where they name so many words more and so many segments are to come, are no image's.
+    fn end_fault(&self, more: u32, to_come: u32) -> ReadFault
+        ensures { result ≡ end_fault (length self.now + more) to_come }
+    {
+        if self.words.len() + more as usize + to_come as usize > MOST_WORDS {
+            return ReadFault::OutOfRange;
+        }
+        ReadFault::Truncated
+    }
+
+    // Why bytes that end within the address of a segment, with so many others to come, are no image's.
+    fn cut_fault(&self, others: u32, bytes: &[u8]) -> ReadFault
         requires cut { length bytes.now < 4 }
-        ensures { result ≡ cut_fault self.now bytes.now }
+        ensures { result ≡ cut_fault self.now others bytes.now }
     {
         let low = Head::of(bytes).address;
         if low % 4 != 0 {
             return ReadFault::Misaligned;
         }
-        if self.words.len() >= MOST_WORDS {
+        if self.words.len() + 1 + others as usize > MOST_WORDS {
             return ReadFault::OutOfRange;
         }
         if bytes.len() == 3
@@ -166,19 +195,20 @@ impl Image {
     }
 }
 
-// Puts the words of the segment that the bytes begin with, and answers the bytes behind it.
+// Puts the words of the segment that the bytes begin with, with so many others to come, and answers the bytes behind it.
 fn read_segment<'a>(
     alloc: Global,
     image: &mut Image,
+    others: u32,
     bytes: &'a [u8],
 ) -> Result<&'a [u8], ReadFault>
     requires room { runs_of image.old ≤ 15 }
-    ensures rest { IfOk result (λ rest. (left : ℕ) → segments_read (suc left) image.old bytes.now ≡ segments_read left image.new rest.now) }
+    ensures rest { IfOk result (λ rest. segments_read (suc others) image.old bytes.now ≡ segments_read others image.new rest.now) }
     ensures few { OnOk result (runs_of image.new ≤ runs_of image.old + 1) }
-    ensures fault { IfErr result (λ fault. (fault ≡ ReadFault.Memory) ⊎ ((left : ℕ) → segments_read (suc left) image.old bytes.now ≡ Err fault)) }
+    ensures fault { IfErr result (λ fault. (fault ≡ ReadFault.Memory) ⊎ (segments_read (suc others) image.old bytes.now ≡ Err fault)) }
 {
     if bytes.len() < 4 {
-        return Err(image.cut_fault(bytes));
+        return Err(image.cut_fault(others, bytes));
     }
     let head = Head::of(bytes);
     if let Some(fault) = image.segment_fault(head) {
@@ -186,7 +216,7 @@ fn read_segment<'a>(
     }
     let end = 8 + 4 * head.count as usize;
     if bytes.len() < end {
-        return Err(ReadFault::Truncated);
+        return Err(image.end_fault(head.count, others));
     }
     image.put_segment(alloc, head, &bytes[8..])?;
     Ok(&bytes[end..])
@@ -230,8 +260,8 @@ pub fn read_image(alloc: Global, bytes: &[u8]) -> Result<Image, ReadFault>
     let (count, start) = read_count(bytes)?;
     let mut rest = start;
     let mut image = Image::new(alloc);
-    for _ in 0..count {
-        rest = read_segment(alloc, &mut image, rest)?;
+    for done in 0..count {
+        rest = read_segment(alloc, &mut image, count - 1 - done, rest)?;
     }
     if !rest.is_empty() {
         return Err(ReadFault::TrailingBytes);

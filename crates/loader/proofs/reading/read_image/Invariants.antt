@@ -3,5 +3,5 @@ use Rattle.loader.specs.Image.{runs_of}
 use Rattle.loader.specs.ImageBytes.{image_read, segments_read}
 use Rattle.loader.proofs.reading.read_image.Given as goal
 
-abbrev pub invariant-loop : goal.invariant-loop
-invariant-loop l = (image_read l.bytes ≡ segments_read (l.count - l.counter) l.image l.rest) × (runs_of l.image ≤ l.counter) × (l.counter ≤ l.count)
+abbrev pub invariant-loop-done : goal.invariant-loop-done
+invariant-loop-done l = (image_read l.bytes ≡ segments_read (l.count - l.done) l.image l.rest) × (runs_of l.image ≤ l.done) × (l.done ≤ l.count)
