@@ -3,6 +3,7 @@ pub mod CheckLemmas
 pub mod FileLemmas
 pub mod Fronts
 pub mod HandlerLemmas
+pub mod KeptRun
 pub mod MachineLemmas
 pub mod ReportLemmas
 pub mod RunLemmas

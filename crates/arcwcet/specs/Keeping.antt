@@ -30,3 +30,15 @@ pub record TakesAtMost (profile : Profile) (bound : ℕ) (inputs : List Input) (
 abbrev pub BoundsRuns : Words → Stated → Profile → Flow → ℕ → Type 0
 BoundsRuns words stated profile flow bound =
     (s : State) (inputs : List Input) (ran : Ran) (after : State) → KeepsStatement words stated profile flow s inputs → Runs s inputs ran after → TakesAtMost profile bound inputs ran
+
+-- from some state some run keeps some statement of some image: what a bound says of runs, it says of some
+pub record HasKeptRun (profile : Profile) : Type 0 where
+  pub words : Words
+  pub stated : Stated
+  pub flow : Flow
+  pub s : State
+  pub inputs : List Input
+  pub keeps : KeepsStatement words stated profile flow s inputs
+  pub ran : Ran
+  pub after : State
+  pub runs : Runs s inputs ran after
