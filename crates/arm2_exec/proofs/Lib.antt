@@ -1,4 +1,5 @@
 mod WorkLemmas
 mod StillLemmas
+mod TakenLemmas
 mod StepLemmas
 mod RunLemmas

@@ -4,6 +4,7 @@
 //! By the data sheets of VL86C010, VL86C110, VL86C310 and VL86C410, and our own cycle profile.
 #![tactic(auto)]
 
+pub mod law;
 mod machine;
 mod work;
 

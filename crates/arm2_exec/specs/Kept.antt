@@ -1,0 +1,17 @@
+-- What a step keeps that takes an exception, as an aborted transfer does (VL86C010 data sheet, exceptions).
+use Rattle.std.specs.Prelude.{◌≡◌, ◌≢◌, ◌+◌, ◌*◌}
+use Rattle.arm2_effect.specs.declared.exceptions.Vector.{Vector}
+use Rattle.arm2_effect.specs.declared.modes.Reg.{Reg}
+use Rattle.arm2_effect.specs.Exceptions.{entry_at}
+use Rattle.arm2_effect.specs.Modes.{reg_number, slot_of}
+use Rattle.arm2_exec.specs.declared.machine.Input.{Input}
+use Rattle.arm2_exec.specs.declared.machine.Stepped.{Stepped}
+use Rattle.arm2_exec.specs.State.{State, register_of}
+use Rattle.arm2_exec.specs.Step.{elapsed, with_lines}
+
+-- memory and its controller, and all registers but R14 and R15 of the exception's mode; the devices have the lines and the
+-- time alone
+pub record KeepsTheRest (vector : Vector) (s : State) (i : Input) (told : Stepped) (after : State) : Type 0 where
+  pub memory : after.bus.memc ≡ s.bus.memc
+  pub registers : (r : Reg) → reg_number r ≢ slot_of (entry_at vector).mode 14 → reg_number r ≢ slot_of (entry_at vector).mode 15 → register_of r after ≡ register_of r s
+  pub devices : after.bus ≡ elapsed (told.ticks + s.profile.burst * i.bursts) (with_lines i.lines.0 s.bus)
