@@ -33,6 +33,15 @@ const DEVICE: Told = (4, "", "refused: Device\n");
 /// A byte, how often it stands in standard input, and how that fails then in place of its end.
 type Input = (u8, usize, Option<ErrorKind>);
 
+const NOTHING: Input = (b'\n', 0, None);
+
+const FAILS: Input = (b'\n', 0, Some(ErrorKind::Other));
+
+const FAILS_LATER: Input = (b'\n', 4096, Some(ErrorKind::Other));
+
+// An interrupted read has failed; it is not tried again.
+const INTERRUPTED: Input = (b'\n', 8192, Some(ErrorKind::Interrupted));
+
 const ENDLESS: Input = (b'\n', usize::MAX, None);
 
 /// What stays of an endless input, of which a byte more than the limit is read.
@@ -42,13 +51,12 @@ const UNREAD: usize = usize::MAX - LIMIT - 1;
 type Row = (&'static str, Source, Input, Told, usize);
 
 const ROWS: [Row; 8] = [
-    ("bound", LONG_SOURCE, (b'\n', 0, None), TOO_LONG, 0),
-    ("asm", COUNTDOWN, (b'\n', 0, None), DEVICE, 0),
+    ("bound", LONG_SOURCE, NOTHING, TOO_LONG, 0),
+    ("asm", COUNTDOWN, NOTHING, DEVICE, 0),
     ("debug", COUNTDOWN, (b'x', LIMIT, None), UNKNOWN_COMMAND, 0),
-    ("debug", COUNTDOWN, (b'\n', 0, Some(ErrorKind::Other)), DEVICE, 0),
-    ("debug", COUNTDOWN, (b'\n', 4096, Some(ErrorKind::Other)), DEVICE, 0),
-    // An interrupted read has failed; it is not tried again.
-    ("debug", COUNTDOWN, (b'\n', 8192, Some(ErrorKind::Interrupted)), DEVICE, 0),
+    ("debug", COUNTDOWN, FAILS, DEVICE, 0),
+    ("debug", COUNTDOWN, FAILS_LATER, DEVICE, 0),
+    ("debug", COUNTDOWN, INTERRUPTED, DEVICE, 0),
     ("debug", COUNTDOWN, ENDLESS, TOO_LONG, UNREAD),
     // The input is refused before a source that is none.
     ("debug", NO_SOURCE, ENDLESS, TOO_LONG, UNREAD),

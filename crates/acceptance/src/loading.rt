@@ -3,6 +3,7 @@
 use arcwcet::{MemoryOutput, ReportFault, asm_report};
 use loader::image::{Image, ImageFault};
 use loader::labels::{LabelFault, Labels};
+use loader::law::{images_are_read, other_faults_begin_no_image, truncated_begins_an_image};
 use loader::reading::ReadFault;
 use std::test::Fail;
 
@@ -23,6 +24,9 @@ fn cut_images(rt: HostRuntime) -> Result<(), Fail> {
             "{length}"
         );
     }
+    images_are_read();
+    truncated_begins_an_image();
+    other_faults_begin_no_image();
     Ok(())
 }
 

@@ -202,6 +202,8 @@ fn items_and_rows_one_by_one(rt: HostRuntime) -> Result<(), Fail> {
         (is_step, are_rows, empty, walk.items().len()),
         (true, true, true, 1)
     );
+    one_text_each();
+    longest_can_be_spelled();
     yes_means_greatest();
     longest_gets_yes();
     Ok(())

@@ -4,9 +4,10 @@
 //! By the data sheets of VL86C010, VL86C110, VL86C310 and VL86C410, and our own cycle profile.
 #![tactic(auto)]
 
-pub mod law;
+mod law;
 mod machine;
 mod work;
 
 pub use arm2_effect::{Kind, Reg, Vector, Why};
+pub use law::exceptions_keep_the_rest;
 pub use machine::{Input, Machine, MachineFault, Ran, Stepped};

@@ -80,15 +80,15 @@ module _ (flow : Flow) (tree : Tree) (c : Tables) where
   -- a round, as often as its bound says
   pub along_repeat : (s : Span) → Contains tree.spans s → s.bound ≤ 1048576 → (outer : ℕ) (ks : List ℕ) (o : Opened) → ks ≢ [] → 0 < s.bound → IsRoundOf tree.edges tree.spans c s (edges_of tree.edges ks) → IsAlong flow tree c (outer + 1) ks o → AreRising flow tree o.own → IsAlong flow tree c outer (repeated s.bound ks) (joined (turned s.bound o ∷ []))
   along_repeat s s_in small outer ks o some more round a rising =
-    let body : IsNumberedBody flow tree c o.walk = record { span = s; in_tree = s_in; numbers = ks; inside = a.inside; body_is = a.walk_is; some = some; round = round } in
-    record {
-    inside = All-repeated (λ k. k < length flow.edges) s.bound ks a.inside;
-    walk_is = append-nil (repeated s.bound o.walk) ∙ ap (repeated s.bound) a.walk_is ∙ sym (map-repeated (step_at flow.edges) s.bound ks);
-    bodies = subst (All (IsNumberedBody flow tree c)) (sym (append-nil (o.walk ∷ o.bodies)))
-        (All-cons (IsNumberedBody flow tree c) o.walk o.bodies body a.bodies);
-    counts = subst (All IsCount) (sym (append-nil (s.bound ∷ o.counts))) (All-cons IsCount s.bound o.counts (more, small) a.counts);
-    shallow = omega (arith, a.shallow);
-    all_rounds = subst (λ (ns : List ℕ). AllZip (AreAllNumbered flow tree c) ns ((o.walk ∷ o.bodies) ++ [])) (sym (append-nil (s.bound ∷ o.counts)))
-        (subst (AllZip (AreAllNumbered flow tree c) (s.bound ∷ o.counts)) (sym (append-nil (o.walk ∷ o.bodies))) (record { body_is = body; count_is = refl }, a.all_rounds));
-    bodies_rise = subst (All (AreRising flow tree)) (sym (append-nil (o.own ∷ o.body_owns))) (All-cons (AreRising flow tree) o.own o.body_owns rising a.bodies_rise);
-  }
+      let body : IsNumberedBody flow tree c o.walk = record { span = s; in_tree = s_in; numbers = ks; inside = a.inside; body_is = a.walk_is; some = some; round = round } in
+      record {
+        inside = All-repeated (λ k. k < length flow.edges) s.bound ks a.inside;
+        walk_is = append-nil (repeated s.bound o.walk) ∙ ap (repeated s.bound) a.walk_is ∙ sym (map-repeated (step_at flow.edges) s.bound ks);
+        bodies = subst (All (IsNumberedBody flow tree c)) (sym (append-nil (o.walk ∷ o.bodies)))
+            (All-cons (IsNumberedBody flow tree c) o.walk o.bodies body a.bodies);
+        counts = subst (All IsCount) (sym (append-nil (s.bound ∷ o.counts))) (All-cons IsCount s.bound o.counts (more, small) a.counts);
+        shallow = omega (arith, a.shallow);
+        all_rounds = subst (λ (ns : List ℕ). AllZip (AreAllNumbered flow tree c) ns ((o.walk ∷ o.bodies) ++ [])) (sym (append-nil (s.bound ∷ o.counts)))
+            (subst (AllZip (AreAllNumbered flow tree c) (s.bound ∷ o.counts)) (sym (append-nil (o.walk ∷ o.bodies))) (record { body_is = body; count_is = refl }, a.all_rounds));
+        bodies_rise = subst (All (AreRising flow tree)) (sym (append-nil (o.own ∷ o.body_owns))) (All-cons (AreRising flow tree) o.own o.body_owns rising a.bodies_rise);
+      }

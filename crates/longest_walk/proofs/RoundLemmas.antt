@@ -148,4 +148,4 @@ module _ (flow : Flow) (tree : Tree) (index : Index) (c : Tables) (g : AreSearch
   walk_made table all way items is_way items_are =
       let first = follow_entry flow tree index c g table (rounds_known table all) all.plain in
       built items (subst (IsFollowed flow tree c None exit) (sym items_are) (follow_way flow tree index c g table None tt (rounds_whole table all) 0 exit way (opened_rounds (rounds_at table 0)) first is_way))
-          (subst (λ (os : List Opened). AreRising flow tree (joined os).own) (sym items_are) (walk_rises flow tree index c g exit (rounds_at table 0) table way is_way))
+      (subst (λ (os : List Opened). AreRising flow tree (joined os).own) (sym items_are) (walk_rises flow tree index c g exit (rounds_at table 0) table way is_way))

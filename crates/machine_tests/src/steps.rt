@@ -1,5 +1,5 @@
 use arm2_effect::{Kind, Reg, Why};
-use arm2_exec::{Input, Machine, Stepped};
+use arm2_exec::{Input, Machine, Stepped, exceptions_keep_the_rest};
 use bitflags::Flags;
 use bus_ticks::Profile;
 use ioc::Lines;
@@ -49,6 +49,7 @@ fn starts_in_the_reset_state(rt: HostRuntime) -> Result<(), Fail> {
     machine.reset();
     let reset = [machine.get(Reg::R15), machine.get(Reg::R0)];
     machine.one_outcome(quiet());
+    exceptions_keep_the_rest();
     assert!(rt; (started, reset) == ([SVC, 0], [SVC, 7]));
     assert!(rt; numbers == Profile::one().numbers());
     Ok(())
