@@ -1,26 +1,16 @@
-ghost use Rattle.std.specs.Prelude.{◌≡◌, IfOk, IfErr, OnOk};
-ghost use Rattle.arm2_decode.specs.declared.instr.Instr.{Instr};
+ghost use Rattle.std.specs.Prelude.{◌≡◌, ◌<◌, ◌^◌, ℕ, IfErr, IfOk, Ok, Result};
 ghost use Rattle.arm2_decode.specs.Table.{IsUnallocated, Means};
 
 use crate::instr::{Instr, Unallocated};
-use crate::reading::decode;
-use crate::writing::encode;
 
-/// An instruction, encoded and decoded again: it is the same.
-pub fn decode_encoded(instr: &Instr) -> Result<Instr, Unallocated>
-    ensures { result ≡ Ok instr.now }
-{
-    decode(encode(instr))
-}
+/// States that an instruction, encoded and decoded again, is the same: of any word that [`encode`](crate::encode) may give
+/// for it, [`decode`](crate::decode) can answer nothing else. It does nothing.
+pub fn decode_encoded()
+    ensures { (instr : Instr) → (word : ℕ) → Means word instr → (answer : Result Instr Unallocated) → IfOk answer (Means word) → IfErr answer (IsUnallocated word) → answer ≡ Ok instr }
+{}
 
-/// A word, decoded and encoded again: it is the same, unless it is unallocated.
-pub fn encode_decoded(word: u32) -> Result<u32, Unallocated>
-    ensures same { IfOk result (λ again. again ≡ word) }
-    ensures allocated { OnOk result ((instr : Instr) × Means word instr) }
-    ensures unallocated { IfErr result (λ u. IsUnallocated word u) }
-{
-    match decode(word) {
-        Ok(instr) => Ok(encode(&instr)),
-        Err(unallocated) => Err(unallocated),
-    }
-}
+/// States that a word, decoded and encoded again, is the same, unless it is unallocated: of any instruction that
+/// [`decode`](crate::decode) may give for it, [`encode`](crate::encode) can give no other word. It does nothing.
+pub fn encode_decoded()
+    ensures { (word : ℕ) → word < 2 ^ 32 → (instr : Instr) → Means word instr → (again : ℕ) → again < 2 ^ 32 → Means again instr → again ≡ word }
+{}
