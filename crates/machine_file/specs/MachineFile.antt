@@ -17,11 +17,10 @@ use Rattle.memc.specs.declared.spots.PageSize.TheVariants.{K4, K8, K16, K32}
 use Rattle.toml_reading.specs.Documents.{IsAnswer, are_distinct, list_at, number_at, number_in, number_or, of_keys, tables_at}
 use Rattle.toml_reading.specs.Readings.{Reading, all, and_then, both, optional, required, seen}
 use Rattle.machine_file.specs.MachineFaults.{machine_faults}
-use Rattle.machine_file.specs.Names.{is_key, line_names, name_of, named_mode, named_registers}
+use Rattle.machine_file.specs.Names.{event_keys, file_keys, line_names, map_keys, name_of, named_mode, named_registers, register_keys}
 use Rattle.machine_file.specs.Stated.{Controller, Processor, Schedule, Stated}
 use Rattle.machine_file.specs.declared.events.Event.{Event}
 use Rattle.machine_file.specs.declared.flags.PsrFlags.{PsrFlags}
-use Rattle.machine_file.specs.declared.keys.Sort.TheVariants as sort
 use Rattle.machine_file.specs.declared.machine_faults.MachineFileFault.{MachineFileFault}
 use Rattle.machine_file.specs.declared.machine_faults.MachineFileFault.TheVariants.{NotToml, WrongKind, OutOfRange, Twice}
 use Rattle.machine_file.specs.declared.pages.MappedPage.{MappedPage}
@@ -90,7 +89,7 @@ abbrev pub register_in : Members → Reg → Read ℕ
 register_in ms r = word_or (name_of r) 0 ms
 
 abbrev pub registers_of : Members → Read (List ℕ)
-registers_of ms = of_keys machine_faults (is_key sort.Registers) ms (all machine_faults (map (register_in ms) named_registers))
+registers_of ms = of_keys machine_faults register_keys ms (all machine_faults (map (register_in ms) named_registers))
 
 abbrev pub registers_at : Data → Read (List ℕ)
 registers_at d = required machine_faults (as_table d) registers_of
@@ -125,7 +124,7 @@ abbrev pub page_in : Members → Read MappedPage
 page_in ms =
     of_keys
     machine_faults
-    (is_key sort.Map)
+    map_keys
     ms
     (seen page_of (both machine_faults (both machine_faults (word_in (codes "logical") ms) (word_in (codes "physical") ms)) (word_in (codes "level") ms)))
 
@@ -189,7 +188,7 @@ abbrev pub event_in : Members → Read (ℕ × Event)
 event_in ms =
     of_keys
     machine_faults
-    (is_key sort.Event)
+    event_keys
     ms
     (seen event_of (both machine_faults (number_in machine_faults (codes "step") 65535 ms) (both machine_faults (number_or machine_faults (codes "bursts") 65535 0 ms) (both machine_faults (lines_in ms) (port_in ms)))))
 
@@ -221,7 +220,7 @@ abbrev pub machine_in : Members → Read Stated
 machine_in ms =
     of_keys
     machine_faults
-    (is_key sort.File)
+    file_keys
     ms
     (seen stated_of (both machine_faults (processor_in ms) (both machine_faults (controller_in ms) (schedule_in ms))))
 

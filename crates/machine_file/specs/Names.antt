@@ -1,14 +1,11 @@
 -- The words, letters and names of machine files, and the keys of their tables (our own format; the lines' names and bits are
 -- those of IOC's lines).
-use Rattle.std.specs.Prelude.{ℕ, ◌||◌, Bool, List, [], ◌∷◌, codes, Option, Some, None, if◌then◌else◌}
-use Rattle.std.specs.List.{list_any}
+use Rattle.std.specs.Prelude.{ℕ, List, [], ◌∷◌, map, codes, Option, Some, None, if◌then◌else◌}
 use Rattle.std.specs.Str.{bytes_eq}
 use Rattle.arm2_effect.specs.declared.modes.Mode.{Mode}
 use Rattle.arm2_effect.specs.declared.modes.Mode.TheVariants.{User, Fiq, Irq, Svc}
 use Rattle.arm2_effect.specs.declared.modes.Reg.{Reg}
 use Rattle.arm2_effect.specs.declared.modes.Reg.TheVariants.{R0, R1, R2, R3, R4, R5, R6, R7, R8, R9, R10, R11, R12, R13, R14, R8Fiq, R9Fiq, R10Fiq, R11Fiq, R12Fiq, R13Fiq, R14Fiq, R13Irq, R14Irq, R13Svc, R14Svc, R15}
-use Rattle.machine_file.specs.declared.keys.Sort.{Sort}
-use Rattle.machine_file.specs.declared.keys.Sort.TheVariants.{File, Registers, Map, Event}
 
 -- the registers that a file may name, in their order
 abbrev pub named_registers : List Reg
@@ -43,17 +40,23 @@ name_of R13Svc = codes "r13_svc"
 name_of R14Svc = codes "r14_svc"
 name_of R15 = codes "r15"
 
-abbrev pub is_register : List ℕ → Bool
-is_register k = list_any (λ r. bytes_eq (name_of r) k) named_registers
+-- ## The keys of the file and of the tables in it
 
--- the keys of the file and of the tables in it
-abbrev pub is_key : Sort → List ℕ → Bool
-is_key File k =
-    bytes_eq k (codes "pc") || bytes_eq k (codes "pages") || bytes_eq k (codes "mode") || bytes_eq k (codes "flags") || bytes_eq k (codes "low_rom")
-    || bytes_eq k (codes "high_rom") || bytes_eq k (codes "steps") || bytes_eq k (codes "port") || bytes_eq k (codes "registers") || bytes_eq k (codes "map") || bytes_eq k (codes "event")
-is_key Registers k = is_register k
-is_key Map k = bytes_eq k (codes "logical") || bytes_eq k (codes "physical") || bytes_eq k (codes "level")
-is_key Event k = bytes_eq k (codes "step") || bytes_eq k (codes "bursts") || bytes_eq k (codes "lines") || bytes_eq k (codes "port")
+abbrev pub file_keys : List (List ℕ)
+file_keys =
+    codes "pc" ∷ codes "pages" ∷ codes "mode" ∷ codes "flags" ∷ codes "low_rom" ∷ codes "high_rom" ∷ codes "steps" ∷ codes "port" ∷ codes "registers"
+    ∷ codes "map" ∷ codes "event" ∷ []
+
+abbrev pub register_keys : List (List ℕ)
+register_keys = map name_of named_registers
+
+abbrev pub map_keys : List (List ℕ)
+map_keys = codes "logical" ∷ codes "physical" ∷ codes "level" ∷ []
+
+abbrev pub event_keys : List (List ℕ)
+event_keys = codes "step" ∷ codes "bursts" ∷ codes "lines" ∷ codes "port" ∷ []
+
+-- ## Words
 
 abbrev pub named_mode : List ℕ → Option Mode
 named_mode w = if bytes_eq w (codes "user") then Some User else (if bytes_eq w (codes "fiq") then Some Fiq

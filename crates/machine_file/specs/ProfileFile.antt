@@ -1,7 +1,6 @@
 -- Which cycle profile a text states, and its faults, of which the lowest over the whole text is answered. Source: our own
 -- format of cycle profile files, over the documents of TOML.
-use Rattle.std.specs.Prelude.{◌≡◌, ◌||◌, ◌⊎◌, ◌-◌, ◌^◌, ℕ, Bool, List, [], ◌∷◌, codes, Ok, Err}
-use Rattle.std.specs.Str.{bytes_eq}
+use Rattle.std.specs.Prelude.{◌≡◌, ◌⊎◌, ◌-◌, ◌^◌, ℕ, List, [], ◌∷◌, codes, Ok, Err}
 use Rattle.toml.specs.Data.{Data, Members, get_member}
 use Rattle.bus_ticks.specs.Ranges.{AreInRange, AreOrdered}
 use Rattle.toml_reading.specs.Documents.{IsDocument, IsNoDocument, items_at, number_at, number_in, of_keys}
@@ -13,10 +12,8 @@ use Rattle.machine_file.specs.declared.profile_faults.ProfileFileFault.TheVarian
 abbrev pub Read : Type 0 → Type 0
 Read A = Reading ProfileFileFault A
 
-abbrev pub is_profile_key : List ℕ → Bool
-is_profile_key k =
-    bytes_eq k (codes "n") || bytes_eq k (codes "s") || bytes_eq k (codes "quad") || bytes_eq k (codes "rom") || bytes_eq k (codes "io")
-    || bytes_eq k (codes "control") || bytes_eq k (codes "unfitted") || bytes_eq k (codes "internal") || bytes_eq k (codes "burst")
+abbrev pub profile_keys : List (List ℕ)
+profile_keys = codes "n" ∷ codes "s" ∷ codes "quad" ∷ codes "rom" ∷ codes "io" ∷ codes "control" ∷ codes "unfitted" ∷ codes "internal" ∷ codes "burst" ∷ []
 
 -- ## Prices
 
@@ -71,7 +68,7 @@ abbrev pub joined : Parts → List ℕ
 joined p = p.0.0.0 ∷ p.0.0.1.0 ∷ p.0.0.1.1 ∷ listed_after p.0.1.0 (listed_after p.0.1.1 (listed_after p.1 []))
 
 abbrev pub numbers_in : Members → Read (List ℕ)
-numbers_in ms = seen joined (of_keys profile_faults is_profile_key ms (parts_in ms))
+numbers_in ms = seen joined (of_keys profile_faults profile_keys ms (parts_in ms))
 
 -- ## The profile
 

@@ -5,7 +5,6 @@ ghost use Rattle.toml_reading.specs.Documents.{number_at, number_or};
 ghost use Rattle.machine_file.specs.MachineFaults.{machine_faults};
 ghost use Rattle.machine_file.specs.MachineFile.{counts_in, event_at, event_in, events_in, line_at, lines_at, lines_in, named_line, once, port_at, port_in, schedule_in, union};
 
-use crate::keys::Sort;
 use crate::machine_faults::{MachineFileFault, Read};
 use bitflags::Flags;
 use indexmap::IndexMap;
@@ -17,6 +16,9 @@ use toml_reading::{
     Entry, by_number, check, list, number, only_keys, optional_number, pair, required_number,
     tables, value_at,
 };
+
+/// The keys of an event's table.
+const EVENT_KEYS: &[&str] = &["step", "bursts", "lines", "port"];
 
 /// What comes from outside from a step on.
 #[derive(Clone, Copy, Debug, PartialEq, Eq)]
@@ -136,7 +138,7 @@ fn read_event(alloc: Global, table: &Table) -> Result<Read<(u32, Event)>, AllocE
         Err(fault) => Err(fault),
     };
     Ok(check(
-        only_keys(Sort::Event, table),
+        only_keys(EVENT_KEYS, table),
         MachineFileFault::UnknownKey,
         event,
     ))

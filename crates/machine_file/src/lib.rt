@@ -5,7 +5,6 @@
 mod events;
 mod flags;
 mod inputs;
-mod keys;
 mod machine_faults;
 mod machine_files;
 mod pages;

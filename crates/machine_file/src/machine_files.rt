@@ -1,10 +1,11 @@
 ghost use Rattle.std.specs.Prelude.{◌≡◌, ◌≢◌, ◌≤◌, Err, IfOk, length, true};
 ghost use Rattle.toml.specs.View.{table_view};
-ghost use Rattle.machine_file.specs.MachineFile.{IsMachineFile, machine_in};
+ghost use Rattle.toml_reading.specs.Readings.{both, seen};
+ghost use Rattle.machine_file.specs.MachineFaults.{machine_faults};
+ghost use Rattle.machine_file.specs.MachineFile.{IsMachineFile, controller_in, machine_in, processor_in, schedule_in, stated_of};
 
 use crate::events::{Event, Schedule, read_schedule};
 use crate::flags::PsrFlags;
-use crate::keys::Sort;
 use crate::machine_faults::{MachineFileFault, Read};
 use crate::pages::{Controller, MappedPage, read_controller};
 use crate::processor::{Processor, read_processor};
@@ -15,6 +16,21 @@ use std::alloc::{AllocError, Global};
 use std::marker::Model;
 use toml::Table;
 use toml_reading::{check, document, only_keys, pair};
+
+/// The keys of the file.
+const FILE_KEYS: &[&str] = &[
+    "pc",
+    "pages",
+    "mode",
+    "flags",
+    "low_rom",
+    "high_rom",
+    "steps",
+    "port",
+    "registers",
+    "map",
+    "event",
+];
 
 /// The state from which a machine starts, and what comes from outside in its steps.
 #[derive(Drop)]
@@ -114,22 +130,43 @@ impl MachineFile {
     }
 }
 
-// What the table states.
-fn of_table(alloc: Global, table: &Table) -> Result<Read<MachineFile>, AllocError>
-    ensures { IfOk result (λ reading. reading ≡ machine_in (table_view table.now)) }
+type Parts = (Processor, (Controller, Schedule));
+
+// The memory controller, and what comes from outside.
+fn surroundings(alloc: Global, table: &Table) -> Result<Read<(Controller, Schedule)>, AllocError>
+    ensures { IfOk result (λ parts. parts ≡ both machine_faults (controller_in (table_view table.now)) (schedule_in (table_view table.now))) }
+{
+    let controller = read_controller(alloc, table)?;
+    Ok(pair(controller, read_schedule(alloc, table)?))
+}
+
+fn parts(alloc: Global, table: &Table) -> Result<Read<Parts>, AllocError>
+    ensures { IfOk result (λ parts. parts ≡ both machine_faults (processor_in (table_view table.now)) (both machine_faults (controller_in (table_view table.now)) (schedule_in (table_view table.now)))) }
 {
     let processor = read_processor(alloc, table)?;
-    let rest = pair(read_controller(alloc, table)?, read_schedule(alloc, table)?);
-    let file = match pair(processor, rest) {
+    Ok(pair(processor, surroundings(alloc, table)?))
+}
+
+fn stated(parts: Read<Parts>) -> Read<MachineFile>
+    ensures { result ≡ seen stated_of parts }
+{
+    match parts {
         Ok((processor, (controller, schedule))) => Ok(MachineFile {
             processor,
             controller,
             schedule,
         }),
         Err(fault) => Err(fault),
-    };
+    }
+}
+
+// What the table states.
+fn of_table(alloc: Global, table: &Table) -> Result<Read<MachineFile>, AllocError>
+    ensures { IfOk result (λ reading. reading ≡ machine_in (table_view table.now)) }
+{
+    let file = stated(parts(alloc, table)?);
     Ok(check(
-        only_keys(Sort::File, table),
+        only_keys(FILE_KEYS, table),
         MachineFileFault::UnknownKey,
         file,
     ))

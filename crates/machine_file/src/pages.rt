@@ -3,9 +3,9 @@ ghost use Rattle.std.specs.List.{list_all};
 ghost use Rattle.toml.specs.View.{table_view, view};
 ghost use Rattle.memc.specs.Memory.{shift_of_size};
 ghost use Rattle.toml_reading.specs.Documents.{are_distinct};
-ghost use Rattle.machine_file.specs.MachineFile.{are_single, controller_in, is_mappable, mapped, page_at, page_in, pages_in, rom_in, size_at, size_in, size_of};
+ghost use Rattle.toml_reading.specs.Readings.{seen};
+ghost use Rattle.machine_file.specs.MachineFile.{are_single, controller_in, is_mappable, mapped, page_at, page_in, page_of, pages_in, rom_in, size_at, size_in, size_of};
 
-use crate::keys::Sort;
 use crate::machine_faults::{MachineFileFault, Read};
 use memc::PageSize;
 use std::alloc::{AllocError, Global};
@@ -15,6 +15,9 @@ use toml_reading::{
     Entry, are_all_distinct, check, only_keys, optional_number, pair, required_number, tables,
     value_at,
 };
+
+/// The keys of a mapped page's table.
+const MAP_KEYS: &[&str] = &["logical", "physical", "level"];
 
 /// A logical page on a physical page, both by number, with its level of protection.
 #[derive(Clone, Copy, Debug, PartialEq, Eq)]
@@ -57,25 +60,31 @@ fn size(table: &Table) -> Read<PageSize>
     }
 }
 
-fn page(table: &Table) -> Read<MappedPage>
-    ensures { result ≡ page_in (table_view table.now) }
+fn page_of(numbers: Read<((u32, u32), u32)>) -> Read<MappedPage>
+    ensures { result ≡ seen page_of numbers }
 {
-    let numbers = pair(
-        required_number(table, "logical", u32::MAX),
-        required_number(table, "physical", u32::MAX),
-    );
-    let page = match pair(numbers, required_number(table, "level", u32::MAX)) {
+    match numbers {
         Ok(((logical, physical), level)) => Ok(MappedPage {
             logical,
             physical,
             level,
         }),
         Err(fault) => Err(fault),
-    };
+    }
+}
+
+fn page(table: &Table) -> Read<MappedPage>
+    ensures { result ≡ page_in (table_view table.now) }
+{
+    let ends = pair(
+        required_number(table, "logical", u32::MAX),
+        required_number(table, "physical", u32::MAX),
+    );
+    let numbers = pair(ends, required_number(table, "level", u32::MAX));
     check(
-        only_keys(Sort::Map, table),
+        only_keys(MAP_KEYS, table),
         MachineFileFault::UnknownKey,
-        page,
+        page_of(numbers),
     )
 }
 
@@ -115,15 +124,28 @@ fn are_mappable(size: PageSize, pages: &[MappedPage]) -> bool
     pages.iter().all(|page| is_mappable(shift, *page))
 }
 
-// Whether no logical and no physical page stands in the list twice.
+// Whether no logical page stands in the list twice.
+fn have_own_logical(alloc: Global, pages: &[MappedPage]) -> Result<bool, AllocError>
+    ensures { IfOk result (λ test. test ≡ are_distinct (map (λ p. p.logical) pages.now)) }
+{
+    let numbers: Vec<u32> = pages.iter().map(|page| page.logical).collect(alloc)?;
+    are_all_distinct(alloc, &numbers)
+}
+
+// Whether no physical page stands in the list twice.
+fn have_own_physical(alloc: Global, pages: &[MappedPage]) -> Result<bool, AllocError>
+    ensures { IfOk result (λ test. test ≡ are_distinct (map (λ p. p.physical) pages.now)) }
+{
+    let numbers: Vec<u32> = pages.iter().map(|page| page.physical).collect(alloc)?;
+    are_all_distinct(alloc, &numbers)
+}
+
 fn are_single(alloc: Global, pages: &[MappedPage]) -> Result<bool, AllocError>
     ensures { IfOk result (λ test. test ≡ are_single pages.now) }
 {
-    let logical: Vec<u32> = pages.iter().map(|page| page.logical).collect(alloc)?;
-    let physical: Vec<u32> = pages.iter().map(|page| page.physical).collect(alloc)?;
-    let one = are_all_distinct(alloc, &logical)?;
-    let other = are_all_distinct(alloc, &physical)?;
-    Ok(one && other)
+    let logical = have_own_logical(alloc, pages)?;
+    let physical = have_own_physical(alloc, pages)?;
+    Ok(logical && physical)
 }
 
 /// Pages that can be mapped beside one another.

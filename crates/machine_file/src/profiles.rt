@@ -3,14 +3,14 @@ ghost use Rattle.bus_ticks.specs.Numbers.{numbers_of};
 ghost use Rattle.toml.specs.View.{table_view, view};
 ghost use Rattle.toml_reading.specs.Readings.{required, seen};
 ghost use Rattle.machine_file.specs.ProfileFaults.{profile_faults};
-ghost use Rattle.machine_file.specs.ProfileFile.{IsPriced, IsProfileFile, four_at, four_in, four_of, is_profile_key, joined, numbers_in, other_prices_in, parts_in, ram_prices_in, word_in};
+ghost use Rattle.machine_file.specs.ProfileFile.{IsPriced, IsProfileFile, four_at, four_in, four_of, joined, numbers_in, other_prices_in, parts_in, ram_prices_in, word_in};
 
 use crate::profile_faults::ProfileFileFault;
 use bus_ticks::{NumbersFault, Profile};
 use std::alloc::Global;
 use toml::{Table, Value};
 use toml_reading::{
-    Keys, Reading, check, document, number, only_keys, pair, required_number, value_at, values_of,
+    Reading, check, document, number, only_keys, pair, required_number, value_at, values_of,
 };
 
 type Read<T> = Reading<T, ProfileFileFault>;
@@ -19,25 +19,10 @@ type Four = ((u32, u32), (u32, u32));
 
 type Parts = (((u32, (u32, u32)), (Four, Four)), Four);
 
-/// The one table of a profile file.
-#[derive(Clone, Copy)]
-struct ProfileTable;
-
-impl Keys for ProfileTable {
-    ghost is_key = { λ _. is_profile_key };
-
-    fn has_key(self, key: &str) -> bool {
-        key == "n"
-            || key == "s"
-            || key == "quad"
-            || key == "rom"
-            || key == "io"
-            || key == "control"
-            || key == "unfitted"
-            || key == "internal"
-            || key == "burst"
-    }
-}
+/// The keys of a profile file.
+const KEYS: &[&str] = &[
+    "n", "s", "quad", "rom", "io", "control", "unfitted", "internal", "burst",
+];
 
 fn price(table: &Table, key: &str) -> Read<u32>
     ensures { result ≡ word_in key.now (table_view table.now) }
@@ -131,7 +116,7 @@ fn numbers(table: &Table) -> Read<[u32; 15]>
     ensures { result ≡ numbers_in (table_view table.now) }
 {
     let parts = check(
-        only_keys(ProfileTable, table),
+        only_keys(KEYS, table),
         ProfileFileFault::UnknownKey,
         parts(table),
     );

@@ -1,11 +1,9 @@
 ghost use Rattle.std.specs.Prelude.{◌≡◌, IfOk, length, map};
 ghost use Rattle.toml.specs.View.{table_view, view};
-ghost use Rattle.machine_file.specs.MachineFile.{register_in, registers_at, registers_in, registers_of};
-ghost use Rattle.machine_file.specs.Names.{is_register, name_of, named_registers};
+ghost use Rattle.machine_file.specs.MachineFile.{registers_at, registers_in, registers_of, word_or};
 ghost use Rattle.machine_file.specs.MachineFaults.{machine_faults};
 ghost use Rattle.toml_reading.specs.Readings.{all, items_in};
 
-use crate::keys::Sort;
 use crate::machine_faults::{MachineFileFault, Read};
 use arm2_effect::Reg;
 use std::alloc::{AllocError, Global};
@@ -43,46 +41,12 @@ pub(crate) const REGISTERS: [Reg; 26] = [
     Reg::R14Svc,
 ];
 
-fn name_of(register: Reg) -> &'static str
-    ensures { result.now ≡ name_of register }
-{
-    match register {
-        Reg::R0 => "r0",
-        Reg::R1 => "r1",
-        Reg::R2 => "r2",
-        Reg::R3 => "r3",
-        Reg::R4 => "r4",
-        Reg::R5 => "r5",
-        Reg::R6 => "r6",
-        Reg::R7 => "r7",
-        Reg::R8 => "r8",
-        Reg::R9 => "r9",
-        Reg::R10 => "r10",
-        Reg::R11 => "r11",
-        Reg::R12 => "r12",
-        Reg::R13 => "r13",
-        Reg::R14 => "r14",
-        Reg::R8Fiq => "r8_fiq",
-        Reg::R9Fiq => "r9_fiq",
-        Reg::R10Fiq => "r10_fiq",
-        Reg::R11Fiq => "r11_fiq",
-        Reg::R12Fiq => "r12_fiq",
-        Reg::R13Fiq => "r13_fiq",
-        Reg::R14Fiq => "r14_fiq",
-        Reg::R13Irq => "r13_irq",
-        Reg::R14Irq => "r14_irq",
-        Reg::R13Svc => "r13_svc",
-        Reg::R14Svc => "r14_svc",
-        Reg::R15 => "r15",
-    }
-}
-
-/// Whether the text names a register that a file may name.
-pub(crate) fn is_register(key: &str) -> bool
-    ensures { result ≡ is_register key.now }
-{
-    REGISTERS.iter().any(|register| name_of(*register) == key)
-}
+/// Their names, in the same order.
+const NAMES: [&str; 26] = [
+    "r0", "r1", "r2", "r3", "r4", "r5", "r6", "r7", "r8", "r9", "r10", "r11", "r12", "r13", "r14",
+    "r8_fiq", "r9_fiq", "r10_fiq", "r11_fiq", "r12_fiq", "r13_fiq", "r14_fiq", "r13_irq",
+    "r14_irq", "r13_svc", "r14_svc",
+];
 
 /// The words of the 26 registers, in their order.
 #[derive(Drop)]
@@ -100,13 +64,13 @@ impl Model for Bank {
     ghost invariant = { λ b. length b.words.items ≡ 26 };
 }
 
-// The words that the table states of some registers, 0 where it does not name one.
-fn words(alloc: Global, table: &Table, registers: &[Reg]) -> Result<Read<Vec<u32>>, AllocError>
-    ensures { IfOk result (λ list. items_in list ≡ all machine_faults (map (register_in (table_view table.now)) registers.now)) }
+// The words that the table states at some names, 0 where one is missing.
+fn words(alloc: Global, table: &Table, names: &[&str]) -> Result<Read<Vec<u32>>, AllocError>
+    ensures { IfOk result (λ list. items_in list ≡ all machine_faults (map (λ name. word_or name.now 0 (table_view table.now)) names.now)) }
 {
     let mut list = Ok(Vec::new(alloc));
-    for register in registers {
-        let word = optional_number(table, name_of(*register), u32::MAX, 0);
+    for name in names {
+        let word = optional_number(table, name, u32::MAX, 0);
         list = append(list, word)?;
     }
     Ok(list)
@@ -125,9 +89,9 @@ fn as_bank(words: Read<Vec<u32>>) -> Read<Bank>
 fn of_table(alloc: Global, table: &Table) -> Result<Read<Bank>, AllocError>
     ensures { IfOk result (λ bank. bank ≡ registers_of (table_view table.now)) }
 {
-    let reading = as_bank(words(alloc, table, &REGISTERS)?);
+    let reading = as_bank(words(alloc, table, &NAMES)?);
     Ok(check(
-        only_keys(Sort::Registers, table),
+        only_keys(&NAMES, table),
         MachineFileFault::UnknownKey,
         reading,
     ))

@@ -1,6 +1,6 @@
 -- Which statement a text states, and its faults, of which the lowest over the whole text is answered. Source: our own
 -- statement format, over the documents of TOML.
-use Rattle.std.specs.Prelude.{◌≡◌, ◌&&◌, ◌||◌, ◌==◌, ◌%◌, ◌^◌, not, ℕ, ℤ, pos, negsuc, Bool, true, List, [], ◌∷◌, map, length, codes, is_none, option_map, Option, Some, None, Result, Ok, Err, nat_eq, nat_lt, nat_le, if◌then◌else◌, ◌⊎◌}
+use Rattle.std.specs.Prelude.{◌≡◌, ◌&&◌, ◌==◌, ◌%◌, ◌^◌, not, ℕ, ℤ, pos, negsuc, Bool, true, List, [], ◌∷◌, map, length, codes, is_none, option_map, Option, Some, None, Result, Ok, Err, nat_eq, nat_lt, nat_le, if◌then◌else◌, ◌⊎◌}
 use Rattle.std.specs.List.{list_any}
 use Rattle.std.specs.Map.{keys_of}
 use Rattle.std.specs.Option.{option_and_then}
@@ -22,11 +22,14 @@ use Rattle.statement.specs.declared.stated.TargetKind.TheVariants.{Jump, Call, R
 -- ## Keys
 
 -- the keys that the statement and the tables of its lists may have
+abbrev pub known_keys : Part → List (List ℕ)
+known_keys part.Statement = codes "entry" ∷ codes "leave" ∷ codes "loop" ∷ codes "target" ∷ codes "access" ∷ []
+known_keys part.Loop = codes "header" ∷ codes "first" ∷ codes "last" ∷ codes "bound" ∷ []
+known_keys part.Target = codes "at" ∷ codes "kind" ∷ codes "to" ∷ []
+known_keys part.Access = codes "at" ∷ codes "class" ∷ []
+
 abbrev pub is_key : Part → List ℕ → Bool
-is_key part.Statement k = bytes_eq k (codes "entry") || bytes_eq k (codes "leave") || bytes_eq k (codes "loop") || bytes_eq k (codes "target") || bytes_eq k (codes "access")
-is_key part.Loop k = bytes_eq k (codes "header") || bytes_eq k (codes "first") || bytes_eq k (codes "last") || bytes_eq k (codes "bound")
-is_key part.Target k = bytes_eq k (codes "at") || bytes_eq k (codes "kind") || bytes_eq k (codes "to")
-is_key part.Access k = bytes_eq k (codes "at") || bytes_eq k (codes "class")
+is_key p k = list_any (λ known. bytes_eq known k) (known_keys p)
 
 abbrev pub has_only_keys : Part → Members → Bool
 has_only_keys p no_members = true

@@ -1,9 +1,9 @@
-ghost use Rattle.std.specs.Prelude.{◌≡◌, option_map, string_bytes};
+ghost use Rattle.std.specs.Prelude.{◌≡◌, map, option_map, string_bytes};
 ghost use Rattle.std.specs.List.{list_all};
 ghost use Rattle.std.specs.BTreeMap.{keys};
 ghost use Rattle.toml.specs.Data.{get_member};
 ghost use Rattle.toml.specs.View.{table_view, view};
-ghost use Rattle.statement.specs.Statement.{has_only_keys, is_key};
+ghost use Rattle.statement.specs.Statement.{has_only_keys, is_key, known_keys};
 
 use toml::{Table, Value};
 
@@ -16,17 +16,22 @@ pub(crate) enum Part {
     Access,
 }
 
+// The keys that such a table may have.
+fn known_keys(part: Part) -> &'static [&'static str]
+    ensures { map (λ k. k.now) result.now ≡ known_keys part }
+{
+    match part {
+        Part::Statement => &["entry", "leave", "loop", "target", "access"],
+        Part::Loop => &["header", "first", "last", "bound"],
+        Part::Target => &["at", "kind", "to"],
+        Part::Access => &["at", "class"],
+    }
+}
+
 fn is_known(part: Part, key: &str) -> bool
     ensures { result ≡ is_key part key.now }
 {
-    match part {
-        Part::Statement => {
-            key == "entry" || key == "leave" || key == "loop" || key == "target" || key == "access"
-        }
-        Part::Loop => key == "header" || key == "first" || key == "last" || key == "bound",
-        Part::Target => key == "at" || key == "kind" || key == "to",
-        Part::Access => key == "at" || key == "class",
-    }
+    known_keys(part).contains(&key)
 }
 
 fn are_known(part: Part, table: &Table) -> bool

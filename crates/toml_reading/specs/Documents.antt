@@ -1,21 +1,24 @@
 -- What is read of the documents of TOML: the keys of tables, lists, numbers and whole texts (our own).
 use Rattle.std.specs.Prelude.{◌≡◌, ◌&&◌, ◌⊎◌, not, ℕ, Bool, true, List, [], ◌∷◌, map, option_map, Option, Some, None, Err, nat_eq}
 use Rattle.std.specs.List.{list_any}
-use Rattle.std.specs.Str.{IsUtf8}
+use Rattle.std.specs.Str.{IsUtf8, bytes_eq}
 use Rattle.toml.specs.Data.{Data, Items, Members, no_items, item, no_members, member, get_member, as_array, as_integer}
 use Rattle.toml.specs.Parse.{parse_document}
 use Rattle.toml_reading.specs.Readings.{Faults, Reading, all, checked, optional, required, up_to}
 
 -- ## Keys
 
+abbrev pub is_one_of : (keys : List (List ℕ)) → List ℕ → Bool
+is_one_of keys k = list_any (λ key. bytes_eq key k) keys
+
 -- the table has no other keys than those
-abbrev pub has_only_keys : (List ℕ → Bool) → Members → Bool
-has_only_keys is_key no_members = true
-has_only_keys is_key (member k d ms) = is_key k && has_only_keys is_key ms
+abbrev pub has_only_keys : (keys : List (List ℕ)) → Members → Bool
+has_only_keys keys no_members = true
+has_only_keys keys (member k d ms) = is_one_of keys k && has_only_keys keys ms
 
 -- a table's reading, where it has no other keys
-abbrev pub of_keys : {F A : Type 0} → Faults F → (List ℕ → Bool) → Members → Reading F A → Reading F A
-of_keys faults is_key ms reading = checked faults (has_only_keys is_key ms) faults.unknown_key reading
+abbrev pub of_keys : {F A : Type 0} → Faults F → (keys : List (List ℕ)) → Members → Reading F A → Reading F A
+of_keys faults keys ms reading = checked faults (has_only_keys keys ms) faults.unknown_key reading
 
 -- ## Numbers
 

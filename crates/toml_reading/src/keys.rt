@@ -1,32 +1,29 @@
-ghost use Rattle.std.specs.Prelude.{◌≡◌, ℕ, Bool, List, option_map, string_bytes};
+ghost use Rattle.std.specs.Prelude.{◌≡◌, map, option_map, string_bytes};
 ghost use Rattle.std.specs.List.{list_all};
 ghost use Rattle.std.specs.BTreeMap.{keys};
 ghost use Rattle.toml.specs.Data.{get_member};
 ghost use Rattle.toml.specs.View.{table_view, view};
-ghost use Rattle.toml_reading.specs.Documents.{has_only_keys};
+ghost use Rattle.toml_reading.specs.Documents.{has_only_keys, is_one_of};
 
 use toml::{Table, Value};
 
-/// The sorts of tables of a format.
-pub trait Keys: Copy {
-    ghost is_key: { Self → List ℕ → Bool };
-
-    /// Whether such a table may have the key.
-    fn has_key(self, key: &str) -> bool
-        ensures { result ≡ is_key self key.now };
+fn is_one_of(known: &[&str], key: &str) -> bool
+    ensures { result ≡ is_one_of (map (λ k. k.now) known.now) key.now }
+{
+    known.contains(&key)
 }
 
-fn are_known<K: Keys>(sort: K, table: &Table) -> bool
-    ensures { result ≡ list_all (λ k. K.is_key sort (string_bytes k)) (keys table.now) }
+fn are_known(known: &[&str], table: &Table) -> bool
+    ensures { result ≡ list_all (λ k. is_one_of (map (λ n. n.now) known.now) (string_bytes k)) (keys table.now) }
 {
-    table.keys().all(|key| sort.has_key(key.as_str()))
+    table.keys().all(|key| is_one_of(known, key.as_str()))
 }
 
-/// Whether the table has no other key than such a table may have.
-pub fn only_keys<K: Keys>(sort: K, table: &Table) -> bool
-    ensures { result ≡ has_only_keys (K.is_key sort) (table_view table.now) }
+/// Whether the table has no other keys than those.
+pub fn only_keys(known: &[&str], table: &Table) -> bool
+    ensures { result ≡ has_only_keys (map (λ k. k.now) known.now) (table_view table.now) }
 {
-    are_known(sort, table)
+    are_known(known, table)
 }
 
 /// The value at a key.

@@ -13,7 +13,7 @@ mod readings;
 
 pub use distinct::{are_all_distinct, by_number};
 pub use documents::document;
-pub use keys::{Keys, only_keys, value_at};
+pub use keys::{only_keys, value_at};
 pub use lists::{Entry, list, read_list, tables, values_of};
 pub use numbers::{number, optional_number, required_number, up_to};
 pub use readings::{Fault, Reading, append, check, pair};
