@@ -1,11 +1,12 @@
 -- Bytes that are read as an image are those of segments that spell it.
-use Rattle.std.proofs.Common.{◌≡◌, ◌∙◌, ℕ, zero, suc, ◌+◌, ◌*◌, ◌/◌, ◌%◌, ◌^◌, ◌<◌, ◌≤◌, Bool, true, false, cond, List, [], ◌∷◌, ◌++◌, length, take, drop, get_or, length-drop, flat_map, Option, Some, None, Result, Ok, Err, refl, sym, ap, subst, arith, append_assoc}
+use Rattle.std.proofs.Common.{◌≡◌, ◌∙◌, ℕ, zero, suc, ◌+◌, ◌*◌, ◌/◌, ◌%◌, ◌^◌, ◌<◌, ◌≤◌, Bool, true, false, cond, List, [], ◌∷◌, ◌++◌, length, take, drop, get_or, length-drop, flat_map, Option, Some, None, Result, Ok, Err, refl, sym, ap, subst, inl, inr, arith, append_assoc}
 use Rattle.std.specs.Prelude.{◌==◌, nat_lt}
-use Rattle.std.specs.List.{AllByRecursion}
+use Rattle.std.specs.List.{All, AllByRecursion}
 use Rattle.std.specs.Cmp.Lexicographic.{bytes_decides}
 use Rattle.std.specs.Str.{bytes_eq}
-use Rattle.std.proofs.lemmas.Bool.{ltb-false}
+use Rattle.std.proofs.lemmas.Bool.{cases_lt, ltb-false}
 use Rattle.std.proofs.lemmas.List.{drop-drop, get_or-drop, take-append-drop, take_all}
+use Rattle.std.proofs.lemmas.List.Elements.{All-get_or}
 use Rattle.byteorder.specs.Endian.{little_bytes, little_number}
 use Rattle.loader.specs.Image.{Words}
 use Rattle.loader.specs.ImageBytes.{cut_fault, Segment, head_address, head_count, image_bytes, image_read, magic, numbers, read_by, segment_bytes, segment_fault, segments_read, with_words}
@@ -18,6 +19,15 @@ use Rattle.loader.proofs.SegmentLemmas.{length_numbers}
 
 abbrev pub AreBytes : List ℕ → Type 0
 AreBytes bytes = (k : ℕ) → get_or bytes k 0 < 256
+
+-- what stands past the end counts as 0
+past : (bytes : List ℕ) (k : ℕ) → length bytes ≤ k → get_or bytes k 0 ≡ 0
+past [] k le = refl
+past (b ∷ bytes) zero le = absurd (omega (arith, le))
+past (b ∷ bytes) (suc k) le = past bytes k (omega (arith, le))
+
+pub are_bytes : (bytes : List ℕ) → All (λ b. b < 256) bytes → AreBytes bytes
+are_bytes bytes all k = elim (cases_lt k (length bytes)) [ inl lt ↦ All-get_or (λ b. b < 256) bytes k 0 lt all | inr le ↦ let none = past bytes k le in omega (arith, none) ]
 
 pub bytes_behind : (n : ℕ) (bytes : List ℕ) → AreBytes bytes → AreBytes (drop n bytes)
 bytes_behind n bytes all = λ k. subst (λ (b : ℕ). b < 256) (sym (get_or-drop n bytes k 0)) (all (n + k))

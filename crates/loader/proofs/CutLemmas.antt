@@ -218,7 +218,7 @@ short_goes left before bytes all some none ends room short =
 
 -- ## All segments
 
-same_fault : {A : Type 0} (f g : ReadFault) → (r s : Result A ReadFault) → r ≡ Err f → s ≡ Err g → r ≡ s → f ≡ g
+pub same_fault : {A : Type 0} (f g : ReadFault) → (r s : Result A ReadFault) → r ≡ Err f → s ≡ Err g → r ≡ s → f ≡ g
 same_fault f g r s p q e = cc
 
 -- why segments are Truncated: the first ends too early, or a later one does

@@ -9,4 +9,5 @@ mod RoomLemmas
 mod AcceptLemmas
 mod CutLemmas
 mod FrontLemmas
+mod TrailLemmas
 mod LoadLemmas

@@ -89,14 +89,14 @@ segments_all (s ∷ rest) before follow all = segment_read s before (flat_map se
 taken : {X : Type 0} (b : Bool) (x y : X) → b ≡ true → cond b x y ≡ x
 taken b x y e = rw e refl
 
-begun : (body : List ℕ) → image_read (magic ++ body) ≡ count_read body
+pub begun : (body : List ℕ) → image_read (magic ++ body) ≡ count_read body
 begun body =
     let bytes = magic ++ body in
     let whole : take (length bytes) magic ≡ magic = take_all (length bytes) magic (omega arith) in
     let same : bytes_eq (take 8 bytes) (take (length bytes) magic) ≡ true = ap (λ (m : List ℕ). bytes_eq magic m) whole in
     taken _ _ _ same ∙ passed _ _ _ (le-ltb (length bytes) 8 (omega arith))
 
-counted : (n : ℕ) (body : List ℕ) → n ≤ 16 → count_read (little_bytes 4 n ++ body) ≡ segments_read n [] body
+pub counted : (n : ℕ) (body : List ℕ) → n ≤ 16 → count_read (little_bytes 4 n ++ body) ≡ segments_read n [] body
 counted n body few =
     let bytes = little_bytes 4 n ++ body in
     let number : little_number 4 bytes ≡ n = four_read n body (omega (arith, few)) in

@@ -34,3 +34,11 @@ pub record BeginImage (bytes : List ℕ) : Type 0 where
   pub missing : List ℕ
   pub some : 0 < length missing
   pub whole : AreImage (bytes ++ missing)
+
+-- bytes that go on behind those of an image
+pub record PassImage (bytes : List ℕ) : Type 0 where
+  pub image : List ℕ
+  pub behind : List ℕ
+  pub some : 0 < length behind
+  pub split : bytes ≡ image ++ behind
+  pub whole : AreImage image

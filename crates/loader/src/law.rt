@@ -1,7 +1,7 @@
 ghost use Rattle.std.specs.Prelude.{◌≡◌, ◌≢◌, ◌<◌, ◌++◌, ℕ, List, Ok, Err, All};
 ghost use Rattle.loader.specs.Image.{Words};
 ghost use Rattle.loader.specs.ImageBytes.{Segment, image_bytes, image_read};
-ghost use Rattle.loader.specs.Spelling.{AreImage, BeginImage, Spell};
+ghost use Rattle.loader.specs.Spelling.{AreImage, BeginImage, PassImage, Spell};
 
 use crate::reading::ReadFault;
 
@@ -21,4 +21,10 @@ pub fn truncated_begins_an_image()
 /// States that bytes with any other fault do not begin an image's, whatever stood behind them. It does nothing.
 pub fn other_faults_begin_no_image()
     ensures { (bytes more : List ℕ) → (fault : ReadFault) → image_read bytes ≡ Err fault → fault ≢ ReadFault.Truncated → AreImage (bytes ++ more) → ⊥ }
+{}
+
+/// States that bytes are `TrailingBytes` exactly where they go on behind an image's. It does nothing.
+pub fn trailing_bytes_follow_an_image()
+    ensures follow { (bytes : List ℕ) → All (λ b. b < 256) bytes → image_read bytes ≡ Err ReadFault.TrailingBytes → PassImage bytes }
+    ensures trailing { (bytes : List ℕ) → PassImage bytes → image_read bytes ≡ Err ReadFault.TrailingBytes }
 {}
