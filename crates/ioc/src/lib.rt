@@ -4,21 +4,30 @@
 //! 8 MHz processor. Every call takes constant time.
 #![tactic(auto)]
 
-mod banks;
 mod law;
 mod lines;
 mod timers;
 
 ghost use Rattle.std.specs.Prelude.{◌≡◌, ◌≤◌, ◌<◌};
-ghost use Rattle.ioc.specs.Interrupts.{Controller, fresh, bit_where as bit_of, status_a as is_status_a, status_b as is_status_b, status_f as is_status_f, fiq_of, irq_of, with_lines, with_flyback, advanced};
+ghost use Rattle.ioc.specs.Interrupts.{Controller, fresh, bit_where as bit_of, status_a as is_status_a, status_b as is_status_b, status_f as is_status_f, fiq_of, irq_of, shares, with_lines, with_flyback, advanced};
 ghost use Rattle.ioc.specs.Registers.{read_at, read_of, write_at, write_of, is_register};
 
-pub use banks::{Fiq, IrqA, IrqB};
 use bitflags::Flags;
 pub use law::ticks_add_up;
 pub use lines::Lines;
 use std::marker::Model;
 use timers::{Timer, Timers};
+
+// Bits of IRQ A's status, beside those of the lines A0 and A1; the highest bit of FIQ's is set too.
+const A2: u8 = 0x04;
+
+const FLYBACK: u8 = 0x08;
+
+const TIMER_0: u8 = 0x20;
+
+const TIMER_1: u8 = 0x40;
+
+const ALWAYS: u8 = 0x80;
 
 /// IOC: what its registers hold, and the lines that come in.
 #[derive(Drop)]
@@ -26,16 +35,16 @@ pub struct Ioc {
     lines: Lines,
     a2_rose: bool,
     flyback_rose: bool,
-    mask_a: IrqA,
-    mask_b: IrqB,
-    mask_f: Fiq,
+    mask_a: u8,
+    mask_b: u8,
+    mask_f: u8,
     timers: Timers,
 }
 
 impl Model for Ioc {
     ghost Value = { Controller };
 
-    ghost view = { λ i. record { lines = i.lines.0; a2_rose = i.a2_rose; flyback_rose = i.flyback_rose; mask_a = i.mask_a.0; mask_b = i.mask_b.0; mask_f = i.mask_f.0; timers = i.timers } };
+    ghost view = { λ i. record { lines = i.lines.0; a2_rose = i.a2_rose; flyback_rose = i.flyback_rose; mask_a = i.mask_a; mask_b = i.mask_b; mask_f = i.mask_f; timers = i.timers } };
 
     ghost invariant = { λ i. i.timers.phase < 4 };
 }
@@ -57,9 +66,9 @@ impl Ioc {
             lines: Lines::empty(),
             a2_rose: false,
             flyback_rose: false,
-            mask_a: IrqA::empty(),
-            mask_b: IrqB::empty(),
-            mask_f: Fiq::empty(),
+            mask_a: 0,
+            mask_b: 0,
+            mask_f: 0,
             timers: Timers {
                 phase: 0,
                 timer_0: Timer::new(),
@@ -114,9 +123,9 @@ impl Ioc {
         ensures fiq { result.fiq ≡ fiq_of self.now }
         ensures irq { result.irq ≡ irq_of self.now }
     {
-        let fiq = self.status_f().intersects(self.mask_f);
-        let a = self.status_a().intersects(self.mask_a);
-        let b = self.status_b().intersects(self.mask_b);
+        let fiq = share_a_bit(self.status_f(), self.mask_f);
+        let a = share_a_bit(self.status_a(), self.mask_a);
+        let b = share_a_bit(self.status_b(), self.mask_b);
         Asserted { fiq, irq: a || b }
     }
 
@@ -138,15 +147,15 @@ impl Ioc {
             return 0;
         }
         match address / 4 % 0x20 * 4 {
-            0x10 => self.status_a().bits() as u32,
-            0x14 => self.status_a().intersection(self.mask_a).bits() as u32,
-            0x18 => self.mask_a.bits() as u32,
-            0x20 => self.status_b().bits() as u32,
-            0x24 => self.status_b().intersection(self.mask_b).bits() as u32,
-            0x28 => self.mask_b.bits() as u32,
-            0x30 => self.status_f().bits() as u32,
-            0x34 => self.status_f().intersection(self.mask_f).bits() as u32,
-            0x38 => self.mask_f.bits() as u32,
+            0x10 => u32::from(self.status_a()),
+            0x14 => u32::from(self.status_a() & self.mask_a),
+            0x18 => u32::from(self.mask_a),
+            0x20 => u32::from(self.status_b()),
+            0x24 => u32::from(self.status_b() & self.mask_b),
+            0x28 => u32::from(self.mask_b),
+            0x30 => u32::from(self.status_f()),
+            0x34 => u32::from(self.status_f() & self.mask_f),
+            0x38 => u32::from(self.mask_f),
             0x40 => self.timers.timer_0.output as u32 % 0x100,
             0x44 => self.timers.timer_0.output as u32 / 0x100,
             0x50 => self.timers.timer_1.output as u32 % 0x100,
@@ -173,9 +182,9 @@ impl Ioc {
                 self.timers.timer_0 = self.timers.timer_0.cleared();
                 self.timers.timer_1 = self.timers.timer_1.cleared();
             }
-            0x18 => self.mask_a = IrqA::from_bits_retain(byte),
-            0x28 => self.mask_b = IrqB::from_bits_retain(byte),
-            0x38 => self.mask_f = Fiq::from_bits_retain(byte),
+            0x18 => self.mask_a = byte,
+            0x28 => self.mask_b = byte,
+            0x38 => self.mask_f = byte,
             0x40 => self.timers.timer_0 = self.timers.timer_0.with_low(byte),
             0x44 => self.timers.timer_0 = self.timers.timer_0.with_high(byte),
             0x48 => self.timers.timer_0 = self.timers.timer_0.started(),
@@ -188,35 +197,42 @@ impl Ioc {
         }
     }
 
-    fn status_a(&self) -> IrqA
-        ensures { result.0 ≡ is_status_a self.now }
+    fn status_a(&self) -> u8
+        ensures { result ≡ is_status_a self.now }
     {
         let lines = (self.lines.bits() % 4) as u8;
-        let a2 = bit_where(self.a2_rose, IrqA::A2);
-        let flyback = bit_where(self.flyback_rose, IrqA::FLYBACK);
-        let timer_0 = bit_where(self.timers.timer_0.request, IrqA::TIMER_0);
-        let timer_1 = bit_where(self.timers.timer_1.request, IrqA::TIMER_1);
-        IrqA::from_bits_retain(lines + a2 + flyback + timer_0 + timer_1 + IrqA::ALWAYS.bits())
+        let a2 = bit_where(self.a2_rose, A2);
+        let flyback = bit_where(self.flyback_rose, FLYBACK);
+        let timer_0 = bit_where(self.timers.timer_0.request, TIMER_0);
+        let timer_1 = bit_where(self.timers.timer_1.request, TIMER_1);
+        lines + a2 + flyback + timer_0 + timer_1 + ALWAYS
     }
 
-    fn status_b(&self) -> IrqB
-        ensures { result.0 ≡ is_status_b self.now }
+    fn status_b(&self) -> u8
+        ensures { result ≡ is_status_b self.now }
     {
-        IrqB::from_bits_retain((self.lines.bits() / 0x100 % 0x100) as u8)
+        (self.lines.bits() / 0x100 % 0x100) as u8
     }
 
-    fn status_f(&self) -> Fiq
-        ensures { result.0 ≡ is_status_f self.now }
+    fn status_f(&self) -> u8
+        ensures { result ≡ is_status_f self.now }
     {
         let lines = self.lines.bits();
-        Fiq::from_bits_retain((lines / 0x1_0000 % 0x40 + lines / 0x100 % 2 * 0x40 + 0x80) as u8)
+        (lines / 0x1_0000 % 0x40 + lines / 0x100 % 2 * 0x40) as u8 + ALWAYS
     }
 }
 
-// A bit of IRQ A that is set where its condition holds.
-fn bit_where(on: bool, bit: IrqA) -> u8
-    ensures bit { result ≡ bit_of on bit.0 }
-    ensures most { result ≤ bit.0 }
+// A bit of a status that is set where its condition holds.
+fn bit_where(on: bool, bit: u8) -> u8
+    ensures bit { result ≡ bit_of on bit }
+    ensures most { result ≤ bit }
 {
-    if on { bit.bits() } else { 0 }
+    if on { bit } else { 0 }
+}
+
+// Whether a status and its mask share a bit.
+fn share_a_bit(status: u8, mask: u8) -> bool
+    ensures { result ≡ shares status mask }
+{
+    status & mask != 0
 }
