@@ -1,7 +1,7 @@
-ghost use Rattle.std.specs.Prelude.{◌≡◌};
-ghost use Rattle.asm_text.specs.Names.{cond_of, head_of, may_have as may_have_suffix, suffix_of, is_compare, is_block_suffix};
+ghost use Rattle.std.specs.Prelude.{◌≡◌, length};
+ghost use Rattle.asm_text.specs.Names.{cond_name, cond_of, head_of, may_have as may_have_suffix, opcode_name, suffix_of, is_compare, is_block_suffix};
 
-use crate::table::named_in;
+use crate::table::{name_at, named_in};
 use arm2_decode::{Cond, Opcode};
 
 /// The first three letters of a word, but for B, BL, ORG and DCD.
@@ -54,7 +54,7 @@ pub enum Suffix {
     Ea,
 }
 
-// Names in upper case.
+// Names in upper case. Conditions, and the opcodes that come first of the heads, stand at their numbers.
 
 const CONDS: [(&[u8], Cond); 16] = [
     (b"EQ", Cond::Eq),
@@ -118,6 +118,22 @@ const SUFFIXES: [(&[u8], Suffix); 14] = [
     (b"FA", Suffix::Fa),
     (b"EA", Suffix::Ea),
 ];
+
+/// The two letters of a condition, in upper case.
+pub fn cond_letters(cond: Cond) -> &'static [u8]
+    ensures letters { result.now ≡ cond_name cond }
+    ensures two { length result.now ≡ 2 }
+{
+    name_at(&CONDS, cond.number())
+}
+
+/// The three letters of a data processing word, in upper case.
+pub fn opcode_letters(opcode: Opcode) -> &'static [u8]
+    ensures letters { result.now ≡ opcode_name opcode }
+    ensures three { length result.now ≡ 3 }
+{
+    name_at(&HEADS, opcode.number())
+}
 
 /// The condition that a text in upper case names.
 pub(crate) fn named_cond(text: &[u8]) -> Option<Cond>

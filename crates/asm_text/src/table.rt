@@ -1,4 +1,4 @@
-ghost use Rattle.std.specs.Prelude.{◌≡◌, map, option_map};
+ghost use Rattle.std.specs.Prelude.{◌≡◌, ◌<◌, [], length, map, option_map, slice_index_or};
 ghost use Rattle.std.specs.List.{find};
 ghost use Rattle.std.specs.Str.{bytes_eq};
 ghost use Rattle.asm_text.specs.Registers.{found, name_of};
@@ -17,4 +17,12 @@ pub(crate) fn named_in<T: Copy>(table: &[(&[u8], T)], text: &[u8]) -> Option<T>
         Some(row) => Some(row.1),
         None => None,
     }
+}
+
+/// The name in a row of a table of names.
+pub(crate) fn name_at<'a, T>(table: &[(&'a [u8], T)], row: u32) -> &'a [u8]
+    requires { row < length table.now }
+    ensures { result.now ≡ slice_index_or (map (λ r. r.0.now) table.now) row [] }
+{
+    table[row as usize].0
 }

@@ -1,6 +1,5 @@
 ghost use Rattle.std.specs.Prelude.{◌≡◌, ◌+◌, ◌*◌, ◌<◌, ◌≤◌, ◌/◌, ◌%◌, ◌^◌, ◌==◌, ◌&&◌, ◌++◌, ◌∷◌, [], codes, decimal, length, not, if◌then◌else◌};
 ghost use Rattle.arm2_decode.specs.Names.{register_number};
-ghost use Rattle.asm_text.specs.Names.{opcode_name};
 ghost use Rattle.asm_text.specs.Words.{branch_name};
 ghost use Rattle.assembler.specs.ShownLines.{amount_text, block_name, block_suffix, block_text, branch_text, closed, comma_register, compare_front, cond_text, data_front, data_immediate_text, data_register_shift_text, data_register_text, factors_text, flags_text, has, list_operand, list_text, listed, listed_below, load_name, mark_if, move_front, multiply_text, numbered, offset_text, opened, register_text, shift_text, shifted_text, shown_line, sign_of, single_immediate_text, single_register_text, target_of, three_front, transfer_front, transfer_suffix, is_plain, word_text, compare_text, run_first, run_last, follows, swi_text};
 
@@ -9,52 +8,15 @@ use arm2_decode::{
     Block, Branch, Cond, DataImmediate, DataRegister, DataRegisterShift, Instr, Multiply, Opcode,
     Operation, Register, Shift, SingleImmediate, SingleRegister, Swi,
 };
+use asm_text::{cond_letters, opcode_letters};
 
 fn cond_bytes(cond: Cond) -> &'static [u8]
     ensures text { result.now ≡ cond_text cond }
     ensures room { length result.now ≤ 2 }
 {
     match cond {
-        Cond::Eq => b"EQ",
-        Cond::Ne => b"NE",
-        Cond::Cs => b"CS",
-        Cond::Cc => b"CC",
-        Cond::Mi => b"MI",
-        Cond::Pl => b"PL",
-        Cond::Vs => b"VS",
-        Cond::Vc => b"VC",
-        Cond::Hi => b"HI",
-        Cond::Ls => b"LS",
-        Cond::Ge => b"GE",
-        Cond::Lt => b"LT",
-        Cond::Gt => b"GT",
-        Cond::Le => b"LE",
         Cond::Al => b"",
-        Cond::Nv => b"NV",
-    }
-}
-
-fn opcode_bytes(opcode: Opcode) -> &'static [u8]
-    ensures text { result.now ≡ opcode_name opcode }
-    ensures room { length result.now ≤ 3 }
-{
-    match opcode {
-        Opcode::And => b"AND",
-        Opcode::Eor => b"EOR",
-        Opcode::Sub => b"SUB",
-        Opcode::Rsb => b"RSB",
-        Opcode::Add => b"ADD",
-        Opcode::Adc => b"ADC",
-        Opcode::Sbc => b"SBC",
-        Opcode::Rsc => b"RSC",
-        Opcode::Tst => b"TST",
-        Opcode::Teq => b"TEQ",
-        Opcode::Cmp => b"CMP",
-        Opcode::Cmn => b"CMN",
-        Opcode::Orr => b"ORR",
-        Opcode::Mov => b"MOV",
-        Opcode::Bic => b"BIC",
-        Opcode::Mvn => b"MVN",
+        _ => cond_letters(cond),
     }
 }
 
@@ -279,7 +241,7 @@ impl Line {
         ensures text { self.new ≡ self.old ++ compare_front cond opcode rn rd }
         ensures room { length self.new ≤ length self.old + 16 }
     {
-        self.push_word(opcode_bytes(opcode), cond, compare_bytes(rd));
+        self.push_word(opcode_letters(opcode), cond, compare_bytes(rd));
         self.push_register(rn);
         self.put_all(b",");
     }
@@ -289,7 +251,7 @@ impl Line {
         ensures text { self.new ≡ self.old ++ move_front cond opcode sets_flags rd }
         ensures room { length self.new ≤ length self.old + 16 }
     {
-        self.push_word(opcode_bytes(opcode), cond, flags_bytes(sets_flags));
+        self.push_word(opcode_letters(opcode), cond, flags_bytes(sets_flags));
         self.push_register(rd);
         self.put_all(b",");
     }
@@ -306,7 +268,7 @@ impl Line {
         ensures text { self.new ≡ self.old ++ three_front cond opcode sets_flags rn rd }
         ensures room { length self.new ≤ length self.old + 16 }
     {
-        self.push_word(opcode_bytes(opcode), cond, flags_bytes(sets_flags));
+        self.push_word(opcode_letters(opcode), cond, flags_bytes(sets_flags));
         self.push_register(rd);
         self.push_comma_register(rn);
         self.put_all(b",");
