@@ -178,15 +178,19 @@ found_first (x ∷ xs) text a u h =
     ]
 
 pub register_is : (text : List ℕ) (r : Register) → register_of text ≡ Some r → IsRegister text r
+unfolding register_of
 register_is text r e = found_is (in_both_cases register_names) text r e
 
 pub register_again : (text : List ℕ) (r : Register) → IsRegister text r → register_of text ≡ Some r
+unfolding register_of
 register_again text r h = found_first (in_both_cases register_names) text r refl h
 
 pub shift_is : (text : List ℕ) (s : Shift) → shift_of text ≡ Some s → IsShift text s
+unfolding shift_of
 shift_is text s e = found_is (in_both_cases shift_names) text s e
 
 pub shift_again : (text : List ℕ) (s : Shift) → IsShift text s → shift_of text ≡ Some s
+unfolding shift_of
 shift_again text s h = found_first (in_both_cases shift_names) text s refl h
 
 pub rrx_is : (text : List ℕ) → is_rrx text ≡ true → IsRrx text

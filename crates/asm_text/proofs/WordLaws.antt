@@ -14,7 +14,7 @@ use Rattle.asm_text.specs.declared.names.Suffix.TheVariants.{Bare, S, P, B, T, B
 use Rattle.asm_text.specs.declared.word.Word.{Word}
 use Rattle.asm_text.specs.declared.word.Word.TheVariants.{Plain, Branch, Org, Dcd}
 use Rattle.asm_text.specs.Names.{cond_name, head_name, suffix_name, conds, heads, suffixes, named, cond_of, head_of, suffix_of, may_have}
-use Rattle.asm_text.specs.Words.{IsCond, branch_name, IsWord, IsSpelling, is_one_case, upper, spelled_word_of, word_of_cond, whole_cond, linked, branch_rest, branch_of, with_suffix, head_cond, head_rest, plain_unless, word_of}
+use Rattle.asm_text.specs.Words.{IsCond, branch_name, IsWord, IsSpelling, is_one_case, upper, spelled_word_of, word_of_cond, whole_cond, linked, branch_rest, branch_of, with_suffix, head_cond, head_rest, plain_of, plain_unless, word_of}
 
 pub chosen : {A : Type 0} (b : Bool) (x y z : A) → cond b x y ≡ z → ((b ≡ true) × (x ≡ z)) ⊎ ((b ≡ false) × (y ≡ z))
 chosen true x y z e = inl (refl, e)
@@ -38,6 +38,7 @@ named_is name (x ∷ xs) text a e =
 -- ---- each name is its own
 
 cond_again : (c : Cond) (rest : List ℕ) → cond_of (take 2 (cond_name c ++ rest)) ≡ Some c
+unfolding cond_of
 cond_again Eq rest = refl
 cond_again Ne rest = refl
 cond_again Cs rest = refl
@@ -56,6 +57,7 @@ cond_again Al rest = refl
 cond_again Nv rest = refl
 
 whole_again : (c : Cond) → whole_cond (cond_name c) ≡ Some c
+unfolding cond_of
 whole_again Eq = refl
 whole_again Ne = refl
 whole_again Cs = refl
@@ -92,7 +94,7 @@ after_cond Al rest = refl
 after_cond Nv rest = refl
 
 head_again : (h : Head) (rest : List ℕ) → word_of (head_name h ++ rest) ≡ head_cond h (cond_of (take 2 rest)) rest
-unfolding word_of
+unfolding word_of head_of cond_of
 head_again (Data And) rest = refl
 head_again (Data Eor) rest = refl
 head_again (Data Sub) rest = refl
@@ -119,7 +121,7 @@ head_again Swi rest = refl
 head_again Adr rest = refl
 
 branch_again : (c : Cond) → word_of (branch_name false ++ cond_name c) ≡ Some (Branch false c)
-unfolding word_of
+unfolding word_of cond_of
 branch_again Eq = refl
 branch_again Ne = refl
 branch_again Cs = refl
@@ -138,7 +140,7 @@ branch_again Al = refl
 branch_again Nv = refl
 
 link_again : (c : Cond) → word_of (branch_name true ++ cond_name c) ≡ Some (Branch true c)
-unfolding word_of
+unfolding word_of cond_of
 link_again Eq = refl
 link_again Ne = refl
 link_again Cs = refl
@@ -156,7 +158,12 @@ link_again Le = refl
 link_again Al = refl
 link_again Nv = refl
 
+always_links : word_of (codes "BL") ≡ Some (Branch true Al)
+unfolding word_of cond_of
+always_links = refl
+
 no_cond : (s : Suffix) → cond_of (take 2 (suffix_name s)) ≡ None
+unfolding cond_of
 no_cond Bare = refl
 no_cond S = refl
 no_cond P = refl
@@ -173,6 +180,7 @@ no_cond Fa = refl
 no_cond Ea = refl
 
 suffix_again : (s : Suffix) → suffix_of (suffix_name s) ≡ Some s
+unfolding suffix_of
 suffix_again Bare = refl
 suffix_again S = refl
 suffix_again P = refl
@@ -207,7 +215,7 @@ word_again text (Branch false c) h =
 word_again text (Branch true c) h =
     elim h.1 [
       | inl is ↦ ap word_of (h.2 ∙ ap (λ (t : List ℕ). branch_name true ++ t) is) ∙ link_again c
-      | inr is ↦ ap word_of (h.2 ∙ ap (λ (t : List ℕ). branch_name true ++ t) is.0) ∙ (let one : word_of (codes "BL") ≡ Some (Branch true Al) = unfold word_of in refl in one) ∙ ap (λ (d : Cond). Some (Branch true d)) (sym is.1)
+      | inr is ↦ ap word_of (h.2 ∙ ap (λ (t : List ℕ). branch_name true ++ t) is.0) ∙ always_links ∙ ap (λ (d : Cond). Some (Branch true d)) (sym is.1)
     ]
 word_again text Org h = ap word_of h ∙ (let one : word_of (codes "ORG") ≡ Some Org = unfold word_of in refl in one)
 word_again text Dcd h = ap word_of h ∙ (let one : word_of (codes "DCD") ≡ Some Dcd = unfold word_of in refl in one)
@@ -215,6 +223,7 @@ word_again text Dcd h = ap word_of h ∙ (let one : word_of (codes "DCD") ≡ So
 -- ---- what is read is spelled so
 
 whole_is : (text : List ℕ) (c : Cond) → whole_cond text ≡ Some c → IsCond text c
+unfolding cond_of
 whole_is [] c e = inr (refl, sym (some_is Al c e))
 whole_is (b ∷ bs) c e = inl (named_is cond_name conds (b ∷ bs) c e)
 
@@ -250,6 +259,7 @@ branch_is (b ∷ rest) w e =
     ]
 
 suffixed_is : (h : Head) (c : Cond) (o : Option Suffix) (rest : List ℕ) (w : Word) → suffix_of rest ≡ o → with_suffix h c o ≡ Some w → (s : Suffix) × (may_have h s ≡ true) × (rest ≡ suffix_name s) × (w ≡ Plain h c s)
+unfolding suffix_of
 suffixed_is h c None rest w is e = absurd cc
 suffixed_is h c (Some s) rest w is e =
     elim (chosen (may_have h s) (Some (Plain h c s)) None (Some w) e) [
@@ -258,6 +268,7 @@ suffixed_is h c (Some s) rest w is e =
     ]
 
 head_cond_is : (h : Head) (o : Option Cond) (rest : List ℕ) (w : Word) → cond_of (take 2 rest) ≡ o → head_cond h o rest ≡ Some w → IsWord (head_name h ++ rest) w
+unfolding cond_of
 head_cond_is h (Some c) rest w is e =
     let m = suffixed_is h c (suffix_of (drop 2 rest)) (drop 2 rest) w refl e in
     let name = named_is cond_name conds (take 2 rest) c is in
@@ -268,6 +279,7 @@ head_cond_is h None rest w is e =
     subst (IsWord (head_name h ++ rest)) (sym m.3) ([], inr (refl, refl), m.1, ap (λ (t : List ℕ). head_name h ++ t) m.2)
 
 head_rest_is : (o : Option Head) (text : List ℕ) (w : Word) → head_of (take 3 text) ≡ o → head_rest o (drop 3 text) ≡ Some w → IsWord text w
+unfolding head_of
 head_rest_is None text w is e = absurd cc
 head_rest_is (Some h) text w is e =
     let name = named_is head_name heads (take 3 text) h is in
@@ -308,12 +320,48 @@ cond_len Al = refl
 cond_len Nv = refl
 
 short_named : (o : Option Cond) (text : List ℕ) → cond_of text ≡ o → length text < 2 → o ≡ None
+unfolding cond_of
 short_named None text is lt = refl
 short_named (Some c) text is lt = absurd (omega (arith, ap length (named_is cond_name conds text c is), cond_len c))
 
 -- a text of less than two letters names no condition
 pub short_cond : (text : List ℕ) → length text < 2 → cond_of (take 2 text) ≡ None
 short_cond text lt = short_named (cond_of (take 2 text)) (take 2 text) refl (omega (arith, length-take 2 text))
+
+head_len : (h : Head) → length (head_name h) ≡ 3
+head_len (Data And) = refl
+head_len (Data Eor) = refl
+head_len (Data Sub) = refl
+head_len (Data Rsb) = refl
+head_len (Data Add) = refl
+head_len (Data Adc) = refl
+head_len (Data Sbc) = refl
+head_len (Data Rsc) = refl
+head_len (Data Tst) = refl
+head_len (Data Teq) = refl
+head_len (Data Cmp) = refl
+head_len (Data Cmn) = refl
+head_len (Data Orr) = refl
+head_len (Data Mov) = refl
+head_len (Data Bic) = refl
+head_len (Data Mvn) = refl
+head_len (Multiply false) = refl
+head_len (Multiply true) = refl
+head_len (Single true) = refl
+head_len (Single false) = refl
+head_len (Block true) = refl
+head_len (Block false) = refl
+head_len Swi = refl
+head_len Adr = refl
+
+short_head : (o : Option Head) (text : List ℕ) → head_of text ≡ o → length text < 3 → o ≡ None
+unfolding head_of
+short_head None text is lt = refl
+short_head (Some h) text is lt = absurd (omega (arith, ap length (named_is head_name heads text h is), head_len h))
+
+-- a text of less than three letters begins no plain word
+pub short_plain : (text : List ℕ) → length text < 3 → None ≡ plain_of text
+short_plain text lt = ap (λ o. head_rest o (drop 3 text)) (sym (short_head (head_of (take 3 text)) (take 3 text) refl (omega (arith, length-take 3 text))))
 
 -- ---- in either case
 

@@ -114,13 +114,13 @@ suffixes = Bare ∷ S ∷ P ∷ B ∷ T ∷ Bt ∷ Ia ∷ Ib ∷ Da ∷ Db ∷ F
 abbrev pub named : {A : Type 0} → (A → List ℕ) → List A → List ℕ → Option A
 named name list text = find (λ a. bytes_eq text (name a)) list
 
-abbrev pub cond_of : List ℕ → Option Cond
+unfoldable pub cond_of : List ℕ → Option Cond
 cond_of text = named cond_name conds text
 
-abbrev pub head_of : List ℕ → Option Head
+unfoldable pub head_of : List ℕ → Option Head
 head_of text = named head_name heads text
 
-abbrev pub suffix_of : List ℕ → Option Suffix
+unfoldable pub suffix_of : List ℕ → Option Suffix
 suffix_of text = named suffix_name suffixes text
 
 abbrev pub is_compare : Opcode → Bool

@@ -30,10 +30,10 @@ found (e ∷ es) text = if bytes_eq text e.0 then Some e.1 else found es text
 abbrev pub name_of : {A : Type 0} → Bor (List ℕ) × A → List ℕ × A
 name_of row = (row.0.now, row.1)
 
-abbrev pub register_of : List ℕ → Option Register
+unfoldable pub register_of : List ℕ → Option Register
 register_of text = found (in_both_cases register_names) text
 
-abbrev pub shift_of : List ℕ → Option Shift
+unfoldable pub shift_of : List ℕ → Option Shift
 shift_of text = found (in_both_cases shift_names) text
 
 abbrev pub is_rrx : List ℕ → Bool

@@ -61,6 +61,7 @@ const SHIFTS: [(&[u8], Shift); 8] = [
 ];
 
 /// The register that a text names.
+#[tactic(auto, unfolding(crate::specs::Registers::register_of))]
 pub(crate) fn named_register(text: &[u8]) -> Option<Register>
     ensures { result ≡ register_of text.now }
 {
@@ -68,6 +69,7 @@ pub(crate) fn named_register(text: &[u8]) -> Option<Register>
 }
 
 /// The shift that a text names.
+#[tactic(auto, unfolding(crate::specs::Registers::shift_of))]
 pub(crate) fn named_shift(text: &[u8]) -> Option<Shift>
     ensures { result ≡ shift_of text.now }
 {

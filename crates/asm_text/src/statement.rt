@@ -200,22 +200,10 @@ fn action(head: Head, suffix: Suffix, tokens: &[Token<'_>]) -> Option<Action>
     ensures { result ≡ action_of head suffix (map piece_of tokens.now) }
 {
     match head {
-        Head::Data(opcode) => {
-            let data = data(opcode, suffix, tokens)?;
-            Some(Action::Data(data))
-        }
-        Head::Multiply(accumulate) => {
-            let product = product(accumulate, suffix, tokens)?;
-            Some(Action::Multiply(product))
-        }
-        Head::Block(load) => {
-            let block = block(load, suffix, tokens)?;
-            Some(Action::Block(block))
-        }
-        Head::Swi => {
-            let n = only_number(tokens)?;
-            Some(Action::Swi(n))
-        }
+        Head::Data(opcode) => data(opcode, suffix, tokens).map(Action::Data),
+        Head::Multiply(accumulate) => product(accumulate, suffix, tokens).map(Action::Multiply),
+        Head::Block(load) => block(load, suffix, tokens).map(Action::Block),
+        Head::Swi => only_number(tokens).map(Action::Swi),
         Head::Single(_) | Head::Adr => None,
     }
 }

@@ -60,6 +60,7 @@ fn with_suffix(head: Head, cond: Cond, text: &[u8]) -> Option<Word>
     }
 }
 
+#[tactic(auto, using(crate::proofs::WordLaws::short_plain))]
 fn plain(text: &[u8]) -> Option<Word>
     ensures { result ≡ plain_of text.now }
 {
