@@ -1,5 +1,7 @@
 ghost use Rattle.std.specs.Prelude.{◌≡◌, true, ◌<◌, ◌≤◌, ◌^◌, ◌%◌};
+ghost use Rattle.bus_ticks.specs.Prices.{n_price};
 ghost use Rattle.arm2_effect.specs.Effects.{is_stopped, ticks_of};
+ghost use Rattle.arm2_effect.specs.ProgramCounter.{ahead_of};
 ghost use Rattle.arm2_transfer.specs.Moved.{ChangesNothing, IsMoved, troubled, load_accesses, store_accesses};
 
 use crate::bus::Bus;
@@ -49,6 +51,16 @@ pub(crate) fn load_ticks(
     }
 }
 
+// The ticks of the fetch behind a store by the instruction at `from`: it does not follow the access before it.
+fn fetch_behind(prices: Prices, from: u32) -> u32
+    requires from { from < 2 ^ 26 }
+    requires from_aligned { from % 4 ≡ 0 }
+    ensures price { result ≡ n_price prices.profile prices.rom (ahead_of from 8) }
+    ensures small { result < 256 }
+{
+    fetch_n(&prices.profile, ahead(from, 8), prices.rom)
+}
+
 /// The ticks of a store by the instruction at `from`, of so many words from `address` on.
 pub(crate) fn store_ticks(prices: Prices, from: u32, address: u32, words: u32) -> u32
     requires from { from < 2 ^ 26 }
@@ -59,6 +71,5 @@ pub(crate) fn store_ticks(prices: Prices, from: u32, address: u32, words: u32) -
     ensures ticks { result ≡ ticks_of prices.profile prices.rom (store_accesses from address words) }
     ensures bound { result < 2 ^ 16 }
 {
-    fetch_n(&prices.profile, ahead(from, 8), prices.rom)
-        + transfer(&prices.profile, address, words, true, prices.rom)
+    fetch_behind(prices, from) + transfer(&prices.profile, address, words, true, prices.rom)
 }
