@@ -82,10 +82,10 @@ module _ (flow : Flow) (tree : Tree) where
   joined_both o os = λ i.
       record {
         walk = o.walk ++ append-nil (joined os).walk i;
-        own = o.own ++ append-nil (joined os).own i;
+        outside = o.outside ++ append-nil (joined os).outside i;
         counts = o.counts ++ append-nil (joined os).counts i;
         bodies = o.bodies ++ append-nil (joined os).bodies i;
-        body_owns = o.body_owns ++ append-nil (joined os).body_owns i;
+        bodies_outside = o.bodies_outside ++ append-nil (joined os).bodies_outside i;
         depth = max o.depth (max_zero (deepest os) i);
       }
 

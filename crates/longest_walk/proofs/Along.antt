@@ -13,7 +13,7 @@ use Rattle.numbered_walks.specs.Index.{edges_of}
 use Rattle.numbered_walks.specs.Reach.{IsRoundOf}
 use Rattle.loop_bounds.specs.Tree.{Tree}
 use Rattle.longest_walk.specs.Folded.{Opened, joined, one_edge, turned}
-use Rattle.longest_walk.specs.Built.{AreAllNumbered, AreRising, IsNumberedBody, step_at, steps_of}
+use Rattle.longest_walk.specs.Built.{AreAllNumbered, IsNumberedBody, IsRisingBody, step_at, steps_of}
 use Rattle.longest_walk.specs.Ways.{IsAlong}
 use Rattle.longest_walk.proofs.Opening.{AllZip-append, deepest-append, map-repeated, All-repeated}
 
@@ -30,7 +30,7 @@ module _ (flow : Flow) (tree : Tree) (c : Tables) where
     counts = All-nil IsCount;
     shallow = omega arith;
     all_rounds = tt;
-    bodies_rise = All-nil (AreRising flow tree);
+    bodies_rise = All-nil (IsRisingBody flow tree);
   }
 
   pub along_append : (outer : ℕ) (ks ls : List ℕ) (xs ys : List Opened) → IsAlong flow tree c outer ks (joined xs) → IsAlong flow tree c outer ls (joined ys) → IsAlong flow tree c outer (ks ++ ls) (joined (xs ++ ys))
@@ -48,8 +48,8 @@ module _ (flow : Flow) (tree : Tree) (c : Tables) where
     all_rounds = subst (λ (ns : List ℕ). AllZip (AreAllNumbered flow tree c) ns (flat_map (λ (o : Opened). o.bodies) (xs ++ ys))) (sym (flat_map-append (λ (o : Opened). o.counts) xs ys))
         (subst (λ (bs : List (List Edge)). AllZip (AreAllNumbered flow tree c) (flat_map (λ (o : Opened). o.counts) xs ++ flat_map (λ (o : Opened). o.counts) ys) bs) (sym (flat_map-append (λ (o : Opened). o.bodies) xs ys))
         (AllZip-append (AreAllNumbered flow tree c) (flat_map (λ (o : Opened). o.counts) xs) (flat_map (λ (o : Opened). o.counts) ys) (flat_map (λ (o : Opened). o.bodies) xs) (flat_map (λ (o : Opened). o.bodies) ys) one.all_rounds two.all_rounds));
-    bodies_rise = subst (All (AreRising flow tree)) (sym (flat_map-append (λ (o : Opened). o.body_owns) xs ys))
-        (All-append (AreRising flow tree) (flat_map (λ (o : Opened). o.body_owns) xs) (flat_map (λ (o : Opened). o.body_owns) ys) one.bodies_rise two.bodies_rise);
+    bodies_rise = subst (All (IsRisingBody flow tree)) (sym (flat_map-append (λ (o : Opened). o.bodies_outside) xs ys))
+        (All-append (IsRisingBody flow tree) (flat_map (λ (o : Opened). o.bodies_outside) xs) (flat_map (λ (o : Opened). o.bodies_outside) ys) one.bodies_rise two.bodies_rise);
   }
 
   pub along_edge : (outer k : ℕ) → outer ≤ 17 → k < length flow.edges → IsAlong flow tree c outer (k ∷ []) (joined (one_edge (step_at flow.edges k) ∷ []))
@@ -60,7 +60,7 @@ module _ (flow : Flow) (tree : Tree) (c : Tables) where
     counts = All-nil IsCount;
     shallow = omega arith;
     all_rounds = tt;
-    bodies_rise = All-nil (AreRising flow tree);
+    bodies_rise = All-nil (IsRisingBody flow tree);
   }
 
   pub along_weaker : (outer more : ℕ) (ks : List ℕ) (o : Opened) → outer ≤ more → IsAlong flow tree c more ks o → IsAlong flow tree c outer ks o
@@ -78,7 +78,7 @@ module _ (flow : Flow) (tree : Tree) (c : Tables) where
   along_room outer ks o a = omega (arith, a.shallow)
 
   -- a round, as often as its bound says
-  pub along_repeat : (s : Span) → Contains tree.spans s → s.bound ≤ 1048576 → (outer : ℕ) (ks : List ℕ) (o : Opened) → ks ≢ [] → 0 < s.bound → IsRoundOf tree.edges tree.spans c s (edges_of tree.edges ks) → IsAlong flow tree c (outer + 1) ks o → AreRising flow tree o.own → IsAlong flow tree c outer (repeated s.bound ks) (joined (turned s.bound o ∷ []))
+  pub along_repeat : (s : Span) → Contains tree.spans s → s.bound ≤ 1048576 → (outer : ℕ) (ks : List ℕ) (o : Opened) → ks ≢ [] → 0 < s.bound → IsRoundOf tree.edges tree.spans c s (edges_of tree.edges ks) → IsAlong flow tree c (outer + 1) ks o → IsRisingBody flow tree o.outside → IsAlong flow tree c outer (repeated s.bound ks) (joined (turned s.bound o ∷ []))
   along_repeat s s_in small outer ks o some more round a rising =
       let body : IsNumberedBody flow tree c o.walk = record { span = s; in_tree = s_in; numbers = ks; inside = a.inside; body_is = a.walk_is; some = some; round = round } in
       record {
@@ -90,5 +90,5 @@ module _ (flow : Flow) (tree : Tree) (c : Tables) where
         shallow = omega (arith, a.shallow);
         all_rounds = subst (λ (ns : List ℕ). AllZip (AreAllNumbered flow tree c) ns ((o.walk ∷ o.bodies) ++ [])) (sym (append-nil (s.bound ∷ o.counts)))
             (subst (AllZip (AreAllNumbered flow tree c) (s.bound ∷ o.counts)) (sym (append-nil (o.walk ∷ o.bodies))) (record { body_is = body; count_is = refl }, a.all_rounds));
-        bodies_rise = subst (All (AreRising flow tree)) (sym (append-nil (o.own ∷ o.body_owns))) (All-cons (AreRising flow tree) o.own o.body_owns rising a.bodies_rise);
+        bodies_rise = subst (All (IsRisingBody flow tree)) (sym (append-nil (o.outside ∷ o.bodies_outside))) (All-cons (IsRisingBody flow tree) o.outside o.bodies_outside rising a.bodies_rise);
       }

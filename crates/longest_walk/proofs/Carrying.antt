@@ -27,7 +27,7 @@ use Rattle.numbered_walks.specs.Tables.{arrival_of, distance_of, round_of, stay_
 use Rattle.numbered_walks.proofs.Finishing.{total-exit}
 use Rattle.loop_bounds.specs.Instance.{place_loops}
 use Rattle.loop_bounds.specs.Tree.{IsTree, Tree, place_in}
-use Rattle.longest_walk.specs.Built.{AreAllNumbered, AreInstanceRowsAt, ArePlaceRowsAt, AreRising, IsBuilt, IsNumberedBody, step_at, steps_of}
+use Rattle.longest_walk.specs.Built.{AreAllNumbered, AreInstanceRowsAt, ArePlaceRowsAt, IsBuilt, IsNumberedBody, IsRisingBody, step_at, steps_of}
 use Rattle.longest_walk.specs.Longest.{AreAllRounds, IsBody, IsLongest, IsWalkFault, IsWalkOf, KeepsTree, LeaveOnce}
 use Rattle.longest_walk.specs.declared.folded.Item.{Item}
 use Rattle.longest_walk.specs.declared.folded.Longest.{Longest}
@@ -115,7 +115,8 @@ module _ (flow : Flow) (tree : Tree) (well : IsWellFormed flow) (t : IsTree flow
           folded = record {
             all_rounds = AllZip-weaker (AreAllNumbered flow tree c) (AreAllRounds flow tree) rounds_up _ _ b.all_rounds;
             walk_once = rising_once flow tree well t _ b.walk_rises;
-            bodies_once = All-weaker (AreRising flow tree) LeaveOnce (rising_once flow tree well t) _ b.bodies_rise;
+            bodies_once = All-weaker (IsRisingBody flow tree) LeaveOnce (λ edges body. rising_once flow tree well t edges body.rising) _ b.bodies_rise;
+            bodies_some = All-weaker (IsRisingBody flow tree) (λ edges. edges ≢ []) (λ edges body. body.some) _ b.bodies_rise;
           };
         }
 

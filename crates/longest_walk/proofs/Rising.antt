@@ -1,5 +1,5 @@
 -- The edges of a list that stand in no repeat: each begins at a later number than the one before it.
-use Rattle.std.proofs.Common.{◌≡◌, ◌∙◌, ℕ, ◌+◌, ◌≤◌, List, [], ◌∷◌, ◌++◌, Option, None, Some, flat_map, refl, sym, ap, subst, arith, append-nil}
+use Rattle.std.proofs.Common.{◌≡◌, ◌≢◌, ◌∙◌, ℕ, ◌+◌, ◌≤◌, List, [], ◌∷◌, ◌++◌, Option, None, Some, flat_map, refl, sym, ap, subst, arith, append-nil}
 use Rattle.std.proofs.lemmas.List.{map-append}
 use Rattle.std.proofs.lemmas.List.Concat.{flat_map-append}
 use Rattle.flow_graph.specs.declared.edges.Edge.{Edge}
@@ -11,25 +11,29 @@ use Rattle.numbered_walks.specs.Index.{edge_at}
 use Rattle.numbered_walks.specs.Found.{IsTurning}
 use Rattle.loop_bounds.specs.Tree.{Tree}
 use Rattle.longest_walk.specs.Folded.{Opened, joined, one_edge}
-use Rattle.longest_walk.specs.Built.{AreRising, Rise, step_at, steps_of}
+use Rattle.longest_walk.specs.Built.{AreRising, IsRisingBody, Rise, step_at, steps_of}
 use Rattle.longest_walk.specs.Ways.{AreSearched, IsWay, opened_edge, opened_rounds, opened_way, rounds_at}
 use Rattle.longest_walk.specs.declared.rounds.Rounds.{Rounds}
 
+some-push : {A : Type 0} (xs : List A) (x : A) → xs ++ x ∷ [] ≢ []
+some-push [] x is = cc
+some-push (y ∷ xs) x is = cc
+
 -- ## The edges of a way
 
-abbrev pub own_of : List Opened → List Edge
-own_of items = flat_map (λ (o : Opened). o.own) items
+abbrev pub outside_of : List Opened → List Edge
+outside_of items = flat_map (λ (o : Opened). o.outside) items
 
-no_own : (r : Option Rounds) → own_of (opened_rounds r) ≡ []
-no_own None = refl
-no_own (Some r) = refl
+none_outside : (r : Option Rounds) → outside_of (opened_rounds r) ≡ []
+none_outside None = refl
+none_outside (Some r) = refl
 
-pub own_way : (flow : Flow) (tree : Tree) (table : List (Option Rounds)) (ks : List ℕ) → own_of (opened_way flow tree table ks) ≡ steps_of flow.edges ks
-own_way flow tree table [] = refl
-own_way flow tree table (k ∷ ks) =
-    flat_map-append (λ (o : Opened). o.own) (opened_edge flow tree table k) (opened_way flow tree table ks)
-    ∙ ap (λ (w : List Edge). (step_at flow.edges k ∷ w) ++ own_of (opened_way flow tree table ks)) (no_own (rounds_at table (edge_at tree.edges k).to))
-    ∙ ap (λ (w : List Edge). step_at flow.edges k ∷ w) (own_way flow tree table ks)
+pub outside_way : (flow : Flow) (tree : Tree) (table : List (Option Rounds)) (ks : List ℕ) → outside_of (opened_way flow tree table ks) ≡ steps_of flow.edges ks
+outside_way flow tree table [] = refl
+outside_way flow tree table (k ∷ ks) =
+    flat_map-append (λ (o : Opened). o.outside) (opened_edge flow tree table k) (opened_way flow tree table ks)
+    ∙ ap (λ (w : List Edge). (step_at flow.edges k ∷ w) ++ outside_of (opened_way flow tree table ks)) (none_outside (rounds_at table (edge_at tree.edges k).to))
+    ∙ ap (λ (w : List Edge). step_at flow.edges k ∷ w) (outside_way flow tree table ks)
 
 -- ## They rise
 
@@ -48,24 +52,30 @@ module _ (flow : Flow) (tree : Tree) (index : Index) (c : Tables) (g : AreSearch
       )
 
   -- a way, and a back edge from its end
-  pub round_rises : (s : Span) (k : ℕ) → IsTurning tree.edges tree.spans c s k → (table : List (Option Rounds)) (way : List ℕ) → IsWay tree.edges tree.spans c (Some s) s.header way (edge_at tree.edges k).from → AreRising flow tree (joined (opened_way flow tree table way ++ one_edge (step_at flow.edges k) ∷ [])).own
-  round_rises s k by table way is_way = record {
-    least = s.header;
-    numbers = way ++ k ∷ [];
-    edges_are = flat_map-append (λ (o : Opened). o.own) (opened_way flow tree table way) (one_edge (step_at flow.edges k) ∷ [])
-        ∙ ap (λ (w : List Edge). w ++ step_at flow.edges k ∷ []) (own_way flow tree table way)
-        ∙ sym (map-append (step_at flow.edges) way (k ∷ []));
-    rise = way_rises (Some s) s.header (edge_at tree.edges k).from way (k ∷ []) is_way (omega (arith, by.inside, g.tree_is.numbered.same), omega arith, tt);
-  }
+  pub round_rises : (s : Span) (k : ℕ) → IsTurning tree.edges tree.spans c s k → (table : List (Option Rounds)) (way : List ℕ) → IsWay tree.edges tree.spans c (Some s) s.header way (edge_at tree.edges k).from → IsRisingBody flow tree (joined (opened_way flow tree table way ++ one_edge (step_at flow.edges k) ∷ [])).outside
+  round_rises s k by table way is_way =
+      let back = one_edge (step_at flow.edges k) ∷ [] in
+      let split = flat_map-append (λ (o : Opened). o.outside) (opened_way flow tree table way) back in
+      record {
+        some = λ none. some-push (outside_of (opened_way flow tree table way)) (step_at flow.edges k) (sym split ∙ none);
+        rising = record {
+          least = s.header;
+          numbers = way ++ k ∷ [];
+          edges_are = split
+              ∙ ap (λ (w : List Edge). w ++ step_at flow.edges k ∷ []) (outside_way flow tree table way)
+              ∙ sym (map-append (step_at flow.edges) way (k ∷ []));
+          rise = way_rises (Some s) s.header (edge_at tree.edges k).from way (k ∷ []) is_way (omega (arith, by.inside, g.tree_is.numbered.same), omega arith, tt);
+        };
+      }
 
   -- the rounds at the entry, and a way
-  pub walk_rises : (exit : ℕ) (r : Option Rounds) (table : List (Option Rounds)) (way : List ℕ) → IsWay tree.edges tree.spans c None 0 way exit → AreRising flow tree (joined (opened_rounds r ++ opened_way flow tree table way)).own
+  pub walk_rises : (exit : ℕ) (r : Option Rounds) (table : List (Option Rounds)) (way : List ℕ) → IsWay tree.edges tree.spans c None 0 way exit → AreRising flow tree (joined (opened_rounds r ++ opened_way flow tree table way)).outside
   walk_rises exit r table way is_way = record {
     least = 0;
     numbers = way ++ [];
-    edges_are = flat_map-append (λ (o : Opened). o.own) (opened_rounds r) (opened_way flow tree table way)
-        ∙ ap (λ (w : List Edge). w ++ own_of (opened_way flow tree table way)) (no_own r)
-        ∙ own_way flow tree table way
+    edges_are = flat_map-append (λ (o : Opened). o.outside) (opened_rounds r) (opened_way flow tree table way)
+        ∙ ap (λ (w : List Edge). w ++ outside_of (opened_way flow tree table way)) (none_outside r)
+        ∙ outside_way flow tree table way
         ∙ ap (steps_of flow.edges) (sym (append-nil way));
     rise = way_rises None 0 exit way [] is_way tt;
   }

@@ -18,7 +18,7 @@ use Rattle.numbered_walks.proofs.Passing.{header_there}
 use Rattle.numbered_walks.proofs.Paths as P
 use Rattle.loop_bounds.specs.Tree.{Tree}
 use Rattle.longest_walk.specs.Folded.{Opened, joined, one_edge, open_item, open_items, turned}
-use Rattle.longest_walk.specs.Built.{AreRising, IsBuilt, step_at}
+use Rattle.longest_walk.specs.Built.{AreRising, IsBuilt, IsRisingBody, step_at}
 use Rattle.longest_walk.specs.Ways.{AreSearched, AreRounds, HasRounds, IsAlong, IsFollowed, IsRound, IsRounds, IsWay, depth_at, opened_rounds, opened_way, rounds_at}
 use Rattle.longest_walk.specs.declared.folded.Item.{Item}
 use Rattle.longest_walk.specs.declared.folded.Item.TheVariants.{Step}
@@ -39,7 +39,7 @@ module _ (flow : Flow) (tree : Tree) (index : Index) (c : Tables) (g : AreSearch
 
   -- a back edge closes a round
   pub round_closed : (s : Span) → Contains tree.spans s → (k : ℕ) → IsTurning tree.edges tree.spans c s k → (items : List Opened) → IsFollowed flow tree c (Some s) (edge_at tree.edges k).from items
-      → AreRising flow tree (joined (items ++ one_edge (step_at flow.edges k) ∷ [])).own → IsRound flow tree c s (items ++ one_edge (step_at flow.edges k) ∷ [])
+      → IsRisingBody flow tree (joined (items ++ one_edge (step_at flow.edges k) ∷ [])).outside → IsRound flow tree c s (items ++ one_edge (step_at flow.edges k) ∷ [])
   round_closed s s_in k by items f rising =
       let level : ℕ = depth_at tree.spans s.header + 1 in
       record {
@@ -129,7 +129,7 @@ module _ (flow : Flow) (tree : Tree) (index : Index) (c : Tables) (g : AreSearch
 
   -- ## The whole walk
 
-  built : (items : List Item) → IsFollowed flow tree c None exit (map open_item items) → AreRising flow tree (open_items items).own → IsBuilt flow tree c items
+  built : (items : List Item) → IsFollowed flow tree c None exit (map open_item items) → AreRising flow tree (open_items items).outside → IsBuilt flow tree c items
   built items f rising = record {
     numbers = f.numbers;
     inside = f.along.inside;
@@ -148,4 +148,4 @@ module _ (flow : Flow) (tree : Tree) (index : Index) (c : Tables) (g : AreSearch
   walk_made table all way items is_way items_are =
       let first = follow_entry flow tree index c g table (rounds_known table all) all.plain in
       built items (subst (IsFollowed flow tree c None exit) (sym items_are) (follow_way flow tree index c g table None tt (rounds_whole table all) 0 exit way (opened_rounds (rounds_at table 0)) first is_way))
-      (subst (λ (os : List Opened). AreRising flow tree (joined os).own) (sym items_are) (walk_rises flow tree index c g exit (rounds_at table 0) table way is_way))
+      (subst (λ (os : List Opened). AreRising flow tree (joined os).outside) (sym items_are) (walk_rises flow tree index c g exit (rounds_at table 0) table way is_way))

@@ -57,6 +57,11 @@ pub record AreRising (flow : Flow) (tree : Tree) (edges : List Edge) : Type 0 wh
   pub edges_are : edges ≡ steps_of flow.edges numbers
   pub rise : Rise flow tree least numbers
 
+-- the edges of a body outside of the repeats in it: some, and they rise
+pub record IsRisingBody (flow : Flow) (tree : Tree) (edges : List Edge) : Type 0 where
+  pub some : edges ≢ []
+  pub rising : AreRising flow tree edges
+
 -- the folded walk unfolds to the edges of a greatest walk from the entry to Exit
 pub record IsBuilt (flow : Flow) (tree : Tree) (c : Tables) (items : List Item) : Type 0 where
   pub numbers : List ℕ
@@ -67,8 +72,8 @@ pub record IsBuilt (flow : Flow) (tree : Tree) (c : Tables) (items : List Item) 
   pub counts : All (λ k. (0 < k) × (k ≤ 1048576)) (open_items items).counts
   pub shallow : (open_items items).depth ≤ 16
   pub all_rounds : AllZip (AreAllNumbered flow tree c) (open_items items).counts (open_items items).bodies
-  pub walk_rises : AreRising flow tree (open_items items).own
-  pub bodies_rise : All (AreRising flow tree) (open_items items).body_owns
+  pub walk_rises : AreRising flow tree (open_items items).outside
+  pub bodies_rise : All (IsRisingBody flow tree) (open_items items).bodies_outside
 
 -- ## The rows
 

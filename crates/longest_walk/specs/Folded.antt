@@ -6,14 +6,14 @@ use Rattle.longest_walk.specs.declared.folded.Item.{Item}
 use Rattle.longest_walk.specs.declared.folded.Item.TheOpen.{Item-F}
 use Rattle.longest_walk.specs.declared.folded.Item.TheFolds.{fold-Item}
 
--- the edges, and those of them that stand in no repeat; of the repeats, inner ones included, the counts, the edges of one
--- turn, and those of the body that stand in no repeat inside it; and how deep repeats stand
+-- the edges, and those of them outside of repeats; of the repeats, inner ones included, the counts, the edges of one round,
+-- and those of the body outside of the repeats in it; and how deep repeats stand
 pub record Opened : Type 0 where
   pub walk : List Edge
-  pub own : List Edge
+  pub outside : List Edge
   pub counts : List ℕ
   pub bodies : List (List Edge)
-  pub body_owns : List (List Edge)
+  pub bodies_outside : List (List Edge)
   pub depth : ℕ
 
 abbrev pub deepest : List Opened → ℕ
@@ -24,10 +24,10 @@ deepest (o ∷ rest) = max o.depth (deepest rest)
 abbrev pub joined : List Opened → Opened
 joined items = record {
   walk = flat_map (λ o. o.walk) items;
-  own = flat_map (λ o. o.own) items;
+  outside = flat_map (λ o. o.outside) items;
   counts = flat_map (λ o. o.counts) items;
   bodies = flat_map (λ o. o.bodies) items;
-  body_owns = flat_map (λ o. o.body_owns) items;
+  bodies_outside = flat_map (λ o. o.bodies_outside) items;
   depth = deepest items;
 }
 
@@ -35,15 +35,15 @@ joined items = record {
 abbrev pub turned : ℕ → Opened → Opened
 turned k body = record {
   walk = repeated k body.walk;
-  own = [];
+  outside = [];
   counts = k ∷ body.counts;
   bodies = body.walk ∷ body.bodies;
-  body_owns = body.own ∷ body.body_owns;
+  bodies_outside = body.outside ∷ body.bodies_outside;
   depth = body.depth + 1;
 }
 
 abbrev pub one_edge : Edge → Opened
-one_edge e = record { walk = e ∷ []; own = e ∷ []; counts = []; bodies = []; body_owns = []; depth = 0 }
+one_edge e = record { walk = e ∷ []; outside = e ∷ []; counts = []; bodies = []; bodies_outside = []; depth = 0 }
 
 -- an item whose body's items are opened already
 abbrev pub open_step : Item-F Opened → Opened

@@ -43,7 +43,7 @@ pub record AreRepeats (flow : Flow) (tree : Tree) (items : List Item) : Type 0 w
   pub counts : All (λ k. (0 < k) × (k ≤ 1048576)) (open_items items).counts
   pub shallow : (open_items items).depth ≤ 16
 
--- so many rounds of one instance, as many as a stay may take
+-- one round of an instance, so many times as a stay may take one
 pub record AreAllRounds (flow : Flow) (tree : Tree) (count : ℕ) (body : List Edge) : Type 0 where
   pub body_is : IsBody flow tree body
   pub count_is : count ≡ body_is.instance.bound
@@ -52,12 +52,13 @@ pub record AreAllRounds (flow : Flow) (tree : Tree) (count : ℕ) (body : List E
 abbrev pub LeaveOnce : List Edge → Type 0
 LeaveOnce edges = AllPairs (λ d e. d.from ≢ e.from) edges
 
--- Nothing is written out that a repeat can say: each repeat takes all rounds of its instance, and outside of its repeats
--- neither the walk nor a body leaves a place twice.
+-- Nothing is written out that a repeat can say: each repeat takes all rounds of its instance, outside of repeats neither the
+-- walk nor a body leaves a place twice, and no body is repeats alone.
 pub record IsFolded (flow : Flow) (tree : Tree) (items : List Item) : Type 0 where
   pub all_rounds : AllZip (AreAllRounds flow tree) (open_items items).counts (open_items items).bodies
-  pub walk_once : LeaveOnce (open_items items).own
-  pub bodies_once : All LeaveOnce (open_items items).body_owns
+  pub walk_once : LeaveOnce (open_items items).outside
+  pub bodies_once : All LeaveOnce (open_items items).bodies_outside
+  pub bodies_some : All (λ edges. edges ≢ []) (open_items items).bodies_outside
 
 -- a complete walk that keeps the bounds and costs so much
 pub record IsWalkOf (flow : Flow) (tree : Tree) (cost : ℕ) (items : List Item) : Type 0 where

@@ -13,7 +13,7 @@ use Rattle.numbered_walks.specs.Found.{AreFound, IsEntering}
 use Rattle.numbered_walks.specs.Reach.{IsPathTo, IsRoundOf, AreRoundsOf}
 use Rattle.loop_bounds.specs.Tree.{Tree, IsTree}
 use Rattle.longest_walk.specs.Folded.{Opened, joined, one_edge, open_items, turned}
-use Rattle.longest_walk.specs.Built.{AreAllNumbered, AreRising, IsNumberedBody, step_at, steps_of}
+use Rattle.longest_walk.specs.Built.{AreAllNumbered, IsNumberedBody, IsRisingBody, step_at, steps_of}
 use Rattle.longest_walk.specs.declared.rounds.Rounds.{Rounds}
 
 -- the index and the tables are those of the flow graph's numbers
@@ -67,7 +67,7 @@ pub record IsAlong (flow : Flow) (tree : Tree) (c : Tables) (outer : ℕ) (numbe
   pub counts : All (λ k. (0 < k) × (k ≤ 1048576)) o.counts
   pub shallow : o.depth + outer ≤ 17
   pub all_rounds : AllZip (AreAllNumbered flow tree c) o.counts o.bodies
-  pub bodies_rise : All (AreRising flow tree) o.body_owns
+  pub bodies_rise : All (IsRisingBody flow tree) o.bodies_outside
 
 abbrev pub depth_at : List Span → ℕ → ℕ
 depth_at spans p = count_by (λ s. is_in s p) spans
@@ -90,7 +90,7 @@ pub record IsRound (flow : Flow) (tree : Tree) (c : Tables) (s : Span) (items : 
   pub bound_some : 0 < s.bound
   pub round : IsRoundOf tree.edges tree.spans c s (edges_of tree.edges numbers)
   pub along : IsAlong flow tree c (depth_at tree.spans s.header + 1) numbers (joined items)
-  pub rising : AreRising flow tree (joined items).own
+  pub rising : IsRisingBody flow tree (joined items).outside
 
 -- all rounds of the span's instance
 pub record IsRounds (flow : Flow) (tree : Tree) (c : Tables) (s : Span) (entry : Option Rounds) : Type 0 where
