@@ -1,5 +1,5 @@
 -- A verdict and the refusals of a check, from what is found of the three texts.
-use Rattle.std.proofs.Common.{◌≡◌, ◌≢◌, ◌⊎◌, ℕ, List, Result, Ok, Err, refl, ap, inl, true, false}
+use Rattle.std.proofs.Common.{◌≡◌, ◌≢◌, ◌⊎◌, ◌∙◌, ℕ, List, Result, Ok, Err, refl, sym, ap, subst, inl, true, false}
 use Rattle.std.specs.Prelude.{IfErr, IsErrOf}
 use Rattle.bus_ticks.specs.declared.profile.Profile.{Profile}
 use Rattle.walks.specs.Greatest.{IsGreatest}
@@ -9,22 +9,24 @@ use Rattle.statement.specs.Stated.{Stated}
 use Rattle.loop_bounds.specs.Tree.{Tree}
 use Rattle.longest_walk.specs.Longest.{KeepsTree}
 use Rattle.certificate.specs.Faults.{EndsEarly, GoesOn, HasBadLine, Reads}
-use Rattle.certificate.specs.Lines.{CanSpell, Said, cert_text, said_by}
+use Rattle.certificate.specs.Lines.{CanSpell, Said, cert_text, said_by, said_of}
 use Rattle.certificate.specs.declared.cert.Cert.{Cert}
 use Rattle.certificate.specs.declared.fault.CertFault.{CertFault}
 use Rattle.certificate.specs.declared.fault.CertFault.TheVariants as cert_fault
+use Rattle.certificate.proofs.FaultLaws.{one_cert}
 use Rattle.cert_check.specs.Columns.{Ascends}
 use Rattle.cert_check.specs.Verdict.{IsVerdict}
 use Rattle.cert_check.specs.declared.verdict.Verdict.{Verdict}
 use Rattle.cert_check.specs.declared.verdict.Verdict.TheVariants.{Yes, No}
+use Rattle.cert_check.proofs.OneVerdict.{one_verdict}
 use Rattle.arcwcet.specs.Answers.{OfSome}
 use Rattle.arcwcet.specs.Check.{IsAnswer, IsCheckRefused, IsCheckable, IsJudged, verdict_line}
 use Rattle.arcwcet.specs.Faults.{of_cert}
-use Rattle.arcwcet.specs.Report.{HasLoops, IsHandlerRefused, IsTreeOf}
+use Rattle.arcwcet.specs.Report.{HasLoops, IsHandlerRefused, IsReport, IsTreeOf}
 use Rattle.arcwcet.specs.declared.fault.ReportFault.{ReportFault}
 use Rattle.arcwcet.specs.declared.fault.ReportFault.TheVariants.{Memory, Source, Image, Statement, Graph, Loops, Walk, MachineFile, Load, Device}
 use Rattle.arcwcet.specs.declared.fault.ReportFault.TheVariants as report_fault
-use Rattle.arcwcet.proofs.HandlerLemmas.{handler_refusals}
+use Rattle.arcwcet.proofs.HandlerLemmas.{handler_refusals, one_graph}
 use Rattle.arcwcet.proofs.ReportLemmas.{tree_is_greatest}
 
 -- ## Refusals
@@ -85,6 +87,16 @@ judged source statement text profile st flow tree cert v loops of read is greate
 -- what is judged can be checked
 pub checkable : (source statement text : List ℕ) (profile : Profile) (v : Verdict) → IsJudged source statement text profile v → IsCheckable source statement text profile
 checkable source statement text profile v j = record { stated = j.stated; flow = j.flow; said = said_by j.cert; loops = j.loops; can_spell = j.can_spell; spelled = j.spelled }
+
+-- a report is judged Yes: both speak of the same graph, the text says one thing, and there is one verdict
+pub report_gets_yes : (source statement text : List ℕ) (profile : Profile) (v : Verdict) → IsReport source statement profile text → IsJudged source statement text profile v → v ≡ Yes
+report_gets_yes source statement text profile v r j =
+    let a = r.accepted in
+    let same = one_graph source statement profile j.stated a.stated j.flow a.flow j.loops.graph a.loops.graph in
+    let said : said_by j.cert ≡ said_of r.longest = one_cert (said_by j.cert) (said_of r.longest) j.can_spell r.can_spell (sym j.spelled ∙ r.spelled) in
+    let of : IsTreeOf a.flow a.stated.loops j.tree = subst (λ (s : Stated). IsTreeOf a.flow s.loops j.tree) same.same_stated (subst (λ (w : Flow). IsTreeOf w j.stated.loops j.tree) same.same_flow j.tree_of) in
+    let verdict : IsVerdict a.flow j.tree j.cert v = subst (λ (w : Flow). IsVerdict w j.tree j.cert v) same.same_flow j.verdict_is in
+    one_verdict a.flow j.tree j.cert v Yes verdict (r.judged j.tree of j.cert said)
 
 -- a verdict's line is that of one of the answers
 pub of_some : (source statement text : List ℕ) (profile : Profile) (v : Verdict) (line : List ℕ) → IsJudged source statement text profile v → line ≡ verdict_line v → OfSome (IsAnswer source statement text profile) line

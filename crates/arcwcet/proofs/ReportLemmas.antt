@@ -16,7 +16,6 @@ use Rattle.loop_bounds.specs.Instance.{Instance, IsInstance}
 use Rattle.loop_bounds.specs.Tree.{Tree}
 use Rattle.longest_walk.specs.Folded.{unfolded}
 use Rattle.longest_walk.specs.Longest.{IsLongest, IsWalkFault, KeepsTree, TreeTooLarge}
-use Rattle.longest_walk.specs.Rows.{header_of}
 use Rattle.numbered_walks.specs.declared.fault.WalkFault.{WalkFault}
 use Rattle.numbered_walks.specs.declared.fault.WalkFault.TheVariants as walk_fault
 use Rattle.longest_walk.specs.declared.folded.Longest.{Longest}
@@ -24,7 +23,8 @@ use Rattle.certificate.specs.Lines.{cert_text, said_by, said_of}
 use Rattle.certificate.specs.declared.cert.Cert.{Cert}
 use Rattle.cert_check.specs.Verdict.{IsVerdict}
 use Rattle.cert_check.specs.declared.verdict.Verdict.TheVariants.{Yes}
-use Rattle.certificate.proofs.LongestLaws.{spelled_of}
+use Rattle.certificate.proofs.LongestLaws.{longest_is_spelled}
+use Rattle.cert_check.proofs.OtherTree.{longest_by_other}
 use Rattle.arcwcet.specs.Faults.{of_walk}
 use Rattle.arcwcet.specs.Keeping.{BoundsRuns}
 use Rattle.arcwcet.specs.Report.{HasLoops, IsAccepted, IsGreatestWalk, IsHandlerRefused, IsRefused, IsReport, IsTreeOf, IsWalkRefusal}
@@ -117,9 +117,12 @@ bounds_runs words profile st flow bound law greatest s inputs ran after keeps ru
     let most : cost_of edge_shape keeps.walk ≤ bound = greatest.upper keeps.walk keeps.complete keeps.kept in
     record { ticks = omega (arith, within.ticks, most); elapsed = omega (arith, within.elapsed, most) }
 
--- the header of an instance of the tree is a place of the graph
-header_is_place : (flow : Flow) (loops : List Loop) (tree : Tree) → IsTreeOf flow loops tree → (i : Instance) → Contains tree.instances i → Contains flow.places (header_of i)
-header_is_place flow loops tree of i has = ((of.instances i).0 has).reached
+-- by each other tree of the loops the walk is a greatest one too
+pub longest_by_each : (flow : Flow) (loops : List Loop) (tree other : Tree) → IsTreeOf flow loops tree → IsTreeOf flow loops other → (l : Longest) → IsLongest flow tree l → IsLongest flow other l
+longest_by_each flow loops tree other of by l is =
+    longest_by_other flow tree other of.tree_is by.tree_is
+    (λ i. (λ has. (by.instances i).1 ((of.instances i).0 has), λ has. (of.instances i).1 ((by.instances i).0 has)))
+    l is
 
 module _ (source statement : List ℕ) (profile : Profile) (st : Stated) (flow : Flow) (tree : Tree) (loops : HasLoops source statement profile st flow) (of : IsTreeOf flow st.loops tree) where
   -- no refusal of the walk holds
@@ -130,7 +133,7 @@ module _ (source statement : List ℕ) (profile : Profile) (st : Stated) (flow :
   accepted allowed = record { stated = st; flow = flow; loops = loops; no_fault = none_holds allowed }
 
   pub reported : (l : Longest) (text : List ℕ) → RunLaw → IsWellFormed flow → IsLongest flow tree l → ((f : WalkFault) → f ≢ walk_fault.Memory → IsWalkFault flow tree f → ⊥)
-      → ((cert : Cert) → said_by cert ≡ said_of l → IsVerdict flow tree cert Yes) → text ≡ cert_text (said_of l) → IsReport source statement profile text
+      → ((other : Tree) → IsTreeOf flow st.loops other → (cert : Cert) → said_by cert ≡ said_of l → IsVerdict flow other cert Yes) → text ≡ cert_text (said_of l) → IsReport source statement profile text
   reported l text law formed is allowed judged e =
       let walk = greatest_walk flow st.loops tree of.instances l is in
       record {
@@ -142,7 +145,7 @@ module _ (source statement : List ℕ) (profile : Profile) (st : Stated) (flow :
         walk = walk;
         judged = judged;
         runs = bounds_runs loops.graph.words profile st flow l.bound law walk.greatest;
-        can_spell = spelled_of flow formed tree l is (header_is_place flow st.loops tree of);
+        can_spell = longest_is_spelled flow formed tree of.tree_is l is;
         spelled = e;
       }
 

@@ -75,7 +75,7 @@ pub record IsAccepted (source statement : List ℕ) (profile : Profile) : Type 0
   pub no_fault : (f : WalkFault) → f ≢ walk_fault.Memory → IsWalkRefusal flow stated.loops f → ⊥
 
 -- A report for an accepted source and statement, the certificate of a greatest walk: its bound is the greatest cost, its walk has it, each
--- certificate that says the same is judged Yes, and every machine run that keeps the statement takes at most the bound.
+-- certificate that says the same is judged Yes by each tree of the loops, and every machine run that keeps the statement takes at most the bound.
 pub record IsReport (source statement : List ℕ) (profile : Profile) (text : List ℕ) : Type 0 where
   pub accepted : IsAccepted source statement profile
   pub tree : Tree
@@ -83,7 +83,7 @@ pub record IsReport (source statement : List ℕ) (profile : Profile) (text : Li
   pub tree_of : IsTreeOf accepted.flow accepted.stated.loops tree
   pub longest_is : IsLongest accepted.flow tree longest
   pub walk : IsGreatestWalk accepted.flow accepted.stated.loops longest.bound longest.walk
-  pub judged : (cert : Cert) → said_by cert ≡ said_of longest → IsVerdict accepted.flow tree cert Yes
+  pub judged : (other : Tree) → IsTreeOf accepted.flow accepted.stated.loops other → (cert : Cert) → said_by cert ≡ said_of longest → IsVerdict accepted.flow other cert Yes
   pub runs : BoundsRuns accepted.loops.graph.words accepted.stated profile accepted.flow longest.bound
   pub can_spell : CanSpell (said_of longest)
   pub spelled : text ≡ cert_text (said_of longest)

@@ -3,7 +3,7 @@ use Rattle.arcwcet.specs.Faults.{of_walk}
 use Rattle.arcwcet.specs.Report.{IsRefused}
 use Rattle.arcwcet.specs.declared.fault.ReportFault.TheVariants.{Device}
 use Rattle.arcwcet.proofs.HandlerLemmas.{refused_as}
-use Rattle.arcwcet.proofs.ReportLemmas.{accepted, reported, walk_refusal}
+use Rattle.arcwcet.proofs.ReportLemmas.{accepted, longest_by_each, reported, walk_refusal}
 use Rattle.arcwcet.proofs.bound.longest_text.Goals as goal
 
 pub returns-in_err-found-clause-fault : goal.returns-in_err-found-clause-fault
@@ -19,8 +19,8 @@ returns-clause-report c = λ source statement profile loops.
     let graph = loops.graph in
     reported source statement profile h.statement h.graph h.tree loops c.requires.tree
     c.in_ok-found.found c.in_ok-text.text.items c.run_law.ensures c.requires.formed c.in_ok-found.ensures.longest c.in_ok-found.ensures.allowed
-    (λ cert said. c.longest_gets_yes.ensures graph.words h.statement profile h.graph h.tree c.in_ok-found.found cert graph.graph_is c.requires.formed
-    c.requires.tree.tree_is c.in_ok-found.ensures.longest said)
+    (λ other of cert said. c.longest_gets_yes.ensures graph.words h.statement profile h.graph other c.in_ok-found.found cert graph.graph_is c.requires.formed
+    of.tree_is (longest_by_each h.graph h.statement.loops h.tree other c.requires.tree of c.in_ok-found.found c.in_ok-found.ensures.longest) said)
     c.in_ok-text.ensures.text
 
 pub returns-clause-accepted : goal.returns-clause-accepted
