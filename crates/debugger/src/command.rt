@@ -1,7 +1,7 @@
 use ioc::Lines;
 
 /// A command, with its numbers in their ranges.
-#[derive(Clone, Copy, Debug, PartialEq, Eq)]
+#[derive(Clone, Copy)]
 pub enum Command {
     /// A number of steps.
     Step(u32),

@@ -1,4 +1,4 @@
-ghost use Rattle.std.specs.Prelude.{◌≡◌, ◌++◌, IfOk, IfErr, OnOk};
+ghost use Rattle.std.specs.Prelude.{◌≡◌, [], ◌++◌, IfOk, IfErr, OnOk};
 ghost use Rattle.asm_text.specs.Source.{lines_of};
 ghost use Rattle.trace_text.specs.TraceText.{Adds};
 ghost use Rattle.debugger.specs.Conversation.{Converses, Tells, is_quit as quits, refusal_text};
@@ -15,10 +15,10 @@ use std::alloc::{AllocError, Global};
 fn is_quit(line: &[u8]) -> bool
     ensures { result ≡ quits line.now }
 {
-    match first_word(line) {
-        Some((b"quit", rest)) => first_word(rest).is_none(),
-        _ => false,
-    }
+    let Some((word, rest)) = first_word(line) else {
+        return false;
+    };
+    word == b"quit".as_slice() && first_word(rest).is_none()
 }
 
 fn put_refusal(out: &mut Vec<u8>, fault: DebugFault) -> Result<(), AllocError>
@@ -52,6 +52,28 @@ fn tell(
     }
 }
 
+// Adds what a session tells to some lines, in their order, up to one that quits.
+fn tell_all(
+    out: &mut Vec<u8>,
+    alloc: Global,
+    session: &mut Session,
+    lines: &[u8],
+) -> Result<(), DebugFault>
+    requires { out.old.items ≡ [] }
+    ensures ok { OnOk result (Converses session.old (lines_of lines.now) out.new.items) }
+    ensures err { IfErr result (λ fault. fault ≡ DebugFault.Memory) }
+{
+    let mut rest = lines;
+    while let Some((line, behind)) = first_line(rest) {
+        if is_quit(line) {
+            return Ok(());
+        }
+        tell(out, alloc, session, line)?;
+        rest = behind;
+    }
+    Ok(())
+}
+
 /// A whole session: what it answers to command lines, in their order, up to a line whose one word is `quit`.
 ///
 /// The port holds the word `port` until `port N`. Lines are those of a source's text. A refused command answers `refused: ` and the fault's name, and the
@@ -66,14 +88,7 @@ pub fn converse(
     ensures err { IfErr result (λ fault. fault ≡ DebugFault.Memory) }
 {
     let mut session = Session::with_port(machine, port);
-    let mut out = Vec::new(alloc);
-    let mut rest = commands;
-    while let Some((line, behind)) = first_line(rest) {
-        if is_quit(line) {
-            return Ok(out);
-        }
-        tell(&mut out, alloc, &mut session, line)?;
-        rest = behind;
-    }
-    Ok(out)
+    let mut answers = Vec::new(alloc);
+    tell_all(&mut answers, alloc, &mut session, commands)?;
+    Ok(answers)
 }

@@ -1,5 +1,5 @@
 ghost use Rattle.std.specs.Prelude.{◌≡◌, ◌+◌, ◌*◌, ◌^◌, ◌≤◌, IfOk};
-ghost use Rattle.debugger.specs.Commands.{IsInRange, address_in, command_of as line_says, line_command, line_named, number_in as number_within, one_word as one_says, three_words as three_say, two_words as two_say};
+ghost use Rattle.debugger.specs.Commands.{IsInRange, address_in, command_of as line_says, line_command, line_named, number_in as number_within, one_word as one_says, switched, three_words as three_say, two_words as two_say};
 
 use crate::command::Command;
 use crate::fault::DebugFault;
@@ -35,12 +35,16 @@ fn one_word(name: &[u8]) -> Result<Command, DebugFault>
     ensures command { result ≡ one_says name.now }
     ensures range { IfOk result IsInRange }
 {
-    match name {
-        b"step" => Ok(Command::Step(1)),
-        b"break" => Ok(Command::ListBreaks),
-        b"regs" => Ok(Command::Regs),
-        b"ticks" => Ok(Command::Ticks),
-        _ => Err(DebugFault::UnknownCommand),
+    if name == b"step".as_slice() {
+        Ok(Command::Step(1))
+    } else if name == b"break".as_slice() {
+        Ok(Command::ListBreaks)
+    } else if name == b"regs".as_slice() {
+        Ok(Command::Regs)
+    } else if name == b"ticks".as_slice() {
+        Ok(Command::Ticks)
+    } else {
+        Err(DebugFault::UnknownCommand)
     }
 }
 
@@ -48,13 +52,18 @@ fn two_words(name: &[u8], number: &[u8]) -> Result<Command, DebugFault>
     ensures command { result ≡ two_say name.now number.now }
     ensures range { IfOk result IsInRange }
 {
-    match name {
-        b"step" => Ok(Command::Step(number_in(1, 1024, number)?)),
-        b"run" => Ok(Command::Run(number_in(1, 65536, number)?)),
-        b"break" => Ok(Command::Break(address_of(1, number)?)),
-        b"burst" => Ok(Command::Burst(number_in(0, 65535, number)? as u16)),
-        b"port" => Ok(Command::Port(number_in(0, u32::MAX, number)?)),
-        _ => Err(DebugFault::UnknownCommand),
+    if name == b"step".as_slice() {
+        Ok(Command::Step(number_in(1, 1024, number)?))
+    } else if name == b"run".as_slice() {
+        Ok(Command::Run(number_in(1, 65536, number)?))
+    } else if name == b"break".as_slice() {
+        Ok(Command::Break(address_of(1, number)?))
+    } else if name == b"burst".as_slice() {
+        Ok(Command::Burst(number_in(0, 65535, number)? as u16))
+    } else if name == b"port".as_slice() {
+        Ok(Command::Port(number_in(0, u32::MAX, number)?))
+    } else {
+        Err(DebugFault::UnknownCommand)
     }
 }
 
@@ -84,18 +93,26 @@ fn line_of(name: &[u8]) -> Option<Lines>
     }
 }
 
+fn switch(name: &[u8], on: bool) -> Result<Command, DebugFault>
+    ensures command { result ≡ switched (line_named name.now) on }
+    ensures range { IfOk result IsInRange }
+{
+    match line_of(name) {
+        Some(line) => Ok(Command::Line(line, on)),
+        None => Err(DebugFault::UnknownCommand),
+    }
+}
+
 fn line(name: &[u8], state: &[u8]) -> Result<Command, DebugFault>
     ensures command { result ≡ line_command name.now state.now }
     ensures range { IfOk result IsInRange }
 {
-    let on = match state {
-        b"on" => true,
-        b"off" => false,
-        _ => return Err(DebugFault::UnknownCommand),
-    };
-    match line_of(name) {
-        Some(line) => Ok(Command::Line(line, on)),
-        None => Err(DebugFault::UnknownCommand),
+    if state == b"on".as_slice() {
+        switch(name, true)
+    } else if state == b"off".as_slice() {
+        switch(name, false)
+    } else {
+        Err(DebugFault::UnknownCommand)
     }
 }
 
@@ -103,17 +120,16 @@ fn three_words(name: &[u8], first: &[u8], second: &[u8]) -> Result<Command, Debu
     ensures command { result ≡ three_say name.now first.now second.now }
     ensures range { IfOk result IsInRange }
 {
-    match name {
-        b"mem" => {
-            let count = number_in(1, 16, second)?;
-            Ok(Command::Mem(address_of(count, first)?, count))
-        }
-        b"dis" => {
-            let count = number_in(1, 16, second)?;
-            Ok(Command::Dis(address_of(count, first)?, count))
-        }
-        b"line" => line(first, second),
-        _ => Err(DebugFault::UnknownCommand),
+    if name == b"mem".as_slice() {
+        let count = number_in(1, 16, second)?;
+        Ok(Command::Mem(address_of(count, first)?, count))
+    } else if name == b"dis".as_slice() {
+        let count = number_in(1, 16, second)?;
+        Ok(Command::Dis(address_of(count, first)?, count))
+    } else if name == b"line".as_slice() {
+        line(first, second)
+    } else {
+        Err(DebugFault::UnknownCommand)
     }
 }
 

@@ -1,6 +1,6 @@
 ghost use Rattle.std.specs.Prelude.{◌≡◌, ◌∷◌, [], ◌≤◌, ◌⊎◌, not, drop, length, MatchOption};
 ghost use Rattle.std.specs.List.{prefix_len};
-ghost use Rattle.asm_text.specs.Numbers.{capped, digits_of, number_by};
+ghost use Rattle.asm_text.specs.Numbers.{capped, digits_of, number_by, run_number};
 ghost use Rattle.asm_text.specs.Pieces.{is_blank as blank};
 ghost use Rattle.debugger.specs.Words.{number_of, words_of};
 
@@ -74,12 +74,21 @@ fn number(radix: u32, text: &[u8]) -> Option<u32>
     }
 }
 
+fn run_number(word: &[u8]) -> Option<u32>
+    ensures { result ≡ run_number word.now }
+{
+    match word {
+        [b'0', b'x', hex @ ..] => number(16, hex),
+        _ => number(10, word),
+    }
+}
+
 /// The number that a word spells: decimal, or hexadecimal behind `&` or `0x`, below 2^32.
 pub(crate) fn read_number(word: &[u8]) -> Option<u32>
     ensures { result ≡ number_of word.now }
 {
     match word {
-        [b'&', hex @ ..] | [b'0', b'x', hex @ ..] => number(16, hex),
-        _ => number(10, word),
+        [b'&', hex @ ..] => number(16, hex),
+        _ => run_number(word),
     }
 }

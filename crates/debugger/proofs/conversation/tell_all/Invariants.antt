@@ -1,11 +1,10 @@
 use Rattle.std.proofs.Common.{length}
 use Rattle.asm_text.specs.Source.{lines_of}
-use Rattle.debugger.specs.SessionState.{begun}
 use Rattle.debugger.proofs.TalkLaws.{TalkSoFar}
-use Rattle.debugger.proofs.conversation.converse.Given as goal
+use Rattle.debugger.proofs.conversation.tell_all.Given as goal
 
 abbrev pub invariant-loop-line : goal.invariant-loop-line
-invariant-loop-line l = TalkSoFar (begun l.fn.machine l.fn.port) (lines_of l.commands) l.session (lines_of l.rest) l.out.items
+invariant-loop-line l = TalkSoFar l.fn.session (lines_of l.lines) l.session (lines_of l.rest) l.out.items
 
 abbrev pub decreases-loop-line : goal.decreases-loop-line
 decreases-loop-line l = length l.rest
