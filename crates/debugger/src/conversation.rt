@@ -74,6 +74,16 @@ fn tell_all(
     Ok(())
 }
 
+// Adds what a session tells, whole.
+fn hold(out: &mut Vec<u8>, alloc: Global, session: Session, lines: &[u8]) -> Result<(), DebugFault>
+    requires { out.old.items ≡ [] }
+    ensures ok { OnOk result (Converses session (lines_of lines.now) out.new.items) }
+    ensures err { IfErr result (λ fault. fault ≡ DebugFault.Memory) }
+{
+    let mut session = session;
+    tell_all(out, alloc, &mut session, lines)
+}
+
 /// A whole session: what it answers to command lines, in their order, up to a line whose one word is `quit`.
 ///
 /// The port holds the word `port` until `port N`. Lines are those of a source's text. A refused command answers `refused: ` and the fault's name, and the
@@ -87,8 +97,8 @@ pub fn converse(
     ensures ok { IfOk result (λ answers. Converses (begun machine port) (lines_of commands.now) answers.items) }
     ensures err { IfErr result (λ fault. fault ≡ DebugFault.Memory) }
 {
-    let mut session = Session::with_port(machine, port);
     let mut answers = Vec::new(alloc);
-    tell_all(&mut answers, alloc, &mut session, commands)?;
+    let session = Session::with_port(machine, port);
+    hold(&mut answers, alloc, session, commands)?;
     Ok(answers)
 }
