@@ -88,7 +88,12 @@ judged source statement text profile st flow tree cert v loops of read is greate
 pub checkable : (source statement text : List ℕ) (profile : Profile) (v : Verdict) → IsJudged source statement text profile v → IsCheckable source statement text profile
 checkable source statement text profile v j = record { stated = j.stated; flow = j.flow; said = said_by j.cert; loops = j.loops; can_spell = j.can_spell; spelled = j.spelled }
 
--- a report is judged Yes: both speak of the same graph, the text says one thing, and there is one verdict
+-- the text of a report can be checked, ..
+pub report_is_checkable : (source statement text : List ℕ) (profile : Profile) → IsReport source statement profile text → IsCheckable source statement text profile
+report_is_checkable source statement text profile r =
+    record { stated = r.accepted.stated; flow = r.accepted.flow; said = said_of r.longest; loops = r.accepted.loops; can_spell = r.can_spell; spelled = r.spelled }
+
+-- .. and is judged Yes: both speak of the same graph, the text says one thing, and there is one verdict
 pub report_gets_yes : (source statement text : List ℕ) (profile : Profile) (v : Verdict) → IsReport source statement profile text → IsJudged source statement text profile v → v ≡ Yes
 report_gets_yes source statement text profile v r j =
     let a = r.accepted in

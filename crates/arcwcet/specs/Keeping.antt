@@ -7,6 +7,7 @@ use Rattle.arm2_exec.specs.State.{State}
 use Rattle.arm2_exec.specs.declared.machine.Input.{Input}
 use Rattle.arm2_exec.specs.declared.machine.Ran.{Ran}
 use Rattle.flow_graph.specs.Flow.{Flow}
+use Rattle.flow_graph.specs.Graph.{IsFlowGraph}
 use Rattle.flow_graph.specs.StepLaw.{Follows, bursts_of}
 use Rattle.flow_graph.specs.declared.edges.Edge.{Edge}
 use Rattle.statement.specs.Stated.{Stated}
@@ -31,11 +32,13 @@ abbrev pub BoundsRuns : Words → Stated → Profile → Flow → ℕ → Type 0
 BoundsRuns words stated profile flow bound =
     (s : State) (inputs : List Input) (ran : Ran) (after : State) → KeepsStatement words stated profile flow s inputs → Runs s inputs ran after → TakesAtMost profile bound inputs ran
 
--- from some state some run keeps some statement of some image: what a bound says of runs, it says of some
+-- a handler with a flow graph, and a run of it from some state that keeps its statement: what a bound says of runs, it says
+-- of some
 pub record HasKeptRun (profile : Profile) : Type 0 where
   pub words : Words
   pub stated : Stated
   pub flow : Flow
+  pub graph_is : IsFlowGraph words stated profile flow
   pub s : State
   pub inputs : List Input
   pub keeps : KeepsStatement words stated profile flow s inputs

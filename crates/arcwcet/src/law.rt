@@ -2,12 +2,15 @@ ghost use Rattle.std.specs.Prelude.{◌≡◌, List, ℕ};
 ghost use Rattle.bus_ticks.specs.declared.profile.Profile.{Profile};
 ghost use Rattle.cert_check.specs.declared.verdict.Verdict.{Verdict};
 ghost use Rattle.cert_check.specs.declared.verdict.Verdict.TheVariants.{Yes};
-ghost use Rattle.arcwcet.specs.Check.{IsJudged};
+ghost use Rattle.arcwcet.specs.Check.{IsCheckable, IsJudged};
 ghost use Rattle.arcwcet.specs.Report.{IsReport};
 
-/// States that the checker accepts each report: where the text of a report is judged, by its source, its statement and its
-/// cycle profile, as [`check_report`](crate::check_report) judges it, the verdict is Yes. It does nothing.
+/// States that the checker accepts each report. By its source, its statement and its cycle profile,
+/// [`check_report`](crate::check_report) refuses the text of a report for want of memory or a failing output alone, since
+/// it can be checked; and where it is judged, the verdict is Yes. It does nothing.
 pub fn certificates_are_accepted()
-    ensures { (source statement text : List ℕ) (profile : Profile) (verdict : Verdict)
+    ensures checkable { (source statement text : List ℕ) (profile : Profile)
+        → IsReport source statement profile text → IsCheckable source statement text profile }
+    ensures yes { (source statement text : List ℕ) (profile : Profile) (verdict : Verdict)
         → IsReport source statement profile text → IsJudged source statement text profile verdict → verdict ≡ Yes }
 {}

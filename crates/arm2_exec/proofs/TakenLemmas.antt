@@ -194,6 +194,7 @@ keeps_the_rest s i told after v step kind = elim (cases_Bool (is_stopped step.mo
             ap (λ (t : State). slice_index t.regs (reg_number r)) after_is
             ∙ ap (λ (x : Moved). slice_index x.regs (reg_number r)) moved_is
             ∙ taken_keeps v s.regs (reg_number r) other last;
+        prices = ap (λ (t : State). t.profile) after_is;
         devices = devices;
       }
 ]

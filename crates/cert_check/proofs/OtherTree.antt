@@ -16,9 +16,10 @@ use Rattle.loop_bounds.proofs.ExtentOf.{header_place}
 use Rattle.loop_bounds.proofs.Moved.{at_map}
 use Rattle.longest_walk.specs.declared.folded.Longest.{Longest}
 use Rattle.longest_walk.specs.Folded.{open_items}
-use Rattle.longest_walk.specs.Longest.{IsBody, IsLongest, KeepsTree, TreeTooLarge}
+use Rattle.longest_walk.specs.Longest.{AreAllRounds, IsBody, IsLongest, KeepsTree, TreeTooLarge}
 use Rattle.longest_walk.specs.Rows.{RowsFit, RowsHold, header_of, is_exit, potentials_of}
 use Rattle.longest_walk.proofs.CarryFind.{from_map, into_map}
+use Rattle.longest_walk.proofs.Opening.{AllZip-weaker}
 use Rattle.longest_walk.proofs.RowLemmas.{headers_once}
 use Rattle.cert_check.proofs.SameMembers.{Differ, Within, find_same, sum_same}
 
@@ -50,6 +51,10 @@ module _ (flow : Flow) (tree other : Tree) (t : IsTree flow tree) (u : IsTree fl
 
   body_over : (body : List Edge) → IsBody flow tree body → IsBody flow other body
   body_over body b = record { some = b.some; instance = b.instance; in_tree = to b.instance b.in_tree; header = b.header; header_is = b.header_is; turns = b.turns; stays = b.stays }
+
+  rounds_over : (count : ℕ) (body : List Edge) → AreAllRounds flow tree count body → AreAllRounds flow other count body
+  unfolding body_over
+  rounds_over count body a = record { body_is = body_over body a.body_is; count_is = a.count_is }
 
   too_large_over : TreeTooLarge flow tree → TreeTooLarge flow other
   too_large_over w = record { place = w.place; walk = w.walk; leads = w.leads; kept = kept_over w.walk w.kept; costs = w.costs }
@@ -127,6 +132,12 @@ module _ (flow : Flow) (tree other : Tree) (t : IsTree flow tree) (u : IsTree fl
             bodies = All-weaker (IsBody flow tree) (IsBody flow other) (body_over flow tree other t u to from) (open_items l.walk).bodies w.repeats.bodies;
             counts = w.repeats.counts;
             shallow = w.repeats.shallow;
+          };
+          folded = record {
+            all_rounds = AllZip-weaker (AreAllRounds flow tree) (AreAllRounds flow other) (rounds_over flow tree other t u to from) (open_items l.walk).counts (open_items l.walk).bodies w.folded.all_rounds;
+            walk_once = w.folded.walk_once;
+            bodies_once = w.folded.bodies_once;
+            bodies_some = w.folded.bodies_some;
           };
         };
         none_too_large = λ large. is.none_too_large (too_large_over flow other tree u t from to large);

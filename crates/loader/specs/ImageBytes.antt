@@ -83,8 +83,8 @@ is_taken words address = not (may_hold address) || is_some (word_of words addres
 abbrev pub end_fault : ℕ → ℕ → ReadFault
 end_fault named to_come = if nat_lt 65536 (named + to_come) then OutOfRange else Truncated
 
--- Why bytes that end within the address of a segment, with so many others to come, are no image's. Of the addresses that
--- begin with three bytes all can be taken; of those that begin with fewer some is free.
+-- Why bytes that end within the address of a segment, with so many others to come, are no image's. Three bytes leave four
+-- addresses, 1000000 apart, and all of them may be taken or in I/O; fewer always leave a free one.
 abbrev pub cut_fault : Words → ℕ → List ℕ → ReadFault
 cut_fault words others bytes =
     let low = head_address bytes in
