@@ -1,4 +1,5 @@
--- What each instruction does that is no load or store (VL86C010 data sheet, instruction set).
+-- What each instruction does that is no load or store (VL86C010 data sheet, instruction set; our own rule: a
+-- multiply keeps C).
 use Rattle.std.specs.Prelude.{ℕ, ◌+◌, ◌*◌, ◌%◌, ◌^◌, ◌==◌, nat_lt, zero, suc, ◌-◌, Bool, true, false, if◌then◌else◌, List, [], ◌∷◌}
 use Rattle.arm2_decode.specs.Names.{register_number}
 use Rattle.arm2_decode.specs.declared.names.Opcode.{Opcode}

@@ -1,4 +1,5 @@
--- What a step keeps that takes an exception, as an aborted transfer does (VL86C010 data sheet, exceptions).
+-- What a step keeps that takes an exception (VL86C010 data sheet, exceptions; our own rule: an aborted
+-- transfer moves no word and writes back no base).
 use Rattle.std.specs.Prelude.{◌≡◌, ◌≢◌, ◌+◌, ◌*◌}
 use Rattle.arm2_effect.specs.declared.exceptions.Vector.{Vector}
 use Rattle.arm2_effect.specs.declared.modes.Reg.{Reg}

@@ -1,4 +1,5 @@
--- The machine's state (VL86C010, VL86C110, VL86C310 and VL86C410 data sheets; the prices are our own cycle profile).
+-- The machine's state. Source: the VL86C010 data sheet for the registers; our own profile for memory, devices
+-- and prices, and for what a reset leaves as it was.
 use Rattle.std.specs.Prelude.{◌≡◌, ◌++◌, ◌∷◌, [], ℕ, List, slice_index, slice_set, replicate}
 use Rattle.bus_ticks.specs.declared.profile.Profile.{Profile}
 use Rattle.arm2_effect.specs.declared.modes.Reg.{Reg}

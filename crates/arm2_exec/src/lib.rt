@@ -1,7 +1,8 @@
 //! The Archimedes, step by step: an ARM2 with its memory controller MEMC, IOC and VIDC.
 //!
 //! A tick is one cycle of the 8 MHz processor. A step is one instruction or the entry of an interrupt.
-//! By the data sheets of VL86C010, VL86C110, VL86C310 and VL86C410, and our own cycle profile.
+//! The processor is that of the VL86C010 data sheet. The memory map, the devices and the prices are our own
+//! profile, shaped on the data sheets of VL86C110, VL86C410 and VL86C310.
 #![tactic(auto)]
 
 mod law;

@@ -1,4 +1,5 @@
--- The parts of a word and their names, in upper case (VL86C010 data sheet, assembler syntax; ADR is our own).
+-- The parts of a word and their names, in upper case (our own source format, over the VL86C010 data sheet's
+-- assembler syntax).
 use Rattle.std.specs.Prelude.{ℕ, List, [], ◌∷◌, codes, Bool, true, false, Option}
 use Rattle.std.specs.List.{find}
 use Rattle.std.specs.Str.{bytes_eq}

@@ -1,4 +1,5 @@
--- Operands, by the pieces that spell them (VL86C010 data sheet, assembler syntax; blanks are our own choice).
+-- Operands, by the pieces that spell them (our own source format, over the VL86C010 data sheet's assembler
+-- syntax).
 use Rattle.std.specs.Prelude.{ℕ, ◌+◌, ◌-◌, ◌^◌, nat_le, Bool, true, false, List, [], ◌∷◌, Option, Some, None, option_map, option_and_then, if◌then◌else◌, bit_or}
 use Rattle.arm2_decode.specs.declared.names.Opcode.{Opcode}
 use Rattle.arm2_decode.specs.declared.names.Opcode.TheVariants.{Mov, Mvn}

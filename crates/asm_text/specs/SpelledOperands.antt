@@ -1,5 +1,5 @@
--- How operands are spelled, from what they mean to their pieces (VL86C010 data sheet, assembler syntax; the forms of
--- numbers and the places of blanks are our own choice).
+-- How operands are spelled, from what they mean to their pieces (our own source format, over the VL86C010
+-- data sheet's assembler syntax).
 use Rattle.std.specs.Prelude.{◌≡◌, ◌⊎◌, ◌+◌, ◌-◌, ◌^◌, ◌<◌, ◌≤◌, ℕ, Bool, true, false, not, List, [], ◌∷◌, ◌++◌, codes, length, map, bit_or}
 use Rattle.std.specs.Char.{is_digit}
 use Rattle.std.specs.List.{Contains, fold, list_all}

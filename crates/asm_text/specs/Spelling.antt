@@ -1,5 +1,5 @@
--- How a line is spelled, from what it says to its text (VL86C010 data sheet, assembler syntax; labels, ORG, DCD, ADR,
--- comments and the places of blanks are our own source format).
+-- How a line is spelled, from what it says to its text (our own source format, over the VL86C010 data sheet's
+-- assembler syntax).
 use Rattle.std.specs.Prelude.{◌≡◌, ◌⊎◌, ◌==◌, not, ℕ, Bool, true, false, List, [], ◌∷◌, ◌++◌, Option, Some, None}
 use Rattle.std.specs.List.{list_all}
 use Rattle.arm2_decode.specs.declared.names.Register.{Register}

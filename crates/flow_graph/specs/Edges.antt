@@ -1,5 +1,6 @@
--- The edges of a place, and their costs in ticks. Source: our own cycle profile, with each access at its dearest; where
--- a word leads is the ARM data sheet's, and the author's for a word that writes R15.
+-- The edges of a place, and their costs in ticks. Source: our own cycle profile, with each access at its
+-- dearest; where a word leads is the VL86C010 data sheet's; of a word that writes R15 the author states it,
+-- and where nothing is stated it returns, by our own rule.
 use Rattle.std.specs.Prelude.{◌≡◌, ℕ, ◌+◌, ◌-◌, ◌*◌, ◌%◌, ◌^◌, true, false, cond, nat_eq, nat_lt, List, [], ◌∷◌, ◌++◌, length, take, map, slice_index, Option, Some, None, Contains}
 use Rattle.bus_ticks.specs.Worst.{worst_n_price, worst_s_price, worst_block, worst_leave_of}
 use Rattle.bus_ticks.specs.declared.profile.Class.{Class}

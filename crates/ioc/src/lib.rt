@@ -1,7 +1,7 @@
 //! IOC, the I/O controller, as a source of interrupts: lines, masks, latched requests and two timers.
 //!
-//! By the VL86C410 data sheet; where it leaves a choice, by our own profile. A tick is one cycle of the
-//! 8 MHz processor. Every call takes constant time.
+//! By our own profile, shaped on the VL86C410 data sheet. A tick is one cycle of the 8 MHz processor. Every
+//! call takes constant time.
 #![tactic(auto)]
 
 mod law;

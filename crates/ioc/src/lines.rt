@@ -1,4 +1,4 @@
-// The lines that come in (VL86C410 data sheet; names and bits are our own).
+// The lines that come in, by names and bits of our own.
 
 ghost use Rattle.std.specs.Prelude.{⊤, [], ◌∷◌, codes};
 

@@ -1,5 +1,5 @@
--- An image: which words stand at which addresses. Source: our own image format; the memory map is the
--- MEMC data sheet's (VL86C110), with I/O from 3000000 to 33FFFFF.
+-- An image: which words stand at which addresses. Source: our own image format and our own
+-- memory map, shaped on the VL86C110 data sheet's, with I/O from 3000000 to 33FFFFF.
 use Rattle.std.specs.Prelude.{ℕ, ◌+◌, ◌%◌, Bool, ◌&&◌, ◌||◌, ◌==◌, not, nat_lt, nat_le, if◌then◌else◌, List, [], ◌∷◌, length, Option, Some, None, is_some}
 use Rattle.loader.specs.declared.image.ImageFault.{ImageFault}
 use Rattle.loader.specs.declared.image.ImageFault.TheVariants.{OutOfRange, TooLong}

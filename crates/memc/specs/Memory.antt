@@ -1,7 +1,7 @@
 -- The memory controller as plain maps: what answers at an address, who may use it, and what each call leaves.
--- Sources: the data sheet of the VL86C110 (MEMC) for the memory map, the levels, the control fields and the
--- translator write with pages of 4 KB; our own profile for what is refused, for ROM without words and for loads of
--- physical RAM.
+-- Source: our own profile. Its memory map, levels, control fields and translator write with pages of 4 KB are
+-- shaped on the data sheet of the VL86C110 (MEMC); what is refused, ROM without words and loads of physical
+-- RAM are ours alone.
 use Rattle.std.specs.Prelude.{◌≡◌, ℕ, ◌+◌, ◌-◌, ◌*◌, ◌/◌, ◌%◌, ◌^◌, ◌<◌, ◌≤◌, ◌⊎◌, Bool, ◌==◌, ◌&&◌, ◌||◌, not, nat_lt, nat_le, if◌then◌else◌, Option, Some, None, Result, Ok, Err, List, [], ◌∷◌, slice_index, slice_set}
 use Rattle.std.proofs.Common.{lit<}
 use Rattle.std.proofs.lemmas.Nat.{mod_below}

@@ -1,5 +1,5 @@
 -- RAM and its page map as plain maps: from physical place to word, and from logical page to physical page and
--- level. Sources: the data sheet of the VL86C110 (MEMC) for pages and levels; our own profile for the rest.
+-- level. Source: our own profile, shaped on the data sheet of the VL86C110 (MEMC).
 use Rattle.std.specs.Prelude.{◌≡◌, ℕ, ◌+◌, ◌*◌, ◌/◌, ◌%◌, ◌^◌, ◌<◌, ◌≤◌, ◌==◌, if◌then◌else◌, Option, Some, None, List, length, map, slice_index_or, slice_set, All}
 use Rattle.memc.specs.declared.pages.Entry.{Entry}
 

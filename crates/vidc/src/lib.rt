@@ -1,7 +1,8 @@
 //! VIDC, the video controller, as a source of interrupts: its frame and when flyback rises in it.
 //!
-//! Four registers make the frame (VL86C310 data sheet). Time comes in ticks, cycles of the 8 MHz
-//! processor; within the crate it is counted in sixths of a tick, of which a pixel takes a whole number.
+//! Four registers make the frame (our own profile, shaped on the VL86C310 data sheet). Time comes in ticks,
+//! cycles of the 8 MHz processor; within the crate it is counted in sixths of a tick, of which a pixel takes a
+//! whole number.
 #![tactic(auto)]
 
 mod frame;
