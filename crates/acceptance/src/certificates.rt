@@ -1,5 +1,5 @@
-//! The laws beside the reports: certificates that are printed are accepted, and runs can keep statements. Changed
-//! certificates stand in the crate `cases`.
+//! The laws beside the reports: certificates that are printed are accepted, and runs can keep statements.
+//! Changed certificates stand in the crate `cases`.
 
 use arcwcet::{certificates_are_accepted, some_run_keeps};
 

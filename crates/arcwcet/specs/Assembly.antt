@@ -14,7 +14,10 @@ pub record HasWords (source : List ℕ) (words : Words) : Type 0 where
 
 -- how many words there are, and how many segments of words side by side
 abbrev pub size_text : Words → List ℕ
-size_text words = codes "words " ++ (decimal (length words) ++ (codes " segments " ++ (decimal (length (segments_of words)) ++ codes "\n")))
+size_text words =
+    codes "words "
+    ++
+    (decimal (length words) ++ (codes " segments " ++ (decimal (length (segments_of words)) ++ codes "\n")))
 
 pub record IsAsmReport (source text : List ℕ) : Type 0 where
   pub words : Words

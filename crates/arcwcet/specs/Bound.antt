@@ -6,6 +6,8 @@ use Rattle.arcwcet.specs.Report.{IsAccepted, IsRefused, IsReport}
 use Rattle.arcwcet.specs.declared.fault.ReportFault.{ReportFault}
 
 -- the answer to a source and a statement: their report
-abbrev pub Reports : {O T : Type 0} → (O → Option (List ℕ)) → (O → ℕ) → List ℕ → List ℕ → Profile → O → O → Result T ReportFault → Type 0
+abbrev pub Reports : {O T : Type 0} → (O → Option (List ℕ)) → (O → ℕ) → List ℕ → List ℕ → Profile → O → O
+    → Result T ReportFault → Type 0
 Reports taken failures source statement profile old new result =
-    Answers taken failures (λ _ text. IsReport source statement profile text) (IsAccepted source statement profile) (IsRefused source statement profile) old new result
+    Answers taken failures (λ _ text. IsReport source statement profile text)
+    (IsAccepted source statement profile) (IsRefused source statement profile) old new result

@@ -44,8 +44,8 @@ verdict_line (No objection) = objection_line objection
 
 -- ## The answer
 
--- The text is a certificate, no refusal up to the loops holds of the source and the statement, and this is the verdict on it by their
--- graph. Yes, whoever wrote it, means that its bound is the greatest cost.
+-- The text is a certificate, no refusal up to the loops holds of the source and the statement, and this is
+-- the verdict on it by their graph. Yes, whoever wrote it, means that its bound is the greatest cost.
 pub record IsJudged (source statement text : List ℕ) (profile : Profile) (verdict : Verdict) : Type 0 where
   pub stated : Stated
   pub flow : Flow
@@ -59,7 +59,8 @@ pub record IsJudged (source statement text : List ℕ) (profile : Profile) (verd
   pub greatest : verdict ≡ Yes → IsGreatestCost flow stated.loops cert.bound
 
 -- the verdict's line, and whether it is Yes
-pub record IsAnswer (source statement text : List ℕ) (profile : Profile) (answer : Bool) (line : List ℕ) : Type 0 where
+pub record IsAnswer (source statement text : List ℕ) (profile : Profile) (answer : Bool)
+    (line : List ℕ) : Type 0 where
   pub verdict : Verdict
   pub judged : IsJudged source statement text profile verdict
   pub answer_is : IsTrue answer ↔ (verdict ≡ Yes)
@@ -84,7 +85,8 @@ IsCertFault text cert_fault.Truncated = EndsEarly text
 IsCertFault text cert_fault.TrailingBytes = GoesOn text
 
 -- a fault of the text, of a graph and its loops
-pub record IsCertRefused (source statement text : List ℕ) (profile : Profile) (fault : CertFault) : Type 0 where
+pub record IsCertRefused (source statement text : List ℕ) (profile : Profile)
+    (fault : CertFault) : Type 0 where
   pub stated : Stated
   pub flow : Flow
   pub loops : HasLoops source statement profile stated flow
@@ -93,13 +95,17 @@ pub record IsCertRefused (source statement text : List ℕ) (profile : Profile) 
 
 -- when each refusal is answered: the first in the order of the work; an output fails whatever the texts
 abbrev pub IsCheckRefused : List ℕ → List ℕ → List ℕ → Profile → ReportFault → Type 0
-IsCheckRefused source statement text profile (report_fault.Cert fault) = IsCertRefused source statement text profile fault
+IsCheckRefused source statement text profile (report_fault.Cert fault) =
+    IsCertRefused source statement text profile fault
 IsCheckRefused source statement text profile report_fault.Device = Unit {0}
 IsCheckRefused source statement text profile fault = IsHandlerRefused source statement profile fault
 
 -- ## The call
 
 -- the answer to a source, a statement and a certificate's text: the verdict's line
-abbrev pub Checks : {O : Type 0} → (O → Option (List ℕ)) → (O → ℕ) → List ℕ → List ℕ → List ℕ → Profile → O → O → Result Bool ReportFault → Type 0
+abbrev pub Checks : {O : Type 0} → (O → Option (List ℕ)) → (O → ℕ) → List ℕ → List ℕ → List ℕ → Profile → O
+    → O → Result Bool ReportFault → Type 0
 Checks taken failures source statement text profile old new result =
-    Answers taken failures (IsAnswer source statement text profile) (IsCheckable source statement text profile) (IsCheckRefused source statement text profile) old new result
+    Answers taken failures (IsAnswer source statement text profile)
+    (IsCheckable source statement text profile)
+    (IsCheckRefused source statement text profile) old new result

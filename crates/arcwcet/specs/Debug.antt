@@ -8,7 +8,8 @@ use Rattle.debugger.specs.Conversation.{Converses}
 use Rattle.debugger.specs.SessionState.{begun}
 use Rattle.arcwcet.specs.Machine.{IsPlaced}
 
--- the session of the loaded machine by the lines of the commands, with the file's word at the port; its steps and events are not used
+-- the session of the loaded machine by the lines of the commands, with the file's word at the port; its steps
+-- and events are not used
 pub record IsDebugReport (source machine commands : List ℕ) (profile : Profile) (text : List ℕ) : Type 0 where
   pub file : Stated
   pub state : State

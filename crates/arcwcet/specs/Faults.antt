@@ -20,7 +20,9 @@ use Rattle.numbered_walks.specs.declared.fault.WalkFault.TheVariants as walk_fau
 use Rattle.certificate.specs.declared.fault.CertFault.{CertFault}
 use Rattle.certificate.specs.declared.fault.CertFault.TheVariants as cert_fault
 use Rattle.arcwcet.specs.declared.fault.ReportFault.{ReportFault}
-use Rattle.arcwcet.specs.declared.fault.ReportFault.TheVariants.{Memory, Source, Image, Statement, Graph, Loops, Walk, MachineFile, Load, Cert, Profile}
+use Rattle.arcwcet.specs.declared.fault.ReportFault.TheVariants.{Memory, Source, Image, Statement, Graph}
+use Rattle.arcwcet.specs.declared.fault.ReportFault.TheVariants.{Loops, Walk, MachineFile, Load, Cert}
+use Rattle.arcwcet.specs.declared.fault.ReportFault.TheVariants.{Profile}
 
 abbrev pub of_source : AsmFault → ReportFault
 of_source asm_fault.Memory = Memory

@@ -19,11 +19,15 @@ module _ {S : Type 0} (reads : Reading S) where
   -- the files of these names were read, one after another
   abbrev pub ReadsAll : S → Texts → Texts → S → Type 0
   ReadsAll old [] [] new = new ≡ old
-  ReadsAll old (name ∷ names) (file ∷ files) new = (between : S) × reads old name (Ok file) between × ReadsAll between names files new
+  ReadsAll old (name ∷ names) (file ∷ files) new =
+      (between : S) × reads old name (Ok file) between × ReadsAll between names files new
   ReadsAll old names files new = ⊥
 
   -- one of them could not be read, and those before it were
   abbrev pub FailsToRead : S → Texts → StoreFault → S → Type 0
   FailsToRead old [] fault new = ⊥
   FailsToRead old (name ∷ names) fault new =
-      (reads old name (Err fault) new) ⊎ ((between : S) × (file : List ℕ) × reads old name (Ok file) between × FailsToRead between names fault new)
+      (reads old name (Err fault) new)
+      ⊎
+      ((between : S) × (file : List ℕ) × reads old name (Ok file) between
+      × FailsToRead between names fault new)

@@ -13,10 +13,11 @@ use Rattle.flow_graph.specs.declared.edges.Edge.{Edge}
 use Rattle.statement.specs.Stated.{Stated}
 use Rattle.loop_bounds.specs.Bounds.{IsCompleteWalk, KeepsTheBounds}
 
--- From this state the steps are the edges of a walk from the entry to Exit that keeps the loop bounds: each does the image's
--- word at its address, takes no exception and does not stop, moves words of the stated class, and goes where its edge
--- leads; the last one to an address of the leave class.
-pub record KeepsStatement (words : Words) (stated : Stated) (profile : Profile) (flow : Flow) (s : State) (inputs : List Input) : Type 0 where
+-- From this state the steps are the edges of a walk from the entry to Exit that keeps the loop bounds: each
+-- does the image's word at its address, takes no exception and does not stop, moves words of the stated
+-- class, and goes where its edge leads; the last one to an address of the leave class.
+pub record KeepsStatement (words : Words) (stated : Stated) (profile : Profile) (flow : Flow) (s : State)
+    (inputs : List Input) : Type 0 where
   pub walk : List Edge
   pub complete : IsCompleteWalk flow walk
   pub kept : KeepsTheBounds flow stated.loops walk
@@ -30,10 +31,12 @@ pub record TakesAtMost (profile : Profile) (bound : ℕ) (inputs : List Input) (
 -- every run that keeps the statement, from whatever state and by whatever inputs, takes at most the bound
 abbrev pub BoundsRuns : Words → Stated → Profile → Flow → ℕ → Type 0
 BoundsRuns words stated profile flow bound =
-    (s : State) (inputs : List Input) (ran : Ran) (after : State) → KeepsStatement words stated profile flow s inputs → Runs s inputs ran after → TakesAtMost profile bound inputs ran
+    (s : State) (inputs : List Input) (ran : Ran) (after : State)
+    → KeepsStatement words stated profile flow s inputs → Runs s inputs ran after
+    → TakesAtMost profile bound inputs ran
 
--- a handler with a flow graph, and a run of it from some state that keeps its statement: what a bound says of runs, it says
--- of some
+-- a handler with a flow graph, and a run of it from some state that keeps its statement: what a bound says of
+-- runs, it says of some
 pub record HasKeptRun (profile : Profile) : Type 0 where
   pub words : Words
   pub stated : Stated

@@ -1,5 +1,6 @@
 -- What the reports of a machine's run print. Our own.
-use Rattle.std.specs.Prelude.{◌≡◌, ◌≢◌, ◌↔◌, ◌++◌, ℕ, Bool, true, false, IsTrue, List, [], Option, Some, None, Ok, Err}
+use Rattle.std.specs.Prelude.{◌≡◌, ◌≢◌, ◌↔◌, ◌++◌, ℕ, Bool, true, false, IsTrue, List, [], Option, Some, None}
+use Rattle.std.specs.Prelude.{Ok, Err}
 use Rattle.bus_ticks.specs.declared.profile.Profile.{Profile}
 use Rattle.arm2_effect.specs.declared.done.Why.{Why}
 use Rattle.arm2_effect.specs.Modes.{r15_in}
@@ -33,7 +34,8 @@ pub record IsStated (source machine : List ℕ) (words : Words) (file : Stated) 
   pub file_is : IsMachineFile machine (Ok file)
 
 -- the machine before its first step: the file's start, on whose map each word has its place, with the words
-pub record IsPlaced (source machine : List ℕ) (profile : Profile) (file : Stated) (state : State) : Type 0 where
+pub record IsPlaced (source machine : List ℕ) (profile : Profile) (file : Stated)
+    (state : State) : Type 0 where
   pub words : Words
   pub start : State
   pub stated : IsStated source machine words file
@@ -42,7 +44,8 @@ pub record IsPlaced (source machine : List ℕ) (profile : Profile) (file : Stat
   pub loaded : state ≡ with_image words start
 
 -- the same, and the inputs of its steps
-pub record IsLoaded (source machine : List ℕ) (profile : Profile) (state : State) (inputs : List Input) : Type 0 where
+pub record IsLoaded (source machine : List ℕ) (profile : Profile) (state : State)
+    (inputs : List Input) : Type 0 where
   pub file : Stated
   pub placed : IsPlaced source machine profile file state
   pub inputs_are : AreInputs file.schedule inputs
@@ -57,7 +60,8 @@ stopped_text (Some why) r15 = stop_text why (address_of r15)
 abbrev pub end_text : Ran → State → List ℕ
 end_text ran after = stopped_text ran.stopped (r15_in after.regs) ++ ticks_text ran.ticks ran.elapsed
 
--- what stands in front of a report's end: of the machine before the run, its inputs, and the machine behind it
+-- what stands in front of a report's end: of the machine before the run, its inputs, and the machine behind
+-- it
 abbrev pub Front : Type 1
 Front = State → List Input → State → List ℕ → Type 0
 
@@ -68,7 +72,8 @@ abbrev pub ShowsSteps : Front
 ShowsSteps state inputs after front = TracesRun state inputs front
 
 -- the report of the run, and whether it did all its steps
-pub record IsMachineReport (Shows : Front) (source machine : List ℕ) (profile : Profile) (done : Bool) (text : List ℕ) : Type 0 where
+pub record IsMachineReport (Shows : Front) (source machine : List ℕ) (profile : Profile) (done : Bool)
+    (text : List ℕ) : Type 0 where
   pub state : State
   pub inputs : List Input
   pub ran : Ran
@@ -106,12 +111,15 @@ pub record IsLoadRefused (source machine : List ℕ) (profile : Profile) (fault 
   pub fault_is : fault ≡ NoPage
   pub lacks : lacks_page start.bus.memc words ≡ true
 
--- when each refusal is answered: the first in the order of the work. A growth is refused, and an output fails, whatever the texts
+-- when each refusal is answered: the first in the order of the work. A growth is refused, and an output
+-- fails, whatever the texts
 abbrev pub IsRunRefused : List ℕ → List ℕ → Profile → ReportFault → Type 0
 IsRunRefused source machine profile report_fault.Memory = Unit {0}
 IsRunRefused source machine profile report_fault.Device = Unit {0}
-IsRunRefused source machine profile (report_fault.Source fault) = source_of source ≡ Err (report_fault.Source fault)
-IsRunRefused source machine profile (report_fault.Image fault) = source_of source ≡ Err (report_fault.Image fault)
+IsRunRefused source machine profile (report_fault.Source fault) =
+    source_of source ≡ Err (report_fault.Source fault)
+IsRunRefused source machine profile (report_fault.Image fault) =
+    source_of source ≡ Err (report_fault.Image fault)
 IsRunRefused source machine profile (report_fault.MachineFile fault) = IsFileRefused source machine fault
 IsRunRefused source machine profile (report_fault.Load fault) = IsLoadRefused source machine profile fault
 IsRunRefused source machine profile fault = ⊥

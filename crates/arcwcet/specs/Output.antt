@@ -1,5 +1,6 @@
 -- What an output took, and how often it failed. Our own.
-use Rattle.std.specs.Prelude.{◌≡◌, ◌⊎◌, ℕ, ◌+◌, ◌-◌, ◌^◌, ◌<◌, ◌≤◌, ◌==◌, ◌&&◌, min, List, length, take, Option, Result, Ok, Err, Bool, true, not, if◌then◌else◌}
+use Rattle.std.specs.Prelude.{◌≡◌, ◌⊎◌, ℕ, ◌+◌, ◌-◌, ◌^◌, ◌<◌, ◌≤◌, ◌==◌, ◌&&◌, min, List, length, take}
+use Rattle.std.specs.Prelude.{Option, Result, Ok, Err, Bool, true, not, if◌then◌else◌}
 use Rattle.std.specs.Io.KnownBytes.{Appends}
 
 -- the count stays at its greatest value

@@ -27,12 +27,14 @@ abbrev pub PricedFault : Option (List ℕ) → (Profile → ReportFault → Type
 PricedFault file IsFault fault = ByProfile file (λ profile. IsFault profile fault) ⊎ HasNoProfile file fault
 
 -- there is no profile, and nothing was written
-pub record IsUnpriced {O T : Type 0} (file : Option (List ℕ)) (old new : O) (result : Result T ReportFault) : Type 0 where
+pub record IsUnpriced {O T : Type 0} (file : Option (List ℕ)) (old new : O)
+    (result : Result T ReportFault) : Type 0 where
   pub fault : ReportFault
   pub no_profile : HasNoProfile file fault
   pub answered : result ≡ Err fault
   pub same : new ≡ old
 
 -- the answer by the profile; or there is none, which is answered before all else
-abbrev pub Priced : {O T : Type 0} → Option (List ℕ) → (Profile → Type 0) → O → O → Result T ReportFault → Type 0
+abbrev pub Priced : {O T : Type 0} → Option (List ℕ) → (Profile → Type 0) → O → O → Result T ReportFault
+    → Type 0
 Priced file Holds old new result = ByProfile file Holds ⊎ IsUnpriced file old new result

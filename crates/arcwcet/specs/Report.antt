@@ -42,14 +42,18 @@ pub record IsGreatestWalk (flow : Flow) (loops : List Loop) (bound : ℕ) (items
   pub kept : KeepsTheBounds flow loops (unfolded items)
   pub costs : cost_of edge_shape (unfolded items) ≡ bound
 
--- no walk leads to Exit; or one does, and some walk that keeps the bounds, wherever it ends, costs 2^63 ticks or more
+-- no walk leads to Exit; or one does, and some walk that keeps the bounds, wherever it ends, costs 2^63 ticks
+-- or more
 abbrev pub IsWalkRefusal : Flow → List Loop → WalkFault → Type 0
 IsWalkRefusal flow loops walk_fault.Memory = Unit {0}
 IsWalkRefusal flow loops walk_fault.NoCompleteWalk = (walk : List Edge) → IsCompleteWalk flow walk → ⊥
-IsWalkRefusal flow loops walk_fault.BoundTooLarge = ((walk : List Edge) × IsCompleteWalk flow walk) × IsTooLarge flow loops
+IsWalkRefusal flow loops walk_fault.BoundTooLarge =
+    ((walk : List Edge) × IsCompleteWalk flow walk) × IsTooLarge flow loops
 
--- the source has an image, the statement a value by the source's labels, no refusal of a graph holds, and this is the graph
-pub record HasGraph (source statement : List ℕ) (profile : Profile) (stated : Stated) (flow : Flow) : Type 0 where
+-- the source has an image, the statement a value by the source's labels, no refusal of a graph holds, and
+-- this is the graph
+pub record HasGraph (source statement : List ℕ) (profile : Profile) (stated : Stated)
+    (flow : Flow) : Type 0 where
   pub words : Words
   pub names : Names
   pub source_is : source_of source ≡ Ok (words, names)
@@ -58,7 +62,8 @@ pub record HasGraph (source statement : List ℕ) (profile : Profile) (stated : 
   pub graph_is : IsFlowGraph words stated profile flow
 
 -- and no refusal of the loops holds
-pub record HasLoops (source statement : List ℕ) (profile : Profile) (stated : Stated) (flow : Flow) : Type 0 where
+pub record HasLoops (source statement : List ℕ) (profile : Profile) (stated : Stated)
+    (flow : Flow) : Type 0 where
   pub graph : HasGraph source statement profile stated flow
   pub no_fault : (f : NestFault) → f ≢ nest_fault.Memory → Applies flow stated.loops f → ⊥
 
@@ -74,8 +79,9 @@ pub record IsAccepted (source statement : List ℕ) (profile : Profile) : Type 0
   pub loops : HasLoops source statement profile stated flow
   pub no_fault : (f : WalkFault) → f ≢ walk_fault.Memory → IsWalkRefusal flow stated.loops f → ⊥
 
--- A report for an accepted source and statement, the certificate of a greatest walk: its bound is the greatest cost, its walk has it, each
--- certificate that says the same is judged Yes by each tree of the loops, and every machine run that keeps the statement takes at most the bound.
+-- A report for an accepted source and statement, the certificate of a greatest walk: its bound is the
+-- greatest cost, its walk has it, each certificate that says the same is judged Yes by each tree of the
+-- loops, and every machine run that keeps the statement takes at most the bound.
 pub record IsReport (source statement : List ℕ) (profile : Profile) (text : List ℕ) : Type 0 where
   pub accepted : IsAccepted source statement profile
   pub tree : Tree
@@ -83,7 +89,8 @@ pub record IsReport (source statement : List ℕ) (profile : Profile) (text : Li
   pub tree_of : IsTreeOf accepted.flow accepted.stated.loops tree
   pub longest_is : IsLongest accepted.flow tree longest
   pub walk : IsGreatestWalk accepted.flow accepted.stated.loops longest.bound longest.walk
-  pub judged : (other : Tree) → IsTreeOf accepted.flow accepted.stated.loops other → (cert : Cert) → said_by cert ≡ said_of longest → IsVerdict accepted.flow other cert Yes
+  pub judged : (other : Tree) → IsTreeOf accepted.flow accepted.stated.loops other → (cert : Cert)
+      → said_by cert ≡ said_of longest → IsVerdict accepted.flow other cert Yes
   pub runs : BoundsRuns accepted.loops.graph.words accepted.stated profile accepted.flow longest.bound
   pub can_spell : CanSpell (said_of longest)
   pub spelled : text ≡ cert_text (said_of longest)
@@ -122,15 +129,20 @@ pub record IsWalkRefused (source statement : List ℕ) (profile : Profile) (faul
   pub not_memory : fault ≢ walk_fault.Memory
   pub holds : IsWalkRefusal flow stated.loops fault
 
--- when each refusal of a source and a statement is answered, up to the loops: the first in the order of the work. A growth is
--- refused whatever they are
+-- when each refusal of a source and a statement is answered, up to the loops: the first in the order of the
+-- work. A growth is refused whatever they are
 abbrev pub IsHandlerRefused : List ℕ → List ℕ → Profile → ReportFault → Type 0
 IsHandlerRefused source statement profile report_fault.Memory = Unit {0}
-IsHandlerRefused source statement profile (report_fault.Source fault) = source_of source ≡ Err (report_fault.Source fault)
-IsHandlerRefused source statement profile (report_fault.Image fault) = source_of source ≡ Err (report_fault.Image fault)
-IsHandlerRefused source statement profile (report_fault.Statement fault) = IsStatementRefused source statement fault
-IsHandlerRefused source statement profile (report_fault.Graph fault) = IsGraphRefused source statement profile fault
-IsHandlerRefused source statement profile (report_fault.Loops fault) = AreLoopsRefused source statement profile fault
+IsHandlerRefused source statement profile (report_fault.Source fault) =
+    source_of source ≡ Err (report_fault.Source fault)
+IsHandlerRefused source statement profile (report_fault.Image fault) =
+    source_of source ≡ Err (report_fault.Image fault)
+IsHandlerRefused source statement profile (report_fault.Statement fault) =
+    IsStatementRefused source statement fault
+IsHandlerRefused source statement profile (report_fault.Graph fault) =
+    IsGraphRefused source statement profile fault
+IsHandlerRefused source statement profile (report_fault.Loops fault) =
+    AreLoopsRefused source statement profile fault
 IsHandlerRefused source statement profile fault = ⊥
 
 -- when each refusal of a report is answered; an output fails whatever the source and the statement

@@ -1,5 +1,6 @@
 -- What a run of the program does, by its exit status. Our own.
-use Rattle.std.specs.Prelude.{◌≡◌, ◌≢◌, ◌⊎◌, ◌≤◌, ℕ, Bool, true, false, if◌then◌else◌, List, [], ◌∷◌, length, Option, Some, None, Result, Ok, Err}
+use Rattle.std.specs.Prelude.{◌≡◌, ◌≢◌, ◌⊎◌, ◌≤◌, ℕ, Bool, true, false, if◌then◌else◌, List, [], ◌∷◌, length}
+use Rattle.std.specs.Prelude.{Option, Some, None, Result, Ok, Err}
 use Rattle.std.specs.Io.KnownBytes.{Appends, Consumes, IsAtEnd}
 use Rattle.arcwcet.specs.Answers.{FailsWithin, OfSome, Prints}
 use Rattle.arcwcet.specs.Assembly.{IsSourceRefused, IsWritten}
@@ -48,7 +49,8 @@ module _ {S : Type 0} (reads : Reading S) (names : Texts) (old new : S) where
     pub printed : Prints (IsText files) out_old out_new
 
   -- the output failed within such a text
-  pub record FailsToPrint (IsText : Texts → List ℕ → Type 0) (out_old out_new : Option (List ℕ)) (before after : ℕ) : Type 0 where
+  pub record FailsToPrint (IsText : Texts → List ℕ → Type 0) (out_old out_new : Option (List ℕ))
+      (before after : ℕ) : Type 0 where
     pub files : Texts
     pub read : ReadsAll reads old names files new
     pub fails : FailsWithin (IsText files) out_old out_new before after
@@ -67,21 +69,29 @@ module _ {S : Type 0} (reads : Reading S) (names : Texts) (old new : S) where
   IsRefusedRun IsFault = FailsToRead reads old names store_fault.InputTooLong new ⊎ HasRefused IsFault
 
   -- status 4: a file could not be read, and nothing was printed, or the output failed
-  abbrev pub IsFailedRun : {O : Type 0} → (Texts → List ℕ → Type 0) → (taken : O → Option (List ℕ)) → (failures : O → ℕ) → (before after : O) → Type 0
+  abbrev pub IsFailedRun : {O : Type 0} → (Texts → List ℕ → Type 0) → (taken : O → Option (List ℕ))
+      → (failures : O → ℕ) → (before after : O) → Type 0
   IsFailedRun IsText taken failures before after =
-      (FailsToRead reads old names store_fault.Device new × (after ≡ before)) ⊎ FailsToPrint IsText (taken before) (taken after) (failures before) (failures after)
+      (FailsToRead reads old names store_fault.Device new × (after ≡ before))
+      ⊎ FailsToPrint IsText (taken before) (taken after) (failures before) (failures after)
 
   -- status 3: unless the store is as it was, a file could not be read for want of memory, or all were read
   abbrev pub IsStarvedRun : Type 0
   IsStarvedRun = (new ≡ old → ⊥) → FailsToRead reads old names store_fault.Memory new ⊎ HasRead
 
--- What a command did with the files of these names, by its status. At 0 it printed a text of `true`; at 1 it printed one of `false`,
--- or the files are refused and nothing is printed; nor is anything for want of memory.
+-- What a command did with the files of these names, by its status. At 0 it printed a text of `true`; at 1 it
+-- printed one of `false`, or the files are refused and nothing is printed; nor is anything for want of
+-- memory.
 pub record Runs {S O : Type 0} (reads : Reading S) (taken : O → Option (List ℕ)) (failures : O → ℕ)
-    (IsText : Bool → Texts → List ℕ → Type 0) (IsFault : Texts → ReportFault → Type 0) (names : Texts) (old new : S) (before after : O) (status : ℕ) : Type 0 where
+    (IsText : Bool → Texts → List ℕ → Type 0) (IsFault : Texts → ReportFault → Type 0) (names : Texts)
+    (old new : S) (before after : O) (status : ℕ) : Type 0 where
   pub done : status ≡ 0 → HasPrinted reads names old new (IsText true) (taken before) (taken after)
-  pub denied : status ≡ 1 → HasPrinted reads names old new (IsText false) (taken before) (taken after) ⊎ (IsRefusedRun reads names old new IsFault × (after ≡ before))
-  pub failed : status ≡ 4 → IsFailedRun reads names old new (λ files. OfSome (λ answer. IsText answer files)) taken failures before after
+  pub denied : status ≡ 1
+      → HasPrinted reads names old new (IsText false) (taken before) (taken after)
+      ⊎ (IsRefusedRun reads names old new IsFault × (after ≡ before))
+  pub failed : status ≡ 4
+      → IsFailedRun reads names old new
+      (λ files. OfSome (λ answer. IsText answer files)) taken failures before after
   pub starved : status ≡ 3 → IsStarvedRun reads names old new × (after ≡ before)
   pub known : (status ≡ 0) ⊎ ((status ≡ 1) ⊎ ((status ≡ 3) ⊎ (status ≡ 4)))
 
@@ -101,41 +111,57 @@ OfThree Is files = ⊥
 
 -- the report of a source and a statement by the profile, at 0 alone
 abbrev pub IsReportOf : Bool → Texts → List ℕ → Type 0
-IsReportOf true files text = OfTwo (λ file source statement. ByProfile file (λ p. IsReport source statement p text)) files
+IsReportOf true files text =
+    OfTwo (λ file source statement. ByProfile file (λ p. IsReport source statement p text)) files
 IsReportOf false files text = ⊥
 
 abbrev pub HasNoReport : Texts → ReportFault → Type 0
-HasNoReport files fault = OfTwo (λ file source statement. PricedFault file (λ p f. IsRefused source statement p f) fault) files
+HasNoReport files fault =
+    OfTwo (λ file source statement. PricedFault file (λ p f. IsRefused source statement p f) fault) files
 
-abbrev pub RunsBound : {S O : Type 0} → Reading S → (O → Option (List ℕ)) → (O → ℕ) → Option (List ℕ) → List ℕ → List ℕ → S → S → O → O → ℕ → Type 0
+abbrev pub RunsBound : {S O : Type 0} → Reading S → (O → Option (List ℕ)) → (O → ℕ) → Option (List ℕ) → List ℕ
+    → List ℕ → S → S → O → O → ℕ → Type 0
 RunsBound reads taken failures profile source statement old new before after status =
-    Runs reads taken failures IsReportOf HasNoReport (in_front profile (source ∷ statement ∷ [])) old new before after status
+    Runs reads taken failures IsReportOf HasNoReport
+    (in_front profile (source ∷ statement ∷ [])) old new before after status
 
 -- ## `check SOURCE STATEMENT CERT`
 
 -- the verdict's line on a certificate of a source and a statement by the profile: of Yes at 0, of No at 1
 abbrev pub IsAnswerOf : Bool → Texts → List ℕ → Type 0
-IsAnswerOf answer files line = OfThree (λ file source statement cert. ByProfile file (λ p. IsAnswer source statement cert p answer line)) files
+IsAnswerOf answer files line =
+    OfThree
+    (λ file source statement cert. ByProfile file (λ p. IsAnswer source statement cert p answer line)) files
 
 abbrev pub HasNoVerdict : Texts → ReportFault → Type 0
-HasNoVerdict files fault = OfThree (λ file source statement cert. PricedFault file (λ p f. IsCheckRefused source statement cert p f) fault) files
+HasNoVerdict files fault =
+    OfThree
+    (λ file source statement cert. PricedFault file
+    (λ p f. IsCheckRefused source statement cert p f) fault) files
 
-abbrev pub RunsCheck : {S O : Type 0} → Reading S → (O → Option (List ℕ)) → (O → ℕ) → Option (List ℕ) → List ℕ → List ℕ → List ℕ → S → S → O → O → ℕ → Type 0
+abbrev pub RunsCheck : {S O : Type 0} → Reading S → (O → Option (List ℕ)) → (O → ℕ) → Option (List ℕ) → List ℕ
+    → List ℕ → List ℕ → S → S → O → O → ℕ → Type 0
 RunsCheck reads taken failures profile source statement cert old new before after status =
-    Runs reads taken failures IsAnswerOf HasNoVerdict (in_front profile (source ∷ statement ∷ cert ∷ [])) old new before after status
+    Runs reads taken failures IsAnswerOf HasNoVerdict
+    (in_front profile (source ∷ statement ∷ cert ∷ [])) old new before after status
 
 -- ## `run SOURCE MACHINE` and `trace SOURCE MACHINE`
 
 -- the report of a run by the profile: of all its steps at 0, of a machine that stopped at 1
 abbrev pub IsRunOf : Front → Bool → Texts → List ℕ → Type 0
-IsRunOf Shows done files text = OfTwo (λ file source machine. ByProfile file (λ p. IsMachineReport Shows source machine p done text)) files
+IsRunOf Shows done files text =
+    OfTwo
+    (λ file source machine. ByProfile file (λ p. IsMachineReport Shows source machine p done text)) files
 
 abbrev pub HasNoRun : Texts → ReportFault → Type 0
-HasNoRun files fault = OfTwo (λ file source machine. PricedFault file (λ p f. IsRunRefused source machine p f) fault) files
+HasNoRun files fault =
+    OfTwo (λ file source machine. PricedFault file (λ p f. IsRunRefused source machine p f) fault) files
 
-abbrev pub RunsMachine : {S O : Type 0} → Front → Reading S → (O → Option (List ℕ)) → (O → ℕ) → Option (List ℕ) → List ℕ → List ℕ → S → S → O → O → ℕ → Type 0
+abbrev pub RunsMachine : {S O : Type 0} → Front → Reading S → (O → Option (List ℕ)) → (O → ℕ)
+    → Option (List ℕ) → List ℕ → List ℕ → S → S → O → O → ℕ → Type 0
 RunsMachine Shows reads taken failures profile source machine old new before after status =
-    Runs reads taken failures (IsRunOf Shows) HasNoRun (in_front profile (source ∷ machine ∷ [])) old new before after status
+    Runs reads taken failures (IsRunOf Shows) HasNoRun
+    (in_front profile (source ∷ machine ∷ [])) old new before after status
 
 -- ## `asm SOURCE IMAGE`
 
@@ -148,7 +174,8 @@ abbrev pub Writing : Type 0 → Type 1
 Writing S = S → List ℕ → List ℕ → Result (Unit {0}) StoreFault → S → Type 0
 
 -- the source was read, its image written, with that result, and the report is this
-pub record HasWritten {S : Type 0} (reads : Reading S) (writes : Writing S) (source image : List ℕ) (old new : S) (written : Result (Unit {0}) StoreFault) (report : List ℕ) : Type 0 where
+pub record HasWritten {S : Type 0} (reads : Reading S) (writes : Writing S) (source image : List ℕ)
+    (old new : S) (written : Result (Unit {0}) StoreFault) (report : List ℕ) : Type 0 where
   pub file : List ℕ
   pub bytes : List ℕ
   pub between : S
@@ -157,30 +184,40 @@ pub record HasWritten {S : Type 0} (reads : Reading S) (writes : Writing S) (sou
   pub writes_it : writes between image bytes written new
 
 -- the image's file was written and the report printed
-pub record HasAssembled {S : Type 0} (reads : Reading S) (writes : Writing S) (source image : List ℕ) (old new : S) (out_old out_new : Option (List ℕ)) : Type 0 where
+pub record HasAssembled {S : Type 0} (reads : Reading S) (writes : Writing S) (source image : List ℕ)
+    (old new : S) (out_old out_new : Option (List ℕ)) : Type 0 where
   pub report : List ℕ
   pub written : HasWritten reads writes source image old new (Ok tt) report
   pub printed : Appends out_old out_new report
 
 -- it was written, and the output failed within the report
-pub record FailsToTell {S : Type 0} (reads : Reading S) (writes : Writing S) (source image : List ℕ) (old new : S) (out_old out_new : Option (List ℕ)) (before after : ℕ) : Type 0 where
+pub record FailsToTell {S : Type 0} (reads : Reading S) (writes : Writing S) (source image : List ℕ)
+    (old new : S) (out_old out_new : Option (List ℕ)) (before after : ℕ) : Type 0 where
   pub report : List ℕ
   pub written : HasWritten reads writes source image old new (Ok tt) report
   pub taken : TakesFront out_old out_new report
   pub failed : FailsSince before after
 
 -- it could not be written
-pub record FailsToWrite {S : Type 0} (reads : Reading S) (writes : Writing S) (source image : List ℕ) (old new : S) : Type 0 where
+pub record FailsToWrite {S : Type 0} (reads : Reading S) (writes : Writing S) (source image : List ℕ)
+    (old new : S) : Type 0 where
   pub report : List ℕ
   pub written : HasWritten reads writes source image old new (Err store_fault.Device) report
 
--- What `asm` did, by its status: the image's file is written before anything is printed, and neither where the source is refused.
-pub record RunsAsm {S O : Type 0} (reads : Reading S) (writes : Writing S) (taken : O → Option (List ℕ)) (failures : O → ℕ)
+-- What `asm` did, by its status: the image's file is written before anything is printed, and neither where
+-- the source is refused.
+pub record RunsAsm {S O : Type 0} (reads : Reading S) (writes : Writing S) (taken : O → Option (List ℕ))
+    (failures : O → ℕ)
     (source image : List ℕ) (old new : S) (before after : O) (status : ℕ) : Type 0 where
   pub done : status ≡ 0 → HasAssembled reads writes source image old new (taken before) (taken after)
   pub denied : status ≡ 1 → IsRefusedRun reads (source ∷ []) old new IsRefusedSource × (after ≡ before)
-  pub failed : status ≡ 4 → FailsToTell reads writes source image old new (taken before) (taken after) (failures before) (failures after)
-      ⊎ ((FailsToWrite reads writes source image old new ⊎ FailsToRead reads old (source ∷ []) store_fault.Device new) × (after ≡ before))
+  pub failed : status ≡ 4
+      → FailsToTell reads writes source image old new (taken before) (taken after) (failures before)
+      (failures after)
+      ⊎
+      ((FailsToWrite reads writes source image old new
+      ⊎ FailsToRead reads old (source ∷ []) store_fault.Device new)
+      × (after ≡ before))
   pub starved : status ≡ 3 → IsStarvedRun reads (source ∷ []) old new × (after ≡ before)
   pub known : (status ≡ 0) ⊎ ((status ≡ 1) ⊎ ((status ≡ 3) ⊎ (status ≡ 4)))
 
@@ -188,10 +225,12 @@ pub record RunsAsm {S O : Type 0} (reads : Reading S) (writes : Writing S) (take
 
 -- the session of these commands by the profile, at 0 alone
 abbrev pub IsSessionOf : (commands : List ℕ) → Bool → Texts → List ℕ → Type 0
-IsSessionOf commands true files text = OfTwo (λ file source machine. ByProfile file (λ p. IsDebugReport source machine commands p text)) files
+IsSessionOf commands true files text =
+    OfTwo (λ file source machine. ByProfile file (λ p. IsDebugReport source machine commands p text)) files
 IsSessionOf commands false files text = ⊥
 
-module _ {S I : Type 0} (reads : Reading S) (remaining : I → Option (List ℕ)) (names : Texts) (old new : S) (heard_old heard_new : I) where
+module _ {S I : Type 0} (reads : Reading S) (remaining : I → Option (List ℕ)) (names : Texts) (old new : S)
+    (heard_old heard_new : I) where
   -- all files were read, and standard input to its end, which these commands are
   pub record HasHeard (commands : List ℕ) : Type 0 where
     pub files : Texts
@@ -213,29 +252,51 @@ module _ {S I : Type 0} (reads : Reading S) (remaining : I → Option (List ℕ)
     pub read : ReadsAll reads old names files new
     pub fault : StoreFault
     pub status_is : status ≡ store_status fault
-    pub too_long : fault ≡ store_fault.InputTooLong → (front : List ℕ) × (length front ≡ 16777217) × Consumes (remaining heard_old) (remaining heard_new) front
+    pub too_long : fault ≡ store_fault.InputTooLong
+        → (front : List ℕ) × (length front ≡ 16777217)
+        × Consumes (remaining heard_old) (remaining heard_new) front
 
--- What `debug` did: the files were read, and then standard input to its end, and the session with these commands is the report.
-abbrev pub RunsDebug : {S I O : Type 0} → Reading S → (I → Option (List ℕ)) → (O → Option (List ℕ)) → (O → ℕ) → Option (List ℕ) → List ℕ → List ℕ → S → S → I → I → O → O → ℕ → Type 0
-RunsDebug reads remaining taken failures profile source machine old new heard_old heard_new before after status =
-    ((commands : List ℕ) × HasHeard reads remaining (in_front profile (source ∷ machine ∷ [])) old new heard_old heard_new commands × Runs reads taken failures (IsSessionOf commands) HasNoRun (in_front profile (source ∷ machine ∷ [])) old new before after status)
-    ⊎ ((FailsBefore reads remaining (in_front profile (source ∷ machine ∷ [])) old new heard_old heard_new status
-    ⊎ (FailsToHear reads remaining (in_front profile (source ∷ machine ∷ [])) old new heard_old heard_new status ⊎ ((status ≡ 3) × (new ≡ old) × (heard_new ≡ heard_old))))
+-- What `debug` did: the files were read, and then standard input to its end, and the session with these
+-- commands is the report.
+abbrev pub RunsDebug : {S I O : Type 0} → Reading S → (I → Option (List ℕ)) → (O → Option (List ℕ)) → (O → ℕ)
+    → Option (List ℕ) → List ℕ → List ℕ → S → S → I → I → O → O → ℕ → Type 0
+RunsDebug reads remaining taken failures profile source machine old new heard_old heard_new before after
+    status =
+    ((commands : List ℕ)
+    × HasHeard reads remaining
+    (in_front profile (source ∷ machine ∷ [])) old new heard_old heard_new commands
+    × Runs reads taken failures (IsSessionOf commands) HasNoRun
+    (in_front profile (source ∷ machine ∷ [])) old new before after status)
+    ⊎
+    ((FailsBefore reads remaining
+    (in_front profile (source ∷ machine ∷ [])) old new heard_old heard_new status
+    ⊎
+    (FailsToHear reads remaining
+    (in_front profile (source ∷ machine ∷ [])) old new heard_old heard_new status
+    ⊎ ((status ≡ 3) × (new ≡ old) × (heard_new ≡ heard_old))))
     × (after ≡ before))
 
 -- ## Any command
 
 -- what was asked for was done; no other command than `debug` reads standard input
-abbrev pub RunsAsked : {S I O : Type 0} → Reading S → Writing S → (I → Option (List ℕ)) → (O → Option (List ℕ)) → (O → ℕ) → Asked → S → S → I → I → O → O → ℕ → Type 0
-RunsAsked reads writes remaining taken failures (asm source image) old new heard_old heard_new before after status =
+abbrev pub RunsAsked : {S I O : Type 0} → Reading S → Writing S → (I → Option (List ℕ))
+    → (O → Option (List ℕ)) → (O → ℕ) → Asked → S → S → I → I → O → O → ℕ → Type 0
+RunsAsked reads writes remaining taken failures
+    (asm source image) old new heard_old heard_new before after status =
     RunsAsm reads writes taken failures source image old new before after status × (heard_new ≡ heard_old)
 RunsAsked reads writes remaining taken failures (run n) old new heard_old heard_new before after status =
-    RunsMachine ShowsRegisters reads taken failures n.profile n.first n.second old new before after status × (heard_new ≡ heard_old)
+    RunsMachine ShowsRegisters reads taken failures n.profile n.first n.second old new before after status
+    × (heard_new ≡ heard_old)
 RunsAsked reads writes remaining taken failures (trace n) old new heard_old heard_new before after status =
-    RunsMachine ShowsSteps reads taken failures n.profile n.first n.second old new before after status × (heard_new ≡ heard_old)
+    RunsMachine ShowsSteps reads taken failures n.profile n.first n.second old new before after status
+    × (heard_new ≡ heard_old)
 RunsAsked reads writes remaining taken failures (debug n) old new heard_old heard_new before after status =
-    RunsDebug reads remaining taken failures n.profile n.first n.second old new heard_old heard_new before after status
+    RunsDebug reads remaining taken failures n.profile n.first n.second old new heard_old heard_new before
+    after status
 RunsAsked reads writes remaining taken failures (bound n) old new heard_old heard_new before after status =
-    RunsBound reads taken failures n.profile n.first n.second old new before after status × (heard_new ≡ heard_old)
-RunsAsked reads writes remaining taken failures (check n cert) old new heard_old heard_new before after status =
-    RunsCheck reads taken failures n.profile n.first n.second cert old new before after status × (heard_new ≡ heard_old)
+    RunsBound reads taken failures n.profile n.first n.second old new before after status
+    × (heard_new ≡ heard_old)
+RunsAsked reads writes remaining taken failures
+    (check n cert) old new heard_old heard_new before after status =
+    RunsCheck reads taken failures n.profile n.first n.second cert old new before after status
+    × (heard_new ≡ heard_old)

@@ -32,7 +32,8 @@ said_by_text (Err fault) = Err (Source (Line fault.0 fault.1))
 
 -- what a source says, or its fault
 unfoldable pub source_of : List ℕ → Result Said ReportFault
-source_of source = if is_image source then said_by_image (image_read source) else said_by_text (assembled source)
+source_of source =
+    if is_image source then said_by_image (image_read source) else said_by_text (assembled source)
 
 -- when each refusal of a source is answered; a growth is refused whatever it says
 abbrev pub IsSourceFault : List ℕ → ReportFault → Type 0

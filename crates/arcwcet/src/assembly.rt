@@ -34,14 +34,16 @@ pub(crate) fn image_written(alloc: Global, source: &[u8]) -> Result<Written, Rep
     Ok(Written { bytes, line })
 }
 
-/// Writes how many words a source's image has, and how many segments of words side by side. The source is assembly text, or
-/// an image's bytes.
+/// Writes how many words a source's image has, and how many segments of words side by side. The source is
+/// assembly text, or an image's bytes.
 ///
 /// # Errors
 ///
-/// `Source` with the line of a text, `Image` of an image, `Memory`; after any but `Device` nothing was written.
+/// `Source` with the line of a text, `Image` of an image, `Memory`; after any but `Device` nothing was
+/// written.
 pub fn asm_report<O: Output>(alloc: Global, source: &[u8], out: &mut O) -> Result<(), ReportFault>
-    ensures { Answers O.taken O.failures (λ _ text. IsAsmReport source.now text) (IsSource source.now) (IsSourceRefused source.now) out.old out.new result }
+    ensures { Answers O.taken O.failures (λ _ text. IsAsmReport source.now text) (IsSource source.now)
+        (IsSourceRefused source.now) out.old out.new result }
 {
     let written = image_written(alloc, source)?;
     match write_whole(out, written.line.as_bytes()) {

@@ -25,7 +25,8 @@ fn text_of(
 ) -> Result<Vec<u8>, ReportFault>
     ensures report { IfOk result (λ v. IsReport source.now statement.now profile.now v.items) }
     ensures accepted { OnOk result (IsAccepted source.now statement.now profile.now) }
-    ensures fault { IfErr result (λ e. (e ≢ ReportFault.Device) × IsRefused source.now statement.now profile.now e) }
+    ensures fault { IfErr result
+        (λ e. (e ≢ ReportFault.Device) × IsRefused source.now statement.now profile.now e) }
 {
     let handler = read_handler(alloc, source, statement, profile)?;
     longest_text(alloc, &handler)
@@ -35,11 +36,14 @@ fn text_of(
 fn longest_text(alloc: Global, handler: &Handler) -> Result<Vec<u8>, ReportFault>
     requires formed { IsWellFormed handler.now.graph }
     requires tree { IsTreeOf handler.now.graph handler.now.statement.loops handler.now.tree }
-    ensures report { (source statement : List ℕ) (profile : Profile) → HasLoops source statement profile handler.now.statement handler.now.graph
+    ensures report { (source statement : List ℕ) (profile : Profile)
+        → HasLoops source statement profile handler.now.statement handler.now.graph
         → IfOk result (λ v. IsReport source statement profile v.items) }
-    ensures accepted { (source statement : List ℕ) (profile : Profile) → HasLoops source statement profile handler.now.statement handler.now.graph
+    ensures accepted { (source statement : List ℕ) (profile : Profile)
+        → HasLoops source statement profile handler.now.statement handler.now.graph
         → OnOk result (IsAccepted source statement profile) }
-    ensures fault { (source statement : List ℕ) (profile : Profile) → HasLoops source statement profile handler.now.statement handler.now.graph
+    ensures fault { (source statement : List ℕ) (profile : Profile)
+        → HasLoops source statement profile handler.now.statement handler.now.graph
         → IfErr result (λ e. (e ≢ ReportFault.Device) × IsRefused source statement profile e) }
 {
     let found = longest(alloc, &handler.graph, &handler.tree)?;
@@ -49,10 +53,11 @@ fn longest_text(alloc: Global, handler: &Handler) -> Result<Vec<u8>, ReportFault
     Ok(text)
 }
 
-/// Writes the report of a source and a statement by a cycle profile's file, or by the first profile, the certificate of a
-/// greatest walk: the greatest cost, in ticks, of a complete walk of the handler's flow graph that keeps the bounds, such a walk, and
-/// the numbers that prove it greatest. Whatever text says the same is judged `yes` by [`check_report`](crate::check_report). No run of
-/// the machine that keeps the statement takes more ticks, but for the profile's burst price for each DMA burst.
+/// Writes the report of a source and a statement by a cycle profile's file, or by the first profile, the
+/// certificate of a greatest walk: the greatest cost, in ticks, of a complete walk of the handler's flow
+/// graph that keeps the bounds, such a walk, and the numbers that prove it greatest. Whatever text says the
+/// same is judged `yes` by [`check_report`](crate::check_report). No run of the machine that keeps the
+/// statement takes more ticks, but for the profile's burst price for each DMA burst.
 ///
 /// Nothing is written until the report is finished. Of several faults the first in the order of the work is
 /// answered: profile, source, statement, graph, loops, walk. After any but `Device` nothing was written.
@@ -63,7 +68,9 @@ pub fn bound_report<O: Output>(
     profile: Option<&[u8]>,
     out: &mut O,
 ) -> Result<(), ReportFault>
-    ensures { Priced (option_map (λ f. f.now) profile.entry) (λ p. Reports O.taken O.failures source.now statement.now p out.old out.new result) out.old out.new result }
+    ensures { Priced (option_map (λ f. f.now) profile.entry)
+        (λ p. Reports O.taken O.failures source.now statement.now p out.old out.new
+        result) out.old out.new result }
 {
     let profile = profile_of(alloc, profile)?;
     priced_report(alloc, source, statement, &profile, out)

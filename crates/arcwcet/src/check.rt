@@ -1,7 +1,8 @@
 ghost use Rattle.std.specs.Prelude.{◌≡◌, ◌≢◌, ◌↔◌, List, ℕ, IfErr, IfOk, IsTrue, option_map};
 ghost use Rattle.bus_ticks.specs.declared.profile.Profile.{Profile};
 ghost use Rattle.arcwcet.specs.Priced.{Priced};
-ghost use Rattle.arcwcet.specs.Check.{Checks, IsCheckable, IsCheckRefused, IsJudged, objection_line, verdict_line};
+ghost use Rattle.arcwcet.specs.Check.{Checks, IsCheckable, IsCheckRefused, IsJudged, objection_line};
+ghost use Rattle.arcwcet.specs.Check.{verdict_line};
 ghost use Rattle.arcwcet.specs.Report.{HasLoops, IsTreeOf};
 
 use crate::fault::ReportFault;
@@ -57,8 +58,10 @@ fn verdict_of(
     profile: &Profile,
 ) -> Result<Verdict, ReportFault>
     ensures judged { IfOk result (IsJudged source.now statement.now cert.now profile.now) }
-    ensures fault { IfErr result (λ e. (e ≢ ReportFault.Device) × IsCheckRefused source.now statement.now cert.now profile.now e) }
-    ensures only { IsCheckable source.now statement.now cert.now profile.now → IfErr result (λ e. e ≡ ReportFault.Memory) }
+    ensures fault { IfErr result
+        (λ e. (e ≢ ReportFault.Device) × IsCheckRefused source.now statement.now cert.now profile.now e) }
+    ensures only { IsCheckable source.now statement.now cert.now profile.now
+        → IfErr result (λ e. e ≡ ReportFault.Memory) }
 {
     let handler = read_handler(alloc, source, statement, profile)?;
     verdict_on(alloc, &handler, cert)
@@ -67,23 +70,28 @@ fn verdict_of(
 // The same, by a handler that was read.
 fn verdict_on(alloc: Global, handler: &Handler, cert: &[u8]) -> Result<Verdict, ReportFault>
     requires { IsTreeOf handler.now.graph handler.now.statement.loops handler.now.tree }
-    ensures judged { (source statement : List ℕ) (profile : Profile) → HasLoops source statement profile handler.now.statement handler.now.graph
+    ensures judged { (source statement : List ℕ) (profile : Profile)
+        → HasLoops source statement profile handler.now.statement handler.now.graph
         → IfOk result (IsJudged source statement cert.now profile) }
-    ensures fault { (source statement : List ℕ) (profile : Profile) → HasLoops source statement profile handler.now.statement handler.now.graph
+    ensures fault { (source statement : List ℕ) (profile : Profile)
+        → HasLoops source statement profile handler.now.statement handler.now.graph
         → IfErr result (λ e. (e ≢ ReportFault.Device) × IsCheckRefused source statement cert.now profile e) }
-    ensures only { (source statement : List ℕ) (profile : Profile) → IsCheckable source statement cert.now profile → IfErr result (λ e. e ≡ ReportFault.Memory) }
+    ensures only { (source statement : List ℕ) (profile : Profile)
+        → IsCheckable source statement cert.now profile → IfErr result (λ e. e ≡ ReportFault.Memory) }
 {
     let read = read_cert(alloc, cert)?;
     let verdict = check(alloc, &handler.graph, &handler.tree, &read)?;
     Ok(verdict)
 }
 
-/// Judges the text of a certificate, whoever wrote it, by the handler of a source and a statement and a cycle profile's file, or
-/// the first profile, and writes one line: `yes`, which is answered as `true` and means that the certificate's bound is the greatest
-/// cost of a complete walk that keeps the bounds, or `no: ` and the name of the first [`Objection`].
+/// Judges the text of a certificate, whoever wrote it, by the handler of a source and a statement and a cycle
+/// profile's file, or the first profile, and writes one line: `yes`, which is answered as `true` and means
+/// that the certificate's bound is the greatest cost of a complete walk that keeps the bounds, or `no: ` and
+/// the name of the first [`Objection`].
 ///
 /// Nothing is written until the verdict is found. Of several faults the first in the order of the work is
-/// answered: profile, source, statement, graph, loops, certificate. After any but `Device` nothing was written.
+/// answered: profile, source, statement, graph, loops, certificate. After any but `Device` nothing was
+/// written.
 pub fn check_report<O: Output>(
     alloc: Global,
     source: &[u8],
@@ -92,7 +100,9 @@ pub fn check_report<O: Output>(
     profile: Option<&[u8]>,
     out: &mut O,
 ) -> Result<bool, ReportFault>
-    ensures { Priced (option_map (λ f. f.now) profile.entry) (λ p. Checks O.taken O.failures source.now statement.now cert.now p out.old out.new result) out.old out.new result }
+    ensures { Priced (option_map (λ f. f.now) profile.entry)
+        (λ p. Checks O.taken O.failures source.now statement.now cert.now p out.old out.new
+        result) out.old out.new result }
 {
     let profile = profile_of(alloc, profile)?;
     priced_check(alloc, source, statement, cert, &profile, out)

@@ -27,7 +27,8 @@ pub(crate) fn run_asm<S: Store, O: Output, E: Output>(
     out: &mut O,
     err: &mut E,
 ) -> u8
-    ensures ran { RunsAsm S.read_gives S.write_gives O.taken O.failures source.now image.now store.old store.new out.old out.new result }
+    ensures ran { RunsAsm S.read_gives S.write_gives O.taken O.failures source.now image.now store.old
+        store.new out.old out.new result }
     ensures silent { result ≡ 0 → err.new ≡ err.old }
 {
     let source = match store.read(alloc, source) {
@@ -55,7 +56,10 @@ pub(crate) fn run_run<S: Store, O: Output, E: Output>(
     out: &mut O,
     err: &mut E,
 ) -> u8
-    ensures ran { RunsMachine ShowsRegisters S.read_gives O.taken O.failures (option_map (λ n. n.now) names.entry.profile) names.entry.first.now names.entry.second.now store.old store.new out.old out.new result }
+    ensures ran { RunsMachine ShowsRegisters S.read_gives O.taken O.failures
+        (option_map
+        (λ n.
+        n.now) names.entry.profile) names.entry.first.now names.entry.second.now store.old store.new out.old out.new result }
     ensures silent { result ≡ 0 → err.new ≡ err.old }
 {
     let files = match read_files(alloc, names, store) {
@@ -74,7 +78,10 @@ pub(crate) fn run_trace<S: Store, O: Output, E: Output>(
     out: &mut O,
     err: &mut E,
 ) -> u8
-    ensures ran { RunsMachine ShowsSteps S.read_gives O.taken O.failures (option_map (λ n. n.now) names.entry.profile) names.entry.first.now names.entry.second.now store.old store.new out.old out.new result }
+    ensures ran { RunsMachine ShowsSteps S.read_gives O.taken O.failures
+        (option_map
+        (λ n.
+        n.now) names.entry.profile) names.entry.first.now names.entry.second.now store.old store.new out.old out.new result }
     ensures silent { result ≡ 0 → err.new ≡ err.old }
 {
     let files = match read_files(alloc, names, store) {
@@ -94,7 +101,8 @@ pub(crate) fn run_debug<S: Store, I: Read, O: Output, E: Output>(
     out: &mut O,
     err: &mut E,
 ) -> u8
-    ensures ran { RunsDebug S.read_gives I.remaining O.taken O.failures (option_map (λ n. n.now) names.entry.profile) names.entry.first.now names.entry.second.now
+    ensures ran { RunsDebug S.read_gives I.remaining O.taken O.failures
+        (option_map (λ n. n.now) names.entry.profile) names.entry.first.now names.entry.second.now
         store.old store.new input.old input.new out.old out.new result }
     ensures silent { result ≡ 0 → err.new ≡ err.old }
 {
@@ -127,7 +135,10 @@ pub(crate) fn run_bound<S: Store, O: Output, E: Output>(
     out: &mut O,
     err: &mut E,
 ) -> u8
-    ensures ran { RunsBound S.read_gives O.taken O.failures (option_map (λ n. n.now) names.entry.profile) names.entry.first.now names.entry.second.now store.old store.new out.old out.new result }
+    ensures ran { RunsBound S.read_gives O.taken O.failures
+        (option_map
+        (λ n.
+        n.now) names.entry.profile) names.entry.first.now names.entry.second.now store.old store.new out.old out.new result }
     ensures silent { result ≡ 0 → err.new ≡ err.old }
 {
     let files = match read_files(alloc, names, store) {
@@ -149,7 +160,10 @@ pub(crate) fn run_check<S: Store, O: Output, E: Output>(
     out: &mut O,
     err: &mut E,
 ) -> u8
-    ensures ran { RunsCheck S.read_gives O.taken O.failures (option_map (λ n. n.now) names.entry.profile) names.entry.first.now names.entry.second.now cert.now store.old store.new out.old out.new result }
+    ensures ran { RunsCheck S.read_gives O.taken O.failures
+        (option_map
+        (λ n.
+        n.now) names.entry.profile) names.entry.first.now names.entry.second.now cert.now store.old store.new out.old out.new result }
     ensures silent { result ≡ 0 → err.new ≡ err.old }
 {
     let files = match read_check_files(alloc, names, cert, store) {

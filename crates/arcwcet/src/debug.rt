@@ -22,7 +22,8 @@ fn told(
     profile: Profile,
 ) -> Result<Vec<u8>, ReportFault>
     ensures told { IfOk result (λ text. IsDebugReport source.now machine.now commands.now profile text.items) }
-    ensures fault { IfErr result (λ e. (e ≢ ReportFault.Device) × IsRunRefused source.now machine.now profile e) }
+    ensures fault { IfErr result
+        (λ e. (e ≢ ReportFault.Device) × IsRunRefused source.now machine.now profile e) }
     ensures only { IsRunnable source.now machine.now profile → IfErr result (λ e. e ≡ ReportFault.Memory) }
 {
     let placed = place(alloc, source, machine, profile)?;
@@ -31,9 +32,10 @@ fn told(
     Ok(text)
 }
 
-/// Writes a session of the debugger on the machine of a source and a machine file, by a cycle profile's file or the first
-/// profile: the answers to the commands, a line each, up to their end or `quit`. A command's refusal stands in its place as
-/// `refused: NAME`, and the session goes on. The port begins with the file's word; its `steps` and events are not used.
+/// Writes a session of the debugger on the machine of a source and a machine file, by a cycle profile's file
+/// or the first profile: the answers to the commands, a line each, up to their end or `quit`. A command's
+/// refusal stands in its place as `refused: NAME`, and the session goes on. The port begins with the file's
+/// word; its `steps` and events are not used.
 ///
 /// Nothing is written until the session has ended. Of several faults the first in the order of the work is
 /// answered: profile, source, machine file, load. After any but `Device` nothing was written.
@@ -45,7 +47,11 @@ pub fn debug_report<O: Output>(
     profile: Option<&[u8]>,
     out: &mut O,
 ) -> Result<(), ReportFault>
-    ensures { Priced (option_map (λ f. f.now) profile.entry) (λ p. Answers O.taken O.failures (λ _ text. IsDebugReport source.now machine.now commands.now p text) (IsRunnable source.now machine.now p) (IsRunRefused source.now machine.now p) out.old out.new result) out.old out.new result }
+    ensures { Priced (option_map (λ f. f.now) profile.entry)
+        (λ p. Answers O.taken O.failures
+        (λ _ text. IsDebugReport source.now machine.now commands.now p text)
+        (IsRunnable source.now machine.now p)
+        (IsRunRefused source.now machine.now p) out.old out.new result) out.old out.new result }
 {
     let profile = profile_of(alloc, profile)?;
     priced_session(alloc, source, machine, commands, profile, out)
@@ -59,7 +65,10 @@ fn priced_session<O: Output>(
     profile: Profile,
     out: &mut O,
 ) -> Result<(), ReportFault>
-    ensures { Answers O.taken O.failures (λ _ text. IsDebugReport source.now machine.now commands.now profile text) (IsRunnable source.now machine.now profile) (IsRunRefused source.now machine.now profile) out.old out.new result }
+    ensures { Answers O.taken O.failures
+        (λ _ text. IsDebugReport source.now machine.now commands.now profile text)
+        (IsRunnable source.now machine.now profile)
+        (IsRunRefused source.now machine.now profile) out.old out.new result }
 {
     let text = told(alloc, source, machine, commands, profile)?;
     match write_whole(out, &text) {

@@ -44,8 +44,8 @@ pub enum ReportFault {
     /// The handler has no flow graph.
     #[error("{0}")]
     Graph(BuildFault),
-    /// The loops of the flow graph and their bounds do not fit each other: a cycle without a bound, loops that cross, an entry
-    /// past a header, or more than 16 deep.
+    /// The loops of the flow graph and their bounds do not fit each other: a cycle without a bound, loops
+    /// that cross, an entry past a header, or more than 16 deep.
     #[error("{0}")]
     Loops(NestFault),
     /// No complete walk keeps the bounds, or some walk costs 2^63 ticks or more.

@@ -30,8 +30,12 @@ fn read_if_named<S: Store>(
     name: Option<&str>,
     store: &mut S,
 ) -> Result<Option<Vec<u8>>, StoreFault>
-    ensures read { IfOk result (λ f. ReadsAll S.read_gives store.old (in_front (option_map (λ n. n.now) name.entry) []) (in_front (option_map (λ v. v.items) f) []) store.new) }
-    ensures fault { IfErr result (λ e. FailsToRead S.read_gives store.old (in_front (option_map (λ n. n.now) name.entry) []) e store.new) }
+    ensures read { IfOk result
+        (λ f. ReadsAll S.read_gives store.old (in_front (option_map (λ n. n.now) name.entry) [])
+        (in_front (option_map (λ v. v.items) f) []) store.new) }
+    ensures fault { IfErr result
+        (λ e. FailsToRead S.read_gives store.old
+        (in_front (option_map (λ n. n.now) name.entry) []) e store.new) }
 {
     match name {
         Some(name) => Ok(Some(store.read(alloc, name)?)),
@@ -45,9 +49,15 @@ pub(crate) fn read_files<S: Store>(
     names: Names<'_>,
     store: &mut S,
 ) -> Result<Files, StoreFault>
-    ensures read { IfOk result (λ f. ReadsAll S.read_gives store.old (in_front (option_map (λ n. n.now) names.entry.profile) (names.entry.first.now ∷ names.entry.second.now ∷ []))
+    ensures read { IfOk result
+        (λ f. ReadsAll S.read_gives store.old
+        (in_front (option_map (λ n. n.now) names.entry.profile)
+        (names.entry.first.now ∷ names.entry.second.now ∷ []))
         (in_front (option_map (λ v. v.items) f.profile) (f.first.items ∷ f.second.items ∷ [])) store.new) }
-    ensures fault { IfErr result (λ e. FailsToRead S.read_gives store.old (in_front (option_map (λ n. n.now) names.entry.profile) (names.entry.first.now ∷ names.entry.second.now ∷ [])) e store.new) }
+    ensures fault { IfErr result
+        (λ e. FailsToRead S.read_gives store.old
+        (in_front (option_map (λ n. n.now) names.entry.profile)
+        (names.entry.first.now ∷ names.entry.second.now ∷ [])) e store.new) }
 {
     let profile = read_if_named(alloc, names.profile, store)?;
     let first = store.read(alloc, names.first)?;
@@ -72,9 +82,15 @@ pub(crate) fn read_check_files<S: Store>(
     cert: &str,
     store: &mut S,
 ) -> Result<CheckFiles, StoreFault>
-    ensures read { IfOk result (λ f. ReadsAll S.read_gives store.old (in_front (option_map (λ n. n.now) names.entry.profile) (names.entry.first.now ∷ names.entry.second.now ∷ cert.now ∷ []))
+    ensures read { IfOk result
+        (λ f. ReadsAll S.read_gives store.old
+        (in_front (option_map (λ n. n.now) names.entry.profile)
+        (names.entry.first.now ∷ names.entry.second.now ∷ cert.now ∷ []))
         (in_front (option_map (λ v. v.items) f.handler.profile) (f.handler.first.items ∷ f.handler.second.items ∷ f.cert.items ∷ [])) store.new) }
-    ensures fault { IfErr result (λ e. FailsToRead S.read_gives store.old (in_front (option_map (λ n. n.now) names.entry.profile) (names.entry.first.now ∷ names.entry.second.now ∷ cert.now ∷ [])) e store.new) }
+    ensures fault { IfErr result
+        (λ e. FailsToRead S.read_gives store.old
+        (in_front (option_map (λ n. n.now) names.entry.profile)
+        (names.entry.first.now ∷ names.entry.second.now ∷ cert.now ∷ [])) e store.new) }
 {
     let handler = read_files(alloc, names, store)?;
     let cert = store.read(alloc, cert)?;

@@ -1,8 +1,8 @@
 ghost use Rattle.bus_ticks.specs.declared.profile.Profile.{Profile};
 ghost use Rattle.arcwcet.specs.Keeping.{HasKeptRun};
 
-/// States that runs can keep statements: by each cycle profile some run does, of a handler that returns at once. So
-/// what a report says of every run that keeps the statement is not said of none. It does nothing.
+/// States that runs can keep statements: by each cycle profile some run does, of a handler that returns at
+/// once. So what a report says of every run that keeps the statement is not said of none. It does nothing.
 pub fn some_run_keeps()
     ensures { (profile : Profile) → HasKeptRun profile }
 {}

@@ -1,5 +1,5 @@
-//! The longest run time of an interrupt handler: reports over sources and statements, verdicts on such reports, and
-//! the program that prints them.
+//! The longest run time of an interrupt handler: reports over sources and statements, verdicts on such
+//! reports, and the program that prints them.
 #![tactic(auto)]
 
 mod assembly;

@@ -3,7 +3,8 @@ ghost use Rattle.std.specs.Io.KnownBytes.{Appends};
 ghost use Rattle.bus_ticks.specs.declared.profile.Profile.{Profile};
 ghost use Rattle.loader.specs.Labels.{address_of};
 ghost use Rattle.arcwcet.specs.Answers.{Answers};
-ghost use Rattle.arcwcet.specs.Machine.{IsMachineReport, IsPlaced, IsRunRefused, IsRunnable, IsStated, ShowsRegisters, ShowsSteps, end_text};
+ghost use Rattle.arcwcet.specs.Machine.{IsMachineReport, IsPlaced, IsRunRefused, IsRunnable, IsStated};
+ghost use Rattle.arcwcet.specs.Machine.{ShowsRegisters, ShowsSteps, end_text};
 ghost use Rattle.arcwcet.specs.Output.{FailsSince, TakesFront};
 ghost use Rattle.arcwcet.specs.Priced.{Priced};
 ghost use Rattle.arcwcet.specs.Source.{source_of};
@@ -38,7 +39,8 @@ pub(crate) fn place(
     profile: Profile,
 ) -> Result<Placed, ReportFault>
     ensures placed { IfOk result (λ p. IsPlaced source.now machine.now profile p.file p.machine) }
-    ensures fault { IfErr result (λ e. (e ≢ ReportFault.Device) × IsRunRefused source.now machine.now profile e) }
+    ensures fault { IfErr result
+        (λ e. (e ≢ ReportFault.Device) × IsRunRefused source.now machine.now profile e) }
     ensures only { IsRunnable source.now machine.now profile → IfErr result (λ e. e ≡ ReportFault.Memory) }
 {
     let said = read_source(alloc, source)?;
@@ -102,8 +104,10 @@ fn shown_run(
     machine: &[u8],
     profile: Profile,
 ) -> Result<Shown, ReportFault>
-    ensures shown { IfOk result (λ s. IsMachineReport ShowsRegisters source.now machine.now profile s.done (string_bytes s.text)) }
-    ensures fault { IfErr result (λ e. (e ≢ ReportFault.Device) × IsRunRefused source.now machine.now profile e) }
+    ensures shown { IfOk result
+        (λ s. IsMachineReport ShowsRegisters source.now machine.now profile s.done (string_bytes s.text)) }
+    ensures fault { IfErr result
+        (λ e. (e ≢ ReportFault.Device) × IsRunRefused source.now machine.now profile e) }
     ensures only { IsRunnable source.now machine.now profile → IfErr result (λ e. e ≡ ReportFault.Memory) }
 {
     let mut placed = place(alloc, source, machine, profile)?;
@@ -112,7 +116,8 @@ fn shown_run(
 
 // The report of a machine that has its image.
 fn run_text(alloc: Global, placed: &mut Placed) -> Result<Shown, ReportFault>
-    ensures shown { (source machine : List ℕ) (profile : Profile) → IsPlaced source machine profile placed.old.file placed.old.machine
+    ensures shown { (source machine : List ℕ) (profile : Profile)
+        → IsPlaced source machine profile placed.old.file placed.old.machine
         → IfOk result (λ s. IsMachineReport ShowsRegisters source machine profile s.done (string_bytes s.text)) }
     ensures memory { IfErr result (λ e. e ≡ ReportFault.Memory) }
 {
@@ -133,8 +138,10 @@ fn shown_trace(
     machine: &[u8],
     profile: Profile,
 ) -> Result<Shown, ReportFault>
-    ensures shown { IfOk result (λ s. IsMachineReport ShowsSteps source.now machine.now profile s.done (string_bytes s.text)) }
-    ensures fault { IfErr result (λ e. (e ≢ ReportFault.Device) × IsRunRefused source.now machine.now profile e) }
+    ensures shown { IfOk result
+        (λ s. IsMachineReport ShowsSteps source.now machine.now profile s.done (string_bytes s.text)) }
+    ensures fault { IfErr result
+        (λ e. (e ≢ ReportFault.Device) × IsRunRefused source.now machine.now profile e) }
     ensures only { IsRunnable source.now machine.now profile → IfErr result (λ e. e ≡ ReportFault.Memory) }
 {
     let mut placed = place(alloc, source, machine, profile)?;
@@ -143,7 +150,8 @@ fn shown_trace(
 
 // The lines of the steps of a machine that has its image.
 fn steps_text(alloc: Global, placed: &mut Placed) -> Result<Shown, ReportFault>
-    ensures shown { (source machine : List ℕ) (profile : Profile) → IsPlaced source machine profile placed.old.file placed.old.machine
+    ensures shown { (source machine : List ℕ) (profile : Profile)
+        → IsPlaced source machine profile placed.old.file placed.old.machine
         → IfOk result (λ s. IsMachineReport ShowsSteps source machine profile s.done (string_bytes s.text)) }
     ensures memory { IfErr result (λ e. e ≡ ReportFault.Memory) }
 {
@@ -159,8 +167,14 @@ fn steps_text(alloc: Global, placed: &mut Placed) -> Result<Shown, ReportFault>
 
 // Prints the text, and answers whether the run did all its steps.
 fn print<O: Output>(shown: &Shown, out: &mut O) -> Result<bool, ReportFault>
-    ensures ok { IfOk result (λ done. (done ≡ shown.now.done) × Appends (O.taken out.old) (O.taken out.new) (string_bytes shown.now.text)) }
-    ensures device { IfErr result (λ e. (e ≡ ReportFault.Device) × (TakesFront (O.taken out.old) (O.taken out.new) (string_bytes shown.now.text) × FailsSince (O.failures out.old) (O.failures out.new))) }
+    ensures ok { IfOk result
+        (λ done. (done ≡ shown.now.done)
+        × Appends (O.taken out.old) (O.taken out.new) (string_bytes shown.now.text)) }
+    ensures device { IfErr result
+        (λ e. (e ≡ ReportFault.Device)
+        ×
+        (TakesFront (O.taken out.old) (O.taken out.new) (string_bytes shown.now.text)
+        × FailsSince (O.failures out.old) (O.failures out.new))) }
 {
     match write_whole(out, shown.text.as_bytes()) {
         Ok(()) => Ok(shown.done),
@@ -168,14 +182,15 @@ fn print<O: Output>(shown: &Shown, out: &mut O) -> Result<bool, ReportFault>
     }
 }
 
-/// Runs the machine of a source and a machine file ([`read_machine`](machine_file::read_machine)) for the file's steps, 65,536 at
-/// most, by a cycle profile's file or the first profile. Writes the registers of the mode that it ends in, where it stopped (if
-/// it did), and the ticks of the processor and those that passed, bursts and all. `false`: it stopped before its steps were done.
+/// Runs the machine of a source and a machine file ([`read_machine`](machine_file::read_machine)) for the
+/// file's steps, 65,536 at most, by a cycle profile's file or the first profile. Writes the registers of the
+/// mode that it ends in, where it stopped (if it did), and the ticks of the processor and those that passed,
+/// bursts and all. `false`: it stopped before its steps were done.
 ///
 /// # Errors
 ///
-/// The first in the order of the work: profile, source, machine file, load. Nothing is written until the run has ended, so
-/// after any fault but `Device` nothing was.
+/// The first in the order of the work: profile, source, machine file, load. Nothing is written until the run
+/// has ended, so after any fault but `Device` nothing was.
 pub fn run_report<O: Output>(
     alloc: Global,
     source: &[u8],
@@ -183,7 +198,10 @@ pub fn run_report<O: Output>(
     profile: Option<&[u8]>,
     out: &mut O,
 ) -> Result<bool, ReportFault>
-    ensures { Priced (option_map (λ f. f.now) profile.entry) (λ p. Answers O.taken O.failures (IsMachineReport ShowsRegisters source.now machine.now p) (IsRunnable source.now machine.now p) (IsRunRefused source.now machine.now p) out.old out.new result) out.old out.new result }
+    ensures { Priced (option_map (λ f. f.now) profile.entry)
+        (λ p. Answers O.taken O.failures (IsMachineReport ShowsRegisters source.now machine.now p)
+        (IsRunnable source.now machine.now p)
+        (IsRunRefused source.now machine.now p) out.old out.new result) out.old out.new result }
 {
     let profile = profile_of(alloc, profile)?;
     priced_run(alloc, source, machine, profile, out)
@@ -196,14 +214,16 @@ fn priced_run<O: Output>(
     profile: Profile,
     out: &mut O,
 ) -> Result<bool, ReportFault>
-    ensures { Answers O.taken O.failures (IsMachineReport ShowsRegisters source.now machine.now profile) (IsRunnable source.now machine.now profile) (IsRunRefused source.now machine.now profile) out.old out.new result }
+    ensures { Answers O.taken O.failures (IsMachineReport ShowsRegisters source.now machine.now profile)
+        (IsRunnable source.now machine.now profile)
+        (IsRunRefused source.now machine.now profile) out.old out.new result }
 {
     let shown = shown_run(alloc, source, machine, profile)?;
     print(&shown, out)
 }
 
-/// Runs the machine as [`run_report`] does, and writes the line of each step (the instruction's address, word, ticks and text)
-/// in place of the registers, with the same end.
+/// Runs the machine as [`run_report`] does, and writes the line of each step (the instruction's address,
+/// word, ticks and text) in place of the registers, with the same end.
 ///
 /// # Errors
 ///
@@ -215,7 +235,10 @@ pub fn trace_report<O: Output>(
     profile: Option<&[u8]>,
     out: &mut O,
 ) -> Result<bool, ReportFault>
-    ensures { Priced (option_map (λ f. f.now) profile.entry) (λ p. Answers O.taken O.failures (IsMachineReport ShowsSteps source.now machine.now p) (IsRunnable source.now machine.now p) (IsRunRefused source.now machine.now p) out.old out.new result) out.old out.new result }
+    ensures { Priced (option_map (λ f. f.now) profile.entry)
+        (λ p. Answers O.taken O.failures (IsMachineReport ShowsSteps source.now machine.now p)
+        (IsRunnable source.now machine.now p)
+        (IsRunRefused source.now machine.now p) out.old out.new result) out.old out.new result }
 {
     let profile = profile_of(alloc, profile)?;
     priced_trace(alloc, source, machine, profile, out)
@@ -228,7 +251,9 @@ fn priced_trace<O: Output>(
     profile: Profile,
     out: &mut O,
 ) -> Result<bool, ReportFault>
-    ensures { Answers O.taken O.failures (IsMachineReport ShowsSteps source.now machine.now profile) (IsRunnable source.now machine.now profile) (IsRunRefused source.now machine.now profile) out.old out.new result }
+    ensures { Answers O.taken O.failures (IsMachineReport ShowsSteps source.now machine.now profile)
+        (IsRunnable source.now machine.now profile)
+        (IsRunRefused source.now machine.now profile) out.old out.new result }
 {
     let shown = shown_trace(alloc, source, machine, profile)?;
     print(&shown, out)

@@ -61,7 +61,8 @@ impl Output for MemoryOutput {
         ensures bytes { WriteAppends (Some self.old.bytes) (Some self.new.bytes) result bytes.now }
         ensures failures { self.new.failures ≡ failures_after result bytes.now self.old.failures }
         ensures room { self.new.room ≡ self.old.room }
-        ensures fits { length self.old.bytes + length bytes.now ≤ self.old.room → result ≡ Ok (length bytes.now) }
+        ensures fits { length self.old.bytes + length bytes.now ≤ self.old.room
+            → result ≡ Ok (length bytes.now) }
     {
         match self.bytes.extend_from_slice(bytes) {
             Ok(()) => Ok(bytes.len()),

@@ -18,7 +18,8 @@ fn obey<S: Store, I: Read, O: Output, E: Output>(
     out: &mut O,
     err: &mut E,
 ) -> u8
-    ensures done { RunsAsked S.read_gives S.write_gives I.remaining O.taken O.failures (asked_of asked.entry) store.old store.new input.old input.new out.old out.new result }
+    ensures done { RunsAsked S.read_gives S.write_gives I.remaining O.taken O.failures
+        (asked_of asked.entry) store.old store.new input.old input.new out.old out.new result }
     ensures silent { result ≡ 0 → err.new ≡ err.old }
 {
     match asked {
@@ -31,13 +32,14 @@ fn obey<S: Store, I: Read, O: Output, E: Output>(
     }
 }
 
-/// Runs the program on its words, of which the first is its name, and answers its exit status: 0; 1
-/// where the work is refused, a certificate's verdict is No, or a machine stopped; 2 for wrong usage; 3 for want of memory; 4
-/// where a file, a stream or the output fails.
+/// Runs the program on its words, of which the first is its name, and answers its exit status: 0; 1 where the
+/// work is refused, a certificate's verdict is No, or a machine stopped; 2 for wrong usage; 3 for want of
+/// memory; 4 where a file, a stream or the output fails.
 ///
-/// A refusal is one line on `err`, whose failures change no status. The work begins once everything is read: a cycle profile's
-/// file, the others as the words name them, then for `debug` alone standard input, each up to [`LIMIT`](crate::LIMIT) bytes; a
-/// longer one is refused with status 1. No memory is taken once the words are refused.
+/// A refusal is one line on `err`, whose failures change no status. The work begins once everything is read:
+/// a cycle profile's file, the others as the words name them, then for `debug` alone standard input, each up
+/// to [`LIMIT`](crate::LIMIT) bytes; a longer one is refused with status 1. No memory is taken once the words
+/// are refused.
 pub fn program<S: Store, I: Read, O: Output, E: Output>(
     alloc: Global,
     words: &[String],
@@ -47,7 +49,9 @@ pub fn program<S: Store, I: Read, O: Output, E: Output>(
     err: &mut E,
 ) -> u8
     // Words that ask for nothing are wrong usage, and no others are.
-    ensures usage { asked_in words.now ≡ None → ((result ≡ 2) ⊎ (result ≡ 3)) × (out.new ≡ out.old) × (store.new ≡ store.old) × (input.new ≡ input.old) }
+    ensures usage { asked_in words.now ≡ None
+        → ((result ≡ 2) ⊎ (result ≡ 3)) × (out.new ≡ out.old) × (store.new ≡ store.old)
+        × (input.new ≡ input.old) }
     ensures no_usage { asked_in words.now ≢ None → result ≢ 2 }
 
     // What the words ask for was done.

@@ -8,7 +8,8 @@ use loader::labels::Labels;
 use loader::reading::{MAGIC, read_image};
 use std::alloc::Global;
 
-/// The words and the labels of a source: of an image where it begins as one, which has no labels, else of a text.
+/// The words and the labels of a source: of an image where it begins as one, which has no labels, else of a
+/// text.
 pub(crate) fn read_source(alloc: Global, source: &[u8]) -> Result<Assembly, ReportFault>
     ensures said { IfOk result (λ a. source_of source.now ≡ Ok (a.image, address_of a.labels)) }
     ensures fault { IfErr result (IsSourceFault source.now) }

@@ -1,5 +1,5 @@
--- Which words are unallocated, by the numbers in their fields: the number of the first bar that they meet, or 0
--- (our own choice, after the warnings of the VL86C010 data sheet).
+-- Which words are unallocated, by the numbers in their fields: the number of the first bar that they meet, or
+-- 0 (our own choice, after the warnings of the VL86C010 data sheet).
 use Rattle.std.specs.Prelude.{ℕ, ◌/◌, Bool, true, false, ◌&&◌, ◌||◌, ◌==◌, if◌then◌else◌}
 
 -- a bit as a number
@@ -38,7 +38,8 @@ data_clash opcode sets_flags = if is_bad_compare opcode sets_flags then 1 else 0
 
 -- with the amount in a register: 4 that register is R15
 abbrev pub data_shift_clash : ℕ → ℕ → ℕ → ℕ
-data_shift_clash opcode sets_flags rs = if is_bad_compare opcode sets_flags then 1 else (if rs == 15 then 4 else 0)
+data_shift_clash opcode sets_flags rs =
+    if is_bad_compare opcode sets_flags then 1 else (if rs == 15 then 4 else 0)
 
 -- a multiply: 3
 abbrev pub multiply_clash : ℕ → ℕ → ℕ → ℕ → ℕ → ℕ
@@ -47,11 +48,13 @@ multiply_clash accumulate rd rn rs rm = if is_bad_multiply accumulate rd rn rs r
 -- a single transfer: 6 the base R15 is written back, 9 the base is loaded and written back, 10 a byte of R15
 abbrev pub single_clash : ℕ → ℕ → ℕ → ℕ → ℕ → ℕ → ℕ
 single_clash before byte write_back load rn rd =
-    if is_bad_base before write_back rn then 6 else (if is_bad_load before write_back load rn rd then 9 else (if is_bad_byte byte rd then 10 else 0))
+    if is_bad_base before write_back rn then 6
+    else (if is_bad_load before write_back load rn rd then 9 else (if is_bad_byte byte rd then 10 else 0))
 
 -- with the offset in a register: 5 that register is R15
 abbrev pub single_register_clash : ℕ → ℕ → ℕ → ℕ → ℕ → ℕ → ℕ → ℕ
-single_register_clash before byte write_back load rn rd rm = if rm == 15 then 5 else single_clash before byte write_back load rn rd
+single_register_clash before byte write_back load rn rd rm =
+    if rm == 15 then 5 else single_clash before byte write_back load rn rd
 
 -- a block transfer: 7 the base is R15, 8 the list is empty
 abbrev pub block_clash : ℕ → ℕ → ℕ

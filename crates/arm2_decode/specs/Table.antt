@@ -1,17 +1,23 @@
--- The table of instruction words (VL86C010 data sheet, instruction formats). Which words are unallocated is our
--- own choice where the data sheet only warns of them.
-use Rattle.std.specs.Prelude.{ℕ, ◌≤◌, ◌≡◌, Bool, true, not, ◌&&◌, ◌==◌, if◌then◌else◌, List, [], ◌∷◌, map, bit_and}
+-- The table of instruction words (VL86C010 data sheet, instruction formats). Which words are unallocated is
+-- our own choice where the data sheet only warns of them.
+use Rattle.std.specs.Prelude.{ℕ, ◌≤◌, ◌≡◌, Bool, true, not, ◌&&◌, ◌==◌, if◌then◌else◌, List, [], ◌∷◌, map}
+use Rattle.std.specs.Prelude.{bit_and}
 use Rattle.std.specs.Prelude.{Contains, MatchResult, Result}
 use Rattle.arm2_decode.specs.declared.instr.Instr.{Instr}
 use Rattle.arm2_decode.specs.declared.instr.Unallocated.{Unallocated}
 use Rattle.arm2_decode.specs.declared.instr.Operation.{Operation}
-use Rattle.arm2_decode.specs.declared.instr.Operation.TheVariants.{Multiply, DataRegister, DataRegisterShift, DataImmediate, SingleImmediate, SingleRegister, Block, Branch, Swi, UndefinedTransfer, CoprocessorTransfer, Coprocessor}
+use Rattle.arm2_decode.specs.declared.instr.Operation.TheVariants.{Multiply, DataRegister, DataRegisterShift}
+use Rattle.arm2_decode.specs.declared.instr.Operation.TheVariants.{DataImmediate, SingleImmediate}
+use Rattle.arm2_decode.specs.declared.instr.Operation.TheVariants.{SingleRegister, Block, Branch, Swi}
+use Rattle.arm2_decode.specs.declared.instr.Operation.TheVariants.{UndefinedTransfer, CoprocessorTransfer}
+use Rattle.arm2_decode.specs.declared.instr.Operation.TheVariants.{Coprocessor}
 use Rattle.arm2_decode.specs.Names.{cond_number, opcode_number, register_number, shift_number}
-use Rattle.arm2_decode.specs.Allowed.{bit_of, is_bad_compare, is_bad_multiply, is_bad_base, is_bad_load, is_bad_byte}
+use Rattle.arm2_decode.specs.Allowed.{bit_of, is_bad_compare, is_bad_multiply, is_bad_base, is_bad_load}
+use Rattle.arm2_decode.specs.Allowed.{is_bad_byte}
 use Rattle.arm2_decode.specs.Bits.{bits}
 
--- Words of one row agree with fixed where mask has ones, and have their fields at the places, each (highest bit,
--- lowest bit). The first place of each row is the condition's.
+-- Words of one row agree with fixed where mask has ones, and have their fields at the places, each (highest
+-- bit, lowest bit). The first place of each row is the condition's.
 pub record Row : Type 0 where
   pub mask : ℕ
   pub fixed : ℕ
@@ -54,7 +60,8 @@ abbrev pub single_immediate_row : Row
 single_immediate_row = record {
   mask = 0x0E000000;
   fixed = 0x04000000;
-  places = (31, 28) ∷ (24, 24) ∷ (23, 23) ∷ (22, 22) ∷ (21, 21) ∷ (20, 20) ∷ (19, 16) ∷ (15, 12) ∷ (11, 0) ∷ [];
+  places =
+      (31, 28) ∷ (24, 24) ∷ (23, 23) ∷ (22, 22) ∷ (21, 21) ∷ (20, 20) ∷ (19, 16) ∷ (15, 12) ∷ (11, 0) ∷ [];
 }
 
 -- before up byte write_back load rn rd amount shift rm
@@ -62,7 +69,9 @@ abbrev pub single_register_row : Row
 single_register_row = record {
   mask = 0x0E000010;
   fixed = 0x06000000;
-  places = (31, 28) ∷ (24, 24) ∷ (23, 23) ∷ (22, 22) ∷ (21, 21) ∷ (20, 20) ∷ (19, 16) ∷ (15, 12) ∷ (11, 7) ∷ (6, 5) ∷ (3, 0) ∷ [];
+  places =
+      (31, 28) ∷ (24, 24) ∷ (23, 23) ∷ (22, 22) ∷ (21, 21) ∷ (20, 20) ∷ (19, 16) ∷ (15, 12) ∷ (11, 7) ∷ (6, 5)
+      ∷ (3, 0) ∷ [];
 }
 
 -- before up user write_back load rn list
@@ -131,19 +140,26 @@ row_of (Coprocessor x) = coprocessor_row
 -- the fields of an operation, in its row's order after the condition
 abbrev pub operands : Operation → List ℕ
 operands (Multiply x) =
-    bit_of x.accumulate ∷ bit_of x.sets_flags ∷ register_number x.rd ∷ register_number x.rn ∷ register_number x.rs ∷ register_number x.rm ∷ []
+    bit_of x.accumulate ∷ bit_of x.sets_flags ∷ register_number x.rd ∷ register_number x.rn
+    ∷ register_number x.rs ∷ register_number x.rm ∷ []
 operands (DataRegister x) =
-    opcode_number x.opcode ∷ bit_of x.sets_flags ∷ register_number x.rn ∷ register_number x.rd ∷ x.amount ∷ shift_number x.shift ∷ register_number x.rm ∷ []
+    opcode_number x.opcode ∷ bit_of x.sets_flags ∷ register_number x.rn ∷ register_number x.rd ∷ x.amount
+    ∷ shift_number x.shift ∷ register_number x.rm ∷ []
 operands (DataRegisterShift x) =
-    opcode_number x.opcode ∷ bit_of x.sets_flags ∷ register_number x.rn ∷ register_number x.rd ∷ register_number x.rs ∷ shift_number x.shift ∷ register_number x.rm ∷ []
+    opcode_number x.opcode ∷ bit_of x.sets_flags ∷ register_number x.rn ∷ register_number x.rd
+    ∷ register_number x.rs ∷ shift_number x.shift ∷ register_number x.rm ∷ []
 operands (DataImmediate x) =
-    opcode_number x.opcode ∷ bit_of x.sets_flags ∷ register_number x.rn ∷ register_number x.rd ∷ x.rotation ∷ x.value ∷ []
+    opcode_number x.opcode ∷ bit_of x.sets_flags ∷ register_number x.rn ∷ register_number x.rd ∷ x.rotation
+    ∷ x.value ∷ []
 operands (SingleImmediate x) =
-    bit_of x.before ∷ bit_of x.up ∷ bit_of x.byte ∷ bit_of x.write_back ∷ bit_of x.load ∷ register_number x.rn ∷ register_number x.rd ∷ x.offset ∷ []
+    bit_of x.before ∷ bit_of x.up ∷ bit_of x.byte ∷ bit_of x.write_back ∷ bit_of x.load ∷ register_number x.rn
+    ∷ register_number x.rd ∷ x.offset ∷ []
 operands (SingleRegister x) =
-    bit_of x.before ∷ bit_of x.up ∷ bit_of x.byte ∷ bit_of x.write_back ∷ bit_of x.load ∷ register_number x.rn ∷ register_number x.rd ∷ x.amount ∷ shift_number x.shift ∷ register_number x.rm ∷ []
+    bit_of x.before ∷ bit_of x.up ∷ bit_of x.byte ∷ bit_of x.write_back ∷ bit_of x.load ∷ register_number x.rn
+    ∷ register_number x.rd ∷ x.amount ∷ shift_number x.shift ∷ register_number x.rm ∷ []
 operands (Block x) =
-    bit_of x.before ∷ bit_of x.up ∷ bit_of x.user ∷ bit_of x.write_back ∷ bit_of x.load ∷ register_number x.rn ∷ x.list ∷ []
+    bit_of x.before ∷ bit_of x.up ∷ bit_of x.user ∷ bit_of x.write_back ∷ bit_of x.load ∷ register_number x.rn
+    ∷ x.list ∷ []
 operands (Branch x) = bit_of x.link ∷ x.offset ∷ []
 operands (Swi x) = x.comment ∷ []
 operands (UndefinedTransfer x) = x.high ∷ x.low ∷ []
@@ -179,7 +195,8 @@ stray_bar word = not ((bits 27 22 word == 0) && (bits 7 4 word == 9))
 
 -- registers that a multiply must not have
 abbrev pub multiply_bar : ℕ → Bool
-multiply_bar word = is_bad_multiply (bits 21 21 word) (bits 19 16 word) (bits 15 12 word) (bits 11 8 word) (bits 3 0 word)
+multiply_bar word =
+    is_bad_multiply (bits 21 21 word) (bits 19 16 word) (bits 15 12 word) (bits 11 8 word) (bits 3 0 word)
 
 -- the amount is in R15
 abbrev pub amount_bar : ℕ → Bool
@@ -203,7 +220,8 @@ list_bar word = bits 15 0 word == 0
 
 -- the base is loaded and written back
 abbrev pub load_bar : ℕ → Bool
-load_bar word = is_bad_load (bits 24 24 word) (bits 21 21 word) (bits 20 20 word) (bits 19 16 word) (bits 15 12 word)
+load_bar word =
+    is_bad_load (bits 24 24 word) (bits 21 21 word) (bits 20 20 word) (bits 19 16 word) (bits 15 12 word)
 
 -- a byte of R15
 abbrev pub byte_bar : ℕ → Bool
@@ -232,7 +250,8 @@ bars =
 -- the number of the first bar that the word meets, or 0
 unfoldable pub why_from : List Bar → ℕ → ℕ
 why_from [] word = 0
-why_from (bar ∷ rest) word = if (bit_and word bar.mask == bar.fixed) && bar.test word then bar.why else why_from rest word
+why_from (bar ∷ rest) word =
+    if (bit_and word bar.mask == bar.fixed) && bar.test word then bar.why else why_from rest word
 
 abbrev pub why_of : ℕ → ℕ
 why_of word = why_from bars word

@@ -1,7 +1,8 @@
 //! The number of the first bar that the fields of a word meet, or 0: see `Unallocated::why`.
 
 ghost use Rattle.std.specs.Prelude.{◌≡◌};
-ghost use Rattle.arm2_decode.specs.Allowed.{bit_of, block_clash, data_clash, data_shift_clash, multiply_clash, single_clash, single_register_clash};
+ghost use Rattle.arm2_decode.specs.Allowed.{bit_of, block_clash, data_clash, data_shift_clash};
+ghost use Rattle.arm2_decode.specs.Allowed.{multiply_clash, single_clash, single_register_clash};
 
 pub fn data_clash_number(opcode: u32, sets_flags: bool) -> u32
     ensures { result ≡ data_clash opcode (bit_of sets_flags) }
@@ -62,7 +63,8 @@ pub fn single_register_clash_number(
     rd: u32,
     rm: u32,
 ) -> u32
-    ensures { result ≡ single_register_clash (bit_of before) (bit_of byte) (bit_of write_back) (bit_of load) rn rd rm }
+    ensures { result
+        ≡ single_register_clash (bit_of before) (bit_of byte) (bit_of write_back) (bit_of load) rn rd rm }
 {
     if rm == 15 {
         5

@@ -1,5 +1,6 @@
 ghost use Rattle.std.specs.Prelude.{◌≡◌, ◌<◌, ◌^◌};
-ghost use Rattle.arm2_decode.specs.Allowed.{bit_of, block_clash, data_clash, data_shift_clash, multiply_clash, single_clash, single_register_clash};
+ghost use Rattle.arm2_decode.specs.Allowed.{bit_of, block_clash, data_clash, data_shift_clash};
+ghost use Rattle.arm2_decode.specs.Allowed.{multiply_clash, single_clash, single_register_clash};
 ghost use Rattle.arm2_decode.specs.Names.{opcode_number, register_number};
 
 use crate::names::{Cond, Opcode, Register, Shift};
@@ -21,7 +22,9 @@ pub struct Multiply {
     pub rs: Register,
     /// Bits 3 to 0.
     pub rm: Register,
-    ghost allocated: { multiply_clash (bit_of accumulate) (register_number rd) (register_number rn) (register_number rs) (register_number rm) ≡ 0 },
+    ghost allocated: { multiply_clash (bit_of accumulate) (register_number rd) (register_number rn) (register_number rs)
+        (register_number rm)
+        ≡ 0 },
 }
 
 /// Data processing with a register that is shifted by an amount in the word.
@@ -113,7 +116,9 @@ pub struct SingleImmediate {
     pub rd: Register,
     /// In bytes, from 0 to 4095; bits 11 to 0.
     pub offset: u32,
-    ghost allocated: { single_clash (bit_of before) (bit_of byte) (bit_of write_back) (bit_of load) (register_number rn) (register_number rd) ≡ 0 },
+    ghost allocated: { single_clash (bit_of before) (bit_of byte) (bit_of write_back) (bit_of load) (register_number rn)
+        (register_number rd)
+        ≡ 0 },
     ghost offset_fits: { offset < 2 ^ 12 },
 }
 
@@ -142,7 +147,9 @@ pub struct SingleRegister {
     pub shift: Shift,
     /// The offset in bytes before the shift, bits 3 to 0.
     pub rm: Register,
-    ghost allocated: { single_register_clash (bit_of before) (bit_of byte) (bit_of write_back) (bit_of load) (register_number rn) (register_number rd) (register_number rm) ≡ 0 },
+    ghost allocated: { single_register_clash (bit_of before) (bit_of byte) (bit_of write_back) (bit_of load)
+        (register_number rn) (register_number rd) (register_number rm)
+        ≡ 0 },
     ghost amount_fits: { amount < 2 ^ 5 },
 }
 

@@ -3,14 +3,18 @@ ghost use Rattle.arm2_decode.specs.Table.{IsUnallocated, Means};
 
 use crate::instr::{Instr, Unallocated};
 
-/// States that an instruction, encoded and decoded again, is the same: of any word that [`encode`](crate::encode) may give
-/// for it, [`decode`](crate::decode) can answer nothing else. It does nothing.
+/// States that an instruction, encoded and decoded again, is the same: of any word that
+/// [`encode`](crate::encode) may give for it, [`decode`](crate::decode) can answer nothing else. It does
+/// nothing.
 pub fn decode_encoded()
-    ensures { (instr : Instr) → (word : ℕ) → Means word instr → (answer : Result Instr Unallocated) → IfOk answer (Means word) → IfErr answer (IsUnallocated word) → answer ≡ Ok instr }
+    ensures { (instr : Instr) → (word : ℕ) → Means word instr → (answer : Result Instr Unallocated)
+        → IfOk answer (Means word) → IfErr answer (IsUnallocated word) → answer ≡ Ok instr }
 {}
 
-/// States that a word, decoded and encoded again, is the same, unless it is unallocated: of any instruction that
-/// [`decode`](crate::decode) may give for it, [`encode`](crate::encode) can give no other word. It does nothing.
+/// States that a word, decoded and encoded again, is the same, unless it is unallocated: of any instruction
+/// that [`decode`](crate::decode) may give for it, [`encode`](crate::encode) can give no other word. It does
+/// nothing.
 pub fn encode_decoded()
-    ensures { (word : ℕ) → word < 2 ^ 32 → (instr : Instr) → Means word instr → (again : ℕ) → again < 2 ^ 32 → Means again instr → again ≡ word }
+    ensures { (word : ℕ) → word < 2 ^ 32 → (instr : Instr) → Means word instr → (again : ℕ) → again < 2 ^ 32
+        → Means again instr → again ≡ word }
 {}

@@ -1,5 +1,5 @@
--- What a step does, and what it costs (our own cycle profile, shaped on the N, S and I cycles of the VL86C010 data
--- sheet).
+-- What a step does, and what it costs (our own cycle profile, shaped on the N, S and I cycles of the VL86C010
+-- data sheet).
 use Rattle.std.specs.Prelude.{◌≡◌, ℕ, ◌*◌, ◌/◌, Bool, true, false, List, [], ◌∷◌, map, sum}
 use Rattle.bus_ticks.specs.declared.profile.Profile.{Profile}
 use Rattle.bus_ticks.specs.declared.profile.RomTimes.{RomTimes}
@@ -11,8 +11,8 @@ use Rattle.arm2_effect.specs.declared.done.Done.{Done}
 use Rattle.arm2_effect.specs.Modes.{r15_in, with_r15}
 use Rattle.arm2_effect.specs.ProgramCounter.{address_of, ahead_of, r15_ahead}
 
--- What a step does on the bus: a fetch that does not follow the access before it (N), one that does (S), a word of a
--- transfer (a store or not, the first of its transfer or not), or cycles without an access.
+-- What a step does on the bus: a fetch that does not follow the access before it (N), one that does (S), a
+-- word of a transfer (a store or not, the first of its transfer or not), or cycles without an access.
 pub data Access : Type 0 where
   FetchN : ℕ → Access
   FetchS : ℕ → Access
@@ -62,7 +62,11 @@ onward a t = FetchS (ahead_of a 8) ∷ refill t
 -- a failed condition: R15 goes on, and nothing else happens
 unfoldable pub skipped : List ℕ → Effect
 skipped regs =
-    record { kind = Plain; accesses = straight (address_of (r15_in regs)); regs = with_r15 (r15_ahead (r15_in regs) 4) regs }
+    record {
+      kind = Plain;
+      accesses = straight (address_of (r15_in regs));
+      regs = with_r15 (r15_ahead (r15_in regs) 4) regs;
+    }
 
 -- a stopped step takes no ticks and changes nothing
 unfoldable pub stopped : Why → List ℕ → Effect

@@ -2,14 +2,16 @@
 use Rattle.std.specs.Prelude.{ℕ, ◌+◌, ◌*◌, ◌/◌, ◌%◌, Bool, true, false, if◌then◌else◌, List}
 use Rattle.arm2_effect.specs.declared.modes.Mode.TheVariants as mode
 use Rattle.arm2_effect.specs.declared.exceptions.Vector.{Vector}
-use Rattle.arm2_effect.specs.declared.exceptions.Vector.TheVariants.{Undefined, Swi, PrefetchAbort, DataAbort, AddressException, Irq, Fiq}
+use Rattle.arm2_effect.specs.declared.exceptions.Vector.TheVariants.{Undefined, Swi, PrefetchAbort, DataAbort}
+use Rattle.arm2_effect.specs.declared.exceptions.Vector.TheVariants.{AddressException, Irq, Fiq}
 use Rattle.arm2_effect.specs.declared.exceptions.Entry.{Entry}
 use Rattle.arm2_effect.specs.declared.done.Kind.TheVariants.{Taken}
 use Rattle.arm2_effect.specs.Modes.{r15_in, with_r15, with_register}
 use Rattle.arm2_effect.specs.ProgramCounter.{psr_of, address_of, r15_of, r15_ahead}
 use Rattle.arm2_effect.specs.Effects.{Effect, onward}
 
--- where each exception goes, its mode, whether it masks FIQ too, and what R14 adds to the instruction's address
+-- where each exception goes, its mode, whether it masks FIQ too, and what R14 adds to the instruction's
+-- address
 abbrev pub entry_at : Vector → Entry
 entry_at Undefined = record { address = 0x04; mode = mode.Svc; masks_fiq = false; return_offset = 4 }
 entry_at Swi = record { address = 0x08; mode = mode.Svc; masks_fiq = false; return_offset = 4 }

@@ -3,7 +3,10 @@ use Rattle.std.specs.Prelude.{ℕ, ◌+◌, ◌==◌, nat_le, if◌then◌else�
 use Rattle.arm2_effect.specs.declared.modes.Mode.{Mode}
 use Rattle.arm2_effect.specs.declared.modes.Mode.TheVariants.{User, Fiq, Irq, Svc}
 use Rattle.arm2_effect.specs.declared.modes.Reg.{Reg}
-use Rattle.arm2_effect.specs.declared.modes.Reg.TheVariants.{R0, R1, R2, R3, R4, R5, R6, R7, R8, R9, R10, R11, R12, R13, R14, R8Fiq, R9Fiq, R10Fiq, R11Fiq, R12Fiq, R13Fiq, R14Fiq, R13Irq, R14Irq, R13Svc, R14Svc, R15}
+use Rattle.arm2_effect.specs.declared.modes.Reg.TheVariants.{R0, R1, R2, R3, R4, R5, R6, R7, R8, R9, R10, R11}
+use Rattle.arm2_effect.specs.declared.modes.Reg.TheVariants.{R12, R13, R14, R8Fiq, R9Fiq, R10Fiq, R11Fiq}
+use Rattle.arm2_effect.specs.declared.modes.Reg.TheVariants.{R12Fiq, R13Fiq, R14Fiq, R13Irq, R14Irq, R13Svc}
+use Rattle.arm2_effect.specs.declared.modes.Reg.TheVariants.{R14Svc, R15}
 
 -- the number of a mode in R15
 abbrev pub mode_number : Mode → ℕ
@@ -16,7 +19,8 @@ mode_number Svc = 3
 abbrev pub mode_named : ℕ → Mode
 mode_named n = if n == 0 then User else (if n == 1 then Fiq else (if n == 2 then Irq else Svc))
 
--- where each register stands in the list of all: those of User, then the banks of FIQ, IRQ and SVC, and R15 last
+-- where each register stands in the list of all: those of User, then the banks of FIQ, IRQ and SVC, and R15
+-- last
 abbrev pub reg_number : Reg → ℕ
 reg_number R0 = 0
 reg_number R1 = 1
@@ -46,7 +50,8 @@ reg_number R13Svc = 24
 reg_number R14Svc = 25
 reg_number R15 = 26
 
--- where register n of a mode stands: FIQ has its own from R8 on, IRQ and SVC from R13 on, and all modes share R15
+-- where register n of a mode stands: FIQ has its own from R8 on, IRQ and SVC from R13 on, and all modes share
+-- R15
 abbrev pub slot_of : Mode → ℕ → ℕ
 slot_of User n = if n == 15 then 26 else n
 slot_of Fiq n = if n == 15 then 26 else (if nat_le 8 n then n + 7 else n)

@@ -19,11 +19,13 @@ shifted_of s = record { value = word_of s.bits; carry = s.carry }
 
 -- Register n as the first operand, or as a base: R15 gives its address bits alone, so many bytes ahead.
 abbrev pub first_of : ℕ → ℕ → List ℕ → ℕ
-first_of by n regs = if n == 15 then ahead_of (address_of (r15_in regs)) by else register_in (mode_of (r15_in regs)) n regs
+first_of by n regs =
+    if n == 15 then ahead_of (address_of (r15_in regs)) by else register_in (mode_of (r15_in regs)) n regs
 
 -- Register n where it is shifted: R15 gives all its bits, with its address so many bytes ahead.
 abbrev pub operand_of : ℕ → ℕ → List ℕ → ℕ
-operand_of by n regs = if n == 15 then r15_ahead (r15_in regs) by else register_in (mode_of (r15_in regs)) n regs
+operand_of by n regs =
+    if n == 15 then r15_ahead (r15_in regs) by else register_in (mode_of (r15_in regs)) n regs
 
 -- a register that is shifted by an amount in the word
 abbrev pub shifted_by_amount : Shift → ℕ → ℕ → List ℕ → Shifted
@@ -34,8 +36,10 @@ shifted_by_amount shift amount rm regs =
 abbrev pub shifted_by_register : Shift → ℕ → ℕ → List ℕ → Shifted
 shifted_by_register shift rs rm regs =
     shifted_of
-    (by_register shift (register_in (mode_of (r15_in regs)) rs regs % 2 ^ 8) (word_bits (operand_of 12 rm regs)) (flags_of (r15_in regs)).carry)
+    (by_register shift (register_in (mode_of (r15_in regs)) rs regs % 2 ^ 8)
+    (word_bits (operand_of 12 rm regs)) (flags_of (r15_in regs)).carry)
 
 -- a byte, rotated right by twice the rotation
 abbrev pub rotated_byte : ℕ → ℕ → List ℕ → Shifted
-rotated_byte value rotation regs = shifted_of (by_register Ror (2 * rotation) (word_bits value) (flags_of (r15_in regs)).carry)
+rotated_byte value rotation regs =
+    shifted_of (by_register Ror (2 * rotation) (word_bits value) (flags_of (r15_in regs)).carry)

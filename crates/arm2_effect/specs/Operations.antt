@@ -1,6 +1,7 @@
 -- What each instruction does that is no load or store (VL86C010 data sheet, instruction set; our own rule: a
 -- multiply keeps C).
-use Rattle.std.specs.Prelude.{ℕ, ◌+◌, ◌*◌, ◌%◌, ◌^◌, ◌==◌, nat_lt, zero, suc, ◌-◌, Bool, true, false, if◌then◌else◌, List, [], ◌∷◌}
+use Rattle.std.specs.Prelude.{ℕ, ◌+◌, ◌*◌, ◌%◌, ◌^◌, ◌==◌, nat_lt, zero, suc, ◌-◌, Bool, true, false}
+use Rattle.std.specs.Prelude.{if◌then◌else◌, List, [], ◌∷◌}
 use Rattle.arm2_decode.specs.Names.{register_number}
 use Rattle.arm2_decode.specs.declared.names.Opcode.{Opcode}
 use Rattle.arm2_decode.specs.declared.instr.Operation.{Operation}
@@ -14,7 +15,8 @@ use Rattle.arm2_effect.specs.declared.outcomes.Outcome.{Outcome}
 use Rattle.arm2_effect.specs.declared.exceptions.Vector.TheVariants as vector
 use Rattle.arm2_effect.specs.declared.done.Kind.TheVariants.{Plain}
 use Rattle.arm2_effect.specs.Modes.{r15_in, register_in, with_r15, with_register}
-use Rattle.arm2_effect.specs.ProgramCounter.{address_of, ahead_of, flags_of, jumped_of, mode_of, psr_of, psr_with, r15_ahead, r15_of, restored_of}
+use Rattle.arm2_effect.specs.ProgramCounter.{address_of, ahead_of, flags_of, jumped_of, mode_of, psr_of}
+use Rattle.arm2_effect.specs.ProgramCounter.{psr_with, r15_ahead, r15_of, restored_of}
 use Rattle.arm2_effect.specs.Effects.{Effect, Internal, onward, straight}
 use Rattle.arm2_effect.specs.Exceptions.{taken}
 use Rattle.arm2_effect.specs.Operands.{first_of, rotated_byte, shifted_by_amount, shifted_by_register}
@@ -23,7 +25,8 @@ use Rattle.arm2_effect.specs.Outcomes.{flags_after, is_compare, outcome_of}
 -- R15 at the next instruction, with the flags of an outcome where they are set
 abbrev pub next_r15 : Bool → Outcome → ℕ → ℕ
 next_r15 sets_flags out r =
-    r15_of (if sets_flags then psr_with (flags_after out) (psr_of r) else psr_of r) (ahead_of (address_of r) 4) (mode_of r)
+    r15_of (if sets_flags then psr_with (flags_after out) (psr_of r) else psr_of r)
+    (ahead_of (address_of r) 4) (mode_of r)
 
 -- a value enters register rd, which is not R15
 unfoldable pub entered : Bool → ℕ → Outcome → List ℕ → Effect
@@ -31,7 +34,9 @@ entered sets_flags rd out regs =
     record {
       kind = Plain;
       accesses = straight (address_of (r15_in regs));
-      regs = with_r15 (next_r15 sets_flags out (r15_in regs)) (with_register (mode_of (r15_in regs)) rd out.value regs);
+      regs =
+          with_r15 (next_r15 sets_flags out (r15_in regs))
+          (with_register (mode_of (r15_in regs)) rd out.value regs);
     }
 
 -- a value enters R15: its address bits, and where flags are set the PSR and the mode too
@@ -42,7 +47,8 @@ jumped sets_flags out regs =
       accesses = onward (address_of (r15_in regs)) (address_of out.value);
       regs =
           with_r15
-          (if sets_flags then restored_of (r15_in regs) out.value (address_of out.value) else jumped_of (r15_in regs) out.value)
+          (if sets_flags then restored_of (r15_in regs) out.value (address_of out.value)
+          else jumped_of (r15_in regs) out.value)
           regs;
     }
 
@@ -54,7 +60,8 @@ compared rd out regs =
       accesses = straight (address_of (r15_in regs));
       regs =
           with_r15
-          (if rd == 15 then restored_of (r15_in regs) out.value (ahead_of (address_of (r15_in regs)) 4) else next_r15 true out (r15_in regs))
+          (if rd == 15 then restored_of (r15_in regs) out.value (ahead_of (address_of (r15_in regs)) 4)
+          else next_r15 true out (r15_in regs))
           regs;
     }
 
@@ -74,7 +81,8 @@ data_immediate_effect x regs =
     x.opcode
     x.sets_flags
     (register_number x.rd)
-    (outcome_of x.opcode (first_of 8 (register_number x.rn) regs) (rotated_byte x.value x.rotation regs) (flags_of (r15_in regs)))
+    (outcome_of x.opcode (first_of 8 (register_number x.rn) regs) (rotated_byte x.value x.rotation regs)
+    (flags_of (r15_in regs)))
     regs
 
 unfoldable pub data_register_effect : DataRegister → List ℕ → Effect
@@ -83,7 +91,8 @@ data_register_effect x regs =
     x.opcode
     x.sets_flags
     (register_number x.rd)
-    (outcome_of x.opcode (first_of 8 (register_number x.rn) regs) (shifted_by_amount x.shift x.amount (register_number x.rm) regs) (flags_of (r15_in regs)))
+    (outcome_of x.opcode (first_of 8 (register_number x.rn) regs)
+    (shifted_by_amount x.shift x.amount (register_number x.rm) regs) (flags_of (r15_in regs)))
     regs
 
 -- with the amount in a register: one internal cycle more, so the program counter is a word further on
@@ -95,13 +104,16 @@ data_register_shift_effect x regs =
     x.opcode
     x.sets_flags
     (register_number x.rd)
-    (outcome_of x.opcode (first_of 12 (register_number x.rn) regs) (shifted_by_register x.shift (register_number x.rs) (register_number x.rm) regs) (flags_of (r15_in regs)))
+    (outcome_of x.opcode (first_of 12 (register_number x.rn) regs)
+    (shifted_by_register x.shift (register_number x.rs) (register_number x.rm) regs)
+    (flags_of (r15_in regs)))
     regs)
 
 -- the least m from the given one on with number < 2 ^ (2 * m - 1), or the last one
 unfoldable pub cycles_from : ℕ → ℕ → ℕ → ℕ
 cycles_from zero m number = m
-cycles_from (suc left) m number = if nat_lt number (2 ^ (2 * m - 1)) then m else cycles_from left (m + 1) number
+cycles_from (suc left) m number =
+    if nat_lt number (2 ^ (2 * m - 1)) then m else cycles_from left (m + 1) number
 
 -- the cycles of a multiply by a number: 1 for 0 and 1, 2 up to 7, 3 up to 31, and so on up to 16
 abbrev pub cycles_of : ℕ → ℕ

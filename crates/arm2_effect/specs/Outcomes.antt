@@ -1,10 +1,12 @@
 -- What data processing computes (VL86C010 data sheet, data processing): the word, C and V of each operation.
-use Rattle.std.specs.Prelude.{ℕ, ◌+◌, ◌-◌, ◌/◌, ◌%◌, ◌^◌, ◌==◌, ◌&&◌, not, nat_le, nat_lt, Bool, false, bit_and, bit_or, bit_xor}
+use Rattle.std.specs.Prelude.{ℕ, ◌+◌, ◌-◌, ◌/◌, ◌%◌, ◌^◌, ◌==◌, ◌&&◌, not, nat_le, nat_lt, Bool, false}
+use Rattle.std.specs.Prelude.{bit_and, bit_or, bit_xor}
 use Rattle.arm2_decode.specs.Allowed.{bit_of}
 use Rattle.arm2_decode.specs.Names.{opcode_number}
 use Rattle.arm2_decode.specs.declared.flags.Flags.{Flags}
 use Rattle.arm2_decode.specs.declared.names.Opcode.{Opcode}
-use Rattle.arm2_decode.specs.declared.names.Opcode.TheVariants.{And, Eor, Sub, Rsb, Add, Adc, Sbc, Rsc, Tst, Teq, Cmp, Cmn, Orr, Mov, Bic, Mvn}
+use Rattle.arm2_decode.specs.declared.names.Opcode.TheVariants.{And, Eor, Sub, Rsb, Add, Adc, Sbc, Rsc, Tst}
+use Rattle.arm2_decode.specs.declared.names.Opcode.TheVariants.{Teq, Cmp, Cmn, Orr, Mov, Bic, Mvn}
 use Rattle.shifter.specs.declared.shifts.Shifted.{Shifted}
 use Rattle.arm2_effect.specs.declared.outcomes.Outcome.{Outcome}
 
@@ -25,7 +27,8 @@ sum_of x y carry =
       overflow = not (is_signed_word (biased x + biased y + bit_of carry) (2 ^ 31));
     }
 
--- x - y, and 1 less with a borrow. C: no borrow out. V: the difference of the signed values is no signed word.
+-- x - y, and 1 less with a borrow. C: no borrow out. V: the difference of the signed values is no signed
+-- word.
 abbrev pub difference_of : ℕ → ℕ → Bool → Outcome
 difference_of x y borrow =
     record {
@@ -63,7 +66,8 @@ outcome_of Mvn x y f = bits_of (inverted y.value) y f
 
 -- N is bit 31, Z says that all bits are 0
 abbrev pub flags_after : Outcome → Flags
-flags_after o = record { negative = nat_le (2 ^ 31) o.value; zero = o.value == 0; carry = o.carry; overflow = o.overflow }
+flags_after o =
+    record { negative = nat_le (2 ^ 31) o.value; zero = o.value == 0; carry = o.carry; overflow = o.overflow }
 
 -- TST TEQ CMP CMN give flags alone
 abbrev pub is_compare : Opcode → Bool

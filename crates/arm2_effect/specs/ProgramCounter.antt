@@ -1,5 +1,5 @@
--- R15: N Z C V I F in bits 31 to 26, a word address in bits 25 to 2, the mode in bits 1 and 0 (VL86C010 data sheet,
--- registers).
+-- R15: N Z C V I F in bits 31 to 26, a word address in bits 25 to 2, the mode in bits 1 and 0 (VL86C010 data
+-- sheet, registers).
 use Rattle.std.specs.Prelude.{ℕ, ◌+◌, ◌*◌, ◌/◌, ◌%◌, ◌^◌, ◌==◌, if◌then◌else◌}
 use Rattle.arm2_decode.specs.declared.flags.Flags.{Flags}
 use Rattle.arm2_decode.specs.Allowed.{bit_of}
@@ -36,7 +36,8 @@ flags_of r =
 
 -- the PSR with other condition flags: I and F stay
 abbrev pub psr_with : Flags → ℕ → ℕ
-psr_with f psr = bit_of f.negative * 32 + bit_of f.zero * 16 + bit_of f.carry * 8 + bit_of f.overflow * 4 + psr % 4
+psr_with f psr =
+    bit_of f.negative * 32 + bit_of f.zero * 16 + bit_of f.carry * 8 + bit_of f.overflow * 4 + psr % 4
 
 -- R15 some bytes on, with its PSR and mode
 abbrev pub r15_ahead : ℕ → ℕ → ℕ

@@ -1,7 +1,9 @@
 ghost use Rattle.std.specs.Prelude.{◌≡◌, ◌<◌, ◌^◌, false};
 ghost use Rattle.arm2_decode.specs.Names.{register_number};
 ghost use Rattle.arm2_effect.specs.Effects.{IsEffect, is_stopped};
-ghost use Rattle.arm2_effect.specs.Operations.{compared, data_immediate_effect, data_register_effect, data_register_shift_effect, entered, jumped as is_jumped, next_r15 as is_next_r15, placed};
+ghost use Rattle.arm2_effect.specs.Operations.{compared, data_immediate_effect, data_register_effect};
+ghost use Rattle.arm2_effect.specs.Operations.{data_register_shift_effect, entered, jumped as is_jumped};
+ghost use Rattle.arm2_effect.specs.Operations.{next_r15 as is_next_r15, placed};
 ghost use Rattle.arm2_effect.specs.Outcomes.{is_compare as compares};
 ghost use Rattle.arm2_effect.specs.ProgramCounter.{psr_with as is_psr_with};
 
@@ -61,7 +63,8 @@ impl Registers {
         rd: Register,
         outcome: Outcome,
     ) -> Done
-        ensures effect { IsEffect prices.profile prices.rom result self.new (entered sets_flags (register_number rd) outcome self.old) }
+        ensures effect { IsEffect prices.profile prices.rom result self.new
+            (entered sets_flags (register_number rd) outcome self.old) }
         ensures goes_on { is_stopped result.kind ≡ false }
         ensures bound { result.ticks < 2 ^ 10 }
     {
@@ -76,7 +79,8 @@ impl Registers {
 
     #[tactic(auto, unfolding(crate::specs::Operations::jumped))]
     fn jump(&mut self, prices: Prices, sets_flags: bool, outcome: Outcome) -> Done
-        ensures effect { IsEffect prices.profile prices.rom result self.new (is_jumped sets_flags outcome self.old) }
+        ensures effect { IsEffect prices.profile prices.rom result self.new
+            (is_jumped sets_flags outcome self.old) }
         ensures goes_on { is_stopped result.kind ≡ false }
         ensures bound { result.ticks < 2 ^ 10 }
     {
@@ -95,7 +99,8 @@ impl Registers {
 
     #[tactic(auto, unfolding(crate::specs::Operations::compared))]
     fn compare(&mut self, prices: Prices, rd: Register, outcome: Outcome) -> Done
-        ensures effect { IsEffect prices.profile prices.rom result self.new (compared (register_number rd) outcome self.old) }
+        ensures effect { IsEffect prices.profile prices.rom result self.new
+            (compared (register_number rd) outcome self.old) }
         ensures goes_on { is_stopped result.kind ≡ false }
         ensures bound { result.ticks < 2 ^ 10 }
     {
@@ -123,7 +128,8 @@ impl Registers {
         rd: Register,
         outcome: Outcome,
     ) -> Done
-        ensures effect { IsEffect prices.profile prices.rom result self.new (placed opcode sets_flags (register_number rd) outcome self.old) }
+        ensures effect { IsEffect prices.profile prices.rom result self.new
+            (placed opcode sets_flags (register_number rd) outcome self.old) }
         ensures goes_on { is_stopped result.kind ≡ false }
         ensures bound { result.ticks < 2 ^ 10 }
     {
@@ -139,7 +145,8 @@ impl Registers {
     /// Data processing with a byte that is rotated.
     #[tactic(auto, unfolding(crate::specs::Operations::data_immediate_effect))]
     pub(crate) fn data_immediate(&mut self, prices: Prices, fields: &DataImmediate) -> Done
-        ensures effect { IsEffect prices.profile prices.rom result self.new (data_immediate_effect fields.now self.old) }
+        ensures effect { IsEffect prices.profile prices.rom result self.new
+            (data_immediate_effect fields.now self.old) }
         ensures goes_on { is_stopped result.kind ≡ false }
         ensures bound { result.ticks < 2 ^ 16 }
     {
@@ -152,7 +159,8 @@ impl Registers {
     /// Data processing with a register that is shifted by an amount in the word.
     #[tactic(auto, unfolding(crate::specs::Operations::data_register_effect))]
     pub(crate) fn data_register(&mut self, prices: Prices, fields: &DataRegister) -> Done
-        ensures effect { IsEffect prices.profile prices.rom result self.new (data_register_effect fields.now self.old) }
+        ensures effect { IsEffect prices.profile prices.rom result self.new
+            (data_register_effect fields.now self.old) }
         ensures goes_on { is_stopped result.kind ≡ false }
         ensures bound { result.ticks < 2 ^ 16 }
     {
@@ -165,7 +173,8 @@ impl Registers {
     /// Data processing with a register that is shifted by another.
     #[tactic(auto, unfolding(crate::specs::Operations::data_register_shift_effect))]
     pub(crate) fn data_register_shift(&mut self, prices: Prices, fields: &DataRegisterShift) -> Done
-        ensures effect { IsEffect prices.profile prices.rom result self.new (data_register_shift_effect fields.now self.old) }
+        ensures effect { IsEffect prices.profile prices.rom result self.new
+            (data_register_shift_effect fields.now self.old) }
         ensures goes_on { is_stopped result.kind ≡ false }
         ensures bound { result.ticks < 2 ^ 16 }
     {

@@ -3,7 +3,8 @@ ghost use Rattle.arm2_decode.specs.Conditions.{condition_holds};
 ghost use Rattle.arm2_effect.specs.Modes.{r15_in};
 ghost use Rattle.arm2_effect.specs.ProgramCounter.{flags_of as flags_in};
 ghost use Rattle.arm2_effect.specs.Effects.{IsEffect, is_stopped};
-ghost use Rattle.arm2_effect.specs.Operations.{branch_effect, cycles_of, is_transfer as transfers, multiply_effect, operation_effect, product_of};
+ghost use Rattle.arm2_effect.specs.Operations.{branch_effect, cycles_of, is_transfer as transfers};
+ghost use Rattle.arm2_effect.specs.Operations.{multiply_effect, operation_effect, product_of};
 
 use crate::done::{Done, Kind};
 use crate::exceptions::Vector;
@@ -57,7 +58,8 @@ impl Registers {
     /// MUL and MLA.
     #[tactic(auto, unfolding(crate::specs::Operations::multiply_effect))]
     fn multiply(&mut self, prices: Prices, multiply: &Multiply) -> Done
-        ensures effect { IsEffect prices.profile prices.rom result self.new (multiply_effect multiply.now self.old) }
+        ensures effect { IsEffect prices.profile prices.rom result self.new
+            (multiply_effect multiply.now self.old) }
         ensures goes_on { is_stopped result.kind ≡ false }
         ensures bound { result.ticks < 2 ^ 16 }
     {
@@ -73,7 +75,8 @@ impl Registers {
     /// B and BL.
     #[tactic(auto, unfolding(crate::specs::Operations::branch_effect))]
     fn branch(&mut self, prices: Prices, branch: &Branch) -> Done
-        ensures effect { IsEffect prices.profile prices.rom result self.new (branch_effect branch.now self.old) }
+        ensures effect { IsEffect prices.profile prices.rom result self.new
+            (branch_effect branch.now self.old) }
         ensures goes_on { is_stopped result.kind ≡ false }
         ensures bound { result.ticks < 2 ^ 16 }
     {
@@ -100,7 +103,8 @@ impl Registers {
     #[tactic(auto, unfolding(crate::specs::Operations::operation_effect))]
     pub fn execute(&mut self, prices: Prices, operation: &Operation) -> Done
         requires { transfers operation.now ≡ false }
-        ensures effect { IsEffect prices.profile prices.rom result self.new (operation_effect operation.now self.old) }
+        ensures effect { IsEffect prices.profile prices.rom result self.new
+            (operation_effect operation.now self.old) }
         ensures goes_on { is_stopped result.kind ≡ false }
         ensures bound { result.ticks < 2 ^ 16 }
     {

@@ -1,6 +1,8 @@
 ghost use Rattle.std.specs.Prelude.{◌≡◌, ◌<◌, ◌%◌, ◌^◌};
 ghost use Rattle.arm2_decode.specs.Names.{register_number};
-ghost use Rattle.arm2_effect.specs.Operands.{first_of, operand_of, rotated_byte as is_rotated_byte, shifted_by_amount as is_shifted_by_amount, shifted_by_register as is_shifted_by_register};
+ghost use Rattle.arm2_effect.specs.Operands.{first_of, operand_of, rotated_byte as is_rotated_byte};
+ghost use Rattle.arm2_effect.specs.Operands.{shifted_by_amount as is_shifted_by_amount};
+ghost use Rattle.arm2_effect.specs.Operands.{shifted_by_register as is_shifted_by_register};
 
 use crate::modes::Reg;
 use crate::program_counter::{address_of, advanced, ahead, flags_of, mode_of};

@@ -1,5 +1,6 @@
 ghost use Rattle.std.specs.Prelude.{◌≡◌, ◌^◌, nat_le};
-ghost use Rattle.arm2_effect.specs.Outcomes.{bits_of, difference_of, flags_after as is_flags_after, outcome_of as is_outcome_of, sum_of};
+ghost use Rattle.arm2_effect.specs.Outcomes.{bits_of, difference_of, flags_after as is_flags_after};
+ghost use Rattle.arm2_effect.specs.Outcomes.{outcome_of as is_outcome_of, sum_of};
 
 use arm2_decode::{Flags, Opcode};
 use shifter::Shifted;

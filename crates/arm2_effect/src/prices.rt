@@ -1,5 +1,6 @@
 ghost use Rattle.std.specs.Prelude.{◌≡◌, ◌<◌, ◌≤◌, ◌*◌, ◌%◌, ◌^◌, [], ◌∷◌};
-ghost use Rattle.arm2_effect.specs.Effects.{Internal, onward as accesses_onward, refill as accesses_refill, straight as accesses_straight, ticks_of};
+ghost use Rattle.arm2_effect.specs.Effects.{Internal, onward as accesses_onward, refill as accesses_refill};
+ghost use Rattle.arm2_effect.specs.Effects.{straight as accesses_straight, ticks_of};
 
 use crate::program_counter::ahead;
 use bus_ticks::{Profile, RomTimes, fetch_n, fetch_s};

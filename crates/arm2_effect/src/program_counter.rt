@@ -1,6 +1,9 @@
 //! R15: N Z C V I F in bits 31 to 26, a word address in bits 25 to 2, the mode in bits 1 and 0.
 ghost use Rattle.std.specs.Prelude.{◌≡◌, ◌%◌, ◌^◌, ◌<◌};
-ghost use Rattle.arm2_effect.specs.ProgramCounter.{address_of as is_address_of, ahead_of, flags_of as is_flags_of, jumped_of, mode_of as is_mode_of, psr_of as is_psr_of, r15_ahead, r15_of as is_r15_of, restored_of};
+ghost use Rattle.arm2_effect.specs.ProgramCounter.{address_of as is_address_of, ahead_of};
+ghost use Rattle.arm2_effect.specs.ProgramCounter.{flags_of as is_flags_of, jumped_of, mode_of as is_mode_of};
+ghost use Rattle.arm2_effect.specs.ProgramCounter.{psr_of as is_psr_of, r15_ahead, r15_of as is_r15_of};
+ghost use Rattle.arm2_effect.specs.ProgramCounter.{restored_of};
 
 use crate::modes::Mode;
 use arm2_decode::Flags;

@@ -10,10 +10,16 @@ use Rattle.arm2_exec.specs.contracts.machine.Machine.{the_row}
 use Rattle.arm2_exec.specs.State.{State}
 
 abbrev pub LendsMemc : MutBor State → MutBor Memory → Fml
-LendsMemc machine result = Lends the_row memc_row machine result (λ m. record machine.now { bus = record machine.now.bus { memc = m } })
+LendsMemc machine result =
+    Lends the_row memc_row machine result
+    (λ m. record machine.now { bus = record machine.now.bus { memc = m } })
 
 abbrev pub LendsIoc : MutBor State → MutBor Controller → Fml
-LendsIoc machine result = Lends the_row ioc_row machine result (λ c. record machine.now { bus = record machine.now.bus { ioc = c } })
+LendsIoc machine result =
+    Lends the_row ioc_row machine result
+    (λ c. record machine.now { bus = record machine.now.bus { ioc = c } })
 
 abbrev pub LendsVidc : MutBor State → MutBor Video → Fml
-LendsVidc machine result = Lends the_row vidc_row machine result (λ v. record machine.now { bus = record machine.now.bus { vidc = v } })
+LendsVidc machine result =
+    Lends the_row vidc_row machine result
+    (λ v. record machine.now { bus = record machine.now.bus { vidc = v } })

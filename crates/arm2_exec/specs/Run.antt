@@ -22,7 +22,12 @@ at_rest why = record { steps = 0; ticks = 0; elapsed = 0; stopped = why }
 -- one step before others: its ticks, and those that pass with its bursts
 abbrev pub counted : (burst : ℕ) → Input → Stepped → Ran → Ran
 counted burst i told rest =
-    record { steps = 1 + rest.steps; ticks = told.ticks + rest.ticks; elapsed = told.ticks + burst * i.bursts + rest.elapsed; stopped = rest.stopped }
+    record {
+      steps = 1 + rest.steps;
+      ticks = told.ticks + rest.ticks;
+      elapsed = told.ticks + burst * i.bursts + rest.elapsed;
+      stopped = rest.stopped;
+    }
 
 -- a stopped step ends the run and does not count; behind any other the run goes on
 abbrev pub Ends : Option Why → State → Ran → State → (goes_on : Type 0) → Type 0
@@ -34,4 +39,5 @@ abbrev pub Runs : State → List Input → Ran → State → Type 0
 Runs s [] ran after = (ran ≡ at_rest None) × (after ≡ s)
 Runs s (i ∷ rest) ran after =
     (told : Stepped) × (next : State) × Step s i told next
-    × Ends (why_stopped told.kind) s ran after ((more : Ran) × Runs next rest more after × (ran ≡ counted s.profile.burst i told more))
+    × Ends (why_stopped told.kind) s ran after
+    ((more : Ran) × Runs next rest more after × (ran ≡ counted s.profile.burst i told more))

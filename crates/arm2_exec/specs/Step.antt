@@ -1,6 +1,7 @@
--- A step of the machine (VL86C010 data sheet, instruction set and exceptions; our own profile for the order of its parts,
--- for what stops the machine, and for the ticks).
-use Rattle.std.specs.Prelude.{◌≡◌, ◌⊎◌, ℕ, ◌+◌, ◌*◌, ◌/◌, ◌%◌, ◌^◌, ◌==◌, ◌&&◌, not, Bool, false, if◌then◌else◌, Option, Some, None, Result, Ok, Err, List}
+-- A step of the machine (VL86C010 data sheet, instruction set and exceptions; our own profile for the order
+-- of its parts, for what stops the machine, and for the ticks).
+use Rattle.std.specs.Prelude.{◌≡◌, ◌⊎◌, ℕ, ◌+◌, ◌*◌, ◌/◌, ◌%◌, ◌^◌, ◌==◌, ◌&&◌, not, Bool, false}
+use Rattle.std.specs.Prelude.{if◌then◌else◌, Option, Some, None, Result, Ok, Err, List}
 use Rattle.bus_ticks.specs.declared.profile.RomTimes.{RomTimes}
 use Rattle.arm2_decode.specs.Conditions.{condition_holds}
 use Rattle.arm2_decode.specs.Table.{Means, IsUnallocated}
@@ -58,11 +59,13 @@ fetched m r15 = fetched_at m (located m (address_of r15) (is_user (mode_of r15))
 
 abbrev pub instruction_moved : Instr → (port : ℕ) → List ℕ → Bus → Moved
 instruction_moved i port regs bus =
-    if condition_holds i.cond (flags_of (r15_in regs)) then operation_moved i.operation port regs bus else on_bus bus (skipped regs)
+    if condition_holds i.cond (flags_of (r15_in regs)) then operation_moved i.operation port regs bus
+    else on_bus bus (skipped regs)
 
 abbrev pub unallocated_moved : Unallocated → List ℕ → Bus → Moved
 unallocated_moved u regs bus =
-    if condition_holds u.cond (flags_of (r15_in regs)) then on_bus bus (stopped why.Unallocated regs) else on_bus bus (skipped regs)
+    if condition_holds u.cond (flags_of (r15_in regs)) then on_bus bus (stopped why.Unallocated regs)
+    else on_bus bus (skipped regs)
 
 -- what the word does, by the table of instruction words
 abbrev pub Obeys : (word port : ℕ) → List ℕ → Bus → Moved → Type 0
@@ -108,7 +111,8 @@ time_in s i m = ticks_in s m + s.profile.burst * i.bursts
 -- a stopped step takes no time and changes nothing, the lines neither
 unfoldable pub answer_of : State → Moved → Stepped
 answer_of s m =
-    if is_stopped m.kind then record { kind = m.kind; ticks = 0; from = address_in s.regs; to = address_in s.regs }
+    if is_stopped m.kind
+    then record { kind = m.kind; ticks = 0; from = address_in s.regs; to = address_in s.regs }
     else record { kind = m.kind; ticks = ticks_in s m; from = address_in s.regs; to = address_in m.regs }
 
 unfoldable pub state_after : State → Input → Moved → State
@@ -119,7 +123,8 @@ state_after s i m =
 -- what a step tells, and the state after it
 pub record Step (s : State) (i : Input) (told : Stepped) (after : State) : Type 0 where
   pub moved : Moved
-  pub works : Works (interrupt_due (with_lines i.lines.0 s.bus) (r15_in s.regs)) i.port s.regs (with_lines i.lines.0 s.bus) moved
+  pub works : Works (interrupt_due (with_lines i.lines.0 s.bus) (r15_in s.regs)) i.port s.regs
+      (with_lines i.lines.0 s.bus) moved
   pub told_is : told ≡ answer_of s moved
   pub after_is : after ≡ state_after s i moved
 
@@ -128,4 +133,5 @@ pub record HasOneOutcome (s : State) (i : Input) : Type 0 where
   pub told : Stepped
   pub after : State
   pub is : Step s i told after
-  pub only : (other_told : Stepped) (other : State) → Step s i other_told other → (other_told ≡ told) × (other ≡ after)
+  pub only : (other_told : Stepped) (other : State) → Step s i other_told other
+      → (other_told ≡ told) × (other ≡ after)

@@ -9,12 +9,14 @@ use Rattle.arm2_transfer.specs.Moved.{Moved, IsMoved}
 use Rattle.arm2_exec.specs.Step.{ObeysFetched, Works}
 
 -- the answer, the registers and the bus are those of one thing that the word, or the step, may do
-pub record Obeyed (p : Profile) (rom : RomTimes) (word : Option ℕ) (port : ℕ) (old : List ℕ) (bus : Bus) (done : Done) (new : List ℕ) (now : Bus) : Type 0 where
+pub record Obeyed (p : Profile) (rom : RomTimes) (word : Option ℕ) (port : ℕ) (old : List ℕ) (bus : Bus)
+    (done : Done) (new : List ℕ) (now : Bus) : Type 0 where
   pub moved : Moved
   pub obeys : ObeysFetched word port old bus moved
   pub is : IsMoved p rom done new now moved
 
-pub record Worked (p : Profile) (rom : RomTimes) (interrupt : Option Vector) (port : ℕ) (old : List ℕ) (bus : Bus) (done : Done) (new : List ℕ) (now : Bus) : Type 0 where
+pub record Worked (p : Profile) (rom : RomTimes) (interrupt : Option Vector) (port : ℕ) (old : List ℕ)
+    (bus : Bus) (done : Done) (new : List ℕ) (now : Bus) : Type 0 where
   pub moved : Moved
   pub works : Works interrupt port old bus moved
   pub is : IsMoved p rom done new now moved

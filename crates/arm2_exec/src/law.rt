@@ -6,10 +6,12 @@ ghost use Rattle.arm2_exec.specs.Step.{Step};
 use crate::machine::{Input, Stepped};
 use arm2_effect::{Kind, Vector};
 
-/// States what a step keeps that takes an exception: memory, and every register but R14 and R15 of the exception's mode.
+/// States what a step keeps that takes an exception: memory, and every register but R14 and R15 of the
+/// exception's mode.
 ///
-/// So a transfer that is told as aborted, or as one whose address is past memory, has moved no word and written back no
-/// base. The devices have what any step gives them, the lines and the time. It does nothing.
+/// So a transfer that is told as aborted, or as one whose address is past memory, has moved no word and
+/// written back no base. The devices have what any step gives them, the lines and the time. It does nothing.
 pub fn exceptions_keep_the_rest()
-    ensures { (s : State) → (i : Input) → (told : Stepped) → (after : State) → (vector : Vector) → Step s i told after → told.kind ≡ Kind.Taken vector → KeepsTheRest vector s i told after }
+    ensures { (s : State) → (i : Input) → (told : Stepped) → (after : State) → (vector : Vector)
+        → Step s i told after → told.kind ≡ Kind.Taken vector → KeepsTheRest vector s i told after }
 {}

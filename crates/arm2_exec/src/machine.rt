@@ -92,7 +92,8 @@ impl Model for Machine {
 
 impl Machine {
     /// A machine in the reset state: R15 is 0C000003 (address 0, SVC mode, IRQ and FIQ masked), every other
-    /// register and all RAM 0, logical page i on physical page i for i from 0 to 127, and IOC and VIDC at their start.
+    /// register and all RAM 0, logical page i on physical page i for i from 0 to 127, and IOC and VIDC at
+    /// their start.
     ///
     /// `Memory`: a growth was refused.
     pub fn new(alloc: Global, size: PageSize, profile: Profile) -> Result<Machine, MachineFault>
@@ -184,8 +185,8 @@ impl Machine {
         self.profile
     }
 
-    /// One step: an interrupt is taken, or the instruction at the address in R15 is carried out or passed over. It takes
-    /// constant time and no memory.
+    /// One step: an interrupt is taken, or the instruction at the address in R15 is carried out or passed
+    /// over. It takes constant time and no memory.
     #[tactic(auto, unfolding(crate::specs::Step::answer_of, crate::specs::Step::state_after))]
     pub fn step(&mut self, input: Input) -> Stepped
         ensures step { Step self.old input result self.new }

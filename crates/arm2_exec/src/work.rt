@@ -42,7 +42,8 @@ fn obey_instruction(
     prices: Prices,
     instr: &Instr,
 ) -> Done
-    ensures moved { IsMoved prices.profile prices.rom result registers.new bus.new (instruction_moved instr.now port registers.old bus.old) }
+    ensures moved { IsMoved prices.profile prices.rom result registers.new bus.new
+        (instruction_moved instr.now port registers.old bus.old) }
     ensures bound { result.ticks < 2 ^ 16 }
 {
     if registers.passes(instr.cond) {
@@ -59,7 +60,8 @@ fn obey_unallocated(
     prices: Prices,
     unallocated: Unallocated,
 ) -> Done
-    ensures moved { IsMoved prices.profile prices.rom result registers.new bus.now (unallocated_moved unallocated registers.old bus.now) }
+    ensures moved { IsMoved prices.profile prices.rom result registers.new bus.now
+        (unallocated_moved unallocated registers.old bus.now) }
     ensures bound { result.ticks < 2 ^ 16 }
 {
     if registers.passes(unallocated.cond) {
@@ -76,7 +78,8 @@ fn obey(
     prices: Prices,
     word: Option<u32>,
 ) -> Done
-    ensures obeyed { Obeyed prices.profile prices.rom word port registers.old bus.old result registers.new bus.new }
+    ensures obeyed { Obeyed prices.profile prices.rom word port registers.old bus.old result registers.new
+        bus.new }
     ensures bound { result.ticks < 2 ^ 16 }
 {
     let Some(word) = word else {
@@ -90,7 +93,9 @@ fn obey(
 
 // What a step does before time passes: an interrupt, or the word at the address.
 pub(crate) fn work(registers: &mut Registers, bus: &mut Bus, port: u32, prices: Prices) -> Done
-    ensures worked { Worked prices.profile prices.rom (interrupt_due bus.old (r15_in registers.old)) port registers.old bus.old result registers.new bus.new }
+    ensures worked { Worked prices.profile prices.rom
+        (interrupt_due bus.old
+        (r15_in registers.old)) port registers.old bus.old result registers.new bus.new }
     ensures bound { result.ticks < 2 ^ 16 }
 {
     let r15 = registers.get(Reg::R15);

@@ -9,10 +9,16 @@ IsBlanks text = list_all is_blank text ≡ true
 -- blanks may stand round a comma, and after the last piece
 abbrev pub Written : List Piece → List ℕ → Type 0
 Written [] text = IsBlanks text
-Written (Run r ∷ ps) text = (rest : List ℕ) × (text ≡ r ++ rest) × (0 < length r) × (list_all is_name r ≡ true) × Written ps rest
-Written (Comma ∷ ps) text = (before after rest : List ℕ) × (text ≡ before ++ (44 ∷ (after ++ rest))) × IsBlanks before × IsBlanks after × Written ps rest
-Written (Sign m ∷ ps) text = (b : ℕ) × (rest : List ℕ) × (text ≡ b ∷ rest) × (is_blank b ≡ false) × (is_name b ≡ false) × ((b == 44) ≡ false) × (m ≡ mark_of b) × Written ps rest
-Written (Gap ∷ ps) text = (gap rest : List ℕ) × (text ≡ gap ++ rest) × (0 < length gap) × IsBlanks gap × Written ps rest
+Written (Run r ∷ ps) text =
+    (rest : List ℕ) × (text ≡ r ++ rest) × (0 < length r) × (list_all is_name r ≡ true) × Written ps rest
+Written (Comma ∷ ps) text =
+    (before after rest : List ℕ) × (text ≡ before ++ (44 ∷ (after ++ rest))) × IsBlanks before
+    × IsBlanks after × Written ps rest
+Written (Sign m ∷ ps) text =
+    (b : ℕ) × (rest : List ℕ) × (text ≡ b ∷ rest) × (is_blank b ≡ false) × (is_name b ≡ false)
+    × ((b == 44) ≡ false) × (m ≡ mark_of b) × Written ps rest
+Written (Gap ∷ ps) text =
+    (gap rest : List ℕ) × (text ≡ gap ++ rest) × (0 < length gap) × IsBlanks gap × Written ps rest
 
 abbrev pub starts_run : List Piece → Bool
 starts_run (Run r ∷ ps) = true

@@ -4,13 +4,16 @@ use Rattle.std.specs.Prelude.{ℕ, List, [], ◌∷◌, codes, Bool, true, false
 use Rattle.std.specs.List.{find}
 use Rattle.std.specs.Str.{bytes_eq}
 use Rattle.arm2_decode.specs.declared.names.Cond.{Cond}
-use Rattle.arm2_decode.specs.declared.names.Cond.TheVariants.{Eq, Ne, Cs, Cc, Mi, Pl, Vs, Vc, Hi, Ls, Ge, Lt, Gt, Le, Al, Nv}
+use Rattle.arm2_decode.specs.declared.names.Cond.TheVariants.{Eq, Ne, Cs, Cc, Mi, Pl, Vs, Vc, Hi, Ls, Ge, Lt}
+use Rattle.arm2_decode.specs.declared.names.Cond.TheVariants.{Gt, Le, Al, Nv}
 use Rattle.arm2_decode.specs.declared.names.Opcode.{Opcode}
-use Rattle.arm2_decode.specs.declared.names.Opcode.TheVariants.{And, Eor, Sub, Rsb, Add, Adc, Sbc, Rsc, Tst, Teq, Cmp, Cmn, Orr, Mov, Bic, Mvn}
+use Rattle.arm2_decode.specs.declared.names.Opcode.TheVariants.{And, Eor, Sub, Rsb, Add, Adc, Sbc, Rsc, Tst}
+use Rattle.arm2_decode.specs.declared.names.Opcode.TheVariants.{Teq, Cmp, Cmn, Orr, Mov, Bic, Mvn}
 use Rattle.asm_text.specs.declared.names.Head.{Head}
 use Rattle.asm_text.specs.declared.names.Head.TheVariants.{Data, Multiply, Single, Block, Swi, Adr}
 use Rattle.asm_text.specs.declared.names.Suffix.{Suffix}
-use Rattle.asm_text.specs.declared.names.Suffix.TheVariants.{Bare, S, P, B, T, Bt, Ia, Ib, Da, Db, Fd, Ed, Fa, Ea}
+use Rattle.asm_text.specs.declared.names.Suffix.TheVariants.{Bare, S, P, B, T, Bt, Ia, Ib, Da, Db, Fd, Ed, Fa}
+use Rattle.asm_text.specs.declared.names.Suffix.TheVariants.{Ea}
 
 abbrev pub cond_name : Cond → List ℕ
 cond_name Eq = codes "EQ"
@@ -142,8 +145,8 @@ is_block_suffix Fa = true
 is_block_suffix Ea = true
 is_block_suffix _ = false
 
--- which suffixes a word may have: data words S, compares P too; MUL and MLA S; LDR and STR B, T or both; LDM and
--- STM one of eight, always
+-- which suffixes a word may have: data words S, compares P too; MUL and MLA S; LDR and STR B, T or both; LDM
+-- and STM one of eight, always
 abbrev pub may_have : Head → Suffix → Bool
 may_have (Data op) Bare = true
 may_have (Data op) S = true

@@ -1,5 +1,6 @@
 -- Numbers of the source: decimal, and hexadecimal behind `0x` or `&`, below 2^32 (our own source format).
-use Rattle.std.specs.Prelude.{◌==◌, ◌&&◌, ◌^◌, nat_lt, min, ℕ, List, [], ◌∷◌, length, Option, Some, None, if◌then◌else◌}
+use Rattle.std.specs.Prelude.{◌==◌, ◌&&◌, ◌^◌, nat_lt, min, ℕ, List, [], ◌∷◌, length, Option, Some, None}
+use Rattle.std.specs.Prelude.{if◌then◌else◌}
 use Rattle.std.specs.Char.{is_digit}
 use Rattle.std.specs.List.{list_all}
 use Rattle.std.specs.Str.Parse.{digits_value}
@@ -8,7 +9,8 @@ use Rattle.asm_text.specs.declared.token.Mark.TheVariants.{Ampersand}
 
 -- one digit or more, of either case
 abbrev pub digits_of : ℕ → List ℕ → Option ℕ
-digits_of radix d = if nat_lt 0 (length d) && list_all (λ c. is_digit c radix) d then Some (digits_value radix d) else None
+digits_of radix d =
+    if nat_lt 0 (length d) && list_all (λ c. is_digit c radix) d then Some (digits_value radix d) else None
 
 -- a number of 32 bits
 abbrev pub fits : Option ℕ → Option ℕ

@@ -1,6 +1,7 @@
 -- Operands, by the pieces that spell them (our own source format, over the VL86C010 data sheet's assembler
 -- syntax).
-use Rattle.std.specs.Prelude.{ℕ, ◌+◌, ◌-◌, ◌^◌, nat_le, Bool, true, false, List, [], ◌∷◌, Option, Some, None, option_map, option_and_then, if◌then◌else◌, bit_or}
+use Rattle.std.specs.Prelude.{ℕ, ◌+◌, ◌-◌, ◌^◌, nat_le, Bool, true, false, List, [], ◌∷◌, Option, Some, None}
+use Rattle.std.specs.Prelude.{option_map, option_and_then, if◌then◌else◌, bit_or}
 use Rattle.arm2_decode.specs.declared.names.Opcode.{Opcode}
 use Rattle.arm2_decode.specs.declared.names.Opcode.TheVariants.{Mov, Mvn}
 use Rattle.arm2_decode.specs.declared.names.Register.{Register}
@@ -12,7 +13,8 @@ use Rattle.asm_text.specs.Pieces.{Piece, Run, Comma, Sign, Gap}
 use Rattle.asm_text.specs.Numbers.{number_first}
 use Rattle.asm_text.specs.Registers.{is_rrx, register_comma_first, register_first, register_of, shift_of}
 use Rattle.asm_text.specs.Names.{is_compare}
-use Rattle.asm_text.specs.declared.token.Mark.TheVariants.{Hash, Minus, Bang, Caret, CloseBracket, OpenBrace, CloseBrace}
+use Rattle.asm_text.specs.declared.token.Mark.TheVariants.{Hash, Minus, Bang, Caret, CloseBracket, OpenBrace}
+use Rattle.asm_text.specs.declared.token.Mark.TheVariants.{CloseBrace}
 use Rattle.asm_text.specs.declared.names.Suffix.{Suffix}
 use Rattle.asm_text.specs.declared.names.Suffix.TheVariants.{S, P, B, T, Bt, Ia, Ib, Db, Fd, Ed, Fa, Ea}
 use Rattle.asm_text.specs.declared.list.Place.{Place}
@@ -68,7 +70,8 @@ shifting_first ps = Some (shifting.Amount (amount.By Lsl 0), ps)
 -- #n; Rm; Rm,shift
 abbrev pub operand_of : List Piece → Option Operand
 operand_of (Sign Hash ∷ ps) = option_map operand.Immediate (whole (number_first ps))
-operand_of (Run r ∷ ps) = option_and_then (λ m. option_map (operand.Shifted m) (whole (shifting_first ps))) (register_of r)
+operand_of (Run r ∷ ps) =
+    option_and_then (λ m. option_map (operand.Shifted m) (whole (shifting_first ps))) (register_of r)
 operand_of _ = None
 
 abbrev pub is_move : Opcode → Bool
@@ -87,19 +90,28 @@ compare_rd _ = R0
 
 -- Rn,operand of a compare, which always sets the flags
 abbrev pub compare_of : Opcode → Suffix → Register → List Piece → Option Data
-compare_of op s n ps = option_map (λ o. record { opcode = op; sets_flags = true; rn = n; rd = compare_rd s; operand = o }) (operand_of ps)
+compare_of op s n ps =
+    option_map (λ o. record { opcode = op; sets_flags = true; rn = n; rd = compare_rd s; operand = o })
+    (operand_of ps)
 
 -- Rd,operand of MOV and MVN
 abbrev pub move_of : Opcode → Suffix → Register → List Piece → Option Data
-move_of op s d ps = option_map (λ o. record { opcode = op; sets_flags = is_s s; rn = R0; rd = d; operand = o }) (operand_of ps)
+move_of op s d ps =
+    option_map (λ o. record { opcode = op; sets_flags = is_s s; rn = R0; rd = d; operand = o })
+    (operand_of ps)
 
 -- Rd,Rn,operand
 abbrev pub three_of : Opcode → Suffix → Register → List Piece → Option Data
 three_of op s d ps =
-    option_and_then (λ f. option_map (λ o. record { opcode = op; sets_flags = is_s s; rn = f.0; rd = d; operand = o }) (operand_of f.1)) (register_comma_first ps)
+    option_and_then
+    (λ f. option_map (λ o. record { opcode = op; sets_flags = is_s s; rn = f.0; rd = d; operand = o })
+    (operand_of f.1))
+    (register_comma_first ps)
 
 abbrev pub data_behind : Opcode → Suffix → Register → List Piece → Option Data
-data_behind op s r ps = if is_compare op then compare_of op s r ps else (if is_move op then move_of op s r ps else three_of op s r ps)
+data_behind op s r ps =
+    if is_compare op then compare_of op s r ps
+    else (if is_move op then move_of op s r ps else three_of op s r ps)
 
 abbrev pub data_of : Opcode → Suffix → List Piece → Option Data
 data_of op s ps = option_and_then (λ f. data_behind op s f.0 f.1) (register_comma_first ps)
@@ -108,15 +120,24 @@ data_of op s ps = option_and_then (λ f. data_behind op s f.0 f.1) (register_com
 
 -- Rd,Rm,Rs, and of MLA Rn
 abbrev pub factors_of : Suffix → Register → Register → List Piece → Option Product
-factors_of s d m ps = option_map (λ t. record { accumulate = false; sets_flags = is_s s; rd = d; rn = R0; rs = t; rm = m }) (whole (register_first ps))
+factors_of s d m ps =
+    option_map (λ t. record { accumulate = false; sets_flags = is_s s; rd = d; rn = R0; rs = t; rm = m })
+    (whole (register_first ps))
 
 abbrev pub sum_of : Suffix → Register → Register → List Piece → Option Product
 sum_of s d m ps =
-    option_and_then (λ f. option_map (λ n. record { accumulate = true; sets_flags = is_s s; rd = d; rn = n; rs = f.0; rm = m }) (whole (register_first f.1))) (register_comma_first ps)
+    option_and_then
+    (λ f. option_map
+    (λ n. record { accumulate = true; sets_flags = is_s s; rd = d; rn = n; rs = f.0; rm = m })
+    (whole (register_first f.1)))
+    (register_comma_first ps)
 
 abbrev pub product_of : Bool → Suffix → List Piece → Option Product
 product_of accumulate s ps =
-    option_and_then (λ f. option_and_then (λ g. if accumulate then sum_of s f.0 g.0 g.1 else factors_of s f.0 g.0 g.1) (register_comma_first f.1)) (register_comma_first ps)
+    option_and_then
+    (λ f. option_and_then (λ g. if accumulate then sum_of s f.0 g.0 g.1 else factors_of s f.0 g.0 g.1)
+    (register_comma_first f.1))
+    (register_comma_first ps)
 
 -- ---- addresses
 
@@ -130,7 +151,8 @@ by_amount up m (shifting.Amount a, ps) = Some ((up, distance.Register m a), ps)
 by_amount up m (shifting.Register s r, ps) = None
 
 abbrev pub register_offset : Bool → List Piece → Option (Offset × List Piece)
-register_offset up ps = option_and_then (λ f. option_and_then (by_amount up f.0) (shifting_first f.1)) (register_first ps)
+register_offset up ps =
+    option_and_then (λ f. option_and_then (by_amount up f.0) (shifting_first f.1)) (register_first ps)
 
 abbrev pub signed_offset : Bool → List Piece → Option (Offset × List Piece)
 signed_offset up ps = option_map (λ f. ((up, distance.Number f.0), f.1)) (number_first ps)
@@ -157,11 +179,13 @@ closed_of (Sign CloseBracket ∷ ps) = bang_of ps
 closed_of _ = None
 
 abbrev pub address : Register → Bool → Bool → Offset → Address
-address n before write_back o = record { rn = n; before = before; up = o.0; write_back = write_back; distance = o.1 }
+address n before write_back o =
+    record { rn = n; before = before; up = o.0; write_back = write_back; distance = o.1 }
 
 -- behind [Rn, the offset and its end
 abbrev pub before_of : Register → List Piece → Option Address
-before_of n ps = option_and_then (λ f. option_map (λ w. address n true w f.0) (closed_of f.1)) (offset_first ps)
+before_of n ps =
+    option_and_then (λ f. option_map (λ w. address n true w f.0) (closed_of f.1)) (offset_first ps)
 
 -- [Rn] or [Rn]!
 abbrev pub plain_of : Register → List Piece → Option Address
@@ -195,7 +219,9 @@ is_user _ = false
 
 -- the registers from one to another, as bits; none where they fall
 abbrev pub run_bits : Register → Register → Option ℕ
-run_bits a b = if nat_le (register_number a) (register_number b) then Some (2 ^ (register_number b + 1) - 2 ^ register_number a) else None
+run_bits a b =
+    if nat_le (register_number a) (register_number b)
+    then Some (2 ^ (register_number b + 1) - 2 ^ register_number a) else None
 
 abbrev pub with_bits : ℕ → Option ℕ → Option ℕ
 with_bits list bits = option_map (bit_or list) bits
@@ -216,7 +242,9 @@ start_step list (Run a) = option_map (λ r. Goes list (First r)) (register_of a)
 start_step list _ = None
 
 abbrev pub to_step : ℕ → Register → Piece → Option Step
-to_step list a (Run b) = option_and_then (λ last. option_map (λ more. Goes more Behind) (with_bits list (run_bits a last))) (register_of b)
+to_step list a (Run b) =
+    option_and_then (λ last. option_map (λ more. Goes more Behind) (with_bits list (run_bits a last)))
+    (register_of b)
 to_step list a _ = None
 
 -- what a piece does in a list, by what stands before it
@@ -230,7 +258,8 @@ abbrev pub list_of : Step → ℕ
 list_of (Goes list place) = list
 list_of (Ends list) = list
 
-abbrev pub list_by : (ℕ → Place → Option (ℕ × List Piece)) → List Piece → Option Step → Option (ℕ × List Piece)
+abbrev pub list_by : (ℕ → Place → Option (ℕ × List Piece)) → List Piece → Option Step
+    → Option (ℕ × List Piece)
 list_by on ps None = None
 list_by on ps (Some (Goes list place)) = on list place
 list_by on ps (Some (Ends list)) = Some (list, ps)
@@ -268,11 +297,20 @@ block_up _ _ = false
 
 abbrev pub block : Bool → Suffix → Register → Bool → ℕ → Bool → BlockTransfer
 block load s n w list user =
-    record { load = load; before = block_before load s; up = block_up load s; user = user; write_back = w; rn = n; list = list }
+    record {
+      load = load;
+      before = block_before load s;
+      up = block_up load s;
+      user = user;
+      write_back = w;
+      rn = n;
+      list = list;
+    }
 
 -- behind Rn and its mark: a comma, the list and its end
 abbrev pub braced : Bool → Suffix → Register → Bool → List Piece → Option BlockTransfer
-braced load s n w (Comma ∷ Sign OpenBrace ∷ ps) = option_and_then (λ f. option_map (block load s n w f.0) (caret_of f.1)) (list_behind 0 Start ps)
+braced load s n w (Comma ∷ Sign OpenBrace ∷ ps) =
+    option_and_then (λ f. option_map (block load s n w f.0) (caret_of f.1)) (list_behind 0 Start ps)
 braced load s n w _ = None
 
 abbrev pub block_based : Bool → Suffix → Register → List Piece → Option BlockTransfer

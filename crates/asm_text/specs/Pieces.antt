@@ -3,7 +3,8 @@ use Rattle.std.specs.Prelude.{◌==◌, ◌||◌, ℕ, Bool, false, List, [], �
 use Rattle.std.specs.Borrow.{Bor}
 use Rattle.std.specs.Char.{is_ascii_alphanumeric}
 use Rattle.asm_text.specs.declared.token.Mark.{Mark}
-use Rattle.asm_text.specs.declared.token.Mark.TheVariants.{Hash, Minus, Bang, Caret, Ampersand, OpenBracket, CloseBracket, OpenBrace, CloseBrace, Other}
+use Rattle.asm_text.specs.declared.token.Mark.TheVariants.{Hash, Minus, Bang, Caret, Ampersand, OpenBracket}
+use Rattle.asm_text.specs.declared.token.Mark.TheVariants.{CloseBracket, OpenBrace, CloseBrace, Other}
 use Rattle.asm_text.specs.declared.token.Token.{Token}
 use Rattle.asm_text.specs.declared.token.Token.TheVariants as code
 

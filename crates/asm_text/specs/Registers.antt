@@ -1,17 +1,22 @@
 -- The names of registers and shifts, wholly in upper or in lower case (our own source format).
-use Rattle.std.specs.Prelude.{ℕ, Bool, ◌||◌, List, [], ◌∷◌, ◌++◌, codes, Option, Some, None, map, if◌then◌else◌}
+use Rattle.std.specs.Prelude.{ℕ, Bool, ◌||◌, List, [], ◌∷◌, ◌++◌, codes, Option, Some, None, map}
+use Rattle.std.specs.Prelude.{if◌then◌else◌}
 use Rattle.std.specs.Borrow.{Bor}
 use Rattle.std.specs.Str.{bytes_eq, str_to_ascii_lowercase}
 use Rattle.asm_text.specs.Pieces.{Piece, Run, Comma}
 use Rattle.asm_text.specs.Numbers.{with_rest}
 use Rattle.arm2_decode.specs.declared.names.Register.{Register}
-use Rattle.arm2_decode.specs.declared.names.Register.TheVariants.{R0, R1, R2, R3, R4, R5, R6, R7, R8, R9, R10, R11, R12, R13, R14, R15}
+use Rattle.arm2_decode.specs.declared.names.Register.TheVariants.{R0, R1, R2, R3, R4, R5, R6, R7, R8, R9, R10}
+use Rattle.arm2_decode.specs.declared.names.Register.TheVariants.{R11, R12, R13, R14, R15}
 use Rattle.arm2_decode.specs.declared.names.Shift.{Shift}
 use Rattle.arm2_decode.specs.declared.names.Shift.TheVariants.{Lsl, Lsr, Asr, Ror}
 
 abbrev pub register_names : List (List ℕ × Register)
-register_names = (codes "R0", R0) ∷ (codes "R1", R1) ∷ (codes "R2", R2) ∷ (codes "R3", R3) ∷ (codes "R4", R4) ∷ (codes "R5", R5) ∷ (codes "R6", R6) ∷ (codes "R7", R7)
-    ∷ (codes "R8", R8) ∷ (codes "R9", R9) ∷ (codes "R10", R10) ∷ (codes "R11", R11) ∷ (codes "R12", R12) ∷ (codes "R13", R13) ∷ (codes "R14", R14) ∷ (codes "R15", R15)
+register_names =
+    (codes "R0", R0) ∷ (codes "R1", R1) ∷ (codes "R2", R2) ∷ (codes "R3", R3) ∷ (codes "R4", R4)
+    ∷ (codes "R5", R5) ∷ (codes "R6", R6) ∷ (codes "R7", R7)
+    ∷ (codes "R8", R8) ∷ (codes "R9", R9) ∷ (codes "R10", R10) ∷ (codes "R11", R11) ∷ (codes "R12", R12)
+    ∷ (codes "R13", R13) ∷ (codes "R14", R14) ∷ (codes "R15", R15)
     ∷ (codes "SP", R13) ∷ (codes "LR", R14) ∷ (codes "PC", R15) ∷ []
 
 abbrev pub shift_names : List (List ℕ × Shift)

@@ -7,7 +7,8 @@ use Rattle.asm_text.specs.declared.lines.Line.{Line}
 
 -- what a line says, its label by its bytes
 abbrev pub line_view : Line → Parsed
-line_view line = record { label = option_map (λ name. name.now) line.label; said = option_map said line.statement }
+line_view line =
+    record { label = option_map (λ name. name.now) line.label; said = option_map said line.statement }
 
 abbrev pub starts_feed : List ℕ → Bool
 starts_feed [] = false
@@ -18,10 +19,13 @@ abbrev pub in_front : ℕ → List (List ℕ) → List (List ℕ)
 in_front b [] = (b ∷ []) ∷ []
 in_front b (line ∷ lines) = (b ∷ line) ∷ lines
 
--- each LF ends a line, with a CR in front of it if there is one; what stands behind the last LF is a line if it is not empty
+-- each LF ends a line, with a CR in front of it if there is one; what stands behind the last LF is a line if
+-- it is not empty
 unfoldable pub lines_of : List ℕ → List (List ℕ)
 lines_of [] = []
-lines_of (b ∷ bs) = if b == 10 then [] ∷ lines_of bs else (if b == 13 && starts_feed bs then lines_of bs else in_front b (lines_of bs))
+lines_of (b ∷ bs) =
+    if b == 10 then [] ∷ lines_of bs
+    else (if b == 13 && starts_feed bs then lines_of bs else in_front b (lines_of bs))
 
 -- the bytes in front of the first LF
 abbrev pub feed_len : List ℕ → ℕ

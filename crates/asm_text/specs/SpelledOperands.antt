@@ -1,6 +1,7 @@
 -- How operands are spelled, from what they mean to their pieces (our own source format, over the VL86C010
 -- data sheet's assembler syntax).
-use Rattle.std.specs.Prelude.{◌≡◌, ◌⊎◌, ◌+◌, ◌-◌, ◌^◌, ◌<◌, ◌≤◌, ℕ, Bool, true, false, not, List, [], ◌∷◌, ◌++◌, codes, length, map, bit_or}
+use Rattle.std.specs.Prelude.{◌≡◌, ◌⊎◌, ◌+◌, ◌-◌, ◌^◌, ◌<◌, ◌≤◌, ℕ, Bool, true, false, not, List, [], ◌∷◌}
+use Rattle.std.specs.Prelude.{◌++◌, codes, length, map, bit_or}
 use Rattle.std.specs.Char.{is_digit}
 use Rattle.std.specs.List.{Contains, fold, list_all}
 use Rattle.std.specs.Str.Parse.{digits_value}
@@ -15,7 +16,8 @@ use Rattle.asm_text.specs.Registers.{in_both_cases, register_names, shift_names}
 use Rattle.asm_text.specs.Names.{is_compare}
 use Rattle.asm_text.specs.Operands.{block_before, block_up, compare_rd, is_move, is_s}
 use Rattle.asm_text.specs.declared.token.Mark.{Mark}
-use Rattle.asm_text.specs.declared.token.Mark.TheVariants.{Hash, Minus, Bang, Caret, Ampersand, CloseBracket, OpenBrace, CloseBrace}
+use Rattle.asm_text.specs.declared.token.Mark.TheVariants.{Hash, Minus, Bang, Caret, Ampersand, CloseBracket}
+use Rattle.asm_text.specs.declared.token.Mark.TheVariants.{OpenBrace, CloseBrace}
 use Rattle.asm_text.specs.declared.names.Suffix.{Suffix}
 use Rattle.asm_text.specs.declared.said.Amount.TheVariants as amount
 use Rattle.asm_text.specs.declared.said.Shifting.{Shifting}
@@ -40,11 +42,14 @@ pub record IsDigits (radix : ℕ) (text : List ℕ) (n : ℕ) : Type 0 where
 
 -- decimal, or hexadecimal behind 0x
 abbrev pub IsNumber : List ℕ → ℕ → Type 0
-IsNumber text n = IsDigits 10 text n ⊎ ((digits : List ℕ) × (text ≡ codes "0x" ++ digits) × IsDigits 16 digits n)
+IsNumber text n =
+    IsDigits 10 text n ⊎ ((digits : List ℕ) × (text ≡ codes "0x" ++ digits) × IsDigits 16 digits n)
 
 -- a number, or hexadecimal digits behind &
 abbrev pub SpellsNumber : ℕ → List Piece → Type 0
-SpellsNumber n ps = ((text : List ℕ) × (ps ≡ Run text ∷ []) × IsNumber text n) ⊎ ((text : List ℕ) × (ps ≡ Sign Ampersand ∷ Run text ∷ []) × IsDigits 16 text n)
+SpellsNumber n ps =
+    ((text : List ℕ) × (ps ≡ Run text ∷ []) × IsNumber text n)
+    ⊎ ((text : List ℕ) × (ps ≡ Sign Ampersand ∷ Run text ∷ []) × IsDigits 16 text n)
 
 -- a name of the table, in upper or in lower case
 abbrev pub IsRegister : List ℕ → Register → Type 0
@@ -65,20 +70,29 @@ marked false m = []
 
 -- LSL #3; RRX; LSL R2
 abbrev pub SpellsShift : Shifting → List Piece → Type 0
-SpellsShift (shifting.Amount (amount.By s n)) ps = (name : List ℕ) × (number : List Piece) × (ps ≡ Run name ∷ Gap ∷ Sign Hash ∷ number) × IsShift name s × SpellsNumber n number
+SpellsShift (shifting.Amount (amount.By s n)) ps =
+    (name : List ℕ) × (number : List Piece) × (ps ≡ Run name ∷ Gap ∷ Sign Hash ∷ number) × IsShift name s
+    × SpellsNumber n number
 SpellsShift (shifting.Amount amount.Rrx) ps = (name : List ℕ) × (ps ≡ Run name ∷ []) × IsRrx name
-SpellsShift (shifting.Register s r) ps = (name register : List ℕ) × (ps ≡ Run name ∷ Gap ∷ Run register ∷ []) × IsShift name s × IsRegister register r
+SpellsShift (shifting.Register s r) ps =
+    (name register : List ℕ) × (ps ≡ Run name ∷ Gap ∷ Run register ∷ []) × IsShift name s
+    × IsRegister register r
 
 -- behind a register: a comma and a shift, or nothing, which is LSL #0
 abbrev pub SpellsShifting : Shifting → List Piece → Type 0
-SpellsShifting s ps = ((shift : List Piece) × (ps ≡ Comma ∷ shift) × SpellsShift s shift) ⊎ ((ps ≡ []) × (s ≡ shifting.Amount (amount.By Lsl 0)))
+SpellsShifting s ps =
+    ((shift : List Piece) × (ps ≡ Comma ∷ shift) × SpellsShift s shift)
+    ⊎ ((ps ≡ []) × (s ≡ shifting.Amount (amount.By Lsl 0)))
 
 -- ---- data processing
 
 -- #n; Rm; Rm,shift
 abbrev pub SpellsOperand : Operand → List Piece → Type 0
-SpellsOperand (operand.Immediate n) ps = (number : List Piece) × (ps ≡ Sign Hash ∷ number) × SpellsNumber n number
-SpellsOperand (operand.Shifted m s) ps = (register : List ℕ) × (shift : List Piece) × (ps ≡ Run register ∷ shift) × IsRegister register m × SpellsShifting s shift
+SpellsOperand (operand.Immediate n) ps =
+    (number : List Piece) × (ps ≡ Sign Hash ∷ number) × SpellsNumber n number
+SpellsOperand (operand.Shifted m s) ps =
+    (register : List ℕ) × (shift : List Piece) × (ps ≡ Run register ∷ shift) × IsRegister register m
+    × SpellsShifting s shift
 
 -- Rn,operand of a compare, which always sets the flags
 pub record SpellsCompare (op : Opcode) (s : Suffix) (x : Data) (ps : List Piece) : Type 0 where
@@ -159,15 +173,18 @@ pub record SpellsSum (s : Suffix) (x : Product) (ps : List Piece) : Type 0 where
 
 -- #n; #-n; Rm; -Rm; with a shift by a number; whether it is added
 abbrev pub SpellsOffset : Bool → Distance → List Piece → Type 0
-SpellsOffset up (distance.Number n) ps = (number : List Piece) × (ps ≡ Sign Hash ∷ (marked (not up) Minus ++ number)) × SpellsNumber n number
+SpellsOffset up (distance.Number n) ps =
+    (number : List Piece) × (ps ≡ Sign Hash ∷ (marked (not up) Minus ++ number)) × SpellsNumber n number
 SpellsOffset up (distance.Register m a) ps =
-    (register : List ℕ) × (shift : List Piece) × (ps ≡ marked (not up) Minus ++ (Run register ∷ shift)) × IsRegister register m × SpellsShifting (shifting.Amount a) shift
+    (register : List ℕ) × (shift : List Piece) × (ps ≡ marked (not up) Minus ++ (Run register ∷ shift))
+    × IsRegister register m × SpellsShifting (shifting.Amount a) shift
 
 -- what follows the bracket where no offset stands: Rn] or Rn]!, of offset 0
 pub record SpellsBase (x : Address) (ps : List Piece) : Type 0 where
   pub rn : Register
   pub write_back : Bool
-  pub means : x ≡ record { rn = rn; before = true; up = true; write_back = write_back; distance = distance.Number 0 }
+  pub means : x
+      ≡ record { rn = rn; before = true; up = true; write_back = write_back; distance = distance.Number 0 }
   pub n : List ℕ
   pub spelled : ps ≡ Run n ∷ Sign CloseBracket ∷ marked write_back Bang
   pub n-is : IsRegister n rn
@@ -193,7 +210,8 @@ pub record SpellsAfter (user : Bool) (x : Address) (ps : List Piece) : Type 0 wh
 
 -- user rights ask the last form
 abbrev pub SpellsAddress : Bool → Address → List Piece → Type 0
-SpellsAddress user x ps = ((user ≡ false) × SpellsBase x ps) ⊎ ((user ≡ false) × SpellsBefore x ps) ⊎ SpellsAfter user x ps
+SpellsAddress user x ps =
+    ((user ≡ false) × SpellsBase x ps) ⊎ ((user ≡ false) × SpellsBefore x ps) ⊎ SpellsAfter user x ps
 
 -- ---- lists
 
@@ -201,7 +219,9 @@ SpellsAddress user x ps = ((user ≡ false) × SpellsBase x ps) ⊎ ((user ≡ f
 abbrev pub Listed : {A : Type 0} → (A → List Piece → Type 0) → List A → List Piece → Type 0
 Listed spells [] ps = ⊥
 Listed spells (a ∷ []) ps = spells a ps
-Listed spells (a ∷ b ∷ more) ps = (first rest : List Piece) × (ps ≡ first ++ (Comma ∷ rest)) × spells a first × Listed spells (b ∷ more) rest
+Listed spells (a ∷ b ∷ more) ps =
+    (first rest : List Piece) × (ps ≡ first ++ (Comma ∷ rest)) × spells a first
+    × Listed spells (b ∷ more) rest
 
 -- ---- blocks
 
@@ -209,7 +229,9 @@ Listed spells (a ∷ b ∷ more) ps = (first rest : List Piece) × (ps ≡ first
 abbrev pub SpellsRun : Register × Register → List Piece → Type 0
 SpellsRun run ps =
     ((a : List ℕ) × (ps ≡ Run a ∷ []) × IsRegister a run.0 × (run.1 ≡ run.0))
-    ⊎ ((a b : List ℕ) × (ps ≡ Run a ∷ Sign Minus ∷ Run b ∷ []) × IsRegister a run.0 × IsRegister b run.1 × (register_number run.0 ≤ register_number run.1))
+    ⊎
+    ((a b : List ℕ) × (ps ≡ Run a ∷ Sign Minus ∷ Run b ∷ []) × IsRegister a run.0 × IsRegister b run.1
+    × (register_number run.0 ≤ register_number run.1))
 
 -- the bits from the number of the first register to that of the last
 abbrev pub bits_of : Register × Register → ℕ
@@ -227,7 +249,11 @@ pub record SpellsBlock (load : Bool) (s : Suffix) (x : BlockTransfer) (ps : List
   pub n : List ℕ
   pub runs : List (Register × Register)
   pub listed : List Piece
-  pub spelled : ps ≡ Run n ∷ (marked x.write_back Bang ++ (Comma ∷ Sign OpenBrace ∷ (listed ++ (Sign CloseBrace ∷ marked x.user Caret))))
+  pub spelled : ps
+      ≡ Run n
+      ∷
+      (marked x.write_back Bang
+      ++ (Comma ∷ Sign OpenBrace ∷ (listed ++ (Sign CloseBrace ∷ marked x.user Caret))))
   pub n-is : IsRegister n x.rn
   pub runs-are : Listed SpellsRun runs listed
   pub list : x.list ≡ all_bits runs

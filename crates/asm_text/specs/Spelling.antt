@@ -1,6 +1,7 @@
 -- How a line is spelled, from what it says to its text (our own source format, over the VL86C010 data sheet's
 -- assembler syntax).
-use Rattle.std.specs.Prelude.{◌≡◌, ◌⊎◌, ◌==◌, not, ℕ, Bool, true, false, List, [], ◌∷◌, ◌++◌, Option, Some, None}
+use Rattle.std.specs.Prelude.{◌≡◌, ◌⊎◌, ◌==◌, not, ℕ, Bool, true, false, List, [], ◌∷◌, ◌++◌, Option, Some}
+use Rattle.std.specs.Prelude.{None}
 use Rattle.std.specs.List.{list_all}
 use Rattle.arm2_decode.specs.declared.names.Register.{Register}
 use Rattle.asm_text.specs.Pieces.{Piece, Run, Comma, Sign, Gap}
@@ -8,7 +9,8 @@ use Rattle.asm_text.specs.Lines.{Written, WellSpaced}
 use Rattle.asm_text.specs.Words.{IsSpelling}
 use Rattle.asm_text.specs.Said.{Target, Number, Label, Said, Codes, Refers, Orgs, Lists}
 use Rattle.asm_text.specs.Operands.{is_byte, is_user}
-use Rattle.asm_text.specs.SpelledOperands.{IsRegister, Listed, SpellsAddress, SpellsBlock, SpellsData, SpellsNumber, SpellsProduct, SpellsSum}
+use Rattle.asm_text.specs.SpelledOperands.{IsRegister, Listed, SpellsAddress, SpellsBlock, SpellsData}
+use Rattle.asm_text.specs.SpelledOperands.{SpellsNumber, SpellsProduct, SpellsSum}
 use Rattle.asm_text.specs.Statements.{Parsed, is_comment_text, is_label, is_text}
 use Rattle.asm_text.specs.declared.token.Mark.TheVariants.{OpenBracket}
 use Rattle.asm_text.specs.declared.names.Head.{Head}
@@ -62,14 +64,16 @@ SpellsAction _ _ s ps = ⊥
 -- a word with a target, behind Rd; with user rights there is none
 abbrev pub SpellsUse : Use → Head → Suffix → Target → List Piece → Type 0
 SpellsUse (use_of.Adr d) head.Adr s t ps = SpellsAt d t ps
-SpellsUse (use_of.Transfer load byte d) (head.Single l) s t ps = (load ≡ l) × (byte ≡ is_byte s) × (is_user s ≡ false) × SpellsAt d t ps
+SpellsUse (use_of.Transfer load byte d) (head.Single l) s t ps =
+    (load ≡ l) × (byte ≡ is_byte s) × (is_user s ≡ false) × SpellsAt d t ps
 SpellsUse _ _ s t ps = ⊥
 
 -- what a statement of this word says, and its operands
 abbrev pub SpellsOperands : Said → Word → List Piece → Type 0
 SpellsOperands (Codes x) (Plain h c s) ps = (x.cond ≡ c) × SpellsAction x.action h s ps
 SpellsOperands (Refers r t) (Plain h c s) ps = (r.cond ≡ c) × SpellsUse r.how h s t ps
-SpellsOperands (Refers r t) (Branch link c) ps = (r ≡ record { cond = c; how = use_of.Branch link }) × SpellsTarget t ps
+SpellsOperands (Refers r t) (Branch link c) ps =
+    (r ≡ record { cond = c; how = use_of.Branch link }) × SpellsTarget t ps
 SpellsOperands (Orgs n) Org ps = SpellsNumber n ps
 SpellsOperands (Lists values) Dcd ps = Listed SpellsTarget values ps
 SpellsOperands _ _ ps = ⊥
@@ -90,7 +94,8 @@ abbrev pub SpellsParts : Option (List ℕ) → Option Said → List Piece → Ty
 SpellsParts None None ps = ps ≡ []
 SpellsParts None (Some x) ps = (rest : List Piece) × (ps ≡ Gap ∷ rest) × SpellsSaid x rest
 SpellsParts (Some name) None ps = (ps ≡ Run name ∷ []) × (is_label name ≡ true)
-SpellsParts (Some name) (Some x) ps = (rest : List Piece) × (ps ≡ Run name ∷ Gap ∷ rest) × (is_label name ≡ true) × SpellsSaid x rest
+SpellsParts (Some name) (Some x) ps =
+    (rest : List Piece) × (ps ≡ Run name ∷ Gap ∷ rest) × (is_label name ≡ true) × SpellsSaid x rest
 
 -- nothing, or a `;` and text
 abbrev pub IsComment : List ℕ → Type 0

@@ -1,5 +1,7 @@
 -- Statements, by the pieces that spell them, and lines (our own source format).
-use Rattle.std.specs.Prelude.{ℕ, ◌==◌, ◌&&◌, ◌||◌, not, nat_le, nat_lt, Bool, true, false, List, [], ◌∷◌, Option, Some, None, Result, Ok, Err, option_map, option_and_then, if◌then◌else◌, length, take, drop}
+use Rattle.std.specs.Prelude.{ℕ, ◌==◌, ◌&&◌, ◌||◌, not, nat_le, nat_lt, Bool, true, false, List, [], ◌∷◌}
+use Rattle.std.specs.Prelude.{Option, Some, None, Result, Ok, Err, option_map, option_and_then, if◌then◌else◌}
+use Rattle.std.specs.Prelude.{length, take, drop}
 use Rattle.std.specs.Char.{is_ascii_alphabetic}
 use Rattle.std.specs.List.{list_all, prefix_len}
 use Rattle.arm2_decode.specs.declared.names.Cond.{Cond}
@@ -58,7 +60,11 @@ refers c how ps = option_map (Refers (record { cond = c; how = how })) (only_tar
 
 abbrev pub single_with : Cond → Bool → Suffix → Register → List Piece → Option Said
 single_with c load s d (Sign OpenBracket ∷ ps) =
-    option_map (λ a. Codes (record { cond = c; action = action.Single (record { load = load; byte = is_byte s; rd = d; address = a }) })) (address_of (is_user s) ps)
+    option_map
+    (λ a. Codes
+    (record
+    { cond = c; action = action.Single (record { load = load; byte = is_byte s; rd = d; address = a }) }))
+    (address_of (is_user s) ps)
 single_with c load s d ps = if is_user s then None else refers c (use_of.Transfer load (is_byte s) d) ps
 
 -- Rd and an address in brackets or a target
@@ -106,7 +112,8 @@ no_values _ = None
 -- values with commas between them
 abbrev pub values_in : Expects → List Piece → Option (List Target)
 values_in expects [] = no_values expects
-values_in expects (p ∷ ps) = option_and_then (λ f. option_map (with_value f.0) (values_in f.1 ps)) (value_step expects p)
+values_in expects (p ∷ ps) =
+    option_and_then (λ f. option_map (with_value f.0) (values_in f.1 ps)) (value_step expects p)
 
 abbrev pub dcd_said : List Piece → Option Said
 dcd_said ps = option_map Lists (values_in Start ps)
@@ -185,8 +192,8 @@ abbrev pub begins_blank_or_ends : List ℕ → Bool
 begins_blank_or_ends [] = true
 begins_blank_or_ends (b ∷ bs) = is_blank b
 
--- a word ends at a blank or with the line: what stands behind label, blanks and word, each of which may be missing, begins
--- with a blank or is nothing
+-- a word ends at a blank or with the line: what stands behind label, blanks and word, each of which may be
+-- missing, begins with a blank or is nothing
 abbrev pub word_ends : List ℕ → Bool
 word_ends text = begins_blank_or_ends (past is_name (past is_blank (past is_name text)))
 

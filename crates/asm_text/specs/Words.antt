@@ -1,5 +1,6 @@
 -- The words of the source: a head, a condition or none, and a suffix (our own source format).
-use Rattle.std.specs.Prelude.{◌≡◌, ◌||◌, ℕ, List, [], ◌∷◌, ◌++◌, codes, Bool, true, false, Option, Some, None, ◌⊎◌, map, take, drop, if◌then◌else◌}
+use Rattle.std.specs.Prelude.{◌≡◌, ◌||◌, ℕ, List, [], ◌∷◌, ◌++◌, codes, Bool, true, false, Option, Some, None}
+use Rattle.std.specs.Prelude.{◌⊎◌, map, take, drop, if◌then◌else◌}
 use Rattle.std.specs.Char.{to_ascii_uppercase, to_ascii_lowercase}
 use Rattle.std.specs.Str.{bytes_eq}
 use Rattle.arm2_decode.specs.declared.names.Cond.{Cond}
@@ -22,7 +23,8 @@ branch_name true = codes "BL"
 
 -- the text, in upper case, spells the word
 abbrev pub IsWord : List ℕ → Word → Type 0
-IsWord text (Plain h c s) = (cond : List ℕ) × IsCond cond c × (may_have h s ≡ true) × (text ≡ head_name h ++ (cond ++ suffix_name s))
+IsWord text (Plain h c s) =
+    (cond : List ℕ) × IsCond cond c × (may_have h s ≡ true) × (text ≡ head_name h ++ (cond ++ suffix_name s))
 IsWord text (Branch link c) = (cond : List ℕ) × IsCond cond c × (text ≡ branch_name link ++ cond)
 IsWord text Org = text ≡ codes "ORG"
 IsWord text Dcd = text ≡ codes "DCD"
@@ -51,7 +53,8 @@ whole_cond (c ∷ cs) = cond_of (c ∷ cs)
 
 abbrev pub linked : List ℕ → Option Word
 linked [] = None
-linked (c ∷ rest) = if bytes_eq (c ∷ []) (codes "L") then word_of_cond (Branch true) (whole_cond rest) else None
+linked (c ∷ rest) =
+    if bytes_eq (c ∷ []) (codes "L") then word_of_cond (Branch true) (whole_cond rest) else None
 
 abbrev pub branch_rest : Option Cond → List ℕ → Option Word
 branch_rest (Some c) rest = Some (Branch false c)

@@ -1,6 +1,10 @@
 ghost use Rattle.std.specs.Prelude.{◌≡◌, map, option_map};
 ghost use Rattle.asm_text.specs.Pieces.{behind, piece_of};
-ghost use Rattle.asm_text.specs.Operands.{address_of, after_of, bang_of, based as based_of, before_of, address as address_by, closed_of, plain_of, signed_offset as signed_offset_of, number_offset as number_offset_of, offset_first, register_offset as register_offset_of, whole};
+ghost use Rattle.asm_text.specs.Operands.{address_of, after_of, bang_of, based as based_of, before_of};
+ghost use Rattle.asm_text.specs.Operands.{address as address_by, closed_of, plain_of};
+ghost use Rattle.asm_text.specs.Operands.{signed_offset as signed_offset_of};
+ghost use Rattle.asm_text.specs.Operands.{number_offset as number_offset_of, offset_first};
+ghost use Rattle.asm_text.specs.Operands.{register_offset as register_offset_of, whole};
 
 use crate::number::first_number;
 use crate::operand::first_shifting;

@@ -1,7 +1,10 @@
-ghost use Rattle.std.specs.Prelude.{◌≡◌, ◌∷◌, [], ◌<◌, ◌≤◌, ◌⊎◌, MatchOption, IfOk, IfErr, Ok, Err, drop, length, map};
+ghost use Rattle.std.specs.Prelude.{◌≡◌, ◌∷◌, [], ◌<◌, ◌≤◌, ◌⊎◌, MatchOption, IfOk, IfErr, Ok, Err, drop};
+ghost use Rattle.std.specs.Prelude.{length, map};
 ghost use Rattle.std.specs.List.{list_all};
 ghost use Rattle.asm_text.specs.Pieces.{piece_of};
-ghost use Rattle.asm_text.specs.Statements.{behind_label as label_behind, body_len as body_length, is_comment_text, is_text, is_text_line as text_line, line_of, parsed};
+ghost use Rattle.asm_text.specs.Statements.{behind_label as label_behind, body_len as body_length};
+ghost use Rattle.asm_text.specs.Statements.{is_comment_text, is_text, is_text_line as text_line, line_of};
+ghost use Rattle.asm_text.specs.Statements.{parsed};
 ghost use Rattle.asm_text.specs.Source.{feed_len, line_view, lines_of, no_return};
 
 use crate::said::Statement;
@@ -57,7 +60,8 @@ fn is_text_line(text: &[u8]) -> bool
 
 fn behind_label<'a>(alloc: Global, label: &'a [u8], tokens: &[Token<'a>]) -> Result<Line<'a>, Wrong>
     ensures ok { IfOk result (λ line. label_behind label.now (map piece_of tokens.now) ≡ Ok (line_view line)) }
-    ensures err { IfErr result (λ wrong. (wrong ≡ Wrong.Memory) ⊎ (label_behind label.now (map piece_of tokens.now) ≡ Err wrong)) }
+    ensures err { IfErr result
+        (λ wrong. (wrong ≡ Wrong.Memory) ⊎ (label_behind label.now (map piece_of tokens.now) ≡ Err wrong)) }
 {
     match tokens {
         [] => Ok(Line {
@@ -77,7 +81,8 @@ fn behind_label<'a>(alloc: Global, label: &'a [u8], tokens: &[Token<'a>]) -> Res
 
 fn parse<'a>(alloc: Global, tokens: &[Token<'a>]) -> Result<Line<'a>, Wrong>
     ensures ok { IfOk result (λ line. parsed (map piece_of tokens.now) ≡ Ok (line_view line)) }
-    ensures err { IfErr result (λ wrong. (wrong ≡ Wrong.Memory) ⊎ (parsed (map piece_of tokens.now) ≡ Err wrong)) }
+    ensures err { IfErr result
+        (λ wrong. (wrong ≡ Wrong.Memory) ⊎ (parsed (map piece_of tokens.now) ≡ Err wrong)) }
 {
     match tokens {
         [] => Ok(Line {
@@ -106,9 +111,9 @@ fn parse<'a>(alloc: Global, tokens: &[Token<'a>]) -> Result<Line<'a>, Wrong>
 ///
 /// # Errors
 ///
-/// `NotText`: a byte other than 20 to 7E and a tab, or behind a `;` 80 to FF. `UnknownWord`: the first column holds
-/// neither a blank nor a label, or the text behind it is no word that ends at a blank or with the line. `BadOperand`:
-/// what stands behind the word does not belong to it. `Memory`: a growth was refused.
+/// `NotText`: a byte other than 20 to 7E and a tab, or behind a `;` 80 to FF. `UnknownWord`: the first column
+/// holds neither a blank nor a label, or the text behind it is no word that ends at a blank or with the line.
+/// `BadOperand`: what stands behind the word does not belong to it. `Memory`: a growth was refused.
 pub fn read_line<'a>(alloc: Global, text: &'a [u8]) -> Result<Line<'a>, Wrong>
     ensures ok { IfOk result (λ line. line_of text.now ≡ Ok (line_view line)) }
     ensures err { IfErr result (λ wrong. (wrong ≡ Wrong.Memory) ⊎ (line_of text.now ≡ Err wrong)) }
@@ -157,7 +162,8 @@ fn without_return(line: &[u8]) -> &[u8]
 
 /// The first line of a source, without its end, and what stands behind it. None where nothing stands.
 pub fn first_line(source: &[u8]) -> Option<(&[u8], &[u8])>
-    ensures { MatchOption result (lines_of source.now ≡ []) (λ f. (lines_of source.now ≡ f.0.now ∷ lines_of f.1.now) × (length f.1.now < length source.now)) }
+    ensures { MatchOption result (lines_of source.now ≡ [])
+        (λ f. (lines_of source.now ≡ f.0.now ∷ lines_of f.1.now) × (length f.1.now < length source.now)) }
 {
     if source.is_empty() {
         return None;

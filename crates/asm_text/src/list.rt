@@ -1,6 +1,8 @@
 ghost use Rattle.std.specs.Prelude.{◌≡◌, ◌<◌, ◌≤◌, ◌^◌, IfSome, length, map, option_map};
 ghost use Rattle.asm_text.specs.Pieces.{behind, piece_of};
-ghost use Rattle.asm_text.specs.Operands.{behind_step, block_before, block_based, block_of, block_up, braced as braced_of, caret_of, first_step, list_behind, list_of, list_step, run_bits as run_bits_of, with_bits};
+ghost use Rattle.asm_text.specs.Operands.{behind_step, block_before, block_based, block_of, block_up};
+ghost use Rattle.asm_text.specs.Operands.{braced as braced_of, caret_of, first_step, list_behind, list_of};
+ghost use Rattle.asm_text.specs.Operands.{list_step, run_bits as run_bits_of, with_bits};
 ghost use Rattle.asm_text.specs.declared.list.Place.TheVariants.{Start};
 
 use crate::names::Suffix;

@@ -1,5 +1,6 @@
 ghost use Rattle.std.specs.Prelude.{◌≡◌, length};
-ghost use Rattle.asm_text.specs.Names.{cond_name, cond_of, head_of, may_have as may_have_suffix, opcode_name, suffix_of, is_compare, is_block_suffix};
+ghost use Rattle.asm_text.specs.Names.{cond_name, cond_of, head_of, may_have as may_have_suffix, opcode_name};
+ghost use Rattle.asm_text.specs.Names.{suffix_of, is_compare, is_block_suffix};
 
 use crate::table::{name_at, named_in};
 use arm2_decode::{Cond, Opcode};

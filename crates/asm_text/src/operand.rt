@@ -1,6 +1,9 @@
 ghost use Rattle.std.specs.Prelude.{◌≡◌, map, option_map};
 ghost use Rattle.asm_text.specs.Pieces.{behind, piece_of};
-ghost use Rattle.asm_text.specs.Operands.{amount_behind, compare_of, data_behind, data_of, factors_of, is_move, is_s, compare_rd as rd_of_compare, move_of, operand_of, product_of, shift_by, shift_first, shift_words, shifting_first, sum_of, three_of, whole};
+ghost use Rattle.asm_text.specs.Operands.{amount_behind, compare_of, data_behind, data_of, factors_of};
+ghost use Rattle.asm_text.specs.Operands.{is_move, is_s, compare_rd as rd_of_compare, move_of, operand_of};
+ghost use Rattle.asm_text.specs.Operands.{product_of, shift_by, shift_first, shift_words, shifting_first};
+ghost use Rattle.asm_text.specs.Operands.{sum_of, three_of, whole};
 ghost use Rattle.asm_text.specs.Registers.{register_first};
 
 use crate::names::{Suffix, compares};

@@ -1,6 +1,7 @@
 ghost use Rattle.std.specs.Prelude.{◌≡◌, map, option_map};
 ghost use Rattle.asm_text.specs.Pieces.{behind, piece_of};
-ghost use Rattle.asm_text.specs.Registers.{is_rrx, register_comma_first, register_first, register_of, shift_of};
+ghost use Rattle.asm_text.specs.Registers.{is_rrx, register_comma_first, register_first, register_of};
+ghost use Rattle.asm_text.specs.Registers.{shift_of};
 
 use crate::table::named_in;
 use crate::token::Token;

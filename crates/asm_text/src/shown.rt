@@ -1,8 +1,11 @@
-ghost use Rattle.std.specs.Prelude.{◌≡◌, ◌++◌, ◌∷◌, ◌≤◌, [], None, Some, Ok, IfSome, IsNone, MatchOption, length, map, true};
+ghost use Rattle.std.specs.Prelude.{◌≡◌, ◌++◌, ◌∷◌, ◌≤◌, [], None, Some, Ok, IfSome, IsNone, MatchOption};
+ghost use Rattle.std.specs.Prelude.{length, map, true};
 ghost use Rattle.std.specs.List.{list_all};
 ghost use Rattle.asm_text.specs.Pieces.{piece_of, pieces, without_gap};
-ghost use Rattle.asm_text.specs.Shown.{is_shown, is_shown_text, is_upper as upper_is, parsed_shown, shown_in, shown_result, upper_pieces};
-ghost use Rattle.asm_text.specs.Statements.{behind_word as statement_behind, line_of, operands_of, or_bad, statement_of, with_word};
+ghost use Rattle.asm_text.specs.Shown.{is_shown, is_shown_text, is_upper as upper_is, parsed_shown, shown_in};
+ghost use Rattle.asm_text.specs.Shown.{shown_result, upper_pieces};
+ghost use Rattle.asm_text.specs.Statements.{behind_word as statement_behind, line_of, operands_of, or_bad};
+ghost use Rattle.asm_text.specs.Statements.{statement_of, with_word};
 ghost use Rattle.asm_text.specs.Words.{spelled_word_of};
 ghost use Rattle.asm_text.specs.Said.{said};
 ghost use Rattle.asm_text.specs.declared.shown.Shown.{Shown};
@@ -171,13 +174,14 @@ fn blank_statement(tokens: &[Token<'_>]) -> Option<Shown>
     }
 }
 
-/// Reads a line behind its blank, without memory, where it may be shown (in upper case, without a comment, of at most 64
-/// bytes) and says an instruction without a label. Every such line is read.
+/// Reads a line behind its blank, without memory, where it may be shown (in upper case, without a comment, of
+/// at most 64 bytes) and says an instruction without a label. Every such line is read.
 #[tactic(auto, using(crate::proofs::ShownLaws::upper_shown, crate::proofs::ShownLaws::short_shown, crate::proofs::ShownLaws::line_shown, crate::proofs::ShownLaws::shown_from))]
 pub fn read_shown(text: &[u8]) -> Option<Shown>
     ensures found { IfSome result (λ s. line_of (32 ∷ text.now) ≡ Ok (parsed_shown s)) }
     ensures shown { IfSome result (λ s. is_shown_text text.now ≡ true) }
-    ensures only { (s : Shown) → is_shown_text text.now ≡ true → line_of (32 ∷ text.now) ≡ Ok (parsed_shown s) → result ≡ Some s }
+    ensures only { (s : Shown) → is_shown_text text.now ≡ true → line_of (32 ∷ text.now) ≡ Ok (parsed_shown s)
+        → result ≡ Some s }
 {
     if !is_shown_line(text) {
         return None;

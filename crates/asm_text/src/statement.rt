@@ -3,7 +3,12 @@ ghost use Rattle.std.specs.List.{list_all};
 ghost use Rattle.asm_text.specs.Pieces.{is_name, piece_of};
 ghost use Rattle.asm_text.specs.Operands.{alone, is_byte, is_user};
 ghost use Rattle.asm_text.specs.Said.{said, target_of};
-ghost use Rattle.asm_text.specs.Statements.{action_of, adr_said, code_said, dcd_said, org_said, refers, behind_word as statement_behind, operands_of, only_number as only_number_of, only_target as only_target_of, is_label as label_is, plain_said, run_target as target_of_run, target_first, with_value, single_said, single_with, statement_of, value_step, values_in};
+ghost use Rattle.asm_text.specs.Statements.{action_of, adr_said, code_said, dcd_said, org_said, refers};
+ghost use Rattle.asm_text.specs.Statements.{behind_word as statement_behind, operands_of};
+ghost use Rattle.asm_text.specs.Statements.{only_number as only_number_of, only_target as only_target_of};
+ghost use Rattle.asm_text.specs.Statements.{is_label as label_is, plain_said, run_target as target_of_run};
+ghost use Rattle.asm_text.specs.Statements.{target_first, with_value, single_said, single_with, statement_of};
+ghost use Rattle.asm_text.specs.Statements.{value_step, values_in};
 ghost use Rattle.asm_text.specs.declared.statement.Expects.TheVariants.{Start};
 
 use crate::address::address;
@@ -96,7 +101,8 @@ fn only_number(tokens: &[Token<'_>]) -> Option<u32>
 
 // The number or label that some tokens begin with, and those behind it.
 fn first_target<'a, 'b>(tokens: &'a [Token<'b>]) -> Option<(Value<'b>, &'a [Token<'b>])>
-    ensures { option_map (λ f. (target_of f.0, map piece_of f.1.now)) result ≡ target_first (map piece_of tokens.now) }
+    ensures { option_map (λ f. (target_of f.0, map piece_of f.1.now)) result
+        ≡ target_first (map piece_of tokens.now) }
 {
     match tokens {
         [Token::Run(text), rest @ ..] => {
@@ -239,7 +245,8 @@ fn org<'a>(tokens: &[Token<'a>]) -> Option<Statement<'a>>
 
 // What a piece adds to a list of values, and what comes next.
 fn next_value<'a>(expects: Expects, token: Token<'a>) -> Option<(Option<Value<'a>>, Expects)>
-    ensures { option_map (λ f. (option_map target_of f.0, f.1)) result ≡ value_step expects (piece_of token.entry) }
+    ensures { option_map (λ f. (option_map target_of f.0, f.1)) result
+        ≡ value_step expects (piece_of token.entry) }
 {
     match expects {
         Expects::Start => match token {
@@ -265,7 +272,9 @@ fn next_value<'a>(expects: Expects, token: Token<'a>) -> Option<(Option<Value<'a
 }
 
 fn push_some<'a>(values: &mut Vec<Value<'a>>, value: Option<Value<'a>>) -> Result<(), AllocError>
-    ensures { OnOk result (map target_of values.new.items ≡ map target_of values.old.items ++ with_value (option_map target_of value.entry) []) }
+    ensures { OnOk result
+        (map target_of values.new.items
+        ≡ map target_of values.old.items ++ with_value (option_map target_of value.entry) []) }
 {
     if let Some(value) = value {
         values.push(value)?;
@@ -274,7 +283,8 @@ fn push_some<'a>(values: &mut Vec<Value<'a>>, value: Option<Value<'a>>) -> Resul
 }
 
 fn values<'a>(alloc: Global, tokens: &[Token<'a>]) -> Result<Option<Vec<Value<'a>>>, AllocError>
-    ensures { IfOk result (λ found. option_map (λ v. map target_of v.items) found ≡ values_in Start (map piece_of tokens.now)) }
+    ensures { IfOk result
+        (λ found. option_map (λ v. map target_of v.items) found ≡ values_in Start (map piece_of tokens.now)) }
 {
     let mut values = Vec::new(alloc);
     let mut expects = Expects::Start;
@@ -317,7 +327,8 @@ fn operands<'a>(
 
 fn behind_word<'a>(alloc: Global, word: Word, tokens: &[Token<'a>]) -> Result<Statement<'a>, Wrong>
     ensures ok { IfOk result (λ s. statement_behind word (map piece_of tokens.now) ≡ Ok (said s)) }
-    ensures err { IfErr result (λ wrong. (wrong ≡ Wrong.Memory) ⊎ (statement_behind word (map piece_of tokens.now) ≡ Err wrong)) }
+    ensures err { IfErr result
+        (λ wrong. (wrong ≡ Wrong.Memory) ⊎ (statement_behind word (map piece_of tokens.now) ≡ Err wrong)) }
 {
     match tokens {
         [Token::Gap, rest @ ..] => match operands(alloc, word, rest)? {
@@ -334,7 +345,8 @@ pub(crate) fn read_statement<'a>(
     tokens: &[Token<'a>],
 ) -> Result<Statement<'a>, Wrong>
     ensures ok { IfOk result (λ s. statement_of (map piece_of tokens.now) ≡ Ok (said s)) }
-    ensures err { IfErr result (λ wrong. (wrong ≡ Wrong.Memory) ⊎ (statement_of (map piece_of tokens.now) ≡ Err wrong)) }
+    ensures err { IfErr result
+        (λ wrong. (wrong ≡ Wrong.Memory) ⊎ (statement_of (map piece_of tokens.now) ≡ Err wrong)) }
 {
     match tokens {
         [Token::Run(text), rest @ ..] => match spelled_word(alloc, text)? {

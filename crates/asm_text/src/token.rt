@@ -1,8 +1,10 @@
-ghost use Rattle.std.specs.Prelude.{◌≡◌, ◌++◌, ◌∷◌, ◌<◌, ◌≤◌, ℕ, length, map, take, drop, MatchOption, IfOk, [], List, false};
+ghost use Rattle.std.specs.Prelude.{◌≡◌, ◌++◌, ◌∷◌, ◌<◌, ◌≤◌, ℕ, length, map, take, drop, MatchOption, IfOk};
+ghost use Rattle.std.specs.Prelude.{[], List, false};
 ghost use Rattle.std.specs.List.{prefix_len};
 ghost use Rattle.asm_text.specs.Pieces.{is_blank, is_name, mark_of, pieces, piece_of, Piece, first_blank};
 ghost use Rattle.asm_text.specs.Lines.{Written, WellSpaced};
-ghost use Rattle.asm_text.specs.Statements.{begins_blank_or_ends as blank_or_end, past, word_ends as line_word_ends};
+ghost use Rattle.asm_text.specs.Statements.{begins_blank_or_ends as blank_or_end, past};
+ghost use Rattle.asm_text.specs.Statements.{word_ends as line_word_ends};
 
 use std::alloc::{AllocError, Global};
 
@@ -162,7 +164,8 @@ pub(crate) fn next(text: &[u8]) -> Option<(Token<'_>, &[u8])>
 pub fn tokens(alloc: Global, line: &[u8]) -> Result<Vec<Token<'_>>, AllocError>
     ensures written { IfOk result (λ v. Written (map piece_of v.items) line.now) }
     ensures spaced { IfOk result (λ v. WellSpaced (map piece_of v.items)) }
-    ensures only { IfOk result (λ v. (ps : List Piece) → Written ps line.now → WellSpaced ps → map piece_of v.items ≡ ps) }
+    ensures only { IfOk result
+        (λ v. (ps : List Piece) → Written ps line.now → WellSpaced ps → map piece_of v.items ≡ ps) }
     ensures exact { IfOk result (λ v. map piece_of v.items ≡ pieces line.now) }
 {
     read_tokens(alloc, line)

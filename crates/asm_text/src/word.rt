@@ -1,5 +1,6 @@
 ghost use Rattle.std.specs.Prelude.{◌≡◌, ℕ, List, Some, IfSome, IfOk};
-ghost use Rattle.asm_text.specs.Words.{IsSpelling, IsWord, branch_of, plain_of, spelled_word_of, whole_cond, with_suffix as suffixed, is_one_case as one_case, word_of};
+ghost use Rattle.asm_text.specs.Words.{IsSpelling, IsWord, branch_of, plain_of, spelled_word_of, whole_cond};
+ghost use Rattle.asm_text.specs.Words.{with_suffix as suffixed, is_one_case as one_case, word_of};
 ghost use Rattle.asm_text.specs.Names.{suffix_of};
 ghost use Rattle.std.specs.Prelude.{◌||◌};
 ghost use Rattle.std.specs.Str.{bytes_eq};
@@ -114,7 +115,8 @@ fn read_spelling(alloc: Global, text: &[u8]) -> Result<Option<Word>, AllocError>
     }
 }
 
-/// The word that a text spells, wholly in upper or in lower case. No text spells two. Refused where memory is.
+/// The word that a text spells, wholly in upper or in lower case. No text spells two. Refused where memory
+/// is.
 pub fn spelled_word(alloc: Global, text: &[u8]) -> Result<Option<Word>, AllocError>
     ensures found { IfOk result (λ word. IfSome word (λ w. IsSpelling text.now w)) }
     ensures only { IfOk result (λ word. (w : Word) → IsSpelling text.now w → word ≡ Some w) }

@@ -3,7 +3,9 @@ use Rattle.std.specs.Prelude.{ℕ, List, [], ◌∷◌}
 use Rattle.bus_ticks.specs.declared.profile.Profile.{Profile}
 
 abbrev pub numbers_of : Profile → List ℕ
-numbers_of p = p.n ∷ p.s ∷ p.quad ∷ p.rom_0 ∷ p.rom_1 ∷ p.rom_2 ∷ p.rom_3 ∷ p.slow ∷ p.medium ∷ p.fast ∷ p.synchronous ∷ p.control ∷ p.unfitted ∷ p.internal ∷ p.burst ∷ []
+numbers_of p =
+    p.n ∷ p.s ∷ p.quad ∷ p.rom_0 ∷ p.rom_1 ∷ p.rom_2 ∷ p.rom_3 ∷ p.slow ∷ p.medium ∷ p.fast ∷ p.synchronous
+    ∷ p.control ∷ p.unfitted ∷ p.internal ∷ p.burst ∷ []
 
 -- the first profile, shaped on the cycle counts of the processor's data sheet
 abbrev pub profile_one : List ℕ

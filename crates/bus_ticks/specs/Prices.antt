@@ -1,5 +1,5 @@
--- The prices of accesses, in ticks of the 8 MHz processor (our own cycle profile, shaped on the N and S cycles of
--- the VL86C010 data sheet).
+-- The prices of accesses, in ticks of the 8 MHz processor (our own cycle profile, shaped on the N and S
+-- cycles of the VL86C010 data sheet).
 use Rattle.std.specs.Prelude.{ℕ, zero, suc, ◌+◌, ◌*◌, ◌/◌, ◌%◌, Bool, nat_lt, ◌==◌, if◌then◌else◌}
 use Rattle.bus_ticks.specs.declared.profile.Profile.{Profile}
 use Rattle.bus_ticks.specs.declared.profile.RomTimes.{RomTimes}
@@ -41,7 +41,8 @@ n_price p rom x = by_class (class_at x) p.n (rom_price p rom x) p.unfitted
 abbrev pub s_price : Profile → RomTimes → ℕ → ℕ
 s_price p rom x = by_class (class_at x) (ram_price p x) (rom_price p rom x) p.unfitted
 
--- one word of a transfer: in Ram the first word costs n, and each other follows; a store in Rom goes to a control register
+-- one word of a transfer: in Ram the first word costs n, and each other follows; a store in Rom goes to a
+-- control register
 abbrev pub word_price : Profile → RomTimes → Bool → Bool → ℕ → ℕ
 word_price p rom store first x =
     by_class
@@ -57,4 +58,5 @@ word_address address i = 4 * (address / 4 + i) % 0x4000000
 -- the first words of a block, together
 unfoldable pub block_price : Profile → RomTimes → Bool → ℕ → ℕ → ℕ
 block_price p rom store address zero = 0
-block_price p rom store address (suc k) = block_price p rom store address k + word_price p rom store (k == 0) (word_address address k)
+block_price p rom store address (suc k) =
+    block_price p rom store address k + word_price p rom store (k == 0) (word_address address k)

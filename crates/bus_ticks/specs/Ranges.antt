@@ -17,10 +17,12 @@ pub record AreInRange (numbers : List ℕ) : Type 0 where
 
 -- the dearest of the four prices of ROM, and of the four of devices
 abbrev pub rom_number : List ℕ → ℕ
-rom_number numbers = greatest (slice_index numbers 3) (slice_index numbers 4) (slice_index numbers 5) (slice_index numbers 6)
+rom_number numbers =
+    greatest (slice_index numbers 3) (slice_index numbers 4) (slice_index numbers 5) (slice_index numbers 6)
 
 abbrev pub device_number : List ℕ → ℕ
-device_number numbers = greatest (slice_index numbers 7) (slice_index numbers 8) (slice_index numbers 9) (slice_index numbers 10)
+device_number numbers =
+    greatest (slice_index numbers 7) (slice_index numbers 8) (slice_index numbers 9) (slice_index numbers 10)
 
 -- s ≤ quad ≤ n, and neither n nor ROM nor control is dearer than the dearest device
 pub record AreOrdered (numbers : List ℕ) : Type 0 where

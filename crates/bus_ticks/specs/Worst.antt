@@ -59,7 +59,8 @@ worst_n_price p x = by_class (class_at x) p.n (worst_rom p) p.unfitted
 abbrev pub worst_s_price : Profile → ℕ → ℕ
 worst_s_price p x = by_class (class_at x) (ram_price p x) (worst_rom p) p.unfitted
 
--- the greatest price of a transfer of k words: in Ram at most (k + 2) / 4 words after the first stand at multiples of 16
+-- the greatest price of a transfer of k words: in Ram at most (k + 2) / 4 words after the first stand at
+-- multiples of 16
 abbrev pub worst_block : Profile → Class → ℕ → Bool → ℕ
 worst_block p Ram k store = p.n + (k - 1) * p.s + (k + 2) / 4 * (p.quad - p.s)
 worst_block p Rom k store = if store then k * p.control else k * worst_rom p
@@ -71,4 +72,6 @@ abbrev pub worst_leave_of : Profile → Class → ℕ
 worst_leave_of p Ram = p.n + max p.quad p.unfitted
 worst_leave_of p Rom = worst_rom p + max (worst_rom p) p.quad
 worst_leave_of p Io = p.unfitted + max p.unfitted (worst_rom p)
-worst_leave_of p Any = max (max (p.n + max p.quad p.unfitted) (worst_rom p + max (worst_rom p) p.quad)) (p.unfitted + max p.unfitted (worst_rom p))
+worst_leave_of p Any =
+    max (max (p.n + max p.quad p.unfitted) (worst_rom p + max (worst_rom p) p.quad))
+    (p.unfitted + max p.unfitted (worst_rom p))

@@ -1,5 +1,6 @@
 ghost use Rattle.std.specs.Prelude.{◌≡◌, ◌<◌, ◌≤◌, ◌*◌};
-ghost use Rattle.bus_ticks.specs.Prices.{class_at, rom_price, io_price, n_price, ram_price, s_price, word_price, block_price};
+ghost use Rattle.bus_ticks.specs.Prices.{class_at, rom_price, io_price, n_price, ram_price, s_price};
+ghost use Rattle.bus_ticks.specs.Prices.{word_price, block_price};
 
 use crate::profile::{Class, Profile, RomTimes};
 

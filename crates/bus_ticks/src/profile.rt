@@ -143,7 +143,8 @@ impl Profile {
         ensures made { IfOk result (λ profile. numbers_of profile ≡ numbers) }
         ensures ok { IsOk result → AreInRange numbers × AreOrdered numbers }
         ensures out_of_range { (result ≡ Err NumbersFault.OutOfRange) ↔ ¬ AreInRange numbers }
-        ensures disordered { (result ≡ Err NumbersFault.Disordered) ↔ (AreInRange numbers × ¬ AreOrdered numbers) }
+        ensures disordered { (result ≡ Err NumbersFault.Disordered)
+            ↔ (AreInRange numbers × ¬ AreOrdered numbers) }
     {
         if !are_in_range(numbers) {
             return Err(NumbersFault::OutOfRange);

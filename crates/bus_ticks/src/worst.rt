@@ -1,7 +1,9 @@
 ghost use Rattle.std.specs.Prelude.{◌≡◌, ◌<◌, ◌≤◌, ◌*◌};
 ghost use Rattle.bus_ticks.specs.Prices.{n_price, s_price};
 ghost use Rattle.bus_ticks.specs.Ranges.{greatest};
-ghost use Rattle.bus_ticks.specs.Worst.{worst_block, worst_leave_of, worst_n_price, worst_rom, worst_s_price, IsAnyTimes, IsGreatest, IsBlockOf, IsTargetOf, transfer_price, leave_price};
+ghost use Rattle.bus_ticks.specs.Worst.{worst_block, worst_leave_of, worst_n_price, worst_rom, worst_s_price};
+ghost use Rattle.bus_ticks.specs.Worst.{IsAnyTimes, IsGreatest, IsBlockOf, IsTargetOf, transfer_price};
+ghost use Rattle.bus_ticks.specs.Worst.{leave_price};
 
 use crate::prices::{class_of, ram_following};
 use crate::profile::{Class, Profile};

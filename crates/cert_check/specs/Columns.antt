@@ -35,6 +35,8 @@ by_number flow tree value n = value (place_in flow tree n)
 -- the tables hold what the certificate states
 pub record AreTablesOf (flow : Flow) (tree : Tree) (cert : Cert) (c : Tables) : Type 0 where
   pub bound : c.bound ≡ cert.bound
-  pub distances : IsColumn (by_number flow tree (distance_in cert.places)) (length flow.places) c.distances.items
-  pub arrivals : IsColumn (by_number flow tree (arrival_in cert.instances)) (length flow.places) c.arrivals.items
+  pub distances : IsColumn (by_number flow tree (distance_in cert.places))
+      (length flow.places) c.distances.items
+  pub arrivals : IsColumn (by_number flow tree (arrival_in cert.instances))
+      (length flow.places) c.arrivals.items
   pub rounds : IsColumn (by_number flow tree (round_in cert.instances)) (length flow.places) c.rounds.items

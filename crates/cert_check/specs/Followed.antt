@@ -1,6 +1,7 @@
--- The edges that a certificate's walk stands for. Its lines name no calls: those follow from where the walk begins (our own
--- format).
-use Rattle.std.specs.Prelude.{ℕ, Bool, true, false, ◌&&◌, ◌==◌, List, [], ◌∷◌, Option, Some, option_and_then, option_map, map}
+-- The edges that a certificate's walk stands for. Its lines name no calls: those follow from where the walk
+-- begins (our own format).
+use Rattle.std.specs.Prelude.{ℕ, Bool, true, false, ◌&&◌, ◌==◌, List, [], ◌∷◌, Option, Some, option_and_then}
+use Rattle.std.specs.Prelude.{option_map, map}
 use Rattle.std.specs.List.{find}
 use Rattle.flow_graph.specs.declared.places.Place.{Place}
 use Rattle.flow_graph.specs.declared.places.Place.TheVariants as place
@@ -33,7 +34,9 @@ leads_to place.Exit (to.At b) = false
 
 -- the edge leaves the place, and has what the line says of it
 abbrev pub is_named : Place → StepLine → Edge → Bool
-is_named (place.At calls a) s e = is_at calls a e.from && (a == s.address) && is_label e.label s.label && leads_to e.to s.to && (e.cost == s.cost)
+is_named (place.At calls a) s e =
+    is_at calls a e.from && (a == s.address) && is_label e.label s.label && leads_to e.to s.to
+    && (e.cost == s.cost)
 is_named place.Exit s e = false
 
 -- the edge that a line names at a place
@@ -64,7 +67,8 @@ follow_both first rest = record { at = rest.at; opened = joined (first ∷ rest.
 -- walks in a row, each from where the one before ends
 abbrev pub follow_row : List (Place → Option Followed) → Place → Option Followed
 follow_row [] p = Some (nothing_at p)
-follow_row (walk ∷ walks) p = option_and_then (λ first. option_map (follow_both first.opened) (follow_row walks first.at)) (walk p)
+follow_row (walk ∷ walks) p =
+    option_and_then (λ first. option_map (follow_both first.opened) (follow_row walks first.at)) (walk p)
 
 abbrev pub follow_step : Flow → CertItem-F (Place → Option Followed) → Place → Option Followed
 follow_step flow (CertItem-F.Step s) p = option_map follow_edge (edge_named flow p s)

@@ -57,16 +57,18 @@ RoundsHold flow tree cert = (e : Edge) → HasEdge flow e → goes_back tree e �
 
 -- .. those of other edges that leave an instance, ..
 abbrev pub LeavesHold : Flow → Tree → Cert → Type 0
-LeavesHold flow tree cert = (e : Edge) → HasEdge flow e → goes_back tree e ≡ false → goes_out tree e ≡ true → RowHolds tree cert e
+LeavesHold flow tree cert =
+    (e : Edge) → HasEdge flow e → goes_back tree e ≡ false → goes_out tree e ≡ true → RowHolds tree cert e
 
 -- .. and those of all others
 abbrev pub EdgesHold : Flow → Tree → Cert → Type 0
-EdgesHold flow tree cert = (e : Edge) → HasEdge flow e → goes_back tree e ≡ false → goes_out tree e ≡ false → RowHolds tree cert e
+EdgesHold flow tree cert =
+    (e : Edge) → HasEdge flow e → goes_back tree e ≡ false → goes_out tree e ≡ false → RowHolds tree cert e
 
 -- ## The walk
 
--- what the walk's lines stand for from the entry is a complete walk, and each of its repeats is rounds of one instance, so
--- many times as the format allows
+-- what the walk's lines stand for from the entry is a complete walk, and each of its repeats is rounds of one
+-- instance, so many times as the format allows
 pub record IsFollowed (flow : Flow) (tree : Tree) (items : List CertItem) (walk : Followed) : Type 0 where
   pub followed_is : followed flow items flow.entry ≡ Some walk
   pub complete : IsCompleteWalk flow walk.opened.walk
@@ -75,10 +77,12 @@ pub record IsFollowed (flow : Flow) (tree : Tree) (items : List CertItem) (walk 
   pub shallow : walk.opened.depth ≤ 16
 
 abbrev pub KeepsAll : Flow → Tree → Cert → Type 0
-KeepsAll flow tree cert = (walk : Followed) → IsFollowed flow tree cert.walk walk → KeepsTree tree walk.opened.walk
+KeepsAll flow tree cert =
+    (walk : Followed) → IsFollowed flow tree cert.walk walk → KeepsTree tree walk.opened.walk
 
 abbrev pub CostsBound : Flow → Tree → Cert → Type 0
-CostsBound flow tree cert = (walk : Followed) → IsFollowed flow tree cert.walk walk → cost_of edge_shape walk.opened.walk ≡ cert.bound
+CostsBound flow tree cert =
+    (walk : Followed) → IsFollowed flow tree cert.walk walk → cost_of edge_shape walk.opened.walk ≡ cert.bound
 
 -- ## The verdict
 
@@ -97,7 +101,9 @@ Passes flow tree cert o.WalkCost = CostsBound flow tree cert
 
 -- the order of the tests
 abbrev pub objections : List Objection
-objections = o.WrongProfile ∷ o.MissingPlace ∷ o.ExtraPlace ∷ o.NumberTooLarge ∷ o.EdgeTooHeavy ∷ o.RoundTooHeavy ∷ o.LeaveTooHeavy ∷ o.BrokenWalk ∷ o.WalkOverBound ∷ o.WalkCost ∷ []
+objections =
+    o.WrongProfile ∷ o.MissingPlace ∷ o.ExtraPlace ∷ o.NumberTooLarge ∷ o.EdgeTooHeavy ∷ o.RoundTooHeavy
+    ∷ o.LeaveTooHeavy ∷ o.BrokenWalk ∷ o.WalkOverBound ∷ o.WalkCost ∷ []
 
 -- those that the prices and the list of rows can meet
 abbrev pub presence_objections : List Objection
@@ -114,7 +120,8 @@ walk_objections = o.BrokenWalk ∷ o.WalkOverBound ∷ o.WalkCost ∷ []
 -- No with the first of these that is not passed, and Yes where all are
 abbrev pub IsFirstOf : Flow → Tree → Cert → List Objection → Verdict → Type 0
 IsFirstOf flow tree cert [] v = v ≡ Yes
-IsFirstOf flow tree cert (x ∷ rest) v = ((v ≡ No x) × (Passes flow tree cert x → ⊥)) ⊎ (Passes flow tree cert x × IsFirstOf flow tree cert rest v)
+IsFirstOf flow tree cert (x ∷ rest) v =
+    ((v ≡ No x) × (Passes flow tree cert x → ⊥)) ⊎ (Passes flow tree cert x × IsFirstOf flow tree cert rest v)
 
 abbrev pub IsVerdict : Flow → Tree → Cert → Verdict → Type 0
 IsVerdict flow tree cert v = IsFirstOf flow tree cert objections v

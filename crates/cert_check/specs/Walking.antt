@@ -1,5 +1,7 @@
 -- What following a certificate's walk tells of it (our own).
-use Rattle.std.specs.Prelude.{◌≡◌, ℕ, ◌+◌, ◌-◌, ◌*◌, ◌<◌, ◌≤◌, ◌^◌, min, Bool, true, false, cond, nat_lt, ◌||◌, List, ◌++◌, length, replicate, slice_index, slice_index_or, slice_set, All, Contains, Option, Some, None}
+use Rattle.std.specs.Prelude.{◌≡◌, ℕ, ◌+◌, ◌-◌, ◌*◌, ◌<◌, ◌≤◌, ◌^◌, min, Bool, true, false, cond, nat_lt}
+use Rattle.std.specs.Prelude.{◌||◌, List, ◌++◌, length, replicate, slice_index, slice_index_or, slice_set}
+use Rattle.std.specs.Prelude.{All, Contains, Option, Some, None}
 use Rattle.walks.specs.Walk.{Leads}
 use Rattle.walks.specs.Segments.{tail}
 use Rattle.flow_graph.specs.declared.places.Place.{Place}
@@ -31,10 +33,12 @@ capped n = min n (2 ^ 64)
 abbrev pub turns_at_end : Span → List NumberedEdge → ℕ
 turns_at_end s walk = tail (is_inside s) (ends_at_header s) walk
 
--- its cost; the back edges of its stay in each instance where it stands; and whether a stay has more of them than the bound
+-- its cost; the back edges of its stay in each instance where it stands; and whether a stay has more of them
+-- than the bound
 pub record Tells (spans : List Span) (x : Walker) (walk : List NumberedEdge) : Type 0 where
   pub cost_is : x.cost ≡ capped (O.cost_of walk)
-  pub turns_are : (s : Span) → Contains spans s → is_in s x.number ≡ true → slice_index x.turns.items s.header ≡ capped (turns_at_end s walk)
+  pub turns_are : (s : Span) → Contains spans s → is_in s x.number ≡ true
+      → slice_index x.turns.items s.header ≡ capped (turns_at_end s walk)
   pub broken : x.over ≡ true → (s : Span) × Contains spans s × (s.bound < most_in s walk)
   pub kept : x.over ≡ false → (s : Span) → Contains spans s → most_in s walk ≤ s.bound
 
@@ -60,7 +64,8 @@ abbrev pub breaks : Option Span → ℕ → Bool
 breaks None turns = false
 breaks (Some s) turns = nat_lt s.bound turns
 
--- the back edges of the stay at the header after an edge from this number: one more, or none where the edge enters
+-- the back edges of the stay at the header after an edge from this number: one more, or none where the edge
+-- enters
 abbrev pub turns_after : Option Span → ℕ → ℕ → ℕ
 turns_after None from turns = 0
 turns_after (Some s) from turns = cond (is_in s from) (capped (turns + 1)) 0
@@ -69,7 +74,8 @@ turns_after (Some s) from turns = cond (is_in s from) (capped (turns + 1)) 0
 abbrev pub gained : ℕ → ℕ → ℕ → ℕ
 gained before after count = capped (capped before + count * (capped after - before))
 
--- it stands at the number with this cost, and with these back edges of the stay in the instance that begins there
+-- it stands at the number with this cost, and with these back edges of the stay in the instance that begins
+-- there
 pub record Arrives (headers : List (Option Span)) (number cost turns : ℕ) (old new : Walker) : Type 0 where
   pub number_is : new.number ≡ number
   pub cost_is : new.cost ≡ cost
@@ -102,7 +108,8 @@ pub record AreRounds (flow : Flow) (tree : Tree) (levels : ℕ) (o : Opened) : T
   pub shallow : o.depth ≤ levels
 
 -- the lines stand for a walk inside the span, of at least so many edges, that was followed
-pub record IsTaken (flow : Flow) (tree : Tree) (index : Index) (within : Span) (levels least : ℕ) (lines : Place → Option Followed) (old new : Walker) : Type 0 where
+pub record IsTaken (flow : Flow) (tree : Tree) (index : Index) (within : Span) (levels least : ℕ)
+    (lines : Place → Option Followed) (old new : Walker) : Type 0 where
   pub walk : Followed
   pub numbers : List ℕ
   pub walk_is : lines (place_in flow tree old.number) ≡ Some walk
@@ -118,16 +125,23 @@ pub record IsTaken (flow : Flow) (tree : Tree) (index : Index) (within : Span) (
 
 -- the edge ends in the span
 abbrev pub EndsIn : Flow → Tree → Span → Edge → Type 0
-EndsIn flow tree within e = (n : ℕ) → n ≤ length flow.places → place_in flow tree n ≡ e.to → is_in within n ≡ true
+EndsIn flow tree within e =
+    (n : ℕ) → n ≤ length flow.places → place_in flow tree n ≡ e.to → is_in within n ≡ true
 
 -- the lines stand for no walk from the number that stays in the span and whose repeats are as they have to be
 abbrev pub IsRefused : Flow → Tree → Span → ℕ → (Place → Option Followed) → ℕ → Type 0
-IsRefused flow tree within levels lines n = (f : Followed) (q : Place) → lines (place_in flow tree n) ≡ Some f → Leads edge_shape (HasEdge flow) (place_in flow tree n) f.opened.walk q → All (EndsIn flow tree within) f.opened.walk → AreRounds flow tree levels f.opened → ⊥
+IsRefused flow tree within levels lines n =
+    (f : Followed) (q : Place) → lines (place_in flow tree n) ≡ Some f
+    → Leads edge_shape (HasEdge flow) (place_in flow tree n) f.opened.walk q
+    → All (EndsIn flow tree within) f.opened.walk → AreRounds flow tree levels f.opened → ⊥
 
 -- by whether the lines were followed
-abbrev pub Follows : Flow → Tree → Index → Span → ℕ → ℕ → (Place → Option Followed) → Walker → Walker → Bool → Type 0
-Follows flow tree index within levels least lines old new true = IsTaken flow tree index within levels least lines old new
-Follows flow tree index within levels least lines old new false = IsRefused flow tree within levels lines old.number
+abbrev pub Follows : Flow → Tree → Index → Span → ℕ → ℕ → (Place → Option Followed) → Walker → Walker → Bool
+    → Type 0
+Follows flow tree index within levels least lines old new true =
+    IsTaken flow tree index within levels least lines old new
+Follows flow tree index within levels least lines old new false =
+    IsRefused flow tree within levels lines old.number
 
 -- the whole graph as a span
 abbrev pub whole : Flow → Span
@@ -136,7 +150,8 @@ whole flow = record { header = 0; last = length flow.places; bound = 0 }
 -- ## A repeat
 
 -- what a repeat of so many lines begins with: the instance whose header it stands at, and what is told there
-pub record Begins (headers : List (Option Span)) (x : Walker) (levels count lines : ℕ) (r : Round) : Type 0 where
+pub record Begins (headers : List (Option Span)) (x : Walker) (levels count lines : ℕ)
+    (r : Round) : Type 0 where
   pub span_is : header_at headers x.number ≡ Some r.span
   pub cost_is : r.cost ≡ x.cost
   pub turns_are : r.turns ≡ slice_index x.turns.items x.number
@@ -147,4 +162,6 @@ pub record Begins (headers : List (Option Span)) (x : Walker) (levels count line
 
 -- none may begin
 abbrev pub CannotBegin : List (Option Span) → Walker → ℕ → ℕ → ℕ → Type 0
-CannotBegin headers x levels count lines = (s : Span) → header_at headers x.number ≡ Some s → 0 < levels → 0 < count → count ≤ 1048576 → 0 < lines → ⊥
+CannotBegin headers x levels count lines =
+    (s : Span) → header_at headers x.number ≡ Some s → 0 < levels → 0 < count → count ≤ 1048576 → 0 < lines
+    → ⊥

@@ -32,12 +32,14 @@ abbrev pub RowFits : Tree → Cert → Edge → Type 0
 RowFits tree cert e = rows.RowFits edge_shape place_loops tree.instances (potentials cert) is_exit e
 
 abbrev pub EdgePasses : Tree → Cert → RowTest → Edge → Type 0
-EdgePasses tree cert test e = Asks test (RowFits tree cert e) (RowHolds tree cert e) (goes_back tree e) (goes_out tree e)
+EdgePasses tree cert test e =
+    Asks test (RowFits tree cert e) (RowHolds tree cert e) (goes_back tree e) (goes_out tree e)
 
 -- ## By number
 
 abbrev pub NumberHolds : ℕ → List Span → Tables → NumberedEdge → Type 0
-NumberHolds exit spans c e = rows.RowHolds number_shape span_loops spans (T.potentials_of c) (T.is_exit exit) e
+NumberHolds exit spans c e =
+    rows.RowHolds number_shape span_loops spans (T.potentials_of c) (T.is_exit exit) e
 
 abbrev pub NumberFits : ℕ → List Span → Tables → NumberedEdge → Type 0
 NumberFits exit spans c e = rows.RowFits number_shape span_loops spans (T.potentials_of c) (T.is_exit exit) e
@@ -46,7 +48,8 @@ abbrev pub leaves : List Span → NumberedEdge → Bool
 leaves spans e = list_any (rows.is_left number_shape span_loops e) spans
 
 abbrev pub NumberPasses : ℕ → List Span → Tables → RowTest → NumberedEdge → Type 0
-NumberPasses exit spans c test e = Asks test (NumberFits exit spans c e) (NumberHolds exit spans c e) (not (is_up e)) (leaves spans e)
+NumberPasses exit spans c test e =
+    Asks test (NumberFits exit spans c e) (NumberHolds exit spans c e) (not (is_up e)) (leaves spans e)
 
 -- the index knows the ends of the edge
 pub record CanWeigh (spans : List Span) (index : Index) (e : NumberedEdge) : Type 0 where

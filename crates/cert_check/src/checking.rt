@@ -18,10 +18,11 @@ use flow_graph::{Graph, Place};
 use loop_bounds::LoopTree;
 use std::alloc::Global;
 
-/// Checks a certificate, whoever wrote it, whose rows ascend, as those of each certificate that is read do: of all
-/// objections the first that applies, in the order `WrongProfile`, `MissingPlace`, `ExtraPlace`, `NumberTooLarge`,
-/// `EdgeTooHeavy`, `RoundTooHeavy`, `LeaveTooHeavy`, `BrokenWalk`, `WalkOverBound`, `WalkCost`, else `Yes`. Where it answers
-/// `Yes`, the certificate's bound, in ticks, is the greatest cost of a complete walk that keeps the loop bounds.
+/// Checks a certificate, whoever wrote it, whose rows ascend, as those of each certificate that is read do:
+/// of all objections the first that applies, in the order `WrongProfile`, `MissingPlace`, `ExtraPlace`,
+/// `NumberTooLarge`, `EdgeTooHeavy`, `RoundTooHeavy`, `LeaveTooHeavy`, `BrokenWalk`, `WalkOverBound`,
+/// `WalkCost`, else `Yes`. Where it answers `Yes`, the certificate's bound, in ticks, is the greatest cost of
+/// a complete walk that keeps the loop bounds.
 ///
 /// # Errors
 ///
@@ -35,7 +36,9 @@ pub fn check(
     requires tree { IsTree graph.now tree.now }
     requires ascending { Ascends cert.now }
     ensures verdict { IfOk result (IsVerdict graph.now tree.now cert.now) }
-    ensures greatest { result ≡ Ok Verdict.Yes → IsGreatest edge_shape (HasEdge graph.now) (KeepsTree tree.now) graph.now.entry Place.Exit cert.now.bound }
+    ensures greatest { result ≡ Ok Verdict.Yes
+        → IsGreatest edge_shape (HasEdge graph.now)
+        (KeepsTree tree.now) graph.now.entry Place.Exit cert.now.bound }
 {
     let exit = graph.places().len();
     let presence = check_presence(alloc, graph, tree, cert)?;

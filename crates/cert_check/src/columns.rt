@@ -62,7 +62,9 @@ fn distances(
 ) -> Result<Vec<u64>, AllocError>
     requires tree { IsTree graph.now tree.now }
     requires ascending { IsStrictlySortedBy place_cmp (map place_of_row rows.now) }
-    ensures { IfOk result (λ column. IsColumn (by_number graph.now tree.now (distance_in rows.now)) (length graph.now.places) column.items) }
+    ensures { IfOk result
+        (λ column. IsColumn (by_number graph.now tree.now (distance_in rows.now))
+        (length graph.now.places) column.items) }
 {
     let size = graph.places().len();
     let mut column = Vec::with_capacity(alloc, size)?;
@@ -80,7 +82,9 @@ fn arrivals(
 ) -> Result<Vec<u64>, AllocError>
     requires tree { IsTree graph.now tree.now }
     requires ascending { IsStrictlySortedBy place_cmp (map header_of_row rows.now) }
-    ensures { IfOk result (λ column. IsColumn (by_number graph.now tree.now (arrival_in rows.now)) (length graph.now.places) column.items) }
+    ensures { IfOk result
+        (λ column. IsColumn (by_number graph.now tree.now (arrival_in rows.now))
+        (length graph.now.places) column.items) }
 {
     let size = graph.places().len();
     let mut column = Vec::with_capacity(alloc, size)?;
@@ -98,7 +102,9 @@ fn rounds(
 ) -> Result<Vec<u64>, AllocError>
     requires tree { IsTree graph.now tree.now }
     requires ascending { IsStrictlySortedBy place_cmp (map header_of_row rows.now) }
-    ensures { IfOk result (λ column. IsColumn (by_number graph.now tree.now (round_in rows.now)) (length graph.now.places) column.items) }
+    ensures { IfOk result
+        (λ column. IsColumn (by_number graph.now tree.now (round_in rows.now))
+        (length graph.now.places) column.items) }
 {
     let size = graph.places().len();
     let mut column = Vec::with_capacity(alloc, size)?;

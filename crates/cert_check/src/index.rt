@@ -6,7 +6,8 @@ ghost use Rattle.cert_check.specs.Index.{EndsBefore, IsIndex};
 use numbered_walks::Span;
 use std::alloc::{AllocError, Global};
 
-/// Which instances hold each number, and which begins there: the checker's own, built from the tree's spans alone.
+/// Which instances hold each number, and which begins there: the checker's own, built from the tree's spans
+/// alone.
 #[derive(Drop)]
 pub(crate) struct Index {
     /// The spans that hold each number, in their order.
@@ -30,7 +31,9 @@ fn no_holders(alloc: Global, size: usize) -> Result<Vec<Vec<Span>>, AllocError>
 fn note_at(held: &mut Vec<Vec<Span>>, span: &Span, number: usize) -> Result<(), AllocError>
     requires { number < length held.old.items }
     ensures length { length held.new.items ≡ length held.old.items }
-    ensures noted { IfOk result (λ _. (seen : List Span) → span.now.header ≤ number → AreHeldTo seen span.now number held.old.items → AreHeldTo seen span.now (number + 1) held.new.items) }
+    ensures noted { IfOk result
+        (λ _. (seen : List Span) → span.now.header ≤ number → AreHeldTo seen span.now number held.old.items
+        → AreHeldTo seen span.now (number + 1) held.new.items) }
 {
     held[number].push(*span)?;
     Ok(())
@@ -41,7 +44,9 @@ fn note(held: &mut Vec<Vec<Span>>, span: &Span) -> Result<(), AllocError>
     requires known { span.now.header ≤ span.now.last }
     requires inside { span.now.last + 1 < length held.old.items }
     ensures length { length held.new.items ≡ length held.old.items }
-    ensures noted { IfOk result (λ _. (seen : List Span) → AreHolders seen held.old.items → AreHolders (seen ++ span.now ∷ []) held.new.items) }
+    ensures noted { IfOk result
+        (λ _. (seen : List Span) → AreHolders seen held.old.items
+        → AreHolders (seen ++ span.now ∷ []) held.new.items) }
 {
     for number in span.header..span.last + 1 {
         note_at(held, span, number)?;
@@ -76,8 +81,8 @@ fn headers(alloc: Global, spans: &[Span], exit: usize) -> Result<Vec<Option<Span
 }
 
 impl Index {
-    /// The index of the numbers up to that of Exit, in time linear in the numbers that the spans hold. `AllocError`: a
-    /// growth was refused.
+    /// The index of the numbers up to that of Exit, in time linear in the numbers that the spans hold.
+    /// `AllocError`: a growth was refused.
     pub(crate) fn of(alloc: Global, spans: &[Span], exit: usize) -> Result<Index, AllocError>
         requires ended { All (EndsBefore exit) spans.now }
         requires small { exit < 2 ^ 32 }

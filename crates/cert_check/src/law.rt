@@ -14,14 +14,20 @@ ghost use Rattle.cert_check.specs.declared.verdict.Verdict.TheVariants.{Yes};
 ghost use Rattle.cert_check.specs.Verdict.{IsVerdict};
 ghost use Rattle.std.specs.Prelude.{◌≡◌};
 
-/// States that the verdict Yes on a certificate, whoever wrote it, means that its bound is the greatest cost of a complete
-/// walk that keeps the bounds. It does nothing.
+/// States that the verdict Yes on a certificate, whoever wrote it, means that its bound is the greatest cost
+/// of a complete walk that keeps the bounds. It does nothing.
 #[tactic(auto, using(crate::proofs::YesLemmas::yes_is_greatest))]
 pub fn yes_means_greatest()
-    ensures { (flow : Flow) (tree : Tree) (cert : Cert) → IsWellFormed flow → IsTree flow tree → IsVerdict flow tree cert Yes → IsGreatest edge_shape (HasEdge flow) (KeepsTree tree) flow.entry Exit cert.bound }
+    ensures { (flow : Flow) (tree : Tree) (cert : Cert) → IsWellFormed flow → IsTree flow tree
+        → IsVerdict flow tree cert Yes
+        → IsGreatest edge_shape (HasEdge flow) (KeepsTree tree) flow.entry Exit cert.bound }
 {}
 
-/// States that the certificate of a greatest walk has the verdict Yes, as it is or once written and read. It does nothing.
+/// States that the certificate of a greatest walk has the verdict Yes, as it is or once written and read. It
+/// does nothing.
 pub fn longest_gets_yes()
-    ensures { (words : Words) (stated : Stated) (profile : Profile) (flow : Flow) (tree : Tree) (l : Longest) (cert : Cert) → IsFlowGraph words stated profile flow → IsWellFormed flow → IsTree flow tree → IsLongest flow tree l → said_by cert ≡ said_of l → IsVerdict flow tree cert Yes }
+    ensures { (words : Words) (stated : Stated) (profile : Profile) (flow : Flow) (tree : Tree) (l : Longest)
+        (cert : Cert)
+        → IsFlowGraph words stated profile flow → IsWellFormed flow → IsTree flow tree
+        → IsLongest flow tree l → said_by cert ≡ said_of l → IsVerdict flow tree cert Yes }
 {}

@@ -1,5 +1,5 @@
-//! The checker of certificates: whether the numbers and the walk of a certificate, whoever wrote it, prove that its bound
-//! is the greatest cost of a complete walk that keeps the loop bounds.
+//! The checker of certificates: whether the numbers and the walk of a certificate, whoever wrote it, prove
+//! that its bound is the greatest cost of a complete walk that keeps the loop bounds.
 //!
 //! With the crates that find walks it shares types and definitions, and calls no function of theirs.
 #![tactic(auto)]

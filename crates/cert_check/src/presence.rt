@@ -95,7 +95,8 @@ impl Listing {
     // What the certificate has rows for.
     fn of_rows(alloc: Global, cert: &Cert) -> Result<Listing, AllocError>
         requires ascending { Ascends cert.now }
-        ensures { IfOk result (IsListing (map place_of_row cert.now.places) (map header_of_row cert.now.instances)) }
+        ensures { IfOk result
+            (IsListing (map place_of_row cert.now.places) (map header_of_row cert.now.instances)) }
     {
         Ok(Listing {
             places: places_of(alloc, cert.places.items())?,
@@ -107,7 +108,10 @@ impl Listing {
     fn covers(&self, other: &Listing) -> bool
         requires places { IsSorted place_cmp self.now.places.items }
         requires headers { IsSorted place_cmp self.now.headers.items }
-        ensures { IsTrue result ↔ (HasAll other.now.places.items self.now.places.items × HasAll other.now.headers.items self.now.headers.items) }
+        ensures { IsTrue result
+            ↔
+            (HasAll other.now.places.items self.now.places.items
+            × HasAll other.now.headers.items self.now.headers.items) }
     {
         has_all(&other.places, &self.places) && has_all(&other.headers, &self.headers)
     }

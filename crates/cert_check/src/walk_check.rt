@@ -42,7 +42,8 @@ fn follow_lines(
     requires tree { IsTree graph.now tree.now }
     requires indexed { IsIndex (length graph.now.places) tree.now.spans index.now }
     requires fresh { IsFresh (length graph.now.places) walker.old }
-    ensures { Follows graph.now tree.now index.now (whole graph.now) 16 (length cert.now.walk) (followed graph.now cert.now.walk) walker.old walker.new result }
+    ensures { Follows graph.now tree.now index.now (whole graph.now) 16 (length cert.now.walk)
+        (followed graph.now cert.now.walk) walker.old walker.new result }
 {
     let whole = Span {
         header: 0,
@@ -84,9 +85,9 @@ fn verdict_on_walk(
     Verdict::Yes
 }
 
-/// Follows a certificate's walk, each repeat once: of the objections `BrokenWalk`, `WalkOverBound` and `WalkCost` the first
-/// that applies, else `Yes`. The index is that of the tree. It takes time linear in the lines of the walk, a step as many
-/// times as its place has edges.
+/// Follows a certificate's walk, each repeat once: of the objections `BrokenWalk`, `WalkOverBound` and
+/// `WalkCost` the first that applies, else `Yes`. The index is that of the tree. It takes time linear in the
+/// lines of the walk, a step as many times as its place has edges.
 ///
 /// # Errors
 ///

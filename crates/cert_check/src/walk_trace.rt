@@ -1,7 +1,8 @@
 ghost use Rattle.std.specs.Prelude.{◌≡◌, ◌<◌, ◌≤◌, ℕ, length, option_map, IfSome, MatchOption};
 ghost use Rattle.loop_bounds.specs.Tree.{IsTree, place_in};
 ghost use Rattle.longest_walk.specs.Built.{step_at};
-ghost use Rattle.cert_check.specs.Followed.{edge_named, follow_edge, follow_item, followed, is_label, is_named, leads_to};
+ghost use Rattle.cert_check.specs.Followed.{edge_named, follow_edge, follow_item, followed, is_label};
+ghost use Rattle.cert_check.specs.Followed.{is_named, leads_to};
 ghost use Rattle.cert_check.specs.Walking.{Begins, CanFollow, CannotBegin, Follows, IsPartOf};
 
 use crate::index::Index;
@@ -61,7 +62,8 @@ fn part(graph: &Graph, tree: &LoopTree, number: usize) -> (usize, usize)
 fn named_edge(graph: &Graph, tree: &LoopTree, number: usize, line: &StepLine) -> Option<usize>
     requires tree { IsTree graph.now tree.now }
     requires known { number ≤ length graph.now.places }
-    ensures found { option_map (step_at graph.now.edges) result ≡ edge_named graph.now (place_in graph.now tree.now number) line.now }
+    ensures found { option_map (step_at graph.now.edges) result
+        ≡ edge_named graph.now (place_in graph.now tree.now number) line.now }
     ensures inside { IfSome result (λ k. k < length graph.now.edges) }
 {
     if number == graph.places().len() {
@@ -76,8 +78,8 @@ fn named_edge(graph: &Graph, tree: &LoopTree, number: usize, line: &StepLine) ->
     None
 }
 
-// Follows the edge that the line names, if there is one and it ends inside the span. No level is asked, as no repeat stands
-// here.
+// Follows the edge that the line names, if there is one and it ends inside the span. No level is asked, as no
+// repeat stands here.
 fn follow_step(
     graph: &Graph,
     tree: &LoopTree,
@@ -87,7 +89,9 @@ fn follow_step(
     line: &StepLine,
 ) -> bool
     requires { CanFollow graph.now tree.now index.now within.now walker.old }
-    ensures { (levels : ℕ) → Follows graph.now tree.now index.now within.now levels 1 (λ p. option_map follow_edge (edge_named graph.now p line.now)) walker.old walker.new result }
+    ensures { (levels : ℕ)
+        → Follows graph.now tree.now index.now within.now levels 1
+        (λ p. option_map follow_edge (edge_named graph.now p line.now)) walker.old walker.new result }
 {
     let Some(number) = named_edge(graph, tree, walker.number, line) else {
         return false;
@@ -110,7 +114,9 @@ fn begin(
 ) -> Option<Round>
     requires known { walker.now.number < length index.now.headers.items }
     requires room { walker.now.number < length walker.now.turns.items }
-    ensures { MatchOption result (CannotBegin index.now.headers.items walker.now levels count (length body.now)) (Begins index.now.headers.items walker.now levels count (length body.now)) }
+    ensures { MatchOption result
+        (CannotBegin index.now.headers.items walker.now levels count (length body.now))
+        (Begins index.now.headers.items walker.now levels count (length body.now)) }
 {
     if levels == 0 || count == 0 || count > 1_048_576 || body.is_empty() {
         return None;
@@ -137,7 +143,8 @@ fn follow_one(
     item: &CertItem,
 ) -> bool
     requires { CanFollow graph.now tree.now index.now within.now walker.old }
-    ensures { Follows graph.now tree.now index.now within.now levels 1 (follow_item graph.now item.now) walker.old walker.new result }
+    ensures { Follows graph.now tree.now index.now within.now levels 1
+        (follow_item graph.now item.now) walker.old walker.new result }
 {
     match item {
         CertItem::Step(line) => follow_step(graph, tree, index, within, walker, line),
@@ -157,8 +164,8 @@ fn follow_one(
     }
 }
 
-/// Follows the lines from where the walker stands, inside the span and with repeats `levels` deep at most, each repeat
-/// once: whether they are such a walk.
+/// Follows the lines from where the walker stands, inside the span and with repeats `levels` deep at most,
+/// each repeat once: whether they are such a walk.
 #[cycle(walk)]
 pub(crate) fn follow_all(
     graph: &Graph,
@@ -170,7 +177,8 @@ pub(crate) fn follow_all(
     items: &[CertItem],
 ) -> bool
     requires { CanFollow graph.now tree.now index.now within.now walker.old }
-    ensures { Follows graph.now tree.now index.now within.now levels (length items.now) (followed graph.now items.now) walker.old walker.new result }
+    ensures { Follows graph.now tree.now index.now within.now levels (length items.now)
+        (followed graph.now items.now) walker.old walker.new result }
 {
     for item in items {
         if !follow_one(graph, tree, index, within, levels, walker, item) {

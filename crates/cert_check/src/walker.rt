@@ -14,8 +14,8 @@ pub(crate) struct Walker {
     pub(crate) number: usize,
     /// What it costs, in ticks, told up to 2^64.
     pub(crate) cost: u128,
-    /// By the numbers of headers, the back edges of its stay in each instance where it stands, told up to 2^64. What is told
-    /// of other instances means nothing.
+    /// By the numbers of headers, the back edges of its stay in each instance where it stands, told up to
+    /// 2^64. What is told of other instances means nothing.
     pub(crate) turns: Vec<u128>,
     /// Whether some stay took more back edges than the bound.
     pub(crate) over: bool,
@@ -67,7 +67,9 @@ impl Walker {
     fn turns_along(&self, headers: &[Option<Span>], edge: &NumberedEdge) -> u128
         requires known { edge.now.to < length headers.now }
         requires room { edge.now.to < length self.now.turns.items }
-        ensures { result ≡ turns_after (header_at headers.now edge.now.to) edge.now.from (slice_index self.now.turns.items edge.now.to) }
+        ensures { result
+            ≡ turns_after (header_at headers.now edge.now.to) edge.now.from
+            (slice_index self.now.turns.items edge.now.to) }
     {
         match headers[edge.to] {
             Some(span) => {
@@ -96,7 +98,9 @@ impl Walker {
     pub(crate) fn take(&mut self, headers: &[Option<Span>], edge: &NumberedEdge)
         requires known { edge.now.to < length headers.now }
         requires room { edge.now.to < length self.old.turns.items }
-        ensures { Arrives headers.now edge.now.to (capped (self.old.cost + edge.now.cost)) (turns_after (header_at headers.now edge.now.to) edge.now.from (slice_index self.old.turns.items edge.now.to)) self.old self.new }
+        ensures { Arrives headers.now edge.now.to (capped (self.old.cost + edge.now.cost))
+            (turns_after (header_at headers.now edge.now.to) edge.now.from
+            (slice_index self.old.turns.items edge.now.to)) self.old self.new }
     {
         let cost = capped_sum(self.cost, edge.cost);
         let turns = self.turns_along(headers, edge);
@@ -107,7 +111,9 @@ impl Walker {
     pub(crate) fn repeat(&mut self, headers: &[Option<Span>], round: &Round, count: u32)
         requires known { self.old.number < length headers.now }
         requires room { self.old.number < length self.old.turns.items }
-        ensures { Arrives headers.now self.old.number (gained round.now.cost self.old.cost count) (gained round.now.turns (slice_index self.old.turns.items self.old.number) count) self.old self.new }
+        ensures { Arrives headers.now self.old.number (gained round.now.cost self.old.cost count)
+            (gained round.now.turns
+            (slice_index self.old.turns.items self.old.number) count) self.old self.new }
     {
         let number = self.number;
         let cost = gain(round.cost, self.cost, count);

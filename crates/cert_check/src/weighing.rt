@@ -1,9 +1,11 @@
-ghost use Rattle.std.specs.Prelude.{◌≡◌, ◌≢◌, ◌↔◌, ◌<◌, ◌≤◌, ◌^◌, ℕ, IsTrue, AllPairs, MatchOption, length, nat_eq, not};
+ghost use Rattle.std.specs.Prelude.{◌≡◌, ◌≢◌, ◌↔◌, ◌<◌, ◌≤◌, ◌^◌, ℕ, IsTrue, AllPairs, MatchOption, length};
+ghost use Rattle.std.specs.Prelude.{nat_eq, not};
 ghost use Rattle.std.specs.List.{find, list_any};
 ghost use Rattle.walks.specs.Rows.{limit_of};
 ghost use Rattle.numbered_walks.specs.Index.{AreHeaders, is_up};
 ghost use Rattle.numbered_walks.specs.Ordered.{is_in, number_shape, span_loops};
-ghost use Rattle.numbered_walks.specs.Tables.{arrival_of, distance_of, is_exit, needed, potentials_of, round_of, stay_of};
+ghost use Rattle.numbered_walks.specs.Tables.{arrival_of, distance_of, is_exit, needed, potentials_of};
+ghost use Rattle.numbered_walks.specs.Tables.{round_of, stay_of};
 ghost use Rattle.cert_check.specs.Weighing.{CanWeigh, NumberFits, NumberHolds, NumberPasses, leaves};
 
 use crate::index::Index;
@@ -58,7 +60,8 @@ fn stay(tables: &Tables, span: &Span) -> Option<u64>
 
 // What the edge's row asks for with these spans, in ticks, if it is below 2^64.
 fn needed_with(spans: &[Span], tables: &Tables, edge: &NumberedEdge) -> Option<u64>
-    ensures { MatchOption result (2 ^ 64 ≤ needed spans.now tables.now edge.now) (λ n. n ≡ needed spans.now tables.now edge.now) }
+    ensures { MatchOption result (2 ^ 64 ≤ needed spans.now tables.now edge.now)
+        (λ n. n ≡ needed spans.now tables.now edge.now) }
 {
     let mut sum = distance(tables, edge.from).checked_add(u64::from(edge.cost))?;
     for span in spans {
@@ -72,7 +75,8 @@ fn needed_with(spans: &[Span], tables: &Tables, edge: &NumberedEdge) -> Option<u
 // The same by the instances that hold the edge's beginning alone.
 fn needed_at(spans: &[Span], index: &Index, tables: &Tables, edge: &NumberedEdge) -> Option<u64>
     requires { CanWeigh spans.now index.now edge.now }
-    ensures { MatchOption result (2 ^ 64 ≤ needed spans.now tables.now edge.now) (λ n. n ≡ needed spans.now tables.now edge.now) }
+    ensures { MatchOption result (2 ^ 64 ≤ needed spans.now tables.now edge.now)
+        (λ n. n ≡ needed spans.now tables.now edge.now) }
 {
     let _all = spans;
     needed_with(&index.holders[edge.from], tables, edge)
@@ -98,7 +102,8 @@ fn limit(
     edge: &NumberedEdge,
 ) -> Option<u64>
     requires { CanWeigh spans.now index.now edge.now }
-    ensures { result ≡ limit_of number_shape span_loops spans.now (potentials_of tables.now) (is_exit exit) edge.now }
+    ensures { result
+        ≡ limit_of number_shape span_loops spans.now (potentials_of tables.now) (is_exit exit) edge.now }
 {
     match span_at(spans, &index.headers, edge.to) {
         Some(span) => {

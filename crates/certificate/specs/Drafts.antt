@@ -38,7 +38,8 @@ nest_of walk = record { opened = length walk.opened.items; some = is_some_item w
 
 -- a line is added where it may follow
 abbrev pub TakesWalk : OpenWalk → OpenWalk → WalkLine → Bool → Type 0
-TakesWalk old new line true = (nest_after (nest_of old) line ≡ Some (nest_of new)) × (walk_so_far new ≡ walk_so_far old ++ line ∷ [])
+TakesWalk old new line true =
+    (nest_after (nest_of old) line ≡ Some (nest_of new)) × (walk_so_far new ≡ walk_so_far old ++ line ∷ [])
 TakesWalk old new line false = nest_after (nest_of old) line ≡ None
 
 -- ## The whole

@@ -29,7 +29,8 @@ pub record HasBadLine (text : List ℕ) (n : ℕ) : Type 0 where
   pub within : Lacks 10 words
   pub counted : n ≡ length lines + 1
   pub first : AreFirst lines
-  pub misfit : (said : Said) → CanSpell said → (more : List ℕ) → cert_text said ≢ text_of lines ++ (ended words ++ more)
+  pub misfit : (said : Said) → CanSpell said → (more : List ℕ)
+      → cert_text said ≢ text_of lines ++ (ended words ++ more)
 
 -- the text's whole lines begin a certificate, and further ones are missing
 pub record EndsEarly (text : List ℕ) : Type 0 where

@@ -44,10 +44,12 @@ next_stage s.Numbers n (l.Profile numbers) = at_stage n s.Bound
 next_stage s.Bound n (l.Bound bound) = at_stage n s.Walk
 next_stage s.Walk n (l.Walk w) = in_walk (nest_after n w)
 next_stage s.Walk n l.Close = close_walk n n.opened
-next_stage (s.Places last) n (l.Place r) = if comes_after last (place_of_row r) then at_stage n (s.Places (Some (place_of_row r))) else None
+next_stage (s.Places last) n (l.Place r) =
+    if comes_after last (place_of_row r) then at_stage n (s.Places (Some (place_of_row r))) else None
 next_stage (s.Places last) n (l.Instance r) = at_stage n (s.Instances (Some (header_of_row r)))
 next_stage (s.Places last) n l.Stop = at_stage n s.Done
-next_stage (s.Instances last) n (l.Instance r) = if comes_after last (header_of_row r) then at_stage n (s.Instances (Some (header_of_row r))) else None
+next_stage (s.Instances last) n (l.Instance r) =
+    if comes_after last (header_of_row r) then at_stage n (s.Instances (Some (header_of_row r))) else None
 next_stage (s.Instances last) n l.Stop = at_stage n s.Done
 next_stage _ n line = None
 

@@ -26,20 +26,37 @@ pub record Said : Type 0 where
   pub instances : List InstanceRow
 
 abbrev pub said_by : Cert → Said
-said_by c = record { numbers = numbers_of c.profile; bound = c.bound; walk = cert_walk_lines c.walk; places = c.places; instances = c.instances }
+said_by c =
+    record {
+      numbers = numbers_of c.profile;
+      bound = c.bound;
+      walk = cert_walk_lines c.walk;
+      places = c.places;
+      instances = c.instances;
+    }
 
 -- what the certificate of a greatest walk says
 abbrev pub said_of : Longest → Said
-said_of g = record { numbers = numbers_of g.profile; bound = g.bound; walk = walk_lines g.walk; places = g.potentials.places; instances = g.potentials.instances }
+said_of g =
+    record {
+      numbers = numbers_of g.profile;
+      bound = g.bound;
+      walk = walk_lines g.walk;
+      places = g.potentials.places;
+      instances = g.potentials.instances;
+    }
 
 -- ## The lines
 
 -- the first version is that of the first profile
 abbrev pub head_lines : List ℕ → List Line
-head_lines numbers = if pointwise ◌==◌ numbers profile_one then l.Title One ∷ [] else l.Title Two ∷ l.Profile numbers ∷ []
+head_lines numbers =
+    if pointwise ◌==◌ numbers profile_one then l.Title One ∷ [] else l.Title Two ∷ l.Profile numbers ∷ []
 
 abbrev pub cert_lines : Said → List Line
-cert_lines c = head_lines c.numbers ++ l.Bound c.bound ∷ (map l.Walk c.walk ++ l.Close ∷ (map l.Place c.places ++ (map l.Instance c.instances ++ l.Stop ∷ [])))
+cert_lines c =
+    head_lines c.numbers ++ l.Bound c.bound
+    ∷ (map l.Walk c.walk ++ l.Close ∷ (map l.Place c.places ++ (map l.Instance c.instances ++ l.Stop ∷ [])))
 
 abbrev pub cert_text : Said → List ℕ
 cert_text c = text_of (cert_lines c)

@@ -1,5 +1,6 @@
 -- The lines of a walk that is written with repeats (our own format).
-use Rattle.std.specs.Prelude.{◌≡◌, ℕ, zero, suc, List, [], ◌∷◌, ◌++◌, Bool, true, false, Option, Some, None, option_and_then, nat_lt, if◌then◌else◌}
+use Rattle.std.specs.Prelude.{◌≡◌, ℕ, zero, suc, List, [], ◌∷◌, ◌++◌, Bool, true, false, Option, Some, None}
+use Rattle.std.specs.Prelude.{option_and_then, nat_lt, if◌then◌else◌}
 use Rattle.std.specs.List.{flat_map}
 use Rattle.flow_graph.specs.declared.places.Place.{Place}
 use Rattle.flow_graph.specs.declared.places.Place.TheVariants as place
@@ -73,7 +74,8 @@ closed (suc depth) = Some (record { opened = depth; some = true })
 -- at most sixteen repeats are open, and one ends only with something in it
 abbrev pub nest_after : Nest → WalkLine → Option Nest
 nest_after n (Step s) = Some (record { opened = n.opened; some = true })
-nest_after n (Repeat k) = if nat_lt n.opened 16 then Some (record { opened = suc n.opened; some = false }) else None
+nest_after n (Repeat k) =
+    if nat_lt n.opened 16 then Some (record { opened = suc n.opened; some = false }) else None
 nest_after n End = if n.some then closed n.opened else None
 
 -- one after the other, each from where the one before led

@@ -1,5 +1,6 @@
 -- How the lines of a certificate are spelled (our own format).
-use Rattle.std.specs.Prelude.{◌≡◌, ◌≢◌, ℕ, ◌<◌, ◌≤◌, ◌^◌, List, [], ◌∷◌, ◌++◌, length, map, true, codes, slice_index, All, ⊤}
+use Rattle.std.specs.Prelude.{◌≡◌, ◌≢◌, ℕ, ◌<◌, ◌≤◌, ◌^◌, List, [], ◌∷◌, ◌++◌, length, map, true, codes}
+use Rattle.std.specs.Prelude.{slice_index, All, ⊤}
 use Rattle.std.specs.Fmt.{decimal, digits}
 use Rattle.std.specs.List.{flat_map, join_with_byte}
 use Rattle.bus_ticks.specs.Numbers.{profile_one}
@@ -52,7 +53,9 @@ abbrev pub profile_words : List ℕ → List ℕ
 profile_words numbers = codes "profile " ++ join_with_byte 32 (map decimal numbers)
 
 abbrev pub step_words : StepLine → List ℕ
-step_words s = codes "step " ++ (hex s.address ++ 32 ∷ (label_words s.label ++ 32 ∷ (to_words s.to ++ 32 ∷ decimal s.cost)))
+step_words s =
+    codes "step "
+    ++ (hex s.address ++ 32 ∷ (label_words s.label ++ 32 ∷ (to_words s.to ++ 32 ∷ decimal s.cost)))
 
 abbrev pub walk_words : WalkLine → List ℕ
 walk_words (w.Step s) = step_words s
@@ -63,7 +66,9 @@ abbrev pub place_words : PlaceRow → List ℕ
 place_words r = codes "place " ++ (list_words r.list ++ 32 ∷ (hex r.address ++ 32 ∷ decimal r.distance))
 
 abbrev pub instance_words : InstanceRow → List ℕ
-instance_words r = codes "instance " ++ (list_words r.list ++ 32 ∷ (hex r.header ++ 32 ∷ (decimal r.arrival ++ 32 ∷ decimal r.round)))
+instance_words r =
+    codes "instance "
+    ++ (list_words r.list ++ 32 ∷ (hex r.header ++ 32 ∷ (decimal r.arrival ++ 32 ∷ decimal r.round)))
 
 abbrev pub line_words : Line → List ℕ
 line_words (l.Title v) = title_words v

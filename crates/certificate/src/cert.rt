@@ -2,8 +2,8 @@ use crate::walk::CertWalk;
 use bus_ticks::Profile;
 use longest_walk::{InstanceRow, PlaceRow, Rows};
 
-/// A certificate: a bound in ticks, a walk that is said to cost it, and the numbers that are said to prove that none
-/// costs more. Whoever wrote it, nothing is claimed of it but its form.
+/// A certificate: a bound in ticks, a walk that is said to cost it, and the numbers that are said to prove
+/// that none costs more. Whoever wrote it, nothing is claimed of it but its form.
 #[derive(Drop)]
 pub struct Cert {
     /// The prices of the costs.

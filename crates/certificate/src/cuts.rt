@@ -3,7 +3,8 @@ ghost use Rattle.certificate.specs.Words.{Lacks};
 
 /// What stands before the first such byte, and what stands after it; `None` where there is none.
 pub(crate) fn cut_at(mark: u8, text: &[u8]) -> Option<(&[u8], &[u8])>
-    ensures { MatchOption result (Lacks mark text.now) (λ p. (text.now ≡ p.0.now ++ mark ∷ p.1.now) × Lacks mark p.0.now) }
+    ensures { MatchOption result (Lacks mark text.now)
+        (λ p. (text.now ≡ p.0.now ++ mark ∷ p.1.now) × Lacks mark p.0.now) }
 {
     for (i, byte) in text.iter().enumerate() {
         if *byte == mark {
@@ -15,7 +16,8 @@ pub(crate) fn cut_at(mark: u8, text: &[u8]) -> Option<(&[u8], &[u8])>
 
 /// What stands behind the words `front`; `None` where the words do not begin with them.
 pub(crate) fn behind<'a>(words: &'a [u8], front: &[u8]) -> Option<&'a [u8]>
-    ensures { MatchOption result ((rest : List ℕ) → words.now ≡ front.now ++ rest → ⊥) (λ rest. words.now ≡ front.now ++ rest.now) }
+    ensures { MatchOption result ((rest : List ℕ) → words.now ≡ front.now ++ rest → ⊥)
+        (λ rest. words.now ≡ front.now ++ rest.now) }
 {
     words.strip_prefix(front)
 }

@@ -11,7 +11,8 @@ use flow_graph::{Calls, Label};
 
 /// The address that the words begin with, and the words after its blank.
 pub(crate) fn address_first(words: &[u8]) -> Option<(u32, &[u8])>
-    ensures { MatchOption result ((a : ℕ) (rest : List ℕ) → a < 2 ^ 26 → words.now ≡ hex a ++ 32 ∷ rest → ⊥) (λ p. (p.0 < 2 ^ 26) × (words.now ≡ hex p.0 ++ 32 ∷ p.1.now)) }
+    ensures { MatchOption result ((a : ℕ) (rest : List ℕ) → a < 2 ^ 26 → words.now ≡ hex a ++ 32 ∷ rest → ⊥)
+        (λ p. (p.0 < 2 ^ 26) × (words.now ≡ hex p.0 ++ 32 ∷ p.1.now)) }
 {
     let (word, rest) = cut_at(b' ', words)?;
     match hex_at(word) {
@@ -22,7 +23,9 @@ pub(crate) fn address_first(words: &[u8]) -> Option<(u32, &[u8])>
 
 /// The number that the words begin with, and the words after its blank.
 pub(crate) fn number_first(words: &[u8]) -> Option<(u64, &[u8])>
-    ensures { MatchOption result ((n : ℕ) (rest : List ℕ) → n < 2 ^ 63 → words.now ≡ decimal n ++ 32 ∷ rest → ⊥) (λ p. (p.0 < 2 ^ 63) × (words.now ≡ decimal p.0 ++ 32 ∷ p.1.now)) }
+    ensures { MatchOption result
+        ((n : ℕ) (rest : List ℕ) → n < 2 ^ 63 → words.now ≡ decimal n ++ 32 ∷ rest → ⊥)
+        (λ p. (p.0 < 2 ^ 63) × (words.now ≡ decimal p.0 ++ 32 ∷ p.1.now)) }
 {
     let (word, rest) = cut_at(b' ', words)?;
     match decimal_at(word) {
@@ -33,7 +36,9 @@ pub(crate) fn number_first(words: &[u8]) -> Option<(u64, &[u8])>
 
 /// The label that the words begin with, and the words after its blank.
 pub(crate) fn label_first(words: &[u8]) -> Option<(Label, &[u8])>
-    ensures { MatchOption result ((label : Label) (rest : List ℕ) → words.now ≡ label_words label ++ 32 ∷ rest → ⊥) (λ p. words.now ≡ label_words p.0 ++ 32 ∷ p.1.now) }
+    ensures { MatchOption result
+        ((label : Label) (rest : List ℕ) → words.now ≡ label_words label ++ 32 ∷ rest → ⊥)
+        (λ p. words.now ≡ label_words p.0 ++ 32 ∷ p.1.now) }
 {
     if let Some(rest) = behind(words, b"do ") {
         return Some((Label::Do, rest));
@@ -46,7 +51,9 @@ pub(crate) fn label_first(words: &[u8]) -> Option<(Label, &[u8])>
 
 /// Where the words first say that the edge leads, and the words after the blank.
 pub(crate) fn to_first(words: &[u8]) -> Option<(To, &[u8])>
-    ensures { MatchOption result ((to : To) (rest : List ℕ) → ToFits to → words.now ≡ to_words to ++ 32 ∷ rest → ⊥) (λ p. ToFits p.0 × (words.now ≡ to_words p.0 ++ 32 ∷ p.1.now)) }
+    ensures { MatchOption result
+        ((to : To) (rest : List ℕ) → ToFits to → words.now ≡ to_words to ++ 32 ∷ rest → ⊥)
+        (λ p. ToFits p.0 × (words.now ≡ to_words p.0 ++ 32 ∷ p.1.now)) }
 {
     if let Some(rest) = behind(words, b"exit ") {
         return Some((To::Exit, rest));
@@ -57,7 +64,8 @@ pub(crate) fn to_first(words: &[u8]) -> Option<(To, &[u8])>
 
 /// The calls that the word spells.
 pub(crate) fn calls_at(word: &[u8]) -> Option<Calls>
-    ensures { MatchOption result ((calls : List ℕ) → AreCalls calls → word.now ≡ list_words calls → ⊥) (λ calls. AreCalls calls × (word.now ≡ list_words calls)) }
+    ensures { MatchOption result ((calls : List ℕ) → AreCalls calls → word.now ≡ list_words calls → ⊥)
+        (λ calls. AreCalls calls × (word.now ≡ list_words calls)) }
 {
     if word == b"-".as_slice() {
         return Some(Calls::new());

@@ -1,5 +1,5 @@
-//! The text of a certificate: the bound, a walk written with repeats, and the numbers that prove the bound. Each
-//! certificate has one spelling, which [`write_cert`] writes and [`read_cert`] reads.
+//! The text of a certificate: the bound, a walk written with repeats, and the numbers that prove the bound.
+//! Each certificate has one spelling, which [`write_cert`] writes and [`read_cert`] reads.
 #![tactic(auto)]
 
 mod cert;

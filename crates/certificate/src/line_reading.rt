@@ -1,7 +1,10 @@
-ghost use Rattle.std.specs.Prelude.{◌≡◌, ◌≢◌, ◌<◌, ◌≤◌, ◌^◌, ◌++◌, ℕ, List, length, map, codes, All, MatchOption};
+ghost use Rattle.std.specs.Prelude.{◌≡◌, ◌≢◌, ◌<◌, ◌≤◌, ◌^◌, ◌++◌, ℕ, List, length, map, codes, All};
+ghost use Rattle.std.specs.Prelude.{MatchOption};
 ghost use Rattle.std.specs.List.{join_with_byte};
 ghost use Rattle.std.specs.Fmt.{decimal};
-ghost use Rattle.certificate.specs.Words.{InstanceFits, IsProfile, LineFits, PlaceFits, StepFits, WalkFits, instance_words, line_words, place_words, profile_words, step_words, title_words, walk_words};
+ghost use Rattle.certificate.specs.Words.{InstanceFits, IsProfile, LineFits, PlaceFits, StepFits, WalkFits};
+ghost use Rattle.certificate.specs.Words.{instance_words, line_words, place_words, profile_words, step_words};
+ghost use Rattle.certificate.specs.Words.{title_words, walk_words};
 ghost use Rattle.bus_ticks.specs.Numbers.{profile_one};
 ghost use Rattle.certificate.specs.declared.line.Line.{Line};
 ghost use Rattle.certificate.specs.declared.line.Version.{Version};
@@ -22,7 +25,8 @@ use longest_walk::{InstanceRow, PlaceRow};
 const MOST_TURNS: u64 = 1_048_576;
 
 fn title_at(words: &[u8]) -> Option<Version>
-    ensures { MatchOption result ((v : Version) → words.now ≡ title_words v → ⊥) (λ v. words.now ≡ title_words v) }
+    ensures { MatchOption result ((v : Version) → words.now ≡ title_words v → ⊥)
+        (λ v. words.now ≡ title_words v) }
 {
     match words {
         b"arcwcet certificate 1" => Some(Version::One),
@@ -32,13 +36,16 @@ fn title_at(words: &[u8]) -> Option<Version>
 }
 
 fn bound_at(words: &[u8]) -> Option<u64>
-    ensures { MatchOption result ((n : ℕ) → n < 2 ^ 63 → words.now ≡ codes "bound " ++ decimal n → ⊥) (λ n. (n < 2 ^ 63) × (words.now ≡ codes "bound " ++ decimal n)) }
+    ensures { MatchOption result ((n : ℕ) → n < 2 ^ 63 → words.now ≡ codes "bound " ++ decimal n → ⊥)
+        (λ n. (n < 2 ^ 63) × (words.now ≡ codes "bound " ++ decimal n)) }
 {
     decimal_at(behind(words, b"bound ")?)
 }
 
 fn repeat_at(words: &[u8]) -> Option<u32>
-    ensures { MatchOption result ((k : ℕ) → 0 < k → k ≤ 1048576 → words.now ≡ codes "repeat " ++ decimal k → ⊥) (λ k. (0 < k) × (k ≤ 1048576) × (words.now ≡ codes "repeat " ++ decimal k)) }
+    ensures { MatchOption result
+        ((k : ℕ) → 0 < k → k ≤ 1048576 → words.now ≡ codes "repeat " ++ decimal k → ⊥)
+        (λ k. (0 < k) × (k ≤ 1048576) × (words.now ≡ codes "repeat " ++ decimal k)) }
 {
     let count = decimal_at(behind(words, b"repeat ")?)?;
     if count == 0 {
@@ -51,7 +58,8 @@ fn repeat_at(words: &[u8]) -> Option<u32>
 }
 
 fn step_at(words: &[u8]) -> Option<StepLine>
-    ensures { MatchOption result ((s : StepLine) → StepFits s → words.now ≡ step_words s → ⊥) (λ s. StepFits s × (words.now ≡ step_words s)) }
+    ensures { MatchOption result ((s : StepLine) → StepFits s → words.now ≡ step_words s → ⊥)
+        (λ s. StepFits s × (words.now ≡ step_words s)) }
 {
     let rest = behind(words, b"step ")?;
     let (address, rest) = address_first(rest)?;
@@ -70,7 +78,8 @@ fn step_at(words: &[u8]) -> Option<StepLine>
 }
 
 fn place_at(words: &[u8]) -> Option<PlaceRow>
-    ensures { MatchOption result ((r : PlaceRow) → PlaceFits r → words.now ≡ place_words r → ⊥) (λ r. PlaceFits r × (words.now ≡ place_words r)) }
+    ensures { MatchOption result ((r : PlaceRow) → PlaceFits r → words.now ≡ place_words r → ⊥)
+        (λ r. PlaceFits r × (words.now ≡ place_words r)) }
 {
     let rest = behind(words, b"place ")?;
     let (word, rest) = cut_at(b' ', rest)?;
@@ -85,7 +94,8 @@ fn place_at(words: &[u8]) -> Option<PlaceRow>
 }
 
 fn instance_at(words: &[u8]) -> Option<InstanceRow>
-    ensures { MatchOption result ((r : InstanceRow) → InstanceFits r → words.now ≡ instance_words r → ⊥) (λ r. InstanceFits r × (words.now ≡ instance_words r)) }
+    ensures { MatchOption result ((r : InstanceRow) → InstanceFits r → words.now ≡ instance_words r → ⊥)
+        (λ r. InstanceFits r × (words.now ≡ instance_words r)) }
 {
     let rest = behind(words, b"instance ")?;
     let (word, rest) = cut_at(b' ', rest)?;
@@ -102,7 +112,8 @@ fn instance_at(words: &[u8]) -> Option<InstanceRow>
 }
 
 fn price_at(word: &[u8]) -> Option<u32>
-    ensures { MatchOption result ((n : ℕ) → n < 256 → word.now ≡ decimal n → ⊥) (λ n. (n < 256) × (word.now ≡ decimal n)) }
+    ensures { MatchOption result ((n : ℕ) → n < 256 → word.now ≡ decimal n → ⊥)
+        (λ n. (n < 256) × (word.now ≡ decimal n)) }
 {
     let number = decimal_at(word)?;
     if number >= 256 {
@@ -113,7 +124,10 @@ fn price_at(word: &[u8]) -> Option<u32>
 
 /// The fifteen numbers below 256 that the words spell, parted by blanks.
 fn prices_at(words: &[u8]) -> Option<[u32; 15]>
-    ensures { MatchOption result ((ns : List ℕ) → length ns ≡ 15 → All (λ n. n < 256) ns → words.now ≡ join_with_byte 32 (map decimal ns) → ⊥) (λ ns. (length ns ≡ 15) × All (λ n. n < 256) ns × (words.now ≡ join_with_byte 32 (map decimal ns))) }
+    ensures { MatchOption result
+        ((ns : List ℕ) → length ns ≡ 15 → All (λ n. n < 256) ns
+        → words.now ≡ join_with_byte 32 (map decimal ns) → ⊥)
+        (λ ns. (length ns ≡ 15) × All (λ n. n < 256) ns × (words.now ≡ join_with_byte 32 (map decimal ns))) }
 {
     let mut prices = [0; 15];
     let mut rest = words;
@@ -127,7 +141,9 @@ fn prices_at(words: &[u8]) -> Option<[u32; 15]>
 }
 
 fn profile_at(words: &[u8]) -> Option<[u32; 15]>
-    ensures { MatchOption result ((ns : List ℕ) → IsProfile ns → ns ≢ profile_one → words.now ≡ profile_words ns → ⊥) (λ ns. IsProfile ns × (ns ≢ profile_one) × (words.now ≡ profile_words ns)) }
+    ensures { MatchOption result
+        ((ns : List ℕ) → IsProfile ns → ns ≢ profile_one → words.now ≡ profile_words ns → ⊥)
+        (λ ns. IsProfile ns × (ns ≢ profile_one) × (words.now ≡ profile_words ns)) }
 {
     let prices = prices_at(behind(words, b"profile ")?)?;
     if prices == Profile::one().numbers() {
@@ -141,7 +157,8 @@ fn profile_at(words: &[u8]) -> Option<[u32; 15]>
 
 /// What the words of a line of a walk say.
 fn walk_line_at(words: &[u8]) -> Option<WalkLine>
-    ensures { MatchOption result ((w : WalkLine) → WalkFits w → words.now ≡ walk_words w → ⊥) (λ w. WalkFits w × (words.now ≡ walk_words w)) }
+    ensures { MatchOption result ((w : WalkLine) → WalkFits w → words.now ≡ walk_words w → ⊥)
+        (λ w. WalkFits w × (words.now ≡ walk_words w)) }
 {
     if let Some(step) = step_at(words) {
         return Some(WalkLine::Step(step));
@@ -157,7 +174,10 @@ fn walk_line_at(words: &[u8]) -> Option<WalkLine>
 
 /// What the words of a row say.
 fn row_at(words: &[u8]) -> Option<Line>
-    ensures { MatchOption result (((r : PlaceRow) → PlaceFits r → words.now ≡ place_words r → ⊥) × ((r : InstanceRow) → InstanceFits r → words.now ≡ instance_words r → ⊥)) (λ l. LineFits l × (words.now ≡ line_words l)) }
+    ensures { MatchOption result
+        (((r : PlaceRow) → PlaceFits r → words.now ≡ place_words r → ⊥)
+        × ((r : InstanceRow) → InstanceFits r → words.now ≡ instance_words r → ⊥))
+        (λ l. LineFits l × (words.now ≡ line_words l)) }
 {
     if let Some(row) = place_at(words) {
         return Some(Line::Place(row));
@@ -170,7 +190,11 @@ fn row_at(words: &[u8]) -> Option<Line>
 
 /// What the words of a line before the walk say.
 fn head_at(words: &[u8]) -> Option<Line>
-    ensures { MatchOption result (((v : Version) → words.now ≡ title_words v → ⊥) × ((ns : List ℕ) → IsProfile ns → ns ≢ profile_one → words.now ≡ profile_words ns → ⊥) × ((n : ℕ) → n < 2 ^ 63 → words.now ≡ codes "bound " ++ decimal n → ⊥)) (λ l. LineFits l × (words.now ≡ line_words l)) }
+    ensures { MatchOption result
+        (((v : Version) → words.now ≡ title_words v → ⊥)
+        × ((ns : List ℕ) → IsProfile ns → ns ≢ profile_one → words.now ≡ profile_words ns → ⊥)
+        × ((n : ℕ) → n < 2 ^ 63 → words.now ≡ codes "bound " ++ decimal n → ⊥))
+        (λ l. LineFits l × (words.now ≡ line_words l)) }
 {
     if let Some(version) = title_at(words) {
         return Some(Line::Title(version));
@@ -186,7 +210,8 @@ fn head_at(words: &[u8]) -> Option<Line>
 
 /// What the words of a line say; `None` where no line has these words.
 pub(crate) fn line_of(words: &[u8]) -> Option<Line>
-    ensures { MatchOption result ((l : Line) → LineFits l → words.now ≡ line_words l → ⊥) (λ l. LineFits l × (words.now ≡ line_words l)) }
+    ensures { MatchOption result ((l : Line) → LineFits l → words.now ≡ line_words l → ⊥)
+        (λ l. LineFits l × (words.now ≡ line_words l)) }
 {
     if let Some(line) = walk_line_at(words) {
         return Some(Line::Walk(line));

@@ -5,7 +5,8 @@ ghost use Rattle.certificate.specs.Words.{hex};
 use itoa::Buffer;
 
 fn decimal_in(text: &str) -> Option<u64>
-    ensures { MatchOption result ((n : ℕ) → n < 2 ^ 63 → text.now ≡ decimal n → ⊥) (λ n. (n < 2 ^ 63) × (text.now ≡ decimal n)) }
+    ensures { MatchOption result ((n : ℕ) → n < 2 ^ 63 → text.now ≡ decimal n → ⊥)
+        (λ n. (n < 2 ^ 63) × (text.now ≡ decimal n)) }
 {
     match text.parse::<u64>() {
         Ok(number) => {
@@ -24,7 +25,8 @@ fn decimal_in(text: &str) -> Option<u64>
 
 /// The number below 2^63 that the bytes spell in decimal.
 pub(crate) fn decimal_at(word: &[u8]) -> Option<u64>
-    ensures { MatchOption result ((n : ℕ) → n < 2 ^ 63 → word.now ≡ decimal n → ⊥) (λ n. (n < 2 ^ 63) × (word.now ≡ decimal n)) }
+    ensures { MatchOption result ((n : ℕ) → n < 2 ^ 63 → word.now ≡ decimal n → ⊥)
+        (λ n. (n < 2 ^ 63) × (word.now ≡ decimal n)) }
 {
     match std::str::from_utf8(word) {
         Ok(text) => decimal_in(text),
@@ -34,7 +36,8 @@ pub(crate) fn decimal_at(word: &[u8]) -> Option<u64>
 
 /// The value of an upper-case hex digit.
 fn digit_at(byte: u8) -> Option<u32>
-    ensures { MatchOption result ((d : ℕ) → d < 16 → byte ≡ digit_glyph true d → ⊥) (λ d. (d < 16) × (byte ≡ digit_glyph true d)) }
+    ensures { MatchOption result ((d : ℕ) → d < 16 → byte ≡ digit_glyph true d → ⊥)
+        (λ d. (d < 16) × (byte ≡ digit_glyph true d)) }
 {
     match byte {
         b'0'..=b'9' => Some(u32::from(byte - b'0')),
@@ -45,7 +48,8 @@ fn digit_at(byte: u8) -> Option<u32>
 
 /// The number below 4000000 (hex) that the bytes spell in upper-case hex.
 pub(crate) fn hex_at(word: &[u8]) -> Option<u32>
-    ensures { MatchOption result ((n : ℕ) → n < 2 ^ 26 → word.now ≡ hex n → ⊥) (λ n. (n < 2 ^ 26) × (word.now ≡ hex n)) }
+    ensures { MatchOption result ((n : ℕ) → n < 2 ^ 26 → word.now ≡ hex n → ⊥)
+        (λ n. (n < 2 ^ 26) × (word.now ≡ hex n)) }
 {
     let [first, rest @ ..] = word else {
         return None;

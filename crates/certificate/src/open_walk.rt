@@ -16,7 +16,8 @@ pub struct OpenRepeat {
     pub count: u32,
 }
 
-/// A walk of which some lines are read: the open repeats, the outermost first, and the items of the innermost.
+/// A walk of which some lines are read: the open repeats, the outermost first, and the items of the
+/// innermost.
 #[derive(Drop)]
 pub struct OpenWalk {
     pub opened: Vec<OpenRepeat>,

@@ -1,5 +1,6 @@
 ghost use Rattle.std.specs.Prelude.{◌≡◌, ℕ, IfOk, IsErrOf};
-ghost use Rattle.certificate.specs.Faults.{EndsEarly, GoesOn, HasBadLine, IsRead, Reads, RunsOn, StopsAt, StopsShort};
+ghost use Rattle.certificate.specs.Faults.{EndsEarly, GoesOn, HasBadLine, IsRead, Reads, RunsOn, StopsAt};
+ghost use Rattle.certificate.specs.Faults.{StopsShort};
 ghost use Rattle.certificate.specs.Lines.{CanSpell, Said, cert_text, said_by};
 
 use crate::cert::Cert;
@@ -39,9 +40,9 @@ fn read_lines(alloc: Global, text: &[u8]) -> Result<Cert, CertFault>
 
 /// The certificate that the text spells.
 ///
-/// The first whole line that does not fit is `BadLine` with its number, counted from 1: no certificate's text begins
-/// with the lines up to it. Else a text that ends before `stop`'s line does is `Truncated`, and bytes after it are
-/// `TrailingBytes`. `Memory`: a growth was refused.
+/// The first whole line that does not fit is `BadLine` with its number, counted from 1: no certificate's text
+/// begins with the lines up to it. Else a text that ends before `stop`'s line does is `Truncated`, and bytes
+/// after it are `TrailingBytes`. `Memory`: a growth was refused.
 pub fn read_cert(alloc: Global, text: &[u8]) -> Result<Cert, CertFault>
     // What is read is what the text spells.
     ensures found { IfOk result (λ cert. CanSpell (said_by cert) × (text.now ≡ cert_text (said_by cert))) }

@@ -40,7 +40,8 @@ fn put_calls(out: &mut String, calls: &Calls) -> Result<(), AllocError>
 }
 
 fn put_step(out: &mut String, edge: &Edge) -> Result<(), AllocError>
-    ensures { OnOk result (string_bytes out.new ≡ string_bytes out.old ++ ended (step_words (step_of edge.now))) }
+    ensures { OnOk result
+        (string_bytes out.new ≡ string_bytes out.old ++ ended (step_words (step_of edge.now))) }
 {
     let address = match edge.from {
         Place::At(_, address) => address,
@@ -126,8 +127,8 @@ fn put_cert(out: &mut String, longest: &Longest) -> Result<(), AllocError>
     out.push_str("stop\n")
 }
 
-/// The text of a greatest walk's certificate, in time linear in its length. A body that several repeats share is written
-/// at each of them.
+/// The text of a greatest walk's certificate, in time linear in its length. A body that several repeats share
+/// is written at each of them.
 ///
 /// `Memory`: a growth was refused.
 pub fn write_cert(alloc: Global, longest: &Longest) -> Result<Vec<u8>, CertFault>

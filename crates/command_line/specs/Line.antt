@@ -1,5 +1,7 @@
--- What a line of words asks of the program, by clap's function for a simple command. The commands are our own.
-use Rattle.std.specs.Prelude.{true, List, [], ◌∷◌, Option, Some, None, String, codes, map, option_and_then, option_map, string_bytes, if◌then◌else◌}
+-- What a line of words asks of the program, by clap's function for a simple command. The commands are our
+-- own.
+use Rattle.std.specs.Prelude.{true, List, [], ◌∷◌, Option, Some, None, String, codes, map, option_and_then}
+use Rattle.std.specs.Prelude.{option_map, string_bytes, if◌then◌else◌}
 use Rattle.std.specs.declared.alloc.Global.{Global}
 use Rattle.std.specs.Str.{bytes_eq}
 use Rattle.clap.specs.Walk.{Row, Rule, Text, first_of}
@@ -24,7 +26,8 @@ asm_command = with_rule (with_rule (new_app (codes "asm")) (wanted (codes "sourc
 
 -- `NAME SOURCE SECOND`, with a cycle profile
 abbrev pub priced_command : Text → Text → App
-priced_command name second = with_rule (with_rule (with_rule (new_app name) profile_rule) (wanted (codes "source"))) (wanted second)
+priced_command name second =
+    with_rule (with_rule (with_rule (new_app name) profile_rule) (wanted (codes "source"))) (wanted second)
 
 abbrev pub run_command : App
 run_command = priced_command (codes "run") (codes "machine")
@@ -48,7 +51,13 @@ arcwcet_top = on_top (λ s. record s { subcommand_required = true }) (new_app (c
 -- the program's command with its subcommands
 abbrev pub arcwcet_command : App
 arcwcet_command =
-    with_subcommand (with_subcommand (with_subcommand (with_subcommand (with_subcommand (with_subcommand arcwcet_top asm_command.top) run_command.top) trace_command.top) debug_command.top) bound_command.top) check_command.top
+    with_subcommand
+    (with_subcommand
+    (with_subcommand
+    (with_subcommand
+    (with_subcommand
+    (with_subcommand arcwcet_top
+    asm_command.top) run_command.top) trace_command.top) debug_command.top) bound_command.top) check_command.top
 
 -- the names of two files, and of a cycle profile's
 pub record FileNames : Type 0 where
@@ -66,7 +75,8 @@ pub data Asked : Type 0 where
   check : FileNames → Text → Asked
 
 abbrev pub names_of : Names → FileNames
-names_of n = record { profile = option_map (λ s. s.now) n.profile; first = n.first.now; second = n.second.now }
+names_of n =
+    record { profile = option_map (λ s. s.now) n.profile; first = n.first.now; second = n.second.now }
 
 abbrev pub asked_of : Request → Asked
 asked_of (request.Asm source image) = asm source.now image.now
@@ -94,7 +104,8 @@ asked_asm rows = asm_of (first_of (codes "source") rows) (first_of (codes "image
 
 -- by the values of a command with a cycle profile
 abbrev pub names_in : Text → List Row → Option FileNames
-names_in second rows = named (first_of (codes "profile") rows) (first_of (codes "source") rows) (first_of second rows)
+names_in second rows =
+    named (first_of (codes "profile") rows) (first_of (codes "source") rows) (first_of second rows)
 
 -- by the values of `check`
 abbrev pub asked_check : List Row → Option Asked
@@ -117,7 +128,9 @@ unless_refused (k ∷ ks) asked = None
 
 -- what the words ask for: nothing where clap refuses them
 unfoldable pub asked : List Text → Option Asked
-asked words = unless_refused (fault_of arcwcet_command words) (option_and_then asked_by (subcommand_of arcwcet_command words))
+asked words =
+    unless_refused (fault_of arcwcet_command words)
+    (option_and_then asked_by (subcommand_of arcwcet_command words))
 
 -- the same of the program's words
 abbrev pub asked_in : List (String Global) → Option Asked

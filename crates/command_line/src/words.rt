@@ -4,7 +4,10 @@ ghost use Rattle.clap.specs.Simple.{app_of, with_subcommand};
 ghost use Rattle.clap.specs.Walk.{rows_of, rule_of};
 ghost use Rattle.clap.specs.Words.{kind_of, subcommand_rows_of};
 ghost use Rattle.clap.specs.declared.builder.command.Command.TheViews.{out-Command};
-ghost use Rattle.command_line.specs.Line.{arcwcet_command, asked_asm, asked_by, asked_check, asked_in, asked_of, asm_command, bound_command, check_command, debug_command, names_in as names_of_rows, names_of, priced_command, profile_rule, run_command, trace_command, wanted};
+ghost use Rattle.command_line.specs.Line.{arcwcet_command, asked_asm, asked_by, asked_check, asked_in};
+ghost use Rattle.command_line.specs.Line.{asked_of, asm_command, bound_command, check_command, debug_command};
+ghost use Rattle.command_line.specs.Line.{names_in as names_of_rows, names_of, priced_command, profile_rule};
+ghost use Rattle.command_line.specs.Line.{run_command, trace_command, wanted};
 
 use crate::line::{LineFault, Names, Request};
 use clap::error::ErrorKind;
@@ -65,14 +68,20 @@ fn with_priced<'a>(
     name: &'a str,
     second: &'a str,
 ) -> Result<Command<'a>, AllocError>
-    ensures { IfOk result (λ c. app_of c ≡ with_subcommand (app_of command.entry) (priced_command name.entry.now second.entry.now).top) }
+    ensures { IfOk result
+        (λ c. app_of c
+        ≡ with_subcommand (app_of command.entry) (priced_command name.entry.now second.entry.now).top) }
 {
     command.subcommand(priced(alloc, name, second)?)
 }
 
 /// A command with those that run a machine.
 fn with_machine<'a>(alloc: Global, command: Command<'a>) -> Result<Command<'a>, AllocError>
-    ensures { IfOk result (λ c. app_of c ≡ with_subcommand (with_subcommand (with_subcommand (app_of command.entry) run_command.top) trace_command.top) debug_command.top) }
+    ensures { IfOk result
+        (λ c. app_of c
+        ≡ with_subcommand
+        (with_subcommand
+        (with_subcommand (app_of command.entry) run_command.top) trace_command.top) debug_command.top) }
 {
     let command = with_priced(alloc, command, "run", "machine")?;
     let command = with_priced(alloc, command, "trace", "machine")?;
@@ -81,7 +90,9 @@ fn with_machine<'a>(alloc: Global, command: Command<'a>) -> Result<Command<'a>, 
 
 /// A command with those about a handler's longest run time.
 fn with_analysis<'a>(alloc: Global, command: Command<'a>) -> Result<Command<'a>, AllocError>
-    ensures { IfOk result (λ c. app_of c ≡ with_subcommand (with_subcommand (app_of command.entry) bound_command.top) check_command.top) }
+    ensures { IfOk result
+        (λ c. app_of c
+        ≡ with_subcommand (with_subcommand (app_of command.entry) bound_command.top) check_command.top) }
 {
     let command = with_priced(alloc, command, "bound", "statement")?;
     command.subcommand(check(alloc)?)

@@ -1,5 +1,6 @@
 -- What each command answers and what it leaves, and when it is refused (our own).
-use Rattle.std.specs.Prelude.{◌≡◌, ◌⊎◌, ℕ, ◌+◌, ◌*◌, ◌<◌, ◌≤◌, Bool, true, false, if◌then◌else◌, List, [], ◌∷◌, ◌++◌, codes, length, Option, Some, None, Ok, Err, is_some}
+use Rattle.std.specs.Prelude.{◌≡◌, ◌⊎◌, ℕ, ◌+◌, ◌*◌, ◌<◌, ◌≤◌, Bool, true, false, if◌then◌else◌, List, []}
+use Rattle.std.specs.Prelude.{◌∷◌, ◌++◌, codes, length, Option, Some, None, Ok, Err, is_some}
 use Rattle.std.specs.Int.RustNames.{bit_or}
 use Rattle.bitflags.specs.Sets.{without}
 use Rattle.ioc.specs.declared.lines.Lines.{Lines}
@@ -13,7 +14,8 @@ use Rattle.arm2_exec.specs.Run.{Runs, why_stopped}
 use Rattle.assembler.specs.ShownLines.{IsShown}
 use Rattle.trace_text.specs.TraceText.{TracesRun, hex8, registers_text, ticks_text}
 use Rattle.debugger.specs.declared.command.Command.{Command}
-use Rattle.debugger.specs.declared.command.Command.TheVariants.{Step, Run, ListBreaks, Break, Regs, Mem, Dis, Ticks, Burst, Line, Port}
+use Rattle.debugger.specs.declared.command.Command.TheVariants.{Step, Run, ListBreaks, Break, Regs, Mem, Dis}
+use Rattle.debugger.specs.declared.command.Command.TheVariants.{Ticks, Burst, Line, Port}
 use Rattle.debugger.specs.declared.fault.DebugFault.{DebugFault}
 use Rattle.debugger.specs.declared.fault.DebugFault.TheVariants.{NoPage, MachineStopped, TooManyBreaks}
 use Rattle.debugger.specs.declared.rows.Row.{Row}
@@ -32,17 +34,22 @@ AnswersStep s n answer after =
 
 -- the run of the first of some inputs
 abbrev pub RunsFirst : State → List Input → Ran → State → Type 0
-RunsFirst s inputs ran after = (taken : List Input) × (left : List Input) × (inputs ≡ taken ++ left) × Runs s taken (record ran { stopped = None }) after
+RunsFirst s inputs ran after =
+    (taken : List Input) × (left : List Input) × (inputs ≡ taken ++ left)
+    × Runs s taken (record ran { stopped = None }) after
 
 -- the last trace line of at least one step and up to so many, with an end at a breakpoint
 abbrev pub AnswersRun : SessionState → ℕ → List ℕ → SessionState → Type 0
 AnswersRun s n answer after =
     (ran : Ran) × (machine : State) × RunsFirst s.machine (inputs_of s.next n) ran machine × (0 < ran.steps)
-    × (lines : List (List ℕ)) × Watches s.breaks s.machine (inputs_of s.next n) lines ran machine × (answer ≡ last_line lines) × (after ≡ moved_on s ran machine)
+    × (lines : List (List ℕ)) × Watches s.breaks s.machine (inputs_of s.next n) lines ran machine
+    × (answer ≡ last_line lines) × (after ≡ moved_on s ran machine)
 
 -- the next step is stopped
 abbrev pub IsStopped : SessionState → Type 0
-IsStopped s = (told : Stepped) × (machine : State) × MachineStep s.machine s.next told machine × (is_some (why_stopped told.kind) ≡ true)
+IsStopped s =
+    (told : Stepped) × (machine : State) × MachineStep s.machine s.next told machine
+    × (is_some (why_stopped told.kind) ≡ true)
 
 -- ---- memory
 
@@ -65,13 +72,15 @@ IsWordRow address word row = row ≡ hex8 address ++ (codes " " ++ (hex8 word ++
 
 abbrev pub IsLineRow : (address word : ℕ) → List ℕ → Type 0
 IsLineRow address word row =
-    (line : List ℕ) × IsShown word address line × (row ≡ hex8 address ++ (codes " " ++ (hex8 word ++ (codes " " ++ (line ++ codes "\n")))))
+    (line : List ℕ) × IsShown word address line
+    × (row ≡ hex8 address ++ (codes " " ++ (hex8 word ++ (codes " " ++ (line ++ codes "\n")))))
 
 -- a row for each word
 abbrev pub Rows : (IsRow : ℕ → ℕ → List ℕ → Type 0) → (address : ℕ) → (words text : List ℕ) → Type 0
 Rows IsRow address [] text = text ≡ []
 Rows IsRow address (word ∷ words) text =
-    (row : List ℕ) × IsRow address word row × (rest : List ℕ) × Rows IsRow (address + 4) words rest × (text ≡ row ++ rest)
+    (row : List ℕ) × IsRow address word row × (rest : List ℕ) × Rows IsRow (address + 4) words rest
+    × (text ≡ row ++ rest)
 
 abbrev pub IsRowOf : Row → (address word : ℕ) → List ℕ → Type 0
 IsRowOf row.Word address word row = IsWordRow address word row
@@ -79,7 +88,8 @@ IsRowOf row.Line address word row = IsLineRow address word row
 
 abbrev pub ShowsSpan : Row → Memory → (address count : ℕ) → List ℕ → Type 0
 ShowsSpan shown m address count answer =
-    (words : List ℕ) × AreSeen m address words × (length words ≡ count) × Rows (IsRowOf shown) address words answer
+    (words : List ℕ) × AreSeen m address words × (length words ≡ count)
+    × Rows (IsRowOf shown) address words answer
 
 -- ---- settings
 
@@ -105,13 +115,15 @@ abbrev pub Answers : SessionState → Command → (answer : List ℕ) → (after
 Answers s (Step n) answer after = AnswersStep s n answer after
 Answers s (Run n) answer after = AnswersRun s n answer after
 Answers s ListBreaks answer after = Shows s after (Ascending s.breaks × (answer ≡ breaks_text s.breaks))
-Answers s (Break a) answer after = (length (toggled a s.breaks) ≤ 16) × Sets answer after (record s { breaks = toggled a s.breaks })
+Answers s (Break a) answer after =
+    (length (toggled a s.breaks) ≤ 16) × Sets answer after (record s { breaks = toggled a s.breaks })
 Answers s Regs answer after = Shows s after (answer ≡ registers_text s.machine.regs)
 Answers s (Mem a n) answer after = Shows s after (ShowsSpan row.Word s.machine.bus.memc a n answer)
 Answers s (Dis a n) answer after = Shows s after (ShowsSpan row.Line s.machine.bus.memc a n answer)
 Answers s Ticks answer after = Shows s after (answer ≡ ticks_text s.ticks s.elapsed)
 Answers s (Burst n) answer after = Sets answer after (record s { next = record s.next { bursts = n } })
-Answers s (Line line on) answer after = Sets answer after (record s { next = record s.next { lines = switched line on s.next.lines } })
+Answers s (Line line on) answer after =
+    Sets answer after (record s { next = record s.next { lines = switched line on s.next.lines } })
 Answers s (Port n) answer after = Sets answer after (record s { next = record s.next { port = n } })
 
 -- the refusals but that of memory
@@ -126,7 +138,10 @@ Refuses s _ fault = ⊥
 -- ---- lines
 
 abbrev pub AnswersLine : SessionState → (line answer : List ℕ) → SessionState → Type 0
-AnswersLine s line answer after = (command : Command) × (command_of line ≡ Ok command) × Answers s command answer after
+AnswersLine s line answer after =
+    (command : Command) × (command_of line ≡ Ok command) × Answers s command answer after
 
 abbrev pub RefusesLine : SessionState → (line : List ℕ) → DebugFault → Type 0
-RefusesLine s line fault = (command_of line ≡ Err fault) ⊎ ((command : Command) × (command_of line ≡ Ok command) × Refuses s command fault)
+RefusesLine s line fault =
+    (command_of line ≡ Err fault)
+    ⊎ ((command : Command) × (command_of line ≡ Ok command) × Refuses s command fault)

@@ -1,9 +1,11 @@
 -- The commands of a session and how a line says them (our own format).
-use Rattle.std.specs.Prelude.{◌==◌, ◌&&◌, ◌+◌, ◌-◌, ◌*◌, ◌%◌, ◌^◌, ◌≤◌, nat_le, ℕ, Bool, true, false, List, [], ◌∷◌, codes, Option, Some, None, Result, Ok, Err, if◌then◌else◌}
+use Rattle.std.specs.Prelude.{◌==◌, ◌&&◌, ◌+◌, ◌-◌, ◌*◌, ◌%◌, ◌^◌, ◌≤◌, nat_le, ℕ, Bool, true, false, List}
+use Rattle.std.specs.Prelude.{[], ◌∷◌, codes, Option, Some, None, Result, Ok, Err, if◌then◌else◌}
 use Rattle.std.specs.Str.{bytes_eq}
 use Rattle.ioc.specs.declared.lines.Lines.{Lines}
 use Rattle.debugger.specs.declared.command.Command.{Command}
-use Rattle.debugger.specs.declared.command.Command.TheVariants.{Step, Run, ListBreaks, Break, Regs, Mem, Dis, Ticks, Burst, Line, Port}
+use Rattle.debugger.specs.declared.command.Command.TheVariants.{Step, Run, ListBreaks, Break, Regs, Mem, Dis}
+use Rattle.debugger.specs.declared.command.Command.TheVariants.{Ticks, Burst, Line, Port}
 use Rattle.debugger.specs.declared.fault.DebugFault.{DebugFault}
 use Rattle.debugger.specs.declared.fault.DebugFault.TheVariants.{UnknownCommand, BadNumber}
 use Rattle.debugger.specs.Words.{number_of, words_of}
@@ -32,7 +34,11 @@ given (Err fault) command = Err fault
 -- ---- the names of the interrupt lines, those of machine files, each with its bit
 
 abbrev pub line_names : List (List ℕ × ℕ)
-line_names = (codes "A0", 0x1) ∷ (codes "A1", 0x2) ∷ (codes "A2", 0x4) ∷ (codes "IL0", 0x100) ∷ (codes "B1", 0x200) ∷ (codes "B2", 0x400) ∷ (codes "B3", 0x800) ∷ (codes "B4", 0x1000) ∷ (codes "B5", 0x2000) ∷ (codes "B6", 0x4000) ∷ (codes "B7", 0x8000) ∷ (codes "F0", 0x10000) ∷ (codes "F1", 0x20000) ∷ (codes "F2", 0x40000) ∷ (codes "F3", 0x80000) ∷ (codes "F4", 0x100000) ∷ (codes "F5", 0x200000) ∷ []
+line_names =
+    (codes "A0", 0x1) ∷ (codes "A1", 0x2) ∷ (codes "A2", 0x4) ∷ (codes "IL0", 0x100) ∷ (codes "B1", 0x200)
+    ∷ (codes "B2", 0x400) ∷ (codes "B3", 0x800) ∷ (codes "B4", 0x1000) ∷ (codes "B5", 0x2000)
+    ∷ (codes "B6", 0x4000) ∷ (codes "B7", 0x8000) ∷ (codes "F0", 0x10000) ∷ (codes "F1", 0x20000)
+    ∷ (codes "F2", 0x40000) ∷ (codes "F3", 0x80000) ∷ (codes "F4", 0x100000) ∷ (codes "F5", 0x200000) ∷ []
 
 abbrev pub line_in : List (List ℕ × ℕ) → List ℕ → Option Lines
 line_in [] name = None
@@ -65,7 +71,9 @@ two_words name number =
     else (if bytes_eq name (codes "run") then given (number_in 1 65536 number) (λ n. Run n)
     else (if bytes_eq name (codes "break") then given (address_in 1 number) (λ a. Break a)
     else (if bytes_eq name (codes "burst") then given (number_in 0 65535 number) (λ n. Burst n)
-    else (if bytes_eq name (codes "port") then given (number_in 0 (2 ^ 32 - 1) number) (λ n. Port n) else Err UnknownCommand))))
+    else
+    (if bytes_eq name (codes "port") then given (number_in 0 (2 ^ 32 - 1) number) (λ n. Port n)
+    else Err UnknownCommand))))
 
 -- an address and a number of words from 1 to 16
 abbrev pub span : Result ℕ DebugFault → (address : List ℕ) → (ℕ → ℕ → Command) → Result Command DebugFault

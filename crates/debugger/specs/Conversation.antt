@@ -24,10 +24,13 @@ Unless false text goes_on = goes_on
 
 -- a command changes the session and adds its answer; a refused one adds a line that names why
 abbrev pub Tells : SessionState → (line text : List ℕ) → SessionState → Type 0
-Tells s line text after = AnswersLine s line text after ⊎ ((fault : DebugFault) × RefusesLine s line fault × (text ≡ refusal_text fault) × (after ≡ s))
+Tells s line text after =
+    AnswersLine s line text after
+    ⊎ ((fault : DebugFault) × RefusesLine s line fault × (text ≡ refusal_text fault) × (after ≡ s))
 
 -- what a session tells to some lines, in their order, up to one that quits
 abbrev pub Converses : SessionState → (lines : List (List ℕ)) → (text : List ℕ) → Type 0
 Converses s [] text = text ≡ []
 Converses s (line ∷ rest) text = Unless (is_quit line) text (
-    (own : List ℕ) × (after : SessionState) × Tells s line own after × (more : List ℕ) × Converses after rest more × (text ≡ own ++ more))
+    (own : List ℕ) × (after : SessionState) × Tells s line own after × (more : List ℕ)
+    × Converses after rest more × (text ≡ own ++ more))

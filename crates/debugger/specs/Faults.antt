@@ -1,7 +1,8 @@
 -- The names of the refusals (our own).
 use Rattle.std.specs.Prelude.{ℕ, List, codes}
 use Rattle.debugger.specs.declared.fault.DebugFault.{DebugFault}
-use Rattle.debugger.specs.declared.fault.DebugFault.TheVariants.{Memory, UnknownCommand, BadNumber, NoPage, MachineStopped, TooManyBreaks}
+use Rattle.debugger.specs.declared.fault.DebugFault.TheVariants.{Memory, UnknownCommand, BadNumber, NoPage}
+use Rattle.debugger.specs.declared.fault.DebugFault.TheVariants.{MachineStopped, TooManyBreaks}
 
 abbrev pub fault_name : DebugFault → List ℕ
 fault_name Memory = codes "Memory"

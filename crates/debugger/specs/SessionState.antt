@@ -4,8 +4,8 @@ use Rattle.arm2_exec.specs.declared.machine.Input.{Input}
 use Rattle.arm2_exec.specs.declared.machine.Ran.{Ran}
 use Rattle.arm2_exec.specs.State.{State}
 
--- a machine, its breakpoints ascending, what comes from outside in the next step, and the sums of the ticks of all runs,
--- without those of bursts and with them
+-- a machine, its breakpoints ascending, what comes from outside in the next step, and the sums of the ticks
+-- of all runs, without those of bursts and with them
 pub record SessionState : Type 0 where
   pub machine : State
   pub breaks : List ℕ

@@ -1,5 +1,6 @@
 -- A run of the machine that is watched: the line of each step, and an end at a breakpoint (our own).
-use Rattle.std.specs.Prelude.{◌≡◌, ◌+◌, ◌*◌, ◌≤◌, ℕ, zero, suc, Bool, true, false, List, [], ◌∷◌, ◌++◌, ◌==◌, Option, Some, None}
+use Rattle.std.specs.Prelude.{◌≡◌, ◌+◌, ◌*◌, ◌≤◌, ℕ, zero, suc, Bool, true, false, List, [], ◌∷◌, ◌++◌, ◌==◌}
+use Rattle.std.specs.Prelude.{Option, Some, None}
 use Rattle.std.specs.List.{list_any}
 use Rattle.arm2_effect.specs.declared.done.Why.{Why}
 use Rattle.arm2_exec.specs.declared.machine.Input.{Input}
@@ -36,8 +37,8 @@ abbrev pub UpTo : (at_break : Bool) → State → List (List ℕ) → Ran → St
 UpTo true s lines ran after goes_on = Rests s None lines ran after
 UpTo false s lines ran after goes_on = goes_on
 
--- The run from a state by some inputs: the trace lines of its steps, what it tells and where it ends. It ends before a
--- step that is stopped, and behind any step also before the instruction at a breakpoint.
+-- The run from a state by some inputs: the trace lines of its steps, what it tells and where it ends. It ends
+-- before a step that is stopped, and behind any step also before the instruction at a breakpoint.
 abbrev pub Watches : (breaks : List ℕ) → State → List Input → (lines : List (List ℕ)) → Ran → State → Type 0
 Watches breaks s [] lines ran after = Rests s None lines ran after
 Watches breaks s (i ∷ rest) lines ran after =

@@ -36,7 +36,8 @@ fn tell(
     session: &mut Session,
     line: &[u8],
 ) -> Result<(), DebugFault>
-    ensures ok { OnOk result (Adds (λ text. Tells session.old line.now text session.new) out.old.items out.new.items) }
+    ensures ok { OnOk result
+        (Adds (λ text. Tells session.old line.now text session.new) out.old.items out.new.items) }
     ensures err { IfErr result (λ fault. fault ≡ DebugFault.Memory) }
 {
     match session.command(alloc, line) {
@@ -86,8 +87,9 @@ fn hold(out: &mut Vec<u8>, alloc: Global, session: Session, lines: &[u8]) -> Res
 
 /// A whole session: what it answers to command lines, in their order, up to a line whose one word is `quit`.
 ///
-/// The port holds the word `port` until `port N`. Lines are those of a source's text. A refused command answers `refused: ` and the fault's name, and the
-/// session goes on. `Memory`, the one error: a growth was refused.
+/// The port holds the word `port` until `port N`. Lines are those of a source's text. A refused command
+/// answers `refused: ` and the fault's name, and the session goes on. `Memory`, the one error: a growth was
+/// refused.
 pub fn converse(
     alloc: Global,
     machine: Machine,

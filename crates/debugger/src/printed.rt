@@ -3,7 +3,8 @@
 ghost use Rattle.std.specs.Prelude.{◌≡◌, ◌++◌, ◌+◌, ◌≤◌, ◌<◌, decimal, length, vec_capacity};
 ghost use Rattle.assembler.specs.Shown.{hex_char, hex_chars};
 ghost use Rattle.assembler.specs.ShownLines.{IsShown};
-ghost use Rattle.trace_text.specs.TraceText.{Adds, IsTraceLine, IsWordLine, exception_name, front_text, hex8, word_text};
+ghost use Rattle.trace_text.specs.TraceText.{Adds, IsTraceLine, IsWordLine, exception_name, front_text, hex8};
+ghost use Rattle.trace_text.specs.TraceText.{word_text};
 
 use arm2_exec::{Kind, Vector};
 use assembler::disassemble;

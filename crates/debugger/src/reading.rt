@@ -1,5 +1,7 @@
 ghost use Rattle.std.specs.Prelude.{◌≡◌, ◌+◌, ◌*◌, ◌^◌, ◌≤◌, IfOk};
-ghost use Rattle.debugger.specs.Commands.{IsInRange, address_in, command_of as line_says, line_command, line_named, number_in as number_within, one_word as one_says, switched, three_words as three_say, two_words as two_say};
+ghost use Rattle.debugger.specs.Commands.{IsInRange, address_in, command_of as line_says, line_command};
+ghost use Rattle.debugger.specs.Commands.{line_named, number_in as number_within, one_word as one_says};
+ghost use Rattle.debugger.specs.Commands.{switched, three_words as three_say, two_words as two_say};
 
 use crate::command::Command;
 use crate::fault::DebugFault;

@@ -1,7 +1,10 @@
-ghost use Rattle.std.specs.Prelude.{◌≡◌, ◌⊎◌, ◌+◌, ◌*◌, ◌^◌, ◌<◌, ◌≤◌, ◌≢◌, nat_lt, slice_index, true, false, IfOk, IfErr, OnErr, OnOk, MatchOption, length};
+ghost use Rattle.std.specs.Prelude.{◌≡◌, ◌⊎◌, ◌+◌, ◌*◌, ◌^◌, ◌<◌, ◌≤◌, ◌≢◌, nat_lt, slice_index, true, false};
+ghost use Rattle.std.specs.Prelude.{IfOk, IfErr, OnErr, OnOk, MatchOption, length};
 ghost use Rattle.std.specs.List.{prefix_len};
 ghost use Rattle.trace_text.specs.TraceText.{registers_text, ticks_text};
-ghost use Rattle.debugger.specs.Answers.{Answers, AnswersLine, AnswersRun, AnswersStep, AreSeen, HasGap, IsStopped, Refuses, RefusesLine, Sets, ShowsSpan, breaks_text, seen as word_seen, switched as line_switched};
+ghost use Rattle.debugger.specs.Answers.{Answers, AnswersLine, AnswersRun, AnswersStep, AreSeen, HasGap};
+ghost use Rattle.debugger.specs.Answers.{IsStopped, Refuses, RefusesLine, Sets, ShowsSpan, breaks_text};
+ghost use Rattle.debugger.specs.Answers.{seen as word_seen, switched as line_switched};
 ghost use Rattle.debugger.specs.Commands.{IsInRange};
 ghost use Rattle.debugger.specs.SessionState.{Ascending, begun, moved_on, toggled};
 
@@ -26,7 +29,8 @@ const BREAKS: usize = 16;
 /// The most words that `mem` and `dis` show.
 const WORDS: usize = 16;
 
-/// A machine that is stepped by commands, with its breakpoints, the inputs of its next step, and the sums of its ticks.
+/// A machine that is stepped by commands, with its breakpoints, the inputs of its next step, and the sums of
+/// its ticks.
 #[derive(Drop)]
 pub struct Session {
     machine: Machine,
@@ -42,7 +46,13 @@ impl Model for Session {
 
     ghost Value = { SessionState };
 
-    ghost view = { λ s. record { machine = s.machine; breaks = s.breaks.items; next = s.next; ticks = s.ticks; elapsed = s.elapsed } };
+    ghost view = { λ s. record {
+      machine = s.machine;
+      breaks = s.breaks.items;
+      next = s.next;
+      ticks = s.ticks;
+      elapsed = s.elapsed;
+    } };
 
     ghost invariant = { λ s. Ascending s.breaks.items };
 }
@@ -74,25 +84,29 @@ impl Session {
 
     /// Obeys one command line, without its end. The answer's lines end with LF; a setting answers nothing.
     ///
-    /// - `step N`, 1 to 1024 steps, 1 where no number stands: their trace lines, up to a step that is stopped.
-    /// - `run N`, 1 to 65,536 steps: the last trace line. It ends before a step that is stopped, and after its first step
-    ///   also before the instruction at a breakpoint.
+    /// - `step N`, 1 to 1024 steps, 1 where no number stands: their trace lines, up to a step that is
+    ///   stopped.
+    /// - `run N`, 1 to 65,536 steps: the last trace line. It ends before a step that is stopped, and after
+    ///   its first step also before the instruction at a breakpoint.
     /// - `break A` adds a breakpoint or removes it, 16 at most; `break` lists them, ascending.
-    /// - `regs`: the registers. `ticks`: the sums of the processor's ticks in all runs, and of the ticks that passed
-    ///   meanwhile, bursts and all; each stays at 2^128 - 1.
+    /// - `regs`: the registers. `ticks`: the sums of the processor's ticks in all runs, and of the ticks that
+    ///   passed meanwhile, bursts and all; each stays at 2^128 - 1.
     /// - `mem A N`, `dis A N`: 1 to 16 words of RAM or ROM from an address, as a privileged load finds them.
-    /// - `burst N`, 0 to 65,535: DMA bursts in the next step alone. `line NAME on` and `off`, `port N`: IOC's interrupt
-    ///   lines, by the names that a machine file gives them, and the port's word from the next step on.
+    /// - `burst N`, 0 to 65,535: DMA bursts in the next step alone. `line NAME on` and `off`, `port N`: IOC's
+    ///   interrupt lines, by the names that a machine file gives them, and the port's word from the next step
+    ///   on.
     ///
     /// A refused command, also one that memory refuses, leaves the session as it was.
     ///
     /// # Errors
     ///
-    /// `UnknownCommand` and `BadNumber` by the line alone. Of a command that is spelled well: `NoPage` of `mem` and `dis`,
-    /// `MachineStopped` of `step` and `run`, `TooManyBreaks` of `break`. `Memory`: a growth was refused, of any command.
+    /// `UnknownCommand` and `BadNumber` by the line alone. Of a command that is spelled well: `NoPage` of
+    /// `mem` and `dis`, `MachineStopped` of `step` and `run`, `TooManyBreaks` of `break`. `Memory`: a growth
+    /// was refused, of any command.
     pub fn command(&mut self, alloc: Global, line: &[u8]) -> Result<Vec<u8>, DebugFault>
         ensures ok { IfOk result (λ answer. AnswersLine self.old line.now answer.items self.new) }
-        ensures err { IfErr result (λ fault. (fault ≡ DebugFault.Memory) ⊎ RefusesLine self.old line.now fault) }
+        ensures err { IfErr result
+            (λ fault. (fault ≡ DebugFault.Memory) ⊎ RefusesLine self.old line.now fault) }
         ensures unchanged { OnErr result (self.new ≡ self.old) }
     {
         let command = read_command(line)?;
@@ -127,7 +141,9 @@ impl Session {
     fn step(&mut self, alloc: Global, steps: u32) -> Result<Vec<u8>, DebugFault>
         requires { (1 ≤ steps) × (steps ≤ 1024) }
         ensures ok { IfOk result (λ answer. AnswersStep self.old steps answer.items self.new) }
-        ensures err { IfErr result (λ fault. (fault ≡ DebugFault.Memory) ⊎ ((fault ≡ DebugFault.MachineStopped) × IsStopped self.old)) }
+        ensures err { IfErr result
+            (λ fault. (fault ≡ DebugFault.Memory)
+            ⊎ ((fault ≡ DebugFault.MachineStopped) × IsStopped self.old)) }
         ensures unchanged { OnErr result (self.new ≡ self.old) }
     {
         let mut answer = Vec::with_capacity(alloc, steps as usize * LINE_ROOM)?;
@@ -149,7 +165,9 @@ impl Session {
     fn run(&mut self, alloc: Global, steps: u32) -> Result<Vec<u8>, DebugFault>
         requires { (1 ≤ steps) × (steps ≤ 65536) }
         ensures ok { IfOk result (λ answer. AnswersRun self.old steps answer.items self.new) }
-        ensures err { IfErr result (λ fault. (fault ≡ DebugFault.Memory) ⊎ ((fault ≡ DebugFault.MachineStopped) × IsStopped self.old)) }
+        ensures err { IfErr result
+            (λ fault. (fault ≡ DebugFault.Memory)
+            ⊎ ((fault ≡ DebugFault.MachineStopped) × IsStopped self.old)) }
         ensures unchanged { OnErr result (self.new ≡ self.old) }
     {
         let mut answer = Vec::with_capacity(alloc, LINE_ROOM)?;
@@ -187,8 +205,11 @@ impl Session {
     }
 
     fn toggle(&mut self, alloc: Global, address: u32) -> Result<Vec<u8>, DebugFault>
-        ensures ok { IfOk result (λ answer. (length (toggled address self.old.breaks) ≤ 16) × Sets answer.items self.new (record self.old { breaks = toggled address self.old.breaks })) }
-        ensures err { IfErr result (λ fault. (fault ≡ DebugFault.TooManyBreaks) × (16 < length (toggled address self.old.breaks))) }
+        ensures ok { IfOk result
+            (λ answer. (length (toggled address self.old.breaks) ≤ 16)
+            × Sets answer.items self.new (record self.old { breaks = toggled address self.old.breaks })) }
+        ensures err { IfErr result
+            (λ fault. (fault ≡ DebugFault.TooManyBreaks) × (16 < length (toggled address self.old.breaks))) }
         ensures unchanged { OnErr result (self.new ≡ self.old) }
     {
         toggle_break(&mut self.breaks, address)?;
@@ -196,7 +217,8 @@ impl Session {
     }
 
     fn list_breaks(&self, alloc: Global) -> Result<Vec<u8>, DebugFault>
-        ensures ok { IfOk result (λ answer. Ascending self.now.breaks × (answer.items ≡ breaks_text self.now.breaks)) }
+        ensures ok { IfOk result
+            (λ answer. Ascending self.now.breaks × (answer.items ≡ breaks_text self.now.breaks)) }
         ensures err { IfErr result (λ fault. fault ≡ DebugFault.Memory) }
     {
         let mut answer = Vec::with_capacity(alloc, BREAKS * 9)?;
@@ -236,7 +258,8 @@ impl Session {
 
     fn words(&self, address: u32, count: u32) -> Option<ArrayVec<u32, WORDS>>
         requires { (address + 4 * count ≤ 2 ^ 26) × (count ≤ 16) }
-        ensures { MatchOption result (HasGap self.now.machine.bus.memc address count) (λ words. AreSeen self.now.machine.bus.memc address words.items × (length words.items ≡ count)) }
+        ensures { MatchOption result (HasGap self.now.machine.bus.memc address count)
+            (λ words. AreSeen self.now.machine.bus.memc address words.items × (length words.items ≡ count)) }
     {
         let mut words = ArrayVec::new();
         for k in 0..count {
@@ -248,8 +271,11 @@ impl Session {
 
     fn span(&self, alloc: Global, row: Row, address: u32, count: u32) -> Result<Vec<u8>, DebugFault>
         requires { (address + 4 * count ≤ 2 ^ 26) × (count ≤ 16) }
-        ensures ok { IfOk result (λ answer. ShowsSpan row self.now.machine.bus.memc address count answer.items) }
-        ensures err { IfErr result (λ fault. (fault ≡ DebugFault.Memory) ⊎ ((fault ≡ DebugFault.NoPage) × HasGap self.now.machine.bus.memc address count)) }
+        ensures ok { IfOk result
+            (λ answer. ShowsSpan row self.now.machine.bus.memc address count answer.items) }
+        ensures err { IfErr result
+            (λ fault. (fault ≡ DebugFault.Memory)
+            ⊎ ((fault ≡ DebugFault.NoPage) × HasGap self.now.machine.bus.memc address count)) }
     {
         let mut answer = Vec::with_capacity(alloc, count as usize * ROW_ROOM)?;
         let Some(words) = self.words(address, count) else {
@@ -299,7 +325,8 @@ fn toggle_break(breaks: &mut ArrayVec<u32, BREAKS>, address: u32) -> Result<(), 
     ensures ok { OnOk result (breaks.new.items ≡ toggled address breaks.old.items) }
     ensures few { OnOk result (length (toggled address breaks.old.items) ≤ 16) }
     ensures ascending { Ascending breaks.new.items }
-    ensures err { IfErr result (λ fault. (fault ≡ DebugFault.TooManyBreaks) × (16 < length (toggled address breaks.old.items))) }
+    ensures err { IfErr result
+        (λ fault. (fault ≡ DebugFault.TooManyBreaks) × (16 < length (toggled address breaks.old.items))) }
     ensures unchanged { OnErr result (breaks.new.items ≡ breaks.old.items) }
 {
     let at = below(breaks, address);

@@ -32,8 +32,10 @@ fn is_at_break(breaks: &[u32], machine: &Machine) -> bool
 
 fn put_line(out: &mut Vec<u8>, keep: Keep, traced: &Traced)
     requires { HasRoom keep (length out.old.items) 1 (vec_capacity out.old) }
-    ensures text { (line : List ℕ) × IsTraceLine traced.now line × (out.new.items ≡ kept_line keep out.old.items line) }
-    ensures room { (lines : ℕ) → HasRoom keep (length out.old.items) (lines + 1) (vec_capacity out.old) → HasRoom keep (length out.new.items) lines (vec_capacity out.new) }
+    ensures text { (line : List ℕ) × IsTraceLine traced.now line
+        × (out.new.items ≡ kept_line keep out.old.items line) }
+    ensures room { (lines : ℕ) → HasRoom keep (length out.old.items) (lines + 1) (vec_capacity out.old)
+        → HasRoom keep (length out.new.items) lines (vec_capacity out.new) }
 {
     match keep {
         Keep::All => put_trace(out, traced),
@@ -44,8 +46,9 @@ fn put_line(out: &mut Vec<u8>, keep: Keep, traced: &Traced)
     }
 }
 
-/// Steps a machine up to so many times: up to a step that is stopped, and behind each step to a breakpoint. It keeps the
-/// trace lines in room that was taken. The bursts of the first input are those of the first step alone.
+/// Steps a machine up to so many times: up to a step that is stopped, and behind each step to a breakpoint.
+/// It keeps the trace lines in room that was taken. The bursts of the first input are those of the first step
+/// alone.
 pub(crate) fn run_watched(
     out: &mut Vec<u8>,
     machine: &mut Machine,
@@ -57,7 +60,9 @@ pub(crate) fn run_watched(
     requires empty { out.old.items ≡ [] }
     requires room { HasRoom keep 0 steps (vec_capacity out.old) }
     requires some { 0 < steps }
-    ensures { (lines : List (List ℕ)) × Watches breaks.now machine.old (inputs_of first steps) lines result machine.new × (out.new.items ≡ kept keep lines) }
+    ensures { (lines : List (List ℕ))
+        × Watches breaks.now machine.old (inputs_of first steps) lines result machine.new
+        × (out.new.items ≡ kept keep lines) }
 {
     let mut ran = Ran {
         steps: 0,

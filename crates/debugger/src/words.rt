@@ -35,7 +35,8 @@ fn without_blanks(text: &[u8]) -> &[u8]
 
 /// The first word of a line, and what stands behind it. None where there is no word.
 pub(crate) fn first_word(line: &[u8]) -> Option<(&[u8], &[u8])>
-    ensures { MatchOption result (words_of line.now ≡ []) (λ f. words_of line.now ≡ f.0.now ∷ words_of f.1.now) }
+    ensures { MatchOption result (words_of line.now ≡ [])
+        (λ f. words_of line.now ≡ f.0.now ∷ words_of f.1.now) }
 {
     let text = without_blanks(line);
     if text.is_empty() {

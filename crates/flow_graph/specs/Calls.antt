@@ -13,4 +13,5 @@ abbrev pub addresses_of : Inside → List ℕ
 addresses_of calls = take calls.len calls.slots
 
 abbrev pub calls_of : List ℕ → Inside
-calls_of addresses = record { len = length addresses; slots = addresses ++ replicate (8 - length addresses) 0 }
+calls_of addresses =
+    record { len = length addresses; slots = addresses ++ replicate (8 - length addresses) 0 }

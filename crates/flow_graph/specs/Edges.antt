@@ -1,7 +1,8 @@
 -- The edges of a place, and their costs in ticks. Source: our own cycle profile, with each access at its
 -- dearest; where a word leads is the VL86C010 data sheet's; of a word that writes R15 the author states it,
 -- and where nothing is stated it returns, by our own rule.
-use Rattle.std.specs.Prelude.{◌≡◌, ℕ, ◌+◌, ◌-◌, ◌*◌, ◌%◌, ◌^◌, true, false, cond, nat_eq, nat_lt, List, [], ◌∷◌, ◌++◌, length, take, map, slice_index, Option, Some, None, Contains}
+use Rattle.std.specs.Prelude.{◌≡◌, ℕ, ◌+◌, ◌-◌, ◌*◌, ◌%◌, ◌^◌, true, false, cond, nat_eq, nat_lt, List, []}
+use Rattle.std.specs.Prelude.{◌∷◌, ◌++◌, length, take, map, slice_index, Option, Some, None, Contains}
 use Rattle.bus_ticks.specs.Worst.{worst_n_price, worst_s_price, worst_block, worst_leave_of}
 use Rattle.bus_ticks.specs.declared.profile.Class.{Class}
 use Rattle.bus_ticks.specs.declared.profile.Profile.{Profile}
@@ -26,14 +27,16 @@ use Rattle.statement.specs.declared.stated.TargetKind.TheVariants as stated
 abbrev pub wrapped : ℕ → ℕ
 wrapped n = n % 2 ^ 26
 
--- a branch counts words from the one after the next, signed in 24 bits: as addresses wrap after 2^24 words, the
--- number leads to the same word unsigned
+-- a branch counts words from the one after the next, signed in 24 bits: as addresses wrap after 2^24 words,
+-- the number leads to the same word unsigned
 abbrev pub target : ℕ → ℕ → ℕ
 target address offset = wrapped (address + 8 + 4 * offset)
 
 -- a return takes the last call away and goes past it; with no call it leaves the handler
 abbrev pub returning : List ℕ → Place
-returning calls = cond (nat_eq (length calls) 0) Exit (At (take (length calls - 1) calls) (wrapped (slice_index calls (length calls - 1) + 4)))
+returning calls =
+    cond (nat_eq (length calls) 0) Exit
+    (At (take (length calls - 1) calls) (wrapped (slice_index calls (length calls - 1) + 4)))
 
 -- at each of the addresses, inside the calls
 abbrev pub inside : List ℕ → List ℕ → List Place
@@ -99,28 +102,38 @@ arriving leave profile Unallocated to = 0
 -- what a word costs where its condition holds
 abbrev pub doing : Stated → Profile → ℕ → Action → Place → ℕ
 doing st profile address action to =
-    fetching profile address action.work + working profile (class_of st address) action.work + arriving st.leave profile action.kind to
+    fetching profile address action.work + working profile (class_of st address) action.work
+    + arriving st.leave profile action.kind to
 
 -- ## Edges
 
 abbrev pub skip_edge : Profile → List ℕ → ℕ → Edge
-skip_edge profile calls address = record { from = At calls address; label = Skip; to = At calls (wrapped (address + 4)); cost = passing profile address }
+skip_edge profile calls address =
+    record {
+      from = At calls address;
+      label = Skip;
+      to = At calls (wrapped (address + 4));
+      cost = passing profile address;
+    }
 
 abbrev pub do_edge : Stated → Profile → List ℕ → ℕ → Action → Place → Edge
-do_edge st profile calls address action to = record { from = At calls address; label = Do; to = to; cost = doing st profile address action to }
+do_edge st profile calls address action to =
+    record { from = At calls address; label = Do; to = to; cost = doing st profile address action to }
 
 abbrev pub skips : Profile → List ℕ → ℕ → Action → List Edge
 skips profile calls address action = cond (is_always action.cond) [] (skip_edge profile calls address ∷ [])
 
 abbrev pub done : Stated → Profile → List ℕ → ℕ → Action → List Edge
-done st profile calls address action = map (do_edge st profile calls address action) (landings st calls address action.kind)
+done st profile calls address action =
+    map (do_edge st profile calls address action) (landings st calls address action.kind)
 
 abbrev pub dos : Stated → Profile → List ℕ → ℕ → Action → List Edge
 dos st profile calls address action = cond (is_never action.cond) [] (done st profile calls address action)
 
 -- a word may be passed over unless its condition always holds, and done unless it never does
 abbrev pub word_edges : Stated → Profile → List ℕ → ℕ → Action → List Edge
-word_edges st profile calls address action = skips profile calls address action ++ dos st profile calls address action
+word_edges st profile calls address action =
+    skips profile calls address action ++ dos st profile calls address action
 
 -- the image has a word at the address, which does this
 pub record HasAction (words : Words) (address : ℕ) (action : Action) : Type 0 where
@@ -131,7 +144,9 @@ pub record HasAction (words : Words) (address : ℕ) (action : Action) : Type 0 
 module _ (words : Words) (st : Stated) (profile : Profile) where
   -- the edges that a place has by its word
   abbrev pub AreEdgesOf : Place → List Edge → Type 0
-  AreEdgesOf (At calls address) edges = (action : Action) × HasAction words address action × (edges ≡ word_edges st profile calls address action)
+  AreEdgesOf (At calls address) edges =
+      (action : Action) × HasAction words address action
+      × (edges ≡ word_edges st profile calls address action)
   AreEdgesOf Exit edges = edges ≡ []
 
   -- one of the edges that its first place has

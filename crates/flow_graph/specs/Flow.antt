@@ -1,5 +1,6 @@
 -- A flow graph as a value: its places in order, and the edges of each in turn (our own format).
-use Rattle.std.specs.Prelude.{◌≡◌, ℕ, ◌+◌, ◌<◌, ◌≤◌, ◌^◌, List, [], length, slice_index, slice_index_or, Contains, ◌⊎◌}
+use Rattle.std.specs.Prelude.{◌≡◌, ℕ, ◌+◌, ◌<◌, ◌≤◌, ◌^◌, List, [], length, slice_index, slice_index_or}
+use Rattle.std.specs.Prelude.{Contains, ◌⊎◌}
 use Rattle.std.specs.List.Sorted.{IsStrictlySortedBy}
 use Rattle.walks.specs.Walk.{Shape, IsReached}
 use Rattle.bus_ticks.specs.declared.profile.Profile.{Profile}
@@ -8,8 +9,8 @@ use Rattle.flow_graph.specs.declared.places.Place.TheVariants.{At, Exit}
 use Rattle.flow_graph.specs.declared.edges.Edge.{Edge}
 use Rattle.flow_graph.specs.Places.{IsInRange, place_cmp, place_at}
 
--- where walks start, the places but Exit, their edges, where the edges of each place begin (and at the end the
--- number of edges), and the profile of the costs
+-- where walks start, the places but Exit, their edges, where the edges of each place begin (and at the end
+-- the number of edges), and the profile of the costs
 pub record Flow : Type 0 where
   pub entry : Place
   pub places : List Place
@@ -41,4 +42,5 @@ pub record IsWellFormed (flow : Flow) : Type 0 where
   pub first_zero : slice_index flow.firsts 0 ≡ 0
   pub last_all : slice_index flow.firsts (length flow.places) ≡ length flow.edges
   pub rising : (v : ℕ) → v < length flow.places → slice_index flow.firsts v ≤ slice_index flow.firsts (v + 1)
-  pub part : (v k : ℕ) (d : Edge) → v < length flow.places → slice_index flow.firsts v ≤ k → k < slice_index flow.firsts (v + 1) → (slice_index_or flow.edges k d).from ≡ place_at flow.places v
+  pub part : (v k : ℕ) (d : Edge) → v < length flow.places → slice_index flow.firsts v ≤ k
+      → k < slice_index flow.firsts (v + 1) → (slice_index_or flow.edges k d).from ≡ place_at flow.places v

@@ -1,5 +1,6 @@
 -- The flow graph of a handler, and why there is none (our own format).
-use Rattle.std.specs.Prelude.{◌≡◌, ℕ, ◌+◌, ◌<◌, ◌≤◌, Bool, true, false, List, [], ◌∷◌, length, Option, Some, None, Contains, ◌↔◌}
+use Rattle.std.specs.Prelude.{◌≡◌, ℕ, ◌+◌, ◌<◌, ◌≤◌, Bool, true, false, List, [], ◌∷◌, length, Option, Some}
+use Rattle.std.specs.Prelude.{None, Contains, ◌↔◌}
 use Rattle.std.specs.List.{AllZip, flat_map}
 use Rattle.std.specs.List.Sorted.{IsStrictlySortedBy}
 use Rattle.std.specs.Map.{keys_of}
@@ -26,7 +27,8 @@ use Rattle.statement.specs.declared.stated.TargetKind.TheVariants as stated
 abbrev pub start_of : Stated → Place
 start_of st = At [] st.entry
 
--- where the edges of each place begin when those of the places are put one after another, and where they all end
+-- where the edges of each place begin when those of the places are put one after another, and where they all
+-- end
 abbrev pub starts_from : ℕ → List (List Edge) → List ℕ
 starts_from n [] = n ∷ []
 starts_from n (part ∷ parts) = n ∷ starts_from (n + length part) parts

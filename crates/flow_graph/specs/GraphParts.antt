@@ -3,4 +3,11 @@ use Rattle.flow_graph.specs.declared.flow.Graph.TheInside.{Inside}
 use Rattle.flow_graph.specs.Flow.{Flow}
 
 abbrev pub flow_of : Inside → Flow
-flow_of graph = record { entry = graph.entry; places = graph.places.items; edges = graph.edges.items; firsts = graph.firsts.items; profile = graph.profile }
+flow_of graph =
+    record {
+      entry = graph.entry;
+      places = graph.places.items;
+      edges = graph.edges.items;
+      firsts = graph.firsts.items;
+      profile = graph.profile;
+    }

@@ -1,5 +1,6 @@
 -- What the search for places knows on its way (our own).
-use Rattle.std.specs.Prelude.{◌≡◌, ℕ, ◌<◌, ◌≤◌, cond, nat_lt, List, [], ◌∷◌, ◌++◌, length, slice_index_or, Option, Some, None, Contains, IsTrue, ◌↔◌, ◌⊎◌}
+use Rattle.std.specs.Prelude.{◌≡◌, ℕ, ◌<◌, ◌≤◌, cond, nat_lt, List, [], ◌∷◌, ◌++◌, length, slice_index_or}
+use Rattle.std.specs.Prelude.{Option, Some, None, Contains, IsTrue, ◌↔◌, ◌⊎◌}
 use Rattle.std.specs.List.{AllZip, flat_map}
 use Rattle.std.specs.List.Sorted.{IsStrictlySortedBy}
 use Rattle.std.specs.BTreeSet.{BTreeSet, contains, btree_set_len}
@@ -95,11 +96,13 @@ kind_fault st calls address kind.Trap = Some (fault.TrapInHandler address)
 kind_fault st calls address kind.Unallocated = Some (fault.UnallocatedWord address)
 
 abbrev pub action_fault : Stated → List ℕ → ℕ → Action → Option BuildFault
-action_fault st calls address action = cond (is_never action.cond) None (kind_fault st calls address action.kind)
+action_fault st calls address action =
+    cond (is_never action.cond) None (kind_fault st calls address action.kind)
 
 -- the place has an image word that is not refused
 abbrev pub IsSound : Words → Stated → Place → Type 0
-IsSound words st (At calls address) = (action : Action) × HasAction words address action × (action_fault st calls address action ≡ None)
+IsSound words st (At calls address) =
+    (action : Action) × HasAction words address action × (action_fault st calls address action ≡ None)
 IsSound words st Exit = Unit {0}
 
 -- why the place has no edges
@@ -146,7 +149,9 @@ module _ (words : Words) (st : Stated) (profile : Profile) where
   abbrev pub IsVisitFault : List Place → Place → BuildFault → Type 0
   IsVisitFault order p f =
       IsEdgeFault words st p f
-      ⊎ ((f ≡ fault.TooManyPlaces) × (edges : List Edge) × AreEdgesOf words st profile p edges × IsCrowdedBy order edges)
+      ⊎
+      ((f ≡ fault.TooManyPlaces) × (edges : List Edge) × AreEdgesOf words st profile p edges
+      × IsCrowdedBy order edges)
 
   -- no reason to refuse
   pub record IsAllowed (places : List Place) : Type 0 where
@@ -164,4 +169,5 @@ module _ (words : Words) (st : Stated) (profile : Profile) where
 
 -- why the edges of the places are not put one after another
 abbrev pub IsTurnFault : Words → Stated → List Place → BuildFault → Type 0
-IsTurnFault words st places f = (f ≡ fault.Memory) ⊎ ((p : Place) × Contains places p × IsPlaceFault words st p f)
+IsTurnFault words st places f =
+    (f ≡ fault.Memory) ⊎ ((p : Place) × Contains places p × IsPlaceFault words st p f)

@@ -1,5 +1,7 @@
--- The machine's steps against the edges of the flow graph (our own cycle profile, shaped on the VL86C010 data sheet).
-use Rattle.std.specs.Prelude.{◌≡◌, ◌≢◌, ℕ, ◌+◌, ◌*◌, ◌≤◌, Bool, true, if◌then◌else◌, List, [], ◌∷◌, length, sum_by, Contains, ◌⊎◌}
+-- The machine's steps against the edges of the flow graph (our own cycle profile, shaped on the VL86C010 data
+-- sheet).
+use Rattle.std.specs.Prelude.{◌≡◌, ◌≢◌, ℕ, ◌+◌, ◌*◌, ◌≤◌, Bool, true, if◌then◌else◌, List, [], ◌∷◌, length}
+use Rattle.std.specs.Prelude.{sum_by, Contains, ◌⊎◌}
 use Rattle.bus_ticks.specs.declared.profile.Class.{Class}
 use Rattle.bus_ticks.specs.declared.profile.Profile.{Profile}
 use Rattle.bus_ticks.specs.Worst.{IsOf}
@@ -46,16 +48,19 @@ IsPlaceOf st t Exit = IsOf st.leave t
 
 -- each word that is transferred stands at an address of the class
 abbrev pub TransfersIn : Class → List Access → Type 0
-TransfersIn class accesses = (store first : Bool) (address : ℕ) → Contains accesses (Word store first address) → IsOf class address
+TransfersIn class accesses =
+    (store first : Bool) (address : ℕ) → Contains accesses (Word store first address) → IsOf class address
 
 module _ (words : Words) (st : Stated) (profile : Profile) where
   -- no refusal of the graph applies, but that memory may run out
   abbrev pub IsAccepted : Type 0
   IsAccepted = (f : BuildFault) → f ≢ fault.Memory → IsBuildFault words st profile f → ⊥
 
-  -- A step that executes the image's word at its address: it takes no exception and does not stop, and its words are of
-  -- the class stated for the address. The machine has 27 registers, and the prices are those of the profile.
-  pub record Executes (action : Action) (s : State) (i : Input) (told : Stepped) (after : State) : Type 0 where
+  -- A step that executes the image's word at its address: it takes no exception and does not stop, and its
+  -- words are of the class stated for the address. The machine has 27 registers, and the prices are those of
+  -- the profile.
+  pub record Executes (action : Action) (s : State) (i : Input) (told : Stepped)
+      (after : State) : Type 0 where
     pub registers : length s.regs ≡ 27
     pub prices : s.profile ≡ profile
     pub has : HasAction words (address_in s.regs) action
@@ -71,7 +76,8 @@ module _ (words : Words) (st : Stated) (profile : Profile) where
     pub label : e.label ≡ label_in s.regs action.cond
     pub to : IsPlaceOf st told.to e.to
 
-  -- the word writes R15, other than by a branch, and puts an address there to which no edge of the step's label leads
+  -- the word writes R15, other than by a branch, and puts an address there to which no edge of the step's
+  -- label leads
   pub record WritesElsewhere (calls : List ℕ) (action : Action) (s : State) (told : Stepped) : Type 0 where
     pub writer : is_writer action.kind ≡ true
     pub holds : holds_in s.regs action.cond ≡ true
@@ -89,20 +95,25 @@ module _ (words : Words) (st : Stated) (profile : Profile) where
   Follows s [] [] = Unit {0}
   Follows s [] (e ∷ walk) = ⊥
   Follows s (i ∷ inputs) [] = ⊥
-  Follows s (i ∷ inputs) (e ∷ walk) = (told : Stepped) × (next : State) × IsEdgeOf s i told next e × Follows next inputs walk
+  Follows s (i ∷ inputs) (e ∷ walk) =
+      (told : Stepped) × (next : State) × IsEdgeOf s i told next e × Follows next inputs walk
 
--- From each place of an accepted graph, a step that executes the image's word has an edge, which costs at least its
--- ticks; but for a word that writes R15, and puts an address there to which no edge leads.
+-- From each place of an accepted graph, a step that executes the image's word has an edge, which costs at
+-- least its ticks; but for a word that writes R15, and puts an address there to which no edge leads.
 abbrev pub StepLaw : Type 0
 StepLaw =
-    (words : Words) (st : Stated) (profile : Profile) (calls : List ℕ) (action : Action) (s : State) (i : Input) (told : Stepped) (after : State) →
-    IsAccepted words st profile → IsReached words st profile (At calls (address_in s.regs)) → Executes words st profile action s i told after →
-    WritesElsewhere words st profile calls action s told ⊎ ((e : Edge) × IsTaken words st profile calls action s told e × (told.ticks ≤ e.cost))
+    (words : Words) (st : Stated) (profile : Profile) (calls : List ℕ) (action : Action) (s : State)
+    (i : Input) (told : Stepped) (after : State) →
+    IsAccepted words st profile → IsReached words st profile (At calls (address_in s.regs))
+    → Executes words st profile action s i told after →
+    WritesElsewhere words st profile calls action s told
+    ⊎ ((e : Edge) × IsTaken words st profile calls action s told e × (told.ticks ≤ e.cost))
 
 -- Each edge of a step costs at least its ticks.
 abbrev pub StepCost : Type 0
 StepCost =
-    (words : Words) (st : Stated) (profile : Profile) (s : State) (i : Input) (told : Stepped) (after : State) (e : Edge) →
+    (words : Words) (st : Stated) (profile : Profile) (s : State) (i : Input) (told : Stepped) (after : State)
+    (e : Edge) →
     IsEdgeOf words st profile s i told after e → told.ticks ≤ e.cost
 
 -- the DMA bursts of some inputs
@@ -117,5 +128,6 @@ pub record IsWithin (profile : Profile) (walk : List Edge) (inputs : List Input)
 -- A run whose steps are the edges of a walk costs at most the walk.
 abbrev pub RunLaw : Type 0
 RunLaw =
-    (words : Words) (st : Stated) (profile : Profile) (s : State) (inputs : List Input) (walk : List Edge) (ran : Ran) (after : State) →
+    (words : Words) (st : Stated) (profile : Profile) (s : State) (inputs : List Input) (walk : List Edge)
+    (ran : Ran) (after : State) →
     Runs s inputs ran after → Follows words st profile s inputs walk → IsWithin profile walk inputs ran

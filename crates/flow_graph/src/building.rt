@@ -1,6 +1,7 @@
 ghost use Rattle.std.specs.Prelude.{◌≡◌, ◌≢◌, OnOk, IfErr, IfOk};
 ghost use Rattle.flow_graph.specs.Graph.{ArePlaces, IsBuildFault, IsFlowGraph, start_of};
-ghost use Rattle.flow_graph.specs.Search.{AreInTurn, IsAllowed, IsFound, IsSearch, IsTurnFault, IsVisited, IsVisitFault};
+ghost use Rattle.flow_graph.specs.Search.{AreInTurn, IsAllowed, IsFound, IsSearch, IsTurnFault, IsVisited};
+ghost use Rattle.flow_graph.specs.Search.{IsVisitFault};
 ghost use Rattle.statement.specs.Stated.{IsStated};
 ghost use Rattle.flow_graph.specs.declared.faults.BuildFault.{BuildFault};
 
@@ -38,7 +39,8 @@ fn visit(
 ) -> Result<(), BuildFault>
     requires { IsFound seen.old order.old.items }
     ensures found { OnOk result (IsFound seen.new order.new.items) }
-    ensures visited { OnOk result (IsVisited image.now statement.now profile.now order.old.items place.now order.new.items) }
+    ensures visited { OnOk result
+        (IsVisited image.now statement.now profile.now order.old.items place.now order.new.items) }
     ensures err { IfErr result (IsVisitFault image.now statement.now profile.now order.old.items place.now) }
 {
     let mut edges = Vec::new(alloc);
@@ -79,7 +81,8 @@ fn edges_in_turn(
     profile: &Profile,
     places: &[Place],
 ) -> Result<(Vec<Edge>, Vec<usize>), BuildFault>
-    ensures turn { IfOk result (λ made. AreInTurn image.now statement.now profile.now places.now made.0.items made.1.items) }
+    ensures turn { IfOk result
+        (λ made. AreInTurn image.now statement.now profile.now places.now made.0.items made.1.items) }
     ensures fault { IfErr result (IsTurnFault image.now statement.now places.now) }
 {
     let mut edges = Vec::new(alloc);
@@ -102,7 +105,9 @@ pub fn build(
     profile: &Profile,
 ) -> Result<Graph, BuildFault>
     ensures graph { IfOk result (IsFlowGraph image.now statement.now profile.now) }
-    ensures allowed { OnOk result ((fault : BuildFault) → fault ≢ BuildFault.Memory → IsBuildFault image.now statement.now profile.now fault → ⊥) }
+    ensures allowed { OnOk result
+        ((fault : BuildFault) → fault ≢ BuildFault.Memory
+        → IsBuildFault image.now statement.now profile.now fault → ⊥) }
     ensures fault { IfErr result (IsBuildFault image.now statement.now profile.now) }
 {
     if let Some(address) = stray_target(image, statement) {

@@ -1,4 +1,5 @@
-ghost use Rattle.std.specs.Prelude.{◌≡◌, ℕ, ◌<◌, ◌≤◌, ◌↔◌, List, [], ◌∷◌, ◌++◌, length, take, ◌^◌, ◌-◌, IfSome, IsNone, ◌==◌};
+ghost use Rattle.std.specs.Prelude.{◌≡◌, ℕ, ◌<◌, ◌≤◌, ◌↔◌, List, [], ◌∷◌, ◌++◌, length, take, ◌^◌, ◌-◌};
+ghost use Rattle.std.specs.Prelude.{IfSome, IsNone, ◌==◌};
 ghost use Rattle.std.proofs.Common.{rules};
 ghost use Rattle.std.specs.Cmp.{partial_order_from_own_ties};
 ghost use Rattle.std.specs.Cmp.Rules.{comparing};
@@ -11,7 +12,8 @@ use std::marker::Model;
 /// How many call addresses a list holds at most.
 pub const DEPTH: usize = 8;
 
-/// The addresses of the calls that a place is inside of, the outermost first: at most eight, each below 4000000.
+/// The addresses of the calls that a place is inside of, the outermost first: at most eight, each below
+/// 4000000.
 #[derive(Clone, Copy)]
 pub struct Calls {
     len: usize,
@@ -122,7 +124,8 @@ impl Ord for Calls {
 impl PartialOrd for Calls {
     ghost partial_cmp = { as_partial_cmp (slice_cmp nat_cmp) };
 
-    ghost laws = { partial_order_from_own_ties (Prim.search (comparing, rules)) (Prim.search (comparing, rules)) };
+    ghost laws = { partial_order_from_own_ties (Prim.search (comparing, rules))
+        (Prim.search (comparing, rules)) };
 
     fn partial_cmp(&self, other: &Calls) -> Option<Ordering> {
         Some(self.cmp(other))

@@ -1,5 +1,6 @@
 ghost use Rattle.std.specs.Prelude.{◌≡◌};
-ghost use Rattle.flow_graph.specs.Kinds.{IsAction, IsWork, data_kind, is_always, is_compare, is_never, is_pc, is_writer, kind_of, transfer, work_of, writer_if};
+ghost use Rattle.flow_graph.specs.Kinds.{IsAction, IsWork, data_kind, is_always, is_compare, is_never, is_pc};
+ghost use Rattle.flow_graph.specs.Kinds.{is_writer, kind_of, transfer, work_of, writer_if};
 
 use arm2_decode::{Cond, Opcode, Operation, Register, decode};
 

@@ -1,9 +1,11 @@
 ghost use Rattle.std.specs.Prelude.{◌≡◌, ◌++◌, ◌∷◌, [], map, All, IfErr, OnOk, Some, None, ◌⊎◌, ◌<◌, ◌^◌};
-ghost use Rattle.flow_graph.specs.Edges.{calling, do_edge, done, inside, returning, skip_edge, word_edges, writer_landings};
+ghost use Rattle.flow_graph.specs.Edges.{calling, do_edge, done, inside, returning, skip_edge, word_edges};
+ghost use Rattle.flow_graph.specs.Edges.{writer_landings};
 ghost use Rattle.flow_graph.specs.Kinds.{IsWork};
 ghost use Rattle.flow_graph.specs.Places.{IsInSpace};
 ghost use Rattle.statement.specs.Stated.{target_of};
-ghost use Rattle.flow_graph.specs.Search.{AddsEdges, IsEdgeFault, IsSound, action_fault, call_fault, kind_fault, writer_fault};
+ghost use Rattle.flow_graph.specs.Search.{AddsEdges, IsEdgeFault, IsSound, action_fault, call_fault};
+ghost use Rattle.flow_graph.specs.Search.{kind_fault, writer_fault};
 
 use crate::call_list::Calls;
 use crate::edges::{Edge, Label};
@@ -25,7 +27,8 @@ struct Site {
 
 // The edge that passes over the word.
 fn push_skip(out: &mut Vec<Edge>, profile: &Profile, site: &Site) -> Result<(), BuildFault>
-    ensures ok { OnOk result (out.new.items ≡ out.old.items ++ skip_edge profile.now site.now.calls site.now.address ∷ []) }
+    ensures ok { OnOk result
+        (out.new.items ≡ out.old.items ++ skip_edge profile.now site.now.calls site.now.address ∷ []) }
     ensures err { IfErr result (λ fault. fault ≡ BuildFault.Memory) }
 {
     out.push(Edge {
@@ -47,7 +50,10 @@ fn push_do(
 ) -> Result<(), BuildFault>
     requires work { IsWork site.now.action.work }
     requires to { IsInSpace to }
-    ensures ok { OnOk result (out.new.items ≡ out.old.items ++ do_edge statement.now profile.now site.now.calls site.now.address site.now.action to ∷ []) }
+    ensures ok { OnOk result
+        (out.new.items
+        ≡ out.old.items
+        ++ do_edge statement.now profile.now site.now.calls site.now.address site.now.action to ∷ []) }
     ensures err { IfErr result (λ fault. fault ≡ BuildFault.Memory) }
 {
     out.push(Edge {
@@ -70,7 +76,11 @@ fn push_inside(
 ) -> Result<(), BuildFault>
     requires work { IsWork site.now.action.work }
     requires to { All (λ a. a < 2 ^ 26) to.now }
-    ensures ok { OnOk result (out.new.items ≡ out.old.items ++ map (do_edge statement.now profile.now site.now.calls site.now.address site.now.action) (inside calls.now to.now)) }
+    ensures ok { OnOk result
+        (out.new.items
+        ≡ out.old.items
+        ++ map (do_edge statement.now profile.now site.now.calls site.now.address site.now.action)
+        (inside calls.now to.now)) }
     ensures err { IfErr result (λ fault. fault ≡ BuildFault.Memory) }
 {
     for address in to {
@@ -90,9 +100,14 @@ fn push_call(
     requires address { site.now.address < 2 ^ 26 }
     requires work { IsWork site.now.action.work }
     requires to { All (λ a. a < 2 ^ 26) to.now }
-    ensures ok { OnOk result (out.new.items ≡ out.old.items ++ map (do_edge statement.now profile.now site.now.calls site.now.address site.now.action) (calling site.now.calls site.now.address to.now)) }
+    ensures ok { OnOk result
+        (out.new.items
+        ≡ out.old.items
+        ++ map (do_edge statement.now profile.now site.now.calls site.now.address site.now.action)
+        (calling site.now.calls site.now.address to.now)) }
     ensures sound { OnOk result (call_fault site.now.calls ≡ None) }
-    ensures err { IfErr result (λ fault. (fault ≡ BuildFault.Memory) ⊎ (call_fault site.now.calls ≡ Some fault)) }
+    ensures err { IfErr result
+        (λ fault. (fault ≡ BuildFault.Memory) ⊎ (call_fault site.now.calls ≡ Some fault)) }
 {
     match site.calls.with(site.address) {
         Some(calls) => push_inside(out, statement, profile, site, &calls, to),
@@ -120,9 +135,16 @@ fn push_writer(
 ) -> Result<(), BuildFault>
     requires address { site.now.address < 2 ^ 26 }
     requires work { IsWork site.now.action.work }
-    ensures ok { OnOk result (out.new.items ≡ out.old.items ++ map (do_edge statement.now profile.now site.now.calls site.now.address site.now.action) (writer_landings site.now.calls site.now.address (target_of statement.now site.now.address))) }
-    ensures sound { OnOk result (writer_fault site.now.calls (target_of statement.now site.now.address) ≡ None) }
-    ensures err { IfErr result (λ fault. (fault ≡ BuildFault.Memory) ⊎ (writer_fault site.now.calls (target_of statement.now site.now.address) ≡ Some fault)) }
+    ensures ok { OnOk result
+        (out.new.items
+        ≡ out.old.items
+        ++ map (do_edge statement.now profile.now site.now.calls site.now.address site.now.action)
+        (writer_landings site.now.calls site.now.address (target_of statement.now site.now.address))) }
+    ensures sound { OnOk result
+        (writer_fault site.now.calls (target_of statement.now site.now.address) ≡ None) }
+    ensures err { IfErr result
+        (λ fault. (fault ≡ BuildFault.Memory)
+        ⊎ (writer_fault site.now.calls (target_of statement.now site.now.address) ≡ Some fault)) }
 {
     let Some(target) = statement.target_at(site.address) else {
         return push_do(out, statement, profile, site, return_place(&site.calls));
@@ -144,9 +166,14 @@ fn push_done(
 ) -> Result<(), BuildFault>
     requires address { site.now.address < 2 ^ 26 }
     requires work { IsWork site.now.action.work }
-    ensures ok { OnOk result (out.new.items ≡ out.old.items ++ done statement.now profile.now site.now.calls site.now.address site.now.action) }
-    ensures sound { OnOk result (kind_fault statement.now site.now.calls site.now.address site.now.action.kind ≡ None) }
-    ensures err { IfErr result (λ fault. (fault ≡ BuildFault.Memory) ⊎ (kind_fault statement.now site.now.calls site.now.address site.now.action.kind ≡ Some fault)) }
+    ensures ok { OnOk result
+        (out.new.items
+        ≡ out.old.items ++ done statement.now profile.now site.now.calls site.now.address site.now.action) }
+    ensures sound { OnOk result
+        (kind_fault statement.now site.now.calls site.now.address site.now.action.kind ≡ None) }
+    ensures err { IfErr result
+        (λ fault. (fault ≡ BuildFault.Memory)
+        ⊎ (kind_fault statement.now site.now.calls site.now.address site.now.action.kind ≡ Some fault)) }
 {
     let address = site.address;
     match site.action.kind {
@@ -182,9 +209,15 @@ fn push_word(
 ) -> Result<(), BuildFault>
     requires address { site.now.address < 2 ^ 26 }
     requires work { IsWork site.now.action.work }
-    ensures ok { OnOk result (out.new.items ≡ out.old.items ++ word_edges statement.now profile.now site.now.calls site.now.address site.now.action) }
-    ensures sound { OnOk result (action_fault statement.now site.now.calls site.now.address site.now.action ≡ None) }
-    ensures err { IfErr result (λ fault. (fault ≡ BuildFault.Memory) ⊎ (action_fault statement.now site.now.calls site.now.address site.now.action ≡ Some fault)) }
+    ensures ok { OnOk result
+        (out.new.items
+        ≡ out.old.items
+        ++ word_edges statement.now profile.now site.now.calls site.now.address site.now.action) }
+    ensures sound { OnOk result
+        (action_fault statement.now site.now.calls site.now.address site.now.action ≡ None) }
+    ensures err { IfErr result
+        (λ fault. (fault ≡ BuildFault.Memory)
+        ⊎ (action_fault statement.now site.now.calls site.now.address site.now.action ≡ Some fault)) }
 {
     if !holds_always(site.action.cond) {
         push_skip(out, profile, site)?;
@@ -203,7 +236,8 @@ pub fn push_edges(
     profile: &Profile,
     place: &Place,
 ) -> Result<(), BuildFault>
-    ensures adds { OnOk result (AddsEdges image.now statement.now profile.now place.now out.old.items out.new.items) }
+    ensures adds { OnOk result
+        (AddsEdges image.now statement.now profile.now place.now out.old.items out.new.items) }
     ensures sound { OnOk result (IsSound image.now statement.now place.now) }
     ensures err { IfErr result (IsEdgeFault image.now statement.now place.now) }
 {

@@ -21,7 +21,9 @@ pub fn add(
     requires { IsFound seen.old order.old.items }
     ensures found { OnOk result (IsFound seen.new order.new.items) }
     ensures adds { OnOk result (Adds order.old.items place.now order.new.items) }
-    ensures err { IfErr result (λ fault. (fault ≡ BuildFault.Memory) ⊎ ((fault ≡ BuildFault.TooManyPlaces) × IsCrowded order.old.items place.now)) }
+    ensures err { IfErr result
+        (λ fault. (fault ≡ BuildFault.Memory)
+        ⊎ ((fault ≡ BuildFault.TooManyPlaces) × IsCrowded order.old.items place.now)) }
 {
     if let Place::Exit = place {
         return Ok(());
@@ -46,7 +48,9 @@ pub fn add_ends(
     requires { IsFound seen.old order.old.items }
     ensures found { OnOk result (IsFound seen.new order.new.items) }
     ensures grows { OnOk result (Grows order.old.items edges.now order.new.items) }
-    ensures err { IfErr result (λ fault. (fault ≡ BuildFault.Memory) ⊎ ((fault ≡ BuildFault.TooManyPlaces) × IsCrowdedBy order.old.items edges.now)) }
+    ensures err { IfErr result
+        (λ fault. (fault ≡ BuildFault.Memory)
+        ⊎ ((fault ≡ BuildFault.TooManyPlaces) × IsCrowdedBy order.old.items edges.now)) }
 {
     for edge in edges {
         add(seen, order, &edge.to)?;

@@ -1,6 +1,7 @@
 ghost use Rattle.std.specs.Prelude.{◌≡◌, ◌+◌, ◌*◌, ◌<◌, ◌^◌};
 ghost use Rattle.bus_ticks.specs.Worst.{worst_n_price, worst_s_price};
-ghost use Rattle.flow_graph.specs.Edges.{arriving, doing, fetching, jumping, passing, target, working, wrapped};
+ghost use Rattle.flow_graph.specs.Edges.{arriving, doing, fetching, jumping, passing, target, working};
+ghost use Rattle.flow_graph.specs.Edges.{wrapped};
 ghost use Rattle.flow_graph.specs.Kinds.{IsWork};
 ghost use Rattle.flow_graph.specs.Places.{IsInSpace};
 

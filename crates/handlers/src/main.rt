@@ -1,7 +1,7 @@
-//! Judges the sample handlers in `data/`, each with its source, its statement and its machine file in a folder of its
-//! own: a line of its greatest run time, of the checker's verdict on the certificate that says so, and of the ticks of a
-//! run from its entry to the address to which it returns. It fails where a certificate is not accepted, or where a run
-//! takes more ticks than its bound or stops.
+//! Judges the sample handlers in `data/`, each with its source, its statement and its machine file in a
+//! folder of its own: a line of its greatest run time, of the checker's verdict on the certificate that says
+//! so, and of the ticks of a run from its entry to the address to which it returns. It fails where a
+//! certificate is not accepted, or where a run takes more ticks than its bound or stops.
 #![tactic(auto)]
 
 mod judgement;

@@ -1,5 +1,6 @@
-//! Runs commands over the system's own files and streams, in the folder `data/`: the image that `asm` writes is what the
-//! others read. What is stored as this program's output is what standard output took, and each command's status.
+//! Runs commands over the system's own files and streams, in the folder `data/`: the image that `asm` writes
+//! is what the others read. What is stored as this program's output is what standard output took, and each
+//! command's status.
 #![tactic(auto)]
 
 use arcwcet::{HostStore, StreamOutput, program};

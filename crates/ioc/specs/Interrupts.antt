@@ -22,7 +22,16 @@ still = record { count = 0; latch = 0; output = 0; request = false }
 
 -- as IOC starts
 abbrev pub fresh : Controller
-fresh = record { lines = 0; a2_rose = false; flyback_rose = false; mask_a = 0; mask_b = 0; mask_f = 0; timers = record { phase = 0; timer_0 = still; timer_1 = still } }
+fresh =
+    record {
+      lines = 0;
+      a2_rose = false;
+      flyback_rose = false;
+      mask_a = 0;
+      mask_b = 0;
+      mask_f = 0;
+      timers = record { phase = 0; timer_0 = still; timer_1 = still };
+    }
 
 -- whether the lines have this bit
 abbrev pub has : ℕ → ℕ → Bool

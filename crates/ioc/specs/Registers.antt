@@ -14,7 +14,8 @@ is_register address = address / 0x80 == 0x6_4000
 abbrev pub offset_of : ℕ → ℕ
 offset_of address = address / 4 % 0x20 * 4
 
--- the byte that a read gives: of each bank the status, the request (status and mask) and the mask; of each timer its output
+-- the byte that a read gives: of each bank the status, the request (status and mask) and the mask; of each
+-- timer its output
 unfoldable pub read_of : ℕ → Controller → ℕ
 read_of offset c =
     if offset == 0x10 then status_a c
@@ -53,7 +54,12 @@ cleared t = record t { request = false }
 
 -- without a latched request: bits 2, 3, 5 and 6 of IRQ A
 abbrev pub all_cleared : Controller → Controller
-all_cleared c = record c { a2_rose = false; flyback_rose = false; timers = record c.timers { timer_0 = cleared c.timers.timer_0; timer_1 = cleared c.timers.timer_1 } }
+all_cleared c =
+    record c {
+      a2_rose = false;
+      flyback_rose = false;
+      timers = record c.timers { timer_0 = cleared c.timers.timer_0; timer_1 = cleared c.timers.timer_1 };
+    }
 
 abbrev pub on_timer_0 : (Timer → Timer) → Controller → Controller
 on_timer_0 change c = record c { timers = record c.timers { timer_0 = change c.timers.timer_0 } }

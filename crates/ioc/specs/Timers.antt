@@ -20,7 +20,8 @@ after_decrements (suc n) t = decremented (after_decrements n t)
 -- one tick: each fourth is a decrement of both timers
 abbrev pub tick : Timers → Timers
 tick s =
-    if s.phase == 3 then record { phase = 0; timer_0 = decremented s.timer_0; timer_1 = decremented s.timer_1 }
+    if s.phase == 3
+    then record { phase = 0; timer_0 = decremented s.timer_0; timer_1 = decremented s.timer_1 }
     else record s { phase = s.phase + 1 }
 
 -- so many ticks

@@ -9,7 +9,9 @@ mod lines;
 mod timers;
 
 ghost use Rattle.std.specs.Prelude.{◌≡◌, ◌≤◌, ◌<◌};
-ghost use Rattle.ioc.specs.Interrupts.{Controller, fresh, bit_where as bit_of, status_a as is_status_a, status_b as is_status_b, status_f as is_status_f, fiq_of, irq_of, shares, with_lines, with_flyback, advanced};
+ghost use Rattle.ioc.specs.Interrupts.{Controller, fresh, bit_where as bit_of, status_a as is_status_a};
+ghost use Rattle.ioc.specs.Interrupts.{status_b as is_status_b, status_f as is_status_f, fiq_of, irq_of};
+ghost use Rattle.ioc.specs.Interrupts.{shares, with_lines, with_flyback, advanced};
 ghost use Rattle.ioc.specs.Registers.{read_at, read_of, write_at, write_of, is_register};
 
 use bitflags::Flags;
@@ -44,7 +46,15 @@ pub struct Ioc {
 impl Model for Ioc {
     ghost Value = { Controller };
 
-    ghost view = { λ i. record { lines = i.lines.0; a2_rose = i.a2_rose; flyback_rose = i.flyback_rose; mask_a = i.mask_a; mask_b = i.mask_b; mask_f = i.mask_f; timers = i.timers } };
+    ghost view = { λ i. record {
+      lines = i.lines.0;
+      a2_rose = i.a2_rose;
+      flyback_rose = i.flyback_rose;
+      mask_a = i.mask_a;
+      mask_b = i.mask_b;
+      mask_f = i.mask_f;
+      timers = i.timers;
+    } };
 
     ghost invariant = { λ i. i.timers.phase < 4 };
 }

@@ -37,7 +37,11 @@ impl Flags for Lines {
 
     ghost exact = { ⊤ };
 
-    ghost table = { (codes "A0", 0x1) ∷ (codes "A1", 0x2) ∷ (codes "A2", 0x4) ∷ (codes "IL0", 0x100) ∷ (codes "B1", 0x200) ∷ (codes "B2", 0x400) ∷ (codes "B3", 0x800) ∷ (codes "B4", 0x1000) ∷ (codes "B5", 0x2000) ∷ (codes "B6", 0x4000) ∷ (codes "B7", 0x8000) ∷ (codes "F0", 0x1_0000) ∷ (codes "F1", 0x2_0000) ∷ (codes "F2", 0x4_0000) ∷ (codes "F3", 0x8_0000) ∷ (codes "F4", 0x10_0000) ∷ (codes "F5", 0x20_0000) ∷ [] };
+    ghost table = { (codes "A0", 0x1) ∷ (codes "A1", 0x2) ∷ (codes "A2", 0x4) ∷ (codes "IL0", 0x100)
+        ∷ (codes "B1", 0x200) ∷ (codes "B2", 0x400) ∷ (codes "B3", 0x800) ∷ (codes "B4", 0x1000)
+        ∷ (codes "B5", 0x2000) ∷ (codes "B6", 0x4000) ∷ (codes "B7", 0x8000) ∷ (codes "F0", 0x1_0000)
+        ∷ (codes "F1", 0x2_0000) ∷ (codes "F2", 0x4_0000) ∷ (codes "F3", 0x8_0000) ∷ (codes "F4", 0x10_0000)
+        ∷ (codes "F5", 0x20_0000) ∷ [] };
 
     ghost set_of = { λ l. l.0 };
 

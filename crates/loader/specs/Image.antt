@@ -1,6 +1,7 @@
 -- An image: which words stand at which addresses. Source: our own image format and our own
 -- memory map, shaped on the VL86C110 data sheet's, with I/O from 3000000 to 33FFFFF.
-use Rattle.std.specs.Prelude.{ℕ, ◌+◌, ◌%◌, Bool, ◌&&◌, ◌||◌, ◌==◌, not, nat_lt, nat_le, if◌then◌else◌, List, [], ◌∷◌, length, Option, Some, None, is_some}
+use Rattle.std.specs.Prelude.{ℕ, ◌+◌, ◌%◌, Bool, ◌&&◌, ◌||◌, ◌==◌, not, nat_lt, nat_le, if◌then◌else◌, List}
+use Rattle.std.specs.Prelude.{[], ◌∷◌, length, Option, Some, None, is_some}
 use Rattle.loader.specs.declared.image.ImageFault.{ImageFault}
 use Rattle.loader.specs.declared.image.ImageFault.TheVariants.{OutOfRange, TooLong}
 
@@ -16,11 +17,13 @@ word_of (e ∷ rest) address = if e.0 == address then Some e.1 else word_of rest
 -- the words with one more, which stands nowhere yet
 abbrev pub with_word : Words → ℕ → ℕ → Words
 with_word [] address word = (address, word) ∷ []
-with_word (e ∷ rest) address word = if nat_lt address e.0 then (address, word) ∷ e ∷ rest else e ∷ with_word rest address word
+with_word (e ∷ rest) address word =
+    if nat_lt address e.0 then (address, word) ∷ e ∷ rest else e ∷ with_word rest address word
 
 -- a multiple of 4 up to 3FFFFFC, and not in I/O
 abbrev pub may_hold : ℕ → Bool
-may_hold address = address % 4 == 0 && nat_lt address 0x4000000 && not (nat_le 0x3000000 address && nat_lt address 0x3400000)
+may_hold address =
+    address % 4 == 0 && nat_lt address 0x4000000 && not (nat_le 0x3000000 address && nat_lt address 0x3400000)
 
 -- 1 where a word does not follow the word before it, and so begins a run
 abbrev pub begins : Option ℕ → ℕ → ℕ
@@ -40,4 +43,6 @@ runs_of words = runs_behind None words
 abbrev pub put_fault : Words → ℕ → ℕ → Option ImageFault
 put_fault words address word =
     if not (may_hold address) || is_some (word_of words address) then Some OutOfRange
-    else (if nat_le 65536 (length words) || nat_lt 16 (runs_of (with_word words address word)) then Some TooLong else None)
+    else
+    (if nat_le 65536 (length words) || nat_lt 16 (runs_of (with_word words address word))
+    then Some TooLong else None)

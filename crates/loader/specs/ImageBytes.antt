@@ -1,11 +1,14 @@
 -- Images as bytes. Source: our own image format. Every number has 32 bits, the lowest byte first.
-use Rattle.std.specs.Prelude.{ℕ, zero, suc, ◌+◌, ◌*◌, ◌%◌, ◌==◌, ◌&&◌, ◌||◌, not, nat_lt, nat_le, if◌then◌else◌, Bool, List, [], ◌∷◌, ◌++◌, length, drop, take, flat_map, codes, Option, Some, None, is_some, Result, Ok, Err}
+use Rattle.std.specs.Prelude.{ℕ, zero, suc, ◌+◌, ◌*◌, ◌%◌, ◌==◌, ◌&&◌, ◌||◌, not, nat_lt, nat_le}
+use Rattle.std.specs.Prelude.{if◌then◌else◌, Bool, List, [], ◌∷◌, ◌++◌, length, drop, take, flat_map, codes}
+use Rattle.std.specs.Prelude.{Option, Some, None, is_some, Result, Ok, Err}
 use Rattle.std.specs.List.{list_any}
 use Rattle.std.specs.Str.{bytes_eq}
 use Rattle.byteorder.specs.Endian.{little_bytes, little_number}
 use Rattle.loader.specs.Image.{Words, may_hold, with_word, word_of}
 use Rattle.loader.specs.declared.reading.ReadFault.{ReadFault}
-use Rattle.loader.specs.declared.reading.ReadFault.TheVariants.{BadMagic, Truncated, Overlap, Misaligned, TrailingBytes, OutOfRange}
+use Rattle.loader.specs.declared.reading.ReadFault.TheVariants.{BadMagic, Truncated, Overlap, Misaligned}
+use Rattle.loader.specs.declared.reading.ReadFault.TheVariants.{TrailingBytes, OutOfRange}
 
 -- ## How an image is written
 
@@ -19,7 +22,8 @@ pub record Segment : Type 0 where
 
 -- the address, the number of words, the words
 abbrev pub segment_bytes : Segment → List ℕ
-segment_bytes s = little_bytes 4 s.address ++ (little_bytes 4 (length s.words) ++ flat_map (little_bytes 4) s.words)
+segment_bytes s =
+    little_bytes 4 s.address ++ (little_bytes 4 (length s.words) ++ flat_map (little_bytes 4) s.words)
 
 -- the magic, the number of segments, the segments
 abbrev pub image_bytes : List Segment → List ℕ
@@ -49,8 +53,8 @@ abbrev pub numbers : ℕ → List ℕ → List ℕ
 numbers zero bytes = []
 numbers (suc count) bytes = little_number 4 bytes ∷ numbers count (drop 4 bytes)
 
--- Bytes of a head that are missing are taken as the least that they can be: as 0, and where that would be no words, the
--- first that is missing as 1.
+-- Bytes of a head that are missing are taken as the least that they can be: as 0, and where that would be no
+-- words, the first that is missing as 1.
 abbrev pub head_address : List ℕ → ℕ
 head_address bytes = little_number 4 bytes
 
@@ -62,7 +66,8 @@ head_count bytes =
 -- the words lie below I/O, or above it and below 4000000
 abbrev pub lies_in_memory : ℕ → ℕ → Bool
 lies_in_memory address count =
-    nat_le (address + 4 * count) 0x3000000 || (nat_le 0x3400000 address && nat_le (address + 4 * count) 0x4000000)
+    nat_le (address + 4 * count) 0x3000000
+    || (nat_le 0x3400000 address && nat_le (address + 4 * count) 0x4000000)
 
 -- one of so many words from the address on is there
 abbrev pub overlaps : Words → ℕ → ℕ → Bool
@@ -72,25 +77,36 @@ overlaps words address count = list_any (λ e. nat_le address e.0 && nat_lt e.0 
 abbrev pub segment_fault : Words → ℕ → ℕ → Option ReadFault
 segment_fault words address count =
     if not (address % 4 == 0) then Some Misaligned
-    else (if count == 0 || (not (lies_in_memory address count) || nat_lt 65536 (length words + count)) then Some OutOfRange
+    else
+    (if count == 0 || (not (lies_in_memory address count) || nat_lt 65536 (length words + count))
+    then Some OutOfRange
     else (if overlaps words address count then Some Overlap else None))
 
 -- no word can be put at an address
 abbrev pub is_taken : Words → ℕ → Bool
 is_taken words address = not (may_hold address) || is_some (word_of words address)
 
--- why bytes that end too early are no image's: so many words that they name and one for each segment to come pass 65,536
+-- why bytes that end too early are no image's: so many words that they name and one for each segment to come
+-- pass 65,536
 abbrev pub end_fault : ℕ → ℕ → ReadFault
 end_fault named to_come = if nat_lt 65536 (named + to_come) then OutOfRange else Truncated
 
--- Why bytes that end within the address of a segment, with so many others to come, are no image's. Three bytes leave four
--- addresses, 1000000 apart, and all of them may be taken or in I/O; fewer always leave a free one.
+-- Why bytes that end within the address of a segment, with so many others to come, are no image's. Three
+-- bytes leave four addresses, 1000000 apart, and all of them may be taken or in I/O; fewer always leave a
+-- free one.
 abbrev pub cut_fault : Words → ℕ → List ℕ → ReadFault
 cut_fault words others bytes =
     let low = head_address bytes in
     if not (low % 4 == 0) then Misaligned
     else (if nat_lt 65536 (length words + suc others) then OutOfRange
-    else (if length bytes == 3 && (is_taken words low && (is_taken words (low + 0x1000000) && (is_taken words (low + 0x2000000) && is_taken words (low + 0x3000000)))) then Overlap
+    else
+    (if length bytes == 3
+    &&
+    (is_taken words low
+    &&
+    (is_taken words (low + 0x1000000)
+    && (is_taken words (low + 0x2000000) && is_taken words (low + 0x3000000))))
+    then Overlap
     else Truncated))
 
 -- the words of so many segments, behind those before them
@@ -107,16 +123,20 @@ segments_read (suc left) words bytes =
     if nat_lt (length bytes) 4 then Err (cut_fault words left bytes)
     else read_by (segment_fault words address count)
     (if nat_lt (length bytes) (8 + 4 * count) then Err (end_fault (length words + count) left)
-    else segments_read left (with_words words address (numbers count (drop 8 bytes))) (drop (8 + 4 * count) bytes))
+    else segments_read left (with_words words address (numbers count (drop 8 bytes)))
+    (drop (8 + 4 * count) bytes))
 
 -- behind the magic: at most 16 segments
 abbrev pub count_read : List ℕ → Result Words ReadFault
 count_read bytes =
     if nat_lt 16 (little_number 4 bytes) then Err OutOfRange
-    else (if nat_lt (length bytes) 4 then Err Truncated else segments_read (little_number 4 bytes) [] (drop 4 bytes))
+    else
+    (if nat_lt (length bytes) 4 then Err Truncated
+    else segments_read (little_number 4 bytes) [] (drop 4 bytes))
 
 -- the words of an image's bytes, or the first fault from the front
 abbrev pub image_read : List ℕ → Result Words ReadFault
 image_read bytes =
-    if bytes_eq (take 8 bytes) (take (length bytes) magic) then (if nat_lt (length bytes) 8 then Err Truncated else count_read (drop 8 bytes))
+    if bytes_eq (take 8 bytes) (take (length bytes) magic)
+    then (if nat_lt (length bytes) 8 then Err Truncated else count_read (drop 8 bytes))
     else Err BadMagic

@@ -1,5 +1,6 @@
--- What memory holds once an image is loaded. Source: our own: each word goes where a privileged load of its address reads,
--- and the words go in the order of their addresses, so that of two that lead to one place the higher one's stays.
+-- What memory holds once an image is loaded. Source: our own: each word goes where a privileged load of its
+-- address reads, and the words go in the order of their addresses, so that of two that lead to one place the
+-- higher one's stays.
 use Rattle.std.specs.Prelude.{ℕ, suc, ◌/◌, Bool, true, false, ◌||◌, List, [], ◌∷◌, Result, Ok, Err}
 use Rattle.arm2_exec.specs.State.{State}
 use Rattle.loader.specs.Image.{Words}
@@ -49,7 +50,10 @@ with_places words place (w ∷ rest) = last_word words place w ∷ with_places w
 -- RAM and ROM hold the words; the page map and the control fields stay
 abbrev pub loaded : Words → Memory → Memory
 loaded words m =
-    record m { paged = record m.paged { words = with_places (ram_words m words) 0 m.paged.words }; rom = with_words m.rom (rom_words m words) }
+    record m {
+      paged = record m.paged { words = with_places (ram_words m words) 0 m.paged.words };
+      rom = with_words m.rom (rom_words m words);
+    }
 
 -- the same in a machine, whose registers and devices stay
 abbrev pub with_image : Words → State → State
@@ -57,7 +61,8 @@ with_image words s = record s { bus = record s.bus { memc = loaded words s.bus.m
 
 -- the words that go to RAM alone
 abbrev pub with_ram : Words → Memory → Memory
-with_ram words m = record m { paged = record m.paged { words = with_places (ram_words m words) 0 m.paged.words } }
+with_ram words m =
+    record m { paged = record m.paged { words = with_places (ram_words m words) 0 m.paged.words } }
 
 -- one word, where it goes to RAM
 abbrev pub put_at : Result Spot Refused → ℕ → Memory → Memory

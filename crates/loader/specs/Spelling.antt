@@ -9,10 +9,13 @@ abbrev pub with_segments : Words → List Segment → Words
 with_segments words [] = words
 with_segments words (s ∷ rest) = with_segments (with_words words s.address s.words) rest
 
--- each segment can stand behind the words before it: a multiple of 4, some words, in memory, and none on another's place
+-- each segment can stand behind the words before it: a multiple of 4, some words, in memory, and none on
+-- another's place
 abbrev pub CanFollow : Words → List Segment → Type 0
 CanFollow words [] = Unit {0}
-CanFollow words (s ∷ rest) = (segment_fault words s.address (length s.words) ≡ None) × CanFollow (with_words words s.address s.words) rest
+CanFollow words (s ∷ rest) =
+    (segment_fault words s.address (length s.words) ≡ None)
+    × CanFollow (with_words words s.address s.words) rest
 
 -- words of 32 bits
 abbrev pub AreNumbers : List ℕ → Type 0
@@ -27,7 +30,8 @@ pub record Spell (segments : List Segment) (words : Words) : Type 0 where
 
 -- the bytes of an image
 abbrev pub AreImage : List ℕ → Type 0
-AreImage bytes = (segments : List Segment) × (words : Words) × Spell segments words × (bytes ≡ image_bytes segments)
+AreImage bytes =
+    (segments : List Segment) × (words : Words) × Spell segments words × (bytes ≡ image_bytes segments)
 
 -- bytes that end too early: with those that are missing behind them they are an image's
 pub record BeginImage (bytes : List ℕ) : Type 0 where

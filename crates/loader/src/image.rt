@@ -171,8 +171,10 @@ impl Image {
     /// `OutOfRange`: the address is no multiple of 4, in I/O (3000000 to 33FFFFF) or past 3FFFFFC, or it
     /// holds a word already. `TooLong`: a 65,537th word, or a 17th run of words side by side.
     pub fn put(&mut self, _alloc: Global, address: u32, word: u32) -> Result<(), ImageFault>
-        ensures ok { OnOk result ((self.new ≡ with_word self.old address word) × (put_fault self.old address word ≡ None)) }
-        ensures fault { IfErr result (λ fault. (fault ≡ ImageFault.Memory) ⊎ (put_fault self.old address word ≡ Some fault)) }
+        ensures ok { OnOk result
+            ((self.new ≡ with_word self.old address word) × (put_fault self.old address word ≡ None)) }
+        ensures fault { IfErr result
+            (λ fault. (fault ≡ ImageFault.Memory) ⊎ (put_fault self.old address word ≡ Some fault)) }
         ensures same { OnErr result (self.new ≡ self.old) }
     {
         if let Some(fault) = self.fault_of(address, word) {

@@ -75,9 +75,14 @@ impl Labels {
     /// Puts a name that stands for no address yet. `Twice`: it stands for one; `Memory`: a growth was
     /// refused. After either the labels are as they were.
     pub fn put(&mut self, alloc: Global, name: &[u8], address: u32) -> Result<(), LabelFault>
-        ensures ok { OnOk result ((other : List ℕ) → address_of self.new other ≡ cond (bytes_eq other name.now) (Some address) (address_of self.old other)) }
+        ensures ok { OnOk result
+            ((other : List ℕ)
+            → address_of self.new other
+            ≡ cond (bytes_eq other name.now) (Some address) (address_of self.old other)) }
         ensures fresh { OnOk result (address_of self.old name.now ≡ None) }
-        ensures fault { IfErr result (λ fault. (fault ≡ LabelFault.Memory) ⊎ ((fault ≡ LabelFault.Twice) × IsSome (address_of self.old name.now))) }
+        ensures fault { IfErr result
+            (λ fault. (fault ≡ LabelFault.Memory)
+            ⊎ ((fault ≡ LabelFault.Twice) × IsSome (address_of self.old name.now))) }
         ensures same { OnErr result (self.new ≡ self.old) }
     {
         if self.get(name).is_some() {

@@ -13,7 +13,8 @@ pub enum LoadFault {
     /// A growth was refused.
     #[error("Memory")]
     Memory,
-    /// A word's address leads to no RAM or ROM of the machine: its logical page is not mapped, or its physical one not fitted.
+    /// A word's address leads to no RAM or ROM of the machine: its logical page is not mapped, or its
+    /// physical one not fitted.
     #[error("NoPage")]
     NoPage,
 }
@@ -56,7 +57,9 @@ fn rom_words(alloc: Global, memc: &Memc, words: &[(u32, u32)]) -> Result<Vec<(u3
     requires below { All (λ e. e.0 < 2 ^ 26) words.now }
     ensures rom { IfOk result (λ rom. rom.items ≡ rom_words memc.now words.now) }
     ensures fits { OnOk result (lacks_page memc.now words.now ≡ false) }
-    ensures fault { IfErr result (λ fault. (fault ≡ LoadFault.Memory) ⊎ ((fault ≡ LoadFault.NoPage) × (lacks_page memc.now words.now ≡ true))) }
+    ensures fault { IfErr result
+        (λ fault. (fault ≡ LoadFault.Memory)
+        ⊎ ((fault ≡ LoadFault.NoPage) × (lacks_page memc.now words.now ≡ true))) }
 {
     let mut rom = Vec::new(alloc);
     for &(address, word) in words {
@@ -93,7 +96,9 @@ fn store_words(memc: &mut Memc, words: &[(u32, u32)])
 fn load_words(alloc: Global, memc: &mut Memc, image: &Image) -> Result<(), LoadFault>
     ensures ok { OnOk result (memc.new ≡ loaded image.now memc.old) }
     ensures fits { OnOk result (lacks_page memc.old image.now ≡ false) }
-    ensures fault { IfErr result (λ fault. (fault ≡ LoadFault.Memory) ⊎ ((fault ≡ LoadFault.NoPage) × (lacks_page memc.old image.now ≡ true))) }
+    ensures fault { IfErr result
+        (λ fault. (fault ≡ LoadFault.Memory)
+        ⊎ ((fault ≡ LoadFault.NoPage) × (lacks_page memc.old image.now ≡ true))) }
     ensures same { OnErr result (memc.new ≡ memc.old) }
 {
     image.whole();
@@ -104,11 +109,11 @@ fn load_words(alloc: Global, memc: &mut Memc, image: &Image) -> Result<(), LoadF
     Ok(())
 }
 
-/// Puts the words of an image into a machine's memory: each where a privileged load of its address reads, and in the
-/// order of their addresses, so that of two that lead to one place the higher one's stays.
+/// Puts the words of an image into a machine's memory: each where a privileged load of its address reads, and
+/// in the order of their addresses, so that of two that lead to one place the higher one's stays.
 ///
-/// All other words, the page map, the control fields, the registers and the devices stay. It takes time linear in the
-/// words of the image and of ROM.
+/// All other words, the page map, the control fields, the registers and the devices stay. It takes time
+/// linear in the words of the image and of ROM.
 ///
 /// # Errors
 ///
@@ -117,7 +122,9 @@ fn load_words(alloc: Global, memc: &mut Memc, image: &Image) -> Result<(), LoadF
 pub fn load(alloc: Global, machine: &mut Machine, image: &Image) -> Result<(), LoadFault>
     ensures ok { OnOk result (machine.new ≡ with_image image.now machine.old) }
     ensures fits { OnOk result (lacks_page machine.old.bus.memc image.now ≡ false) }
-    ensures fault { IfErr result (λ fault. (fault ≡ LoadFault.Memory) ⊎ ((fault ≡ LoadFault.NoPage) × (lacks_page machine.old.bus.memc image.now ≡ true))) }
+    ensures fault { IfErr result
+        (λ fault. (fault ≡ LoadFault.Memory)
+        ⊎ ((fault ≡ LoadFault.NoPage) × (lacks_page machine.old.bus.memc image.now ≡ true))) }
     ensures same { OnErr result (machine.new ≡ machine.old) }
 {
     load_words(alloc, machine.memc_mut(), image)

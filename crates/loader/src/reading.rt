@@ -1,7 +1,10 @@
-ghost use Rattle.std.specs.Prelude.{suc, [], ◌∷◌, ◌++◌, ◌≡◌, ◌⊎◌, ◌+◌, ◌*◌, ◌<◌, ◌≤◌, ℕ, List, Ok, Err, Some, None, IsTrue, IfOk, IfErr, OnOk, OnErr, drop, length, replicate};
+ghost use Rattle.std.specs.Prelude.{suc, [], ◌∷◌, ◌++◌, ◌≡◌, ◌⊎◌, ◌+◌, ◌*◌, ◌<◌, ◌≤◌, ℕ, List, Ok, Err, Some};
+ghost use Rattle.std.specs.Prelude.{None, IsTrue, IfOk, IfErr, OnOk, OnErr, drop, length, replicate};
 ghost use Rattle.byteorder.specs.Endian.{little_number};
 ghost use Rattle.loader.specs.Image.{runs_of};
-ghost use Rattle.loader.specs.ImageBytes.{Segment, cut_fault, end_fault, head_address, head_count, image_bytes, image_read, is_taken, lies_in_memory as is_in_memory, numbers, overlaps, segment_fault, segments_read, with_words};
+ghost use Rattle.loader.specs.ImageBytes.{Segment, cut_fault, end_fault, head_address, head_count};
+ghost use Rattle.loader.specs.ImageBytes.{image_bytes, image_read, is_taken, lies_in_memory as is_in_memory};
+ghost use Rattle.loader.specs.ImageBytes.{numbers, overlaps, segment_fault, segments_read, with_words};
 ghost use Rattle.loader.specs.Spelling.{Spell};
 
 use crate::image::{Image, ImageFault, can_hold};
@@ -39,8 +42,8 @@ pub enum ReadFault {
     /// Bytes stand behind the last segment.
     #[error("TrailingBytes")]
     TrailingBytes,
-    /// More than 16 segments, a segment of no words, in I/O (3000000 to 33FFFFF) or past 4000000, or more than
-    /// 65,536 words in all.
+    /// More than 16 segments, a segment of no words, in I/O (3000000 to 33FFFFF) or past 4000000, or more
+    /// than 65,536 words in all.
     #[error("OutOfRange")]
     OutOfRange,
 }
@@ -139,7 +142,8 @@ impl Image {
         !can_hold(address) || self.word_at(address).is_some()
     }
 
-    // Why bytes that end too early, where they name so many words more and so many segments are to come, are no image's.
+    // Why bytes that end too early, where they name so many words more and so many segments are to come, are
+    // no image's.
     fn end_fault(&self, more: u32, to_come: u32) -> ReadFault
         ensures { result ≡ end_fault (length self.now + more) to_come }
     {
@@ -195,7 +199,8 @@ impl Image {
     }
 }
 
-// Puts the words of the segment that the bytes begin with, with so many others to come, and answers the bytes behind it.
+// Puts the words of the segment that the bytes begin with, with so many others to come, and answers the bytes
+// behind it.
 fn read_segment<'a>(
     alloc: Global,
     image: &mut Image,
@@ -203,9 +208,11 @@ fn read_segment<'a>(
     bytes: &'a [u8],
 ) -> Result<&'a [u8], ReadFault>
     requires room { runs_of image.old ≤ 15 }
-    ensures rest { IfOk result (λ rest. segments_read (suc others) image.old bytes.now ≡ segments_read others image.new rest.now) }
+    ensures rest { IfOk result
+        (λ rest. segments_read (suc others) image.old bytes.now ≡ segments_read others image.new rest.now) }
     ensures few { OnOk result (runs_of image.new ≤ runs_of image.old + 1) }
-    ensures fault { IfErr result (λ fault. (fault ≡ ReadFault.Memory) ⊎ (segments_read (suc others) image.old bytes.now ≡ Err fault)) }
+    ensures fault { IfErr result
+        (λ fault. (fault ≡ ReadFault.Memory) ⊎ (segments_read (suc others) image.old bytes.now ≡ Err fault)) }
 {
     if bytes.len() < 4 {
         return Err(image.cut_fault(others, bytes));
@@ -224,7 +231,8 @@ fn read_segment<'a>(
 
 // The number of segments, and the bytes behind it.
 fn read_count(bytes: &[u8]) -> Result<(u32, &[u8]), ReadFault>
-    ensures count { IfOk result (λ start. (image_read bytes.now ≡ segments_read start.0 [] start.1.now) × (start.0 ≤ 16)) }
+    ensures count { IfOk result
+        (λ start. (image_read bytes.now ≡ segments_read start.0 [] start.1.now) × (start.0 ≤ 16)) }
     ensures fault { IfErr result (λ fault. image_read bytes.now ≡ Err fault) }
 {
     let standing = bytes.len().min(8);
@@ -244,17 +252,18 @@ fn read_count(bytes: &[u8]) -> Result<(u32, &[u8]), ReadFault>
     Ok((count, &bytes[12..]))
 }
 
-/// Reads an image from its bytes: [`MAGIC`], the number of segments, and of each segment its address, its number of
-/// words and its words, every number in 32 bits, the lowest byte first.
+/// Reads an image from its bytes: [`MAGIC`], the number of segments, and of each segment its address, its
+/// number of words and its words, every number in 32 bits, the lowest byte first.
 ///
 /// # Errors
 ///
-/// The first from the front: `BadMagic`, `OutOfRange`, `Misaligned` and `Overlap` as soon as the bytes cannot be those
-/// of an image, `Truncated` where they end too early, `TrailingBytes` where they go on, and `Memory` where a
-/// growth was refused.
+/// The first from the front: `BadMagic`, `OutOfRange`, `Misaligned` and `Overlap` as soon as the bytes cannot
+/// be those of an image, `Truncated` where they end too early, `TrailingBytes` where they go on, and `Memory`
+/// where a growth was refused.
 pub fn read_image(alloc: Global, bytes: &[u8]) -> Result<Image, ReadFault>
     ensures image { IfOk result (λ image. image_read bytes.now ≡ Ok image) }
-    ensures spelled { IfOk result (λ image. (segments : List Segment) × (bytes.now ≡ image_bytes segments) × Spell segments image) }
+    ensures spelled { IfOk result
+        (λ image. (segments : List Segment) × (bytes.now ≡ image_bytes segments) × Spell segments image) }
     ensures fault { IfErr result (λ fault. (fault ≡ ReadFault.Memory) ⊎ (image_read bytes.now ≡ Err fault)) }
 {
     let (count, start) = read_count(bytes)?;

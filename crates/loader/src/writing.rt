@@ -55,7 +55,8 @@ fn run_behind(address: u32, words: &[(u32, u32)]) -> usize
 // Adds the segments of words, whose addresses ascend.
 fn push_segments(bytes: &mut Vec<u8>, words: &[(u32, u32)]) -> Result<(), AllocError>
     requires few { length words.now ≤ 65536 }
-    ensures { OnOk result (bytes.new.items ≡ bytes.old.items ++ flat_map segment_bytes (segments_of words.now)) }
+    ensures { OnOk result
+        (bytes.new.items ≡ bytes.old.items ++ flat_map segment_bytes (segments_of words.now)) }
 {
     let mut rest = words;
     while let [first, behind @ ..] = rest {
@@ -67,8 +68,8 @@ fn push_segments(bytes: &mut Vec<u8>, words: &[(u32, u32)]) -> Result<(), AllocE
     Ok(())
 }
 
-/// Writes an image as bytes: [`MAGIC`], the number of segments, and of each segment its address, its number of words
-/// and its words, every number in 32 bits, the lowest byte first.
+/// Writes an image as bytes: [`MAGIC`], the number of segments, and of each segment its address, its number
+/// of words and its words, every number in 32 bits, the lowest byte first.
 ///
 /// The segments are the maximal runs of words side by side, by ascending addresses.
 ///

@@ -1,5 +1,6 @@
 -- What is built from the numbers of a greatest walk, before it is carried over to places (our own format).
-use Rattle.std.specs.Prelude.{◌≡◌, ◌≢◌, ◌↔◌, ℕ, ◌+◌, ◌<◌, ◌≤◌, List, [], ◌∷◌, length, map, slice_index_or, All, Contains, None}
+use Rattle.std.specs.Prelude.{◌≡◌, ◌≢◌, ◌↔◌, ℕ, ◌+◌, ◌<◌, ◌≤◌, List, [], ◌∷◌, length, map, slice_index_or}
+use Rattle.std.specs.Prelude.{All, Contains, None}
 use Rattle.std.specs.List.{AllZip}
 use Rattle.std.specs.List.Sorted.{IsStrictlySortedBy}
 use Rattle.flow_graph.specs.declared.places.Place.{Place}
@@ -41,14 +42,17 @@ pub record IsNumberedBody (flow : Flow) (tree : Tree) (c : Tables) (body : List 
   pub round : IsRoundOf tree.edges tree.spans c span (edges_of tree.edges numbers)
 
 -- a repeat: all rounds of the span of its body
-pub record AreAllNumbered (flow : Flow) (tree : Tree) (c : Tables) (count : ℕ) (body : List Edge) : Type 0 where
+pub record AreAllNumbered (flow : Flow) (tree : Tree) (c : Tables) (count : ℕ)
+    (body : List Edge) : Type 0 where
   pub body_is : IsNumberedBody flow tree c body
   pub count_is : count ≡ body_is.span.bound
 
 -- each edge of these numbers begins behind the one before it, the first at the number or behind it
 abbrev pub Rise : Flow → Tree → ℕ → List ℕ → Type 0
 Rise flow tree least [] = Unit {0}
-Rise flow tree least (k ∷ rest) = (k < length flow.edges) × (least ≤ (edge_at tree.edges k).from) × Rise flow tree ((edge_at tree.edges k).from + 1) rest
+Rise flow tree least (k ∷ rest) =
+    (k < length flow.edges) × (least ≤ (edge_at tree.edges k).from)
+    × Rise flow tree ((edge_at tree.edges k).from + 1) rest
 
 -- the edges of numbers that rise
 pub record AreRising (flow : Flow) (tree : Tree) (edges : List Edge) : Type 0 where
@@ -100,5 +104,6 @@ pub record IsInstanceRowAt (tree : Tree) (c : Tables) (r : InstanceRow) : Type 0
 -- a row for each instance, ascending by header
 pub record AreInstanceRowsAt (tree : Tree) (c : Tables) (rows : List InstanceRow) : Type 0 where
   pub ascending : IsStrictlySortedBy place_cmp (map header_of_row rows)
-  pub instances_are : (p : Place) → Contains (map header_of_row rows) p ↔ Contains (map header_of tree.instances) p
+  pub instances_are : (p : Place) → Contains (map header_of_row rows) p
+      ↔ Contains (map header_of tree.instances) p
   pub each : All (IsInstanceRowAt tree c) rows

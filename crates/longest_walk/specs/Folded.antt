@@ -6,8 +6,8 @@ use Rattle.longest_walk.specs.declared.folded.Item.{Item}
 use Rattle.longest_walk.specs.declared.folded.Item.TheOpen.{Item-F}
 use Rattle.longest_walk.specs.declared.folded.Item.TheFolds.{fold-Item}
 
--- the edges, and those of them outside of repeats; of the repeats, inner ones included, the counts, the edges of one round,
--- and those of the body outside of the repeats in it; and how deep repeats stand
+-- the edges, and those of them outside of repeats; of the repeats, inner ones included, the counts, the edges
+-- of one round, and those of the body outside of the repeats in it; and how deep repeats stand
 pub record Opened : Type 0 where
   pub walk : List Edge
   pub outside : List Edge
@@ -43,7 +43,8 @@ turned k body = record {
 }
 
 abbrev pub one_edge : Edge → Opened
-one_edge e = record { walk = e ∷ []; outside = e ∷ []; counts = []; bodies = []; bodies_outside = []; depth = 0 }
+one_edge e =
+    record { walk = e ∷ []; outside = e ∷ []; counts = []; bodies = []; bodies_outside = []; depth = 0 }
 
 -- an item whose body's items are opened already
 abbrev pub open_step : Item-F Opened → Opened

@@ -52,8 +52,8 @@ pub record AreAllRounds (flow : Flow) (tree : Tree) (count : ℕ) (body : List E
 abbrev pub LeaveOnce : List Edge → Type 0
 LeaveOnce edges = AllPairs (λ d e. d.from ≢ e.from) edges
 
--- Nothing is written out that a repeat can say: each repeat takes all rounds of its instance, outside of repeats neither the
--- walk nor a body leaves a place twice, and no body is repeats alone.
+-- Nothing is written out that a repeat can say: each repeat takes all rounds of its instance, outside of
+-- repeats neither the walk nor a body leaves a place twice, and no body is repeats alone.
 pub record IsFolded (flow : Flow) (tree : Tree) (items : List Item) : Type 0 where
   pub all_rounds : AllZip (AreAllRounds flow tree) (open_items items).counts (open_items items).bodies
   pub walk_once : LeaveOnce (open_items items).outside
@@ -70,8 +70,8 @@ pub record IsWalkOf (flow : Flow) (tree : Tree) (cost : ℕ) (items : List Item)
 
 -- ## The whole answer
 
--- the bound is the greatest cost of a complete walk that keeps the bounds, the folded walk is such a walk of that cost,
--- and the numbers are the least that meet all rows
+-- the bound is the greatest cost of a complete walk that keeps the bounds, the folded walk is such a walk of
+-- that cost, and the numbers are the least that meet all rows
 pub record IsLongest (flow : Flow) (tree : Tree) (l : Longest) : Type 0 where
   pub greatest : IsGreatest edge_shape (HasEdge flow) (KeepsTree tree) flow.entry Exit l.bound
   pub walk_is : IsWalkOf flow tree l.bound l.walk
@@ -82,7 +82,8 @@ pub record IsLongest (flow : Flow) (tree : Tree) (l : Longest) : Type 0 where
   pub least : AreLeast flow tree (potentials_of l.bound l.potentials.places l.potentials.instances)
   pub profile : l.profile ≡ flow.profile
 
--- when each refusal comes: no walk leads to Exit; or one does, and some walk that keeps the bounds costs too much
+-- when each refusal comes: no walk leads to Exit; or one does, and some walk that keeps the bounds costs too
+-- much
 abbrev pub IsWalkFault : Flow → Tree → WalkFault → Type 0
 IsWalkFault flow tree Memory = Unit {0}
 IsWalkFault flow tree NoCompleteWalk = (walk : List Edge) → IsCompleteWalk flow walk → ⊥

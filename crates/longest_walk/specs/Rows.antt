@@ -40,13 +40,21 @@ row_of instances i = find (λ r. is_at r.list r.header (header_of i)) instances
 
 -- the numbers that the rows state
 abbrev pub potentials_of : ℕ → List PlaceRow → List InstanceRow → rows.Potentials Place Instance
-potentials_of bound places instances = record { bound = bound; distance = distance_in places; arrival = λ i. number_or_zero (λ r. r.arrival) (row_of instances i); round = λ i. number_or_zero (λ r. r.round) (row_of instances i) }
+potentials_of bound places instances =
+    record {
+      bound = bound;
+      distance = distance_in places;
+      arrival = λ i. number_or_zero (λ r. r.arrival) (row_of instances i);
+      round = λ i. number_or_zero (λ r. r.round) (row_of instances i);
+    }
 
 -- a row for each place, in the order of places; and for each instance, in that of their headers
-pub record AreRowsOf (flow : Flow) (tree : Tree) (places : List PlaceRow) (instances : List InstanceRow) : Type 0 where
+pub record AreRowsOf (flow : Flow) (tree : Tree) (places : List PlaceRow)
+    (instances : List InstanceRow) : Type 0 where
   pub places_are : map place_of_row places ≡ flow.places
   pub ascending : IsStrictlySortedBy place_cmp (map header_of_row instances)
-  pub instances_are : (p : Place) → Contains (map header_of_row instances) p ↔ Contains (map header_of tree.instances) p
+  pub instances_are : (p : Place) → Contains (map header_of_row instances) p
+      ↔ Contains (map header_of tree.instances) p
 
 abbrev pub is_exit : Place → Bool
 is_exit (At calls address) = false
@@ -62,4 +70,6 @@ RowsFit flow tree c = rows.RowsFit edge_shape place_loops tree.instances c is_ex
 
 -- no numbers that meet the rows are less
 abbrev pub AreLeast : Flow → Tree → rows.Potentials Place Instance → Type 0
-AreLeast flow tree c = (other : rows.Potentials Place Instance) → RowsHold flow tree other → rows.IsAtMost is_exit tree.instances c other
+AreLeast flow tree c =
+    (other : rows.Potentials Place Instance) → RowsHold flow tree other
+    → rows.IsAtMost is_exit tree.instances c other

@@ -1,5 +1,6 @@
 -- How a folded walk is put together from the numbers of edges (our own).
-use Rattle.std.specs.Prelude.{◌≡◌, ◌≢◌, ℕ, ◌+◌, ◌<◌, ◌≤◌, Bool, true, false, List, [], ◌∷◌, length, flat_map, slice_index_or, count_by, All, Contains, Option, Some, None}
+use Rattle.std.specs.Prelude.{◌≡◌, ◌≢◌, ℕ, ◌+◌, ◌<◌, ◌≤◌, Bool, true, false, List, [], ◌∷◌, length, flat_map}
+use Rattle.std.specs.Prelude.{slice_index_or, count_by, All, Contains, Option, Some, None}
 use Rattle.std.specs.List.{AllZip}
 use Rattle.flow_graph.specs.Flow.{Flow}
 use Rattle.numbered_walks.specs.declared.span.NumberedEdge.{NumberedEdge}
@@ -37,10 +38,14 @@ abbrev pub InTree : List Span → Option Span → Type 0
 InTree spans None = Unit {0}
 InTree spans (Some s) = Contains spans s
 
--- the edges of these numbers lead from the one place to the other, inside the context, and each is one that its end asks for
+-- the edges of these numbers lead from the one place to the other, inside the context, and each is one that
+-- its end asks for
 abbrev pub IsWay : List NumberedEdge → List Span → Tables → Option Span → ℕ → List ℕ → ℕ → Type 0
 IsWay edges spans c context from [] to = from ≡ to
-IsWay edges spans c context from (k ∷ rest) to = ((edge_at edges k).from ≡ from) × IsEntering edges spans c (edge_at edges k).to k × (holds context (edge_at edges k).to ≡ true) × (start_of context < (edge_at edges k).to) × IsWay edges spans c context (edge_at edges k).to rest to
+IsWay edges spans c context from (k ∷ rest) to =
+    ((edge_at edges k).from ≡ from) × IsEntering edges spans c (edge_at edges k).to k
+    × (holds context (edge_at edges k).to ≡ true) × (start_of context < (edge_at edges k).to)
+    × IsWay edges spans c context (edge_at edges k).to rest to
 
 -- ## Rounds and walks
 
@@ -54,13 +59,15 @@ rounds_at table p = slice_index_or table p None
 
 -- an edge, and all rounds of the instance at whose header it ends
 abbrev pub opened_edge : Flow → Tree → List (Option Rounds) → ℕ → List Opened
-opened_edge flow tree table k = one_edge (step_at flow.edges k) ∷ opened_rounds (rounds_at table (edge_at tree.edges k).to)
+opened_edge flow tree table k =
+    one_edge (step_at flow.edges k) ∷ opened_rounds (rounds_at table (edge_at tree.edges k).to)
 
 abbrev pub opened_way : Flow → Tree → List (Option Rounds) → List ℕ → List Opened
 opened_way flow tree table numbers = flat_map (opened_edge flow tree table) numbers
 
 -- it follows the edges of these numbers, with repeats that leave room for so many more round them
-pub record IsAlong (flow : Flow) (tree : Tree) (c : Tables) (outer : ℕ) (numbers : List ℕ) (o : Opened) : Type 0 where
+pub record IsAlong (flow : Flow) (tree : Tree) (c : Tables) (outer : ℕ) (numbers : List ℕ)
+    (o : Opened) : Type 0 where
   pub inside : All (λ k. k < length flow.edges) numbers
   pub walk_is : o.walk ≡ steps_of flow.edges numbers
   pub bodies : All (IsNumberedBody flow tree c) o.bodies
@@ -78,7 +85,8 @@ level_in spans None = 1
 level_in spans (Some s) = depth_at spans s.header + 1
 
 -- the items follow a greatest walk from the start of the context to the place
-pub record IsFollowed (flow : Flow) (tree : Tree) (c : Tables) (context : Option Span) (p : ℕ) (items : List Opened) : Type 0 where
+pub record IsFollowed (flow : Flow) (tree : Tree) (c : Tables) (context : Option Span) (p : ℕ)
+    (items : List Opened) : Type 0 where
   pub numbers : List ℕ
   pub path : IsPathTo tree.edges tree.spans c context p (edges_of tree.edges numbers)
   pub along : IsAlong flow tree c (level_in tree.spans context) numbers (joined items)
@@ -99,13 +107,17 @@ pub record IsRounds (flow : Flow) (tree : Tree) (c : Tables) (s : Span) (entry :
   pub along : IsAlong flow tree c (depth_at tree.spans s.header) numbers (joined (opened_rounds entry))
 
 -- the rounds of the first spans stand at their headers, and none where no span begins
-pub record AreRounds (flow : Flow) (tree : Tree) (c : Tables) (done : ℕ) (table : List (Option Rounds)) : Type 0 where
+pub record AreRounds (flow : Flow) (tree : Tree) (c : Tables) (done : ℕ)
+    (table : List (Option Rounds)) : Type 0 where
   pub whole : length table ≡ length flow.places + 1
-  pub known : (n : ℕ) → n < done → n < length tree.spans → IsRounds flow tree c (nth tree.spans n) (rounds_at table (nth tree.spans n).header)
+  pub known : (n : ℕ) → n < done → n < length tree.spans
+      → IsRounds flow tree c (nth tree.spans n) (rounds_at table (nth tree.spans n).header)
   pub plain : (p : ℕ) → is_header_in tree.spans p ≡ false → rounds_at table p ≡ None
 
 -- the rounds of all instances inside the context are known
-pub record HasRounds (flow : Flow) (tree : Tree) (c : Tables) (context : Option Span) (table : List (Option Rounds)) : Type 0 where
+pub record HasRounds (flow : Flow) (tree : Tree) (c : Tables) (context : Option Span)
+    (table : List (Option Rounds)) : Type 0 where
   pub whole : length table ≡ length flow.places + 1
-  pub known : (s : Span) → Contains tree.spans s → holds context s.header ≡ true → start_of context < s.header → IsRounds flow tree c s (rounds_at table s.header)
+  pub known : (s : Span) → Contains tree.spans s → holds context s.header ≡ true → start_of context < s.header
+      → IsRounds flow tree c s (rounds_at table s.header)
   pub plain : (p : ℕ) → is_header_in tree.spans p ≡ false → rounds_at table p ≡ None

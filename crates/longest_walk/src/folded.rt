@@ -73,7 +73,8 @@ impl FoldedWalk {
     }
 }
 
-/// The greatest cost of a complete walk that keeps the loop bounds, such a walk, and the numbers that prove it greatest.
+/// The greatest cost of a complete walk that keeps the loop bounds, such a walk, and the numbers that prove
+/// it greatest.
 #[derive(Drop)]
 pub struct Longest {
     /// The greatest cost, in ticks, below 2^63.

@@ -25,19 +25,21 @@ fn search(alloc: Global, graph: &Graph, tree: &LoopTree) -> Result<(Index, Table
     Ok((index, tables))
 }
 
-/// The greatest cost of a complete walk that keeps the bounds of a graph's loops, such a walk, and the least numbers
-/// that prove it greatest.
+/// The greatest cost of a complete walk that keeps the bounds of a graph's loops, such a walk, and the least
+/// numbers that prove it greatest.
 ///
 /// The tree is the one that `nest` gave for the graph.
 ///
 /// # Errors
 ///
-/// `NoCompleteWalk` where no walk from the entry leaves the handler, else `BoundTooLarge` where a walk from the entry
-/// that keeps the bounds costs 2^63 ticks or more, wherever it ends. `Memory`: a growth was refused.
+/// `NoCompleteWalk` where no walk from the entry leaves the handler, else `BoundTooLarge` where a walk from
+/// the entry that keeps the bounds costs 2^63 ticks or more, wherever it ends. `Memory`: a growth was
+/// refused.
 pub fn longest(alloc: Global, graph: &Graph, tree: &LoopTree) -> Result<Longest, WalkFault>
     requires { IsTree graph.now tree.now }
     ensures longest { IfOk result (IsLongest graph.now tree.now) }
-    ensures allowed { OnOk result ((fault : WalkFault) → fault ≢ WalkFault.Memory → IsWalkFault graph.now tree.now fault → ⊥) }
+    ensures allowed { OnOk result
+        ((fault : WalkFault) → fault ≢ WalkFault.Memory → IsWalkFault graph.now tree.now fault → ⊥) }
     ensures fault { IfErr result (IsWalkFault graph.now tree.now) }
 {
     let (index, tables) = search(alloc, graph, tree)?;

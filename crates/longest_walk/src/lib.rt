@@ -1,5 +1,5 @@
-//! The greatest cost of a complete walk through a handler's flow graph that keeps the loop bounds, such a walk, written
-//! with repeats, and the least numbers by which a checker sees that none costs more.
+//! The greatest cost of a complete walk through a handler's flow graph that keeps the loop bounds, such a
+//! walk, written with repeats, and the least numbers by which a checker sees that none costs more.
 #![tactic(auto)]
 
 mod builder;

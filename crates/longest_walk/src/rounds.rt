@@ -1,8 +1,10 @@
-ghost use Rattle.std.specs.Prelude.{◌≡◌, ◌+◌, ◌<◌, ◌++◌, All, Contains, IfOk, IfErr, length, map, Some, None, ℕ};
+ghost use Rattle.std.specs.Prelude.{◌≡◌, ◌+◌, ◌<◌, ◌++◌, All, Contains, IfOk, IfErr, length, map, Some, None};
+ghost use Rattle.std.specs.Prelude.{ℕ};
 ghost use Rattle.numbered_walks.specs.Index.{edge_at};
 ghost use Rattle.numbered_walks.specs.Found.{IsTurning};
 ghost use Rattle.longest_walk.specs.Folded.{open_item};
-ghost use Rattle.longest_walk.specs.Ways.{AreRounds, AreSearched, HasRounds, IsRound, IsRounds, opened_rounds, opened_way, rounds_at};
+ghost use Rattle.longest_walk.specs.Ways.{AreRounds, AreSearched, HasRounds, IsRound, IsRounds};
+ghost use Rattle.longest_walk.specs.Ways.{opened_rounds, opened_way, rounds_at};
 
 use crate::folded::Item;
 use crate::trace::{last_turn, trace};
@@ -26,7 +28,9 @@ pub(crate) fn add_rounds(
     number: usize,
 ) -> Result<(), AllocError>
     requires { number < length rounds.now }
-    ensures { IfOk result (λ _. map open_item walk.new.items ≡ map open_item walk.old.items ++ opened_rounds (rounds_at rounds.now number)) }
+    ensures { IfOk result
+        (λ _. map open_item walk.new.items
+        ≡ map open_item walk.old.items ++ opened_rounds (rounds_at rounds.now number)) }
 {
     if let Some(all) = &rounds[number] {
         walk.push(Item::Repeat(all.count, all.body.clone()?))?;
@@ -42,8 +46,12 @@ pub(crate) fn add_way(
     rounds: &[Option<Rounds>],
     way: &[usize],
 ) -> Result<(), AllocError>
-    requires known { All (λ k. (k < length graph.now.edges) × (k < length tree.now.edges) × ((edge_at tree.now.edges k).to < length rounds.now)) way.now }
-    ensures { IfOk result (λ _. map open_item walk.new.items ≡ map open_item walk.old.items ++ opened_way graph.now tree.now rounds.now way.now) }
+    requires known { All
+        (λ k. (k < length graph.now.edges) × (k < length tree.now.edges)
+        × ((edge_at tree.now.edges k).to < length rounds.now)) way.now }
+    ensures { IfOk result
+        (λ _. map open_item walk.new.items
+        ≡ map open_item walk.old.items ++ opened_way graph.now tree.now rounds.now way.now) }
 {
     for number in way {
         walk.push(Item::Step(graph.edges()[*number]))?;
@@ -124,7 +132,8 @@ pub(crate) fn all_rounds(
     tables: &Tables,
 ) -> Result<Vec<Option<Rounds>>, WalkFault>
     requires { AreSearched graph.now tree.now index.now tables.now }
-    ensures rounds { IfOk result (λ rounds. AreRounds graph.now tree.now tables.now (length tree.now.spans) rounds.items) }
+    ensures rounds { IfOk result
+        (λ rounds. AreRounds graph.now tree.now tables.now (length tree.now.spans) rounds.items) }
     ensures memory { IfErr result (λ fault. fault ≡ WalkFault.Memory) }
 {
     let mut rounds = no_rounds(alloc, graph.places().len() + 1)?;

@@ -12,7 +12,8 @@ pub struct PlaceRow {
     pub list: Calls,
     /// The place's address, a multiple of 4 below 4000000.
     pub address: u32,
-    /// The most that a walk has cost here, in ticks, since it entered the innermost instance that holds the place.
+    /// The most that a walk has cost here, in ticks, since it entered the innermost instance that holds the
+    /// place.
     pub distance: u64,
 }
 

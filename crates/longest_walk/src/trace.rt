@@ -29,7 +29,8 @@ pub(crate) fn last_turn(
 ) -> Option<usize>
     requires searched { AreSearched graph.now tree.now index.now tables.now }
     requires known { Contains tree.now.spans span.now }
-    ensures { MatchOption result (round_of tables.now span.now ≡ 0) (IsTurning tree.now.edges tree.now.spans tables.now span.now) }
+    ensures { MatchOption result (round_of tables.now span.now ≡ 0)
+        (IsTurning tree.now.edges tree.now.spans tables.now span.now) }
 {
     let exit = graph.places().len();
     turning_edge(tree.edges(), tree.spans(), exit, index, tables, span)
@@ -59,7 +60,8 @@ pub(crate) fn trace(
     requires context { InTree tree.now.spans context }
     requires inside { holds context number ≡ true }
     requires known { number ≤ length graph.now.places }
-    ensures { IfOk result (λ way. IsWay tree.now.edges tree.now.spans tables.now context (start_of context) way.items number) }
+    ensures { IfOk result
+        (λ way. IsWay tree.now.edges tree.now.spans tables.now context (start_of context) way.items number) }
 {
     let first = start(context);
     let mut way = Vec::new(alloc);

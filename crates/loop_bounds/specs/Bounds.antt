@@ -18,7 +18,8 @@ KeepsTheBounds flow loops walk = KeepsBounds edge_shape place_loops (IsInstance 
 
 -- some complete walk that keeps the bounds costs n ticks, and none costs more
 abbrev pub IsGreatestCost : Flow → List Loop → ℕ → Type 0
-IsGreatestCost flow loops n = IsGreatest edge_shape (HasEdge flow) (KeepsTheBounds flow loops) flow.entry Exit n
+IsGreatestCost flow loops n =
+    IsGreatest edge_shape (HasEdge flow) (KeepsTheBounds flow loops) flow.entry Exit n
 
 -- some walk from the entry, wherever it ends, keeps the bounds and costs 2^63 ticks or more
 abbrev pub IsTooLarge : Flow → List Loop → Type 0

@@ -1,6 +1,7 @@
--- Instances as extents of positions in the order of keys: which cross, which contain which, and which of them an edge
--- enters (our own).
-use Rattle.std.specs.Prelude.{◌≡◌, ◌≢◌, AllPairs, ◌==◌, ◌&&◌, nat_le, nat_lt, Bool, ℕ, ◌+◌, ◌<◌, ◌≤◌, ◌⊎◌, List, length, Contains, IsTrue, ◌↔◌, slice_index_or, Option, Some, None}
+-- Instances as extents of positions in the order of keys: which cross, which contain which, and which of them
+-- an edge enters (our own).
+use Rattle.std.specs.Prelude.{◌≡◌, ◌≢◌, AllPairs, ◌==◌, ◌&&◌, nat_le, nat_lt, Bool, ℕ, ◌+◌, ◌<◌, ◌≤◌, ◌⊎◌}
+use Rattle.std.specs.Prelude.{List, length, Contains, IsTrue, ◌↔◌, slice_index_or, Option, Some, None}
 use Rattle.std.specs.BTreeSet.{BTreeSet, contains}
 use Rattle.std.specs.Ordering.{nat_cmp}
 use Rattle.flow_graph.specs.declared.places.Place.{Place}
@@ -57,26 +58,38 @@ pub record IsExtentOf (listed : List Place) (i : Instance) (s : Extent) : Type 0
 -- each extent is that of the instance that it names, and each instance has one
 pub record AreExtentsOf (listed : List Place) (found : List Found) (extents : List Extent) : Type 0 where
   pub named : (s : Extent) → Contains extents s → s.instance < length found
-  pub are : (s : Extent) (d : Found) → Contains extents s → IsExtentOf listed (found_instance (slice_index_or found s.instance d)) s
+  pub are : (s : Extent) (d : Found) → Contains extents s
+      → IsExtentOf listed (found_instance (slice_index_or found s.instance d)) s
   pub all : (k : ℕ) → k < length found → (s : Extent) × Contains extents s × (s.instance ≡ k)
-  pub once : (j k : ℕ) (d : Extent) → j < length extents → k < length extents → (slice_index_or extents j d).instance ≡ (slice_index_or extents k d).instance → j ≡ k
+  pub once : (j k : ℕ) (d : Extent) → j < length extents → k < length extents
+      → (slice_index_or extents j d).instance ≡ (slice_index_or extents k d).instance → j ≡ k
 
 -- the extents of the first instances, in their turn
-pub record AreExtentsUpto (listed : List Place) (found : List Found) (extents : List Extent) (limit : ℕ) : Type 0 where
+pub record AreExtentsUpto (listed : List Place) (found : List Found) (extents : List Extent)
+    (limit : ℕ) : Type 0 where
   pub same : length extents ≡ limit
-  pub each : (k : ℕ) (s : Extent) (d : Found) → k < limit → IsExtentOf listed (found_instance (slice_index_or found k d)) (slice_index_or extents k s) × ((slice_index_or extents k s).instance ≡ k) × ((slice_index_or extents k s).first < (slice_index_or extents k s).end)
+  pub each : (k : ℕ) (s : Extent) (d : Found) → k < limit
+      → IsExtentOf listed (found_instance (slice_index_or found k d)) (slice_index_or extents k s)
+      × ((slice_index_or extents k s).instance ≡ k)
+      × ((slice_index_or extents k s).first < (slice_index_or extents k s).end)
 
 -- the headers of the first loops, of which none is another's
 pub record AreSeen (loops : List Loop) (headers : BTreeSet ℕ) (limit : ℕ) : Type 0 where
-  pub seen : (h : ℕ) → (IsTrue (contains nat_cmp headers h)) ↔ ((k : ℕ) × (k < limit) × ((d : Loop) → (slice_index_or loops k d).header ≡ h))
-  pub differ : (j k : ℕ) (d : Loop) → j < k → k < limit → (slice_index_or loops j d).header ≡ (slice_index_or loops k d).header → ⊥
+  pub seen : (h : ℕ) → (IsTrue (contains nat_cmp headers h))
+      ↔ ((k : ℕ) × (k < limit) × ((d : Loop) → (slice_index_or loops k d).header ≡ h))
+  pub differ : (j k : ℕ) (d : Loop) → j < k → k < limit
+      → (slice_index_or loops j d).header ≡ (slice_index_or loops k d).header → ⊥
 
 -- ## In order
 
 -- each has a position, and they stand in the order of their first positions, the longer before the shorter
 pub record AreExtents (extents : List Extent) : Type 0 where
   pub some : (k : ℕ) → k < length extents → (extent_at extents k).first < (extent_at extents k).end
-  pub sorted : (j k : ℕ) → j < k → k < length extents → ((extent_at extents j).first < (extent_at extents k).first) ⊎ (((extent_at extents j).first ≡ (extent_at extents k).first) × ((extent_at extents k).end ≤ (extent_at extents j).end))
+  pub sorted : (j k : ℕ) → j < k → k < length extents
+      → ((extent_at extents j).first < (extent_at extents k).first)
+      ⊎
+      (((extent_at extents j).first ≡ (extent_at extents k).first)
+      × ((extent_at extents k).end ≤ (extent_at extents j).end))
 
 -- ## Which cross
 
@@ -104,7 +117,11 @@ pub record HaveCrossing (extents : List Extent) : Type 0 where
 -- of the first extents, those that end after the position hold this one, or there are none
 abbrev pub IsOpen : List Extent → ℕ → ℕ → Option ℕ → Type 0
 IsOpen extents limit p None = (j : ℕ) → j < limit → (extent_at extents j).end ≤ p
-IsOpen extents limit p (Some k) = (k < limit) × ((j : ℕ) → j < limit → p < (extent_at extents j).end → (j ≤ k) × ((extent_at extents k).end ≤ (extent_at extents j).end))
+IsOpen extents limit p (Some k) =
+    (k < limit)
+    ×
+    ((j : ℕ) → j < limit → p < (extent_at extents j).end
+    → (j ≤ k) × ((extent_at extents k).end ≤ (extent_at extents j).end))
 
 -- the parent of an extent is the innermost that contains it, or there is none
 abbrev pub Holds : List Extent → ℕ → Option ℕ → Type 0
@@ -119,7 +136,9 @@ IsOver extents k (Some d) = (extent_at extents d).end < (extent_at extents k).en
 pub record IsParent (extents : List Extent) (k : ℕ) (parent : Option ℕ) : Type 0 where
   pub opened : IsOpen extents k (extent_at extents k).first parent
   pub holds : Holds extents k parent
-  pub after : (j : ℕ) → j < k → ((extent_at extents j).end ≤ (extent_at extents k).first) ⊎ ((extent_at extents k).end ≤ (extent_at extents j).end)
+  pub after : (j : ℕ) → j < k
+      → ((extent_at extents j).end ≤ (extent_at extents k).first)
+      ⊎ ((extent_at extents k).end ≤ (extent_at extents j).end)
 
 abbrev pub AreParents : List Extent → List (Option ℕ) → ℕ → Type 0
 AreParents extents parents limit = (k : ℕ) → k < limit → IsParent extents k (parent_at parents k)
@@ -137,19 +156,34 @@ height (Some k) = k + 1
 -- the innermost of the extents that hold the position, or none holds it
 abbrev pub IsInnermost : List Extent → ℕ → Option ℕ → Type 0
 IsInnermost extents p None = (j : ℕ) → j < length extents → IsWithin (extent_at extents j) p → ⊥
-IsInnermost extents p (Some k) = (k < length extents) × IsWithin (extent_at extents k) p × ((j : ℕ) → j < length extents → IsWithin (extent_at extents j) p → (j ≤ k) × ((extent_at extents k).end ≤ (extent_at extents j).end))
+IsInnermost extents p (Some k) =
+    (k < length extents) × IsWithin (extent_at extents k) p
+    ×
+    ((j : ℕ) → j < length extents → IsWithin (extent_at extents j) p
+    → (j ≤ k) × ((extent_at extents k).end ≤ (extent_at extents j).end))
 
 -- ## What an edge enters
 
 -- each extent that holds `to` and not `from` has its header there
 abbrev pub EntersRight : List Extent → ℕ → ℕ → Type 0
-EntersRight extents from to = (j : ℕ) → j < length extents → IsWithin (extent_at extents j) to → (IsWithin (extent_at extents j) from → ⊥) → to ≡ (extent_at extents j).header
+EntersRight extents from to =
+    (j : ℕ) → j < length extents → IsWithin (extent_at extents j) to
+    → (IsWithin (extent_at extents j) from → ⊥) → to ≡ (extent_at extents j).header
 
 -- some extent that holds `to` and not `from` has its header elsewhere
 abbrev pub EntersWrong : List Extent → ℕ → ℕ → Type 0
-EntersWrong extents from to = (j : ℕ) × (j < length extents) × IsWithin (extent_at extents j) to × (IsWithin (extent_at extents j) from → ⊥) × (to ≡ (extent_at extents j).header → ⊥)
+EntersWrong extents from to =
+    (j : ℕ) × (j < length extents) × IsWithin (extent_at extents j) to
+    × (IsWithin (extent_at extents j) from → ⊥) × (to ≡ (extent_at extents j).header → ⊥)
 
--- of the extents that hold `to` those that are not yet looked at hold this one, and the others have their header there
+-- of the extents that hold `to` those that are not yet looked at hold this one, and the others have their
+-- header there
 abbrev pub IsLeft : List Extent → ℕ → Option ℕ → Type 0
-IsLeft extents to None = (j : ℕ) → j < length extents → IsWithin (extent_at extents j) to → to ≡ (extent_at extents j).header
-IsLeft extents to (Some k) = (k < length extents) × IsWithin (extent_at extents k) to × ((j : ℕ) → j < length extents → IsWithin (extent_at extents j) to → (to ≡ (extent_at extents j).header) ⊎ ((j ≤ k) × ((extent_at extents k).end ≤ (extent_at extents j).end)))
+IsLeft extents to None =
+    (j : ℕ) → j < length extents → IsWithin (extent_at extents j) to → to ≡ (extent_at extents j).header
+IsLeft extents to (Some k) =
+    (k < length extents) × IsWithin (extent_at extents k) to
+    ×
+    ((j : ℕ) → j < length extents → IsWithin (extent_at extents j) to
+    → (to ≡ (extent_at extents j).header)
+    ⊎ ((j ≤ k) × ((extent_at extents k).end ≤ (extent_at extents j).end)))

@@ -6,7 +6,9 @@ use Rattle.flow_graph.specs.Flow.{Flow}
 use Rattle.flow_graph.specs.Places.{place_at}
 use Rattle.statement.specs.Stated.{IsLoop}
 use Rattle.loop_bounds.specs.declared.fault.NestFault.{NestFault}
-use Rattle.loop_bounds.specs.declared.fault.NestFault.TheVariants.{Memory, LoopsCross, SharedHeader, EntersMidLoop, UnboundedCycle, NestedTooDeep}
+use Rattle.loop_bounds.specs.declared.fault.NestFault.TheVariants.{Memory, LoopsCross, SharedHeader}
+use Rattle.loop_bounds.specs.declared.fault.NestFault.TheVariants.{EntersMidLoop, UnboundedCycle}
+use Rattle.loop_bounds.specs.declared.fault.NestFault.TheVariants.{NestedTooDeep}
 use Rattle.numbered_walks.specs.declared.span.NumberedEdge.{NumberedEdge}
 use Rattle.loop_bounds.specs.declared.extents.Extent.{Extent}
 use Rattle.loop_bounds.specs.declared.ground.Ground.{Ground}
@@ -14,14 +16,16 @@ use Rattle.loop_bounds.specs.declared.nesting.Nesting.{Nesting}
 use Rattle.loop_bounds.specs.Instance.{Instance, IsInstance}
 use Rattle.loop_bounds.specs.Keys.{IsListed}
 use Rattle.numbered_walks.specs.Ordered.{number_shape}
-use Rattle.loop_bounds.specs.Extents.{AreExtents, AreExtentsOf, AreNested, PlacesDiffer, HaveCrossing, EntersRight, EntersWrong, extent_at, found_instance}
+use Rattle.loop_bounds.specs.Extents.{AreExtents, AreExtentsOf, AreNested, PlacesDiffer, HaveCrossing}
+use Rattle.loop_bounds.specs.Extents.{EntersRight, EntersWrong, extent_at, found_instance}
 use Rattle.loop_bounds.specs.Layout.{AreChains, AreRanks, AreShallow, IsBack, depth_at, items_of}
 use Rattle.loop_bounds.specs.Tree.{IsNumbered}
 
 -- the places by key, the instances with their extents, and the edges and the entry between positions
 pub record IsGround (flow : Flow) (loops : List Loop) (ground : Ground) : Type 0 where
   pub listed_is : IsListed flow.places ground.listed.items
-  pub found_are : (i : Instance) → Contains (map found_instance ground.found.items) i ↔ IsInstance flow loops i
+  pub found_are : (i : Instance) → Contains (map found_instance ground.found.items) i
+      ↔ IsInstance flow loops i
   pub bounded : All (λ f. IsLoop f.stated) ground.found.items
   pub differ : PlacesDiffer ground.found.items
   pub extents_of : AreExtentsOf ground.listed.items ground.found.items ground.extents.items
@@ -39,21 +43,25 @@ pub record IsSound (exit : ℕ) (edges : List NumberedEdge) (extents : List Exte
   pub apart : (s t : Extent) → Contains extents s → Contains extents t → s.header ≡ t.header → s ≡ t
 
 -- each extent is entered at its header alone: the entry is taken as an edge from outside
-pub record EnterRight (exit : ℕ) (edges : List NumberedEdge) (entry : ℕ) (extents : List Extent) : Type 0 where
+pub record EnterRight (exit : ℕ) (edges : List NumberedEdge) (entry : ℕ)
+    (extents : List Extent) : Type 0 where
   pub at_entry : EntersRight extents exit entry
   pub along : All (λ e. EntersRight extents e.from e.to) edges
 
 -- some extent is entered elsewhere
 abbrev pub EnterWrong : ℕ → List NumberedEdge → ℕ → List Extent → Type 0
-EnterWrong exit edges entry extents = EntersWrong extents exit entry ⊎ ((e : NumberedEdge) × Contains edges e × EntersWrong extents e.from e.to)
+EnterWrong exit edges entry extents =
+    EntersWrong extents exit entry ⊎ ((e : NumberedEdge) × Contains edges e × EntersWrong extents e.from e.to)
 
 -- what is found of extents that are nested
-pub record IsNesting (exit : ℕ) (edges : List NumberedEdge) (entry : ℕ) (extents : List Extent) (nesting : Nesting) : Type 0 where
+pub record IsNesting (exit : ℕ) (edges : List NumberedEdge) (entry : ℕ) (extents : List Extent)
+    (nesting : Nesting) : Type 0 where
   pub nested : AreNested extents nesting.parents.items
   pub entered : EnterRight exit edges entry extents
   pub ranks : AreRanks exit edges extents nesting.ranks.items
   pub whole : length nesting.chains.items ≡ length extents
-  pub chains : AreChains (slice_index nesting.ranks.items) extents (items_of nesting.chains.items) (length extents)
+  pub chains : AreChains (slice_index nesting.ranks.items) extents (items_of nesting.chains.items)
+      (length extents)
   pub shallow : AreShallow extents
 
 -- a cycle without a back edge
@@ -65,6 +73,10 @@ abbrev pub IsNestingFault : ℕ → List NumberedEdge → ℕ → List Extent �
 IsNestingFault exit edges entry extents Memory = Unit {0}
 IsNestingFault exit edges entry extents LoopsCross = HaveCrossing extents
 IsNestingFault exit edges entry extents SharedHeader = ⊥
-IsNestingFault exit edges entry extents EntersMidLoop = (HaveCrossing extents → ⊥) × EnterWrong exit edges entry extents
-IsNestingFault exit edges entry extents UnboundedCycle = (HaveCrossing extents → ⊥) × EnterRight exit edges entry extents × HasPlainCycle edges extents
-IsNestingFault exit edges entry extents NestedTooDeep = (HaveCrossing extents → ⊥) × EnterRight exit edges entry extents × (HasPlainCycle edges extents → ⊥) × ((k : ℕ) × (k < length extents) × (16 < depth_at extents (extent_at extents k).first))
+IsNestingFault exit edges entry extents EntersMidLoop =
+    (HaveCrossing extents → ⊥) × EnterWrong exit edges entry extents
+IsNestingFault exit edges entry extents UnboundedCycle =
+    (HaveCrossing extents → ⊥) × EnterRight exit edges entry extents × HasPlainCycle edges extents
+IsNestingFault exit edges entry extents NestedTooDeep =
+    (HaveCrossing extents → ⊥) × EnterRight exit edges entry extents × (HasPlainCycle edges extents → ⊥)
+    × ((k : ℕ) × (k < length extents) × (16 < depth_at extents (extent_at extents k).first))

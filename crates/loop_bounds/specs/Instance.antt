@@ -39,7 +39,8 @@ abbrev pub place_loops : Loops Place Instance
 place_loops = record { is_member = is_member; is_header = is_header; bound = λ i. i.bound }
 
 abbrev pub instance_of : Loop → List ℕ → Instance
-instance_of l list = record { list = list; header = l.header; first = l.first; last = l.last; bound = l.bound }
+instance_of l list =
+    record { list = list; header = l.header; first = l.first; last = l.last; bound = l.bound }
 
 -- a stated loop, and a list of calls with which its header is a place
 pub record IsInstance (flow : Flow) (loops : List Loop) (i : Instance) : Type 0 where

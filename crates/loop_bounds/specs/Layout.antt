@@ -1,5 +1,8 @@
--- The order in which the members of each instance stand together and every edge but the back edges goes up (our own).
-use Rattle.std.specs.Prelude.{◌≡◌, ◌≢◌, ℕ, ◌+◌, ◌<◌, ◌≤◌, Bool, true, false, nat_eq, ◌&&◌, List, [], ◌∷◌, ◌++◌, length, map, take, filter, Contains, slice_index, slice_index_or, Option, Some, None, AllPairs, Vec, count_by}
+-- The order in which the members of each instance stand together and every edge but the back edges goes up
+-- (our own).
+use Rattle.std.specs.Prelude.{◌≡◌, ◌≢◌, ℕ, ◌+◌, ◌<◌, ◌≤◌, Bool, true, false, nat_eq, ◌&&◌, List, [], ◌∷◌}
+use Rattle.std.specs.Prelude.{◌++◌, length, map, take, filter, Contains, slice_index, slice_index_or, Option}
+use Rattle.std.specs.Prelude.{Some, None, AllPairs, Vec, count_by}
 use Rattle.std.specs.Global.{Global}
 use Rattle.std.specs.Ordering.{nat_cmp, ordering_then, is_lt}
 use Rattle.std.specs.List.Sorted.{IsPermutation, IsSortedBy}
@@ -11,7 +14,9 @@ use Rattle.numbered_walks.specs.declared.span.Span.{Span}
 use Rattle.flow_graph.specs.declared.places.Place.{Place}
 use Rattle.flow_graph.specs.Places.{place_at}
 use Rattle.loop_bounds.specs.declared.fault.NestFault.{NestFault}
-use Rattle.loop_bounds.specs.declared.fault.NestFault.TheVariants.{Memory, LoopsCross, SharedHeader, EntersMidLoop, UnboundedCycle, NestedTooDeep}
+use Rattle.loop_bounds.specs.declared.fault.NestFault.TheVariants.{Memory, LoopsCross, SharedHeader}
+use Rattle.loop_bounds.specs.declared.fault.NestFault.TheVariants.{EntersMidLoop, UnboundedCycle}
+use Rattle.loop_bounds.specs.declared.fault.NestFault.TheVariants.{NestedTooDeep}
 use Rattle.numbered_walks.specs.Ordered.{number_shape}
 use Rattle.loop_bounds.specs.Extents.{is_within, extent_at}
 use Rattle.loop_bounds.specs.Keys.{is_before}
@@ -44,12 +49,15 @@ pub record AreHeaders (extents : List Extent) (limit nodes : ℕ) (headers : Lis
 
 -- each extent is entered at its header alone
 pub record IsEnteredRight (edges : List NumberedEdge) (entry : ℕ) (extents : List Extent) : Type 0 where
-  pub entered : (e : NumberedEdge) → Contains edges e → (s : Extent) → Contains extents s → is_within s e.from ≡ false → is_within s e.to ≡ true → e.to ≡ s.header
+  pub entered : (e : NumberedEdge) → Contains edges e → (s : Extent) → Contains extents s
+      → is_within s e.from ≡ false → is_within s e.to ≡ true → e.to ≡ s.header
   pub entry_at_header : (s : Extent) → Contains extents s → is_within s entry ≡ true → entry ≡ s.header
 
 -- an extent that shares a position with a later one holds it
 abbrev pub HoldsLater : Extent → Extent → Type 0
-HoldsLater s t = (p : ℕ) → is_within s p ≡ true → is_within t p ≡ true → (q : ℕ) → is_within t q ≡ true → is_within s q ≡ true
+HoldsLater s t =
+    (p : ℕ) → is_within s p ≡ true → is_within t p ≡ true → (q : ℕ) → is_within t q ≡ true
+    → is_within s q ≡ true
 
 abbrev pub HoldLater : List Extent → Type 0
 HoldLater extents = AllPairs HoldsLater extents
@@ -58,8 +66,10 @@ HoldLater extents = AllPairs HoldsLater extents
 pub record AreFirsts (edges : List NumberedEdge) (firsts : List ℕ) (limit : ℕ) : Type 0 where
   pub same : length firsts ≡ limit
   pub inside : (v : ℕ) → v < limit → slice_index firsts v ≤ length edges
-  pub below : (v k : ℕ) (d : NumberedEdge) → v < limit → k < slice_index firsts v → (slice_index_or edges k d).from < v
-  pub from : (v k : ℕ) (d : NumberedEdge) → v < limit → slice_index firsts v ≤ k → k < length edges → v ≤ (slice_index_or edges k d).from
+  pub below : (v k : ℕ) (d : NumberedEdge) → v < limit → k < slice_index firsts v
+      → (slice_index_or edges k d).from < v
+  pub from : (v k : ℕ) (d : NumberedEdge) → v < limit → slice_index firsts v ≤ k → k < length edges
+      → v ≤ (slice_index_or edges k d).from
 
 -- of the first nodes of an order, how many stand behind each, and itself
 pub record AreHeights (order heights : List ℕ) (nodes limit : ℕ) : Type 0 where
@@ -70,10 +80,12 @@ pub record AreHeights (order heights : List ℕ) (nodes limit : ℕ) : Type 0 wh
 
 -- each edge that is no back edge goes up
 abbrev pub IsRank : List NumberedEdge → List Extent → (ℕ → ℕ) → Type 0
-IsRank edges extents rank = (e : NumberedEdge) → Contains edges e → (IsBack extents e → ⊥) → rank e.from < rank e.to
+IsRank edges extents rank =
+    (e : NumberedEdge) → Contains edges e → (IsBack extents e → ⊥) → rank e.from < rank e.to
 
 -- the ranks of positions, each another
-pub record AreRanks (exit : ℕ) (edges : List NumberedEdge) (extents : List Extent) (ranks : List ℕ) : Type 0 where
+pub record AreRanks (exit : ℕ) (edges : List NumberedEdge) (extents : List Extent)
+    (ranks : List ℕ) : Type 0 where
   pub whole : length ranks ≡ exit + 1
   pub up : IsRank edges extents (slice_index ranks)
   pub once : (p q : ℕ) → p < exit → q < exit → slice_index ranks p ≡ slice_index ranks q → p ≡ q
@@ -90,7 +102,9 @@ key_in rank extents p = headers_in rank extents p ++ rank p ∷ []
 
 -- of each extent the ranks of the headers of those that hold it, itself the last
 abbrev pub AreChains : (ℕ → ℕ) → List Extent → List (List ℕ) → ℕ → Type 0
-AreChains rank extents chains limit = (k : ℕ) → k < limit → slice_index_or chains k [] ≡ headers_in rank (take (k + 1) extents) (extent_at extents k).first
+AreChains rank extents chains limit =
+    (k : ℕ) → k < limit
+    → slice_index_or chains k [] ≡ headers_in rank (take (k + 1) extents) (extent_at extents k).first
 
 -- ## The order
 
@@ -106,7 +120,8 @@ pub record IsLaidOut (key : ℕ → List ℕ) (exit : ℕ) (order : List ℕ) : 
   pub inside : (n : ℕ) → n < exit → slice_index order n < exit
   pub all : (p : ℕ) → p < exit → (n : ℕ) × (n < exit) × (slice_index order n ≡ p)
   pub once : (m n : ℕ) → m < n → n < length order → slice_index order m ≡ slice_index order n → ⊥
-  pub ascending : (m n : ℕ) → m ≤ n → n < exit → is_before (key (slice_index order n)) (key (slice_index order m)) ≡ false
+  pub ascending : (m n : ℕ) → m ≤ n → n < exit
+      → is_before (key (slice_index order n)) (key (slice_index order m)) ≡ false
 
 -- of the first positions of an order, the number of each
 pub record AreNumbers (order numbers : List ℕ) (limit : ℕ) : Type 0 where
@@ -117,7 +132,8 @@ pub record AreNumbers (order numbers : List ℕ) (limit : ℕ) : Type 0 where
 
 -- no two headers are one
 abbrev pub HaveApartHeaders : List Extent → Type 0
-HaveApartHeaders extents = (s t : Extent) → Contains extents s → Contains extents t → s.header ≡ t.header → s ≡ t
+HaveApartHeaders extents =
+    (s t : Extent) → Contains extents s → Contains extents t → s.header ≡ t.header → s ≡ t
 
 -- a cycle without a back edge
 abbrev pub IsRankFault : List NumberedEdge → List Extent → NestFault → Type 0
@@ -138,7 +154,8 @@ AreShallow extents = (p : ℕ) → depth_at extents p ≤ 16
 -- an extent's first position lies in more than sixteen
 abbrev pub IsChainFault : List Extent → NestFault → Type 0
 IsChainFault extents Memory = Unit {0}
-IsChainFault extents NestedTooDeep = (k : ℕ) × (k < length extents) × (16 < depth_at extents (extent_at extents k).first)
+IsChainFault extents NestedTooDeep =
+    (k : ℕ) × (k < length extents) × (16 < depth_at extents (extent_at extents k).first)
 IsChainFault extents LoopsCross = ⊥
 IsChainFault extents SharedHeader = ⊥
 IsChainFault extents EntersMidLoop = ⊥
@@ -157,7 +174,8 @@ items_of chains = map (λ v. v.items) chains
 -- the positions in turn, each with its key
 pub record AreKeyed (key : ℕ → List ℕ) (exit : ℕ) (keyed : List (Vec ℕ Global × ℕ)) : Type 0 where
   pub same : length keyed ≡ exit
-  pub each : (p : ℕ) (d : Vec ℕ Global × ℕ) → p < exit → ((slice_index_or keyed p d).0.items ≡ key p) × ((slice_index_or keyed p d).1 ≡ p)
+  pub each : (p : ℕ) (d : Vec ℕ Global × ℕ) → p < exit
+      → ((slice_index_or keyed p d).0.items ≡ key p) × ((slice_index_or keyed p d).1 ≡ p)
 
 -- ## New numbers
 
@@ -169,7 +187,8 @@ pub record Moves (numbers : List ℕ) (e n : NumberedEdge) : Type 0 where
 -- the edges in turn, between the new numbers
 pub record AreMoved (numbers : List ℕ) (edges moved : List NumberedEdge) (limit : ℕ) : Type 0 where
   pub same : length moved ≡ limit
-  pub each : (k : ℕ) (e : NumberedEdge) (n : NumberedEdge) → k < limit → Moves numbers (slice_index_or edges k e) (slice_index_or moved k n)
+  pub each : (k : ℕ) (e : NumberedEdge) (n : NumberedEdge) → k < limit
+      → Moves numbers (slice_index_or edges k e) (slice_index_or moved k n)
 
 -- the span begins with the header's number, and ends with the greatest of a member
 pub record IsShown (numbers : List ℕ) (s : Extent) (bound : ℕ) (span : Span) : Type 0 where
@@ -179,17 +198,22 @@ pub record IsShown (numbers : List ℕ) (s : Extent) (bound : ℕ) (span : Span)
   pub bound_is : span.bound ≡ bound
 
 -- the spans of the first extents in turn, with their instances
-pub record AreSpans (numbers : List ℕ) (found : List Found) (extents : List Extent) (spans : List (Span × ℕ)) (limit : ℕ) : Type 0 where
+pub record AreSpans (numbers : List ℕ) (found : List Found) (extents : List Extent) (spans : List (Span × ℕ))
+    (limit : ℕ) : Type 0 where
   pub same : length spans ≡ limit
-  pub named : (k : ℕ) (s : Extent) (x : Span × ℕ) → k < limit → (slice_index_or spans k x).1 ≡ (slice_index_or extents k s).instance
-  pub shown : (k : ℕ) (s : Extent) (d : Found) (x : Span × ℕ) → k < limit → IsShown numbers (slice_index_or extents k s) (slice_index_or found (slice_index_or extents k s).instance d).stated.bound (slice_index_or spans k x).0
+  pub named : (k : ℕ) (s : Extent) (x : Span × ℕ) → k < limit
+      → (slice_index_or spans k x).1 ≡ (slice_index_or extents k s).instance
+  pub shown : (k : ℕ) (s : Extent) (d : Found) (x : Span × ℕ) → k < limit
+      → IsShown numbers (slice_index_or extents k s)
+      (slice_index_or found (slice_index_or extents k s).instance d).stated.bound (slice_index_or spans k x).0
 
 -- by their last numbers, and then by their headers downwards
 abbrev pub opens_after : Span × ℕ → Span × ℕ → Bool
 opens_after x y = is_lt (ordering_then (nat_cmp x.0.last y.0.last) (nat_cmp y.0.header x.0.header))
 
 -- the spans of the extents with their instances, the inner ones first
-pub record AreShown (numbers : List ℕ) (found : List Found) (extents : List Extent) (spans : List (Span × ℕ)) : Type 0 where
+pub record AreShown (numbers : List ℕ) (found : List Found) (extents : List Extent)
+    (spans : List (Span × ℕ)) : Type 0 where
   pub turn : List (Span × ℕ)
   pub turn_is : AreSpans numbers found extents turn (length extents)
   pub moved : IsPermutation turn spans
@@ -199,17 +223,21 @@ pub record AreShown (numbers : List ℕ) (found : List Found) (extents : List Ex
 pub record AreIndexes (places listed : List Place) (order indexes : List ℕ) (limit : ℕ) : Type 0 where
   pub same : length indexes ≡ limit
   pub inside : (n : ℕ) → n < limit → slice_index indexes n < length places
-  pub each : (n : ℕ) → n < limit → place_at places (slice_index indexes n) ≡ place_at listed (slice_index order n)
+  pub each : (n : ℕ) → n < limit
+      → place_at places (slice_index indexes n) ≡ place_at listed (slice_index order n)
 
 -- the index of each number's place among the places, and at the end their number
 pub record ArePlaced (places listed : List Place) (order indexes : List ℕ) : Type 0 where
   pub whole : length indexes ≡ length places + 1
   pub exit_last : slice_index indexes (length places) ≡ length places
   pub inside : (n : ℕ) → n < length places → slice_index indexes n < length places
-  pub each : (n : ℕ) → n < length places → place_at places (slice_index indexes n) ≡ place_at listed (slice_index order n)
+  pub each : (n : ℕ) → n < length places
+      → place_at places (slice_index indexes n) ≡ place_at listed (slice_index order n)
 
 -- the instances that are named, and the spans, of the first pairs
-pub record AreParted (found : List Found) (closing : List (Span × ℕ)) (instances : List Found) (spans : List Span) (limit : ℕ) : Type 0 where
+pub record AreParted (found : List Found) (closing : List (Span × ℕ)) (instances : List Found)
+    (spans : List Span) (limit : ℕ) : Type 0 where
   pub same : length instances ≡ limit
   pub spans_are : spans ≡ map (λ x. x.0) (take limit closing)
-  pub named : (k : ℕ) (d : Found) (x : Span × ℕ) → k < limit → slice_index_or instances k d ≡ slice_index_or found (slice_index_or closing k x).1 d
+  pub named : (k : ℕ) (d : Found) (x : Span × ℕ) → k < limit
+      → slice_index_or instances k d ≡ slice_index_or found (slice_index_or closing k x).1 d

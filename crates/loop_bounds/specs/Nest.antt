@@ -1,6 +1,7 @@
--- Why the loops of a handler have no tree, and when each refusal comes: the first that applies, in the order given
--- here (our own profile).
-use Rattle.std.specs.Prelude.{◌≡◌, ◌≢◌, true, false, ℕ, ◌<◌, ◌⊎◌, List, length, Contains, slice_index_or, AllPairs, All}
+-- Why the loops of a handler have no tree, and when each refusal comes: the first that applies, in the order
+-- given here (our own profile).
+use Rattle.std.specs.Prelude.{◌≡◌, ◌≢◌, true, false, ℕ, ◌<◌, ◌⊎◌, List, length, Contains, slice_index_or}
+use Rattle.std.specs.Prelude.{AllPairs, All}
 use Rattle.walks.specs.Walk.{Cycle}
 use Rattle.walks.specs.Greatest.{is_back_edge}
 use Rattle.flow_graph.specs.declared.places.Place.{Place}
@@ -8,7 +9,9 @@ use Rattle.flow_graph.specs.declared.edges.Edge.{Edge}
 use Rattle.statement.specs.declared.stated.Loop.{Loop}
 use Rattle.flow_graph.specs.Flow.{Flow, edge_shape, HasEdge}
 use Rattle.loop_bounds.specs.declared.fault.NestFault.{NestFault}
-use Rattle.loop_bounds.specs.declared.fault.NestFault.TheVariants.{Memory, LoopsCross, SharedHeader, EntersMidLoop, UnboundedCycle, NestedTooDeep}
+use Rattle.loop_bounds.specs.declared.fault.NestFault.TheVariants.{Memory, LoopsCross, SharedHeader}
+use Rattle.loop_bounds.specs.declared.fault.NestFault.TheVariants.{EntersMidLoop, UnboundedCycle}
+use Rattle.loop_bounds.specs.declared.fault.NestFault.TheVariants.{NestedTooDeep}
 use Rattle.loop_bounds.specs.Instance.{Instance, IsInstance, is_member, is_header, place_loops}
 
 -- ## Loops that cross
@@ -53,7 +56,8 @@ pub record HasSharedHeader (loops : List Loop) : Type 0 where
 
 -- the entry, or where an edge from no member ends
 abbrev pub IsEntered : Flow → Instance → Place → Type 0
-IsEntered flow i p = (p ≡ flow.entry) ⊎ ((e : Edge) × HasEdge flow e × (e.to ≡ p) × (is_member i e.from ≡ false))
+IsEntered flow i p =
+    (p ≡ flow.entry) ⊎ ((e : Edge) × HasEdge flow e × (e.to ≡ p) × (is_member i e.from ≡ false))
 
 -- an instance is entered at a member that is not its header
 pub record HasMidEntry (flow : Flow) (loops : List Loop) : Type 0 where
@@ -104,6 +108,11 @@ abbrev pub IsNestFault : Flow → List Loop → NestFault → Type 0
 IsNestFault flow loops Memory = Unit {0}
 IsNestFault flow loops LoopsCross = HasCrossing flow loops
 IsNestFault flow loops SharedHeader = (HasCrossing flow loops → ⊥) × HasSharedHeader loops
-IsNestFault flow loops EntersMidLoop = (HasCrossing flow loops → ⊥) × (HasSharedHeader loops → ⊥) × HasMidEntry flow loops
-IsNestFault flow loops UnboundedCycle = (HasCrossing flow loops → ⊥) × (HasSharedHeader loops → ⊥) × (HasMidEntry flow loops → ⊥) × HasUnboundedCycle flow loops
-IsNestFault flow loops NestedTooDeep = (HasCrossing flow loops → ⊥) × (HasSharedHeader loops → ⊥) × (HasMidEntry flow loops → ⊥) × (HasUnboundedCycle flow loops → ⊥) × HasDeepPlace flow loops
+IsNestFault flow loops EntersMidLoop =
+    (HasCrossing flow loops → ⊥) × (HasSharedHeader loops → ⊥) × HasMidEntry flow loops
+IsNestFault flow loops UnboundedCycle =
+    (HasCrossing flow loops → ⊥) × (HasSharedHeader loops → ⊥) × (HasMidEntry flow loops → ⊥)
+    × HasUnboundedCycle flow loops
+IsNestFault flow loops NestedTooDeep =
+    (HasCrossing flow loops → ⊥) × (HasSharedHeader loops → ⊥) × (HasMidEntry flow loops → ⊥)
+    × (HasUnboundedCycle flow loops → ⊥) × HasDeepPlace flow loops

@@ -1,5 +1,6 @@
 -- The instances of a tree with those directly inside each (our own format).
-use Rattle.std.specs.Prelude.{◌≡◌, true, false, ◌↔◌, List, [], ◌∷◌, ◌++◌, map, filter, flat_map, Contains, All}
+use Rattle.std.specs.Prelude.{◌≡◌, true, false, ◌↔◌, List, [], ◌∷◌, ◌++◌, map, filter, flat_map, Contains}
+use Rattle.std.specs.Prelude.{All}
 use Rattle.flow_graph.specs.declared.places.Place.{Place}
 use Rattle.flow_graph.specs.Flow.{Flow}
 use Rattle.flow_graph.specs.Places.{place_at}
@@ -40,7 +41,17 @@ pub record Outline : Type 0 where
 
 -- the same, where each of those directly inside it has its outline
 abbrev pub outline_step : Instance-F Outline → Outline
-outline_step i = record { instance = found_instance i.found; nodes = flat_map (λ o. o.nodes) i.inner.items ++ record { instance = found_instance i.found; places = i.places.items; inner = map (λ o. o.instance) i.inner.items } ∷ [] }
+outline_step i =
+    record {
+      instance = found_instance i.found;
+      nodes = flat_map (λ o. o.nodes) i.inner.items
+          ++ record {
+            instance = found_instance i.found;
+            places = i.places.items;
+            inner = map (λ o. o.instance) i.inner.items;
+          }
+          ∷ [];
+    }
 
 abbrev pub outline : Nested → Outline
 outline = fold-Instance Outline outline_step
@@ -71,11 +82,17 @@ nodes all = flat_map (λ i. (outline i).nodes) all
 abbrev pub members : Flow → Tree → Instance → List Place
 members flow tree i = filter (is_member i) (map (place_at flow.places) tree.order)
 
--- a node for each instance of the tree, with its members and with the instances directly inside it; the list itself is of
--- those that are inside none
+-- a node for each instance of the tree, with its members and with the instances directly inside it; the list
+-- itself is of those that are inside none
 pub record IsNestedView (flow : Flow) (tree : Tree) (shown : List Nested) : Type 0 where
   pub each_once : map (λ n. n.instance) (nodes shown) ≡ tree.instances
-  pub members_are : All (λ n. (p : Place) → Contains n.places p ↔ (Contains flow.places p × (is_member n.instance p ≡ true))) (nodes shown)
+  pub members_are : All
+      (λ n. (p : Place) → Contains n.places p ↔ (Contains flow.places p × (is_member n.instance p ≡ true)))
+      (nodes shown)
   pub in_order : All (λ n. n.places ≡ members flow tree n.instance) (nodes shown)
-  pub inner_are : All (λ n. (i : Instance) → Contains n.inner i ↔ (Contains tree.instances i × IsDirectlyInside flow tree.instances i n.instance)) (nodes shown)
-  pub outermost_are : (i : Instance) → Contains (heads shown) i ↔ (Contains tree.instances i × IsOutermost flow tree.instances i)
+  pub inner_are : All
+      (λ n. (i : Instance) → Contains n.inner i
+      ↔ (Contains tree.instances i × IsDirectlyInside flow tree.instances i n.instance))
+      (nodes shown)
+  pub outermost_are : (i : Instance) → Contains (heads shown) i
+      ↔ (Contains tree.instances i × IsOutermost flow tree.instances i)

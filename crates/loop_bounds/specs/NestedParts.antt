@@ -1,5 +1,6 @@
 -- Instances in closing order, each taken with those that it holds (our own).
-use Rattle.std.specs.Prelude.{◌≡◌, ℕ, ◌<◌, ◌≤◌, ◌⊎◌, ◌↔◌, List, [], ◌∷◌, ◌++◌, length, map, take, drop, slice_index, slice_index_or, Contains, All}
+use Rattle.std.specs.Prelude.{◌≡◌, ℕ, ◌<◌, ◌≤◌, ◌⊎◌, ◌↔◌, List, [], ◌∷◌, ◌++◌, length, map, take, drop}
+use Rattle.std.specs.Prelude.{slice_index, slice_index_or, Contains, All}
 use Rattle.std.specs.List.Sorted.{IsNonDecreasingBy}
 use Rattle.flow_graph.specs.declared.places.Place.{Place}
 use Rattle.flow_graph.specs.Flow.{Flow}
@@ -17,20 +18,26 @@ pub record Encloses (old new : Outermost) (header : ℕ) (i : Instance) (places 
   pub within : (p : ℕ) → first ≤ p → p < length old.headers.items → header ≤ slice_index old.headers.items p
   pub headers_are : new.headers.items ≡ take first old.headers.items ++ header ∷ []
   pub heads_are : heads new.instances.items ≡ take first (heads old.instances.items) ++ i ∷ []
-  pub nodes_are : nodes new.instances.items ≡ nodes old.instances.items ++ record { instance = i; places = places; inner = drop first (heads old.instances.items) } ∷ []
+  pub nodes_are : nodes new.instances.items
+      ≡ nodes old.instances.items
+      ++ record { instance = i; places = places; inner = drop first (heads old.instances.items) } ∷ []
 
 abbrev pub span_at : List Span → ℕ → Span
 span_at spans k = slice_index_or spans k (record { header = 0; last = 0; bound = 0 })
 
 abbrev pub instance_at : List Instance → ℕ → Instance
-instance_at instances k = slice_index_or instances k (record { list = []; header = 0; first = 0; last = 0; bound = 0 })
+instance_at instances k =
+    slice_index_or instances k (record { list = []; header = 0; first = 0; last = 0; bound = 0 })
 
 -- the span at `inner` lies in the span at `outer`, and begins after it
 abbrev pub HoldsSpan : List Span → ℕ → ℕ → Type 0
-HoldsSpan spans outer inner = ((span_at spans outer).header < (span_at spans inner).header) × ((span_at spans inner).last ≤ (span_at spans outer).last)
+HoldsSpan spans outer inner =
+    ((span_at spans outer).header < (span_at spans inner).header)
+    × ((span_at spans inner).last ≤ (span_at spans outer).last)
 
 -- of the first instances those that are inside none of these, with the numbers of their headers
-pub record AreOutermost (instances : List Instance) (spans : List Span) (headers : List ℕ) (outer : List Instance) (limit : ℕ) : Type 0 where
+pub record AreOutermost (instances : List Instance) (spans : List Span) (headers : List ℕ)
+    (outer : List Instance) (limit : ℕ) : Type 0 where
   pub indexes : List ℕ
   pub headers_are : headers ≡ map (λ k. (span_at spans k).header) indexes
   pub outer_are : outer ≡ map (instance_at instances) indexes
@@ -40,10 +47,15 @@ pub record AreOutermost (instances : List Instance) (spans : List Span) (headers
   pub ascending : IsNonDecreasingBy (λ h. h) headers
 
 abbrev pub IsShown : Flow → Tree → Node → Type 0
-IsShown flow tree n = (n.places ≡ members flow tree n.instance) × ((i : Instance) → Contains n.inner i ↔ (Contains tree.instances i × IsDirectlyInside flow tree.instances i n.instance))
+IsShown flow tree n =
+    (n.places ≡ members flow tree n.instance)
+    ×
+    ((i : Instance) → Contains n.inner i
+    ↔ (Contains tree.instances i × IsDirectlyInside flow tree.instances i n.instance))
 
 -- the first instances are nested
 pub record AreNestedUpto (flow : Flow) (tree : Tree) (outermost : Outermost) (limit : ℕ) : Type 0 where
   pub each_once : map (λ n. n.instance) (nodes outermost.instances.items) ≡ take limit tree.instances
   pub shown : All (IsShown flow tree) (nodes outermost.instances.items)
-  pub outer : AreOutermost tree.instances tree.spans outermost.headers.items (heads outermost.instances.items) limit
+  pub outer : AreOutermost tree.instances tree.spans outermost.headers.items
+      (heads outermost.instances.items) limit

@@ -1,6 +1,7 @@
 -- The tree of a handler's loop instances, and an order of its places in which each instance is an interval
 -- (our own format).
-use Rattle.std.specs.Prelude.{◌≡◌, ◌≢◌, ℕ, ◌+◌, ◌<◌, ◌≤◌, ◌⊎◌, Bool, true, false, ◌&&◌, ◌==◌, nat_le, List, length, Contains, count_by, slice_index, slice_index_or, AllPairs}
+use Rattle.std.specs.Prelude.{◌≡◌, ◌≢◌, ℕ, ◌+◌, ◌<◌, ◌≤◌, ◌⊎◌, Bool, true, false, ◌&&◌, ◌==◌, nat_le, List}
+use Rattle.std.specs.Prelude.{length, Contains, count_by, slice_index, slice_index_or, AllPairs}
 use Rattle.flow_graph.specs.declared.places.Place.{Place}
 use Rattle.flow_graph.specs.declared.places.Place.TheVariants.{Exit}
 use Rattle.flow_graph.specs.declared.edges.Edge.{Edge}
@@ -11,8 +12,9 @@ use Rattle.numbered_walks.specs.declared.span.Span.{Span}
 use Rattle.numbered_walks.specs.Ordered.{IsOrdered, is_in}
 use Rattle.loop_bounds.specs.Instance.{Instance, is_member, is_header}
 
--- the instances with the inner ones before the outer ones, and the span of each; for each number the position of
--- its place among the places of the flow graph, Exit's last; the flow graph's edges in turn, between numbers
+-- the instances with the inner ones before the outer ones, and the span of each; for each number the position
+-- of its place among the places of the flow graph, Exit's last; the flow graph's edges in turn, between
+-- numbers
 pub record Tree : Type 0 where
   pub instances : List Instance
   pub spans : List Span
@@ -43,7 +45,8 @@ pub record NumbersEdge (place_of : ℕ → Place) (exit : ℕ) (e : Edge) (n : N
 -- each edge of the flow graph, in its order
 pub record IsNumbered (flow : Flow) (place_of : ℕ → Place) (edges : List NumberedEdge) : Type 0 where
   pub same : length edges ≡ length flow.edges
-  pub each : (k : ℕ) (e : Edge) (n : NumberedEdge) → k < length flow.edges → NumbersEdge place_of (length flow.places) (slice_index_or flow.edges k e) (slice_index_or edges k n)
+  pub each : (k : ℕ) (e : Edge) (n : NumberedEdge) → k < length flow.edges
+      → NumbersEdge place_of (length flow.places) (slice_index_or flow.edges k e) (slice_index_or edges k n)
 
 -- ## Spans of instances
 
@@ -56,7 +59,8 @@ pub record IsSpanOf (flow : Flow) (tree : Tree) (i : Instance) (s : Span) : Type
 -- each instance has its span
 pub record AreSpansOf (flow : Flow) (tree : Tree) : Type 0 where
   pub same : length tree.spans ≡ length tree.instances
-  pub each : (k : ℕ) (i : Instance) (s : Span) → k < length tree.instances → IsSpanOf flow tree (slice_index_or tree.instances k i) (slice_index_or tree.spans k s)
+  pub each : (k : ℕ) (i : Instance) (s : Span) → k < length tree.instances
+      → IsSpanOf flow tree (slice_index_or tree.instances k i) (slice_index_or tree.spans k s)
 
 -- ## The tree
 
@@ -66,8 +70,10 @@ pub record IsTree (flow : Flow) (tree : Tree) : Type 0 where
   pub entry_first : place_in flow tree 0 ≡ flow.entry
   pub exit_last : slice_index tree.order (length flow.places) ≡ length flow.places
   pub inside : (n : ℕ) → n < length flow.places → slice_index tree.order n < length flow.places
-  pub all : (v : ℕ) → v < length flow.places → (n : ℕ) × (n < length flow.places) × (slice_index tree.order n ≡ v)
-  pub distinct : (m n : ℕ) → m < n → n < length tree.order → slice_index tree.order m ≡ slice_index tree.order n → ⊥
+  pub all : (v : ℕ) → v < length flow.places
+      → (n : ℕ) × (n < length flow.places) × (slice_index tree.order n ≡ v)
+  pub distinct : (m n : ℕ) → m < n → n < length tree.order
+      → slice_index tree.order m ≡ slice_index tree.order n → ⊥
   pub numbered : IsNumbered flow (place_in flow tree) tree.edges
   pub spans_are : AreSpansOf flow tree
   pub ordered : IsOrdered (length flow.places) tree.edges tree.spans

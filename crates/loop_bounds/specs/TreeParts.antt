@@ -9,9 +9,17 @@ use Rattle.loop_bounds.specs.Extents.{found_instance}
 use Rattle.loop_bounds.specs.Tree.{Tree, NumbersEdge}
 
 abbrev pub tree_of : Inside → Tree
-tree_of tree = record { instances = map found_instance tree.instances.items; spans = tree.spans.items; order = tree.order.items; edges = tree.edges.items }
+tree_of tree =
+    record {
+      instances = map found_instance tree.instances.items;
+      spans = tree.spans.items;
+      order = tree.order.items;
+      edges = tree.edges.items;
+    }
 
 -- the edges before the limit are numbered
-pub record AreNumberedUpto (flow : Flow) (place_of : ℕ → Place) (exit : ℕ) (edges : List NumberedEdge) (limit : ℕ) : Type 0 where
+pub record AreNumberedUpto (flow : Flow) (place_of : ℕ → Place) (exit : ℕ) (edges : List NumberedEdge)
+    (limit : ℕ) : Type 0 where
   pub same : length edges ≡ limit
-  pub each : (k : ℕ) (e : Edge) (n : NumberedEdge) → k < limit → NumbersEdge place_of exit (slice_index_or flow.edges k e) (slice_index_or edges k n)
+  pub each : (k : ℕ) (e : Edge) (n : NumberedEdge) → k < limit
+      → NumbersEdge place_of exit (slice_index_or flow.edges k e) (slice_index_or edges k n)

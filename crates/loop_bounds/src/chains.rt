@@ -1,4 +1,5 @@
-ghost use Rattle.std.specs.Prelude.{◌≡◌, ℕ, ◌<◌, ◌≤◌, ◌++◌, [], ◌∷◌, IfOk, IfErr, IfSome, length, All, slice_index};
+ghost use Rattle.std.specs.Prelude.{◌≡◌, ℕ, ◌<◌, ◌≤◌, ◌++◌, [], ◌∷◌, IfOk, IfErr, IfSome, length, All};
+ghost use Rattle.std.specs.Prelude.{slice_index};
 ghost use Rattle.loop_bounds.specs.Extents.{AreNested, extent_at};
 ghost use Rattle.loop_bounds.specs.Layout.{AreChains, IsChainFault, AreShallow, chain_above, items_of};
 
@@ -36,7 +37,9 @@ pub(crate) fn chains(
 ) -> Result<Vec<Vec<usize>>, NestFault>
     requires nested { AreNested extents.now parents.now }
     requires headers { All (λ s. s.header < length ranks.now) extents.now }
-    ensures chains { IfOk result (λ chains. (length chains.items ≡ length extents.now) × AreChains (slice_index ranks.now) extents.now (items_of chains.items) (length extents.now)) }
+    ensures chains { IfOk result
+        (λ chains. (length chains.items ≡ length extents.now)
+        × AreChains (slice_index ranks.now) extents.now (items_of chains.items) (length extents.now)) }
     ensures shallow { IfOk result (λ chains. AreShallow extents.now) }
     ensures fault { IfErr result (IsChainFault extents.now) }
 {

@@ -21,7 +21,9 @@ fn instances_with(
     list: Calls,
 ) -> Result<Vec<Found>, AllocError>
     requires { IsStrictlySortedBy place_cmp places.now }
-    ensures { IfOk result (λ found. (i : Instance) → Contains (map found_instance found.items) i ↔ (IsFoundAmong places.now loops.now i × (i.list ≡ list))) }
+    ensures { IfOk result
+        (λ found. (i : Instance) → Contains (map found_instance found.items) i
+        ↔ (IsFoundAmong places.now loops.now i × (i.list ≡ list))) }
 {
     let mut found = Vec::new(alloc);
     for stated in loops {

@@ -1,8 +1,10 @@
-ghost use Rattle.std.specs.Prelude.{◌≡◌, ◌≢◌, ◌↔◌, All, AllPairs, length, ◌<◌, ◌≤◌, ◌⊎◌, OnOk, IfOk, IfErr, [], ◌∷◌, Contains, map, true, false};
+ghost use Rattle.std.specs.Prelude.{◌≡◌, ◌≢◌, ◌↔◌, All, AllPairs, length, ◌<◌, ◌≤◌, ◌⊎◌, OnOk, IfOk, IfErr};
+ghost use Rattle.std.specs.Prelude.{[], ◌∷◌, Contains, map, true, false};
 ghost use Rattle.std.specs.List.Sorted.{IsNonDecreasingBy, IsPermutation};
 ghost use Rattle.statement.specs.declared.stated.Loop.{Loop};
 ghost use Rattle.loop_bounds.specs.Instance.{Instance};
-ghost use Rattle.loop_bounds.specs.Extents.{HeadersDiffer, IsFoundAmong, PlacesDiffer, found_instance, header_place};
+ghost use Rattle.loop_bounds.specs.Extents.{HeadersDiffer, IsFoundAmong, PlacesDiffer, found_instance};
+ghost use Rattle.loop_bounds.specs.Extents.{header_place};
 ghost use Rattle.loop_bounds.specs.Nest.{HasSharedHeader};
 
 use flow_graph::{Calls, Loop, Place};
@@ -57,8 +59,12 @@ fn loops_at(sorted: &[Loop], header: u32) -> &[Loop]
 // Adds the instances whose header is the place.
 fn add_instances(found: &mut Vec<Found>, sorted: &[Loop], place: &Place) -> Result<(), AllocError>
     requires { IsNonDecreasingBy (λ l. l.header) sorted.now }
-    ensures added { OnOk result ((i : Instance) → Contains (map found_instance found.new.items) i ↔ (Contains (map found_instance found.old.items) i ⊎ IsFoundAmong (place.now ∷ []) sorted.now i)) }
-    ensures differ { OnOk result (HeadersDiffer sorted.now → PlacesDiffer found.old.items → All (λ f. header_place f ≢ place.now) found.old.items → PlacesDiffer found.new.items) }
+    ensures added { OnOk result
+        ((i : Instance) → Contains (map found_instance found.new.items) i
+        ↔ (Contains (map found_instance found.old.items) i ⊎ IsFoundAmong (place.now ∷ []) sorted.now i)) }
+    ensures differ { OnOk result
+        (HeadersDiffer sorted.now → PlacesDiffer found.old.items
+        → All (λ f. header_place f ≢ place.now) found.old.items → PlacesDiffer found.new.items) }
 {
     if let Place::At(list, address) = place {
         for stated in loops_at(sorted, *address) {
@@ -78,8 +84,11 @@ pub(crate) fn instances_among(
     places: &[Place],
 ) -> Result<Vec<Found>, AllocError>
     requires { IsNonDecreasingBy (λ l. l.header) sorted.now }
-    ensures exact { IfOk result (λ found. (i : Instance) → Contains (map found_instance found.items) i ↔ IsFoundAmong places.now sorted.now i) }
-    ensures differ { IfOk result (λ found. HeadersDiffer sorted.now → AllPairs (λ p q. p ≢ q) places.now → PlacesDiffer found.items) }
+    ensures exact { IfOk result
+        (λ found. (i : Instance) → Contains (map found_instance found.items) i
+        ↔ IsFoundAmong places.now sorted.now i) }
+    ensures differ { IfOk result
+        (λ found. HeadersDiffer sorted.now → AllPairs (λ p q. p ≢ q) places.now → PlacesDiffer found.items) }
 {
     let mut found = Vec::new(alloc);
     for place in places {

@@ -12,7 +12,8 @@ use flow_graph::{Graph, Loop, Place};
 use numbered_walks::NumberedEdge;
 use std::alloc::{AllocError, Global};
 
-/// A handler's places by key, its instances with their extents, and its edges and its entry between positions.
+/// A handler's places by key, its instances with their extents, and its edges and its entry between
+/// positions.
 #[derive(Drop)]
 pub(crate) struct Ground {
     pub listed: Vec<Place>,

@@ -1,8 +1,10 @@
-ghost use Rattle.std.specs.Prelude.{◌≡◌, ℕ, ◌+◌, ◌<◌, ◌≤◌, IfOk, IfErr, IfSome, All, Contains, EachIndex, MatchOption, length, slice_index, slice_index_or};
+ghost use Rattle.std.specs.Prelude.{◌≡◌, ℕ, ◌+◌, ◌<◌, ◌≤◌, IfOk, IfErr, IfSome, All, Contains, EachIndex};
+ghost use Rattle.std.specs.Prelude.{MatchOption, length, slice_index, slice_index_or};
 ghost use Rattle.std.specs.List.Sorted.{IsPermutation, IsStrictlySortedBy};
 ghost use Rattle.flow_graph.specs.Places.{place_cmp, place_at};
 ghost use Rattle.loop_bounds.specs.Extents.{AreNested};
-ghost use Rattle.loop_bounds.specs.Layout.{AreChains, AreNumbers, IsLaidOut, ArePlaced, AreMoved, Moves, IsShown, AreShown, AreKeyed, items_of, key_in};
+ghost use Rattle.loop_bounds.specs.Layout.{AreChains, AreNumbers, IsLaidOut, ArePlaced, AreMoved, Moves};
+ghost use Rattle.loop_bounds.specs.Layout.{IsShown, AreShown, AreKeyed, items_of, key_in};
 ghost use Rattle.loop_bounds.specs.Keys.{IsListed};
 
 use crate::chains::extended;
@@ -66,7 +68,8 @@ pub(crate) fn order(
 /// The number of each position in the order.
 pub(crate) fn numbers(alloc: Global, order: &[usize]) -> Result<Vec<usize>, AllocError>
     requires inside { (k : ℕ) → k < length order.now → slice_index order.now k < length order.now }
-    requires once { (j k : ℕ) → j < k → k < length order.now → slice_index order.now j ≡ slice_index order.now k → ⊥ }
+    requires once { (j k : ℕ) → j < k → k < length order.now
+        → slice_index order.now j ≡ slice_index order.now k → ⊥ }
     ensures { IfOk result (λ numbers. AreNumbers order.now numbers.items (length order.now)) }
 {
     let mut numbers = vec![in alloc; 0; order.len()]?;
@@ -98,7 +101,8 @@ pub(crate) fn renumbered(
 
 // The greatest of the numbers.
 fn greatest(numbers: &[usize]) -> Option<usize>
-    ensures most { MatchOption result (length numbers.now ≡ 0) (λ m. EachIndex numbers.now (λ k. slice_index numbers.now k ≤ m)) }
+    ensures most { MatchOption result (length numbers.now ≡ 0)
+        (λ m. EachIndex numbers.now (λ k. slice_index numbers.now k ≤ m)) }
     ensures attained { IfSome result (Contains numbers.now) }
 {
     numbers.iter().copied().max()
@@ -119,7 +123,8 @@ fn span_of(extent: &Extent, found: &Found, numbers: &[usize]) -> Span
     }
 }
 
-/// The spans of the extents, each with its instance: by their last numbers, and then by their headers downwards.
+/// The spans of the extents, each with its instance: by their last numbers, and then by their headers
+/// downwards.
 pub(crate) fn spans(
     alloc: Global,
     extents: &[Extent],

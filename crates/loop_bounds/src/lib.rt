@@ -1,5 +1,6 @@
-//! The loops of a handler's flow graph: the instances of its stated loops, each inside the smallest that contains
-//! it, and an order of its places in which each instance is an interval. Loops that bound nothing are refused.
+//! The loops of a handler's flow graph: the instances of its stated loops, each inside the smallest that
+//! contains it, and an order of its places in which each instance is an interval. Loops that bound nothing
+//! are refused.
 #![tactic(auto)]
 
 mod chains;

@@ -1,8 +1,10 @@
-ghost use Rattle.std.specs.Prelude.{◌≡◌, [], ◌∷◌, ◌++◌, ◌-◌, ◌+◌, ◌≤◌, ◌<◌, ℕ, IfOk, OnOk, length, map, take, drop, slice_index};
+ghost use Rattle.std.specs.Prelude.{◌≡◌, [], ◌∷◌, ◌++◌, ◌-◌, ◌+◌, ◌≤◌, ◌<◌, ℕ, IfOk, OnOk, length, map, take};
+ghost use Rattle.std.specs.Prelude.{drop, slice_index};
 ghost use Rattle.std.specs.List.Sorted.{IsNonDecreasingBy};
 ghost use Rattle.flow_graph.specs.Places.{place_at};
 ghost use Rattle.loop_bounds.specs.Extents.{found_instance};
-ghost use Rattle.loop_bounds.specs.Nested.{IsNestedView, inner_in, instance_in, node_of, nodes, outline, places_in};
+ghost use Rattle.loop_bounds.specs.Nested.{IsNestedView, inner_in, instance_in, node_of, nodes, outline};
+ghost use Rattle.loop_bounds.specs.Nested.{places_in};
 ghost use Rattle.loop_bounds.specs.NestedParts.{Encloses};
 ghost use Rattle.loop_bounds.specs.Tree.{IsTree};
 
@@ -125,7 +127,10 @@ fn places_of(
     requires whole { length order.now ≡ length places.now + 1 }
     requires inside { (n : ℕ) → n < length places.now → slice_index order.now n < length places.now }
     requires span { (span.now.header ≤ span.now.last) × (span.now.last < length places.now) }
-    ensures { IfOk result (λ members. members.items ≡ take (span.now.last + 1 - span.now.header) (drop span.now.header (map (place_at places.now) order.now))) }
+    ensures { IfOk result
+        (λ members. members.items
+        ≡ take (span.now.last + 1 - span.now.header)
+        (drop span.now.header (map (place_at places.now) order.now))) }
 {
     let mut members = Vec::new(alloc);
     for number in span.header..span.last + 1 {
@@ -135,8 +140,8 @@ fn places_of(
 }
 
 impl LoopTree {
-    /// The instances, each directly inside the smallest that holds it, and the outermost in the list. The graph is the one
-    /// that the tree was made of.
+    /// The instances, each directly inside the smallest that holds it, and the outermost in the list. The
+    /// graph is the one that the tree was made of.
     ///
     /// # Errors
     ///

@@ -27,7 +27,8 @@ fn all_enter_right(
     exit: usize,
 ) -> bool
     requires { AreNested extents.now parents.now }
-    ensures { MatchBool result (EnterRight exit edges.now entry extents.now) (EnterWrong exit edges.now entry extents.now) }
+    ensures { MatchBool result (EnterRight exit edges.now entry extents.now)
+        (EnterWrong exit edges.now entry extents.now) }
 {
     if !enters_right(extents, parents, exit, entry) {
         return false;

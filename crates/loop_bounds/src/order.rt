@@ -54,8 +54,10 @@ impl Search {
     // The last node of the path, which is at hand, and the edge that it follows next.
     fn at_hand(&self) -> (usize, usize)
         requires some { 0 < length self.now.path.items }
-        requires inside { slice_index self.now.path.items (length self.now.path.items - 1) < length self.now.next.items }
-        ensures { IsAtHand self.now.path.items self.now.next.items (length self.now.path.items - 1) result.0 result.1 }
+        requires inside { slice_index self.now.path.items (length self.now.path.items - 1)
+            < length self.now.next.items }
+        ensures { IsAtHand self.now.path.items self.now.next.items
+            (length self.now.path.items - 1) result.0 result.1 }
     {
         let node = self.path[self.path.len() - 1];
         (node, self.next[node])

@@ -1,10 +1,12 @@
 ghost use Rattle.std.specs.Prelude.{◌≡◌, ℕ, ◌<◌, ◌≤◌, length, Option, IfSome, MatchBool, MatchOption, IfOk};
-ghost use Rattle.loop_bounds.specs.Extents.{AreExtents, AreNested, AreParents, EntersRight, EntersWrong, HaveCrossing, Holds, IsInnermost, IsOpen, IsOver, extent_at};
+ghost use Rattle.loop_bounds.specs.Extents.{AreExtents, AreNested, AreParents, EntersRight, EntersWrong};
+ghost use Rattle.loop_bounds.specs.Extents.{HaveCrossing, Holds, IsInnermost, IsOpen, IsOver, extent_at};
 
 use crate::extents::Extent;
 use std::alloc::{AllocError, Global};
 
-// The innermost of the first `limit` extents that ends after the position, from one on that lies in all that do.
+// The innermost of the first `limit` extents that ends after the position, from one on that lies in all that
+// do.
 fn climb(
     extents: &[Extent],
     parents: &[Option<usize>],
@@ -49,7 +51,9 @@ pub(crate) fn parents(
     extents: &[Extent],
 ) -> Result<Option<Vec<Option<usize>>>, AllocError>
     requires extents { AreExtents extents.now }
-    ensures nested { IfOk result (λ found. MatchOption found (HaveCrossing extents.now) (λ parents. AreNested extents.now parents.items)) }
+    ensures nested { IfOk result
+        (λ found. MatchOption found (HaveCrossing extents.now)
+        (λ parents. AreNested extents.now parents.items)) }
 {
     let mut parents: Vec<Option<usize>> = Vec::with_capacity(alloc, extents.len())?;
     for k in 0..extents.len() {

@@ -1,9 +1,11 @@
-ghost use Rattle.std.specs.Prelude.{◌≡◌, ◌↔◌, ℕ, ◌+◌, ◌<◌, ◌≤◌, IfOk, IfErr, IsTrue, length, Contains, slice_index, slice_index_or, AllPairs, ◌≢◌, All, Option, None};
+ghost use Rattle.std.specs.Prelude.{◌≡◌, ◌↔◌, ℕ, ◌+◌, ◌<◌, ◌≤◌, IfOk, IfErr, IsTrue, length, Contains};
+ghost use Rattle.std.specs.Prelude.{slice_index, slice_index_or, AllPairs, ◌≢◌, All, Option, None};
 ghost use Rattle.std.specs.List.Sorted.{IsNonDecreasingBy};
 ghost use Rattle.loop_bounds.specs.Edges.{IsGrouped};
 ghost use Rattle.loop_bounds.specs.Order.{IsOrder};
 ghost use Rattle.loop_bounds.specs.Extents.{extent_at};
-ghost use Rattle.loop_bounds.specs.Layout.{AreHeaders, AreHeights, ArePlain, AreRanks, HaveApartHeaders, IsBack, IsRankFault};
+ghost use Rattle.loop_bounds.specs.Layout.{AreHeaders, AreHeights, ArePlain, AreRanks, HaveApartHeaders};
+ghost use Rattle.loop_bounds.specs.Layout.{IsBack, IsRankFault};
 
 use crate::extents::Extent;
 use crate::fault::NestFault;
@@ -82,7 +84,8 @@ fn firsts_of(alloc: Global, edges: &[NumberedEdge], exit: usize) -> Result<Vec<u
 // For each node how many stand behind it in the order, and itself.
 fn heights(alloc: Global, order: &[usize], nodes: usize) -> Result<Vec<usize>, AllocError>
     requires inside { (k : ℕ) → k < length order.now → slice_index order.now k < nodes }
-    requires once { (j k : ℕ) → k < j → j < length order.now → slice_index order.now k ≡ slice_index order.now j → ⊥ }
+    requires once { (j k : ℕ) → k < j → j < length order.now
+        → slice_index order.now k ≡ slice_index order.now j → ⊥ }
     ensures { IfOk result (λ heights. AreHeights order.now heights.items nodes (length order.now)) }
 {
     let mut heights = vec![in alloc; 0; nodes]?;

@@ -20,8 +20,8 @@ use numbered_walks::{NumberedEdge, Span};
 use std::alloc::{AllocError, Global};
 use std::marker::Model;
 
-/// The loops of a flow graph: the instances with their spans, and the graph's edges between the numbers of an order
-/// in which each instance is an interval.
+/// The loops of a flow graph: the instances with their spans, and the graph's edges between the numbers of an
+/// order in which each instance is an interval.
 #[derive(Drop)]
 pub struct LoopTree {
     instances: Vec<Found>,
@@ -77,7 +77,8 @@ fn in_closing_order(
     closing: &[(Span, usize)],
 ) -> Result<(Vec<Found>, Vec<Span>), AllocError>
     requires { All (λ x. x.1 < length found.now) closing.now }
-    ensures { IfOk result (λ parts. AreParted found.now closing.now parts.0.items parts.1.items (length closing.now)) }
+    ensures { IfOk result
+        (λ parts. AreParted found.now closing.now parts.0.items parts.1.items (length closing.now)) }
 {
     let mut instances = Vec::with_capacity(alloc, closing.len())?;
     let mut spans = Vec::with_capacity(alloc, closing.len())?;
@@ -96,9 +97,13 @@ fn laid_out(
     nesting: &Nesting,
 ) -> Result<LoopTree, AllocError>
     requires ground { (loops : List Loop) × IsGround graph.now loops ground.now }
-    requires nesting { IsNesting (length graph.now.places) ground.now.edges.items ground.now.entry ground.now.extents.items nesting.now }
+    requires nesting { IsNesting
+        (length
+        graph.now.places) ground.now.edges.items ground.now.entry ground.now.extents.items nesting.now }
     ensures tree { IfOk result (IsTree graph.now) }
-    ensures instances { IfOk result (λ tree. (i : Instance) → Contains tree.instances i ↔ Contains (map found_instance ground.now.found.items) i) }
+    ensures instances { IfOk result
+        (λ tree. (i : Instance) → Contains tree.instances i
+        ↔ Contains (map found_instance ground.now.found.items) i) }
 {
     let places = graph.places();
     let exit = places.len();
@@ -144,12 +149,14 @@ fn shared_fault(
 ///
 /// # Errors
 ///
-/// Of `LoopsCross`, `SharedHeader`, `EntersMidLoop`, `UnboundedCycle` and `NestedTooDeep` the first that applies, and
-/// `Memory` where a growth was refused.
+/// Of `LoopsCross`, `SharedHeader`, `EntersMidLoop`, `UnboundedCycle` and `NestedTooDeep` the first that
+/// applies, and `Memory` where a growth was refused.
 pub fn nest(alloc: Global, graph: &Graph, statement: &Statement) -> Result<LoopTree, NestFault>
-    ensures instances { IfOk result (λ tree. (i : Instance) → Contains tree.instances i ↔ IsInstance graph.now statement.now.loops i) }
+    ensures instances { IfOk result
+        (λ tree. (i : Instance) → Contains tree.instances i ↔ IsInstance graph.now statement.now.loops i) }
     ensures tree { IfOk result (IsTree graph.now) }
-    ensures allowed { OnOk result ((fault : NestFault) → fault ≢ NestFault.Memory → Applies graph.now statement.now.loops fault → ⊥) }
+    ensures allowed { OnOk result
+        ((fault : NestFault) → fault ≢ NestFault.Memory → Applies graph.now statement.now.loops fault → ⊥) }
     ensures fault { IfErr result (IsNestFault graph.now statement.now.loops) }
 {
     let places = graph.places();

@@ -2,7 +2,9 @@
 -- Source: our own profile. Its memory map, levels, control fields and translator write with pages of 4 KB are
 -- shaped on the data sheet of the VL86C110 (MEMC); what is refused, ROM without words and loads of physical
 -- RAM are ours alone.
-use Rattle.std.specs.Prelude.{◌≡◌, ℕ, ◌+◌, ◌-◌, ◌*◌, ◌/◌, ◌%◌, ◌^◌, ◌<◌, ◌≤◌, ◌⊎◌, Bool, ◌==◌, ◌&&◌, ◌||◌, not, nat_lt, nat_le, if◌then◌else◌, Option, Some, None, Result, Ok, Err, List, [], ◌∷◌, slice_index, slice_set}
+use Rattle.std.specs.Prelude.{◌≡◌, ℕ, ◌+◌, ◌-◌, ◌*◌, ◌/◌, ◌%◌, ◌^◌, ◌<◌, ◌≤◌, ◌⊎◌, Bool, ◌==◌, ◌&&◌, ◌||◌}
+use Rattle.std.specs.Prelude.{not, nat_lt, nat_le, if◌then◌else◌, Option, Some, None, Result, Ok, Err, List}
+use Rattle.std.specs.Prelude.{[], ◌∷◌, slice_index, slice_set}
 use Rattle.std.proofs.Common.{lit<}
 use Rattle.std.proofs.lemmas.Nat.{mod_below}
 use Rattle.memc.specs.declared.pages.Entry.{Entry}
@@ -35,8 +37,8 @@ shift_of_size K32 = 15
 
 -- ## Where an access goes
 
--- rights by level: privileged modes read and write at all; User with the operating system field set writes at 0 and 1
--- and reads at all; User otherwise writes at 0 and reads at 0 and 1
+-- rights by level: privileged modes read and write at all; User with the operating system field set writes at
+-- 0 and 1 and reads at all; User otherwise writes at 0 and reads at 0 and 1
 abbrev pub allowed : Bool → ℕ → Bool → Bool → Bool
 allowed system level user store =
     not user || level == 0 || (if store then (system && level == 1) else (system || level == 1))
@@ -44,24 +46,31 @@ allowed system level user store =
 -- an access to logical RAM, on the page where it lies
 abbrev pub on_page : Memory → ℕ → Bool → Bool → Option Entry → Result Spot Refused
 on_page m address user store None = Err NoPage
-on_page m address user store (Some e) = if allowed m.control.system e.level user store then Ok (Ram (place_of m.shift e.physical address)) else Err Protected
+on_page m address user store (Some e) =
+    if allowed m.control.system e.level user store then Ok (Ram (place_of m.shift e.physical address))
+    else Err Protected
 
 abbrev pub logical_at : Memory → ℕ → Bool → Bool → Result Spot Refused
 logical_at m address user store = on_page m address user store (page_at m.paged (address / 2 ^ m.shift))
 
 -- an access to physical RAM, of which so many bytes are fitted
 abbrev pub physical_at : ℕ → ℕ → Bool → Result Spot Refused
-physical_at limit place user = if nat_le limit place then Err NoPage else (if user then Err Protected else Ok (Ram (place / 4 * 4)))
+physical_at limit place user =
+    if nat_le limit place then Err NoPage else (if user then Err Protected else Ok (Ram (place / 4 * 4)))
 
--- a store where loads read ROM: bits 19 to 17 all set make a control write, whose bits 3 and 2 are the page size
+-- a store where loads read ROM: bits 19 to 17 all set make a control write, whose bits 3 and 2 are the page
+-- size
 abbrev pub written_at : ℕ → ℕ → Result Spot Refused
 written_at shift address =
     if nat_lt address 0x3600000 then Ok (Vidc address)
     else (if nat_lt address 0x3800000 then
-    (if address / 2 ^ 17 % 2 ^ 3 == 7 then (if address / 2 ^ 2 % 2 ^ 2 + 12 == shift then Ok (Control address) else Err UnsupportedWrite) else Ok (Ignored address))
+    (if address / 2 ^ 17 % 2 ^ 3 == 7
+    then (if address / 2 ^ 2 % 2 ^ 2 + 12 == shift then Ok (Control address) else Err UnsupportedWrite)
+    else Ok (Ignored address))
     else (if shift == 12 then Ok (Translator address) else Err UnsupportedWrite))
 
--- logical RAM 0000000 to 1FFFFFF, physical RAM 2000000 to 2FFFFFF, I/O 3000000 to 33FFFFF, and then ROM for loads
+-- logical RAM 0000000 to 1FFFFFF, physical RAM 2000000 to 2FFFFFF, I/O 3000000 to 33FFFFF, and then ROM for
+-- loads
 abbrev pub located : Memory → ℕ → Bool → Bool → Result Spot Refused
 located m address user store =
     if nat_lt address 0x2000000 then logical_at m address user store
@@ -70,7 +79,8 @@ located m address user store =
     else (if nat_lt address 0x3400000 then Ok (Io address)
     else (if store then written_at m.shift address else Ok (Rom address)))))
 
--- what is true of every spot that an access reaches: a word of RAM is fitted, and the translator has pages of 4 KB
+-- what is true of every spot that an access reaches: a word of RAM is fitted, and the translator has pages of
+-- 4 KB
 abbrev pub Fits : ℕ → Spot → Type 0
 Fits shift (Ram place) = place < 128 * 2 ^ shift
 Fits shift (Translator address) = shift ≡ 12
@@ -101,7 +111,8 @@ word_at m _ = 0
 
 -- what a store of a word leaves
 abbrev pub stored : Spot → ℕ → Memory → Memory
-stored (Ram place) word m = record m { paged = record m.paged { words = slice_set m.paged.words (place / 4) word } }
+stored (Ram place) word m =
+    record m { paged = record m.paged { words = slice_set m.paged.words (place / 4) word } }
 stored _ word m = m
 
 -- one word more in ROM, in place of the one that is there
@@ -137,16 +148,24 @@ with_map physical logical level m = record m { paged = mapped physical logical l
 abbrev pub IsOutOfRange : ℕ → ℕ → ℕ → ℕ → Type 0
 IsOutOfRange shift physical logical level = (128 ≤ physical) ⊎ ((4 ≤ level) ⊎ (2 ^ (25 - shift) ≤ logical))
 
--- a translator write with pages of 4 KB: the physical page in bits 6 to 0, the level in 9 and 8, and of the logical
--- page bits 12 and 11 in 11 and 10, and bits 10 to 0 in 22 to 12
+-- a translator write with pages of 4 KB: the physical page in bits 6 to 0, the level in 9 and 8, and of the
+-- logical page bits 12 and 11 in 11 and 10, and bits 10 to 0 in 22 to 12
 abbrev pub translated : ℕ → Memory → Memory
-translated address m = with_map (address % 2 ^ 7) (address / 2 ^ 10 % 2 ^ 2 * 2 ^ 11 + address / 2 ^ 12 % 2 ^ 11) (address / 2 ^ 8 % 2 ^ 2) m
+translated address m =
+    with_map (address % 2 ^ 7) (address / 2 ^ 10 % 2 ^ 2 * 2 ^ 11 + address / 2 ^ 12 % 2 ^ 11)
+    (address / 2 ^ 8 % 2 ^ 2) m
 
--- the fields in the address of a control write: low ROM time in bits 5 and 4, high ROM time in 7 and 6, video DMA
--- in 10, sound DMA in 11, operating system in 12
+-- the fields in the address of a control write: low ROM time in bits 5 and 4, high ROM time in 7 and 6, video
+-- DMA in 10, sound DMA in 11, operating system in 12
 abbrev pub control_of : ℕ → ControlFields
 control_of address = record {
-  rom_times = record { low = address / 2 ^ 4 % 2 ^ 2; high = address / 2 ^ 6 % 2 ^ 2; low_in_range = mod_below (address / 2 ^ 4) 4 (lit< tt); high_in_range = mod_below (address / 2 ^ 6) 4 (lit< tt) };
+  rom_times =
+      record {
+        low = address / 2 ^ 4 % 2 ^ 2;
+        high = address / 2 ^ 6 % 2 ^ 2;
+        low_in_range = mod_below (address / 2 ^ 4) 4 (lit< tt);
+        high_in_range = mod_below (address / 2 ^ 6) 4 (lit< tt);
+      };
   video_dma = address / 2 ^ 10 % 2 == 1;
   sound_dma = address / 2 ^ 11 % 2 == 1;
   system = address / 2 ^ 12 % 2 == 1;

@@ -1,6 +1,7 @@
 -- RAM and its page map as plain maps: from physical place to word, and from logical page to physical page and
 -- level. Source: our own profile, shaped on the data sheet of the VL86C110 (MEMC).
-use Rattle.std.specs.Prelude.{◌≡◌, ℕ, ◌+◌, ◌*◌, ◌/◌, ◌%◌, ◌^◌, ◌<◌, ◌≤◌, ◌==◌, if◌then◌else◌, Option, Some, None, List, length, map, slice_index_or, slice_set, All}
+use Rattle.std.specs.Prelude.{◌≡◌, ℕ, ◌+◌, ◌*◌, ◌/◌, ◌%◌, ◌^◌, ◌<◌, ◌≤◌, ◌==◌, if◌then◌else◌, Option, Some}
+use Rattle.std.specs.Prelude.{None, List, length, map, slice_index_or, slice_set, All}
 use Rattle.memc.specs.declared.pages.Entry.{Entry}
 
 -- the sizes of a page: 4, 8, 16 and 32 KB
@@ -32,9 +33,14 @@ unmapped physical p = record { words = p.words; pages = map (off physical) p.pag
 -- the map once the logical page lies on the physical page, and nothing else does
 abbrev pub mapped : ℕ → ℕ → ℕ → Paged → Paged
 mapped physical logical level p =
-    record { words = p.words; pages = slice_set (map (off physical) p.pages) logical (Some (record { physical = physical; level = level })) }
+    record {
+      words = p.words;
+      pages = slice_set (map (off physical) p.pages) logical
+          (Some (record { physical = physical; level = level }));
+    }
 
--- as a machine starts: all words 0, and the logical pages 0 to 127 each on the physical page of its number, at level 0
+-- as a machine starts: all words 0, and the logical pages 0 to 127 each on the physical page of its number,
+-- at level 0
 pub record IsFresh (shift : ℕ) (p : Paged) : Type 0 where
   pub size : length p.words ≡ 2 ^ (shift + 5)
   pub zero_words : All (λ w. w ≡ 0) p.words
@@ -42,12 +48,13 @@ pub record IsFresh (shift : ℕ) (p : Paged) : Type 0 where
   pub low : (i : ℕ) → i < 128 → page_at p i ≡ Some (record { physical = i; level = 0 })
   pub high : (i : ℕ) → 128 ≤ i → page_at p i ≡ None
 
--- what every memory is: 128 physical pages of 2 ^ shift bytes, 2 ^ 25 bytes of logical pages, levels 0 to 3, and at
--- most one logical page on each physical page
+-- what every memory is: 128 physical pages of 2 ^ shift bytes, 2 ^ 25 bytes of logical pages, levels 0 to 3,
+-- and at most one logical page on each physical page
 pub record IsWhole (shift : ℕ) (p : Paged) : Type 0 where
   pub size : IsShift shift
   pub words : length p.words ≡ 2 ^ (shift + 5)
   pub count : length p.pages * 2 ^ shift ≡ 2 ^ 25
   pub physical_below : (l : ℕ) (e : Entry) → page_at p l ≡ Some e → e.physical < 128
   pub level_below : (l : ℕ) (e : Entry) → page_at p l ≡ Some e → e.level < 4
-  pub alone : (k l : ℕ) (e f : Entry) → page_at p k ≡ Some e → page_at p l ≡ Some f → e.physical ≡ f.physical → k ≡ l
+  pub alone : (k l : ℕ) (e f : Entry) → page_at p k ≡ Some e → page_at p l ≡ Some f → e.physical ≡ f.physical
+      → k ≡ l

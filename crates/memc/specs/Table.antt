@@ -1,15 +1,19 @@
 -- What the page table and its inverse keep (our own).
-use Rattle.std.specs.Prelude.{◌≡◌, ℕ, ◌+◌, ◌*◌, ◌^◌, ◌<◌, ◌≤◌, Option, Some, None, List, length, slice_index_or}
+use Rattle.std.specs.Prelude.{◌≡◌, ℕ, ◌+◌, ◌*◌, ◌^◌, ◌<◌, ◌≤◌, Option, Some, None, List, length}
+use Rattle.std.specs.Prelude.{slice_index_or}
 use Rattle.memc.specs.declared.pages.Entry.{Entry}
 
 -- the inverse has for each physical page the logical page that lies on it
-pub record IsPaged (shift : ℕ) (words : List ℕ) (pages : List (Option Entry)) (held : List (Option ℕ)) : Type 0 where
+pub record IsPaged (shift : ℕ) (words : List ℕ) (pages : List (Option Entry))
+    (held : List (Option ℕ)) : Type 0 where
   pub shift_least : 12 ≤ shift
   pub shift_most : shift ≤ 15
   pub size : length words ≡ 2 ^ (shift + 5)
   pub count : length pages * 2 ^ shift ≡ 2 ^ 25
   pub places : length held ≡ 128
-  pub held_by : (l : ℕ) (e : Entry) → slice_index_or pages l None ≡ Some e → slice_index_or held e.physical None ≡ Some l
-  pub holds : (p l : ℕ) → slice_index_or held p None ≡ Some l → (e : Entry) × (slice_index_or pages l None ≡ Some e) × (e.physical ≡ p)
+  pub held_by : (l : ℕ) (e : Entry) → slice_index_or pages l None ≡ Some e
+      → slice_index_or held e.physical None ≡ Some l
+  pub holds : (p l : ℕ) → slice_index_or held p None ≡ Some l
+      → (e : Entry) × (slice_index_or pages l None ≡ Some e) × (e.physical ≡ p)
   pub physical_below : (l : ℕ) (e : Entry) → slice_index_or pages l None ≡ Some e → e.physical < 128
   pub level_below : (l : ℕ) (e : Entry) → slice_index_or pages l None ≡ Some e → e.level < 4

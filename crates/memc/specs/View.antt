@@ -19,4 +19,5 @@ shift_of (K16 p) = 14
 shift_of (K32 p) = 15
 
 abbrev pub memory_in : Inside → Memory
-memory_in m = record { shift = shift_of m.sized; paged = paged_of m.sized; control = m.control; rom = m.rom.entries }
+memory_in m =
+    record { shift = shift_of m.sized; paged = paged_of m.sized; control = m.control; rom = m.rom.entries }

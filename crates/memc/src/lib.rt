@@ -1,4 +1,5 @@
-//! The memory controller: RAM in pages of one of four sizes, who may use them, and what answers at an address.
+//! The memory controller: RAM in pages of one of four sizes, who may use them, and what answers at an
+//! address.
 #![tactic(auto)]
 
 mod memory;

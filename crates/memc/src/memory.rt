@@ -1,6 +1,9 @@
 ghost use Rattle.std.specs.Prelude.{◌≡◌, ℕ, ◌*◌, ◌/◌, ◌^◌, ◌<◌, ◌≤◌, IfOk, ◌↔◌, OnErr, OnOk, IfSome};
 ghost use Rattle.memc.specs.Paged.{page_at, place_of, IsWhole};
-ghost use Rattle.memc.specs.Memory.{located, logical_at, physical_at, written_at, shift_of_size, IsStart, IsOutOfRange, IsMemorySpot, IsRamSpot, Fits, word_at, stored, with_map, without_page, translated, with_control, with_rom, rom_word, last_word, control_of, allowed as is_allowed};
+ghost use Rattle.memc.specs.Memory.{located, logical_at, physical_at, written_at, shift_of_size, IsStart};
+ghost use Rattle.memc.specs.Memory.{IsOutOfRange, IsMemorySpot, IsRamSpot, Fits, word_at, stored, with_map};
+ghost use Rattle.memc.specs.Memory.{without_page, translated, with_control, with_rom, rom_word, last_word};
+ghost use Rattle.memc.specs.Memory.{control_of, allowed as is_allowed};
 
 use crate::pages::{Entry, Pages};
 use crate::spots::{MapFault, MemcFault, PageSize, Refused, Spot};
@@ -29,7 +32,8 @@ enum Sized {
     K32(Pages<15>),
 }
 
-/// What a store to the control range sets, but the page size. The fields of the video and sound DMA have no effect.
+/// What a store to the control range sets, but the page size. The fields of the video and sound DMA have no
+/// effect.
 #[derive(Clone, Copy)]
 struct ControlFields {
     rom_times: RomTimes,
@@ -70,7 +74,8 @@ macro_rules! each_size {
 impl Memc {
     /// All words of RAM 0, no ROM words, and all control fields 0.
     ///
-    /// Each of the 128 logical pages lies on the physical page of its number, at level 0. `Memory`: a growth was refused.
+    /// Each of the 128 logical pages lies on the physical page of its number, at level 0. `Memory`: a growth
+    /// was refused.
     pub fn new(alloc: Global, size: PageSize) -> Result<Memc, MemcFault>
         ensures { IfOk result (λ m. IsStart (shift_of_size size) m) }
     {
@@ -165,7 +170,8 @@ impl Memc {
     pub fn map(&mut self, physical: u32, logical: u32, level: u32) -> Result<(), MapFault>
         ensures ok { OnOk result (self.new ≡ with_map physical logical level self.old) }
         ensures err { OnErr result (self.new ≡ self.old) }
-        ensures refused { (result ≡ Err MapFault.OutOfRange) ↔ IsOutOfRange self.old.shift physical logical level }
+        ensures refused { (result ≡ Err MapFault.OutOfRange)
+            ↔ IsOutOfRange self.old.shift physical logical level }
     {
         if physical >= 128 || level > 3 || logical >= 1 << (25 - self.shift()) {
             return Err(MapFault::OutOfRange);
@@ -195,11 +201,14 @@ impl Memc {
 
     /// Puts words into ROM, each by its address, a multiple of 4 from 3400000 to 3FFFFFC.
     ///
-    /// Of two words for one address, and over one that is there, the last stays. No load finds a word at another address. It
-    /// copies the words that are there, so a caller gives all words in one call. `Memory`: a growth was refused.
+    /// Of two words for one address, and over one that is there, the last stays. No load finds a word at
+    /// another address. It copies the words that are there, so a caller gives all words in one call.
+    /// `Memory`: a growth was refused.
     pub fn add_rom(&mut self, _alloc: Global, words: &[(u32, u32)]) -> Result<(), MemcFault>
         ensures ok { OnOk result (self.new ≡ with_rom words.now self.old) }
-        ensures words { OnOk result ((address : ℕ) → rom_word self.new.rom address ≡ last_word words.now address (rom_word self.old.rom address)) }
+        ensures words { OnOk result
+            ((address : ℕ)
+            → rom_word self.new.rom address ≡ last_word words.now address (rom_word self.old.rom address)) }
         ensures err { OnErr result (self.new ≡ self.old) }
     {
         let mut rom = self.rom.clone()?;

@@ -13,7 +13,8 @@ pub struct Entry {
     pub level: u8,
 }
 
-/// 128 physical pages of `2^SHIFT` bytes under a table of logical pages and its inverse. SHIFT is from 12 to 15.
+/// 128 physical pages of `2^SHIFT` bytes under a table of logical pages and its inverse. SHIFT is from 12 to
+/// 15.
 #[derive(Drop)]
 pub struct Pages<const SHIFT: u32> {
     words: Vec<u32>,

@@ -1,5 +1,6 @@
 -- Edges and spans by number (our own).
-use Rattle.std.specs.Prelude.{◌≡◌, ℕ, ◌+◌, ◌<◌, ◌↔◌, Bool, cond, nat_le, nat_lt, ◌&&◌, List, [], ◌∷◌, ◌++◌, length, map, slice_index_or, Vec, Contains, Option, Some, None, true, false}
+use Rattle.std.specs.Prelude.{◌≡◌, ℕ, ◌+◌, ◌<◌, ◌↔◌, Bool, cond, nat_le, nat_lt, ◌&&◌, List, [], ◌∷◌, ◌++◌}
+use Rattle.std.specs.Prelude.{length, map, slice_index_or, Vec, Contains, Option, Some, None, true, false}
 use Rattle.std.specs.Global.{Global}
 use Rattle.std.specs.List.{filter}
 use Rattle.numbered_walks.specs.declared.span.NumberedEdge.{NumberedEdge}
@@ -19,15 +20,22 @@ is_up e = nat_lt e.from e.to
 
 -- each group has the edges before the limit that lead to its number, and lead up or not
 abbrev pub AreGrouped : List NumberedEdge → ℕ → Bool → List (Vec ℕ Global) → Type 0
-AreGrouped edges limit up groups = (p : ℕ) (d : Vec ℕ Global) → p < length groups → (k : ℕ) → Contains (slice_index_or groups p d).items k ↔ ((k < limit) × ((edge_at edges k).to ≡ p) × (is_up (edge_at edges k) ≡ up))
+AreGrouped edges limit up groups =
+    (p : ℕ) (d : Vec ℕ Global) → p < length groups → (k : ℕ) → Contains (slice_index_or groups p d).items k
+    ↔ ((k < limit) × ((edge_at edges k).to ≡ p) × (is_up (edge_at edges k) ≡ up))
 
 -- the spans that hold each number
 abbrev pub AreHolders : List Span → List (Vec Span Global) → Type 0
-AreHolders spans holders = (p : ℕ) (d : Vec Span Global) → p < length holders → (slice_index_or holders p d).items ≡ filter (λ s. is_in s p) spans
+AreHolders spans holders =
+    (p : ℕ) (d : Vec Span Global) → p < length holders
+    → (slice_index_or holders p d).items ≡ filter (λ s. is_in s p) spans
 
 -- the same, and one span more at its numbers before q
 abbrev pub AreHeldTo : List Span → Span → ℕ → List (Vec Span Global) → Type 0
-AreHeldTo seen s q held = (p : ℕ) (d : Vec Span Global) → p < length held → (slice_index_or held p d).items ≡ filter (λ t. is_in t p) seen ++ cond (nat_le s.header p && nat_lt p q) (s ∷ []) []
+AreHeldTo seen s q held =
+    (p : ℕ) (d : Vec Span Global) → p < length held
+    → (slice_index_or held p d).items
+    ≡ filter (λ t. is_in t p) seen ++ cond (nat_le s.header p && nat_lt p q) (s ∷ []) []
 
 -- a span that begins at each number where one does
 pub record AreHeaders (spans : List Span) (headers : List (Option Span)) : Type 0 where

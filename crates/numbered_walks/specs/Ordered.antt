@@ -1,6 +1,7 @@
--- Edges and spans of loop instances over the numbers of places, in an order where each instance is an interval (our own
--- format), and what walks, bounds and rows mean along them.
-use Rattle.std.specs.Prelude.{◌≡◌, ◌≢◌, ℕ, ◌<◌, ◌≤◌, ◌⊎◌, Bool, true, false, ◌&&◌, nat_le, nat_eq, List, Contains, count_by, AllPairs}
+-- Edges and spans of loop instances over the numbers of places, in an order where each instance is an
+-- interval (our own format), and what walks, bounds and rows mean along them.
+use Rattle.std.specs.Prelude.{◌≡◌, ◌≢◌, ℕ, ◌<◌, ◌≤◌, ◌⊎◌, Bool, true, false, ◌&&◌, nat_le, nat_eq, List}
+use Rattle.std.specs.Prelude.{Contains, count_by, AllPairs}
 use Rattle.walks.specs.Walk.{Shape}
 use Rattle.walks.specs.Walk as W
 use Rattle.walks.specs.Greatest.{Loops}
@@ -22,7 +23,8 @@ span_loops = record { is_member = is_in; is_header = λ s n. nat_eq n s.header; 
 
 -- an edge leads to a greater number, or back from a member to the header
 abbrev pub GoesUpOrBack : List Span → NumberedEdge → Type 0
-GoesUpOrBack spans e = (e.from < e.to) ⊎ ((s : Span) × Contains spans s × (is_in s e.from ≡ true) × (e.to ≡ s.header))
+GoesUpOrBack spans e =
+    (e.from < e.to) ⊎ ((s : Span) × Contains spans s × (is_in s e.from ≡ true) × (e.to ≡ s.header))
 
 -- some edge leads to the number from a smaller one
 abbrev pub IsEnteredUp : List NumberedEdge → ℕ → Type 0
@@ -35,8 +37,8 @@ ClosesBefore s t = (s.last < t.last) ⊎ ((s.last ≡ t.last) × (t.header < s.h
 abbrev pub HoldsAll : Span → Span → Type 0
 HoldsAll outer inner = (n : ℕ) → is_in inner n ≡ true → is_in outer n ≡ true
 
--- Edges and spans over the numbers of places, where the number of the entry is 0 and that of Exit the greatest: all
--- that searches for greatest walks rest on.
+-- Edges and spans over the numbers of places, where the number of the entry is 0 and that of Exit the
+-- greatest: all that searches for greatest walks rest on.
 pub record IsOrdered (exit : ℕ) (edges : List NumberedEdge) (spans : List Span) : Type 0 where
   pub some : 0 < exit
   pub places : (e : NumberedEdge) → Contains edges e → (e.from < exit) × (e.to ≤ exit)
@@ -46,9 +48,11 @@ pub record IsOrdered (exit : ℕ) (edges : List NumberedEdge) (spans : List Span
   pub headers_differ : AllPairs (λ s t. s.header ≢ t.header) spans
   pub closing : AllPairs ClosesBefore spans
   -- two that share a number lie one within the other
-  pub nested : (s t : Span) → Contains spans s → Contains spans t → (n : ℕ) → is_in s n ≡ true → is_in t n ≡ true → HoldsAll t s ⊎ HoldsAll s t
+  pub nested : (s t : Span) → Contains spans s → Contains spans t → (n : ℕ) → is_in s n ≡ true
+      → is_in t n ≡ true → HoldsAll t s ⊎ HoldsAll s t
   -- an instance is entered at its header alone
-  pub entered : (e : NumberedEdge) → Contains edges e → (s : Span) → Contains spans s → is_in s e.from ≡ false → is_in s e.to ≡ true → e.to ≡ s.header
+  pub entered : (e : NumberedEdge) → Contains edges e → (s : Span) → Contains spans s → is_in s e.from ≡ false
+      → is_in s e.to ≡ true → e.to ≡ s.header
   -- an entry that is a member is the header
   pub entry_at_header : (s : Span) → Contains spans s → is_in s 0 ≡ true → 0 ≡ s.header
   pub shallow : (n : ℕ) → count_by (λ s. is_in s n) spans ≤ 16

@@ -1,5 +1,7 @@
--- Walks that cost what numbers of places and instances say: what the builder of a folded walk makes (our own).
-use Rattle.std.specs.Prelude.{◌≡◌, ◌≢◌, ℕ, ◌+◌, ◌*◌, ◌≤◌, Bool, true, false, cond, not, nat_eq, ◌&&◌, List, ◌++◌, Option, Some, None, All, Contains, sum_by}
+-- Walks that cost what numbers of places and instances say: what the builder of a folded walk makes (our
+-- own).
+use Rattle.std.specs.Prelude.{◌≡◌, ◌≢◌, ℕ, ◌+◌, ◌*◌, ◌≤◌, Bool, true, false, cond, not, nat_eq, ◌&&◌, List}
+use Rattle.std.specs.Prelude.{◌++◌, Option, Some, None, All, Contains, sum_by}
 use Rattle.std.specs.List.{list_all}
 use Rattle.walks.specs.Segments.{whole, head, tail, count, most}
 use Rattle.numbered_walks.specs.declared.span.NumberedEdge.{NumberedEdge}
@@ -13,7 +15,8 @@ abbrev pub most_in : Span → List NumberedEdge → ℕ
 most_in i w = most (is_inside i) (ends_at_header i) w
 
 -- with these many rounds taken of each instance, and these distances, arrivals and rounds
-module _ (edges : List NumberedEdge) (tree : List Span) (taken : Span → ℕ) (dist : ℕ → ℕ) (arr rnd : Span → ℕ) where
+module _ (edges : List NumberedEdge) (tree : List Span) (taken : Span → ℕ) (dist : ℕ → ℕ)
+    (arr rnd : Span → ℕ) where
   abbrev pub stay : Span → ℕ
   stay j = arr j + taken j * rnd j
 
@@ -61,7 +64,8 @@ module _ (edges : List NumberedEdge) (tree : List Span) (taken : Span → ℕ) (
     pub within : whole {E = NumberedEdge} (is_inside i) (ends_at_header i) walk ≡ true
     pub one : count {E = NumberedEdge} (is_inside i) (ends_at_header i) walk ≡ 1
     pub kept : (j : Span) → Contains tree j → j.header ≢ i.header → most_in j walk ≤ taken j
-    pub begins : (j : Span) → Contains tree j → j.header ≢ i.header → head {E = NumberedEdge} (is_inside j) (ends_at_header j) walk ≡ 0
+    pub begins : (j : Span) → Contains tree j → j.header ≢ i.header
+        → head {E = NumberedEdge} (is_inside j) (ends_at_header j) walk ≡ 0
     pub cost : cost_of walk ≡ rnd i
 
   -- all rounds of an instance, one after another: what they add to any walk that has just entered it
@@ -69,17 +73,23 @@ module _ (edges : List NumberedEdge) (tree : List Span) (taken : Span → ℕ) (
     pub walk : List NumberedEdge
     pub leads : Leads edges i.header walk i.header
     pub within : list_all (is_inside i) walk ≡ true
-    pub kept : (j : Span) → Contains tree j → (v : List NumberedEdge) → most_in j v ≤ taken j → (j.header ≡ i.header → tail {E = NumberedEdge} (is_inside j) (ends_at_header j) v ≡ 0) → most_in j (v ++ walk) ≤ taken j
+    pub kept : (j : Span) → Contains tree j → (v : List NumberedEdge) → most_in j v ≤ taken j
+        → (j.header ≡ i.header → tail {E = NumberedEdge} (is_inside j) (ends_at_header j) v ≡ 0)
+        → most_in j (v ++ walk) ≤ taken j
     pub cost : cost_of walk ≡ taken i * rnd i
 
 -- at the numbers of the tables, with all rounds taken: a walk from the start of the context to the number, ..
 abbrev pub IsPathTo : List NumberedEdge → List Span → Tables → Option Span → ℕ → List NumberedEdge → Type 0
-IsPathTo edges spans c context p walk = (r : Reach edges spans (λ s. s.bound) (distance_of c) (arrival_of c) (round_of c) context p) × (r.walk ≡ walk)
+IsPathTo edges spans c context p walk =
+    (r : Reach edges spans (λ s. s.bound) (distance_of c) (arrival_of c) (round_of c) context p)
+    × (r.walk ≡ walk)
 
 -- .. one round of the instance, ..
 abbrev pub IsRoundOf : List NumberedEdge → List Span → Tables → Span → List NumberedEdge → Type 0
-IsRoundOf edges spans c s walk = (r : Round edges spans (λ t. t.bound) (distance_of c) (arrival_of c) (round_of c) s) × (r.walk ≡ walk)
+IsRoundOf edges spans c s walk =
+    (r : Round edges spans (λ t. t.bound) (distance_of c) (arrival_of c) (round_of c) s) × (r.walk ≡ walk)
 
 -- .. and all its rounds
 abbrev pub AreRoundsOf : List NumberedEdge → List Span → Tables → Span → List NumberedEdge → Type 0
-AreRoundsOf edges spans c s walk = (r : Rounds edges spans (λ t. t.bound) (distance_of c) (arrival_of c) (round_of c) s) × (r.walk ≡ walk)
+AreRoundsOf edges spans c s walk =
+    (r : Rounds edges spans (λ t. t.bound) (distance_of c) (arrival_of c) (round_of c) s) × (r.walk ≡ walk)

@@ -1,5 +1,6 @@
 -- Potentials as tables by number, and as far as a pass over the numbers has found them (our own).
-use Rattle.std.specs.Prelude.{◌≡◌, ◌≢◌, ℕ, ◌+◌, ◌^◌, ◌<◌, ◌≤◌, Bool, true, false, cond, nat_eq, ◌⊎◌, List, [], ◌∷◌, length, All, Contains, slice_index, slice_index_or, sum_by}
+use Rattle.std.specs.Prelude.{◌≡◌, ◌≢◌, ℕ, ◌+◌, ◌^◌, ◌<◌, ◌≤◌, Bool, true, false, cond, nat_eq, ◌⊎◌, List, []}
+use Rattle.std.specs.Prelude.{◌∷◌, length, All, Contains, slice_index, slice_index_or, sum_by}
 use Rattle.walks.specs.Rows.{Potentials}
 use Rattle.walks.specs.Rows as R
 use Rattle.numbered_walks.specs.declared.span.NumberedEdge.{NumberedEdge}
@@ -19,7 +20,8 @@ round_of c s = slice_index c.rounds.items s.header
 
 -- the potentials that the tables hold
 abbrev pub potentials_of : Tables → Potentials ℕ Span
-potentials_of c = record { bound = c.bound; distance = distance_of c; arrival = arrival_of c; round = round_of c }
+potentials_of c =
+    record { bound = c.bound; distance = distance_of c; arrival = arrival_of c; round = round_of c }
 
 -- ## Rows
 
@@ -54,15 +56,20 @@ is_header_in (s ∷ spans) p = cond (nat_eq s.header p) true (is_header_in spans
 
 -- what the pass finds for a number: the arrival of the instance that it is the header of, or its distance
 abbrev pub number_of : List Span → Tables → ℕ → ℕ
-number_of spans c p = cond (is_header_in spans p) (slice_index c.arrivals.items p) (slice_index c.distances.items p)
+number_of spans c p =
+    cond (is_header_in spans p) (slice_index c.arrivals.items p) (slice_index c.distances.items p)
 
 -- the number is what some edge up to it needs
 abbrev pub EntersBy : List NumberedEdge → List Span → Tables → ℕ → Type 0
-EntersBy edges spans c p = (e : NumberedEdge) × Contains edges e × (e.to ≡ p) × (e.from < p) × (number_of spans c p ≡ needed spans c e)
+EntersBy edges spans c p =
+    (e : NumberedEdge) × Contains edges e × (e.to ≡ p) × (e.from < p)
+    × (number_of spans c p ≡ needed spans c e)
 
 -- the round is what some back edge needs
 abbrev pub TurnsBy : List NumberedEdge → List Span → Tables → Span → Type 0
-TurnsBy edges spans c s = (e : NumberedEdge) × Contains edges e × (e.to ≡ s.header) × (e.to ≤ e.from) × (e.from ≤ s.last) × (round_of c s ≡ needed spans c e)
+TurnsBy edges spans c s =
+    (e : NumberedEdge) × Contains edges e × (e.to ≡ s.header) × (e.to ≤ e.from) × (e.from ≤ s.last)
+    × (round_of c s ≡ needed spans c e)
 
 abbrev pub nth : List Span → ℕ → Span
 nth spans n = slice_index_or spans n (record { header = 0; last = 0; bound = 0 })
@@ -73,8 +80,12 @@ pub record IsPassed (edges : List NumberedEdge) (spans : List Span) (k q : ℕ) 
   pub later_distance : (p : ℕ) → q ≤ p → distance_of c p ≡ 0
   pub header_distance : (p : ℕ) → is_header_in spans p ≡ true → distance_of c p ≡ 0
   pub later_round : (n : ℕ) → k ≤ n → n < length spans → round_of c (nth spans n) ≡ 0
-  pub rows : (e : NumberedEdge) → Contains edges e → e.from < e.to → e.to < q → (needed spans c e ≤ number_of spans c e.to) × (needed spans c e < 2 ^ 63)
-  pub round_rows : (n : ℕ) → n < k → 0 < (nth spans n).bound → (e : NumberedEdge) → Contains edges e → e.to ≡ (nth spans n).header → e.to ≤ e.from → (e.from ≤ (nth spans n).last) × (needed spans c e ≤ round_of c (nth spans n)) × (needed spans c e < 2 ^ 63)
+  pub rows : (e : NumberedEdge) → Contains edges e → e.from < e.to → e.to < q
+      → (needed spans c e ≤ number_of spans c e.to) × (needed spans c e < 2 ^ 63)
+  pub round_rows : (n : ℕ) → n < k → 0 < (nth spans n).bound → (e : NumberedEdge) → Contains edges e
+      → e.to ≡ (nth spans n).header → e.to ≤ e.from
+      → (e.from ≤ (nth spans n).last) × (needed spans c e ≤ round_of c (nth spans n))
+      × (needed spans c e < 2 ^ 63)
   pub round_zero : (n : ℕ) → n < k → (nth spans n).bound ≡ 0 → round_of c (nth spans n) ≡ 0
   pub attained : (p : ℕ) → p < q → ((p ≡ 0) × (number_of spans c p ≡ 0)) ⊎ EntersBy edges spans c p
   pub round_attained : (n : ℕ) → n < k → (round_of c (nth spans n) ≡ 0) ⊎ TurnsBy edges spans c (nth spans n)

@@ -1,4 +1,5 @@
-ghost use Rattle.std.specs.Prelude.{◌≡◌, ◌+◌, ◌^◌, ◌<◌, ◌≤◌, ◌↔◌, ℕ, IsTrue, false, All, length, Contains, MatchResult};
+ghost use Rattle.std.specs.Prelude.{◌≡◌, ◌+◌, ◌^◌, ◌<◌, ◌≤◌, ◌↔◌, ℕ, IsTrue, false, All, length, Contains};
+ghost use Rattle.std.specs.Prelude.{MatchResult};
 ghost use Rattle.numbered_walks.specs.declared.span.NumberedEdge.{NumberedEdge};
 ghost use Rattle.numbered_walks.specs.Ordered.{IsOrdered};
 ghost use Rattle.numbered_walks.specs.Index.{AreHolders, IsIndex};
@@ -48,7 +49,8 @@ fn totals_fit(spans: &[Span], holders: &[Vec<Span>], tables: &Tables, exit: usiz
     requires held { AreHolders spans.now holders.now }
     requires ended { All (λ s. s.last < exit) spans.now }
     ensures yes { IsTrue result → (p : ℕ) → p < length holders.now → total_of spans.now tables.now p < 2 ^ 63 }
-    ensures no { result ≡ false → (p : ℕ) × (p < length holders.now) × (2 ^ 63 ≤ total_of spans.now tables.now p) }
+    ensures no { result ≡ false
+        → (p : ℕ) × (p < length holders.now) × (2 ^ 63 ≤ total_of spans.now tables.now p) }
 {
     for place in 0..holders.len() {
         if !total_fits(spans, holders, tables, exit, place) {
@@ -62,8 +64,8 @@ fn totals_fit(spans: &[Span], holders: &[Vec<Span>], tables: &Tables, exit: usiz
 ///
 /// # Errors
 ///
-/// `NoCompleteWalk` where no walk leads to Exit, else `BoundTooLarge` where a walk that keeps the bounds costs 2^63 ticks
-/// or more, wherever it ends. `Memory`: a growth was refused.
+/// `NoCompleteWalk` where no walk leads to Exit, else `BoundTooLarge` where a walk that keeps the bounds
+/// costs 2^63 ticks or more, wherever it ends. `Memory`: a growth was refused.
 pub fn find_tables(
     alloc: Global,
     edges: &[NumberedEdge],

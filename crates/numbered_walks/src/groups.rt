@@ -15,7 +15,9 @@ fn is_of_side(edge: &NumberedEdge, up: bool) -> bool
 
 // As many empty groups.
 fn empty_groups(alloc: Global, size: usize) -> Result<Vec<Vec<usize>>, AllocError>
-    ensures { IfOk result (λ groups. (length groups.items ≡ size) × ((edges : List NumberedEdge) (up : Bool) → AreGrouped edges 0 up groups.items)) }
+    ensures { IfOk result
+        (λ groups. (length groups.items ≡ size)
+        × ((edges : List NumberedEdge) (up : Bool) → AreGrouped edges 0 up groups.items)) }
 {
     let mut groups = Vec::with_capacity(alloc, size)?;
     for _ in 0..size {
@@ -33,7 +35,10 @@ fn add_edge(
     requires inside { number < length edges.now }
     requires known { (edge_at edges.now number).to < length groups.old.items }
     ensures length { length groups.new.items ≡ length groups.old.items }
-    ensures added { IfOk result (λ _. (up : Bool) → is_up (edge_at edges.now number) ≡ up → AreGrouped edges.now number up groups.old.items → AreGrouped edges.now (number + 1) up groups.new.items) }
+    ensures added { IfOk result
+        (λ _. (up : Bool) → is_up (edge_at edges.now number) ≡ up
+        → AreGrouped edges.now number up groups.old.items
+        → AreGrouped edges.now (number + 1) up groups.new.items) }
 {
     groups[edges[number].to].push(number)?;
     Ok(())
@@ -49,7 +54,9 @@ fn add_seen(
     requires inside { number < length edges.now }
     requires known { (edge_at edges.now number).to < length groups.old.items }
     ensures length { length groups.new.items ≡ length groups.old.items }
-    ensures added { IfOk result (λ _. AreGrouped edges.now number up groups.old.items → AreGrouped edges.now (number + 1) up groups.new.items) }
+    ensures added { IfOk result
+        (λ _. AreGrouped edges.now number up groups.old.items
+        → AreGrouped edges.now (number + 1) up groups.new.items) }
 {
     if is_of_side(&edges[number], up) {
         add_edge(groups, edges, number)?;
@@ -66,7 +73,8 @@ pub(crate) fn grouped(
     up: bool,
 ) -> Result<Vec<Vec<usize>>, AllocError>
     requires known { All (λ e. e.to < size) edges.now }
-    ensures { IfOk result (λ groups. (length groups.items ≡ size) × AreGrouped edges.now (length edges.now) up groups.items) }
+    ensures { IfOk result
+        (λ groups. (length groups.items ≡ size) × AreGrouped edges.now (length edges.now) up groups.items) }
 {
     let mut groups = empty_groups(alloc, size)?;
     for number in 0..edges.len() {

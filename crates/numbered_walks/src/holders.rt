@@ -19,7 +19,9 @@ fn empty_holders(alloc: Global, size: usize) -> Result<Vec<Vec<Span>>, AllocErro
 fn hold_at(held: &mut Vec<Vec<Span>>, span: Span, number: usize) -> Result<(), AllocError>
     requires { number < length held.old.items }
     ensures length { length held.new.items ≡ length held.old.items }
-    ensures added { IfOk result (λ _. (seen : List Span) → span.header ≤ number → AreHeldTo seen span number held.old.items → AreHeldTo seen span (number + 1) held.new.items) }
+    ensures added { IfOk result
+        (λ _. (seen : List Span) → span.header ≤ number → AreHeldTo seen span number held.old.items
+        → AreHeldTo seen span (number + 1) held.new.items) }
 {
     held[number].push(span)?;
     Ok(())
@@ -30,7 +32,9 @@ fn hold(held: &mut Vec<Vec<Span>>, span: Span) -> Result<(), AllocError>
     requires known { span.header ≤ span.last }
     requires inside { span.last + 1 < length held.old.items }
     ensures length { length held.new.items ≡ length held.old.items }
-    ensures added { IfOk result (λ _. (seen : List Span) → AreHolders seen held.old.items → AreHolders (seen ++ span ∷ []) held.new.items) }
+    ensures added { IfOk result
+        (λ _. (seen : List Span) → AreHolders seen held.old.items
+        → AreHolders (seen ++ span ∷ []) held.new.items) }
 {
     for number in span.header..span.last + 1 {
         hold_at(held, span, number)?;

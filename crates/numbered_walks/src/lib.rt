@@ -1,5 +1,5 @@
-//! The greatest cost of a walk along edges between numbers, in an order where each instance of a loop is an interval:
-//! the potentials of all numbers and instances, found in one pass.
+//! The greatest cost of a walk along edges between numbers, in an order where each instance of a loop is an
+//! interval: the potentials of all numbers and instances, found in one pass.
 #![tactic(auto)]
 
 mod fault;

@@ -24,7 +24,8 @@ fn stay(tables: &Tables, span: &Span) -> Option<u64>
 
 // What the edge's row asks for with these spans, if it is below 2^64.
 fn needed_with(spans: &[Span], tables: &Tables, edge: &NumberedEdge) -> Option<u64>
-    ensures { MatchOption result (2 ^ 64 ≤ needed spans.now tables.now edge.now) (λ n. n ≡ needed spans.now tables.now edge.now) }
+    ensures { MatchOption result (2 ^ 64 ≤ needed spans.now tables.now edge.now)
+        (λ n. n ≡ needed spans.now tables.now edge.now) }
 {
     let mut sum = 0u64;
     for span in spans {
@@ -46,7 +47,8 @@ pub(crate) fn needed_in(
 ) -> Option<u64>
     requires known { edge.now.from < length holders.now }
     requires held { AreHolders spans.now holders.now }
-    ensures { MatchOption result (2 ^ 64 ≤ needed spans.now tables.now edge.now) (λ n. n ≡ needed spans.now tables.now edge.now) }
+    ensures { MatchOption result (2 ^ 64 ≤ needed spans.now tables.now edge.now)
+        (λ n. n ≡ needed spans.now tables.now edge.now) }
 {
     let _all = spans;
     needed_with(&holders[edge.from], tables, edge)
@@ -60,9 +62,11 @@ pub(crate) fn heaviest(
     edges: &[NumberedEdge],
     group: &[usize],
 ) -> Option<u64>
-    requires known { All (λ k. (k < length edges.now) × ((edge_at edges.now k).from < length holders.now)) group.now }
+    requires known { All
+        (λ k. (k < length edges.now) × ((edge_at edges.now k).from < length holders.now)) group.now }
     requires held { AreHolders spans.now holders.now }
-    ensures { MatchOption result (IsNotFit spans.now tables.now (edges_of edges.now group.now)) (IsHeaviest spans.now tables.now (edges_of edges.now group.now)) }
+    ensures { MatchOption result (IsNotFit spans.now tables.now (edges_of edges.now group.now))
+        (IsHeaviest spans.now tables.now (edges_of edges.now group.now)) }
 {
     let mut best = 0u64;
     for number in group {

@@ -1,5 +1,6 @@
 ghost use Rattle.std.specs.Prelude.{◌≡◌, ◌<◌, ℕ, IfOk, length, slice_index};
-ghost use Rattle.numbered_walks.specs.Tables.{HasRoom, IsPlaceWritten, IsRoundWritten, arrival_of, distance_of, is_header_in, round_of};
+ghost use Rattle.numbered_walks.specs.Tables.{HasRoom, IsPlaceWritten, IsRoundWritten, arrival_of};
+ghost use Rattle.numbered_walks.specs.Tables.{distance_of, is_header_in, round_of};
 
 use crate::span::Span;
 use std::alloc::{AllocError, Global};
@@ -41,7 +42,8 @@ pub(crate) fn round(tables: &Tables, span: &Span) -> u64
 /// Tables of zeros.
 pub(crate) fn empty_tables(alloc: Global, size: usize) -> Result<Tables, AllocError>
     ensures room { IfOk result (HasRoom size) }
-    ensures zeros { IfOk result (λ c. (p : ℕ) → slice_index c.distances.items p ≡ 0 × slice_index c.rounds.items p ≡ 0) }
+    ensures zeros { IfOk result
+        (λ c. (p : ℕ) → slice_index c.distances.items p ≡ 0 × slice_index c.rounds.items p ≡ 0) }
 {
     Ok(Tables {
         bound: 0,

@@ -36,9 +36,12 @@ fn attaining(
     group: &[usize],
     number: u64,
 ) -> Option<usize>
-    requires known { All (λ k. (k < length edges.now) × ((edge_at edges.now k).from < length holders.now)) group.now }
+    requires known { All
+        (λ k. (k < length edges.now) × ((edge_at edges.now k).from < length holders.now)) group.now }
     requires held { AreHolders spans.now holders.now }
-    ensures { MatchOption result (All (λ k. needed spans.now tables.now (edge_at edges.now k) ≢ number) group.now) (λ k. Contains group.now k × (needed spans.now tables.now (edge_at edges.now k) ≡ number)) }
+    ensures { MatchOption result
+        (All (λ k. needed spans.now tables.now (edge_at edges.now k) ≢ number) group.now)
+        (λ k. Contains group.now k × (needed spans.now tables.now (edge_at edges.now k) ≡ number)) }
 {
     for k in group {
         if needs(spans, holders, tables, &edges[*k], number) {
@@ -61,7 +64,8 @@ fn number_at(spans: &[Span], headers: &[Option<Span>], tables: &Tables, place: u
     }
 }
 
-/// The last edge of a greatest walk to a number, as its place in the list: what the number's distance or arrival is by.
+/// The last edge of a greatest walk to a number, as its place in the list: what the number's distance or
+/// arrival is by.
 pub fn entering_edge(
     edges: &[NumberedEdge],
     spans: &[Span],
@@ -86,7 +90,8 @@ pub fn entering_edge(
     }
 }
 
-/// The last edge of a heaviest round of an instance, as its place in the list; `None` where a stay takes no round.
+/// The last edge of a heaviest round of an instance, as its place in the list; `None` where a stay takes no
+/// round.
 pub fn turning_edge(
     edges: &[NumberedEdge],
     spans: &[Span],
@@ -99,7 +104,8 @@ pub fn turning_edge(
     requires indexed { IsIndex exit edges.now spans.now index.now }
     requires found { AreFound exit edges.now spans.now tables.now }
     requires stated { Contains spans.now span.now }
-    ensures { MatchOption result (round_of tables.now span.now ≡ 0) (IsTurning edges.now spans.now tables.now span.now) }
+    ensures { MatchOption result (round_of tables.now span.now ≡ 0)
+        (IsTurning edges.now spans.now tables.now span.now) }
 {
     let _exit = exit;
     let number = round(tables, span);

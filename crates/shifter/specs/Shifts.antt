@@ -1,6 +1,7 @@
 -- Shifts of a list of 32 bits, the lowest first, and the cycles of a multiply (VL86C010 data sheet, barrel
 -- shifter; our own cycle profile for the multiply).
-use Rattle.std.specs.Prelude.{ℕ, ◌-◌, ◌*◌, ◌%◌, ◌^◌, ◌≡◌, ◌==◌, ◌<◌, ◌≤◌, Bool, false, if◌then◌else◌, List, [], ◌∷◌, ◌++◌, take, drop, replicate, slice_index_or}
+use Rattle.std.specs.Prelude.{ℕ, ◌-◌, ◌*◌, ◌%◌, ◌^◌, ◌≡◌, ◌==◌, ◌<◌, ◌≤◌, Bool, false, if◌then◌else◌, List}
+use Rattle.std.specs.Prelude.{[], ◌∷◌, ◌++◌, take, drop, replicate, slice_index_or}
 use Rattle.arm2_decode.specs.declared.names.Shift.{Shift as Kind}
 use Rattle.arm2_decode.specs.declared.names.Shift.TheVariants.{Lsl, Lsr, Asr, Ror}
 use Rattle.shifter.specs.declared.shifts.Shifted.{Shifted}
@@ -13,11 +14,19 @@ pub record BitsAndCarry : Type 0 where
 
 -- zeros come in below; the carry is the last bit that goes out above
 abbrev pub left : ℕ → List Bool → BitsAndCarry
-left n bits = record { bits = take 32 (replicate n false ++ bits); carry = slice_index_or (replicate n false ++ bits) 32 false }
+left n bits =
+    record {
+      bits = take 32 (replicate n false ++ bits);
+      carry = slice_index_or (replicate n false ++ bits) 32 false;
+    }
 
 -- copies of fill come in above; the carry is the last bit that goes out below
 abbrev pub right : ℕ → Bool → List Bool → BitsAndCarry
-right n fill bits = record { bits = drop n (bits ++ replicate n fill); carry = slice_index_or (bits ++ replicate n fill) (n - 1) false }
+right n fill bits =
+    record {
+      bits = drop n (bits ++ replicate n fill);
+      carry = slice_index_or (bits ++ replicate n fill) (n - 1) false;
+    }
 
 -- the bits that go out below come in above; the carry is the top bit afterwards
 abbrev pub turned : ℕ → List Bool → List Bool
@@ -53,8 +62,8 @@ pub record Has (result : Shifted) (wanted : BitsAndCarry) : Type 0 where
   pub value : word_bits result.value ≡ wanted.bits
   pub carry : result.carry ≡ wanted.carry
 
--- A multiply by this number takes m cycles: 1 for 0 and 1; m for 2 ^ (2 * m - 3) up to 2 ^ (2 * m - 1) - 1; and 16
--- from 2 ^ 29 on.
+-- A multiply by this number takes m cycles: 1 for 0 and 1; m for 2 ^ (2 * m - 3) up to 2 ^ (2 * m - 1) - 1;
+-- and 16 from 2 ^ 29 on.
 pub record TakesCycles (number m : ℕ) : Type 0 where
   pub some : 1 ≤ m
   pub few : m ≤ 16

@@ -1,5 +1,6 @@
 ghost use Rattle.std.specs.Prelude.{◌≡◌, ◌≤◌, ◌<◌, ◌*◌, ◌++◌, drop, take};
-ghost use Rattle.shifter.specs.Shifts.{by_immediate, by_register, extended, left, right, rotated, Has, TakesCycles};
+ghost use Rattle.shifter.specs.Shifts.{by_immediate, by_register, extended, left, right, rotated, Has};
+ghost use Rattle.shifter.specs.Shifts.{TakesCycles};
 ghost use Rattle.shifter.specs.Word.{bit_of_word, fill_word, word_bits};
 
 use arm2_decode::Shift;

@@ -1,5 +1,5 @@
-//! Runs a loop on the machine and prints its steps and ticks, so that steps a second can be timed from outside. The
-//! number of steps is an argument, at most 4294967295, or else 4096.
+//! Runs a loop on the machine and prints its steps and ticks, so that steps a second can be timed from
+//! outside. The number of steps is an argument, at most 4294967295, or else 4096.
 #![tactic(auto)]
 
 use arm2_exec::{Input, Machine, Reg};

@@ -1,5 +1,6 @@
--- The position in a frame, one sixth of a tick after the other (our own profile). A tick is one cycle of the 8 MHz
--- processor; its sixth is the longest time of which a pixel takes a whole number at each of the four pixel rates.
+-- The position in a frame, one sixth of a tick after the other (our own profile). A tick is one cycle of the
+-- 8 MHz processor; its sixth is the longest time of which a pixel takes a whole number at each of the four
+-- pixel rates.
 use Rattle.std.specs.Prelude.{ℕ, zero, suc, ◌+◌, ◌==◌, if◌then◌else◌}
 
 -- one sixth on, in a frame of so many sixths: after the last comes the first
@@ -14,4 +15,5 @@ position_after (suc n) frame from = next frame (position_after n frame from)
 -- how often the position comes to a mark, while so many sixths pass
 abbrev pub arrivals : (sixths frame mark from : ℕ) → ℕ
 arrivals zero frame mark from = 0
-arrivals (suc n) frame mark from = arrivals n frame mark from + (if position_after (suc n) frame from == mark then 1 else 0)
+arrivals (suc n) frame mark from =
+    arrivals n frame mark from + (if position_after (suc n) frame from == mark then 1 else 0)

@@ -6,7 +6,8 @@ use Rattle.vidc.specs.declared.PixelRate.{PixelRate}
 use Rattle.vidc.specs.declared.PixelRate.TheVariants.{Mhz8, Mhz12, Mhz16, Mhz24}
 use Rattle.vidc.specs.Frame.{arrivals, position_after}
 
--- the registers' values, whether the two cycle registers were written, and the position in the frame, in sixths of a tick
+-- the registers' values, whether the two cycle registers were written, and the position in the frame, in
+-- sixths of a tick
 pub record Video : Type 0 where
   pub horizontal_cycle : ℕ
   pub vertical_cycle : ℕ
@@ -18,7 +19,16 @@ pub record Video : Type 0 where
 
 -- as VIDC starts
 abbrev pub fresh : Video
-fresh = record { horizontal_cycle = 0; vertical_cycle = 0; display_end = 0; rate = Mhz8; horizontal_written = false; vertical_written = false; position = 0 }
+fresh =
+    record {
+      horizontal_cycle = 0;
+      vertical_cycle = 0;
+      display_end = 0;
+      rate = Mhz8;
+      horizontal_written = false;
+      vertical_written = false;
+      position = 0;
+    }
 
 -- the pixel rate by control bits 1:0
 abbrev pub rate_of : ℕ → PixelRate
@@ -42,7 +52,8 @@ frame_of horizontal_cycle vertical_cycle rate = raster_of horizontal_cycle rate 
 abbrev pub frame : Video → ℕ
 frame v = frame_of v.horizontal_cycle v.vertical_cycle v.rate
 
--- flyback rises where the raster after the display's last begins; no position is there where the frame has no such raster
+-- flyback rises where the raster after the display's last begins; no position is there where the frame has no
+-- such raster
 abbrev pub flyback : Video → ℕ
 flyback v = raster_of v.horizontal_cycle v.rate * (v.display_end + 1)
 
@@ -52,7 +63,8 @@ runs v = v.horizontal_written && v.vertical_written
 
 -- VIDC so many ticks on
 abbrev pub advanced : ℕ → Video → Video
-advanced ticks v = if runs v then record v { position = position_after (ticks * 6) (frame v) v.position } else v
+advanced ticks v =
+    if runs v then record v { position = position_after (ticks * 6) (frame v) v.position } else v
 
 -- the flybacks that rise meanwhile
 abbrev pub flybacks : ℕ → Video → ℕ
@@ -62,17 +74,21 @@ flybacks ticks v = if runs v then arrivals (ticks * 6) (frame v) (flyback v) v.p
 abbrev pub value_of : ℕ → ℕ
 value_of word = word / 0x4000 % 0x400
 
--- what the write of a word does, by its eight top bits: each of the four registers begins a frame, other words do nothing
+-- what the write of a word does, by its eight top bits: each of the four registers begins a frame, other
+-- words do nothing
 unfoldable pub written : ℕ → Video → Video
 written word v =
-    if word / 0x100_0000 == 0x80 then record v { horizontal_cycle = value_of word; horizontal_written = true; position = 0 }
-    else if word / 0x100_0000 == 0xA0 then record v { vertical_cycle = value_of word; vertical_written = true; position = 0 }
+    if word / 0x100_0000 == 0x80
+    then record v { horizontal_cycle = value_of word; horizontal_written = true; position = 0 }
+    else if word / 0x100_0000 == 0xA0
+    then record v { vertical_cycle = value_of word; vertical_written = true; position = 0 }
     else if word / 0x100_0000 == 0xB0 then record v { display_end = value_of word; position = 0 }
     else if word / 0x100_0000 == 0xE0 then record v { rate = rate_of (word % 4); position = 0 }
     else v
 
 -- the range of each value: ten bits, and a position within the frame
-pub record InRange (horizontal_cycle vertical_cycle display_end : ℕ) (rate : PixelRate) (position : ℕ) : Type 0 where
+pub record InRange (horizontal_cycle vertical_cycle display_end : ℕ) (rate : PixelRate)
+    (position : ℕ) : Type 0 where
   pub horizontal_below : horizontal_cycle < 0x400
   pub vertical_below : vertical_cycle < 0x400
   pub display_end_below : display_end < 0x400

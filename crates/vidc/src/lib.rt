@@ -1,15 +1,17 @@
 //! VIDC, the video controller, as a source of interrupts: its frame and when flyback rises in it.
 //!
 //! Four registers make the frame (our own profile, shaped on the VL86C310 data sheet). Time comes in ticks,
-//! cycles of the 8 MHz processor; within the crate it is counted in sixths of a tick, of which a pixel takes a
-//! whole number.
+//! cycles of the 8 MHz processor; within the crate it is counted in sixths of a tick, of which a pixel takes
+//! a whole number.
 #![tactic(auto)]
 
 mod frame;
 mod law;
 
 ghost use Rattle.std.specs.Prelude.{◌≡◌, ◌≤◌, ◌<◌, ◌^◌};
-ghost use Rattle.vidc.specs.Video.{Video, InRange, fresh, rate_of, value_of, frame as frame_at, flyback as flyback_at, runs as is_running, written, advanced, flybacks as flybacks_in};
+ghost use Rattle.vidc.specs.Video.{Video, InRange, fresh, rate_of, value_of, frame as frame_at};
+ghost use Rattle.vidc.specs.Video.{flyback as flyback_at, runs as is_running, written, advanced};
+ghost use Rattle.vidc.specs.Video.{flybacks as flybacks_in};
 
 pub use law::ticks_add_up;
 use std::marker::Model;
@@ -44,7 +46,15 @@ pub struct Vidc {
 impl Model for Vidc {
     ghost Value = { Video };
 
-    ghost view = { λ v. record { horizontal_cycle = v.horizontal_cycle; vertical_cycle = v.vertical_cycle; display_end = v.display_end; rate = v.rate; horizontal_written = v.horizontal_written; vertical_written = v.vertical_written; position = v.position } };
+    ghost view = { λ v. record {
+      horizontal_cycle = v.horizontal_cycle;
+      vertical_cycle = v.vertical_cycle;
+      display_end = v.display_end;
+      rate = v.rate;
+      horizontal_written = v.horizontal_written;
+      vertical_written = v.vertical_written;
+      position = v.position;
+    } };
 
     ghost invariant = { λ v. InRange v.horizontal_cycle v.vertical_cycle v.display_end v.rate v.position };
 }

@@ -30,7 +30,8 @@ module _ {P E I : Type 0} (shape : Shape P E) (loops : Loops P I) where
   abbrev pub KeepsBounds : (I → Type 0) → List E → Type 0
   KeepsBounds is_instance walk = (i : I) → is_instance i → KeepsBound i walk
 
-module _ {P E : Type 0} (shape : Shape P E) (is_edge : E → Type 0) (keeps : List E → Type 0) (entry exit : P) where
+module _ {P E : Type 0} (shape : Shape P E) (is_edge : E → Type 0) (keeps : List E → Type 0)
+    (entry exit : P) where
   -- from the entry to the exit
   abbrev pub IsComplete : List E → Type 0
   IsComplete walk = Leads shape is_edge entry walk exit

@@ -1,10 +1,12 @@
 -- The rows of a certificate: what each edge asks of the numbers at its ends (our own certificate format).
-use Rattle.std.specs.Prelude.{◌≡◌, ℕ, ◌+◌, ◌*◌, ◌^◌, ◌<◌, ◌≤◌, Bool, false, cond, nat_eq, not, ◌&&◌, List, sum_by, Contains, Option, Some, None, IfSome}
+use Rattle.std.specs.Prelude.{◌≡◌, ℕ, ◌+◌, ◌*◌, ◌^◌, ◌<◌, ◌≤◌, Bool, false, cond, nat_eq, not, ◌&&◌, List}
+use Rattle.std.specs.Prelude.{sum_by, Contains, Option, Some, None, IfSome}
 use Rattle.std.specs.List.{find}
 use Rattle.walks.specs.Walk.{Shape}
 use Rattle.walks.specs.Greatest.{Loops}
 
--- the bound, the distance of each place, and of each instance the arrival at its header and the cost of a round
+-- the bound, the distance of each place, and of each instance the arrival at its header and the cost of a
+-- round
 pub record Potentials (P I : Type 0) : Type 0 where
   pub bound : ℕ
   pub distance : P → ℕ
@@ -28,7 +30,9 @@ module _ {P E I : Type 0} (shape : Shape P E) (loops : Loops P I) where
     module _ (is_exit : P → Bool) where
       -- the number at an edge to the header of this instance: none for a back edge of bound 0
       abbrev pub header_limit : E → I → Option ℕ
-      header_limit e i = cond (loops.is_member i (shape.from e)) (cond (nat_eq (loops.bound i) 0) None (Some (c.round i))) (Some (c.arrival i))
+      header_limit e i =
+          cond (loops.is_member i (shape.from e)) (cond (nat_eq (loops.bound i) 0) None (Some (c.round i)))
+          (Some (c.arrival i))
 
       -- the number at an edge to a place that is no header
       abbrev pub place_limit : E → ℕ
@@ -56,7 +60,8 @@ module _ {P E I : Type 0} (shape : Shape P E) (loops : Loops P I) where
       RowsFit is_edge = (e : E) → is_edge e → RowFits e
 
 -- no number of the one is more than that of the other; Exit has no distance
-pub record IsAtMost {P I : Type 0} (is_exit : P → Bool) (tree : List I) (c other : Potentials P I) : Type 0 where
+pub record IsAtMost {P I : Type 0} (is_exit : P → Bool) (tree : List I)
+    (c other : Potentials P I) : Type 0 where
   pub bound : c.bound ≤ other.bound
   pub distances : (p : P) → is_exit p ≡ false → c.distance p ≤ other.distance p
   pub arrivals : (i : I) → Contains tree i → c.arrival i ≤ other.arrival i

@@ -1,5 +1,5 @@
--- What a walk takes of an instance's bound, by two tests of an edge: the working form of keeping a bound, which composes
--- over joined and repeated walks.
+-- What a walk takes of an instance's bound, by two tests of an edge: the working form of keeping a bound,
+-- which composes over joined and repeated walks.
 use Rattle.std.specs.Prelude.{ℕ, zero, suc, ◌+◌, max, Bool, cond, List, [], ◌∷◌, ◌++◌, count_by}
 use Rattle.std.specs.List.{list_all}
 
