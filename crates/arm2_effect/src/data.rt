@@ -2,10 +2,10 @@ ghost use Rattle.std.specs.Prelude.{◌≡◌, ◌<◌, ◌^◌, false};
 ghost use Rattle.arm2_decode.specs.Names.{register_number};
 ghost use Rattle.arm2_effect.specs.Effects.{IsEffect, is_stopped};
 ghost use Rattle.arm2_effect.specs.Operations.{compared, data_immediate_effect, data_register_effect};
-ghost use Rattle.arm2_effect.specs.Operations.{data_register_shift_effect, entered, jumped as is_jumped};
-ghost use Rattle.arm2_effect.specs.Operations.{next_r15 as is_next_r15, placed};
-ghost use Rattle.arm2_effect.specs.Outcomes.{is_compare as compares};
-ghost use Rattle.arm2_effect.specs.ProgramCounter.{psr_with as is_psr_with};
+ghost use Rattle.arm2_effect.specs.Operations.{data_register_shift_effect, entered, jumped};
+ghost use Rattle.arm2_effect.specs.Operations.{next_r15, placed};
+ghost use Rattle.arm2_effect.specs.Outcomes.{is_compare};
+ghost use Rattle.arm2_effect.specs.ProgramCounter.{psr_with};
 
 use crate::done::{Done, Kind};
 use crate::modes::Reg;
@@ -18,7 +18,7 @@ use crate::registers::Registers;
 use arm2_decode::{DataImmediate, DataRegister, DataRegisterShift, Flags, Opcode, Register};
 
 fn is_compare(opcode: Opcode) -> bool
-    ensures { result ≡ compares opcode }
+    ensures { result ≡ is_compare opcode }
 {
     matches!(
         opcode,
@@ -29,7 +29,7 @@ fn is_compare(opcode: Opcode) -> bool
 // The PSR with other condition flags, from 0 to 63.
 fn psr_with(flags: Flags, psr: u32) -> u32
     requires { psr < 64 }
-    ensures psr { result ≡ is_psr_with flags psr }
+    ensures psr { result ≡ psr_with flags psr }
     ensures small { result < 64 }
 {
     u32::from(flags.negative) * 32
@@ -40,7 +40,7 @@ fn psr_with(flags: Flags, psr: u32) -> u32
 }
 
 fn next_r15(sets_flags: bool, outcome: Outcome, r15: u32) -> u32
-    ensures { result ≡ is_next_r15 sets_flags outcome r15 }
+    ensures { result ≡ next_r15 sets_flags outcome r15 }
 {
     let address = ahead(address_of(r15), 4);
     if !sets_flags {
@@ -80,7 +80,7 @@ impl Registers {
     #[tactic(auto, unfolding(crate::specs::Operations::jumped))]
     fn jump(&mut self, prices: Prices, sets_flags: bool, outcome: Outcome) -> Done
         ensures effect { IsEffect prices.profile prices.rom result self.new
-            (is_jumped sets_flags outcome self.old) }
+            (jumped sets_flags outcome self.old) }
         ensures goes_on { is_stopped result.kind ≡ false }
         ensures bound { result.ticks < 2 ^ 10 }
     {

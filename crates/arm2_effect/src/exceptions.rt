@@ -1,6 +1,6 @@
 ghost use Rattle.std.specs.Prelude.{◌≡◌, ◌<◌, ◌%◌, ◌^◌, false};
 ghost use Rattle.arm2_effect.specs.Effects.{IsEffect, is_stopped, skipped};
-ghost use Rattle.arm2_effect.specs.Exceptions.{entry_at, masked as is_masked, taken};
+ghost use Rattle.arm2_effect.specs.Exceptions.{entry_at, masked, taken};
 
 use crate::done::{Done, Kind};
 use crate::modes::{Mode, Reg};
@@ -63,7 +63,7 @@ fn entry_of(vector: Vector) -> Entry
 
 fn masked(masks_fiq: bool, psr: u32) -> u32
     requires { psr < 64 }
-    ensures masked { result ≡ is_masked masks_fiq psr }
+    ensures masked { result ≡ masked masks_fiq psr }
     ensures small { result < 64 }
 {
     let fiq_mask = if masks_fiq { 1 } else { psr % 2 };

@@ -1,9 +1,9 @@
 ghost use Rattle.std.specs.Prelude.{◌≡◌, ◌<◌, ◌≤◌, ◌^◌, false};
 ghost use Rattle.arm2_decode.specs.Conditions.{condition_holds};
 ghost use Rattle.arm2_effect.specs.Modes.{r15_in};
-ghost use Rattle.arm2_effect.specs.ProgramCounter.{flags_of as flags_in};
+ghost use Rattle.arm2_effect.specs.ProgramCounter.{flags_of};
 ghost use Rattle.arm2_effect.specs.Effects.{IsEffect, is_stopped};
-ghost use Rattle.arm2_effect.specs.Operations.{branch_effect, cycles_of, is_transfer as transfers};
+ghost use Rattle.arm2_effect.specs.Operations.{branch_effect, cycles_of, is_transfer};
 ghost use Rattle.arm2_effect.specs.Operations.{multiply_effect, operation_effect, product_of};
 
 use crate::done::{Done, Kind};
@@ -26,7 +26,7 @@ fn cycles(multiplier: u32) -> u32
 
 /// Whether an operation is a load or a store, which reaches past the registers.
 pub fn is_transfer(operation: &Operation) -> bool
-    ensures { result ≡ transfers operation.now }
+    ensures { result ≡ is_transfer operation.now }
 {
     matches!(
         operation,
@@ -94,7 +94,7 @@ impl Registers {
 
     /// Whether an instruction of the condition is carried out, by the flags in R15.
     pub fn passes(&self, cond: Cond) -> bool
-        ensures { result ≡ condition_holds cond (flags_in (r15_in self.now)) }
+        ensures { result ≡ condition_holds cond (flags_of (r15_in self.now)) }
     {
         holds(cond, flags_of(self.get(Reg::R15)))
     }
@@ -102,7 +102,7 @@ impl Registers {
     /// Carries out an instruction whose condition holds, and which is no load or store.
     #[tactic(auto, unfolding(crate::specs::Operations::operation_effect))]
     pub fn execute(&mut self, prices: Prices, operation: &Operation) -> Done
-        requires { transfers operation.now ≡ false }
+        requires { is_transfer operation.now ≡ false }
         ensures effect { IsEffect prices.profile prices.rom result self.new
             (operation_effect operation.now self.old) }
         ensures goes_on { is_stopped result.kind ≡ false }

@@ -1,8 +1,8 @@
 ghost use Rattle.std.specs.Prelude.{◌≡◌, ◌<◌, ◌%◌, ◌^◌};
 ghost use Rattle.arm2_decode.specs.Names.{register_number};
-ghost use Rattle.arm2_effect.specs.Operands.{first_of, operand_of, rotated_byte as is_rotated_byte};
-ghost use Rattle.arm2_effect.specs.Operands.{shifted_by_amount as is_shifted_by_amount};
-ghost use Rattle.arm2_effect.specs.Operands.{shifted_by_register as is_shifted_by_register};
+ghost use Rattle.arm2_effect.specs.Operands.{first_of, operand_of, rotated_byte};
+ghost use Rattle.arm2_effect.specs.Operands.{shifted_by_amount};
+ghost use Rattle.arm2_effect.specs.Operands.{shifted_by_register};
 
 use crate::modes::Reg;
 use crate::program_counter::{address_of, advanced, ahead, flags_of, mode_of};
@@ -45,7 +45,7 @@ impl Registers {
     #[tactic(auto, using(crate::proofs::Words::shifted_is))]
     pub fn shifted_by_amount(&self, shift: Shift, amount: u32, rm: Register) -> Shifted
         requires { amount < 32 }
-        ensures { result ≡ is_shifted_by_amount shift amount (register_number rm) self.now }
+        ensures { result ≡ shifted_by_amount shift amount (register_number rm) self.now }
     {
         let carry = flags_of(self.get(Reg::R15)).carry;
         shift_imm(shift, amount, self.operand(rm, 8), carry)
@@ -54,7 +54,7 @@ impl Registers {
     /// A register that is shifted by the low byte of another.
     #[tactic(auto, using(crate::proofs::Words::shifted_is))]
     pub(crate) fn shifted_by_register(&self, shift: Shift, rs: Register, rm: Register) -> Shifted
-        ensures { result ≡ is_shifted_by_register shift (register_number rs) (register_number rm) self.now }
+        ensures { result ≡ shifted_by_register shift (register_number rs) (register_number rm) self.now }
     {
         let r15 = self.get(Reg::R15);
         let amount = self.read(mode_of(r15), rs) % 256;
@@ -66,7 +66,7 @@ impl Registers {
     pub(crate) fn rotated_byte(&self, value: u32, rotation: u32) -> Shifted
         requires byte { value < 256 }
         requires places { rotation < 16 }
-        ensures { result ≡ is_rotated_byte value rotation self.now }
+        ensures { result ≡ rotated_byte value rotation self.now }
     {
         let carry = flags_of(self.get(Reg::R15)).carry;
         rotate_imm(value, rotation, carry)

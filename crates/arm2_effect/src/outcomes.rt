@@ -1,6 +1,6 @@
 ghost use Rattle.std.specs.Prelude.{◌≡◌, ◌^◌, nat_le};
-ghost use Rattle.arm2_effect.specs.Outcomes.{bits_of, difference_of, flags_after as is_flags_after};
-ghost use Rattle.arm2_effect.specs.Outcomes.{outcome_of as is_outcome_of, sum_of};
+ghost use Rattle.arm2_effect.specs.Outcomes.{bits_of, difference_of, flags_after};
+ghost use Rattle.arm2_effect.specs.Outcomes.{outcome_of, sum_of};
 
 use arm2_decode::{Flags, Opcode};
 use shifter::Shifted;
@@ -54,7 +54,7 @@ fn bits(value: u32, operand: Shifted, flags: Flags) -> Outcome
 
 /// What an operation computes of Rn, the second operand and the flags before.
 pub(crate) fn outcome_of(opcode: Opcode, x: u32, operand: Shifted, flags: Flags) -> Outcome
-    ensures { result ≡ is_outcome_of opcode x operand flags }
+    ensures { result ≡ outcome_of opcode x operand flags }
 {
     let y = operand.value;
     match opcode {
@@ -75,7 +75,7 @@ pub(crate) fn outcome_of(opcode: Opcode, x: u32, operand: Shifted, flags: Flags)
 
 /// The condition flags that an outcome sets.
 pub(crate) fn flags_after(outcome: Outcome) -> Flags
-    ensures { result ≡ is_flags_after outcome }
+    ensures { result ≡ flags_after outcome }
 {
     Flags {
         negative: is_negative(outcome.value),

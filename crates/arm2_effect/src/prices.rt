@@ -1,6 +1,6 @@
 ghost use Rattle.std.specs.Prelude.{◌≡◌, ◌<◌, ◌≤◌, ◌*◌, ◌%◌, ◌^◌, [], ◌∷◌};
-ghost use Rattle.arm2_effect.specs.Effects.{Internal, onward as accesses_onward, refill as accesses_refill};
-ghost use Rattle.arm2_effect.specs.Effects.{straight as accesses_straight, ticks_of};
+ghost use Rattle.arm2_effect.specs.Effects.{Internal, onward, refill};
+ghost use Rattle.arm2_effect.specs.Effects.{straight, ticks_of};
 
 use crate::program_counter::ahead;
 use bus_ticks::{Profile, RomTimes, fetch_n, fetch_s};
@@ -18,7 +18,7 @@ impl Prices {
     pub fn straight(self, from: u32) -> u32
         requires below { from < 2 ^ 26 }
         requires aligned { from % 4 ≡ 0 }
-        ensures ticks { result ≡ ticks_of self.profile self.rom (accesses_straight from) }
+        ensures ticks { result ≡ ticks_of self.profile self.rom (straight from) }
         ensures bound { result < 256 }
     {
         fetch_s(&self.profile, ahead(from, 8), self.rom)
@@ -28,7 +28,7 @@ impl Prices {
     pub fn refill(self, to: u32) -> u32
         requires below { to < 2 ^ 26 }
         requires aligned { to % 4 ≡ 0 }
-        ensures ticks { result ≡ ticks_of self.profile self.rom (accesses_refill to) }
+        ensures ticks { result ≡ ticks_of self.profile self.rom (refill to) }
         ensures bound { result < 2 * 256 }
     {
         fetch_n(&self.profile, to, self.rom) + fetch_s(&self.profile, ahead(to, 4), self.rom)
@@ -40,7 +40,7 @@ impl Prices {
         requires from_aligned { from % 4 ≡ 0 }
         requires to_below { to < 2 ^ 26 }
         requires to_aligned { to % 4 ≡ 0 }
-        ensures ticks { result ≡ ticks_of self.profile self.rom (accesses_onward from to) }
+        ensures ticks { result ≡ ticks_of self.profile self.rom (onward from to) }
         ensures bound { result < 3 * 256 }
     {
         self.straight(from) + self.refill(to)

@@ -1,8 +1,8 @@
 //! R15: N Z C V I F in bits 31 to 26, a word address in bits 25 to 2, the mode in bits 1 and 0.
 ghost use Rattle.std.specs.Prelude.{◌≡◌, ◌%◌, ◌^◌, ◌<◌};
-ghost use Rattle.arm2_effect.specs.ProgramCounter.{address_of as is_address_of, ahead_of};
-ghost use Rattle.arm2_effect.specs.ProgramCounter.{flags_of as is_flags_of, jumped_of, mode_of as is_mode_of};
-ghost use Rattle.arm2_effect.specs.ProgramCounter.{psr_of as is_psr_of, r15_ahead, r15_of as is_r15_of};
+ghost use Rattle.arm2_effect.specs.ProgramCounter.{address_of, ahead_of};
+ghost use Rattle.arm2_effect.specs.ProgramCounter.{flags_of, jumped_of, mode_of};
+ghost use Rattle.arm2_effect.specs.ProgramCounter.{psr_of, r15_ahead, r15_of};
 ghost use Rattle.arm2_effect.specs.ProgramCounter.{restored_of};
 
 use crate::modes::Mode;
@@ -10,7 +10,7 @@ use arm2_decode::Flags;
 
 /// The address in R15 in bytes: a multiple of 4 below 2^26.
 pub fn address_of(r15: u32) -> u32
-    ensures address { result ≡ is_address_of r15 }
+    ensures address { result ≡ address_of r15 }
     ensures below { result < 2 ^ 26 }
     ensures aligned { result % 4 ≡ 0 }
 {
@@ -19,7 +19,7 @@ pub fn address_of(r15: u32) -> u32
 
 /// N Z C V I F, with F lowest: from 0 to 63.
 pub(crate) fn psr_of(r15: u32) -> u32
-    ensures psr { result ≡ is_psr_of r15 }
+    ensures psr { result ≡ psr_of r15 }
     ensures small { result < 64 }
 {
     r15 / 0x400_0000
@@ -27,14 +27,14 @@ pub(crate) fn psr_of(r15: u32) -> u32
 
 /// The mode in R15.
 pub fn mode_of(r15: u32) -> Mode
-    ensures { result ≡ is_mode_of r15 }
+    ensures { result ≡ mode_of r15 }
 {
     Mode::of(r15 % 4)
 }
 
 /// The condition flags in R15.
 pub fn flags_of(r15: u32) -> Flags
-    ensures { result ≡ is_flags_of r15 }
+    ensures { result ≡ flags_of r15 }
 {
     Flags {
         negative: r15 / 0x8000_0000 % 2 == 1,
@@ -62,7 +62,7 @@ pub fn r15_of(psr: u32, address: u32, mode: Mode) -> u32
     requires psr { psr < 64 }
     requires below { address < 2 ^ 26 }
     requires aligned { address % 4 ≡ 0 }
-    ensures { result ≡ is_r15_of psr address mode }
+    ensures { result ≡ r15_of psr address mode }
 {
     psr * 0x400_0000 + address + mode.number()
 }

@@ -1,10 +1,10 @@
 ghost use Rattle.std.specs.Prelude.{◌≡◌, map, option_map};
 ghost use Rattle.asm_text.specs.Pieces.{behind, piece_of};
-ghost use Rattle.asm_text.specs.Operands.{address_of, after_of, bang_of, based as based_of, before_of};
-ghost use Rattle.asm_text.specs.Operands.{address as address_by, closed_of, plain_of};
-ghost use Rattle.asm_text.specs.Operands.{signed_offset as signed_offset_of};
-ghost use Rattle.asm_text.specs.Operands.{number_offset as number_offset_of, offset_first};
-ghost use Rattle.asm_text.specs.Operands.{register_offset as register_offset_of, whole};
+ghost use Rattle.asm_text.specs.Operands.{address_of, after_of, bang_of, based, before_of};
+ghost use Rattle.asm_text.specs.Operands.{address, closed_of, plain_of};
+ghost use Rattle.asm_text.specs.Operands.{signed_offset};
+ghost use Rattle.asm_text.specs.Operands.{number_offset, offset_first};
+ghost use Rattle.asm_text.specs.Operands.{register_offset, whole};
 
 use crate::number::first_number;
 use crate::operand::first_shifting;
@@ -17,7 +17,7 @@ use arm2_decode::Register;
 type Offset = (bool, Distance);
 
 fn register_offset<'a, 'b>(up: bool, tokens: &'a [Token<'b>]) -> Option<(Offset, &'a [Token<'b>])>
-    ensures { option_map behind result ≡ register_offset_of up (map piece_of tokens.now) }
+    ensures { option_map behind result ≡ register_offset up (map piece_of tokens.now) }
 {
     let (m, rest) = first_register(tokens)?;
     let (shifting, rest) = first_shifting(rest)?;
@@ -31,7 +31,7 @@ fn register_offset<'a, 'b>(up: bool, tokens: &'a [Token<'b>]) -> Option<(Offset,
 }
 
 fn signed_offset<'a, 'b>(up: bool, tokens: &'a [Token<'b>]) -> Option<(Offset, &'a [Token<'b>])>
-    ensures { option_map behind result ≡ signed_offset_of up (map piece_of tokens.now) }
+    ensures { option_map behind result ≡ signed_offset up (map piece_of tokens.now) }
 {
     let (n, rest) = first_number(tokens)?;
     let distance = Distance::Number(n);
@@ -39,7 +39,7 @@ fn signed_offset<'a, 'b>(up: bool, tokens: &'a [Token<'b>]) -> Option<(Offset, &
 }
 
 fn number_offset<'a, 'b>(tokens: &'a [Token<'b>]) -> Option<(Offset, &'a [Token<'b>])>
-    ensures { option_map behind result ≡ number_offset_of (map piece_of tokens.now) }
+    ensures { option_map behind result ≡ number_offset (map piece_of tokens.now) }
 {
     match tokens {
         [Token::Sign(Mark::Minus), rest @ ..] => signed_offset(false, rest),
@@ -89,7 +89,7 @@ fn closed(tokens: &[Token<'_>]) -> Option<bool>
 }
 
 fn address_with(rn: Register, before: bool, write_back: bool, offset: Offset) -> Address
-    ensures { result ≡ address_by rn before write_back offset }
+    ensures { result ≡ address rn before write_back offset }
 {
     Address {
         rn,
@@ -128,7 +128,7 @@ fn after(user: bool, rn: Register, tokens: &[Token<'_>]) -> Option<Address>
 }
 
 fn based(user: bool, rn: Register, tokens: &[Token<'_>]) -> Option<Address>
-    ensures { result ≡ based_of user rn (map piece_of tokens.now) }
+    ensures { result ≡ based user rn (map piece_of tokens.now) }
 {
     match tokens {
         [Token::Sign(Mark::CloseBracket), rest @ ..] => after(user, rn, rest),

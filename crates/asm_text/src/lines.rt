@@ -2,8 +2,8 @@ ghost use Rattle.std.specs.Prelude.{◌≡◌, ◌∷◌, [], ◌<◌, ◌≤◌
 ghost use Rattle.std.specs.Prelude.{length, map};
 ghost use Rattle.std.specs.List.{list_all};
 ghost use Rattle.asm_text.specs.Pieces.{piece_of};
-ghost use Rattle.asm_text.specs.Statements.{behind_label as label_behind, body_len as body_length};
-ghost use Rattle.asm_text.specs.Statements.{is_comment_text, is_text, is_text_line as text_line, line_of};
+ghost use Rattle.asm_text.specs.Statements.{behind_label, body_len};
+ghost use Rattle.asm_text.specs.Statements.{is_comment_text, is_text, is_text_line, line_of};
 ghost use Rattle.asm_text.specs.Statements.{parsed};
 ghost use Rattle.asm_text.specs.Source.{feed_len, line_view, lines_of, no_return};
 
@@ -21,7 +21,7 @@ pub struct Line<'a> {
 }
 
 fn body_len(text: &[u8]) -> usize
-    ensures len { result ≡ body_length text.now }
+    ensures len { result ≡ body_len text.now }
     ensures within { result ≤ length text.now }
 {
     text.iter().take_while(|b| **b != b';').count()
@@ -52,16 +52,16 @@ fn are_comment_bytes(text: &[u8]) -> bool
 }
 
 fn is_text_line(text: &[u8]) -> bool
-    ensures { result ≡ text_line text.now }
+    ensures { result ≡ is_text_line text.now }
 {
     let (body, comment) = text.split_at(body_len(text));
     are_text_bytes(body) && are_comment_bytes(comment)
 }
 
 fn behind_label<'a>(alloc: Global, label: &'a [u8], tokens: &[Token<'a>]) -> Result<Line<'a>, Wrong>
-    ensures ok { IfOk result (λ line. label_behind label.now (map piece_of tokens.now) ≡ Ok (line_view line)) }
+    ensures ok { IfOk result (λ line. behind_label label.now (map piece_of tokens.now) ≡ Ok (line_view line)) }
     ensures err { IfErr result
-        (λ wrong. (wrong ≡ Wrong.Memory) ⊎ (label_behind label.now (map piece_of tokens.now) ≡ Err wrong)) }
+        (λ wrong. (wrong ≡ Wrong.Memory) ⊎ (behind_label label.now (map piece_of tokens.now) ≡ Err wrong)) }
 {
     match tokens {
         [] => Ok(Line {

@@ -1,8 +1,8 @@
 ghost use Rattle.std.specs.Prelude.{◌≡◌, ◌<◌, ◌≤◌, ◌^◌, IfSome, length, map, option_map};
 ghost use Rattle.asm_text.specs.Pieces.{behind, piece_of};
 ghost use Rattle.asm_text.specs.Operands.{behind_step, block_before, block_based, block_of, block_up};
-ghost use Rattle.asm_text.specs.Operands.{braced as braced_of, caret_of, first_step, list_behind, list_of};
-ghost use Rattle.asm_text.specs.Operands.{list_step, run_bits as run_bits_of, with_bits};
+ghost use Rattle.asm_text.specs.Operands.{braced, caret_of, first_step, list_behind, list_of};
+ghost use Rattle.asm_text.specs.Operands.{list_step, run_bits, with_bits};
 ghost use Rattle.asm_text.specs.declared.list.Place.TheVariants.{Start};
 
 use crate::names::Suffix;
@@ -13,7 +13,7 @@ use arm2_decode::Register;
 
 // The registers from one to another, as bits.
 fn run_bits(first: Register, last: Register) -> Option<u32>
-    ensures value { result ≡ run_bits_of first last }
+    ensures value { result ≡ run_bits first last }
     ensures fits { IfSome result (λ bits. bits < 2 ^ 16) }
 {
     let first = first.number();
@@ -50,7 +50,7 @@ pub enum Step {
 // A list with the registers from one to another.
 fn with_run(list: u32, first: Register, last: Register) -> Option<u32>
     requires { list < 2 ^ 16 }
-    ensures value { result ≡ with_bits list (run_bits_of first last) }
+    ensures value { result ≡ with_bits list (run_bits first last) }
     ensures fits { IfSome result (λ more. more < 2 ^ 16) }
 {
     let bits = run_bits(first, last)?;
@@ -171,7 +171,7 @@ fn braced(
     write_back: bool,
     tokens: &[Token<'_>],
 ) -> Option<BlockTransfer>
-    ensures { result ≡ braced_of load suffix rn write_back (map piece_of tokens.now) }
+    ensures { result ≡ braced load suffix rn write_back (map piece_of tokens.now) }
 {
     match tokens {
         [Token::Comma, Token::Sign(Mark::OpenBrace), rest @ ..] => {

@@ -1,5 +1,5 @@
 ghost use Rattle.std.specs.Prelude.{◌≡◌, length};
-ghost use Rattle.asm_text.specs.Names.{cond_name, cond_of, head_of, may_have as may_have_suffix, opcode_name};
+ghost use Rattle.asm_text.specs.Names.{cond_name, cond_of, head_of, may_have, opcode_name};
 ghost use Rattle.asm_text.specs.Names.{suffix_of, is_compare, is_block_suffix};
 
 use crate::table::{name_at, named_in};
@@ -188,7 +188,7 @@ fn orders_block(suffix: Suffix) -> bool
 
 /// Whether a word of the head may have the suffix.
 pub(crate) fn may_have(head: Head, suffix: Suffix) -> bool
-    ensures { result ≡ may_have_suffix head suffix }
+    ensures { result ≡ may_have head suffix }
 {
     match head {
         Head::Data(opcode) => match suffix {

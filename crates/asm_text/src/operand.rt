@@ -1,7 +1,7 @@
 ghost use Rattle.std.specs.Prelude.{◌≡◌, map, option_map};
 ghost use Rattle.asm_text.specs.Pieces.{behind, piece_of};
 ghost use Rattle.asm_text.specs.Operands.{amount_behind, compare_of, data_behind, data_of, factors_of};
-ghost use Rattle.asm_text.specs.Operands.{is_move, is_s, compare_rd as rd_of_compare, move_of, operand_of};
+ghost use Rattle.asm_text.specs.Operands.{is_move, is_s, compare_rd, move_of, operand_of};
 ghost use Rattle.asm_text.specs.Operands.{product_of, shift_by, shift_first, shift_words, shifting_first};
 ghost use Rattle.asm_text.specs.Operands.{sum_of, three_of, whole};
 ghost use Rattle.asm_text.specs.Registers.{register_first};
@@ -127,7 +127,7 @@ fn sets_flags(suffix: Suffix) -> bool
 }
 
 fn compare_rd(suffix: Suffix) -> Register
-    ensures { result ≡ rd_of_compare suffix }
+    ensures { result ≡ compare_rd suffix }
 {
     match suffix {
         Suffix::P => Register::R15,

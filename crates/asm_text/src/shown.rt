@@ -2,9 +2,9 @@ ghost use Rattle.std.specs.Prelude.{◌≡◌, ◌++◌, ◌∷◌, ◌≤◌, [
 ghost use Rattle.std.specs.Prelude.{length, map, true};
 ghost use Rattle.std.specs.List.{list_all};
 ghost use Rattle.asm_text.specs.Pieces.{piece_of, pieces, without_gap};
-ghost use Rattle.asm_text.specs.Shown.{is_shown, is_shown_text, is_upper as upper_is, parsed_shown, shown_in};
+ghost use Rattle.asm_text.specs.Shown.{is_shown, is_shown_text, is_upper, parsed_shown, shown_in};
 ghost use Rattle.asm_text.specs.Shown.{shown_result, upper_pieces};
-ghost use Rattle.asm_text.specs.Statements.{behind_word as statement_behind, line_of, operands_of, or_bad};
+ghost use Rattle.asm_text.specs.Statements.{behind_word, line_of, operands_of, or_bad};
 ghost use Rattle.asm_text.specs.Statements.{statement_of, with_word};
 ghost use Rattle.asm_text.specs.Words.{spelled_word_of};
 ghost use Rattle.asm_text.specs.Said.{said};
@@ -92,7 +92,7 @@ fn are_shown_bytes(text: &[u8]) -> bool
 }
 
 fn is_upper(text: &[u8]) -> bool
-    ensures { result ≡ upper_is text.now }
+    ensures { result ≡ is_upper text.now }
 {
     text.iter().all(|b| !b.is_ascii_lowercase())
 }
@@ -131,7 +131,7 @@ fn operands(word: Word, tokens: &[Token<'_>]) -> Option<Shown>
 }
 
 fn behind_word(word: Word, tokens: &[Token<'_>]) -> Option<Shown>
-    ensures { result ≡ shown_result (statement_behind word (map piece_of tokens.now)) }
+    ensures { result ≡ shown_result (behind_word word (map piece_of tokens.now)) }
 {
     match tokens {
         [Token::Gap, rest @ ..] => operands(word, rest),
@@ -142,7 +142,7 @@ fn behind_word(word: Word, tokens: &[Token<'_>]) -> Option<Shown>
 // What a word in upper case says with what stands behind it.
 #[tactic(auto, using(crate::proofs::ShownLaws::upper_spelled))]
 fn word_statement(text: &[u8], behind: &[Token<'_>]) -> Option<Shown>
-    requires { upper_is text.now ≡ true }
+    requires { is_upper text.now ≡ true }
     ensures { result ≡ shown_result (with_word (spelled_word_of text.now) (map piece_of behind.now)) }
 {
     match read_word(text) {

@@ -4,9 +4,9 @@ ghost use Rattle.asm_text.specs.Pieces.{is_name, piece_of};
 ghost use Rattle.asm_text.specs.Operands.{alone, is_byte, is_user};
 ghost use Rattle.asm_text.specs.Said.{said, target_of};
 ghost use Rattle.asm_text.specs.Statements.{action_of, adr_said, code_said, dcd_said, org_said, refers};
-ghost use Rattle.asm_text.specs.Statements.{behind_word as statement_behind, operands_of};
-ghost use Rattle.asm_text.specs.Statements.{only_number as only_number_of, only_target as only_target_of};
-ghost use Rattle.asm_text.specs.Statements.{is_label as label_is, plain_said, run_target as target_of_run};
+ghost use Rattle.asm_text.specs.Statements.{behind_word, operands_of};
+ghost use Rattle.asm_text.specs.Statements.{only_number, only_target};
+ghost use Rattle.asm_text.specs.Statements.{is_label, plain_said, run_target};
 ghost use Rattle.asm_text.specs.Statements.{target_first, with_value, single_said, single_with, statement_of};
 ghost use Rattle.asm_text.specs.Statements.{value_step, values_in};
 ghost use Rattle.asm_text.specs.declared.statement.Expects.TheVariants.{Start};
@@ -66,7 +66,7 @@ fn letters(text: &[u8]) -> bool
 
 /// Whether a text is a label: a letter or `_`, then letters, digits and `_`, at most 32 in all.
 pub(crate) fn is_label(text: &[u8]) -> bool
-    ensures { result ≡ label_is text.now }
+    ensures { result ≡ is_label text.now }
 {
     match text {
         [first, rest @ ..] => {
@@ -77,7 +77,7 @@ pub(crate) fn is_label(text: &[u8]) -> bool
 }
 
 fn run_target<'a>(text: &'a [u8]) -> Option<Value<'a>>
-    ensures { option_map target_of result ≡ target_of_run text.now }
+    ensures { option_map target_of result ≡ run_target text.now }
 {
     if let Some(n) = read_number(text) {
         Some(Value::Number(n))
@@ -90,7 +90,7 @@ fn run_target<'a>(text: &'a [u8]) -> Option<Value<'a>>
 
 // The number that is all of some tokens.
 fn only_number(tokens: &[Token<'_>]) -> Option<u32>
-    ensures { result ≡ only_number_of (map piece_of tokens.now) }
+    ensures { result ≡ only_number (map piece_of tokens.now) }
 {
     let (n, rest) = first_number(tokens)?;
     match rest {
@@ -129,7 +129,7 @@ fn alone_target<'a>(value: Value<'a>, rest: &[Token<'_>]) -> Option<Value<'a>>
 
 // The number or label that is all of some tokens.
 fn only_target<'a>(tokens: &[Token<'a>]) -> Option<Value<'a>>
-    ensures { option_map target_of result ≡ only_target_of (map piece_of tokens.now) }
+    ensures { option_map target_of result ≡ only_target (map piece_of tokens.now) }
 {
     let (value, rest) = first_target(tokens)?;
     alone_target(value, rest)
@@ -326,9 +326,9 @@ fn operands<'a>(
 }
 
 fn behind_word<'a>(alloc: Global, word: Word, tokens: &[Token<'a>]) -> Result<Statement<'a>, Wrong>
-    ensures ok { IfOk result (λ s. statement_behind word (map piece_of tokens.now) ≡ Ok (said s)) }
+    ensures ok { IfOk result (λ s. behind_word word (map piece_of tokens.now) ≡ Ok (said s)) }
     ensures err { IfErr result
-        (λ wrong. (wrong ≡ Wrong.Memory) ⊎ (statement_behind word (map piece_of tokens.now) ≡ Err wrong)) }
+        (λ wrong. (wrong ≡ Wrong.Memory) ⊎ (behind_word word (map piece_of tokens.now) ≡ Err wrong)) }
 {
     match tokens {
         [Token::Gap, rest @ ..] => match operands(alloc, word, rest)? {

@@ -3,8 +3,8 @@ ghost use Rattle.std.specs.Prelude.{[], List, false};
 ghost use Rattle.std.specs.List.{prefix_len};
 ghost use Rattle.asm_text.specs.Pieces.{is_blank, is_name, mark_of, pieces, piece_of, Piece, first_blank};
 ghost use Rattle.asm_text.specs.Lines.{Written, WellSpaced};
-ghost use Rattle.asm_text.specs.Statements.{begins_blank_or_ends as blank_or_end, past};
-ghost use Rattle.asm_text.specs.Statements.{word_ends as line_word_ends};
+ghost use Rattle.asm_text.specs.Statements.{begins_blank_or_ends, past};
+ghost use Rattle.asm_text.specs.Statements.{word_ends};
 
 use std::alloc::{AllocError, Global};
 
@@ -110,7 +110,7 @@ fn after_name(text: &[u8]) -> &[u8]
 }
 
 fn begins_blank_or_ends(text: &[u8]) -> bool
-    ensures { result ≡ blank_or_end text.now }
+    ensures { result ≡ begins_blank_or_ends text.now }
 {
     match text {
         [] => true,
@@ -120,7 +120,7 @@ fn begins_blank_or_ends(text: &[u8]) -> bool
 
 /// Whether a blank or nothing stands behind the word of a line, or where a word would end.
 pub(crate) fn word_ends(line: &[u8]) -> bool
-    ensures { result ≡ line_word_ends line.now }
+    ensures { result ≡ word_ends line.now }
 {
     begins_blank_or_ends(after_name(after_blanks(after_name(line))))
 }

@@ -1,6 +1,6 @@
 ghost use Rattle.std.specs.Prelude.{◌≡◌, ℕ, List, Some, IfSome, IfOk};
 ghost use Rattle.asm_text.specs.Words.{IsSpelling, IsWord, branch_of, plain_of, spelled_word_of, whole_cond};
-ghost use Rattle.asm_text.specs.Words.{with_suffix as suffixed, is_one_case as one_case, word_of};
+ghost use Rattle.asm_text.specs.Words.{with_suffix, is_one_case, word_of};
 ghost use Rattle.asm_text.specs.Names.{suffix_of};
 ghost use Rattle.std.specs.Prelude.{◌||◌};
 ghost use Rattle.std.specs.Str.{bytes_eq};
@@ -51,7 +51,7 @@ fn branch(text: &[u8]) -> Option<Word>
 }
 
 fn with_suffix(head: Head, cond: Cond, text: &[u8]) -> Option<Word>
-    ensures { result ≡ suffixed head cond (suffix_of text.now) }
+    ensures { result ≡ with_suffix head cond (suffix_of text.now) }
 {
     let suffix = named_suffix(text)?;
     if may_have(head, suffix) {

@@ -6,7 +6,7 @@ ghost use Rattle.clap.specs.Words.{kind_of, subcommand_rows_of};
 ghost use Rattle.clap.specs.declared.builder.command.Command.TheViews.{out-Command};
 ghost use Rattle.command_line.specs.Line.{arcwcet_command, asked_asm, asked_by, asked_check, asked_in};
 ghost use Rattle.command_line.specs.Line.{asked_of, asm_command, bound_command, check_command, debug_command};
-ghost use Rattle.command_line.specs.Line.{names_in as names_of_rows, names_of, priced_command, profile_rule};
+ghost use Rattle.command_line.specs.Line.{names_in, names_of, priced_command, profile_rule};
 ghost use Rattle.command_line.specs.Line.{run_command, trace_command, wanted};
 
 use crate::line::{LineFault, Names, Request};
@@ -110,7 +110,7 @@ fn arcwcet<'a>(alloc: Global) -> Result<Command<'a>, AllocError>
 
 /// The names of a profile's file, if there is one, and of two others.
 fn names_in<'a>(values: &ArgMatches<'a>, second: &str) -> Option<Names<'a>>
-    ensures { option_map names_of result ≡ names_of_rows second.now (rows_of (found_of values.now)) }
+    ensures { option_map names_of result ≡ names_in second.now (rows_of (found_of values.now)) }
 {
     let profile = values.get_str("profile");
     let first = values.get_str("source")?;

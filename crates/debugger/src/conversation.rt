@@ -1,7 +1,7 @@
 ghost use Rattle.std.specs.Prelude.{◌≡◌, [], ◌++◌, IfOk, IfErr, OnOk};
 ghost use Rattle.asm_text.specs.Source.{lines_of};
 ghost use Rattle.trace_text.specs.TraceText.{Adds};
-ghost use Rattle.debugger.specs.Conversation.{Converses, Tells, is_quit as quits, refusal_text};
+ghost use Rattle.debugger.specs.Conversation.{Converses, Tells, is_quit, refusal_text};
 ghost use Rattle.debugger.specs.SessionState.{begun};
 
 use crate::fault::{DebugFault, name_of};
@@ -13,7 +13,7 @@ use std::alloc::{AllocError, Global};
 
 // Whether the line's one word is `quit`.
 fn is_quit(line: &[u8]) -> bool
-    ensures { result ≡ quits line.now }
+    ensures { result ≡ is_quit line.now }
 {
     let Some((word, rest)) = first_word(line) else {
         return false;

@@ -1,7 +1,7 @@
 ghost use Rattle.std.specs.Prelude.{◌≡◌, ◌+◌, ◌*◌, ◌^◌, ◌≤◌, IfOk};
-ghost use Rattle.debugger.specs.Commands.{IsInRange, address_in, command_of as line_says, line_command};
-ghost use Rattle.debugger.specs.Commands.{line_named, number_in as number_within, one_word as one_says};
-ghost use Rattle.debugger.specs.Commands.{switched, three_words as three_say, two_words as two_say};
+ghost use Rattle.debugger.specs.Commands.{IsInRange, address_in, command_of, line_command};
+ghost use Rattle.debugger.specs.Commands.{line_named, number_in, one_word};
+ghost use Rattle.debugger.specs.Commands.{switched, three_words, two_words};
 
 use crate::command::Command;
 use crate::fault::DebugFault;
@@ -12,7 +12,7 @@ use ioc::Lines;
 const END: u32 = 0x400_0000;
 
 fn number_in(low: u32, high: u32, word: &[u8]) -> Result<u32, DebugFault>
-    ensures number { result ≡ number_within low high word.now }
+    ensures number { result ≡ number_in low high word.now }
     ensures bounds { IfOk result (λ n. (low ≤ n) × (n ≤ high)) }
 {
     match read_number(word) {
@@ -34,7 +34,7 @@ fn address_of(count: u32, word: &[u8]) -> Result<u32, DebugFault>
 }
 
 fn one_word(name: &[u8]) -> Result<Command, DebugFault>
-    ensures command { result ≡ one_says name.now }
+    ensures command { result ≡ one_word name.now }
     ensures range { IfOk result IsInRange }
 {
     if name == b"step".as_slice() {
@@ -51,7 +51,7 @@ fn one_word(name: &[u8]) -> Result<Command, DebugFault>
 }
 
 fn two_words(name: &[u8], number: &[u8]) -> Result<Command, DebugFault>
-    ensures command { result ≡ two_say name.now number.now }
+    ensures command { result ≡ two_words name.now number.now }
     ensures range { IfOk result IsInRange }
 {
     if name == b"step".as_slice() {
@@ -119,7 +119,7 @@ fn line(name: &[u8], state: &[u8]) -> Result<Command, DebugFault>
 }
 
 fn three_words(name: &[u8], first: &[u8], second: &[u8]) -> Result<Command, DebugFault>
-    ensures command { result ≡ three_say name.now first.now second.now }
+    ensures command { result ≡ three_words name.now first.now second.now }
     ensures range { IfOk result IsInRange }
 {
     if name == b"mem".as_slice() {
@@ -137,7 +137,7 @@ fn three_words(name: &[u8], first: &[u8], second: &[u8]) -> Result<Command, Debu
 
 /// The command that a line says, without its end.
 pub(crate) fn read_command(line: &[u8]) -> Result<Command, DebugFault>
-    ensures command { result ≡ line_says line.now }
+    ensures command { result ≡ command_of line.now }
     ensures range { IfOk result IsInRange }
 {
     let Some((name, rest)) = first_word(line) else {

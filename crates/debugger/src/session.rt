@@ -4,7 +4,7 @@ ghost use Rattle.std.specs.List.{prefix_len};
 ghost use Rattle.trace_text.specs.TraceText.{registers_text, ticks_text};
 ghost use Rattle.debugger.specs.Answers.{Answers, AnswersLine, AnswersRun, AnswersStep, AreSeen, HasGap};
 ghost use Rattle.debugger.specs.Answers.{IsStopped, Refuses, RefusesLine, Sets, ShowsSpan, breaks_text};
-ghost use Rattle.debugger.specs.Answers.{seen as word_seen, switched as line_switched};
+ghost use Rattle.debugger.specs.Answers.{seen, switched};
 ghost use Rattle.debugger.specs.Commands.{IsInRange};
 ghost use Rattle.debugger.specs.SessionState.{Ascending, begun, moved_on, toggled};
 
@@ -247,7 +247,7 @@ impl Session {
     // The word that a privileged load finds in RAM or ROM.
     fn seen(&self, address: u32) -> Option<u32>
         requires { address < 2 ^ 26 }
-        ensures { result ≡ word_seen self.now.machine.bus.memc address }
+        ensures { result ≡ seen self.now.machine.bus.memc address }
     {
         let memc = self.machine.memc();
         match memc.locate(address, false, false) {
@@ -288,7 +288,7 @@ impl Session {
 
 // The lines, with one of them active or not.
 fn switched(line: Lines, on: bool, lines: Lines) -> Lines
-    ensures { result ≡ line_switched line on lines }
+    ensures { result ≡ switched line on lines }
 {
     let mut lines = lines;
     lines.set(line, on);

@@ -1,34 +1,34 @@
 ghost use Rattle.std.specs.Prelude.{◌≡◌, ◌∷◌, [], ◌≤◌, ◌⊎◌, not, drop, length, MatchOption};
 ghost use Rattle.std.specs.List.{prefix_len};
 ghost use Rattle.asm_text.specs.Numbers.{capped, digits_of, number_by, run_number};
-ghost use Rattle.asm_text.specs.Pieces.{is_blank as blank};
+ghost use Rattle.asm_text.specs.Pieces.{is_blank};
 ghost use Rattle.debugger.specs.Words.{number_of, words_of};
 
 // The first number that has no 32 bits.
 const LIMIT: u64 = 0x1_0000_0000;
 
 fn is_blank(b: u8) -> bool
-    ensures { result ≡ blank b }
+    ensures { result ≡ is_blank b }
 {
     b == b' ' || b == b'\t'
 }
 
 fn blank_len(text: &[u8]) -> usize
-    ensures len { result ≡ prefix_len blank text.now }
+    ensures len { result ≡ prefix_len is_blank text.now }
     ensures within { result ≤ length text.now }
 {
     text.iter().take_while(|b| is_blank(**b)).count()
 }
 
 fn word_len(text: &[u8]) -> usize
-    ensures len { result ≡ prefix_len (λ b. not (blank b)) text.now }
+    ensures len { result ≡ prefix_len (λ b. not (is_blank b)) text.now }
     ensures within { result ≤ length text.now }
 {
     text.iter().take_while(|b| !is_blank(**b)).count()
 }
 
 fn without_blanks(text: &[u8]) -> &[u8]
-    ensures { result.now ≡ drop (prefix_len blank text.now) text.now }
+    ensures { result.now ≡ drop (prefix_len is_blank text.now) text.now }
 {
     &text[blank_len(text)..]
 }

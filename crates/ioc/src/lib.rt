@@ -9,8 +9,8 @@ mod lines;
 mod timers;
 
 ghost use Rattle.std.specs.Prelude.{◌≡◌, ◌≤◌, ◌<◌};
-ghost use Rattle.ioc.specs.Interrupts.{Controller, fresh, bit_where as bit_of, status_a as is_status_a};
-ghost use Rattle.ioc.specs.Interrupts.{status_b as is_status_b, status_f as is_status_f, fiq_of, irq_of};
+ghost use Rattle.ioc.specs.Interrupts.{Controller, fresh, bit_where, status_a};
+ghost use Rattle.ioc.specs.Interrupts.{status_b, status_f, fiq_of, irq_of};
 ghost use Rattle.ioc.specs.Interrupts.{shares, with_lines, with_flyback, advanced};
 ghost use Rattle.ioc.specs.Registers.{read_at, read_of, write_at, write_of, is_register};
 
@@ -208,7 +208,7 @@ impl Ioc {
     }
 
     fn status_a(&self) -> u8
-        ensures { result ≡ is_status_a self.now }
+        ensures { result ≡ status_a self.now }
     {
         let lines = (self.lines.bits() % 4) as u8;
         let a2 = bit_where(self.a2_rose, A2);
@@ -219,13 +219,13 @@ impl Ioc {
     }
 
     fn status_b(&self) -> u8
-        ensures { result ≡ is_status_b self.now }
+        ensures { result ≡ status_b self.now }
     {
         (self.lines.bits() / 0x100 % 0x100) as u8
     }
 
     fn status_f(&self) -> u8
-        ensures { result ≡ is_status_f self.now }
+        ensures { result ≡ status_f self.now }
     {
         let lines = self.lines.bits();
         (lines / 0x1_0000 % 0x40 + lines / 0x100 % 2 * 0x40) as u8 + ALWAYS
@@ -234,7 +234,7 @@ impl Ioc {
 
 // A bit of a status that is set where its condition holds.
 fn bit_where(on: bool, bit: u8) -> u8
-    ensures bit { result ≡ bit_of on bit }
+    ensures bit { result ≡ bit_where on bit }
     ensures most { result ≤ bit }
 {
     if on { bit } else { 0 }

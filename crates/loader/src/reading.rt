@@ -3,7 +3,7 @@ ghost use Rattle.std.specs.Prelude.{None, IsTrue, IfOk, IfErr, OnOk, OnErr, drop
 ghost use Rattle.byteorder.specs.Endian.{little_number};
 ghost use Rattle.loader.specs.Image.{runs_of};
 ghost use Rattle.loader.specs.ImageBytes.{Segment, cut_fault, end_fault, head_address, head_count};
-ghost use Rattle.loader.specs.ImageBytes.{image_bytes, image_read, is_taken, lies_in_memory as is_in_memory};
+ghost use Rattle.loader.specs.ImageBytes.{image_bytes, image_read, is_taken, lies_in_memory};
 ghost use Rattle.loader.specs.ImageBytes.{numbers, overlaps, segment_fault, segments_read, with_words};
 ghost use Rattle.loader.specs.Spelling.{Spell};
 
@@ -98,7 +98,7 @@ impl Head {
 
 // Whether a segment lies below I/O, or above it and below 4000000.
 fn lies_in_memory(address: u32, count: u32) -> bool
-    ensures { result ≡ is_in_memory address count }
+    ensures { result ≡ lies_in_memory address count }
 {
     let end = address as u64 + 4 * count as u64;
     end <= 0x300_0000 || (address >= 0x340_0000 && end <= 0x400_0000)

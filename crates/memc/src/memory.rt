@@ -3,7 +3,7 @@ ghost use Rattle.memc.specs.Paged.{page_at, place_of, IsWhole};
 ghost use Rattle.memc.specs.Memory.{located, logical_at, physical_at, written_at, shift_of_size, IsStart};
 ghost use Rattle.memc.specs.Memory.{IsOutOfRange, IsMemorySpot, IsRamSpot, Fits, word_at, stored, with_map};
 ghost use Rattle.memc.specs.Memory.{without_page, translated, with_control, with_rom, rom_word, last_word};
-ghost use Rattle.memc.specs.Memory.{control_of, allowed as is_allowed};
+ghost use Rattle.memc.specs.Memory.{control_of, allowed};
 
 use crate::pages::{Entry, Pages};
 use crate::spots::{MapFault, MemcFault, PageSize, Refused, Spot};
@@ -303,7 +303,7 @@ impl Memc {
 
     // Whether a level of protection lets an access pass.
     fn allowed(&self, level: u8, user: bool, store: bool) -> bool
-        ensures { result ≡ is_allowed self.now.control.system level user store }
+        ensures { result ≡ allowed self.now.control.system level user store }
     {
         !user
             || level == 0

@@ -1,7 +1,7 @@
 // The position in a frame: times in sixths of a tick, `ticks` in whole ticks.
 
 ghost use Rattle.std.specs.Prelude.{◌≡◌, ◌≤◌, ◌<◌, ◌*◌, ◌^◌};
-ghost use Rattle.vidc.specs.Frame.{arrivals as arrivals_in, position_after as position_in};
+ghost use Rattle.vidc.specs.Frame.{arrivals, position_after};
 ghost use Rattle.vidc.specs.Video.{raster_of};
 
 use crate::PixelRate;
@@ -35,7 +35,7 @@ pub(crate) fn rasters(raster: u32, count: u32) -> u32
 // The position so many ticks after another.
 pub(crate) fn position_after(ticks: u32, frame: u32, from: u32) -> u32
     requires { from < frame }
-    ensures position { result ≡ position_in (ticks * 6) frame from }
+    ensures position { result ≡ position_after (ticks * 6) frame from }
     ensures within { result < frame }
 {
     ((from as u64 + ticks as u64 * 6) % frame as u64) as u32
@@ -46,7 +46,7 @@ pub(crate) fn arrivals(ticks: u32, frame: u32, mark: u32, from: u32) -> u32
     requires frame { 8 ≤ frame }
     requires mark { mark < frame }
     requires from { from < frame }
-    ensures { result ≡ arrivals_in (ticks * 6) frame mark from }
+    ensures { result ≡ arrivals (ticks * 6) frame mark from }
 {
     let frame = frame as u64;
     // as if the position had last been at the mark so long ago

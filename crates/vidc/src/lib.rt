@@ -9,9 +9,9 @@ mod frame;
 mod law;
 
 ghost use Rattle.std.specs.Prelude.{◌≡◌, ◌≤◌, ◌<◌, ◌^◌};
-ghost use Rattle.vidc.specs.Video.{Video, InRange, fresh, rate_of, value_of, frame as frame_at};
-ghost use Rattle.vidc.specs.Video.{flyback as flyback_at, runs as is_running, written, advanced};
-ghost use Rattle.vidc.specs.Video.{flybacks as flybacks_in};
+ghost use Rattle.vidc.specs.Video.{Video, InRange, fresh, rate_of, value_of, frame};
+ghost use Rattle.vidc.specs.Video.{flyback, runs, written, advanced};
+ghost use Rattle.vidc.specs.Video.{flybacks};
 
 pub use law::ticks_add_up;
 use std::marker::Model;
@@ -109,7 +109,7 @@ impl Vidc {
     /// rises meanwhile. It rises where the raster after the one that vertical display end names begins,
     /// and never where that is no raster of the frame.
     pub fn advance(&mut self, ticks: u32) -> u32
-        ensures flybacks { result ≡ flybacks_in ticks self.old }
+        ensures flybacks { result ≡ flybacks ticks self.old }
         ensures never { self.old.vertical_cycle ≤ self.old.display_end → result ≡ 0 }
         ensures advanced { self.new ≡ advanced ticks self.old }
     {
@@ -122,14 +122,14 @@ impl Vidc {
 
     // Whether the position moves.
     fn runs(&self) -> bool
-        ensures { result ≡ is_running self.now }
+        ensures { result ≡ runs self.now }
     {
         self.horizontal_written && self.vertical_written
     }
 
     // Sixths of a tick in a frame.
     fn frame(&self) -> u32
-        ensures size { result ≡ frame_at self.now }
+        ensures size { result ≡ frame self.now }
         ensures within { self.now.position < result }
         ensures below { result < 2 ^ 26 }
     {
@@ -139,7 +139,7 @@ impl Vidc {
 
     // The rises of flyback while so many ticks pass.
     fn flybacks(&self, ticks: u32) -> u32
-        ensures flybacks { result ≡ flybacks_in ticks self.now }
+        ensures flybacks { result ≡ flybacks ticks self.now }
         ensures never { self.now.vertical_cycle ≤ self.now.display_end → result ≡ 0 }
     {
         if !self.runs() {
