@@ -28,6 +28,5 @@ module _ {S : Type 0} (reads : Reading S) where
   FailsToRead old [] fault new = ⊥
   FailsToRead old (name ∷ names) fault new =
       (reads old name (Err fault) new)
-      ⊎
-      ((between : S) × (file : List ℕ) × reads old name (Ok file) between
+      ⊎ ((between : S) × (file : List ℕ) × reads old name (Ok file) between
       × FailsToRead between names fault new)

@@ -214,8 +214,7 @@ pub record RunsAsm {S O : Type 0} (reads : Reading S) (writes : Writing S) (take
   pub failed : status ≡ 4
       → FailsToTell reads writes source image old new (taken before) (taken after) (failures before)
       (failures after)
-      ⊎
-      ((FailsToWrite reads writes source image old new
+      ⊎ ((FailsToWrite reads writes source image old new
       ⊎ FailsToRead reads old (source ∷ []) store_fault.Device new)
       × (after ≡ before))
   pub starved : status ≡ 3 → IsStarvedRun reads (source ∷ []) old new × (after ≡ before)
@@ -267,11 +266,9 @@ RunsDebug reads remaining taken failures profile source machine old new heard_ol
     (in_front profile (source ∷ machine ∷ [])) old new heard_old heard_new commands
     × Runs reads taken failures (IsSessionOf commands) HasNoRun
     (in_front profile (source ∷ machine ∷ [])) old new before after status)
-    ⊎
-    ((FailsBefore reads remaining
+    ⊎ ((FailsBefore reads remaining
     (in_front profile (source ∷ machine ∷ [])) old new heard_old heard_new status
-    ⊎
-    (FailsToHear reads remaining
+    ⊎ (FailsToHear reads remaining
     (in_front profile (source ∷ machine ∷ [])) old new heard_old heard_new status
     ⊎ ((status ≡ 3) × (new ≡ old) × (heard_new ≡ heard_old))))
     × (after ≡ before))

@@ -57,9 +57,8 @@ pub(crate) fn run_run<S: Store, O: Output, E: Output>(
     err: &mut E,
 ) -> u8
     ensures ran { RunsMachine ShowsRegisters S.read_gives O.taken O.failures
-        (option_map
-        (λ n.
-        n.now) names.entry.profile) names.entry.first.now names.entry.second.now store.old store.new out.old out.new result }
+        (option_map (λ n. n.now) names.entry.profile)
+        names.entry.first.now names.entry.second.now store.old store.new out.old out.new result }
     ensures silent { result ≡ 0 → err.new ≡ err.old }
 {
     let files = match read_files(alloc, names, store) {
@@ -79,9 +78,8 @@ pub(crate) fn run_trace<S: Store, O: Output, E: Output>(
     err: &mut E,
 ) -> u8
     ensures ran { RunsMachine ShowsSteps S.read_gives O.taken O.failures
-        (option_map
-        (λ n.
-        n.now) names.entry.profile) names.entry.first.now names.entry.second.now store.old store.new out.old out.new result }
+        (option_map (λ n. n.now) names.entry.profile)
+        names.entry.first.now names.entry.second.now store.old store.new out.old out.new result }
     ensures silent { result ≡ 0 → err.new ≡ err.old }
 {
     let files = match read_files(alloc, names, store) {
@@ -136,9 +134,8 @@ pub(crate) fn run_bound<S: Store, O: Output, E: Output>(
     err: &mut E,
 ) -> u8
     ensures ran { RunsBound S.read_gives O.taken O.failures
-        (option_map
-        (λ n.
-        n.now) names.entry.profile) names.entry.first.now names.entry.second.now store.old store.new out.old out.new result }
+        (option_map (λ n. n.now) names.entry.profile)
+        names.entry.first.now names.entry.second.now store.old store.new out.old out.new result }
     ensures silent { result ≡ 0 → err.new ≡ err.old }
 {
     let files = match read_files(alloc, names, store) {
@@ -161,9 +158,8 @@ pub(crate) fn run_check<S: Store, O: Output, E: Output>(
     err: &mut E,
 ) -> u8
     ensures ran { RunsCheck S.read_gives O.taken O.failures
-        (option_map
-        (λ n.
-        n.now) names.entry.profile) names.entry.first.now names.entry.second.now cert.now store.old store.new out.old out.new result }
+        (option_map (λ n. n.now) names.entry.profile)
+        names.entry.first.now names.entry.second.now cert.now store.old store.new out.old out.new result }
     ensures silent { result ≡ 0 → err.new ≡ err.old }
 {
     let files = match read_check_files(alloc, names, cert, store) {

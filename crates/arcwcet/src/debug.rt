@@ -21,7 +21,8 @@ fn told(
     commands: &[u8],
     profile: Profile,
 ) -> Result<Vec<u8>, ReportFault>
-    ensures told { IfOk result (λ text. IsDebugReport source.now machine.now commands.now profile text.items) }
+    ensures told { IfOk result
+        (λ text. IsDebugReport source.now machine.now commands.now profile text.items) }
     ensures fault { IfErr result
         (λ e. (e ≢ ReportFault.Device) × IsRunRefused source.now machine.now profile e) }
     ensures only { IsRunnable source.now machine.now profile → IfErr result (λ e. e ≡ ReportFault.Memory) }

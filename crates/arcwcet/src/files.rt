@@ -86,7 +86,8 @@ pub(crate) fn read_check_files<S: Store>(
         (λ f. ReadsAll S.read_gives store.old
         (in_front (option_map (λ n. n.now) names.entry.profile)
         (names.entry.first.now ∷ names.entry.second.now ∷ cert.now ∷ []))
-        (in_front (option_map (λ v. v.items) f.handler.profile) (f.handler.first.items ∷ f.handler.second.items ∷ f.cert.items ∷ [])) store.new) }
+        (in_front (option_map (λ v. v.items) f.handler.profile)
+        (f.handler.first.items ∷ f.handler.second.items ∷ f.cert.items ∷ [])) store.new) }
     ensures fault { IfErr result
         (λ e. FailsToRead S.read_gives store.old
         (in_front (option_map (λ n. n.now) names.entry.profile)

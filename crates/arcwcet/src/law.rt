@@ -12,5 +12,6 @@ pub fn certificates_are_accepted()
     ensures checkable { (source statement text : List ℕ) (profile : Profile)
         → IsReport source statement profile text → IsCheckable source statement text profile }
     ensures yes { (source statement text : List ℕ) (profile : Profile) (verdict : Verdict)
-        → IsReport source statement profile text → IsJudged source statement text profile verdict → verdict ≡ Yes }
+        → IsReport source statement profile text → IsJudged source statement text profile verdict
+        → verdict ≡ Yes }
 {}

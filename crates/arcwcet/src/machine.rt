@@ -118,7 +118,8 @@ fn shown_run(
 fn run_text(alloc: Global, placed: &mut Placed) -> Result<Shown, ReportFault>
     ensures shown { (source machine : List ℕ) (profile : Profile)
         → IsPlaced source machine profile placed.old.file placed.old.machine
-        → IfOk result (λ s. IsMachineReport ShowsRegisters source machine profile s.done (string_bytes s.text)) }
+        → IfOk result
+        (λ s. IsMachineReport ShowsRegisters source machine profile s.done (string_bytes s.text)) }
     ensures memory { IfErr result (λ e. e ≡ ReportFault.Memory) }
 {
     let inputs = placed.file.inputs(alloc)?;
@@ -172,8 +173,7 @@ fn print<O: Output>(shown: &Shown, out: &mut O) -> Result<bool, ReportFault>
         × Appends (O.taken out.old) (O.taken out.new) (string_bytes shown.now.text)) }
     ensures device { IfErr result
         (λ e. (e ≡ ReportFault.Device)
-        ×
-        (TakesFront (O.taken out.old) (O.taken out.new) (string_bytes shown.now.text)
+        × (TakesFront (O.taken out.old) (O.taken out.new) (string_bytes shown.now.text)
         × FailsSince (O.failures out.old) (O.failures out.new))) }
 {
     match write_whole(out, shown.text.as_bytes()) {

@@ -56,7 +56,8 @@ pub fn program<S: Store, I: Read, O: Output, E: Output>(
 
     // What the words ask for was done.
     ensures done { (asked : Asked) → asked_in words.now ≡ Some asked
-        → RunsAsked S.read_gives S.write_gives I.remaining O.taken O.failures asked store.old store.new input.old input.new out.old out.new result }
+        → RunsAsked S.read_gives S.write_gives I.remaining O.taken O.failures asked store.old store.new
+        input.old input.new out.old out.new result }
 
     // Nothing is told at 0.
     ensures silent { result ≡ 0 → err.new ≡ err.old }

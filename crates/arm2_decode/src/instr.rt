@@ -22,9 +22,8 @@ pub struct Multiply {
     pub rs: Register,
     /// Bits 3 to 0.
     pub rm: Register,
-    ghost allocated: { multiply_clash (bit_of accumulate) (register_number rd) (register_number rn) (register_number rs)
-        (register_number rm)
-        ≡ 0 },
+    ghost allocated: { multiply_clash (bit_of accumulate) (register_number rd) (register_number rn)
+        (register_number rs) (register_number rm) ≡ 0 },
 }
 
 /// Data processing with a register that is shifted by an amount in the word.
@@ -116,9 +115,8 @@ pub struct SingleImmediate {
     pub rd: Register,
     /// In bytes, from 0 to 4095; bits 11 to 0.
     pub offset: u32,
-    ghost allocated: { single_clash (bit_of before) (bit_of byte) (bit_of write_back) (bit_of load) (register_number rn)
-        (register_number rd)
-        ≡ 0 },
+    ghost allocated: { single_clash (bit_of before) (bit_of byte) (bit_of write_back) (bit_of load)
+        (register_number rn) (register_number rd) ≡ 0 },
     ghost offset_fits: { offset < 2 ^ 12 },
 }
 

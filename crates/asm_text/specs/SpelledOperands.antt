@@ -229,8 +229,7 @@ Listed spells (a ∷ b ∷ more) ps =
 abbrev pub SpellsRun : Register × Register → List Piece → Type 0
 SpellsRun run ps =
     ((a : List ℕ) × (ps ≡ Run a ∷ []) × IsRegister a run.0 × (run.1 ≡ run.0))
-    ⊎
-    ((a b : List ℕ) × (ps ≡ Run a ∷ Sign Minus ∷ Run b ∷ []) × IsRegister a run.0 × IsRegister b run.1
+    ⊎ ((a b : List ℕ) × (ps ≡ Run a ∷ Sign Minus ∷ Run b ∷ []) × IsRegister a run.0 × IsRegister b run.1
     × (register_number run.0 ≤ register_number run.1))
 
 -- the bits from the number of the first register to that of the last

@@ -59,7 +59,8 @@ fn is_text_line(text: &[u8]) -> bool
 }
 
 fn behind_label<'a>(alloc: Global, label: &'a [u8], tokens: &[Token<'a>]) -> Result<Line<'a>, Wrong>
-    ensures ok { IfOk result (λ line. behind_label label.now (map piece_of tokens.now) ≡ Ok (line_view line)) }
+    ensures ok { IfOk result
+        (λ line. behind_label label.now (map piece_of tokens.now) ≡ Ok (line_view line)) }
     ensures err { IfErr result
         (λ wrong. (wrong ≡ Wrong.Memory) ⊎ (behind_label label.now (map piece_of tokens.now) ≡ Err wrong)) }
 {

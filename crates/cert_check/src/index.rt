@@ -71,7 +71,8 @@ fn holders(alloc: Global, spans: &[Span], exit: usize) -> Result<Vec<Vec<Span>>,
 fn headers(alloc: Global, spans: &[Span], exit: usize) -> Result<Vec<Option<Span>>, AllocError>
     requires ended { All (EndsBefore exit) spans.now }
     requires small { exit < 2 ^ 32 }
-    ensures { IfOk result (λ headers. (length headers.items ≡ exit + 1) × AreHeaders spans.now headers.items) }
+    ensures { IfOk result
+        (λ headers. (length headers.items ≡ exit + 1) × AreHeaders spans.now headers.items) }
 {
     let mut headers = vec![in alloc; None; exit + 1]?;
     for span in spans {

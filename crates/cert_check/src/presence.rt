@@ -109,8 +109,7 @@ impl Listing {
         requires places { IsSorted place_cmp self.now.places.items }
         requires headers { IsSorted place_cmp self.now.headers.items }
         ensures { IsTrue result
-            ↔
-            (HasAll other.now.places.items self.now.places.items
+            ↔ (HasAll other.now.places.items self.now.places.items
             × HasAll other.now.headers.items self.now.headers.items) }
     {
         has_all(&other.places, &self.places) && has_all(&other.headers, &self.headers)

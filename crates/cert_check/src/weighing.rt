@@ -51,7 +51,8 @@ fn round(tables: &Tables, span: &Span) -> u64
 
 // What a whole stay in the instance costs, in ticks, if it is below 2^64.
 fn stay(tables: &Tables, span: &Span) -> Option<u64>
-    ensures { MatchOption result (2 ^ 64 ≤ stay_of tables.now span.now) (λ n. n ≡ stay_of tables.now span.now) }
+    ensures { MatchOption result (2 ^ 64 ≤ stay_of tables.now span.now)
+        (λ n. n ≡ stay_of tables.now span.now) }
 {
     u64::from(span.bound)
         .checked_mul(round(tables, span))?

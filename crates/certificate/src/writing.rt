@@ -13,7 +13,8 @@ use std::alloc::{AllocError, Global};
 use std::fmt::Write;
 
 fn put_head(out: &mut String, profile: &Profile) -> Result<(), AllocError>
-    ensures { OnOk result (string_bytes out.new ≡ string_bytes out.old ++ head_text (numbers_of profile.now)) }
+    ensures { OnOk result
+        (string_bytes out.new ≡ string_bytes out.old ++ head_text (numbers_of profile.now)) }
 {
     let numbers = profile.numbers();
     if numbers == Profile::one().numbers() {

@@ -96,7 +96,8 @@ pub fn converse(
     port: u32,
     commands: &[u8],
 ) -> Result<Vec<u8>, DebugFault>
-    ensures ok { IfOk result (λ answers. Converses (begun machine port) (lines_of commands.now) answers.items) }
+    ensures ok { IfOk result
+        (λ answers. Converses (begun machine port) (lines_of commands.now) answers.items) }
     ensures err { IfErr result (λ fault. fault ≡ DebugFault.Memory) }
 {
     let mut answers = Vec::new(alloc);

@@ -309,7 +309,8 @@ fn below(breaks: &ArrayVec<u32, BREAKS>, address: u32) -> usize
 }
 
 fn has_at(breaks: &ArrayVec<u32, BREAKS>, at: usize, address: u32) -> bool
-    ensures yes { result ≡ true → (at < length breaks.now.items) × (slice_index breaks.now.items at ≡ address) }
+    ensures yes { result ≡ true
+        → (at < length breaks.now.items) × (slice_index breaks.now.items at ≡ address) }
     ensures no { result ≡ false → at < length breaks.now.items → slice_index breaks.now.items at ≢ address }
 {
     let breaks = breaks.as_slice();

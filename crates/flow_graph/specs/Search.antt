@@ -149,8 +149,7 @@ module _ (words : Words) (st : Stated) (profile : Profile) where
   abbrev pub IsVisitFault : List Place → Place → BuildFault → Type 0
   IsVisitFault order p f =
       IsEdgeFault words st p f
-      ⊎
-      ((f ≡ fault.TooManyPlaces) × (edges : List Edge) × AreEdgesOf words st profile p edges
+      ⊎ ((f ≡ fault.TooManyPlaces) × (edges : List Edge) × AreEdgesOf words st profile p edges
       × IsCrowdedBy order edges)
 
   -- no reason to refuse

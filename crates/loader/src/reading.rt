@@ -181,7 +181,8 @@ impl Image {
         requires allowed { segment_fault self.old head.address head.count ≡ None }
         requires standing { 4 * head.count ≤ length bytes.now }
         requires room { runs_of self.old ≤ 15 }
-        ensures ok { OnOk result (self.new ≡ with_words self.old head.address (numbers head.count bytes.now)) }
+        ensures ok { OnOk result
+            (self.new ≡ with_words self.old head.address (numbers head.count bytes.now)) }
         ensures few { OnOk result (runs_of self.new ≤ runs_of self.old + 1) }
         ensures memory { IfErr result (λ fault. fault ≡ ReadFault.Memory) }
     {

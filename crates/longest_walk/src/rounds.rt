@@ -75,7 +75,8 @@ fn one_round(
     requires known { Contains tree.now.spans span.now }
     requires turns { IsTurning tree.now.edges tree.now.spans tables.now span.now last }
     requires rounds { HasRounds graph.now tree.now tables.now (Some span.now) rounds.now }
-    ensures { IfOk result (λ body. IsRound graph.now tree.now tables.now span.now (map open_item body.items)) }
+    ensures { IfOk result
+        (λ body. IsRound graph.now tree.now tables.now span.now (map open_item body.items)) }
 {
     let mut body = Vec::new(alloc);
     let from = tree.edges()[last].from;

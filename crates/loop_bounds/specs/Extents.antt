@@ -87,8 +87,7 @@ pub record AreExtents (extents : List Extent) : Type 0 where
   pub some : (k : ℕ) → k < length extents → (extent_at extents k).first < (extent_at extents k).end
   pub sorted : (j k : ℕ) → j < k → k < length extents
       → ((extent_at extents j).first < (extent_at extents k).first)
-      ⊎
-      (((extent_at extents j).first ≡ (extent_at extents k).first)
+      ⊎ (((extent_at extents j).first ≡ (extent_at extents k).first)
       × ((extent_at extents k).end ≤ (extent_at extents j).end))
 
 -- ## Which cross
@@ -119,8 +118,7 @@ abbrev pub IsOpen : List Extent → ℕ → ℕ → Option ℕ → Type 0
 IsOpen extents limit p None = (j : ℕ) → j < limit → (extent_at extents j).end ≤ p
 IsOpen extents limit p (Some k) =
     (k < limit)
-    ×
-    ((j : ℕ) → j < limit → p < (extent_at extents j).end
+    × ((j : ℕ) → j < limit → p < (extent_at extents j).end
     → (j ≤ k) × ((extent_at extents k).end ≤ (extent_at extents j).end))
 
 -- the parent of an extent is the innermost that contains it, or there is none
@@ -158,8 +156,7 @@ abbrev pub IsInnermost : List Extent → ℕ → Option ℕ → Type 0
 IsInnermost extents p None = (j : ℕ) → j < length extents → IsWithin (extent_at extents j) p → ⊥
 IsInnermost extents p (Some k) =
     (k < length extents) × IsWithin (extent_at extents k) p
-    ×
-    ((j : ℕ) → j < length extents → IsWithin (extent_at extents j) p
+    × ((j : ℕ) → j < length extents → IsWithin (extent_at extents j) p
     → (j ≤ k) × ((extent_at extents k).end ≤ (extent_at extents j).end))
 
 -- ## What an edge enters
@@ -183,7 +180,6 @@ IsLeft extents to None =
     (j : ℕ) → j < length extents → IsWithin (extent_at extents j) to → to ≡ (extent_at extents j).header
 IsLeft extents to (Some k) =
     (k < length extents) × IsWithin (extent_at extents k) to
-    ×
-    ((j : ℕ) → j < length extents → IsWithin (extent_at extents j) to
+    × ((j : ℕ) → j < length extents → IsWithin (extent_at extents j) to
     → (to ≡ (extent_at extents j).header)
     ⊎ ((j ≤ k) × ((extent_at extents k).end ≤ (extent_at extents j).end)))

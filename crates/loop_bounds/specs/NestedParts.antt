@@ -49,8 +49,7 @@ pub record AreOutermost (instances : List Instance) (spans : List Span) (headers
 abbrev pub IsShown : Flow → Tree → Node → Type 0
 IsShown flow tree n =
     (n.places ≡ members flow tree n.instance)
-    ×
-    ((i : Instance) → Contains n.inner i
+    × ((i : Instance) → Contains n.inner i
     ↔ (Contains tree.instances i × IsDirectlyInside flow tree.instances i n.instance))
 
 -- the first instances are nested

@@ -28,7 +28,8 @@ fn keyed(
 ) -> Result<Vec<(Vec<usize>, usize)>, AllocError>
     requires nested { AreNested extents.now parents.now }
     requires whole { length chains.now ≡ length extents.now }
-    requires chains { AreChains (slice_index ranks.now) extents.now (items_of chains.now) (length extents.now) }
+    requires chains { AreChains (slice_index ranks.now) extents.now (items_of chains.now)
+        (length extents.now) }
     requires ranks { length ranks.now ≡ exit + 1 }
     ensures { IfOk result (λ keyed. AreKeyed (key_in (slice_index ranks.now) extents.now) exit keyed.items) }
 {
@@ -51,7 +52,8 @@ pub(crate) fn order(
 ) -> Result<Vec<usize>, AllocError>
     requires nested { AreNested extents.now parents.now }
     requires whole { length chains.now ≡ length extents.now }
-    requires chains { AreChains (slice_index ranks.now) extents.now (items_of chains.now) (length extents.now) }
+    requires chains { AreChains (slice_index ranks.now) extents.now (items_of chains.now)
+        (length extents.now) }
     requires ranks { length ranks.now ≡ exit + 1 }
     ensures { IfOk result (λ order. IsLaidOut (key_in (slice_index ranks.now) extents.now) exit order.items) }
 {

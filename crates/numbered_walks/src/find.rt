@@ -48,7 +48,8 @@ fn total_fits(
 fn totals_fit(spans: &[Span], holders: &[Vec<Span>], tables: &Tables, exit: usize) -> bool
     requires held { AreHolders spans.now holders.now }
     requires ended { All (λ s. s.last < exit) spans.now }
-    ensures yes { IsTrue result → (p : ℕ) → p < length holders.now → total_of spans.now tables.now p < 2 ^ 63 }
+    ensures yes { IsTrue result → (p : ℕ) → p < length holders.now
+        → total_of spans.now tables.now p < 2 ^ 63 }
     ensures no { result ≡ false
         → (p : ℕ) × (p < length holders.now) × (2 ^ 63 ≤ total_of spans.now tables.now p) }
 {

@@ -15,7 +15,8 @@ fn holds(span: &Span, number: usize) -> bool
 
 // What a whole stay costs, if it is below 2^64.
 fn stay(tables: &Tables, span: &Span) -> Option<u64>
-    ensures { MatchOption result (2 ^ 64 ≤ stay_of tables.now span.now) (λ n. n ≡ stay_of tables.now span.now) }
+    ensures { MatchOption result (2 ^ 64 ≤ stay_of tables.now span.now)
+        (λ n. n ≡ stay_of tables.now span.now) }
 {
     u64::from(span.bound)
         .checked_mul(round(tables, span))?

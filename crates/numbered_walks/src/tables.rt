@@ -62,7 +62,8 @@ pub(crate) fn write_place(
     value: u64,
 )
     requires header_is { header ≡ is_header_in spans.now number }
-    requires room { (number < length tables.old.distances.items) × (number < length tables.old.arrivals.items) }
+    requires room { (number < length tables.old.distances.items)
+        × (number < length tables.old.arrivals.items) }
     ensures written { IsPlaceWritten spans.now number value tables.old tables.new }
     ensures distances { length tables.new.distances.items ≡ length tables.old.distances.items }
     ensures arrivals { length tables.new.arrivals.items ≡ length tables.old.arrivals.items }
