@@ -7,7 +7,7 @@ use std::io;
 use std::io::{ErrorKind, Read};
 use std::test::Fail;
 
-/// So many blanks, and a text behind them.
+/// So many blanks, and a text after them.
 type Source = (usize, &'static str);
 
 const COUNTDOWN: Source = (

@@ -62,7 +62,7 @@ applies flow loops nest_fault.NestedTooDeep h = h.4
 
 -- ## Refusals of a source and a statement that have a graph and loops
 
--- such a pair is refused up to the loops for want of memory alone
+-- such a pair is refused up to the loops for lack of memory alone
 pub handler_refusals : (source statement : List ℕ) (profile : Profile) (st : Stated) (flow : Flow) (e : ReportFault) → HasLoops source statement profile st flow → IsHandlerRefused source statement profile e
     → e ≡ Memory
 handler_refusals source statement profile st flow Memory a r = refl

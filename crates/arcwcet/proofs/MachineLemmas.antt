@@ -109,7 +109,7 @@ module _ (source machine : List ℕ) (profile : Profile) where
       let files : Ok file ≡ Ok other = one_machine_file machine (Ok file) (Ok other) h.file_is k.file_is in
       record { same_words = ap (λ (s : Said). s.0) pairs; same_file = cc files }
 
-  -- a run that can be made is refused for want of memory alone, or as the output fails
+  -- a run that can be made is refused for lack of memory alone, or as the output fails
   pub runnable_refusals : (e : ReportFault) → IsRunnable source machine profile → IsRunRefused source machine profile e → (e ≡ OfMemory) ⊎ (e ≡ Device)
   runnable_refusals OfMemory a r = inl refl
   runnable_refusals Device a r = inr refl
@@ -130,7 +130,7 @@ module _ (source machine : List ℕ) (profile : Profile) where
   runnable_refusals (Cert f) a r = absurd r
   runnable_refusals (report_fault.Profile f) a r = absurd r
 
-  -- .. for want of memory alone where the output has not failed
+  -- .. for lack of memory alone where the output has not failed
   pub runnable_memory : (e : ReportFault) → (e ≢ Device) × IsRunRefused source machine profile e → IsRunnable source machine profile → e ≡ OfMemory
   runnable_memory e h a = ⊎_elim (λ m. m) (λ d. absurd (h.0 d)) (runnable_refusals e a h.1)
 

@@ -35,7 +35,7 @@ use Rattle.arcwcet.proofs.HandlerLemmas.{handler_refusals, one_graph}
 
 -- ## Accepted
 
--- an accepted pair is refused for want of memory alone, or as the output fails
+-- an accepted pair is refused for lack of memory alone, or as the output fails
 pub accepted_refusals : (source statement : List ℕ) (profile : Profile) (e : ReportFault) → IsAccepted source statement profile → IsRefused source statement profile e
     → (e ≡ Memory) ⊎ (e ≡ Device)
 accepted_refusals source statement profile Memory a r = inl refl

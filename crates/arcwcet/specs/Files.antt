@@ -11,7 +11,7 @@ abbrev pub in_front : Option (List ℕ) → Texts → Texts
 in_front None others = others
 in_front (Some file) others = file ∷ others
 
--- how a store is read: what it was, a name, what the read gives, and the store behind it
+-- how a store is read: what it was, a name, what the read gives, and the store after it
 abbrev pub Reading : Type 0 → Type 1
 Reading S = S → List ℕ → Result (List ℕ) StoreFault → S → Type 0
 

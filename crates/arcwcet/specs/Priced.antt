@@ -10,7 +10,7 @@ abbrev pub IsProfile : Option (List ℕ) → Profile → Type 0
 IsProfile None profile = numbers_of profile ≡ profile_one
 IsProfile (Some text) profile = IsProfileFile text (Ok (numbers_of profile))
 
--- why a file has no profile; a growth is refused whatever it says
+-- why a file has no profile; an allocation may fail whatever it says
 abbrev pub HasNoProfile : Option (List ℕ) → ReportFault → Type 0
 HasNoProfile file report_fault.Memory = Unit {0}
 HasNoProfile (Some text) (report_fault.Profile fault) = IsProfileFile text (Err fault)

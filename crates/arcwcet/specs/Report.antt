@@ -130,7 +130,7 @@ pub record IsWalkRefused (source statement : List ℕ) (profile : Profile) (faul
   pub holds : IsWalkRefusal flow stated.loops fault
 
 -- when each refusal of a source and a statement is answered, up to the loops: the first in the order of the
--- work. A growth is refused whatever they are
+-- work. An allocation may fail whatever they are
 abbrev pub IsHandlerRefused : List ℕ → List ℕ → Profile → ReportFault → Type 0
 IsHandlerRefused source statement profile report_fault.Memory = Unit {0}
 IsHandlerRefused source statement profile (report_fault.Source fault) =

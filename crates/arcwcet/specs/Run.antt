@@ -75,12 +75,12 @@ module _ {S : Type 0} (reads : Reading S) (names : Texts) (old new : S) where
       (FailsToRead reads old names store_fault.Device new × (after ≡ before))
       ⊎ FailsToPrint IsText (taken before) (taken after) (failures before) (failures after)
 
-  -- status 3: unless the store is as it was, a file could not be read for want of memory, or all were read
+  -- status 3: unless the store is as it was, a file could not be read for lack of memory, or all were read
   abbrev pub IsStarvedRun : Type 0
   IsStarvedRun = (new ≡ old → ⊥) → FailsToRead reads old names store_fault.Memory new ⊎ HasRead
 
 -- What a command did with the files of these names, by its status. At 0 it printed a text of `true`; at 1 it
--- printed one of `false`, or the files are refused and nothing is printed; nor is anything for want of
+-- printed one of `false`, or the files are refused and nothing is printed; nor is anything for lack of
 -- memory.
 pub record Runs {S O : Type 0} (reads : Reading S) (taken : O → Option (List ℕ)) (failures : O → ℕ)
     (IsText : Bool → Texts → List ℕ → Type 0) (IsFault : Texts → ReportFault → Type 0) (names : Texts)
@@ -169,7 +169,7 @@ abbrev pub IsRefusedSource : Texts → ReportFault → Type 0
 IsRefusedSource (source ∷ []) fault = IsSourceRefused source fault
 IsRefusedSource files fault = ⊥
 
--- how a store is written: what it was, a name, bytes, what the write gives, and the store behind it
+-- how a store is written: what it was, a name, bytes, what the write gives, and the store after it
 abbrev pub Writing : Type 0 → Type 1
 Writing S = S → List ℕ → List ℕ → Result (Unit {0}) StoreFault → S → Type 0
 
@@ -245,7 +245,7 @@ module _ {S I : Type 0} (reads : Reading S) (remaining : I → Option (List ℕ)
     pub status_is : status ≡ store_status fault
     pub unheard : heard_new ≡ heard_old
 
-  -- all files were read, and standard input failed, or it is too long and was left behind its limit
+  -- all files were read, and standard input failed, or it is too long and was left after its limit
   pub record FailsToHear (status : ℕ) : Type 0 where
     pub files : Texts
     pub read : ReadsAll reads old names files new

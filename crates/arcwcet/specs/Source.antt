@@ -35,7 +35,7 @@ unfoldable pub source_of : List ℕ → Result Said ReportFault
 source_of source =
     if is_image source then said_by_image (image_read source) else said_by_text (assembled source)
 
--- when each refusal of a source is answered; a growth is refused whatever it says
+-- when each refusal of a source is answered; an allocation may fail whatever it says
 abbrev pub IsSourceFault : List ℕ → ReportFault → Type 0
 IsSourceFault source Memory = Unit {0}
 IsSourceFault source (Source fault) = source_of source ≡ Err (Source fault)

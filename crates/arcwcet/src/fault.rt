@@ -15,7 +15,7 @@ use thiserror::Error;
 /// Why a store gave or took no file, or a reader not all that it had left.
 #[derive(Clone, Copy, Debug, PartialEq, Eq, Drop, Error)]
 pub enum StoreFault {
-    /// A growth was refused.
+    /// An allocation failed.
     #[error("Memory")]
     Memory,
     /// The file could not be opened, read or written, or standard input failed.
@@ -26,10 +26,10 @@ pub enum StoreFault {
     InputTooLong,
 }
 
-/// Why there is no report and no verdict. None but `Memory` holds a refused growth.
+/// Why there is no report and no verdict. None but `Memory` holds a failed allocation.
 #[derive(Clone, Copy, Debug, PartialEq, Eq, Drop, Error)]
 pub enum ReportFault {
-    /// A growth was refused.
+    /// An allocation failed.
     #[error("Memory")]
     Memory,
     /// The source cannot be assembled.

@@ -6,7 +6,7 @@ ghost use Rattle.arcwcet.specs.Check.{IsCheckable, IsJudged};
 ghost use Rattle.arcwcet.specs.Report.{IsReport};
 
 /// States that the checker accepts each report. By its source, its statement and its cycle profile,
-/// [`check_report`](crate::check_report) refuses the text of a report for want of memory or a failing output
+/// [`check_report`](crate::check_report) refuses the text of a report for lack of memory or a failing output
 /// alone, since it can be checked; and where it is judged, the verdict is Yes. It does nothing.
 pub fn certificates_are_accepted()
     ensures checkable { (source statement text : List ℕ) (profile : Profile)

@@ -55,7 +55,7 @@ impl Output for MemoryOutput {
 
     ghost failures = { λ m. m.failures };
 
-    // A write within the room takes the whole slice; past it, a refused growth is a failure.
+    // A write within the room takes the whole slice; past it, a failed allocation is a failure.
     fn write(&mut self, bytes: &[u8]) -> Result<usize, OutputFault>
         ensures bound { IfOk result (λ n. n ≤ length bytes.now) }
         ensures bytes { WriteAppends (Some self.old.bytes) (Some self.new.bytes) result bytes.now }

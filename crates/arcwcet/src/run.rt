@@ -33,7 +33,7 @@ fn obey<S: Store, I: Read, O: Output, E: Output>(
 }
 
 /// Runs the program on its words, of which the first is its name, and answers its exit status: 0; 1 where the
-/// work is refused, a certificate's verdict is No, or a machine stopped; 2 for wrong usage; 3 for want of
+/// work is refused, a certificate's verdict is No, or a machine stopped; 2 for wrong usage; 3 for lack of
 /// memory; 4 where a file, a stream or the output fails.
 ///
 /// A refusal is one line on `err`, whose failures change no status. The work begins once everything is read:

@@ -8,7 +8,7 @@ use std::{env, io};
 /// The status for words that cannot be read.
 const USAGE: u8 = 2;
 
-/// The status for want of memory.
+/// The status for lack of memory.
 const MEMORY: u8 = 3;
 
 fn main(rt: HostRuntime) -> ExitCode {

@@ -29,7 +29,7 @@ counted burst i told rest =
       stopped = rest.stopped;
     }
 
--- a stopped step ends the run and does not count; behind any other the run goes on
+-- a stopped step ends the run and does not count; after any other the run goes on
 abbrev pub Ends : Option Why → State → Ran → State → (goes_on : Type 0) → Type 0
 Ends (Some why) s ran after goes_on = (ran ≡ at_rest (Some why)) × (after ≡ s)
 Ends None s ran after goes_on = goes_on

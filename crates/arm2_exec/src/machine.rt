@@ -22,7 +22,7 @@ use vidc::Vidc;
 /// Why a machine is not made.
 #[derive(Clone, Copy, Debug, PartialEq, Eq, Drop, Error)]
 pub enum MachineFault {
-    /// A growth was refused.
+    /// An allocation failed.
     #[error("Memory")]
     Memory,
 }
@@ -95,7 +95,7 @@ impl Machine {
     /// register and all RAM 0, logical page i on physical page i for i from 0 to 127, and IOC and VIDC at
     /// their start.
     ///
-    /// `Memory`: a growth was refused.
+    /// `Memory`: an allocation failed.
     pub fn new(alloc: Global, size: PageSize, profile: Profile) -> Result<Machine, MachineFault>
         ensures { IfOk result (λ m. IsReset (shift_of_size size) profile m) }
     {

@@ -1,4 +1,4 @@
--- A line in upper case, behind its blank.
+-- A line in upper case, after its blank.
 use Rattle.std.proofs.Common.{◌≡◌, ℕ, ◌≤◌, Bool, true, false, cond, not, ◌==◌, ◌&&◌, List, [], ◌∷◌, length, take, drop, Option, Some, None, Result, Ok, Err, refl, sym, ap, ◌∙◌, arith}
 use Rattle.std.specs.Prelude.{nat_le, option_and_then, option_map}
 use Rattle.std.specs.Char.{is_ascii_lowercase, to_ascii_uppercase}
@@ -75,7 +75,7 @@ whole_line line h =
     let n = all_body line h in
     rw (n, take_whole line, drop_whole line, all_text line h) refl
 
--- a line behind its blank, by its pieces
+-- a line after its blank, by its pieces
 read_blank : (text : List ℕ) (p : Parsed) → list_all is_shown text ≡ true → parsed (gap_before (pieces text)) ≡ Ok p → line_of (32 ∷ text) ≡ Ok p
 read_blank text p h e = whole_line (32 ∷ text) h ∙ body_said (32 ∷ text) p (ap parsed (blank_pieces text) ∙ e)
 
@@ -162,7 +162,7 @@ label_free (Err wrong) = refl
 alone_said : (r : Result Said Wrong) (s : Shown) → with_label None r ≡ Ok (parsed_shown s) → shown_result r ≡ Some s
 alone_said r s h = sym (label_free r) ∙ ap shown_by h ∙ shown_again s
 
--- the same of a line's pieces behind a blank
+-- the same of a line's pieces after a blank
 
 pieces_alone : (ps : List Piece) (s : Shown) → shown_result (statement_of (without_gap ps)) ≡ Some s → parsed (gap_before ps) ≡ Ok (parsed_shown s)
 pieces_alone [] s h = absurd cc

@@ -99,7 +99,7 @@ ended_is list Comma ps f start e = inr (ps, refl, start list e)
 ended_is list (Sign CloseBrace) ps f start e = let same = some_is (list, ps) f e in inl (ap (λ (g : ℕ × List Piece). Sign CloseBrace ∷ g.1) same, sym (ap (λ (g : ℕ × List Piece). g.0) same))
 ended_is list _ ps f start e = absurd (nothing_is f e)
 
--- behind a register that is alone
+-- after a register that is alone
 alone_is : (list : ℕ) (a : Register) (p : Piece) (ps : List Piece) (f : ℕ × List Piece)
     → ((m : ℕ) → list_behind m place.Start ps ≡ Some f → Runs m f ps)
     → list_by (λ more next. list_behind more next ps) ps (option_and_then (λ more. behind_step more p) (with_bits list (run_bits a a))) ≡ Some f → Ended (bit_or list (bits_of (a, a))) f (p ∷ ps)
@@ -142,7 +142,7 @@ left_is (p ∷ ps) place.Behind list f e = ended_is list p ps f (λ m. left_is p
 
 -- ---- and back
 
--- what stands behind a run: a comma (false), or the brace
+-- what stands after a run: a comma (false), or the brace
 ends : Bool → Piece
 ends false = Comma
 ends true = Sign CloseBrace

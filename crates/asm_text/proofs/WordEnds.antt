@@ -1,4 +1,4 @@
--- Behind the word of a line that is spelled stands a blank or nothing.
+-- After the word of a line that is spelled stands a blank or nothing.
 use Rattle.std.proofs.Common.{◌≡◌, ◌+◌, ◌<◌, ℕ, suc, Bool, true, false, List, [], ◌∷◌, ◌++◌, length, Option, Some, None, refl, arith}
 use Rattle.std.specs.List.{list_all, prefix_len}
 use Rattle.std.proofs.lemmas.Bool.{and_parts}

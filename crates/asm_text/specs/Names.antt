@@ -63,7 +63,7 @@ head_name (Block false) = codes "STM"
 head_name Swi = codes "SWI"
 head_name Adr = codes "ADR"
 
--- what stands behind the condition
+-- what stands after the condition
 abbrev pub suffix_name : Suffix → List ℕ
 suffix_name Bare = []
 suffix_name S = codes "S"

@@ -1,4 +1,4 @@
--- Numbers of the source: decimal, and hexadecimal behind `0x` or `&`, below 2^32 (our own source format).
+-- Numbers of the source: decimal, and hexadecimal after `0x` or `&`, below 2^32 (our own source format).
 use Rattle.std.specs.Prelude.{◌==◌, ◌&&◌, ◌^◌, nat_lt, min, ℕ, List, [], ◌∷◌, length, Option, Some, None}
 use Rattle.std.specs.Prelude.{if◌then◌else◌}
 use Rattle.std.specs.Char.{is_digit}
@@ -29,12 +29,12 @@ abbrev pub after_zero : List ℕ → Option ℕ
 after_zero [] = number_by 10 (48 ∷ [])
 after_zero (c ∷ d) = if c == 120 then number_by 16 d else number_by 10 (48 ∷ c ∷ d)
 
--- behind `0x` hexadecimal, else decimal
+-- after `0x` hexadecimal, else decimal
 abbrev pub run_number : List ℕ → Option ℕ
 run_number [] = None
 run_number (c ∷ d) = if c == 48 then after_zero d else number_by 10 (c ∷ d)
 
--- what was read, and the pieces behind it
+-- what was read, and the pieces after it
 abbrev pub with_rest : {A : Type 0} → List Piece → Option A → Option (A × List Piece)
 with_rest ps None = None
 with_rest ps (Some a) = Some (a, ps)

@@ -33,7 +33,7 @@ use Rattle.asm_text.specs.declared.said.Distance.TheVariants as distance
 use Rattle.asm_text.specs.declared.said.Address.{Address}
 use Rattle.asm_text.specs.declared.said.BlockTransfer.{BlockTransfer}
 
--- what is read, where nothing stands behind it
+-- what is read, where nothing stands after it
 abbrev pub alone : {A : Type 0} → A → List Piece → Option A
 alone a [] = Some a
 alone a (p ∷ ps) = None
@@ -60,7 +60,7 @@ abbrev pub shift_first : List Piece → Option (Shifting × List Piece)
 shift_first (Run w ∷ ps) = shift_words w ps
 shift_first _ = None
 
--- behind a register: a comma and a shift, or none, which is LSL #0
+-- after a register: a comma and a shift, or none, which is LSL #0
 abbrev pub shifting_first : List Piece → Option (Shifting × List Piece)
 shifting_first (Comma ∷ ps) = shift_first ps
 shifting_first ps = Some (shifting.Amount (amount.By Lsl 0), ps)
@@ -182,7 +182,7 @@ abbrev pub address : Register → Bool → Bool → Offset → Address
 address n before write_back o =
     record { rn = n; before = before; up = o.0; write_back = write_back; distance = o.1 }
 
--- behind [Rn, the offset and its end
+-- after [Rn, the offset and its end
 abbrev pub before_of : Register → List Piece → Option Address
 before_of n ps =
     option_and_then (λ f. option_map (λ w. address n true w f.0) (closed_of f.1)) (offset_first ps)
@@ -191,7 +191,7 @@ before_of n ps =
 abbrev pub plain_of : Register → List Piece → Option Address
 plain_of n ps = option_map (λ w. address n true w (true, distance.Number 0)) (bang_of ps)
 
--- behind [Rn] nothing, a mark, or a comma and an offset; T asks the last and sets W
+-- after [Rn] nothing, a mark, or a comma and an offset; T asks the last and sets W
 abbrev pub after_of : Bool → Register → List Piece → Option Address
 after_of user n (Comma ∷ ps) = option_map (address n false user) (whole (offset_first ps))
 after_of user n ps = if user then None else plain_of n ps
@@ -201,7 +201,7 @@ based user n (Sign CloseBracket ∷ ps) = after_of user n ps
 based user n (Comma ∷ ps) = if user then None else before_of n ps
 based user n _ = None
 
--- behind [
+-- after [
 abbrev pub address_of : Bool → List Piece → Option Address
 address_of user ps = option_and_then (λ f. based user f.0 f.1) (register_first ps)
 
@@ -226,13 +226,13 @@ run_bits a b =
 abbrev pub with_bits : ℕ → Option ℕ → Option ℕ
 with_bits list bits = option_map (bit_or list) bits
 
--- behind a run of registers: a comma, or } at the end
+-- after a run of registers: a comma, or } at the end
 abbrev pub behind_step : ℕ → Piece → Option Step
 behind_step list Comma = Some (Goes list Start)
 behind_step list (Sign CloseBrace) = Some (Ends list)
 behind_step list _ = None
 
--- behind a register: - and the last of its run, or it is alone
+-- after a register: - and the last of its run, or it is alone
 abbrev pub first_step : ℕ → Register → Piece → Option Step
 first_step list a (Sign Minus) = Some (Goes list (To a))
 first_step list a p = option_and_then (λ more. behind_step more p) (with_bits list (run_bits a a))
@@ -264,7 +264,7 @@ list_by on ps None = None
 list_by on ps (Some (Goes list place)) = on list place
 list_by on ps (Some (Ends list)) = Some (list, ps)
 
--- behind {: registers and runs with commas between them, and }; what stands behind that
+-- after {: registers and runs with commas between them, and }; what stands after that
 abbrev pub list_behind : ℕ → Place → List Piece → Option (ℕ × List Piece)
 list_behind list place [] = None
 list_behind list place (p ∷ ps) = list_by (λ more next. list_behind more next ps) ps (list_step list place p)
@@ -307,7 +307,7 @@ block load s n w list user =
       list = list;
     }
 
--- behind Rn and its mark: a comma, the list and its end
+-- after Rn and its mark: a comma, the list and its end
 abbrev pub braced : Bool → Suffix → Register → Bool → List Piece → Option BlockTransfer
 braced load s n w (Comma ∷ Sign OpenBrace ∷ ps) =
     option_and_then (λ f. option_map (block load s n w f.0) (caret_of f.1)) (list_behind 0 Start ps)

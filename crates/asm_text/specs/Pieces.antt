@@ -76,6 +76,6 @@ unfoldable pub pieces : List ℕ → List Piece
 pieces [] = []
 pieces (b ∷ bs) = byte_before b (pieces bs)
 
--- what is read from the front of some tokens, and the pieces of those behind it
+-- what is read from the front of some tokens, and the pieces of those after it
 abbrev pub behind : {A : Type 0} → A × Bor (List Token) → A × List Piece
 behind f = (f.0, map piece_of f.1.now)

@@ -40,12 +40,12 @@ pub record IsDigits (radix : ℕ) (text : List ℕ) (n : ℕ) : Type 0 where
   pub value : n ≡ digits_value radix text
   pub fits : n < 2 ^ 32
 
--- decimal, or hexadecimal behind 0x
+-- decimal, or hexadecimal after 0x
 abbrev pub IsNumber : List ℕ → ℕ → Type 0
 IsNumber text n =
     IsDigits 10 text n ⊎ ((digits : List ℕ) × (text ≡ codes "0x" ++ digits) × IsDigits 16 digits n)
 
--- a number, or hexadecimal digits behind &
+-- a number, or hexadecimal digits after &
 abbrev pub SpellsNumber : ℕ → List Piece → Type 0
 SpellsNumber n ps =
     ((text : List ℕ) × (ps ≡ Run text ∷ []) × IsNumber text n)
@@ -78,7 +78,7 @@ SpellsShift (shifting.Register s r) ps =
     (name register : List ℕ) × (ps ≡ Run name ∷ Gap ∷ Run register ∷ []) × IsShift name s
     × IsRegister register r
 
--- behind a register: a comma and a shift, or nothing, which is LSL #0
+-- after a register: a comma and a shift, or nothing, which is LSL #0
 abbrev pub SpellsShifting : Shifting → List Piece → Type 0
 SpellsShifting s ps =
     ((shift : List Piece) × (ps ≡ Comma ∷ shift) × SpellsShift s shift)

@@ -61,7 +61,7 @@ SpellsAction (action.Block x) (head.Block load) s ps = SpellsBlock load s x ps
 SpellsAction (action.Swi n) head.Swi s ps = SpellsNumber n ps
 SpellsAction _ _ s ps = ⊥
 
--- a word with a target, behind Rd; with user rights there is none
+-- a word with a target, after Rd; with user rights there is none
 abbrev pub SpellsUse : Use → Head → Suffix → Target → List Piece → Type 0
 SpellsUse (use_of.Adr d) head.Adr s t ps = SpellsAt d t ps
 SpellsUse (use_of.Transfer load byte d) (head.Single l) s t ps =

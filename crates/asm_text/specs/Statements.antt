@@ -130,7 +130,7 @@ abbrev pub or_bad : Option Said → Result Said Wrong
 or_bad None = Err BadOperand
 or_bad (Some s) = Ok s
 
--- a blank and operands behind a word
+-- a blank and operands after a word
 abbrev pub behind_word : Word → List Piece → Result Said Wrong
 behind_word w (Gap ∷ ps) = or_bad (operands_of w ps)
 behind_word w _ = Err BadOperand
@@ -170,7 +170,7 @@ parsed _ = Err UnknownWord
 abbrev pub is_text : ℕ → Bool
 is_text b = (nat_le 32 b && nat_le b 126) || b == 9
 
--- behind a `;` also 80 to FF
+-- after a `;` also 80 to FF
 abbrev pub is_comment_text : ℕ → Bool
 is_comment_text b = is_text b || nat_le 128 b
 
@@ -192,7 +192,7 @@ abbrev pub begins_blank_or_ends : List ℕ → Bool
 begins_blank_or_ends [] = true
 begins_blank_or_ends (b ∷ bs) = is_blank b
 
--- a word ends at a blank or with the line: what stands behind label, blanks and word, each of which may be
+-- a word ends at a blank or with the line: what stands after label, blanks and word, each of which may be
 -- missing, begins with a blank or is nothing
 abbrev pub word_ends : List ℕ → Bool
 word_ends text = begins_blank_or_ends (past is_name (past is_blank (past is_name text)))

@@ -57,7 +57,7 @@ fn first_offset<'a, 'b>(tokens: &'a [Token<'b>]) -> Option<(Offset, &'a [Token<'
     }
 }
 
-// An offset, and nothing behind it.
+// An offset, and nothing after it.
 fn only_offset(tokens: &[Token<'_>]) -> Option<Offset>
     ensures { result ≡ whole (offset_first (map piece_of tokens.now)) }
 {
@@ -137,7 +137,7 @@ fn based(user: bool, rn: Register, tokens: &[Token<'_>]) -> Option<Address>
     }
 }
 
-/// An address behind its bracket; that of a User access is post-indexed.
+/// An address after its bracket; that of a User access is post-indexed.
 pub(crate) fn address(user: bool, tokens: &[Token<'_>]) -> Option<Address>
     ensures { result ≡ address_of user (map piece_of tokens.now) }
 {

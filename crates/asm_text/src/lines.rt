@@ -112,9 +112,9 @@ fn parse<'a>(alloc: Global, tokens: &[Token<'a>]) -> Result<Line<'a>, Wrong>
 ///
 /// # Errors
 ///
-/// `NotText`: a byte other than 20 to 7E and a tab, or behind a `;` 80 to FF. `UnknownWord`: the first column
-/// holds neither a blank nor a label, or the text behind it is no word that ends at a blank or with the line.
-/// `BadOperand`: what stands behind the word does not belong to it. `Memory`: a growth was refused.
+/// `NotText`: a byte other than 20 to 7E and a tab, or after a `;` 80 to FF. `UnknownWord`: the first column
+/// holds neither a blank nor a label, or the text after it is no word that ends at a blank or with the line.
+/// `BadOperand`: what stands after the word does not belong to it. `Memory`: an allocation failed.
 pub fn read_line<'a>(alloc: Global, text: &'a [u8]) -> Result<Line<'a>, Wrong>
     ensures ok { IfOk result (λ line. line_of text.now ≡ Ok (line_view line)) }
     ensures err { IfErr result (λ wrong. (wrong ≡ Wrong.Memory) ⊎ (line_of text.now ≡ Err wrong)) }
@@ -161,7 +161,7 @@ fn without_return(line: &[u8]) -> &[u8]
     }
 }
 
-/// The first line of a source, without its end, and what stands behind it. None where nothing stands.
+/// The first line of a source, without its end, and what stands after it. None where nothing stands.
 pub fn first_line(source: &[u8]) -> Option<(&[u8], &[u8])>
     ensures { MatchOption result (lines_of source.now ≡ [])
         (λ f. (lines_of source.now ≡ f.0.now ∷ lines_of f.1.now) × (length f.1.now < length source.now)) }

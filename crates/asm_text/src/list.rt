@@ -30,11 +30,11 @@ fn run_bits(first: Register, last: Register) -> Option<u32>
 pub enum Place {
     /// A register or a run of them comes next.
     Start,
-    /// Behind a register, which may begin a run.
+    /// After a register, which may begin a run.
     First(Register),
-    /// Behind the mark of a run from a register.
+    /// After the mark of a run from a register.
     To(Register),
-    /// Behind a run.
+    /// After a run.
     Behind,
 }
 
@@ -109,7 +109,7 @@ fn next_step(list: u32, place: Place, token: Token<'_>) -> Option<Step>
     }
 }
 
-// The registers of a list behind its brace, and the tokens behind it.
+// The registers of a list after its brace, and the tokens after it.
 #[tactic(auto, using(crate::proofs::ListLaws::list_turn))]
 fn first_list<'a, 'b>(tokens: &'a [Token<'b>]) -> Option<(u32, &'a [Token<'b>])>
     ensures value { option_map behind result ≡ list_behind 0 Start (map piece_of tokens.now) }

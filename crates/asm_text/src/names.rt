@@ -22,7 +22,7 @@ pub enum Head {
     Adr,
 }
 
-/// What stands behind the condition of a word.
+/// What stands after the condition of a word.
 #[derive(Clone, Copy)]
 pub enum Suffix {
     /// Nothing.

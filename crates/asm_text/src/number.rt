@@ -36,7 +36,7 @@ fn number(radix: u32, text: &[u8]) -> Option<u32>
     }
 }
 
-/// The number that a run of letters and digits spells: decimal, or hexadecimal behind `0x`, below 2^32.
+/// The number that a run of letters and digits spells: decimal, or hexadecimal after `0x`, below 2^32.
 pub(crate) fn read_number(text: &[u8]) -> Option<u32>
     ensures { result ≡ run_number text.now }
 {
@@ -53,7 +53,7 @@ pub(crate) fn read_hex(text: &[u8]) -> Option<u32>
     number(16, text)
 }
 
-/// The hexadecimal number that some tokens begin with, and those behind it.
+/// The hexadecimal number that some tokens begin with, and those after it.
 pub(crate) fn first_hex<'a, 'b>(tokens: &'a [Token<'b>]) -> Option<(u32, &'a [Token<'b>])>
     ensures { option_map behind result ≡ hex_first (map piece_of tokens.now) }
 {
@@ -66,7 +66,7 @@ pub(crate) fn first_hex<'a, 'b>(tokens: &'a [Token<'b>]) -> Option<(u32, &'a [To
     }
 }
 
-/// The number that some tokens begin with, and those behind it.
+/// The number that some tokens begin with, and those after it.
 pub(crate) fn first_number<'a, 'b>(tokens: &'a [Token<'b>]) -> Option<(u32, &'a [Token<'b>])>
     ensures { option_map behind result ≡ number_first (map piece_of tokens.now) }
 {

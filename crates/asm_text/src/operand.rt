@@ -71,7 +71,7 @@ fn first_shift<'a, 'b>(tokens: &'a [Token<'b>]) -> Option<(Shifting, &'a [Token<
     }
 }
 
-/// How a register is shifted that stands in front of some tokens, and the tokens behind the shift.
+/// How a register is shifted that stands in front of some tokens, and the tokens after the shift.
 pub(crate) fn first_shifting<'a, 'b>(tokens: &'a [Token<'b>]) -> Option<(Shifting, &'a [Token<'b>])>
     ensures { option_map behind result ≡ shifting_first (map piece_of tokens.now) }
 {
@@ -81,7 +81,7 @@ pub(crate) fn first_shifting<'a, 'b>(tokens: &'a [Token<'b>]) -> Option<(Shiftin
     }
 }
 
-/// A register, and nothing behind it.
+/// A register, and nothing after it.
 pub(crate) fn only_register(tokens: &[Token<'_>]) -> Option<Register>
     ensures { result ≡ whole (register_first (map piece_of tokens.now)) }
 {

@@ -84,7 +84,7 @@ pub(crate) fn names_rrx(text: &[u8]) -> bool
     matches!(text, b"RRX" | b"rrx")
 }
 
-/// The register that some tokens begin with, and those behind it.
+/// The register that some tokens begin with, and those after it.
 pub(crate) fn first_register<'a, 'b>(tokens: &'a [Token<'b>]) -> Option<(Register, &'a [Token<'b>])>
     ensures { option_map behind result ≡ register_first (map piece_of tokens.now) }
 {
@@ -97,7 +97,7 @@ pub(crate) fn first_register<'a, 'b>(tokens: &'a [Token<'b>]) -> Option<(Registe
     }
 }
 
-/// A register and a comma that some tokens begin with, and those behind them.
+/// A register and a comma that some tokens begin with, and those after them.
 pub(crate) fn first_register_comma<'a, 'b>(
     tokens: &'a [Token<'b>],
 ) -> Option<(Register, &'a [Token<'b>])>

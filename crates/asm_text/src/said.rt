@@ -136,7 +136,7 @@ pub enum Value<'a> {
     Label(&'a [u8]),
 }
 
-/// What a line says behind its label.
+/// What a line says after its label.
 #[derive(Drop)]
 pub enum Statement<'a> {
     /// A word of numbers and registers.

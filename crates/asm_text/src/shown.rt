@@ -139,7 +139,7 @@ fn behind_word(word: Word, tokens: &[Token<'_>]) -> Option<Shown>
     }
 }
 
-// What a word in upper case says with what stands behind it.
+// What a word in upper case says with what stands after it.
 #[tactic(auto, using(crate::proofs::ShownLaws::upper_spelled))]
 fn word_statement(text: &[u8], behind: &[Token<'_>]) -> Option<Shown>
     requires { is_upper text.now ≡ true }
@@ -174,7 +174,7 @@ fn blank_statement(tokens: &[Token<'_>]) -> Option<Shown>
     }
 }
 
-/// Reads a line behind its blank, without memory, where it may be shown (in upper case, without a comment, of
+/// Reads a line after its blank, without memory, where it may be shown (in upper case, without a comment, of
 /// at most 64 bytes) and says an instruction without a label. Every such line is read.
 #[tactic(auto, using(crate::proofs::ShownLaws::upper_shown, crate::proofs::ShownLaws::short_shown, crate::proofs::ShownLaws::line_shown, crate::proofs::ShownLaws::shown_from))]
 pub fn read_shown(text: &[u8]) -> Option<Shown>

@@ -26,13 +26,13 @@ use std::alloc::{AllocError, Global};
 /// Why a line says nothing.
 #[derive(Clone, Copy, Debug, PartialEq, Eq)]
 pub enum Wrong {
-    /// A growth was refused.
+    /// An allocation failed.
     Memory,
     /// A byte that no source has.
     NotText,
-    /// The line begins with no label or blank, or the text behind is no word.
+    /// The line begins with no label or blank, or the text after is no word.
     UnknownWord,
-    /// What stands behind the word is no operand of it.
+    /// What stands after the word is no operand of it.
     BadOperand,
 }
 
@@ -52,7 +52,7 @@ impl From<AllocError> for Wrong {
 pub enum Expects {
     /// A value.
     Start,
-    /// The digits behind `&`.
+    /// The digits after `&`.
     Hex,
     /// A comma, or the end.
     Behind,
@@ -99,7 +99,7 @@ fn only_number(tokens: &[Token<'_>]) -> Option<u32>
     }
 }
 
-// The number or label that some tokens begin with, and those behind it.
+// The number or label that some tokens begin with, and those after it.
 fn first_target<'a, 'b>(tokens: &'a [Token<'b>]) -> Option<(Value<'b>, &'a [Token<'b>])>
     ensures { option_map (λ f. (target_of f.0, map piece_of f.1.now)) result
         ≡ target_first (map piece_of tokens.now) }
@@ -117,7 +117,7 @@ fn first_target<'a, 'b>(tokens: &'a [Token<'b>]) -> Option<(Value<'b>, &'a [Toke
     }
 }
 
-// A value with nothing behind it.
+// A value with nothing after it.
 fn alone_target<'a>(value: Value<'a>, rest: &[Token<'_>]) -> Option<Value<'a>>
     ensures { option_map target_of result ≡ alone (target_of value.entry) (map piece_of rest.now) }
 {
@@ -339,7 +339,7 @@ fn behind_word<'a>(alloc: Global, word: Word, tokens: &[Token<'a>]) -> Result<St
     }
 }
 
-/// What the tokens of a line say behind its label and a blank.
+/// What the tokens of a line say after its label and a blank.
 pub(crate) fn read_statement<'a>(
     alloc: Global,
     tokens: &[Token<'a>],

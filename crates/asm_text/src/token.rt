@@ -118,7 +118,7 @@ fn begins_blank_or_ends(text: &[u8]) -> bool
     }
 }
 
-/// Whether a blank or nothing stands behind the word of a line, or where a word would end.
+/// Whether a blank or nothing stands after the word of a line, or where a word would end.
 pub(crate) fn word_ends(line: &[u8]) -> bool
     ensures { result ≡ word_ends line.now }
 {

@@ -81,7 +81,7 @@ impl<R: Files + AllocGlobal> Folder<'_, R> {
         }
     }
 
-    /// What a stream is to hold, by its file or that with `.front` or `.any` behind its name.
+    /// What a stream is to hold, by its file or that with `.front` or `.any` after its name.
     fn wanted(&self, file: &str) -> Result<Wanted, CaseFault> {
         let alloc = self.rt.alloc();
         if let Some(bytes) = self.read_if_any(file)? {

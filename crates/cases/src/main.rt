@@ -1,7 +1,7 @@
 //! Judges the program `arcwcet` by the cases in `data/`: a line for each, in the order of their names, with
 //! `ok` or the first difference, and a line of counts. It fails where a case does. A case is a folder with
 //!
-//! - `args`: the words behind the program's name, a word a line; those that name files name files of the
+//! - `args`: the words after the program's name, a word a line; those that name files name files of the
 //!   folder;
 //! - the files that the words name, and in `stdin` the standard input, else it is empty;
 //! - `stdout`: all that is printed, or `stdout.front`: what it begins with; neither: nothing is printed;

@@ -89,7 +89,7 @@ module _ {E : Type 0} (inside turns : E → Bool) (w : List E) where
         let c : cond {A = ℕ} (turns e) 1 0 ≡ 0 = rw plain refl in
         (omega (arith, most_in_it inner, c, tail-le-most inside turns w), omega (arith, tail_in inner, c))
 
-  -- a walk that lies inside, behind another
+  -- a walk that lies inside, after another
   pub whole_behind : (u : List E) → whole inside turns u ≡ true → (most inside turns (w ++ u) ≡ max (most inside turns w) (tail inside turns w + count inside turns u)) × (tail inside turns (w ++ u) ≡ tail inside turns w + count inside turns u)
   whole_behind u all =
       let first : head inside turns u ≡ count inside turns u = J.head_whole inside turns u all in

@@ -42,7 +42,7 @@ pub record Tells (spans : List Span) (x : Walker) (walk : List NumberedEdge) : T
   pub broken : x.over ≡ true → (s : Span) × Contains spans s × (s.bound < most_in s walk)
   pub kept : x.over ≡ false → (s : Span) → Contains spans s → most_in s walk ≤ s.bound
 
--- what was told of any walk is told of it with this one behind it
+-- what was told of any walk is told of it with this one after it
 abbrev pub Adds : List Span → Walker → Walker → List NumberedEdge → Type 0
 Adds spans old new more = (walk : List NumberedEdge) → Tells spans old walk → Tells spans new (walk ++ more)
 

@@ -26,7 +26,7 @@ use std::alloc::Global;
 ///
 /// # Errors
 ///
-/// `Memory` where a growth was refused.
+/// `Memory` where an allocation failed.
 pub fn check(
     alloc: Global,
     graph: &Graph,

@@ -83,7 +83,7 @@ fn headers(alloc: Global, spans: &[Span], exit: usize) -> Result<Vec<Option<Span
 
 impl Index {
     /// The index of the numbers up to that of Exit, in time linear in the numbers that the spans hold.
-    /// `AllocError`: a growth was refused.
+    /// `AllocError`: an allocation failed.
     pub(crate) fn of(alloc: Global, spans: &[Span], exit: usize) -> Result<Index, AllocError>
         requires ended { All (EndsBefore exit) spans.now }
         requires small { exit < 2 ^ 32 }

@@ -91,7 +91,7 @@ fn verdict_on_walk(
 ///
 /// # Errors
 ///
-/// `AllocError` where a growth was refused.
+/// `AllocError` where an allocation failed.
 pub(crate) fn check_walk(
     alloc: Global,
     graph: &Graph,

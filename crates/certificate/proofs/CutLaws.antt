@@ -45,7 +45,7 @@ front_taken : (front rest : List ℕ) → take (length front) (front ++ rest) �
 front_taken [] rest = refl
 front_taken (x ∷ front) rest = ap (λ (xs : List ℕ). x ∷ xs) (front_taken front rest)
 
--- what stands behind a front, by a test of the front's length of bytes
+-- what stands after a front, by a test of the front's length of bytes
 pub behind_from : {A : Type 0} (now : A → List ℕ) (r : Option A) (words front : List ℕ)
     → MatchOption r (pointwise ◌==◌ (take (length front) words) front ≡ false) (λ x. (pointwise ◌==◌ (take (length front) words) front ≡ true) × (now x ≡ drop (length front) words) × (length (now x) + length front ≡ length words))
     → MatchOption r ((rest : List ℕ) → words ≡ front ++ rest → ⊥) (λ x. words ≡ front ++ now x)

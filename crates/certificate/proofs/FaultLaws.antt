@@ -107,7 +107,7 @@ are_first lines to follow going =
 
 -- ## Each fault
 
--- how a certificate goes on behind some lines
+-- how a certificate goes on after some lines
 on : (said : Said) (spelled : CanSpell said) (lines more : List Line) (to : Reached) → Follow lines to → cert_lines said ≡ lines ++ more → Ends to more
 on said spelled lines more to follow is = (
   at (record { opened = 0; some = spelled.nested.some }) s.Done,

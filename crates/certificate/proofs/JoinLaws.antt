@@ -4,7 +4,7 @@ use Rattle.std.specs.List.{flat_map, join_with_byte, AllByRecursion}
 use Rattle.certificate.specs.Words.{Lacks}
 use Rattle.certificate.proofs.CutLaws.{Lacks-middle, one_cut}
 
--- words, each with the byte behind it
+-- words, each with the byte after it
 abbrev pub marked : ℕ → List (List ℕ) → List ℕ
 marked mark ws = flat_map (λ w. w ++ mark ∷ []) ws
 

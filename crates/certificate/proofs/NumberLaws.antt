@@ -107,7 +107,7 @@ one_end (a ∷ xs) (b ∷ ys) x y e =
 pub hex_some : (n : ℕ) → n < 2 ^ 26 → 0 < length (hex n)
 hex_some n h = (hex_is_IsNumeral n h).0.0
 
--- what may stand behind a front of a number
+-- what may stand after a front of a number
 pub record GoesOn (whole front byte : ℕ) : Type 0 where
   pub some : 0 < front
   pub small : front * 16 ≤ whole
@@ -142,7 +142,7 @@ hex_front (suc k) m n b bs le p q e =
         let deeper = again view.0 (omega arith) (omega arith) parts.0 in
         record { some = deeper.some; small = omega (arith, deeper.small); digit = deeper.digit; digit_small = deeper.digit_small; byte_is = deeper.byte_is }
 
--- a front of a number, and what stands behind it in the word
+-- a front of a number, and what stands after it in the word
 pub hex_inside : (m n k : ℕ) (word : List ℕ) → m < 2 ^ 26 → n < 2 ^ 26 → word ≡ hex m → hex n ≡ take k word → k < length word → GoesOn m n (get_or word k 0)
 hex_inside m n k word p q is front lt =
     let parted : take k word ++ drop k word ≡ word = take-append-drop k word in

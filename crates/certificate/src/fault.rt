@@ -7,7 +7,7 @@ use thiserror::Error;
 /// Why a text is no certificate.
 #[derive(Clone, Copy, Debug, PartialEq, Eq, Error)]
 pub enum CertFault {
-    /// A growth was refused.
+    /// An allocation failed.
     #[error("Memory")]
     Memory,
     /// The whole line of this number, counted from 1, does not fit.

@@ -42,7 +42,7 @@ fn read_lines(alloc: Global, text: &[u8]) -> Result<Cert, CertFault>
 ///
 /// The first whole line that does not fit is `BadLine` with its number, counted from 1: no certificate's text
 /// begins with the lines up to it. Else a text that ends before `stop`'s line does is `Truncated`, and bytes
-/// after it are `TrailingBytes`. `Memory`: a growth was refused.
+/// after it are `TrailingBytes`. `Memory`: an allocation failed.
 pub fn read_cert(alloc: Global, text: &[u8]) -> Result<Cert, CertFault>
     // What is read is what the text spells.
     ensures found { IfOk result (λ cert. CanSpell (said_by cert) × (text.now ≡ cert_text (said_by cert))) }

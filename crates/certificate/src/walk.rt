@@ -65,7 +65,7 @@ impl CertWalk {
         }
     }
 
-    /// Adds an item at the end. `Memory`: a growth was refused, and the walk is as it was.
+    /// Adds an item at the end. `Memory`: an allocation failed, and the walk is as it was.
     pub fn push(&mut self, item: CertItem) -> Result<(), CertFault>
         ensures ok { OnOk result (self.new ≡ self.old ++ item ∷ []) }
         ensures memory { IfErr result (λ fault. fault ≡ CertFault.Memory) }

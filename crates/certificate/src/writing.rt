@@ -131,7 +131,7 @@ fn put_cert(out: &mut String, longest: &Longest) -> Result<(), AllocError>
 /// The text of a greatest walk's certificate, in time linear in its length. A body that several repeats share
 /// is written at each of them.
 ///
-/// `Memory`: a growth was refused.
+/// `Memory`: an allocation failed.
 pub fn write_cert(alloc: Global, longest: &Longest) -> Result<Vec<u8>, CertFault>
     ensures text { IfOk result (λ text. text.items ≡ cert_text (said_of longest.now)) }
     ensures memory { IfErr result (λ fault. fault ≡ CertFault.Memory) }

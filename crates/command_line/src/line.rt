@@ -28,7 +28,7 @@ pub enum Request<'a> {
 /// Why a line of words asks for nothing.
 #[derive(Drop)]
 pub enum LineFault {
-    /// A growth was refused.
+    /// An allocation failed.
     Memory,
     /// The command-line crate's own refusal, or its help.
     Usage(Error),

@@ -28,7 +28,7 @@ words_skip (b ∷ bs) = elim (cases (is_blank b)) [
   | inr h ↦ rw h refl
 ]
 
--- behind them stands a word, or nothing
+-- after them stands a word, or nothing
 pub starts_behind : (text : List ℕ) → 0 < length (drop (prefix_len is_blank text) text) → starts_word (drop (prefix_len is_blank text) text) ≡ true
 starts_behind [] some = absurd (omega arith)
 starts_behind (b ∷ bs) some = elim (cases (is_blank b)) [

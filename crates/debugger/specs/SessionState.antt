@@ -31,7 +31,7 @@ capped_sum a b = min (a + b) (2 ^ 128 - 1)
 abbrev pub behind : Input → Input
 behind i = record i { bursts = 0 }
 
--- behind a run
+-- after a run
 abbrev pub moved_on : SessionState → Ran → State → SessionState
 moved_on s ran machine = record {
   machine = machine;

@@ -32,13 +32,13 @@ abbrev pub EndsAt : Option Why → State → List (List ℕ) → Ran → State �
 EndsAt (Some why) s lines ran after goes_on = Rests s (Some why) lines ran after
 EndsAt None s lines ran after goes_on = goes_on
 
--- a breakpoint ends it behind a step
+-- a breakpoint ends it after a step
 abbrev pub UpTo : (at_break : Bool) → State → List (List ℕ) → Ran → State → (goes_on : Type 0) → Type 0
 UpTo true s lines ran after goes_on = Rests s None lines ran after
 UpTo false s lines ran after goes_on = goes_on
 
 -- The run from a state by some inputs: the trace lines of its steps, what it tells and where it ends. It ends
--- before a step that is stopped, and behind any step also before the instruction at a breakpoint.
+-- before a step that is stopped, and after any step also before the instruction at a breakpoint.
 abbrev pub Watches : (breaks : List ℕ) → State → List Input → (lines : List (List ℕ)) → Ran → State → Type 0
 Watches breaks s [] lines ran after = Rests s None lines ran after
 Watches breaks s (i ∷ rest) lines ran after =

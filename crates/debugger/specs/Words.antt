@@ -19,7 +19,7 @@ unfoldable pub words_of : List ℕ → List (List ℕ)
 words_of [] = []
 words_of (b ∷ bs) = if is_blank b then words_of bs else joined b (starts_word bs) (words_of bs)
 
--- decimal, or hexadecimal behind `&` or `0x`, below 2^32
+-- decimal, or hexadecimal after `&` or `0x`, below 2^32
 abbrev pub number_of : List ℕ → Option ℕ
 number_of [] = run_number []
 number_of (c ∷ d) = if c == 38 then number_by 16 d else run_number (c ∷ d)

@@ -4,11 +4,11 @@ ghost use Rattle.debugger.specs.Faults.{fault_name};
 use std::alloc::AllocError;
 use thiserror::Error;
 
-/// Why a command is refused. Of two that hold, the first is answered, but for `Memory`, which any growth may
-/// give.
+/// Why a command is refused. Of two that hold, the first is answered, but for `Memory`, which any allocation
+/// may give.
 #[derive(Clone, Copy, Debug, PartialEq, Eq, Drop, Error)]
 pub enum DebugFault {
-    /// A growth was refused.
+    /// An allocation failed.
     #[error("Memory")]
     Memory,
     /// The line is empty or begins with no command, has fewer or more words than its command takes, or names
@@ -16,7 +16,7 @@ pub enum DebugFault {
     #[error("UnknownCommand")]
     UnknownCommand,
     /// What should be a number is none or lies out of its range, or the words asked for are not aligned or
-    /// reach behind 3FFFFFC.
+    /// reach past 3FFFFFC.
     #[error("BadNumber")]
     BadNumber,
     /// A word of the span lies neither in RAM nor in ROM.

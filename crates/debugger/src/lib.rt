@@ -3,7 +3,7 @@
 //! `step N`, `run N`, `break`, `break A`, `regs`, `mem A N`, `dis A N`, `ticks`, `burst N`, `line NAME
 //! on|off`, `port N` and, in a whole session, `quit`, by our own format. Words stand apart by spaces and
 //! tabs; commands and names are case sensitive. Numbers are those of the assembler's source: decimal, or
-//! hexadecimal behind `&` or `0x`, below 2^32.
+//! hexadecimal after `&` or `0x`, below 2^32.
 #![tactic(auto)]
 
 mod command;

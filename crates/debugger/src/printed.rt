@@ -1,4 +1,4 @@
-// Bytes put into room that was taken before, so no growth is refused.
+// Bytes put into room that was taken before, so no allocation can fail.
 
 ghost use Rattle.std.specs.Prelude.{◌≡◌, ◌++◌, ◌+◌, ◌≤◌, ◌<◌, decimal, length, vec_capacity};
 ghost use Rattle.assembler.specs.Shown.{hex_char, hex_chars};

@@ -101,8 +101,8 @@ impl Session {
     /// # Errors
     ///
     /// `UnknownCommand` and `BadNumber` by the line alone. Of a command that is spelled well: `NoPage` of
-    /// `mem` and `dis`, `MachineStopped` of `step` and `run`, `TooManyBreaks` of `break`. `Memory`: a growth
-    /// was refused, of any command.
+    /// `mem` and `dis`, `MachineStopped` of `step` and `run`, `TooManyBreaks` of `break`. `Memory`: an
+    /// allocation failed, of any command.
     pub fn command(&mut self, alloc: Global, line: &[u8]) -> Result<Vec<u8>, DebugFault>
         ensures ok { IfOk result (λ answer. AnswersLine self.old line.now answer.items self.new) }
         ensures err { IfErr result

@@ -46,8 +46,8 @@ fn put_line(out: &mut Vec<u8>, keep: Keep, traced: &Traced)
     }
 }
 
-/// Steps a machine up to so many times: up to a step that is stopped, and behind each step to a breakpoint.
-/// It keeps the trace lines in room that was taken. The bursts of the first input are those of the first step
+/// Steps a machine up to so many times: up to a step that is stopped, and after each step to a breakpoint. It
+/// keeps the trace lines in room that was taken. The bursts of the first input are those of the first step
 /// alone.
 pub(crate) fn run_watched(
     out: &mut Vec<u8>,

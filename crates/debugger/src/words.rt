@@ -33,7 +33,7 @@ fn without_blanks(text: &[u8]) -> &[u8]
     &text[blank_len(text)..]
 }
 
-/// The first word of a line, and what stands behind it. None where there is no word.
+/// The first word of a line, and what stands after it. None where there is no word.
 pub(crate) fn first_word(line: &[u8]) -> Option<(&[u8], &[u8])>
     ensures { MatchOption result (words_of line.now ≡ [])
         (λ f. words_of line.now ≡ f.0.now ∷ words_of f.1.now) }
@@ -84,7 +84,7 @@ fn run_number(word: &[u8]) -> Option<u32>
     }
 }
 
-/// The number that a word spells: decimal, or hexadecimal behind `&` or `0x`, below 2^32.
+/// The number that a word spells: decimal, or hexadecimal after `&` or `0x`, below 2^32.
 pub(crate) fn read_number(word: &[u8]) -> Option<u32>
     ensures { result ≡ number_of word.now }
 {

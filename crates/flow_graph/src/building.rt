@@ -97,7 +97,7 @@ fn edges_in_turn(
 
 /// The flow graph of a handler: the places that are reached from its entry, and their edges.
 ///
-/// Any refusal whose condition holds may be answered; `Memory` only where a growth was refused.
+/// Any refusal whose condition holds may be answered; `Memory` only where an allocation failed.
 pub fn build(
     alloc: Global,
     image: &Image,

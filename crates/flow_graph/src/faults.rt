@@ -4,7 +4,7 @@ use thiserror::Error;
 /// Why there is no flow graph. An address is that of a reached place, but for that of `TargetNotWriter`.
 #[derive(Clone, Copy, Debug, PartialEq, Eq, Drop, Error)]
 pub enum BuildFault {
-    /// A growth was refused.
+    /// An allocation failed.
     #[error("Memory")]
     Memory,
     /// The image has no word there.

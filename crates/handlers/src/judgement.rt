@@ -82,7 +82,7 @@ fn read_files<S: Store>(alloc: Global, store: &mut S, name: &str) -> Result<File
     })
 }
 
-// The number behind a word in a line of words and numbers.
+// The number after a word in a line of words and numbers.
 fn number_after(line: &str, word: &str) -> Option<u64> {
     let mut is_next = false;
     for found in line.split(' ') {

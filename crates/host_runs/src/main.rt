@@ -8,7 +8,7 @@ use std::alloc::{AllocError, Global};
 use std::io;
 use std::process::ExitCode;
 
-/// Commands in turn, each as its words behind the program's name.
+/// Commands in turn, each as its words after the program's name.
 const COMMANDS: [&str; 6] = [
     "asm countdown.s countdown.image",
     "bound countdown.image statement.toml",

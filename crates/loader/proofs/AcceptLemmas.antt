@@ -72,7 +72,7 @@ pub numbers_fit : (count : ℕ) (bytes : List ℕ) → AreBytes bytes → AreNum
 numbers_fit zero bytes all = tt
 numbers_fit (suc count) bytes all = (number_fits bytes all, numbers_fit count (drop 4 bytes) (bytes_behind 4 bytes all))
 
--- behind four bytes nothing counts
+-- after four bytes nothing counts
 pub number_front : (xs ys : List ℕ) → 4 ≤ length xs → little_number 4 (xs ++ ys) ≡ little_number 4 xs
 number_front [] ys some = absurd (omega (arith, some))
 number_front (a ∷ []) ys some = absurd (omega (arith, some))

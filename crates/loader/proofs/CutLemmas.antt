@@ -29,7 +29,7 @@ pub record Goes (left : ℕ) (before : Words) (bytes : List ℕ) : Type 0 where
   pub numbers_are : AllByRecursion (λ s. AreNumbers s.words) segments
   pub follow : CanFollow before segments
 
--- a segment that ends too early, and others of one word behind it
+-- a segment that ends too early, and others of one word after it
 goes_with : (left : ℕ) (before : Words) (bytes tail : List ℕ) (s : Segment) → bytes ++ tail ≡ segment_bytes s → 0 < length tail → CanStand before s.address (length s.words) → AreNumbers s.words
     → HasRoom (suc left) before → length before + length s.words + left ≤ 65536 → Goes (suc left) before bytes
 goes_with left before bytes tail s is some can all room short =
@@ -145,7 +145,7 @@ cut_goes left before (x ∷ y ∷ z ∷ []) all cut e room =
     moved a b same free = subst (λ (c : ℕ). is_taken before c ≡ false) same free
 cut_goes left before (x ∷ y ∷ z ∷ u ∷ rest) all cut e room = absurd (omega (arith, cut))
 
--- ## A segment that ends behind its address
+-- ## A segment that ends after its address
 
 zeros_behind : (xs : List ℕ) (n k : ℕ) → get_or (xs ++ replicate n 0) k 0 ≡ get_or xs k 0
 zeros_behind [] zero k = refl
@@ -167,7 +167,7 @@ bytes_append [] ys all more k = more k
 bytes_append (x ∷ xs) ys all more zero = all 0
 bytes_append (x ∷ xs) ys all more (suc k) = bytes_append xs ys (λ i. all (suc i)) more k
 
--- what stands behind the bytes of a count that are there, before 0s
+-- what stands after the bytes of a count that are there, before 0s
 record Rest (bytes : List ℕ) : Type 0 where
   next : List ℕ
   short : length next ≤ 1
@@ -291,7 +291,7 @@ goes_on (suc left) before bytes all e room = elim (cases_lt (length bytes) 4) [
 empty_room : (left : ℕ) → left ≤ 16 → HasRoom left []
 empty_room left few = record { ascends = tt; may_stand = tt; runs = omega (arith, few) }
 
--- bytes that are, with more behind them, those of so many segments
+-- bytes that are, with more after them, those of so many segments
 begins_with : (bytes more : List ℕ) (segments : List Segment) → 0 < length more → bytes ++ more ≡ image_bytes segments → length segments ≤ 16 → AllByRecursion (λ s. AreNumbers s.words) segments → CanFollow [] segments → BeginImage bytes
 begins_with bytes more segments some is few all follow = record {
   missing = more;

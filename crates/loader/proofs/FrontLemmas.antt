@@ -67,7 +67,7 @@ module _ (more : List ℕ) where
   number_less (a ∷ b ∷ c ∷ []) = omega arith
   number_less (a ∷ b ∷ c ∷ d ∷ rest) = omega arith
 
-  -- with a 1 behind it, where a number that is not 0 has only 0s in front
+  -- with a 1 after it, where a number that is not 0 has only 0s in front
   one_less : (bytes : List ℕ) → little_number 4 bytes ≡ 0 → 0 < little_number 4 (bytes ++ more) → little_number 4 (bytes ++ 1 ∷ []) ≤ little_number 4 (bytes ++ more)
   one_less [] none some = omega (arith, some)
   one_less (a ∷ []) none some = omega (arith, none, some)

@@ -42,7 +42,7 @@ some_more (Some x) xs last P rest h = ap is_more (sym h)
 next_left : (count done others : ℕ) → others ≡ count - (done + 1) → done < count → count - done ≡ suc others
 next_left count done others is lt = omega (arith, is, lt)
 
--- what is read behind one segment more
+-- what is read after one segment more
 pub read_rest : (bytes rest next : List ℕ) (words new : Words) (count done : ℕ) → image_read bytes ≡ segments_read (count - done) words rest → done < count
     → (others : ℕ) → others ≡ count - (done + 1) → segments_read (suc others) words rest ≡ segments_read others new next → image_read bytes ≡ segments_read (count - (done + 1)) new next
 read_rest bytes rest next words new count done same lt others is more =
@@ -54,7 +54,7 @@ pub read_fault : (bytes rest : List ℕ) (words : Words) (count done : ℕ) (fau
 read_fault bytes rest words count done fault same lt others is (inl memory) = inl memory
 read_fault bytes rest words count done fault same lt others is (inr refused) = inr (same ∙ ap (λ (n : ℕ). segments_read n words rest) (next_left count done others is lt) ∙ refused)
 
--- behind the last segment
+-- after the last segment
 pub read_end : (bytes rest : List ℕ) (words : Words) (count done : ℕ) → image_read bytes ≡ segments_read (count - done) words rest → done ≤ count → count ≤ done → image_read bytes ≡ segments_read 0 words rest
 read_end bytes rest words count done same most all = let none : count - done ≡ 0 = omega (arith, most, all) in same ∙ ap (λ (n : ℕ). segments_read n words rest) none
 

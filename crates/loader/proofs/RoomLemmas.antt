@@ -14,7 +14,7 @@ use Rattle.loader.proofs.WrittenLemmas.{may_parts, no_fault}
 
 -- ## The words of a segment
 
--- words that more of them are put behind
+-- words that more of them are put after
 pub record IsGrown (old new : Words) (more runs : ℕ) : Type 0 where
   pub ascends : Ascends new
   pub may_stand : MayStand new
@@ -35,7 +35,7 @@ has_put words a w none =
     let back : a ≡ a + 4 - 4 = omega arith in
     subst (λ (b : ℕ). has (with_word words a w) b ≡ 1) back (ap (λ o. cond {A = ℕ} (is_some o) 1 0) (word_of_here words a w none))
 
--- behind a word that stands, no run begins
+-- after a word that stands, no run begins
 grown_behind : (words : Words) (a : ℕ) (ws : List ℕ) → a % 4 ≡ 0 → Ascends words → MayStand words → has words (a - 4) ≡ 1 → IsFree words a (a + 4 * length ws) → MayHold a (a + 4 * length ws)
     → IsGrown words (with_words words a ws) (length ws) 0
 grown_behind words a [] a4 up stand before free may = record { ascends = up; may_stand = stand; long = omega arith; few = omega arith }
@@ -105,7 +105,7 @@ free_here words c most none fits =
     let same : c ≡ c + 65536 * 0 = omega arith in
     (0, subst (λ (b : ℕ). word_of words b ≡ None) same none, omega (arith, fits))
 
--- behind a word p
+-- after a word p
 free_behind : (words : Words) (p c : ℕ) → Ascends words → AllByRecursion (λ e. p < e.0) words → c ≤ p + 65536 → p < c
     → Free words c (65536 * runs_behind (Some p) words + 4 * length words + 65536 + p)
 free_behind [] p c up all near lt = free_here [] c _ refl (omega (arith, near))
@@ -180,7 +180,7 @@ one_stands words a stand short may none =
 pub low_holds : (a : ℕ) → a % 4 ≡ 0 → a ≤ 1500000 → IsTrue (may_hold a)
 low_holds a a4 low = grind (arith, nat_tests, a4, low)
 
--- words behind which so many segments can stand
+-- words after which so many segments can stand
 pub record HasRoom (left : ℕ) (words : Words) : Type 0 where
   pub ascends : Ascends words
   pub may_stand : MayStand words
@@ -192,7 +192,7 @@ room_behind left words new n room more =
     let few = more.few in
     record { ascends = more.ascends; may_stand = more.may_stand; runs = omega (arith, runs, few) }
 
--- segments that can stand behind words
+-- segments that can stand after words
 pub record Fill (left : ℕ) (before : Words) : Type 0 where
   pub segments : List Segment
   pub count : length segments ≡ left

@@ -51,7 +51,7 @@ run_within address (e ∷ rest) = within (is_next address e) (run_within e.0 res
 
 -- ## The runs in turn
 
--- behind one segment more, what is left of the words is written as before
+-- after one segment more, what is left of the words is written as before
 pub written_turn : (old new all : List ℕ) (rest run others : Words) (length_run : ℕ) → 1 ≤ length rest → old ++ flat_map segment_bytes (segments_of rest) ≡ all
     → length_run ≡ run_behind (get_or rest 0 (0, 0)).0 (take (length rest - 1) (drop 1 rest)) → run ≡ take (1 + length_run) rest → others ≡ drop (1 + length_run) rest
     → new ≡ old ++ segment_bytes (segment_in (get_or rest 0 (0, 0)).0 run) → new ++ flat_map segment_bytes (segments_of others) ≡ all

@@ -1,4 +1,4 @@
--- Bytes that go on behind an image's.
+-- Bytes that go on after an image's.
 use Rattle.std.proofs.Common.{◌≡◌, ◌∙◌, ℕ, zero, suc, ◌+◌, ◌*◌, ◌%◌, ◌<◌, ◌≤◌, Bool, true, false, cond, List, [], ◌∷◌, ◌++◌, length, take, drop, flat_map, Option, Some, None, Result, Err, refl, sym, ap, subst, inl, inr, arith, append_assoc}
 use Rattle.std.specs.Prelude.{◌&&◌, ◌||◌, ◌==◌, not, nat_lt}
 use Rattle.std.specs.List.{AllByRecursion}
@@ -17,7 +17,7 @@ use Rattle.loader.proofs.CutLemmas.{same_fault}
 use Rattle.loader.proofs.SegmentLemmas.{length_numbers}
 use Rattle.loader.proofs.SpellLemmas.{begun, counted, segment_read}
 
--- ## What stands behind an image's bytes is trailing
+-- ## What stands after an image's bytes is trailing
 
 segments_then : (segments : List Segment) (before : Words) (rest : List ℕ) → CanFollow before segments → AllByRecursion (λ s. AreNumbers s.words) segments
     → segments_read (length segments) before (flat_map segment_bytes segments ++ rest) ≡ segments_read 0 (with_segments before segments) rest
@@ -44,7 +44,7 @@ passed_trailing bytes pass =
     ∙ segments_then segments [] pass.behind spell.follow spell.numbers
     ∙ trailing (with_segments [] segments) pass.behind pass.some
 
--- ## Trailing bytes stand behind an image's
+-- ## Trailing bytes stand after an image's
 
 record Passes (left : ℕ) (before : Words) (bytes : List ℕ) : Type 0 where
   segments : List Segment

@@ -111,7 +111,7 @@ left_one p a h none = elim (cases_eq a (p + 4)) [
   | inr other ↦ rw (ne_eqb a (p + 4) other) (omega arith)
 ]
 
--- the first word above an address stands 4 behind it, or begins a run
+-- the first word above an address stands 4 after it, or begins a run
 right_one : (a : ℕ) (e : ℕ × ℕ) (rest : Words) → a % 4 ≡ 0 → e.0 % 4 ≡ 0 → a < e.0 → Ascends (e ∷ rest) → has (e ∷ rest) (a + 4) + begins (Some a) e.0 ≡ 1
 right_one a e rest a4 e4 lt up = elim (cases_eq e.0 (a + 4)) [
   | inl same ↦
@@ -125,12 +125,12 @@ right_one a e rest a4 e4 lt up = elim (cases_eq e.0 (a + 4)) [
       omega (arith, none, new)
 ]
 
--- the words that a new word joins: 1 for the one before it, and 1 for the one behind it
+-- the words that a new word joins: 1 for the one before it, and 1 for the one after it
 abbrev pub joins : Option ℕ → Words → ℕ → ℕ
 joins None words a = has words (a - 4) + has words (a + 4)
 joins (Some p) words a = cond {A = ℕ} (eqb a (p + 4)) 1 (has words (a - 4)) + has words (a + 4)
 
--- where the new word is the first, of the words behind it
+-- where the new word is the first, of the words after it
 first_new : (p a w : ℕ) (words : Words) → p % 4 ≡ 0 → a % 4 ≡ 0 → p < a → Quads words → Ascends words → AllByRecursion (λ e. a < e.0) words
     → runs_behind (Some p) ((a, w) ∷ words) + joins (Some p) words a ≡ runs_behind (Some p) words + 1
 first_new p a w [] p4 a4 lt q up all = let left = left_one p a 0 refl in omega (arith, left)
@@ -144,7 +144,7 @@ first_new p a w (e ∷ rest) p4 a4 lt q up all =
     let new = begins_new p e.0 (λ same. omega arith) in
     omega (arith, left, right, new)
 
--- the word before, seen behind a word or in the list with it
+-- the word before, seen after a word or in the list with it
 same_before : (a : ℕ) (e : ℕ × ℕ) (rest : Words) → e.0 % 4 ≡ 0 → a % 4 ≡ 0 → e.0 < a → has (e ∷ rest) (a - 4) ≡ cond {A = ℕ} (eqb a (e.0 + 4)) 1 (has rest (a - 4))
 same_before a e rest e4 a4 lt = elim (cases_eq a (e.0 + 4)) [
   | inl same ↦ has_here e rest (a - 4) (omega arith) ∙ sym (ap (λ b. cond {A = ℕ} b 1 (has rest (a - 4))) (eq-eqb a (e.0 + 4) same))

@@ -71,7 +71,7 @@ below_further : (before : Words) (a w : ℕ) → AllByRecursion (λ e. e.0 < a) 
 below_further [] a w all = (omega arith, tt)
 below_further (e ∷ before) a w all = (let lt : e.0 < a = all.0 in omega (arith, lt), below_further before a w all.1)
 
--- ## Words behind all others
+-- ## Words after all others
 
 word_last : (before : Words) (a w : ℕ) → AllByRecursion (λ e. e.0 < a) before → with_word before a w ≡ before ++ (a, w) ∷ []
 word_last [] a w all = refl

@@ -30,7 +30,7 @@ abbrev pub begins : Option ℕ → ℕ → ℕ
 begins None address = 1
 begins (Some before) address = if address == before + 4 then 0 else 1
 
--- the runs of words side by side, behind a word or behind none
+-- the runs of words side by side, after a word or after none
 abbrev pub runs_behind : Option ℕ → Words → ℕ
 runs_behind before [] = 0
 runs_behind before (e ∷ rest) = begins before e.0 + runs_behind (Some e.0) rest

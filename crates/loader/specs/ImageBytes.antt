@@ -73,7 +73,7 @@ lies_in_memory address count =
 abbrev pub overlaps : Words → ℕ → ℕ → Bool
 overlaps words address count = list_any (λ e. nat_le address e.0 && nat_lt e.0 (address + 4 * count)) words
 
--- why a segment cannot stand behind words
+-- why a segment cannot stand after words
 abbrev pub segment_fault : Words → ℕ → ℕ → Option ReadFault
 segment_fault words address count =
     if not (address % 4 == 0) then Some Misaligned
@@ -109,7 +109,7 @@ cut_fault words others bytes =
     then Overlap
     else Truncated))
 
--- the words of so many segments, behind those before them
+-- the words of so many segments, after those before them
 abbrev pub read_by : Option ReadFault → Result Words ReadFault → Result Words ReadFault
 read_by (Some fault) rest = Err fault
 read_by None rest = rest
@@ -126,7 +126,7 @@ segments_read (suc left) words bytes =
     else segments_read left (with_words words address (numbers count (drop 8 bytes)))
     (drop (8 + 4 * count) bytes))
 
--- behind the magic: at most 16 segments
+-- after the magic: at most 16 segments
 abbrev pub count_read : List ℕ → Result Words ReadFault
 count_read bytes =
     if nat_lt 16 (little_number 4 bytes) then Err OutOfRange

@@ -38,7 +38,7 @@ pub record AreWhole (words : Words) : Type 0 where
   pub few_runs : runs_of words ≤ 16
   pub few_words : length words ≤ 65536
 
--- so many words of a segment are put behind the old ones, and the rest of it is free
+-- so many words of a segment are put after the old ones, and the rest of it is free
 pub record IsPartly (old : Words) (address count : ℕ) (bytes : List ℕ) (done : ℕ) (new : Words) : Type 0 where
   pub is : new ≡ with_words old address (numbers done bytes)
   pub free : (a : ℕ) → address + 4 * done ≤ a → a < address + 4 * count → word_of new a ≡ None

@@ -4,12 +4,12 @@ use Rattle.std.specs.List.{AllByRecursion}
 use Rattle.loader.specs.Image.{Words}
 use Rattle.loader.specs.ImageBytes.{Segment, image_bytes, segment_fault, with_words}
 
--- the words of segments, behind others
+-- the words of segments, after others
 abbrev pub with_segments : Words → List Segment → Words
 with_segments words [] = words
 with_segments words (s ∷ rest) = with_segments (with_words words s.address s.words) rest
 
--- each segment can stand behind the words before it: a multiple of 4, some words, in memory, and none on
+-- each segment can stand after the words before it: a multiple of 4, some words, in memory, and none on
 -- another's place
 abbrev pub CanFollow : Words → List Segment → Type 0
 CanFollow words [] = Unit {0}
@@ -21,7 +21,7 @@ CanFollow words (s ∷ rest) =
 abbrev pub AreNumbers : List ℕ → Type 0
 AreNumbers words = AllByRecursion (λ w. w < 2 ^ 32) words
 
--- an image is the words of at most 16 segments, each of which can stand behind those before it
+-- an image is the words of at most 16 segments, each of which can stand after those before it
 pub record Spell (segments : List Segment) (words : Words) : Type 0 where
   pub few : length segments ≤ 16
   pub numbers : AllByRecursion (λ s. AreNumbers s.words) segments
@@ -33,13 +33,13 @@ abbrev pub AreImage : List ℕ → Type 0
 AreImage bytes =
     (segments : List Segment) × (words : Words) × Spell segments words × (bytes ≡ image_bytes segments)
 
--- bytes that end too early: with those that are missing behind them they are an image's
+-- bytes that end too early: with those that are missing after them they are an image's
 pub record BeginImage (bytes : List ℕ) : Type 0 where
   pub missing : List ℕ
   pub some : 0 < length missing
   pub whole : AreImage (bytes ++ missing)
 
--- bytes that go on behind those of an image
+-- bytes that go on after those of an image
 pub record PassImage (bytes : List ℕ) : Type 0 where
   pub image : List ℕ
   pub behind : List ℕ

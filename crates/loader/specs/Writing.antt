@@ -3,11 +3,11 @@ use Rattle.std.specs.Prelude.{ℕ, suc, ◌+◌, ◌==◌, Bool, if◌then◌els
 use Rattle.loader.specs.Image.{Words}
 use Rattle.loader.specs.ImageBytes.{Segment}
 
--- a word right behind an address
+-- a word right after an address
 abbrev pub is_next : ℕ → ℕ × ℕ → Bool
 is_next before e = e.0 == before + 4
 
--- the number of words that stand side by side behind an address
+-- the number of words that stand side by side after an address
 abbrev pub run_behind : ℕ → Words → ℕ
 run_behind before [] = 0
 run_behind before (e ∷ rest) = if is_next before e then suc (run_behind e.0 rest) else 0

@@ -18,7 +18,7 @@ const MOST_RUNS: usize = 16;
 /// Why an image does not take a word.
 #[derive(Clone, Copy, Debug, PartialEq, Eq, Drop, Error)]
 pub enum ImageFault {
-    /// A growth was refused.
+    /// An allocation failed.
     #[error("Memory")]
     Memory,
     /// The address is no multiple of 4, in I/O or past 3FFFFFC, or it holds a word already.

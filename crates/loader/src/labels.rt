@@ -10,7 +10,7 @@ use thiserror::Error;
 /// Why a label is not put.
 #[derive(Clone, Copy, Debug, PartialEq, Eq, Drop, Error)]
 pub enum LabelFault {
-    /// A growth was refused.
+    /// An allocation failed.
     #[error("Memory")]
     Memory,
     /// The name stands for an address already.
@@ -72,8 +72,8 @@ impl Labels {
         self.addresses.get(name).copied()
     }
 
-    /// Puts a name that stands for no address yet. `Twice`: it stands for one; `Memory`: a growth was
-    /// refused. After either the labels are as they were.
+    /// Puts a name that stands for no address yet. `Twice`: it stands for one; `Memory`: an allocation
+    /// failed. After either the labels are as they were.
     pub fn put(&mut self, alloc: Global, name: &[u8], address: u32) -> Result<(), LabelFault>
         ensures ok { OnOk result
             ((other : List ℕ)

@@ -12,7 +12,7 @@ pub fn images_are_read()
         → image_read (image_bytes segments) ≡ Ok words }
 {}
 
-/// States that bytes are `Truncated` exactly where they end too early, which is where some more behind them
+/// States that bytes are `Truncated` exactly where they end too early, which is where some more after them
 /// would make them an image's. It does nothing.
 pub fn truncated_begins_an_image()
     ensures begins { (bytes : List ℕ) → All (λ b. b < 256) bytes → image_read bytes ≡ Err ReadFault.Truncated
@@ -20,14 +20,14 @@ pub fn truncated_begins_an_image()
     ensures truncated { (bytes : List ℕ) → BeginImage bytes → image_read bytes ≡ Err ReadFault.Truncated }
 {}
 
-/// States that bytes with any other fault do not begin an image's, whatever stood behind them. It does
+/// States that bytes with any other fault do not begin an image's, whatever stood after them. It does
 /// nothing.
 pub fn other_faults_begin_no_image()
     ensures { (bytes more : List ℕ) → (fault : ReadFault) → image_read bytes ≡ Err fault
         → fault ≢ ReadFault.Truncated → AreImage (bytes ++ more) → ⊥ }
 {}
 
-/// States that bytes are `TrailingBytes` exactly where they go on behind an image's. It does nothing.
+/// States that bytes are `TrailingBytes` exactly where they go on after an image's. It does nothing.
 pub fn trailing_bytes_follow_an_image()
     ensures follow { (bytes : List ℕ) → All (λ b. b < 256) bytes
         → image_read bytes ≡ Err ReadFault.TrailingBytes → PassImage bytes }

@@ -10,7 +10,7 @@ use thiserror::Error;
 /// Why an image is not loaded.
 #[derive(Clone, Copy, Debug, PartialEq, Eq, Drop, Error)]
 pub enum LoadFault {
-    /// A growth was refused.
+    /// An allocation failed.
     #[error("Memory")]
     Memory,
     /// A word's address leads to no RAM or ROM of the machine: its logical page is not mapped, or its
@@ -117,8 +117,8 @@ fn load_words(alloc: Global, memc: &mut Memc, image: &Image) -> Result<(), LoadF
 ///
 /// # Errors
 ///
-/// `NoPage`: a word's address leads to no RAM or ROM of the machine.
-/// `Memory`: a growth was refused. After either the machine is as it was.
+/// `NoPage`: a word's address leads to no RAM or ROM of the machine. `Memory`: an allocation failed. After
+/// either the machine is as it was.
 pub fn load(alloc: Global, machine: &mut Machine, image: &Image) -> Result<(), LoadFault>
     ensures ok { OnOk result (machine.new ≡ with_image image.now machine.old) }
     ensures fits { OnOk result (lacks_page machine.old.bus.memc image.now ≡ false) }

@@ -24,7 +24,7 @@ const MOST_SEGMENTS: u32 = 16;
 /// Why bytes are no image.
 #[derive(Clone, Copy, Debug, PartialEq, Eq, Drop, Error)]
 pub enum ReadFault {
-    /// A growth was refused.
+    /// An allocation failed.
     #[error("Memory")]
     Memory,
     /// The bytes do not begin with the magic.
@@ -39,7 +39,7 @@ pub enum ReadFault {
     /// A segment's address is no multiple of 4.
     #[error("Misaligned")]
     Misaligned,
-    /// Bytes stand behind the last segment.
+    /// Bytes stand after the last segment.
     #[error("TrailingBytes")]
     TrailingBytes,
     /// More than 16 segments, a segment of no words, in I/O (3000000 to 33FFFFF) or past 4000000, or more
@@ -116,7 +116,7 @@ impl Image {
             .is_some()
     }
 
-    // Why a segment cannot stand behind the words of the earlier ones.
+    // Why a segment cannot stand after the words of the earlier ones.
     fn segment_fault(&self, head: Head) -> Option<ReadFault>
         ensures { result ≡ segment_fault self.now head.address head.count }
     {
@@ -176,7 +176,7 @@ impl Image {
         ReadFault::Truncated
     }
 
-    // Puts the words of a segment that can stand behind those of the image.
+    // Puts the words of a segment that can stand after those of the image.
     fn put_segment(&mut self, alloc: Global, head: Head, bytes: &[u8]) -> Result<(), ReadFault>
         requires allowed { segment_fault self.old head.address head.count ≡ None }
         requires standing { 4 * head.count ≤ length bytes.now }
@@ -201,7 +201,7 @@ impl Image {
 }
 
 // Puts the words of the segment that the bytes begin with, with so many others to come, and answers the bytes
-// behind it.
+// after it.
 fn read_segment<'a>(
     alloc: Global,
     image: &mut Image,
@@ -230,7 +230,7 @@ fn read_segment<'a>(
     Ok(&bytes[end..])
 }
 
-// The number of segments, and the bytes behind it.
+// The number of segments, and the bytes after it.
 fn read_count(bytes: &[u8]) -> Result<(u32, &[u8]), ReadFault>
     ensures count { IfOk result
         (λ start. (image_read bytes.now ≡ segments_read start.0 [] start.1.now) × (start.0 ≤ 16)) }
@@ -260,7 +260,7 @@ fn read_count(bytes: &[u8]) -> Result<(u32, &[u8]), ReadFault>
 ///
 /// The first from the front: `BadMagic`, `OutOfRange`, `Misaligned` and `Overlap` as soon as the bytes cannot
 /// be those of an image, `Truncated` where they end too early, `TrailingBytes` where they go on, and `Memory`
-/// where a growth was refused.
+/// where an allocation failed.
 pub fn read_image(alloc: Global, bytes: &[u8]) -> Result<Image, ReadFault>
     ensures image { IfOk result (λ image. image_read bytes.now ≡ Ok image) }
     ensures spelled { IfOk result

@@ -30,14 +30,14 @@ fn push_segment(bytes: &mut Vec<u8>, address: u32, run: &[(u32, u32)]) -> Result
     Ok(())
 }
 
-// Whether a word stands right behind an address.
+// Whether a word stands right after an address.
 fn is_next(before: u32, entry: &(u32, u32)) -> bool
     ensures { result ≡ is_next before entry.now }
 {
     u64::from(entry.0) == u64::from(before) + 4
 }
 
-// The number of words that stand side by side behind an address.
+// The number of words that stand side by side after an address.
 fn run_behind(address: u32, words: &[(u32, u32)]) -> usize
     ensures count { result ≡ run_behind address words.now }
     ensures within { result ≤ length words.now }
@@ -75,7 +75,7 @@ fn push_segments(bytes: &mut Vec<u8>, words: &[(u32, u32)]) -> Result<(), AllocE
 ///
 /// # Errors
 ///
-/// `Memory`: a growth was refused.
+/// `Memory`: an allocation failed.
 pub fn write_image(alloc: Global, image: &Image) -> Result<Vec<u8>, ImageFault>
     ensures bytes { IfOk result (λ bytes. bytes.items ≡ image_bytes (segments_of image.now)) }
     ensures back { IfOk result (λ bytes. image_read bytes.items ≡ Ok image.now) }

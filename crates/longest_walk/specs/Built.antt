@@ -47,7 +47,7 @@ pub record AreAllNumbered (flow : Flow) (tree : Tree) (c : Tables) (count : ℕ)
   pub body_is : IsNumberedBody flow tree c body
   pub count_is : count ≡ body_is.span.bound
 
--- each edge of these numbers begins behind the one before it, the first at the number or behind it
+-- each edge of these numbers begins after the one before it, the first at the number or after it
 abbrev pub Rise : Flow → Tree → ℕ → List ℕ → Type 0
 Rise flow tree least [] = Unit {0}
 Rise flow tree least (k ∷ rest) =

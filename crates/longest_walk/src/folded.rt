@@ -53,7 +53,7 @@ impl FoldedWalk {
         FoldedWalk { list }
     }
 
-    /// Adds an item at the end. `Memory`: a growth was refused, and the walk is as it was.
+    /// Adds an item at the end. `Memory`: an allocation failed, and the walk is as it was.
     pub fn push(&mut self, _alloc: Global, item: Item) -> Result<(), WalkFault>
         ensures ok { OnOk result (self.new ≡ self.old ++ item ∷ []) }
         ensures memory { IfErr result (λ fault. fault ≡ WalkFault.Memory) }

@@ -33,8 +33,8 @@ fn search(alloc: Global, graph: &Graph, tree: &LoopTree) -> Result<(Index, Table
 /// # Errors
 ///
 /// `NoCompleteWalk` where no walk from the entry leaves the handler, else `BoundTooLarge` where a walk from
-/// the entry that keeps the bounds costs 2^63 ticks or more, wherever it ends. `Memory`: a growth was
-/// refused.
+/// the entry that keeps the bounds costs 2^63 ticks or more, wherever it ends. `Memory`: an allocation
+/// failed.
 pub fn longest(alloc: Global, graph: &Graph, tree: &LoopTree) -> Result<Longest, WalkFault>
     requires { IsTree graph.now tree.now }
     ensures longest { IfOk result (IsLongest graph.now tree.now) }

@@ -38,7 +38,7 @@ pub(crate) fn add_rounds(
     Ok(())
 }
 
-/// Adds the edges of a way, and behind each the rounds of the instance at whose header it ends.
+/// Adds the edges of a way, and after each the rounds of the instance at whose header it ends.
 pub(crate) fn add_way(
     walk: &mut Vec<Item>,
     graph: &Graph,

@@ -64,7 +64,7 @@ impl<T: Drop> Rows<T> {
         Rows { list }
     }
 
-    /// Adds a row at the end. `Memory`: a growth was refused, and the rows are as they were.
+    /// Adds a row at the end. `Memory`: an allocation failed, and the rows are as they were.
     pub fn push(&mut self, _alloc: Global, row: T) -> Result<(), WalkFault>
         ensures ok { OnOk result (self.new ≡ self.old ++ row ∷ []) }
         ensures memory { IfErr result (λ fault. fault ≡ WalkFault.Memory) }

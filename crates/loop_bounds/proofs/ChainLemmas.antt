@@ -25,7 +25,7 @@ filter_none f (x ∷ xs) none = rw (none 0 x (omega arith)) (filter_none f xs (�
 cond_cons : {X : Type 0} (b : Bool) (x : X) (xs ys : List X) → xs ≡ ys → cond b (x ∷ xs) xs ≡ cond b (x ∷ ys) ys
 cond_cons b x xs ys e = ap (λ (zs : List _). cond b (x ∷ zs) zs) e
 
--- two tests that agree on the first n, of which the one fails behind them
+-- two tests that agree on the first n, of which the one fails after them
 filter_cut : {X : Type 0} (f g : X → Bool) (xs : List X) (n : ℕ) → ((j : ℕ) (d : X) → j < n → j < length xs → f (get_or xs j d) ≡ g (get_or xs j d)) → ((j : ℕ) (d : X) → n ≤ j → j < length xs → f (get_or xs j d) ≡ false) → filter f xs ≡ filter g (take n xs)
 filter_cut f g [] zero same none = refl
 filter_cut f g [] (suc n) same none = refl

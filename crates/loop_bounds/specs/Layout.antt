@@ -71,7 +71,7 @@ pub record AreFirsts (edges : List NumberedEdge) (firsts : List ℕ) (limit : �
   pub from : (v k : ℕ) (d : NumberedEdge) → v < limit → slice_index firsts v ≤ k → k < length edges
       → v ≤ (slice_index_or edges k d).from
 
--- of the first nodes of an order, how many stand behind each, and itself
+-- of the first nodes of an order, how many stand after each, and itself
 pub record AreHeights (order heights : List ℕ) (nodes limit : ℕ) : Type 0 where
   pub whole : length heights ≡ nodes
   pub each : (k : ℕ) → k < limit → slice_index heights (slice_index order k) + k ≡ length order

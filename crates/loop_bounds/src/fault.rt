@@ -4,7 +4,7 @@ use thiserror::Error;
 /// Why the loops of a handler have no tree. Of those that apply the first is answered, in this order.
 #[derive(Clone, Copy, Debug, PartialEq, Eq, Error)]
 pub enum NestFault {
-    /// A growth was refused.
+    /// An allocation failed.
     #[error("Memory")]
     Memory,
 

@@ -8,7 +8,7 @@ use flow_graph::{Calls, Place};
 use std::alloc::{AllocError, Global};
 use std::cmp::Ordering;
 
-// The call's address at the index, or behind the last call the address of the instruction.
+// The call's address at the index, or after the last call the address of the instruction.
 fn address_at(calls: &[u32], index: usize, address: u32) -> u32
     requires { index ≤ length calls.now }
     ensures { result ≡ slice_index (calls.now ++ address ∷ []) index }

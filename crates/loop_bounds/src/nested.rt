@@ -145,7 +145,7 @@ impl LoopTree {
     ///
     /// # Errors
     ///
-    /// Where a growth was refused.
+    /// Where an allocation failed.
     pub fn nested(&self, alloc: Global, graph: &Graph) -> Result<Instances, AllocError>
         requires { IsTree graph.now self.now }
         ensures { IfOk result (IsNestedView graph.now self.now) }

@@ -150,7 +150,7 @@ fn shared_fault(
 /// # Errors
 ///
 /// Of `LoopsCross`, `SharedHeader`, `EntersMidLoop`, `UnboundedCycle` and `NestedTooDeep` the first that
-/// applies, and `Memory` where a growth was refused.
+/// applies, and `Memory` where an allocation failed.
 pub fn nest(alloc: Global, graph: &Graph, statement: &Statement) -> Result<LoopTree, NestFault>
     ensures instances { IfOk result
         (λ tree. (i : Instance) → Contains tree.instances i ↔ IsInstance graph.now statement.now.loops i) }

@@ -3,7 +3,7 @@ mod words;
 use arm2_decode::*;
 use words::*;
 
-// The number of a kind, and the fields of a row, with zeros behind them.
+// The number of a kind, and the fields of a row, with zeros after them.
 macro_rules! row {
     ($kind:literal: $($field:expr),*; $($zero:literal)*) => {
         ($kind, [$($field,)* $($zero),*])

@@ -108,8 +108,8 @@ enum Step {
 // No word, since the logical page lies nowhere.
 const NO: u32 = 99;
 
-// Each step, and the first and last words behind it of the logical pages 0, 1 and 127 and of these
-// physical pages, from a plain map of pages by their numbers.
+// Each step, and the first and last words after it of the logical pages 0, 1 and 127 and of these physical
+// pages, from a plain map of pages by their numbers.
 const SCRIPT: [(Step, [u32; 6], [u32; 6]); 40] = [
     (
         Step::Store(0, false, 1),

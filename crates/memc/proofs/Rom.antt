@@ -65,6 +65,6 @@ rom_word-with_words (e ∷ rest) words b = rom_word-with_words rest (with_word w
 pub with_next : (rom : Words) (words : List (ℕ × ℕ)) (i : ℕ) (d : ℕ × ℕ) → i < length words → with_words (with_word rom (get_or words i d).0 (get_or words i d).1) (drop (i + 1) words) ≡ with_words rom (drop i words)
 with_next rom words i d below = rw (add-one, drop-cons words i d) refl
 
--- behind the last one nothing changes
+-- after the last one nothing changes
 pub with_rest : (rom : Words) (words : List (ℕ × ℕ)) (i : ℕ) → length words ≤ i → with_words rom (drop i words) ≡ rom
 with_rest rom words i past = rw (drop_all i words past) refl

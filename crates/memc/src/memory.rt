@@ -42,7 +42,7 @@ struct ControlFields {
     system: bool,
 }
 
-/// The memory controller, with the RAM and the ROM words behind it.
+/// The memory controller, with RAM and the words of ROM.
 #[derive(Drop)]
 pub struct Memc {
     sized: Sized,
@@ -74,8 +74,8 @@ macro_rules! each_size {
 impl Memc {
     /// All words of RAM 0, no ROM words, and all control fields 0.
     ///
-    /// Each of the 128 logical pages lies on the physical page of its number, at level 0. `Memory`: a growth
-    /// was refused.
+    /// Each of the 128 logical pages lies on the physical page of its number, at level 0. `Memory`: an
+    /// allocation failed.
     pub fn new(alloc: Global, size: PageSize) -> Result<Memc, MemcFault>
         ensures { IfOk result (λ m. IsStart (shift_of_size size) m) }
     {
@@ -203,7 +203,7 @@ impl Memc {
     ///
     /// Of two words for one address, and over one that is there, the last stays. No load finds a word at
     /// another address. It copies the words that are there, so a caller gives all words in one call.
-    /// `Memory`: a growth was refused.
+    /// `Memory`: an allocation failed.
     pub fn add_rom(&mut self, _alloc: Global, words: &[(u32, u32)]) -> Result<(), MemcFault>
         ensures ok { OnOk result (self.new ≡ with_rom words.now self.old) }
         ensures words { OnOk result

@@ -60,7 +60,7 @@ pub enum MapFault {
 /// Why a memory is not made, or does not take ROM words.
 #[derive(Clone, Copy, Debug, PartialEq, Eq, Drop, Error)]
 pub enum MemcFault {
-    /// A growth was refused.
+    /// An allocation failed.
     #[error("Memory")]
     Memory,
 }

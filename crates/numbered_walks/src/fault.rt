@@ -4,7 +4,7 @@ use thiserror::Error;
 /// Why there is no greatest walk.
 #[derive(Clone, Copy, Debug, PartialEq, Eq, Error)]
 pub enum WalkFault {
-    /// A growth was refused.
+    /// An allocation failed.
     #[error("Memory")]
     Memory,
     /// No walk from the entry leaves the handler.

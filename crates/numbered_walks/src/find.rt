@@ -66,7 +66,7 @@ fn totals_fit(spans: &[Span], holders: &[Vec<Span>], tables: &Tables, exit: usiz
 /// # Errors
 ///
 /// `NoCompleteWalk` where no walk leads to Exit, else `BoundTooLarge` where a walk that keeps the bounds
-/// costs 2^63 ticks or more, wherever it ends. `Memory`: a growth was refused.
+/// costs 2^63 ticks or more, wherever it ends. `Memory`: an allocation failed.
 pub fn find_tables(
     alloc: Global,
     edges: &[NumberedEdge],

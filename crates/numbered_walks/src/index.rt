@@ -44,7 +44,7 @@ pub(crate) fn is_header(spans: &[Span], headers: &[Option<Span>], number: usize)
 }
 
 impl Index {
-    /// The index of the numbers up to that of Exit. `AllocError`: a growth was refused.
+    /// The index of the numbers up to that of Exit. `AllocError`: an allocation failed.
     pub fn of(
         alloc: Global,
         edges: &[NumberedEdge],
