@@ -5,3 +5,4 @@ pub mod Moved
 pub mod Single
 pub mod Block
 pub mod Operations
+pub mod Bases

@@ -9,6 +9,7 @@
 mod blocks;
 mod bus;
 mod few;
+mod law;
 mod moved;
 mod operations;
 mod registers;
@@ -18,4 +19,5 @@ mod span;
 mod words;
 
 pub use bus::Bus;
+pub use law::bases_after_transfers;
 pub use operations::execute;
