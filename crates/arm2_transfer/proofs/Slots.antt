@@ -2,7 +2,7 @@
 use Rattle.std.proofs.Common.{◌≡◌, ◌≢◌, ℕ, ◌<◌, ◌==◌, Bool, true, false, not, ◌&&◌, cond, List, [], ◌∷◌, length, refl, sym, ◌∙◌, ap, arith, inl, inr}
 use Rattle.std.specs.Prelude.{slice_index, slice_set, filter}
 use Rattle.std.specs.List.{list_any}
-use Rattle.std.proofs.lemmas.Bool.{and_parts, cases_Bool, cases_eq, eq-eqb, eqb-true, eqb-false, ne_eqb, not-true, or_from, or_parts}
+use Rattle.std.proofs.lemmas.Bool.{and_parts, cases_Bool, cases_eq, cond-false, cond-true, eq-eqb, eqb-true, eqb-false, ne_eqb, not-true, or_from, or_parts}
 use Rattle.std.proofs.lemmas.Bool.Decides.{nat_tests}
 use Rattle.std.proofs.lemmas.List.{get_or-set_same, get_or-set_other, length-set}
 use Rattle.arm2_decode.specs.declared.names.Register.{Register}
@@ -10,7 +10,7 @@ use Rattle.arm2_decode.specs.declared.names.Register.TheVariants.{R0, R1, R2, R3
 use Rattle.arm2_decode.specs.Names.{register_number}
 use Rattle.arm2_effect.specs.declared.modes.Mode.{Mode}
 use Rattle.arm2_effect.specs.declared.modes.Mode.TheVariants.{User, Fiq, Irq, Svc}
-use Rattle.arm2_effect.specs.Modes.{r15_in, register_in, slot_of, with_r15, with_register}
+use Rattle.arm2_effect.specs.Modes.{r15_in, slot_of, with_r15}
 use Rattle.arm2_effect.specs.ProgramCounter.{r15_ahead}
 use Rattle.arm2_transfer.specs.Words.{all_registers}
 use Rattle.arm2_transfer.specs.Registers.{given, is_r15, loaded_r15, passed, with_base, with_loaded}
@@ -35,6 +35,12 @@ below_15 R13 h = omega arith
 below_15 R14 h = omega arith
 below_15 R15 h = absurd (h refl)
 
+number_below : (r : Register) → register_number r < 16
+number_below r = elim (cases_eq (register_number r) 15) [
+  | inl last ↦ omega (arith, last)
+  | inr other ↦ omega (arith, below_15 r other)
+]
+
 slot_below : (mode : Mode) (n : ℕ) → n < 15 → slot_of mode n < 26
 slot_below User n h = grind (arith, nat_tests)
 slot_below Fiq n h = grind (arith, nat_tests)
@@ -47,121 +53,139 @@ slot_same Fiq a b f h e = grind (arith, nat_tests)
 slot_same Irq a b f h e = grind (arith, nat_tests)
 slot_same Svc a b f h e = grind (arith, nat_tests)
 
-number_below : (r : Register) → register_number r < 16
-number_below r = elim (cases_eq (register_number r) 15) [
-  | inl last ↦ omega (arith, last)
-  | inr other ↦ omega (arith, below_15 r other)
-]
-
--- a base stands before R15
-pub base_slot : (mode : Mode) (rn : Register) → register_number rn ≢ 15 → slot_of mode (register_number rn) < 26
-base_slot mode rn other = slot_below mode (register_number rn) (below_15 rn other)
-
 slot_of_r15 : (mode : Mode) → slot_of mode 15 ≡ 26
 slot_of_r15 User = refl
 slot_of_r15 Fiq = refl
 slot_of_r15 Irq = refl
 slot_of_r15 Svc = refl
 
--- whether a register of a mode stands at a place
+-- the place of a mode's register, and whether a register stands at a place
+abbrev pub place : Mode → Register → ℕ
+place mode r = slot_of mode (register_number r)
+
 abbrev pub stands_at : Mode → ℕ → Register → Bool
-stands_at mode s register = slot_of mode (register_number register) == s
+stands_at mode s r = place mode r == s
+
+-- a base stands before R15
+pub base_slot : (mode : Mode) (rn : Register) → register_number rn ≢ 15 → place mode rn < 26
+base_slot mode rn other = slot_below mode (register_number rn) (below_15 rn other)
 
 pub same_stands : (mode : Mode) (r rn : Register) → (register_number r == register_number rn) ≡ true
-    → stands_at mode (slot_of mode (register_number rn)) r ≡ true
-same_stands mode r rn same = eq-eqb _ _ (ap (slot_of mode) (eqb-true (register_number r) (register_number rn) same))
+    → stands_at mode (place mode rn) r ≡ true
+same_stands mode r rn same =
+    let number = eqb-true (register_number r) (register_number rn) same in
+    eq-eqb (place mode r) (place mode rn) (ap (slot_of mode) number)
 
-pub other_stands : (mode : Mode) (r rn : Register) → register_number rn ≢ 15 → (register_number r == register_number rn) ≡ false
-    → stands_at mode (slot_of mode (register_number rn)) r ≡ false
+pub other_stands : (mode : Mode) (r rn : Register) → register_number rn ≢ 15
+    → (register_number r == register_number rn) ≡ false → stands_at mode (place mode rn) r ≡ false
 other_stands mode r rn base other =
-    ne_eqb _ _ (λ e. eqb-false (register_number r) (register_number rn) other
+    ne_eqb (place mode r) (place mode rn) (λ e. eqb-false (register_number r) (register_number rn) other
     (slot_same mode (register_number r) (register_number rn) (number_below r) (below_15 rn base) e))
 
-no_r15 : (mode : Mode) (s : ℕ) (register : Register) → s < 26 → stands_at mode s register ≡ true → is_r15 register ≡ false
-no_r15 mode s register low here = elim (cases_Bool (is_r15 register)) [
+no_r15 : (mode : Mode) (s : ℕ) (r : Register) → s < 26 → stands_at mode s r ≡ true → is_r15 r ≡ false
+no_r15 mode s r low here = elim (cases_Bool (is_r15 r)) [
   | inl last ↦
-      let at : slot_of mode (register_number register) ≡ 26 = ap (slot_of mode) (eqb-true (register_number register) 15 last) ∙ slot_of_r15 mode in
-      absurd (omega (arith, low, at, eqb-true (slot_of mode (register_number register)) s here))
+      let number : register_number r ≡ 15 = eqb-true (register_number r) 15 last in
+      let at : place mode r ≡ 26 = ap (slot_of mode) number ∙ slot_of_r15 mode in
+      absurd (omega (arith, low, at, eqb-true (place mode r) s here))
   | inr other ↦ other
 ]
 
 -- ## One write
 
 module _ (mode : Mode) (s : ℕ) (register : Register) (regs : List ℕ) (low : s < 26) where
-  pub loaded_here : (psr : Bool) (r word : ℕ) → 26 < length regs → stands_at mode s register ≡ true → slice_index (with_loaded psr mode r register word regs) s ≡ word
+  apart_from_r15 : s ≢ 26
+  apart_from_r15 same = omega (arith, low, same)
+
+  at_place : stands_at mode s register ≡ true → place mode register ≡ s
+  at_place here = eqb-true (place mode register) s here
+
+  pub loaded_here : (psr : Bool) (r word : ℕ) → 26 < length regs → stands_at mode s register ≡ true
+      → slice_index (with_loaded psr mode r register word regs) s ≡ word
   loaded_here psr r word long here =
-      ap (λ (b : Bool). slice_index (cond b (with_r15 (loaded_r15 psr r word) regs) (with_register mode (register_number register) word regs)) s) (no_r15 mode s register low here)
-      ∙ ap (λ (k : ℕ). slice_index (slice_set regs k word) s) (eqb-true (slot_of mode (register_number register)) s here)
+      ap (λ (xs : List ℕ). slice_index xs s)
+      (cond-false (is_r15 register) _ _ (no_r15 mode s register low here))
+      ∙ ap (λ (k : ℕ). slice_index (slice_set regs k word) s) (at_place here)
       ∙ get_or-set_same regs s word 0 (omega (arith, low, long))
 
-  pub loaded_apart : (psr : Bool) (r word : ℕ) → stands_at mode s register ≡ false → slice_index (with_loaded psr mode r register word regs) s ≡ slice_index regs s
+  pub loaded_apart : (psr : Bool) (r word : ℕ) → stands_at mode s register ≡ false
+      → slice_index (with_loaded psr mode r register word regs) s ≡ slice_index regs s
   loaded_apart psr r word apart = elim (cases_Bool (is_r15 register)) [
     | inl last ↦
-        ap (λ (b : Bool). slice_index (cond b (with_r15 (loaded_r15 psr r word) regs) (with_register mode (register_number register) word regs)) s) last
-        ∙ get_or-set_other regs 26 s (loaded_r15 psr r word) 0 (λ same. omega (arith, low, same))
+        ap (λ (xs : List ℕ). slice_index xs s) (cond-true (is_r15 register) _ _ last)
+        ∙ get_or-set_other regs 26 s (loaded_r15 psr r word) 0 apart_from_r15
     | inr other ↦
-        ap (λ (b : Bool). slice_index (cond b (with_r15 (loaded_r15 psr r word) regs) (with_register mode (register_number register) word regs)) s) other
-        ∙ get_or-set_other regs (slot_of mode (register_number register)) s word 0 (λ same. eqb-false (slot_of mode (register_number register)) s apart (sym same))
+        ap (λ (xs : List ℕ). slice_index xs s) (cond-false (is_r15 register) _ _ other)
+        ∙ get_or-set_other regs (place mode register) s word 0
+        (λ same. eqb-false (place mode register) s apart (sym same))
   ]
 
-  pub loaded_long : (psr : Bool) (r word : ℕ) → 26 < length regs → 26 < length (with_loaded psr mode r register word regs)
+  pub loaded_long : (psr : Bool) (r word : ℕ) → 26 < length regs
+      → 26 < length (with_loaded psr mode r register word regs)
   loaded_long psr r word long = elim (cases_Bool (is_r15 register)) [
     | inl last ↦
-        let is = ap (λ (b : Bool). length (cond b (with_r15 (loaded_r15 psr r word) regs) (with_register mode (register_number register) word regs))) last in
-        omega (arith, long, is, length-set regs 26 (loaded_r15 psr r word))
+        rw (cond-true (is_r15 register) (with_r15 (loaded_r15 psr r word) regs) _ last)
+        (omega (arith, long, length-set regs 26 (loaded_r15 psr r word)))
     | inr other ↦
-        let is = ap (λ (b : Bool). length (cond b (with_r15 (loaded_r15 psr r word) regs) (with_register mode (register_number register) word regs))) other in
-        omega (arith, long, is, length-set regs (slot_of mode (register_number register)) word)
+        rw (cond-false (is_r15 register) _ (slice_set regs (place mode register) word) other)
+        (omega (arith, long, length-set regs (place mode register) word))
   ]
 
-  -- what a store is given by a register that stands there, and by one that does not, once that place was written
+  -- what a register gives to a store: one that stands at the place, and another once the place was written
   pub given_here : stands_at mode s register ≡ true → given mode register regs ≡ slice_index regs s
   given_here here =
-      ap (λ (b : Bool). cond b (r15_ahead (r15_in regs) 12) (register_in mode (register_number register) regs)) (no_r15 mode s register low here)
-      ∙ ap (λ (k : ℕ). slice_index regs k) (eqb-true (slot_of mode (register_number register)) s here)
+      cond-false (is_r15 register) _ _ (no_r15 mode s register low here)
+      ∙ ap (slice_index regs) (at_place here)
 
-  pub given_apart : (word : ℕ) → stands_at mode s register ≡ false → given mode register (slice_set regs s word) ≡ given mode register regs
+  pub given_apart : (word : ℕ) → stands_at mode s register ≡ false
+      → given mode register (slice_set regs s word) ≡ given mode register regs
   given_apart word apart = elim (cases_Bool (is_r15 register)) [
     | inl last ↦
-        ap (λ (b : Bool). cond b (r15_ahead (r15_in (slice_set regs s word)) 12) (register_in mode (register_number register) (slice_set regs s word))) last
-        ∙ ap (λ (r : ℕ). r15_ahead r 12) (get_or-set_other regs s 26 word 0 (λ same. omega (arith, low, same)))
-        ∙ sym (ap (λ (b : Bool). cond b (r15_ahead (r15_in regs) 12) (register_in mode (register_number register) regs)) last)
+        cond-true (is_r15 register) _ _ last
+        ∙ ap (λ (r : ℕ). r15_ahead r 12)
+        (get_or-set_other regs s 26 word 0 (λ same. apart_from_r15 (sym same)))
+        ∙ sym (cond-true (is_r15 register) _ _ last)
     | inr other ↦
-        ap (λ (b : Bool). cond b (r15_ahead (r15_in (slice_set regs s word)) 12) (register_in mode (register_number register) (slice_set regs s word))) other
-        ∙ get_or-set_other regs s (slot_of mode (register_number register)) word 0 (eqb-false (slot_of mode (register_number register)) s apart)
-        ∙ sym (ap (λ (b : Bool). cond b (r15_ahead (r15_in regs) 12) (register_in mode (register_number register) regs)) other)
+        cond-false (is_r15 register) _ _ other
+        ∙ get_or-set_other regs s (place mode register) word 0 (eqb-false (place mode register) s apart)
+        ∙ sym (cond-false (is_r15 register) _ _ other)
   ]
 
 -- ## The base's write
 
-module _ (mode : Mode) (rn : Register) (base : ℕ) (regs : List ℕ) (low : slot_of mode (register_number rn) < 26) (long : 26 < length regs) where
-  pub passed_base : slice_index (passed regs) (slot_of mode (register_number rn)) ≡ slice_index regs (slot_of mode (register_number rn))
-  passed_base = get_or-set_other regs 26 (slot_of mode (register_number rn)) (r15_ahead (r15_in regs) 4) 0 (λ same. omega (arith, low, same))
+module _ (mode : Mode) (rn : Register) (base : ℕ) (regs : List ℕ) (low : place mode rn < 26)
+    (long : 26 < length regs) where
+  pub passed_base : slice_index (passed regs) (place mode rn) ≡ slice_index regs (place mode rn)
+  passed_base =
+      get_or-set_other regs 26 (place mode rn) (r15_ahead (r15_in regs) 4) 0
+      (λ same. omega (arith, low, same))
 
   pub passed_long : 26 < length (passed regs)
   passed_long = omega (arith, long, length-set regs 26 (r15_ahead (r15_in regs) 4))
 
-  pub based_written : (writes : Bool) → writes ≡ true → slice_index (with_base writes mode rn base regs) (slot_of mode (register_number rn)) ≡ base
-  based_written true is = get_or-set_same regs (slot_of mode (register_number rn)) base 0 (omega (arith, low, long))
+  pub based_written : (writes : Bool) → writes ≡ true
+      → slice_index (with_base writes mode rn base regs) (place mode rn) ≡ base
+  based_written true is = get_or-set_same regs (place mode rn) base 0 (omega (arith, low, long))
   based_written false is = absurd cc
 
-  pub based_kept : (writes : Bool) → writes ≡ false → slice_index (with_base writes mode rn base regs) (slot_of mode (register_number rn)) ≡ slice_index regs (slot_of mode (register_number rn))
+  pub based_kept : (writes : Bool) → writes ≡ false
+      → slice_index (with_base writes mode rn base regs) (place mode rn) ≡ slice_index regs (place mode rn)
   based_kept true is = absurd cc
   based_kept false is = refl
 
   pub based_long : (writes : Bool) → 26 < length (with_base writes mode rn base regs)
-  based_long true = omega (arith, long, length-set regs (slot_of mode (register_number rn)) base)
+  based_long true = omega (arith, long, length-set regs (place mode rn) base)
   based_long false = long
 
 -- ## No two registers of a mode stand at one place
 
 abbrev Apart : Mode → List Register → Type 0
 Apart mode [] = Unit {0}
-Apart mode (r ∷ rest) = (list_any (stands_at mode (slot_of mode (register_number r))) rest ≡ false) × Apart mode rest
+Apart mode (r ∷ rest) = (list_any (stands_at mode (place mode r)) rest ≡ false) × Apart mode rest
 
 abbrev are_apart : Mode → List Register → Bool
 are_apart mode [] = true
-are_apart mode (r ∷ rest) = not (list_any (stands_at mode (slot_of mode (register_number r))) rest) && are_apart mode rest
+are_apart mode (r ∷ rest) = not (list_any (stands_at mode (place mode r)) rest) && are_apart mode rest
 
 apart_from : (mode : Mode) (xs : List Register) → are_apart mode xs ≡ true → Apart mode xs
 apart_from mode [] all = tt
@@ -176,38 +200,45 @@ all_apart Fiq = refl
 all_apart Irq = refl
 all_apart Svc = refl
 
-none_chosen : (test : Register → Bool) (x : Register) (xs : List Register) (kept : Bool) → test x ≡ false → list_any test xs ≡ false
-    → list_any test (cond kept (x ∷ xs) xs) ≡ false
+none_chosen : (test : Register → Bool) (x : Register) (xs : List Register) (kept : Bool)
+    → test x ≡ false → list_any test xs ≡ false → list_any test (cond kept (x ∷ xs) xs) ≡ false
 none_chosen test x xs true here rest = or_from (test x) (list_any test xs) here rest
 none_chosen test x xs false here rest = rest
 
-none_filtered : (test kept : Register → Bool) (xs : List Register) → list_any test xs ≡ false → list_any test (filter kept xs) ≡ false
+none_filtered : (test kept : Register → Bool) (xs : List Register)
+    → list_any test xs ≡ false → list_any test (filter kept xs) ≡ false
 none_filtered test kept [] none = refl
 none_filtered test kept (x ∷ xs) none =
     let parts = or_parts (test x) (list_any test xs) none in
     none_chosen test x (filter kept xs) (kept x) parts.0 (none_filtered test kept xs parts.1)
 
 apart_chosen : (mode : Mode) (x : Register) (xs : List Register) (kept : Bool)
-    → list_any (stands_at mode (slot_of mode (register_number x))) xs ≡ false → Apart mode xs → Apart mode (cond kept (x ∷ xs) xs)
+    → list_any (stands_at mode (place mode x)) xs ≡ false → Apart mode xs → Apart mode (cond kept (x ∷ xs) xs)
 apart_chosen mode x xs true here rest = (here, rest)
 apart_chosen mode x xs false here rest = rest
 
-apart_filtered : (mode : Mode) (kept : Register → Bool) (xs : List Register) → Apart mode xs → Apart mode (filter kept xs)
+apart_filtered : (mode : Mode) (kept : Register → Bool) (xs : List Register) → Apart mode xs
+    → Apart mode (filter kept xs)
 apart_filtered mode kept [] all = tt
 apart_filtered mode kept (x ∷ xs) all =
     apart_chosen mode x (filter kept xs) (kept x)
-    (none_filtered (stands_at mode (slot_of mode (register_number x))) kept xs all.0)
+    (none_filtered (stands_at mode (place mode x)) kept xs all.0)
     (apart_filtered mode kept xs all.1)
 
 -- behind a register that stands at a place, no other of the list does
 abbrev pub AtMostOne : Mode → ℕ → List Register → Type 0
 AtMostOne mode s [] = Unit {0}
-AtMostOne mode s (r ∷ rest) = (stands_at mode s r ≡ true → list_any (stands_at mode s) rest ≡ false) × AtMostOne mode s rest
+AtMostOne mode s (r ∷ rest) =
+    (stands_at mode s r ≡ true → list_any (stands_at mode s) rest ≡ false) × AtMostOne mode s rest
 
 one_of_apart : (mode : Mode) (s : ℕ) (xs : List Register) → Apart mode xs → AtMostOne mode s xs
 one_of_apart mode s [] all = tt
 one_of_apart mode s (r ∷ rest) all =
-    ((λ here. ap (λ (k : ℕ). list_any (stands_at mode k) rest) (sym (eqb-true (slot_of mode (register_number r)) s here)) ∙ all.0), one_of_apart mode s rest all.1)
+    let at : (k : ℕ) → place mode r ≡ k → list_any (stands_at mode k) rest ≡ false =
+    λ k here. ap (λ (k : ℕ). list_any (stands_at mode k) rest) (sym here) ∙ all.0 in
+    ((λ here. at s (eqb-true (place mode r) s here)), one_of_apart mode s rest all.1)
 
 pub one_listed : (mode : Mode) (s : ℕ) (kept : Register → Bool) → AtMostOne mode s (filter kept all_registers)
-one_listed mode s kept = one_of_apart mode s (filter kept all_registers) (apart_filtered mode kept all_registers (apart_from mode all_registers (all_apart mode)))
+one_listed mode s kept =
+    one_of_apart mode s (filter kept all_registers)
+    (apart_filtered mode kept all_registers (apart_from mode all_registers (all_apart mode)))

@@ -1,6 +1,6 @@
--- What a load or a store that is carried out leaves in its base register, and the word that a store gives for it (VL86C010
--- data sheet, single data transfer and block data transfer; our own rule where it is silent: a single store gives the old
--- base, and a block meets its base in the base's own bank alone).
+-- What a load or a store that is carried out leaves in its base register, and the word that a store gives for
+-- it (VL86C010 data sheet, single data transfer and block data transfer; our own rule where it is silent: a
+-- single store gives the old base, and a block meets its base and writes it back in the base's own bank alone).
 use Rattle.std.specs.Prelude.{◌≡◌, ℕ, ◌+◌, ◌*◌, ◌==◌, Bool, true, false, not, ◌&&◌, List, [], ◌∷◌, length, Ok}
 use Rattle.std.specs.List.{list_any, position_or_len}
 use Rattle.bus_ticks.specs.Prices.{word_address}
@@ -29,12 +29,16 @@ mode_at regs = mode_of (r15_in regs)
 abbrev pub base_at : Register → List ℕ → ℕ
 base_at rn regs = register_in (mode_at regs) (register_number rn) regs
 
--- What a transfer leaves where the base stood: the loaded word, where it loads that register; else the moved base, where it
--- writes it back; else the base.
-pub record LeavesBase (loads writes : Bool) (IsLoaded : ℕ → Type 0) (base moved after : ℕ) : Type 0 where
-  pub loaded : loads ≡ true → IsLoaded after
-  pub written_back : loads ≡ false → writes ≡ true → after ≡ moved
-  pub kept : loads ≡ false → writes ≡ false → after ≡ base
+-- what that register holds after it
+abbrev pub base_left : Register → (before after : List ℕ) → ℕ
+base_left rn before after = register_in (mode_at before) (register_number rn) after
+
+-- What a transfer leaves in its base register: the loaded word, where it loads that register; else the moved
+-- base, where it writes it back; else the base as it stood.
+pub record LeavesBase (loads writes : Bool) (IsLoaded : ℕ → Type 0) (base moved left : ℕ) : Type 0 where
+  pub loaded : loads ≡ true → IsLoaded left
+  pub written_back : loads ≡ false → writes ≡ true → left ≡ moved
+  pub kept : loads ≡ false → writes ≡ false → left ≡ base
 
 -- ## Single transfers
 
@@ -43,7 +47,8 @@ address_at x regs = address_for x (base_at x.rn regs)
 
 -- where the word goes or comes from
 abbrev pub IsSpot : Single → List ℕ → Bus → Spot → Type 0
-IsSpot x regs bus spot = located bus.memc (address_at x regs) (has_user_rights x (mode_at regs)) (not x.load) ≡ Ok spot
+IsSpot x regs bus spot =
+    located bus.memc (address_at x regs) (has_user_rights x (mode_at regs)) (not x.load) ≡ Ok spot
 
 -- whether the register that is loaded or stored is the base register
 abbrev pub is_own_base : Single → Bool
@@ -59,10 +64,10 @@ abbrev pub PutsWord : Single → List ℕ → Bus → (value : ℕ) → (after :
 PutsWord x regs bus value after =
     (spot : Spot) × IsSpot x regs bus spot × (after ≡ put_single x.byte spot (address_at x regs) value bus)
 
--- a single transfer and its base, R15 apart
+-- a single transfer and its base, which is not R15
 pub record SingleBase (x : Single) (port : ℕ) (regs : List ℕ) (bus : Bus) (m : Moved) : Type 0 where
   pub leaves : LeavesBase (x.load && is_own_base x) (writes_base x) (IsLoadedWord x port regs bus)
-      (base_at x.rn regs) (moved_by x.up (base_at x.rn regs) x.offset) (register_in (mode_at regs) (register_number x.rn) m.regs)
+      (base_at x.rn regs) (moved_by x.up (base_at x.rn regs) x.offset) (base_left x.rn regs m.regs)
   pub gives_old : x.load ≡ false → is_own_base x ≡ true → PutsWord x regs bus (base_at x.rn regs) m.bus
 
 -- ## Blocks
@@ -74,38 +79,48 @@ words_in x = length (registers_in x.list)
 abbrev pub base_moved : Block → List ℕ → ℕ
 base_moved x regs = moved_by x.up (base_at x.rn regs) (4 * words_in x)
 
--- where word number i goes or comes from, as the memory controller says before the first is moved
+abbrev pub lowest_at : Block → List ℕ → ℕ
+lowest_at x regs = lowest_of x (base_at x.rn regs) (words_in x)
+
+-- where word number i goes or comes from, by the memory controller as it stands before the first is moved
 abbrev pub IsWordSpot : Block → List ℕ → Bus → (i : ℕ) → Spot → Type 0
 IsWordSpot x regs bus i spot =
-    located bus.memc (word_address (lowest_of x (base_at x.rn regs) (words_in x)) i) (is_user (mode_at regs)) (not x.load) ≡ Ok spot
+    located bus.memc (word_address (lowest_at x regs) i) (is_user (mode_at regs)) (not x.load) ≡ Ok spot
 
--- whether a register of the list is the base register: where S asks for those of User, R13 is not that of IRQ
-abbrev pub is_base : Block → Mode → Register → Bool
-is_base x mode register = slot_of (mode_for x mode) (register_number register) == slot_of mode (register_number x.rn)
+-- Whether a register of the list is the base register. Where S asks for User's registers and the base is R13 of
+-- IRQ, the R13 of the list is another.
+abbrev pub is_base : Block → List ℕ → Register → Bool
+is_base x regs register =
+    slot_of (mode_for x (mode_at regs)) (register_number register)
+    == slot_of (mode_at regs) (register_number x.rn)
+
+abbrev pub loads_base : Block → List ℕ → Bool
+loads_base x regs = x.load && list_any (is_base x regs) (registers_in x.list)
 
 -- the word that a load sees for its base: that at the base's place in the list
 abbrev pub IsBaseWord : Block → (port : ℕ) → List ℕ → Bus → (value : ℕ) → Type 0
 IsBaseWord x port regs bus value =
-    (spot : Spot) × IsWordSpot x regs bus (position_or_len (is_base x (mode_at regs)) (registers_in x.list)) spot
+    (spot : Spot) × IsWordSpot x regs bus (position_or_len (is_base x regs) (registers_in x.list)) spot
     × (value ≡ seen bus port spot)
 
--- What a store gives for a register of its list: the base as it stood, where it is the lowest of them; the base as it is
--- written back, where it comes later and is; and every other register as it stands.
-pub record Gives (x : Block) (regs : List ℕ) (is_lowest : Bool) (register : Register) (word : ℕ) : Type 0 where
-  pub lowest_base : is_base x (mode_at regs) register ≡ true → is_lowest ≡ true → word ≡ base_at x.rn regs
-  pub later_base : is_base x (mode_at regs) register ≡ true → is_lowest ≡ false → x.write_back ≡ true → word ≡ base_moved x regs
-  pub kept_base : is_base x (mode_at regs) register ≡ true → x.write_back ≡ false → word ≡ base_at x.rn regs
-  pub other : is_base x (mode_at regs) register ≡ false → word ≡ given (mode_for x (mode_at regs)) register regs
+-- What a store gives for a register of its list: the base as it stood, where it is the lowest of the list; as it
+-- is written back, where it comes later and is; and any other register as it stands.
+pub record Gives (x : Block) (regs : List ℕ) (first : Bool) (register : Register) (word : ℕ) : Type 0 where
+  pub lowest_base : is_base x regs register ≡ true → first ≡ true → word ≡ base_at x.rn regs
+  pub later_base : is_base x regs register ≡ true → first ≡ false → x.write_back ≡ true
+      → word ≡ base_moved x regs
+  pub kept_base : is_base x regs register ≡ true → x.write_back ≡ false → word ≡ base_at x.rn regs
+  pub other : is_base x regs register ≡ false → word ≡ given (mode_for x (mode_at regs)) register regs
 
--- the bus once the words of some registers were put on it, from word number i on; `first` is the bus before word 0
-abbrev pub PutsWords : Block → List ℕ → (first : Bus) → (i : ℕ) → List Register → (old new : Bus) → Type 0
-PutsWords x regs first i [] old new = new ≡ old
-PutsWords x regs first i (register ∷ rest) old new =
-    (spot : Spot) × (word : ℕ) × IsWordSpot x regs first i spot × Gives x regs (i == 0) register word
-    × PutsWords x regs first (i + 1) rest (put spot word old) new
+-- the bus once the words of some registers were put on it, from number i on; `start` is the bus before word 0
+abbrev pub PutsWords : Block → List ℕ → (start : Bus) → (i : ℕ) → List Register → (old new : Bus) → Type 0
+PutsWords x regs start i [] old new = new ≡ old
+PutsWords x regs start i (register ∷ rest) old new =
+    (spot : Spot) × (word : ℕ) × IsWordSpot x regs start i spot × Gives x regs (i == 0) register word
+    × PutsWords x regs start (i + 1) rest (put spot word old) new
 
 -- a block transfer and its base
 pub record BlockBase (x : Block) (port : ℕ) (regs : List ℕ) (bus : Bus) (m : Moved) : Type 0 where
-  pub leaves : LeavesBase (x.load && list_any (is_base x (mode_at regs)) (registers_in x.list)) x.write_back (IsBaseWord x port regs bus)
-      (base_at x.rn regs) (base_moved x regs) (register_in (mode_at regs) (register_number x.rn) m.regs)
-  pub stores : x.load ≡ false → PutsWords x regs bus 0 (registers_in x.list) bus m.bus
+  pub leaves : LeavesBase (loads_base x regs) x.write_back (IsBaseWord x port regs bus)
+      (base_at x.rn regs) (base_moved x regs) (base_left x.rn regs m.regs)
+  pub gives : x.load ≡ false → PutsWords x regs bus 0 (registers_in x.list) bus m.bus

@@ -9,12 +9,12 @@ use crate::single::Single;
 use arm2_decode::Block;
 use arm2_effect::Kind;
 
-/// States what a load or a store that is carried out leaves in its base register: the loaded word, where it loads that
-/// register; else the moved base, where it writes it back; else the base as it stood.
+/// States what a load or a store that is carried out leaves in its base register: the loaded word, where it
+/// loads that register; else the moved base, where it writes it back; else the base as it stood.
 ///
-/// And of the base as a stored register: a single store gives the old base, and so does a block that has it as the lowest
-/// register of its list; a block that has it later gives it as it is written back. The base of a block is that of its
-/// own bank. It does nothing.
+/// And what a store of the base gives: a single store the old base, and so a block that has it as the lowest
+/// register of its list; a block that has it later, the base as it is written back. A block's base is that of
+/// its own bank. It does nothing.
 pub fn bases_after_transfers()
     ensures single { (x : Single) → (port : ℕ) → (regs : List ℕ) → (bus : Bus) → length regs ≡ 27 → register_number x.rn ≢ 15 → (single_moved x port regs bus).kind ≡ Kind.Plain → SingleBase x port regs bus (single_moved x port regs bus) }
     ensures block { (x : Block) → (port : ℕ) → (regs : List ℕ) → (bus : Bus) → length regs ≡ 27 → (block_moved x port regs bus).kind ≡ Kind.Plain → BlockBase x port regs bus (block_moved x port regs bus) }
