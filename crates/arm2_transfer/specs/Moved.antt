@@ -1,4 +1,5 @@
--- What a whole transfer does, and what it costs (VL86C010 data sheet, instruction cycles; the prices are our own).
+-- What a whole transfer does, and what it costs (VL86C010 data sheet, instruction cycles; our own are the prices, what
+-- an aborted transfer leaves and costs, and what stops the machine).
 use Rattle.std.specs.Prelude.{◌≡◌, ℕ, zero, suc, ◌==◌, Bool, true, false, if◌then◌else◌, List, [], ◌∷◌, ◌++◌}
 use Rattle.bus_ticks.specs.declared.profile.Profile.{Profile}
 use Rattle.bus_ticks.specs.declared.profile.RomTimes.{RomTimes}
