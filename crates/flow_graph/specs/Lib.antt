@@ -14,4 +14,3 @@ pub use Rattle.loader.specs.Image
 pub use Rattle.arm2_decode.specs.Table
 pub use Rattle.statement.specs.Stated
 pub use Rattle.statement.specs.Statement
-pub use Rattle.statement.specs.Readings

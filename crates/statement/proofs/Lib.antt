@@ -1,4 +1,2 @@
-pub mod KeyLemmas
-pub mod DistinctLemmas
-pub mod ReadingLemmas
+pub mod StatementLemmas
 pub mod Unique

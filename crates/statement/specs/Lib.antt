@@ -1,5 +1,5 @@
 pub mod Stated
 pub mod StatementParts
-pub mod Readings
+pub mod StatementFaults
 pub mod Statement
 pub mod ReadingParts

@@ -1,19 +1,28 @@
 ghost use Rattle.std.specs.Prelude.{◌≡◌, IfOk, map, option_map};
-ghost use Rattle.toml.specs.Data.{Data};
 ghost use Rattle.toml.specs.View.{table_view, view};
-ghost use Rattle.loader.specs.Labels.{address_of as names_of};
-ghost use Rattle.statement.specs.Readings.{Reading, and_then, items_in, required};
-ghost use Rattle.statement.specs.Statement.{Names, access_at, access_in, address_at, address_in, bound_at, class_at, destinations, destinations_at, directed, in_bounds, in_space, items_at, kind_at, labelled, listed, loop_at, loop_in, named_class, named_kind, once, placed_loop, some_destinations, tables_at, target_at, target_in};
+ghost use Rattle.loader.specs.Labels.{address_of};
+ghost use Rattle.toml_reading.specs.Readings.{and_then, items_in};
+ghost use Rattle.statement.specs.Statement.{access_at, access_in, address_at, address_in, class_at, class_in, destinations, destinations_at, directed, kind_at, kind_in, labelled, loop_at, loop_in, loop_parts, named_class, named_kind, once, placed_loop, some_destinations, target_at, target_in};
 
-use crate::distinct::are_all_distinct;
-use crate::faults::StatementFault;
-use crate::keys::{Part, only_keys, value_at};
-use crate::readings::{Reading, append, check, pair};
+use crate::faults::{Read, StatementFault};
 use crate::stated::{Loop, Target, TargetKind};
 use bus_ticks::Class;
 use loader::labels::Labels;
 use std::alloc::{AllocError, Global};
 use toml::{Table, Value};
+use toml_reading::{
+    Entry, are_all_distinct, check, in_space, only_keys, pair, read_list_up_to, required_number,
+    value_at, values_of,
+};
+
+/// The keys of a loop's table.
+const LOOP_KEYS: &[&str] = &["header", "first", "last", "bound"];
+
+/// The keys of a target's table.
+const TARGET_KEYS: &[&str] = &["at", "kind", "to"];
+
+/// The keys of an access's table.
+const ACCESS_KEYS: &[&str] = &["at", "class"];
 
 /// The highest bound of a loop.
 const MOST_ROUNDS: u32 = 1_048_576;
@@ -21,90 +30,21 @@ const MOST_ROUNDS: u32 = 1_048_576;
 /// The most destinations of a target.
 const MOST_DESTINATIONS: usize = 64;
 
-/// What is read of one value of a list.
-pub(crate) trait Entry: Drop {
-    ghost reads: { Names → Data → Reading Self };
-
-    fn read(alloc: Global, labels: &Labels, value: &Value) -> Result<Reading<Self>, AllocError>
-    where
-        Self: Sized,
-        ensures { IfOk result (λ reading. reading ≡ reads (names_of labels.now) (view value.now)) };
-}
-
-// The values of a list.
-fn values_of(value: &Value) -> Option<&[Value]>
-    ensures { option_map (λ values. map view values.now) result ≡ items_at (view value.now) }
-{
-    match value.as_array() {
-        Some(values) => Some(values.as_slice()),
-        None => None,
-    }
-}
-
-/// What is read of each value of a list of at most so many.
-fn read_list<T: Entry>(
-    alloc: Global,
-    labels: &Labels,
-    values: &[Value],
-    limit: usize,
-) -> Result<Reading<Vec<T>>, AllocError>
-    ensures { IfOk result (λ list. items_in list ≡ listed (T.reads (names_of labels.now)) limit (map view values.now)) }
-{
-    let mut list = Ok(Vec::new(alloc));
-    for value in values {
-        list = append(list, T::read(alloc, labels, value)?)?;
-    }
-    Ok(check(values.len() <= limit, StatementFault::OutOfRange, list))
-}
-
-/// What is read of each table of a list of at most so many, which is empty where the key is missing.
-pub(crate) fn tables<T: Entry>(
-    alloc: Global,
-    labels: &Labels,
-    value: Option<&Value>,
-    limit: usize,
-) -> Result<Reading<Vec<T>>, AllocError>
-    ensures { IfOk result (λ list. items_in list ≡ tables_at (T.reads (names_of labels.now)) limit (option_map (λ v. view v.now) value.entry)) }
-{
-    let Some(value) = value else {
-        return Ok(Ok(Vec::new(alloc)));
-    };
-    match values_of(value) {
-        Some(values) => read_list(alloc, labels, values, limit),
-        None => Ok(Err(StatementFault::WrongKind)),
-    }
-}
-
-fn in_address_space(number: i64) -> Reading<u32>
-    ensures { result ≡ in_space number }
-{
-    match u32::try_from(number) {
-        Ok(n) => {
-            if n % 4 == 0 && n < 1 << 26 {
-                Ok(n)
-            } else {
-                Err(StatementFault::OutOfRange)
-            }
-        }
-        Err(_) => Err(StatementFault::OutOfRange),
-    }
-}
-
-fn label_address(address: Option<u32>) -> Reading<u32>
+fn label_address(address: Option<u32>) -> Read<u32>
     ensures { result ≡ labelled address }
 {
     match address {
-        Some(address) => in_address_space(i64::from(address)),
+        Some(address) => in_space(i64::from(address)),
         None => Err(StatementFault::UnknownLabel),
     }
 }
 
 // An address, as an integer or as a label's name.
-fn address(labels: &Labels, value: &Value) -> Reading<u32>
-    ensures { result ≡ address_at (names_of labels.now) (view value.now) }
+fn address(labels: &Labels, value: &Value) -> Read<u32>
+    ensures { result ≡ address_at (address_of labels.now) (view value.now) }
 {
     if let Some(number) = value.as_integer() {
-        return in_address_space(number);
+        return in_space(number);
     }
     match value.as_str() {
         Some(name) => label_address(labels.get(name.as_bytes())),
@@ -112,9 +52,9 @@ fn address(labels: &Labels, value: &Value) -> Reading<u32>
     }
 }
 
-/// The address at a key.
-pub(crate) fn address_of(labels: &Labels, table: &Table, key: &str) -> Reading<u32>
-    ensures { result ≡ address_in (names_of labels.now) key.now (table_view table.now) }
+/// The address at a key that must be there.
+pub(crate) fn required_address(labels: &Labels, table: &Table, key: &str) -> Read<u32>
+    ensures { result ≡ address_in (address_of labels.now) key.now (table_view table.now) }
 {
     match value_at(table, key) {
         Some(value) => address(labels, value),
@@ -122,34 +62,7 @@ pub(crate) fn address_of(labels: &Labels, table: &Table, key: &str) -> Reading<u
     }
 }
 
-fn bound_number(number: i64) -> Reading<u32>
-    ensures { result ≡ in_bounds number }
-{
-    match u32::try_from(number) {
-        Ok(bound) => {
-            if bound <= MOST_ROUNDS {
-                Ok(bound)
-            } else {
-                Err(StatementFault::OutOfRange)
-            }
-        }
-        Err(_) => Err(StatementFault::OutOfRange),
-    }
-}
-
-fn bound(value: Option<&Value>) -> Reading<u32>
-    ensures { result ≡ required (option_map (λ v. view v.now) value.entry) bound_at }
-{
-    let Some(value) = value else {
-        return Err(StatementFault::WrongKind);
-    };
-    match value.as_integer() {
-        Some(number) => bound_number(number),
-        None => Err(StatementFault::WrongKind),
-    }
-}
-
-fn placed(ends: (u32, u32), rest: (u32, u32)) -> Reading<Loop>
+fn placed(ends: (u32, u32), rest: (u32, u32)) -> Read<Loop>
     ensures { result ≡ placed_loop (ends, rest) }
 {
     let (first, last) = ends;
@@ -166,7 +79,7 @@ fn placed(ends: (u32, u32), rest: (u32, u32)) -> Reading<Loop>
     }
 }
 
-fn placed_parts(parts: Reading<((u32, u32), (u32, u32))>) -> Reading<Loop>
+fn placed_parts(parts: Read<((u32, u32), (u32, u32))>) -> Read<Loop>
     ensures { result ≡ and_then parts placed_loop }
 {
     match parts {
@@ -175,29 +88,35 @@ fn placed_parts(parts: Reading<((u32, u32), (u32, u32))>) -> Reading<Loop>
     }
 }
 
-fn read_loop(labels: &Labels, table: &Table) -> Reading<Loop>
-    ensures { result ≡ loop_in (names_of labels.now) (table_view table.now) }
+fn loop_parts(labels: &Labels, table: &Table) -> Read<((u32, u32), (u32, u32))>
+    ensures { result ≡ loop_parts (address_of labels.now) (table_view table.now) }
 {
     let ends = pair(
-        address_of(labels, table, "first"),
-        address_of(labels, table, "last"),
+        required_address(labels, table, "first"),
+        required_address(labels, table, "last"),
     );
     let rest = pair(
-        address_of(labels, table, "header"),
-        bound(value_at(table, "bound")),
+        required_address(labels, table, "header"),
+        required_number(table, "bound", MOST_ROUNDS),
     );
-    let reading = placed_parts(pair(ends, rest));
+    pair(ends, rest)
+}
+
+fn read_loop(labels: &Labels, table: &Table) -> Read<Loop>
+    ensures { result ≡ loop_in (address_of labels.now) (table_view table.now) }
+{
+    let reading = placed_parts(loop_parts(labels, table));
     check(
-        only_keys(Part::Loop, table),
+        only_keys(LOOP_KEYS, table),
         StatementFault::UnknownKey,
         reading,
     )
 }
 
-impl Entry for Loop {
-    ghost reads = { loop_at };
+impl Entry<Labels, StatementFault> for Loop {
+    ghost reads = { λ labels. loop_at (address_of labels) };
 
-    fn read(_alloc: Global, labels: &Labels, value: &Value) -> Result<Reading<Loop>, AllocError> {
+    fn read(_alloc: Global, labels: &Labels, value: &Value) -> Result<Read<Loop>, AllocError> {
         match value.as_table() {
             Some(table) => Ok(read_loop(labels, table)),
             None => Ok(Err(StatementFault::WrongKind)),
@@ -206,10 +125,10 @@ impl Entry for Loop {
 }
 
 /// An address.
-impl Entry for u32 {
-    ghost reads = { address_at };
+impl Entry<Labels, StatementFault> for u32 {
+    ghost reads = { λ labels. address_at (address_of labels) };
 
-    fn read(_alloc: Global, labels: &Labels, value: &Value) -> Result<Reading<u32>, AllocError> {
+    fn read(_alloc: Global, labels: &Labels, value: &Value) -> Result<Read<u32>, AllocError> {
         Ok(address(labels, value))
     }
 }
@@ -227,7 +146,7 @@ fn class_named(word: &str) -> Option<Class>
 }
 
 /// A class's word.
-pub(crate) fn class(value: &Value) -> Reading<Class>
+pub(crate) fn class(value: &Value) -> Read<Class>
     ensures { result ≡ class_at (view value.now) }
 {
     match value.as_str() {
@@ -236,29 +155,34 @@ pub(crate) fn class(value: &Value) -> Reading<Class>
     }
 }
 
-fn read_access(labels: &Labels, table: &Table) -> Reading<(u32, Class)>
-    ensures { result ≡ access_in (names_of labels.now) (table_view table.now) }
+fn required_class(table: &Table) -> Read<Class>
+    ensures { result ≡ class_in (table_view table.now) }
 {
-    let stated = match value_at(table, "class") {
+    match value_at(table, "class") {
         Some(value) => class(value),
         None => Err(StatementFault::WrongKind),
-    };
-    let reading = pair(address_of(labels, table, "at"), stated);
+    }
+}
+
+fn read_access(labels: &Labels, table: &Table) -> Read<(u32, Class)>
+    ensures { result ≡ access_in (address_of labels.now) (table_view table.now) }
+{
+    let reading = pair(required_address(labels, table, "at"), required_class(table));
     check(
-        only_keys(Part::Access, table),
+        only_keys(ACCESS_KEYS, table),
         StatementFault::UnknownKey,
         reading,
     )
 }
 
-impl Entry for (u32, Class) {
-    ghost reads = { access_at };
+impl Entry<Labels, StatementFault> for (u32, Class) {
+    ghost reads = { λ labels. access_at (address_of labels) };
 
     fn read(
         _alloc: Global,
         labels: &Labels,
         value: &Value,
-    ) -> Result<Reading<(u32, Class)>, AllocError> {
+    ) -> Result<Read<(u32, Class)>, AllocError> {
         match value.as_table() {
             Some(table) => Ok(read_access(labels, table)),
             None => Ok(Err(StatementFault::WrongKind)),
@@ -278,20 +202,26 @@ fn kind_named(word: &str) -> Option<TargetKind>
     }
 }
 
-fn kind(value: Option<&Value>) -> Reading<TargetKind>
-    ensures { result ≡ required (option_map (λ v. view v.now) value.entry) kind_at }
+fn kind(value: &Value) -> Read<TargetKind>
+    ensures { result ≡ kind_at (view value.now) }
 {
-    let Some(value) = value else {
-        return Err(StatementFault::WrongKind);
-    };
     match value.as_str() {
         Some(word) => kind_named(word).ok_or(StatementFault::WrongKind),
         None => Err(StatementFault::WrongKind),
     }
 }
 
+fn required_kind(table: &Table) -> Read<TargetKind>
+    ensures { result ≡ kind_in (table_view table.now) }
+{
+    match value_at(table, "kind") {
+        Some(value) => kind(value),
+        None => Err(StatementFault::WrongKind),
+    }
+}
+
 // The list, where no address stands in it twice.
-fn each_once(alloc: Global, to: Vec<u32>) -> Result<Reading<Vec<u32>>, AllocError>
+fn each_once(alloc: Global, to: Vec<u32>) -> Result<Read<Vec<u32>>, AllocError>
     ensures { IfOk result (λ list. items_in list ≡ once to.items) }
 {
     if are_all_distinct(alloc, &to)? {
@@ -306,13 +236,13 @@ fn read_destinations(
     alloc: Global,
     labels: &Labels,
     values: &[Value],
-) -> Result<Reading<Vec<u32>>, AllocError>
-    ensures { IfOk result (λ list. items_in list ≡ some_destinations (names_of labels.now) (map view values.now)) }
+) -> Result<Read<Vec<u32>>, AllocError>
+    ensures { IfOk result (λ list. items_in list ≡ some_destinations (address_of labels.now) (map view values.now)) }
 {
     if values.is_empty() {
         return Ok(Err(StatementFault::WrongKind));
     }
-    match read_list(alloc, labels, values, MOST_DESTINATIONS)? {
+    match read_list_up_to(alloc, labels, values, MOST_DESTINATIONS)? {
         Ok(to) => each_once(alloc, to),
         Err(fault) => Ok(Err(fault)),
     }
@@ -322,8 +252,8 @@ fn called_or_jumped(
     alloc: Global,
     labels: &Labels,
     value: &Value,
-) -> Result<Reading<Vec<u32>>, AllocError>
-    ensures { IfOk result (λ list. items_in list ≡ destinations_at (names_of labels.now) (view value.now)) }
+) -> Result<Read<Vec<u32>>, AllocError>
+    ensures { IfOk result (λ list. items_in list ≡ destinations_at (address_of labels.now) (view value.now)) }
 {
     match values_of(value) {
         Some(values) => read_destinations(alloc, labels, values),
@@ -336,8 +266,8 @@ fn destinations_of(
     labels: &Labels,
     value: Option<&Value>,
     kind: TargetKind,
-) -> Result<Reading<Vec<u32>>, AllocError>
-    ensures { IfOk result (λ list. items_in list ≡ destinations (names_of labels.now) (option_map (λ v. view v.now) value.entry) kind) }
+) -> Result<Read<Vec<u32>>, AllocError>
+    ensures { IfOk result (λ list. items_in list ≡ destinations (address_of labels.now) (option_map (λ v. view v.now) value.entry) kind) }
 {
     match kind {
         TargetKind::Jump | TargetKind::Call => match value {
@@ -355,9 +285,9 @@ fn direct(
     alloc: Global,
     labels: &Labels,
     value: Option<&Value>,
-    kind: Reading<TargetKind>,
-) -> Result<Reading<Target>, AllocError>
-    ensures { IfOk result (λ reading. reading ≡ and_then kind (directed (names_of labels.now) (option_map (λ v. view v.now) value.entry))) }
+    kind: Read<TargetKind>,
+) -> Result<Read<Target>, AllocError>
+    ensures { IfOk result (λ reading. reading ≡ and_then kind (directed (address_of labels.now) (option_map (λ v. view v.now) value.entry))) }
 {
     let kind = match kind {
         Ok(kind) => kind,
@@ -373,27 +303,27 @@ fn read_target(
     alloc: Global,
     labels: &Labels,
     table: &Table,
-) -> Result<Reading<(u32, Target)>, AllocError>
-    ensures { IfOk result (λ reading. reading ≡ target_in (names_of labels.now) (table_view table.now)) }
+) -> Result<Read<(u32, Target)>, AllocError>
+    ensures { IfOk result (λ reading. reading ≡ target_in (address_of labels.now) (table_view table.now)) }
 {
-    let kind = kind(value_at(table, "kind"));
+    let kind = required_kind(table);
     let target = direct(alloc, labels, value_at(table, "to"), kind)?;
-    let reading = pair(address_of(labels, table, "at"), target);
+    let reading = pair(required_address(labels, table, "at"), target);
     Ok(check(
-        only_keys(Part::Target, table),
+        only_keys(TARGET_KEYS, table),
         StatementFault::UnknownKey,
         reading,
     ))
 }
 
-impl Entry for (u32, Target) {
-    ghost reads = { target_at };
+impl Entry<Labels, StatementFault> for (u32, Target) {
+    ghost reads = { λ labels. target_at (address_of labels) };
 
     fn read(
         alloc: Global,
         labels: &Labels,
         value: &Value,
-    ) -> Result<Reading<(u32, Target)>, AllocError> {
+    ) -> Result<Read<(u32, Target)>, AllocError> {
         match value.as_table() {
             Some(table) => read_target(alloc, labels, table),
             None => Ok(Err(StatementFault::WrongKind)),

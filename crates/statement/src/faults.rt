@@ -1,5 +1,11 @@
+ghost use Rattle.statement.specs.StatementFaults.{statement_faults};
+
 use std::alloc::AllocError;
 use thiserror::Error;
+use toml_reading::{Fault, Reading};
+
+/// What is read of a statement.
+pub(crate) type Read<T> = Reading<T, StatementFault>;
 
 /// Why a text is no statement. Of several faults over the whole text the first of these is answered.
 #[derive(Clone, Copy, Debug, PartialEq, Eq, Drop, Error)]
@@ -36,5 +42,33 @@ impl From<AllocError> for StatementFault {
 
     fn from(_refused: AllocError) -> StatementFault {
         StatementFault::Memory
+    }
+}
+
+impl Fault for StatementFault {
+    ghost faults = { statement_faults };
+
+    fn rank(self) -> u32 {
+        match self {
+            StatementFault::Memory => 1,
+            StatementFault::NotToml => 2,
+            StatementFault::UnknownKey => 3,
+            StatementFault::WrongKind => 4,
+            StatementFault::UnknownLabel => 5,
+            StatementFault::OutOfRange => 6,
+            StatementFault::Twice => 7,
+        }
+    }
+
+    fn unknown_key() -> Self {
+        StatementFault::UnknownKey
+    }
+
+    fn wrong_kind() -> Self {
+        StatementFault::WrongKind
+    }
+
+    fn out_of_range() -> Self {
+        StatementFault::OutOfRange
     }
 }

@@ -2,12 +2,9 @@
 //! loops, the targets of words that write R15, and the classes of transfers.
 #![tactic(auto)]
 
-mod distinct;
 mod entries;
 mod faults;
-mod keys;
 mod reading;
-mod readings;
 mod stated;
 
 pub use faults::StatementFault;

@@ -1,20 +1,21 @@
-ghost use Rattle.std.specs.Prelude.{◌≡◌, ◌≢◌, Err, IfOk, option_map};
-ghost use Rattle.toml.specs.View.{table_view, view};
-ghost use Rattle.loader.specs.Labels.{address_of as names_of};
-ghost use Rattle.statement.specs.Readings.{and_then, seen};
+ghost use Rattle.std.specs.Prelude.{◌≡◌, ◌≢◌, Err, IfOk};
+ghost use Rattle.toml.specs.View.{table_view};
+ghost use Rattle.loader.specs.Labels.{address_of};
+ghost use Rattle.toml_reading.specs.Readings.{and_then, seen};
 ghost use Rattle.statement.specs.ReadingParts.{AreParts, parts_in};
-ghost use Rattle.statement.specs.Statement.{IsStatement, ends_in, leave_at, parts_of, statement_of, whole};
+ghost use Rattle.statement.specs.Statement.{IsStatement, ends_in, leave_in, parts_of, statement_of, whole};
 
-use crate::distinct::by_address;
-use crate::entries::{address_of, class, tables};
-use crate::faults::StatementFault;
-use crate::keys::{Part, only_keys, value_at};
-use crate::readings::{Reading, check, pair};
+use crate::entries::{class, required_address};
+use crate::faults::{Read, StatementFault};
 use crate::stated::{Loop, Statement, Target};
 use bus_ticks::Class;
 use loader::labels::Labels;
 use std::alloc::{AllocError, Global};
-use toml::{Table, Value};
+use toml::Table;
+use toml_reading::{by_number, check, document, only_keys, pair, tables_up_to, value_at};
+
+/// The keys of the statement.
+const STATEMENT_KEYS: &[&str] = &["entry", "leave", "loop", "target", "access"];
 
 /// The most loops, targets and accesses of a statement.
 const MOST_LOOPS: usize = 256;
@@ -24,23 +25,20 @@ const MOST_TARGETS: usize = 1024;
 const MOST_ACCESSES: usize = 4096;
 
 // The class to leave to.
-fn leave(value: Option<&Value>) -> Reading<Class>
-    ensures { result ≡ leave_at (option_map (λ v. view v.now) value.entry) }
+fn leave(table: &Table) -> Read<Class>
+    ensures { result ≡ leave_in (table_view table.now) }
 {
-    match value {
+    match value_at(table, "leave") {
         Some(value) => class(value),
         None => Ok(Class::Any),
     }
 }
 
 // The entry, and the class to leave to.
-fn ends(labels: &Labels, table: &Table) -> Reading<(u32, Class)>
-    ensures { result ≡ ends_in (names_of labels.now) (table_view table.now) }
+fn ends(labels: &Labels, table: &Table) -> Read<(u32, Class)>
+    ensures { result ≡ ends_in (address_of labels.now) (table_view table.now) }
 {
-    pair(
-        address_of(labels, table, "entry"),
-        leave(value_at(table, "leave")),
-    )
+    pair(required_address(labels, table, "entry"), leave(table))
 }
 
 type Parts = (
@@ -49,7 +47,7 @@ type Parts = (
 );
 
 // The statement of its parts.
-fn stated(alloc: Global, parts: Reading<Parts>) -> Result<Reading<Statement>, AllocError>
+fn stated(alloc: Global, parts: Read<Parts>) -> Result<Read<Statement>, AllocError>
     requires { IfOk (seen parts_in parts) AreParts }
     ensures { IfOk result (λ reading. reading ≡ and_then (seen parts_in parts) whole) }
 {
@@ -57,10 +55,10 @@ fn stated(alloc: Global, parts: Reading<Parts>) -> Result<Reading<Statement>, Al
         Ok(parts) => parts,
         Err(fault) => return Ok(Err(fault)),
     };
-    let Some(targets) = by_address(alloc, targets)? else {
+    let Some(targets) = by_number(alloc, targets)? else {
         return Ok(Err(StatementFault::Twice));
     };
-    let Some(accesses) = by_address(alloc, accesses)? else {
+    let Some(accesses) = by_number(alloc, accesses)? else {
         return Ok(Err(StatementFault::Twice));
     };
     Ok(Ok(Statement {
@@ -73,22 +71,22 @@ fn stated(alloc: Global, parts: Reading<Parts>) -> Result<Reading<Statement>, Al
 }
 
 // The parts that the table states.
-fn read_parts(alloc: Global, labels: &Labels, table: &Table) -> Result<Reading<Parts>, AllocError>
-    ensures { IfOk result (λ parts. seen parts_in parts ≡ parts_of (names_of labels.now) (table_view table.now)) }
+fn read_parts(alloc: Global, labels: &Labels, table: &Table) -> Result<Read<Parts>, AllocError>
+    ensures { IfOk result (λ parts. seen parts_in parts ≡ parts_of (address_of labels.now) (table_view table.now)) }
 {
-    let loops = tables(alloc, labels, value_at(table, "loop"), MOST_LOOPS)?;
-    let targets = tables(alloc, labels, value_at(table, "target"), MOST_TARGETS)?;
-    let accesses = tables(alloc, labels, value_at(table, "access"), MOST_ACCESSES)?;
+    let loops = tables_up_to(alloc, labels, value_at(table, "loop"), MOST_LOOPS)?;
+    let targets = tables_up_to(alloc, labels, value_at(table, "target"), MOST_TARGETS)?;
+    let accesses = tables_up_to(alloc, labels, value_at(table, "access"), MOST_ACCESSES)?;
     Ok(pair(pair(ends(labels, table), loops), pair(targets, accesses)))
 }
 
 // What the table states.
-fn of_table(alloc: Global, labels: &Labels, table: &Table) -> Result<Reading<Statement>, AllocError>
-    ensures { IfOk result (λ reading. reading ≡ statement_of (names_of labels.now) (table_view table.now)) }
+fn of_table(alloc: Global, labels: &Labels, table: &Table) -> Result<Read<Statement>, AllocError>
+    ensures { IfOk result (λ reading. reading ≡ statement_of (address_of labels.now) (table_view table.now)) }
 {
     let reading = stated(alloc, read_parts(alloc, labels, table)?)?;
     Ok(check(
-        only_keys(Part::Statement, table),
+        only_keys(STATEMENT_KEYS, table),
         StatementFault::UnknownKey,
         reading,
     ))
@@ -101,14 +99,10 @@ pub fn read_statement(
     text: &[u8],
     labels: &Labels,
 ) -> Result<Statement, StatementFault>
-    ensures { result ≢ Err StatementFault.Memory → IsStatement text.now (names_of labels.now) result }
+    ensures { result ≢ Err StatementFault.Memory → IsStatement text.now (address_of labels.now) result }
 {
-    match toml::table_from_slice(alloc, text) {
-        Ok(table) => of_table(alloc, labels, &table)?,
-        Err(error) => Err(if error.is_memory() {
-            StatementFault::Memory
-        } else {
-            StatementFault::NotToml
-        }),
+    match document(alloc, text)? {
+        Some(table) => of_table(alloc, labels, &table)?,
+        None => Err(StatementFault::NotToml),
     }
 }

@@ -1,3 +1,4 @@
 pub mod KeyLemmas
 pub mod DistinctLemmas
 pub mod ReadingLemmas
+pub mod Unique

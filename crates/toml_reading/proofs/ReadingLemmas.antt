@@ -1,12 +1,12 @@
 -- What holds of all that is read.
-use Rattle.std.proofs.Common.{◌≡◌, ℕ, ℤ, pos, negsuc, ◌+◌, ◌≤◌, Bool, true, false, cond, leb, List, [], ◌∷◌, length, map, fold, Option, Some, None, Ok, Err, refl, ap, ◌∙◌, arith, length-append}
+use Rattle.std.proofs.Common.{◌≡◌, ℕ, ℤ, pos, negsuc, ◌+◌, ◌%◌, ◌^◌, ◌<◌, ◌≤◌, Bool, true, false, ◌&&◌, cond, nat_le, eqb, leb, ltb, List, [], ◌∷◌, length, map, fold, Option, Some, None, Ok, Err, refl, ap, ◌∙◌, arith, length-append}
 use Rattle.std.specs.Prelude.{All, IfOk}
-use Rattle.std.proofs.lemmas.Bool.{leb-true}
+use Rattle.std.proofs.lemmas.Bool.{and_parts, leb-true, ltb-true}
 use Rattle.std.proofs.lemmas.List.Elements.{All-nil, All-push}
 use Rattle.toml.specs.Data.{Data, Members, as_integer, get_member}
 use Rattle.toml.specs.View.{items_of}
-use Rattle.toml_reading.specs.Documents.{items_at, list_of, listed, number_at, number_in, number_or, tables_at}
-use Rattle.toml_reading.specs.Readings.{Faults, Reading, after, all, and_then, both, checked, optional, required, up_to}
+use Rattle.toml_reading.specs.Documents.{in_space, items_at, list_of, listed, listed_up_to, number_at, number_in, number_or, tables_at, tables_up_to}
+use Rattle.toml_reading.specs.Readings.{Faults, Reading, after, all, and_then, both, checked, optional, required, seen, up_to}
 
 pub list_of-items_of : (ds : List Data) → list_of (items_of ds) ≡ ds
 list_of-items_of [] = refl
@@ -62,11 +62,65 @@ module _ {F A : Type 0} (fs : Faults F) (P : A → Type 0) where
       of_list None = tt
       of_list (Some ds) = listed_holds reads each ds
 
+  -- the same of at most so many
+  pub listed_up_to_holds : (reads : Data → Reading F A) → ((d : Data) → IfOk (reads d) P) → (limit : ℕ) (ds : List Data) → IfOk (listed_up_to fs limit reads ds) (All P)
+  listed_up_to_holds reads each limit ds = of_listed (nat_le (length ds) limit) (listed fs reads ds) (listed_holds reads each ds)
+    where
+      of_listed : (b : Bool) (r : Reading F (List A)) → IfOk r (All P) → IfOk (checked fs b fs.out_of_range r) (All P)
+      of_listed true r h = h
+      of_listed false (Ok a) h = tt
+      of_listed false (Err g) h = tt
+
+  pub tables_up_to_hold : (reads : Data → Reading F A) → ((d : Data) → IfOk (reads d) P) → (limit : ℕ) (o : Option Data) → IfOk (tables_up_to fs limit reads o) (All P)
+  tables_up_to_hold reads each limit None = All-nil P
+  tables_up_to_hold reads each limit (Some d) = of_list (items_at d)
+    where
+      of_list : (o : Option (List Data)) → IfOk (required fs o (listed_up_to fs limit reads)) (All P)
+      of_list None = tt
+      of_list (Some ds) = listed_up_to_holds reads each limit ds
+
 pub both_hold : {F A B : Type 0} (fs : Faults F) (P : A → Type 0) (Q : B → Type 0) (a : Reading F A) (b : Reading F B) → IfOk a P → IfOk b Q → IfOk (both fs a b) (λ p. P p.0 × Q p.1)
 both_hold fs P Q (Ok a) (Ok b) h k = (h, k)
 both_hold fs P Q (Ok a) (Err g) h k = tt
 both_hold fs P Q (Err f) (Ok b) h k = tt
 both_hold fs P Q (Err f) (Err g) h k = tt
+
+module _ {F A B : Type 0} (fs : Faults F) where
+  pub first_holds : (P : A → Type 0) (a : Reading F A) (b : Reading F B) → IfOk a P → IfOk (both fs a b) (λ p. P p.0)
+  first_holds P (Ok a) (Ok b) h = h
+  first_holds P (Ok a) (Err g) h = tt
+  first_holds P (Err f) (Ok b) h = tt
+  first_holds P (Err f) (Err g) h = tt
+
+  pub second_holds : (Q : B → Type 0) (a : Reading F A) (b : Reading F B) → IfOk b Q → IfOk (both fs a b) (λ p. Q p.1)
+  second_holds Q (Ok a) (Ok b) k = k
+  second_holds Q (Ok a) (Err g) k = tt
+  second_holds Q (Err f) (Ok b) k = tt
+  second_holds Q (Err f) (Err g) k = tt
+
+module _ {F A : Type 0} (P Q : A → Type 0) where
+  pub implied : (r : Reading F A) → ((a : A) → P a → Q a) → IfOk r P → IfOk r Q
+  implied (Ok a) f h = f a h
+  implied (Err g) f h = tt
+
+  pub also_holds : (r : Reading F A) → IfOk r P → IfOk r Q → IfOk r (λ a. P a × Q a)
+  also_holds (Ok a) h k = (h, k)
+  also_holds (Err g) h k = tt
+
+-- ## Two parts, seen otherwise
+
+module _ {F A B C D : Type 0} (fs : Faults F) (f : A → C) (g : B → D) where
+  pub seen_both : (a : Reading F A) (b : Reading F B) → seen (λ (p : A × B). (f p.0, g p.1)) (both fs a b) ≡ both fs (seen f a) (seen g b)
+  seen_both (Ok a) (Ok b) = refl
+  seen_both (Ok a) (Err h) = refl
+  seen_both (Err e) (Ok b) = refl
+  seen_both (Err e) (Err h) = refl
+
+pub seen_second : {F A B D : Type 0} (fs : Faults F) (g : B → D) (a : Reading F A) (b : Reading F B) → seen (λ (p : A × B). (p.0, g p.1)) (both fs a b) ≡ both fs a (seen g b)
+seen_second fs g (Ok a) (Ok b) = refl
+seen_second fs g (Ok a) (Err h) = refl
+seen_second fs g (Err f) (Ok b) = refl
+seen_second fs g (Err f) (Err h) = refl
 
 -- ## Numbers
 
@@ -83,6 +137,12 @@ module _ {F : Type 0} (fs : Faults F) (limit : ℕ) where
 
   pub number_or_holds : (key : List ℕ) (missing : ℕ) (ms : Members) → missing ≤ limit → IfOk (number_or fs key limit missing ms) (λ n. n ≤ limit)
   number_or_holds key missing ms h = optional_holds fs (λ (m : ℕ). m ≤ limit) missing (get_member key ms) (number_at fs limit) h number_at_holds
+
+pub in_space_holds : {F : Type 0} (fs : Faults F) (z : ℤ) → IfOk (in_space fs z) (λ n. n < 2 ^ 26)
+in_space_holds fs (pos n) =
+    test_holds fs (λ (m : ℕ). m < 2 ^ 26) (eqb (n % 4) 0 && ltb n (2 ^ 26)) n fs.out_of_range
+    (λ e. ltb-true n (2 ^ 26) (and_parts (eqb (n % 4) 0) (ltb n (2 ^ 26)) e).1)
+in_space_holds fs (negsuc n) = tt
 
 -- ## How many
 
@@ -112,3 +172,22 @@ module _ {F A X : Type 0} (fs : Faults F) (reads : X → Reading F A) where
       of_sum : (r : Reading F (List A)) → IfOk r (λ xs. length xs ≡ 0 + length ds) → IfOk r (λ xs. length xs ≡ length ds)
       of_sum (Ok xs) e = let l : length xs ≡ 0 + length ds = e in omega arith
       of_sum (Err f) e = tt
+
+module _ {F A : Type 0} (fs : Faults F) (reads : Data → Reading F A) (limit : ℕ) where
+  listed_few : (ds : List Data) → IfOk (listed_up_to fs limit reads ds) (λ xs. length xs ≤ limit)
+  listed_few ds = few (nat_le (length ds) limit) (listed fs reads ds) refl (all_length fs reads ds)
+    where
+      few : (b : Bool) (r : Reading F (List A)) → nat_le (length ds) limit ≡ b → IfOk r (λ xs. length xs ≡ length ds) → IfOk (checked fs b fs.out_of_range r) (λ xs. length xs ≤ limit)
+      few true (Ok xs) e h = let l : length xs ≡ length ds = h in omega (arith, leb-true (length ds) limit e)
+      few true (Err f) e h = tt
+      few false (Ok xs) e h = tt
+      few false (Err f) e h = tt
+
+  -- no more are read than the limit
+  pub tables_few : (o : Option Data) → IfOk (tables_up_to fs limit reads o) (λ xs. length xs ≤ limit)
+  tables_few None = omega arith
+  tables_few (Some d) = of_items (items_at d)
+    where
+      of_items : (o : Option (List Data)) → IfOk (required fs o (listed_up_to fs limit reads)) (λ xs. length xs ≤ limit)
+      of_items None = tt
+      of_items (Some ds) = listed_few ds

@@ -1,5 +1,5 @@
 -- What is read of the documents of TOML: the keys of tables, lists, numbers and whole texts (our own).
-use Rattle.std.specs.Prelude.{◌≡◌, ◌&&◌, ◌⊎◌, not, ℕ, Bool, true, List, [], ◌∷◌, map, option_map, Option, Some, None, Err, nat_eq}
+use Rattle.std.specs.Prelude.{◌≡◌, ◌&&◌, ◌==◌, ◌%◌, ◌^◌, ◌⊎◌, not, ℕ, ℤ, pos, negsuc, Bool, true, List, [], ◌∷◌, map, length, option_map, Option, Some, None, Ok, Err, nat_eq, nat_le, nat_lt, if◌then◌else◌}
 use Rattle.std.specs.List.{list_any}
 use Rattle.std.specs.Str.{IsUtf8, bytes_eq}
 use Rattle.toml.specs.Data.{Data, Items, Members, no_items, item, no_members, member, get_member, as_array, as_integer}
@@ -33,6 +33,13 @@ number_in faults key limit ms = required faults (get_member key ms) (number_at f
 abbrev pub number_or : {F : Type 0} → Faults F → List ℕ → ℕ → ℕ → Members → Reading F ℕ
 number_or faults key limit missing ms = optional missing (get_member key ms) (number_at faults limit)
 
+-- ## Addresses
+
+-- the address of a word: a multiple of 4 from 0 to 3FFFFFC
+abbrev pub in_space : {F : Type 0} → Faults F → ℤ → Reading F ℕ
+in_space faults (pos n) = if n % 4 == 0 && nat_lt n (2 ^ 26) then Ok n else Err faults.out_of_range
+in_space faults (negsuc n) = Err faults.out_of_range
+
 -- ## Lists
 
 abbrev pub list_of : Items → List Data
@@ -52,6 +59,16 @@ list_at faults reads d = required faults (items_at d) (listed faults reads)
 -- a list that is empty where its key is missing
 abbrev pub tables_at : {F A : Type 0} → Faults F → (Data → Reading F A) → Option Data → Reading F (List A)
 tables_at faults reads o = optional [] o (list_at faults reads)
+
+-- the same of at most so many values
+abbrev pub listed_up_to : {F A : Type 0} → Faults F → ℕ → (Data → Reading F A) → List Data → Reading F (List A)
+listed_up_to faults limit reads ds = checked faults (nat_le (length ds) limit) faults.out_of_range (listed faults reads ds)
+
+abbrev pub list_up_to : {F A : Type 0} → Faults F → ℕ → (Data → Reading F A) → Data → Reading F (List A)
+list_up_to faults limit reads d = required faults (items_at d) (listed_up_to faults limit reads)
+
+abbrev pub tables_up_to : {F A : Type 0} → Faults F → ℕ → (Data → Reading F A) → Option Data → Reading F (List A)
+tables_up_to faults limit reads o = optional [] o (list_up_to faults limit reads)
 
 abbrev pub are_distinct : List ℕ → Bool
 are_distinct [] = true

@@ -1,6 +1,6 @@
-ghost use Rattle.std.specs.Prelude.{◌≡◌};
+ghost use Rattle.std.specs.Prelude.{◌≡◌, ◌<◌, ◌^◌, IfOk};
 ghost use Rattle.toml.specs.View.{table_view, view};
-ghost use Rattle.toml_reading.specs.Documents.{number_at, number_in, number_or};
+ghost use Rattle.toml_reading.specs.Documents.{in_space, number_at, number_in, number_or};
 ghost use Rattle.toml_reading.specs.Readings.{up_to as is_up_to};
 
 use crate::keys::value_at;
@@ -55,5 +55,22 @@ pub fn optional_number<F: Fault>(
     match value_at(table, key) {
         Some(value) => number(value, limit),
         None => Ok(missing),
+    }
+}
+
+/// The address of a word, where the number is one.
+pub fn in_space<F: Fault>(number: i64) -> Reading<u32, F>
+    ensures value { result ≡ in_space F.faults number }
+    ensures small { IfOk result (λ address. address < 2 ^ 26) }
+{
+    match u32::try_from(number) {
+        Ok(n) => {
+            if n % 4 == 0 && n < 1 << 26 {
+                Ok(n)
+            } else {
+                Err(F::out_of_range())
+            }
+        }
+        Err(_) => Err(F::out_of_range()),
     }
 }

@@ -1,7 +1,7 @@
 use Rattle.std.proofs.Common.{option_map}
 use Rattle.toml.specs.View.{view}
 use Rattle.loader.specs.Labels.{address_of}
-use Rattle.statement.proofs.ReadingLemmas.{read_small}
+use Rattle.statement.proofs.StatementLemmas.{read_small}
 use Rattle.statement.proofs.entries.direct.Goals as goal
 
 pub invariant_of-result : goal.invariant_of-result

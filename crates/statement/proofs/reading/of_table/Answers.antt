@@ -3,7 +3,7 @@ use Rattle.std.specs.Prelude.{IfOk}
 use Rattle.toml.specs.View.{table_view}
 use Rattle.loader.specs.Labels.{address_of}
 use Rattle.statement.specs.ReadingParts.{AreParts}
-use Rattle.statement.proofs.ReadingLemmas.{parts_hold}
+use Rattle.statement.proofs.StatementLemmas.{parts_hold}
 use Rattle.statement.proofs.reading.of_table.Goals as goal
 
 pub stated-requires : goal.stated-requires

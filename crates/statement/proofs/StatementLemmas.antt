@@ -1,0 +1,160 @@
+-- What holds of all that is read.
+use Rattle.std.proofs.Common.{◌≡◌, ℕ, ℤ, pos, ◌^◌, ◌<◌, ◌≤◌, Bool, true, false, ◌&&◌, cond, eqb, leb, List, [], length, Option, Some, None, Ok, Err, Vec, is_none, sym, ap, ◌∙◌, subst}
+use Rattle.std.specs.Prelude.{All, IfOk, codes}
+use Rattle.std.specs.declared.alloc.Global.{Global}
+use Rattle.std.proofs.lemmas.Bool.{and_parts, leb-true}
+use Rattle.std.proofs.lemmas.List.Elements.{All-nil}
+use Rattle.toml.specs.Data.{Data, Members, as_integer, as_str, as_table, get_member}
+use Rattle.bus_ticks.specs.declared.profile.Class.{Class}
+use Rattle.toml_reading.specs.Documents.{are_distinct, items_at, listed_up_to, number_in}
+use Rattle.toml_reading.specs.Readings.{and_then, both, items_in, required, seen}
+use Rattle.toml_reading.proofs.ReadingLemmas.{also_holds, and_then_holds, both_hold, checked_holds, first_holds, follows_holds, implied, in_space_holds, listed_up_to_holds, number_in_holds, required_holds, second_holds, seen_both, seen_second, tables_few, tables_up_to_hold, test_holds}
+use Rattle.statement.specs.ReadingParts.{AreParts, parts_in}
+use Rattle.statement.specs.Stated.{IsLoop, IsTarget, Target}
+use Rattle.statement.specs.Statement.{Names, Parts, Read, accesses_in, address_at, address_in, destinations, destinations_at, directed, ends_in, kind_in, labelled, leave_in, loop_at, loop_in, loop_parts, loops_in, number_or_name, once, parts_of, placed_loop, some_destinations, target_at, target_in, targets_in}
+use Rattle.statement.specs.StatementFaults.{statement_faults}
+use Rattle.statement.specs.declared.faults.StatementFault.TheVariants.{OutOfRange, WrongKind, Twice}
+use Rattle.statement.specs.declared.stated.Loop.{Loop}
+use Rattle.statement.specs.declared.stated.TargetKind.{TargetKind}
+use Rattle.statement.specs.declared.stated.TargetKind.TheVariants.{Jump, Call, Return, Leave}
+
+-- ## Statements
+
+abbrev pub IsSmall : ℕ → Type 0
+IsSmall a = a < 2 ^ 26
+
+labelled_small : (o : Option ℕ) → IfOk (labelled o) IsSmall
+labelled_small (Some n) = in_space_holds statement_faults (pos n)
+labelled_small None = tt
+
+number_or_name_small : (names : Names) (o : Option ℤ) (name : Option (List ℕ)) → IfOk (number_or_name names o name) IsSmall
+number_or_name_small names (Some z) name = in_space_holds statement_faults z
+number_or_name_small names None (Some name) = labelled_small (names name)
+number_or_name_small names None None = tt
+
+address_small : (names : Names) (d : Data) → IfOk (address_at names d) IsSmall
+address_small names d = number_or_name_small names (as_integer d) (as_str d)
+
+address_in_small : (names : Names) (key : List ℕ) (ms : Members) → IfOk (address_in names key ms) IsSmall
+address_in_small names key ms = required_holds statement_faults IsSmall (get_member key ms) (address_at names) (address_small names)
+
+abbrev pub IsBound : ℕ → Type 0
+IsBound n = n ≤ 1048576
+
+abbrev pub AreEnds : (ℕ × ℕ) × (ℕ × ℕ) → Type 0
+AreEnds p = (IsSmall p.0.0 × IsSmall p.0.1) × (IsSmall p.1.0 × IsBound p.1.1)
+
+placed_is_loop : (p : (ℕ × ℕ) × (ℕ × ℕ)) → AreEnds p → IfOk (placed_loop p) IsLoop
+placed_is_loop p h =
+    test_holds statement_faults IsLoop (leb p.0.0 p.1.0 && leb p.1.0 p.0.1) (record { header = p.1.0; first = p.0.0; last = p.0.1; bound = p.1.1 }) OutOfRange
+    (λ e.
+    let parts = and_parts (leb p.0.0 p.1.0) (leb p.1.0 p.0.1) e in
+    record { from_first = leb-true p.0.0 p.1.0 parts.0; to_last = leb-true p.1.0 p.0.1 parts.1; last_small = h.0.1; bound_small = h.1.1 })
+
+loop_parts_hold : (names : Names) (ms : Members) → IfOk (loop_parts names ms) AreEnds
+loop_parts_hold names ms =
+    let ends = both statement_faults (address_in names (codes "first") ms) (address_in names (codes "last") ms) in
+    let rest = both statement_faults (address_in names (codes "header") ms) (number_in statement_faults (codes "bound") 1048576 ms) in
+    both_hold statement_faults (λ e. IsSmall e.0 × IsSmall e.1) (λ e. IsSmall e.0 × IsBound e.1) ends rest
+    (both_hold statement_faults IsSmall IsSmall (address_in names (codes "first") ms) (address_in names (codes "last") ms) (address_in_small names (codes "first") ms) (address_in_small names (codes "last") ms))
+    (both_hold statement_faults IsSmall IsBound (address_in names (codes "header") ms) (number_in statement_faults (codes "bound") 1048576 ms) (address_in_small names (codes "header") ms) (number_in_holds statement_faults 1048576 (codes "bound") ms))
+
+loop_in_holds : (names : Names) (ms : Members) → IfOk (loop_in names ms) IsLoop
+loop_in_holds names ms =
+    checked_holds statement_faults IsLoop _ _ (and_then (loop_parts names ms) placed_loop)
+    (follows_holds statement_faults IsLoop AreEnds (loop_parts names ms) placed_loop (loop_parts_hold names ms) placed_is_loop)
+
+loop_holds : (names : Names) (d : Data) → IfOk (loop_at names d) IsLoop
+loop_holds names d = required_holds statement_faults IsLoop (as_table d) (loop_in names) (loop_in_holds names)
+
+-- ## Destinations
+
+abbrev pub AllSmall : List ℕ → Type 0
+AllSmall to = All IsSmall to
+
+some_small : (names : Names) (ds : List Data) → IfOk (some_destinations names ds) AllSmall
+some_small names ds = by_length (eqb (length ds) 0)
+  where
+    by_length : (b : Bool) → IfOk (cond b (Err WrongKind) (and_then (listed_up_to statement_faults 64 (address_at names) ds) once)) AllSmall
+    by_length true = tt
+    by_length false =
+        follows_holds statement_faults AllSmall AllSmall (listed_up_to statement_faults 64 (address_at names) ds) once
+        (listed_up_to_holds statement_faults IsSmall (address_at names) (address_small names) 64 ds)
+        (λ to h. test_holds statement_faults AllSmall (are_distinct to) to Twice (λ _. h))
+
+none_small : (b : Bool) → IfOk (cond b (Ok []) (Err WrongKind)) AllSmall
+none_small true = All-nil IsSmall
+none_small false = tt
+
+called_small : (names : Names) (o : Option Data) → IfOk (required statement_faults o (destinations_at names)) AllSmall
+called_small names o =
+    required_holds statement_faults AllSmall o (destinations_at names)
+    (λ d. required_holds statement_faults AllSmall (items_at d) (some_destinations names) (some_small names))
+
+pub destinations_small : (names : Names) (o : Option Data) (k : TargetKind) → IfOk (destinations names o k) AllSmall
+destinations_small names o Jump = called_small names o
+destinations_small names o Call = called_small names o
+destinations_small names o Return = none_small (is_none o)
+destinations_small names o Leave = none_small (is_none o)
+
+-- destinations that were read
+pub read_small : (names : Names) (o : Option Data) (k : TargetKind) (r : Read (Vec ℕ Global)) (to : Vec ℕ Global) → r ≡ Ok to → items_in r ≡ destinations names o k → AllSmall to.items
+read_small names o k r to is same =
+    let whole : Ok to.items ≡ destinations names o k = ap items_in (sym is) ∙ same in
+    subst (λ (x : Read (List ℕ)). IfOk x AllSmall) (sym whole) (destinations_small names o k)
+
+abbrev pub IsStatedTarget : ℕ × Target → Type 0
+IsStatedTarget t = IsTarget t.1
+
+directed_small : (names : Names) (o : Option Data) (k : TargetKind) → IfOk (directed names o k) IsTarget
+directed_small names o k = of_list (destinations names o k) (destinations_small names o k)
+  where
+    of_list : (r : Read (List ℕ)) → IfOk r AllSmall → IfOk (seen (λ to. record { kind = k; to = to }) r) IsTarget
+    of_list (Ok to) h = h
+    of_list (Err f) h = tt
+
+target_in_holds : (names : Names) (ms : Members) → IfOk (target_in names ms) IsStatedTarget
+target_in_holds names ms =
+    checked_holds statement_faults IsStatedTarget _ _ _
+    (second_holds statement_faults IsTarget (address_in names (codes "at") ms) _
+    (and_then_holds statement_faults IsTarget (kind_in ms) (directed names (get_member (codes "to") ms)) (directed_small names (get_member (codes "to") ms))))
+
+target_holds : (names : Names) (d : Data) → IfOk (target_at names d) IsStatedTarget
+target_holds names d = required_holds statement_faults IsStatedTarget (as_table d) (target_in names) (target_in_holds names)
+
+-- ## Parts
+
+abbrev pub AreLoops : List Loop → Type 0
+AreLoops ls = All IsLoop ls × (length ls ≤ 256)
+
+abbrev pub AreTargets : List (ℕ × Target) → Type 0
+AreTargets ts = All IsStatedTarget ts
+
+loops_hold : (names : Names) (ms : Members) → IfOk (loops_in names ms) AreLoops
+loops_hold names ms =
+    also_holds (λ ls. All IsLoop ls) (λ ls. length ls ≤ 256) (loops_in names ms)
+    (tables_up_to_hold statement_faults IsLoop (loop_at names) (loop_holds names) 256 (get_member (codes "loop") ms))
+    (tables_few statement_faults (loop_at names) 256 (get_member (codes "loop") ms))
+
+targets_hold : (names : Names) (ms : Members) → IfOk (targets_in names ms) AreTargets
+targets_hold names ms = tables_up_to_hold statement_faults IsStatedTarget (target_at names) (target_holds names) 1024 (get_member (codes "target") ms)
+
+pub parts_hold : (names : Names) (ms : Members) → IfOk (parts_of names ms) AreParts
+parts_hold names ms =
+    let ends = ends_in names ms in
+    let few = both statement_faults ends (loops_in names ms) in
+    let rest = both statement_faults (targets_in names ms) (accesses_in names ms) in
+    implied (λ (p : Parts). (IsSmall p.0.0.0 × AreLoops p.0.1) × AreTargets p.1.0) AreParts (parts_of names ms)
+    (λ p h. record { entry_small = h.0.0; within = h.0.1.0; few = h.0.1.1; destinations = h.1 })
+    (both_hold statement_faults (λ p. IsSmall p.0.0 × AreLoops p.1) (λ p. AreTargets p.0) few rest
+    (both_hold statement_faults (λ p. IsSmall p.0) AreLoops ends (loops_in names ms)
+    (first_holds statement_faults IsSmall (address_in names (codes "entry") ms) (leave_in ms) (address_in_small names (codes "entry") ms))
+    (loops_hold names ms))
+    (first_holds statement_faults AreTargets (targets_in names ms) (accesses_in names ms) (targets_hold names ms)))
+
+-- ## As they are stored
+
+pub stored : (e : Read (ℕ × Class)) (l : Read (Vec Loop Global)) (t : Read (Vec (ℕ × Target) Global)) (a : Read (Vec (ℕ × Class) Global)) → seen parts_in (both statement_faults (both statement_faults e l) (both statement_faults t a)) ≡ both statement_faults (both statement_faults e (items_in l)) (both statement_faults (items_in t) (items_in a))
+stored e l t a =
+    seen_both statement_faults (λ p. (p.0, p.1.items)) (λ p. (p.0.items, p.1.items)) (both statement_faults e l) (both statement_faults t a)
+    ∙ (λ i. both statement_faults (seen_second statement_faults (λ v. v.items) e l i) (seen_both statement_faults (λ v. v.items) (λ v. v.items) t a i))
