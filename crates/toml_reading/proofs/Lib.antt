@@ -2,3 +2,5 @@ pub mod KeyLemmas
 pub mod DistinctLemmas
 pub mod ReadingLemmas
 pub mod Unique
+pub mod LowestLemmas
+pub mod LowestParts

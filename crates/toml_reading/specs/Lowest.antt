@@ -1,0 +1,61 @@
+-- What a document of TOML states and which faults it has, told of its keys, numbers, lists and tables; the lowest fault is
+-- the one that is answered (our own).
+use Rattle.std.specs.Prelude.{◌≡◌, ◌≤◌, ◌<◌, ◌⊎◌, ℕ, ℤ, pos, true, false, List, Any, IsSomeAnd, MatchOption}
+use Rattle.std.specs.List.{AllZip}
+use Rattle.toml.specs.Data.{Data, Members, as_integer, as_table, get_member}
+use Rattle.toml_reading.specs.Documents.{has_only_keys, items_at}
+use Rattle.toml_reading.specs.Readings.{Faults}
+
+-- a fault that is there, and none that is there is lower
+pub record IsLowest {F : Type 0} (faults : Faults F) (Has : F → Type 0) (fault : F) : Type 0 where
+  pub has : Has fault
+  pub least : (other : F) → Has other → faults.rank fault ≤ faults.rank other
+
+-- the one value that is stated
+pub record IsOnly {A : Type 0} (States : A → Type 0) (a : A) : Type 0 where
+  pub stated : States a
+  pub only : (b : A) → States b → b ≡ a
+
+-- ## Keys
+
+-- the value at a key, which must be there
+abbrev pub AtKey : List ℕ → Members → (Data → Type 0) → Type 0
+AtKey key ms P = IsSomeAnd (get_member key ms) P
+
+-- the value at a key, or what holds where the key is missing
+abbrev pub AtKeyOr : List ℕ → Members → Type 0 → (Data → Type 0) → Type 0
+AtKeyOr key ms Missing P = MatchOption (get_member key ms) Missing P
+
+-- a table with no other keys than those, of which more is told
+abbrev pub IsTable : List (List ℕ) → (Members → Type 0) → Data → Type 0
+IsTable keys Tells d = IsSomeAnd (as_table d) (λ ms. (has_only_keys keys ms ≡ true) × Tells ms)
+
+-- the faults of a table's keys: an unknown one, and those of its values
+abbrev pub KeysFault : {F : Type 0} → Faults F → List (List ℕ) → (Members → F → Type 0) → Members → F → Type 0
+KeysFault faults keys Has ms fault = ((has_only_keys keys ms ≡ false) × (fault ≡ faults.unknown_key)) ⊎ Has ms fault
+
+abbrev pub TableFault : {F : Type 0} → Faults F → List (List ℕ) → (Members → F → Type 0) → Data → F → Type 0
+TableFault faults keys Has d fault = MatchOption (as_table d) (fault ≡ faults.wrong_kind) (λ ms. KeysFault faults keys Has ms fault)
+
+-- ## Numbers
+
+abbrev pub IsNumber : ℕ → Data → ℕ → Type 0
+IsNumber limit d n = IsSomeAnd (as_integer d) (λ z. (z ≡ pos n) × (n ≤ limit))
+
+-- negative or above the limit
+abbrev pub IsOutside : ℕ → ℤ → Type 0
+IsOutside limit z = (n : ℕ) → z ≡ pos n → limit < n
+
+abbrev pub NumberFault : {F : Type 0} → Faults F → ℕ → Data → F → Type 0
+NumberFault faults limit d fault =
+    MatchOption (as_integer d) (fault ≡ faults.wrong_kind) (λ z. IsOutside limit z × (fault ≡ faults.out_of_range))
+
+-- ## Lists
+
+-- a list whose values state those things, one each in their order
+abbrev pub IsListOf : {A : Type 0} → (Data → A → Type 0) → Data → List A → Type 0
+IsListOf States d xs = IsSomeAnd (items_at d) (λ ds. AllZip States ds xs)
+
+-- the faults of a list: those of each of its values
+abbrev pub ListFault : {F : Type 0} → Faults F → (Data → F → Type 0) → Data → F → Type 0
+ListFault faults Has d fault = MatchOption (items_at d) (fault ≡ faults.wrong_kind) (Any (λ e. Has e fault))
