@@ -1,4 +1,5 @@
 pub mod ProfileLemmas
+mod ProfileRuleLemmas
 pub mod InputLemmas
 pub mod PageLemmas
 pub mod StartLemmas

@@ -1,5 +1,6 @@
 pub mod ProfileFaults
 pub mod ProfileFile
+pub mod ProfileRules
 pub mod MachineFaults
 pub mod Names
 pub mod Stated

@@ -5,6 +5,7 @@
 mod events;
 mod flags;
 mod inputs;
+mod law;
 mod machine_faults;
 mod machine_files;
 mod pages;
@@ -16,6 +17,7 @@ mod start;
 
 pub use events::Event;
 pub use flags::PsrFlags;
+pub use law::profiles_are_read;
 pub use machine_faults::MachineFileFault;
 pub use machine_files::{MachineFile, read_machine};
 pub use pages::MappedPage;

@@ -1,5 +1,5 @@
 -- What is read of numbers, lists and tables, against what they state and their faults.
-use Rattle.std.proofs.Common.{◌≡◌, ℕ, zero, suc, ◌<◌, ◌≤◌, ◌⊎◌, ℤ, pos, negsuc, Bool, true, false, cond, leb, List, [], ◌∷◌, ◌++◌, length, map, fold, Any, slice_index_or, Ok, Err, inl, inr, refl, sym, ap, subst, ◌∙◌, arith, le_of_eq, append_assoc, append-nil}
+use Rattle.std.proofs.Common.{◌≡◌, ℕ, zero, suc, ◌<◌, ◌≤◌, ◌⊎◌, ◌↔◌, ℤ, pos, negsuc, Bool, true, false, cond, leb, List, [], ◌∷◌, ◌++◌, length, map, fold, Any, slice_index_or, Ok, Err, inl, inr, refl, sym, ap, subst, ◌∙◌, arith, le_of_eq, append_assoc, append-nil}
 use Rattle.std.specs.List.{AllZip}
 use Rattle.std.proofs.lemmas.Bool.{leb-true, leb-false, true≢false}
 use Rattle.toml.specs.Data.{Data, Members, as_integer, as_table, get_member}
@@ -91,6 +91,23 @@ module _ {X : Type 0} (P : X → Type 0) where
 
   pub any_cases : (x : X) (xs : List X) → Any P (x ∷ xs) → P x ⊎ Any P xs
   any_cases x xs h = any_at x xs h.0 h.1 h.2 h.3 h.4
+
+  -- one of the list's values after another
+  abbrev pub OneOf : List X → Type 0
+  OneOf [] = ⊥
+  OneOf (x ∷ xs) = P x ⊎ OneOf xs
+
+  any_of : (xs : List X) → OneOf xs → Any P xs
+  any_of [] h = absurd h
+  any_of (x ∷ xs) (inl p) = any_first x xs p
+  any_of (x ∷ xs) (inr h) = any_later x xs (any_of xs h)
+
+  of_any : (xs : List X) → Any P xs → OneOf xs
+  of_any [] h = absurd (any_none h)
+  of_any (x ∷ xs) h = elim (any_cases x xs h) [ inl p ↦ inl p | inr a ↦ inr (of_any xs a) ]
+
+  pub any_one_of : (xs : List X) → OneOf xs ↔ Any P xs
+  any_one_of xs = (any_of xs, of_any xs)
 
 module _ {F A : Type 0} (fs : Faults F) (S : List A → Type 0) (T : A → Type 0) (H K : F → Type 0) where
   -- all that was read, and one more
