@@ -225,7 +225,7 @@ apart_filtered mode kept (x ∷ xs) all =
     (none_filtered (stands_at mode (place mode x)) kept xs all.0)
     (apart_filtered mode kept xs all.1)
 
--- behind a register that stands at a place, no other of the list does
+-- after a register that stands at a place, no other of the list does
 abbrev pub AtMostOne : Mode → ℕ → List Register → Type 0
 AtMostOne mode s [] = Unit {0}
 AtMostOne mode s (r ∷ rest) =

@@ -87,8 +87,8 @@ abbrev pub IsWordSpot : Block → List ℕ → Bus → (i : ℕ) → Spot → Ty
 IsWordSpot x regs bus i spot =
     located bus.memc (word_address (lowest_at x regs) i) (is_user (mode_at regs)) (not x.load) ≡ Ok spot
 
--- Whether a register of the list is the base register. Where S asks for User's registers and the base is R13 of
--- IRQ, the R13 of the list is another.
+-- Whether a register of the list is the base register. Where S asks for User's registers and the base is R13
+-- of IRQ, the R13 of the list is another.
 abbrev pub is_base : Block → List ℕ → Register → Bool
 is_base x regs register =
     slot_of (mode_for x (mode_at regs)) (register_number register)
@@ -103,8 +103,8 @@ IsBaseWord x port regs bus value =
     (spot : Spot) × IsWordSpot x regs bus (position_or_len (is_base x regs) (registers_in x.list)) spot
     × (value ≡ seen bus port spot)
 
--- What a store gives for a register of its list: the base as it stood, where it is the lowest of the list; as it
--- is written back, where it comes later and is; and any other register as it stands.
+-- What a store gives for a register of its list: the base as it stood, where it is the lowest of the list; as
+-- it is written back, where it comes later and is; and any other register as it stands.
 pub record Gives (x : Block) (regs : List ℕ) (first : Bool) (register : Register) (word : ℕ) : Type 0 where
   pub lowest_base : is_base x regs register ≡ true → first ≡ true → word ≡ base_at x.rn regs
   pub later_base : is_base x regs register ≡ true → first ≡ false → x.write_back ≡ true

@@ -1,5 +1,6 @@
 -- Block transfers (VL86C010 data sheet, block data transfer; our own profile where it is silent).
-use Rattle.std.specs.Prelude.{ℕ, ◌+◌, ◌-◌, ◌*◌, ◌/◌, ◌%◌, ◌^◌, Bool, not, ◌&&◌, nat_lt, if◌then◌else◌, List, [], ◌∷◌, length, Result, Ok, Err}
+use Rattle.std.specs.Prelude.{ℕ, ◌+◌, ◌-◌, ◌*◌, ◌/◌, ◌%◌, ◌^◌, Bool, not, ◌&&◌, nat_lt, if◌then◌else◌, List}
+use Rattle.std.specs.Prelude.{[], ◌∷◌, length, Result, Ok, Err}
 use Rattle.arm2_decode.specs.declared.instr.Block.{Block}
 use Rattle.arm2_decode.specs.declared.names.Register.TheVariants.{R15}
 use Rattle.arm2_decode.specs.Names.{register_number}
@@ -21,7 +22,9 @@ use Rattle.arm2_transfer.specs.Moved.{Moved, out_of_space, troubled, load_access
 abbrev pub lowest_of : Block → (base k : ℕ) → ℕ
 lowest_of x base k =
     (if x.up then (if x.before then (base + 4) % 2 ^ 32 else base)
-    else (if x.before then (base + (2 ^ 32 - 4 * k)) % 2 ^ 32 else (base + (2 ^ 32 - 4 * k + 4)) % 2 ^ 32)) / 4 * 4
+    else
+    (if x.before then (base + (2 ^ 32 - 4 * k)) % 2 ^ 32
+    else (base + (2 ^ 32 - 4 * k + 4)) % 2 ^ 32)) / 4 * 4
 
 -- where a block of so many registers lies, and the base after it
 abbrev pub span_of : Block → (base k : ℕ) → Span
@@ -34,13 +37,15 @@ mode_for x mode = if x.user && not (x.load && is_listed x.list R15) then User el
 -- the words of some moves, given by the registers of a mode
 abbrev pub all_put : Mode → List ℕ → List Move → Bus → Bus
 all_put mode regs [] bus = bus
-all_put mode regs (move ∷ rest) bus = all_put mode regs rest (put move.spot (given mode move.register regs) bus)
+all_put mode regs (move ∷ rest) bus =
+    all_put mode regs rest (put move.spot (given mode move.register regs) bus)
 
--- the words of a store: the registers before the base is written back give the first of them, and those after it the
--- others. So a base that is the lowest is stored as it was, and a later one as it becomes
+-- the words of a store: the registers before the base is written back give the first of them, and those after
+-- it the others. So a base that is the lowest is stored as it was, and a later one as it becomes
 unfoldable pub block_put : Mode → (before after : List ℕ) → List Move → Bus → Bus
 block_put mode before after [] bus = bus
-block_put mode before after (move ∷ rest) bus = all_put mode after rest (put move.spot (given mode move.register before) bus)
+block_put mode before after (move ∷ rest) bus =
+    all_put mode after rest (put move.spot (given mode move.register before) bus)
 
 -- the words of some moves in the registers of a mode
 abbrev pub all_loaded : (psr : Bool) → Mode → (r : ℕ) → Bus → (port : ℕ) → List Move → List ℕ → List ℕ
@@ -56,7 +61,9 @@ block_loads x span port moves regs bus =
     let after = all_loaded x.user (mode_for x (mode_of r)) r bus port moves written in
     record {
       kind = Plain;
-      accesses = load_accesses (address_of r) span.lowest span.words (is_listed x.list R15) (address_of (r15_in after));
+      accesses =
+          load_accesses (address_of r) span.lowest span.words (is_listed x.list R15)
+          (address_of (r15_in after));
       regs = after;
       bus = bus;
     }
@@ -87,7 +94,10 @@ block_by x span port (Ok moves) regs bus = block_carried_out x span port moves r
 unfoldable pub block_at : Block → Span → (port : ℕ) → List ℕ → Bus → Moved
 block_at x span port regs bus =
     if nat_lt span.lowest (2 ^ 26) then
-    block_by x span port (verdict_of (words_from bus.memc (is_user (mode_of (r15_in regs))) (not x.load) span.lowest 0 (registers_in x.list))) regs bus
+    block_by x span port
+    (verdict_of
+    (words_from bus.memc (is_user (mode_of (r15_in regs))) (not x.load) span.lowest 0
+    (registers_in x.list))) regs bus
     else out_of_space regs bus
 
 -- a block transfer

@@ -1,5 +1,5 @@
--- What a whole transfer does, and what it costs (VL86C010 data sheet, instruction cycles; our own are the prices, what
--- an aborted transfer leaves and costs, and what stops the machine).
+-- What a whole transfer does, and what it costs (VL86C010 data sheet, instruction cycles; our own are the
+-- prices, what an aborted transfer leaves and costs, and what stops the machine).
 use Rattle.std.specs.Prelude.{◌≡◌, ℕ, zero, suc, ◌==◌, Bool, true, false, if◌then◌else◌, List, [], ◌∷◌, ◌++◌}
 use Rattle.bus_ticks.specs.declared.profile.Profile.{Profile}
 use Rattle.bus_ticks.specs.declared.profile.RomTimes.{RomTimes}
@@ -8,7 +8,8 @@ use Rattle.arm2_effect.specs.declared.done.Kind.{Kind}
 use Rattle.arm2_effect.specs.declared.done.Why.TheVariants.{UnsupportedWrite}
 use Rattle.arm2_effect.specs.declared.done.Done.{Done}
 use Rattle.arm2_effect.specs.declared.exceptions.Vector.TheVariants as vector
-use Rattle.arm2_effect.specs.Effects.{Access, FetchN, Word, Internal, ticks_of, Effect, straight, refill, stopped}
+use Rattle.arm2_effect.specs.Effects.{Access, FetchN, Word, Internal, ticks_of, Effect, straight, refill}
+use Rattle.arm2_effect.specs.Effects.{stopped}
 use Rattle.arm2_effect.specs.Exceptions.{taken}
 use Rattle.arm2_effect.specs.ProgramCounter.{ahead_of}
 use Rattle.arm2_transfer.specs.declared.bus.Bus.{Bus}
@@ -23,7 +24,8 @@ pub record Moved : Type 0 where
   pub bus : Bus
 
 -- the code's answer, and the registers and the bus after it, are those of a transfer
-pub record IsMoved (p : Profile) (rom : RomTimes) (done : Done) (new : List ℕ) (now : Bus) (m : Moved) : Type 0 where
+pub record IsMoved (p : Profile) (rom : RomTimes) (done : Done) (new : List ℕ) (now : Bus)
+    (m : Moved) : Type 0 where
   pub kind : done.kind ≡ m.kind
   pub ticks : done.ticks ≡ ticks_of p rom m.accesses
   pub regs : new ≡ m.regs
@@ -33,8 +35,8 @@ pub record IsMoved (p : Profile) (rom : RomTimes) (done : Done) (new : List ℕ)
 abbrev pub on_bus : Bus → Effect → Moved
 on_bus bus e = record { kind = e.kind; accesses = e.accesses; regs = e.regs; bus = bus }
 
--- An address of 2 ^ 26 or more, and words that are not moved: of an aborted transfer nothing is done or priced but the
--- exception, and an unsupported write stops the machine.
+-- An address of 2 ^ 26 or more, and words that are not moved: of an aborted transfer nothing is done or
+-- priced but the exception, and an unsupported write stops the machine.
 abbrev pub out_of_space : List ℕ → Bus → Moved
 out_of_space regs bus = on_bus bus (taken vector.AddressException regs)
 

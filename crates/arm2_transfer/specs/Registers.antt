@@ -1,4 +1,5 @@
--- What a load or a store does to the registers (VL86C010 data sheet, data transfer; our own profile where it is silent).
+-- What a load or a store does to the registers (VL86C010 data sheet, data transfer; our own profile where it
+-- is silent).
 use Rattle.std.specs.Prelude.{ℕ, ◌+◌, ◌-◌, ◌%◌, ◌^◌, ◌==◌, Bool, true, false, if◌then◌else◌, List}
 use Rattle.arm2_decode.specs.declared.names.Register.{Register}
 use Rattle.arm2_decode.specs.Names.{register_number}
@@ -25,18 +26,21 @@ abbrev pub given : Mode → Register → List ℕ → ℕ
 given mode register regs =
     if is_r15 register then r15_ahead (r15_in regs) 12 else register_in mode (register_number register) regs
 
--- a loaded word in R15, of which r was the value before the instruction: the PSR comes along where it is asked for
+-- a loaded word in R15, of which r was the value before the instruction: the PSR comes along where it is
+-- asked for
 abbrev pub loaded_r15 : (psr : Bool) → (r word : ℕ) → ℕ
 loaded_r15 psr r word = if psr then restored_of r word (address_of word) else jumped_of r word
 
 -- a loaded word in a register of a mode
 abbrev pub with_loaded : (psr : Bool) → Mode → (r : ℕ) → Register → (word : ℕ) → List ℕ → List ℕ
 with_loaded psr mode r register word regs =
-    if is_r15 register then with_r15 (loaded_r15 psr r word) regs else with_register mode (register_number register) word regs
+    if is_r15 register then with_r15 (loaded_r15 psr r word) regs
+    else with_register mode (register_number register) word regs
 
 -- a new base in a register of the current mode, where it is written back
 abbrev pub with_base : (write_back : Bool) → Mode → Register → (base : ℕ) → List ℕ → List ℕ
-with_base write_back mode rn base regs = if write_back then with_register mode (register_number rn) base regs else regs
+with_base write_back mode rn base regs =
+    if write_back then with_register mode (register_number rn) base regs else regs
 
 -- R15 one instruction on
 abbrev pub passed : List ℕ → List ℕ

@@ -1,6 +1,7 @@
--- Single transfers (VL86C010 data sheet, single data transfer; our own profile for what a store of the base and the
--- address exception do).
-use Rattle.std.specs.Prelude.{ℕ, ◌^◌, Bool, false, not, ◌&&◌, ◌||◌, nat_lt, if◌then◌else◌, List, Result, Ok, Err}
+-- Single transfers (VL86C010 data sheet, single data transfer; our own profile for what a store of the base
+-- and the address exception do).
+use Rattle.std.specs.Prelude.{ℕ, ◌^◌, Bool, false, not, ◌&&◌, ◌||◌, nat_lt, if◌then◌else◌, List, Result, Ok}
+use Rattle.std.specs.Prelude.{Err}
 use Rattle.memc.specs.Memory.{located}
 use Rattle.memc.specs.declared.spots.Spot.{Spot}
 use Rattle.arm2_decode.specs.declared.instr.SingleImmediate.{SingleImmediate}
@@ -33,9 +34,11 @@ writes_base x = x.write_back || not x.before
 
 -- R15 one instruction on, and the moved base in its register of the current mode where it is written back
 abbrev pub base_after : Single → (base : ℕ) → List ℕ → List ℕ
-base_after x base regs = with_base (writes_base x) (mode_of (r15_in regs)) x.rn (moved_by x.up base x.offset) (passed regs)
+base_after x base regs =
+    with_base (writes_base x) (mode_of (r15_in regs)) x.rn (moved_by x.up base x.offset) (passed regs)
 
--- a load's registers: the word comes after the base is written back, so that it stays where both name one register
+-- a load's registers: the word comes after the base is written back, so that it stays where both name one
+-- register
 unfoldable pub single_loaded : Single → (base port : ℕ) → Spot → List ℕ → Bus → List ℕ
 single_loaded x base port spot regs bus =
     let r = r15_in regs in
@@ -48,7 +51,9 @@ single_loads x base port spot regs bus =
     let after = single_loaded x base port spot regs bus in
     record {
       kind = Plain;
-      accesses = load_accesses (address_of (r15_in regs)) (address_for x base) 1 (is_r15 x.rd) (address_of (r15_in after));
+      accesses =
+          load_accesses (address_of (r15_in regs)) (address_for x base) 1 (is_r15 x.rd)
+          (address_of (r15_in after));
       regs = after;
       bus = bus;
     }
@@ -66,7 +71,8 @@ single_stores x base spot regs bus =
 
 -- a transfer whose word is at hand
 unfoldable pub single_carried_out : Single → (base port : ℕ) → Spot → List ℕ → Bus → Moved
-single_carried_out x base port spot regs bus = if x.load then single_loads x base port spot regs bus else single_stores x base spot regs bus
+single_carried_out x base port spot regs bus =
+    if x.load then single_loads x base port spot regs bus else single_stores x base spot regs bus
 
 -- a transfer by what the memory controller says of its word
 unfoldable pub single_by : Single → (base port : ℕ) → Result Spot Trouble → List ℕ → Bus → Moved
@@ -77,7 +83,10 @@ single_by x base port (Ok spot) regs bus = single_carried_out x base port spot r
 unfoldable pub single_at : Single → (base port : ℕ) → List ℕ → Bus → Moved
 single_at x base port regs bus =
     if nat_lt (address_for x base) (2 ^ 26) then
-    single_by x base port (met (located bus.memc (address_for x base) (has_user_rights x (mode_of (r15_in regs))) (not x.load))) regs bus
+    single_by x base port
+    (met
+    (located bus.memc (address_for x base) (has_user_rights x (mode_of (r15_in regs)))
+    (not x.load))) regs bus
     else out_of_space regs bus
 
 -- a single transfer: R15 as the base stands two words on, without its PSR and mode
@@ -87,9 +96,27 @@ single_moved x port regs bus = single_at x (first_of 8 (register_number x.rn) re
 -- with the offset in the word
 abbrev pub of_immediate : SingleImmediate → Single
 of_immediate x =
-    record { before = x.before; up = x.up; byte = x.byte; write_back = x.write_back; load = x.load; rn = x.rn; rd = x.rd; offset = x.offset }
+    record {
+      before = x.before;
+      up = x.up;
+      byte = x.byte;
+      write_back = x.write_back;
+      load = x.load;
+      rn = x.rn;
+      rd = x.rd;
+      offset = x.offset;
+    }
 
 -- with the offset in a register, shifted by an amount in the word
 abbrev pub of_register : SingleRegister → List ℕ → Single
 of_register x regs =
-    record { before = x.before; up = x.up; byte = x.byte; write_back = x.write_back; load = x.load; rn = x.rn; rd = x.rd; offset = (shifted_by_amount x.shift x.amount (register_number x.rm) regs).value }
+    record {
+      before = x.before;
+      up = x.up;
+      byte = x.byte;
+      write_back = x.write_back;
+      load = x.load;
+      rn = x.rn;
+      rd = x.rd;
+      offset = (shifted_by_amount x.shift x.amount (register_number x.rm) regs).value;
+    }

@@ -1,10 +1,13 @@
--- The words of a block: their registers, their addresses, and what the memory controller says of them all together
--- (VL86C010 data sheet, block data transfer; our own profile where it is silent: all words are located before the first is
--- moved, an abort comes before an unsupported write, and the addresses wrap at 2 ^ 26).
-use Rattle.std.specs.Prelude.{ℕ, ◌+◌, ◌/◌, ◌%◌, ◌^◌, ◌==◌, Bool, true, false, if◌then◌else◌, List, [], ◌∷◌, filter, All, Result, Ok, Err}
+-- The words of a block: their registers, their addresses, and what the memory controller says of them all
+-- together (VL86C010 data sheet, block data transfer; our own profile where it is silent: all words are
+-- located before the first is moved, an abort comes before an unsupported write, and the addresses wrap at 2
+-- ^ 26).
+use Rattle.std.specs.Prelude.{ℕ, ◌+◌, ◌/◌, ◌%◌, ◌^◌, ◌==◌, Bool, true, false, if◌then◌else◌, List, [], ◌∷◌}
+use Rattle.std.specs.Prelude.{filter, All, Result, Ok, Err}
 use Rattle.std.specs.List.{list_any}
 use Rattle.arm2_decode.specs.declared.names.Register.{Register}
-use Rattle.arm2_decode.specs.declared.names.Register.TheVariants.{R0, R1, R2, R3, R4, R5, R6, R7, R8, R9, R10, R11, R12, R13, R14, R15}
+use Rattle.arm2_decode.specs.declared.names.Register.TheVariants.{R0, R1, R2, R3, R4, R5, R6, R7, R8, R9, R10}
+use Rattle.arm2_decode.specs.declared.names.Register.TheVariants.{R11, R12, R13, R14, R15}
 use Rattle.arm2_decode.specs.Names.{register_number}
 use Rattle.bus_ticks.specs.Prices.{word_address}
 use Rattle.memc.specs.Memory.{Memory, located, Fits}

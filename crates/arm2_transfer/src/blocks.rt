@@ -1,11 +1,13 @@
 ghost use Rattle.std.specs.Prelude.{◌≡◌, true, false, ◌<◌, ◌≤◌, ◌^◌, length};
 ghost use Rattle.arm2_effect.specs.Effects.{is_stopped};
 ghost use Rattle.arm2_effect.specs.Modes.{register_in};
-ghost use Rattle.arm2_transfer.specs.Words.{AllFit, registers_in as are_registers_in};
+ghost use Rattle.arm2_transfer.specs.Words.{AllFit, registers_in};
 ghost use Rattle.arm2_transfer.specs.Moved.{ChangesNothing, IsMoved};
-ghost use Rattle.arm2_effect.specs.ProgramCounter.{mode_of as mode_in};
+ghost use Rattle.arm2_effect.specs.ProgramCounter.{mode_of};
 ghost use Rattle.arm2_transfer.specs.Registers.{with_base};
-ghost use Rattle.arm2_transfer.specs.Block.{lowest_of, span_of as is_span_of, mode_for as is_mode_for, all_put, block_put, all_loaded, block_loads, block_stores, block_carried_out, block_at as is_block_at, block_moved};
+ghost use Rattle.arm2_transfer.specs.Block.{lowest_of, span_of, mode_for, all_put, block_put, all_loaded};
+ghost use Rattle.arm2_transfer.specs.Block.{block_loads, block_stores, block_carried_out, block_at};
+ghost use Rattle.arm2_transfer.specs.Block.{block_moved};
 
 use crate::bus::{Bus, put, see};
 use crate::moved::{load_ticks, refuse, store_ticks};
@@ -30,7 +32,7 @@ fn lowest(transfer: &Block, base: u32, words: u32) -> u32
 
 fn span_of(transfer: &Block, base: u32, words: u32) -> Span
     requires { words ≤ 16 }
-    ensures { result ≡ is_span_of transfer.now base words }
+    ensures { result ≡ span_of transfer.now base words }
 {
     Span {
         lowest: lowest(transfer, base, words),
@@ -41,7 +43,7 @@ fn span_of(transfer: &Block, base: u32, words: u32) -> Span
 
 // Whose registers are moved.
 fn mode_for(transfer: Block, mode: Mode) -> Mode
-    ensures { result ≡ is_mode_for transfer mode }
+    ensures { result ≡ mode_for transfer mode }
 {
     if transfer.user && !(transfer.load && is_listed(transfer.list, Register::R15)) {
         Mode::User
@@ -77,7 +79,8 @@ fn load_all(
     }
 }
 
-// The words are stored and the base is written back: after the first word, which is given by the registers as they were.
+// The words are stored and the base is written back: after the first word, which is given by the registers as
+// they were.
 #[tactic(auto, unfolding(crate::specs::Block::block_put))]
 fn put_block(
     registers: &mut Registers,
@@ -88,8 +91,11 @@ fn put_block(
     moves: &[Move],
 )
     requires { AllFit bus.old.memc.shift moves.now }
-    ensures bus { bus.new ≡ block_put (is_mode_for transfer (mode_in r15)) registers.old (with_base transfer.write_back (mode_in r15) transfer.rn base registers.old) moves.now bus.old }
-    ensures registers { registers.new ≡ with_base transfer.write_back (mode_in r15) transfer.rn base registers.old }
+    ensures bus { bus.new
+        ≡ block_put (mode_for transfer (mode_of r15)) registers.old
+        (with_base transfer.write_back (mode_of r15) transfer.rn base registers.old) moves.now bus.old }
+    ensures registers { registers.new
+        ≡ with_base transfer.write_back (mode_of r15) transfer.rn base registers.old }
 {
     let mode = mode_for(transfer, mode_of(r15));
     match moves {
@@ -128,7 +134,8 @@ fn load(
     requires below { span.lowest < 2 ^ 26 }
     requires some { 1 ≤ span.words }
     requires few { span.words ≤ 16 }
-    ensures moved { IsMoved prices.profile prices.rom result registers.new bus.now (block_loads transfer span port moves.now registers.old bus.now) }
+    ensures moved { IsMoved prices.profile prices.rom result registers.new bus.now
+        (block_loads transfer span port moves.now registers.old bus.now) }
     ensures bound { result.ticks < 2 ^ 16 }
     ensures goes_on { is_stopped result.kind ≡ false }
 {
@@ -166,7 +173,8 @@ fn store(
     requires below { span.lowest < 2 ^ 26 }
     requires some { 1 ≤ span.words }
     requires few { span.words ≤ 16 }
-    ensures moved { IsMoved prices.profile prices.rom result registers.new bus.new (block_stores transfer span moves.now registers.old bus.old) }
+    ensures moved { IsMoved prices.profile prices.rom result registers.new bus.new
+        (block_stores transfer span moves.now registers.old bus.old) }
     ensures bound { result.ticks < 2 ^ 16 }
     ensures goes_on { is_stopped result.kind ≡ false }
 {
@@ -193,7 +201,8 @@ fn load_or_store(
     requires below { span.lowest < 2 ^ 26 }
     requires some { 1 ≤ span.words }
     requires few { span.words ≤ 16 }
-    ensures moved { IsMoved prices.profile prices.rom result registers.new bus.new (block_carried_out transfer span port moves.now registers.old bus.old) }
+    ensures moved { IsMoved prices.profile prices.rom result registers.new bus.new
+        (block_carried_out transfer span port moves.now registers.old bus.old) }
     ensures bound { result.ticks < 2 ^ 16 }
     ensures goes_on { is_stopped result.kind ≡ false }
 {
@@ -214,13 +223,15 @@ fn block_at(
     span: Span,
     listed: &[Register],
 ) -> Done
-    requires registers { listed.now ≡ are_registers_in transfer.list }
+    requires registers { listed.now ≡ registers_in transfer.list }
     requires some { 1 ≤ span.words }
     requires few { span.words ≤ 16 }
     requires listed_few { length listed.now ≤ 16 }
-    ensures moved { IsMoved prices.profile prices.rom result registers.new bus.new (is_block_at transfer span port registers.old bus.old) }
+    ensures moved { IsMoved prices.profile prices.rom result registers.new bus.new
+        (block_at transfer span port registers.old bus.old) }
     ensures bound { result.ticks < 2 ^ 16 }
-    ensures stopped { is_stopped result.kind ≡ true → ChangesNothing result registers.old registers.new bus.old bus.new }
+    ensures stopped { is_stopped result.kind ≡ true
+        → ChangesNothing result registers.old registers.new bus.old bus.new }
 {
     if span.lowest >= 0x400_0000 {
         return registers.take(prices, Vector::AddressException);
@@ -249,9 +260,11 @@ pub(crate) fn block(
     prices: Prices,
     transfer: &Block,
 ) -> Done
-    ensures moved { IsMoved prices.profile prices.rom result registers.new bus.new (block_moved transfer.now port registers.old bus.old) }
+    ensures moved { IsMoved prices.profile prices.rom result registers.new bus.new
+        (block_moved transfer.now port registers.old bus.old) }
     ensures bound { result.ticks < 2 ^ 16 }
-    ensures stopped { is_stopped result.kind ≡ true → ChangesNothing result registers.old registers.new bus.old bus.new }
+    ensures stopped { is_stopped result.kind ≡ true
+        → ChangesNothing result registers.old registers.new bus.old bus.new }
 {
     let listed = registers_in(transfer.list);
     let base = registers.read(mode_of(registers.get(Reg::R15)), transfer.rn);

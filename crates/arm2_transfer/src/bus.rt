@@ -1,6 +1,6 @@
 ghost use Rattle.std.specs.Prelude.{◌≡◌, ◌<◌, ◌^◌};
 ghost use Rattle.memc.specs.Memory.{Fits};
-ghost use Rattle.arm2_transfer.specs.Bus.{put as put_at, put_byte as put_byte_at, put_single as put_single_at, seen as seen_at, with_byte, byte_in, made_of};
+ghost use Rattle.arm2_transfer.specs.Bus.{put, put_byte, put_single, seen, with_byte, byte_in, made_of};
 
 use ioc::Ioc;
 use memc::{Memc, Spot};
@@ -18,7 +18,7 @@ pub struct Bus {
 // A word is stored at a spot that MEMC located.
 pub(crate) fn put(bus: &mut Bus, spot: Spot, word: u32)
     requires { Fits bus.old.memc.shift spot }
-    ensures put { bus.new ≡ put_at spot word bus.old }
+    ensures put { bus.new ≡ put spot word bus.old }
     ensures kept { bus.new.memc.shift ≡ bus.old.memc.shift }
 {
     match spot {
@@ -34,7 +34,7 @@ pub(crate) fn put(bus: &mut Bus, spot: Spot, word: u32)
 // The word at a spot that MEMC located for a load.
 pub(crate) fn see(bus: &Bus, port: u32, spot: Spot) -> u32
     requires { Fits bus.now.memc.shift spot }
-    ensures { result ≡ seen_at bus.now port spot }
+    ensures { result ≡ seen bus.now port spot }
 {
     match spot {
         Spot::Ram(_) | Spot::Rom(_) => bus.memc.load(spot),
@@ -56,7 +56,7 @@ fn replace_byte(word: u32, lane: usize, byte: u8) -> u32
 // A byte is stored at a spot that MEMC located.
 fn put_byte(bus: &mut Bus, spot: Spot, address: u32, byte: u8)
     requires { Fits bus.old.memc.shift spot }
-    ensures put { bus.new ≡ put_byte_at spot address byte bus.old }
+    ensures put { bus.new ≡ put_byte spot address byte bus.old }
     ensures kept { bus.new.memc.shift ≡ bus.old.memc.shift }
 {
     match spot {
@@ -71,7 +71,7 @@ fn put_byte(bus: &mut Bus, spot: Spot, address: u32, byte: u8)
 // A word, or its lowest byte, is stored at a spot that MEMC located for the address.
 pub(crate) fn put_single(bus: &mut Bus, byte: bool, spot: Spot, address: u32, value: u32)
     requires { Fits bus.old.memc.shift spot }
-    ensures { bus.new ≡ put_single_at byte spot address value bus.old }
+    ensures { bus.new ≡ put_single byte spot address value bus.old }
 {
     if byte {
         put_byte(bus, spot, address, (value % 0x100) as u8);

@@ -16,6 +16,10 @@ use arm2_effect::Kind;
 /// register of its list; a block that has it later, the base as it is written back. A block's base is that of
 /// its own bank. It does nothing.
 pub fn bases_after_transfers()
-    ensures single { (x : Single) → (port : ℕ) → (regs : List ℕ) → (bus : Bus) → length regs ≡ 27 → register_number x.rn ≢ 15 → (single_moved x port regs bus).kind ≡ Kind.Plain → SingleBase x port regs bus (single_moved x port regs bus) }
-    ensures block { (x : Block) → (port : ℕ) → (regs : List ℕ) → (bus : Bus) → length regs ≡ 27 → (block_moved x port regs bus).kind ≡ Kind.Plain → BlockBase x port regs bus (block_moved x port regs bus) }
+    ensures single { (x : Single) → (port : ℕ) → (regs : List ℕ) → (bus : Bus) → length regs ≡ 27
+        → register_number x.rn ≢ 15 → (single_moved x port regs bus).kind ≡ Kind.Plain
+        → SingleBase x port regs bus (single_moved x port regs bus) }
+    ensures block { (x : Block) → (port : ℕ) → (regs : List ℕ) → (bus : Bus) → length regs ≡ 27
+        → (block_moved x port regs bus).kind ≡ Kind.Plain
+        → BlockBase x port regs bus (block_moved x port regs bus) }
 {}

@@ -2,8 +2,9 @@
 //! takes.
 //!
 //! Loads and stores are here, single ones and those of a list of registers; all other instructions are
-//! `arm2_effect`'s. The rules are those of the VL86C010 data sheet, and where it is silent our own: all words of
-//! a transfer are located before the first is moved, so an aborted one changes nothing. Every call takes constant time.
+//! `arm2_effect`'s. The rules are those of the VL86C010 data sheet, and where it is silent our own: all words
+//! of a transfer are located before the first is moved, so an aborted one changes nothing. Every call takes
+//! constant time.
 #![tactic(auto)]
 
 mod blocks;

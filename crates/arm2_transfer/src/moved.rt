@@ -12,9 +12,11 @@ use bus_ticks::{fetch_n, transfer};
 /// What comes of a transfer none of whose words is moved.
 #[tactic(auto, unfolding(arm2_effect::specs::Effects::stopped))]
 pub(crate) fn refuse(registers: &mut Registers, bus: &Bus, prices: Prices, trouble: Trouble) -> Done
-    ensures moved { IsMoved prices.profile prices.rom result registers.new bus.now (troubled trouble registers.old bus.now) }
+    ensures moved { IsMoved prices.profile prices.rom result registers.new bus.now
+        (troubled trouble registers.old bus.now) }
     ensures bound { result.ticks < 2 ^ 16 }
-    ensures stopped { is_stopped result.kind ≡ true → ChangesNothing result registers.old registers.new bus.now bus.now }
+    ensures stopped { is_stopped result.kind ≡ true
+        → ChangesNothing result registers.old registers.new bus.now bus.now }
 {
     match trouble {
         Trouble::DataAbort => registers.take(prices, Vector::DataAbort),
@@ -22,8 +24,8 @@ pub(crate) fn refuse(registers: &mut Registers, bus: &Bus, prices: Prices, troub
     }
 }
 
-/// The ticks of a load by the instruction at `from`, of so many words from `address` on; where it writes R15 it jumps to
-/// `to`.
+/// The ticks of a load by the instruction at `from`, of so many words from `address` on; where it writes R15
+/// it jumps to `to`.
 pub(crate) fn load_ticks(
     prices: Prices,
     from: u32,
@@ -51,7 +53,7 @@ pub(crate) fn load_ticks(
     }
 }
 
-// The ticks of the fetch behind a store by the instruction at `from`: it does not follow the access before it.
+// The ticks of the fetch after a store by the instruction at `from`: it does not follow the access before it.
 fn fetch_behind(prices: Prices, from: u32) -> u32
     requires from { from < 2 ^ 26 }
     requires from_aligned { from % 4 ≡ 0 }

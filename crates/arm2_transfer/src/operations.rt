@@ -20,9 +20,11 @@ pub fn execute(
     prices: Prices,
     operation: &Operation,
 ) -> Done
-    ensures moved { IsMoved prices.profile prices.rom result registers.new bus.new (operation_moved operation.now port registers.old bus.old) }
+    ensures moved { IsMoved prices.profile prices.rom result registers.new bus.new
+        (operation_moved operation.now port registers.old bus.old) }
     ensures bound { result.ticks < 2 ^ 16 }
-    ensures stopped { is_stopped result.kind ≡ true → ChangesNothing result registers.old registers.new bus.old bus.new }
+    ensures stopped { is_stopped result.kind ≡ true
+        → ChangesNothing result registers.old registers.new bus.old bus.new }
 {
     match operation {
         Operation::SingleImmediate(transfer) => single_immediate(

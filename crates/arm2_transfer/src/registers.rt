@@ -1,24 +1,25 @@
 ghost use Rattle.std.specs.Prelude.{◌≡◌, ◌<◌, ◌^◌};
-ghost use Rattle.arm2_transfer.specs.Registers.{is_r15 as is_program_counter, is_user as is_user_mode, moved_by as is_moved_by, given, with_loaded, with_base, passed, loaded_r15};
+ghost use Rattle.arm2_transfer.specs.Registers.{is_r15, is_user, moved_by, given, with_loaded, with_base};
+ghost use Rattle.arm2_transfer.specs.Registers.{passed, loaded_r15};
 
 use arm2_decode::Register;
 use arm2_effect::{Mode, Reg, Registers, address_of, advanced, jumped, restored};
 
 pub(crate) fn is_user(mode: Mode) -> bool
-    ensures { result ≡ is_user_mode mode }
+    ensures { result ≡ is_user mode }
 {
     matches!(mode, Mode::User)
 }
 
 pub(crate) fn is_r15(register: Register) -> bool
-    ensures { result ≡ is_program_counter register }
+    ensures { result ≡ is_r15 register }
 {
     register.number() == 15
 }
 
 /// A base and an offset, on 32 bits.
 pub(crate) fn moved_by(up: bool, base: u32, offset: u32) -> u32
-    ensures { result ≡ is_moved_by up base offset }
+    ensures { result ≡ moved_by up base offset }
 {
     if up {
         base.wrapping_add(offset)

@@ -25,7 +25,7 @@ pub struct Single {
 
 impl Single {
     ghost use Rattle.std.specs.Prelude.{◌≡◌};
-    ghost use Rattle.arm2_transfer.specs.Single.{address_for, has_user_rights as is_as_user, base_after};
+    ghost use Rattle.arm2_transfer.specs.Single.{address_for, has_user_rights, base_after};
 
     // The address, of 32 bits.
     pub(crate) fn address(self, base: u32) -> u32
@@ -40,7 +40,7 @@ impl Single {
 
     // Whether the access has the rights of User.
     pub(crate) fn has_user_rights(self, mode: Mode) -> bool
-        ensures { result ≡ is_as_user self mode }
+        ensures { result ≡ has_user_rights self mode }
     {
         is_user(mode) || self.write_back && !self.before
     }

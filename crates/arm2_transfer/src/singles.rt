@@ -2,7 +2,9 @@ ghost use Rattle.std.specs.Prelude.{◌≡◌, true, false, ◌<◌, ◌^◌};
 ghost use Rattle.memc.specs.Memory.{Fits};
 ghost use Rattle.arm2_effect.specs.Effects.{is_stopped};
 ghost use Rattle.arm2_transfer.specs.Moved.{ChangesNothing, IsMoved};
-ghost use Rattle.arm2_transfer.specs.Single.{address_for, single_loaded, single_loads, single_stores, single_carried_out, single_at as is_single_at, single_moved, of_immediate, of_register};
+ghost use Rattle.arm2_transfer.specs.Single.{address_for, single_loaded, single_loads, single_stores};
+ghost use Rattle.arm2_transfer.specs.Single.{single_carried_out, single_at, single_moved, of_immediate};
+ghost use Rattle.arm2_transfer.specs.Single.{of_register};
 
 use crate::bus::{Bus, make, put_single, see};
 use crate::moved::{load_ticks, refuse, store_ticks};
@@ -43,7 +45,8 @@ fn load(
 ) -> Done
     requires fits { Fits bus.now.memc.shift spot }
     requires below { address_for transfer base < 2 ^ 26 }
-    ensures moved { IsMoved prices.profile prices.rom result registers.new bus.now (single_loads transfer base port spot registers.old bus.now) }
+    ensures moved { IsMoved prices.profile prices.rom result registers.new bus.now
+        (single_loads transfer base port spot registers.old bus.now) }
     ensures bound { result.ticks < 2 ^ 16 }
     ensures goes_on { is_stopped result.kind ≡ false }
 {
@@ -74,7 +77,8 @@ fn store(
 ) -> Done
     requires fits { Fits bus.old.memc.shift spot }
     requires below { address_for transfer base < 2 ^ 26 }
-    ensures moved { IsMoved prices.profile prices.rom result registers.new bus.new (single_stores transfer base spot registers.old bus.old) }
+    ensures moved { IsMoved prices.profile prices.rom result registers.new bus.new
+        (single_stores transfer base spot registers.old bus.old) }
     ensures bound { result.ticks < 2 ^ 16 }
     ensures goes_on { is_stopped result.kind ≡ false }
 {
@@ -101,7 +105,8 @@ fn load_or_store(
 ) -> Done
     requires fits { Fits bus.old.memc.shift spot }
     requires below { address_for transfer base < 2 ^ 26 }
-    ensures moved { IsMoved prices.profile prices.rom result registers.new bus.new (single_carried_out transfer base port spot registers.old bus.old) }
+    ensures moved { IsMoved prices.profile prices.rom result registers.new bus.new
+        (single_carried_out transfer base port spot registers.old bus.old) }
     ensures bound { result.ticks < 2 ^ 16 }
     ensures goes_on { is_stopped result.kind ≡ false }
 {
@@ -121,9 +126,11 @@ fn single_at(
     transfer: Single,
     base: u32,
 ) -> Done
-    ensures moved { IsMoved prices.profile prices.rom result registers.new bus.new (is_single_at transfer base port registers.old bus.old) }
+    ensures moved { IsMoved prices.profile prices.rom result registers.new bus.new
+        (single_at transfer base port registers.old bus.old) }
     ensures bound { result.ticks < 2 ^ 16 }
-    ensures stopped { is_stopped result.kind ≡ true → ChangesNothing result registers.old registers.new bus.old bus.new }
+    ensures stopped { is_stopped result.kind ≡ true
+        → ChangesNothing result registers.old registers.new bus.old bus.new }
 {
     let address = transfer.address(base);
     if address >= 0x400_0000 {
@@ -143,9 +150,11 @@ fn single(
     prices: Prices,
     transfer: Single,
 ) -> Done
-    ensures moved { IsMoved prices.profile prices.rom result registers.new bus.new (single_moved transfer port registers.old bus.old) }
+    ensures moved { IsMoved prices.profile prices.rom result registers.new bus.new
+        (single_moved transfer port registers.old bus.old) }
     ensures bound { result.ticks < 2 ^ 16 }
-    ensures stopped { is_stopped result.kind ≡ true → ChangesNothing result registers.old registers.new bus.old bus.new }
+    ensures stopped { is_stopped result.kind ≡ true
+        → ChangesNothing result registers.old registers.new bus.old bus.new }
 {
     let base = registers.first(transfer.rn, 8);
     single_at(registers, bus, port, prices, transfer, base)
@@ -159,9 +168,11 @@ pub(crate) fn single_immediate(
     prices: Prices,
     fields: &SingleImmediate,
 ) -> Done
-    ensures moved { IsMoved prices.profile prices.rom result registers.new bus.new (single_moved (of_immediate fields.now) port registers.old bus.old) }
+    ensures moved { IsMoved prices.profile prices.rom result registers.new bus.new
+        (single_moved (of_immediate fields.now) port registers.old bus.old) }
     ensures bound { result.ticks < 2 ^ 16 }
-    ensures stopped { is_stopped result.kind ≡ true → ChangesNothing result registers.old registers.new bus.old bus.new }
+    ensures stopped { is_stopped result.kind ≡ true
+        → ChangesNothing result registers.old registers.new bus.old bus.new }
 {
     let transfer = Single {
         before: fields.before,
@@ -184,9 +195,11 @@ pub(crate) fn single_register(
     prices: Prices,
     fields: &SingleRegister,
 ) -> Done
-    ensures moved { IsMoved prices.profile prices.rom result registers.new bus.new (single_moved (of_register fields.now registers.old) port registers.old bus.old) }
+    ensures moved { IsMoved prices.profile prices.rom result registers.new bus.new
+        (single_moved (of_register fields.now registers.old) port registers.old bus.old) }
     ensures bound { result.ticks < 2 ^ 16 }
-    ensures stopped { is_stopped result.kind ≡ true → ChangesNothing result registers.old registers.new bus.old bus.new }
+    ensures stopped { is_stopped result.kind ≡ true
+        → ChangesNothing result registers.old registers.new bus.old bus.new }
 {
     let transfer = Single {
         before: fields.before,

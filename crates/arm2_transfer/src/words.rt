@@ -1,7 +1,8 @@
 ghost use Rattle.std.specs.Prelude.{◌≡◌, ◌<◌, ◌≤◌, ◌^◌, length, IfOk};
-ghost use Rattle.bus_ticks.specs.Prices.{word_address as is_word_address};
+ghost use Rattle.bus_ticks.specs.Prices.{word_address};
 ghost use Rattle.memc.specs.Memory.{Fits, located};
-ghost use Rattle.arm2_transfer.specs.Words.{all_registers as are_all_registers, is_listed as is_in_list, registers_in as are_registers_in, met, words_from, verdict_of, AllFit};
+ghost use Rattle.arm2_transfer.specs.Words.{all_registers, is_listed, registers_in, met, words_from};
+ghost use Rattle.arm2_transfer.specs.Words.{verdict_of, AllFit};
 
 use crate::few::Few;
 use arm2_decode::Register;
@@ -25,7 +26,7 @@ pub struct Move {
 
 #[tactic(auto, unfolding(crate::specs::Words::all_registers))]
 fn all_registers() -> [Register; 16]
-    ensures { result ≡ are_all_registers }
+    ensures { result ≡ all_registers }
 {
     use Register::*;
     [
@@ -35,14 +36,14 @@ fn all_registers() -> [Register; 16]
 
 /// Whether a list has a register.
 pub(crate) fn is_listed(list: u32, register: Register) -> bool
-    ensures { result ≡ is_in_list list register }
+    ensures { result ≡ is_listed list register }
 {
     (list >> register.number()) % 2 == 1
 }
 
 /// The registers of a list, the lowest first.
 pub(crate) fn registers_in(list: u32) -> Few<Register>
-    ensures registers { result ≡ are_registers_in list }
+    ensures registers { result ≡ registers_in list }
     ensures few { length result ≤ 16 }
 {
     let mut listed = Few::new(Register::R0);
@@ -75,7 +76,7 @@ pub(crate) fn locate_word(
 fn word_address(lowest: u32, word: u32) -> u32
     requires below { lowest < 2 ^ 26 }
     requires few { word < 16 }
-    ensures address { result ≡ is_word_address lowest word }
+    ensures address { result ≡ word_address lowest word }
     ensures below { result < 2 ^ 26 }
 {
     4 * (lowest / 4 + word) % 0x400_0000
