@@ -1,2 +1,5 @@
 pub mod StatementLemmas
 pub mod Unique
+pub mod RuleLemmas
+pub mod TableLemmas
+pub mod DocumentLemmas

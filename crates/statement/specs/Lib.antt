@@ -3,3 +3,4 @@ pub mod StatementParts
 pub mod StatementFaults
 pub mod Statement
 pub mod ReadingParts
+pub mod StatementRules

@@ -4,9 +4,11 @@
 
 mod entries;
 mod faults;
+mod law;
 mod reading;
 mod stated;
 
 pub use faults::StatementFault;
+pub use law::statements_are_read;
 pub use reading::read_statement;
 pub use stated::{Loop, Statement, Target, TargetKind};

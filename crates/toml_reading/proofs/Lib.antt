@@ -4,3 +4,4 @@ pub mod ReadingLemmas
 pub mod Unique
 pub mod LowestLemmas
 pub mod LowestParts
+pub mod Following

@@ -1,3 +1,4 @@
 pub mod Readings
 pub mod Documents
 pub mod Lowest
+pub mod Limits

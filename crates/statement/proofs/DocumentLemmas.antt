@@ -1,0 +1,129 @@
+-- What is read of a document, against what it states and the faults that it has.
+use Rattle.std.proofs.Common.{◌≡◌, ◌⊎◌, ◌↔◌, ℕ, true, ◌&&◌, cond, eqb, [], Ok, Err, refl, sym, ap, subst, ◌∙◌}
+use Rattle.std.specs.Prelude.{codes}
+use Rattle.std.specs.Map.{keys_of}
+use Rattle.std.specs.Cmp.Derive.{both_true}
+use Rattle.std.proofs.lemmas.Bool.{and_parts}
+use Rattle.toml.specs.Data.{Members, get_member}
+use Rattle.bus_ticks.specs.declared.profile.Class.TheVariants as class
+use Rattle.toml_reading.specs.Documents.{are_distinct, has_only_keys}
+use Rattle.toml_reading.specs.Limits.{IsListUpTo, ListUpToFault}
+use Rattle.toml_reading.specs.Lowest.{AtKey, AtKeyOr, IsLowest}
+use Rattle.toml_reading.specs.Readings.{and_then}
+use Rattle.toml_reading.proofs.Following.{tables_up_to_judged, test_judged, then_judged}
+use Rattle.toml_reading.proofs.LowestLemmas.{Judges, both_judged, judged_as, judged_fault, judged_value, optional_judged}
+use Rattle.toml_reading.proofs.LowestParts.{keys_judged}
+use Rattle.statement.specs.StatementRules.{AccessFault, AddressFault, HasFault, HasParts, IsAddress, IsSingle, IsWord, LoopFault, PartsFault, RequiredFault, States, StatesAccess, StatesLoop, StatesTarget, TargetFault, WordFault}
+use Rattle.statement.specs.Stated.{Stated}
+use Rattle.statement.specs.Statement.{Names, Parts, access_at, class_at, leave_in, loop_at, named_class, parts_of, statement_keys, statement_of, target_at, whole}
+use Rattle.statement.specs.StatementFaults.{number_of, statement_faults}
+use Rattle.statement.specs.declared.faults.StatementFault.{StatementFault}
+use Rattle.statement.specs.declared.faults.StatementFault.TheVariants.{Memory, NotToml, UnknownKey, WrongKind, UnknownLabel, OutOfRange, Twice}
+use Rattle.statement.proofs.RuleLemmas.{address_in_judged, word_judged}
+use Rattle.statement.proofs.TableLemmas.{access_judged, loop_judged, six_in_line, target_judged}
+
+-- ## Faults differ in their numbers
+
+fault_numbered : ℕ → StatementFault
+fault_numbered n =
+    cond (eqb n 1) Memory (cond (eqb n 2) NotToml (cond (eqb n 3) UnknownKey (cond (eqb n 4) WrongKind (cond (eqb n 5) UnknownLabel (cond (eqb n 6) OutOfRange Twice)))))
+
+numbered_back : (f : StatementFault) → fault_numbered (number_of f) ≡ f
+unfolding fault_numbered
+numbered_back Memory = refl
+numbered_back NotToml = refl
+numbered_back UnknownKey = refl
+numbered_back WrongKind = refl
+numbered_back UnknownLabel = refl
+numbered_back OutOfRange = refl
+numbered_back Twice = refl
+
+one_number : (f g : StatementFault) → number_of f ≡ number_of g → f ≡ g
+one_number f g e = sym (numbered_back f) ∙ ap fault_numbered e ∙ numbered_back g
+
+leave_judged : (ms : Members) → Judges statement_faults (λ c. AtKeyOr (codes "leave") ms (c ≡ class.Any) (λ d. IsWord named_class d c)) (λ f. AtKey (codes "leave") ms (λ d. WordFault named_class d f)) (leave_in ms)
+leave_judged ms = optional_judged statement_faults (IsWord named_class) (WordFault named_class) class_at (word_judged named_class) class.Any (get_member (codes "leave") ms)
+
+module _ (names : Names) where
+  -- ## Parts
+
+  abbrev made_of : Parts → Stated
+  made_of p = record { entry = p.0.0.0; leave = p.0.0.1; loops = p.0.1; targets = p.1.0; accesses = p.1.1 }
+
+  abbrev split : Stated → Parts
+  split st = (((st.entry, st.leave), st.loops), (st.targets, st.accesses))
+
+  abbrev HasEach : Members → Parts → Type 0
+  HasEach ms p =
+      ((AtKey (codes "entry") ms (λ d. IsAddress names d p.0.0.0)
+      × AtKeyOr (codes "leave") ms (p.0.0.1 ≡ class.Any) (λ d. IsWord named_class d p.0.0.1))
+      × AtKeyOr (codes "loop") ms (p.0.1 ≡ []) (λ d. IsListUpTo 256 (StatesLoop names) d p.0.1))
+      × (AtKeyOr (codes "target") ms (p.1.0 ≡ []) (λ d. IsListUpTo 1024 (StatesTarget names) d p.1.0)
+      × AtKeyOr (codes "access") ms (p.1.1 ≡ []) (λ d. IsListUpTo 4096 (StatesAccess names) d p.1.1))
+
+  abbrev EachFault : Members → StatementFault → Type 0
+  EachFault ms f =
+      ((RequiredFault (codes "entry") ms (AddressFault names) f
+      ⊎ AtKey (codes "leave") ms (λ d. WordFault named_class d f))
+      ⊎ AtKey (codes "loop") ms (λ d. ListUpToFault statement_faults 256 (LoopFault names) d f))
+      ⊎ (AtKey (codes "target") ms (λ d. ListUpToFault statement_faults 1024 (TargetFault names) d f)
+      ⊎ AtKey (codes "access") ms (λ d. ListUpToFault statement_faults 4096 (AccessFault names) d f))
+
+  each_judged : (ms : Members) → Judges statement_faults (HasEach ms) (EachFault ms) (parts_of names ms)
+  each_judged ms =
+      both_judged
+      statement_faults
+      (λ p. (AtKey (codes "entry") ms (λ d. IsAddress names d p.0.0) × AtKeyOr (codes "leave") ms (p.0.1 ≡ class.Any) (λ d. IsWord named_class d p.0.1)) × AtKeyOr (codes "loop") ms (p.1 ≡ []) (λ d. IsListUpTo 256 (StatesLoop names) d p.1))
+      (λ p. AtKeyOr (codes "target") ms (p.0 ≡ []) (λ d. IsListUpTo 1024 (StatesTarget names) d p.0) × AtKeyOr (codes "access") ms (p.1 ≡ []) (λ d. IsListUpTo 4096 (StatesAccess names) d p.1))
+      _
+      _
+      _
+      _
+      (both_judged statement_faults (λ p. AtKey (codes "entry") ms (λ d. IsAddress names d p.0) × AtKeyOr (codes "leave") ms (p.1 ≡ class.Any) (λ d. IsWord named_class d p.1)) _ _ _ _ _ (both_judged statement_faults _ _ _ _ _ _ (address_in_judged names (codes "entry") ms) (leave_judged ms)) (tables_up_to_judged statement_faults 256 (StatesLoop names) (LoopFault names) (loop_at names) (loop_judged names) (get_member (codes "loop") ms)))
+      (both_judged statement_faults _ _ _ _ _ _ (tables_up_to_judged statement_faults 1024 (StatesTarget names) (TargetFault names) (target_at names) (target_judged names) (get_member (codes "target") ms)) (tables_up_to_judged statement_faults 4096 (StatesAccess names) (AccessFault names) (access_at names) (access_judged names) (get_member (codes "access") ms)))
+
+  -- ## The whole
+
+  is_single : (st : Stated) → (are_distinct (keys_of st.targets) && are_distinct (keys_of st.accesses)) ≡ true ↔ IsSingle names st
+  is_single st = (λ e. and_parts (are_distinct (keys_of st.targets)) (are_distinct (keys_of st.accesses)) e, λ h. both_true h.0 h.1)
+
+  parts_judged : (ms : Members) → Judges statement_faults (λ st. HasParts names ms st × IsSingle names st) (PartsFault names ms) (and_then (parts_of names ms) whole)
+  parts_judged ms =
+      judged_as
+      statement_faults
+      (λ st. (p : Parts) × HasEach ms p × (IsSingle names (made_of p) × (st ≡ made_of p)))
+      (λ st. HasParts names ms st × IsSingle names st)
+      (λ f. EachFault ms f ⊎ ((p : Parts) × HasEach ms p × ((¬ IsSingle names (made_of p)) × (f ≡ Twice))))
+      (PartsFault names ms)
+      (λ st. (
+        λ u. subst (λ (s : Stated). HasParts names ms s × IsSingle names s) (sym u.2.1) (of_each u.0 u.1, u.2.0),
+        λ h. (split st, each_of st h.0, (h.1, refl)),
+      ))
+      (λ f. six_in_line (λ u. (made_of u.0, of_each u.0 u.1, u.2.0, u.2.1), λ h. (split h.0, each_of h.0 h.1, (h.2, h.3))))
+      (and_then (parts_of names ms) whole)
+      (then_judged statement_faults (HasEach ms) (λ p st. IsSingle names (made_of p) × (st ≡ made_of p)) (EachFault ms) (λ p f. (¬ IsSingle names (made_of p)) × (f ≡ Twice)) whole (λ p s. test_judged statement_faults (IsSingle names (made_of p)) (made_of p) Twice (are_distinct (keys_of p.1.0) && are_distinct (keys_of p.1.1)) (is_single (made_of p))) (parts_of names ms) (each_judged ms))
+    where
+      of_each : (p : Parts) → HasEach ms p → HasParts names ms (made_of p)
+      of_each p s = record { entry_at = s.0.0.0; leave_at = s.0.0.1; loops_at = s.0.1; targets_at = s.1.0; accesses_at = s.1.1 }
+
+      each_of : (st : Stated) → HasParts names ms st → HasEach ms (split st)
+      each_of st h = (((h.entry_at, h.leave_at), h.loops_at), (h.targets_at, h.accesses_at))
+
+  document_judged : (ms : Members) → Judges statement_faults (States names ms) (HasFault names ms) (statement_of names ms)
+  document_judged ms =
+      judged_as
+      statement_faults
+      (λ st. (has_only_keys statement_keys ms ≡ true) × (HasParts names ms st × IsSingle names st))
+      (States names ms)
+      (HasFault names ms)
+      (HasFault names ms)
+      (λ st. (λ h. record { known = h.0; parts = h.1.0; single = h.1.1 }, λ h. (h.known, (h.parts, h.single))))
+      (λ f. (λ y. y, λ y. y))
+      (statement_of names ms)
+      (keys_judged statement_faults statement_keys (λ ms st. HasParts names ms st × IsSingle names st) (PartsFault names) (λ ms. and_then (parts_of names ms) whole) parts_judged ms)
+
+  pub stated_as_read : (ms : Members) (st : Stated) → statement_of names ms ≡ Ok st ↔ States names ms st
+  stated_as_read ms st = judged_value statement_faults (States names ms) (HasFault names ms) (statement_of names ms) (document_judged ms) st
+
+  pub refused_as_read : (ms : Members) (f : StatementFault) → statement_of names ms ≡ Err f ↔ IsLowest statement_faults (HasFault names ms) f
+  refused_as_read ms f = judged_fault statement_faults (States names ms) (HasFault names ms) one_number (statement_of names ms) (document_judged ms) f

@@ -1,0 +1,322 @@
+-- What is read of the tables of loops, targets and accesses, against what they state and their faults.
+use Rattle.std.proofs.Common.{◌≡◌, ◌≢◌, ℕ, ◌<◌, ◌≤◌, ◌⊎◌, ◌↔◌, Bool, true, false, ◌&&◌, cond, eqb, leb, List, [], ◌∷◌, length, Option, Some, None, Err, IsSomeAnd, MatchOption, Any, is_none, inl, inr, refl, sym, ap, subst, ◌∙◌, arith}
+use Rattle.std.specs.Prelude.{codes}
+use Rattle.std.specs.List.{AllZip}
+use Rattle.std.specs.Cmp.Derive.{both_true}
+use Rattle.std.proofs.lemmas.Bool.{and_parts, eqb-true, false≢true, le-leb, leb-true}
+use Rattle.std.proofs.lemmas.List.{nil_from_length}
+use Rattle.std.proofs.lemmas.Option.{none-some}
+use Rattle.toml.specs.Data.{Data, Members, get_member}
+use Rattle.toml_reading.specs.Documents.{are_distinct, items_at, listed_up_to}
+use Rattle.toml_reading.specs.Lowest.{AtKey, IsNumber, NumberFault}
+use Rattle.toml_reading.specs.Readings.{and_then, both, required}
+use Rattle.toml_reading.proofs.Following.{few_judged, test_judged, then_judged}
+use Rattle.toml_reading.proofs.LowestLemmas.{Judges, both_judged, judged_as, required_judged, seen_judged}
+use Rattle.toml_reading.proofs.LowestParts.{any_none, number_in_judged, table_judged}
+use Rattle.statement.specs.StatementRules.{AccessFault, AccessKeysFault, AddressFault, AreDestinations, DestinationsFault, GoesTo, HasAccess, HasLoop, HasTarget, IsAddress, IsPlaced, IsWord, LoopFault, LoopKeysFault, RequiredFault, StatesAccess, StatesLoop, StatesTarget, TargetFault, TargetKeysFault, ToFault, WordFault}
+use Rattle.statement.specs.Stated.{Target}
+use Rattle.statement.specs.Statement.{Names, access_at, access_keys, address_at, address_in, class_in, destinations, destinations_at, directed, kind_in, loop_at, loop_keys, loop_parts, named_class, named_kind, once, placed_loop, some_destinations, target_at, target_keys}
+use Rattle.statement.specs.StatementFaults.{number_of, statement_faults}
+use Rattle.statement.specs.declared.faults.StatementFault.{StatementFault}
+use Rattle.statement.specs.declared.faults.StatementFault.TheVariants.{OutOfRange, Twice, WrongKind}
+use Rattle.statement.specs.declared.stated.Loop.{Loop}
+use Rattle.statement.specs.declared.stated.TargetKind.{TargetKind}
+use Rattle.statement.specs.declared.stated.TargetKind.TheVariants.{Jump, Call, Return, Leave}
+use Rattle.statement.proofs.RuleLemmas.{address_in_judged, address_judged, class_judged, kind_judged}
+
+cons-nil : {A : Type 0} (x : A) (xs : List A) → x ∷ xs ≡ [] → ⊥
+cons-nil x xs e = cc
+
+-- ## Sums in another order
+
+module _ {A B C D F G : Type 0} where
+  pub five_in_line : F ↔ G → (((A ⊎ B) ⊎ (C ⊎ D)) ⊎ F) ↔ (A ⊎ B ⊎ C ⊎ D ⊎ G)
+  five_in_line last = (
+    λ x. elim x [
+      | inl y ↦ elim y [
+        | inl ab ↦ elim ab [ inl a ↦ inl a | inr b ↦ inr (inl b) ]
+        | inr cd ↦ elim cd [ inl c ↦ inr (inr (inl c)) | inr d ↦ inr (inr (inr (inl d))) ]
+      ]
+      | inr f ↦ inr (inr (inr (inr (last.0 f))))
+    ],
+    λ x. elim x [
+      | inl a ↦ inl (inl (inl a))
+      | inr bs ↦ elim bs [
+        | inl b ↦ inl (inl (inr b))
+        | inr cs ↦ elim cs [
+          | inl c ↦ inl (inr (inl c))
+          | inr ds ↦ elim ds [ inl d ↦ inl (inr (inr d)) | inr g ↦ inr (last.1 g) ]
+        ]
+      ]
+    ],
+  )
+
+module _ {A B C D E F G : Type 0} where
+  pub six_in_line : F ↔ G → ((((A ⊎ B) ⊎ C) ⊎ (D ⊎ E)) ⊎ F) ↔ (A ⊎ B ⊎ C ⊎ D ⊎ E ⊎ G)
+  six_in_line last = (
+    λ x. elim x [
+      | inl y ↦ elim y [
+        | inl abc ↦ elim abc [
+          | inl ab ↦ elim ab [ inl a ↦ inl a | inr b ↦ inr (inl b) ]
+          | inr c ↦ inr (inr (inl c))
+        ]
+        | inr de ↦ elim de [ inl d ↦ inr (inr (inr (inl d))) | inr e ↦ inr (inr (inr (inr (inl e)))) ]
+      ]
+      | inr f ↦ inr (inr (inr (inr (inr (last.0 f)))))
+    ],
+    λ x. elim x [
+      | inl a ↦ inl (inl (inl (inl a)))
+      | inr bs ↦ elim bs [
+        | inl b ↦ inl (inl (inl (inr b)))
+        | inr cs ↦ elim cs [
+          | inl c ↦ inl (inl (inr c))
+          | inr ds ↦ elim ds [
+            | inl d ↦ inl (inr (inl d))
+            | inr es ↦ elim es [ inl e ↦ inl (inr (inr e)) | inr g ↦ inr (last.1 g) ]
+          ]
+        ]
+      ]
+    ],
+  )
+
+module _ (names : Names) where
+  -- ## Loops
+
+  abbrev loop_of : (ℕ × ℕ) × (ℕ × ℕ) → Loop
+  loop_of p = record { header = p.1.0; first = p.0.0; last = p.0.1; bound = p.1.1 }
+
+  abbrev HasEnds : Members → (ℕ × ℕ) × (ℕ × ℕ) → Type 0
+  HasEnds ms p =
+      (AtKey (codes "first") ms (λ d. IsAddress names d p.0.0) × AtKey (codes "last") ms (λ d. IsAddress names d p.0.1))
+      × (AtKey (codes "header") ms (λ d. IsAddress names d p.1.0) × AtKey (codes "bound") ms (λ d. IsNumber 1048576 d p.1.1))
+
+  abbrev EndsFault : Members → StatementFault → Type 0
+  EndsFault ms f =
+      (RequiredFault (codes "first") ms (AddressFault names) f ⊎ RequiredFault (codes "last") ms (AddressFault names) f)
+      ⊎ (RequiredFault (codes "header") ms (AddressFault names) f ⊎ RequiredFault (codes "bound") ms (NumberFault statement_faults 1048576) f)
+
+  ends_judged : (ms : Members) → Judges statement_faults (HasEnds ms) (EndsFault ms) (loop_parts names ms)
+  ends_judged ms =
+      both_judged
+      statement_faults
+      (λ p. AtKey (codes "first") ms (λ d. IsAddress names d p.0) × AtKey (codes "last") ms (λ d. IsAddress names d p.1))
+      (λ p. AtKey (codes "header") ms (λ d. IsAddress names d p.0) × AtKey (codes "bound") ms (λ d. IsNumber 1048576 d p.1))
+      _
+      _
+      _
+      _
+      (both_judged statement_faults _ _ _ _ _ _ (address_in_judged names (codes "first") ms) (address_in_judged names (codes "last") ms))
+      (both_judged statement_faults _ _ _ _ _ _ (address_in_judged names (codes "header") ms) (number_in_judged statement_faults 1048576 (codes "bound") ms))
+
+  is_placed : (l : Loop) → (leb l.first l.header && leb l.header l.last) ≡ true ↔ IsPlaced names l
+  is_placed l = (
+    λ e. let parts = and_parts (leb l.first l.header) (leb l.header l.last) e in (leb-true l.first l.header parts.0, leb-true l.header l.last parts.1),
+    λ h. both_true (le-leb l.first l.header h.0) (le-leb l.header l.last h.1),
+  )
+
+  loop_keys_judged : (ms : Members) → Judges statement_faults (λ l. HasLoop names ms l × IsPlaced names l) (LoopKeysFault names ms) (and_then (loop_parts names ms) placed_loop)
+  loop_keys_judged ms =
+      judged_as
+      statement_faults
+      (λ l. (p : (ℕ × ℕ) × (ℕ × ℕ)) × HasEnds ms p × (IsPlaced names (loop_of p) × (l ≡ loop_of p)))
+      (λ l. HasLoop names ms l × IsPlaced names l)
+      (λ f. EndsFault ms f ⊎ ((p : (ℕ × ℕ) × (ℕ × ℕ)) × HasEnds ms p × ((¬ IsPlaced names (loop_of p)) × (f ≡ OutOfRange))))
+      (LoopKeysFault names ms)
+      (λ l. (
+        λ u. subst (λ (m : Loop). HasLoop names ms m × IsPlaced names m) (sym u.2.1) (of_ends u.0 u.1, u.2.0),
+        λ h. (((l.first, l.last), (l.header, l.bound)), ends_of l h.0, (h.1, refl)),
+      ))
+      (λ f. five_in_line (λ u. (loop_of u.0, of_ends u.0 u.1, u.2.0, u.2.1), λ h. (((h.0.first, h.0.last), (h.0.header, h.0.bound)), ends_of h.0 h.1, (h.2, h.3))))
+      (and_then (loop_parts names ms) placed_loop)
+      (then_judged statement_faults (HasEnds ms) (λ p l. IsPlaced names (loop_of p) × (l ≡ loop_of p)) (EndsFault ms) (λ p f. (¬ IsPlaced names (loop_of p)) × (f ≡ OutOfRange)) placed_loop (λ p s. test_judged statement_faults (IsPlaced names (loop_of p)) (loop_of p) OutOfRange (leb p.0.0 p.1.0 && leb p.1.0 p.0.1) (is_placed (loop_of p))) (loop_parts names ms) (ends_judged ms))
+    where
+      of_ends : (p : (ℕ × ℕ) × (ℕ × ℕ)) → HasEnds ms p → HasLoop names ms (loop_of p)
+      of_ends p s = record { first_at = s.0.0; last_at = s.0.1; header_at = s.1.0; bound_at = s.1.1 }
+
+      ends_of : (l : Loop) → HasLoop names ms l → HasEnds ms ((l.first, l.last), (l.header, l.bound))
+      ends_of l h = ((h.first_at, h.last_at), (h.header_at, h.bound_at))
+
+  pub loop_judged : (d : Data) → Judges statement_faults (StatesLoop names d) (LoopFault names d) (loop_at names d)
+  loop_judged d = table_judged statement_faults loop_keys (λ ms l. HasLoop names ms l × IsPlaced names l) (LoopKeysFault names) (λ ms. and_then (loop_parts names ms) placed_loop) loop_keys_judged d
+
+  -- ## Destinations
+
+  abbrev AreRead : List Data → List ℕ → Type 0
+  AreRead ds to = (length ds ≤ 64) × AllZip (IsAddress names) ds to
+
+  abbrev ReadFault : List Data → StatementFault → Type 0
+  ReadFault ds f = ((64 < length ds) × (f ≡ OutOfRange)) ⊎ Any (λ e. AddressFault names e f) ds
+
+  read_judged : (ds : List Data) → Judges statement_faults (AreRead ds) (ReadFault ds) (listed_up_to statement_faults 64 (address_at names) ds)
+  read_judged ds = few_judged statement_faults 64 (IsAddress names) (AddressFault names) (address_at names) (address_judged names) ds
+
+  zip_nil : (ds : List Data) (to : List ℕ) → ds ≡ [] → AllZip (IsAddress names) ds to → to ≡ []
+  zip_nil [] [] e z = refl
+  zip_nil [] (a ∷ to) e z = absurd z
+  zip_nil (d ∷ ds) to e z = absurd (cons-nil d ds e)
+
+  zip_empty : (ds : List Data) (to : List ℕ) → to ≡ [] → AllZip (IsAddress names) ds to → ds ≡ []
+  zip_empty [] to e z = refl
+  zip_empty (d ∷ ds) [] e z = absurd z
+  zip_empty (d ∷ ds) (a ∷ to) e z = absurd (cons-nil a to e)
+
+  abbrev AreSome : Option (List Data) → List ℕ → Type 0
+  AreSome o to = IsSomeAnd o (λ ds. AreRead ds to) × (to ≢ []) × (are_distinct to ≡ true)
+
+  abbrev SomeFault : Option (List Data) → StatementFault → Type 0
+  SomeFault o f =
+      (IsSomeAnd o (λ ds. ds ≡ []) × (f ≡ WrongKind))
+      ⊎ MatchOption o (f ≡ WrongKind) (λ ds. ReadFault ds f)
+      ⊎ ((to : List ℕ) × IsSomeAnd o (λ ds. AreRead ds to) × (are_distinct to ≢ true) × (f ≡ Twice))
+
+  above : (f g : StatementFault) → f ≡ g → number_of WrongKind ≤ number_of g → number_of WrongKind ≤ number_of f
+  above f g e h = subst (λ (x : StatementFault). number_of WrongKind ≤ number_of x) (sym e) h
+
+  none_judged : (ds : List Data) → ds ≡ [] → Judges statement_faults (AreSome (Some ds)) (SomeFault (Some ds)) (Err WrongKind)
+  none_judged ds e = record {
+    told = (
+      λ to s. s.1 (zip_nil ds to e s.0.1),
+      record {
+        has = inl (e, refl);
+        least = λ f y. elim y [
+          | inl z ↦ above f WrongKind z.1 (omega arith)
+          | inr y' ↦ elim y' [
+            | inl r ↦ elim r [
+              | inl z ↦ above f OutOfRange z.1 (omega arith)
+              | inr a ↦ absurd (any_none (λ e. AddressFault names e f) (subst (λ (xs : List Data). Any (λ e. AddressFault names e f) xs) e a))
+            ]
+            | inr t ↦ above f Twice t.3 (omega arith)
+          ]
+        ];
+      },
+    );
+  }
+
+  some_judged : (ds : List Data) → ds ≢ [] → Judges statement_faults (AreSome (Some ds)) (SomeFault (Some ds)) (and_then (listed_up_to statement_faults 64 (address_at names) ds) once)
+  some_judged ds ne =
+      judged_as
+      statement_faults
+      (λ to. (c : List ℕ) × AreRead ds c × ((are_distinct c ≡ true) × (to ≡ c)))
+      (AreSome (Some ds))
+      (λ f. ReadFault ds f ⊎ ((c : List ℕ) × AreRead ds c × ((are_distinct c ≢ true) × (f ≡ Twice))))
+      (SomeFault (Some ds))
+      (λ to. (
+        λ u. (subst (AreRead ds) (sym u.2.1) u.1, λ e. ne (zip_empty ds u.0 (sym u.2.1 ∙ e) u.1.1), ap are_distinct u.2.1 ∙ u.2.0),
+        λ h. (to, h.0, (h.2, refl)),
+      ))
+      (λ f. (
+        λ y. elim y [ inl r ↦ inr (inl r) | inr u ↦ inr (inr (u.0, u.1, u.2.0, u.2.1)) ],
+        λ y. elim y [
+          | inl z ↦ absurd (ne z.0)
+          | inr y' ↦ elim y' [ inl r ↦ inl r | inr t ↦ inr (t.0, t.1, (t.2, t.3)) ]
+        ],
+      ))
+      (and_then (listed_up_to statement_faults 64 (address_at names) ds) once)
+      (then_judged statement_faults (AreRead ds) (λ c to. (are_distinct c ≡ true) × (to ≡ c)) (ReadFault ds) (λ c f. (are_distinct c ≢ true) × (f ≡ Twice)) once (λ c s. test_judged statement_faults (are_distinct c ≡ true) c Twice (are_distinct c) (λ e. e, λ e. e)) (listed_up_to statement_faults 64 (address_at names) ds) (read_judged ds))
+
+  by_length : (ds : List Data) (b : Bool) → eqb (length ds) 0 ≡ b → Judges statement_faults (AreSome (Some ds)) (SomeFault (Some ds)) (cond b (Err WrongKind) (and_then (listed_up_to statement_faults 64 (address_at names) ds) once))
+  by_length ds true e = none_judged ds (nil_from_length ds (eqb-true (length ds) 0 e))
+  by_length ds false e = some_judged ds (λ n. false≢true (sym e ∙ ap (λ (xs : List Data). eqb (length xs) 0) n))
+
+  listed_judged : (o : Option (List Data)) → Judges statement_faults (AreSome o) (SomeFault o) (required statement_faults o (some_destinations names))
+  listed_judged None = record {
+    told = (
+      λ to s. s.0,
+      record {
+        has = inr (inl refl);
+        least = λ f y. elim y [
+          | inl z ↦ absurd z.0
+          | inr y' ↦ elim y' [ inl e ↦ above f WrongKind e (omega arith) | inr t ↦ absurd t.1 ]
+        ];
+      },
+    );
+  }
+  listed_judged (Some ds) = by_length ds (eqb (length ds) 0) refl
+
+  -- ## Targets
+
+  none_is : (o : Option Data) → is_none o ≡ true ↔ (o ≡ None)
+  none_is None = (λ e. refl, λ e. refl)
+  none_is (Some d) = (λ e. absurd (false≢true e), λ e. absurd (none-some d (sym e)))
+
+  to_judged : (k : TargetKind) (o : Option Data) → Judges statement_faults (GoesTo names k o) (ToFault names k o) (destinations names o k)
+  to_judged Jump o = required_judged statement_faults (AreDestinations names) (DestinationsFault names) (destinations_at names) (λ d. listed_judged (items_at d)) o
+  to_judged Call o = required_judged statement_faults (AreDestinations names) (DestinationsFault names) (destinations_at names) (λ d. listed_judged (items_at d)) o
+  to_judged Return o = test_judged statement_faults (o ≡ None) [] WrongKind (is_none o) (none_is o)
+  to_judged Leave o = test_judged statement_faults (o ≡ None) [] WrongKind (is_none o) (none_is o)
+
+  directed_judged : (k : TargetKind) (o : Option Data) → Judges statement_faults (λ t. (t.kind ≡ k) × GoesTo names k o t.to) (ToFault names k o) (directed names o k)
+  directed_judged k o =
+      seen_judged
+      statement_faults
+      (GoesTo names k o)
+      (λ t. (t.kind ≡ k) × GoesTo names k o t.to)
+      (ToFault names k o)
+      (λ to. record { kind = k; to = to })
+      (λ to s. (refl, s))
+      (λ t h. (t.to, h.1, λ i. record { kind = h.0 i; to = t.to }))
+      (destinations names o k)
+      (to_judged k o)
+
+  abbrev HasDirection : Members → Target → Type 0
+  HasDirection ms t =
+      (k : TargetKind) × AtKey (codes "kind") ms (λ d. IsWord named_kind d k) × ((t.kind ≡ k) × GoesTo names k (get_member (codes "to") ms) t.to)
+
+  abbrev DirectionFault : Members → StatementFault → Type 0
+  DirectionFault ms f =
+      RequiredFault (codes "kind") ms (WordFault named_kind) f
+      ⊎ ((k : TargetKind) × AtKey (codes "kind") ms (λ d. IsWord named_kind d k) × ToFault names k (get_member (codes "to") ms) f)
+
+  direction_judged : (ms : Members) → Judges statement_faults (HasDirection ms) (DirectionFault ms) (and_then (kind_in ms) (directed names (get_member (codes "to") ms)))
+  direction_judged ms =
+      then_judged
+      statement_faults
+      (λ k. AtKey (codes "kind") ms (λ d. IsWord named_kind d k))
+      (λ k t. (t.kind ≡ k) × GoesTo names k (get_member (codes "to") ms) t.to)
+      (RequiredFault (codes "kind") ms (WordFault named_kind))
+      (λ k f. ToFault names k (get_member (codes "to") ms) f)
+      (directed names (get_member (codes "to") ms))
+      (λ k s. directed_judged k (get_member (codes "to") ms))
+      (kind_in ms)
+      (kind_judged ms)
+
+  target_keys_judged : (ms : Members) → Judges statement_faults (HasTarget names ms) (TargetKeysFault names ms) (both statement_faults (address_in names (codes "at") ms) (and_then (kind_in ms) (directed names (get_member (codes "to") ms))))
+  target_keys_judged ms =
+      judged_as
+      statement_faults
+      (λ t. AtKey (codes "at") ms (λ d. IsAddress names d t.0) × HasDirection ms t.1)
+      (HasTarget names ms)
+      (λ f. RequiredFault (codes "at") ms (AddressFault names) f ⊎ DirectionFault ms f)
+      (TargetKeysFault names ms)
+      (λ t. (
+        λ h. record {
+          at_at = h.0;
+          kind_at = subst (λ (k : TargetKind). AtKey (codes "kind") ms (λ d. IsWord named_kind d k)) (sym h.1.2.0) h.1.1;
+          to_at = subst (λ (k : TargetKind). GoesTo names k (get_member (codes "to") ms) t.1.to) (sym h.1.2.0) h.1.2.1;
+        },
+        λ h. (h.at_at, (t.1.kind, h.kind_at, (refl, h.to_at))),
+      ))
+      (λ f. (λ y. y, λ y. y))
+      (both statement_faults (address_in names (codes "at") ms) (and_then (kind_in ms) (directed names (get_member (codes "to") ms))))
+      (both_judged statement_faults _ _ _ _ _ _ (address_in_judged names (codes "at") ms) (direction_judged ms))
+
+  pub target_judged : (d : Data) → Judges statement_faults (StatesTarget names d) (TargetFault names d) (target_at names d)
+  target_judged d = table_judged statement_faults target_keys (HasTarget names) (TargetKeysFault names) (λ ms. both statement_faults (address_in names (codes "at") ms) (and_then (kind_in ms) (directed names (get_member (codes "to") ms)))) target_keys_judged d
+
+  -- ## Accesses
+
+  access_keys_judged : (ms : Members) → Judges statement_faults (HasAccess names ms) (AccessKeysFault names ms) (both statement_faults (address_in names (codes "at") ms) (class_in ms))
+  access_keys_judged ms =
+      judged_as
+      statement_faults
+      (λ a. AtKey (codes "at") ms (λ d. IsAddress names d a.0) × AtKey (codes "class") ms (λ d. IsWord named_class d a.1))
+      (HasAccess names ms)
+      (AccessKeysFault names ms)
+      (AccessKeysFault names ms)
+      (λ a. (λ h. record { at_at = h.0; class_at = h.1 }, λ h. (h.at_at, h.class_at)))
+      (λ f. (λ y. y, λ y. y))
+      (both statement_faults (address_in names (codes "at") ms) (class_in ms))
+      (both_judged statement_faults _ _ _ _ _ _ (address_in_judged names (codes "at") ms) (class_judged ms))
+
+  pub access_judged : (d : Data) → Judges statement_faults (StatesAccess names d) (AccessFault names d) (access_at names d)
+  access_judged d = table_judged statement_faults access_keys (HasAccess names) (AccessKeysFault names) (λ ms. both statement_faults (address_in names (codes "at") ms) (class_in ms)) access_keys_judged d

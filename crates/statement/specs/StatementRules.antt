@@ -1,0 +1,171 @@
+-- What a document states of a handler and which faults it has, told of its tables key by key. Source: our own statement
+-- format, over the documents of TOML.
+use Rattle.std.specs.Prelude.{◌≡◌, ◌≢◌, ◌<◌, ◌≤◌, ◌%◌, ◌^◌, ◌⊎◌, ℕ, pos, true, List, [], codes, Option, Some, None, IsSomeAnd, MatchOption}
+use Rattle.std.specs.Map.{keys_of}
+use Rattle.toml.specs.Data.{Data, Members, integer, string, get_member, as_str}
+use Rattle.bus_ticks.specs.declared.profile.Class.{Class}
+use Rattle.bus_ticks.specs.declared.profile.Class.TheVariants as class
+use Rattle.toml_reading.specs.Documents.{are_distinct, has_only_keys, items_at}
+use Rattle.toml_reading.specs.Limits.{IsListUpTo, ListUpToFault}
+use Rattle.toml_reading.specs.Lowest.{AtKey, AtKeyOr, IsNumber, IsTable, KeysFault, NumberFault, TableFault}
+use Rattle.statement.specs.Stated.{Stated, Target}
+use Rattle.statement.specs.Statement.{Names, access_keys, loop_keys, named_class, named_kind, statement_keys, target_keys}
+use Rattle.statement.specs.StatementFaults.{statement_faults}
+use Rattle.statement.specs.declared.faults.StatementFault.{StatementFault}
+use Rattle.statement.specs.declared.faults.StatementFault.TheVariants.{WrongKind, UnknownLabel, OutOfRange, Twice}
+use Rattle.statement.specs.declared.stated.Loop.{Loop}
+use Rattle.statement.specs.declared.stated.TargetKind.{TargetKind}
+use Rattle.statement.specs.declared.stated.TargetKind.TheVariants.{Jump, Call, Return, Leave}
+
+-- ## Values
+
+-- a multiple of 4 from 0 to 3FFFFFC
+abbrev pub IsInSpace : ℕ → Type 0
+IsInSpace a = (a % 4 ≡ 0) × (a < 2 ^ 26)
+
+-- an integer is an address itself, and a text names a label at one
+abbrev pub IsAddress : Names → Data → ℕ → Type 0
+IsAddress names (integer z) a = (z ≡ pos a) × IsInSpace a
+IsAddress names (string name) a = (names name ≡ Some a) × IsInSpace a
+IsAddress names _ a = ⊥
+
+-- an integer or a label's address out of range, a text that names no label, or another type
+abbrev pub AddressFault : Names → Data → StatementFault → Type 0
+AddressFault names (integer z) fault = ((a : ℕ) → z ≡ pos a → ¬ IsInSpace a) × (fault ≡ OutOfRange)
+AddressFault names (string name) fault = MatchOption (names name) (fault ≡ UnknownLabel) (λ a. (¬ IsInSpace a) × (fault ≡ OutOfRange))
+AddressFault names _ fault = fault ≡ WrongKind
+
+-- a text that is the word of a class or of a kind
+abbrev pub IsWord : {A : Type 0} → (List ℕ → Option A) → Data → A → Type 0
+IsWord named d a = IsSomeAnd (as_str d) (λ w. named w ≡ Some a)
+
+abbrev pub WordFault : {A : Type 0} → (List ℕ → Option A) → Data → StatementFault → Type 0
+WordFault named d fault = ((a : _) → ¬ IsWord named d a) × (fault ≡ WrongKind)
+
+-- the fault of a key that must be there: it is missing, or its value has the fault
+abbrev pub RequiredFault : List ℕ → Members → (Data → StatementFault → Type 0) → StatementFault → Type 0
+RequiredFault key ms Has fault = AtKeyOr key ms (fault ≡ WrongKind) (λ d. Has d fault)
+
+module _ (names : Names) where
+  -- ## A loop
+
+  -- what stands at the keys of a loop's table
+  pub record HasLoop (ms : Members) (l : Loop) : Type 0 where
+    pub first_at : AtKey (codes "first") ms (λ d. IsAddress names d l.first)
+    pub last_at : AtKey (codes "last") ms (λ d. IsAddress names d l.last)
+    pub header_at : AtKey (codes "header") ms (λ d. IsAddress names d l.header)
+    pub bound_at : AtKey (codes "bound") ms (λ d. IsNumber 1048576 d l.bound)
+
+  -- the header lies within first to last
+  abbrev pub IsPlaced : Loop → Type 0
+  IsPlaced l = (l.first ≤ l.header) × (l.header ≤ l.last)
+
+  abbrev pub StatesLoop : Data → Loop → Type 0
+  StatesLoop d l = IsTable loop_keys (λ ms. HasLoop ms l × IsPlaced l) d
+
+  -- the faults of its keys, and a header outside first to last
+  abbrev pub LoopKeysFault : Members → StatementFault → Type 0
+  LoopKeysFault ms fault =
+      RequiredFault (codes "first") ms (AddressFault names) fault
+      ⊎ RequiredFault (codes "last") ms (AddressFault names) fault
+      ⊎ RequiredFault (codes "header") ms (AddressFault names) fault
+      ⊎ RequiredFault (codes "bound") ms (NumberFault statement_faults 1048576) fault
+      ⊎ ((l : Loop) × HasLoop ms l × (¬ IsPlaced l) × (fault ≡ OutOfRange))
+
+  abbrev pub LoopFault : Data → StatementFault → Type 0
+  LoopFault d fault = TableFault statement_faults loop_keys LoopKeysFault d fault
+
+  -- ## A target
+
+  -- one to 64 addresses, each once
+  abbrev pub AreDestinations : Data → List ℕ → Type 0
+  AreDestinations d to = IsListUpTo 64 (IsAddress names) d to × (to ≢ []) × (are_distinct to ≡ true)
+
+  -- an empty list, the faults of a list of addresses, or an address that stands there twice
+  abbrev pub DestinationsFault : Data → StatementFault → Type 0
+  DestinationsFault d fault =
+      (IsSomeAnd (items_at d) (λ ds. ds ≡ []) × (fault ≡ WrongKind))
+      ⊎ ListUpToFault statement_faults 64 (AddressFault names) d fault
+      ⊎ ((to : List ℕ) × IsListUpTo 64 (IsAddress names) d to × (are_distinct to ≢ true) × (fault ≡ Twice))
+
+  -- a jump and a call have destinations, and a return and a leave have none
+  abbrev pub GoesTo : TargetKind → Option Data → List ℕ → Type 0
+  GoesTo Jump o to = IsSomeAnd o (λ d. AreDestinations d to)
+  GoesTo Call o to = IsSomeAnd o (λ d. AreDestinations d to)
+  GoesTo Return o to = (o ≡ None) × (to ≡ [])
+  GoesTo Leave o to = (o ≡ None) × (to ≡ [])
+
+  abbrev pub ToFault : TargetKind → Option Data → StatementFault → Type 0
+  ToFault Jump o fault = MatchOption o (fault ≡ WrongKind) (λ d. DestinationsFault d fault)
+  ToFault Call o fault = MatchOption o (fault ≡ WrongKind) (λ d. DestinationsFault d fault)
+  ToFault Return o fault = (o ≢ None) × (fault ≡ WrongKind)
+  ToFault Leave o fault = (o ≢ None) × (fault ≡ WrongKind)
+
+  -- the address of the word, and what it is stated to do
+  pub record HasTarget (ms : Members) (t : ℕ × Target) : Type 0 where
+    pub at_at : AtKey (codes "at") ms (λ d. IsAddress names d t.0)
+    pub kind_at : AtKey (codes "kind") ms (λ d. IsWord named_kind d t.1.kind)
+    pub to_at : GoesTo t.1.kind (get_member (codes "to") ms) t.1.to
+
+  abbrev pub StatesTarget : Data → ℕ × Target → Type 0
+  StatesTarget d t = IsTable target_keys (λ ms. HasTarget ms t) d
+
+  abbrev pub TargetKeysFault : Members → StatementFault → Type 0
+  TargetKeysFault ms fault =
+      RequiredFault (codes "at") ms (AddressFault names) fault
+      ⊎ RequiredFault (codes "kind") ms (WordFault named_kind) fault
+      ⊎ ((kind : TargetKind) × AtKey (codes "kind") ms (λ d. IsWord named_kind d kind) × ToFault kind (get_member (codes "to") ms) fault)
+
+  abbrev pub TargetFault : Data → StatementFault → Type 0
+  TargetFault d fault = TableFault statement_faults target_keys TargetKeysFault d fault
+
+  -- ## An access
+
+  -- the address of the word, and the class of the addresses that it transfers
+  pub record HasAccess (ms : Members) (a : ℕ × Class) : Type 0 where
+    pub at_at : AtKey (codes "at") ms (λ d. IsAddress names d a.0)
+    pub class_at : AtKey (codes "class") ms (λ d. IsWord named_class d a.1)
+
+  abbrev pub StatesAccess : Data → ℕ × Class → Type 0
+  StatesAccess d a = IsTable access_keys (λ ms. HasAccess ms a) d
+
+  abbrev pub AccessKeysFault : Members → StatementFault → Type 0
+  AccessKeysFault ms fault =
+      RequiredFault (codes "at") ms (AddressFault names) fault ⊎ RequiredFault (codes "class") ms (WordFault named_class) fault
+
+  abbrev pub AccessFault : Data → StatementFault → Type 0
+  AccessFault d fault = TableFault statement_faults access_keys AccessKeysFault d fault
+
+  -- ## The statement
+
+  -- what stands at the document's keys: any where the class to leave to is missing, and no loops, targets or accesses where their
+  -- lists are
+  pub record HasParts (ms : Members) (st : Stated) : Type 0 where
+    pub entry_at : AtKey (codes "entry") ms (λ d. IsAddress names d st.entry)
+    pub leave_at : AtKeyOr (codes "leave") ms (st.leave ≡ class.Any) (λ d. IsWord named_class d st.leave)
+    pub loops_at : AtKeyOr (codes "loop") ms (st.loops ≡ []) (λ d. IsListUpTo 256 StatesLoop d st.loops)
+    pub targets_at : AtKeyOr (codes "target") ms (st.targets ≡ []) (λ d. IsListUpTo 1024 StatesTarget d st.targets)
+    pub accesses_at : AtKeyOr (codes "access") ms (st.accesses ≡ []) (λ d. IsListUpTo 4096 StatesAccess d st.accesses)
+
+  -- one target and one access at most for an address
+  abbrev pub IsSingle : Stated → Type 0
+  IsSingle st = (are_distinct (keys_of st.targets) ≡ true) × (are_distinct (keys_of st.accesses) ≡ true)
+
+  -- the statement that a document states: no other keys, and what stands at these
+  pub record States (ms : Members) (st : Stated) : Type 0 where
+    pub known : has_only_keys statement_keys ms ≡ true
+    pub parts : HasParts ms st
+    pub single : IsSingle st
+
+  abbrev pub PartsFault : Members → StatementFault → Type 0
+  PartsFault ms fault =
+      RequiredFault (codes "entry") ms (AddressFault names) fault
+      ⊎ AtKey (codes "leave") ms (λ d. WordFault named_class d fault)
+      ⊎ AtKey (codes "loop") ms (λ d. ListUpToFault statement_faults 256 LoopFault d fault)
+      ⊎ AtKey (codes "target") ms (λ d. ListUpToFault statement_faults 1024 TargetFault d fault)
+      ⊎ AtKey (codes "access") ms (λ d. ListUpToFault statement_faults 4096 AccessFault d fault)
+      ⊎ ((st : Stated) × HasParts ms st × (¬ IsSingle st) × (fault ≡ Twice))
+
+  -- the faults of a document
+  abbrev pub HasFault : Members → StatementFault → Type 0
+  HasFault ms fault = KeysFault statement_faults statement_keys PartsFault ms fault
