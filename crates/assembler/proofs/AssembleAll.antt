@@ -96,10 +96,10 @@ line_ready s taken names p rest ws words some h =
       few_segments = omega (arith, h.few_segments);
     }
 
-rest_ready : (s t : State) (taken : List ℕ) (names : Names) (p : Parsed) (rest : List Laid) (ws : List ℕ) (words : List (List ℕ))
-    → CanSweep s taken names (record { at = s.at; label = p.label; said = p.said } ∷ rest) (ws ∷ words) → Step s p.label p.said t → Exact t (taken ++ places_from s.at (word_count p.said))
+rest_ready : (s t : State) (k : ℕ) (taken : List ℕ) (names : Names) (p : Parsed) (rest : List Laid) (ws : List ℕ) (words : List (List ℕ))
+    → CanSweep s taken names (record { at = s.at; label = p.label; said = p.said } ∷ rest) (ws ∷ words) → Step s k p.label p.said t → Exact t (taken ++ places_from s.at (word_count p.said))
     → CanSweep t (taken ++ places_from s.at (word_count p.said)) names rest words
-rest_ready s t taken names p rest ws words h step exact =
+rest_ready s t k taken names p rest ws words h step exact =
     let here = places_from s.at (word_count p.said) in
     let behind = flat_map places rest in
     let labels = free_behind s p.label (labels_of rest) h.fresh h.once in
@@ -132,7 +132,7 @@ swept_ok (line ∷ lines) (p ∷ said) s k taken names (ws ∷ words) read some 
     let one = said_ok s k p.label p.said names ws taken (line_ready s taken names p rest ws words some.0 h) in
     let step = said_is s k p.label p.said one.0 one.1 in
     let here = places_from s.at (word_count p.said) in
-    let next = rest_ready s one.0 taken names p rest ws words h step one.2 in
+    let next = rest_ready s one.0 k taken names p rest ws words h step one.2 in
     let at-next : CanSweep one.0 (taken ++ here) names (laid_from one.0.at said) words = subst (λ (a : ℕ). CanSweep one.0 (taken ++ here) names (laid_from a said) words) (sym step.moves.at) next in
     let more = swept_ok lines said one.0 (k + 1) (taken ++ here) names words read.1 some.1 at-next in
     (more.0, rw (read.0, one.1) more.1)

@@ -33,13 +33,13 @@ pub record Put (image : Words) (taken : List ℕ) (most : ℕ) : Type 0 where
 unfoldable pub Joins : Words → ℕ → Type 0
 Joins image at = (p : ℕ) × (v : ℕ) × (at ≡ p + 4) × (word_of image p ≡ Some v)
 
-may_put : (image : Words) (at w : ℕ) → may_hold at ≡ true → word_of image at ≡ None → length image < 65536 → runs_of (with_word image at w) ≤ 16 → put_fault image at w ≡ None
+pub may_put : (image : Words) (at w : ℕ) → may_hold at ≡ true → word_of image at ≡ None → length image < 65536 → runs_of (with_word image at w) ≤ 16 → put_fault image at w ≡ None
 may_put image at w may none room few =
     let small : nat_le 65536 (length image) ≡ false = grind (arith, nat_tests, room) in
     let runs : nat_lt 16 (runs_of (with_word image at w)) ≡ false = grind (arith, nat_tests, few) in
     rw (may, none, small, runs) refl
 
-put_more : (image : Words) (taken : List ℕ) (at w most : ℕ) → Put image taken most → at % 4 ≡ 0 → (In taken at → ⊥) → (now : ℕ) → runs_of (with_word image at w) ≤ now → Put (with_word image at w) (taken ++ at ∷ []) now
+pub put_more : (image : Words) (taken : List ℕ) (at w most : ℕ) → Put image taken most → at % 4 ≡ 0 → (In taken at → ⊥) → (now : ℕ) → runs_of (with_word image at w) ≤ now → Put (with_word image at w) (taken ++ at ∷ []) now
 put_more image taken at w most h four free now few =
     let none = h.absent at free in
     record {
@@ -50,14 +50,14 @@ put_more image taken at w most h four free now few =
     }
 
 -- a word behind another
-run_on : (image : Words) (at w : ℕ) → at % 4 ≡ 0 → Ascending image → word_of image at ≡ None → Joins image at → runs_of (with_word image at w) ≤ runs_of image
+pub run_on : (image : Words) (at w : ℕ) → at % 4 ≡ 0 → Ascending image → word_of image at ≡ None → Joins image at → runs_of (with_word image at w) ≤ runs_of image
 unfolding Joins
 run_on image at w four asc none j =
     let p = j.0 in
     subst (λ a. runs_of (with_word image a w) ≤ runs_of image) (sym j.2)
     (runs_same image p j.1 w (subst (λ a. a % 4 ≡ 0) j.2 four) asc (subst (λ a. word_of image a ≡ None) j.2 none) j.3)
 
-joins_next : (image : Words) (at w : ℕ) → word_of image at ≡ None → Joins (with_word image at w) (at + 4)
+pub joins_next : (image : Words) (at w : ℕ) → word_of image at ≡ None → Joins (with_word image at w) (at + 4)
 unfolding Joins
 joins_next image at w none = (at, w, refl, put_there image at w none)
 
@@ -84,7 +84,7 @@ unfolding Apart In
 one_apart at [] h = tt
 one_apart at (x ∷ xs) h = (λ m. elim m [ inl e ↦ h.0 e | inr n ↦ n ], one_apart at xs h.1)
 
-stands_behind : (taken : List ℕ) (at n : ℕ) → Stands taken at (suc n) → Stands (taken ++ at ∷ []) (at + 4) n
+pub stands_behind : (taken : List ℕ) (at n : ℕ) → Stands taken at (suc n) → Stands (taken ++ at ∷ []) (at + 4) n
 unfolding Apart
 stands_behind taken at n h = record {
   held = h.held.1;
@@ -93,7 +93,7 @@ stands_behind taken at n h = record {
   few = omega (arith, h.few, length-append taken (at ∷ []));
 }
 
-first_apart : (taken : List ℕ) (at : ℕ) (ats : List ℕ) → Apart taken (at ∷ ats) → In taken at → ⊥
+pub first_apart : (taken : List ℕ) (at : ℕ) (ats : List ℕ) → Apart taken (at ∷ ats) → In taken at → ⊥
 unfolding Apart
 first_apart taken at ats h = h.0
 
@@ -121,7 +121,7 @@ fill_on names k at (p ∷ ps) (w ∷ ws) image rest taken most le h j r s =
       subst (Joins (put_words (with_word image at w) (words_from (at + 4) ws))) end more.1,
     )
 
-put_weaker : (image : Words) (taken : List ℕ) (a b : ℕ) → a ≤ b → Put image taken a → Put image taken b
+pub put_weaker : (image : Words) (taken : List ℕ) (a b : ℕ) → a ≤ b → Put image taken a → Put image taken b
 put_weaker image taken a b le h = let runs = h.runs in record { ascends = h.ascends; absent = h.absent; count = h.count; runs = omega (arith, le, runs) }
 
 -- ---- a line's words, behind others or first of a segment
@@ -129,7 +129,7 @@ put_weaker image taken a b le h = let runs = h.runs in record { ascends = h.asce
 unfoldable pub JoinsIf : Bool → Words → ℕ → Type 0
 JoinsIf b image at = b ≡ true → Joins image at
 
-suc_zero : (n : ℕ) → (suc n == 0) ≡ false
+pub suc_zero : (n : ℕ) → (suc n == 0) ≡ false
 suc_zero n = grind (arith, nat_tests)
 
 some_fill : (names : Names) (begun : Bool) (k at : ℕ) (ps : List Pending) (ws : List ℕ) (image : Words) (rest : List Item) (taken : List ℕ) (most : ℕ)
@@ -222,7 +222,7 @@ pub record CanFill (image : Words) (taken : List ℕ) (most : ℕ) (begun : Bool
   pub few : length taken + length (flat_map places lines) ≤ 65536
   pub few_segments : most + segments begun lines ≤ 16
 
-once_first : (xs ys : List ℕ) → Once (xs ++ ys) → Once xs
+pub once_first : (xs ys : List ℕ) → Once (xs ++ ys) → Once xs
 once_first [] ys h = tt
 once_first (x ∷ xs) ys h = ((all_parts (λ y. x ≢ y) xs ys h.0).0, once_first xs ys h.1)
 

@@ -49,11 +49,11 @@ assembled_parts source (Err fault) image names is e = absurd cc
 no_name : {A : Type 0} (at : ℕ) → ◌≡◌ {A = Option ℕ} None (Some at) → A
 no_name at e = absurd cc
 
-first_covers : Covers at_first []
+pub first_covers : Covers at_first []
 unfolding StartBelow
 first_covers = record { covered = tt; below = tt }
 
-first_segments : segments_in at_first ≡ 0
+pub first_segments : segments_in at_first ≡ 0
 unfolding segments_in
 first_segments = refl
 
@@ -100,7 +100,7 @@ said_some (Codes c) w ps h = tt
 said_some (Refers r t) w ps h = tt
 said_some (Orgs n) w ps h = tt
 
-parts_some : (label : Option (List ℕ)) (x : Option Said) (ps : List Piece) → SpellsParts label x ps → NotEmpty x
+pub parts_some : (label : Option (List ℕ)) (x : Option Said) (ps : List Piece) → SpellsParts label x ps → NotEmpty x
 unfolding NotEmpty
 parts_some label None ps h = tt
 parts_some None (Some x) ps h = let k = h.2 in said_some x k.word k.rest k.operands
@@ -136,11 +136,11 @@ same_options (Some at) r f g = sym (f at refl)
 same_options None None f g = refl
 same_options None (Some at) f g = g at refl
 
-first_exact : Exact at_first []
+pub first_exact : Exact at_first []
 unfolding InSegments StartEven
 first_exact = record { within = λ a four held. elim held [ inl e ↦ let k : false ≡ true = e in absurd cc | inr e ↦ let k : false ≡ true = e in absurd cc ]; even = refl; start = tt; spans = tt; words = refl }
 
-first_put : Put [] [] 0
+pub first_put : Put [] [] 0
 unfolding Ascending
 first_put = record { ascends = tt; absent = λ a h. refl; count = refl; runs = omega arith }
 

@@ -41,7 +41,7 @@ no_17th s n some h =
 
 -- ---- a label
 
-exact_labelled : (s : State) (label : Option (List ℕ)) (taken : List ℕ) → Exact s taken → Exact (labelled s label) taken
+pub exact_labelled : (s : State) (label : Option (List ℕ)) (taken : List ℕ) → Exact s taken → Exact (labelled s label) taken
 unfolding InSegments StartEven
 exact_labelled s None taken h = h
 exact_labelled s (Some name) taken h = record { within = λ a four held. h.within a four held; even = h.even; start = h.start; spans = h.spans; words = h.words }

@@ -26,7 +26,7 @@ or_second : (a b : Bool) → (a || b) ≡ false → b ≡ false
 or_second true b e = absurd cc
 or_second false b e = e
 
-unless_is : (o : Option Fault) (s t : State) → unless o s ≡ Ok t → (o ≡ None) × (s ≡ t)
+pub unless_is : (o : Option Fault) (s t : State) → unless o s ≡ Ok t → (o ≡ None) × (s ≡ t)
 unless_is None s t e = (refl, cc)
 unless_is (Some fault) s t e = absurd cc
 
@@ -232,10 +232,9 @@ Pends (Some (Refers r (Label name))) at ps = ps ≡ Waits r name ∷ []
 Pends (Some (Lists vs)) at ps = ps ≡ map value_pending vs
 Pends _ at ps = ps ≡ []
 
-pub record Moves (s : State) (said : Option Said) (t : State) : Type 0 where
-  pub number : ℕ
+pub record Moves (s : State) (k : ℕ) (said : Option Said) (t : State) : Type 0 where
   pub new : List Pending
-  pub items : t.items ≡ s.items ++ items_at number s.at new
+  pub items : t.items ≡ s.items ++ items_at k s.at new
   pub pends : Pends said s.at new
   pub count : length new ≡ word_count said
   pub at : t.at ≡ address_behind s.at said
@@ -253,10 +252,9 @@ or_same true = refl
 or_same false = refl
 
 -- a line without a statement
-stays : (s : State) → Moves s None s
+stays : (s : State) (k : ℕ) → Moves s k None s
 unfolding Pends items_at
-stays s = record {
-  number = 0;
+stays s k = record {
   new = [];
   items = sym (append-nil s.items);
   pends = refl;
@@ -270,9 +268,8 @@ stays s = record {
 
 -- a line with words
 words_moves : (s : State) (said : Option Said) (k : ℕ) (ps : List Pending) → Pends said s.at ps → length ps ≡ word_count said → address_behind s.at said ≡ s.at + 4 * word_count said
-    → ((taken : List ℕ) → IsFree taken said) → is_open (is_some s.start) said ≡ (is_some s.start || not (word_count said == 0)) → is_17th s ≡ false → Moves s said (put_all s k ps)
+    → ((taken : List ℕ) → IsFree taken said) → is_open (is_some s.start) said ≡ (is_some s.start || not (word_count said == 0)) → is_17th s ≡ false → Moves s k said (put_all s k ps)
 words_moves s said k ps pends count at free opens room = record {
-  number = k;
   new = ps;
   items = put_items s k ps;
   pends = pends;
@@ -285,10 +282,9 @@ words_moves s said k ps pends count at free opens room = record {
 }
 
 -- an ORG
-org_moves : (s : State) (n : ℕ) → org_fault s n ≡ None → Moves s (Some (Orgs n)) (moved s n)
+org_moves : (s : State) (k n : ℕ) → org_fault s n ≡ None → Moves s k (Some (Orgs n)) (moved s n)
 unfolding Pends items_at
-org_moves s n e = record {
-  number = 0;
+org_moves s k n e = record {
   new = [];
   items = sym (append-nil s.items);
   pends = refl;
@@ -302,10 +298,9 @@ org_moves s n e = record {
 
 -- ---- behind a label
 
-relabel : (s : State) (name : List ℕ) (said : Option Said) (t : State) → Moves (labelled s (Some name)) said t → Moves s said t
+relabel : (s : State) (name : List ℕ) (k : ℕ) (said : Option Said) (t : State) → Moves (labelled s (Some name)) k said t → Moves s k said t
 unfolding InSegments StartBelow segments_in
-relabel s name said t m = record {
-  number = m.number;
+relabel s name k said t m = record {
   new = m.new;
   items = m.items;
   pends = m.pends;
@@ -317,9 +312,9 @@ relabel s name said t m = record {
   segments = m.segments;
 }
 
-moves_of : (s : State) (label : Option (List ℕ)) (said : Option Said) (t : State) → Moves (labelled s label) said t → Moves s said t
-moves_of s None said t m = m
-moves_of s (Some name) said t m = relabel s name said t m
+moves_of : (s : State) (label : Option (List ℕ)) (k : ℕ) (said : Option Said) (t : State) → Moves (labelled s label) k said t → Moves s k said t
+moves_of s None k said t m = m
+moves_of s (Some name) k said t m = relabel s name k said t m
 
 labelled_17th : (s : State) (label : Option (List ℕ)) → is_17th (labelled s label) ≡ is_17th s
 labelled_17th s None = refl
@@ -339,23 +334,23 @@ place_room s n e =
       ]
     ]
 
-pub record Step (s : State) (label : Option (List ℕ)) (said : Option Said) (t : State) : Type 0 where
-  pub moves : Moves s said t
+pub record Step (s : State) (k : ℕ) (label : Option (List ℕ)) (said : Option Said) (t : State) : Type 0 where
+  pub moves : Moves s k said t
   pub names : t.names ≡ (labelled s label).names
   pub fresh : label_fault s label ≡ None
 
 words_step : (s : State) (label : Option (List ℕ)) (said : Option Said) (k : ℕ) (ps : List Pending) (t : State) → Pends said s.at ps → length ps ≡ word_count said
     → address_behind s.at said ≡ s.at + 4 * word_count said
-    → ((taken : List ℕ) → IsFree taken said) → ((b : Bool) → is_open b said ≡ (b || not (word_count said == 0))) → unless (around_fault s label (word_count said)) (put_all (labelled s label) k ps) ≡ Ok t → Step s label said t
+    → ((taken : List ℕ) → IsFree taken said) → ((b : Bool) → is_open b said ≡ (b || not (word_count said == 0))) → unless (around_fault s label (word_count said)) (put_all (labelled s label) k ps) ≡ Ok t → Step s k label said t
 words_step s label said k ps t pends count at free opens e =
     let u = labelled s label in
     let done = unless_is (around_fault s label (word_count said)) (put_all u k ps) t e in
     let faults = lower_none (label_fault s label) (place_fault s (word_count said)) done.0 in
     let here = labelled_at s label in
-    let moves : Moves u said (put_all u k ps) =
+    let moves : Moves u k said (put_all u k ps) =
     words_moves u said k ps (subst (λ (a : ℕ). Pends said a ps) (sym here) pends) count
     (subst (λ (a : ℕ). address_behind a said ≡ a + 4 * word_count said) (sym here) at) free (opens (is_some u.start)) (labelled_17th s label ∙ place_room s (word_count said) faults.1) in
-    subst (Step s label said) done.1 (record { moves = moves_of s label said (put_all u k ps) moves; names = put_names u k ps; fresh = faults.0 })
+    subst (Step s k label said) done.1 (record { moves = moves_of s label k said (put_all u k ps) moves; names = put_names u k ps; fresh = faults.0 })
 
 -- ---- what a statement waits for
 
@@ -367,7 +362,7 @@ waits_is : (o : Option Fault) (q p : Pending) → pending_unless o q ≡ Ok p �
 waits_is None q p e = cc
 waits_is (Some fault) q p e = absurd cc
 
-pending_is : (s : State) (k : ℕ) (label : Option (List ℕ)) (r : Result Pending Fault) (t : State) → pending_step s k label r ≡ Ok t
+pub pending_is : (s : State) (k : ℕ) (label : Option (List ℕ)) (r : Result Pending Fault) (t : State) → pending_step s k label r ≡ Ok t
     → (p : Pending) × (r ≡ Ok p) × (unless (around_fault s label 1) (placed (labelled s label) k p) ≡ Ok t)
 pending_is s k label (Ok p) t e = (p, refl, e)
 pending_is s k label (Err fault) t e = blocked (lower (Some fault) (around_fault s label 1)) (some_lower fault (around_fault s label 1)) e
@@ -378,11 +373,11 @@ pending_is s k label (Err fault) t e = blocked (lower (Some fault) (around_fault
     blocked : {A : Type 0} (o : Option Fault) → (o ≡ None → ⊥) → unless o s ≡ Ok t → A
     blocked o some h = absurd (some (unless_is o s t h).0)
 
-pub said_is : (s : State) (k : ℕ) (label : Option (List ℕ)) (said : Option Said) (t : State) → said_step s k label said ≡ Ok t → Step s label said t
+pub said_is : (s : State) (k : ℕ) (label : Option (List ℕ)) (said : Option Said) (t : State) → said_step s k label said ≡ Ok t → Step s k label said t
 unfolding Pends put_all
 said_is s k label None t e =
     let done = unless_is (label_fault s label) (labelled s label) t e in
-    subst (Step s label None) done.1 (record { moves = moves_of s label None (labelled s label) (stays (labelled s label)); names = refl; fresh = done.0 })
+    subst (Step s k label None) done.1 (record { moves = moves_of s label k None (labelled s label) (stays (labelled s label) k); names = refl; fresh = done.0 })
 said_is s k label (Some (Codes c)) t e =
     let p = pending_is s k label (word_pending (encoded c s.at)) t e in
     let w = word_is (encoded c s.at) p.0 p.1 in
@@ -398,7 +393,7 @@ said_is s k label (Some (Orgs n)) t e =
     let u = labelled s label in
     let done = unless_is (lower (label_fault s label) (org_fault s n)) (moved u n) t e in
     let faults = lower_none (label_fault s label) (org_fault s n) done.0 in
-    subst (Step s label (Some (Orgs n))) done.1 (record { moves = moves_of s label (Some (Orgs n)) (moved u n) (org_moves u n (labelled_org s label n ∙ faults.1)); names = refl; fresh = faults.0 })
+    subst (Step s k label (Some (Orgs n))) done.1 (record { moves = moves_of s label k (Some (Orgs n)) (moved u n) (org_moves u k n (labelled_org s label n ∙ faults.1)); names = refl; fresh = faults.0 })
 said_is s k label (Some (Lists vs)) t e =
     words_step s label (Some (Lists vs)) k (map value_pending vs) t refl (count_map vs) refl (λ taken. tt) (λ b. refl)
     (ap (unless (around_fault s label (length vs))) (sym (values_put (labelled s label) k vs)) ∙ e)

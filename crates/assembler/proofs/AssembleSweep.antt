@@ -34,7 +34,7 @@ in_cases : (e : List ℕ × ℕ) (es : List (List ℕ × ℕ)) (x : List ℕ × 
 in_cases e es x zero lt is = inl is
 in_cases e es x (suc k) lt is = inr (k, omega arith, is)
 
-no_labels : (names : Names) → NamesOf names names []
+pub no_labels : (names : Names) → NamesOf names names []
 no_labels names = record { fresh = tt; once = tt; named = λ name at. (λ e. inl e, λ h. elim h [ inl e ↦ e | inr c ↦ absurd (omega (arith, c.1)) ]) }
 
 was_free : (name : List ℕ) (at : ℕ) (old : Names) (other : List ℕ) → with_name name at old other ≡ None → (old other ≡ None) × (name ≢ other)
@@ -80,7 +80,7 @@ one_label old new name at labels free h = record {
   );
 }
 
-label_names : (s : State) (label : Option (List ℕ)) (new : Names) (labels : List (List ℕ × ℕ)) → label_fault s label ≡ None → NamesOf (labelled s label).names new labels → NamesOf s.names new (label_at s.at label ++ labels)
+pub label_names : (s : State) (label : Option (List ℕ)) (new : Names) (labels : List (List ℕ × ℕ)) → label_fault s label ≡ None → NamesOf (labelled s label).names new labels → NamesOf s.names new (label_at s.at label ++ labels)
 label_names s None new labels free h = h
 label_names s (Some name) new labels free h = one_label s.names new name s.at labels (go (s.names name) free) h
   where
@@ -108,34 +108,34 @@ pub record Swept (s t : State) (lines : List (List ℕ)) : Type 0 where
   pub free : (taken : List ℕ) → Covers s taken → AreFree taken (laid_from s.at said)
   pub few : segments_in s ≤ 16 → segments_in s + segments (is_some s.start) (laid_from s.at said) ≤ 16
 
-one_line : (s u t : State) (line : List ℕ) (lines : List (List ℕ)) (p : Parsed) → line_of line ≡ Ok p → Step s p.label p.said u → Swept u t lines → Swept s t (line ∷ lines)
+one_line : (s u t : State) (k : ℕ) (line : List ℕ) (lines : List (List ℕ)) (p : Parsed) → line_of line ≡ Ok p → Step s k p.label p.said u → Swept u t lines → Swept s t (line ∷ lines)
 unfolding flat NewItems
-one_line s u t line lines p read step rest =
+one_line s u t k line lines p read step rest =
     let m = step.moves in
     let behind : laid_from u.at rest.said ≡ laid_from (address_behind s.at p.said) rest.said = ap (λ (a : ℕ). laid_from a rest.said) m.at in
     record {
       said = p ∷ rest.said;
       read = (read, rest.read);
-      new = items_at m.number s.at m.new ∷ rest.new;
-      pending = ((m.number, m.new, refl, m.pends, m.count), subst (λ (ls : List Laid). AllZip NewItems ls rest.new) behind rest.pending);
-      items = rest.items ∙ ap (λ (is : List Item). is ++ flat rest.new) m.items ∙ append_assoc s.items (items_at m.number s.at m.new) (flat rest.new);
+      new = items_at k s.at m.new ∷ rest.new;
+      pending = ((k, m.new, refl, m.pends, m.count), subst (λ (ls : List Laid). AllZip NewItems ls rest.new) behind rest.pending);
+      items = rest.items ∙ ap (λ (is : List Item). is ++ flat rest.new) m.items ∙ append_assoc s.items (items_at k s.at m.new) (flat rest.new);
       names = label_names s p.label t.names (labels_of (laid_from (address_behind s.at p.said) rest.said)) step.fresh
           (subst (λ (old : Names). NamesOf old t.names (labels_of (laid_from (address_behind s.at p.said) rest.said))) step.names
           (subst (λ (ls : List Laid). NamesOf u.names t.names (labels_of ls)) behind rest.names));
       free = λ taken h. (m.free taken h, subst (AreFree _) behind (rest.free _ (m.covers taken h)));
       few = λ small.
-          let k = m.segments small in
+          let more = m.segments small in
           let after : segments_in u + segments (is_open (is_some s.start) p.said) (laid_from (address_behind s.at p.said) rest.said) ≤ 16 =
           subst (λ (b : Bool). segments_in u + segments b (laid_from (address_behind s.at p.said) rest.said) ≤ 16) m.opened
-          (subst (λ (ls : List Laid). segments_in u + segments (is_some u.start) ls ≤ 16) behind (rest.few k.1)) in
-          omega (arith, after, k.0);
+          (subst (λ (ls : List Laid). segments_in u + segments (is_some u.start) ls ≤ 16) behind (rest.few more.1)) in
+          omega (arith, after, more.0);
     }
 
 swept_on_is : (k : ℕ) (r : Result State Fault) (on : State → Result State (Fault × ℕ)) (t : State) → swept_on k r on ≡ Ok t → (u : State) × (r ≡ Ok u) × (on u ≡ Ok t)
 swept_on_is k (Ok u) on t e = (u, refl, e)
 swept_on_is k (Err fault) on t e = absurd cc
 
-step_is : (s : State) (k : ℕ) (r : Result Parsed Wrong) (u : State) → line_step s k r ≡ Ok u → (p : Parsed) × (r ≡ Ok p) × Step s p.label p.said u
+pub step_is : (s : State) (k : ℕ) (r : Result Parsed Wrong) (u : State) → line_step s k r ≡ Ok u → (p : Parsed) × (r ≡ Ok p) × Step s k p.label p.said u
 step_is s k (Ok p) u e = (p, refl, said_is s k p.label p.said u e)
 step_is s k (Err w) u e = absurd cc
 
@@ -148,4 +148,4 @@ swept_is s k [] t e =
 swept_is s k (line ∷ lines) t e =
     let one = swept_on_is k (line_step s k (line_of line)) (λ u. swept u (k + 1) lines) t e in
     let step = step_is s k (line_of line) one.0 one.1 in
-    one_line s one.0 t line lines step.0 step.1 step.2 (swept_is one.0 (k + 1) lines t one.2)
+    one_line s one.0 t k line lines step.0 step.1 step.2 (swept_is one.0 (k + 1) lines t one.2)

@@ -15,3 +15,11 @@ mod AssembleReady
 mod AssembleAll
 mod AssembleRuns
 mod AssembleFull
+mod RefuseLeast
+mod RefuseText
+mod RefusePlaces
+mod RefuseFront
+mod RefuseSweep
+mod RefuseFits
+mod RefuseLabels
+mod RefuseLaws

@@ -14,6 +14,6 @@ mod text;
 
 pub use assembly::{Assembly, assemble};
 pub use fault::{AsmFault, Fault};
-pub use law::sources_are_assembled;
+pub use law::{sources_are_assembled, sources_are_refused};
 pub use shown::disassemble;
 pub use text::Line;

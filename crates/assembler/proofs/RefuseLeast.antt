@@ -1,0 +1,120 @@
+-- The lowest of some faults, joined from the parts that they come from.
+use Rattle.std.proofs.Common.{◌≡◌, ◌<◌, ◌≤◌, ◌==◌, ℕ, Bool, true, false, Option, Some, None, Result, Ok, Err, refl, sym, ap, subst, ◌∙◌, inl, inr, ◌⊎◌, arith}
+use Rattle.std.specs.Prelude.{nat_lt, if◌then◌else◌}
+use Rattle.std.proofs.lemmas.Bool.Decides.{nat_tests}
+use Rattle.assembler.specs.Faults.{lower, number}
+use Rattle.assembler.specs.Refusals.{IsLowest}
+use Rattle.assembler.specs.declared.fault.Fault.{Fault}
+use Rattle.assembler.specs.declared.fault.Fault.TheVariants.{NotText, UnknownWord, BadOperand, ImmediateNotRotated, BranchTooFar, LabelTwice, LabelMissing, OutOfRange, Unallocated, TooLong}
+use Rattle.assembler.proofs.AssembleBasics.{cases, false_true}
+
+-- the lowest fault of those that hold, or none does
+unfoldable pub IsLeast : (Fault → Type 0) → Option Fault → Type 0
+IsLeast Has None = (fault : Fault) → Has fault → ⊥
+IsLeast Has (Some fault) = IsLowest Has fault
+
+-- ---- numbers
+
+pub same_le : (f g : Fault) → f ≡ g → number f ≤ number g
+same_le f g e = subst (λ x. number f ≤ number x) e (omega arith)
+
+abbrev fault_at : ℕ → Fault
+fault_at n =
+    if n == 2 then NotText
+    else if n == 3 then UnknownWord
+    else if n == 4 then BadOperand
+    else if n == 5 then ImmediateNotRotated
+    else if n == 6 then BranchTooFar
+    else if n == 7 then LabelTwice
+    else if n == 8 then LabelMissing
+    else if n == 9 then OutOfRange
+    else if n == 10 then Unallocated
+    else TooLong
+
+back : (f : Fault) → fault_at (number f) ≡ f
+back NotText = refl
+back UnknownWord = refl
+back BadOperand = refl
+back ImmediateNotRotated = refl
+back BranchTooFar = refl
+back LabelTwice = refl
+back LabelMissing = refl
+back OutOfRange = refl
+back Unallocated = refl
+back TooLong = refl
+
+same_number : (f g : Fault) → number f ≡ number g → f ≡ g
+same_number f g e = sym (back f) ∙ ap fault_at e ∙ back g
+
+-- ---- one part
+
+pub least_none : IsLeast (λ f. ⊥) None
+unfolding IsLeast
+least_none = λ f h. h
+
+pub least_option : (o : Option Fault) → IsLeast (λ f. o ≡ Some f) o
+unfolding IsLeast
+least_option None = λ f e. let k = e in absurd cc
+least_option (Some g) = record { holds = refl; lowest = λ f e. same_le g f (let k = e in cc) }
+
+abbrev pub failed : {A : Type 0} → Result A Fault → Option Fault
+failed (Ok a) = None
+failed (Err f) = Some f
+
+pub least_result : {A : Type 0} (r : Result A Fault) → IsLeast (λ f. r ≡ Err f) (failed r)
+unfolding IsLeast
+least_result (Ok a) = λ f e. let k = e in absurd cc
+least_result (Err g) = record { holds = refl; lowest = λ f e. same_le g f (let k = e in cc) }
+
+abbrev pub guard : Bool → Fault → Option Fault
+guard b g = if b then Some g else None
+
+pub least_guard : (b : Bool) (g : Fault) (M : Type 0) → (b ≡ true → M) → (M → b ≡ true) → IsLeast (λ f. (f ≡ g) × M) (guard b g)
+unfolding IsLeast
+least_guard true g M there again = record { holds = (refl, there refl); lowest = λ f e. same_le g f (sym e.0) }
+least_guard false g M there again = λ f e. false_true (again e.1)
+
+-- ---- two parts
+
+chain : (a b c : ℕ) → a ≤ b → b ≤ c → a ≤ c
+chain a b c h k = omega (arith, h, k)
+
+pub least_both : (P Q : Fault → Type 0) (a b : Option Fault) → IsLeast P a → IsLeast Q b → IsLeast (λ f. P f ⊎ Q f) (lower a b)
+unfolding IsLeast
+least_both P Q None None h k = λ f e. elim e [ inl x ↦ h f x | inr x ↦ k f x ]
+least_both P Q None (Some b) h k = record { holds = inr k.holds; lowest = λ f e. elim e [ inl x ↦ absurd (h f x) | inr x ↦ k.lowest f x ] }
+least_both P Q (Some a) None h k = record { holds = inl h.holds; lowest = λ f e. elim e [ inl x ↦ h.lowest f x | inr x ↦ absurd (k f x) ] }
+least_both P Q (Some a) (Some b) h k =
+    elim (cases (nat_lt (number b) (number a))) [
+      | inl t ↦
+          let lt : number b ≤ number a = grind (arith, nat_tests, t) in
+          rw t (record { holds = inr k.holds; lowest = λ f e. elim e [ inl x ↦ chain (number b) (number a) (number f) lt (h.lowest f x) | inr x ↦ k.lowest f x ] })
+      | inr t ↦
+          let le : number a ≤ number b = grind (arith, nat_tests, t) in
+          rw t (record { holds = inl h.holds; lowest = λ f e. elim e [ inl x ↦ h.lowest f x | inr x ↦ chain (number a) (number b) (number f) le (k.lowest f x) ] })
+    ]
+
+pub least_same : (P Q : Fault → Type 0) (o : Option Fault) → ((f : Fault) → P f → Q f) → ((f : Fault) → Q f → P f) → IsLeast P o → IsLeast Q o
+unfolding IsLeast
+least_same P Q None there again h = λ f e. h f (again f e)
+least_same P Q (Some g) there again h = record { holds = there g h.holds; lowest = λ f e. h.lowest f (again f e) }
+
+-- ---- there is one answer
+
+pub least_is : (P : Fault → Type 0) (o : Option Fault) (f : Fault) → IsLeast P o → IsLowest P f → o ≡ Some f
+unfolding IsLeast
+least_is P None f h k = absurd (h f k.holds)
+least_is P (Some g) f h k = ap Some (same_number g f (let x = h.lowest f k.holds in let y = k.lowest g h.holds in omega (arith, x, y)))
+
+pub least_no : (P : Fault → Type 0) (o : Option Fault) → IsLeast P o → ((f : Fault) → P f → ⊥) → o ≡ None
+unfolding IsLeast
+least_no P None h k = refl
+least_no P (Some g) h k = absurd (k g h.holds)
+
+pub no_least : (P : Fault → Type 0) (o : Option Fault) → IsLeast P o → o ≡ None → (f : Fault) → P f → ⊥
+unfolding IsLeast
+no_least P o h e = let k : IsLeast P None = subst (IsLeast P) e h in k
+
+pub is_least : (P : Fault → Type 0) (o : Option Fault) (f : Fault) → IsLeast P o → o ≡ Some f → IsLowest P f
+unfolding IsLeast
+is_least P o f h e = let k : IsLeast P (Some f) = subst (IsLeast P) e h in k

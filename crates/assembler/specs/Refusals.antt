@@ -1,0 +1,149 @@
+-- Which fault a source that is refused gets, and of which line (our own source format).
+use Rattle.std.specs.Prelude.{◌≡◌, ◌⊎◌, ◌+◌, ◌<◌, ◌≤◌, ◌==◌, not, ℕ, Bool, true, false, List, [], ◌∷◌, ◌++◌, length, flat_map, Option, Some, None, Err}
+use Rattle.std.specs.List.{AllByRecursion, Contains, list_all}
+use Rattle.loader.specs.Image.{may_hold}
+use Rattle.asm_text.specs.Lines.{IsBlanks}
+use Rattle.asm_text.specs.Pieces.{is_name}
+use Rattle.asm_text.specs.Words.{IsSpelling}
+use Rattle.asm_text.specs.declared.word.Word.{Word}
+use Rattle.asm_text.specs.Said.{Target, Number, Label, Said, Codes, Refers, Orgs, Lists}
+use Rattle.asm_text.specs.Source.{lines_of}
+use Rattle.asm_text.specs.Spelling.{Spells}
+use Rattle.asm_text.specs.Statements.{Parsed, begins_blank_or_ends, body, is_comment_text, is_label, is_text}
+use Rattle.assembler.specs.Assembles.{Laid, address_behind, labels_of, laid, places, places_from, segments, word_count}
+use Rattle.assembler.specs.Codes.{encoded, refer, use_fault}
+use Rattle.assembler.specs.Faults.{number}
+use Rattle.assembler.specs.declared.fault.Fault.{Fault}
+use Rattle.assembler.specs.declared.fault.Fault.TheVariants.{NotText, UnknownWord, BadOperand, LabelTwice, LabelMissing, OutOfRange, TooLong}
+
+-- ---- a line that cannot be read
+
+-- a byte that is no text; or, where no `;` stands in front of it, one that only a comment may have
+abbrev pub HasStrayByte : List ℕ → Type 0
+HasStrayByte line = (front rest : List ℕ) × (b : ℕ) × (line ≡ front ++ (b ∷ rest)) × ((is_comment_text b ≡ false) ⊎ ((is_text b ≡ false) × (list_all (λ c. not (c == 59)) front ≡ true)))
+
+-- blanks, and a word that ends at a blank or with the text
+pub record BeginsStatement (text : List ℕ) : Type 0 where
+  pub blanks : List ℕ
+  pub name : List ℕ
+  pub rest : List ℕ
+  pub parts : text ≡ blanks ++ (name ++ rest)
+  pub blank : IsBlanks blanks
+  pub some : 0 < length blanks
+  pub letters : list_all is_name name ≡ true
+  pub word : Word
+  pub word-is : IsSpelling name word
+  pub ends : begins_blank_or_ends rest ≡ true
+
+-- a label or nothing; behind it blanks alone, or blanks and a word
+pub record BeginsLine (text : List ℕ) : Type 0 where
+  pub label : List ℕ
+  pub behind : List ℕ
+  pub parts : text ≡ label ++ behind
+  pub label-is : (label ≡ []) ⊎ (is_label label ≡ true)
+  pub statement : IsBlanks behind ⊎ BeginsStatement behind
+
+-- why a line cannot be read
+abbrev pub IsUnreadable : List ℕ → Fault → Type 0
+IsUnreadable line NotText = HasStrayByte line
+IsUnreadable line UnknownWord = BeginsLine (body line) → ⊥
+IsUnreadable line BadOperand = (p : Parsed) → Spells p line → ⊥
+IsUnreadable line _ = ⊥
+
+-- ---- a line that can, behind others
+
+-- the address behind lines
+abbrev pub address_behind_all : ℕ → List Parsed → ℕ
+address_behind_all at [] = at
+address_behind_all at (p ∷ ps) = address_behind_all (address_behind at p.said) ps
+
+-- the address of a line behind others
+abbrev pub address_of_next : List Parsed → ℕ
+address_of_next before = address_behind_all 32768 before
+
+-- its word has no code, whatever address a label has
+abbrev pub HasCodeFault : ℕ → Option Said → Fault → Type 0
+HasCodeFault at (Some (Codes c)) fault = encoded c at ≡ Err fault
+HasCodeFault at (Some (Refers r (Number n))) fault = encoded (refer r at n) at ≡ Err fault
+HasCodeFault at (Some (Refers r (Label name))) fault = use_fault r.how ≡ Some fault
+HasCodeFault at _ fault = ⊥
+
+-- a line before it has its label
+abbrev pub IsRepeated : List Parsed → Option (List ℕ) → Type 0
+IsRepeated before label = (name : List ℕ) × (at : ℕ) × (label ≡ Some name) × Contains (labels_of (laid before)) (name, at)
+
+-- the addresses that a line asks for: those of its words, or its ORG's
+abbrev pub asked : ℕ → Option Said → List ℕ
+asked at (Some (Orgs n)) = n ∷ []
+asked at said = places_from at (word_count said)
+
+-- one of them may hold no word, or a line before it has a word there
+abbrev pub IsMisplaced : List Parsed → Option Said → Type 0
+IsMisplaced before said = (a : ℕ) × Contains (asked (address_of_next before) said) a × ((may_hold a ≡ false) ⊎ Contains (flat_map places (laid before)) a)
+
+-- lines have more than 65,536 words, or their words more than 16 segments
+abbrev pub AreTooLong : List Parsed → Type 0
+AreTooLong lines = (65536 < length (flat_map places (laid lines))) ⊎ (16 < segments false (laid lines))
+
+-- a line does not go with those before it
+abbrev pub Clashes : List Parsed → Parsed → Fault → Type 0
+Clashes before p LabelTwice = IsRepeated before p.label
+Clashes before p OutOfRange = IsMisplaced before p.said
+Clashes before p TooLong = AreTooLong (before ++ p ∷ [])
+Clashes before p _ = ⊥
+
+-- what is wrong with a line, by the lines before it, where no label's address is needed
+abbrev pub HasFault : List Parsed → List ℕ → Fault → Type 0
+HasFault before line fault =
+    IsUnreadable line fault
+    ⊎ ((p : Parsed) × Spells p line × (HasCodeFault (address_of_next before) p.said fault ⊎ Clashes before p fault))
+
+-- ---- and where one is
+
+abbrev pub IsMissing : List (List ℕ × ℕ) → List ℕ → Type 0
+IsMissing labels name = (at : ℕ) → Contains labels (name, at) → ⊥
+
+-- a word with a label has no code, or a label that a line names is no line's
+abbrev pub HasLabelFault : List (List ℕ × ℕ) → ℕ → Option Said → Fault → Type 0
+HasLabelFault labels at (Some (Refers r (Label name))) fault =
+    ((fault ≡ LabelMissing) × IsMissing labels name) ⊎ ((target : ℕ) × Contains labels (name, target) × (encoded (refer r at target) at ≡ Err fault))
+HasLabelFault labels at (Some (Lists values)) fault = (name : List ℕ) × (fault ≡ LabelMissing) × Contains values (Label name) × IsMissing labels name
+HasLabelFault labels at _ fault = ⊥
+
+-- ---- the whole
+
+pub record IsLowest (Has : Fault → Type 0) (fault : Fault) : Type 0 where
+  pub holds : Has fault
+  pub lowest : (other : Fault) → Has other → number fault ≤ number other
+
+-- lines behind others, what they say, and none with a fault that needs no label's address
+abbrev pub ArePassed : List Parsed → List (List ℕ) → List Parsed → Type 0
+ArePassed before [] [] = Unit {0}
+ArePassed before (line ∷ lines) (p ∷ ps) = Spells p line × ((fault : Fault) → HasFault before line fault → ⊥) × ArePassed (before ++ p ∷ []) lines ps
+ArePassed before _ _ = ⊥
+
+-- the line of a number is the first with a fault that needs no label's address, and this is its lowest
+pub record IsRefusedAtOnce (source : List ℕ) (fault : Fault) (line_number : ℕ) : Type 0 where
+  pub front : List (List ℕ)
+  pub line : List ℕ
+  pub behind : List (List ℕ)
+  pub parts : lines_of source ≡ front ++ (line ∷ behind)
+  pub number-is : line_number ≡ length front + 1
+  pub said : List Parsed
+  pub passed : ArePassed [] front said
+  pub fault-is : IsLowest (HasFault said line) fault
+
+-- no line has such a fault, and that of the number is the first with one that needs a label's address
+pub record IsRefusedForLabels (source : List ℕ) (fault : Fault) (line_number : ℕ) : Type 0 where
+  pub said : List Parsed
+  pub passed : ArePassed [] (lines_of source) said
+  pub front : List Laid
+  pub line : Laid
+  pub behind : List Laid
+  pub parts : laid said ≡ front ++ (line ∷ behind)
+  pub number-is : line_number ≡ length front + 1
+  pub none : AllByRecursion (λ l. (other : Fault) → HasLabelFault (labels_of (laid said)) l.at l.said other → ⊥) front
+  pub fault-is : IsLowest (HasLabelFault (labels_of (laid said)) line.at line.said) fault
+
+abbrev pub IsRefusal : List ℕ → Fault → ℕ → Type 0
+IsRefusal source fault line_number = IsRefusedAtOnce source fault line_number ⊎ IsRefusedForLabels source fault line_number
