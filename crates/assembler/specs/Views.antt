@@ -10,6 +10,7 @@ use Rattle.assembler.specs.declared.item.Pending.{Pending as CodePending}
 use Rattle.assembler.specs.declared.item.Pending.TheVariants as code
 use Rattle.assembler.specs.declared.sweep.Span.{Span}
 use Rattle.assembler.specs.declared.sweep.Sweep.{Sweep}
+use Rattle.assembler.specs.Refusals.{IsRefusal}
 use Rattle.assembler.specs.Sweeps.{Item, Pending, Fixed, Waits, Address, State}
 
 abbrev pub pending_of : CodePending → Pending
@@ -42,3 +43,8 @@ Faulted (Line fault k) line r = (k ≡ line) × (r ≡ Err fault)
 abbrev pub FaultedAt : {A : Type 0} → AsmFault → Result A (Fault × ℕ) → Type 0
 FaultedAt Memory r = Unit {0}
 FaultedAt (Line fault k) r = r ≡ Err (fault, k)
+
+-- a refusal for memory, or the refusal of a source
+abbrev pub RefusedAt : List ℕ → AsmFault → Type 0
+RefusedAt source Memory = Unit {0}
+RefusedAt source (Line fault k) = IsRefusal source fault k

@@ -3,12 +3,12 @@ ghost use Rattle.loader.specs.Labels.{address_of};
 ghost use Rattle.asm_text.specs.Source.{lines_of};
 ghost use Rattle.assembler.specs.Assembles.{IsAssembly};
 ghost use Rattle.assembler.specs.Sweeps.{assembled, at_first, filled, item_step, resolved as resolved_word, swept};
-ghost use Rattle.assembler.specs.Views.{Faulted, FaultedAt, item_of, pending_of, state_of};
+ghost use Rattle.assembler.specs.Views.{Faulted, FaultedAt, RefusedAt, item_of, pending_of, state_of};
 
 use crate::encoded::encoded;
 use crate::fault::{AsmFault, Fault};
 use crate::item::{Item, Pending};
-use crate::law::sources_are_assembled;
+use crate::law::{sources_are_assembled, sources_are_refused};
 use crate::reference::refer;
 use crate::sweep::Sweep;
 use asm_text::first_line;
@@ -99,8 +99,10 @@ pub fn assemble(alloc: Global, source: &[u8]) -> Result<Assembly, AsmFault>
     ensures ok { IfOk result (λ a. assembled source.now ≡ Ok (a.image, address_of a.labels)) }
     ensures means { IfOk result (λ a. IsAssembly source.now a.image (address_of a.labels)) }
     ensures fault { IfErr result (λ fault. FaultedAt fault (assembled source.now)) }
+    ensures refused { IfErr result (λ fault. RefusedAt source.now fault) }
 {
     sources_are_assembled();
+    sources_are_refused();
     let sweep = swept_source(alloc, source)?;
     let image = fill(alloc, &sweep.labels, &sweep.items)?;
     Ok(Assembly {
