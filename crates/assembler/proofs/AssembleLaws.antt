@@ -21,7 +21,8 @@ use Rattle.assembler.proofs.AssembleBack.{Exact, StartEven}
 use Rattle.assembler.proofs.AssembleReady.{NotEmpty}
 use Rattle.assembler.proofs.AssembleAll.{apart_none, swept_ok}
 use Rattle.assembler.proofs.AssembleRuns.{Ascending}
-use Rattle.assembler.proofs.AssembleFull.{JoinsIf, Put, filled_ok}
+use Rattle.assembler.proofs.AssembleFits.{JoinsIf, Put, fits}
+use Rattle.assembler.proofs.AssembleFull.{filled_ok}
 use Rattle.assembler.proofs.AssembleBasics.{all_true}
 
 all_spelled : ((line : List ℕ) (p : Parsed) → line_of line ≡ Ok p → Spells p line) → (lines : List (List ℕ)) (ps : List Parsed) → AllZip (λ line p. line_of line ≡ Ok p) lines ps → AllZip (λ line p. Spells p line) lines ps
@@ -173,8 +174,9 @@ assembly_built spells reads source image names a =
     let names-are : t.names ≡ names = λ i name. same_options (t.names name) (names name)
     (λ at e. (a.named name at).1 (elim ((named.named name at).0 e) [ inl n ↦ no_name at n | inr c ↦ c ]))
     (λ at e. (named.named name at).1 (inr ((a.named name at).0 e))) i in
-    let fill = filled_ok names a.lines 32768 false s.new a.words [] [] 0 pending a.coded
+    let fit = fits a.lines 32768 false [] [] 0
     (record { put = first_put; joins = λ e. absurd (no_true e); held = a.held; apart = alone; once = a.apart; few = omega (arith, a.few); few_segments = omega (arith, a.few_segments) }) in
+    let fill = filled_ok names a.lines 32768 s.new a.words [] pending a.coded fit in
     let filled-is : filled t.names [] t.items ≡ Ok image = ap (filled t.names []) s.items ∙ ap (λ (n : Names). filled n [] (flat s.new)) names-are ∙ fill ∙ ap (λ (i : Words). Ok i) (sym a.image-is) in
     rw (sweep.1, filled-is) (ap (λ (n : Names). Ok (image, n)) names-are)
   where

@@ -14,12 +14,12 @@ mod AssembleBack
 mod AssembleReady
 mod AssembleAll
 mod AssembleRuns
+mod AssembleFits
 mod AssembleFull
 mod RefuseLeast
 mod RefuseText
 mod RefusePlaces
 mod RefuseFront
 mod RefuseSweep
-mod RefuseFits
 mod RefuseLabels
 mod RefuseLaws

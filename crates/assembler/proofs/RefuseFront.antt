@@ -1,28 +1,25 @@
 -- Behind lines without a fault: what the first sweep's state says of them.
 use Rattle.std.specs.Prelude.{flat_map, is_some, nat_le, nat_lt, if◌then◌else◌}
-use Rattle.std.proofs.Common.{◌≡◌, ◌≢◌, ◌↔◌, ◌+◌, ◌*◌, ◌%◌, ◌<◌, ◌≤◌, ◌==◌, ◌&&◌, ◌||◌, not, ℕ, zero, suc, Bool, true, false, List, [], ◌∷◌, ◌++◌, length, map, Option, Some, None, Result, Ok, Err, refl, sym, ap, subst, ◌∙◌, inl, inr, ◌⊎◌, arith, append_assoc}
+use Rattle.std.proofs.Common.{◌≡◌, ◌||◌, ◌↔◌, ◌+◌, ◌<◌, ◌≤◌, ◌==◌, ℕ, suc, Bool, true, false, List, [], ◌∷◌, ◌++◌, length, map, Option, Some, None, Result, Ok, Err, refl, sym, ap, subst, ◌∙◌, inl, inr, ◌⊎◌, arith, append_assoc}
 use Rattle.std.specs.List.{AllByRecursion, Contains}
-use Rattle.std.proofs.lemmas.Bool.{and_parts}
 use Rattle.std.proofs.lemmas.Bool.Decides.{nat_tests}
 use Rattle.std.proofs.lemmas.List.{append-nil, length-append}
 use Rattle.loader.specs.Image.{may_hold}
-use Rattle.asm_text.specs.Said.{Target, Number, Label, Said, Codes, Refers, Orgs, Lists}
+use Rattle.asm_text.specs.Said.{Number, Label, Said, Codes, Refers, Orgs, Lists}
 use Rattle.asm_text.specs.Statements.{Parsed}
 use Rattle.assembler.specs.Assembles.{Laid, Once, address_behind, is_open, label_at, labels_of, laid, laid_from, places, places_from, segments, word_count}
 use Rattle.assembler.specs.Codes.{encoded, refer, use_fault}
 use Rattle.assembler.specs.Faults.{lower}
 use Rattle.assembler.specs.Refusals.{AreTooLong, Clashes, HasCodeFault, IsMisplaced, IsRepeated, address_behind_all, address_of_next, asked}
-use Rattle.assembler.specs.Sweeps.{Fixed, Waits, Item, Names, Pending, State, all_placed, around_fault, at_first, is_17th, label_fault, labelled, moved, org_fault, org_step, pending_step, pending_unless, place_fault, placed, said_step, unless, value_pending, word_pending}
+use Rattle.assembler.specs.Sweeps.{Waits, Item, Pending, State, all_placed, around_fault, is_17th, label_fault, labelled, moved, org_fault, pending_step, pending_unless, place_fault, placed, said_step, unless, value_pending, word_pending}
 use Rattle.assembler.specs.declared.fault.Fault.{Fault}
-use Rattle.assembler.specs.declared.fault.Fault.TheVariants.{NotText, UnknownWord, BadOperand, ImmediateNotRotated, BranchTooFar, LabelTwice, LabelMissing, OutOfRange, Unallocated, TooLong}
-use Rattle.assembler.proofs.AssembleAll.{apart_both}
-use Rattle.assembler.proofs.AssembleBack.{Apart, Exact, In, exact_moved, exact_put, may_four}
-use Rattle.assembler.proofs.AssembleBasics.{all_true, cases, count_map, count_places, false_true, labelled_at}
+use Rattle.assembler.specs.declared.fault.Fault.TheVariants.{LabelTwice, OutOfRange, TooLong}
+use Rattle.assembler.proofs.AssembleBack.{Exact, exact_moved, exact_put, may_four}
+use Rattle.assembler.proofs.AssembleBasics.{cases, count_map, count_places, false_true, labelled_at}
 use Rattle.assembler.proofs.AssembleReady.{NotEmpty, exact_labelled}
-use Rattle.assembler.proofs.AssembleSteps.{Covers, Moves, Pends, Step, items_at, pending_is, put_all, said_is, segments_in, unless_is, values_put}
-use Rattle.assembler.proofs.AssembleSweep.{label_names}
-use Rattle.assembler.proofs.RefuseLeast.{IsLeast, failed, guard, least_both, least_guard, least_none, least_option, least_result, least_same}
-use Rattle.assembler.proofs.RefusePlaces.{Bad, Fine, fine, org_least, place_least}
+use Rattle.assembler.proofs.AssembleSteps.{Covers, Pends, items_at, pending_is, put_all, segments_in, unless_is, values_put}
+use Rattle.assembler.proofs.RefuseLeast.{IsLeast, failed, least_both, least_guard, least_none, least_option, least_result, least_same}
+use Rattle.assembler.proofs.RefusePlaces.{Bad, org_least, place_least}
 
 -- ---- a line more
 

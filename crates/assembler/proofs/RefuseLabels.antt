@@ -1,17 +1,17 @@
 -- Which line of a source without such a fault is the first that is refused for a label.
 use Rattle.std.specs.Prelude.{flat_map}
-use Rattle.std.proofs.Common.{◌≡◌, ◌↔◌, ◌+◌, ◌<◌, ◌≤◌, ℕ, zero, suc, List, [], ◌∷◌, ◌++◌, length, map, Option, Some, None, Result, Ok, Err, refl, sym, ap, subst, ◌∙◌, inl, inr, ◌⊎◌, arith, append_assoc}
+use Rattle.std.proofs.Common.{◌≡◌, ◌↔◌, ◌+◌, ℕ, zero, suc, List, [], ◌∷◌, ◌++◌, length, map, Option, Some, None, Result, Ok, Err, refl, sym, ap, subst, ◌∙◌, inl, inr, ◌⊎◌, arith}
 use Rattle.std.specs.List.{AllByRecursion, Contains}
 use Rattle.loader.specs.Image.{Words, put_fault, with_word}
 use Rattle.asm_text.specs.Said.{Target, Number, Label, Said, Codes, Refers, Orgs, Lists}
 use Rattle.assembler.specs.Assembles.{Laid, places, places_from, word_count}
 use Rattle.assembler.specs.Codes.{encoded, refer}
 use Rattle.assembler.specs.Refusals.{HasLabelFault, IsLowest, IsMissing}
-use Rattle.assembler.specs.Sweeps.{Fixed, Waits, Address, Item, Names, Pending, filled, filled_on, item_step, resolved, targeted, value_pending, word_put}
+use Rattle.assembler.specs.Sweeps.{Item, Names, Pending, filled, filled_on, resolved, targeted, value_pending, word_put}
 use Rattle.assembler.specs.declared.fault.Fault.{Fault}
 use Rattle.assembler.specs.declared.fault.Fault.TheVariants.{LabelMissing}
 use Rattle.assembler.proofs.AssembleSteps.{Pends, items_at}
-use Rattle.assembler.proofs.RefuseFits.{Fits}
+use Rattle.assembler.proofs.AssembleFits.{Fits}
 use Rattle.assembler.proofs.RefuseFront.{ItemsOf}
 use Rattle.assembler.proofs.RefuseLeast.{IsLeast, failed, is_least, least_is, least_no, least_none, least_result, least_same, no_least, same_le}
 

@@ -1,20 +1,19 @@
 -- What is refused is a refusal, and a refusal is refused.
 use Rattle.std.specs.Prelude.{flat_map}
-use Rattle.std.proofs.Common.{◌≡◌, ◌+◌, ◌≤◌, ℕ, Bool, true, false, List, [], ◌∷◌, ◌++◌, length, Option, Some, None, Result, Ok, Err, refl, sym, ap, subst, ◌∙◌, inl, inr, ◌⊎◌, arith, append-nil}
+use Rattle.std.proofs.Common.{◌≡◌, ◌+◌, ℕ, true, false, List, [], ◌∷◌, length, Result, Ok, Err, refl, sym, ap, subst, ◌∙◌, inl, inr, arith, append-nil}
 use Rattle.loader.specs.Image.{Words}
 use Rattle.asm_text.specs.Source.{lines_of}
 use Rattle.asm_text.specs.Statements.{Parsed}
 use Rattle.assembler.specs.Assembles.{labels_of, laid, places}
 use Rattle.assembler.specs.Refusals.{ArePassed, IsRefusal, IsRefusedAtOnce, IsRefusedForLabels}
-use Rattle.assembler.specs.Sweeps.{Names, State, assembled, assembled_on, assembled_with, at_first, filled, swept}
+use Rattle.assembler.specs.Sweeps.{Names, State, assembled, assembled_on, assembled_with, at_first, swept}
 use Rattle.assembler.specs.declared.fault.Fault.{Fault}
 use Rattle.assembler.proofs.AssembleAll.{apart_none}
-use Rattle.assembler.proofs.AssembleFull.{JoinsIf}
 use Rattle.assembler.proofs.AssembleLaws.{first_put}
-use Rattle.assembler.proofs.RefuseFits.{Fits, fits}
+use Rattle.assembler.proofs.AssembleFits.{Fits, JoinsIf, fits}
 use Rattle.assembler.proofs.RefuseFront.{Front, ItemsOf}
-use Rattle.assembler.proofs.RefuseLabels.{Known, LabelStops, filled_all, filled_stops, known_or_stop}
-use Rattle.assembler.proofs.RefuseSweep.{Passes, Stops, Texts, front_first, pass_or_stop, passed_on, stops_swept}
+use Rattle.assembler.proofs.RefuseLabels.{Known, filled_all, filled_stops, known_or_stop}
+use Rattle.assembler.proofs.RefuseSweep.{Texts, front_first, pass_or_stop, passed_on, stops_swept}
 
 -- ---- all lines pass the first sweep
 

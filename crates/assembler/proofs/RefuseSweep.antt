@@ -1,24 +1,24 @@
 -- Which line of a source is the first that is refused at once.
-use Rattle.std.specs.Prelude.{flat_map, is_some, nat_le, nat_lt, if◌then◌else◌}
-use Rattle.std.proofs.Common.{◌≡◌, ◌≢◌, ◌↔◌, ◌+◌, ◌*◌, ◌<◌, ◌≤◌, ◌==◌, ◌||◌, ℕ, zero, suc, Bool, true, false, List, [], ◌∷◌, ◌++◌, length, Option, Some, None, Result, Ok, Err, refl, sym, ap, subst, ◌∙◌, inl, inr, ◌⊎◌, arith, append_assoc}
+use Rattle.std.specs.Prelude.{is_some, nat_lt, if◌then◌else◌}
+use Rattle.std.proofs.Common.{◌≡◌, ◌||◌, ◌≢◌, ◌↔◌, ◌+◌, ◌<◌, ◌≤◌, ◌==◌, ℕ, zero, suc, true, false, List, [], ◌∷◌, ◌++◌, length, Option, Some, None, Result, Ok, Err, refl, sym, ap, subst, ◌∙◌, inl, inr, ◌⊎◌, arith, append_assoc}
 use Rattle.std.specs.List.{AllByRecursion, Contains}
 use Rattle.std.proofs.lemmas.Bool.Decides.{nat_tests}
 use Rattle.std.proofs.lemmas.List.{append-nil, length-append}
 use Rattle.loader.specs.Image.{may_hold}
-use Rattle.asm_text.specs.Said.{Target, Number, Label, Said, Codes, Refers, Orgs, Lists}
+use Rattle.asm_text.specs.Said.{Said, Codes, Refers, Orgs, Lists}
 use Rattle.asm_text.specs.Spelling.{Spells}
 use Rattle.asm_text.specs.Statements.{Parsed, line_of}
 use Rattle.asm_text.specs.declared.statement.Wrong.{Wrong}
-use Rattle.assembler.specs.Assembles.{Laid, Once, address_behind, is_open, label_at, labels_of, laid, laid_from, places, places_from, segments, word_count}
-use Rattle.assembler.specs.Refusals.{ArePassed, AreTooLong, HasFault, IsLowest, IsUnreadable, address_of_next, asked}
-use Rattle.assembler.specs.Sweeps.{Names, Pending, State, at_first, label_fault, labelled, line_step, no_names, said_step, swept, swept_on}
+use Rattle.assembler.specs.Assembles.{Laid, Once, address_behind, is_open, label_at, labels_of, laid, places_from, segments, word_count}
+use Rattle.assembler.specs.Refusals.{ArePassed, HasFault, IsLowest, IsUnreadable, address_of_next, asked}
+use Rattle.assembler.specs.Sweeps.{Names, State, at_first, label_fault, labelled, line_step, said_step, swept, swept_on}
 use Rattle.assembler.specs.declared.fault.Fault.{Fault}
 use Rattle.assembler.specs.declared.fault.Fault.TheVariants.{OutOfRange, TooLong}
 use Rattle.assembler.proofs.AssembleBack.{Apart, Exact, In}
-use Rattle.assembler.proofs.AssembleBasics.{all_map, all_true, cases, false_true}
+use Rattle.assembler.proofs.AssembleBasics.{all_map, cases}
 use Rattle.assembler.proofs.AssembleLaws.{first_covers, first_exact, first_segments, parts_some}
 use Rattle.assembler.proofs.AssembleReady.{NotEmpty}
-use Rattle.assembler.proofs.AssembleSteps.{Covers, Pends, Step, items_at, said_is, segments_in}
+use Rattle.assembler.proofs.AssembleSteps.{Covers, Pends, items_at, said_is, segments_in}
 use Rattle.assembler.proofs.AssembleSweep.{NamesOf, label_names, no_labels, step_is}
 use Rattle.assembler.proofs.RefuseFront.{Front, HasSaidFault, ItemsOf, address_more, count_laid, counts, exact_said, items_more, laid_more, labels_more, open_behind, open_more, said_least, taken_by, taken_more}
 use Rattle.assembler.proofs.RefuseLeast.{IsLeast, failed, is_least, least_is, least_no, least_same, no_least}

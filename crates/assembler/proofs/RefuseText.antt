@@ -1,6 +1,6 @@
 -- A line that cannot be read, by its text.
 use Rattle.std.specs.Prelude.{if◌then◌else◌}
-use Rattle.std.proofs.Common.{◌≡◌, ◌+◌, ◌<◌, ◌≤◌, ◌==◌, ◌&&◌, ◌||◌, not, ℕ, suc, Bool, true, false, List, [], ◌∷◌, ◌++◌, length, take, drop, Option, Some, None, Result, Ok, Err, refl, sym, ap, subst, ◌∙◌, inl, inr, ◌⊎◌, arith, eqb-true, append_assoc}
+use Rattle.std.proofs.Common.{◌≡◌, ◌+◌, ◌<◌, ◌≤◌, ◌==◌, not, ℕ, suc, Bool, true, false, List, [], ◌∷◌, ◌++◌, length, drop, Option, Some, None, Result, Ok, Err, refl, sym, ap, subst, ◌∙◌, inl, inr, ◌⊎◌, arith, eqb-true, append_assoc}
 use Rattle.std.specs.List.{list_all, prefix_len}
 use Rattle.std.proofs.lemmas.Bool.{and_parts}
 use Rattle.std.proofs.lemmas.Bool.Decides.{nat_tests}
@@ -18,7 +18,7 @@ use Rattle.asm_text.specs.declared.statement.Wrong.TheVariants as wrong
 use Rattle.asm_text.proofs.PieceLaws.{first_name, first_no_run, first_passes, name_no_blank, pieces-blanks, pieces-gap, pieces-run, pieces_spaced, pieces_written, prefix_all}
 use Rattle.asm_text.proofs.WordLaws.{nothing_is, spelled_again, spelled_is}
 use Rattle.assembler.specs.Faults.{number}
-use Rattle.assembler.specs.Refusals.{BeginsLine, BeginsStatement, HasStrayByte, IsLowest, IsUnreadable}
+use Rattle.assembler.specs.Refusals.{BeginsLine, BeginsStatement, HasStrayByte, IsUnreadable}
 use Rattle.assembler.specs.Sweeps.{wrong_fault}
 use Rattle.assembler.specs.declared.fault.Fault.{Fault}
 use Rattle.assembler.specs.declared.fault.Fault.TheVariants.{NotText, UnknownWord, BadOperand}

@@ -1,12 +1,12 @@
 -- Which fault a source that is refused gets, and of which line (our own source format).
-use Rattle.std.specs.Prelude.{◌≡◌, ◌⊎◌, ◌+◌, ◌<◌, ◌≤◌, ◌==◌, not, ℕ, Bool, true, false, List, [], ◌∷◌, ◌++◌, length, flat_map, Option, Some, None, Err}
+use Rattle.std.specs.Prelude.{◌≡◌, ◌⊎◌, ◌+◌, ◌<◌, ◌≤◌, ◌==◌, not, ℕ, true, false, List, [], ◌∷◌, ◌++◌, length, flat_map, Option, Some, Err}
 use Rattle.std.specs.List.{AllByRecursion, Contains, list_all}
 use Rattle.loader.specs.Image.{may_hold}
 use Rattle.asm_text.specs.Lines.{IsBlanks}
 use Rattle.asm_text.specs.Pieces.{is_name}
 use Rattle.asm_text.specs.Words.{IsSpelling}
 use Rattle.asm_text.specs.declared.word.Word.{Word}
-use Rattle.asm_text.specs.Said.{Target, Number, Label, Said, Codes, Refers, Orgs, Lists}
+use Rattle.asm_text.specs.Said.{Number, Label, Said, Codes, Refers, Orgs, Lists}
 use Rattle.asm_text.specs.Source.{lines_of}
 use Rattle.asm_text.specs.Spelling.{Spells}
 use Rattle.asm_text.specs.Statements.{Parsed, begins_blank_or_ends, body, is_comment_text, is_label, is_text}

@@ -1,17 +1,97 @@
 -- The words of lines that pass the first sweep fit into an image, whatever they are.
-use Rattle.std.specs.Prelude.{flat_map, if◌then◌else◌}
-use Rattle.std.proofs.Common.{◌≡◌, ◌+◌, ◌*◌, ◌%◌, ◌<◌, ◌≤◌, ◌==◌, ◌||◌, not, ℕ, zero, suc, Bool, true, false, List, [], ◌∷◌, ◌++◌, length, Option, Some, None, refl, sym, subst, ◌∙◌, arith, append_assoc}
-use Rattle.std.specs.List.{AllByRecursion}
+use Rattle.std.proofs.Common.{◌≡◌, ◌||◌, ◌+◌, ◌*◌, ◌≤◌, ◌==◌, not, ℕ, zero, suc, Bool, true, false, List, [], ◌∷◌, ◌++◌, Option, Some, None, refl, sym, subst, arith, append_assoc, ◌≢◌, ◌%◌, ◌<◌, length, inl, inr}
+use Rattle.std.proofs.lemmas.Bool.Decides.{nat_tests}
 use Rattle.std.proofs.lemmas.List.{append-nil, length-append}
-use Rattle.loader.specs.Image.{Words, may_hold, put_fault, runs_of, with_word}
+use Rattle.std.specs.List.{AllByRecursion}
+use Rattle.std.specs.Prelude.{flat_map, if◌then◌else◌, nat_le, nat_lt}
+use Rattle.loader.specs.Image.{Words, may_hold, put_fault, runs_of, with_word, word_of}
 use Rattle.asm_text.specs.Said.{Said, Codes, Refers, Orgs, Lists}
 use Rattle.asm_text.specs.Statements.{Parsed}
-use Rattle.assembler.specs.Assembles.{address_behind, is_open, laid_from, places, places_from, word_count}
+use Rattle.assembler.specs.Assembles.{Laid, Once, address_behind, is_open, laid_from, places, places_from, segments, word_count}
 use Rattle.assembler.proofs.AssembleAll.{apart_both, once_parts}
-use Rattle.assembler.proofs.AssembleBack.{Apart, In, may_four}
-use Rattle.assembler.proofs.AssembleBasics.{all_parts, count_places, false_true}
-use Rattle.assembler.proofs.AssembleFull.{CanFill, Joins, JoinsIf, Put, Stands, first_apart, joins_next, may_put, once_first, put_more, put_weaker, run_on, stands_behind, suc_zero}
-use Rattle.assembler.proofs.AssembleRuns.{runs_more}
+use Rattle.assembler.proofs.AssembleBack.{Apart, In, may_four, in_first, in_last}
+use Rattle.assembler.proofs.AssembleBasics.{all_parts, count_places, false_true, one_more}
+use Rattle.assembler.proofs.AssembleRuns.{Ascending, ascending_put, put_elsewhere, put_there, runs_more, runs_same}
+
+-- ---- what has been put so far
+
+pub record Put (image : Words) (taken : List ℕ) (most : ℕ) : Type 0 where
+  pub ascends : Ascending image
+  pub absent : (a : ℕ) → (In taken a → ⊥) → word_of image a ≡ None
+  pub count : length image ≡ length taken
+  pub runs : runs_of image ≤ most
+
+-- the word right before an address is there
+unfoldable pub Joins : Words → ℕ → Type 0
+Joins image at = (p : ℕ) × (v : ℕ) × (at ≡ p + 4) × (word_of image p ≡ Some v)
+
+may_put : (image : Words) (at w : ℕ) → may_hold at ≡ true → word_of image at ≡ None → length image < 65536 → runs_of (with_word image at w) ≤ 16 → put_fault image at w ≡ None
+may_put image at w may none room few =
+    let small : nat_le 65536 (length image) ≡ false = grind (arith, nat_tests, room) in
+    let runs : nat_lt 16 (runs_of (with_word image at w)) ≡ false = grind (arith, nat_tests, few) in
+    rw (may, none, small, runs) refl
+
+put_more : (image : Words) (taken : List ℕ) (at w most : ℕ) → Put image taken most → at % 4 ≡ 0 → (In taken at → ⊥) → (now : ℕ) → runs_of (with_word image at w) ≤ now → Put (with_word image at w) (taken ++ at ∷ []) now
+put_more image taken at w most h four free now few =
+    let none = h.absent at free in
+    record {
+      ascends = ascending_put image at w h.ascends four none;
+      absent = λ a other. put_elsewhere image at w a (h.absent a (λ m. other (in_first taken (at ∷ []) a m))) (λ same. other (subst (In (taken ++ at ∷ [])) same (in_last taken at)));
+      count = omega (arith, one_more image at w, h.count, length-append taken (at ∷ []));
+      runs = few;
+    }
+
+-- a word behind another
+run_on : (image : Words) (at w : ℕ) → at % 4 ≡ 0 → Ascending image → word_of image at ≡ None → Joins image at → runs_of (with_word image at w) ≤ runs_of image
+unfolding Joins
+run_on image at w four asc none j =
+    let p = j.0 in
+    subst (λ a. runs_of (with_word image a w) ≤ runs_of image) (sym j.2)
+    (runs_same image p j.1 w (subst (λ a. a % 4 ≡ 0) j.2 four) asc (subst (λ a. word_of image a ≡ None) j.2 none) j.3)
+
+joins_next : (image : Words) (at w : ℕ) → word_of image at ≡ None → Joins (with_word image at w) (at + 4)
+unfolding Joins
+joins_next image at w none = (at, w, refl, put_there image at w none)
+
+-- ---- the places of a line's words
+
+-- what a line's places ask
+pub record Stands (taken : List ℕ) (at n : ℕ) : Type 0 where
+  pub held : AllByRecursion (λ a. may_hold a ≡ true) (places_from at n)
+  pub apart : Apart taken (places_from at n)
+  pub once : Once (places_from at n)
+  pub few : length taken + n ≤ 65536
+
+one_apart : (at : ℕ) (ats : List ℕ) → AllByRecursion (λ y. at ≢ y) ats → Apart (at ∷ []) ats
+unfolding Apart In
+one_apart at [] h = tt
+one_apart at (x ∷ xs) h = (λ m. elim m [ inl e ↦ h.0 e | inr n ↦ n ], one_apart at xs h.1)
+
+stands_behind : (taken : List ℕ) (at n : ℕ) → Stands taken at (suc n) → Stands (taken ++ at ∷ []) (at + 4) n
+unfolding Apart
+stands_behind taken at n h = record {
+  held = h.held.1;
+  apart = apart_both taken (at ∷ []) (places_from (at + 4) n) h.apart.1 (one_apart at (places_from (at + 4) n) h.once.0);
+  once = h.once.1;
+  few = omega (arith, h.few, length-append taken (at ∷ []));
+}
+
+first_apart : (taken : List ℕ) (at : ℕ) (ats : List ℕ) → Apart taken (at ∷ ats) → In taken at → ⊥
+unfolding Apart
+first_apart taken at ats h = h.0
+
+put_weaker : (image : Words) (taken : List ℕ) (a b : ℕ) → a ≤ b → Put image taken a → Put image taken b
+put_weaker image taken a b le h = let runs = h.runs in record { ascends = h.ascends; absent = h.absent; count = h.count; runs = omega (arith, le, runs) }
+
+-- ---- a line's words, behind others or first of a segment
+
+unfoldable pub JoinsIf : Bool → Words → ℕ → Type 0
+JoinsIf b image at = b ≡ true → Joins image at
+
+suc_zero : (n : ℕ) → (suc n == 0) ≡ false
+suc_zero n = grind (arith, nat_tests)
+
+-- ---- one word behind the other
 
 -- any words may be put at the addresses, one after the other
 unfoldable pub Fits : Words → List ℕ → Type 0
@@ -77,6 +157,21 @@ opened (Some (Codes c)) begun at image j = j
 opened (Some (Refers r t)) begun at image j = j
 opened (Some (Lists vs)) begun at image j = j
 opened None begun at image j = j
+
+-- ---- all lines
+
+pub record CanFill (image : Words) (taken : List ℕ) (most : ℕ) (begun : Bool) (at : ℕ) (lines : List Laid) : Type 0 where
+  pub put : Put image taken most
+  pub joins : JoinsIf begun image at
+  pub held : AllByRecursion (λ a. may_hold a ≡ true) (flat_map places lines)
+  pub apart : Apart taken (flat_map places lines)
+  pub once : Once (flat_map places lines)
+  pub few : length taken + length (flat_map places lines) ≤ 65536
+  pub few_segments : most + segments begun lines ≤ 16
+
+once_first : (xs ys : List ℕ) → Once (xs ++ ys) → Once xs
+once_first [] ys h = tt
+once_first (x ∷ xs) ys h = ((all_parts (λ y. x ≢ y) xs ys h.0).0, once_first xs ys h.1)
 
 pub fits : (said : List Parsed) (at : ℕ) (begun : Bool) (image : Words) (taken : List ℕ) (most : ℕ) → CanFill image taken most begun at (laid_from at said) → Fits image (flat_map places (laid_from at said))
 unfolding Fits GoesOn Apart
