@@ -6,7 +6,7 @@ use Rattle.loader.specs.Image.{Words, put_fault, with_word}
 use Rattle.asm_text.specs.Said.{Target, Number, Label, Said, Codes, Refers, Orgs, Lists}
 use Rattle.assembler.specs.Assembles.{Laid, places, places_from, word_count}
 use Rattle.assembler.specs.Codes.{encoded, refer}
-use Rattle.assembler.specs.Refusals.{HasLabelFault, IsLowest, IsMissing}
+use Rattle.assembler.specs.Refusals.{HasLabelFault, IsFaultless, IsLowest, IsMissing}
 use Rattle.assembler.specs.Sweeps.{Item, Names, Pending, filled, filled_on, resolved, targeted, value_pending, word_put}
 use Rattle.assembler.specs.declared.fault.Fault.{Fault}
 use Rattle.assembler.specs.declared.fault.Fault.TheVariants.{LabelMissing}
@@ -43,24 +43,33 @@ none_some : (a : ℕ) (o : Option ℕ) → o ≡ None → o ≡ Some a → ⊥
 none_some a o e k = let same : ◌≡◌ {A = Option ℕ} None (Some a) = sym e ∙ k in cc
 
 abbrev WordFault : List (List ℕ × ℕ) → List ℕ → (ℕ → Result ℕ Fault) → Fault → Type 0
-WordFault labels name word f = ((f ≡ LabelMissing) × IsMissing labels name) ⊎ ((target : ℕ) × Contains labels (name, target) × (word target ≡ Err f))
+WordFault labels name word f =
+    ((f ≡ LabelMissing) × IsMissing labels name)
+    ⊎ ((target : ℕ) × Contains labels (name, target) × (word target ≡ Err f))
 
-missing : (names : Names) (labels : List (List ℕ × ℕ)) (name : List ℕ) → Known names labels → names name ≡ None → IsMissing labels name
+missing : (names : Names) (labels : List (List ℕ × ℕ)) (name : List ℕ) → Known names labels
+    → names name ≡ None → IsMissing labels name
 unfolding Known
 missing names labels name known none = λ at c. none_some at (names name) none ((known name at).1 c)
 
-word_least : (names : Names) (labels : List (List ℕ × ℕ)) (name : List ℕ) (word : ℕ → Result ℕ Fault) → Known names labels → IsLeast (WordFault labels name word) (failed (targeted (names name) word))
+word_least : (names : Names) (labels : List (List ℕ × ℕ)) (name : List ℕ) (word : ℕ → Result ℕ Fault)
+    → Known names labels → IsLeast (WordFault labels name word) (failed (targeted (names name) word))
 unfolding IsLeast Known
 word_least names labels name word known = go (names name) refl
   where
     go : (o : Option ℕ) → names name ≡ o → IsLeast (WordFault labels name word) (failed (targeted o word))
     go None is = record {
       holds = inl (refl, missing names labels name known is);
-      lowest = λ f e. elim e [ inl x ↦ same_le LabelMissing f (sym x.0) | inr x ↦ absurd (missing names labels name known is x.0 x.1) ];
+      lowest = λ f e. elim e [
+        | inl x ↦ same_le LabelMissing f (sym x.0)
+        | inr x ↦
+            absurd (missing names labels name known is x.0 x.1)
+      ];
     }
     go (Some at) is =
         let there = (known name at).0 is in
-        least_same (λ f. word at ≡ Err f) (WordFault labels name word) (failed (word at)) (λ f e. inr (at, there, e))
+        least_same (λ f. word at ≡ Err f) (WordFault labels name word) (failed (word at))
+        (λ f e. inr (at, there, e))
         (λ f e. elim e [
           | inl x ↦ absurd (x.1 at there)
           | inr x ↦ subst (λ a. word a ≡ Err f) (same_some x.0 at (sym ((known name x.0).1 x.1) ∙ is)) x.2
@@ -69,55 +78,78 @@ word_least names labels name word known = go (names name) refl
 -- ---- values
 
 abbrev ValueFault : List (List ℕ × ℕ) → List Target → Fault → Type 0
-ValueFault labels values f = (name : List ℕ) × (f ≡ LabelMissing) × Contains values (Label name) × IsMissing labels name
+ValueFault labels values f =
+    (name : List ℕ) × (f ≡ LabelMissing) × Contains values (Label name) × IsMissing labels name
 
-behind_number : (labels : List (List ℕ × ℕ)) (n : ℕ) (vs : List Target) (f : Fault) → ValueFault labels (Number n ∷ vs) f → ValueFault labels vs f
+behind_number : (labels : List (List ℕ × ℕ)) (n : ℕ) (vs : List Target) (f : Fault)
+    → ValueFault labels (Number n ∷ vs) f → ValueFault labels vs f
 behind_number labels n vs f (name, is, (zero, lt, same), gone) = absurd (other n name same)
   where
     other : (m : ℕ) (l : List ℕ) → ◌≡◌ {A = Target} (Number m) (Label l) → ⊥
     other m l e = cc
-behind_number labels n vs f (name, is, (suc k, lt, same), gone) = (name, is, (k, omega (arith, lt), same), gone)
+behind_number labels n vs f (name, is, (suc k, lt, same), gone) =
+    (name, is, (k, omega (arith, lt), same), gone)
 
-behind_label : (labels : List (List ℕ × ℕ)) (l : List ℕ) (at : ℕ) (vs : List Target) (f : Fault) → Contains labels (l, at) → ValueFault labels (Label l ∷ vs) f → ValueFault labels vs f
-behind_label labels l at vs f there (name, is, (zero, lt, same), gone) = absurd (gone at (subst (λ n. Contains labels (n, at)) (same_label l name same) there))
+behind_label : (labels : List (List ℕ × ℕ)) (l : List ℕ) (at : ℕ) (vs : List Target) (f : Fault)
+    → Contains labels (l, at) → ValueFault labels (Label l ∷ vs) f → ValueFault labels vs f
+behind_label labels l at vs f there (name, is, (zero, lt, same), gone) =
+    absurd (gone at (subst (λ n. Contains labels (n, at)) (same_label l name same) there))
   where
     same_label : (x y : List ℕ) → ◌≡◌ {A = Target} (Label x) (Label y) → x ≡ y
     same_label x y e = cc
-behind_label labels l at vs f there (name, is, (suc k, lt, same), gone) = (name, is, (k, omega (arith, lt), same), gone)
+behind_label labels l at vs f there (name, is, (suc k, lt, same), gone) =
+    (name, is, (k, omega (arith, lt), same), gone)
 
-later : (labels : List (List ℕ × ℕ)) (v : Target) (vs : List Target) (f : Fault) → ValueFault labels vs f → ValueFault labels (v ∷ vs) f
+later : (labels : List (List ℕ × ℕ)) (v : Target) (vs : List Target) (f : Fault) → ValueFault labels vs f
+    → ValueFault labels (v ∷ vs) f
 later labels v vs f (name, is, c, gone) = (name, is, (suc c.0, omega (arith, c.1), c.2), gone)
 
-values_least : (names : Names) (labels : List (List ℕ × ℕ)) (at : ℕ) (vs : List Target) → Known names labels → IsLeast (ValueFault labels vs) (late names at (map value_pending vs))
+values_least : (names : Names) (labels : List (List ℕ × ℕ)) (at : ℕ) (vs : List Target) → Known names labels
+    → IsLeast (ValueFault labels vs) (late names at (map value_pending vs))
 unfolding IsLeast Known
 values_least names labels at [] known = λ f e. let c = e.2 in omega (arith, c.1)
 values_least names labels at (Number n ∷ vs) known =
-    least_same (ValueFault labels vs) (ValueFault labels (Number n ∷ vs)) (late names (at + 4) (map value_pending vs)) (later labels (Number n) vs) (behind_number labels n vs)
+    least_same (ValueFault labels vs) (ValueFault labels (Number n ∷ vs))
+    (late names (at + 4) (map value_pending vs)) (later labels (Number n) vs)
+    (behind_number labels n vs)
     (values_least names labels (at + 4) vs known)
-values_least names labels at (Label l ∷ vs) known = go (names l) refl (values_least names labels (at + 4) vs known)
+values_least names labels at (Label l ∷ vs) known =
+    go (names l) refl (values_least names labels (at + 4) vs known)
   where
-    go : (o : Option ℕ) → names l ≡ o → IsLeast (ValueFault labels vs) (late names (at + 4) (map value_pending vs)) → IsLeast (ValueFault labels (Label l ∷ vs)) (first (failed (targeted o (λ target. Ok target))) (late names (at + 4) (map value_pending vs)))
+    go : (o : Option ℕ) → names l ≡ o
+        → IsLeast (ValueFault labels vs) (late names (at + 4) (map value_pending vs))
+        → IsLeast (ValueFault labels (Label l ∷ vs))
+        (first (failed (targeted o (λ target. Ok target))) (late names (at + 4) (map value_pending vs)))
     go None is rest = record {
       holds = (l, refl, (0, omega arith, refl), missing names labels l known is);
       lowest = λ f e. same_le LabelMissing f (sym e.1);
     }
     go (Some a) is rest =
-        least_same (ValueFault labels vs) (ValueFault labels (Label l ∷ vs)) (late names (at + 4) (map value_pending vs)) (later labels (Label l) vs) (λ f. behind_label labels l a vs f ((known l a).0 is)) rest
+        least_same (ValueFault labels vs) (ValueFault labels (Label l ∷ vs))
+        (late names (at + 4) (map value_pending vs)) (later labels (Label l) vs)
+        (λ f. behind_label labels l a vs f ((known l a).0 is)) rest
 
 -- ---- a line
 
-late_least : (names : Names) (labels : List (List ℕ × ℕ)) (at : ℕ) (said : Option Said) (new : List Pending) → Known names labels → Pends said at new → IsLeast (HasLabelFault labels at said) (late names at new)
+late_least : (names : Names) (labels : List (List ℕ × ℕ)) (at : ℕ) (said : Option Said) (new : List Pending)
+    → Known names labels → Pends said at new → IsLeast (HasLabelFault labels at said) (late names at new)
 unfolding Pends
-late_least names labels at None new known h = subst (λ ps. IsLeast (λ f. ⊥) (late names at ps)) (sym h) least_none
-late_least names labels at (Some (Orgs n)) new known h = subst (λ ps. IsLeast (λ f. ⊥) (late names at ps)) (sym h) least_none
-late_least names labels at (Some (Codes c)) new known h = subst (λ ps. IsLeast (λ f. ⊥) (late names at ps)) (sym h.1) least_none
-late_least names labels at (Some (Refers r (Number n))) new known h = subst (λ ps. IsLeast (λ f. ⊥) (late names at ps)) (sym h.1) least_none
+late_least names labels at None new known h =
+    subst (λ ps. IsLeast (λ f. ⊥) (late names at ps)) (sym h) least_none
+late_least names labels at (Some (Orgs n)) new known h =
+    subst (λ ps. IsLeast (λ f. ⊥) (late names at ps)) (sym h) least_none
+late_least names labels at (Some (Codes c)) new known h =
+    subst (λ ps. IsLeast (λ f. ⊥) (late names at ps)) (sym h.1) least_none
+late_least names labels at (Some (Refers r (Number n))) new known h =
+    subst (λ ps. IsLeast (λ f. ⊥) (late names at ps)) (sym h.1) least_none
 late_least names labels at (Some (Refers r (Label name))) new known h =
     let word = λ (target : ℕ). encoded (refer r at target) at in
     subst (λ ps. IsLeast (WordFault labels name word) (late names at ps)) (sym h)
-    (subst (IsLeast (WordFault labels name word)) (sym (first_alone (failed (targeted (names name) word)))) (word_least names labels name word known))
+    (subst (IsLeast (WordFault labels name word)) (sym (first_alone (failed (targeted (names name) word))))
+    (word_least names labels name word known))
 late_least names labels at (Some (Lists vs)) new known h =
-    subst (λ ps. IsLeast (ValueFault labels vs) (late names at ps)) (sym h) (values_least names labels at vs known)
+    subst (λ ps. IsLeast (ValueFault labels vs) (late names at ps)) (sym h)
+    (values_least names labels at vs known)
 
 -- ---- the words of a line, put
 
@@ -126,84 +158,113 @@ record Filled (names : Names) (image : Words) (items rest : List Item) (ats : Li
   fits : Fits next ats
   same : filled names image (items ++ rest) ≡ filled names next rest
 
-put_ok : (image : Words) (at w : ℕ) → put_fault image at w ≡ None → word_put image at (Ok w) ≡ Ok (with_word image at w)
+put_ok : (image : Words) (at w : ℕ) → put_fault image at w ≡ None
+    → word_put image at (Ok w) ≡ Ok (with_word image at w)
 put_ok image at w e = rw e refl
 
-fill_all : (names : Names) (k at : ℕ) (ps : List Pending) (image : Words) (rest : List Item) (ats : List ℕ) → Fits image (places_from at (length ps) ++ ats) → late names at ps ≡ None
+fill_all : (names : Names) (k at : ℕ) (ps : List Pending) (image : Words) (rest : List Item) (ats : List ℕ)
+    → Fits image (places_from at (length ps) ++ ats) → late names at ps ≡ None
     → Filled names image (items_at k at ps) rest ats
 unfolding Fits items_at filled
 fill_all names k at [] image rest ats h none = record { next = image; fits = h; same = refl }
-fill_all names k at (p ∷ ps) image rest ats h none = go (resolved names at p) refl none (λ w. fill_all names k (at + 4) ps (with_word image at w) rest ats (h w).1)
+fill_all names k at (p ∷ ps) image rest ats h none =
+    go (resolved names at p) refl none
+    (λ w. fill_all names k (at + 4) ps (with_word image at w) rest ats (h w).1)
   where
     go : (r : Result ℕ Fault) → resolved names at p ≡ r → first (failed r) (late names (at + 4) ps) ≡ None
-        → ((w : ℕ) → late names (at + 4) ps ≡ None → Filled names (with_word image at w) (items_at k (at + 4) ps) rest ats) → Filled names image (items_at k at (p ∷ ps)) rest ats
+        → ((w : ℕ) → late names (at + 4) ps ≡ None
+        → Filled names (with_word image at w) (items_at k (at + 4) ps) rest ats)
+        → Filled names image (items_at k at (p ∷ ps)) rest ats
     go (Ok w) is e deeper =
         let more = deeper w e in
         record {
           next = more.next;
           fits = more.fits;
-          same = ap (λ r. filled_on k (word_put image at r) (λ i. filled names i (items_at k (at + 4) ps ++ rest))) is
-              ∙ ap (λ r. filled_on k r (λ i. filled names i (items_at k (at + 4) ps ++ rest))) (put_ok image at w (h w).0) ∙ more.same;
+          same = ap
+              (λ r. filled_on k (word_put image at r)
+              (λ i. filled names i (items_at k (at + 4) ps ++ rest))) is
+              ∙ ap (λ r. filled_on k r (λ i. filled names i (items_at k (at + 4) ps ++ rest)))
+              (put_ok image at w (h w).0) ∙ more.same;
         }
     go (Err f) is e deeper = absurd (something f e)
       where
         something : (g : Fault) → ◌≡◌ {A = Option Fault} (Some g) None → ⊥
         something g e = cc
 
-fill_stop : (names : Names) (k at : ℕ) (ps : List Pending) (image : Words) (rest : List Item) (ats : List ℕ) (f : Fault) → Fits image (places_from at (length ps) ++ ats) → late names at ps ≡ Some f
+fill_stop : (names : Names) (k at : ℕ) (ps : List Pending) (image : Words) (rest : List Item) (ats : List ℕ)
+    (f : Fault) → Fits image (places_from at (length ps) ++ ats) → late names at ps ≡ Some f
     → filled names image (items_at k at ps ++ rest) ≡ Err (f, k)
 unfolding Fits items_at filled
 fill_stop names k at [] image rest ats f h some = absurd (nothing f some)
   where
     nothing : (g : Fault) → ◌≡◌ {A = Option Fault} None (Some g) → ⊥
     nothing g e = cc
-fill_stop names k at (p ∷ ps) image rest ats f h some = go (resolved names at p) refl some (λ w. fill_stop names k (at + 4) ps (with_word image at w) rest ats f (h w).1)
+fill_stop names k at (p ∷ ps) image rest ats f h some =
+    go (resolved names at p) refl some
+    (λ w. fill_stop names k (at + 4) ps (with_word image at w) rest ats f (h w).1)
   where
     go : (r : Result ℕ Fault) → resolved names at p ≡ r → first (failed r) (late names (at + 4) ps) ≡ Some f
-        → ((w : ℕ) → late names (at + 4) ps ≡ Some f → filled names (with_word image at w) (items_at k (at + 4) ps ++ rest) ≡ Err (f, k)) → filled names image (items_at k at (p ∷ ps) ++ rest) ≡ Err (f, k)
+        → ((w : ℕ) → late names (at + 4) ps ≡ Some f
+        → filled names (with_word image at w) (items_at k (at + 4) ps ++ rest) ≡ Err (f, k))
+        → filled names image (items_at k at (p ∷ ps) ++ rest) ≡ Err (f, k)
     go (Ok w) is e deeper =
         ap (λ r. filled_on k (word_put image at r) (λ i. filled names i (items_at k (at + 4) ps ++ rest))) is
-        ∙ ap (λ r. filled_on k r (λ i. filled names i (items_at k (at + 4) ps ++ rest))) (put_ok image at w (h w).0) ∙ deeper w e
+        ∙ ap (λ r. filled_on k r (λ i. filled names i (items_at k (at + 4) ps ++ rest)))
+        (put_ok image at w (h w).0) ∙ deeper w e
     go (Err g) is e deeper =
-        ap (λ r. filled_on k (word_put image at r) (λ i. filled names i (items_at k (at + 4) ps ++ rest))) is ∙ ap (λ x. Err (x, k)) (same g f e)
+        ap (λ r. filled_on k (word_put image at r)
+        (λ i. filled names i (items_at k (at + 4) ps ++ rest))) is ∙ ap (λ x. Err (x, k)) (same g f e)
       where
         same : (x y : Fault) → ◌≡◌ {A = Option Fault} (Some x) (Some y) → x ≡ y
         same x y e = cc
 
 -- ---- all lines
 
-abbrev pub AreKnown : List (List ℕ × ℕ) → List Laid → Type 0
-AreKnown labels lines = AllByRecursion (λ l. (other : Fault) → HasLabelFault labels l.at l.said other → ⊥) lines
+abbrev pub AreFaultless : List (List ℕ × ℕ) → List Laid → Type 0
+AreFaultless labels lines = AllByRecursion (IsFaultless labels) lines
 
-line_fits : (image : Words) (line : Laid) (new : List Pending) (ats : List ℕ) → length new ≡ word_count line.said → Fits image (places line ++ ats) → Fits image (places_from line.at (length new) ++ ats)
+line_fits : (image : Words) (line : Laid) (new : List Pending) (ats : List ℕ)
+    → length new ≡ word_count line.said → Fits image (places line ++ ats)
+    → Fits image (places_from line.at (length new) ++ ats)
 line_fits image line new ats count h = subst (λ n. Fits image (places_from line.at n ++ ats)) (sym count) h
 
-pub filled_all : (names : Names) (labels : List (List ℕ × ℕ)) (k : ℕ) (lines : List Laid) (items : List Item) (image : Words) → Known names labels → ItemsOf k lines items → Fits image (flat_map places lines)
-    → AreKnown labels lines → (out : Words) × (filled names image items ≡ Ok out)
+pub filled_all : (names : Names) (labels : List (List ℕ × ℕ)) (k : ℕ) (lines : List Laid)
+    (items : List Item) (image : Words) → Known names labels → ItemsOf k lines items
+    → Fits image (flat_map places lines)
+    → AreFaultless labels lines → (out : Words) × (filled names image items ≡ Ok out)
 unfolding ItemsOf filled
 filled_all names labels k [] items image known h f a = (image, ap (filled names image) h)
 filled_all names labels k (line ∷ lines) items image known h f a =
     let least = late_least names labels line.at line.said h.0 known h.3 in
     let none = least_no (HasLabelFault labels line.at line.said) (late names line.at h.0) least a.0 in
-    let one = fill_all names k line.at h.0 image h.1 (flat_map places lines) (line_fits image line h.0 (flat_map places lines) h.4 f) none in
+    let one =
+    fill_all names k line.at h.0 image h.1 (flat_map places lines)
+    (line_fits image line h.0 (flat_map places lines) h.4 f) none in
     let more = filled_all names labels (k + 1) lines h.1 one.next known h.5 one.fits a.1 in
     (more.0, ap (filled names image) h.2 ∙ one.same ∙ more.1)
 
-pub filled_stops : (names : Names) (labels : List (List ℕ × ℕ)) (k : ℕ) (front : List Laid) (line : Laid) (behind : List Laid) (items : List Item) (image : Words) (fault : Fault) → Known names labels
-    → ItemsOf k (front ++ (line ∷ behind)) items → Fits image (flat_map places (front ++ (line ∷ behind))) → AreKnown labels front → IsLowest (HasLabelFault labels line.at line.said) fault
+pub filled_stops : (names : Names) (labels : List (List ℕ × ℕ)) (k : ℕ) (front : List Laid) (line : Laid)
+    (behind : List Laid) (items : List Item) (image : Words) (fault : Fault) → Known names labels
+    → ItemsOf k (front ++ (line ∷ behind)) items → Fits image (flat_map places (front ++ (line ∷ behind)))
+    → AreFaultless labels front → IsLowest (HasLabelFault labels line.at line.said) fault
     → filled names image items ≡ Err (fault, k + length front)
 unfolding ItemsOf
 filled_stops names labels k [] line behind items image fault known h f a low =
     let least = late_least names labels line.at line.said h.0 known h.3 in
     let some = least_is (HasLabelFault labels line.at line.said) (late names line.at h.0) fault least low in
     let zero_more : k ≡ k + 0 = omega arith in
-    ap (filled names image) h.2 ∙ fill_stop names k line.at h.0 image h.1 (flat_map places behind) fault (line_fits image line h.0 (flat_map places behind) h.4 f) some ∙ ap (λ n. Err (fault, n)) zero_more
+    ap (filled names image) h.2
+    ∙ fill_stop names k line.at h.0 image h.1 (flat_map places behind) fault
+    (line_fits image line h.0 (flat_map places behind) h.4 f) some ∙ ap (λ n. Err (fault, n)) zero_more
 filled_stops names labels k (l ∷ front) line behind items image fault known h f a low =
     let rest = front ++ (line ∷ behind) in
     let least = late_least names labels l.at l.said h.0 known h.3 in
     let none = least_no (HasLabelFault labels l.at l.said) (late names l.at h.0) least a.0 in
-    let one = fill_all names k l.at h.0 image h.1 (flat_map places rest) (line_fits image l h.0 (flat_map places rest) h.4 f) none in
-    let more = filled_stops names labels (k + 1) front line behind h.1 one.next fault known h.5 one.fits a.1 low in
+    let one =
+    fill_all names k l.at h.0 image h.1 (flat_map places rest)
+    (line_fits image l h.0 (flat_map places rest) h.4 f) none in
+    let more =
+    filled_stops names labels (k + 1) front line behind h.1 one.next fault known h.5 one.fits a.1 low in
     let same : k + 1 + length front ≡ k + suc (length front) = omega arith in
     ap (filled names image) h.2 ∙ one.same ∙ more ∙ ap (λ n. Err (fault, n)) same
 
@@ -212,7 +273,7 @@ pub record LabelStops (labels : List (List ℕ × ℕ)) (lines : List Laid) : Ty
   pub line : Laid
   pub behind : List Laid
   pub parts : lines ≡ front ++ (line ∷ behind)
-  pub none : AreKnown labels front
+  pub none : AreFaultless labels front
   pub fault : Fault
   pub fault-is : IsLowest (HasLabelFault labels line.at line.said) fault
 
@@ -220,7 +281,9 @@ either : (o : Option Fault) → (o ≡ None) ⊎ ((f : Fault) × (o ≡ Some f))
 either None = inl refl
 either (Some f) = inr (f, refl)
 
-pub known_or_stop : (names : Names) (labels : List (List ℕ × ℕ)) (k : ℕ) (lines : List Laid) (items : List Item) → Known names labels → ItemsOf k lines items → AreKnown labels lines ⊎ LabelStops labels lines
+pub known_or_stop : (names : Names) (labels : List (List ℕ × ℕ)) (k : ℕ) (lines : List Laid)
+    (items : List Item) → Known names labels → ItemsOf k lines items → AreFaultless labels lines
+    ⊎ LabelStops labels lines
 unfolding ItemsOf
 known_or_stop names labels k [] items known h = inl tt
 known_or_stop names labels k (line ∷ lines) items known h =

@@ -23,65 +23,100 @@ record Swept (source : List ℕ) (said : List Parsed) : Type 0 where
   front : Front state number said
   same : swept at_first 1 (lines_of source) ≡ Ok state
 
-all_swept : Texts → (source : List ℕ) (said : List Parsed) → ArePassed [] (lines_of source) said → Swept source said
+all_swept : Texts → (source : List ℕ) (said : List Parsed) → ArePassed [] (lines_of source) said
+    → Swept source said
 unfolding swept
 all_swept texts source said a =
     let p = passed_on texts at_first 1 [] (lines_of source) said [] front_first a in
-    record { state = p.state; number = p.next; front = p.front; same = ap (swept at_first 1) (sym (append-nil (lines_of source))) ∙ p.same }
+    record {
+      state =
+          p.state;
+      number =
+          p.next;
+      front =
+          p.front;
+      same = ap (swept at_first 1) (sym (append-nil (lines_of source))) ∙ p.same;
+    }
 
 all_fit : (s : State) (k : ℕ) (said : List Parsed) → Front s k said → Fits [] (flat_map places (laid said))
 unfolding JoinsIf
 all_fit s k said h =
     fits said 32768 false [] [] 0
-    (record { put = first_put; joins = λ e. absurd (no_true e); held = h.held; apart = apart_none (flat_map places (laid said)); once = h.once; few = omega (arith, h.few); few_segments = omega (arith, h.few_segments) })
+    (record {
+      put =
+          first_put;
+      joins =
+          λ e. absurd (no_true e);
+      held =
+          h.held;
+      apart =
+          apart_none (flat_map places (laid said));
+      once =
+          h.once;
+      few = omega (arith, h.few);
+      few_segments = omega (arith, h.few_segments);
+    })
   where
     no_true : false ≡ true → ⊥
     no_true e = cc
 
-names_known : (s : State) (k : ℕ) (said : List Parsed) → Front s k said → Known s.names (labels_of (laid said))
+names_known : (s : State) (k : ℕ) (said : List Parsed) → Front s k said
+    → Known s.names (labels_of (laid said))
 unfolding Known
 names_known s k said h = h.named
 
 -- ---- a refusal is refused
 
-at_once : Texts → (source : List ℕ) (fault : Fault) (n : ℕ) → IsRefusedAtOnce source fault n → assembled source ≡ Err (fault, n)
+at_once : Texts → (source : List ℕ) (fault : Fault) (n : ℕ) → IsRefusedAtOnce source fault n
+    → assembled source ≡ Err (fault, n)
 at_once texts source fault n r =
     let p = passed_on texts at_first 1 [] r.front r.said (r.line ∷ r.behind) front_first r.passed in
     let stop = stops_swept texts p.state p.next r.said r.line r.behind fault p.front r.fault-is in
     let number : p.next ≡ n = omega (arith, p.next-is, r.number-is) in
-    let sweep : swept at_first 1 (lines_of source) ≡ Err (fault, n) = ap (swept at_first 1) r.parts ∙ p.same ∙ stop ∙ ap (λ m. Err (fault, m)) number in
+    let sweep : swept at_first 1 (lines_of source) ≡ Err (fault, n) =
+    ap (swept at_first 1) r.parts ∙ p.same ∙ stop ∙ ap (λ m. Err (fault, m)) number in
     ap assembled_on sweep
 
-for_labels : Texts → (source : List ℕ) (fault : Fault) (n : ℕ) → IsRefusedForLabels source fault n → assembled source ≡ Err (fault, n)
+for_labels : Texts → (source : List ℕ) (fault : Fault) (n : ℕ) → IsRefusedForLabels source fault n
+    → assembled source ≡ Err (fault, n)
 for_labels texts source fault n r =
     let s = all_swept texts source r.said r.passed in
     let all = all_fit s.state s.number r.said s.front in
     let items = subst (λ ls. ItemsOf 1 ls s.state.items) r.parts s.front.items in
-    let stop = filled_stops s.state.names (labels_of (laid r.said)) 1 r.front r.line r.behind s.state.items [] fault (names_known s.state s.number r.said s.front)
+    let stop =
+    filled_stops s.state.names
+    (labels_of (laid r.said)) 1 r.front r.line r.behind s.state.items [] fault
+    (names_known s.state s.number r.said s.front)
     items (subst (λ ls. Fits [] (flat_map places ls)) r.parts all) r.none r.fault-is in
     let number : 1 + length r.front ≡ n = omega (arith, r.number-is) in
     ap assembled_on s.same ∙ ap (assembled_with s.state.names) (stop ∙ ap (λ m. Err (fault, m)) number)
 
-pub refused_built : Texts → (source : List ℕ) (fault : Fault) (n : ℕ) → IsRefusal source fault n → assembled source ≡ Err (fault, n)
-refused_built texts source fault n h = elim h [ inl r ↦ at_once texts source fault n r | inr r ↦ for_labels texts source fault n r ]
+pub refused_built : Texts → (source : List ℕ) (fault : Fault) (n : ℕ) → IsRefusal source fault n
+    → assembled source ≡ Err (fault, n)
+refused_built texts source fault n h =
+    elim h [ inl r ↦ at_once texts source fault n r | inr r ↦ for_labels texts source fault n r ]
 
 -- ---- what is refused is a refusal
 
-same_refusal : (source : List ℕ) (f g : Fault) (m n : ℕ) → assembled source ≡ Err (f, m) → assembled source ≡ Err (g, n) → IsRefusal source f m → IsRefusal source g n
+same_refusal : (source : List ℕ) (f g : Fault) (m n : ℕ) → assembled source ≡ Err (f, m)
+    → assembled source ≡ Err (g, n) → IsRefusal source f m → IsRefusal source g n
 same_refusal source f g m n e k h =
     let same = pairs (sym e ∙ k) in
     subst (λ (x : Fault × ℕ). IsRefusal source x.0 x.1) same h
   where
-    pairs : ◌≡◌ {A = Result (Words × Names) (Fault × ℕ)} (Err (f, m)) (Err (g, n)) → ◌≡◌ {A = Fault × ℕ} (f, m) (g, n)
+    pairs : ◌≡◌ {A = Result (Words × Names) (Fault × ℕ)} (Err (f, m)) (Err (g, n))
+        → ◌≡◌ {A = Fault × ℕ} (f, m) (g, n)
     pairs e = cc
 
-not_refused : {A : Type 0} (source : List ℕ) (f : Fault) (n : ℕ) (image : Words) (names : Names) → assembled source ≡ Err (f, n) → assembled source ≡ Ok (image, names) → A
+not_refused : {A : Type 0} (source : List ℕ) (f : Fault) (n : ℕ) (image : Words) (names : Names)
+    → assembled source ≡ Err (f, n) → assembled source ≡ Ok (image, names) → A
 not_refused source f n image names e k = absurd (other (sym e ∙ k))
   where
     other : ◌≡◌ {A = Result (Words × Names) (Fault × ℕ)} (Err (f, n)) (Ok (image, names)) → ⊥
     other e = cc
 
-pub refused_is : Texts → (source : List ℕ) (fault : Fault) (n : ℕ) → assembled source ≡ Err (fault, n) → IsRefusal source fault n
+pub refused_is : Texts → (source : List ℕ) (fault : Fault) (n : ℕ) → assembled source ≡ Err (fault, n)
+    → IsRefusal source fault n
 refused_is texts source fault n e =
     elim (pass_or_stop texts at_first 1 [] (lines_of source) front_first) [
       | inr stop ↦
@@ -118,7 +153,10 @@ refused_is texts source fault n e =
                 } in
                 same_refusal source stop.fault fault m n (for_labels texts source stop.fault m r) e (inr r)
             | inl clean ↦
-                let fill = filled_all s.state.names labels 1 (laid said) s.state.items [] known s.front.items (all_fit s.state s.number said s.front) clean in
-                not_refused source fault n fill.0 s.state.names e (ap assembled_on s.same ∙ ap (assembled_with s.state.names) fill.1)
+                let fill =
+                filled_all s.state.names labels 1 (laid said) s.state.items [] known s.front.items
+                (all_fit s.state s.number said s.front) clean in
+                not_refused source fault n fill.0 s.state.names e
+                (ap assembled_on s.same ∙ ap (assembled_with s.state.names) fill.1)
           ]
     ]

@@ -69,9 +69,11 @@ least_result (Err g) = record { holds = refl; lowest = λ f e. same_le g f (let 
 abbrev pub guard : Bool → Fault → Option Fault
 guard b g = if b then Some g else None
 
-pub least_guard : (b : Bool) (g : Fault) (M : Type 0) → (b ≡ true → M) → (M → b ≡ true) → IsLeast (λ f. (f ≡ g) × M) (guard b g)
+pub least_guard : (b : Bool) (g : Fault) (M : Type 0) → (b ≡ true → M) → (M → b ≡ true)
+    → IsLeast (λ f. (f ≡ g) × M) (guard b g)
 unfolding IsLeast
-least_guard true g M there again = record { holds = (refl, there refl); lowest = λ f e. same_le g f (sym e.0) }
+least_guard true g M there again =
+    record { holds = (refl, there refl); lowest = λ f e. same_le g f (sym e.0) }
 least_guard false g M there again = λ f e. false_true (again e.1)
 
 -- ---- two parts
@@ -79,32 +81,57 @@ least_guard false g M there again = λ f e. false_true (again e.1)
 chain : (a b c : ℕ) → a ≤ b → b ≤ c → a ≤ c
 chain a b c h k = omega (arith, h, k)
 
-pub least_both : (P Q : Fault → Type 0) (a b : Option Fault) → IsLeast P a → IsLeast Q b → IsLeast (λ f. P f ⊎ Q f) (lower a b)
+pub least_both : (P Q : Fault → Type 0) (a b : Option Fault) → IsLeast P a → IsLeast Q b
+    → IsLeast (λ f. P f ⊎ Q f) (lower a b)
 unfolding IsLeast
 least_both P Q None None h k = λ f e. elim e [ inl x ↦ h f x | inr x ↦ k f x ]
-least_both P Q None (Some b) h k = record { holds = inr k.holds; lowest = λ f e. elim e [ inl x ↦ absurd (h f x) | inr x ↦ k.lowest f x ] }
-least_both P Q (Some a) None h k = record { holds = inl h.holds; lowest = λ f e. elim e [ inl x ↦ h.lowest f x | inr x ↦ absurd (k f x) ] }
+least_both P Q None (Some b) h k =
+    record { holds = inr k.holds; lowest = λ f e. elim e [ inl x ↦ absurd (h f x) | inr x ↦ k.lowest f x ] }
+least_both P Q (Some a) None h k =
+    record { holds = inl h.holds; lowest = λ f e. elim e [ inl x ↦ h.lowest f x | inr x ↦ absurd (k f x) ] }
 least_both P Q (Some a) (Some b) h k =
     elim (cases (nat_lt (number b) (number a))) [
       | inl t ↦
           let lt : number b ≤ number a = grind (arith, nat_tests, t) in
-          rw t (record { holds = inr k.holds; lowest = λ f e. elim e [ inl x ↦ chain (number b) (number a) (number f) lt (h.lowest f x) | inr x ↦ k.lowest f x ] })
+          rw t (record {
+            holds =
+                inr k.holds;
+            lowest =
+                λ f e. elim e [
+                  | inl x ↦ chain (number b) (number a) (number f) lt (h.lowest f x)
+                  | inr x ↦
+                      k.lowest f x
+                ];
+          })
       | inr t ↦
           let le : number a ≤ number b = grind (arith, nat_tests, t) in
-          rw t (record { holds = inl h.holds; lowest = λ f e. elim e [ inl x ↦ h.lowest f x | inr x ↦ chain (number a) (number b) (number f) le (k.lowest f x) ] })
+          rw t (record {
+            holds =
+                inl h.holds;
+            lowest =
+                λ f e. elim e [
+                  | inl x ↦ h.lowest f x
+                  | inr x ↦
+                      chain (number a) (number b) (number f) le (k.lowest f x)
+                ];
+          })
     ]
 
-pub least_same : (P Q : Fault → Type 0) (o : Option Fault) → ((f : Fault) → P f → Q f) → ((f : Fault) → Q f → P f) → IsLeast P o → IsLeast Q o
+pub least_same : (P Q : Fault → Type 0) (o : Option Fault) → ((f : Fault) → P f → Q f)
+    → ((f : Fault) → Q f → P f) → IsLeast P o → IsLeast Q o
 unfolding IsLeast
 least_same P Q None there again h = λ f e. h f (again f e)
-least_same P Q (Some g) there again h = record { holds = there g h.holds; lowest = λ f e. h.lowest f (again f e) }
+least_same P Q (Some g) there again h =
+    record { holds = there g h.holds; lowest = λ f e. h.lowest f (again f e) }
 
 -- ---- there is one answer
 
 pub least_is : (P : Fault → Type 0) (o : Option Fault) (f : Fault) → IsLeast P o → IsLowest P f → o ≡ Some f
 unfolding IsLeast
 least_is P None f h k = absurd (h f k.holds)
-least_is P (Some g) f h k = ap Some (same_number g f (let x = h.lowest f k.holds in let y = k.lowest g h.holds in omega (arith, x, y)))
+least_is P (Some g) f h k =
+    ap Some (same_number g f
+    (let x = h.lowest f k.holds in let y = k.lowest g h.holds in omega (arith, x, y)))
 
 pub least_no : (P : Fault → Type 0) (o : Option Fault) → IsLeast P o → ((f : Fault) → P f → ⊥) → o ≡ None
 unfolding IsLeast

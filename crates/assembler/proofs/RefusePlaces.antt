@@ -19,7 +19,12 @@ use Rattle.assembler.proofs.RefuseLeast.{IsLeast, guard, least_both, least_guard
 pub in_contains : (xs : List ℕ) (a : ℕ) → In xs a → Contains xs a
 unfolding In
 in_contains [] a h = absurd h
-in_contains (x ∷ xs) a h = elim h [ inl e ↦ (0, omega arith, e) | inr m ↦ let k = in_contains xs a m in (suc k.0, omega (arith, k.1), k.2) ]
+in_contains (x ∷ xs) a h =
+    elim h [
+      | inl e ↦ (0, omega arith, e)
+      | inr m ↦ let k =
+          in_contains xs a m in (suc k.0, omega (arith, k.1), k.2)
+    ]
 
 pub contains_in : (xs : List ℕ) (a : ℕ) → Contains xs a → In xs a
 unfolding In
@@ -40,7 +45,12 @@ in_or_not (x ∷ xs) a =
       | inl e ↦ inl (inl (eqb-true x a e))
       | inr e ↦ elim (in_or_not xs a) [
         | inl m ↦ inl (inr m)
-        | inr none ↦ inr (λ h. elim h [ inl same ↦ let k : (x == a) ≡ true = grind (arith, nat_tests, same) in false_true (sym e ∙ k) | inr m ↦ none m ])
+        | inr none ↦
+            inr (λ h. elim h [
+              | inl same ↦ let k : (x == a) ≡ true =
+                  grind (arith, nat_tests, same) in false_true (sym e ∙ k)
+              | inr m ↦ none m
+            ])
       ]
     ]
 
@@ -92,10 +102,18 @@ within zero at a h = absurd h
 within (suc n) at a h =
     elim h [
       | inl e ↦ record { low = omega (arith, e); high = omega (arith, e); four = λ k. omega (arith, e, k) }
-      | inr m ↦ let w = within n (at + 4) a m in record { low = omega (arith, w.low); high = omega (arith, w.high); four = λ k. w.four (omega (arith, k)) }
+      | inr m ↦ let w =
+          within n (at + 4) a m in
+          record {
+            low =
+                omega (arith, w.low);
+            high = omega (arith, w.high);
+            four = λ k. w.four (omega (arith, k));
+          }
     ]
 
-low_or_high : (from to : ℕ) → in_memory from to ≡ true → (to ≤ 50331648) ⊎ ((54525952 ≤ from) × (to ≤ 67108864))
+low_or_high : (from to : ℕ) → in_memory from to ≡ true
+    → (to ≤ 50331648) ⊎ ((54525952 ≤ from) × (to ≤ 67108864))
 low_or_high from to h =
     elim (cases (nat_le to 50331648)) [
       | inl e ↦ inl (grind (arith, nat_tests, e))
@@ -105,7 +123,8 @@ low_or_high from to h =
           inr (grind (arith, nat_tests, m.0), grind (arith, nat_tests, m.1))
     ]
 
-may_within : (from to a : ℕ) → in_memory from to ≡ true → a % 4 ≡ 0 → from ≤ a → a + 4 ≤ to → may_hold a ≡ true
+may_within : (from to a : ℕ) → in_memory from to ≡ true → a % 4 ≡ 0 → from ≤ a → a + 4 ≤ to
+    → may_hold a ≡ true
 may_within from to a h four low high =
     let even : (a % 4 == 0) ≡ true = grind (arith, nat_tests, four) in
     elim (low_or_high from to h) [
@@ -125,7 +144,8 @@ may_within from to a h four low high =
     out true = refl
     out false = refl
 
-wider : (closed : List (ℕ × ℕ)) (from to a : ℕ) → from ≤ a → a + 1 ≤ to → overlaps closed a (a + 1) ≡ true → overlaps closed from to ≡ true
+wider : (closed : List (ℕ × ℕ)) (from to a : ℕ) → from ≤ a → a + 1 ≤ to → overlaps closed a (a + 1) ≡ true
+    → overlaps closed from to ≡ true
 wider [] from to a low high h = h
 wider (s ∷ closed) from to a low high h =
     elim (cases (nat_lt s.0 (a + 1) && nat_lt a s.1)) [
@@ -136,7 +156,8 @@ wider (s ∷ closed) from to a low high h =
           rw (x, z) refl
       | inr e ↦
           let k : overlaps closed a (a + 1) ≡ true = rw e at h in
-          or_right (nat_lt s.0 to && nat_lt from s.1) (overlaps closed from to) (wider closed from to a low high k)
+          or_right (nat_lt s.0 to && nat_lt from s.1) (overlaps closed from to)
+          (wider closed from to a low high k)
     ]
   where
     or_right : (b c : Bool) → c ≡ true → (b || c) ≡ true
@@ -145,7 +166,9 @@ wider (s ∷ closed) from to a low high h =
 
 not_behind : (o : Option ℕ) (at a : ℕ) → at ≤ a → open_has o at a ≡ true → ⊥
 not_behind None at a le h = false_true h
-not_behind (Some from) at a le h = let k = (and_parts (nat_le from a) (nat_lt a at) h).1 in let lt : a < at = grind (arith, nat_tests, k) in omega (arith, lt, le)
+not_behind (Some from) at a le h =
+    let k = (and_parts (nat_le from a) (nat_lt a at) h).1 in let lt : a < at =
+    grind (arith, nat_tests, k) in omega (arith, lt, le)
 
 or_parts : (a b : Bool) → (a || b) ≡ false → (a ≡ false) × (b ≡ false)
 or_parts true b e = false_true (sym e)
@@ -158,7 +181,8 @@ not_not false e = false_true (sym e)
 abbrev outside : State → ℕ → Bool
 outside s n = not (in_memory s.at (s.at + 4 * n)) || overlaps s.closed s.at (s.at + 4 * n)
 
-bad_outside : (s : State) (taken : List ℕ) (n : ℕ) → Exact s taken → Covers s taken → Bad taken (places_from s.at n) → outside s n ≡ true
+bad_outside : (s : State) (taken : List ℕ) (n : ℕ) → Exact s taken → Covers s taken
+    → Bad taken (places_from s.at n) → outside s n ≡ true
 unfolding InSegments
 bad_outside s taken n exact covers (a, there, why) =
     elim (cases (outside s n)) [
@@ -167,15 +191,23 @@ bad_outside s taken n exact covers (a, there, why) =
           let k = or_parts (not (in_memory s.at (s.at + 4 * n))) (overlaps s.closed s.at (s.at + 4 * n)) e in
           let w = within n s.at a (contains_in (places_from s.at n) a there) in
           elim why [
-            | inl not-may ↦ false_true (sym not-may ∙ may_within s.at (s.at + 4 * n) a (not_not (in_memory s.at (s.at + 4 * n)) k.0) (w.four exact.even) w.low w.high)
+            | inl not-may ↦
+                false_true
+                (sym not-may
+                ∙ may_within s.at (s.at + 4 * n) a (not_not (in_memory s.at (s.at + 4 * n)) k.0)
+                (w.four exact.even) w.low w.high)
             | inr c ↦ elim (all_in (InSegments s) taken a covers.covered (contains_in taken a c)) [
-              | inl held ↦ let high = w.high in false_true (sym k.1 ∙ wider s.closed s.at (s.at + 4 * n) a w.low (omega (arith, high)) held)
+              | inl held ↦ let high =
+                  w.high in
+                  false_true
+                  (sym k.1 ∙ wider s.closed s.at (s.at + 4 * n) a w.low (omega (arith, high)) held)
               | inr held ↦ absurd (not_behind s.start s.at a w.low held)
             ]
           ]
     ]
 
-outside_bad : (s : State) (taken : List ℕ) (m : ℕ) → Exact s taken → outside s (suc m) ≡ true → Bad taken (places_from s.at (suc m))
+outside_bad : (s : State) (taken : List ℕ) (m : ℕ) → Exact s taken → outside s (suc m) ≡ true
+    → Bad taken (places_from s.at (suc m))
 outside_bad s taken m exact h =
     elim (bad_or_fine taken (places_from s.at (suc m))) [
       | inl b ↦ b
@@ -186,7 +218,9 @@ outside_bad s taken m exact h =
           false_true (sym k ∙ h)
     ]
 
-guards : (a b : Bool) → lower (guard a OutOfRange) (guard b TooLong) ≡ (if a then Some OutOfRange else (if b then Some TooLong else None))
+guards : (a b : Bool)
+    → lower (guard a OutOfRange) (guard b TooLong)
+    ≡ (if a then Some OutOfRange else (if b then Some TooLong else None))
 guards true true = refl
 guards true false = refl
 guards false true = refl
@@ -194,15 +228,19 @@ guards false false = refl
 
 -- the faults of some words' places
 pub place_least : (s : State) (taken : List ℕ) (m : ℕ) (Long : Type 0) → Exact s taken → Covers s taken
-    → ((nat_lt 65536 (s.words + suc m) || is_17th s) ≡ true → Long) → (Long → (nat_lt 65536 (s.words + suc m) || is_17th s) ≡ true)
-    → IsLeast (λ f. ((f ≡ OutOfRange) × Bad taken (places_from s.at (suc m))) ⊎ ((f ≡ TooLong) × Long)) (place_fault s (suc m))
+    → ((nat_lt 65536 (s.words + suc m) || is_17th s) ≡ true → Long)
+    → (Long → (nat_lt 65536 (s.words + suc m) || is_17th s) ≡ true)
+    → IsLeast (λ f. ((f ≡ OutOfRange) × Bad taken (places_from s.at (suc m))) ⊎ ((f ≡ TooLong) × Long))
+    (place_fault s (suc m))
 place_least s taken m Long exact covers there again =
     let out = outside s (suc m) in
     let long = nat_lt 65536 (s.words + suc m) || is_17th s in
     let B = Bad taken (places_from s.at (suc m)) in
     subst (IsLeast (λ f. ((f ≡ OutOfRange) × B) ⊎ ((f ≡ TooLong) × Long))) (guards out long)
-    (least_both (λ f. (f ≡ OutOfRange) × B) (λ f. (f ≡ TooLong) × Long) (guard out OutOfRange) (guard long TooLong)
-    (least_guard out OutOfRange B (outside_bad s taken m exact) (bad_outside s taken (suc m) exact covers)) (least_guard long TooLong Long there again))
+    (least_both (λ f. (f ≡ OutOfRange) × B) (λ f. (f ≡ TooLong) × Long) (guard out OutOfRange)
+    (guard long TooLong)
+    (least_guard out OutOfRange B (outside_bad s taken m exact) (bad_outside s taken (suc m) exact covers))
+    (least_guard long TooLong Long there again))
 
 -- ---- an ORG
 
@@ -224,10 +262,12 @@ bad_org s n taken covers (a, there, why) =
           let l = or_parts (overlaps s.closed n (n + 1)) (open_has s.start s.at n) k.1 in
           elim why [
             | inl not-may ↦ false_true (sym not-may ∙ ap may_hold (sym same) ∙ not_not (may_hold n) k.0)
-            | inr c ↦ elim (all_in (InSegments s) taken n covers.covered (subst (In taken) (sym same) (contains_in taken a c))) [
-              | inl held ↦ false_true (sym l.0 ∙ held)
-              | inr held ↦ false_true (sym l.1 ∙ held)
-            ]
+            | inr c ↦
+                elim (all_in (InSegments s) taken n covers.covered
+                (subst (In taken) (sym same) (contains_in taken a c))) [
+                  | inl held ↦ false_true (sym l.0 ∙ held)
+                  | inr held ↦ false_true (sym l.1 ∙ held)
+                ]
           ]
     ]
 
@@ -240,12 +280,16 @@ org_is_bad s n taken exact h =
           let four = may_four n e in
           let k : (overlaps s.closed n (n + 1) || open_has s.start s.at n) ≡ true = rw e at h in
           elim (cases (overlaps s.closed n (n + 1))) [
-            | inl held ↦ (n, (0, omega arith, refl), inr (in_contains taken n (exact.within n four (inl held))))
+            | inl held ↦
+                (n, (0, omega arith, refl), inr (in_contains taken n (exact.within n four (inl held))))
             | inr other ↦
                 let held : open_has s.start s.at n ≡ true = rw other at k in
                 (n, (0, omega arith, refl), inr (in_contains taken n (exact.within n four (inr held))))
           ]
     ]
 
-pub org_least : (s : State) (n : ℕ) (taken : List ℕ) → Exact s taken → Covers s taken → IsLeast (λ f. (f ≡ OutOfRange) × Bad taken (n ∷ [])) (org_fault s n)
-org_least s n taken exact covers = least_guard (org_bad s n) OutOfRange (Bad taken (n ∷ [])) (org_is_bad s n taken exact) (bad_org s n taken covers)
+pub org_least : (s : State) (n : ℕ) (taken : List ℕ) → Exact s taken → Covers s taken
+    → IsLeast (λ f. (f ≡ OutOfRange) × Bad taken (n ∷ [])) (org_fault s n)
+org_least s n taken exact covers =
+    least_guard (org_bad s n) OutOfRange (Bad taken (n ∷ [])) (org_is_bad s n taken exact)
+    (bad_org s n taken covers)

@@ -39,13 +39,15 @@ contains_split (z ∷ xs) ys x (suc k, lt, is) =
 contains_left : {A : Type 0} (xs ys : List A) (x : A) → Contains xs x → Contains (xs ++ ys) x
 contains_left [] ys x (k, lt, is) = absurd (omega arith)
 contains_left (z ∷ xs) ys x (zero, lt, is) = (0, omega arith, is)
-contains_left (z ∷ xs) ys x (suc k, lt, is) = let c = contains_left xs ys x (k, omega (arith, lt), is) in (suc c.0, omega (arith, c.1), c.2)
+contains_left (z ∷ xs) ys x (suc k, lt, is) =
+    let c = contains_left xs ys x (k, omega (arith, lt), is) in (suc c.0, omega (arith, c.1), c.2)
 
 contains_right : {A : Type 0} (xs ys : List A) (x : A) → Contains ys x → Contains (xs ++ ys) x
 contains_right [] ys x h = h
 contains_right (z ∷ xs) ys x h = let c = contains_right xs ys x h in (suc c.0, omega (arith, c.1), c.2)
 
-all_join : {A : Type 0} (P : A → Type 0) (xs ys : List A) → AllByRecursion P xs → AllByRecursion P ys → AllByRecursion P (xs ++ ys)
+all_join : {A : Type 0} (P : A → Type 0) (xs ys : List A) → AllByRecursion P xs → AllByRecursion P ys
+    → AllByRecursion P (xs ++ ys)
 all_join P [] ys h k = k
 all_join P (x ∷ xs) ys h k = (h.0, all_join P xs ys h.1 k)
 
@@ -53,13 +55,15 @@ once_join : (xs ys : List ℕ) → Once xs → Once ys → Apart xs ys → Once 
 unfolding Apart In
 once_join [] ys h k apart = k
 once_join (x ∷ xs) ys h k apart = (
-  all_join (λ y. x ≢ y) xs ys h.0 (all_map (λ a. In (x ∷ xs) a → ⊥) (λ y. x ≢ y) ys (λ a f same. f (inl same)) apart),
+  all_join (λ y. x ≢ y) xs ys h.0
+      (all_map (λ a. In (x ∷ xs) a → ⊥) (λ y. x ≢ y) ys (λ a f same. f (inl same)) apart),
   once_join xs ys h.1 k (all_map (λ a. In (x ∷ xs) a → ⊥) (λ a. In xs a → ⊥) ys (λ a f m. f (inr m)) apart),
 )
 
 above_places : (n at b : ℕ) → b < at → AllByRecursion (λ y. b ≢ y) (places_from at n)
 above_places zero at b lt = tt
-above_places (suc n) at b lt = (λ same. omega (arith, lt, same), above_places n (at + 4) b (omega (arith, lt)))
+above_places (suc n) at b lt =
+    (λ same. omega (arith, lt, same), above_places n (at + 4) b (omega (arith, lt)))
 
 once_places : (n at : ℕ) → Once (places_from at n)
 once_places zero at = tt
@@ -67,7 +71,8 @@ once_places (suc n) at = (above_places n (at + 4) at (omega arith), once_places 
 
 -- ---- a line without a fault
 
-fine_words : (taken : List ℕ) (at : ℕ) (said : Option Said) → Fine taken (asked at said) → Fine taken (places_from at (word_count said))
+fine_words : (taken : List ℕ) (at : ℕ) (said : Option Said) → Fine taken (asked at said)
+    → Fine taken (places_from at (word_count said))
 unfolding Apart
 fine_words taken at (Some (Orgs n)) h = record { held = tt; apart = tt }
 fine_words taken at (Some (Codes c)) h = h
@@ -75,17 +80,25 @@ fine_words taken at (Some (Refers r t)) h = h
 fine_words taken at (Some (Lists vs)) h = h
 fine_words taken at None h = h
 
-org_may : (taken : List ℕ) (at : ℕ) (said : Option Said) → Fine taken (asked at said) → (n : ℕ) → said ≡ Some (Orgs n) → may_hold n ≡ true
-org_may taken at said h n is = let k : Fine taken (n ∷ []) = subst (λ x. Fine taken (asked at x)) is h in k.held.0
+org_may : (taken : List ℕ) (at : ℕ) (said : Option Said) → Fine taken (asked at said) → (n : ℕ)
+    → said ≡ Some (Orgs n) → may_hold n ≡ true
+org_may taken at said h n is =
+    let k : Fine taken (n ∷ []) = subst (λ x. Fine taken (asked at x)) is h in k.held.0
 
-names_next : (s : State) (k : ℕ) (before : List Parsed) (label : Option (List ℕ)) (said : Option Said) → Front s k before → label_fault s label ≡ None
-    → (name : List ℕ) → (a : ℕ) → ((labelled s label).names name ≡ Some a) ↔ Contains (labels_of (laid (before ++ record { label = label; said = said } ∷ []))) (name, a)
+names_next : (s : State) (k : ℕ) (before : List Parsed) (label : Option (List ℕ)) (said : Option Said)
+    → Front s k before → label_fault s label ≡ None
+    → (name : List ℕ) → (a : ℕ)
+    → ((labelled s label).names name ≡ Some a)
+    ↔ Contains (labels_of (laid (before ++ record { label = label; said = said } ∷ []))) (name, a)
 names_next s k before label said h fresh name a =
     let here = label_at (address_of_next before) label in
     let old = labels_of (laid before) in
-    let n : NamesOf s.names (labelled s label).names (label_at s.at label ++ []) = label_names s label (labelled s label).names [] fresh (no_labels (labelled s label).names) in
-    let same : label_at s.at label ++ [] ≡ here = append-nil (label_at s.at label) ∙ ap (λ b. label_at b label) h.at in
-    let all : labels_of (laid (before ++ record { label = label; said = said } ∷ [])) ≡ old ++ here = labels_more before (record { label = label; said = said }) in (
+    let n : NamesOf s.names (labelled s label).names (label_at s.at label ++ []) =
+    label_names s label (labelled s label).names [] fresh (no_labels (labelled s label).names) in
+    let same : label_at s.at label ++ [] ≡ here =
+    append-nil (label_at s.at label) ∙ ap (λ b. label_at b label) h.at in
+    let all : labels_of (laid (before ++ record { label = label; said = said } ∷ [])) ≡ old ++ here =
+    labels_more before (record { label = label; said = said }) in (
       λ e. subst (λ ls. Contains ls (name, a)) (sym all) (elim ((n.named name a).0 e) [
         | inl was ↦ contains_left old here (name, a) ((h.named name a).0 was)
         | inr c ↦ contains_right old here (name, a) (subst (λ ls. Contains ls (name, a)) same c)
@@ -96,20 +109,24 @@ names_next s k before label said h fresh name a =
       ],
     )
 
-few_words : (before : List Parsed) (p : Parsed) → ((f : Fault) → HasSaidFault before p f → ⊥) → length (taken_by (before ++ p ∷ [])) ≤ 65536
+few_words : (before : List Parsed) (p : Parsed) → ((f : Fault) → HasSaidFault before p f → ⊥)
+    → length (taken_by (before ++ p ∷ [])) ≤ 65536
 few_words before p none =
     elim (cases (nat_lt 65536 (length (taken_by (before ++ p ∷ []))))) [
       | inl e ↦ absurd (none TooLong (inr (inl (grind (arith, nat_tests, e)))))
       | inr e ↦ grind (arith, nat_tests, e)
     ]
 
-pub front_next : (s : State) (k : ℕ) (before : List Parsed) (p : Parsed) (t : State) → Front s k before → NotEmpty p.said → said_step s k p.label p.said ≡ Ok t → Front t (k + 1) (before ++ p ∷ [])
+pub front_next : (s : State) (k : ℕ) (before : List Parsed) (p : Parsed) (t : State) → Front s k before
+    → NotEmpty p.said → said_step s k p.label p.said ≡ Ok t → Front t (k + 1) (before ++ p ∷ [])
 front_next s k before p t h some e =
     let at = address_of_next before in
     let n = word_count p.said in
     let here = places_from at n in
     let taken = taken_by before in
-    let none = no_least (HasSaidFault before p) (failed (said_step s k p.label p.said)) (said_least s k before p.label p.said h some) (ap failed e) in
+    let none =
+    no_least (HasSaidFault before p) (failed (said_step s k p.label p.said))
+    (said_least s k before p.label p.said h some) (ap failed e) in
     let asks = fine taken (asked at p.said) (λ bad. none OutOfRange (inr bad)) in
     let words = fine_words taken at p.said asks in
     let step = said_is s k p.label p.said t e in
@@ -117,27 +134,38 @@ front_next s k before p t h some e =
     let small : segments_in s ≤ 16 = omega (arith, h.segment_count, h.few_segments) in
     let segs = m.segments small in
     let c = counts s k before p h in
-    let now : taken ++ places_from s.at n ≡ taken_by (before ++ p ∷ []) = ap (λ a. taken ++ places_from a n) h.at ∙ sym (taken_more before p) in
+    let now : taken ++ places_from s.at n ≡ taken_by (before ++ p ∷ []) =
+    ap (λ a. taken ++ places_from a n) h.at ∙ sym (taken_more before p) in
     let line : Laid = record { at = at; label = p.label; said = p.said } in
     let same_segments : segments_in t ≡ segments false (laid (before ++ p ∷ [])) =
-    segs.0 ∙ ap (λ g. g + (if is_some s.start || n == 0 then 0 else 1)) h.segment_count ∙ sym c.segment_count in
+    segs.0 ∙ ap (λ g. g + (if is_some s.start || n == 0 then 0 else 1)) h.segment_count
+    ∙ sym c.segment_count in
     let exact = exact_said s k p.label p.said t taken (org_may taken at p.said asks) e h.exact in
     let pends : Pends p.said at m.new = subst (λ a. Pends p.said a m.new) h.at m.pends in
-    let items = items_more 1 k (laid before) line s.items m.new h.items (omega (arith, h.number, count_laid 32768 before)) pends m.count in
+    let items =
+    items_more 1 k (laid before) line s.items m.new h.items
+    (omega (arith, h.number, count_laid 32768 before)) pends m.count in
     record {
       number = omega (arith, h.number, length-append before (p ∷ []));
       at = m.at ∙ ap (λ a. address_behind a p.said) h.at ∙ sym (address_more 32768 before p);
-      named = subst (λ (names : Names). (name : List ℕ) → (a : ℕ) → (names name ≡ Some a) ↔ Contains (labels_of (laid (before ++ p ∷ []))) (name, a)) (sym step.names) (names_next s k before p.label p.said h step.fresh);
+      named = subst
+          (λ (names : Names). (name : List ℕ) → (a : ℕ)
+          → (names name ≡ Some a) ↔ Contains (labels_of (laid (before ++ p ∷ []))) (name, a))
+          (sym step.names) (names_next s k before p.label p.said h step.fresh);
       covers = subst (Covers t) now (m.covers taken h.covers);
       exact = subst (Exact t) now exact;
-      opened = m.opened ∙ ap (λ b. is_open b p.said) h.opened ∙ sym (ap (open_behind false) (laid_more 32768 before p) ∙ open_more false (laid before) line);
+      opened = m.opened ∙ ap (λ b. is_open b p.said) h.opened
+          ∙ sym (ap (open_behind false) (laid_more 32768 before p) ∙ open_more false (laid before) line);
       segment_count = same_segments;
       few_segments = subst (λ g. g ≤ 16) same_segments segs.1;
-      held = subst (AllByRecursion (λ a. may_hold a ≡ true)) (sym (taken_more before p)) (all_join (λ a. may_hold a ≡ true) taken here h.held words.held);
-      once = subst Once (sym (taken_more before p)) (once_join taken here h.once (once_places n at) words.apart);
+      held = subst (AllByRecursion (λ a. may_hold a ≡ true)) (sym (taken_more before p))
+          (all_join (λ a. may_hold a ≡ true) taken here h.held words.held);
+      once = subst Once (sym (taken_more before p))
+          (once_join taken here h.once (once_places n at) words.apart);
       few = few_words before p none;
       items = subst (λ ls. ItemsOf 1 ls t.items) (sym (laid_more 32768 before p))
-          (subst (ItemsOf 1 (laid before ++ line ∷ [])) (sym (m.items ∙ ap (λ a. s.items ++ items_at k a m.new) h.at)) items);
+          (subst (ItemsOf 1 (laid before ++ line ∷ []))
+          (sym (m.items ∙ ap (λ a. s.items ++ items_at k a m.new) h.at)) items);
     }
 
 pub front_first : Front at_first 1 []
@@ -180,19 +208,28 @@ pub record Texts : Type 0 where
   pub reads : (line : List ℕ) → (p : Parsed) → Spells p line → line_of line ≡ Ok p
   pub least : (line : List ℕ) → IsLeast (IsUnreadable line) (wrong_in (line_of line))
 
-pub line_least : Texts → (s : State) (k : ℕ) (before : List Parsed) (line : List ℕ) → Front s k before → IsLeast (HasFault before line) (failed (line_step s k (line_of line)))
+pub line_least : Texts → (s : State) (k : ℕ) (before : List Parsed) (line : List ℕ) → Front s k before
+    → IsLeast (HasFault before line) (failed (line_step s k (line_of line)))
 unfolding IsLeast
 line_least texts s k before line h = go (line_of line) refl (texts.least line)
   where
-    go : (r : Result Parsed Wrong) → line_of line ≡ r → IsLeast (IsUnreadable line) (wrong_in r) → IsLeast (HasFault before line) (failed (line_step s k r))
+    go : (r : Result Parsed Wrong) → line_of line ≡ r → IsLeast (IsUnreadable line) (wrong_in r)
+        → IsLeast (HasFault before line) (failed (line_step s k r))
     go (Err w) is least =
         least_same (IsUnreadable line) (HasFault before line) (wrong_in (Err w)) (λ f u. inl u)
-        (λ f e. elim e [ inl u ↦ u | inr x ↦ absurd (no_meaning x.0 w (line_of line) is (texts.reads line x.0 x.1)) ]) least
+        (λ f e. elim e [
+          | inl u ↦ u
+          | inr x ↦
+              absurd (no_meaning x.0 w (line_of line) is (texts.reads line x.0 x.1))
+        ]) least
     go (Ok p) is least =
-        least_same (HasSaidFault before p) (HasFault before line) (failed (said_step s k p.label p.said)) (λ f e. inr (p, texts.spells line p is, e))
+        least_same (HasSaidFault before p) (HasFault before line) (failed (said_step s k p.label p.said))
+        (λ f e. inr (p, texts.spells line p is, e))
         (λ f e. elim e [
           | inl u ↦ absurd (least f u)
-          | inr x ↦ subst (λ q. HasSaidFault before q f) (one_meaning x.0 p (line_of line) (texts.reads line x.0 x.1) is) x.2
+          | inr x ↦
+              subst (λ q. HasSaidFault before q f)
+              (one_meaning x.0 p (line_of line) (texts.reads line x.0 x.1) is) x.2
         ]) (said_least s k before p.label p.said h (spelled_some line p (texts.spells line p is)))
 
 went_on : (r : Result State Fault) → failed r ≡ None → (t : State) × (r ≡ Ok t)
@@ -214,21 +251,36 @@ stopped (Err g) f e = ap Err (same g f e)
 
 -- ---- lines that pass
 
-pub record Passes (s : State) (k : ℕ) (before : List Parsed) (lines : List (List ℕ)) (said : List Parsed) (rest : List (List ℕ)) : Type 0 where
+pub record Passes (s : State) (k : ℕ) (before : List Parsed) (lines : List (List ℕ)) (said : List Parsed)
+    (rest : List (List ℕ)) : Type 0 where
   pub state : State
   pub next : ℕ
   pub next-is : next ≡ k + length lines
   pub front : Front state next (before ++ said)
   pub same : swept s k (lines ++ rest) ≡ swept state next rest
 
-pub passed_on : Texts → (s : State) (k : ℕ) (before : List Parsed) (lines : List (List ℕ)) (said : List Parsed) (rest : List (List ℕ)) → Front s k before → ArePassed before lines said → Passes s k before lines said rest
+pub passed_on : Texts
+    → (s : State) (k : ℕ) (before : List Parsed) (lines : List (List ℕ)) (said : List Parsed)
+    (rest : List (List ℕ)) → Front s k before → ArePassed before lines said
+    → Passes s k before lines said rest
 unfolding swept
-passed_on texts s k before [] [] rest h a = record { state = s; next = k; next-is = omega arith; front = subst (Front s k) (sym (append-nil before)) h; same = refl }
+passed_on texts s k before [] [] rest h a =
+    record {
+      state =
+          s;
+      next = k;
+      next-is = omega arith;
+      front = subst (Front s k) (sym (append-nil before)) h;
+      same = refl;
+    }
 passed_on texts s k before [] (p ∷ said) rest h a = absurd a
 passed_on texts s k before (line ∷ lines) [] rest h a = absurd a
 passed_on texts s k before (line ∷ lines) (p ∷ said) rest h a =
     let read = texts.reads line p a.0 in
-    let one = went_on (line_step s k (line_of line)) (least_no (HasFault before line) (failed (line_step s k (line_of line))) (line_least texts s k before line h) a.1) in
+    let one =
+    went_on (line_step s k (line_of line))
+    (least_no (HasFault before line) (failed (line_step s k (line_of line)))
+    (line_least texts s k before line h) a.1) in
     let step : said_step s k p.label p.said ≡ Ok one.0 = sym (ap (line_step s k) read) ∙ one.1 in
     let next = front_next s k before p one.0 h (spelled_some line p a.0) step in
     let more = passed_on texts one.0 (k + 1) (before ++ p ∷ []) lines said rest next a.2 in
@@ -256,7 +308,8 @@ either : (o : Option Fault) → (o ≡ None) ⊎ ((f : Fault) × (o ≡ Some f))
 either None = inl refl
 either (Some f) = inr (f, refl)
 
-pub pass_or_stop : Texts → (s : State) (k : ℕ) (before : List Parsed) (lines : List (List ℕ)) → Front s k before → ((said : List Parsed) × ArePassed before lines said) ⊎ Stops before lines
+pub pass_or_stop : Texts → (s : State) (k : ℕ) (before : List Parsed) (lines : List (List ℕ))
+    → Front s k before → ((said : List Parsed) × ArePassed before lines said) ⊎ Stops before lines
 pass_or_stop texts s k before [] h = inl ([], tt)
 pass_or_stop texts s k before (line ∷ lines) h =
     let o = failed (line_step s k (line_of line)) in
@@ -270,7 +323,9 @@ pass_or_stop texts s k before (line ∷ lines) h =
         said = [];
         passed = tt;
         fault = f.0;
-        fault-is = subst (λ bs. IsLowest (HasFault bs line) f.0) (sym (append-nil before)) (is_least (HasFault before line) o f.0 least f.1);
+        fault-is =
+            subst (λ bs. IsLowest (HasFault bs line) f.0) (sym (append-nil before))
+            (is_least (HasFault before line) o f.0 least f.1);
       })
       | inl none ↦
           let one = went_on (line_step s k (line_of line)) none in
@@ -279,7 +334,8 @@ pass_or_stop texts s k before (line ∷ lines) h =
           let spelled = texts.spells line p read.1 in
           let step : said_step s k p.label p.said ≡ Ok one.0 = sym (ap (line_step s k) read.1) ∙ one.1 in
           let clean = no_least (HasFault before line) o least none in
-          elim (pass_or_stop texts one.0 (k + 1) (before ++ p ∷ []) lines (front_next s k before p one.0 h (spelled_some line p spelled) step)) [
+          elim (pass_or_stop texts one.0 (k + 1) (before ++ p ∷ []) lines
+          (front_next s k before p one.0 h (spelled_some line p spelled) step)) [
             | inl all ↦ inl (p ∷ all.0, (spelled, clean, all.1))
             | inr stop ↦ inr (record {
               front = line ∷ stop.front;
@@ -289,15 +345,21 @@ pass_or_stop texts s k before (line ∷ lines) h =
               said = p ∷ stop.said;
               passed = (spelled, clean, stop.passed);
               fault = stop.fault;
-              fault-is = subst (λ bs. IsLowest (HasFault bs stop.line) stop.fault) (append_assoc before (p ∷ []) stop.said) stop.fault-is;
+              fault-is =
+                  subst (λ bs. IsLowest (HasFault bs stop.line) stop.fault)
+                  (append_assoc before (p ∷ []) stop.said) stop.fault-is;
             })
           ]
     ]
 
 -- what the first sweep gives for a line that stops it
-pub stops_swept : Texts → (s : State) (k : ℕ) (before : List Parsed) (line : List ℕ) (behind : List (List ℕ)) (fault : Fault) → Front s k before → IsLowest (HasFault before line) fault
+pub stops_swept : Texts
+    → (s : State) (k : ℕ) (before : List Parsed) (line : List ℕ) (behind : List (List ℕ)) (fault : Fault)
+    → Front s k before → IsLowest (HasFault before line) fault
     → swept s k (line ∷ behind) ≡ Err (fault, k)
 unfolding swept
 stops_swept texts s k before line behind fault h low =
-    let is = stopped (line_step s k (line_of line)) fault (least_is (HasFault before line) (failed (line_step s k (line_of line))) fault (line_least texts s k before line h) low) in
+    let is = stopped (line_step s k (line_of line)) fault
+    (least_is (HasFault before line) (failed (line_step s k (line_of line))) fault
+    (line_least texts s k before line h) low) in
     rw is refl

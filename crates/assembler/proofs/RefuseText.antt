@@ -32,21 +32,28 @@ no_semicolon b = not (b == 59)
 
 all_front : (p : ℕ → Bool) (xs ys : List ℕ) → list_all p (xs ++ ys) ≡ true → list_all p xs ≡ true
 all_front p [] ys h = refl
-all_front p (x ∷ xs) ys h = let k = and_parts (p x) (list_all p (xs ++ ys)) h in rw (k.0, all_front p xs ys k.1) refl
+all_front p (x ∷ xs) ys h =
+    let k = and_parts (p x) (list_all p (xs ++ ys)) h in rw (k.0, all_front p xs ys k.1) refl
 
-all_append : (p : ℕ → Bool) (xs ys : List ℕ) → list_all p xs ≡ true → list_all p ys ≡ true → list_all p (xs ++ ys) ≡ true
+all_append : (p : ℕ → Bool) (xs ys : List ℕ) → list_all p xs ≡ true → list_all p ys ≡ true
+    → list_all p (xs ++ ys) ≡ true
 all_append p [] ys h k = k
-all_append p (x ∷ xs) ys h k = let m = and_parts (p x) (list_all p xs) h in rw (m.0, all_append p xs ys m.1 k) refl
+all_append p (x ∷ xs) ys h k =
+    let m = and_parts (p x) (list_all p xs) h in rw (m.0, all_append p xs ys m.1 k) refl
 
-all_more : (p q : ℕ → Bool) (xs : List ℕ) → ((x : ℕ) → p x ≡ true → q x ≡ true) → list_all p xs ≡ true → list_all q xs ≡ true
+all_more : (p q : ℕ → Bool) (xs : List ℕ) → ((x : ℕ) → p x ≡ true → q x ≡ true) → list_all p xs ≡ true
+    → list_all q xs ≡ true
 all_more p q [] f h = refl
-all_more p q (x ∷ xs) f h = let k = and_parts (p x) (list_all p xs) h in rw (f x k.0, all_more p q xs f k.1) refl
+all_more p q (x ∷ xs) f h =
+    let k = and_parts (p x) (list_all p xs) h in rw (f x k.0, all_more p q xs f k.1) refl
 
 at_byte : (p : ℕ → Bool) (front rest : List ℕ) (b : ℕ) → list_all p (front ++ (b ∷ rest)) ≡ true → p b ≡ true
 at_byte p [] rest b h = (and_parts (p b) (list_all p rest) h).0
-at_byte p (x ∷ front) rest b h = at_byte p front rest b (and_parts (p x) (list_all p (front ++ (b ∷ rest))) h).1
+at_byte p (x ∷ front) rest b h =
+    at_byte p front rest b (and_parts (p x) (list_all p (front ++ (b ∷ rest))) h).1
 
-stray_in : (p : ℕ → Bool) (xs : List ℕ) → list_all p xs ≡ false → (front rest : List ℕ) × (b : ℕ) × (xs ≡ front ++ (b ∷ rest)) × (p b ≡ false)
+stray_in : (p : ℕ → Bool) (xs : List ℕ) → list_all p xs ≡ false
+    → (front rest : List ℕ) × (b : ℕ) × (xs ≡ front ++ (b ∷ rest)) × (p b ≡ false)
 stray_in p [] h = false_true (sym h)
 stray_in p (x ∷ xs) h =
     elim (cases (p x)) [
@@ -57,7 +64,8 @@ stray_in p (x ∷ xs) h =
       | inr e ↦ ([], xs, x, refl, e)
     ]
 
-body_front : (front rest : List ℕ) → list_all no_semicolon front ≡ true → body (front ++ rest) ≡ front ++ body rest
+body_front : (front rest : List ℕ) → list_all no_semicolon front ≡ true
+    → body (front ++ rest) ≡ front ++ body rest
 body_front [] rest h = refl
 body_front (b ∷ front) rest h =
     let k = and_parts (no_semicolon b) (list_all no_semicolon front) h in
@@ -65,7 +73,12 @@ body_front (b ∷ front) rest h =
     rw (k.0, n) (ap (λ (t : List ℕ). b ∷ t) (body_front front rest k.1))
 
 text_semicolon : (b : ℕ) → is_text b ≡ false → no_semicolon b ≡ true
-text_semicolon b h = elim (cases (b == 59)) [ inl e ↦ let k : is_text 59 ≡ false = subst (λ c. is_text c ≡ false) (eqb-true b 59 e) h in absurd cc | inr e ↦ rw e refl ]
+text_semicolon b h =
+    elim (cases (b == 59)) [
+      | inl e ↦ let k : is_text 59 ≡ false =
+          subst (λ c. is_text c ≡ false) (eqb-true b 59 e) h in absurd cc
+      | inr e ↦ rw e refl
+    ]
 
 comment_of_text : (b : ℕ) → is_text b ≡ true → is_comment_text b ≡ true
 comment_of_text b h = rw h refl
@@ -75,18 +88,25 @@ stray_text line (front, rest, b, is, why) =
     elim (cases (is_text_line line)) [
       | inr e ↦ e
       | inl e ↦
-          let k = and_parts (list_all is_text (body line)) (list_all is_comment_text (drop (body_len line) line)) e in
+          let k = and_parts (list_all is_text (body line))
+          (list_all is_comment_text (drop (body_len line) line)) e in
           elim why [
             | inl odd ↦
                 let all : list_all is_comment_text line ≡ true =
                 subst (λ t. list_all is_comment_text t ≡ true) (take-append-drop (body_len line) line)
-                (all_append is_comment_text (body line) (drop (body_len line) line) (all_more is_text is_comment_text (body line) comment_of_text k.0) k.1) in
-                false_true (sym odd ∙ at_byte is_comment_text front rest b (subst (λ t. list_all is_comment_text t ≡ true) is all))
+                (all_append is_comment_text (body line) (drop (body_len line) line)
+                (all_more is_text is_comment_text (body line) comment_of_text k.0) k.1) in
+                false_true
+                (sym odd ∙ at_byte is_comment_text front rest b
+                (subst (λ t. list_all is_comment_text t ≡ true) is all))
             | inr m ↦
                 let one : list_all no_semicolon (b ∷ []) ≡ true = rw (text_semicolon b m.0) refl in
                 let there : body line ≡ front ++ (b ∷ body rest) =
-                ap body is ∙ body_front front (b ∷ rest) m.1 ∙ ap (λ (t : List ℕ). front ++ t) (body_front (b ∷ []) rest one) in
-                false_true (sym m.0 ∙ at_byte is_text front (body rest) b (subst (λ t. list_all is_text t ≡ true) there k.0))
+                ap body is ∙ body_front front (b ∷ rest) m.1
+                ∙ ap (λ (t : List ℕ). front ++ t) (body_front (b ∷ []) rest one) in
+                false_true
+                (sym m.0 ∙ at_byte is_text front (body rest) b
+                (subst (λ t. list_all is_text t ≡ true) there k.0))
           ]
     ]
 
@@ -97,18 +117,33 @@ text_stray line h =
     elim (cases (list_all is_text (body line))) [
       | inr odd ↦
           let s = stray_in is_text (body line) odd in
-          let parts : line ≡ s.0 ++ (s.2 ∷ (s.1 ++ drop n line)) = sym whole ∙ ap (λ (t : List ℕ). t ++ drop n line) s.3 ∙ append_assoc s.0 (s.2 ∷ s.1) (drop n line) in
-          (s.0, s.1 ++ drop n line, s.2, parts, inr (s.4, all_front no_semicolon s.0 (s.2 ∷ s.1) (subst (λ t. list_all no_semicolon t ≡ true) s.3 (prefix_all no_semicolon line))))
+          let parts : line ≡ s.0 ++ (s.2 ∷ (s.1 ++ drop n line)) =
+          sym whole ∙ ap (λ (t : List ℕ). t ++ drop n line) s.3
+          ∙ append_assoc s.0 (s.2 ∷ s.1) (drop n line) in (
+            s.0,
+            s.1
+                ++ drop n line,
+            s.2,
+            parts,
+            inr (
+              s.4,
+              all_front no_semicolon s.0 (s.2 ∷ s.1)
+                  (subst (λ t. list_all no_semicolon t ≡ true) s.3 (prefix_all no_semicolon line)),
+            ),
+          )
       | inl all ↦
           let odd : list_all is_comment_text (drop n line) ≡ false = rw all at h in
           let s = stray_in is_comment_text (drop n line) odd in
-          let parts : line ≡ (body line ++ s.0) ++ (s.2 ∷ s.1) = sym whole ∙ ap (λ (t : List ℕ). body line ++ t) s.3 ∙ sym (append_assoc (body line) s.0 (s.2 ∷ s.1)) in
+          let parts : line ≡ (body line ++ s.0) ++ (s.2 ∷ s.1) =
+          sym whole ∙ ap (λ (t : List ℕ). body line ++ t) s.3
+          ∙ sym (append_assoc (body line) s.0 (s.2 ∷ s.1)) in
           (body line ++ s.0, s.1, s.2, parts, inl s.4)
     ]
 
 -- ---- fronts
 
-past_front : (sort : ℕ → Bool) (front rest : List ℕ) → list_all sort front ≡ true → first_passes sort rest ≡ false → past sort (front ++ rest) ≡ rest
+past_front : (sort : ℕ → Bool) (front rest : List ℕ) → list_all sort front ≡ true
+    → first_passes sort rest ≡ false → past sort (front ++ rest) ≡ rest
 past_front sort [] [] h k = refl
 past_front sort [] (b ∷ rest) h k = rw k refl
 past_front sort (b ∷ front) rest h k =
@@ -126,7 +161,8 @@ past_blanks (b ∷ bs) h =
 blank_no_name : (b : ℕ) → is_blank b ≡ true → is_name b ≡ false
 blank_no_name b h = grind (arith, nat_tests)
 
-blanks_no_name : (blanks rest : List ℕ) → IsBlanks blanks → first_passes is_name rest ≡ false → first_passes is_name (blanks ++ rest) ≡ false
+blanks_no_name : (blanks rest : List ℕ) → IsBlanks blanks → first_passes is_name rest ≡ false
+    → first_passes is_name (blanks ++ rest) ≡ false
 blanks_no_name [] rest h k = k
 blanks_no_name (b ∷ bs) rest h k = blank_no_name b (and_parts (is_blank b) (list_all is_blank bs) h).0
 
@@ -134,11 +170,13 @@ alone_no_name : (blanks : List ℕ) → IsBlanks blanks → first_passes is_name
 alone_no_name [] h = refl
 alone_no_name (b ∷ bs) h = blank_no_name b (and_parts (is_blank b) (list_all is_blank bs) h).0
 
-gap_no_name : (blanks rest : List ℕ) → IsBlanks blanks → 0 < length blanks → first_passes is_name (blanks ++ rest) ≡ false
+gap_no_name : (blanks rest : List ℕ) → IsBlanks blanks → 0 < length blanks
+    → first_passes is_name (blanks ++ rest) ≡ false
 gap_no_name [] rest h some = absurd (omega arith)
 gap_no_name (b ∷ bs) rest h some = blank_no_name b (and_parts (is_blank b) (list_all is_blank bs) h).0
 
-name_no_gap : (name rest : List ℕ) → 0 < length name → list_all is_name name ≡ true → first_passes is_blank (name ++ rest) ≡ false
+name_no_gap : (name rest : List ℕ) → 0 < length name → list_all is_name name ≡ true
+    → first_passes is_blank (name ++ rest) ≡ false
 name_no_gap [] rest lt h = absurd (omega arith)
 name_no_gap (b ∷ name) rest lt h = name_no_blank b (and_parts (is_name b) (list_all is_name name) h).0
 
@@ -155,7 +193,8 @@ unfolding word_of head_of
 word_some [] w h = absurd (nothing_is w (spelled_again [] w h))
 word_some (b ∷ bs) w h = omega arith
 
-label_letters : (label : List ℕ) → is_label label ≡ true → (list_all is_name label ≡ true) × (0 < length label)
+label_letters : (label : List ℕ) → is_label label ≡ true
+    → (list_all is_name label ≡ true) × (0 < length label)
 label_letters [] h = false_true h
 label_letters (c ∷ cs) h = (grind (arith, nat_tests, h), omega arith)
 
@@ -178,26 +217,36 @@ statement_pieces text b =
     ap pieces b.parts ∙ pieces-gap b.blanks (b.name ++ b.rest) b.blank b.some
     ∙ ap gap_before (pieces-run b.name b.rest b.letters (word_some b.name b.word b.word-is) stops)
 
-label_pieces : (label behind : List ℕ) → is_label label ≡ true → first_passes is_name behind ≡ false → pieces (label ++ behind) ≡ Run label ∷ pieces behind
-label_pieces label behind h stops = let k = label_letters label h in pieces-run label behind k.0 k.1 (first_no_run behind (first_same behind stops))
+label_pieces : (label behind : List ℕ) → is_label label ≡ true → first_passes is_name behind ≡ false
+    → pieces (label ++ behind) ≡ Run label ∷ pieces behind
+label_pieces label behind h stops =
+    let k = label_letters label h in
+    pieces-run label behind k.0 k.1 (first_no_run behind (first_same behind stops))
 
 begins_pieces : (text : List ℕ) → BeginsLine text → PiecesBegin (pieces text)
 unfolding PiecesBegin StartsWord
 begins_pieces text h =
     elim h.label-is [
       | inl none ↦
-          let is : pieces text ≡ pieces h.behind = ap pieces (h.parts ∙ ap (λ (l : List ℕ). l ++ h.behind) none) in
+          let is : pieces text ≡ pieces h.behind =
+          ap pieces (h.parts ∙ ap (λ (l : List ℕ). l ++ h.behind) none) in
           elim h.statement [
             | inl blanks ↦ subst PiecesBegin (sym (is ∙ pieces-blanks h.behind blanks)) tt
-            | inr b ↦ subst PiecesBegin (sym (is ∙ statement_pieces h.behind b)) (b.word, spelled_again b.name b.word b.word-is)
+            | inr b ↦
+                subst PiecesBegin (sym (is ∙ statement_pieces h.behind b))
+                (b.word, spelled_again b.name b.word b.word-is)
           ]
       | inr label ↦ elim h.statement [
         | inl blanks ↦
-            let is = ap pieces h.parts ∙ label_pieces h.label h.behind label (alone_no_name h.behind blanks) ∙ ap (λ (ps : List Piece). Run h.label ∷ ps) (pieces-blanks h.behind blanks) in
+            let is = ap pieces h.parts ∙ label_pieces h.label h.behind label (alone_no_name h.behind blanks)
+            ∙ ap (λ (ps : List Piece). Run h.label ∷ ps) (pieces-blanks h.behind blanks) in
             subst PiecesBegin (sym is) label
         | inr b ↦
-            let stops = subst (λ t. first_passes is_name t ≡ false) (sym b.parts) (gap_no_name b.blanks (b.name ++ b.rest) b.blank b.some) in
-            let is = ap pieces h.parts ∙ label_pieces h.label h.behind label stops ∙ ap (λ (ps : List Piece). Run h.label ∷ ps) (statement_pieces h.behind b) in
+            let stops =
+            subst (λ t. first_passes is_name t ≡ false) (sym b.parts)
+            (gap_no_name b.blanks (b.name ++ b.rest) b.blank b.some) in
+            let is = ap pieces h.parts ∙ label_pieces h.label h.behind label stops
+            ∙ ap (λ (ps : List Piece). Run h.label ∷ ps) (statement_pieces h.behind b) in
             subst PiecesBegin (sym is) (label, (b.word, spelled_again b.name b.word b.word-is))
       ]
     ]
@@ -210,45 +259,63 @@ WordBehind text = begins_blank_or_ends (past is_name (past is_blank text)) ≡ t
 statement_ends : (text : List ℕ) → BeginsStatement text → WordBehind text
 statement_ends text b =
     let stops = name_no_gap b.name b.rest (word_some b.name b.word b.word-is) b.letters in
-    let first : past is_blank text ≡ b.name ++ b.rest = ap (past is_blank) b.parts ∙ past_front is_blank b.blanks (b.name ++ b.rest) b.blank stops in
-    let second : past is_name (b.name ++ b.rest) ≡ b.rest = past_front is_name b.name b.rest b.letters (ends_no_name b.rest b.ends) in
+    let first : past is_blank text ≡ b.name ++ b.rest =
+    ap (past is_blank) b.parts ∙ past_front is_blank b.blanks (b.name ++ b.rest) b.blank stops in
+    let second : past is_name (b.name ++ b.rest) ≡ b.rest =
+    past_front is_name b.name b.rest b.letters (ends_no_name b.rest b.ends) in
     ap begins_blank_or_ends (ap (past is_name) first ∙ second) ∙ b.ends
 
 blanks_end : (text : List ℕ) → IsBlanks text → WordBehind text
 blanks_end text h = rw (past_blanks text h) refl
 
-behind_ends : (text : List ℕ) → IsBlanks text ⊎ BeginsStatement text → (first_passes is_name text ≡ false) × WordBehind text
+behind_ends : (text : List ℕ) → IsBlanks text ⊎ BeginsStatement text
+    → (first_passes is_name text ≡ false) × WordBehind text
 behind_ends text h =
     elim h [
       | inl blanks ↦ (alone_no_name text blanks, blanks_end text blanks)
-      | inr b ↦ (subst (λ t. first_passes is_name t ≡ false) (sym b.parts) (gap_no_name b.blanks (b.name ++ b.rest) b.blank b.some), statement_ends text b)
+      | inr b ↦ (
+        subst (λ t. first_passes is_name t ≡ false) (sym b.parts)
+            (gap_no_name b.blanks (b.name ++ b.rest) b.blank b.some),
+        statement_ends text b,
+      )
     ]
 
 begins_end : (text : List ℕ) → BeginsLine text → word_ends text ≡ true
 begins_end text h =
-    let letters : list_all is_name h.label ≡ true = elim h.label-is [ inl e ↦ rw e refl | inr e ↦ (label_letters h.label e).0 ] in
+    let letters : list_all is_name h.label ≡ true =
+    elim h.label-is [ inl e ↦ rw e refl | inr e ↦ (label_letters h.label e).0 ] in
     let k = behind_ends h.behind h.statement in
-    let first : past is_name text ≡ h.behind = ap (past is_name) h.parts ∙ past_front is_name h.label h.behind letters k.0 in
+    let first : past is_name text ≡ h.behind =
+    ap (past is_name) h.parts ∙ past_front is_name h.label h.behind letters k.0 in
     ap (λ (t : List ℕ). begins_blank_or_ends (past is_name (past is_blank t))) first ∙ k.1
 
 -- ---- and pieces that begin well are those of such a line
 
-comma_no_name : (blanks rest : List ℕ) → IsBlanks blanks → first_passes is_name (blanks ++ (44 ∷ rest)) ≡ false
+comma_no_name : (blanks rest : List ℕ) → IsBlanks blanks
+    → first_passes is_name (blanks ++ (44 ∷ rest)) ≡ false
 comma_no_name blanks rest h = blanks_no_name blanks (44 ∷ rest) h refl
 
-written_no_name : (ps : List Piece) (text : List ℕ) → Written ps text → starts_run ps ≡ false → first_passes is_name text ≡ false
+written_no_name : (ps : List Piece) (text : List ℕ) → Written ps text → starts_run ps ≡ false
+    → first_passes is_name text ≡ false
 written_no_name [] text w e = alone_no_name text w
 written_no_name (Run r ∷ ps) text w e = false_true (sym e)
-written_no_name (Comma ∷ ps) text (before, after, rest, is, blanks, more, w) e = rw is (comma_no_name before (after ++ rest) blanks)
+written_no_name (Comma ∷ ps) text (before, after, rest, is, blanks, more, w) e =
+    rw is (comma_no_name before (after ++ rest) blanks)
 written_no_name (Sign m ∷ ps) text (b, rest, is, not-blank, not-name, not-comma, mark, w) e = rw is not-name
 written_no_name (Gap ∷ ps) text (gap, rest, is, some, blanks, w) e = rw is (gap_no_name gap rest blanks some)
 
-statement_from : (ps : List Piece) (text : List ℕ) → Written (Gap ∷ ps) text → WellSpaced ps → StartsWord ps → WordBehind text → BeginsStatement text
+statement_from : (ps : List Piece) (text : List ℕ) → Written (Gap ∷ ps) text → WellSpaced ps → StartsWord ps
+    → WordBehind text → BeginsStatement text
 unfolding StartsWord
-statement_from (Run name ∷ ps) text (gap, behind, is, some, blanks, (rest, more, letter, letters, w)) spaced (word, spelled) ends =
-    let stops = subst (λ t. first_passes is_blank t ≡ false) (sym more) (name_no_gap name rest letter letters) in
-    let first : past is_blank text ≡ behind = ap (past is_blank) is ∙ past_front is_blank gap behind blanks stops in
-    let second : past is_name behind ≡ rest = ap (past is_name) more ∙ past_front is_name name rest letters (written_no_name ps rest w spaced.0) in
+statement_from (Run name ∷ ps) text (gap, behind, is, some, blanks, (rest, more, letter, letters, w)) spaced
+    (word, spelled) ends =
+    let stops =
+    subst (λ t. first_passes is_blank t ≡ false) (sym more) (name_no_gap name rest letter letters) in
+    let first : past is_blank text ≡ behind =
+    ap (past is_blank) is ∙ past_front is_blank gap behind blanks stops in
+    let second : past is_name behind ≡ rest =
+    ap (past is_name) more
+    ∙ past_front is_name name rest letters (written_no_name ps rest w spaced.0) in
     record {
       blanks = gap;
       name = name;
@@ -266,23 +333,46 @@ statement_from (Comma ∷ ps) text w spaced h ends = absurd h
 statement_from (Sign m ∷ ps) text w spaced h ends = absurd h
 statement_from (Gap ∷ ps) text w spaced h ends = absurd h
 
-pieces_begin : (ps : List Piece) (text : List ℕ) → Written ps text → WellSpaced ps → word_ends text ≡ true → PiecesBegin ps → BeginsLine text
+pieces_begin : (ps : List Piece) (text : List ℕ) → Written ps text → WellSpaced ps → word_ends text ≡ true
+    → PiecesBegin ps → BeginsLine text
 unfolding PiecesBegin
-pieces_begin [] text w spaced ends h = record { label = []; behind = text; parts = refl; label-is = inl refl; statement = inl w }
+pieces_begin [] text w spaced ends h =
+    record { label = []; behind = text; parts = refl; label-is = inl refl; statement = inl w }
 pieces_begin (Gap ∷ ps) text w spaced ends h =
     let (gap, behind, is, some, blanks, more) = w in
     let stops = subst (λ t. first_passes is_name t ≡ false) (sym is) (gap_no_name gap behind blanks some) in
     let none : past is_name text ≡ text = past_front is_name [] text refl stops in
-    let word : WordBehind text = ap (λ (t : List ℕ). begins_blank_or_ends (past is_name (past is_blank t))) (sym none) ∙ ends in
-    record { label = []; behind = text; parts = refl; label-is = inl refl; statement = inr (statement_from ps text w spaced.1 h word) }
+    let word : WordBehind text =
+    ap (λ (t : List ℕ). begins_blank_or_ends (past is_name (past is_blank t))) (sym none) ∙ ends in
+    record {
+      label =
+          [];
+      behind =
+          text;
+      parts =
+          refl;
+      label-is = inl refl;
+      statement = inr (statement_from ps text w spaced.1 h word);
+    }
 pieces_begin (Run label ∷ []) text (behind, is, some, letters, blanks) spaced ends h =
     record { label = label; behind = behind; parts = is; label-is = inr h; statement = inl blanks }
 pieces_begin (Run label ∷ Gap ∷ ps) text (behind, is, some, letters, w) spaced ends h =
     let (gap, rest, more, one, blanks, v) = w in
     let stops = subst (λ t. first_passes is_name t ≡ false) (sym more) (gap_no_name gap rest blanks one) in
-    let front : past is_name text ≡ behind = ap (past is_name) is ∙ past_front is_name label behind letters stops in
-    let word : WordBehind behind = ap (λ (t : List ℕ). begins_blank_or_ends (past is_name (past is_blank t))) (sym front) ∙ ends in
-    record { label = label; behind = behind; parts = is; label-is = inr h.0; statement = inr (statement_from ps behind w spaced.1.1 h.1 word) }
+    let front : past is_name text ≡ behind =
+    ap (past is_name) is ∙ past_front is_name label behind letters stops in
+    let word : WordBehind behind =
+    ap (λ (t : List ℕ). begins_blank_or_ends (past is_name (past is_blank t))) (sym front) ∙ ends in
+    record {
+      label =
+          label;
+      behind =
+          behind;
+      parts =
+          is;
+      label-is = inr h.0;
+      statement = inr (statement_from ps behind w spaced.1.1 h.1 word);
+    }
 pieces_begin (Run label ∷ Run other ∷ ps) text w spaced ends h = absurd h
 pieces_begin (Run label ∷ Comma ∷ ps) text w spaced ends h = absurd h
 pieces_begin (Run label ∷ Sign m ∷ ps) text w spaced ends h = absurd h
@@ -292,20 +382,24 @@ pieces_begin (Sign m ∷ ps) text w spaced ends h = absurd h
 -- ---- which of the two it is
 
 Sorted : {A : Type 0} → Result A Wrong → Type 0 → Type 0
-Sorted {A} r Begins = ((((a : A) × (r ≡ Ok a)) ⊎ (r ≡ Err wrong.BadOperand)) × Begins) ⊎ ((r ≡ Err wrong.UnknownWord) × (Begins → ⊥))
+Sorted {A} r Begins =
+    ((((a : A) × (r ≡ Ok a)) ⊎ (r ≡ Err wrong.BadOperand)) × Begins)
+    ⊎ ((r ≡ Err wrong.UnknownWord) × (Begins → ⊥))
 
 or_bad_either : (o : Option Said) → ((x : Said) × (or_bad o ≡ Ok x)) ⊎ (or_bad o ≡ Err wrong.BadOperand)
 or_bad_either None = inr refl
 or_bad_either (Some x) = inl (x, refl)
 
-behind_either : (w : Word) (ps : List Piece) → ((x : Said) × (behind_word w ps ≡ Ok x)) ⊎ (behind_word w ps ≡ Err wrong.BadOperand)
+behind_either : (w : Word) (ps : List Piece)
+    → ((x : Said) × (behind_word w ps ≡ Ok x)) ⊎ (behind_word w ps ≡ Err wrong.BadOperand)
 behind_either w [] = inr refl
 behind_either w (Gap ∷ ps) = or_bad_either (operands_of w ps)
 behind_either w (Run r ∷ ps) = inr refl
 behind_either w (Comma ∷ ps) = inr refl
 behind_either w (Sign m ∷ ps) = inr refl
 
-word_sorted : (o : Option Word) (name : List ℕ) (ps : List Piece) → spelled_word_of name ≡ o → Sorted (with_word o ps) (StartsWord (Run name ∷ ps))
+word_sorted : (o : Option Word) (name : List ℕ) (ps : List Piece) → spelled_word_of name ≡ o
+    → Sorted (with_word o ps) (StartsWord (Run name ∷ ps))
 unfolding Sorted StartsWord
 word_sorted None name ps is = inr (refl, λ h. nothing_is h.0 (sym is ∙ h.1))
 word_sorted (Some w) name ps is = inl (behind_either w ps, (w, is))
@@ -318,7 +412,8 @@ statement_sorted (Comma ∷ ps) = inr (refl, λ h. h)
 statement_sorted (Sign m ∷ ps) = inr (refl, λ h. h)
 statement_sorted (Gap ∷ ps) = inr (refl, λ h. h)
 
-label_sorted : (label : Option (List ℕ)) (r : Result Said Wrong) (Begins Others : Type 0) → (Begins → Others) → (Others → Begins) → Sorted r Begins → Sorted (with_label label r) Others
+label_sorted : (label : Option (List ℕ)) (r : Result Said Wrong) (Begins Others : Type 0)
+    → (Begins → Others) → (Others → Begins) → Sorted r Begins → Sorted (with_label label r) Others
 unfolding Sorted
 label_sorted label r Begins Others there again h =
     elim h [
@@ -329,10 +424,13 @@ label_sorted label r Begins Others there again h =
       | inr k ↦ inr (rw k.0 refl, λ o. k.1 (again o))
     ]
 
-run_sorted : (label : List ℕ) (ps : List Piece) → is_label label ≡ true → Sorted (behind_label label ps) (PiecesBegin (Run label ∷ ps))
+run_sorted : (label : List ℕ) (ps : List Piece) → is_label label ≡ true
+    → Sorted (behind_label label ps) (PiecesBegin (Run label ∷ ps))
 unfolding Sorted PiecesBegin
 run_sorted label [] is = inl (inl (record { label = Some label; said = None }, refl), is)
-run_sorted label (Gap ∷ ps) is = label_sorted (Some label) (statement_of ps) (StartsWord ps) _ (λ h. (is, h)) (λ h. h.1) (statement_sorted ps)
+run_sorted label (Gap ∷ ps) is =
+    label_sorted (Some label) (statement_of ps) (StartsWord ps) _ (λ h. (is, h)) (λ h. h.1)
+    (statement_sorted ps)
 run_sorted label (Run r ∷ ps) is = inr (refl, λ h. h)
 run_sorted label (Comma ∷ ps) is = inr (refl, λ h. h)
 run_sorted label (Sign m ∷ ps) is = inr (refl, λ h. h)
@@ -348,10 +446,14 @@ no_label label (Sign m ∷ ps) other h = h
 parsed_sorted : (ps : List Piece) → Sorted (parsed ps) (PiecesBegin ps)
 unfolding Sorted PiecesBegin
 parsed_sorted [] = inl (inl (record { label = None; said = None }, refl), tt)
-parsed_sorted (Gap ∷ ps) = label_sorted None (statement_of ps) (StartsWord ps) (StartsWord ps) (λ h. h) (λ h. h) (statement_sorted ps)
+parsed_sorted (Gap ∷ ps) =
+    label_sorted None (statement_of ps) (StartsWord ps) (StartsWord ps) (λ h. h) (λ h. h)
+    (statement_sorted ps)
 parsed_sorted (Run label ∷ ps) =
     elim (cases (is_label label)) [
-      | inl e ↦ subst (λ b. Sorted (if b then behind_label label ps else Err wrong.UnknownWord) (PiecesBegin (Run label ∷ ps))) (sym e) (run_sorted label ps e)
+      | inl e ↦
+          subst (λ b. Sorted (if b then behind_label label ps else Err wrong.UnknownWord)
+          (PiecesBegin (Run label ∷ ps))) (sym e) (run_sorted label ps e)
       | inr e ↦ inr (rw e refl, no_label label ps e)
     ]
 parsed_sorted (Comma ∷ ps) = inr (refl, λ h. h)
@@ -375,13 +477,15 @@ from_three line text UnknownWord h = omega arith
 from_three line text BadOperand h = omega arith
 from_three line text _ h = absurd h
 
-from_four : (line : List ℕ) → is_text_line line ≡ true → BeginsLine (body line) → (f : Fault) → IsUnreadable line f → 4 ≤ number f
+from_four : (line : List ℕ) → is_text_line line ≡ true → BeginsLine (body line) → (f : Fault)
+    → IsUnreadable line f → 4 ≤ number f
 from_four line text begins NotText h = false_true (sym (stray_text line h) ∙ text)
 from_four line text begins UnknownWord h = absurd (h begins)
 from_four line text begins BadOperand h = omega arith
 from_four line text begins _ h = absurd h
 
-none_unreadable : (line : List ℕ) (p : Parsed) → is_text_line line ≡ true → BeginsLine (body line) → Spells p line → (f : Fault) → IsUnreadable line f → ⊥
+none_unreadable : (line : List ℕ) (p : Parsed) → is_text_line line ≡ true → BeginsLine (body line)
+    → Spells p line → (f : Fault) → IsUnreadable line f → ⊥
 none_unreadable line p text begins spelled NotText h = false_true (sym (stray_text line h) ∙ text)
 none_unreadable line p text begins spelled UnknownWord h = h begins
 none_unreadable line p text begins spelled BadOperand h = h p spelled
@@ -390,7 +494,8 @@ none_unreadable line p text begins spelled _ h = h
 ok_err : (p : Parsed) (w : Wrong) (r : Result Parsed Wrong) → r ≡ Ok p → r ≡ Err w → ⊥
 ok_err p w r e k = let same : ◌≡◌ {A = Result Parsed Wrong} (Ok p) (Err w) = sym e ∙ k in cc
 
-pub read_least : ((line : List ℕ) (p : Parsed) → line_of line ≡ Ok p → Spells p line) → ((line : List ℕ) (p : Parsed) → Spells p line → line_of line ≡ Ok p)
+pub read_least : ((line : List ℕ) (p : Parsed) → line_of line ≡ Ok p → Spells p line)
+    → ((line : List ℕ) (p : Parsed) → Spells p line → line_of line ≡ Ok p)
     → (line : List ℕ) → IsLeast (IsUnreadable line) (wrong_in (line_of line))
 unfolding IsLeast Sorted
 read_least spells reads line =
@@ -401,20 +506,39 @@ read_least spells reads line =
       | inl text ↦ elim (cases (word_ends (body line))) [
         | inr ragged ↦
             let is : line_of line ≡ Err wrong.UnknownWord = rw (text, ragged) refl in
-            known (Err wrong.UnknownWord) is (record { holds = λ b. false_true (sym ragged ∙ begins_end (body line) b); lowest = from_three line text })
+            known (Err wrong.UnknownWord) is
+            (record {
+              holds =
+                  λ b. false_true (sym ragged ∙ begins_end (body line) b);
+              lowest = from_three line text;
+            })
         | inl ends ↦
             let so : line_of line ≡ parsed (pieces (body line)) = rw (text, ends) refl in
             elim (parsed_sorted (pieces (body line))) [
-              | inr k ↦ known (Err wrong.UnknownWord) (so ∙ k.0) (record { holds = λ b. k.1 (begins_pieces (body line) b); lowest = from_three line text })
+              | inr k ↦
+                  known (Err wrong.UnknownWord) (so ∙ k.0)
+                  (record { holds = λ b. k.1 (begins_pieces (body line) b); lowest = from_three line text })
               | inl k ↦
-                  let begins = pieces_begin (pieces (body line)) (body line) (pieces_written (body line)) (pieces_spaced (body line)) ends k.1 in
+                  let begins =
+                  pieces_begin (pieces (body line)) (body line) (pieces_written (body line))
+                  (pieces_spaced (body line)) ends k.1 in
                   elim k.0 [
-                    | inl x ↦ known (Ok x.0) (so ∙ x.1) (none_unreadable line x.0 text begins (spells line x.0 (so ∙ x.1)))
-                    | inr e ↦ known (Err wrong.BadOperand) (so ∙ e) (record { holds = λ p s. ok_err p wrong.BadOperand (line_of line) (reads line p s) (so ∙ e); lowest = from_four line text begins })
+                    | inl x ↦
+                        known (Ok x.0) (so ∙ x.1)
+                        (none_unreadable line x.0 text begins (spells line x.0 (so ∙ x.1)))
+                    | inr e ↦
+                        known (Err wrong.BadOperand) (so ∙ e)
+                        (record {
+                          holds =
+                              λ p s. ok_err p wrong.BadOperand (line_of line) (reads line p s) (so ∙ e);
+                          lowest =
+                              from_four line text begins;
+                        })
                   ]
             ]
       ]
     ]
   where
-    known : (r : Result Parsed Wrong) → line_of line ≡ r → IsLeast (IsUnreadable line) (wrong_in r) → IsLeast (IsUnreadable line) (wrong_in (line_of line))
+    known : (r : Result Parsed Wrong) → line_of line ≡ r → IsLeast (IsUnreadable line) (wrong_in r)
+        → IsLeast (IsUnreadable line) (wrong_in (line_of line))
     known r is h = subst (λ q. IsLeast (IsUnreadable line) (wrong_in q)) (sym is) h

@@ -18,9 +18,11 @@ use Rattle.assembler.specs.declared.fault.Fault.TheVariants.{NotText, UnknownWor
 
 -- ---- a line that cannot be read
 
--- a byte that is no text; or, where no `;` stands in front of it, one that only a comment may have
+-- a byte that no line may have, or, with no `;` in front of it, one that only a comment may have
 abbrev pub HasStrayByte : List ℕ → Type 0
-HasStrayByte line = (front rest : List ℕ) × (b : ℕ) × (line ≡ front ++ (b ∷ rest)) × ((is_comment_text b ≡ false) ⊎ ((is_text b ≡ false) × (list_all (λ c. not (c == 59)) front ≡ true)))
+HasStrayByte line =
+    (front rest : List ℕ) × (b : ℕ) × (line ≡ front ++ (b ∷ rest))
+    × ((is_comment_text b ≡ false) ⊎ ((is_text b ≡ false) × (list_all (λ c. not (c == 59)) front ≡ true)))
 
 -- blanks, and a word that ends at a blank or with the text
 pub record BeginsStatement (text : List ℕ) : Type 0 where
@@ -43,14 +45,14 @@ pub record BeginsLine (text : List ℕ) : Type 0 where
   pub label-is : (label ≡ []) ⊎ (is_label label ≡ true)
   pub statement : IsBlanks behind ⊎ BeginsStatement behind
 
--- why a line cannot be read
+-- why a line cannot be read: it has such a byte, has no label or word where one must stand, or means nothing
 abbrev pub IsUnreadable : List ℕ → Fault → Type 0
 IsUnreadable line NotText = HasStrayByte line
 IsUnreadable line UnknownWord = BeginsLine (body line) → ⊥
 IsUnreadable line BadOperand = (p : Parsed) → Spells p line → ⊥
 IsUnreadable line _ = ⊥
 
--- ---- a line that can, behind others
+-- ---- a line that can be read, behind others
 
 -- the address behind lines
 abbrev pub address_behind_all : ℕ → List Parsed → ℕ
@@ -70,7 +72,8 @@ HasCodeFault at _ fault = ⊥
 
 -- a line before it has its label
 abbrev pub IsRepeated : List Parsed → Option (List ℕ) → Type 0
-IsRepeated before label = (name : List ℕ) × (at : ℕ) × (label ≡ Some name) × Contains (labels_of (laid before)) (name, at)
+IsRepeated before label =
+    (name : List ℕ) × (at : ℕ) × (label ≡ Some name) × Contains (labels_of (laid before)) (name, at)
 
 -- the addresses that a line asks for: those of its words, or its ORG's
 abbrev pub asked : ℕ → Option Said → List ℕ
@@ -79,13 +82,15 @@ asked at said = places_from at (word_count said)
 
 -- one of them may hold no word, or a line before it has a word there
 abbrev pub IsMisplaced : List Parsed → Option Said → Type 0
-IsMisplaced before said = (a : ℕ) × Contains (asked (address_of_next before) said) a × ((may_hold a ≡ false) ⊎ Contains (flat_map places (laid before)) a)
+IsMisplaced before said =
+    (a : ℕ) × Contains (asked (address_of_next before) said) a
+    × ((may_hold a ≡ false) ⊎ Contains (flat_map places (laid before)) a)
 
 -- lines have more than 65,536 words, or their words more than 16 segments
 abbrev pub AreTooLong : List Parsed → Type 0
 AreTooLong lines = (65536 < length (flat_map places (laid lines))) ⊎ (16 < segments false (laid lines))
 
--- a line does not go with those before it
+-- what does not go with the lines before it
 abbrev pub Clashes : List Parsed → Parsed → Fault → Type 0
 Clashes before p LabelTwice = IsRepeated before p.label
 Clashes before p OutOfRange = IsMisplaced before p.said
@@ -96,30 +101,40 @@ Clashes before p _ = ⊥
 abbrev pub HasFault : List Parsed → List ℕ → Fault → Type 0
 HasFault before line fault =
     IsUnreadable line fault
-    ⊎ ((p : Parsed) × Spells p line × (HasCodeFault (address_of_next before) p.said fault ⊎ Clashes before p fault))
+    ⊎ ((p : Parsed) × Spells p line
+    × (HasCodeFault (address_of_next before) p.said fault ⊎ Clashes before p fault))
 
--- ---- and where one is
+-- ---- what needs a label's address
 
+-- no line has the label
 abbrev pub IsMissing : List (List ℕ × ℕ) → List ℕ → Type 0
 IsMissing labels name = (at : ℕ) → Contains labels (name, at) → ⊥
 
--- a word with a label has no code, or a label that a line names is no line's
+-- a line names a label that no line has, or its word has no code with the label's address
 abbrev pub HasLabelFault : List (List ℕ × ℕ) → ℕ → Option Said → Fault → Type 0
 HasLabelFault labels at (Some (Refers r (Label name))) fault =
-    ((fault ≡ LabelMissing) × IsMissing labels name) ⊎ ((target : ℕ) × Contains labels (name, target) × (encoded (refer r at target) at ≡ Err fault))
-HasLabelFault labels at (Some (Lists values)) fault = (name : List ℕ) × (fault ≡ LabelMissing) × Contains values (Label name) × IsMissing labels name
+    ((fault ≡ LabelMissing) × IsMissing labels name)
+    ⊎ ((target : ℕ) × Contains labels (name, target) × (encoded (refer r at target) at ≡ Err fault))
+HasLabelFault labels at (Some (Lists values)) fault =
+    (name : List ℕ) × (fault ≡ LabelMissing) × Contains values (Label name) × IsMissing labels name
 HasLabelFault labels at _ fault = ⊥
+
+abbrev pub IsFaultless : List (List ℕ × ℕ) → Laid → Type 0
+IsFaultless labels line = (fault : Fault) → HasLabelFault labels line.at line.said fault → ⊥
 
 -- ---- the whole
 
+-- a fault that holds, and of those that hold the one of the lowest number
 pub record IsLowest (Has : Fault → Type 0) (fault : Fault) : Type 0 where
   pub holds : Has fault
   pub lowest : (other : Fault) → Has other → number fault ≤ number other
 
--- lines behind others, what they say, and none with a fault that needs no label's address
+-- lines behind others, and what each says; none has a fault that needs no label's address
 abbrev pub ArePassed : List Parsed → List (List ℕ) → List Parsed → Type 0
 ArePassed before [] [] = Unit {0}
-ArePassed before (line ∷ lines) (p ∷ ps) = Spells p line × ((fault : Fault) → HasFault before line fault → ⊥) × ArePassed (before ++ p ∷ []) lines ps
+ArePassed before (line ∷ lines) (p ∷ ps) =
+    Spells p line × ((fault : Fault) → HasFault before line fault → ⊥)
+    × ArePassed (before ++ p ∷ []) lines ps
 ArePassed before _ _ = ⊥
 
 -- the line of a number is the first with a fault that needs no label's address, and this is its lowest
@@ -142,8 +157,9 @@ pub record IsRefusedForLabels (source : List ℕ) (fault : Fault) (line_number :
   pub behind : List Laid
   pub parts : laid said ≡ front ++ (line ∷ behind)
   pub number-is : line_number ≡ length front + 1
-  pub none : AllByRecursion (λ l. (other : Fault) → HasLabelFault (labels_of (laid said)) l.at l.said other → ⊥) front
+  pub none : AllByRecursion (IsFaultless (labels_of (laid said))) front
   pub fault-is : IsLowest (HasLabelFault (labels_of (laid said)) line.at line.said) fault
 
 abbrev pub IsRefusal : List ℕ → Fault → ℕ → Type 0
-IsRefusal source fault line_number = IsRefusedAtOnce source fault line_number ⊎ IsRefusedForLabels source fault line_number
+IsRefusal source fault line_number =
+    IsRefusedAtOnce source fault line_number ⊎ IsRefusedForLabels source fault line_number
