@@ -5,6 +5,7 @@ pub mod MachineFaults
 pub mod Names
 pub mod Stated
 pub mod MachineFile
+pub mod MachineRules
 pub mod Inputs
 pub mod Started
 pub mod StartWork

@@ -1,10 +1,15 @@
 ghost use Rattle.std.specs.Prelude.{◌≡◌, ◌↔◌, ℕ, List, Ok, Err};
 ghost use Rattle.toml.specs.Data.{Members};
 ghost use Rattle.toml_reading.specs.Lowest.{IsLowest};
+ghost use Rattle.machine_file.specs.MachineFaults.{machine_faults};
+ghost use Rattle.machine_file.specs.MachineFile.{machine_in};
+ghost use Rattle.machine_file.specs.MachineRules.{HasMachineFault, StatesMachine};
 ghost use Rattle.machine_file.specs.ProfileFaults.{profile_faults};
 ghost use Rattle.machine_file.specs.ProfileFile.{IsPriced, Read, numbers_in};
 ghost use Rattle.machine_file.specs.ProfileRules.{HasProfileFault, StatesProfile};
+ghost use Rattle.machine_file.specs.Stated.{Stated};
 
+use crate::machine_faults::MachineFileFault;
 use crate::profile_faults::ProfileFileFault;
 
 /// States which profile [`read_profile`](crate::profiles::read_profile) gives for a document, told of its keys one by one: the one
@@ -12,4 +17,11 @@ use crate::profile_faults::ProfileFileFault;
 pub fn profiles_are_read()
     ensures profile { (ms : Members) → (answer : Read (List ℕ)) → IsPriced (numbers_in ms) answer → (numbers : List ℕ) → answer ≡ Ok numbers ↔ StatesProfile ms numbers }
     ensures fault { (ms : Members) → (answer : Read (List ℕ)) → IsPriced (numbers_in ms) answer → (fault : ProfileFileFault) → answer ≡ Err fault ↔ IsLowest profile_faults (HasProfileFault ms) fault }
+{}
+
+/// States which machine [`read_machine`](crate::machine_files::read_machine) gives for a document, told of its keys one by one: the
+/// one that it states; or the lowest of the faults that it has, of all of them. It does nothing.
+pub fn machine_files_are_read()
+    ensures machine { (ms : Members) → (stated : Stated) → machine_in ms ≡ Ok stated ↔ StatesMachine ms stated }
+    ensures fault { (ms : Members) → (fault : MachineFileFault) → machine_in ms ≡ Err fault ↔ IsLowest machine_faults (HasMachineFault ms) fault }
 {}

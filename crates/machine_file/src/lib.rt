@@ -17,7 +17,7 @@ mod start;
 
 pub use events::Event;
 pub use flags::PsrFlags;
-pub use law::profiles_are_read;
+pub use law::{machine_files_are_read, profiles_are_read};
 pub use machine_faults::MachineFileFault;
 pub use machine_files::{MachineFile, read_machine};
 pub use pages::MappedPage;

@@ -54,6 +54,14 @@ module _ {F A : Type 0} (fs : Faults F) (S : A → Type 0) (H : F → Type 0) wh
   pub judged_fault : ((f g : F) → fs.rank f ≡ fs.rank g → f ≡ g) → (r : Reading F A) → Judges fs S H r → (f : F) → r ≡ Err f ↔ IsLowest fs H f
   judged_fault one r h f = told_fault one r f h.told
 
+  told_one : (r : Reading F A) (a b : A) → Told fs S H r → S a → S b → a ≡ b
+  told_one (Ok c) a b h s t = h.0.only a s ∙ sym (h.0.only b t)
+  told_one (Err g) a b h s t = absurd (h.0 a s)
+
+  -- one value is stated at most
+  pub judged_one : (r : Reading F A) → Judges fs S H r → (a b : A) → S a → S b → a ≡ b
+  judged_one r h a b s t = told_one r a b h.told s t
+
 -- ## In other words
 
 module _ {F A B : Type 0} (fs : Faults F) (S : A → Type 0) (T : B → Type 0) (H : F → Type 0) (f : A → B) (to : (a : A) → S a → T (f a)) (back : (b : B) → T b → (a : A) × S a × (b ≡ f a)) where
@@ -73,6 +81,48 @@ module _ {F A : Type 0} (fs : Faults F) (S T : A → Type 0) (H K : F → Type 0
   -- the same told otherwise
   pub judged_as : (r : Reading F A) → Judges fs S H r → Judges fs T K r
   judged_as r h = record { told = told_as r h.told }
+
+-- ## Values that are tested
+
+module _ {F A : Type 0} (fs : Faults F) (a : A) (m : Bool) (U : Type 0) (u : m ≡ false ↔ U) where
+  one_test_told : (e : F) (b : Bool) → m ≡ b → Told fs (λ c. (c ≡ a) × (m ≡ true)) (λ f. U × (f ≡ e)) (cond b (Ok a) (Err e))
+  one_test_told e true is = (record { stated = (refl, is); only = λ c s. s.0 }, λ f x. false≢true (sym (u.1 x.0) ∙ is))
+  one_test_told e false is = (
+    λ c s. false≢true (sym is ∙ s.1),
+    record { has = (u.0 is, refl); least = λ o x. le_of_eq (ap fs.rank (sym x.1)) },
+  )
+
+  -- a value with one test, that fails where U holds
+  pub one_test : (e : F) → Judges fs (λ c. (c ≡ a) × (m ≡ true)) (λ f. U × (f ≡ e)) (cond m (Ok a) (Err e))
+  one_test e = record { told = one_test_told e m refl }
+
+  module _ (n : Bool) (W : Type 0) (w : n ≡ false ↔ W) (d e : F) (le : fs.rank d ≤ fs.rank e) where
+    two_tests_told : (b c : Bool) → m ≡ b → n ≡ c → Told fs (λ x. (x ≡ a) × (m ≡ true) × (n ≡ true)) (λ f. (U × (f ≡ d)) ⊎ (W × (f ≡ e))) (cond b (cond c (Ok a) (Err e)) (Err d))
+    two_tests_told true true is also = (
+      record { stated = (refl, is, also); only = λ x s. s.0 },
+      λ f x. elim x [ inl y ↦ false≢true (sym (u.1 y.0) ∙ is) | inr y ↦ false≢true (sym (w.1 y.0) ∙ also) ],
+    )
+    two_tests_told true false is also = (
+      λ x s. false≢true (sym also ∙ s.2),
+      record {
+        has = inr (w.0 also, refl);
+        least = λ o x. elim x [ inl y ↦ absurd (false≢true (sym (u.1 y.0) ∙ is)) | inr y ↦ le_of_eq (ap fs.rank (sym y.1)) ];
+      },
+    )
+    two_tests_told false c is also = (
+      λ x s. false≢true (sym is ∙ s.1),
+      record {
+        has = inl (u.0 is, refl);
+        least = λ o x. elim x [
+          | inl y ↦ le_of_eq (ap fs.rank (sym y.1))
+          | inr y ↦ let r : fs.rank o ≡ fs.rank e = ap fs.rank y.1 in omega (arith, r, le)
+        ];
+      },
+    )
+
+    -- a value with two tests, of which the first that fails is told
+    pub two_tests : Judges fs (λ x. (x ≡ a) × (m ≡ true) × (n ≡ true)) (λ f. (U × (f ≡ d)) ⊎ (W × (f ≡ e))) (cond m (cond n (Ok a) (Err e)) (Err d))
+    two_tests = record { told = two_tests_told m n refl refl }
 
 -- ## A value that is there, and one that may be missing
 
@@ -153,6 +203,10 @@ module _ {F A B : Type 0} (fs : Faults F) (S : A → Type 0) (T : B → Type 0) 
 
   pub both_judged : (a : Reading F A) (b : Reading F B) → Judges fs S H a → Judges fs T K b → Judges fs (λ p. S p.0 × T p.1) (λ f. H f ⊎ K f) (both fs a b)
   both_judged a b h k = record { told = both_told a b h.told k.told }
+
+-- two parts, of which all is known
+pub joint : {F A B : Type 0} {fs : Faults F} {S : A → Type 0} {T : B → Type 0} {H K : F → Type 0} {a : Reading F A} {b : Reading F B} → Judges fs S H a → Judges fs T K b → Judges fs (λ p. S p.0 × T p.1) (λ f. H f ⊎ K f) (both fs a b)
+joint {fs = fs} {S = S} {T = T} {H = H} {K = K} {a = a} {b = b} h k = both_judged fs S T H K a b h k
 
 -- ## What is read from a value that was read
 

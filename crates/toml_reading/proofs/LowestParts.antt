@@ -1,10 +1,10 @@
 -- What is read of numbers, lists and tables, against what they state and their faults.
-use Rattle.std.proofs.Common.{◌≡◌, ℕ, zero, suc, ◌<◌, ◌≤◌, ◌⊎◌, ◌↔◌, ℤ, pos, negsuc, Bool, true, false, cond, leb, List, [], ◌∷◌, ◌++◌, length, map, fold, Any, slice_index_or, Ok, Err, inl, inr, refl, sym, ap, subst, ◌∙◌, arith, le_of_eq, append_assoc, append-nil}
-use Rattle.std.specs.List.{AllZip}
+use Rattle.std.proofs.Common.{◌≡◌, ℕ, zero, suc, ◌<◌, ◌≤◌, ◌⊎◌, ◌↔◌, ℤ, pos, negsuc, Bool, true, false, cond, leb, List, [], ◌∷◌, ◌++◌, length, map, fold, Any, slice_index_or, Option, Some, None, Ok, Err, IsSomeAnd, MatchOption, unwrap_or, option_and_then, inl, inr, refl, sym, ap, subst, ◌∙◌, arith, le_of_eq, append_assoc, append-nil}
+use Rattle.std.specs.List.{AllZip, cons_option}
 use Rattle.std.proofs.lemmas.Bool.{leb-true, leb-false, true≢false}
 use Rattle.toml.specs.Data.{Data, Members, as_integer, as_table, get_member}
 use Rattle.toml_reading.specs.Documents.{has_only_keys, items_at, list_at, listed, number_at, number_in, number_or, of_keys, tables_at}
-use Rattle.toml_reading.specs.Lowest.{AtKey, AtKeyOr, IsListOf, IsNumber, IsOutside, IsTable, KeysFault, ListFault, NumberFault, TableFault}
+use Rattle.toml_reading.specs.Lowest.{AtKey, AtKeyOr, IsListOf, IsNumber, IsOutside, IsTable, KeysFault, ListFault, NumberFault, TableFault, entries_at, natural, number_of_entry, numbers_at}
 use Rattle.toml_reading.specs.Readings.{Faults, Reading, after, all, both, required, seen, up_to}
 use Rattle.toml_reading.proofs.LowestLemmas.{Judges, Told, both_judged, checked_judged, judged_as, optional_judged, required_judged, seen_judged}
 
@@ -192,3 +192,47 @@ module _ {F A : Type 0} (fs : Faults F) (S : Data → A → Type 0) (H : Data �
 
   pub tables_judged : (key : List ℕ) (ms : Members) → Judges fs (λ xs. AtKeyOr key ms (xs ≡ []) (λ d. IsListOf S d xs)) (λ f. AtKey key ms (λ d. ListFault fs H d f)) (tables_at fs reads (get_member key ms))
   tables_judged key ms = optional_judged fs (IsListOf S) (ListFault fs H) (list_at fs reads) list_judged [] (get_member key ms)
+
+-- ## The numbers at a key of a list's tables
+
+module _ {A : Type 0} (S : Data → A → Type 0) where
+  items_state : (o : Option (List Data)) (xs : List A) → IsSomeAnd o (λ ds. AllZip S ds xs) → AllZip S (unwrap_or o []) xs
+  items_state None xs h = absurd h
+  items_state (Some ds) xs h = h
+
+  entries_state_of : (o : Option Data) (xs : List A) → MatchOption o (xs ≡ []) (λ d. IsListOf S d xs) → AllZip S (unwrap_or (option_and_then items_at o) []) xs
+  entries_state_of None xs h = rw h tt
+  entries_state_of (Some d) xs h = items_state (items_at d) xs h
+
+  -- the entries at a key state what is read of them
+  pub entries_state : (key : List ℕ) (ms : Members) (xs : List A) → AtKeyOr key ms (xs ≡ []) (λ d. IsListOf S d xs) → AllZip S (entries_at key ms) xs
+  entries_state key ms xs h = entries_state_of (get_member key ms) xs h
+
+  -- their numbers at a key
+  pub numbers_read : (key : List ℕ) (f : A → ℕ) → ((d : Data) (x : A) → S d x → number_of_entry key d ≡ Some (f x)) → (ds : List Data) (xs : List A) → AllZip S ds xs → numbers_at key ds ≡ map f xs
+  numbers_read key f each [] [] h = refl
+  numbers_read key f each [] (x ∷ xs) h = absurd h
+  numbers_read key f each (d ∷ ds) [] h = absurd h
+  numbers_read key f each (d ∷ ds) (x ∷ xs) h =
+      ap (λ o. cons_option o (numbers_at key ds)) (each d x h.0) ∙ ap (λ ns. f x ∷ ns) (numbers_read key f each ds xs h.1)
+
+module _ (limit n : ℕ) where
+  natural_read : (o : Option ℤ) → IsSomeAnd o (λ z. (z ≡ pos n) × (n ≤ limit)) → option_and_then natural o ≡ Some n
+  natural_read None h = absurd h
+  natural_read (Some z) h = ap natural h.0
+
+  value_read : (o : Option Data) → IsSomeAnd o (λ d. IsNumber limit d n) → option_and_then natural (option_and_then as_integer o) ≡ Some n
+  value_read None h = absurd h
+  value_read (Some d) h = natural_read (as_integer d) h
+
+  entry_read : (key : List ℕ) (o : Option Members) → IsSomeAnd o (λ ms. AtKey key ms (λ d. IsNumber limit d n)) → option_and_then natural (option_and_then as_integer (option_and_then (get_member key) o)) ≡ Some n
+  entry_read key None h = absurd h
+  entry_read key (Some ms) h = value_read (get_member key ms) h
+
+  -- the number at a key of a table
+  pub number_read : (key : List ℕ) (d : Data) → IsSomeAnd (as_table d) (λ ms. AtKey key ms (λ e. IsNumber limit e n)) → number_of_entry key d ≡ Some n
+  number_read key d h = entry_read key (as_table d) h
+
+pub some_weaker : {X : Type 0} (P Q : X → Type 0) → ((x : X) → P x → Q x) → (o : Option X) → IsSomeAnd o P → IsSomeAnd o Q
+some_weaker P Q to None h = absurd h
+some_weaker P Q to (Some x) h = to x h

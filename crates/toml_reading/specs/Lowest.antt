@@ -1,7 +1,8 @@
 -- What a document of TOML states and which faults it has, told of its keys, numbers, lists and tables; the lowest fault is
 -- the one that is answered (our own).
-use Rattle.std.specs.Prelude.{◌≡◌, ◌≤◌, ◌<◌, ◌⊎◌, ℕ, ℤ, pos, true, false, List, Any, IsSomeAnd, MatchOption}
+use Rattle.std.specs.Prelude.{◌≡◌, ◌≤◌, ◌<◌, ◌⊎◌, ℕ, ℤ, pos, negsuc, true, false, List, [], Any, filter_map, Option, Some, None, IsSomeAnd, MatchOption, unwrap_or}
 use Rattle.std.specs.List.{AllZip}
+use Rattle.std.specs.Option.{option_and_then}
 use Rattle.toml.specs.Data.{Data, Members, as_integer, as_table, get_member}
 use Rattle.toml_reading.specs.Documents.{has_only_keys, items_at}
 use Rattle.toml_reading.specs.Readings.{Faults}
@@ -59,3 +60,18 @@ IsListOf States d xs = IsSomeAnd (items_at d) (λ ds. AllZip States ds xs)
 -- the faults of a list: those of each of its values
 abbrev pub ListFault : {F : Type 0} → Faults F → (Data → F → Type 0) → Data → F → Type 0
 ListFault faults Has d fault = MatchOption (items_at d) (fault ≡ faults.wrong_kind) (Any (λ e. Has e fault))
+
+-- the values of the list at a key, none where there is no list
+abbrev pub entries_at : List ℕ → Members → List Data
+entries_at key ms = unwrap_or (option_and_then items_at (get_member key ms)) []
+
+abbrev pub natural : ℤ → Option ℕ
+natural (pos n) = Some n
+natural (negsuc n) = None
+
+abbrev pub number_of_entry : List ℕ → Data → Option ℕ
+number_of_entry key d = option_and_then natural (option_and_then as_integer (option_and_then (get_member key) (as_table d)))
+
+-- the numbers from 0 up that stand at a key in the tables of a list
+abbrev pub numbers_at : List ℕ → List Data → List ℕ
+numbers_at key ds = filter_map (number_of_entry key) ds
