@@ -46,7 +46,7 @@ put_more image taken at w most h four free now few =
       runs = few;
     }
 
--- a word behind another
+-- a word after another
 run_on : (image : Words) (at w : ℕ) → at % 4 ≡ 0 → Ascending image → word_of image at ≡ None
     → Joins image at → runs_of (with_word image at w) ≤ runs_of image
 unfolding Joins
@@ -109,7 +109,7 @@ unfoldable pub Fits : Words → List ℕ → Type 0
 Fits image [] = Unit {0}
 Fits image (a ∷ ats) = (w : ℕ) → (put_fault image a w ≡ None) × Fits (with_word image a w) ats
 
--- what follows fits behind such places
+-- what follows fits after such places
 unfoldable GoesOn : List ℕ → ℕ → Bool → ℕ → List ℕ → Type 0
 GoesOn taken most begun at rest =
     (image : Words) → Put image taken most → JoinsIf begun image at → Fits image rest
@@ -119,7 +119,7 @@ goes_on : (taken now : List ℕ) (most : ℕ) (begun : Bool) (at to : ℕ) (rest
 goes_on taken now most begun at to rest same there h =
     subst (λ ts. GoesOn ts most begun to rest) same (subst (λ a. GoesOn taken most begun a rest) there h)
 
--- behind a word
+-- after a word
 fits_on : (n at : ℕ) (image : Words) (taken : List ℕ) (most : ℕ) (rest : List ℕ) → most ≤ 16
     → Put image taken most → Joins image at → Stands taken at n
     → GoesOn (taken ++ places_from at n) most true (at + 4 * n) rest → Fits image (places_from at n ++ rest)
@@ -143,7 +143,7 @@ fits_on (suc n) at image taken most rest le h j s on = λ w.
           (sym (append_assoc taken (at ∷ []) (places_from (at + 4) n))) (omega arith) on),
     )
 
--- a line's words, behind others or first of a segment
+-- a line's words, after others or first of a segment
 fits_line : (n at : ℕ) (begun : Bool) (image : Words) (taken : List ℕ) (most : ℕ) (rest : List ℕ)
     → most + (if begun || n == 0 then 0 else 1) ≤ 16 → Put image taken most → JoinsIf begun image at
     → Stands taken at n
@@ -180,7 +180,7 @@ fits_line (suc n) at false image taken most rest le h j s on = λ w.
           (sym (append_assoc taken (at ∷ []) (places_from (at + 4) n))) (omega arith) behind),
     )
 
--- behind an ORG no word is behind another
+-- after an ORG no word is after another
 opened : (said : Option Said) (begun : Bool) (at : ℕ) (image : Words)
     → JoinsIf (begun || not (word_count said == 0)) image (at + 4 * word_count said)
     → JoinsIf (is_open begun said) image (address_behind at said)

@@ -25,7 +25,7 @@ differs a b e same = let k : (a == b) ≡ true = grind (arith, nat_tests, same) 
 no_eq : (a b : ℕ) → a ≢ b → (a == b) ≡ false
 no_eq a b h = elim (cases (a == b)) [ inl e ↦ absurd (h (eqb-true a b e)) | inr e ↦ e ]
 
--- a word more behind a first one
+-- a word more after a first one
 above : (e : ℕ × ℕ) (rest : Words) (at : ℕ) → nat_lt at e.0 ≡ false → word_of (e ∷ rest) at ≡ None → e.0 < at
 above e rest at ge none =
     let d = differs e.0 at (none_parts e rest at none).0 in
@@ -90,7 +90,7 @@ absent o w e k = let g : ◌≡◌ {A = Option ℕ} None (Some w) = sym e ∙ k 
 begins_next : (b : ℕ) → begins (Some b) (b + 4) ≡ 0
 begins_next b = let e : (b + 4 == b + 4) ≡ true = grind (arith, nat_tests) in rw e refl
 
--- a word right behind another begins no run
+-- a word right after another begins no run
 runs_join : (b : ℕ) (image : Words) (p v w : ℕ) → b % 4 ≡ 0 → (p + 4) % 4 ≡ 0 → AscendsFrom b image → b < p + 4 → word_of image (p + 4) ≡ None → word_of image p ≡ Some v
     → runs_behind (Some b) (with_word image (p + 4) w) ≤ runs_behind (Some b) image
 unfolding AscendsFrom

@@ -1,4 +1,4 @@
--- Behind lines without a fault: what the first sweep's state says of them.
+-- After lines without a fault: what the first sweep's state says of them.
 use Rattle.std.specs.Prelude.{flat_map, is_some, nat_le, nat_lt, if◌then◌else◌}
 use Rattle.std.proofs.Common.{◌≡◌, ◌||◌, ◌↔◌, ◌+◌, ◌<◌, ◌≤◌, ◌==◌, ℕ, suc, Bool, true, false, List, [], ◌∷◌, ◌++◌, length, map, Option, Some, None, Result, Ok, Err, refl, sym, ap, subst, ◌∙◌, inl, inr, ◌⊎◌, arith, append_assoc}
 use Rattle.std.specs.List.{AllByRecursion, Contains}

@@ -74,7 +74,7 @@ plain_of (Err w) = true
 abbrev heard : List Piece → Result Parsed Wrong
 heard ps = parsed (gap_before ps)
 
--- what the text says behind a blank
+-- what the text says after a blank
 abbrev Plain : List ℕ → Type 0
 Plain text = plain_of (heard (pieces text)) ≡ true
 
@@ -238,13 +238,13 @@ blank_gap : (text : List ℕ) → pieces (32 ∷ text) ≡ gap_before (pieces te
 unfolding pieces
 blank_gap text = refl
 
--- the statement of a word and what stands behind its blank
+-- the statement of a word and what stands after its blank
 word_said : (w rest : List ℕ) (is : Word) → Lettered w → 0 < length w → word_of w ≡ Some is → heard (pieces (w ++ 32 ∷ rest)) ≡ with_label None (behind_word is (gap_before (pieces rest)))
 word_said w rest is letters some spelled =
     ap heard (pieces-run w (32 ∷ rest) (letters_named w letters) some (first_no_run (32 ∷ rest) refl) ∙ ap (λ (ps : List Piece). Run w ∷ ps) (blank_gap rest))
     ∙ ap (λ (o : Option Word). with_label None (with_word o (gap_before (pieces rest)))) (upper_spelled w (letters_upper w letters) ∙ spelled)
 
--- a word's text with what stands behind it
+-- a word's text with what stands after it
 word_split : (a b d rest : List ℕ) → (a ++ (b ++ (d ++ codes " "))) ++ rest ≡ (a ++ (b ++ d)) ++ 32 ∷ rest
 word_split a b d rest =
     append_assoc a (b ++ (d ++ codes " ")) rest

@@ -1,5 +1,7 @@
 -- What it is for a source to give an image and names (our own source format).
-use Rattle.std.specs.Prelude.{◌≡◌, ◌≢◌, ◌↔◌, ◌+◌, ◌*◌, ◌≤◌, ◌==◌, ◌||◌, not, ℕ, zero, suc, Bool, true, false, List, [], ◌∷◌, ◌++◌, length, map, flat_map, Option, Some, None, Ok, if◌then◌else◌}
+use Rattle.std.specs.Prelude.{◌≡◌, ◌≢◌, ◌↔◌, ◌+◌, ◌*◌, ◌≤◌, ◌==◌, ◌||◌, not, ℕ, zero, suc, Bool, true, false}
+use Rattle.std.specs.Prelude.{List, [], ◌∷◌, ◌++◌, length, map, flat_map, Option, Some, None, Ok}
+use Rattle.std.specs.Prelude.{if◌then◌else◌}
 use Rattle.std.specs.List.{AllByRecursion, AllZip, Contains, fold}
 use Rattle.loader.specs.Image.{Words, may_hold, with_word}
 use Rattle.asm_text.specs.Said.{Target, Number, Label, Said, Codes, Refers, Orgs, Lists}
@@ -23,15 +25,16 @@ word_count (Some (Refers r t)) = 1
 word_count (Some (Lists values)) = length values
 word_count _ = 0
 
--- the address of an ORG, or that behind the line's words
+-- the address of an ORG, or that after the line's words
 abbrev pub address_behind : ℕ → Option Said → ℕ
 address_behind at (Some (Orgs n)) = n
 address_behind at said = at + 4 * word_count said
 
--- lines one behind the other, from an address on
+-- lines one after the other, from an address on
 abbrev pub laid_from : ℕ → List Parsed → List Laid
 laid_from at [] = []
-laid_from at (p ∷ ps) = record { at = at; label = p.label; said = p.said } ∷ laid_from (address_behind at p.said) ps
+laid_from at (p ∷ ps) =
+    record { at = at; label = p.label; said = p.said } ∷ laid_from (address_behind at p.said) ps
 
 -- so many addresses of words, side by side
 abbrev pub places_from : ℕ → ℕ → List ℕ
@@ -66,7 +69,8 @@ IsTarget names (Label name) address = names name ≡ Some address
 -- the words of a line at an address
 abbrev pub AreWords : Names → Option Said → ℕ → List ℕ → Type 0
 AreWords names (Some (Codes c)) at words = (w : ℕ) × (words ≡ w ∷ []) × (encoded c at ≡ Ok w)
-AreWords names (Some (Refers r t)) at words = (w target : ℕ) × (words ≡ w ∷ []) × IsTarget names t target × (encoded (refer r at target) at ≡ Ok w)
+AreWords names (Some (Refers r t)) at words =
+    (w target : ℕ) × (words ≡ w ∷ []) × IsTarget names t target × (encoded (refer r at target) at ≡ Ok w)
 AreWords names (Some (Lists values)) at words = AllZip (IsTarget names) values words
 AreWords names _ at words = words ≡ []
 
@@ -97,15 +101,16 @@ abbrev pub AreFree : List ℕ → List Laid → Type 0
 AreFree taken [] = Unit {0}
 AreFree taken (line ∷ lines) = IsFree taken line.said × AreFree (taken ++ places line) lines
 
--- whether a word stands behind the last ORG
+-- whether a word stands after the last ORG
 abbrev pub is_open : Bool → Option Said → Bool
 is_open begun (Some (Orgs n)) = false
 is_open begun said = begun || not (word_count said == 0)
 
--- the segments that begin in some lines: each with the first word behind an ORG, or with the first of all
+-- the segments that begin in some lines: each with the first word after an ORG, or with the first of all
 abbrev pub segments : Bool → List Laid → ℕ
 segments begun [] = 0
-segments begun (line ∷ lines) = (if begun || word_count line.said == 0 then 0 else 1) + segments (is_open begun line.said) lines
+segments begun (line ∷ lines) =
+    (if begun || word_count line.said == 0 then 0 else 1) + segments (is_open begun line.said) lines
 
 -- ---- the whole
 
@@ -119,7 +124,8 @@ pub record IsAssembly (source : List ℕ) (image : Words) (names : Names) : Type
   pub read : AllZip (λ line p. Spells p line) (lines_of source) lines
   -- each label stands once, and names the address of its line; nothing else is a name
   pub once : Once (map (λ e. e.0) (labels_of (laid lines)))
-  pub named : (name : List ℕ) → (at : ℕ) → (names name ≡ Some at) ↔ Contains (labels_of (laid lines)) (name, at)
+  pub named : (name : List ℕ) → (at : ℕ) → (names name ≡ Some at)
+      ↔ Contains (labels_of (laid lines)) (name, at)
   -- the words of each line, each at its address, and no others
   pub words : List (List ℕ)
   pub coded : AllZip (λ line ws. AreWords names line.said line.at ws) (laid lines) words

@@ -1,5 +1,6 @@
 -- The word of a statement at an address (VL86C010 data sheet, instruction formats), and why it has none.
-use Rattle.std.specs.Prelude.{ℕ, ◌+◌, ◌-◌, ◌*◌, ◌/◌, ◌%◌, ◌^◌, ◌==◌, ◌&&◌, ◌||◌, nat_le, nat_lt, Bool, true, false, List, [], ◌∷◌, Option, Some, None, Result, Ok, Err, if◌then◌else◌}
+use Rattle.std.specs.Prelude.{ℕ, ◌+◌, ◌-◌, ◌*◌, ◌/◌, ◌%◌, ◌^◌, ◌==◌, ◌&&◌, ◌||◌, nat_le, nat_lt, Bool, true}
+use Rattle.std.specs.Prelude.{false, List, [], ◌∷◌, Option, Some, None, Result, Ok, Err, if◌then◌else◌}
 use Rattle.std.specs.Int.{w32, rotate_left}
 use Rattle.std.specs.List.{find, range_with_len}
 use Rattle.arm2_decode.specs.declared.names.Opcode.TheVariants as opcode
@@ -8,8 +9,11 @@ use Rattle.arm2_decode.specs.declared.names.Register.TheVariants.{R15}
 use Rattle.arm2_decode.specs.declared.names.Shift.{Shift}
 use Rattle.arm2_decode.specs.declared.names.Shift.TheVariants.{Lsl, Lsr, Asr, Ror}
 use Rattle.arm2_decode.specs.Names.{cond_number, opcode_number, register_number, shift_number}
-use Rattle.arm2_decode.specs.Allowed.{bit_of, block_clash, data_clash, data_shift_clash, multiply_clash, single_clash, single_register_clash}
-use Rattle.arm2_decode.specs.Table.{Row, multiply_row, data_register_row, data_register_shift_row, data_immediate_row, single_immediate_row, single_register_row, block_row, branch_row, swi_row}
+use Rattle.arm2_decode.specs.Allowed.{bit_of, block_clash, data_clash, data_shift_clash, multiply_clash}
+use Rattle.arm2_decode.specs.Allowed.{single_clash, single_register_clash}
+use Rattle.arm2_decode.specs.Table.{Row, multiply_row, data_register_row, data_register_shift_row}
+use Rattle.arm2_decode.specs.Table.{data_immediate_row, single_immediate_row, single_register_row, block_row}
+use Rattle.arm2_decode.specs.Table.{branch_row, swi_row}
 use Rattle.asm_text.specs.declared.said.Amount.{Amount}
 use Rattle.asm_text.specs.declared.said.Amount.TheVariants.{By, Rrx}
 use Rattle.asm_text.specs.declared.said.Shifting.{Shifting}
@@ -29,7 +33,8 @@ use Rattle.asm_text.specs.declared.said.Use.{Use}
 use Rattle.asm_text.specs.declared.said.Use.TheVariants as use_of
 use Rattle.asm_text.specs.declared.said.Reference.{Reference}
 use Rattle.assembler.specs.declared.fault.Fault.{Fault}
-use Rattle.assembler.specs.declared.fault.Fault.TheVariants.{ImmediateNotRotated, BranchTooFar, OutOfRange, Unallocated}
+use Rattle.assembler.specs.declared.fault.Fault.TheVariants.{ImmediateNotRotated, BranchTooFar, OutOfRange}
+use Rattle.assembler.specs.declared.fault.Fault.TheVariants.{Unallocated}
 
 -- ---- words
 
@@ -65,7 +70,9 @@ abbrev pub rotated_word : ℕ → Data → ℕ → Option ℕ → Result ℕ Fau
 rotated_word c d n None = Err ImmediateNotRotated
 rotated_word c d n (Some k) =
     allowed (data_clash (opcode_number d.opcode) (bit_of d.sets_flags))
-    (word_in data_immediate_row (c ∷ opcode_number d.opcode ∷ bit_of d.sets_flags ∷ register_number d.rn ∷ register_number d.rd ∷ k ∷ rotate_left w32 n (2 * k) ∷ []))
+    (word_in data_immediate_row
+    (c ∷ opcode_number d.opcode ∷ bit_of d.sets_flags ∷ register_number d.rn ∷ register_number d.rd ∷ k
+    ∷ rotate_left w32 n (2 * k) ∷ []))
 
 abbrev pub immediate_word : ℕ → Data → ℕ → Result ℕ Fault
 immediate_word c d n = rotated_word c d n (rotation_of n)
@@ -91,12 +98,16 @@ amount_shift Rrx = Ror
 abbrev pub register_word : ℕ → Data → Register → Amount → Result ℕ Fault
 register_word c d m a =
     in_range (amount_fits a) (allowed (data_clash (opcode_number d.opcode) (bit_of d.sets_flags))
-    (word_in data_register_row (c ∷ opcode_number d.opcode ∷ bit_of d.sets_flags ∷ register_number d.rn ∷ register_number d.rd ∷ amount_field a ∷ shift_number (amount_shift a) ∷ register_number m ∷ [])))
+    (word_in data_register_row
+    (c ∷ opcode_number d.opcode ∷ bit_of d.sets_flags ∷ register_number d.rn ∷ register_number d.rd
+    ∷ amount_field a ∷ shift_number (amount_shift a) ∷ register_number m ∷ [])))
 
 abbrev pub register_shift_word : ℕ → Data → Register → Shift → Register → Result ℕ Fault
 register_shift_word c d m s r =
     allowed (data_shift_clash (opcode_number d.opcode) (bit_of d.sets_flags) (register_number r))
-    (word_in data_register_shift_row (c ∷ opcode_number d.opcode ∷ bit_of d.sets_flags ∷ register_number d.rn ∷ register_number d.rd ∷ register_number r ∷ shift_number s ∷ register_number m ∷ []))
+    (word_in data_register_shift_row
+    (c ∷ opcode_number d.opcode ∷ bit_of d.sets_flags ∷ register_number d.rn ∷ register_number d.rd
+    ∷ register_number r ∷ shift_number s ∷ register_number m ∷ []))
 
 abbrev pub shifted_word : ℕ → Data → Register → Shifting → Result ℕ Fault
 shifted_word c d m (shifting.Amount a) = register_word c d m a
@@ -110,22 +121,35 @@ operand_word c d (operand.Shifted m s) = shifted_word c d m s
 
 abbrev pub product_word : ℕ → Product → Result ℕ Fault
 product_word c p =
-    allowed (multiply_clash (bit_of p.accumulate) (register_number p.rd) (register_number p.rn) (register_number p.rs) (register_number p.rm))
-    (word_in multiply_row (c ∷ bit_of p.accumulate ∷ bit_of p.sets_flags ∷ register_number p.rd ∷ register_number p.rn ∷ register_number p.rs ∷ register_number p.rm ∷ []))
+    allowed
+    (multiply_clash (bit_of p.accumulate) (register_number p.rd) (register_number p.rn)
+    (register_number p.rs) (register_number p.rm))
+    (word_in multiply_row
+    (c ∷ bit_of p.accumulate ∷ bit_of p.sets_flags ∷ register_number p.rd ∷ register_number p.rn
+    ∷ register_number p.rs ∷ register_number p.rm ∷ []))
 
 -- ---- transfers
 
 abbrev pub number_transfer : ℕ → Transfer → ℕ → Result ℕ Fault
 number_transfer c t n =
     in_range (nat_lt n 4096)
-    (allowed (single_clash (bit_of t.address.before) (bit_of t.byte) (bit_of t.address.write_back) (bit_of t.load) (register_number t.address.rn) (register_number t.rd))
-    (word_in single_immediate_row (c ∷ bit_of t.address.before ∷ bit_of t.address.up ∷ bit_of t.byte ∷ bit_of t.address.write_back ∷ bit_of t.load ∷ register_number t.address.rn ∷ register_number t.rd ∷ n ∷ [])))
+    (allowed
+    (single_clash (bit_of t.address.before) (bit_of t.byte) (bit_of t.address.write_back) (bit_of t.load)
+    (register_number t.address.rn) (register_number t.rd))
+    (word_in single_immediate_row
+    (c ∷ bit_of t.address.before ∷ bit_of t.address.up ∷ bit_of t.byte ∷ bit_of t.address.write_back
+    ∷ bit_of t.load ∷ register_number t.address.rn ∷ register_number t.rd ∷ n ∷ [])))
 
 abbrev pub register_transfer : ℕ → Transfer → Register → Amount → Result ℕ Fault
 register_transfer c t m a =
     in_range (amount_fits a)
-    (allowed (single_register_clash (bit_of t.address.before) (bit_of t.byte) (bit_of t.address.write_back) (bit_of t.load) (register_number t.address.rn) (register_number t.rd) (register_number m))
-    (word_in single_register_row (c ∷ bit_of t.address.before ∷ bit_of t.address.up ∷ bit_of t.byte ∷ bit_of t.address.write_back ∷ bit_of t.load ∷ register_number t.address.rn ∷ register_number t.rd ∷ amount_field a ∷ shift_number (amount_shift a) ∷ register_number m ∷ [])))
+    (allowed
+    (single_register_clash (bit_of t.address.before) (bit_of t.byte) (bit_of t.address.write_back)
+    (bit_of t.load) (register_number t.address.rn) (register_number t.rd) (register_number m))
+    (word_in single_register_row
+    (c ∷ bit_of t.address.before ∷ bit_of t.address.up ∷ bit_of t.byte ∷ bit_of t.address.write_back
+    ∷ bit_of t.load ∷ register_number t.address.rn ∷ register_number t.rd ∷ amount_field a
+    ∷ shift_number (amount_shift a) ∷ register_number m ∷ [])))
 
 abbrev pub transfer_word : ℕ → Transfer → Distance → Result ℕ Fault
 transfer_word c t (distance.Number n) = number_transfer c t n
@@ -134,7 +158,9 @@ transfer_word c t (distance.Register m a) = register_transfer c t m a
 abbrev pub block_word : ℕ → BlockTransfer → Result ℕ Fault
 block_word c b =
     in_range (nat_lt b.list 65536) (allowed (block_clash (register_number b.rn) b.list)
-    (word_in block_row (c ∷ bit_of b.before ∷ bit_of b.up ∷ bit_of b.user ∷ bit_of b.write_back ∷ bit_of b.load ∷ register_number b.rn ∷ b.list ∷ [])))
+    (word_in block_row
+    (c ∷ bit_of b.before ∷ bit_of b.up ∷ bit_of b.user ∷ bit_of b.write_back ∷ bit_of b.load
+    ∷ register_number b.rn ∷ b.list ∷ [])))
 
 -- ---- branches
 
@@ -152,7 +178,9 @@ branch_offset at target = (target + 2 ^ 33 - (at + 8)) / 4 % 2 ^ 24
 
 abbrev pub branch_word : ℕ → ℕ → Bool → ℕ → Result ℕ Fault
 branch_word c at link target =
-    if is_far at target then Err BranchTooFar else in_range (is_target target) (Ok (word_in branch_row (c ∷ bit_of link ∷ branch_offset at target ∷ [])))
+    if is_far at target then Err BranchTooFar
+    else in_range (is_target target)
+    (Ok (word_in branch_row (c ∷ bit_of link ∷ branch_offset at target ∷ [])))
 
 abbrev pub swi_word : ℕ → ℕ → Result ℕ Fault
 swi_word c n = in_range (nat_lt n 16777216) (Ok (word_in swi_row (c ∷ n ∷ [])))
@@ -184,9 +212,29 @@ apart at target = if is_ahead at target then target - (at + 8) else at + 8 - tar
 abbrev pub use_action : Use → ℕ → ℕ → Action
 use_action (use_of.Branch link) at target = action.Branch link target
 use_action (use_of.Adr d) at target =
-    action.Data (record { opcode = if is_ahead at target then opcode.Add else opcode.Sub; sets_flags = false; rn = R15; rd = d; operand = operand.Immediate (apart at target) })
+    action.Data
+    (record {
+      opcode = if is_ahead at target then opcode.Add
+          else opcode.Sub;
+      sets_flags = false;
+      rn = R15;
+      rd = d;
+      operand = operand.Immediate (apart at target);
+    })
 use_action (use_of.Transfer load byte d) at target =
-    action.Single (record { load = load; byte = byte; rd = d; address = record { rn = R15; before = true; up = is_ahead at target; write_back = false; distance = distance.Number (apart at target) } })
+    action.Single
+    (record {
+      load = load;
+      byte = byte;
+      rd = d;
+      address = record {
+        rn = R15;
+        before = true;
+        up = is_ahead at target;
+        write_back = false;
+        distance = distance.Number (apart at target);
+      };
+    })
 
 abbrev pub refer : Reference → ℕ → ℕ → Code
 refer r at target = record { cond = r.cond; action = use_action r.how at target }

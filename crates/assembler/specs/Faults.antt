@@ -1,7 +1,9 @@
 -- The order of faults (our own).
 use Rattle.std.specs.Prelude.{ℕ, nat_lt, Option, Some, None, if◌then◌else◌}
 use Rattle.assembler.specs.declared.fault.Fault.{Fault}
-use Rattle.assembler.specs.declared.fault.Fault.TheVariants.{NotText, UnknownWord, BadOperand, ImmediateNotRotated, BranchTooFar, LabelTwice, LabelMissing, OutOfRange, Unallocated, TooLong}
+use Rattle.assembler.specs.declared.fault.Fault.TheVariants.{NotText, UnknownWord, BadOperand}
+use Rattle.assembler.specs.declared.fault.Fault.TheVariants.{ImmediateNotRotated, BranchTooFar, LabelTwice}
+use Rattle.assembler.specs.declared.fault.Fault.TheVariants.{LabelMissing, OutOfRange, Unallocated, TooLong}
 
 abbrev pub number : Fault → ℕ
 number NotText = 2

@@ -1,5 +1,6 @@
 -- Which fault a source that is refused gets, and of which line (our own source format).
-use Rattle.std.specs.Prelude.{◌≡◌, ◌⊎◌, ◌+◌, ◌<◌, ◌≤◌, ◌==◌, not, ℕ, true, false, List, [], ◌∷◌, ◌++◌, length, flat_map, Option, Some, Err}
+use Rattle.std.specs.Prelude.{◌≡◌, ◌⊎◌, ◌+◌, ◌<◌, ◌≤◌, ◌==◌, not, ℕ, true, false, List, [], ◌∷◌, ◌++◌, length}
+use Rattle.std.specs.Prelude.{flat_map, Option, Some, Err}
 use Rattle.std.specs.List.{AllByRecursion, Contains, list_all}
 use Rattle.loader.specs.Image.{may_hold}
 use Rattle.asm_text.specs.Lines.{IsBlanks}
@@ -10,11 +11,13 @@ use Rattle.asm_text.specs.Said.{Number, Label, Said, Codes, Refers, Orgs, Lists}
 use Rattle.asm_text.specs.Source.{lines_of}
 use Rattle.asm_text.specs.Spelling.{Spells}
 use Rattle.asm_text.specs.Statements.{Parsed, begins_blank_or_ends, body, is_comment_text, is_label, is_text}
-use Rattle.assembler.specs.Assembles.{Laid, address_behind, labels_of, laid, places, places_from, segments, word_count}
+use Rattle.assembler.specs.Assembles.{Laid, address_behind, labels_of, laid, places, places_from, segments}
+use Rattle.assembler.specs.Assembles.{word_count}
 use Rattle.assembler.specs.Codes.{encoded, refer, use_fault}
 use Rattle.assembler.specs.Faults.{number}
 use Rattle.assembler.specs.declared.fault.Fault.{Fault}
-use Rattle.assembler.specs.declared.fault.Fault.TheVariants.{NotText, UnknownWord, BadOperand, LabelTwice, LabelMissing, OutOfRange, TooLong}
+use Rattle.assembler.specs.declared.fault.Fault.TheVariants.{NotText, UnknownWord, BadOperand, LabelTwice}
+use Rattle.assembler.specs.declared.fault.Fault.TheVariants.{LabelMissing, OutOfRange, TooLong}
 
 -- ---- a line that cannot be read
 
@@ -37,7 +40,7 @@ pub record BeginsStatement (text : List ℕ) : Type 0 where
   pub word-is : IsSpelling name word
   pub ends : begins_blank_or_ends rest ≡ true
 
--- a label or nothing; behind it blanks alone, or blanks and a word
+-- a label or nothing; after it blanks alone, or blanks and a word
 pub record BeginsLine (text : List ℕ) : Type 0 where
   pub label : List ℕ
   pub behind : List ℕ
@@ -54,12 +57,12 @@ IsUnreadable line _ = ⊥
 
 -- ---- a line that can be read, behind others
 
--- the address behind lines
+-- the address after lines
 abbrev pub address_behind_all : ℕ → List Parsed → ℕ
 address_behind_all at [] = at
 address_behind_all at (p ∷ ps) = address_behind_all (address_behind at p.said) ps
 
--- the address of a line behind others
+-- the address of a line after others
 abbrev pub address_of_next : List Parsed → ℕ
 address_of_next before = address_behind_all 32768 before
 
@@ -129,7 +132,7 @@ pub record IsLowest (Has : Fault → Type 0) (fault : Fault) : Type 0 where
   pub holds : Has fault
   pub lowest : (other : Fault) → Has other → number fault ≤ number other
 
--- lines behind others, and what each says; none has a fault that needs no label's address
+-- lines after others, and what each says; none has a fault that needs no label's address
 abbrev pub ArePassed : List Parsed → List (List ℕ) → List Parsed → Type 0
 ArePassed before [] [] = Unit {0}
 ArePassed before (line ∷ lines) (p ∷ ps) =

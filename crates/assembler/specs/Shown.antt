@@ -1,5 +1,6 @@
 -- Words as lines (our own source format).
-use Rattle.std.specs.Prelude.{◌≡◌, ℕ, zero, suc, ◌+◌, ◌/◌, ◌%◌, nat_lt, List, [], ◌∷◌, ◌++◌, codes, Some, None, Ok, if◌then◌else◌}
+use Rattle.std.specs.Prelude.{◌≡◌, ℕ, zero, suc, ◌+◌, ◌/◌, ◌%◌, nat_lt, List, [], ◌∷◌, ◌++◌, codes, Some}
+use Rattle.std.specs.Prelude.{None, Ok, if◌then◌else◌}
 use Rattle.asm_text.specs.Said.{Number, Said, Codes, Refers, Lists}
 use Rattle.asm_text.specs.Statements.{line_of}
 use Rattle.assembler.specs.Codes.{encoded, refer}
@@ -11,9 +12,10 @@ Says (Refers r (Number n)) at word = encoded (refer r at n) at ≡ Ok word
 Says (Lists (Number n ∷ [])) at word = n ≡ word
 Says _ at word = ⊥
 
--- behind a blank the text is a line of a statement alone, which has the word at the address
+-- after a blank the text is a line of a statement alone, which has the word at the address
 abbrev pub Gives : List ℕ → ℕ → ℕ → Type 0
-Gives text at word = (s : Said) × (line_of (32 ∷ text) ≡ Ok (record { label = None; said = Some s })) × Says s at word
+Gives text at word =
+    (s : Said) × (line_of (32 ∷ text) ≡ Ok (record { label = None; said = Some s })) × Says s at word
 
 abbrev pub hex_char : ℕ → ℕ
 hex_char d = if nat_lt d 10 then 48 + d else 55 + d

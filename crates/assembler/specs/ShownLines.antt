@@ -1,6 +1,8 @@
--- How an instruction is spelled at an address (VL86C010 data sheet, assembler syntax; one spelling of each word is our
--- own choice).
-use Rattle.std.specs.Prelude.{◌≡◌, ℕ, zero, suc, ◌+◌, ◌-◌, ◌*◌, ◌/◌, ◌%◌, ◌^◌, ◌==◌, ◌&&◌, not, nat_lt, Bool, true, false, List, [], ◌∷◌, ◌++◌, codes, decimal, Option, Some, None, Result, Ok, Err, if◌then◌else◌}
+-- How an instruction is spelled at an address (VL86C010 data sheet, assembler syntax; one spelling of each
+-- word is our own choice).
+use Rattle.std.specs.Prelude.{◌≡◌, ℕ, zero, suc, ◌+◌, ◌-◌, ◌*◌, ◌/◌, ◌%◌, ◌^◌, ◌==◌, ◌&&◌, not, nat_lt, Bool}
+use Rattle.std.specs.Prelude.{true, false, List, [], ◌∷◌, ◌++◌, codes, decimal, Option, Some, None, Result}
+use Rattle.std.specs.Prelude.{Ok, Err, if◌then◌else◌}
 use Rattle.std.specs.Fmt.{digits}
 use Rattle.std.specs.Int.{w32, rotate_right}
 use Rattle.arm2_decode.specs.declared.instr.Block.{Block}
@@ -91,7 +93,8 @@ abbrev pub move_front : Cond → Opcode → Bool → Register → List ℕ
 move_front c op s rd = word_text (opcode_name op) c (flags_text s) ++ (register_text rd ++ codes ",")
 
 abbrev pub three_front : Cond → Opcode → Bool → Register → Register → List ℕ
-three_front c op s rn rd = word_text (opcode_name op) c (flags_text s) ++ (register_text rd ++ (comma_register rn ++ codes ","))
+three_front c op s rn rd =
+    word_text (opcode_name op) c (flags_text s) ++ (register_text rd ++ (comma_register rn ++ codes ","))
 
 -- what stands in front of the last operand: a compare has no Rd, MOV and MVN no Rn
 abbrev pub data_front : Cond → Opcode → Bool → Register → Register → List ℕ
@@ -104,14 +107,19 @@ data_front c Mvn s rn rd = move_front c Mvn s rd
 data_front c op s rn rd = three_front c op s rn rd
 
 abbrev pub data_register_text : Cond → DataRegister → List ℕ
-data_register_text c x = data_front c x.opcode x.sets_flags x.rn x.rd ++ (register_text x.rm ++ shifted_text x.shift x.amount)
+data_register_text c x =
+    data_front c x.opcode x.sets_flags x.rn x.rd ++ (register_text x.rm ++ shifted_text x.shift x.amount)
 
 abbrev pub data_register_shift_text : Cond → DataRegisterShift → List ℕ
-data_register_shift_text c x = data_front c x.opcode x.sets_flags x.rn x.rd ++ (register_text x.rm ++ (shift_text x.shift ++ register_text x.rs))
+data_register_shift_text c x =
+    data_front c x.opcode x.sets_flags x.rn x.rd
+    ++ (register_text x.rm ++ (shift_text x.shift ++ register_text x.rs))
 
 -- the number that the byte gives, in decimal
 abbrev pub data_immediate_text : Cond → DataImmediate → List ℕ
-data_immediate_text c x = data_front c x.opcode x.sets_flags x.rn x.rd ++ (codes "#" ++ decimal (rotate_right w32 x.value (2 * x.rotation)))
+data_immediate_text c x =
+    data_front c x.opcode x.sets_flags x.rn x.rd
+    ++ (codes "#" ++ decimal (rotate_right w32 x.value (2 * x.rotation)))
 
 -- ---- multiplies
 
@@ -122,7 +130,8 @@ factors_text x = register_text x.rd ++ (comma_register x.rm ++ comma_register x.
 -- of MLA also Rn
 abbrev pub multiply_text : Cond → Multiply → List ℕ
 multiply_text c x =
-    if x.accumulate then word_text (codes "MLA") c (flags_text x.sets_flags) ++ (factors_text x ++ comma_register x.rn)
+    if x.accumulate
+    then word_text (codes "MLA") c (flags_text x.sets_flags) ++ (factors_text x ++ comma_register x.rn)
     else word_text (codes "MUL") c (flags_text x.sets_flags) ++ factors_text x
 
 -- ---- transfers
@@ -131,7 +140,7 @@ abbrev pub load_name : Bool → List ℕ
 load_name true = codes "LDR"
 load_name false = codes "STR"
 
--- a write-back behind the access is a User access
+-- a write-back after the access is a User access
 abbrev pub is_user : Bool → Bool → Bool
 is_user before write_back = not before && write_back
 
@@ -142,17 +151,18 @@ transfer_suffix true false = codes "B"
 transfer_suffix false true = codes "T"
 transfer_suffix true true = codes "BT"
 
--- the word, Rd and the base behind its bracket
+-- the word, Rd and the base after its bracket
 abbrev pub transfer_front : Cond → Bool → Bool → Bool → Register → Register → List ℕ
 transfer_front c load byte user rd rn =
-    word_text (load_name load) c (transfer_suffix byte user) ++ (register_text rd ++ (codes ",[" ++ register_text rn))
+    word_text (load_name load) c (transfer_suffix byte user)
+    ++ (register_text rd ++ (codes ",[" ++ register_text rn))
 
 -- the bracket closes in front of an offset that is added after the access
 abbrev pub opened : Bool → List ℕ
 opened true = codes ","
 opened false = codes "],"
 
--- or behind one that is added before it, with a mark where it is written back
+-- or after one that is added before it, with a mark where it is written back
 abbrev pub closed : Bool → Bool → List ℕ
 closed false write_back = []
 closed true true = codes "]!"
@@ -171,12 +181,17 @@ is_plain x = (x.offset == 0 && x.up) && (x.before && not x.write_back)
 
 abbrev pub single_immediate_text : Cond → SingleImmediate → List ℕ
 single_immediate_text c x =
-    transfer_front c x.load x.byte (is_user x.before x.write_back) x.rd x.rn ++ ((if is_plain x then [] else offset_text x.before x.up x.offset) ++ closed x.before x.write_back)
+    transfer_front c x.load x.byte (is_user x.before x.write_back) x.rd x.rn
+    ++ ((if is_plain x then [] else offset_text x.before x.up x.offset) ++ closed x.before x.write_back)
 
 abbrev pub single_register_text : Cond → SingleRegister → List ℕ
 single_register_text c x =
     transfer_front c x.load x.byte (is_user x.before x.write_back) x.rd x.rn
-    ++ (opened x.before ++ (sign_of x.up ++ (register_text x.rm ++ (shifted_text x.shift x.amount ++ closed x.before x.write_back))))
+    ++
+    (opened x.before
+    ++
+    (sign_of x.up
+    ++ (register_text x.rm ++ (shifted_text x.shift x.amount ++ closed x.before x.write_back))))
 
 -- ---- blocks
 
@@ -265,8 +280,8 @@ operation_text c _ at = []
 abbrev pub shown_line : Instr → ℕ → List ℕ
 shown_line i at = operation_text i.cond i.operation at
 
--- the line gives its word; it is the stated spelling where the word is an instruction and the spelling gives the word back,
--- and a DCD line where there is no such spelling
+-- the line gives its word; it is the stated spelling where the word is an instruction and the spelling gives
+-- the word back, and a DCD line where there is no such spelling
 pub record IsShown (word at : ℕ) (line : List ℕ) : Type 0 where
   pub gives : Gives line at word
   pub spelled : (i : Instr) → Means word i → Gives (shown_line i at) at word → line ≡ shown_line i at
@@ -287,6 +302,7 @@ abbrev pub shown_word : Shown → ℕ → Option ℕ
 shown_word (shown.Code c) at = word_given (encoded c at)
 shown_word (shown.Refer r n) at = target_word r.how (encoded (refer r at n) at)
 
--- behind a blank the text is a line of an instruction alone, which has the word at the address
+-- after a blank the text is a line of an instruction alone, which has the word at the address
 abbrev pub GivesBack : List ℕ → ℕ → ℕ → Type 0
-GivesBack text at word = (s : Shown) × (line_of (32 ∷ text) ≡ Ok (parsed_shown s)) × (shown_word s at ≡ Some word)
+GivesBack text at word =
+    (s : Shown) × (line_of (32 ∷ text) ≡ Ok (parsed_shown s)) × (shown_word s at ≡ Some word)

@@ -1,5 +1,6 @@
 -- What a source says as a whole: two sweeps over its lines (our own source format).
-use Rattle.std.specs.Prelude.{ℕ, ◌+◌, ◌*◌, ◌&&◌, ◌||◌, not, nat_le, nat_lt, Bool, false, List, [], ◌∷◌, ◌++◌, length, Option, Some, None, is_some, unwrap_or, Result, Ok, Err, if◌then◌else◌}
+use Rattle.std.specs.Prelude.{ℕ, ◌+◌, ◌*◌, ◌&&◌, ◌||◌, not, nat_le, nat_lt, Bool, false, List, [], ◌∷◌, ◌++◌}
+use Rattle.std.specs.Prelude.{length, Option, Some, None, is_some, unwrap_or, Result, Ok, Err, if◌then◌else◌}
 use Rattle.std.specs.List.{list_any}
 use Rattle.std.specs.Str.{bytes_eq}
 use Rattle.loader.specs.Image.{Words, may_hold, put_fault, with_word}
@@ -12,7 +13,8 @@ use Rattle.asm_text.specs.Said.{Target, Number, Label, Said, Codes, Refers, Orgs
 use Rattle.asm_text.specs.Statements.{Parsed, line_of}
 use Rattle.asm_text.specs.Source.{lines_of}
 use Rattle.assembler.specs.declared.fault.Fault.{Fault}
-use Rattle.assembler.specs.declared.fault.Fault.TheVariants.{NotText, UnknownWord, BadOperand, LabelTwice, LabelMissing, OutOfRange, TooLong}
+use Rattle.assembler.specs.declared.fault.Fault.TheVariants.{NotText, UnknownWord, BadOperand, LabelTwice}
+use Rattle.assembler.specs.declared.fault.Fault.TheVariants.{LabelMissing, OutOfRange, TooLong}
 use Rattle.assembler.specs.Faults.{lower}
 use Rattle.assembler.specs.Codes.{encoded, refer, use_fault}
 
@@ -38,8 +40,9 @@ pub record Item : Type 0 where
   pub at : ℕ
   pub pending : Pending
 
--- Behind a line: the address of the next word, where the segment of the words before it begins (if it has a word), the
--- earlier segments (the first address, and that behind the last word), the number of words, the names and the items.
+-- After a line: the address of the next word, where the segment of the words before it begins (if it has a
+-- word), the earlier segments (the first address, and that after the last word), the number of words, the
+-- names and the items.
 pub record State : Type 0 where
   pub at : ℕ
   pub start : Option ℕ
@@ -84,7 +87,9 @@ open_has (Some from) to n = nat_le from n && nat_lt n to
 
 -- why an ORG cannot have an address: no word may stand there, or one does
 abbrev pub org_fault : State → ℕ → Option Fault
-org_fault s n = if not (may_hold n) || (overlaps s.closed n (n + 1) || open_has s.start s.at n) then Some OutOfRange else None
+org_fault s n =
+    if not (may_hold n) || (overlaps s.closed n (n + 1) || open_has s.start s.at n) then Some OutOfRange
+    else None
 
 -- ---- the first sweep: what needs no label's address
 
@@ -102,7 +107,13 @@ started s = Some (unwrap_or s.start s.at)
 
 abbrev pub placed : State → ℕ → Pending → State
 placed s k p =
-    record s { at = s.at + 4; start = started s; words = s.words + 1; items = s.items ++ record { line = k; at = s.at; pending = p } ∷ [] }
+    record s {
+      at = s.at + 4;
+      start = started s;
+      words = s.words + 1;
+      items = s.items
+          ++ record { line = k; at = s.at; pending = p } ∷ [];
+    }
 
 abbrev pub closed_state : State → State
 closed_state s = record s { closed = closed_with s.start s.at s.closed }
@@ -161,7 +172,7 @@ wrong_fault wrong.UnknownWord = UnknownWord
 wrong_fault wrong.BadOperand = BadOperand
 wrong_fault _ = NotText
 
--- behind the line of a number, or its lowest fault
+-- after the line of a number, or its lowest fault
 abbrev pub line_step : State → ℕ → Result Parsed Wrong → Result State Fault
 line_step s k (Ok p) = said_step s k p.label p.said
 line_step s k (Err w) = Err (wrong_fault w)

@@ -29,7 +29,15 @@ abbrev pub span_of : Span → ℕ × ℕ
 span_of s = (s.from, s.to)
 
 abbrev pub state_of : Sweep → State
-state_of s = record { at = s.at; start = s.start; closed = map span_of s.closed.items; words = s.words; names = address_of s.labels; items = map item_of s.items.items }
+state_of s =
+    record {
+      at = s.at;
+      start = s.start;
+      closed = map span_of s.closed.items;
+      words = s.words;
+      names = address_of s.labels;
+      items = map item_of s.items.items;
+    }
 
 abbrev pub name_of : Option (Bor (List ℕ)) → Option (List ℕ)
 name_of label = option_map (λ name. name.now) label

@@ -2,7 +2,7 @@ ghost use Rattle.std.specs.Prelude.{◌≡◌, [], IfOk, IfErr, OnOk, Ok, Err, m
 ghost use Rattle.loader.specs.Labels.{address_of};
 ghost use Rattle.asm_text.specs.Source.{lines_of};
 ghost use Rattle.assembler.specs.Assembles.{IsAssembly};
-ghost use Rattle.assembler.specs.Sweeps.{assembled, at_first, filled, item_step, resolved as resolved_word, swept};
+ghost use Rattle.assembler.specs.Sweeps.{assembled, at_first, filled, item_step, resolved, swept};
 ghost use Rattle.assembler.specs.Views.{Faulted, FaultedAt, RefusedAt, item_of, pending_of, state_of};
 
 use crate::encoded::encoded;
@@ -25,7 +25,7 @@ pub struct Assembly {
 
 // The word of an item, where the labels are known.
 fn resolved(labels: &Labels, item: Item<'_>) -> Result<u32, Fault>
-    ensures { result ≡ resolved_word (address_of labels.now) item.entry.at (pending_of item.entry.pending) }
+    ensures { result ≡ resolved (address_of labels.now) item.entry.at (pending_of item.entry.pending) }
 {
     match item.pending {
         Pending::Fixed(word) => Ok(word),
@@ -41,8 +41,11 @@ fn resolved(labels: &Labels, item: Item<'_>) -> Result<u32, Fault>
 }
 
 fn put(alloc: Global, image: &mut Image, labels: &Labels, item: Item<'_>) -> Result<(), AsmFault>
-    ensures ok { OnOk result (item_step (address_of labels.now) image.old (item_of item.entry) ≡ Ok image.new) }
-    ensures err { IfErr result (λ fault. Faulted fault item.entry.line (item_step (address_of labels.now) image.old (item_of item.entry))) }
+    ensures ok { OnOk result
+        (item_step (address_of labels.now) image.old (item_of item.entry) ≡ Ok image.new) }
+    ensures err { IfErr result
+        (λ fault. Faulted fault item.entry.line
+        (item_step (address_of labels.now) image.old (item_of item.entry))) }
 {
     let word = match resolved(labels, item) {
         Ok(word) => word,
@@ -60,7 +63,8 @@ fn put(alloc: Global, image: &mut Image, labels: &Labels, item: Item<'_>) -> Res
 #[tactic(auto, using(crate::proofs::SweepLaws::filled_more), unfolding(crate::specs::Sweeps::filled))]
 fn fill(alloc: Global, labels: &Labels, items: &[Item<'_>]) -> Result<Image, AsmFault>
     ensures ok { IfOk result (λ image. filled (address_of labels.now) [] (map item_of items.now) ≡ Ok image) }
-    ensures err { IfErr result (λ fault. FaultedAt fault (filled (address_of labels.now) [] (map item_of items.now))) }
+    ensures err { IfErr result
+        (λ fault. FaultedAt fault (filled (address_of labels.now) [] (map item_of items.now))) }
 {
     let mut image = Image::new(alloc);
     for item in items {
@@ -69,7 +73,7 @@ fn fill(alloc: Global, labels: &Labels, items: &[Item<'_>]) -> Result<Image, Asm
     Ok(image)
 }
 
-// The first sweep: what stands behind all lines.
+// The first sweep: what stands after all lines.
 #[tactic(auto, using(crate::proofs::SweepLaws::swept_more), unfolding(crate::specs::Sweeps::swept))]
 fn swept_source<'a>(alloc: Global, source: &'a [u8]) -> Result<Sweep<'a>, AsmFault>
     ensures ok { IfOk result (λ s. swept at_first 1 (lines_of source.now) ≡ Ok (state_of s)) }
@@ -88,13 +92,13 @@ fn swept_source<'a>(alloc: Global, source: &'a [u8]) -> Result<Sweep<'a>, AsmFau
 
 /// Assembles a source.
 ///
-/// The first word stands at 8000, or where an ORG says; each further one behind the last.
+/// The first word stands at 8000, or where an ORG says; each further one after the last.
 ///
 /// # Errors
 ///
-/// The lines are gone through twice, the second time for what refers to a label. The first line at fault in the first pass is
-/// answered, else the first in the second; of several faults of a line the first in the order of [`Fault`]. `Memory`: a growth
-/// was refused.
+/// The lines are gone through twice, the second time for what refers to a label. The first line at fault in
+/// the first pass is answered, else the first in the second; of several faults of a line the first in the
+/// order of [`Fault`]. `Memory`: an allocation failed.
 pub fn assemble(alloc: Global, source: &[u8]) -> Result<Assembly, AsmFault>
     ensures ok { IfOk result (λ a. assembled source.now ≡ Ok (a.image, address_of a.labels)) }
     ensures means { IfOk result (λ a. IsAssembly source.now a.image (address_of a.labels)) }

@@ -1,8 +1,13 @@
 ghost use Rattle.std.specs.Prelude.{◌≡◌, ◌<◌, ◌≤◌, ◌∷◌, ◌^◌, ◌*◌, [], Ok, Err, IfSome, not, ◌==◌};
 ghost use Rattle.std.specs.Int.{w32, rotate_left};
-ghost use Rattle.arm2_decode.specs.Allowed.{bit_of, block_clash, data_clash, data_shift_clash, multiply_clash, single_clash, single_register_clash};
+ghost use Rattle.arm2_decode.specs.Allowed.{bit_of, block_clash, data_clash, data_shift_clash};
+ghost use Rattle.arm2_decode.specs.Allowed.{multiply_clash, single_clash, single_register_clash};
 ghost use Rattle.arm2_decode.specs.Names.{cond_number, opcode_number, register_number, shift_number};
-ghost use Rattle.assembler.specs.Codes.{action_word, amount_field, amount_fits as fits_of, amount_shift, block_word, branch_offset as offset_of, branch_word, encoded as encoded_of, immediate_word, is_far as far, is_target as target_is, number_transfer, operand_word, product_word, register_shift_word, register_transfer, register_word, rotated_word, rotation_of, shifted_word, swi_word, transfer_word, word_in};
+ghost use Rattle.assembler.specs.Codes.{action_word, amount_field, amount_fits, amount_shift, block_word};
+ghost use Rattle.assembler.specs.Codes.{branch_offset, branch_word, encoded, immediate_word, is_far};
+ghost use Rattle.assembler.specs.Codes.{is_target, number_transfer, operand_word, product_word};
+ghost use Rattle.assembler.specs.Codes.{register_shift_word, register_transfer, register_word, rotated_word};
+ghost use Rattle.assembler.specs.Codes.{rotation_of, shifted_word, swi_word, transfer_word, word_in};
 ghost use Rattle.arm2_decode.specs.Table.{operands, row_of};
 
 use crate::fault::Fault;
@@ -65,7 +70,7 @@ fn immediate(cond: Cond, fields: Data, n: u32) -> Result<u32, Fault>
 }
 
 fn amount_fits(amount: Amount) -> bool
-    ensures { result ≡ fits_of amount }
+    ensures { result ≡ amount_fits amount }
 {
     match amount {
         Amount::By(shift, n) => match shift {
@@ -165,7 +170,11 @@ fn operand(cond: Cond, fields: Data, operand: Operand) -> Result<u32, Fault>
 }
 
 fn is_bad_product(product: Product) -> bool
-    ensures { result ≡ not (multiply_clash (bit_of product.accumulate) (register_number product.rd) (register_number product.rn) (register_number product.rs) (register_number product.rm) == 0) }
+    ensures { result
+        ≡ not
+        (multiply_clash (bit_of product.accumulate) (register_number product.rd)
+        (register_number product.rn) (register_number product.rs) (register_number product.rm)
+        == 0) }
 {
     let rd = product.rd.number();
     let rm = product.rm.number();
@@ -194,7 +203,12 @@ fn product(cond: Cond, product: Product) -> Result<u32, Fault>
 }
 
 fn is_bad_transfer(transfer: Transfer) -> bool
-    ensures { result ≡ not (single_clash (bit_of transfer.address.before) (bit_of transfer.byte) (bit_of transfer.address.write_back) (bit_of transfer.load) (register_number transfer.address.rn) (register_number transfer.rd) == 0) }
+    ensures { result
+        ≡ not
+        (single_clash (bit_of transfer.address.before) (bit_of transfer.byte)
+        (bit_of transfer.address.write_back) (bit_of transfer.load) (register_number transfer.address.rn)
+        (register_number transfer.rd)
+        == 0) }
 {
     let rn = transfer.address.rn.number();
     let rd = transfer.rd.number();
@@ -296,7 +310,7 @@ fn block(cond: Cond, block: BlockTransfer) -> Result<u32, Fault>
 }
 
 fn is_far(at: u32, target: u32) -> bool
-    ensures { result ≡ far at target }
+    ensures { result ≡ is_far at target }
 {
     let next = at as u64 + 8;
     let target = target as u64;
@@ -304,14 +318,14 @@ fn is_far(at: u32, target: u32) -> bool
 }
 
 fn is_target(target: u32) -> bool
-    ensures { result ≡ target_is target }
+    ensures { result ≡ is_target target }
 {
     target % 4 == 0 && target <= 0x3FF_FFFC
 }
 
 // The words from the address two words on to the target, as 24 bits of two's complement.
 fn branch_offset(at: u32, target: u32) -> u32
-    ensures value { result ≡ offset_of at target }
+    ensures value { result ≡ branch_offset at target }
     ensures fits { result < 2 ^ 24 }
 {
     let next = at as u64 + 8;
@@ -347,7 +361,7 @@ fn swi(cond: Cond, comment: u32) -> Result<u32, Fault>
 
 /// The word of a statement at an address, or the lowest of the faults for which it has none.
 pub(crate) fn encoded(code: Code, at: u32) -> Result<u32, Fault>
-    ensures { result ≡ encoded_of code at }
+    ensures { result ≡ encoded code at }
 {
     match code.action {
         Action::Data(fields) => operand(code.cond, fields, fields.operand),

@@ -1,5 +1,5 @@
 ghost use Rattle.std.specs.Prelude.{◌≡◌, IfNone, None, Some};
-ghost use Rattle.assembler.specs.Faults.{lower as lower_of, number};
+ghost use Rattle.assembler.specs.Faults.{lower, number};
 
 use std::alloc::{AllocError, AllocFailed};
 use thiserror::Error;
@@ -10,7 +10,7 @@ pub enum Fault {
     /// A byte that no source has.
     #[error("NotText")]
     NotText,
-    /// No label or blank in the first column, or no word behind it.
+    /// No label or blank in the first column, or no word after it.
     #[error("UnknownWord")]
     UnknownWord,
     /// Operands that do not belong to the word, or a number of 2^32 or more.
@@ -28,8 +28,8 @@ pub enum Fault {
     /// A label that no line has.
     #[error("LabelMissing")]
     LabelMissing,
-    /// A number does not fit its field, a branch leads to no word's address, or an ORG or a word has an address where no
-    /// word of an image may stand or one stands already.
+    /// A number does not fit its field, a branch leads to no word's address, or an ORG or a word has an
+    /// address where no word of an image may stand or one stands already.
     #[error("OutOfRange")]
     OutOfRange,
     /// A word that is no instruction.
@@ -43,7 +43,7 @@ pub enum Fault {
 /// Why a source cannot be assembled.
 #[derive(Clone, Copy, Debug, PartialEq, Eq, Drop, Error)]
 pub enum AsmFault {
-    /// A growth was refused.
+    /// An allocation failed.
     #[error("Memory")]
     Memory,
     /// A line's fault, and its number from 1.
@@ -94,7 +94,7 @@ impl Fault {
 
 /// The first of two faults in the order of their names.
 pub(crate) fn lower(one: Option<Fault>, other: Option<Fault>) -> Option<Fault>
-    ensures value { result ≡ lower_of one other }
+    ensures value { result ≡ lower one other }
     ensures none { IfNone result ((one ≡ None) × (other ≡ None)) }
 {
     match one {
@@ -108,7 +108,7 @@ pub(crate) fn lower(one: Option<Fault>, other: Option<Fault>) -> Option<Fault>
 
 /// The first of a fault and another in the order of their names.
 pub(crate) fn lowest(fault: Fault, other: Option<Fault>) -> Fault
-    ensures { Some result ≡ lower_of (Some fault) other }
+    ensures { Some result ≡ lower (Some fault) other }
 {
     match other {
         None => fault,

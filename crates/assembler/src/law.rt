@@ -7,20 +7,25 @@ ghost use Rattle.assembler.specs.declared.fault.Fault.{Fault};
 
 use asm_text::lines_are_spelled;
 
-/// States which image and names [`assemble`](crate::assembly::assemble) gives for a source: those of its lines, each
-/// where it stands; and that it gives them for each source that has such. It does nothing.
+/// States which image and names [`assemble`](crate::assembly::assemble) gives for a source: those of its
+/// lines, each where it stands; and that it gives them for each source that has such. It does nothing.
 pub fn sources_are_assembled()
-    ensures is_one { (source : List ℕ) → (image : Words) → (names : Names) → assembled source ≡ Ok (image, names) → IsAssembly source image names }
-    ensures given { (source : List ℕ) → (image : Words) → (names : Names) → IsAssembly source image names → assembled source ≡ Ok (image, names) }
+    ensures is_one { (source : List ℕ) → (image : Words) → (names : Names)
+        → assembled source ≡ Ok (image, names) → IsAssembly source image names }
+    ensures given { (source : List ℕ) → (image : Words) → (names : Names) → IsAssembly source image names
+        → assembled source ≡ Ok (image, names) }
 {
     lines_are_spelled();
 }
 
-/// States which fault [`assemble`](crate::assembly::assemble) answers for a source, and of which line: first those that need
-/// no label's address, then those that need one, of the first line that has one, the lowest of that line. It does nothing.
+/// States which fault [`assemble`](crate::assembly::assemble) answers for a source, and of which line: first
+/// those that need no label's address, then those that need one, of the first line that has one, the lowest
+/// of that line. It does nothing.
 pub fn sources_are_refused()
-    ensures is_one { (source : List ℕ) → (fault : Fault) → (line : ℕ) → assembled source ≡ Err (fault, line) → IsRefusal source fault line }
-    ensures given { (source : List ℕ) → (fault : Fault) → (line : ℕ) → IsRefusal source fault line → assembled source ≡ Err (fault, line) }
+    ensures is_one { (source : List ℕ) → (fault : Fault) → (line : ℕ) → assembled source ≡ Err (fault, line)
+        → IsRefusal source fault line }
+    ensures given { (source : List ℕ) → (fault : Fault) → (line : ℕ) → IsRefusal source fault line
+        → assembled source ≡ Err (fault, line) }
 {
     lines_are_spelled();
 }

@@ -1,5 +1,5 @@
 ghost use Rattle.std.specs.Prelude.{◌≡◌, ◌≤◌, ◌+◌, ◌^◌};
-ghost use Rattle.assembler.specs.Codes.{apart as apart_of, is_ahead as ahead, refer as refer_of, use_action, use_fault as fault_of_use};
+ghost use Rattle.assembler.specs.Codes.{apart, is_ahead, refer, use_action, use_fault};
 
 use crate::fault::Fault;
 use arm2_decode::{Opcode, Register};
@@ -7,7 +7,7 @@ use asm_text::{Action, Address, Code, Data, Distance, Operand, Reference, Transf
 
 fn is_ahead(at: u32, target: u32) -> bool
     requires { at ≤ 2 ^ 26 }
-    ensures { result ≡ ahead at target }
+    ensures { result ≡ is_ahead at target }
 {
     at + 8 <= target
 }
@@ -15,7 +15,7 @@ fn is_ahead(at: u32, target: u32) -> bool
 // How far a target is from the address two words on.
 fn apart(at: u32, target: u32) -> u32
     requires { at ≤ 2 ^ 26 }
-    ensures { result ≡ apart_of at target }
+    ensures { result ≡ apart at target }
 {
     if is_ahead(at, target) {
         target - (at + 8)
@@ -56,11 +56,11 @@ fn action(how: Use, at: u32, target: u32) -> Action
     }
 }
 
-/// What a word with a target does at an address: a branch to the target; for ADR the sum of R15 and a number, or
-/// their difference; a transfer by R15 and a number.
+/// What a word with a target does at an address: a branch to the target; for ADR the sum of R15 and a number,
+/// or their difference; a transfer by R15 and a number.
 pub(crate) fn refer(reference: Reference, at: u32, target: u32) -> Code
     requires { at ≤ 2 ^ 26 }
-    ensures { result ≡ refer_of reference at target }
+    ensures { result ≡ refer reference at target }
 {
     Code {
         cond: reference.cond,
@@ -70,7 +70,7 @@ pub(crate) fn refer(reference: Reference, at: u32, target: u32) -> Code
 
 /// Why a word with a target has no word, whatever the target is.
 pub(crate) fn use_fault(how: Use) -> Option<Fault>
-    ensures { result ≡ fault_of_use how }
+    ensures { result ≡ use_fault how }
 {
     match how {
         Use::Transfer(_, true, Register::R15) => Some(Fault::Unallocated),

@@ -1,8 +1,8 @@
 ghost use Rattle.std.specs.Prelude.{◌≡◌, ◌<◌, IfSome, Some, ℕ, true};
 ghost use Rattle.asm_text.specs.Shown.{is_shown_text};
-ghost use Rattle.assembler.specs.Codes.{encoded as encoded_of, refer as refer_of};
+ghost use Rattle.assembler.specs.Codes.{encoded, refer};
 ghost use Rattle.assembler.specs.Shown.{hex_line};
-ghost use Rattle.assembler.specs.ShownLines.{GivesBack, IsShown, shown_word as shown_word_of, word_given};
+ghost use Rattle.assembler.specs.ShownLines.{GivesBack, IsShown, shown_word, word_given};
 
 use crate::encoded::encoded;
 use crate::spelling::spelled;
@@ -11,7 +11,7 @@ use arm2_decode::decode;
 use asm_text::{Action, Code, Shown, Use, read_shown};
 
 fn word_or_none(code: Code, at: u32) -> Option<u32>
-    ensures { result ≡ word_given (encoded_of code at) }
+    ensures { result ≡ word_given (encoded code at) }
 {
     match encoded(code, at) {
         Ok(word) => Some(word),
@@ -21,7 +21,7 @@ fn word_or_none(code: Code, at: u32) -> Option<u32>
 
 // The word that what is read has at an address; of words with a target only branches are shown.
 fn shown_word(shown: Shown, at: u32) -> Option<u32>
-    ensures { result ≡ shown_word_of shown at }
+    ensures { result ≡ shown_word shown at }
 {
     match shown {
         Shown::Code(code) => word_or_none(code, at),
@@ -39,7 +39,8 @@ fn shown_word(shown: Shown, at: u32) -> Option<u32>
 // The word that a text that may be shown gives at an address.
 fn given_word(text: &[u8], at: u32) -> Option<u32>
     ensures found { IfSome result (λ word. GivesBack text.now at word) }
-    ensures only { (word : ℕ) → is_shown_text text.now ≡ true → GivesBack text.now at word → result ≡ Some word }
+    ensures only { (word : ℕ) → is_shown_text text.now ≡ true → GivesBack text.now at word
+        → result ≡ Some word }
 {
     match read_shown(text) {
         Some(shown) => shown_word(shown, at),
@@ -83,8 +84,8 @@ fn dcd_line(word: u32) -> Line
     line
 }
 
-/// The line of a word at an address, in upper case, behind a blank: the instruction's stated spelling where that assembles
-/// at that address back to the word, else `DCD &` and eight hexadecimal digits.
+/// The line of a word at an address, in upper case, after a blank: the instruction's stated spelling where
+/// that assembles at that address back to the word, else `DCD &` and eight hexadecimal digits.
 pub fn disassemble(word: u32, at: u32) -> Line
     ensures { IsShown word at result }
 {

@@ -1,7 +1,17 @@
-ghost use Rattle.std.specs.Prelude.{◌≡◌, ◌+◌, ◌*◌, ◌<◌, ◌≤◌, ◌/◌, ◌%◌, ◌^◌, ◌==◌, ◌&&◌, ◌++◌, ◌∷◌, [], codes, decimal, length, not, if◌then◌else◌};
+ghost use Rattle.std.specs.Prelude.{◌≡◌, ◌+◌, ◌*◌, ◌<◌, ◌≤◌, ◌/◌, ◌%◌, ◌^◌, ◌==◌, ◌&&◌, ◌++◌, ◌∷◌, [], codes};
+ghost use Rattle.std.specs.Prelude.{decimal, length, not, if◌then◌else◌};
 ghost use Rattle.arm2_decode.specs.Names.{register_number};
 ghost use Rattle.asm_text.specs.Words.{branch_name};
-ghost use Rattle.assembler.specs.ShownLines.{amount_text, block_name, block_suffix, block_text, branch_text, closed, comma_register, compare_front, cond_text, data_front, data_immediate_text, data_register_shift_text, data_register_text, factors_text, flags_text, has, list_operand, list_text, listed, listed_below, load_name, mark_if, move_front, multiply_text, numbered, offset_text, opened, register_text, shift_text, shifted_text, shown_line, sign_of, single_immediate_text, single_register_text, target_of, three_front, transfer_front, transfer_suffix, is_plain, word_text, compare_text, run_first, run_last, follows, swi_text};
+ghost use Rattle.assembler.specs.ShownLines.{amount_text, block_name, block_suffix, block_text, branch_text};
+ghost use Rattle.assembler.specs.ShownLines.{closed, comma_register, compare_front, cond_text, data_front};
+ghost use Rattle.assembler.specs.ShownLines.{data_immediate_text, data_register_shift_text};
+ghost use Rattle.assembler.specs.ShownLines.{data_register_text, factors_text, flags_text, has, list_operand};
+ghost use Rattle.assembler.specs.ShownLines.{list_text, listed, listed_below, load_name, mark_if, move_front};
+ghost use Rattle.assembler.specs.ShownLines.{multiply_text, numbered, offset_text, opened, register_text};
+ghost use Rattle.assembler.specs.ShownLines.{shift_text, shifted_text, shown_line, sign_of};
+ghost use Rattle.assembler.specs.ShownLines.{single_immediate_text, single_register_text, target_of};
+ghost use Rattle.assembler.specs.ShownLines.{three_front, transfer_front, transfer_suffix, is_plain};
+ghost use Rattle.assembler.specs.ShownLines.{word_text, compare_text, run_first, run_last, follows, swi_text};
 
 use crate::text::Line;
 use arm2_decode::{
@@ -188,7 +198,7 @@ impl Line {
         self.push_decimal(n);
     }
 
-    // A word with its condition and suffix, and the blank behind it.
+    // A word with its condition and suffix, and the blank after it.
     fn push_word(&mut self, name: &[u8], cond: Cond, suffix: &[u8])
         requires { length self.old + (length name.now + length suffix.now + 3) ≤ 64 }
         ensures text { self.new ≡ self.old ++ word_text name.now cond suffix.now }
@@ -330,7 +340,8 @@ impl Line {
     #[tactic(auto, using(crate::proofs::ShownLaws::and_none))]
     fn push_offset_of(&mut self, x: SingleImmediate)
         requires { length self.old + 14 ≤ 64 }
-        ensures text { self.new ≡ self.old ++ (if is_plain x then [] else offset_text x.before x.up x.offset) }
+        ensures text { self.new
+            ≡ self.old ++ (if is_plain x then [] else offset_text x.before x.up x.offset) }
         ensures room { length self.new ≤ length self.old + 14 }
     {
         if has_no_offset(x) {
@@ -353,7 +364,7 @@ impl Line {
         self.push_numbered(n);
     }
 
-    // A register of a list behind the one before: the last of its run, or within it.
+    // A register of a list after the one before: the last of its run, or within it.
     #[tactic(auto, using(crate::proofs::ShownLaws::and_none))]
     fn push_last(&mut self, list: u32, n: u32)
         requires number { n < 16 }

@@ -1,12 +1,18 @@
-ghost use Rattle.std.specs.Prelude.{◌≡◌, nat_lt, ◌&&◌, ◌-◌, ◌++◌, ◌+◌, ◌*◌, ◌∷◌, ◌≤◌, ◌<◌, ◌^◌, ◌⊎◌, [], ℕ, List, None, IfNone, IfOk, IfErr, OnOk, Ok, Err, length, map, option_map, is_some};
+ghost use Rattle.std.specs.Prelude.{◌≡◌, nat_lt, ◌&&◌, ◌-◌, ◌++◌, ◌+◌, ◌*◌, ◌∷◌, ◌≤◌, ◌<◌, ◌^◌, ◌⊎◌, [], ℕ};
+ghost use Rattle.std.specs.Prelude.{List, None, IfNone, IfOk, IfErr, OnOk, Ok, Err, length, map, option_map};
+ghost use Rattle.std.specs.Prelude.{is_some};
 ghost use Rattle.std.specs.List.{list_any};
 ghost use Rattle.asm_text.specs.Said.{target_of};
 ghost use Rattle.asm_text.specs.Source.{line_view};
 ghost use Rattle.asm_text.specs.Statements.{line_of};
 ghost use Rattle.loader.specs.Image.{may_hold};
-ghost use Rattle.assembler.specs.Sweeps.{all_placed, at_first, closed_state, in_memory as memory_has, is_17th as seventeenth, label_fault as label_fault_of, labelled, line_step, list_step, moved, org_fault as org_fault_of, open_has, org_step, overlaps as overlapped, pending_step, place_fault as place_fault_of, placed, said_step, target_pending, value_pending, word_pending, wrong_fault};
-ghost use Rattle.assembler.specs.Codes.{encoded as encoded_code};
-ghost use Rattle.assembler.specs.Views.{Faulted, item_of, name_of, pending_of, result_pending, span_of, state_of};
+ghost use Rattle.assembler.specs.Sweeps.{all_placed, at_first, closed_state, in_memory, is_17th, label_fault};
+ghost use Rattle.assembler.specs.Sweeps.{labelled, line_step, list_step, moved, org_fault, open_has};
+ghost use Rattle.assembler.specs.Sweeps.{org_step, overlaps, pending_step, place_fault, placed, said_step};
+ghost use Rattle.assembler.specs.Sweeps.{target_pending, value_pending, word_pending, wrong_fault};
+ghost use Rattle.assembler.specs.Codes.{encoded};
+ghost use Rattle.assembler.specs.Views.{Faulted, item_of, name_of, pending_of, result_pending, span_of};
+ghost use Rattle.assembler.specs.Views.{state_of};
 
 use crate::encoded::encoded;
 use crate::fault::{AsmFault, Fault, lower, lowest};
@@ -22,14 +28,14 @@ const MOST_WORDS: u64 = 65_536;
 /// The most segments of a source.
 const MOST_SEGMENTS: usize = 16;
 
-/// Words side by side: the address of the first, and that behind the last.
+/// Words side by side: the address of the first, and that after the last.
 #[derive(Clone, Copy)]
 pub struct Span {
     pub from: u32,
     pub to: u32,
 }
 
-/// What is known of a source behind some of its lines.
+/// What is known of a source after some of its lines.
 #[derive(Drop)]
 pub struct Sweep<'a> {
     /// The address of the next word.
@@ -45,7 +51,7 @@ pub struct Sweep<'a> {
 }
 
 fn in_memory(from: u64, to: u64) -> bool
-    ensures { result ≡ memory_has from to }
+    ensures { result ≡ in_memory from to }
 {
     to <= 0x300_0000 || (from >= 0x340_0000 && to <= 0x400_0000)
 }
@@ -64,13 +70,13 @@ fn any_overlaps(closed: &[Span], from: u64, to: u64) -> bool
 }
 
 fn overlaps(closed: &[Span], from: u64, to: u64) -> bool
-    ensures { result ≡ overlapped (map span_of closed.now) from to }
+    ensures { result ≡ overlaps (map span_of closed.now) from to }
 {
     any_overlaps(closed, from, to)
 }
 
 fn code_pending<'a>(code: Code, at: u32) -> Result<Pending<'a>, Fault>
-    ensures { result_pending result ≡ word_pending (encoded_code code at) }
+    ensures { result_pending result ≡ word_pending (encoded code at) }
 {
     match encoded(code, at) {
         Ok(word) => Ok(Pending::Fixed(word)),
@@ -126,7 +132,7 @@ impl<'a> Sweep<'a> {
     }
 
     fn label_fault(&self, label: Option<&[u8]>) -> Option<Fault>
-        ensures { result ≡ label_fault_of (state_of self.now) (name_of label.entry) }
+        ensures { result ≡ label_fault (state_of self.now) (name_of label.entry) }
     {
         let name = label?;
         if self.labels.get(name).is_some() {
@@ -138,7 +144,7 @@ impl<'a> Sweep<'a> {
 
     // Why so many words cannot stand next.
     fn place_fault(&self, count: usize) -> Option<Fault>
-        ensures value { result ≡ place_fault_of (state_of self.now) count }
+        ensures value { result ≡ place_fault (state_of self.now) count }
         ensures room { IfNone result (self.now.at + 4 * count ≤ 2 ^ 26) }
         ensures few { IfNone result (self.now.words + count ≤ 65536) }
     {
@@ -173,7 +179,7 @@ impl<'a> Sweep<'a> {
 
     // Why an ORG cannot have an address.
     fn org_fault(&self, address: u32) -> Option<Fault>
-        ensures value { result ≡ org_fault_of (state_of self.now) address }
+        ensures value { result ≡ org_fault (state_of self.now) address }
         ensures within { IfNone result (address ≤ 2 ^ 26) }
     {
         if !can_hold(address) {
@@ -210,7 +216,8 @@ impl<'a> Sweep<'a> {
     fn place(&mut self, line: usize, pending: Pending<'a>) -> Result<(), AsmFault>
         requires room { self.old.at + 4 ≤ 2 ^ 26 }
         requires few { self.old.words < 65536 }
-        ensures ok { OnOk result (state_of self.new ≡ placed (state_of self.old) line (pending_of pending.entry)) }
+        ensures ok { OnOk result
+            (state_of self.new ≡ placed (state_of self.old) line (pending_of pending.entry)) }
         ensures at { OnOk result (self.new.at ≡ self.old.at + 4) }
         ensures words { OnOk result (self.new.words ≡ self.old.words + 1) }
         ensures memory { IfErr result (λ fault. fault ≡ AsmFault.Memory) }
@@ -234,9 +241,13 @@ impl<'a> Sweep<'a> {
         label: Option<&[u8]>,
         pending: Result<Pending<'a>, Fault>,
     ) -> Result<(), AsmFault>
-        ensures ok { OnOk result (pending_step (state_of self.old) line (name_of label.entry) (result_pending pending.entry) ≡ Ok (state_of self.new)) }
+        ensures ok { OnOk result
+            (pending_step (state_of self.old) line (name_of label.entry) (result_pending pending.entry)
+            ≡ Ok (state_of self.new)) }
         ensures within { OnOk result (self.new.at ≤ 2 ^ 26) }
-        ensures err { IfErr result (λ fault. Faulted fault line (pending_step (state_of self.old) line (name_of label.entry) (result_pending pending.entry))) }
+        ensures err { IfErr result
+            (λ fault. Faulted fault line
+            (pending_step (state_of self.old) line (name_of label.entry) (result_pending pending.entry))) }
     {
         let around = lower(self.label_fault(label), self.place_fault(1));
         match pending {
@@ -269,9 +280,11 @@ impl<'a> Sweep<'a> {
         label: Option<&[u8]>,
         address: u32,
     ) -> Result<(), AsmFault>
-        ensures ok { OnOk result (org_step (state_of self.old) (name_of label.entry) address ≡ Ok (state_of self.new)) }
+        ensures ok { OnOk result
+            (org_step (state_of self.old) (name_of label.entry) address ≡ Ok (state_of self.new)) }
         ensures within { OnOk result (self.new.at ≤ 2 ^ 26) }
-        ensures err { IfErr result (λ fault. Faulted fault line (org_step (state_of self.old) (name_of label.entry) address)) }
+        ensures err { IfErr result
+            (λ fault. Faulted fault line (org_step (state_of self.old) (name_of label.entry) address)) }
     {
         let twice = self.label_fault(label);
         let taken = self.org_fault(address);
@@ -290,7 +303,8 @@ impl<'a> Sweep<'a> {
     fn place_all(&mut self, line: usize, values: &[Value<'a>]) -> Result<(), AsmFault>
         requires room { self.old.at + 4 * length values.now ≤ 2 ^ 26 }
         requires few { self.old.words + length values.now ≤ 65536 }
-        ensures ok { OnOk result (state_of self.new ≡ all_placed (state_of self.old) line (map target_of values.now)) }
+        ensures ok { OnOk result
+            (state_of self.new ≡ all_placed (state_of self.old) line (map target_of values.now)) }
         ensures within { OnOk result (self.new.at ≤ 2 ^ 26) }
         ensures memory { IfErr result (λ fault. fault ≡ AsmFault.Memory) }
     {
@@ -307,9 +321,13 @@ impl<'a> Sweep<'a> {
         label: Option<&[u8]>,
         values: &[Value<'a>],
     ) -> Result<(), AsmFault>
-        ensures ok { OnOk result (list_step (state_of self.old) line (name_of label.entry) (map target_of values.now) ≡ Ok (state_of self.new)) }
+        ensures ok { OnOk result
+            (list_step (state_of self.old) line (name_of label.entry) (map target_of values.now)
+            ≡ Ok (state_of self.new)) }
         ensures within { OnOk result (self.new.at ≤ 2 ^ 26) }
-        ensures err { IfErr result (λ fault. Faulted fault line (list_step (state_of self.old) line (name_of label.entry) (map target_of values.now))) }
+        ensures err { IfErr result
+            (λ fault. Faulted fault line
+            (list_step (state_of self.old) line (name_of label.entry) (map target_of values.now))) }
     {
         let around = lower(self.label_fault(label), self.place_fault(values.len()));
         if let Some(fault) = around {
@@ -326,9 +344,11 @@ impl<'a> Sweep<'a> {
         label: Option<&[u8]>,
     ) -> Result<(), AsmFault>
         requires { self.old.at ≤ 2 ^ 26 }
-        ensures ok { OnOk result (said_step (state_of self.old) line (name_of label.entry) None ≡ Ok (state_of self.new)) }
+        ensures ok { OnOk result
+            (said_step (state_of self.old) line (name_of label.entry) None ≡ Ok (state_of self.new)) }
         ensures within { OnOk result (self.new.at ≤ 2 ^ 26) }
-        ensures err { IfErr result (λ fault. Faulted fault line (said_step (state_of self.old) line (name_of label.entry) None)) }
+        ensures err { IfErr result
+            (λ fault. Faulted fault line (said_step (state_of self.old) line (name_of label.entry) None)) }
     {
         if let Some(fault) = self.label_fault(label) {
             return Err(AsmFault::Line(fault, line));
@@ -338,9 +358,11 @@ impl<'a> Sweep<'a> {
 
     fn parsed_line(&mut self, alloc: Global, line: usize, parsed: &Line<'a>) -> Result<(), AsmFault>
         requires { self.old.at ≤ 2 ^ 26 }
-        ensures ok { OnOk result (line_step (state_of self.old) line (Ok (line_view parsed.now)) ≡ Ok (state_of self.new)) }
+        ensures ok { OnOk result
+            (line_step (state_of self.old) line (Ok (line_view parsed.now)) ≡ Ok (state_of self.new)) }
         ensures within { OnOk result (self.new.at ≤ 2 ^ 26) }
-        ensures err { IfErr result (λ fault. Faulted fault line (line_step (state_of self.old) line (Ok (line_view parsed.now)))) }
+        ensures err { IfErr result
+            (λ fault. Faulted fault line (line_step (state_of self.old) line (Ok (line_view parsed.now)))) }
     {
         let label = parsed.label;
         match &parsed.statement {
@@ -358,7 +380,7 @@ impl<'a> Sweep<'a> {
         }
     }
 
-    /// Goes behind a line, or answers its lowest fault.
+    /// Goes past a line, or answers its lowest fault.
     pub(crate) fn read(
         &mut self,
         alloc: Global,
@@ -366,9 +388,11 @@ impl<'a> Sweep<'a> {
         text: &'a [u8],
     ) -> Result<(), AsmFault>
         requires { self.old.at ≤ 2 ^ 26 }
-        ensures ok { OnOk result (line_step (state_of self.old) line (line_of text.now) ≡ Ok (state_of self.new)) }
+        ensures ok { OnOk result
+            (line_step (state_of self.old) line (line_of text.now) ≡ Ok (state_of self.new)) }
         ensures within { OnOk result (self.new.at ≤ 2 ^ 26) }
-        ensures err { IfErr result (λ fault. Faulted fault line (line_step (state_of self.old) line (line_of text.now))) }
+        ensures err { IfErr result
+            (λ fault. Faulted fault line (line_step (state_of self.old) line (line_of text.now))) }
     {
         match read_line(alloc, text) {
             Ok(parsed) => self.parsed_line(alloc, line, &parsed),

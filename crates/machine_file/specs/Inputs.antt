@@ -1,5 +1,6 @@
 -- The inputs of a machine file's steps, by its events (our own).
-use Rattle.std.specs.Prelude.{◌≡◌, ◌<◌, ◌⊎◌, ◌+◌, ℕ, List, length, Option, Some, None, option_map, nat_eq, slice_index_or, unwrap_or}
+use Rattle.std.specs.Prelude.{◌≡◌, ◌<◌, ◌⊎◌, ◌+◌, ℕ, List, length, Option, Some, None, option_map, nat_eq}
+use Rattle.std.specs.Prelude.{slice_index_or, unwrap_or}
 use Rattle.std.specs.Map.{lookup}
 use Rattle.std.specs.Option.{option_and_then}
 use Rattle.arm2_exec.specs.declared.machine.Input.{Input}
@@ -26,7 +27,8 @@ IsLast given start end value =
     ((k : ℕ) × (k < end) × (given k ≡ Some value) × ((j : ℕ) → k < j → j < end → given j ≡ None))
     ⊎ (((j : ℕ) → j < end → given j ≡ None) × (value ≡ start))
 
--- the input of a step: the bursts of its event, and the lines and the port of the last event up to it that has them
+-- the input of a step: the bursts of its event, and the lines and the port of the last event up to it that
+-- has them
 pub record IsInput (s : Schedule) (k : ℕ) (input : Input) : Type 0 where
   pub bursts : input.bursts ≡ bursts_of_step s k
   pub lines : IsLast (lines_of_step s) (record { 0 = 0 }) (k + 1) input.lines
@@ -35,4 +37,5 @@ pub record IsInput (s : Schedule) (k : ℕ) (input : Input) : Type 0 where
 -- one input for each step
 pub record AreInputs (s : Schedule) (inputs : List Input) : Type 0 where
   pub count : length inputs ≡ s.steps
-  pub each : (k : ℕ) (input : Input) → k < length inputs → input ≡ slice_index_or inputs k input → IsInput s k input
+  pub each : (k : ℕ) (input : Input) → k < length inputs → input ≡ slice_index_or inputs k input
+      → IsInput s k input

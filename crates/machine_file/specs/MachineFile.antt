@@ -1,6 +1,8 @@
--- Which machine a text states, and its faults, of which the lowest over the whole text is answered. Source: our own format of
--- machine files, over the documents of TOML.
-use Rattle.std.specs.Prelude.{◌==◌, ◌&&◌, not, ◌-◌, ◌%◌, ◌^◌, ℕ, ℤ, pos, negsuc, Bool, List, map, fold, replicate, codes, count_by, nat_lt, nat_le, if◌then◌else◌, Option, Some, None, Ok, Err, option_map}
+-- Which machine a text states, and its faults, of which the lowest over the whole text is answered. Source:
+-- our own format of machine files, over the documents of TOML.
+use Rattle.std.specs.Prelude.{◌==◌, ◌&&◌, not, ◌-◌, ◌%◌, ◌^◌, ℕ, ℤ, pos, negsuc, Bool, List, map, fold}
+use Rattle.std.specs.Prelude.{replicate, codes, count_by, nat_lt, nat_le, if◌then◌else◌, Option, Some, None}
+use Rattle.std.specs.Prelude.{Ok, Err, option_map}
 use Rattle.std.specs.Int.RustNames.{bit_or}
 use Rattle.std.specs.List.{list_all}
 use Rattle.std.specs.Map.{keys_of}
@@ -14,15 +16,18 @@ use Rattle.ioc.specs.declared.lines.Lines.{Lines}
 use Rattle.memc.specs.Memory.{shift_of_size}
 use Rattle.memc.specs.declared.spots.PageSize.{PageSize}
 use Rattle.memc.specs.declared.spots.PageSize.TheVariants.{K4, K8, K16, K32}
-use Rattle.toml_reading.specs.Documents.{IsAnswer, are_distinct, list_at, number_at, number_in, number_or, of_keys, tables_at}
+use Rattle.toml_reading.specs.Documents.{IsAnswer, are_distinct, list_at, number_at, number_in, number_or}
+use Rattle.toml_reading.specs.Documents.{of_keys, tables_at}
 use Rattle.toml_reading.specs.Readings.{Reading, all, and_then, both, optional, required, seen}
 use Rattle.machine_file.specs.MachineFaults.{machine_faults}
-use Rattle.machine_file.specs.Names.{event_keys, file_keys, line_names, map_keys, name_of, named_mode, named_registers, register_keys}
+use Rattle.machine_file.specs.Names.{event_keys, file_keys, line_names, map_keys, name_of, named_mode}
+use Rattle.machine_file.specs.Names.{named_registers, register_keys}
 use Rattle.machine_file.specs.Stated.{Controller, Processor, Schedule, Stated}
 use Rattle.machine_file.specs.declared.events.Event.{Event}
 use Rattle.machine_file.specs.declared.flags.PsrFlags.{PsrFlags}
 use Rattle.machine_file.specs.declared.machine_faults.MachineFileFault.{MachineFileFault}
-use Rattle.machine_file.specs.declared.machine_faults.MachineFileFault.TheVariants.{NotToml, WrongKind, OutOfRange, Twice}
+use Rattle.machine_file.specs.declared.machine_faults.MachineFileFault.TheVariants.{NotToml, WrongKind}
+use Rattle.machine_file.specs.declared.machine_faults.MachineFileFault.TheVariants.{OutOfRange, Twice}
 use Rattle.machine_file.specs.declared.pages.MappedPage.{MappedPage}
 
 abbrev pub Read : Type 0 → Type 0
@@ -53,10 +58,20 @@ has text letter = not (times letter text == 0)
 
 -- the flags whose letters stand there are set: 78 N, 90 Z, 67 C, 86 V, 73 I, 70 F
 abbrev pub set_flags : List ℕ → PsrFlags
-set_flags text = record { negative = has text 78; zero = has text 90; carry = has text 67; overflow = has text 86; irq_masked = has text 73; fiq_masked = has text 70 }
+set_flags text =
+    record {
+      negative = has text 78;
+      zero = has text 90;
+      carry = has text 67;
+      overflow = has text 86;
+      irq_masked = has text 73;
+      fiq_masked = has text 70;
+    }
 
 abbrev pub lettered : List ℕ → Read PsrFlags
-lettered text = if list_all is_letter text then (if is_single text then Ok (set_flags text) else Err Twice) else Err WrongKind
+lettered text =
+    if list_all is_letter text then (if is_single text then Ok (set_flags text) else Err Twice)
+    else Err WrongKind
 
 abbrev pub flags_at : Data → Read PsrFlags
 flags_at d = required machine_faults (as_str d) lettered
@@ -89,7 +104,8 @@ abbrev pub register_in : Members → Reg → Read ℕ
 register_in ms r = word_or (name_of r) 0 ms
 
 abbrev pub registers_of : Members → Read (List ℕ)
-registers_of ms = of_keys machine_faults register_keys ms (all machine_faults (map (register_in ms) named_registers))
+registers_of ms =
+    of_keys machine_faults register_keys ms (all machine_faults (map (register_in ms) named_registers))
 
 abbrev pub registers_at : Data → Read (List ℕ)
 registers_at d = required machine_faults (as_table d) registers_of
@@ -102,13 +118,18 @@ processor_of p = record { pc = p.0.0; mode = p.0.1.0; flags = p.0.1.1; registers
 
 abbrev pub processor_in : Members → Read Processor
 processor_in ms =
-    seen processor_of (both machine_faults (both machine_faults (pc_in ms) (both machine_faults (mode_in ms) (flags_in ms))) (registers_in ms))
+    seen processor_of
+    (both machine_faults (both machine_faults (pc_in ms) (both machine_faults (mode_in ms) (flags_in ms)))
+    (registers_in ms))
 
 -- ## The memory controller
 
 -- 4, 8, 16 or 32 KB
 abbrev pub size_of : ℤ → Read PageSize
-size_of (pos n) = if n == 4 then Ok K4 else (if n == 8 then Ok K8 else (if n == 16 then Ok K16 else (if n == 32 then Ok K32 else Err OutOfRange)))
+size_of (pos n) =
+    if n == 4 then Ok K4
+    else
+    (if n == 8 then Ok K8 else (if n == 16 then Ok K16 else (if n == 32 then Ok K32 else Err OutOfRange)))
 size_of (negsuc n) = Err OutOfRange
 
 abbrev pub size_at : Data → Read PageSize
@@ -126,7 +147,10 @@ page_in ms =
     machine_faults
     map_keys
     ms
-    (seen page_of (both machine_faults (both machine_faults (word_in (codes "logical") ms) (word_in (codes "physical") ms)) (word_in (codes "level") ms)))
+    (seen page_of
+    (both machine_faults
+    (both machine_faults (word_in (codes "logical") ms) (word_in (codes "physical") ms))
+    (word_in (codes "level") ms)))
 
 abbrev pub page_at : Data → Read MappedPage
 page_at d = required machine_faults (as_table d) page_in
@@ -141,14 +165,20 @@ are_single pages = are_distinct (map (λ p. p.logical) pages) && are_distinct (m
 -- pages of that size that can be mapped beside one another
 abbrev pub mapped : PageSize × List MappedPage → Read (PageSize × List MappedPage)
 mapped p =
-    if list_all (is_mappable (shift_of_size p.0)) p.1 then (if are_single p.1 then Ok p else Err Twice) else Err OutOfRange
+    if list_all (is_mappable (shift_of_size p.0)) p.1 then (if are_single p.1 then Ok p else Err Twice)
+    else Err OutOfRange
 
 abbrev pub pages_in : Members → Read (PageSize × List MappedPage)
-pages_in ms = and_then (both machine_faults (size_in ms) (tables_at machine_faults page_at (get_member (codes "map") ms))) mapped
+pages_in ms =
+    and_then
+    (both machine_faults (size_in ms)
+    (tables_at machine_faults page_at (get_member (codes "map") ms))) mapped
 
 -- the time fields of low and high ROM
 abbrev pub rom_in : Members → Read (ℕ × ℕ)
-rom_in ms = both machine_faults (number_or machine_faults (codes "low_rom") 3 0 ms) (number_or machine_faults (codes "high_rom") 3 0 ms)
+rom_in ms =
+    both machine_faults (number_or machine_faults (codes "low_rom") 3 0 ms)
+    (number_or machine_faults (codes "high_rom") 3 0 ms)
 
 abbrev pub controller_of : (ℕ × ℕ) × (PageSize × List MappedPage) → Controller
 controller_of p = record { size = p.1.0; low_rom = p.0.0; high_rom = p.0.1; pages = p.1.1 }
@@ -190,7 +220,10 @@ event_in ms =
     machine_faults
     event_keys
     ms
-    (seen event_of (both machine_faults (number_in machine_faults (codes "step") 65535 ms) (both machine_faults (number_or machine_faults (codes "bursts") 65535 0 ms) (both machine_faults (lines_in ms) (port_in ms)))))
+    (seen event_of
+    (both machine_faults (number_in machine_faults (codes "step") 65535 ms)
+    (both machine_faults (number_or machine_faults (codes "bursts") 65535 0 ms)
+    (both machine_faults (lines_in ms) (port_in ms)))))
 
 abbrev pub event_at : Data → Read (ℕ × Event)
 event_at d = required machine_faults (as_table d) event_in
@@ -203,7 +236,9 @@ abbrev pub events_in : Members → Read (List (ℕ × Event))
 events_in ms = and_then (tables_at machine_faults event_at (get_member (codes "event") ms)) once
 
 abbrev pub counts_in : Members → Read (ℕ × ℕ)
-counts_in ms = both machine_faults (number_or machine_faults (codes "steps") 65536 65536 ms) (word_or (codes "port") 0 ms)
+counts_in ms =
+    both machine_faults (number_or machine_faults (codes "steps") 65536 65536 ms)
+    (word_or (codes "port") 0 ms)
 
 abbrev pub schedule_of : (ℕ × ℕ) × List (ℕ × Event) → Schedule
 schedule_of p = record { steps = p.0.0; port = p.0.1; events = p.1 }
@@ -222,8 +257,9 @@ machine_in ms =
     machine_faults
     file_keys
     ms
-    (seen stated_of (both machine_faults (processor_in ms) (both machine_faults (controller_in ms) (schedule_in ms))))
+    (seen stated_of
+    (both machine_faults (processor_in ms) (both machine_faults (controller_in ms) (schedule_in ms))))
 
--- the answer to a text, but for want of memory
+-- the answer to a text, but for lack of memory
 abbrev pub IsMachineFile : List ℕ → Read Stated → Type 0
 IsMachineFile text answer = IsAnswer NotToml machine_in text answer

@@ -1,15 +1,20 @@
--- The words, letters and names of machine files, and the keys of their tables (our own format; the lines' names and bits are
--- those of IOC's lines).
+-- The words, letters and names of machine files, and the keys of their tables (our own format; the lines'
+-- names and bits are those of IOC's lines).
 use Rattle.std.specs.Prelude.{ℕ, List, [], ◌∷◌, map, codes, Option, Some, None, if◌then◌else◌}
 use Rattle.std.specs.Str.{bytes_eq}
 use Rattle.arm2_effect.specs.declared.modes.Mode.{Mode}
 use Rattle.arm2_effect.specs.declared.modes.Mode.TheVariants.{User, Fiq, Irq, Svc}
 use Rattle.arm2_effect.specs.declared.modes.Reg.{Reg}
-use Rattle.arm2_effect.specs.declared.modes.Reg.TheVariants.{R0, R1, R2, R3, R4, R5, R6, R7, R8, R9, R10, R11, R12, R13, R14, R8Fiq, R9Fiq, R10Fiq, R11Fiq, R12Fiq, R13Fiq, R14Fiq, R13Irq, R14Irq, R13Svc, R14Svc, R15}
+use Rattle.arm2_effect.specs.declared.modes.Reg.TheVariants.{R0, R1, R2, R3, R4, R5, R6, R7, R8, R9, R10, R11}
+use Rattle.arm2_effect.specs.declared.modes.Reg.TheVariants.{R12, R13, R14, R8Fiq, R9Fiq, R10Fiq, R11Fiq}
+use Rattle.arm2_effect.specs.declared.modes.Reg.TheVariants.{R12Fiq, R13Fiq, R14Fiq, R13Irq, R14Irq, R13Svc}
+use Rattle.arm2_effect.specs.declared.modes.Reg.TheVariants.{R14Svc, R15}
 
 -- the registers that a file may name, in their order
 abbrev pub named_registers : List Reg
-named_registers = R0 ∷ R1 ∷ R2 ∷ R3 ∷ R4 ∷ R5 ∷ R6 ∷ R7 ∷ R8 ∷ R9 ∷ R10 ∷ R11 ∷ R12 ∷ R13 ∷ R14 ∷ R8Fiq ∷ R9Fiq ∷ R10Fiq ∷ R11Fiq ∷ R12Fiq ∷ R13Fiq ∷ R14Fiq ∷ R13Irq ∷ R14Irq ∷ R13Svc ∷ R14Svc ∷ []
+named_registers =
+    R0 ∷ R1 ∷ R2 ∷ R3 ∷ R4 ∷ R5 ∷ R6 ∷ R7 ∷ R8 ∷ R9 ∷ R10 ∷ R11 ∷ R12 ∷ R13 ∷ R14 ∷ R8Fiq ∷ R9Fiq ∷ R10Fiq
+    ∷ R11Fiq ∷ R12Fiq ∷ R13Fiq ∷ R14Fiq ∷ R13Irq ∷ R14Irq ∷ R13Svc ∷ R14Svc ∷ []
 
 abbrev pub name_of : Reg → List ℕ
 name_of R0 = codes "r0"
@@ -44,7 +49,8 @@ name_of R15 = codes "r15"
 
 abbrev pub file_keys : List (List ℕ)
 file_keys =
-    codes "pc" ∷ codes "pages" ∷ codes "mode" ∷ codes "flags" ∷ codes "low_rom" ∷ codes "high_rom" ∷ codes "steps" ∷ codes "port" ∷ codes "registers"
+    codes "pc" ∷ codes "pages" ∷ codes "mode" ∷ codes "flags" ∷ codes "low_rom" ∷ codes "high_rom"
+    ∷ codes "steps" ∷ codes "port" ∷ codes "registers"
     ∷ codes "map" ∷ codes "event" ∷ []
 
 abbrev pub register_keys : List (List ℕ)
@@ -60,8 +66,14 @@ event_keys = codes "step" ∷ codes "bursts" ∷ codes "lines" ∷ codes "port" 
 
 abbrev pub named_mode : List ℕ → Option Mode
 named_mode w = if bytes_eq w (codes "user") then Some User else (if bytes_eq w (codes "fiq") then Some Fiq
-    else (if bytes_eq w (codes "irq") then Some Irq else (if bytes_eq w (codes "svc") then Some Svc else None)))
+    else
+    (if bytes_eq w (codes "irq") then Some Irq
+    else (if bytes_eq w (codes "svc") then Some Svc else None)))
 
 -- the names of the interrupt lines, each with its bit
 abbrev pub line_names : List (List ℕ × ℕ)
-line_names = (codes "A0", 0x1) ∷ (codes "A1", 0x2) ∷ (codes "A2", 0x4) ∷ (codes "IL0", 0x100) ∷ (codes "B1", 0x200) ∷ (codes "B2", 0x400) ∷ (codes "B3", 0x800) ∷ (codes "B4", 0x1000) ∷ (codes "B5", 0x2000) ∷ (codes "B6", 0x4000) ∷ (codes "B7", 0x8000) ∷ (codes "F0", 0x10000) ∷ (codes "F1", 0x20000) ∷ (codes "F2", 0x40000) ∷ (codes "F3", 0x80000) ∷ (codes "F4", 0x100000) ∷ (codes "F5", 0x200000) ∷ []
+line_names =
+    (codes "A0", 0x1) ∷ (codes "A1", 0x2) ∷ (codes "A2", 0x4) ∷ (codes "IL0", 0x100) ∷ (codes "B1", 0x200)
+    ∷ (codes "B2", 0x400) ∷ (codes "B3", 0x800) ∷ (codes "B4", 0x1000) ∷ (codes "B5", 0x2000)
+    ∷ (codes "B6", 0x4000) ∷ (codes "B7", 0x8000) ∷ (codes "F0", 0x10000) ∷ (codes "F1", 0x20000)
+    ∷ (codes "F2", 0x40000) ∷ (codes "F3", 0x80000) ∷ (codes "F4", 0x100000) ∷ (codes "F5", 0x200000) ∷ []

@@ -1,6 +1,7 @@
--- What a cycle profile file states and which faults it has, told of its keys one by one. Source: our own format of cycle profile
--- files, over the documents of TOML.
-use Rattle.std.specs.Prelude.{◌≡◌, ◌≢◌, ◌⊎◌, ◌-◌, ◌^◌, ℕ, true, false, List, [], ◌∷◌, length, codes, Any, MatchOption}
+-- What a cycle profile file states and which faults it has, told of its keys one by one. Source: our own
+-- format of cycle profile files, over the documents of TOML.
+use Rattle.std.specs.Prelude.{◌≡◌, ◌≢◌, ◌⊎◌, ◌-◌, ◌^◌, ℕ, true, false, List, [], ◌∷◌, length, codes, Any}
+use Rattle.std.specs.Prelude.{MatchOption}
 use Rattle.toml.specs.Data.{Data, Members}
 use Rattle.bus_ticks.specs.Ranges.{AreInRange, AreOrdered}
 use Rattle.toml_reading.specs.Documents.{has_only_keys, items_at}
@@ -8,7 +9,8 @@ use Rattle.toml_reading.specs.Lowest.{AtKey, AtKeyOr, IsListOf, IsNumber, Number
 use Rattle.machine_file.specs.ProfileFaults.{profile_faults}
 use Rattle.machine_file.specs.ProfileFile.{profile_keys}
 use Rattle.machine_file.specs.declared.profile_faults.ProfileFileFault.{ProfileFileFault}
-use Rattle.machine_file.specs.declared.profile_faults.ProfileFileFault.TheVariants.{UnknownKey, WrongKind, OutOfRange, Disordered}
+use Rattle.machine_file.specs.declared.profile_faults.ProfileFileFault.TheVariants.{UnknownKey, WrongKind}
+use Rattle.machine_file.specs.declared.profile_faults.ProfileFileFault.TheVariants.{OutOfRange, Disordered}
 
 -- ## Prices
 
@@ -22,11 +24,14 @@ TicksFault d fault = NumberFault profile_faults (2 ^ 32 - 1) d fault
 -- the faults of a list of four such numbers
 abbrev pub FourFault : Data → ProfileFileFault → Type 0
 FourFault d fault =
-    MatchOption (items_at d) (fault ≡ WrongKind) (λ ds. ((length ds ≢ 4) × (fault ≡ WrongKind)) ⊎ Any (λ e. TicksFault e fault) ds)
+    MatchOption (items_at d) (fault ≡ WrongKind)
+    (λ ds. ((length ds ≢ 4) × (fault ≡ WrongKind)) ⊎ Any (λ e. TicksFault e fault) ds)
 
 -- the keys that take one number, and those that take a list of four
 abbrev pub number_keys : List (List ℕ)
-number_keys = codes "n" ∷ codes "s" ∷ codes "quad" ∷ codes "control" ∷ codes "unfitted" ∷ codes "internal" ∷ codes "burst" ∷ []
+number_keys =
+    codes "n" ∷ codes "s" ∷ codes "quad" ∷ codes "control" ∷ codes "unfitted" ∷ codes "internal"
+    ∷ codes "burst" ∷ []
 
 abbrev pub list_keys : List (List ℕ)
 list_keys = codes "rom" ∷ codes "io" ∷ []
@@ -35,7 +40,9 @@ list_keys = codes "rom" ∷ codes "io" ∷ []
 
 -- the fifteen numbers that stand at the nine keys, all of which are required
 abbrev pub StatesNumbers : Members → List ℕ → Type 0
-StatesNumbers ms (n ∷ s ∷ quad ∷ rom_0 ∷ rom_1 ∷ rom_2 ∷ rom_3 ∷ slow ∷ medium ∷ fast ∷ synchronous ∷ control ∷ unfitted ∷ internal ∷ burst ∷ []) =
+StatesNumbers ms
+    (n ∷ s ∷ quad ∷ rom_0 ∷ rom_1 ∷ rom_2 ∷ rom_3 ∷ slow ∷ medium ∷ fast ∷ synchronous ∷ control ∷ unfitted
+    ∷ internal ∷ burst ∷ []) =
     AtKey (codes "n") ms (λ d. IsTicks d n)
     × AtKey (codes "s") ms (λ d. IsTicks d s)
     × AtKey (codes "quad") ms (λ d. IsTicks d quad)
@@ -71,4 +78,5 @@ OrderFault ms fault =
 
 abbrev pub HasProfileFault : Members → ProfileFileFault → Type 0
 HasProfileFault ms fault =
-    ((has_only_keys profile_keys ms ≡ false) × (fault ≡ UnknownKey)) ⊎ PriceFault ms fault ⊎ OrderFault ms fault
+    ((has_only_keys profile_keys ms ≡ false) × (fault ≡ UnknownKey)) ⊎ PriceFault ms fault
+    ⊎ OrderFault ms fault

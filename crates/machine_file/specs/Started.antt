@@ -1,6 +1,7 @@
--- The machine that a file states: as it is after a reset, but for what the file states (our own; R15 and the memory controller by
--- the data sheets of VL86C010 and VL86C110).
-use Rattle.std.specs.Prelude.{◌≡◌, ◌+◌, ◌*◌, ◌^◌, ◌<◌, ◌≤◌, ◌==◌, ◌++◌, ℕ, List, [], ◌∷◌, length, All, if◌then◌else◌, Option, Some, None}
+-- The machine that a file states: as it is after a reset, but for what the file states (our own; R15 and the
+-- memory controller by the data sheets of VL86C010 and VL86C110).
+use Rattle.std.specs.Prelude.{◌≡◌, ◌+◌, ◌*◌, ◌^◌, ◌<◌, ◌≤◌, ◌==◌, ◌++◌, ℕ, List, [], ◌∷◌, length, All}
+use Rattle.std.specs.Prelude.{if◌then◌else◌, Option, Some, None}
 use Rattle.arm2_decode.specs.Allowed.{bit_of}
 use Rattle.arm2_effect.specs.ProgramCounter.{r15_of}
 use Rattle.arm2_exec.specs.State.{State}
@@ -17,7 +18,8 @@ use Rattle.machine_file.specs.declared.pages.MappedPage.{MappedPage}
 -- N Z C V I F, as a number with F lowest
 abbrev pub psr_number : PsrFlags → ℕ
 psr_number f =
-    bit_of f.negative * 32 + bit_of f.zero * 16 + bit_of f.carry * 8 + bit_of f.overflow * 4 + bit_of f.irq_masked * 2 + bit_of f.fiq_masked
+    bit_of f.negative * 32 + bit_of f.zero * 16 + bit_of f.carry * 8 + bit_of f.overflow * 4
+    + bit_of f.irq_masked * 2 + bit_of f.fiq_masked
 
 abbrev pub r15_in : Processor → ℕ
 r15_in p = r15_of (psr_number p.flags) p.pc p.mode
@@ -25,7 +27,9 @@ r15_in p = r15_of (psr_number p.flags) p.pc p.mode
 -- where a list puts a logical page
 abbrev pub stated_at : List MappedPage → ℕ → Option Entry
 stated_at [] logical = None
-stated_at (p ∷ ps) logical = if p.logical == logical then Some (record { physical = p.physical; level = p.level }) else stated_at ps logical
+stated_at (p ∷ ps) logical =
+    if p.logical == logical then Some (record { physical = p.physical; level = p.level })
+    else stated_at ps logical
 
 -- the map after a reset
 pub record IsResetMap (paged : Paged) : Type 0 where

@@ -13,8 +13,8 @@ pub record Processor : Type 0 where
   pub flags : PsrFlags
   pub registers : List ℕ
 
--- the memory controller: the page size, the ROM time fields, and the mapped pages in the text's order, none where the reset
--- map stays
+-- the memory controller: the page size, the ROM time fields, and the mapped pages in the text's order, none
+-- where the reset map stays
 pub record Controller : Type 0 where
   pub size : PageSize
   pub low_rom : ℕ

@@ -3,7 +3,9 @@ ghost use Rattle.toml_reading.specs.Readings.{seen};
 ghost use Rattle.toml.specs.View.{table_view, view};
 ghost use Rattle.toml_reading.specs.Documents.{number_at, number_or};
 ghost use Rattle.machine_file.specs.MachineFaults.{machine_faults};
-ghost use Rattle.machine_file.specs.MachineFile.{counts_in, event_at, event_in, events_in, line_at, lines_at, lines_in, named_line, once, port_at, port_in, schedule_in, union};
+ghost use Rattle.machine_file.specs.MachineFile.{counts_in, event_at, event_in, events_in, line_at, lines_at};
+ghost use Rattle.machine_file.specs.MachineFile.{lines_in, named_line, once, port_at, port_in, schedule_in};
+ghost use Rattle.machine_file.specs.MachineFile.{union};
 
 use crate::machine_faults::{MachineFileFault, Read};
 use bitflags::Flags;

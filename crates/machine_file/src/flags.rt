@@ -1,7 +1,8 @@
 ghost use Rattle.std.specs.Prelude.{◌≡◌};
 ghost use Rattle.std.specs.List.{list_all};
 ghost use Rattle.toml.specs.View.{table_view, view};
-ghost use Rattle.machine_file.specs.MachineFile.{flags_at, flags_in, has, is_letter, is_single, lettered, set_flags, times};
+ghost use Rattle.machine_file.specs.MachineFile.{flags_at, flags_in, has, is_letter, is_single, lettered};
+ghost use Rattle.machine_file.specs.MachineFile.{set_flags, times};
 
 use crate::machine_faults::{MachineFileFault, Read};
 use toml::{Table, Value};

@@ -57,7 +57,8 @@ impl Schedule {
 }
 
 impl MachineFile {
-    /// The inputs of the file's steps, in their order, in time linear in the steps. An error is a growth that was refused.
+    /// The inputs of the file's steps, in their order, in time linear in the steps. An error says that an
+    /// allocation failed.
     pub fn inputs(&self, alloc: Global) -> Result<Vec<Input>, AllocError>
         ensures { IfOk result (λ inputs. AreInputs self.now.schedule inputs.items) }
     {

@@ -1,5 +1,5 @@
-//! Machine files and cycle profile files: the state from which a machine starts with its inputs, and the prices of its
-//! accesses, read from TOML.
+//! Machine files and cycle profile files: the state from which a machine starts with its inputs, and the
+//! prices of its accesses, read from TOML.
 #![tactic(auto)]
 
 mod events;

@@ -10,16 +10,18 @@ pub(crate) type Read<T> = Reading<T, MachineFileFault>;
 /// Why a text is no machine file. Of several faults over the whole text the first of these is answered.
 #[derive(Clone, Copy, Debug, PartialEq, Eq, Drop, Error)]
 pub enum MachineFileFault {
-    /// A growth was refused.
+    /// An allocation failed.
     #[error("Memory")]
     Memory,
     /// The bytes are not UTF-8 or no TOML document.
     #[error("NotToml")]
     NotToml,
-    /// The file, or a table in it, has a key that it may not have, or a register that is none of those it may name.
+    /// The file, or a table in it, has a key that it may not have, or a register that is none of those it may
+    /// name.
     #[error("UnknownKey")]
     UnknownKey,
-    /// A key is missing, a value has another type than its key takes, or a word, a letter or a line's name is unknown.
+    /// A key is missing, a value has another type than its key takes, or a word, a letter or a line's name is
+    /// unknown.
     #[error("WrongKind")]
     WrongKind,
     /// A number is none of those that its key takes.

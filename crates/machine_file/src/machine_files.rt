@@ -2,7 +2,8 @@ ghost use Rattle.std.specs.Prelude.{◌≡◌, ◌≢◌, ◌≤◌, Err, IfOk, 
 ghost use Rattle.toml.specs.View.{table_view};
 ghost use Rattle.toml_reading.specs.Readings.{both, seen};
 ghost use Rattle.machine_file.specs.MachineFaults.{machine_faults};
-ghost use Rattle.machine_file.specs.MachineFile.{IsMachineFile, controller_in, machine_in, processor_in, schedule_in, stated_of};
+ghost use Rattle.machine_file.specs.MachineFile.{IsMachineFile, controller_in, machine_in, processor_in};
+ghost use Rattle.machine_file.specs.MachineFile.{schedule_in, stated_of};
 
 use crate::events::{Event, Schedule, read_schedule};
 use crate::flags::PsrFlags;
@@ -45,7 +46,8 @@ impl Model for MachineFile {
 
     ghost Value = { Stated };
 
-    ghost view = { λ f. record { processor = f.processor; controller = f.controller; schedule = f.schedule } };
+    ghost view = { λ f. record
+        { processor = f.processor; controller = f.controller; schedule = f.schedule } };
 }
 
 impl MachineFile {
@@ -134,14 +136,19 @@ type Parts = (Processor, (Controller, Schedule));
 
 // The memory controller, and what comes from outside.
 fn surroundings(alloc: Global, table: &Table) -> Result<Read<(Controller, Schedule)>, AllocError>
-    ensures { IfOk result (λ parts. parts ≡ both machine_faults (controller_in (table_view table.now)) (schedule_in (table_view table.now))) }
+    ensures { IfOk result
+        (λ parts. parts
+        ≡ both machine_faults (controller_in (table_view table.now)) (schedule_in (table_view table.now))) }
 {
     let controller = read_controller(alloc, table)?;
     Ok(pair(controller, read_schedule(alloc, table)?))
 }
 
 fn parts(alloc: Global, table: &Table) -> Result<Read<Parts>, AllocError>
-    ensures { IfOk result (λ parts. parts ≡ both machine_faults (processor_in (table_view table.now)) (both machine_faults (controller_in (table_view table.now)) (schedule_in (table_view table.now)))) }
+    ensures { IfOk result
+        (λ parts. parts
+        ≡ both machine_faults (processor_in (table_view table.now))
+        (both machine_faults (controller_in (table_view table.now)) (schedule_in (table_view table.now)))) }
 {
     let processor = read_processor(alloc, table)?;
     Ok(pair(processor, surroundings(alloc, table)?))
@@ -176,8 +183,8 @@ fn of_table(alloc: Global, table: &Table) -> Result<Read<MachineFile>, AllocErro
 ///
 /// # Errors
 ///
-/// Of several faults over the whole text the first is answered, in the order of [`MachineFileFault`]; `Memory` only where
-/// a growth was refused.
+/// Of several faults over the whole text the first is answered, in the order of [`MachineFileFault`];
+/// `Memory` only where an allocation failed.
 pub fn read_machine(alloc: Global, text: &[u8]) -> Result<MachineFile, MachineFileFault>
     ensures { result ≢ Err MachineFileFault.Memory → IsMachineFile text.now result }
 {

@@ -4,7 +4,9 @@ ghost use Rattle.toml.specs.View.{table_view, view};
 ghost use Rattle.memc.specs.Memory.{shift_of_size};
 ghost use Rattle.toml_reading.specs.Documents.{are_distinct};
 ghost use Rattle.toml_reading.specs.Readings.{seen};
-ghost use Rattle.machine_file.specs.MachineFile.{are_single, controller_in, is_mappable, mapped, page_at, page_in, page_of, pages_in, rom_in, size_at, size_in, size_of};
+ghost use Rattle.machine_file.specs.MachineFile.{are_single, controller_in, is_mappable, mapped, page_at};
+ghost use Rattle.machine_file.specs.MachineFile.{page_in, page_of, pages_in, rom_in, size_at, size_in};
+ghost use Rattle.machine_file.specs.MachineFile.{size_of};
 
 use crate::machine_faults::{MachineFileFault, Read};
 use memc::PageSize;
@@ -167,7 +169,8 @@ impl Model for Pages {
 
     ghost view = { λ p. (p.size, p.pages.items) };
 
-    ghost invariant = { λ p. (list_all (is_mappable (shift_of_size p.size)) p.pages.items ≡ true) × (are_single p.pages.items ≡ true) };
+    ghost invariant = { λ p. (list_all (is_mappable (shift_of_size p.size)) p.pages.items ≡ true)
+        × (are_single p.pages.items ≡ true) };
 }
 
 fn mappable(

@@ -7,7 +7,7 @@ use toml_reading::Fault;
 /// Why a text is no cycle profile file. Of several faults over the whole text the first of these is answered.
 #[derive(Clone, Copy, Debug, PartialEq, Eq, Drop, Error)]
 pub enum ProfileFileFault {
-    /// A growth was refused.
+    /// An allocation failed.
     #[error("Memory")]
     Memory,
     /// The bytes are not UTF-8 or no TOML document.

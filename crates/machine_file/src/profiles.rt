@@ -3,7 +3,9 @@ ghost use Rattle.bus_ticks.specs.Numbers.{numbers_of};
 ghost use Rattle.toml.specs.View.{table_view, view};
 ghost use Rattle.toml_reading.specs.Readings.{required, seen};
 ghost use Rattle.machine_file.specs.ProfileFaults.{profile_faults};
-ghost use Rattle.machine_file.specs.ProfileFile.{IsPriced, IsProfileFile, four_at, four_in, four_of, joined, numbers_in, other_prices_in, parts_in, ram_prices_in, word_in};
+ghost use Rattle.machine_file.specs.ProfileFile.{IsPriced, IsProfileFile, four_at, four_in, four_of, joined};
+ghost use Rattle.machine_file.specs.ProfileFile.{numbers_in, other_prices_in, parts_in, ram_prices_in};
+ghost use Rattle.machine_file.specs.ProfileFile.{word_in};
 
 use crate::profile_faults::ProfileFileFault;
 use bus_ticks::{NumbersFault, Profile};
@@ -141,13 +143,14 @@ fn priced(numbers: Read<[u32; 15]>) -> Read<Profile>
     }
 }
 
-/// The cycle profile that a file states: `n`, `s` and `quad` for RAM, `rom` by time field 0 to 3, `io` for slow, medium,
-/// fast and synchronous devices, `control`, `unfitted`, `internal` and `burst`, all in ticks and all required.
+/// The cycle profile that a file states: `n`, `s` and `quad` for RAM, `rom` by time field 0 to 3, `io` for
+/// slow, medium, fast and synchronous devices, `control`, `unfitted`, `internal` and `burst`, all in ticks
+/// and all required.
 ///
 /// # Errors
 ///
-/// Of several faults over the whole text the first is answered, in the order of [`ProfileFileFault`]; `Memory` only
-/// where a growth was refused.
+/// Of several faults over the whole text the first is answered, in the order of [`ProfileFileFault`];
+/// `Memory` only where an allocation failed.
 pub fn read_profile(alloc: Global, text: &[u8]) -> Result<Profile, ProfileFileFault>
     ensures { result ≢ Err ProfileFileFault.Memory → IsProfileFile text.now (seen numbers_of result) }
 {

@@ -66,7 +66,9 @@ impl Model for Bank {
 
 // The words that the table states at some names, 0 where one is missing.
 fn words(alloc: Global, table: &Table, names: &[&str]) -> Result<Read<Vec<u32>>, AllocError>
-    ensures { IfOk result (λ list. items_in list ≡ all machine_faults (map (λ name. word_or name.now 0 (table_view table.now)) names.now)) }
+    ensures { IfOk result
+        (λ list. items_in list
+        ≡ all machine_faults (map (λ name. word_or name.now 0 (table_view table.now)) names.now)) }
 {
     let mut list = Ok(Vec::new(alloc));
     for name in names {

@@ -104,10 +104,10 @@ fn set_controller(memc: &mut Memc, controller: &Controller)
 }
 
 impl MachineFile {
-    /// The machine in the stated state, with the prices of a profile: as it is after a reset, but for the registers, the page
-    /// size, the ROM time fields and, where pages are mapped, the page map.
+    /// The machine in the stated state, with the prices of a profile: as it is after a reset, but for the
+    /// registers, the page size, the ROM time fields and, where pages are mapped, the page map.
     ///
-    /// `Memory`: a growth was refused.
+    /// `Memory`: an allocation failed.
     pub fn machine(&self, alloc: Global, profile: Profile) -> Result<Machine, MachineFault>
         ensures { IfOk result (λ machine. IsStarted self.now profile machine) }
     {

@@ -11,8 +11,9 @@ pub record Target : Type 0 where
   pub kind : TargetKind
   pub to : List ℕ
 
--- the entry's address, the class of the addresses to which the handler leaves, the loops, the targets of the words at
--- some addresses, and the classes of the addresses that the words at some addresses transfer, in the text's order
+-- the entry's address, the class of the addresses to which the handler leaves, the loops, the targets of the
+-- words at some addresses, and the classes of the addresses that the words at some addresses transfer, in the
+-- text's order
 pub record Stated : Type 0 where
   pub entry : ℕ
   pub leave : Class

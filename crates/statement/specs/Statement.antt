@@ -1,18 +1,21 @@
--- Which statement a text states, and its faults, of which the lowest over the whole text is answered. Source: our own
--- statement format, over the documents of TOML.
-use Rattle.std.specs.Prelude.{◌&&◌, ◌==◌, ℕ, ℤ, pos, List, [], ◌∷◌, length, codes, is_none, Option, Some, None, Ok, Err, nat_le, if◌then◌else◌}
+-- Which statement a text states, and its faults, of which the lowest over the whole text is answered. Source:
+-- our own statement format, over the documents of TOML.
+use Rattle.std.specs.Prelude.{◌&&◌, ◌==◌, ℕ, ℤ, pos, List, [], ◌∷◌, length, codes, is_none, Option, Some}
+use Rattle.std.specs.Prelude.{None, Ok, Err, nat_le, if◌then◌else◌}
 use Rattle.std.specs.Map.{keys_of}
 use Rattle.std.specs.Option.{option_and_then}
 use Rattle.std.specs.Str.{bytes_eq}
 use Rattle.toml.specs.Data.{Data, Members, get_member, as_integer, as_str, as_table}
 use Rattle.bus_ticks.specs.declared.profile.Class.{Class}
 use Rattle.bus_ticks.specs.declared.profile.Class.TheVariants.{Any, Ram, Rom, Io}
-use Rattle.toml_reading.specs.Documents.{IsAnswer, are_distinct, in_space, items_at, listed_up_to, number_in, of_keys, tables_up_to}
+use Rattle.toml_reading.specs.Documents.{IsAnswer, are_distinct, in_space, items_at, listed_up_to, number_in}
+use Rattle.toml_reading.specs.Documents.{of_keys, tables_up_to}
 use Rattle.toml_reading.specs.Readings.{Reading, and_then, both, optional, required, seen}
 use Rattle.statement.specs.Stated.{Stated, Target}
 use Rattle.statement.specs.StatementFaults.{statement_faults}
 use Rattle.statement.specs.declared.faults.StatementFault.{StatementFault}
-use Rattle.statement.specs.declared.faults.StatementFault.TheVariants.{NotToml, WrongKind, UnknownLabel, OutOfRange, Twice}
+use Rattle.statement.specs.declared.faults.StatementFault.TheVariants.{NotToml, WrongKind, UnknownLabel}
+use Rattle.statement.specs.declared.faults.StatementFault.TheVariants.{OutOfRange, Twice}
 use Rattle.statement.specs.declared.stated.Loop.{Loop}
 use Rattle.statement.specs.declared.stated.TargetKind.{TargetKind}
 use Rattle.statement.specs.declared.stated.TargetKind.TheVariants.{Jump, Call, Return, Leave}
@@ -42,7 +45,9 @@ named_class w = if bytes_eq w (codes "any") then Some Any else (if bytes_eq w (c
 
 abbrev pub named_kind : List ℕ → Option TargetKind
 named_kind w = if bytes_eq w (codes "jump") then Some Jump else (if bytes_eq w (codes "call") then Some Call
-    else (if bytes_eq w (codes "return") then Some Return else (if bytes_eq w (codes "leave") then Some Leave else None)))
+    else
+    (if bytes_eq w (codes "return") then Some Return
+    else (if bytes_eq w (codes "leave") then Some Leave else None)))
 
 abbrev pub class_at : Data → Read Class
 class_at d = required statement_faults (option_and_then named_class (as_str d)) (λ c. Ok c)
@@ -74,7 +79,8 @@ address_at names d = number_or_name names (as_integer d) (as_str d)
 -- the header lies within first to last
 abbrev pub placed_loop : (ℕ × ℕ) × (ℕ × ℕ) → Read Loop
 placed_loop p =
-    if nat_le p.0.0 p.1.0 && nat_le p.1.0 p.0.1 then Ok (record { header = p.1.0; first = p.0.0; last = p.0.1; bound = p.1.1 }) else Err OutOfRange
+    if nat_le p.0.0 p.1.0 && nat_le p.1.0 p.0.1
+    then Ok (record { header = p.1.0; first = p.0.0; last = p.0.1; bound = p.1.1 }) else Err OutOfRange
 
 -- each destination once
 abbrev pub once : List ℕ → Read (List ℕ)
@@ -98,7 +104,8 @@ Parts = ((ℕ × Class) × List Loop) × (List (ℕ × Target) × List (ℕ × C
 abbrev pub whole : Parts → Read Stated
 whole p =
     if are_distinct (keys_of p.1.0) && are_distinct (keys_of p.1.1)
-    then Ok (record { entry = p.0.0.0; leave = p.0.0.1; loops = p.0.1; targets = p.1.0; accesses = p.1.1 }) else Err Twice
+    then Ok (record { entry = p.0.0.0; leave = p.0.0.1; loops = p.0.1; targets = p.1.0; accesses = p.1.1 })
+    else Err Twice
 
 -- ## Tables
 
@@ -114,7 +121,8 @@ module _ (names : Names) where
       both
       statement_faults
       (both statement_faults (address_in (codes "first") ms) (address_in (codes "last") ms))
-      (both statement_faults (address_in (codes "header") ms) (number_in statement_faults (codes "bound") 1048576 ms))
+      (both statement_faults (address_in (codes "header") ms)
+      (number_in statement_faults (codes "bound") 1048576 ms))
 
   abbrev pub loop_in : Members → Read Loop
   loop_in ms = of_keys statement_faults loop_keys ms (and_then (loop_parts ms) placed_loop)
@@ -127,7 +135,8 @@ module _ (names : Names) where
   -- one to 64 destinations, each once
   abbrev pub some_destinations : List Data → Read (List ℕ)
   some_destinations ds =
-      if length ds == 0 then Err WrongKind else and_then (listed_up_to statement_faults 64 (address_at names) ds) once
+      if length ds == 0 then Err WrongKind
+      else and_then (listed_up_to statement_faults 64 (address_at names) ds) once
 
   abbrev pub destinations_at : Data → Read (List ℕ)
   destinations_at d = required statement_faults (items_at d) some_destinations
@@ -148,7 +157,8 @@ module _ (names : Names) where
       statement_faults
       target_keys
       ms
-      (both statement_faults (address_in (codes "at") ms) (and_then (kind_in ms) (directed (get_member (codes "to") ms))))
+      (both statement_faults (address_in (codes "at") ms)
+      (and_then (kind_in ms) (directed (get_member (codes "to") ms))))
 
   abbrev pub target_at : Data → Read (ℕ × Target)
   target_at d = required statement_faults (as_table d) target_in
@@ -156,7 +166,9 @@ module _ (names : Names) where
   -- ## An access
 
   abbrev pub access_in : Members → Read (ℕ × Class)
-  access_in ms = of_keys statement_faults access_keys ms (both statement_faults (address_in (codes "at") ms) (class_in ms))
+  access_in ms =
+      of_keys statement_faults access_keys ms
+      (both statement_faults (address_in (codes "at") ms) (class_in ms))
 
   abbrev pub access_at : Data → Read (ℕ × Class)
   access_at d = required statement_faults (as_table d) access_in
@@ -185,6 +197,6 @@ module _ (names : Names) where
   abbrev pub statement_of : Members → Read Stated
   statement_of ms = of_keys statement_faults statement_keys ms (and_then (parts_of ms) whole)
 
--- the answer to a text, but for want of memory
+-- the answer to a text, but for lack of memory
 abbrev pub IsStatement : List ℕ → Names → Read Stated → Type 0
 IsStatement text names answer = IsAnswer NotToml (statement_of names) text answer

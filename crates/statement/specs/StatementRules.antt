@@ -1,6 +1,7 @@
--- What a document states of a handler and which faults it has, told of its tables key by key. Source: our own statement
--- format, over the documents of TOML.
-use Rattle.std.specs.Prelude.{◌≡◌, ◌≢◌, ◌<◌, ◌≤◌, ◌%◌, ◌^◌, ◌⊎◌, ℕ, pos, true, List, [], codes, Option, Some, None, IsSomeAnd, MatchOption}
+-- What a document states of a handler and which faults it has, told of its tables key by key. Source: our own
+-- statement format, over the documents of TOML.
+use Rattle.std.specs.Prelude.{◌≡◌, ◌≢◌, ◌<◌, ◌≤◌, ◌%◌, ◌^◌, ◌⊎◌, ℕ, pos, true, List, [], codes, Option, Some}
+use Rattle.std.specs.Prelude.{None, IsSomeAnd, MatchOption}
 use Rattle.std.specs.Map.{keys_of}
 use Rattle.toml.specs.Data.{Data, Members, integer, string, get_member, as_str}
 use Rattle.bus_ticks.specs.declared.profile.Class.{Class}
@@ -9,10 +10,12 @@ use Rattle.toml_reading.specs.Documents.{are_distinct, has_only_keys, items_at}
 use Rattle.toml_reading.specs.Limits.{IsListUpTo, ListUpToFault}
 use Rattle.toml_reading.specs.Lowest.{AtKey, AtKeyOr, IsNumber, IsTable, KeysFault, NumberFault, TableFault}
 use Rattle.statement.specs.Stated.{Stated, Target}
-use Rattle.statement.specs.Statement.{Names, access_keys, loop_keys, named_class, named_kind, statement_keys, target_keys}
+use Rattle.statement.specs.Statement.{Names, access_keys, loop_keys, named_class, named_kind, statement_keys}
+use Rattle.statement.specs.Statement.{target_keys}
 use Rattle.statement.specs.StatementFaults.{statement_faults}
 use Rattle.statement.specs.declared.faults.StatementFault.{StatementFault}
-use Rattle.statement.specs.declared.faults.StatementFault.TheVariants.{WrongKind, UnknownLabel, OutOfRange, Twice}
+use Rattle.statement.specs.declared.faults.StatementFault.TheVariants.{WrongKind, UnknownLabel, OutOfRange}
+use Rattle.statement.specs.declared.faults.StatementFault.TheVariants.{Twice}
 use Rattle.statement.specs.declared.stated.Loop.{Loop}
 use Rattle.statement.specs.declared.stated.TargetKind.{TargetKind}
 use Rattle.statement.specs.declared.stated.TargetKind.TheVariants.{Jump, Call, Return, Leave}
@@ -32,7 +35,8 @@ IsAddress names _ a = ⊥
 -- an integer or a label's address out of range, a text that names no label, or another type
 abbrev pub AddressFault : Names → Data → StatementFault → Type 0
 AddressFault names (integer z) fault = ((a : ℕ) → z ≡ pos a → ¬ IsInSpace a) × (fault ≡ OutOfRange)
-AddressFault names (string name) fault = MatchOption (names name) (fault ≡ UnknownLabel) (λ a. (¬ IsInSpace a) × (fault ≡ OutOfRange))
+AddressFault names (string name) fault =
+    MatchOption (names name) (fault ≡ UnknownLabel) (λ a. (¬ IsInSpace a) × (fault ≡ OutOfRange))
 AddressFault names _ fault = fault ≡ WrongKind
 
 -- a text that is the word of a class or of a kind
@@ -114,7 +118,8 @@ module _ (names : Names) where
   TargetKeysFault ms fault =
       RequiredFault (codes "at") ms (AddressFault names) fault
       ⊎ RequiredFault (codes "kind") ms (WordFault named_kind) fault
-      ⊎ ((kind : TargetKind) × AtKey (codes "kind") ms (λ d. IsWord named_kind d kind) × ToFault kind (get_member (codes "to") ms) fault)
+      ⊎ ((kind : TargetKind) × AtKey (codes "kind") ms (λ d. IsWord named_kind d kind)
+      × ToFault kind (get_member (codes "to") ms) fault)
 
   abbrev pub TargetFault : Data → StatementFault → Type 0
   TargetFault d fault = TableFault statement_faults target_keys TargetKeysFault d fault
@@ -131,21 +136,24 @@ module _ (names : Names) where
 
   abbrev pub AccessKeysFault : Members → StatementFault → Type 0
   AccessKeysFault ms fault =
-      RequiredFault (codes "at") ms (AddressFault names) fault ⊎ RequiredFault (codes "class") ms (WordFault named_class) fault
+      RequiredFault (codes "at") ms (AddressFault names) fault
+      ⊎ RequiredFault (codes "class") ms (WordFault named_class) fault
 
   abbrev pub AccessFault : Data → StatementFault → Type 0
   AccessFault d fault = TableFault statement_faults access_keys AccessKeysFault d fault
 
   -- ## The statement
 
-  -- what stands at the document's keys: any where the class to leave to is missing, and no loops, targets or accesses where their
-  -- lists are
+  -- what stands at the document's keys: any where the class to leave to is missing, and no loops, targets or
+  -- accesses where their lists are
   pub record HasParts (ms : Members) (st : Stated) : Type 0 where
     pub entry_at : AtKey (codes "entry") ms (λ d. IsAddress names d st.entry)
     pub leave_at : AtKeyOr (codes "leave") ms (st.leave ≡ class.Any) (λ d. IsWord named_class d st.leave)
     pub loops_at : AtKeyOr (codes "loop") ms (st.loops ≡ []) (λ d. IsListUpTo 256 StatesLoop d st.loops)
-    pub targets_at : AtKeyOr (codes "target") ms (st.targets ≡ []) (λ d. IsListUpTo 1024 StatesTarget d st.targets)
-    pub accesses_at : AtKeyOr (codes "access") ms (st.accesses ≡ []) (λ d. IsListUpTo 4096 StatesAccess d st.accesses)
+    pub targets_at : AtKeyOr (codes "target") ms (st.targets ≡ [])
+        (λ d. IsListUpTo 1024 StatesTarget d st.targets)
+    pub accesses_at : AtKeyOr (codes "access") ms (st.accesses ≡ [])
+        (λ d. IsListUpTo 4096 StatesAccess d st.accesses)
 
   -- one target and one access at most for an address
   abbrev pub IsSingle : Stated → Type 0

@@ -2,7 +2,10 @@ ghost use Rattle.std.specs.Prelude.{◌≡◌, IfOk, map, option_map};
 ghost use Rattle.toml.specs.View.{table_view, view};
 ghost use Rattle.loader.specs.Labels.{address_of};
 ghost use Rattle.toml_reading.specs.Readings.{and_then, items_in};
-ghost use Rattle.statement.specs.Statement.{access_at, access_in, address_at, address_in, class_at, class_in, destinations, destinations_at, directed, kind_at, kind_in, labelled, loop_at, loop_in, loop_parts, named_class, named_kind, once, placed_loop, some_destinations, target_at, target_in};
+ghost use Rattle.statement.specs.Statement.{access_at, access_in, address_at, address_in, class_at, class_in};
+ghost use Rattle.statement.specs.Statement.{destinations, destinations_at, directed, kind_at, kind_in};
+ghost use Rattle.statement.specs.Statement.{labelled, loop_at, loop_in, loop_parts, named_class, named_kind};
+ghost use Rattle.statement.specs.Statement.{once, placed_loop, some_destinations, target_at, target_in};
 
 use crate::faults::{Read, StatementFault};
 use crate::stated::{Loop, Target, TargetKind};
@@ -237,7 +240,8 @@ fn read_destinations(
     labels: &Labels,
     values: &[Value],
 ) -> Result<Read<Vec<u32>>, AllocError>
-    ensures { IfOk result (λ list. items_in list ≡ some_destinations (address_of labels.now) (map view values.now)) }
+    ensures { IfOk result
+        (λ list. items_in list ≡ some_destinations (address_of labels.now) (map view values.now)) }
 {
     if values.is_empty() {
         return Ok(Err(StatementFault::WrongKind));
@@ -267,7 +271,9 @@ fn destinations_of(
     value: Option<&Value>,
     kind: TargetKind,
 ) -> Result<Read<Vec<u32>>, AllocError>
-    ensures { IfOk result (λ list. items_in list ≡ destinations (address_of labels.now) (option_map (λ v. view v.now) value.entry) kind) }
+    ensures { IfOk result
+        (λ list. items_in list
+        ≡ destinations (address_of labels.now) (option_map (λ v. view v.now) value.entry) kind) }
 {
     match kind {
         TargetKind::Jump | TargetKind::Call => match value {
@@ -287,7 +293,9 @@ fn direct(
     value: Option<&Value>,
     kind: Read<TargetKind>,
 ) -> Result<Read<Target>, AllocError>
-    ensures { IfOk result (λ reading. reading ≡ and_then kind (directed (address_of labels.now) (option_map (λ v. view v.now) value.entry))) }
+    ensures { IfOk result
+        (λ reading. reading
+        ≡ and_then kind (directed (address_of labels.now) (option_map (λ v. view v.now) value.entry))) }
 {
     let kind = match kind {
         Ok(kind) => kind,

@@ -10,7 +10,7 @@ pub(crate) type Read<T> = Reading<T, StatementFault>;
 /// Why a text is no statement. Of several faults over the whole text the first of these is answered.
 #[derive(Clone, Copy, Debug, PartialEq, Eq, Drop, Error)]
 pub enum StatementFault {
-    /// A growth was refused.
+    /// An allocation failed.
     #[error("Memory")]
     Memory,
     /// The bytes are not UTF-8 or no TOML document.
@@ -19,14 +19,16 @@ pub enum StatementFault {
     /// The statement, or a table of its lists, has a key that it may not have.
     #[error("UnknownKey")]
     UnknownKey,
-    /// A key is missing, a value has another type or is another word than its key takes, or `to` is empty or misplaced.
+    /// A key is missing, a value has another type or is another word than its key takes, or `to` is empty or
+    /// misplaced.
     #[error("WrongKind")]
     WrongKind,
     /// A text in place of an address names no label.
     #[error("UnknownLabel")]
     UnknownLabel,
-    /// An address is no multiple of 4 or not from 0 to 3FFFFFC, a bound is not from 0 to 1,048,576, a header lies outside
-    /// first to last, or there are more than 256 loops, 1,024 targets, 64 destinations or 4,096 accesses.
+    /// An address is no multiple of 4 or not from 0 to 3FFFFFC, a bound is not from 0 to 1,048,576, a header
+    /// lies outside first to last, or there are more than 256 loops, 1,024 targets, 64 destinations or 4,096
+    /// accesses.
     #[error("OutOfRange")]
     OutOfRange,
     /// Two targets or two accesses are stated for one address, or a destination twice.

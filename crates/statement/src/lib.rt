@@ -1,5 +1,5 @@
-//! What an author states of a handler, read from TOML: the entry, the class of the addresses to which it leaves, the
-//! loops, the targets of words that write R15, and the classes of transfers.
+//! What an author states of a handler, read from TOML: the entry, the class of the addresses to which it
+//! leaves, the loops, the targets of words that write R15, and the classes of transfers.
 #![tactic(auto)]
 
 mod entries;

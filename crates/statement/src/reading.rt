@@ -72,7 +72,8 @@ fn stated(alloc: Global, parts: Read<Parts>) -> Result<Read<Statement>, AllocErr
 
 // The parts that the table states.
 fn read_parts(alloc: Global, labels: &Labels, table: &Table) -> Result<Read<Parts>, AllocError>
-    ensures { IfOk result (λ parts. seen parts_in parts ≡ parts_of (address_of labels.now) (table_view table.now)) }
+    ensures { IfOk result
+        (λ parts. seen parts_in parts ≡ parts_of (address_of labels.now) (table_view table.now)) }
 {
     let loops = tables_up_to(alloc, labels, value_at(table, "loop"), MOST_LOOPS)?;
     let targets = tables_up_to(alloc, labels, value_at(table, "target"), MOST_TARGETS)?;
@@ -92,8 +93,9 @@ fn of_table(alloc: Global, labels: &Labels, table: &Table) -> Result<Read<Statem
     ))
 }
 
-/// The statement that a text states, with the addresses of the labels that it names. Of several faults over the whole
-/// text the first is answered, in the order of [`StatementFault`]; `Memory` only where a growth was refused.
+/// The statement that a text states, with the addresses of the labels that it names. Of several faults over
+/// the whole text the first is answered, in the order of [`StatementFault`]; `Memory` only where an
+/// allocation failed.
 pub fn read_statement(
     alloc: Global,
     text: &[u8],

@@ -5,8 +5,8 @@ use bus_ticks::Class;
 use indexmap::IndexMap;
 use std::marker::Model;
 
-/// A loop that an author states: the addresses of its header and of its first and last instruction, and the most
-/// back edges that one stay takes.
+/// A loop that an author states: the addresses of its header and of its first and last instruction, and the
+/// most back edges that one stay takes.
 #[derive(Clone, Copy, Debug, PartialEq, Eq)]
 pub struct Loop {
     pub header: u32,

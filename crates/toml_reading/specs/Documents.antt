@@ -1,8 +1,11 @@
 -- What is read of the documents of TOML: the keys of tables, lists, numbers and whole texts (our own).
-use Rattle.std.specs.Prelude.{◌≡◌, ◌&&◌, ◌==◌, ◌%◌, ◌^◌, ◌⊎◌, not, ℕ, ℤ, pos, negsuc, Bool, true, List, [], ◌∷◌, map, length, option_map, Option, Some, None, Ok, Err, nat_eq, nat_le, nat_lt, if◌then◌else◌}
+use Rattle.std.specs.Prelude.{◌≡◌, ◌&&◌, ◌==◌, ◌%◌, ◌^◌, ◌⊎◌, not, ℕ, ℤ, pos, negsuc, Bool, true, List, []}
+use Rattle.std.specs.Prelude.{◌∷◌, map, length, option_map, Option, Some, None, Ok, Err, nat_eq, nat_le}
+use Rattle.std.specs.Prelude.{nat_lt, if◌then◌else◌}
 use Rattle.std.specs.List.{list_any}
 use Rattle.std.specs.Str.{IsUtf8, bytes_eq}
-use Rattle.toml.specs.Data.{Data, Items, Members, no_items, item, no_members, member, get_member, as_array, as_integer}
+use Rattle.toml.specs.Data.{Data, Items, Members, no_items, item, no_members, member, get_member, as_array}
+use Rattle.toml.specs.Data.{as_integer}
 use Rattle.toml.specs.Parse.{parse_document}
 use Rattle.toml_reading.specs.Readings.{Faults, Reading, all, checked, optional, required, up_to}
 
@@ -61,13 +64,16 @@ abbrev pub tables_at : {F A : Type 0} → Faults F → (Data → Reading F A) �
 tables_at faults reads o = optional [] o (list_at faults reads)
 
 -- the same of at most so many values
-abbrev pub listed_up_to : {F A : Type 0} → Faults F → ℕ → (Data → Reading F A) → List Data → Reading F (List A)
-listed_up_to faults limit reads ds = checked faults (nat_le (length ds) limit) faults.out_of_range (listed faults reads ds)
+abbrev pub listed_up_to : {F A : Type 0} → Faults F → ℕ → (Data → Reading F A) → List Data
+    → Reading F (List A)
+listed_up_to faults limit reads ds =
+    checked faults (nat_le (length ds) limit) faults.out_of_range (listed faults reads ds)
 
 abbrev pub list_up_to : {F A : Type 0} → Faults F → ℕ → (Data → Reading F A) → Data → Reading F (List A)
 list_up_to faults limit reads d = required faults (items_at d) (listed_up_to faults limit reads)
 
-abbrev pub tables_up_to : {F A : Type 0} → Faults F → ℕ → (Data → Reading F A) → Option Data → Reading F (List A)
+abbrev pub tables_up_to : {F A : Type 0} → Faults F → ℕ → (Data → Reading F A) → Option Data
+    → Reading F (List A)
 tables_up_to faults limit reads o = optional [] o (list_up_to faults limit reads)
 
 abbrev pub are_distinct : List ℕ → Bool
@@ -87,4 +93,6 @@ IsNoDocument text = IsUtf8 text → parse_document text ≡ None
 
 -- the answer to a text: what is read of its document, or that it is none
 abbrev pub IsAnswer : {F A : Type 0} → F → (Members → Reading F A) → List ℕ → Reading F A → Type 0
-IsAnswer not_toml reads text answer = ((ms : Members) × IsDocument text ms × (answer ≡ reads ms)) ⊎ (IsNoDocument text × (answer ≡ Err not_toml))
+IsAnswer not_toml reads text answer =
+    ((ms : Members) × IsDocument text ms × (answer ≡ reads ms))
+    ⊎ (IsNoDocument text × (answer ≡ Err not_toml))

@@ -1,6 +1,7 @@
--- What a document of TOML states and which faults it has, told of its keys, numbers, lists and tables; the lowest fault is
--- the one that is answered (our own).
-use Rattle.std.specs.Prelude.{◌≡◌, ◌≤◌, ◌<◌, ◌⊎◌, ℕ, ℤ, pos, negsuc, true, false, List, [], Any, filter_map, Option, Some, None, IsSomeAnd, MatchOption, unwrap_or}
+-- What a document of TOML states and which faults it has, told of its keys, numbers, lists and tables; the
+-- lowest fault is the one that is answered (our own).
+use Rattle.std.specs.Prelude.{◌≡◌, ◌≤◌, ◌<◌, ◌⊎◌, ℕ, ℤ, pos, negsuc, true, false, List, [], Any, filter_map}
+use Rattle.std.specs.Prelude.{Option, Some, None, IsSomeAnd, MatchOption, unwrap_or}
 use Rattle.std.specs.List.{AllZip}
 use Rattle.std.specs.Option.{option_and_then}
 use Rattle.toml.specs.Data.{Data, Members, as_integer, as_table, get_member}
@@ -33,10 +34,12 @@ IsTable keys Tells d = IsSomeAnd (as_table d) (λ ms. (has_only_keys keys ms ≡
 
 -- the faults of a table's keys: an unknown one, and those of its values
 abbrev pub KeysFault : {F : Type 0} → Faults F → List (List ℕ) → (Members → F → Type 0) → Members → F → Type 0
-KeysFault faults keys Has ms fault = ((has_only_keys keys ms ≡ false) × (fault ≡ faults.unknown_key)) ⊎ Has ms fault
+KeysFault faults keys Has ms fault =
+    ((has_only_keys keys ms ≡ false) × (fault ≡ faults.unknown_key)) ⊎ Has ms fault
 
 abbrev pub TableFault : {F : Type 0} → Faults F → List (List ℕ) → (Members → F → Type 0) → Data → F → Type 0
-TableFault faults keys Has d fault = MatchOption (as_table d) (fault ≡ faults.wrong_kind) (λ ms. KeysFault faults keys Has ms fault)
+TableFault faults keys Has d fault =
+    MatchOption (as_table d) (fault ≡ faults.wrong_kind) (λ ms. KeysFault faults keys Has ms fault)
 
 -- ## Numbers
 
@@ -49,7 +52,8 @@ IsOutside limit z = (n : ℕ) → z ≡ pos n → limit < n
 
 abbrev pub NumberFault : {F : Type 0} → Faults F → ℕ → Data → F → Type 0
 NumberFault faults limit d fault =
-    MatchOption (as_integer d) (fault ≡ faults.wrong_kind) (λ z. IsOutside limit z × (fault ≡ faults.out_of_range))
+    MatchOption (as_integer d) (fault ≡ faults.wrong_kind)
+    (λ z. IsOutside limit z × (fault ≡ faults.out_of_range))
 
 -- ## Lists
 
@@ -70,7 +74,8 @@ natural (pos n) = Some n
 natural (negsuc n) = None
 
 abbrev pub number_of_entry : List ℕ → Data → Option ℕ
-number_of_entry key d = option_and_then natural (option_and_then as_integer (option_and_then (get_member key) (as_table d)))
+number_of_entry key d =
+    option_and_then natural (option_and_then as_integer (option_and_then (get_member key) (as_table d)))
 
 -- the numbers from 0 up that stand at a key in the tables of a list
 abbrev pub numbers_at : List ℕ → List Data → List ℕ

@@ -24,7 +24,9 @@ pub fn by_number<T: Drop>(
     alloc: Global,
     entries: Vec<(u32, T)>,
 ) -> Result<Option<IndexMap<u32, T>>, AllocError>
-    ensures { IfOk result (λ made. MatchOption made (are_distinct (keys_of entries.items) ≡ false) (λ by. (by.entries ≡ entries.items) × (are_distinct (keys_of entries.items) ≡ true))) }
+    ensures { IfOk result
+        (λ made. MatchOption made (are_distinct (keys_of entries.items) ≡ false)
+        (λ by. (by.entries ≡ entries.items) × (are_distinct (keys_of entries.items) ≡ true))) }
 {
     let mut by = IndexMap::new(alloc);
     for (number, value) in entries {

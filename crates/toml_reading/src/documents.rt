@@ -7,7 +7,9 @@ use toml::Table;
 
 /// The document of a text, or None where the text is not UTF-8 or no TOML document.
 pub fn document(alloc: Global, text: &[u8]) -> Result<Option<Table>, AllocError>
-    ensures { IfOk result (λ made. MatchOption made (IsNoDocument text.now) (λ table. IsDocument text.now (table_view table))) }
+    ensures { IfOk result
+        (λ made. MatchOption made (IsNoDocument text.now)
+        (λ table. IsDocument text.now (table_view table))) }
 {
     match toml::table_from_slice(alloc, text) {
         Ok(table) => Ok(Some(table)),

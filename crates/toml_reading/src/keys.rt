@@ -14,7 +14,8 @@ fn is_one_of(known: &[&str], key: &str) -> bool
 }
 
 fn are_known(known: &[&str], table: &Table) -> bool
-    ensures { result ≡ list_all (λ k. is_one_of (map (λ n. n.now) known.now) (string_bytes k)) (keys table.now) }
+    ensures { result
+        ≡ list_all (λ k. is_one_of (map (λ n. n.now) known.now) (string_bytes k)) (keys table.now) }
 {
     table.keys().all(|key| is_one_of(known, key.as_str()))
 }

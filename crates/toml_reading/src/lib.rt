@@ -1,7 +1,7 @@
 //! Reading formats over TOML: a reading is a value, or the lowest of the faults of its parts.
 //!
-//! A format has a type of faults, which implements [`Fault`], and reads tables by [`value_at`], [`required_number`],
-//! [`tables`] and the like, whose readings [`pair`], [`append`] and [`check`] join.
+//! A format has a type of faults, which implements [`Fault`], and reads tables by [`value_at`],
+//! [`required_number`], [`tables`] and the like, whose readings [`pair`], [`append`] and [`check`] join.
 #![tactic(auto)]
 
 mod distinct;

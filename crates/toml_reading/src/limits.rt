@@ -8,14 +8,15 @@ use crate::readings::{Fault, Reading, check};
 use std::alloc::{AllocError, Global};
 use toml::Value;
 
-/// What is read of each value of a list of at most so many. An error is a growth that was refused.
+/// What is read of each value of a list of at most so many. An error says that an allocation failed.
 pub fn read_list_up_to<T: Entry<C, F>, C, F: Fault>(
     alloc: Global,
     context: &C,
     values: &[Value],
     limit: usize,
 ) -> Result<Reading<Vec<T>, F>, AllocError>
-    ensures { IfOk result (λ list. items_in list ≡ listed_up_to F.faults limit (T.reads context.now) (map view values.now)) }
+    ensures { IfOk result
+        (λ list. items_in list ≡ listed_up_to F.faults limit (T.reads context.now) (map view values.now)) }
 {
     let list = read_list(alloc, context, values)?;
     Ok(check(values.len() <= limit, F::out_of_range(), list))
@@ -28,7 +29,8 @@ fn list_up_to<T: Entry<C, F>, C, F: Fault>(
     value: &Value,
     limit: usize,
 ) -> Result<Reading<Vec<T>, F>, AllocError>
-    ensures { IfOk result (λ list. items_in list ≡ list_up_to F.faults limit (T.reads context.now) (view value.now)) }
+    ensures { IfOk result
+        (λ list. items_in list ≡ list_up_to F.faults limit (T.reads context.now) (view value.now)) }
 {
     match values_of(value) {
         Some(values) => read_list_up_to(alloc, context, values, limit),
@@ -36,15 +38,17 @@ fn list_up_to<T: Entry<C, F>, C, F: Fault>(
     }
 }
 
-/// What is read of each table of a list of at most so many, which is empty where the key is missing. An error is a growth
-/// that was refused.
+/// What is read of each table of a list of at most so many, which is empty where the key is missing. An error
+/// says that an allocation failed.
 pub fn tables_up_to<T: Entry<C, F>, C, F: Fault>(
     alloc: Global,
     context: &C,
     value: Option<&Value>,
     limit: usize,
 ) -> Result<Reading<Vec<T>, F>, AllocError>
-    ensures { IfOk result (λ list. items_in list ≡ tables_up_to F.faults limit (T.reads context.now) (option_map (λ v. view v.now) value.entry)) }
+    ensures { IfOk result
+        (λ list. items_in list
+        ≡ tables_up_to F.faults limit (T.reads context.now) (option_map (λ v. view v.now) value.entry)) }
 {
     match value {
         Some(value) => list_up_to(alloc, context, value, limit),

@@ -12,7 +12,7 @@ use toml::Value;
 pub trait Entry<C, F: Fault>: Drop {
     ghost reads: { C → Data → Reading F Self };
 
-    /// Reads the value. An error is a growth that was refused.
+    /// Reads the value. An error says that an allocation failed.
     fn read(alloc: Global, context: &C, value: &Value) -> Result<Reading<Self, F>, AllocError>
     where
         Self: Sized,
@@ -29,13 +29,14 @@ pub fn values_of(value: &Value) -> Option<&[Value]>
     }
 }
 
-/// What is read of each value of a list. An error is a growth that was refused.
+/// What is read of each value of a list. An error says that an allocation failed.
 pub fn read_list<T: Entry<C, F>, C, F: Fault>(
     alloc: Global,
     context: &C,
     values: &[Value],
 ) -> Result<Reading<Vec<T>, F>, AllocError>
-    ensures { IfOk result (λ list. items_in list ≡ listed F.faults (T.reads context.now) (map view values.now)) }
+    ensures { IfOk result
+        (λ list. items_in list ≡ listed F.faults (T.reads context.now) (map view values.now)) }
 {
     let mut list = Ok(Vec::new(alloc));
     for value in values {
@@ -44,7 +45,7 @@ pub fn read_list<T: Entry<C, F>, C, F: Fault>(
     Ok(list)
 }
 
-/// What is read of a value that must be a list. An error is a growth that was refused.
+/// What is read of a value that must be a list. An error says that an allocation failed.
 pub fn list<T: Entry<C, F>, C, F: Fault>(
     alloc: Global,
     context: &C,
@@ -58,13 +59,16 @@ pub fn list<T: Entry<C, F>, C, F: Fault>(
     }
 }
 
-/// What is read of each table of a list, which is empty where the key is missing. An error is a growth that was refused.
+/// What is read of each table of a list, which is empty where the key is missing. An error says that an
+/// allocation failed.
 pub fn tables<T: Entry<C, F>, C, F: Fault>(
     alloc: Global,
     context: &C,
     value: Option<&Value>,
 ) -> Result<Reading<Vec<T>, F>, AllocError>
-    ensures { IfOk result (λ list. items_in list ≡ tables_at F.faults (T.reads context.now) (option_map (λ v. view v.now) value.entry)) }
+    ensures { IfOk result
+        (λ list. items_in list
+        ≡ tables_at F.faults (T.reads context.now) (option_map (λ v. view v.now) value.entry)) }
 {
     match value {
         Some(value) => list(alloc, context, value),

@@ -1,7 +1,7 @@
 ghost use Rattle.std.specs.Prelude.{◌≡◌, ◌<◌, ◌^◌, IfOk};
 ghost use Rattle.toml.specs.View.{table_view, view};
 ghost use Rattle.toml_reading.specs.Documents.{in_space, number_at, number_in, number_or};
-ghost use Rattle.toml_reading.specs.Readings.{up_to as is_up_to};
+ghost use Rattle.toml_reading.specs.Readings.{up_to};
 
 use crate::keys::value_at;
 use crate::readings::{Fault, Reading};
@@ -9,7 +9,7 @@ use toml::{Table, Value};
 
 /// The number, where it is from 0 to the limit.
 pub fn up_to<F: Fault>(number: i64, limit: u32) -> Reading<u32, F>
-    ensures { result ≡ is_up_to F.faults limit number }
+    ensures { result ≡ up_to F.faults limit number }
 {
     match u32::try_from(number) {
         Ok(n) => {

@@ -1,5 +1,6 @@
 ghost use Rattle.std.specs.Prelude.{◌≡◌, IfOk};
-ghost use Rattle.toml_reading.specs.Readings.{Faults, after, both, checked, items_in, lower, lower_with, out_of_range_of, rank_of, unknown_key_of, wrong_kind_of};
+ghost use Rattle.toml_reading.specs.Readings.{Faults, after, both, checked, items_in, lower, lower_with};
+ghost use Rattle.toml_reading.specs.Readings.{out_of_range_of, rank_of, unknown_key_of, wrong_kind_of};
 
 use std::alloc::AllocError;
 
@@ -74,7 +75,7 @@ pub fn pair<T: Drop, U: Drop, F: Fault>(
     }
 }
 
-/// The parts of a list, with one more. An error is a growth that was refused.
+/// The parts of a list, with one more. An error says that an allocation failed.
 pub fn append<T: Drop, F: Fault>(
     list: Reading<Vec<T>, F>,
     next: Reading<T, F>,
