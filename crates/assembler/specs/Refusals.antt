@@ -27,7 +27,7 @@ HasStrayByte line =
     (front rest : List ℕ) × (b : ℕ) × (line ≡ front ++ (b ∷ rest))
     × ((is_comment_text b ≡ false) ⊎ ((is_text b ≡ false) × (list_all (λ c. not (c == 59)) front ≡ true)))
 
--- blanks, and a word that ends at a blank or with the text
+-- blanks, and a word, which ends at a blank or with the text
 pub record BeginsStatement (text : List ℕ) : Type 0 where
   pub blanks : List ℕ
   pub name : List ℕ
