@@ -10,7 +10,7 @@ use Rattle.asm_text.specs.Statements.{Parsed}
 use Rattle.assembler.specs.Assembles.{Laid, Once, address_behind, is_open, label_at, labels_of, laid, laid_from, places, places_from, segments, word_count}
 use Rattle.assembler.specs.Codes.{encoded, refer, use_fault}
 use Rattle.assembler.specs.Faults.{lower}
-use Rattle.assembler.specs.Refusals.{AreTooLong, Clashes, HasCodeFault, IsMisplaced, IsRepeated, address_behind_all, address_of_next, asked}
+use Rattle.assembler.specs.Refusals.{AreTooLong, Clashes, HasCodeFault, IsMisplaced, IsRepeated, IsWrong, address_behind_all, address_of_next, asked}
 use Rattle.assembler.specs.Sweeps.{Waits, Item, Pending, State, all_placed, around_fault, is_17th, label_fault, labelled, moved, org_fault, pending_step, pending_unless, place_fault, placed, said_step, unless, value_pending, word_pending}
 use Rattle.assembler.specs.declared.fault.Fault.{Fault}
 use Rattle.assembler.specs.declared.fault.Fault.TheVariants.{LabelTwice, OutOfRange, TooLong}
@@ -374,15 +374,12 @@ failed_waits : (o : Option Fault) (p : Pending) → failed (pending_unless o p) 
 failed_waits None p = refl
 failed_waits (Some f) p = refl
 
-abbrev pub HasSaidFault : List Parsed → Parsed → Fault → Type 0
-HasSaidFault before p f = HasCodeFault (address_of_next before) p.said f ⊎ Clashes before p f
-
 joined : (before : List Parsed) (p : Parsed) (code clash o : Option Fault)
     → IsLeast (HasCodeFault (address_of_next before) p.said) code → IsLeast (Clashes before p) clash
     → lower code clash ≡ o
-    → IsLeast (HasSaidFault before p) o
+    → IsLeast (IsWrong before p) o
 joined before p code clash o h k is =
-    subst (IsLeast (HasSaidFault before p)) is
+    subst (IsLeast (IsWrong before p)) is
     (least_both (HasCodeFault (address_of_next before) p.said) (Clashes before p) code clash h k)
 
 no_asked : (before : List Parsed) → IsMisplaced before None → ⊥
@@ -390,7 +387,7 @@ no_asked before (a, there, why) = omega (arith, there.1)
 
 pub said_least : (s : State) (k : ℕ) (before : List Parsed) (label : Option (List ℕ)) (said : Option Said)
     → Front s k before → NotEmpty said
-    → IsLeast (HasSaidFault before (record { label = label; said = said }))
+    → IsLeast (IsWrong before (record { label = label; said = said }))
     (failed (said_step s k label said))
 unfolding NotEmpty
 said_least s k before label None h some =

@@ -10,7 +10,7 @@ use Rattle.asm_text.specs.Spelling.{Spells}
 use Rattle.asm_text.specs.Statements.{Parsed, line_of}
 use Rattle.asm_text.specs.declared.statement.Wrong.{Wrong}
 use Rattle.assembler.specs.Assembles.{Laid, Once, address_behind, is_open, label_at, labels_of, laid, places_from, segments, word_count}
-use Rattle.assembler.specs.Refusals.{ArePassed, HasFault, IsLowest, IsUnreadable, address_of_next, asked}
+use Rattle.assembler.specs.Refusals.{ArePassed, HasFault, IsLowest, IsUnreadable, IsWrong, address_of_next, asked}
 use Rattle.assembler.specs.Sweeps.{Names, State, at_first, label_fault, labelled, line_step, said_step, swept, swept_on}
 use Rattle.assembler.specs.declared.fault.Fault.{Fault}
 use Rattle.assembler.specs.declared.fault.Fault.TheVariants.{OutOfRange, TooLong}
@@ -20,7 +20,7 @@ use Rattle.assembler.proofs.AssembleLaws.{first_covers, first_exact, first_segme
 use Rattle.assembler.proofs.AssembleReady.{NotEmpty}
 use Rattle.assembler.proofs.AssembleSteps.{Covers, Pends, items_at, said_is, segments_in}
 use Rattle.assembler.proofs.AssembleSweep.{NamesOf, label_names, no_labels, step_is}
-use Rattle.assembler.proofs.RefuseFront.{Front, HasSaidFault, ItemsOf, address_more, count_laid, counts, exact_said, items_more, laid_more, labels_more, open_behind, open_more, said_least, taken_by, taken_more}
+use Rattle.assembler.proofs.RefuseFront.{Front, ItemsOf, address_more, count_laid, counts, exact_said, items_more, laid_more, labels_more, open_behind, open_more, said_least, taken_by, taken_more}
 use Rattle.assembler.proofs.RefuseLeast.{IsLeast, failed, is_least, least_is, least_no, least_same, no_least}
 use Rattle.assembler.proofs.RefusePlaces.{Fine, fine}
 use Rattle.assembler.proofs.RefuseText.{wrong_in}
@@ -109,7 +109,7 @@ names_next s k before label said h fresh name a =
       ],
     )
 
-few_words : (before : List Parsed) (p : Parsed) → ((f : Fault) → HasSaidFault before p f → ⊥)
+few_words : (before : List Parsed) (p : Parsed) → ((f : Fault) → IsWrong before p f → ⊥)
     → length (taken_by (before ++ p ∷ [])) ≤ 65536
 few_words before p none =
     elim (cases (nat_lt 65536 (length (taken_by (before ++ p ∷ []))))) [
@@ -125,7 +125,7 @@ front_next s k before p t h some e =
     let here = places_from at n in
     let taken = taken_by before in
     let none =
-    no_least (HasSaidFault before p) (failed (said_step s k p.label p.said))
+    no_least (IsWrong before p) (failed (said_step s k p.label p.said))
     (said_least s k before p.label p.said h some) (ap failed e) in
     let asks = fine taken (asked at p.said) (λ bad. none OutOfRange (inr bad)) in
     let words = fine_words taken at p.said asks in
@@ -223,12 +223,12 @@ line_least texts s k before line h = go (line_of line) refl (texts.least line)
               absurd (no_meaning x.0 w (line_of line) is (texts.reads line x.0 x.1))
         ]) least
     go (Ok p) is least =
-        least_same (HasSaidFault before p) (HasFault before line) (failed (said_step s k p.label p.said))
+        least_same (IsWrong before p) (HasFault before line) (failed (said_step s k p.label p.said))
         (λ f e. inr (p, texts.spells line p is, e))
         (λ f e. elim e [
           | inl u ↦ absurd (least f u)
           | inr x ↦
-              subst (λ q. HasSaidFault before q f)
+              subst (λ q. IsWrong before q f)
               (one_meaning x.0 p (line_of line) (texts.reads line x.0 x.1) is) x.2
         ]) (said_least s k before p.label p.said h (spelled_some line p (texts.spells line p is)))
 

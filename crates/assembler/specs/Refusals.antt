@@ -100,12 +100,13 @@ Clashes before p OutOfRange = IsMisplaced before p.said
 Clashes before p TooLong = AreTooLong (before ++ p ∷ [])
 Clashes before p _ = ⊥
 
+-- what is wrong with a line that says this
+abbrev pub IsWrong : List Parsed → Parsed → Fault → Type 0
+IsWrong before p fault = HasCodeFault (address_of_next before) p.said fault ⊎ Clashes before p fault
+
 -- what is wrong with a line, by the lines before it, where no label's address is needed
 abbrev pub HasFault : List Parsed → List ℕ → Fault → Type 0
-HasFault before line fault =
-    IsUnreadable line fault
-    ⊎ ((p : Parsed) × Spells p line
-    × (HasCodeFault (address_of_next before) p.said fault ⊎ Clashes before p fault))
+HasFault before line fault = IsUnreadable line fault ⊎ ((p : Parsed) × Spells p line × IsWrong before p fault)
 
 -- ---- what needs a label's address
 
