@@ -18,9 +18,9 @@ pub fn sources_are_assembled()
     lines_are_spelled();
 }
 
-/// States for which fault, and of which line, [`assemble`](crate::assembly::assemble) refuses a source: the lowest fault of
-/// the first line that has one without any label's address; where no line has one, that of the first line that has one
-/// with the labels' addresses. It does nothing.
+/// States for which fault, and of which line, [`assemble`](crate::assembly::assemble) refuses a source: the
+/// lowest fault of the first line that has one without any label's address; where no line has one, that of
+/// the first line that has one with the labels' addresses. It does nothing.
 pub fn sources_are_refused()
     ensures is_one { (source : List ℕ) → (fault : Fault) → (line : ℕ) → assembled source ≡ Err (fault, line)
         → IsRefusal source fault line }
