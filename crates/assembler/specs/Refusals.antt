@@ -55,7 +55,7 @@ IsUnreadable line UnknownWord = BeginsLine (body line) → ⊥
 IsUnreadable line BadOperand = (p : Parsed) → Spells p line → ⊥
 IsUnreadable line _ = ⊥
 
--- ---- a line that can be read, behind others
+-- ---- a line that can be read, after others
 
 -- the address after lines
 abbrev pub address_behind_all : ℕ → List Parsed → ℕ
