@@ -1,26 +1,28 @@
 -- What is read of a document, against what it states and the faults that it has.
-use Rattle.std.proofs.Common.{◌≡◌, ◌⊎◌, ◌↔◌, ℕ, true, ◌&&◌, cond, eqb, [], Ok, Err, refl, sym, ap, subst, ◌∙◌}
+use Rattle.std.proofs.Common.{◌≡◌, ◌⊎◌, ◌↔◌, ◌≤◌, ℕ, Option, Some, None, IsSomeAnd, inl, inr, false, le_of_eq, true, ◌&&◌, cond, eqb, [], Ok, Err, refl, sym, ap, subst, ◌∙◌}
 use Rattle.std.specs.Prelude.{codes}
 use Rattle.std.specs.Map.{keys_of}
 use Rattle.std.specs.Cmp.Derive.{both_true}
-use Rattle.std.proofs.lemmas.Bool.{and_parts}
-use Rattle.toml.specs.Data.{Members, get_member}
+use Rattle.std.proofs.lemmas.Bool.{and_parts, cases_Bool, false≢true}
+use Rattle.toml.specs.Data.{Data, Members, as_table, get_member}
+use Rattle.bus_ticks.specs.declared.profile.Class.{Class}
 use Rattle.bus_ticks.specs.declared.profile.Class.TheVariants as class
 use Rattle.toml_reading.specs.Documents.{are_distinct, has_only_keys}
-use Rattle.toml_reading.specs.Limits.{IsListUpTo, ListUpToFault}
+use Rattle.toml_reading.specs.Lists.{IsListUpTo, ListUpToFault}
 use Rattle.toml_reading.specs.Lowest.{AtKey, AtKeyOr, IsLowest}
 use Rattle.toml_reading.specs.Readings.{and_then}
-use Rattle.toml_reading.proofs.Following.{tables_up_to_judged, test_judged, then_judged}
+use Rattle.toml_reading.proofs.Following.{stated_or_faulty, tables_up_to_judged, test_judged, then_judged, widened_judged}
 use Rattle.toml_reading.proofs.LowestLemmas.{Judges, both_judged, judged_as, judged_fault, judged_value, optional_judged}
 use Rattle.toml_reading.proofs.LowestParts.{keys_judged}
-use Rattle.statement.specs.StatementRules.{AccessFault, AddressFault, HasFault, HasParts, IsAddress, IsSingle, IsWord, LoopFault, PartsFault, RequiredFault, States, StatesAccess, StatesLoop, StatesTarget, TargetFault, WordFault}
-use Rattle.statement.specs.Stated.{Stated}
-use Rattle.statement.specs.Statement.{Names, Parts, access_at, class_at, leave_in, loop_at, named_class, parts_of, statement_keys, statement_of, target_at, whole}
+use Rattle.toml_reading.proofs.TwiceLemmas.{keys_not_distinct}
+use Rattle.statement.specs.StatementRules.{AccessFault, AddressFault, HasAccess, HasFault, HasParts, HasTarget, HasTwo, IsAddress, IsAt, IsSingle, IsNamed, LoopFault, PartsFault, RequiredFault, States, StatesAccess, StatesLoop, StatesTarget, TargetFault, NameFault}
+use Rattle.statement.specs.Stated.{Stated, Target}
+use Rattle.statement.specs.Statement.{Names, Parts, access_at, access_keys, class_at, leave_in, loop_at, named_class, parts_of, statement_keys, statement_of, target_at, target_keys, whole}
 use Rattle.statement.specs.StatementFaults.{number_of, statement_faults}
 use Rattle.statement.specs.declared.faults.StatementFault.{StatementFault}
 use Rattle.statement.specs.declared.faults.StatementFault.TheVariants.{Memory, NotToml, UnknownKey, WrongKind, UnknownLabel, OutOfRange, Twice}
-use Rattle.statement.proofs.RuleLemmas.{address_in_judged, word_judged}
-use Rattle.statement.proofs.TableLemmas.{access_judged, loop_judged, six_in_line, target_judged}
+use Rattle.statement.proofs.RuleLemmas.{address_in_judged, one_address, word_judged}
+use Rattle.statement.proofs.TableLemmas.{access_judged, loop_judged, not_true, six_in_line, target_judged, twice_last}
 
 -- ## Faults differ in their numbers
 
@@ -41,10 +43,32 @@ numbered_back Twice = refl
 one_number : (f g : StatementFault) → number_of f ≡ number_of g → f ≡ g
 one_number f g e = sym (numbered_back f) ∙ ap fault_numbered e ∙ numbered_back g
 
-leave_judged : (ms : Members) → Judges statement_faults (λ c. AtKeyOr (codes "leave") ms (c ≡ class.Any) (λ d. IsWord named_class d c)) (λ f. AtKey (codes "leave") ms (λ d. WordFault named_class d f)) (leave_in ms)
-leave_judged ms = optional_judged statement_faults (IsWord named_class) (WordFault named_class) class_at (word_judged named_class) class.Any (get_member (codes "leave") ms)
+leave_judged : (ms : Members) → Judges statement_faults (λ c. AtKeyOr (codes "leave") ms (c ≡ class.Any) (λ d. IsNamed named_class d c)) (λ f. AtKey (codes "leave") ms (λ d. NameFault named_class d f)) (leave_in ms)
+leave_judged ms = optional_judged statement_faults (IsNamed named_class) (NameFault named_class) class_at (word_judged named_class) class.Any (get_member (codes "leave") ms)
+
+one_some : {X : Type 0} (P : X → ℕ → Type 0) → ((x : X) (a b : ℕ) → P x a → P x b → a ≡ b) → (o : Option X) (a b : ℕ) → IsSomeAnd o (λ x. P x a) → IsSomeAnd o (λ x. P x b) → a ≡ b
+one_some P one None a b h k = absurd h
+one_some P one (Some x) a b h k = one x a b h k
+
+some_weaker : {X : Type 0} (P Q : X → Type 0) → ((x : X) → P x → Q x) → (o : Option X) → IsSomeAnd o P → IsSomeAnd o Q
+some_weaker P Q to None h = absurd h
+some_weaker P Q to (Some x) h = to x h
 
 module _ (names : Names) where
+  -- ## The addresses of targets and accesses
+
+  abbrev AtOf : Members → ℕ → Type 0
+  AtOf ms a = AtKey (codes "at") ms (λ e. IsAddress names e a)
+
+  one_at : (d : Data) (a b : ℕ) → IsAt names d a → IsAt names d b → a ≡ b
+  one_at d a b h k = one_some AtOf (λ ms. one_some (IsAddress names) (one_address names) (get_member (codes "at") ms)) (as_table d) a b h k
+
+  target_is_at : (d : Data) (t : ℕ × Target) → StatesTarget names d t → IsAt names d t.0
+  target_is_at d t h = some_weaker (λ ms. (has_only_keys target_keys ms ≡ true) × HasTarget names ms t) (λ ms. AtOf ms t.0) (λ ms s. s.1.at_at) (as_table d) h
+
+  access_is_at : (d : Data) (a : ℕ × Class) → StatesAccess names d a → IsAt names d a.0
+  access_is_at d a h = some_weaker (λ ms. (has_only_keys access_keys ms ≡ true) × HasAccess names ms a) (λ ms. AtOf ms a.0) (λ ms s. s.1.at_at) (as_table d) h
+
   -- ## Parts
 
   abbrev made_of : Parts → Stated
@@ -56,7 +80,7 @@ module _ (names : Names) where
   abbrev HasEach : Members → Parts → Type 0
   HasEach ms p =
       ((AtKey (codes "entry") ms (λ d. IsAddress names d p.0.0.0)
-      × AtKeyOr (codes "leave") ms (p.0.0.1 ≡ class.Any) (λ d. IsWord named_class d p.0.0.1))
+      × AtKeyOr (codes "leave") ms (p.0.0.1 ≡ class.Any) (λ d. IsNamed named_class d p.0.0.1))
       × AtKeyOr (codes "loop") ms (p.0.1 ≡ []) (λ d. IsListUpTo 256 (StatesLoop names) d p.0.1))
       × (AtKeyOr (codes "target") ms (p.1.0 ≡ []) (λ d. IsListUpTo 1024 (StatesTarget names) d p.1.0)
       × AtKeyOr (codes "access") ms (p.1.1 ≡ []) (λ d. IsListUpTo 4096 (StatesAccess names) d p.1.1))
@@ -64,7 +88,7 @@ module _ (names : Names) where
   abbrev EachFault : Members → StatementFault → Type 0
   EachFault ms f =
       ((RequiredFault (codes "entry") ms (AddressFault names) f
-      ⊎ AtKey (codes "leave") ms (λ d. WordFault named_class d f))
+      ⊎ AtKey (codes "leave") ms (λ d. NameFault named_class d f))
       ⊎ AtKey (codes "loop") ms (λ d. ListUpToFault statement_faults 256 (LoopFault names) d f))
       ⊎ (AtKey (codes "target") ms (λ d. ListUpToFault statement_faults 1024 (TargetFault names) d f)
       ⊎ AtKey (codes "access") ms (λ d. ListUpToFault statement_faults 4096 (AccessFault names) d f))
@@ -73,13 +97,13 @@ module _ (names : Names) where
   each_judged ms =
       both_judged
       statement_faults
-      (λ p. (AtKey (codes "entry") ms (λ d. IsAddress names d p.0.0) × AtKeyOr (codes "leave") ms (p.0.1 ≡ class.Any) (λ d. IsWord named_class d p.0.1)) × AtKeyOr (codes "loop") ms (p.1 ≡ []) (λ d. IsListUpTo 256 (StatesLoop names) d p.1))
+      (λ p. (AtKey (codes "entry") ms (λ d. IsAddress names d p.0.0) × AtKeyOr (codes "leave") ms (p.0.1 ≡ class.Any) (λ d. IsNamed named_class d p.0.1)) × AtKeyOr (codes "loop") ms (p.1 ≡ []) (λ d. IsListUpTo 256 (StatesLoop names) d p.1))
       (λ p. AtKeyOr (codes "target") ms (p.0 ≡ []) (λ d. IsListUpTo 1024 (StatesTarget names) d p.0) × AtKeyOr (codes "access") ms (p.1 ≡ []) (λ d. IsListUpTo 4096 (StatesAccess names) d p.1))
       _
       _
       _
       _
-      (both_judged statement_faults (λ p. AtKey (codes "entry") ms (λ d. IsAddress names d p.0) × AtKeyOr (codes "leave") ms (p.1 ≡ class.Any) (λ d. IsWord named_class d p.1)) _ _ _ _ _ (both_judged statement_faults _ _ _ _ _ _ (address_in_judged names (codes "entry") ms) (leave_judged ms)) (tables_up_to_judged statement_faults 256 (StatesLoop names) (LoopFault names) (loop_at names) (loop_judged names) (get_member (codes "loop") ms)))
+      (both_judged statement_faults (λ p. AtKey (codes "entry") ms (λ d. IsAddress names d p.0) × AtKeyOr (codes "leave") ms (p.1 ≡ class.Any) (λ d. IsNamed named_class d p.1)) _ _ _ _ _ (both_judged statement_faults _ _ _ _ _ _ (address_in_judged names (codes "entry") ms) (leave_judged ms)) (tables_up_to_judged statement_faults 256 (StatesLoop names) (LoopFault names) (loop_at names) (loop_judged names) (get_member (codes "loop") ms)))
       (both_judged statement_faults _ _ _ _ _ _ (tables_up_to_judged statement_faults 1024 (StatesTarget names) (TargetFault names) (target_at names) (target_judged names) (get_member (codes "target") ms)) (tables_up_to_judged statement_faults 4096 (StatesAccess names) (AccessFault names) (access_at names) (access_judged names) (get_member (codes "access") ms)))
 
   -- ## The whole
@@ -87,21 +111,68 @@ module _ (names : Names) where
   is_single : (st : Stated) → (are_distinct (keys_of st.targets) && are_distinct (keys_of st.accesses)) ≡ true ↔ IsSingle names st
   is_single st = (λ e. and_parts (are_distinct (keys_of st.targets)) (are_distinct (keys_of st.accesses)) e, λ h. both_true h.0 h.1)
 
+  abbrev SingleFault : Members → StatementFault → Type 0
+  SingleFault ms f = (p : Parts) × HasEach ms p × ((¬ IsSingle names (made_of p)) × (f ≡ Twice))
+
+  abbrev TwoFault : Members → StatementFault → Type 0
+  TwoFault ms f = (HasTwo names (codes "target") ms ⊎ HasTwo names (codes "access") ms) × (f ≡ Twice)
+
+  single_judged : (ms : Members) → Judges statement_faults (λ st. (p : Parts) × HasEach ms p × (IsSingle names (made_of p) × (st ≡ made_of p))) (λ f. EachFault ms f ⊎ SingleFault ms f) (and_then (parts_of names ms) whole)
+  single_judged ms =
+      then_judged
+      statement_faults
+      (HasEach ms)
+      (λ p st. IsSingle names (made_of p) × (st ≡ made_of p))
+      (EachFault ms)
+      (λ p f. (¬ IsSingle names (made_of p)) × (f ≡ Twice))
+      whole
+      (λ p s. test_judged statement_faults (IsSingle names (made_of p)) (made_of p) Twice (are_distinct (keys_of p.1.0) && are_distinct (keys_of p.1.1)) (is_single (made_of p)))
+      (parts_of names ms)
+      (each_judged ms)
+
+  targets_two : (ms : Members) (p : Parts) → HasEach ms p → are_distinct (keys_of p.1.0) ≡ false ↔ HasTwo names (codes "target") ms
+  targets_two ms p h = keys_not_distinct (IsAt names) one_at (StatesTarget names) target_is_at 1024 (get_member (codes "target") ms) p.1.0 h.1.0
+
+  accesses_two : (ms : Members) (p : Parts) → HasEach ms p → are_distinct (keys_of p.1.1) ≡ false ↔ HasTwo names (codes "access") ms
+  accesses_two ms p h = keys_not_distinct (IsAt names) one_at (StatesAccess names) access_is_at 4096 (get_member (codes "access") ms) p.1.1 h.1.1
+
+  two_of : (ms : Members) (f : StatementFault) → SingleFault ms f → TwoFault ms f
+  two_of ms f u = (
+    elim (cases_Bool (are_distinct (keys_of u.0.1.0))) [
+      | inl one ↦ inr ((accesses_two ms u.0 u.1).0 (not_true (are_distinct (keys_of u.0.1.1)) (λ e. u.2.0 (one, e))))
+      | inr two ↦ inl ((targets_two ms u.0 u.1).0 two)
+    ],
+    u.2.1,
+  )
+
+  -- two entries of one address are told of, or a fault that is no higher
+  two_under : (ms : Members) (f : StatementFault) → TwoFault ms f → (g : StatementFault) × (EachFault ms g ⊎ SingleFault ms g) × (number_of g ≤ number_of f)
+  two_under ms f h =
+      elim
+      (stated_or_faulty statement_faults (HasEach ms) (EachFault ms) (parts_of names ms) (each_judged ms)) [
+        | inl p ↦ (Twice, inr (p.0, p.1, (not_single p.0 p.1 h.0, refl)), le_of_eq (ap number_of (sym h.1)))
+        | inr g ↦ (g.0, inl g.1, subst (λ (y : StatementFault). number_of g.0 ≤ number_of y) (sym h.1) (twice_last g.0))
+      ]
+    where
+      not_single : (p : Parts) → HasEach ms p → HasTwo names (codes "target") ms ⊎ HasTwo names (codes "access") ms → ¬ IsSingle names (made_of p)
+      not_single p e (inl t) s = false≢true (sym ((targets_two ms p e).1 t) ∙ s.0)
+      not_single p e (inr t) s = false≢true (sym ((accesses_two ms p e).1 t) ∙ s.1)
+
   parts_judged : (ms : Members) → Judges statement_faults (λ st. HasParts names ms st × IsSingle names st) (PartsFault names ms) (and_then (parts_of names ms) whole)
   parts_judged ms =
       judged_as
       statement_faults
       (λ st. (p : Parts) × HasEach ms p × (IsSingle names (made_of p) × (st ≡ made_of p)))
       (λ st. HasParts names ms st × IsSingle names st)
-      (λ f. EachFault ms f ⊎ ((p : Parts) × HasEach ms p × ((¬ IsSingle names (made_of p)) × (f ≡ Twice))))
+      (λ f. EachFault ms f ⊎ TwoFault ms f)
       (PartsFault names ms)
       (λ st. (
         λ u. subst (λ (s : Stated). HasParts names ms s × IsSingle names s) (sym u.2.1) (of_each u.0 u.1, u.2.0),
         λ h. (split st, each_of st h.0, (h.1, refl)),
       ))
-      (λ f. six_in_line (λ u. (made_of u.0, of_each u.0 u.1, u.2.0, u.2.1), λ h. (split h.0, each_of h.0 h.1, (h.2, h.3))))
+      (λ f. six_in_line)
       (and_then (parts_of names ms) whole)
-      (then_judged statement_faults (HasEach ms) (λ p st. IsSingle names (made_of p) × (st ≡ made_of p)) (EachFault ms) (λ p f. (¬ IsSingle names (made_of p)) × (f ≡ Twice)) whole (λ p s. test_judged statement_faults (IsSingle names (made_of p)) (made_of p) Twice (are_distinct (keys_of p.1.0) && are_distinct (keys_of p.1.1)) (is_single (made_of p))) (parts_of names ms) (each_judged ms))
+      (widened_judged statement_faults _ (EachFault ms) (SingleFault ms) (TwoFault ms) (two_of ms) (two_under ms) (and_then (parts_of names ms) whole) (single_judged ms))
     where
       of_each : (p : Parts) → HasEach ms p → HasParts names ms (made_of p)
       of_each p s = record { entry_at = s.0.0.0; leave_at = s.0.0.1; loops_at = s.0.1; targets_at = s.1.0; accesses_at = s.1.1 }

@@ -1,5 +1,5 @@
 -- What is read of addresses and words, against what they state and their faults.
-use Rattle.std.proofs.Common.{◌≡◌, ℕ, ◌%◌, ◌^◌, ◌↔◌, ℤ, pos, negsuc, true, ◌&&◌, eqb, ltb, List, Option, Some, None, Ok, IsSomeAnd, MatchOption, unwrap_or, refl, sym, ap, subst, le_of_eq}
+use Rattle.std.proofs.Common.{◌≡◌, ℕ, ◌%◌, ◌^◌, ◌↔◌, ◌∙◌, ℤ, pos, negsuc, true, ◌&&◌, eqb, ltb, List, Option, Some, None, Ok, MatchOption, unwrap_or, refl, sym, ap, subst, le_of_eq}
 use Rattle.std.specs.Prelude.{codes}
 use Rattle.std.specs.Option.{option_and_then}
 use Rattle.std.specs.Cmp.Derive.{both_true}
@@ -12,7 +12,7 @@ use Rattle.toml_reading.specs.Readings.{required}
 use Rattle.toml_reading.proofs.Following.{refusal_judged, test_judged}
 use Rattle.toml_reading.proofs.LowestLemmas.{Judges, judged_as, required_judged}
 use Rattle.toml_reading.proofs.LowestParts.{not_whole, whole_same}
-use Rattle.statement.specs.StatementRules.{AddressFault, IsAddress, IsInSpace, IsWord, RequiredFault, WordFault}
+use Rattle.statement.specs.StatementRules.{AddressFault, IsAddress, IsInSpace, IsNamed, RequiredFault, NameFault}
 use Rattle.statement.specs.Statement.{Names, address_at, address_in, class_at, class_in, kind_at, kind_in, labelled, named_class, named_kind}
 use Rattle.statement.specs.StatementFaults.{number_of, statement_faults}
 use Rattle.statement.specs.declared.faults.StatementFault.TheVariants.{OutOfRange, UnknownLabel, WrongKind}
@@ -82,22 +82,29 @@ address_judged names (table ms) = refusal_judged statement_faults WrongKind
 pub address_in_judged : (names : Names) (key : List ℕ) (ms : Members) → Judges statement_faults (λ a. AtKey key ms (λ d. IsAddress names d a)) (RequiredFault key ms (AddressFault names)) (address_in names key ms)
 address_in_judged names key ms = required_judged statement_faults (IsAddress names) (AddressFault names) (address_at names) (address_judged names) (get_member key ms)
 
+-- an address is one
+pub one_address : (names : Names) (d : Data) (a b : ℕ) → IsAddress names d a → IsAddress names d b → a ≡ b
+one_address names (string name) a b h k = some_same a b (sym h.0 ∙ k.0)
+one_address names (integer z) a b h k = whole_same a b (sym h.0 ∙ k.0)
+one_address names (float x) a b h k = absurd h
+one_address names (boolean x) a b h k = absurd h
+one_address names (datetime t) a b h k = absurd h
+one_address names (array ds) a b h k = absurd h
+one_address names (table ms) a b h k = absurd h
+
 -- ## Words
 
-module _ {A : Type 0} (named : List ℕ → Option A) where
-  found_judged : (o : Option A) → Judges statement_faults (λ a. o ≡ Some a) (λ f. ((a : A) → ¬ (o ≡ Some a)) × (f ≡ WrongKind)) (required statement_faults o (λ a. Ok a))
-  found_judged None = record { told = (none-some, record { has = (none-some, refl); least = λ o e. le_of_eq (ap number_of (sym e.1)) }) }
-  found_judged (Some x) = record { told = (record { stated = refl; only = λ b e. sym (some_same x b e) }, λ f h. h.0 x refl) }
+found_judged : {A : Type 0} (o : Option A) → Judges statement_faults (λ a. o ≡ Some a) (λ f. (o ≡ None) × (f ≡ WrongKind)) (required statement_faults o (λ a. Ok a))
+found_judged None = record { told = (none-some, record { has = (refl, refl); least = λ o e. le_of_eq (ap number_of (sym e.1)) }) }
+found_judged (Some x) = record {
+  told = (record { stated = refl; only = λ b e. sym (some_same x b e) }, λ f h. none-some x (sym h.0));
+}
 
-  text_judged : (o : Option (List ℕ)) → Judges statement_faults (λ a. IsSomeAnd o (λ w. named w ≡ Some a)) (λ f. ((a : A) → ¬ IsSomeAnd o (λ w. named w ≡ Some a)) × (f ≡ WrongKind)) (required statement_faults (option_and_then named o) (λ a. Ok a))
-  text_judged None = record { told = (λ a s. s, record { has = (λ a s. s, refl); least = λ o e. le_of_eq (ap number_of (sym e.1)) }) }
-  text_judged (Some w) = found_judged (named w)
+pub word_judged : {A : Type 0} (named : List ℕ → Option A) (d : Data) → Judges statement_faults (IsNamed named d) (NameFault named d) (required statement_faults (option_and_then named (as_str d)) (λ a. Ok a))
+word_judged named d = found_judged (option_and_then named (as_str d))
 
-  pub word_judged : (d : Data) → Judges statement_faults (IsWord named d) (WordFault named d) (required statement_faults (option_and_then named (as_str d)) (λ a. Ok a))
-  word_judged d = text_judged (as_str d)
+pub kind_judged : (ms : Members) → Judges statement_faults (λ k. AtKey (codes "kind") ms (λ d. IsNamed named_kind d k)) (RequiredFault (codes "kind") ms (NameFault named_kind)) (kind_in ms)
+kind_judged ms = required_judged statement_faults (IsNamed named_kind) (NameFault named_kind) kind_at (word_judged named_kind) (get_member (codes "kind") ms)
 
-pub kind_judged : (ms : Members) → Judges statement_faults (λ k. AtKey (codes "kind") ms (λ d. IsWord named_kind d k)) (RequiredFault (codes "kind") ms (WordFault named_kind)) (kind_in ms)
-kind_judged ms = required_judged statement_faults (IsWord named_kind) (WordFault named_kind) kind_at (word_judged named_kind) (get_member (codes "kind") ms)
-
-pub class_judged : (ms : Members) → Judges statement_faults (λ c. AtKey (codes "class") ms (λ d. IsWord named_class d c)) (RequiredFault (codes "class") ms (WordFault named_class)) (class_in ms)
-class_judged ms = required_judged statement_faults (IsWord named_class) (WordFault named_class) class_at (word_judged named_class) (get_member (codes "class") ms)
+pub class_judged : (ms : Members) → Judges statement_faults (λ c. AtKey (codes "class") ms (λ d. IsNamed named_class d c)) (RequiredFault (codes "class") ms (NameFault named_class)) (class_in ms)
+class_judged ms = required_judged statement_faults (IsNamed named_class) (NameFault named_class) class_at (word_judged named_class) (get_member (codes "class") ms)

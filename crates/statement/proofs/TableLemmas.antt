@@ -1,43 +1,66 @@
 -- What is read of the tables of loops, targets and accesses, against what they state and their faults.
-use Rattle.std.proofs.Common.{◌≡◌, ◌≢◌, ℕ, ◌<◌, ◌≤◌, ◌⊎◌, ◌↔◌, Bool, true, false, ◌&&◌, cond, eqb, leb, List, [], ◌∷◌, length, Option, Some, None, Err, IsSomeAnd, MatchOption, Any, is_none, inl, inr, refl, sym, ap, subst, ◌∙◌, arith}
+use Rattle.std.proofs.Common.{◌≡◌, ◌≢◌, ℕ, ℤ, ◌<◌, ◌≤◌, ◌⊎◌, ◌↔◌, Bool, true, false, ◌&&◌, cond, eqb, leb, List, [], ◌∷◌, length, Option, Some, None, Err, IsSomeAnd, MatchOption, Any, is_none, inl, inr, refl, sym, ap, subst, ◌∙◌, arith, le_of_eq}
 use Rattle.std.specs.Prelude.{codes}
 use Rattle.std.specs.List.{AllZip}
 use Rattle.std.specs.Cmp.Derive.{both_true}
 use Rattle.std.proofs.lemmas.Bool.{and_parts, eqb-true, false≢true, le-leb, leb-true}
 use Rattle.std.proofs.lemmas.List.{nil_from_length}
 use Rattle.std.proofs.lemmas.Option.{none-some}
-use Rattle.toml.specs.Data.{Data, Members, get_member}
-use Rattle.toml_reading.specs.Documents.{are_distinct, items_at, listed_up_to}
-use Rattle.toml_reading.specs.Lowest.{AtKey, IsNumber, NumberFault}
+use Rattle.toml.specs.Data.{Data, Members, as_integer, get_member}
+use Rattle.toml_reading.specs.Documents.{are_distinct, items_at, listed_up_to, number_in}
+use Rattle.toml_reading.specs.Lists.{StandsTwice}
+use Rattle.toml_reading.specs.Lowest.{AtKey, IsNumber, IsOutside, NumberFault}
 use Rattle.toml_reading.specs.Readings.{and_then, both, required}
-use Rattle.toml_reading.proofs.Following.{few_judged, test_judged, then_judged}
+use Rattle.toml_reading.proofs.Following.{few_judged, stated_or_faulty, test_judged, then_judged, widened_judged}
 use Rattle.toml_reading.proofs.LowestLemmas.{Judges, both_judged, judged_as, required_judged, seen_judged}
 use Rattle.toml_reading.proofs.LowestParts.{any_none, number_in_judged, table_judged}
-use Rattle.statement.specs.StatementRules.{AccessFault, AccessKeysFault, AddressFault, AreDestinations, DestinationsFault, GoesTo, HasAccess, HasLoop, HasTarget, IsAddress, IsPlaced, IsWord, LoopFault, LoopKeysFault, RequiredFault, StatesAccess, StatesLoop, StatesTarget, TargetFault, TargetKeysFault, ToFault, WordFault}
+use Rattle.toml_reading.proofs.TwiceLemmas.{not_distinct}
+use Rattle.statement.specs.StatementRules.{AccessFault, AccessKeysFault, AddressFault, AreDestinations, DestinationsFault, GoesTo, HasAccess, HasLoop, HasTarget, IsAddress, IsMisplaced, IsPlaced, IsNamed, LoopFault, LoopKeysFault, RequiredFault, StatesAccess, StatesLoop, StatesTarget, TargetFault, TargetKeysFault, ToFault, NameFault}
 use Rattle.statement.specs.Stated.{Target}
 use Rattle.statement.specs.Statement.{Names, access_at, access_keys, address_at, address_in, class_in, destinations, destinations_at, directed, kind_in, loop_at, loop_keys, loop_parts, named_class, named_kind, once, placed_loop, some_destinations, target_at, target_keys}
 use Rattle.statement.specs.StatementFaults.{number_of, statement_faults}
 use Rattle.statement.specs.declared.faults.StatementFault.{StatementFault}
-use Rattle.statement.specs.declared.faults.StatementFault.TheVariants.{OutOfRange, Twice, WrongKind}
+use Rattle.statement.specs.declared.faults.StatementFault.TheVariants.{Memory, NotToml, UnknownKey, WrongKind, UnknownLabel, OutOfRange, Twice}
 use Rattle.statement.specs.declared.stated.Loop.{Loop}
 use Rattle.statement.specs.declared.stated.TargetKind.{TargetKind}
 use Rattle.statement.specs.declared.stated.TargetKind.TheVariants.{Jump, Call, Return, Leave}
-use Rattle.statement.proofs.RuleLemmas.{address_in_judged, address_judged, class_judged, kind_judged}
+use Rattle.statement.proofs.RuleLemmas.{address_in_judged, address_judged, class_judged, kind_judged, one_address}
 
 cons-nil : {A : Type 0} (x : A) (xs : List A) → x ∷ xs ≡ [] → ⊥
 cons-nil x xs e = cc
 
+pub not_true : (b : Bool) → b ≢ true → b ≡ false
+not_true true n = absurd (n refl)
+not_true false n = refl
+
+-- ## The order of the faults
+
+above : (f g : StatementFault) → f ≡ g → number_of WrongKind ≤ number_of g → number_of WrongKind ≤ number_of f
+above f g e h = subst (λ (x : StatementFault). number_of WrongKind ≤ number_of x) (sym e) h
+
+at_most : (f g : StatementFault) → f ≡ g → number_of g ≤ number_of OutOfRange → number_of f ≤ number_of OutOfRange
+at_most f g e h = subst (λ (x : StatementFault). number_of x ≤ number_of OutOfRange) (sym e) h
+
+pub twice_last : (f : StatementFault) → number_of f ≤ number_of Twice
+twice_last Memory = omega arith
+twice_last NotToml = omega arith
+twice_last UnknownKey = omega arith
+twice_last WrongKind = omega arith
+twice_last UnknownLabel = omega arith
+twice_last OutOfRange = omega arith
+twice_last Twice = omega arith
+
 -- ## Sums in another order
 
-module _ {A B C D F G : Type 0} where
-  pub five_in_line : F ↔ G → (((A ⊎ B) ⊎ (C ⊎ D)) ⊎ F) ↔ (A ⊎ B ⊎ C ⊎ D ⊎ G)
-  five_in_line last = (
+module _ {A B C D E : Type 0} where
+  five_in_line : (((A ⊎ B) ⊎ (C ⊎ D)) ⊎ E) ↔ (A ⊎ B ⊎ C ⊎ D ⊎ E)
+  five_in_line = (
     λ x. elim x [
       | inl y ↦ elim y [
         | inl ab ↦ elim ab [ inl a ↦ inl a | inr b ↦ inr (inl b) ]
         | inr cd ↦ elim cd [ inl c ↦ inr (inr (inl c)) | inr d ↦ inr (inr (inr (inl d))) ]
       ]
-      | inr f ↦ inr (inr (inr (inr (last.0 f))))
+      | inr e ↦ inr (inr (inr (inr e)))
     ],
     λ x. elim x [
       | inl a ↦ inl (inl (inl a))
@@ -45,15 +68,15 @@ module _ {A B C D F G : Type 0} where
         | inl b ↦ inl (inl (inr b))
         | inr cs ↦ elim cs [
           | inl c ↦ inl (inr (inl c))
-          | inr ds ↦ elim ds [ inl d ↦ inl (inr (inr d)) | inr g ↦ inr (last.1 g) ]
+          | inr ds ↦ elim ds [ inl d ↦ inl (inr (inr d)) | inr e ↦ inr e ]
         ]
       ]
     ],
   )
 
-module _ {A B C D E F G : Type 0} where
-  pub six_in_line : F ↔ G → ((((A ⊎ B) ⊎ C) ⊎ (D ⊎ E)) ⊎ F) ↔ (A ⊎ B ⊎ C ⊎ D ⊎ E ⊎ G)
-  six_in_line last = (
+module _ {A B C D E F : Type 0} where
+  pub six_in_line : ((((A ⊎ B) ⊎ C) ⊎ (D ⊎ E)) ⊎ F) ↔ (A ⊎ B ⊎ C ⊎ D ⊎ E ⊎ F)
+  six_in_line = (
     λ x. elim x [
       | inl y ↦ elim y [
         | inl abc ↦ elim abc [
@@ -62,7 +85,7 @@ module _ {A B C D E F G : Type 0} where
         ]
         | inr de ↦ elim de [ inl d ↦ inr (inr (inr (inl d))) | inr e ↦ inr (inr (inr (inr (inl e)))) ]
       ]
-      | inr f ↦ inr (inr (inr (inr (inr (last.0 f)))))
+      | inr f ↦ inr (inr (inr (inr (inr f))))
     ],
     λ x. elim x [
       | inl a ↦ inl (inl (inl (inl a)))
@@ -72,7 +95,7 @@ module _ {A B C D E F G : Type 0} where
           | inl c ↦ inl (inl (inr c))
           | inr ds ↦ elim ds [
             | inl d ↦ inl (inr (inl d))
-            | inr es ↦ elim es [ inl e ↦ inl (inr (inr e)) | inr g ↦ inr (last.1 g) ]
+            | inr es ↦ elim es [ inl e ↦ inl (inr (inr e)) | inr f ↦ inr f ]
           ]
         ]
       ]
@@ -114,21 +137,54 @@ module _ (names : Names) where
     λ h. both_true (le-leb l.first l.header h.0) (le-leb l.header l.last h.1),
   )
 
+  abbrev PlaceFault : Members → StatementFault → Type 0
+  PlaceFault ms f = (p : (ℕ × ℕ) × (ℕ × ℕ)) × HasEnds ms p × ((¬ IsPlaced names (loop_of p)) × (f ≡ OutOfRange))
+
+  number_low : (o : Option ℤ) (g : StatementFault) → MatchOption o (g ≡ WrongKind) (λ z. IsOutside 1048576 z × (g ≡ OutOfRange)) → number_of g ≤ number_of OutOfRange
+  number_low None g h = at_most g WrongKind h (omega arith)
+  number_low (Some z) g h = at_most g OutOfRange h.1 (omega arith)
+
+  bound_low : (o : Option Data) (g : StatementFault) → MatchOption o (g ≡ WrongKind) (λ d. NumberFault statement_faults 1048576 d g) → number_of g ≤ number_of OutOfRange
+  bound_low None g h = at_most g WrongKind h (omega arith)
+  bound_low (Some d) g h = number_low (as_integer d) g h
+
+  -- a header outside first to last is told of, or a fault of the bound that is no higher
+  misplaced_under : (ms : Members) (f : StatementFault) → IsMisplaced names ms × (f ≡ OutOfRange) → (g : StatementFault) × (EndsFault ms g ⊎ PlaceFault ms g) × (number_of g ≤ number_of f)
+  misplaced_under ms f h =
+      elim
+      (stated_or_faulty statement_faults (λ n. AtKey (codes "bound") ms (λ d. IsNumber 1048576 d n)) (RequiredFault (codes "bound") ms (NumberFault statement_faults 1048576)) (number_in statement_faults (codes "bound") 1048576 ms) (number_in_judged statement_faults 1048576 (codes "bound") ms)) [
+        | inl b ↦ (OutOfRange, inr (((h.0.0, h.0.1), (h.0.2, b.0)), ((h.0.3, h.0.4), (h.0.5, b.1)), (h.0.6, refl)), le_of_eq (ap number_of (sym h.1)))
+        | inr g ↦ (g.0, inl (inr (inr g.1)), subst (λ (y : StatementFault). number_of g.0 ≤ number_of y) (sym h.1) (bound_low (get_member (codes "bound") ms) g.0 g.1))
+      ]
+
+  placed_judged : (ms : Members) → Judges statement_faults (λ l. (p : (ℕ × ℕ) × (ℕ × ℕ)) × HasEnds ms p × (IsPlaced names (loop_of p) × (l ≡ loop_of p))) (λ f. EndsFault ms f ⊎ PlaceFault ms f) (and_then (loop_parts names ms) placed_loop)
+  placed_judged ms =
+      then_judged
+      statement_faults
+      (HasEnds ms)
+      (λ p l. IsPlaced names (loop_of p) × (l ≡ loop_of p))
+      (EndsFault ms)
+      (λ p f. (¬ IsPlaced names (loop_of p)) × (f ≡ OutOfRange))
+      placed_loop
+      (λ p s. test_judged statement_faults (IsPlaced names (loop_of p)) (loop_of p) OutOfRange (leb p.0.0 p.1.0 && leb p.1.0 p.0.1) (is_placed (loop_of p)))
+      (loop_parts names ms)
+      (ends_judged ms)
+
   loop_keys_judged : (ms : Members) → Judges statement_faults (λ l. HasLoop names ms l × IsPlaced names l) (LoopKeysFault names ms) (and_then (loop_parts names ms) placed_loop)
   loop_keys_judged ms =
       judged_as
       statement_faults
       (λ l. (p : (ℕ × ℕ) × (ℕ × ℕ)) × HasEnds ms p × (IsPlaced names (loop_of p) × (l ≡ loop_of p)))
       (λ l. HasLoop names ms l × IsPlaced names l)
-      (λ f. EndsFault ms f ⊎ ((p : (ℕ × ℕ) × (ℕ × ℕ)) × HasEnds ms p × ((¬ IsPlaced names (loop_of p)) × (f ≡ OutOfRange))))
+      (λ f. EndsFault ms f ⊎ (IsMisplaced names ms × (f ≡ OutOfRange)))
       (LoopKeysFault names ms)
       (λ l. (
         λ u. subst (λ (m : Loop). HasLoop names ms m × IsPlaced names m) (sym u.2.1) (of_ends u.0 u.1, u.2.0),
         λ h. (((l.first, l.last), (l.header, l.bound)), ends_of l h.0, (h.1, refl)),
       ))
-      (λ f. five_in_line (λ u. (loop_of u.0, of_ends u.0 u.1, u.2.0, u.2.1), λ h. (((h.0.first, h.0.last), (h.0.header, h.0.bound)), ends_of h.0 h.1, (h.2, h.3))))
+      (λ f. five_in_line)
       (and_then (loop_parts names ms) placed_loop)
-      (then_judged statement_faults (HasEnds ms) (λ p l. IsPlaced names (loop_of p) × (l ≡ loop_of p)) (EndsFault ms) (λ p f. (¬ IsPlaced names (loop_of p)) × (f ≡ OutOfRange)) placed_loop (λ p s. test_judged statement_faults (IsPlaced names (loop_of p)) (loop_of p) OutOfRange (leb p.0.0 p.1.0 && leb p.1.0 p.0.1) (is_placed (loop_of p))) (loop_parts names ms) (ends_judged ms))
+      (widened_judged statement_faults _ (EndsFault ms) (PlaceFault ms) (λ f. IsMisplaced names ms × (f ≡ OutOfRange)) (λ f u. ((u.0.0.0, u.0.0.1, u.0.1.0, u.1.0.0, u.1.0.1, u.1.1.0, u.2.0), u.2.1)) (misplaced_under ms) (and_then (loop_parts names ms) placed_loop) (placed_judged ms))
     where
       of_ends : (p : (ℕ × ℕ) × (ℕ × ℕ)) → HasEnds ms p → HasLoop names ms (loop_of p)
       of_ends p s = record { first_at = s.0.0; last_at = s.0.1; header_at = s.1.0; bound_at = s.1.1 }
@@ -167,10 +223,7 @@ module _ (names : Names) where
   SomeFault o f =
       (IsSomeAnd o (λ ds. ds ≡ []) × (f ≡ WrongKind))
       ⊎ MatchOption o (f ≡ WrongKind) (λ ds. ReadFault ds f)
-      ⊎ ((to : List ℕ) × IsSomeAnd o (λ ds. AreRead ds to) × (are_distinct to ≢ true) × (f ≡ Twice))
-
-  above : (f g : StatementFault) → f ≡ g → number_of WrongKind ≤ number_of g → number_of WrongKind ≤ number_of f
-  above f g e h = subst (λ (x : StatementFault). number_of WrongKind ≤ number_of x) (sym e) h
+      ⊎ (IsSomeAnd o (StandsTwice (IsAddress names)) × (f ≡ Twice))
 
   none_judged : (ds : List Data) → ds ≡ [] → Judges statement_faults (AreSome (Some ds)) (SomeFault (Some ds)) (Err WrongKind)
   none_judged ds e = record {
@@ -185,12 +238,34 @@ module _ (names : Names) where
               | inl z ↦ above f OutOfRange z.1 (omega arith)
               | inr a ↦ absurd (any_none (λ e. AddressFault names e f) (subst (λ (xs : List Data). Any (λ e. AddressFault names e f) xs) e a))
             ]
-            | inr t ↦ above f Twice t.3 (omega arith)
+            | inr t ↦ above f Twice t.1 (omega arith)
           ]
         ];
       },
     );
   }
+
+  once_judged : (ds : List Data) → Judges statement_faults (λ to. (c : List ℕ) × AreRead ds c × ((are_distinct c ≡ true) × (to ≡ c))) (λ f. ReadFault ds f ⊎ ((c : List ℕ) × AreRead ds c × ((are_distinct c ≢ true) × (f ≡ Twice)))) (and_then (listed_up_to statement_faults 64 (address_at names) ds) once)
+  once_judged ds =
+      then_judged
+      statement_faults
+      (AreRead ds)
+      (λ c to. (are_distinct c ≡ true) × (to ≡ c))
+      (ReadFault ds)
+      (λ c f. (are_distinct c ≢ true) × (f ≡ Twice))
+      once
+      (λ c s. test_judged statement_faults (are_distinct c ≡ true) c Twice (are_distinct c) (λ e. e, λ e. e))
+      (listed_up_to statement_faults 64 (address_at names) ds)
+      (read_judged ds)
+
+  -- addresses of which one stands twice are told of, or a fault of theirs, which is no higher
+  twice_under : (ds : List Data) (f : StatementFault) → StandsTwice (IsAddress names) ds × (f ≡ Twice) → (g : StatementFault) × (ReadFault ds g ⊎ ((c : List ℕ) × AreRead ds c × ((are_distinct c ≢ true) × (g ≡ Twice)))) × (number_of g ≤ number_of f)
+  twice_under ds f h =
+      elim
+      (stated_or_faulty statement_faults (AreRead ds) (ReadFault ds) (listed_up_to statement_faults 64 (address_at names) ds) (read_judged ds)) [
+        | inl c ↦ (Twice, inr (c.0, c.1, (λ e. false≢true (sym ((not_distinct (IsAddress names) (one_address names) ds c.0 c.1.1).1 h.0) ∙ e), refl)), le_of_eq (ap number_of (sym h.1)))
+        | inr g ↦ (g.0, inl g.1, subst (λ (y : StatementFault). number_of g.0 ≤ number_of y) (sym h.1) (twice_last g.0))
+      ]
 
   some_judged : (ds : List Data) → ds ≢ [] → Judges statement_faults (AreSome (Some ds)) (SomeFault (Some ds)) (and_then (listed_up_to statement_faults 64 (address_at names) ds) once)
   some_judged ds ne =
@@ -198,21 +273,15 @@ module _ (names : Names) where
       statement_faults
       (λ to. (c : List ℕ) × AreRead ds c × ((are_distinct c ≡ true) × (to ≡ c)))
       (AreSome (Some ds))
-      (λ f. ReadFault ds f ⊎ ((c : List ℕ) × AreRead ds c × ((are_distinct c ≢ true) × (f ≡ Twice))))
+      (λ f. ReadFault ds f ⊎ (StandsTwice (IsAddress names) ds × (f ≡ Twice)))
       (SomeFault (Some ds))
       (λ to. (
         λ u. (subst (AreRead ds) (sym u.2.1) u.1, λ e. ne (zip_empty ds u.0 (sym u.2.1 ∙ e) u.1.1), ap are_distinct u.2.1 ∙ u.2.0),
         λ h. (to, h.0, (h.2, refl)),
       ))
-      (λ f. (
-        λ y. elim y [ inl r ↦ inr (inl r) | inr u ↦ inr (inr (u.0, u.1, u.2.0, u.2.1)) ],
-        λ y. elim y [
-          | inl z ↦ absurd (ne z.0)
-          | inr y' ↦ elim y' [ inl r ↦ inl r | inr t ↦ inr (t.0, t.1, (t.2, t.3)) ]
-        ],
-      ))
+      (λ f. (λ y. inr y, λ y. elim y [ inl z ↦ absurd (ne z.0) | inr y' ↦ y' ]))
       (and_then (listed_up_to statement_faults 64 (address_at names) ds) once)
-      (then_judged statement_faults (AreRead ds) (λ c to. (are_distinct c ≡ true) × (to ≡ c)) (ReadFault ds) (λ c f. (are_distinct c ≢ true) × (f ≡ Twice)) once (λ c s. test_judged statement_faults (are_distinct c ≡ true) c Twice (are_distinct c) (λ e. e, λ e. e)) (listed_up_to statement_faults 64 (address_at names) ds) (read_judged ds))
+      (widened_judged statement_faults _ (ReadFault ds) (λ f. (c : List ℕ) × AreRead ds c × ((are_distinct c ≢ true) × (f ≡ Twice))) (λ f. StandsTwice (IsAddress names) ds × (f ≡ Twice)) (λ f u. ((not_distinct (IsAddress names) (one_address names) ds u.0 u.1.1).0 (not_true (are_distinct u.0) u.2.0), u.2.1)) (twice_under ds) (and_then (listed_up_to statement_faults 64 (address_at names) ds) once) (once_judged ds))
 
   by_length : (ds : List Data) (b : Bool) → eqb (length ds) 0 ≡ b → Judges statement_faults (AreSome (Some ds)) (SomeFault (Some ds)) (cond b (Err WrongKind) (and_then (listed_up_to statement_faults 64 (address_at names) ds) once))
   by_length ds true e = none_judged ds (nil_from_length ds (eqb-true (length ds) 0 e))
@@ -226,7 +295,7 @@ module _ (names : Names) where
         has = inr (inl refl);
         least = λ f y. elim y [
           | inl z ↦ absurd z.0
-          | inr y' ↦ elim y' [ inl e ↦ above f WrongKind e (omega arith) | inr t ↦ absurd t.1 ]
+          | inr y' ↦ elim y' [ inl e ↦ above f WrongKind e (omega arith) | inr t ↦ absurd t.0 ]
         ];
       },
     );
@@ -260,20 +329,20 @@ module _ (names : Names) where
 
   abbrev HasDirection : Members → Target → Type 0
   HasDirection ms t =
-      (k : TargetKind) × AtKey (codes "kind") ms (λ d. IsWord named_kind d k) × ((t.kind ≡ k) × GoesTo names k (get_member (codes "to") ms) t.to)
+      (k : TargetKind) × AtKey (codes "kind") ms (λ d. IsNamed named_kind d k) × ((t.kind ≡ k) × GoesTo names k (get_member (codes "to") ms) t.to)
 
   abbrev DirectionFault : Members → StatementFault → Type 0
   DirectionFault ms f =
-      RequiredFault (codes "kind") ms (WordFault named_kind) f
-      ⊎ ((k : TargetKind) × AtKey (codes "kind") ms (λ d. IsWord named_kind d k) × ToFault names k (get_member (codes "to") ms) f)
+      RequiredFault (codes "kind") ms (NameFault named_kind) f
+      ⊎ ((k : TargetKind) × AtKey (codes "kind") ms (λ d. IsNamed named_kind d k) × ToFault names k (get_member (codes "to") ms) f)
 
   direction_judged : (ms : Members) → Judges statement_faults (HasDirection ms) (DirectionFault ms) (and_then (kind_in ms) (directed names (get_member (codes "to") ms)))
   direction_judged ms =
       then_judged
       statement_faults
-      (λ k. AtKey (codes "kind") ms (λ d. IsWord named_kind d k))
+      (λ k. AtKey (codes "kind") ms (λ d. IsNamed named_kind d k))
       (λ k t. (t.kind ≡ k) × GoesTo names k (get_member (codes "to") ms) t.to)
-      (RequiredFault (codes "kind") ms (WordFault named_kind))
+      (RequiredFault (codes "kind") ms (NameFault named_kind))
       (λ k f. ToFault names k (get_member (codes "to") ms) f)
       (directed names (get_member (codes "to") ms))
       (λ k s. directed_judged k (get_member (codes "to") ms))
@@ -291,7 +360,7 @@ module _ (names : Names) where
       (λ t. (
         λ h. record {
           at_at = h.0;
-          kind_at = subst (λ (k : TargetKind). AtKey (codes "kind") ms (λ d. IsWord named_kind d k)) (sym h.1.2.0) h.1.1;
+          kind_at = subst (λ (k : TargetKind). AtKey (codes "kind") ms (λ d. IsNamed named_kind d k)) (sym h.1.2.0) h.1.1;
           to_at = subst (λ (k : TargetKind). GoesTo names k (get_member (codes "to") ms) t.1.to) (sym h.1.2.0) h.1.2.1;
         },
         λ h. (h.at_at, (t.1.kind, h.kind_at, (refl, h.to_at))),
@@ -309,7 +378,7 @@ module _ (names : Names) where
   access_keys_judged ms =
       judged_as
       statement_faults
-      (λ a. AtKey (codes "at") ms (λ d. IsAddress names d a.0) × AtKey (codes "class") ms (λ d. IsWord named_class d a.1))
+      (λ a. AtKey (codes "at") ms (λ d. IsAddress names d a.0) × AtKey (codes "class") ms (λ d. IsNamed named_class d a.1))
       (HasAccess names ms)
       (AccessKeysFault names ms)
       (AccessKeysFault names ms)

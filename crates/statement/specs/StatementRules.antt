@@ -1,21 +1,19 @@
--- What a document states of a handler and which faults it has, told of its tables key by key. Source: our own
--- statement format, over the documents of TOML.
-use Rattle.std.specs.Prelude.{◌≡◌, ◌≢◌, ◌<◌, ◌≤◌, ◌%◌, ◌^◌, ◌⊎◌, ℕ, pos, true, List, [], codes, Option, Some}
-use Rattle.std.specs.Prelude.{None, IsSomeAnd, MatchOption}
+-- What a document states of a handler and which faults it has, told of its tables key by key. Source: our own statement
+-- format, over the documents of TOML.
+use Rattle.std.specs.Prelude.{◌≡◌, ◌≢◌, ◌<◌, ◌≤◌, ◌%◌, ◌^◌, ◌⊎◌, ℕ, pos, true, List, [], codes, Option, Some, None, IsSomeAnd, MatchOption}
 use Rattle.std.specs.Map.{keys_of}
-use Rattle.toml.specs.Data.{Data, Members, integer, string, get_member, as_str}
+use Rattle.std.specs.Option.{option_and_then}
+use Rattle.toml.specs.Data.{Data, Members, integer, string, get_member, as_str, as_table}
 use Rattle.bus_ticks.specs.declared.profile.Class.{Class}
 use Rattle.bus_ticks.specs.declared.profile.Class.TheVariants as class
 use Rattle.toml_reading.specs.Documents.{are_distinct, has_only_keys, items_at}
-use Rattle.toml_reading.specs.Limits.{IsListUpTo, ListUpToFault}
+use Rattle.toml_reading.specs.Lists.{IsListUpTo, ListUpToFault, StandsTwice}
 use Rattle.toml_reading.specs.Lowest.{AtKey, AtKeyOr, IsNumber, IsTable, KeysFault, NumberFault, TableFault}
 use Rattle.statement.specs.Stated.{Stated, Target}
-use Rattle.statement.specs.Statement.{Names, access_keys, loop_keys, named_class, named_kind, statement_keys}
-use Rattle.statement.specs.Statement.{target_keys}
+use Rattle.statement.specs.Statement.{Names, access_keys, loop_keys, named_class, named_kind, statement_keys, target_keys}
 use Rattle.statement.specs.StatementFaults.{statement_faults}
 use Rattle.statement.specs.declared.faults.StatementFault.{StatementFault}
-use Rattle.statement.specs.declared.faults.StatementFault.TheVariants.{WrongKind, UnknownLabel, OutOfRange}
-use Rattle.statement.specs.declared.faults.StatementFault.TheVariants.{Twice}
+use Rattle.statement.specs.declared.faults.StatementFault.TheVariants.{WrongKind, UnknownLabel, OutOfRange, Twice}
 use Rattle.statement.specs.declared.stated.Loop.{Loop}
 use Rattle.statement.specs.declared.stated.TargetKind.{TargetKind}
 use Rattle.statement.specs.declared.stated.TargetKind.TheVariants.{Jump, Call, Return, Leave}
@@ -35,16 +33,15 @@ IsAddress names _ a = ⊥
 -- an integer or a label's address out of range, a text that names no label, or another type
 abbrev pub AddressFault : Names → Data → StatementFault → Type 0
 AddressFault names (integer z) fault = ((a : ℕ) → z ≡ pos a → ¬ IsInSpace a) × (fault ≡ OutOfRange)
-AddressFault names (string name) fault =
-    MatchOption (names name) (fault ≡ UnknownLabel) (λ a. (¬ IsInSpace a) × (fault ≡ OutOfRange))
+AddressFault names (string name) fault = MatchOption (names name) (fault ≡ UnknownLabel) (λ a. (¬ IsInSpace a) × (fault ≡ OutOfRange))
 AddressFault names _ fault = fault ≡ WrongKind
 
--- a text that is the word of a class or of a kind
-abbrev pub IsWord : {A : Type 0} → (List ℕ → Option A) → Data → A → Type 0
-IsWord named d a = IsSomeAnd (as_str d) (λ w. named w ≡ Some a)
+-- a text that names a class or a kind
+abbrev pub IsNamed : {A : Type 0} → (List ℕ → Option A) → Data → A → Type 0
+IsNamed named d a = option_and_then named (as_str d) ≡ Some a
 
-abbrev pub WordFault : {A : Type 0} → (List ℕ → Option A) → Data → StatementFault → Type 0
-WordFault named d fault = ((a : _) → ¬ IsWord named d a) × (fault ≡ WrongKind)
+abbrev pub NameFault : {A : Type 0} → (List ℕ → Option A) → Data → StatementFault → Type 0
+NameFault named d fault = (option_and_then named (as_str d) ≡ None) × (fault ≡ WrongKind)
 
 -- the fault of a key that must be there: it is missing, or its value has the fault
 abbrev pub RequiredFault : List ℕ → Members → (Data → StatementFault → Type 0) → StatementFault → Type 0
@@ -67,14 +64,24 @@ module _ (names : Names) where
   abbrev pub StatesLoop : Data → Loop → Type 0
   StatesLoop d l = IsTable loop_keys (λ ms. HasLoop ms l × IsPlaced l) d
 
-  -- the faults of its keys, and a header outside first to last
+  -- the header lies outside first to last
+  abbrev pub IsMisplaced : Members → Type 0
+  IsMisplaced ms =
+      (first : ℕ)
+      × (last : ℕ)
+      × (header : ℕ)
+      × AtKey (codes "first") ms (λ d. IsAddress names d first)
+      × AtKey (codes "last") ms (λ d. IsAddress names d last)
+      × AtKey (codes "header") ms (λ d. IsAddress names d header)
+      × ¬ ((first ≤ header) × (header ≤ last))
+
   abbrev pub LoopKeysFault : Members → StatementFault → Type 0
   LoopKeysFault ms fault =
       RequiredFault (codes "first") ms (AddressFault names) fault
       ⊎ RequiredFault (codes "last") ms (AddressFault names) fault
       ⊎ RequiredFault (codes "header") ms (AddressFault names) fault
       ⊎ RequiredFault (codes "bound") ms (NumberFault statement_faults 1048576) fault
-      ⊎ ((l : Loop) × HasLoop ms l × (¬ IsPlaced l) × (fault ≡ OutOfRange))
+      ⊎ (IsMisplaced ms × (fault ≡ OutOfRange))
 
   abbrev pub LoopFault : Data → StatementFault → Type 0
   LoopFault d fault = TableFault statement_faults loop_keys LoopKeysFault d fault
@@ -90,7 +97,7 @@ module _ (names : Names) where
   DestinationsFault d fault =
       (IsSomeAnd (items_at d) (λ ds. ds ≡ []) × (fault ≡ WrongKind))
       ⊎ ListUpToFault statement_faults 64 (AddressFault names) d fault
-      ⊎ ((to : List ℕ) × IsListUpTo 64 (IsAddress names) d to × (are_distinct to ≢ true) × (fault ≡ Twice))
+      ⊎ (IsSomeAnd (items_at d) (StandsTwice (IsAddress names)) × (fault ≡ Twice))
 
   -- a jump and a call have destinations, and a return and a leave have none
   abbrev pub GoesTo : TargetKind → Option Data → List ℕ → Type 0
@@ -108,7 +115,7 @@ module _ (names : Names) where
   -- the address of the word, and what it is stated to do
   pub record HasTarget (ms : Members) (t : ℕ × Target) : Type 0 where
     pub at_at : AtKey (codes "at") ms (λ d. IsAddress names d t.0)
-    pub kind_at : AtKey (codes "kind") ms (λ d. IsWord named_kind d t.1.kind)
+    pub kind_at : AtKey (codes "kind") ms (λ d. IsNamed named_kind d t.1.kind)
     pub to_at : GoesTo t.1.kind (get_member (codes "to") ms) t.1.to
 
   abbrev pub StatesTarget : Data → ℕ × Target → Type 0
@@ -117,9 +124,8 @@ module _ (names : Names) where
   abbrev pub TargetKeysFault : Members → StatementFault → Type 0
   TargetKeysFault ms fault =
       RequiredFault (codes "at") ms (AddressFault names) fault
-      ⊎ RequiredFault (codes "kind") ms (WordFault named_kind) fault
-      ⊎ ((kind : TargetKind) × AtKey (codes "kind") ms (λ d. IsWord named_kind d kind)
-      × ToFault kind (get_member (codes "to") ms) fault)
+      ⊎ RequiredFault (codes "kind") ms (NameFault named_kind) fault
+      ⊎ ((kind : TargetKind) × AtKey (codes "kind") ms (λ d. IsNamed named_kind d kind) × ToFault kind (get_member (codes "to") ms) fault)
 
   abbrev pub TargetFault : Data → StatementFault → Type 0
   TargetFault d fault = TableFault statement_faults target_keys TargetKeysFault d fault
@@ -129,31 +135,28 @@ module _ (names : Names) where
   -- the address of the word, and the class of the addresses that it transfers
   pub record HasAccess (ms : Members) (a : ℕ × Class) : Type 0 where
     pub at_at : AtKey (codes "at") ms (λ d. IsAddress names d a.0)
-    pub class_at : AtKey (codes "class") ms (λ d. IsWord named_class d a.1)
+    pub class_at : AtKey (codes "class") ms (λ d. IsNamed named_class d a.1)
 
   abbrev pub StatesAccess : Data → ℕ × Class → Type 0
   StatesAccess d a = IsTable access_keys (λ ms. HasAccess ms a) d
 
   abbrev pub AccessKeysFault : Members → StatementFault → Type 0
   AccessKeysFault ms fault =
-      RequiredFault (codes "at") ms (AddressFault names) fault
-      ⊎ RequiredFault (codes "class") ms (WordFault named_class) fault
+      RequiredFault (codes "at") ms (AddressFault names) fault ⊎ RequiredFault (codes "class") ms (NameFault named_class) fault
 
   abbrev pub AccessFault : Data → StatementFault → Type 0
   AccessFault d fault = TableFault statement_faults access_keys AccessKeysFault d fault
 
   -- ## The statement
 
-  -- what stands at the document's keys: any where the class to leave to is missing, and no loops, targets or
-  -- accesses where their lists are
+  -- what stands at the document's keys: any where the class to leave to is missing, and no loops, targets or accesses where their
+  -- lists are
   pub record HasParts (ms : Members) (st : Stated) : Type 0 where
     pub entry_at : AtKey (codes "entry") ms (λ d. IsAddress names d st.entry)
-    pub leave_at : AtKeyOr (codes "leave") ms (st.leave ≡ class.Any) (λ d. IsWord named_class d st.leave)
+    pub leave_at : AtKeyOr (codes "leave") ms (st.leave ≡ class.Any) (λ d. IsNamed named_class d st.leave)
     pub loops_at : AtKeyOr (codes "loop") ms (st.loops ≡ []) (λ d. IsListUpTo 256 StatesLoop d st.loops)
-    pub targets_at : AtKeyOr (codes "target") ms (st.targets ≡ [])
-        (λ d. IsListUpTo 1024 StatesTarget d st.targets)
-    pub accesses_at : AtKeyOr (codes "access") ms (st.accesses ≡ [])
-        (λ d. IsListUpTo 4096 StatesAccess d st.accesses)
+    pub targets_at : AtKeyOr (codes "target") ms (st.targets ≡ []) (λ d. IsListUpTo 1024 StatesTarget d st.targets)
+    pub accesses_at : AtKeyOr (codes "access") ms (st.accesses ≡ []) (λ d. IsListUpTo 4096 StatesAccess d st.accesses)
 
   -- one target and one access at most for an address
   abbrev pub IsSingle : Stated → Type 0
@@ -165,14 +168,22 @@ module _ (names : Names) where
     pub parts : HasParts ms st
     pub single : IsSingle st
 
+  -- a target or an access of the word at that address
+  abbrev pub IsAt : Data → ℕ → Type 0
+  IsAt d a = IsSomeAnd (as_table d) (λ ms. AtKey (codes "at") ms (λ e. IsAddress names e a))
+
+  -- two entries of the list at that key are of one address
+  abbrev pub HasTwo : List ℕ → Members → Type 0
+  HasTwo key ms = AtKey key ms (λ d. IsSomeAnd (items_at d) (StandsTwice IsAt))
+
   abbrev pub PartsFault : Members → StatementFault → Type 0
   PartsFault ms fault =
       RequiredFault (codes "entry") ms (AddressFault names) fault
-      ⊎ AtKey (codes "leave") ms (λ d. WordFault named_class d fault)
+      ⊎ AtKey (codes "leave") ms (λ d. NameFault named_class d fault)
       ⊎ AtKey (codes "loop") ms (λ d. ListUpToFault statement_faults 256 LoopFault d fault)
       ⊎ AtKey (codes "target") ms (λ d. ListUpToFault statement_faults 1024 TargetFault d fault)
       ⊎ AtKey (codes "access") ms (λ d. ListUpToFault statement_faults 4096 AccessFault d fault)
-      ⊎ ((st : Stated) × HasParts ms st × (¬ IsSingle st) × (fault ≡ Twice))
+      ⊎ ((HasTwo (codes "target") ms ⊎ HasTwo (codes "access") ms) × (fault ≡ Twice))
 
   -- the faults of a document
   abbrev pub HasFault : Members → StatementFault → Type 0

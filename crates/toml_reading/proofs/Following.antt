@@ -1,10 +1,10 @@
 -- A test, what is read from a value that was read, and lists of at most so many values, against what they state and their faults.
-use Rattle.std.proofs.Common.{◌≡◌, ℕ, ◌<◌, ◌≤◌, ◌⊎◌, ◌↔◌, Bool, true, false, cond, leb, List, [], length, Option, Any, Ok, Err, IsSomeAnd, MatchOption, inl, inr, refl, sym, ap, subst, le_of_eq}
+use Rattle.std.proofs.Common.{◌≡◌, ℕ, ◌<◌, ◌≤◌, ◌⊎◌, ◌↔◌, Bool, true, false, cond, leb, List, [], length, Option, Any, Ok, Err, IsSomeAnd, MatchOption, inl, inr, refl, sym, ap, subst, arith, le_of_eq}
 use Rattle.std.specs.List.{AllZip}
 use Rattle.std.proofs.lemmas.Bool.{false≢true, le-leb, leb-false, leb-true, lt-leb}
 use Rattle.toml.specs.Data.{Data}
 use Rattle.toml_reading.specs.Documents.{items_at, list_up_to, listed, listed_up_to, tables_up_to}
-use Rattle.toml_reading.specs.Limits.{IsListUpTo, ListUpToFault}
+use Rattle.toml_reading.specs.Lists.{IsListUpTo, ListUpToFault}
 use Rattle.toml_reading.specs.Readings.{Faults, Reading, and_then}
 use Rattle.toml_reading.proofs.LowestLemmas.{Judges, Told, checked_judged, judged_as, optional_judged, required_judged}
 use Rattle.toml_reading.proofs.LowestParts.{all_judged}
@@ -61,6 +61,34 @@ module _ {F A B : Type 0} (fs : Faults F) (S : A → Type 0) (T : A → B → Ty
   -- the faults of the second reading are told of the one value that is stated
   pub then_judged : (r : Reading F A) → Judges fs S H r → Judges fs (λ b. (c : A) × S c × T c b) (λ x. H x ⊎ ((c : A) × S c × K c x)) (and_then r f)
   then_judged r h = record { told = then_told r h.told }
+
+-- ## More faults, none lower than one that is there
+
+module _ {F A : Type 0} (fs : Faults F) (S : A → Type 0) (H K L : F → Type 0) (to : (x : F) → K x → L x) (under : (x : F) → L x → (g : F) × (H g ⊎ K g) × (fs.rank g ≤ fs.rank x)) where
+  widened_told : (r : Reading F A) → Told fs S (λ x. H x ⊎ K x) r → Told fs S (λ x. H x ⊎ L x) r
+  widened_told (Ok a) h = (h.0, λ x y. elim y [ inl z ↦ h.1 x (inl z) | inr z ↦ let u = under x z in h.1 u.0 u.1 ])
+  widened_told (Err g) h = (
+    h.0,
+    record {
+      has = elim h.1.has [ inl z ↦ inl z | inr z ↦ inr (to g z) ];
+      least = λ o y. elim y [
+        | inl z ↦ h.1.least o (inl z)
+        | inr z ↦ let u = under o z in omega (arith, h.1.least u.0 u.1, u.2)
+      ];
+    },
+  )
+
+  pub widened_judged : (r : Reading F A) → Judges fs S (λ x. H x ⊎ K x) r → Judges fs S (λ x. H x ⊎ L x) r
+  widened_judged r h = record { told = widened_told r h.told }
+
+module _ {F A : Type 0} (fs : Faults F) (S : A → Type 0) (H : F → Type 0) where
+  stated_or_told : (r : Reading F A) → Told fs S H r → ((a : A) × S a) ⊎ ((f : F) × H f)
+  stated_or_told (Ok a) h = inl (a, h.0.stated)
+  stated_or_told (Err g) h = inr (g, h.1.has)
+
+  -- a value is stated, or there is a fault
+  pub stated_or_faulty : (r : Reading F A) → Judges fs S H r → ((a : A) × S a) ⊎ ((f : F) × H f)
+  stated_or_faulty r h = stated_or_told r h.told
 
 -- ## Lists of at most so many values
 

@@ -5,3 +5,4 @@ pub mod Unique
 pub mod LowestLemmas
 pub mod LowestParts
 pub mod Following
+pub mod TwiceLemmas

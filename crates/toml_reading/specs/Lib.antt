@@ -1,4 +1,4 @@
 pub mod Readings
 pub mod Documents
 pub mod Lowest
-pub mod Limits
+pub mod Lists

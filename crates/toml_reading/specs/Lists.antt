@@ -1,5 +1,5 @@
--- Lists of at most so many values: what they state, and their faults (our own).
-use Rattle.std.specs.Prelude.{◌≡◌, ◌<◌, ◌≤◌, ◌⊎◌, ℕ, List, length, Any, IsSomeAnd, MatchOption}
+-- Lists of at most so many values, what they state and their faults; and values that stand twice (our own).
+use Rattle.std.specs.Prelude.{◌≡◌, ◌<◌, ◌≤◌, ◌⊎◌, ℕ, List, [], ◌∷◌, length, Any, IsSomeAnd, MatchOption}
 use Rattle.std.specs.List.{AllZip}
 use Rattle.toml.specs.Data.{Data}
 use Rattle.toml_reading.specs.Documents.{items_at}
@@ -16,3 +16,8 @@ ListUpToFault faults limit Has d fault =
     (items_at d)
     (fault ≡ faults.wrong_kind)
     (λ ds. ((limit < length ds) × (fault ≡ faults.out_of_range)) ⊎ Any (λ e. Has e fault) ds)
+
+-- a value and a later one are of the same number
+abbrev pub StandsTwice : (Data → ℕ → Type 0) → List Data → Type 0
+StandsTwice Is [] = ⊥
+StandsTwice Is (d ∷ ds) = ((n : ℕ) × Is d n × Any (λ e. Is e n) ds) ⊎ StandsTwice Is ds
