@@ -6,7 +6,7 @@ use Rattle.std.specs.Cmp.Derive.{both_true}
 use Rattle.std.proofs.lemmas.Bool.{and_parts, cases_Bool, false≢true}
 use Rattle.toml.specs.Data.{Data, Members, as_table, get_member}
 use Rattle.bus_ticks.specs.declared.profile.Class.{Class}
-use Rattle.bus_ticks.specs.declared.profile.Class.TheVariants as class
+use Rattle.bus_ticks.specs.declared.profile.Class.TheVariants.{Any}
 use Rattle.toml_reading.specs.Documents.{are_distinct, has_only_keys}
 use Rattle.toml_reading.specs.Lists.{IsListUpTo, ListUpToFault}
 use Rattle.toml_reading.specs.Lowest.{AtKey, AtKeyOr, IsLowest}
@@ -43,8 +43,8 @@ numbered_back Twice = refl
 one_number : (f g : StatementFault) → number_of f ≡ number_of g → f ≡ g
 one_number f g e = sym (numbered_back f) ∙ ap fault_numbered e ∙ numbered_back g
 
-leave_judged : (ms : Members) → Judges statement_faults (λ c. AtKeyOr (codes "leave") ms (c ≡ class.Any) (λ d. IsNamed named_class d c)) (λ f. AtKey (codes "leave") ms (λ d. NameFault named_class d f)) (leave_in ms)
-leave_judged ms = optional_judged statement_faults (IsNamed named_class) (NameFault named_class) class_at (word_judged named_class) class.Any (get_member (codes "leave") ms)
+leave_judged : (ms : Members) → Judges statement_faults (λ c. AtKeyOr (codes "leave") ms (c ≡ Any) (λ d. IsNamed named_class d c)) (λ f. AtKey (codes "leave") ms (λ d. NameFault named_class d f)) (leave_in ms)
+leave_judged ms = optional_judged statement_faults (IsNamed named_class) (NameFault named_class) class_at (word_judged named_class) Any (get_member (codes "leave") ms)
 
 one_some : {X : Type 0} (P : X → ℕ → Type 0) → ((x : X) (a b : ℕ) → P x a → P x b → a ≡ b) → (o : Option X) (a b : ℕ) → IsSomeAnd o (λ x. P x a) → IsSomeAnd o (λ x. P x b) → a ≡ b
 one_some P one None a b h k = absurd h
@@ -64,10 +64,10 @@ module _ (names : Names) where
   one_at d a b h k = one_some AtOf (λ ms. one_some (IsAddress names) (one_address names) (get_member (codes "at") ms)) (as_table d) a b h k
 
   target_is_at : (d : Data) (t : ℕ × Target) → StatesTarget names d t → IsAt names d t.0
-  target_is_at d t h = some_weaker (λ ms. (has_only_keys target_keys ms ≡ true) × HasTarget names ms t) (λ ms. AtOf ms t.0) (λ ms s. s.1.at_at) (as_table d) h
+  target_is_at d t h = some_weaker (λ ms. (has_only_keys target_keys ms ≡ true) × HasTarget names ms t) (λ ms. AtOf ms t.0) (λ ms s. s.1.address) (as_table d) h
 
   access_is_at : (d : Data) (a : ℕ × Class) → StatesAccess names d a → IsAt names d a.0
-  access_is_at d a h = some_weaker (λ ms. (has_only_keys access_keys ms ≡ true) × HasAccess names ms a) (λ ms. AtOf ms a.0) (λ ms s. s.1.at_at) (as_table d) h
+  access_is_at d a h = some_weaker (λ ms. (has_only_keys access_keys ms ≡ true) × HasAccess names ms a) (λ ms. AtOf ms a.0) (λ ms s. s.1.address) (as_table d) h
 
   -- ## Parts
 
@@ -80,7 +80,7 @@ module _ (names : Names) where
   abbrev HasEach : Members → Parts → Type 0
   HasEach ms p =
       ((AtKey (codes "entry") ms (λ d. IsAddress names d p.0.0.0)
-      × AtKeyOr (codes "leave") ms (p.0.0.1 ≡ class.Any) (λ d. IsNamed named_class d p.0.0.1))
+      × AtKeyOr (codes "leave") ms (p.0.0.1 ≡ Any) (λ d. IsNamed named_class d p.0.0.1))
       × AtKeyOr (codes "loop") ms (p.0.1 ≡ []) (λ d. IsListUpTo 256 (StatesLoop names) d p.0.1))
       × (AtKeyOr (codes "target") ms (p.1.0 ≡ []) (λ d. IsListUpTo 1024 (StatesTarget names) d p.1.0)
       × AtKeyOr (codes "access") ms (p.1.1 ≡ []) (λ d. IsListUpTo 4096 (StatesAccess names) d p.1.1))
@@ -97,13 +97,13 @@ module _ (names : Names) where
   each_judged ms =
       both_judged
       statement_faults
-      (λ p. (AtKey (codes "entry") ms (λ d. IsAddress names d p.0.0) × AtKeyOr (codes "leave") ms (p.0.1 ≡ class.Any) (λ d. IsNamed named_class d p.0.1)) × AtKeyOr (codes "loop") ms (p.1 ≡ []) (λ d. IsListUpTo 256 (StatesLoop names) d p.1))
+      (λ p. (AtKey (codes "entry") ms (λ d. IsAddress names d p.0.0) × AtKeyOr (codes "leave") ms (p.0.1 ≡ Any) (λ d. IsNamed named_class d p.0.1)) × AtKeyOr (codes "loop") ms (p.1 ≡ []) (λ d. IsListUpTo 256 (StatesLoop names) d p.1))
       (λ p. AtKeyOr (codes "target") ms (p.0 ≡ []) (λ d. IsListUpTo 1024 (StatesTarget names) d p.0) × AtKeyOr (codes "access") ms (p.1 ≡ []) (λ d. IsListUpTo 4096 (StatesAccess names) d p.1))
       _
       _
       _
       _
-      (both_judged statement_faults (λ p. AtKey (codes "entry") ms (λ d. IsAddress names d p.0) × AtKeyOr (codes "leave") ms (p.1 ≡ class.Any) (λ d. IsNamed named_class d p.1)) _ _ _ _ _ (both_judged statement_faults _ _ _ _ _ _ (address_in_judged names (codes "entry") ms) (leave_judged ms)) (tables_up_to_judged statement_faults 256 (StatesLoop names) (LoopFault names) (loop_at names) (loop_judged names) (get_member (codes "loop") ms)))
+      (both_judged statement_faults (λ p. AtKey (codes "entry") ms (λ d. IsAddress names d p.0) × AtKeyOr (codes "leave") ms (p.1 ≡ Any) (λ d. IsNamed named_class d p.1)) _ _ _ _ _ (both_judged statement_faults _ _ _ _ _ _ (address_in_judged names (codes "entry") ms) (leave_judged ms)) (tables_up_to_judged statement_faults 256 (StatesLoop names) (LoopFault names) (loop_at names) (loop_judged names) (get_member (codes "loop") ms)))
       (both_judged statement_faults _ _ _ _ _ _ (tables_up_to_judged statement_faults 1024 (StatesTarget names) (TargetFault names) (target_at names) (target_judged names) (get_member (codes "target") ms)) (tables_up_to_judged statement_faults 4096 (StatesAccess names) (AccessFault names) (access_at names) (access_judged names) (get_member (codes "access") ms)))
 
   -- ## The whole
@@ -175,10 +175,10 @@ module _ (names : Names) where
       (widened_judged statement_faults _ (EachFault ms) (SingleFault ms) (TwoFault ms) (two_of ms) (two_under ms) (and_then (parts_of names ms) whole) (single_judged ms))
     where
       of_each : (p : Parts) → HasEach ms p → HasParts names ms (made_of p)
-      of_each p s = record { entry_at = s.0.0.0; leave_at = s.0.0.1; loops_at = s.0.1; targets_at = s.1.0; accesses_at = s.1.1 }
+      of_each p s = record { entry = s.0.0.0; leave = s.0.0.1; loops = s.0.1; targets = s.1.0; accesses = s.1.1 }
 
       each_of : (st : Stated) → HasParts names ms st → HasEach ms (split st)
-      each_of st h = (((h.entry_at, h.leave_at), h.loops_at), (h.targets_at, h.accesses_at))
+      each_of st h = (((h.entry, h.leave), h.loops), (h.targets, h.accesses))
 
   document_judged : (ms : Members) → Judges statement_faults (States names ms) (HasFault names ms) (statement_of names ms)
   document_judged ms =

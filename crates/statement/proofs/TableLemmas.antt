@@ -187,10 +187,10 @@ module _ (names : Names) where
       (widened_judged statement_faults _ (EndsFault ms) (PlaceFault ms) (λ f. IsMisplaced names ms × (f ≡ OutOfRange)) (λ f u. ((u.0.0.0, u.0.0.1, u.0.1.0, u.1.0.0, u.1.0.1, u.1.1.0, u.2.0), u.2.1)) (misplaced_under ms) (and_then (loop_parts names ms) placed_loop) (placed_judged ms))
     where
       of_ends : (p : (ℕ × ℕ) × (ℕ × ℕ)) → HasEnds ms p → HasLoop names ms (loop_of p)
-      of_ends p s = record { first_at = s.0.0; last_at = s.0.1; header_at = s.1.0; bound_at = s.1.1 }
+      of_ends p s = record { first = s.0.0; last = s.0.1; header = s.1.0; bound = s.1.1 }
 
       ends_of : (l : Loop) → HasLoop names ms l → HasEnds ms ((l.first, l.last), (l.header, l.bound))
-      ends_of l h = ((h.first_at, h.last_at), (h.header_at, h.bound_at))
+      ends_of l h = ((h.first, h.last), (h.header, h.bound))
 
   pub loop_judged : (d : Data) → Judges statement_faults (StatesLoop names d) (LoopFault names d) (loop_at names d)
   loop_judged d = table_judged statement_faults loop_keys (λ ms l. HasLoop names ms l × IsPlaced names l) (LoopKeysFault names) (λ ms. and_then (loop_parts names ms) placed_loop) loop_keys_judged d
@@ -359,11 +359,11 @@ module _ (names : Names) where
       (TargetKeysFault names ms)
       (λ t. (
         λ h. record {
-          at_at = h.0;
-          kind_at = subst (λ (k : TargetKind). AtKey (codes "kind") ms (λ d. IsNamed named_kind d k)) (sym h.1.2.0) h.1.1;
-          to_at = subst (λ (k : TargetKind). GoesTo names k (get_member (codes "to") ms) t.1.to) (sym h.1.2.0) h.1.2.1;
+          address = h.0;
+          kind = subst (λ (k : TargetKind). AtKey (codes "kind") ms (λ d. IsNamed named_kind d k)) (sym h.1.2.0) h.1.1;
+          destinations = subst (λ (k : TargetKind). GoesTo names k (get_member (codes "to") ms) t.1.to) (sym h.1.2.0) h.1.2.1;
         },
-        λ h. (h.at_at, (t.1.kind, h.kind_at, (refl, h.to_at))),
+        λ h. (h.address, (t.1.kind, h.kind, (refl, h.destinations))),
       ))
       (λ f. (λ y. y, λ y. y))
       (both statement_faults (address_in names (codes "at") ms) (and_then (kind_in ms) (directed names (get_member (codes "to") ms))))
@@ -382,7 +382,7 @@ module _ (names : Names) where
       (HasAccess names ms)
       (AccessKeysFault names ms)
       (AccessKeysFault names ms)
-      (λ a. (λ h. record { at_at = h.0; class_at = h.1 }, λ h. (h.at_at, h.class_at)))
+      (λ a. (λ h. record { address = h.0; class = h.1 }, λ h. (h.address, h.class)))
       (λ f. (λ y. y, λ y. y))
       (both statement_faults (address_in names (codes "at") ms) (class_in ms))
       (both_judged statement_faults _ _ _ _ _ _ (address_in_judged names (codes "at") ms) (class_judged ms))

@@ -1,11 +1,11 @@
--- What a document states of a handler and which faults it has, told of its tables key by key. Source: our own statement
--- format, over the documents of TOML.
+-- What a document states of a handler and which faults it has, told of its tables key by key. Source: our own
+-- statement format, over the documents of TOML.
 use Rattle.std.specs.Prelude.{◌≡◌, ◌≢◌, ◌<◌, ◌≤◌, ◌%◌, ◌^◌, ◌⊎◌, ℕ, pos, true, List, [], codes, Option, Some, None, IsSomeAnd, MatchOption}
 use Rattle.std.specs.Map.{keys_of}
 use Rattle.std.specs.Option.{option_and_then}
 use Rattle.toml.specs.Data.{Data, Members, integer, string, get_member, as_str, as_table}
 use Rattle.bus_ticks.specs.declared.profile.Class.{Class}
-use Rattle.bus_ticks.specs.declared.profile.Class.TheVariants as class
+use Rattle.bus_ticks.specs.declared.profile.Class.TheVariants.{Any}
 use Rattle.toml_reading.specs.Documents.{are_distinct, has_only_keys, items_at}
 use Rattle.toml_reading.specs.Lists.{IsListUpTo, ListUpToFault, StandsTwice}
 use Rattle.toml_reading.specs.Lowest.{AtKey, AtKeyOr, IsNumber, IsTable, KeysFault, NumberFault, TableFault}
@@ -33,7 +33,8 @@ IsAddress names _ a = ⊥
 -- an integer or a label's address out of range, a text that names no label, or another type
 abbrev pub AddressFault : Names → Data → StatementFault → Type 0
 AddressFault names (integer z) fault = ((a : ℕ) → z ≡ pos a → ¬ IsInSpace a) × (fault ≡ OutOfRange)
-AddressFault names (string name) fault = MatchOption (names name) (fault ≡ UnknownLabel) (λ a. (¬ IsInSpace a) × (fault ≡ OutOfRange))
+AddressFault names (string name) fault =
+    MatchOption (names name) (fault ≡ UnknownLabel) (λ a. (¬ IsInSpace a) × (fault ≡ OutOfRange))
 AddressFault names _ fault = fault ≡ WrongKind
 
 -- a text that names a class or a kind
@@ -50,12 +51,12 @@ RequiredFault key ms Has fault = AtKeyOr key ms (fault ≡ WrongKind) (λ d. Has
 module _ (names : Names) where
   -- ## A loop
 
-  -- what stands at the keys of a loop's table
+  -- what stands at the keys of a loop's table; at most 1,048,576 rounds
   pub record HasLoop (ms : Members) (l : Loop) : Type 0 where
-    pub first_at : AtKey (codes "first") ms (λ d. IsAddress names d l.first)
-    pub last_at : AtKey (codes "last") ms (λ d. IsAddress names d l.last)
-    pub header_at : AtKey (codes "header") ms (λ d. IsAddress names d l.header)
-    pub bound_at : AtKey (codes "bound") ms (λ d. IsNumber 1048576 d l.bound)
+    pub first : AtKey (codes "first") ms (λ d. IsAddress names d l.first)
+    pub last : AtKey (codes "last") ms (λ d. IsAddress names d l.last)
+    pub header : AtKey (codes "header") ms (λ d. IsAddress names d l.header)
+    pub bound : AtKey (codes "bound") ms (λ d. IsNumber 1048576 d l.bound)
 
   -- the header lies within first to last
   abbrev pub IsPlaced : Loop → Type 0
@@ -75,6 +76,7 @@ module _ (names : Names) where
       × AtKey (codes "header") ms (λ d. IsAddress names d header)
       × ¬ ((first ≤ header) × (header ≤ last))
 
+  -- a fault of one of its keys, or that
   abbrev pub LoopKeysFault : Members → StatementFault → Type 0
   LoopKeysFault ms fault =
       RequiredFault (codes "first") ms (AddressFault names) fault
@@ -106,6 +108,7 @@ module _ (names : Names) where
   GoesTo Return o to = (o ≡ None) × (to ≡ [])
   GoesTo Leave o to = (o ≡ None) × (to ≡ [])
 
+  -- no list where there must be one, its faults, or a list where there may be none
   abbrev pub ToFault : TargetKind → Option Data → StatementFault → Type 0
   ToFault Jump o fault = MatchOption o (fault ≡ WrongKind) (λ d. DestinationsFault d fault)
   ToFault Call o fault = MatchOption o (fault ≡ WrongKind) (λ d. DestinationsFault d fault)
@@ -114,18 +117,21 @@ module _ (names : Names) where
 
   -- the address of the word, and what it is stated to do
   pub record HasTarget (ms : Members) (t : ℕ × Target) : Type 0 where
-    pub at_at : AtKey (codes "at") ms (λ d. IsAddress names d t.0)
-    pub kind_at : AtKey (codes "kind") ms (λ d. IsNamed named_kind d t.1.kind)
-    pub to_at : GoesTo t.1.kind (get_member (codes "to") ms) t.1.to
+    pub address : AtKey (codes "at") ms (λ d. IsAddress names d t.0)
+    pub kind : AtKey (codes "kind") ms (λ d. IsNamed named_kind d t.1.kind)
+    pub destinations : GoesTo t.1.kind (get_member (codes "to") ms) t.1.to
 
   abbrev pub StatesTarget : Data → ℕ × Target → Type 0
   StatesTarget d t = IsTable target_keys (λ ms. HasTarget ms t) d
 
+  -- where the kind is known, `to` is judged by it
   abbrev pub TargetKeysFault : Members → StatementFault → Type 0
   TargetKeysFault ms fault =
       RequiredFault (codes "at") ms (AddressFault names) fault
       ⊎ RequiredFault (codes "kind") ms (NameFault named_kind) fault
-      ⊎ ((kind : TargetKind) × AtKey (codes "kind") ms (λ d. IsNamed named_kind d kind) × ToFault kind (get_member (codes "to") ms) fault)
+      ⊎ ((kind : TargetKind)
+      × AtKey (codes "kind") ms (λ d. IsNamed named_kind d kind)
+      × ToFault kind (get_member (codes "to") ms) fault)
 
   abbrev pub TargetFault : Data → StatementFault → Type 0
   TargetFault d fault = TableFault statement_faults target_keys TargetKeysFault d fault
@@ -134,29 +140,30 @@ module _ (names : Names) where
 
   -- the address of the word, and the class of the addresses that it transfers
   pub record HasAccess (ms : Members) (a : ℕ × Class) : Type 0 where
-    pub at_at : AtKey (codes "at") ms (λ d. IsAddress names d a.0)
-    pub class_at : AtKey (codes "class") ms (λ d. IsNamed named_class d a.1)
+    pub address : AtKey (codes "at") ms (λ d. IsAddress names d a.0)
+    pub class : AtKey (codes "class") ms (λ d. IsNamed named_class d a.1)
 
   abbrev pub StatesAccess : Data → ℕ × Class → Type 0
   StatesAccess d a = IsTable access_keys (λ ms. HasAccess ms a) d
 
   abbrev pub AccessKeysFault : Members → StatementFault → Type 0
   AccessKeysFault ms fault =
-      RequiredFault (codes "at") ms (AddressFault names) fault ⊎ RequiredFault (codes "class") ms (NameFault named_class) fault
+      RequiredFault (codes "at") ms (AddressFault names) fault
+      ⊎ RequiredFault (codes "class") ms (NameFault named_class) fault
 
   abbrev pub AccessFault : Data → StatementFault → Type 0
   AccessFault d fault = TableFault statement_faults access_keys AccessKeysFault d fault
 
   -- ## The statement
 
-  -- what stands at the document's keys: any where the class to leave to is missing, and no loops, targets or accesses where their
-  -- lists are
+  -- what stands at the document's keys. The class to leave to is any where it is missing, and there are no loops,
+  -- targets or accesses where their list is
   pub record HasParts (ms : Members) (st : Stated) : Type 0 where
-    pub entry_at : AtKey (codes "entry") ms (λ d. IsAddress names d st.entry)
-    pub leave_at : AtKeyOr (codes "leave") ms (st.leave ≡ class.Any) (λ d. IsNamed named_class d st.leave)
-    pub loops_at : AtKeyOr (codes "loop") ms (st.loops ≡ []) (λ d. IsListUpTo 256 StatesLoop d st.loops)
-    pub targets_at : AtKeyOr (codes "target") ms (st.targets ≡ []) (λ d. IsListUpTo 1024 StatesTarget d st.targets)
-    pub accesses_at : AtKeyOr (codes "access") ms (st.accesses ≡ []) (λ d. IsListUpTo 4096 StatesAccess d st.accesses)
+    pub entry : AtKey (codes "entry") ms (λ d. IsAddress names d st.entry)
+    pub leave : AtKeyOr (codes "leave") ms (st.leave ≡ Any) (λ d. IsNamed named_class d st.leave)
+    pub loops : AtKeyOr (codes "loop") ms (st.loops ≡ []) (λ d. IsListUpTo 256 StatesLoop d st.loops)
+    pub targets : AtKeyOr (codes "target") ms (st.targets ≡ []) (λ d. IsListUpTo 1024 StatesTarget d st.targets)
+    pub accesses : AtKeyOr (codes "access") ms (st.accesses ≡ []) (λ d. IsListUpTo 4096 StatesAccess d st.accesses)
 
   -- one target and one access at most for an address
   abbrev pub IsSingle : Stated → Type 0
@@ -176,6 +183,7 @@ module _ (names : Names) where
   abbrev pub HasTwo : List ℕ → Members → Type 0
   HasTwo key ms = AtKey key ms (λ d. IsSomeAnd (items_at d) (StandsTwice IsAt))
 
+  -- the faults of its keys, and two targets or two accesses of one address
   abbrev pub PartsFault : Members → StatementFault → Type 0
   PartsFault ms fault =
       RequiredFault (codes "entry") ms (AddressFault names) fault
@@ -185,6 +193,6 @@ module _ (names : Names) where
       ⊎ AtKey (codes "access") ms (λ d. ListUpToFault statement_faults 4096 AccessFault d fault)
       ⊎ ((HasTwo (codes "target") ms ⊎ HasTwo (codes "access") ms) × (fault ≡ Twice))
 
-  -- the faults of a document
+  -- the faults of a document: those, and a key that it may not have
   abbrev pub HasFault : Members → StatementFault → Type 0
   HasFault ms fault = KeysFault statement_faults statement_keys PartsFault ms fault
