@@ -1,6 +1,7 @@
 -- What a document states of a handler and which faults it has, told of its tables key by key. Source: our own
 -- statement format, over the documents of TOML.
-use Rattle.std.specs.Prelude.{◌≡◌, ◌≢◌, ◌<◌, ◌≤◌, ◌%◌, ◌^◌, ◌⊎◌, ℕ, pos, true, List, [], codes, Option, Some, None, IsSomeAnd, MatchOption}
+use Rattle.std.specs.Prelude.{◌≡◌, ◌≢◌, ◌<◌, ◌≤◌, ◌%◌, ◌^◌, ◌⊎◌, ℕ, pos, true, List, [], codes, Option, Some}
+use Rattle.std.specs.Prelude.{None, IsSomeAnd, MatchOption}
 use Rattle.std.specs.Map.{keys_of}
 use Rattle.std.specs.Option.{option_and_then}
 use Rattle.toml.specs.Data.{Data, Members, integer, string, get_member, as_str, as_table}
@@ -10,10 +11,12 @@ use Rattle.toml_reading.specs.Documents.{are_distinct, has_only_keys, items_at}
 use Rattle.toml_reading.specs.Lists.{IsListUpTo, ListUpToFault, StandsTwice}
 use Rattle.toml_reading.specs.Lowest.{AtKey, AtKeyOr, IsNumber, IsTable, KeysFault, NumberFault, TableFault}
 use Rattle.statement.specs.Stated.{Stated, Target}
-use Rattle.statement.specs.Statement.{Names, access_keys, loop_keys, named_class, named_kind, statement_keys, target_keys}
+use Rattle.statement.specs.Statement.{Names, access_keys, loop_keys, named_class, named_kind, statement_keys}
+use Rattle.statement.specs.Statement.{target_keys}
 use Rattle.statement.specs.StatementFaults.{statement_faults}
 use Rattle.statement.specs.declared.faults.StatementFault.{StatementFault}
-use Rattle.statement.specs.declared.faults.StatementFault.TheVariants.{WrongKind, UnknownLabel, OutOfRange, Twice}
+use Rattle.statement.specs.declared.faults.StatementFault.TheVariants.{WrongKind, UnknownLabel, OutOfRange}
+use Rattle.statement.specs.declared.faults.StatementFault.TheVariants.{Twice}
 use Rattle.statement.specs.declared.stated.Loop.{Loop}
 use Rattle.statement.specs.declared.stated.TargetKind.{TargetKind}
 use Rattle.statement.specs.declared.stated.TargetKind.TheVariants.{Jump, Call, Return, Leave}
@@ -156,14 +159,16 @@ module _ (names : Names) where
 
   -- ## The statement
 
-  -- what stands at the document's keys. The class to leave to is any where it is missing, and there are no loops,
-  -- targets or accesses where their list is
+  -- what stands at the document's keys. The class to leave to is any where it is missing, and there are no
+  -- loops, targets or accesses where their list is
   pub record HasParts (ms : Members) (st : Stated) : Type 0 where
     pub entry : AtKey (codes "entry") ms (λ d. IsAddress names d st.entry)
     pub leave : AtKeyOr (codes "leave") ms (st.leave ≡ Any) (λ d. IsNamed named_class d st.leave)
     pub loops : AtKeyOr (codes "loop") ms (st.loops ≡ []) (λ d. IsListUpTo 256 StatesLoop d st.loops)
-    pub targets : AtKeyOr (codes "target") ms (st.targets ≡ []) (λ d. IsListUpTo 1024 StatesTarget d st.targets)
-    pub accesses : AtKeyOr (codes "access") ms (st.accesses ≡ []) (λ d. IsListUpTo 4096 StatesAccess d st.accesses)
+    pub targets : AtKeyOr (codes "target") ms (st.targets ≡ [])
+        (λ d. IsListUpTo 1024 StatesTarget d st.targets)
+    pub accesses : AtKeyOr (codes "access") ms (st.accesses ≡ [])
+        (λ d. IsListUpTo 4096 StatesAccess d st.accesses)
 
   -- one target and one access at most for an address
   abbrev pub IsSingle : Stated → Type 0
