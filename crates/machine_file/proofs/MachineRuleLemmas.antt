@@ -1,5 +1,5 @@
 -- What is read of a machine file, against what its keys state and their faults.
-use Rattle.std.proofs.Common.{◌≡◌, ℕ, ◌-◌, ◌^◌, ◌≤◌, ◌⊎◌, ◌↔◌, ◌&&◌, Bool, true, false, List, [], ◌∷◌, codes, map, replicate, nat_lt, Ok, Err, inl, inr, refl, sym, ap, subst, ◌∙◌, arith}
+use Rattle.std.proofs.Common.{◌≡◌, ℕ, ◌-◌, ◌^◌, ◌≤◌, ◌⊎◌, ◌↔◌, ◌&&◌, Bool, true, false, List, [], ◌∷◌, codes, map, replicate, nat_lt, inl, inr, refl, sym, ap, subst, ◌∙◌, arith}
 use Rattle.std.specs.List.{list_all}
 use Rattle.std.specs.Map.{keys_of}
 use Rattle.std.proofs.lemmas.Bool.{and_cases, and_left, and_right}
@@ -10,13 +10,14 @@ use Rattle.memc.specs.Memory.{shift_of_size}
 use Rattle.memc.specs.declared.spots.PageSize.{PageSize}
 use Rattle.memc.specs.declared.spots.PageSize.TheVariants.{K4}
 use Rattle.toml_reading.specs.Documents.{are_distinct, has_only_keys, items_at, tables_at}
-use Rattle.toml_reading.specs.Lowest.{AtKey, AtKeyOr, IsListOf, IsLowest, IsNumber, KeysFault, ListFault, entries_at, numbers_at}
+use Rattle.toml_reading.specs.Lowest.{AtKey, AtKeyOr, IsListOf, IsNumber, KeysFault, ListFault, entries_at, numbers_at}
 use Rattle.toml_reading.specs.Readings.{both, seen}
-use Rattle.toml_reading.proofs.LowestLemmas.{Judges, and_then_judged, joint, judged_as, judged_fault, judged_one, judged_value, one_test, optional_judged, required_judged, seen_judged, two_tests}
+use Rattle.toml_reading.proofs.LowestLemmas.{Judges, and_then_judged, joint, judged_as, judged_one, one_test, optional_judged, required_judged, seen_judged, two_tests}
 use Rattle.toml_reading.proofs.LowestParts.{entries_state, keys_judged, number_or_judged, number_read, numbers_read, some_weaker, tables_judged}
 use Rattle.machine_file.specs.MachineFaults.{machine_faults, number_of}
 use Rattle.machine_file.specs.MachineFile.{are_single, controller_in, controller_of, event_at, events_in, flags_at, flags_in, is_mappable, machine_in, mapped, mode_at, mode_in, once, page_at, pages_in, pc_at, pc_in, processor_in, processor_of, registers_at, registers_in, schedule_in, schedule_of, set_flags, size_at, size_in, stated_of}
-use Rattle.machine_file.specs.MachineRules.{AddressFault, AreFlags, AreRegisters, EventFault, FlagsFault, HasMachineFault, IsAddress, IsEvent, IsNamed, IsPage, IsPageTwice, IsSize, IsStepTwice, IsUnmappable, IsWord, NameFault, PageFault, RegistersFault, SizeFault, StatesMachine, UpToFault, WordFault, are_below, page_numbers}
+use Rattle.machine_file.specs.MachineFaultRules.{IsPageTwice, IsStepTwice, IsUnmappable, are_below, page_numbers}
+use Rattle.machine_file.specs.MachineRules.{AreFlags, AreRegisters, IsAddress, IsEvent, IsNamed, IsPage, IsSize, IsWord, StatesMachine}
 use Rattle.machine_file.specs.Names.{file_keys, map_keys, named_mode}
 use Rattle.machine_file.specs.Stated.{Controller, Processor, Schedule, Stated}
 use Rattle.machine_file.specs.declared.events.Event.{Event}
@@ -24,7 +25,8 @@ use Rattle.machine_file.specs.declared.flags.PsrFlags.{PsrFlags}
 use Rattle.machine_file.specs.declared.machine_faults.MachineFileFault.{MachineFileFault}
 use Rattle.machine_file.specs.declared.machine_faults.MachineFileFault.TheVariants.{WrongKind, OutOfRange, Twice}
 use Rattle.machine_file.specs.declared.pages.MappedPage.{MappedPage}
-use Rattle.machine_file.proofs.MachineValueLemmas.{address_judged, event_judged, event_low, flags_judged, named_judged, one_rank, page_judged, page_low, registers_judged, size_judged, size_low, list_low, some_low}
+use Rattle.machine_file.proofs.MachineValueLemmas.{address_judged, event_judged, event_low, flags_judged, named_judged, page_judged, page_low, registers_judged, size_judged, size_low, list_low, some_low}
+use Rattle.machine_file.proofs.KeyFaults.{AddressFault, EventFault, FlagsFault, HasKeyFault, NameFault, PageFault, RegistersFault, SizeFault, UpToFault, WordFault}
 
 -- ## The processor
 
@@ -434,21 +436,15 @@ from_faults (inr (inr (inl x))) = inr (inr (inl (inr (inr (inl x)))))
 from_faults (inr (inr (inr (inl x)))) = inr (inr (inl (inr (inr (inr x)))))
 from_faults (inr (inr (inr (inr x)))) = inr (inr (inr (inr (inr x))))
 
-machine_judged : (ms : Members) → Judges machine_faults (StatesMachine ms) (HasMachineFault ms) (machine_in ms)
+pub machine_judged : (ms : Members) → Judges machine_faults (StatesMachine ms) (HasKeyFault ms) (machine_in ms)
 machine_judged ms =
     judged_as
     machine_faults
     (λ s. (has_only_keys file_keys ms ≡ true) × FileStates ms s)
     (StatesMachine ms)
     (KeysFault machine_faults file_keys FileFault ms)
-    (HasMachineFault ms)
+    (HasKeyFault ms)
     (λ s. (to_machine ms s, from_machine ms s))
     (λ f. (λ h. to_faults h, λ h. from_faults h))
     (machine_in ms)
     (keys_judged machine_faults file_keys FileStates FileFault (λ t. seen stated_of (both machine_faults (processor_in t) (both machine_faults (controller_in t) (schedule_in t)))) file_judged ms)
-
-pub machine_stated : (ms : Members) (stated : Stated) → machine_in ms ≡ Ok stated ↔ StatesMachine ms stated
-machine_stated ms stated = judged_value machine_faults (StatesMachine ms) (HasMachineFault ms) (machine_in ms) (machine_judged ms) stated
-
-pub machine_fault : (ms : Members) (fault : MachineFileFault) → machine_in ms ≡ Err fault ↔ IsLowest machine_faults (HasMachineFault ms) fault
-machine_fault ms fault = judged_fault machine_faults (StatesMachine ms) (HasMachineFault ms) one_rank (machine_in ms) (machine_judged ms) fault

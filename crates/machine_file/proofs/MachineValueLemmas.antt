@@ -13,12 +13,13 @@ use Rattle.toml_reading.proofs.LowestLemmas.{Judges, Told, joint, judged_as, opt
 use Rattle.toml_reading.proofs.LowestParts.{all_judged, list_judged, not_whole, number_in_judged, number_judged, number_or_judged, table_judged, whole_same}
 use Rattle.machine_file.specs.MachineFaults.{machine_faults, number_of}
 use Rattle.machine_file.specs.MachineFile.{Read, event_at, event_of, flags_at, in_space, is_letter, is_single, lettered, line_at, lines_at, lines_in, named_line, page_at, page_of, pc_at, port_at, port_in, register_in, registers_at, set_flags, size_at, size_of, union, word_in}
-use Rattle.machine_file.specs.MachineRules.{AddressFault, AreFlags, AreLines, AreRegisters, EventFault, FlagsFault, IsAddress, IsEvent, IsInSpace, IsNamed, IsPage, IsSize, IsWord, LinesFault, NameFault, PageFault, RegistersFault, SizeFault, UpToFault, WordFault, kilobytes}
+use Rattle.machine_file.specs.MachineRules.{AreFlags, AreLines, AreRegisters, IsAddress, IsEvent, IsInSpace, IsNamed, IsPage, IsSize, IsWord, kilobytes}
 use Rattle.machine_file.specs.Names.{event_keys, map_keys, name_of, named_registers, register_keys}
 use Rattle.machine_file.specs.declared.events.Event.{Event}
 use Rattle.machine_file.specs.declared.machine_faults.MachineFileFault.{MachineFileFault}
 use Rattle.machine_file.specs.declared.machine_faults.MachineFileFault.TheVariants.{Memory, NotToml, UnknownKey, WrongKind, OutOfRange, Twice}
 use Rattle.machine_file.specs.declared.pages.MappedPage.{MappedPage}
+use Rattle.machine_file.proofs.KeyFaults.{AddressFault, EventFault, FlagsFault, LinesFault, NameFault, PageFault, RegistersFault, SizeFault, UpToFault, WordFault}
 
 -- ## The ranks of faults
 

@@ -6,6 +6,7 @@ pub mod Names
 pub mod Stated
 pub mod MachineFile
 pub mod MachineRules
+pub mod MachineFaultRules
 pub mod Inputs
 pub mod Started
 pub mod StartWork

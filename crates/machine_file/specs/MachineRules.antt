@@ -1,7 +1,6 @@
--- What a machine file states and which faults it has, told of its keys one by one. Source: our own format of
--- machine files, over the documents of TOML.
-use Rattle.std.specs.Prelude.{◌≡◌, ◌≢◌, ◌<◌, ◌⊎◌, ◌-◌, ◌^◌, ◌%◌, ℕ, ℤ, pos, Bool, true, false, List, []}
-use Rattle.std.specs.Prelude.{codes, replicate, Any, nat_lt, Option, Some, None, IsSomeAnd, MatchOption}
+-- What a machine file states, told of its keys one by one. Source: our own format of machine files, over the documents
+-- of TOML.
+use Rattle.std.specs.Prelude.{◌≡◌, ◌<◌, ◌-◌, ◌^◌, ◌%◌, ℕ, ℤ, pos, true, List, [], codes, replicate, Option, Some, None, IsSomeAnd}
 use Rattle.std.specs.List.{AllZip, list_all}
 use Rattle.std.specs.Map.{keys_of}
 use Rattle.std.specs.Option.{option_and_then}
@@ -12,33 +11,19 @@ use Rattle.memc.specs.Memory.{shift_of_size}
 use Rattle.memc.specs.declared.spots.PageSize.{PageSize}
 use Rattle.memc.specs.declared.spots.PageSize.TheVariants.{K4, K8, K16, K32}
 use Rattle.toml_reading.specs.Documents.{are_distinct, has_only_keys}
-use Rattle.toml_reading.specs.Lowest.{AtKey, AtKeyOr, IsListOf, IsNumber, IsTable, ListFault, NumberFault}
-use Rattle.toml_reading.specs.Lowest.{TableFault, entries_at, numbers_at}
-use Rattle.machine_file.specs.MachineFaults.{machine_faults}
-use Rattle.machine_file.specs.MachineFile.{are_single, is_letter, is_mappable, is_single, named_line}
-use Rattle.machine_file.specs.MachineFile.{set_flags, union}
-use Rattle.machine_file.specs.Names.{event_keys, file_keys, map_keys, name_of, named_mode, named_registers}
-use Rattle.machine_file.specs.Names.{register_keys}
+use Rattle.toml_reading.specs.Lowest.{AtKey, AtKeyOr, IsListOf, IsNumber, IsTable}
+use Rattle.machine_file.specs.MachineFile.{are_single, is_letter, is_mappable, is_single, named_line, set_flags, union}
+use Rattle.machine_file.specs.Names.{event_keys, file_keys, map_keys, name_of, named_mode, named_registers, register_keys}
 use Rattle.machine_file.specs.Stated.{Stated}
 use Rattle.machine_file.specs.declared.events.Event.{Event}
 use Rattle.machine_file.specs.declared.flags.PsrFlags.{PsrFlags}
-use Rattle.machine_file.specs.declared.machine_faults.MachineFileFault.{MachineFileFault}
-use Rattle.machine_file.specs.declared.machine_faults.MachineFileFault.TheVariants.{UnknownKey, WrongKind}
-use Rattle.machine_file.specs.declared.machine_faults.MachineFileFault.TheVariants.{OutOfRange, Twice}
 use Rattle.machine_file.specs.declared.pages.MappedPage.{MappedPage}
 
 -- ## Values
 
--- a number from 0 to a limit
-abbrev pub UpToFault : ℕ → Data → MachineFileFault → Type 0
-UpToFault limit d fault = NumberFault machine_faults limit d fault
-
 -- a number of 32 bits
 abbrev pub IsWord : Data → ℕ → Type 0
 IsWord d n = IsNumber (2 ^ 32 - 1) d n
-
-abbrev pub WordFault : Data → MachineFileFault → Type 0
-WordFault d fault = UpToFault (2 ^ 32 - 1) d fault
 
 -- an address of the program: a multiple of 4 from 0 to 3FFFFFC
 abbrev pub IsInSpace : ℤ → ℕ → Type 0
@@ -46,10 +31,6 @@ IsInSpace z n = (z ≡ pos n) × (n % 4 ≡ 0) × (n < 2 ^ 26)
 
 abbrev pub IsAddress : Data → ℕ → Type 0
 IsAddress d n = IsSomeAnd (as_integer d) (λ z. IsInSpace z n)
-
-abbrev pub AddressFault : Data → MachineFileFault → Type 0
-AddressFault d fault =
-    MatchOption (as_integer d) (fault ≡ WrongKind) (λ z. ((n : ℕ) → ¬ IsInSpace z n) × (fault ≡ OutOfRange))
 
 -- the size of a page in KB
 abbrev pub kilobytes : PageSize → ℕ
@@ -61,72 +42,36 @@ kilobytes K32 = 32
 abbrev pub IsSize : Data → PageSize → Type 0
 IsSize d size = IsSomeAnd (as_integer d) (λ z. z ≡ pos (kilobytes size))
 
-abbrev pub SizeFault : Data → MachineFileFault → Type 0
-SizeFault d fault =
-    MatchOption (as_integer d) (fault ≡ WrongKind)
-    (λ z. ((size : PageSize) → z ≢ pos (kilobytes size)) × (fault ≡ OutOfRange))
-
 -- a text that names something
 abbrev pub IsNamed : {A : Type 0} → (List ℕ → Option A) → Data → A → Type 0
 IsNamed named d a = option_and_then named (as_str d) ≡ Some a
 
-abbrev pub NameFault : {A : Type 0} → (List ℕ → Option A) → Data → MachineFileFault → Type 0
-NameFault named d fault = (option_and_then named (as_str d) ≡ None) × (fault ≡ WrongKind)
-
 -- letters of NZCVIF, each once at most: those flags are set
 abbrev pub AreFlags : Data → PsrFlags → Type 0
 AreFlags d flags =
-    IsSomeAnd (as_str d)
-    (λ text. (flags ≡ set_flags text) × (list_all is_letter text ≡ true) × (is_single text ≡ true))
-
-abbrev pub FlagsFault : Data → MachineFileFault → Type 0
-FlagsFault d fault =
-    MatchOption
-    (as_str d)
-    (fault ≡ WrongKind)
-    (λ text. ((list_all is_letter text ≡ false) × (fault ≡ WrongKind))
-    ⊎ ((is_single text ≡ false) × (fault ≡ Twice)))
+    IsSomeAnd (as_str d) (λ text. (flags ≡ set_flags text) × (list_all is_letter text ≡ true) × (is_single text ≡ true))
 
 -- names of lines, which are active
 abbrev pub AreLines : Data → Lines → Type 0
 AreLines d lines = (all : List Lines) × IsListOf (IsNamed named_line) d all × (lines ≡ union all)
-
-abbrev pub LinesFault : Data → MachineFileFault → Type 0
-LinesFault d fault = ListFault machine_faults (NameFault named_line) d fault
 
 -- ## Tables
 
 -- the words of the registers in their order, 0 where one is not named
 abbrev pub AreRegisters : Data → List ℕ → Type 0
 AreRegisters d words =
-    IsTable register_keys
-    (λ ms. AllZip (λ r n. AtKeyOr (name_of r) ms (n ≡ 0) (λ e. IsWord e n)) named_registers words) d
-
-abbrev pub RegistersFault : Data → MachineFileFault → Type 0
-RegistersFault d fault =
-    TableFault machine_faults register_keys
-    (λ ms f. Any (λ r. AtKey (name_of r) ms (λ e. WordFault e f)) named_registers) d fault
+    IsTable register_keys (λ ms. AllZip (λ r n. AtKeyOr (name_of r) ms (n ≡ 0) (λ e. IsWord e n)) named_registers words) d
 
 -- a mapped page, all of whose keys are required
 abbrev pub IsPage : Data → MappedPage → Type 0
 IsPage d page =
     IsTable
     map_keys
-    (λ ms. AtKey (codes "logical") ms (λ e. IsWord e page.logical)
+    (λ ms.
+    AtKey (codes "logical") ms (λ e. IsWord e page.logical)
     × AtKey (codes "physical") ms (λ e. IsWord e page.physical)
     × AtKey (codes "level") ms (λ e. IsWord e page.level))
     d
-
-abbrev pub PageFault : Data → MachineFileFault → Type 0
-PageFault d fault =
-    TableFault
-    machine_faults
-    map_keys
-    (λ ms f. AtKeyOr (codes "logical") ms (f ≡ WrongKind) (λ e. WordFault e f)
-    ⊎ AtKeyOr (codes "physical") ms (f ≡ WrongKind) (λ e. WordFault e f)
-    ⊎ AtKeyOr (codes "level") ms (f ≡ WrongKind) (λ e. WordFault e f))
-    d
-    fault
 
 -- an event by its step, which is required
 abbrev pub IsEvent : Data → ℕ × Event → Type 0
@@ -140,95 +85,23 @@ IsEvent d event =
     × AtKeyOr (codes "port") ms (event.1.port ≡ None) (λ e. IsSomeAnd event.1.port (IsWord e)))
     d
 
-abbrev pub EventFault : Data → MachineFileFault → Type 0
-EventFault d fault =
-    TableFault
-    machine_faults
-    event_keys
-    (λ ms f.
-    AtKeyOr (codes "step") ms (f ≡ WrongKind) (λ e. UpToFault 65535 e f)
-    ⊎ AtKey (codes "bursts") ms (λ e. UpToFault 65535 e f)
-    ⊎ AtKey (codes "lines") ms (λ e. LinesFault e f)
-    ⊎ AtKey (codes "port") ms (λ e. WordFault e f))
-    d
-    fault
-
 -- ## What the file states
 
 -- only `pc` is required; where another key is missing, what stands here beside it holds
 pub record StatesMachine (ms : Members) (stated : Stated) : Type 0 where
   pub known : has_only_keys file_keys ms ≡ true
   pub pc : AtKey (codes "pc") ms (λ d. IsAddress d stated.processor.pc)
-  pub mode : AtKeyOr (codes "mode") ms (stated.processor.mode ≡ Svc)
-      (λ d. IsNamed named_mode d stated.processor.mode)
-  pub flags : AtKeyOr (codes "flags") ms (stated.processor.flags ≡ set_flags (codes "IF"))
-      (λ d. AreFlags d stated.processor.flags)
-  pub registers : AtKeyOr (codes "registers") ms (stated.processor.registers ≡ replicate 26 0)
-      (λ d. AreRegisters d stated.processor.registers)
-  pub low_rom : AtKeyOr (codes "low_rom") ms (stated.controller.low_rom ≡ 0)
-      (λ d. IsNumber 3 d stated.controller.low_rom)
-  pub high_rom : AtKeyOr (codes "high_rom") ms (stated.controller.high_rom ≡ 0)
-      (λ d. IsNumber 3 d stated.controller.high_rom)
+  pub mode : AtKeyOr (codes "mode") ms (stated.processor.mode ≡ Svc) (λ d. IsNamed named_mode d stated.processor.mode)
+  pub flags : AtKeyOr (codes "flags") ms (stated.processor.flags ≡ set_flags (codes "IF")) (λ d. AreFlags d stated.processor.flags)
+  pub registers : AtKeyOr (codes "registers") ms (stated.processor.registers ≡ replicate 26 0) (λ d. AreRegisters d stated.processor.registers)
+  pub low_rom : AtKeyOr (codes "low_rom") ms (stated.controller.low_rom ≡ 0) (λ d. IsNumber 3 d stated.controller.low_rom)
+  pub high_rom : AtKeyOr (codes "high_rom") ms (stated.controller.high_rom ≡ 0) (λ d. IsNumber 3 d stated.controller.high_rom)
   pub size : AtKeyOr (codes "pages") ms (stated.controller.size ≡ K4) (λ d. IsSize d stated.controller.size)
-  pub pages : AtKeyOr (codes "map") ms (stated.controller.pages ≡ [])
-      (λ d. IsListOf IsPage d stated.controller.pages)
+  pub pages : AtKeyOr (codes "map") ms (stated.controller.pages ≡ []) (λ d. IsListOf IsPage d stated.controller.pages)
   -- the pages can be mapped beside one another
   pub mappable : list_all (is_mappable (shift_of_size stated.controller.size)) stated.controller.pages ≡ true
   pub pages_once : are_single stated.controller.pages ≡ true
-  pub steps : AtKeyOr (codes "steps") ms (stated.schedule.steps ≡ 65536)
-      (λ d. IsNumber 65536 d stated.schedule.steps)
+  pub steps : AtKeyOr (codes "steps") ms (stated.schedule.steps ≡ 65536) (λ d. IsNumber 65536 d stated.schedule.steps)
   pub port : AtKeyOr (codes "port") ms (stated.schedule.port ≡ 0) (λ d. IsWord d stated.schedule.port)
-  pub events : AtKeyOr (codes "event") ms (stated.schedule.events ≡ [])
-      (λ d. IsListOf IsEvent d stated.schedule.events)
+  pub events : AtKeyOr (codes "event") ms (stated.schedule.events ≡ []) (λ d. IsListOf IsEvent d stated.schedule.events)
   pub steps_once : are_distinct (keys_of stated.schedule.events) ≡ true
-
--- ## Its faults
-
--- those of the values of its keys
-abbrev pub ValueFault : Members → MachineFileFault → Type 0
-ValueFault ms fault =
-    AtKeyOr (codes "pc") ms (fault ≡ WrongKind) (λ d. AddressFault d fault)
-    ⊎ AtKey (codes "mode") ms (λ d. NameFault named_mode d fault)
-    ⊎ AtKey (codes "flags") ms (λ d. FlagsFault d fault)
-    ⊎ AtKey (codes "registers") ms (λ d. RegistersFault d fault)
-    ⊎ AtKey (codes "low_rom") ms (λ d. UpToFault 3 d fault)
-    ⊎ AtKey (codes "high_rom") ms (λ d. UpToFault 3 d fault)
-    ⊎ AtKey (codes "pages") ms (λ d. SizeFault d fault)
-    ⊎ AtKey (codes "map") ms (λ d. ListFault machine_faults PageFault d fault)
-    ⊎ AtKey (codes "steps") ms (λ d. UpToFault 65536 d fault)
-    ⊎ AtKey (codes "port") ms (λ d. WordFault d fault)
-    ⊎ AtKey (codes "event") ms (λ d. ListFault machine_faults EventFault d fault)
-
-abbrev pub are_below : ℕ → List ℕ → Bool
-are_below limit numbers = list_all (λ n. nat_lt n limit) numbers
-
--- the numbers at a key in the tables of `map`
-abbrev pub page_numbers : List ℕ → Members → List ℕ
-page_numbers key ms = numbers_at key (entries_at (codes "map") ms)
-
--- a page that MEMC cannot map: it maps 2 ^ 25 bytes of logical pages and 128 physical pages at levels 0 to 3
-abbrev pub IsUnmappable : Members → Type 0
-IsUnmappable ms =
-    ((size : PageSize)
-    × AtKeyOr (codes "pages") ms (size ≡ K4) (λ d. IsSize d size)
-    × (are_below (2 ^ (25 - shift_of_size size)) (page_numbers (codes "logical") ms) ≡ false))
-    ⊎ (are_below 128 (page_numbers (codes "physical") ms) ≡ false)
-    ⊎ (are_below 4 (page_numbers (codes "level") ms) ≡ false)
-
--- a logical or a physical page twice
-abbrev pub IsPageTwice : Members → Type 0
-IsPageTwice ms =
-    (are_distinct (page_numbers (codes "logical") ms) ≡ false)
-    ⊎ (are_distinct (page_numbers (codes "physical") ms) ≡ false)
-
--- a step twice
-abbrev pub IsStepTwice : Members → Type 0
-IsStepTwice ms = are_distinct (numbers_at (codes "step") (entries_at (codes "event") ms)) ≡ false
-
-abbrev pub HasMachineFault : Members → MachineFileFault → Type 0
-HasMachineFault ms fault =
-    ((has_only_keys file_keys ms ≡ false) × (fault ≡ UnknownKey))
-    ⊎ ValueFault ms fault
-    ⊎ (IsUnmappable ms × (fault ≡ OutOfRange))
-    ⊎ (IsPageTwice ms × (fault ≡ Twice))
-    ⊎ (IsStepTwice ms × (fault ≡ Twice))

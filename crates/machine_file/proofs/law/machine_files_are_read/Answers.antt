@@ -1,4 +1,4 @@
-use Rattle.machine_file.proofs.MachineRuleLemmas.{machine_fault, machine_stated}
+use Rattle.machine_file.proofs.KeyTableLemmas.{machine_fault, machine_stated}
 use Rattle.machine_file.proofs.law.machine_files_are_read.Goals as goal
 
 pub returns-clause-machine : goal.returns-clause-machine

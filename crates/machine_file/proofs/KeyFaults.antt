@@ -1,0 +1,91 @@
+-- The faults of a machine file key by key, as its readings have them.
+use Rattle.std.proofs.Common.{◌≡◌, ◌≢◌, ◌⊎◌, ◌-◌, ◌^◌, ℕ, pos, false, List, codes, Any, Option, None, MatchOption, option_and_then}
+use Rattle.std.specs.List.{list_all}
+use Rattle.toml.specs.Data.{Data, Members, as_integer, as_str}
+use Rattle.memc.specs.declared.spots.PageSize.{PageSize}
+use Rattle.toml_reading.specs.Documents.{has_only_keys}
+use Rattle.toml_reading.specs.Lowest.{AtKey, AtKeyOr, ListFault, NumberFault, TableFault}
+use Rattle.machine_file.specs.MachineFaults.{machine_faults}
+use Rattle.machine_file.specs.MachineFile.{is_letter, is_single, named_line}
+use Rattle.machine_file.specs.MachineFaultRules.{IsPageTwice, IsStepTwice, IsUnmappable}
+use Rattle.machine_file.specs.MachineRules.{IsInSpace, kilobytes}
+use Rattle.machine_file.specs.Names.{event_keys, file_keys, map_keys, name_of, named_mode, named_registers, register_keys}
+use Rattle.machine_file.specs.declared.machine_faults.MachineFileFault.{MachineFileFault}
+use Rattle.machine_file.specs.declared.machine_faults.MachineFileFault.TheVariants.{UnknownKey, WrongKind, OutOfRange, Twice}
+
+-- a number from 0 to a limit
+abbrev pub UpToFault : ℕ → Data → MachineFileFault → Type 0
+UpToFault limit d fault = NumberFault machine_faults limit d fault
+
+abbrev pub WordFault : Data → MachineFileFault → Type 0
+WordFault d fault = UpToFault (2 ^ 32 - 1) d fault
+
+abbrev pub AddressFault : Data → MachineFileFault → Type 0
+AddressFault d fault =
+    MatchOption (as_integer d) (fault ≡ WrongKind) (λ z. ((n : ℕ) → ¬ IsInSpace z n) × (fault ≡ OutOfRange))
+
+abbrev pub SizeFault : Data → MachineFileFault → Type 0
+SizeFault d fault =
+    MatchOption (as_integer d) (fault ≡ WrongKind) (λ z. ((size : PageSize) → z ≢ pos (kilobytes size)) × (fault ≡ OutOfRange))
+
+abbrev pub NameFault : {A : Type 0} → (List ℕ → Option A) → Data → MachineFileFault → Type 0
+NameFault named d fault = (option_and_then named (as_str d) ≡ None) × (fault ≡ WrongKind)
+
+abbrev pub FlagsFault : Data → MachineFileFault → Type 0
+FlagsFault d fault =
+    MatchOption
+    (as_str d)
+    (fault ≡ WrongKind)
+    (λ text. ((list_all is_letter text ≡ false) × (fault ≡ WrongKind)) ⊎ ((is_single text ≡ false) × (fault ≡ Twice)))
+
+abbrev pub LinesFault : Data → MachineFileFault → Type 0
+LinesFault d fault = ListFault machine_faults (NameFault named_line) d fault
+
+abbrev pub RegistersFault : Data → MachineFileFault → Type 0
+RegistersFault d fault =
+    TableFault machine_faults register_keys (λ ms f. Any (λ r. AtKey (name_of r) ms (λ e. WordFault e f)) named_registers) d fault
+
+abbrev pub PageFault : Data → MachineFileFault → Type 0
+PageFault d fault =
+    TableFault
+    machine_faults
+    map_keys
+    (λ ms f. AtKeyOr (codes "logical") ms (f ≡ WrongKind) (λ e. WordFault e f) ⊎ AtKeyOr (codes "physical") ms (f ≡ WrongKind) (λ e. WordFault e f) ⊎ AtKeyOr (codes "level") ms (f ≡ WrongKind) (λ e. WordFault e f))
+    d
+    fault
+
+abbrev pub EventFault : Data → MachineFileFault → Type 0
+EventFault d fault =
+    TableFault
+    machine_faults
+    event_keys
+    (λ ms f.
+    AtKeyOr (codes "step") ms (f ≡ WrongKind) (λ e. UpToFault 65535 e f)
+    ⊎ AtKey (codes "bursts") ms (λ e. UpToFault 65535 e f)
+    ⊎ AtKey (codes "lines") ms (λ e. LinesFault e f)
+    ⊎ AtKey (codes "port") ms (λ e. WordFault e f))
+    d
+    fault
+
+-- those of the values of its keys
+abbrev pub ValueFault : Members → MachineFileFault → Type 0
+ValueFault ms fault =
+    AtKeyOr (codes "pc") ms (fault ≡ WrongKind) (λ d. AddressFault d fault)
+    ⊎ AtKey (codes "mode") ms (λ d. NameFault named_mode d fault)
+    ⊎ AtKey (codes "flags") ms (λ d. FlagsFault d fault)
+    ⊎ AtKey (codes "registers") ms (λ d. RegistersFault d fault)
+    ⊎ AtKey (codes "low_rom") ms (λ d. UpToFault 3 d fault)
+    ⊎ AtKey (codes "high_rom") ms (λ d. UpToFault 3 d fault)
+    ⊎ AtKey (codes "pages") ms (λ d. SizeFault d fault)
+    ⊎ AtKey (codes "map") ms (λ d. ListFault machine_faults PageFault d fault)
+    ⊎ AtKey (codes "steps") ms (λ d. UpToFault 65536 d fault)
+    ⊎ AtKey (codes "port") ms (λ d. WordFault d fault)
+    ⊎ AtKey (codes "event") ms (λ d. ListFault machine_faults EventFault d fault)
+
+abbrev pub HasKeyFault : Members → MachineFileFault → Type 0
+HasKeyFault ms fault =
+    ((has_only_keys file_keys ms ≡ false) × (fault ≡ UnknownKey))
+    ⊎ ValueFault ms fault
+    ⊎ (IsUnmappable ms × (fault ≡ OutOfRange))
+    ⊎ (IsPageTwice ms × (fault ≡ Twice))
+    ⊎ (IsStepTwice ms × (fault ≡ Twice))

@@ -1,0 +1,181 @@
+-- Which faults a machine file has, told of all its tables. Source: our own format of machine files, over the documents of TOML;
+-- what MEMC maps is that of the data sheet of VL86C110.
+use Rattle.std.specs.Prelude.{◌≡◌, ◌≢◌, ◌⊎◌, ◌-◌, ◌^◌, ⊤, ℕ, pos, Bool, true, false, List, [], ◌∷◌, codes, map, Any, nat_lt, None, IsSomeAnd, MatchOption}
+use Rattle.std.specs.List.{list_all}
+use Rattle.std.specs.Option.{option_and_then}
+use Rattle.toml.specs.Data.{Data, Members, as_integer, as_str, as_table, get_member}
+use Rattle.memc.specs.Memory.{shift_of_size}
+use Rattle.memc.specs.declared.spots.PageSize.{PageSize}
+use Rattle.memc.specs.declared.spots.PageSize.TheVariants.{K4}
+use Rattle.toml_reading.specs.Documents.{are_distinct, has_only_keys, items_at}
+use Rattle.toml_reading.specs.Lowest.{AtKey, AtKeyOr, IsOutside, entries_at, numbers_at}
+use Rattle.machine_file.specs.MachineFile.{is_letter, is_single, named_line}
+use Rattle.machine_file.specs.MachineRules.{IsInSpace, IsSize, kilobytes}
+use Rattle.machine_file.specs.Names.{event_keys, file_keys, map_keys, name_of, named_mode, named_registers, register_keys}
+use Rattle.machine_file.specs.declared.machine_faults.MachineFileFault.{MachineFileFault}
+use Rattle.machine_file.specs.declared.machine_faults.MachineFileFault.TheVariants.{UnknownKey, WrongKind, OutOfRange, Twice}
+
+-- ## What the keys take
+
+-- a number from 0 to a limit, an address of the program, the size of a page, the name of a mode, letters of flags, names of
+-- lines
+pub data Takes : Type 0 where
+  UpTo : ℕ → Takes
+  Address : Takes
+  Size : Takes
+  ModeName : Takes
+  FlagLetters : Takes
+  LineNames : Takes
+
+pub record Row : Type 0 where
+  pub key : List ℕ
+  pub takes : Takes
+  pub required : Bool
+
+abbrev pub needs : List ℕ → Takes → Row
+needs key takes = record { key = key; takes = takes; required = true }
+
+abbrev pub may_have : List ℕ → Takes → Row
+may_have key takes = record { key = key; takes = takes; required = false }
+
+abbrev pub Word : Takes
+Word = UpTo (2 ^ 32 - 1)
+
+-- a table of the file: all keys that it may have, and the rows of those that do not hold tables of their own
+pub record Shape : Type 0 where
+  pub keys : List (List ℕ)
+  pub rows : List Row
+
+abbrev pub file_shape : Shape
+file_shape = record {
+  keys = file_keys;
+  rows =
+      needs (codes "pc") Address
+      ∷ may_have (codes "mode") ModeName
+      ∷ may_have (codes "flags") FlagLetters
+      ∷ may_have (codes "low_rom") (UpTo 3)
+      ∷ may_have (codes "high_rom") (UpTo 3)
+      ∷ may_have (codes "pages") Size
+      ∷ may_have (codes "steps") (UpTo 65536)
+      ∷ may_have (codes "port") Word
+      ∷ [];
+}
+
+abbrev pub register_shape : Shape
+register_shape = record { keys = register_keys; rows = map (λ r. may_have (name_of r) Word) named_registers }
+
+abbrev pub map_shape : Shape
+map_shape = record {
+  keys = map_keys;
+  rows = needs (codes "logical") Word ∷ needs (codes "physical") Word ∷ needs (codes "level") Word ∷ [];
+}
+
+abbrev pub event_shape : Shape
+event_shape = record {
+  keys = event_keys;
+  rows =
+      needs (codes "step") (UpTo 65535)
+      ∷ may_have (codes "bursts") (UpTo 65535)
+      ∷ may_have (codes "lines") LineNames
+      ∷ may_have (codes "port") Word
+      ∷ [];
+}
+
+-- ## The tables of a file
+
+-- that holds of a table of the file: of its own, of `registers`, or of one in `map` or in `event`
+abbrev pub OfSomeTable : (Shape → Members → Type 0) → Members → Type 0
+OfSomeTable P ms =
+    P file_shape ms
+    ⊎ AtKey (codes "registers") ms (λ d. IsSomeAnd (as_table d) (P register_shape))
+    ⊎ Any (λ d. IsSomeAnd (as_table d) (P map_shape)) (entries_at (codes "map") ms)
+    ⊎ Any (λ d. IsSomeAnd (as_table d) (P event_shape)) (entries_at (codes "event") ms)
+
+-- ## A key that its table may not have
+
+abbrev pub HasOtherKey : Shape → Members → Type 0
+HasOtherKey shape ms = has_only_keys shape.keys ms ≡ false
+
+-- ## A missing key, or a value of the wrong kind
+
+abbrev pub LacksKey : Shape → Members → Type 0
+LacksKey shape ms = Any (λ row. (row.required ≡ true) × (get_member row.key ms ≡ None)) shape.rows
+
+-- a value of another type; a text that names no mode, has another letter, or a list with no name of a line
+abbrev pub IsOtherKind : Takes → Data → Type 0
+IsOtherKind (UpTo limit) d = as_integer d ≡ None
+IsOtherKind Address d = as_integer d ≡ None
+IsOtherKind Size d = as_integer d ≡ None
+IsOtherKind ModeName d = option_and_then named_mode (as_str d) ≡ None
+IsOtherKind FlagLetters d = MatchOption (as_str d) ⊤ (λ text. list_all is_letter text ≡ false)
+IsOtherKind LineNames d = MatchOption (items_at d) ⊤ (Any (λ e. option_and_then named_line (as_str e) ≡ None))
+
+abbrev pub HasOtherKind : Shape → Members → Type 0
+HasOtherKind shape ms = Any (λ row. AtKey row.key ms (IsOtherKind row.takes)) shape.rows
+
+abbrev pub IsNoTable : Data → Type 0
+IsNoTable d = as_table d ≡ None
+
+-- no list, or one with a value that is no table
+abbrev pub AreNoTables : Data → Type 0
+AreNoTables d = MatchOption (items_at d) ⊤ (Any IsNoTable)
+
+abbrev pub HasWrongKind : Members → Type 0
+HasWrongKind ms =
+    OfSomeTable LacksKey ms
+    ⊎ OfSomeTable HasOtherKind ms
+    ⊎ AtKey (codes "registers") ms IsNoTable
+    ⊎ AtKey (codes "map") ms AreNoTables
+    ⊎ AtKey (codes "event") ms AreNoTables
+
+-- ## A number that its key does not take, or a page that cannot be mapped
+
+abbrev pub IsOtherNumber : Takes → Data → Type 0
+IsOtherNumber (UpTo limit) d = IsSomeAnd (as_integer d) (IsOutside limit)
+IsOtherNumber Address d = IsSomeAnd (as_integer d) (λ z. (n : ℕ) → ¬ IsInSpace z n)
+IsOtherNumber Size d = IsSomeAnd (as_integer d) (λ z. (size : PageSize) → z ≢ pos (kilobytes size))
+IsOtherNumber _ d = ⊥
+
+abbrev pub HasOtherNumber : Shape → Members → Type 0
+HasOtherNumber shape ms = Any (λ row. AtKey row.key ms (IsOtherNumber row.takes)) shape.rows
+
+abbrev pub are_below : ℕ → List ℕ → Bool
+are_below limit numbers = list_all (λ n. nat_lt n limit) numbers
+
+-- the numbers at a key in the tables of `map`
+abbrev pub page_numbers : List ℕ → Members → List ℕ
+page_numbers key ms = numbers_at key (entries_at (codes "map") ms)
+
+-- MEMC maps 2 ^ 25 bytes of logical pages and 128 physical pages, at levels 0 to 3
+abbrev pub IsUnmappable : Members → Type 0
+IsUnmappable ms =
+    ((size : PageSize)
+    × AtKeyOr (codes "pages") ms (size ≡ K4) (λ d. IsSize d size)
+    × (are_below (2 ^ (25 - shift_of_size size)) (page_numbers (codes "logical") ms) ≡ false))
+    ⊎ (are_below 128 (page_numbers (codes "physical") ms) ≡ false)
+    ⊎ (are_below 4 (page_numbers (codes "level") ms) ≡ false)
+
+-- ## Something twice
+
+-- a letter of the flags
+abbrev pub IsLetterTwice : Members → Type 0
+IsLetterTwice ms = AtKey (codes "flags") ms (λ d. IsSomeAnd (as_str d) (λ text. is_single text ≡ false))
+
+-- a logical or a physical page
+abbrev pub IsPageTwice : Members → Type 0
+IsPageTwice ms =
+    (are_distinct (page_numbers (codes "logical") ms) ≡ false)
+    ⊎ (are_distinct (page_numbers (codes "physical") ms) ≡ false)
+
+-- the step of an event
+abbrev pub IsStepTwice : Members → Type 0
+IsStepTwice ms = are_distinct (numbers_at (codes "step") (entries_at (codes "event") ms)) ≡ false
+
+-- ## The faults
+
+abbrev pub HasMachineFault : Members → MachineFileFault → Type 0
+HasMachineFault ms fault =
+    (OfSomeTable HasOtherKey ms × (fault ≡ UnknownKey))
+    ⊎ (HasWrongKind ms × (fault ≡ WrongKind))
+    ⊎ ((OfSomeTable HasOtherNumber ms ⊎ IsUnmappable ms) × (fault ≡ OutOfRange))
+    ⊎ ((IsLetterTwice ms ⊎ IsPageTwice ms ⊎ IsStepTwice ms) × (fault ≡ Twice))
