@@ -1,5 +1,5 @@
--- The machine that a file states: as it is after a reset, but for what the file states (our own; R15 and the
--- memory controller by the data sheets of VL86C010 and VL86C110).
+-- The machine that a file states: as it is after a reset, but for what the file states (our own; R15 by
+-- the VL86C010 data sheet).
 use Rattle.std.specs.Prelude.{◌≡◌, ◌+◌, ◌*◌, ◌^◌, ◌<◌, ◌≤◌, ◌==◌, ◌++◌, ℕ, List, [], ◌∷◌, length, All}
 use Rattle.std.specs.Prelude.{if◌then◌else◌, Option, Some, None}
 use Rattle.arm2_decode.specs.Allowed.{bit_of}
