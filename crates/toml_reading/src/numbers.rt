@@ -1,4 +1,4 @@
-ghost use Rattle.std.specs.Prelude.{◌≡◌, ◌<◌, ◌^◌, IfOk};
+ghost use Rattle.std.specs.Prelude.{◌≡◌, ◌≤◌, IfOk};
 ghost use Rattle.toml.specs.View.{table_view, view};
 ghost use Rattle.toml_reading.specs.Documents.{in_space, number_at, number_in, number_or};
 ghost use Rattle.toml_reading.specs.Readings.{up_to};
@@ -61,7 +61,7 @@ pub fn optional_number<F: Fault>(
 /// The address of a word, where the number is one.
 pub fn in_space<F: Fault>(number: i64) -> Reading<u32, F>
     ensures value { result ≡ in_space F.faults number }
-    ensures small { IfOk result (λ address. address < 2 ^ 26) }
+    ensures range { IfOk result (λ address. address ≤ 0x3FFFFFC) }
 {
     match u32::try_from(number) {
         Ok(n) => {
