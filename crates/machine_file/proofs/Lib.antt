@@ -1,5 +1,7 @@
 pub mod ProfileLemmas
+mod PriceFaults
 mod ProfileRuleLemmas
+mod PriceTableLemmas
 mod KeyFaults
 mod MachineValueLemmas
 mod MachineRuleLemmas

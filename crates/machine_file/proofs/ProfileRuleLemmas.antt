@@ -7,16 +7,17 @@ use Rattle.std.proofs.lemmas.Slice.Zip.{AllZip-long}
 use Rattle.toml.specs.Data.{Data, Members, as_integer, get_member}
 use Rattle.bus_ticks.specs.Ranges.{AreInRange, AreOrdered, IsPrice, device_number, rom_number}
 use Rattle.toml_reading.specs.Documents.{has_only_keys, items_at}
-use Rattle.toml_reading.specs.Lowest.{AtKey, AtKeyOr, IsListOf, IsLowest, IsOutside, KeysFault}
+use Rattle.toml_reading.specs.Lowest.{AtKey, AtKeyOr, IsListOf, IsOutside, KeysFault}
 use Rattle.toml_reading.specs.Readings.{both}
-use Rattle.toml_reading.proofs.LowestLemmas.{Judges, Told, both_judged, judged_as, judged_fault, judged_value, required_judged, seen_judged}
+use Rattle.toml_reading.proofs.LowestLemmas.{Judges, Told, both_judged, judged_as, required_judged, seen_judged}
 use Rattle.toml_reading.proofs.LowestParts.{OneOf, any_one_of, keys_judged, number_in_judged, number_judged}
 use Rattle.machine_file.specs.ProfileFaults.{number_of, profile_faults}
 use Rattle.machine_file.specs.ProfileFile.{Four, IsPriced, Parts, Read, four_at, four_in, four_of, joined, numbers_in, parts_in, profile_keys, word_at, word_in}
-use Rattle.machine_file.specs.ProfileRules.{FourFault, HasProfileFault, IsTicks, OrderFault, PriceFault, StatesNumbers, StatesProfile, TicksFault, list_keys, number_keys}
+use Rattle.machine_file.specs.ProfileRules.{IsTicks, StatesNumbers, StatesProfile, list_keys, number_keys}
 use Rattle.machine_file.specs.declared.profile_faults.ProfileFileFault.{ProfileFileFault}
 use Rattle.machine_file.specs.declared.profile_faults.ProfileFileFault.TheVariants.{Memory, NotToml, UnknownKey, WrongKind, OutOfRange, Disordered}
 use Rattle.machine_file.proofs.ProfileLemmas.{not_four}
+use Rattle.machine_file.proofs.PriceFaults.{FourFault, HasPriceFault, OrderFault, PriceFault, TicksFault}
 
 -- ## The ranks of faults
 
@@ -302,7 +303,7 @@ module _ (ms : Members) where
   abbrev States : List ℕ → Type 0
   States ns = Known ms × StatesNumbers ms ns
 
-  to_fault : (f : ProfileFileFault) → KeyFault f → HasProfileFault ms f
+  to_fault : (f : ProfileFileFault) → KeyFault f → HasPriceFault ms f
   to_fault f (inl e) = inl e
   to_fault f (inr h) = inr (inl h)
 
@@ -320,12 +321,12 @@ module _ (ms : Members) where
     same : (other : List ℕ) → StatesNumbers ms other → other ≡ ns
     same other s = h.0.only other (h.0.stated.0, s)
 
-    only_order : (f : ProfileFileFault) → HasProfileFault ms f → OrderFault ms f
+    only_order : (f : ProfileFileFault) → HasPriceFault ms f → OrderFault ms f
     only_order f (inl e) = absurd (h.1 f (inl e))
     only_order f (inr (inl p)) = absurd (h.1 f (inr p))
     only_order f (inr (inr o)) = o
 
-    profile_told : AreInRange ns → AreOrdered ns → Told profile_faults (StatesProfile ms) (HasProfileFault ms) (Ok ns)
+    profile_told : AreInRange ns → AreOrdered ns → Told profile_faults (StatesProfile ms) (HasPriceFault ms) (Ok ns)
     profile_told r o = (
       record {
         stated = record { known = h.0.stated.0; numbers_stated = h.0.stated.1; in_range = r; ordered = o };
@@ -337,7 +338,7 @@ module _ (ms : Members) where
       ],
     )
 
-    range_told : ¬ AreInRange ns → Told profile_faults (StatesProfile ms) (HasProfileFault ms) (Err OutOfRange)
+    range_told : ¬ AreInRange ns → Told profile_faults (StatesProfile ms) (HasPriceFault ms) (Err OutOfRange)
     range_told r = (
       λ other s. r (subst AreInRange (same other s.numbers_stated) s.in_range),
       record {
@@ -346,7 +347,7 @@ module _ (ms : Members) where
       },
     )
 
-    order_told : AreInRange ns → ¬ AreOrdered ns → Told profile_faults (StatesProfile ms) (HasProfileFault ms) (Err Disordered)
+    order_told : AreInRange ns → ¬ AreOrdered ns → Told profile_faults (StatesProfile ms) (HasPriceFault ms) (Err Disordered)
     order_told r o = (
       λ other s. o (subst AreOrdered (same other s.numbers_stated) s.ordered),
       record {
@@ -358,7 +359,7 @@ module _ (ms : Members) where
       },
     )
 
-  read_told : (reading answer : Read (List ℕ)) → Told profile_faults States KeyFault reading → IsPriced reading answer → Told profile_faults (StatesProfile ms) (HasProfileFault ms) answer
+  read_told : (reading answer : Read (List ℕ)) → Told profile_faults States KeyFault reading → IsPriced reading answer → Told profile_faults (StatesProfile ms) (HasPriceFault ms) answer
   read_told (Ok ns) answer h p = elim (range_tells ns) [
     | inl r ↦ elim (order_tells ns) [
       | inl o ↦ rw (p.0 r o) (profile_told ns h r o)
@@ -372,16 +373,10 @@ module _ (ms : Members) where
         record { has = to_fault g h.1.has; least = λ f x. above f x },
       )
     where
-      above : (f : ProfileFileFault) → HasProfileFault ms f → number_of g ≤ number_of f
+      above : (f : ProfileFileFault) → HasPriceFault ms f → number_of g ≤ number_of f
       above f (inl e) = h.1.least f (inl e)
       above f (inr (inl y)) = h.1.least f (inr y)
       above f (inr (inr o)) = let low = key_low g h.1.has in let high = order_high f o in omega (arith, low, high)
 
-  pub profile_judged : (answer : Read (List ℕ)) → IsPriced (numbers_in ms) answer → Judges profile_faults (StatesProfile ms) (HasProfileFault ms) answer
+  pub profile_judged : (answer : Read (List ℕ)) → IsPriced (numbers_in ms) answer → Judges profile_faults (StatesProfile ms) (HasPriceFault ms) answer
   profile_judged answer p = record { told = read_told (numbers_in ms) answer (numbers_judged ms).told p }
-
-pub profile_stated : (ms : Members) (answer : Read (List ℕ)) → IsPriced (numbers_in ms) answer → (numbers : List ℕ) → answer ≡ Ok numbers ↔ StatesProfile ms numbers
-profile_stated ms answer p = judged_value profile_faults (StatesProfile ms) (HasProfileFault ms) answer (profile_judged ms answer p)
-
-pub profile_fault : (ms : Members) (answer : Read (List ℕ)) → IsPriced (numbers_in ms) answer → (fault : ProfileFileFault) → answer ≡ Err fault ↔ IsLowest profile_faults (HasProfileFault ms) fault
-profile_fault ms answer p = judged_fault profile_faults (StatesProfile ms) (HasProfileFault ms) one_rank answer (profile_judged ms answer p)

@@ -1,48 +1,23 @@
--- What a cycle profile file states and which faults it has, told of its keys one by one. Source: our own
--- format of cycle profile files, over the documents of TOML.
-use Rattle.std.specs.Prelude.{◌≡◌, ◌≢◌, ◌⊎◌, ◌-◌, ◌^◌, ℕ, true, false, List, [], ◌∷◌, length, codes, Any}
-use Rattle.std.specs.Prelude.{MatchOption}
-use Rattle.toml.specs.Data.{Data, Members}
+-- What a cycle profile file states, told of its keys one by one, and which faults it has. Source: our own format of cycle
+-- profile files, over the documents of TOML.
+use Rattle.std.specs.Prelude.{◌≡◌, ◌≢◌, ◌⊎◌, ◌-◌, ◌^◌, ⊤, ℕ, true, false, List, [], ◌∷◌, length, codes, Any, None, IsSomeAnd, MatchOption}
+use Rattle.toml.specs.Data.{Data, Members, as_integer, get_member}
 use Rattle.bus_ticks.specs.Ranges.{AreInRange, AreOrdered}
 use Rattle.toml_reading.specs.Documents.{has_only_keys, items_at}
-use Rattle.toml_reading.specs.Lowest.{AtKey, AtKeyOr, IsListOf, IsNumber, NumberFault}
-use Rattle.machine_file.specs.ProfileFaults.{profile_faults}
+use Rattle.toml_reading.specs.Lowest.{AtKey, IsListOf, IsNumber, IsOutside}
 use Rattle.machine_file.specs.ProfileFile.{profile_keys}
 use Rattle.machine_file.specs.declared.profile_faults.ProfileFileFault.{ProfileFileFault}
-use Rattle.machine_file.specs.declared.profile_faults.ProfileFileFault.TheVariants.{UnknownKey, WrongKind}
-use Rattle.machine_file.specs.declared.profile_faults.ProfileFileFault.TheVariants.{OutOfRange, Disordered}
+use Rattle.machine_file.specs.declared.profile_faults.ProfileFileFault.TheVariants.{UnknownKey, WrongKind, OutOfRange, Disordered}
 
--- ## Prices
+-- ## What the file states
 
 -- a number of 32 bits
 abbrev pub IsTicks : Data → ℕ → Type 0
 IsTicks d n = IsNumber (2 ^ 32 - 1) d n
 
-abbrev pub TicksFault : Data → ProfileFileFault → Type 0
-TicksFault d fault = NumberFault profile_faults (2 ^ 32 - 1) d fault
-
--- the faults of a list of four such numbers
-abbrev pub FourFault : Data → ProfileFileFault → Type 0
-FourFault d fault =
-    MatchOption (items_at d) (fault ≡ WrongKind)
-    (λ ds. ((length ds ≢ 4) × (fault ≡ WrongKind)) ⊎ Any (λ e. TicksFault e fault) ds)
-
--- the keys that take one number, and those that take a list of four
-abbrev pub number_keys : List (List ℕ)
-number_keys =
-    codes "n" ∷ codes "s" ∷ codes "quad" ∷ codes "control" ∷ codes "unfitted" ∷ codes "internal"
-    ∷ codes "burst" ∷ []
-
-abbrev pub list_keys : List (List ℕ)
-list_keys = codes "rom" ∷ codes "io" ∷ []
-
--- ## What the file states
-
 -- the fifteen numbers that stand at the nine keys, all of which are required
 abbrev pub StatesNumbers : Members → List ℕ → Type 0
-StatesNumbers ms
-    (n ∷ s ∷ quad ∷ rom_0 ∷ rom_1 ∷ rom_2 ∷ rom_3 ∷ slow ∷ medium ∷ fast ∷ synchronous ∷ control ∷ unfitted
-    ∷ internal ∷ burst ∷ []) =
+StatesNumbers ms (n ∷ s ∷ quad ∷ rom_0 ∷ rom_1 ∷ rom_2 ∷ rom_3 ∷ slow ∷ medium ∷ fast ∷ synchronous ∷ control ∷ unfitted ∷ internal ∷ burst ∷ []) =
     AtKey (codes "n") ms (λ d. IsTicks d n)
     × AtKey (codes "s") ms (λ d. IsTicks d s)
     × AtKey (codes "quad") ms (λ d. IsTicks d quad)
@@ -61,22 +36,51 @@ pub record StatesProfile (ms : Members) (numbers : List ℕ) : Type 0 where
   pub in_range : AreInRange numbers
   pub ordered : AreOrdered numbers
 
--- ## Its faults
+-- ## A missing key, or a value of the wrong kind
 
--- a key that is missing or takes another value
-abbrev pub PriceFault : Members → ProfileFileFault → Type 0
-PriceFault ms fault =
-    Any (λ key. AtKeyOr key ms (fault ≡ WrongKind) (λ d. TicksFault d fault)) number_keys
-    ⊎ Any (λ key. AtKeyOr key ms (fault ≡ WrongKind) (λ d. FourFault d fault)) list_keys
+-- the keys that take one number, and those that take a list of four
+abbrev pub number_keys : List (List ℕ)
+number_keys = codes "n" ∷ codes "s" ∷ codes "quad" ∷ codes "control" ∷ codes "unfitted" ∷ codes "internal" ∷ codes "burst" ∷ []
 
--- fifteen numbers that are no profile
-abbrev pub OrderFault : Members → ProfileFileFault → Type 0
-OrderFault ms fault =
-    (numbers : List ℕ)
-    × StatesNumbers ms numbers
-    × (((¬ AreInRange numbers) × (fault ≡ OutOfRange)) ⊎ ((¬ AreOrdered numbers) × (fault ≡ Disordered)))
+abbrev pub list_keys : List (List ℕ)
+list_keys = codes "rom" ∷ codes "io" ∷ []
+
+abbrev pub LacksKey : Members → List (List ℕ) → Type 0
+LacksKey ms keys = Any (λ key. get_member key ms ≡ None) keys
+
+abbrev pub IsNoNumber : Data → Type 0
+IsNoNumber d = as_integer d ≡ None
+
+-- no list, or one of another length or with a value that is no number
+abbrev pub AreNotFour : Data → Type 0
+AreNotFour d = MatchOption (items_at d) ⊤ (λ ds. (length ds ≢ 4) ⊎ Any IsNoNumber ds)
+
+abbrev pub HasWrongKind : Members → Type 0
+HasWrongKind ms =
+    (LacksKey ms number_keys ⊎ LacksKey ms list_keys)
+    ⊎ Any (λ key. AtKey key ms IsNoNumber) number_keys
+    ⊎ Any (λ key. AtKey key ms AreNotFour) list_keys
+
+-- ## Numbers out of range or out of order
+
+-- a number that has not 32 bits
+abbrev pub IsOtherNumber : Data → Type 0
+IsOtherNumber d = IsSomeAnd (as_integer d) (IsOutside (2 ^ 32 - 1))
+
+abbrev pub HasOtherNumber : Members → Type 0
+HasOtherNumber ms =
+    Any (λ key. AtKey key ms IsOtherNumber) number_keys
+    ⊎ Any (λ key. AtKey key ms (λ d. IsSomeAnd (items_at d) (Any IsOtherNumber))) list_keys
+
+-- fifteen numbers of which something does not hold
+abbrev pub StatesOthers : Members → (List ℕ → Type 0) → Type 0
+StatesOthers ms Holds = (numbers : List ℕ) × StatesNumbers ms numbers × (¬ Holds numbers)
+
+-- ## The faults
 
 abbrev pub HasProfileFault : Members → ProfileFileFault → Type 0
 HasProfileFault ms fault =
-    ((has_only_keys profile_keys ms ≡ false) × (fault ≡ UnknownKey)) ⊎ PriceFault ms fault
-    ⊎ OrderFault ms fault
+    ((has_only_keys profile_keys ms ≡ false) × (fault ≡ UnknownKey))
+    ⊎ (HasWrongKind ms × (fault ≡ WrongKind))
+    ⊎ ((HasOtherNumber ms ⊎ StatesOthers ms AreInRange) × (fault ≡ OutOfRange))
+    ⊎ (StatesOthers ms AreOrdered × (fault ≡ Disordered))

@@ -1,4 +1,4 @@
-use Rattle.machine_file.proofs.ProfileRuleLemmas.{profile_fault, profile_stated}
+use Rattle.machine_file.proofs.PriceTableLemmas.{profile_fault, profile_stated}
 use Rattle.machine_file.proofs.law.profiles_are_read.Goals as goal
 
 pub returns-clause-profile : goal.returns-clause-profile
