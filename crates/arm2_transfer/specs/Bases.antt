@@ -103,8 +103,8 @@ IsBaseWord x port regs bus value =
     (spot : Spot) × IsWordSpot x regs bus (position_or_len (is_base x regs) (registers_in x.list)) spot
     × (value ≡ seen bus port spot)
 
--- What a store gives for a register of its list: the base as it stood, where it is the lowest of the list or is
--- not written back; the moved base, where it comes later and is; and any other register as it stands.
+-- What a store gives for a register of its list: the base as it stood, where it is the lowest of the list or
+-- is not written back; the moved base, where it comes later and is; and any other register as it stands.
 pub record Gives (x : Block) (regs : List ℕ) (first : Bool) (register : Register) (word : ℕ) : Type 0 where
   pub lowest_base : is_base x regs register ≡ true → first ≡ true → word ≡ base_at x.rn regs
   pub later_base : is_base x regs register ≡ true → first ≡ false → x.write_back ≡ true

@@ -1,5 +1,5 @@
--- What the words of a transfer do to memory and to the devices behind it (VL86C010 data sheet for bytes and for the
--- rotation of a load; our own profile for what devices take and give, and for the port).
+-- What the words of a transfer do to memory and to the devices behind it (VL86C010 data sheet for bytes and
+-- for the rotation of a load; our own profile for what devices take and give, and for the port).
 use Rattle.std.specs.Prelude.{ℕ, ◌*◌, ◌%◌, ◌^◌, Bool, if◌then◌else◌, slice_index, slice_set}
 use Rattle.std.specs.Int.{w32, to_le_bytes, from_le_bytes, rotate_right}
 use Rattle.memc.specs.declared.spots.Spot.{Spot}
@@ -41,10 +41,12 @@ with_byte lane byte word = from_le_bytes w32 (slice_set (to_le_bytes w32 word) l
 
 -- the bus once a byte was stored: RAM keeps the other bytes of the word, a device sees the byte in all lanes
 abbrev pub put_byte : Spot → (address byte : ℕ) → Bus → Bus
-put_byte (Ram place) address byte bus = put (Ram place) (with_byte (address % 4) byte (word_at bus.memc (Ram place))) bus
+put_byte (Ram place) address byte bus =
+    put (Ram place) (with_byte (address % 4) byte (word_at bus.memc (Ram place))) bus
 put_byte spot address byte bus = put spot (in_all_lanes byte) bus
 
--- what a load makes of the word that it sees: the byte in the addressed lane, or the word turned right until that byte is lowest
+-- what a load makes of the word that it sees: the byte in the addressed lane, or the word turned right until
+-- that byte is lowest
 abbrev pub byte_in : (lane : ℕ) → ℕ → ℕ
 byte_in lane word = slice_index (to_le_bytes w32 word) lane
 
@@ -56,4 +58,5 @@ made_of byte address word = if byte then byte_in (address % 4) word else turned 
 
 -- what a single store puts on the bus: a byte is the lowest of the register
 abbrev pub put_single : (byte : Bool) → Spot → (address value : ℕ) → Bus → Bus
-put_single byte spot address value bus = if byte then put_byte spot address (value % 2 ^ 8) bus else put spot value bus
+put_single byte spot address value bus =
+    if byte then put_byte spot address (value % 2 ^ 8) bus else put spot value bus
