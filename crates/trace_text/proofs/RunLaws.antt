@@ -1,7 +1,7 @@
 -- A run and its text, step after step.
-use Rattle.std.proofs.Common.{◌≡◌, ◌∙◌, ℕ, ◌+◌, ◌*◌, true, List, [], ◌∷◌, ◌++◌, Option, Some, None, refl, sym, ap, append_assoc, arith, inl, inr, subst}
+use Rattle.std.proofs.Common.{◌≡◌, ◌∙◌, ℕ, ◌+◌, ◌*◌, true, List, [], ◌∷◌, ◌++◌, Option, Some, None, Result, Ok, Err, OnErr, refl, sym, ap, append_assoc, arith, drop, inl, inr, subst, take}
 use Rattle.std.proofs.lemmas.Bool.{false≢true, cases_Bool, cond-true, cond-false}
-use Rattle.std.proofs.lemmas.List.{append-nil}
+use Rattle.std.proofs.lemmas.List.{append-nil, take-append-drop}
 use Rattle.arm2_effect.specs.declared.done.Kind.{Kind}
 use Rattle.arm2_effect.specs.declared.done.Kind.TheVariants.{Plain, Taken, Stopped}
 use Rattle.arm2_effect.specs.declared.done.Why.{Why}
@@ -13,7 +13,7 @@ use Rattle.arm2_exec.specs.State.{State}
 use Rattle.arm2_exec.specs.Step.{Step, answer_of, state_after}
 use Rattle.arm2_exec.specs.Run.{Ends, Runs, at_rest, counted, why_stopped}
 use Rattle.trace_text.specs.declared.trace.Traced.{Traced}
-use Rattle.trace_text.specs.TraceText.{Adds, Goes, IsTraceLine, TracesRun, traced_word}
+use Rattle.trace_text.specs.TraceText.{Adds, Goes, IsTraceLine, RefusedRun, TracesRun, traced_word}
 
 -- ---- a step
 
@@ -112,11 +112,81 @@ module _ (start : State) (inputs : List Input) (now next : State) (left rest : L
       let elapsed : ran.elapsed + (traced.told.ticks + now.profile.burst * i.bursts + more.elapsed) ≡ ran.elapsed + (traced.told.ticks + now.profile.burst * i.bursts) + more.elapsed = omega arith in
       subst (λ (r : Ran). Runs start inputs r after) (λ k. record { steps = steps k; ticks = ticks k; elapsed = elapsed k; stopped = more.stopped }) all
 
+  pub told_goes : (text line : List ℕ) → traced.word ≡ traced_word now i → ((w : Why) → traced.told.kind ≡ Stopped w → ⊥)
+      → ToldSoFar start inputs now left text → IsTraceLine traced line → ToldSoFar start inputs next rest (text ++ line)
+  told_goes text line word not_stopped so_far is = λ more told.
+      let ends = goes_none traced.told.kind (line ++ more) (TextOn traced next rest (line ++ more)) not_stopped (line, is, more, told, refl) in
+      let whole = so_far (line ++ more) (subst (λ (is : List Input). TracesRun now is (line ++ more)) (sym at_hand) (traced, next, step, word, ends)) in
+      subst (TracesRun start inputs) (sym (append_assoc text line more)) whole
+
   pub text_goes : (old mid new : List ℕ) → traced.word ≡ traced_word now i → ((w : Why) → traced.told.kind ≡ Stopped w → ⊥) → Adds (ToldSoFar start inputs now left) old mid → Adds (IsTraceLine traced) mid new
       → Adds (ToldSoFar start inputs next rest) old new
-  text_goes old mid new word not_stopped adds line =
-      let told_on : (more : List ℕ) → TracesRun next rest more → TracesRun start inputs ((adds.0 ++ line.0) ++ more) = λ more told.
-      let ends = goes_none traced.told.kind (line.0 ++ more) (TextOn traced next rest (line.0 ++ more)) not_stopped (line.0, line.1, more, told, refl) in
-      let whole = adds.1 (line.0 ++ more) (subst (λ (is : List Input). TracesRun now is (line.0 ++ more)) (sym at_hand) (traced, next, step, word, ends)) in
-      subst (TracesRun start inputs) (sym (append_assoc adds.0 line.0 more)) whole in
-      (adds.0 ++ line.0, told_on, line.2 ∙ ap (λ (t : List ℕ). t ++ line.0) adds.2 ∙ append_assoc old adds.0 line.0)
+  text_goes old mid new word not_stopped adds line = (
+    adds.0 ++ line.0,
+    told_goes adds.0 line.0 word not_stopped adds.1 line.1,
+    line.2 ∙ ap (λ (t : List ℕ). t ++ line.0) adds.2 ∙ append_assoc old adds.0 line.0,
+  )
+
+-- ---- a front of the inputs, whatever would follow it
+
+abbrev pub FrontRuns : State → List Input → (n : ℕ) → Ran → State → Type 0
+FrontRuns start inputs n ran now = (tail : List Input) → RunSoFar start (take n inputs ++ tail) ran now tail
+
+abbrev pub FrontTold : State → List Input → (n : ℕ) → State → List ℕ → Type 0
+FrontTold start inputs n now text = (tail : List Input) → ToldSoFar start (take n inputs ++ tail) now tail text
+
+module _ (start : State) (inputs : List Input) (n : ℕ) (now next : State) (i : Input) (traced : Traced)
+    (here : take (n + 1) inputs ≡ take n inputs ++ i ∷ []) (step : Step now i traced.told next)
+    (not_stopped : (w : Why) → traced.told.kind ≡ Stopped w → ⊥) where
+  longer : (tail : List Input) → take n inputs ++ i ∷ tail ≡ take (n + 1) inputs ++ tail
+  longer tail = sym (append_assoc (take n inputs) (i ∷ []) tail) ∙ ap (λ (front : List Input). front ++ tail) (sym here)
+
+  abbrev one_more : Ran → Ran
+  one_more ran = record {
+    steps = ran.steps + 1;
+    ticks = ran.ticks + traced.told.ticks;
+    elapsed = ran.elapsed + (traced.told.ticks + now.profile.burst * i.bursts);
+    stopped = ran.stopped;
+  }
+
+  pub front_runs : (ran : Ran) → FrontRuns start inputs n ran now → FrontRuns start inputs (n + 1) (one_more ran) next
+  front_runs ran so_far = λ tail.
+      subst (λ (all : List Input). RunSoFar start all (one_more ran) next tail) (longer tail)
+      (run_goes start (take n inputs ++ i ∷ tail) now next (i ∷ tail) tail i traced refl step ran (so_far (i ∷ tail)) not_stopped)
+
+  pub front_told : (old mid new : List ℕ) → traced.word ≡ traced_word now i → Adds (FrontTold start inputs n now) old mid
+      → Adds (IsTraceLine traced) mid new → Adds (FrontTold start inputs (n + 1) next) old new
+  front_told old mid new word adds line =
+      let told : FrontTold start inputs (n + 1) next (adds.0 ++ line.0) = λ tail.
+      subst (λ (all : List Input). ToldSoFar start all next tail (adds.0 ++ line.0)) (longer tail)
+      (told_goes start (take n inputs ++ i ∷ tail) now next (i ∷ tail) tail i traced refl step adds.0 line.0 word not_stopped (adds.1 (i ∷ tail)) line.1) in
+      (adds.0 ++ line.0, told, line.2 ∙ ap (λ (t : List ℕ). t ++ line.0) adds.2 ∙ append_assoc old adds.0 line.0)
+
+  -- the line was refused
+  pub run_refused : (rest : List Input) (ran : Ran) (old mid new : List ℕ) → drop n inputs ≡ i ∷ rest → FrontRuns start inputs n ran now
+      → Adds (FrontTold start inputs n now) old mid → new ≡ mid → RefusedRun start inputs next old new
+  run_refused rest ran old mid new left runs told kept = record {
+    done = take n inputs;
+    input = i;
+    rest = rest;
+    are = sym (take-append-drop n inputs) ∙ ap (λ (behind : List Input). take n inputs ++ behind) left;
+    ran = record { steps = ran.steps; ticks = ran.ticks; elapsed = ran.elapsed; stopped = None };
+    between = now;
+    runs =
+        subst (λ (all : List Input). Runs start all (record { steps = ran.steps; ticks = ran.ticks; elapsed = ran.elapsed; stopped = None }) now) (append-nil (take n inputs))
+        (run_whole start (take n inputs ++ []) ran now now [] None (runs []) (refl, refl));
+    goes_on = refl;
+    told = traced.told;
+    step = step;
+    not_stopped = goes traced.told.kind not_stopped;
+    text = (
+      told.0,
+      subst (λ (all : List Input). TracesRun start all told.0) (append-nil (take n inputs))
+          (subst (TracesRun start (take n inputs ++ [])) (append-nil told.0) (told.1 [] [] refl)),
+      kept ∙ told.2,
+    );
+  }
+
+pub on_err : {T E : Type 0} (r : Result T E) (P : Type 0) → P → OnErr r P
+on_err (Ok x) P p = tt
+on_err (Err e) P p = p

@@ -10,7 +10,9 @@ use Rattle.arm2_effect.specs.declared.modes.Mode.{Mode}
 use Rattle.arm2_effect.specs.Modes.{r15_in, register_in}
 use Rattle.arm2_effect.specs.ProgramCounter.{mode_of}
 use Rattle.arm2_exec.specs.declared.machine.Input.{Input}
-use Rattle.arm2_exec.specs.Run.{why_stopped}
+use Rattle.arm2_exec.specs.declared.machine.Ran.{Ran}
+use Rattle.arm2_exec.specs.declared.machine.Stepped.{Stepped}
+use Rattle.arm2_exec.specs.Run.{Runs, why_stopped}
 use Rattle.arm2_exec.specs.State.{State}
 use Rattle.arm2_exec.specs.Step.{Step, fetched, interrupt_due, with_lines}
 use Rattle.assembler.specs.ShownLines.{IsShown, hex}
@@ -111,3 +113,19 @@ TracesRun s [] text = text ≡ []
 TracesRun s (i ∷ rest) text =
     (traced : Traced) × (next : State) × Step s i traced.told next × (traced.word ≡ traced_word s i)
     × Goes (why_stopped traced.told.kind) text ((line : List ℕ) × IsTraceLine traced line × (more : List ℕ) × TracesRun next rest more × (text ≡ line ++ more))
+
+-- A run that ended because the line of a step was refused: the machine stands behind that step, which did not stop it, and
+-- the text has the lines of the steps before it.
+pub record RefusedRun (s : State) (inputs : List Input) (after : State) (old new : List ℕ) : Type 0 where
+  pub done : List Input
+  pub input : Input
+  pub rest : List Input
+  pub are : inputs ≡ done ++ input ∷ rest
+  pub ran : Ran
+  pub between : State
+  pub runs : Runs s done ran between
+  pub goes_on : ran.stopped ≡ None
+  pub told : Stepped
+  pub step : Step between input told after
+  pub not_stopped : why_stopped told.kind ≡ None
+  pub text : Adds (TracesRun s done) old new

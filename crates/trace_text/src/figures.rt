@@ -1,4 +1,4 @@
-ghost use Rattle.std.specs.Prelude.{◌≡◌, ◌++◌, OnOk, string_bytes};
+ghost use Rattle.std.specs.Prelude.{◌≡◌, ◌++◌, MatchResult, string_bytes};
 ghost use Rattle.trace_text.specs.TraceText.{stop_text, ticks_text, why_name};
 
 use arm2_exec::Why;
@@ -7,11 +7,12 @@ use std::fmt::{self, Display, Formatter, Write};
 
 /// Adds a line of processor ticks, and of the ticks that passed with those of bursts, in decimal.
 ///
-/// An error says that a growth was refused; a part of the text may then stand.
+/// An error says that a growth was refused; the text is then as it was.
 pub fn write_ticks(out: &mut String, ticks: u128, elapsed: u128) -> Result<(), AllocError>
-    ensures { OnOk result (string_bytes out.new ≡ string_bytes out.old ++ ticks_text ticks elapsed) }
+    ensures { MatchResult result (λ _. string_bytes out.new ≡ string_bytes out.old ++ ticks_text ticks elapsed) (λ _. string_bytes out.new ≡ string_bytes out.old) }
 {
-    write!(out, "ticks {ticks} elapsed {elapsed}\n")
+    let line = format!(in *out.allocator(); "ticks {ticks} elapsed {elapsed}\n")?;
+    out.push_str(line.as_str())
 }
 
 fn name_of(why: Why) -> &'static str
@@ -25,12 +26,13 @@ fn name_of(why: Why) -> &'static str
 
 /// Adds a line that says why a machine stopped and at which address, in hexadecimal.
 ///
-/// An error says that a growth was refused; a part of the text may then stand.
+/// An error says that a growth was refused; the text is then as it was.
 pub fn write_stop(out: &mut String, why: Why, address: u32) -> Result<(), AllocError>
-    ensures { OnOk result (string_bytes out.new ≡ string_bytes out.old ++ stop_text why address) }
+    ensures { MatchResult result (λ _. string_bytes out.new ≡ string_bytes out.old ++ stop_text why address) (λ _. string_bytes out.new ≡ string_bytes out.old) }
 {
     let name = name_of(why);
-    write!(out, "stopped {name} at {address:X}\n")
+    let line = format!(in *out.allocator(); "stopped {name} at {address:X}\n")?;
+    out.push_str(line.as_str())
 }
 
 /// A word, shown in eight upper-case hexadecimal digits.

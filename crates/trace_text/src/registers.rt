@@ -1,4 +1,4 @@
-ghost use Rattle.std.specs.Prelude.{◌≡◌, ◌++◌, ◌+◌, ◌<◌, OnOk, string_bytes};
+ghost use Rattle.std.specs.Prelude.{◌≡◌, ◌++◌, ◌+◌, ◌<◌, MatchResult, OnOk, string_bytes};
 ghost use Rattle.arm2_effect.specs.Modes.{reg_number, slot_of};
 ghost use Rattle.arm2_effect.specs.declared.modes.Mode.TheVariants.{Fiq, Irq, Svc, User};
 ghost use Rattle.trace_text.specs.TraceText.{four_text, register_text, registers_text};
@@ -110,11 +110,7 @@ fn put_four(out: &mut String, machine: &Machine, mode: Mode, first: u32) -> Resu
     put_register(out, machine, mode, first + 3, "\n")
 }
 
-/// Adds the sixteen registers of the mode in R15, four in a line, each with its word in eight hexadecimal digits. R15
-/// comes with its flags and mode.
-///
-/// An error says that a growth was refused; a part of the text may then stand.
-pub fn write_registers(out: &mut String, machine: &Machine) -> Result<(), AllocError>
+fn put_registers(out: &mut String, machine: &Machine) -> Result<(), AllocError>
     ensures { OnOk result (string_bytes out.new ≡ string_bytes out.old ++ registers_text machine.now.regs) }
 {
     let mode = mode_of(machine.get(Reg::R15));
@@ -122,4 +118,16 @@ pub fn write_registers(out: &mut String, machine: &Machine) -> Result<(), AllocE
     put_four(out, machine, mode, 4)?;
     put_four(out, machine, mode, 8)?;
     put_four(out, machine, mode, 12)
+}
+
+/// Adds the sixteen registers of the mode in R15, four in a line, each with its word in eight hexadecimal digits. R15
+/// comes with its flags and mode.
+///
+/// An error says that a growth was refused; the text is then as it was.
+pub fn write_registers(out: &mut String, machine: &Machine) -> Result<(), AllocError>
+    ensures { MatchResult result (λ _. string_bytes out.new ≡ string_bytes out.old ++ registers_text machine.now.regs) (λ _. string_bytes out.new ≡ string_bytes out.old) }
+{
+    let mut text = String::new(*out.allocator());
+    put_registers(&mut text, machine)?;
+    out.push_str(text.as_str())
 }

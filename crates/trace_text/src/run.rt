@@ -1,6 +1,6 @@
-ghost use Rattle.std.specs.Prelude.{◌≡◌, ◌<◌, ◌*◌, ◌^◌, IfOk, OnOk, string_bytes};
+ghost use Rattle.std.specs.Prelude.{◌≡◌, ◌<◌, ◌*◌, ◌^◌, IfOk, OnErr, OnOk, string_bytes};
 ghost use Rattle.arm2_exec.specs.Run.{Runs};
-ghost use Rattle.trace_text.specs.TraceText.{Adds, TracesRun};
+ghost use Rattle.trace_text.specs.TraceText.{Adds, RefusedRun, TracesRun};
 
 use crate::trace::{step_traced, write_trace};
 use arm2_exec::{Input, Kind, Machine, Ran};
@@ -17,7 +17,8 @@ fn stretched(profile: Profile, bursts: u16) -> u32
 
 /// Steps a machine, once for each input up to the first step that is stopped, and adds the lines of the steps before it.
 ///
-/// An error says that a growth was refused; the machine has then made some of the steps, and a part of the text may stand.
+/// An error says that a growth was refused. The machine has then made the steps up to the one whose line was refused,
+/// and the text has the lines of the steps before that one.
 pub fn write_run(
     out: &mut String,
     machine: &mut Machine,
@@ -25,6 +26,7 @@ pub fn write_run(
 ) -> Result<Ran, AllocError>
     ensures runs { IfOk result (λ ran. Runs machine.old inputs.now ran machine.new) }
     ensures text { OnOk result (Adds (TracesRun machine.old inputs.now) (string_bytes out.old) (string_bytes out.new)) }
+    ensures refused { OnErr result (RefusedRun machine.old inputs.now machine.new (string_bytes out.old) (string_bytes out.new)) }
 {
     let mut ran = Ran {
         steps: 0,

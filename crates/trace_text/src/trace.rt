@@ -1,4 +1,4 @@
-ghost use Rattle.std.specs.Prelude.{◌≡◌, ◌++◌, ◌<◌, ◌^◌, OnOk, is_some, string_bytes};
+ghost use Rattle.std.specs.Prelude.{◌≡◌, ◌++◌, ◌<◌, ◌^◌, MatchResult, OnOk, is_some, string_bytes};
 ghost use Rattle.arm2_effect.specs.Modes.{r15_in};
 ghost use Rattle.arm2_exec.specs.Step.{Step, fetched, interrupt_due, with_lines};
 ghost use Rattle.assembler.specs.ShownLines.{IsShown};
@@ -116,11 +116,7 @@ fn put_word_line(out: &mut String, word: Option<u32>, at: u32) -> Result<(), All
     }
 }
 
-/// Adds the line of a step: its address, its word, its ticks, and the name of the exception that it took or the word's
-/// line. Of a step that stopped the machine it adds nothing.
-///
-/// An error says that a growth was refused; a part of the text may then stand.
-pub fn write_trace(out: &mut String, traced: &Traced) -> Result<(), AllocError>
+fn put_trace(out: &mut String, traced: &Traced) -> Result<(), AllocError>
     ensures { OnOk result (Adds (IsTraceLine traced.now) (string_bytes out.old) (string_bytes out.new)) }
 {
     match traced.told.kind {
@@ -136,4 +132,16 @@ pub fn write_trace(out: &mut String, traced: &Traced) -> Result<(), AllocError>
             out.push_str("\n")
         }
     }
+}
+
+/// Adds the line of a step: its address, its word, its ticks, and the name of the exception that it took or the word's
+/// line. Of a step that stopped the machine it adds nothing.
+///
+/// An error says that a growth was refused; the text is then as it was.
+pub fn write_trace(out: &mut String, traced: &Traced) -> Result<(), AllocError>
+    ensures { MatchResult result (λ _. Adds (IsTraceLine traced.now) (string_bytes out.old) (string_bytes out.new)) (λ _. string_bytes out.new ≡ string_bytes out.old) }
+{
+    let mut line = String::new(*out.allocator());
+    put_trace(&mut line, traced)?;
+    out.push_str(line.as_str())
 }

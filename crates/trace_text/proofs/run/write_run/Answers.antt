@@ -1,11 +1,11 @@
 use Rattle.std.proofs.Common.{◌≡◌, ◌∙◌, ◌+◌, ◌*◌, ap, rules, arith, drop, string_bytes}
 use Rattle.std.specs.Prelude.{slice_index_or}
-use Rattle.std.proofs.lemmas.List.{drop_more}
+use Rattle.std.proofs.lemmas.List.{drop_more, take_more}
 use Rattle.std.proofs.Math.ListN.{drop_of_length-le}
 use Rattle.bus_ticks.specs.declared.profile.Profile.{Profile}
 use Rattle.arm2_exec.specs.declared.machine.Input.{Input}
 use Rattle.trace_text.specs.TraceText.{Adds, IsTraceLine}
-use Rattle.trace_text.proofs.RunLaws.{run_ends, run_goes, run_stops, text_ends, text_goes, text_stops}
+use Rattle.trace_text.proofs.RunLaws.{front_runs, front_told, on_err, run_ends, run_refused, run_goes, run_stops, text_ends, text_goes, text_stops}
 use Rattle.trace_text.proofs.run.write_run.Goals as goal
 
 pub returns-in-Stopped-clause-runs : goal.returns-in-Stopped-clause-runs
@@ -49,7 +49,19 @@ loop-input-preserved c =
     let long = c.loop-input.invariant.3 in
     let spent = c.loop-input.invariant.4 in
     let passed = c.loop-input.invariant.5 in
-    (rw (same, stretched) runs, told, c.loop-input.invariant.2, omega (arith, long), omega (arith, spent, same, bound), omega (arith, passed, same, bound, again, stretch))
+    let here = take_more inputs index _ c.loop-input-test.true in
+    let front = front_runs start inputs index now next input traced.result here traced.ensures.step c.in_default.not-Stopped c.loop-input.ran c.loop-input.invariant.6 in
+    let front_text = front_told start inputs index now next input traced.result here traced.ensures.step c.in_default.not-Stopped
+    (string_bytes c.args.out.now) (string_bytes c.loop-input.out) (string_bytes c.write_trace.new.out) traced.ensures.word c.loop-input.invariant.7 line in (
+      rw (same, stretched) runs,
+      told,
+      c.loop-input.invariant.2,
+      omega (arith, long),
+      omega (arith, spent, same, bound),
+      omega (arith, passed, same, bound, again, stretch),
+      rw (same, stretched) front,
+      front_text,
+    )
 
 pub returns-clause-runs : goal.returns-clause-runs
 returns-clause-runs c =
@@ -60,3 +72,15 @@ pub returns-clause-text : goal.returns-clause-text
 returns-clause-text c =
     let left = drop c.loop-input.input-index c.args.inputs.now in
     text_ends c.args.machine.now c.args.inputs.now c.loop-input.machine left (string_bytes c.args.out.now) (string_bytes c.loop-input.out) c.loop-input.invariant.1 (drop_of_length-le c.args.inputs.now c.loop-input-test.false)
+
+pub returns-in_err-write_trace-clause-refused : goal.returns-in_err-write_trace-clause-refused
+returns-in_err-write_trace-clause-refused c =
+    let inputs = c.args.inputs.now in
+    let index = c.loop-input.input-index in
+    let input : Input = slice_index_or inputs index (record { bursts = 0; lines = record { 0 = 0 }; port = 0 }) in
+    let traced = c.step_traced-traced in
+    on_err c.from_residual.result _
+    (run_refused c.args.machine.now inputs index c.loop-input.machine traced.new.machine input traced.result
+    (take_more inputs index _ c.loop-input-test.true) traced.ensures.step c.in_default.not-Stopped (drop (index + 1) inputs) c.loop-input.ran
+    (string_bytes c.args.out.now) (string_bytes c.loop-input.out) (string_bytes c.write_trace.new.out)
+    (drop_more inputs index _ c.loop-input-test.true) c.loop-input.invariant.6 c.loop-input.invariant.7 c.in_err-write_trace.ensures)

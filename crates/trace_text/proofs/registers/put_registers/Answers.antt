@@ -3,7 +3,7 @@ use Rattle.arm2_effect.specs.ProgramCounter.{mode_of}
 use Rattle.arm2_effect.specs.Modes.{r15_in}
 use Rattle.trace_text.specs.TraceText.{four_text}
 use Rattle.trace_text.proofs.TextLaws.{four_done}
-use Rattle.trace_text.proofs.registers.write_registers.Goals as goal
+use Rattle.trace_text.proofs.registers.put_registers.Goals as goal
 
 pub returns : goal.returns
 returns c =
