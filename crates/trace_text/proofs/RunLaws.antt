@@ -112,12 +112,14 @@ module _ (start : State) (inputs : List Input) (now next : State) (left rest : L
       let elapsed : ran.elapsed + (traced.told.ticks + now.profile.burst * i.bursts + more.elapsed) ≡ ran.elapsed + (traced.told.ticks + now.profile.burst * i.bursts) + more.elapsed = omega arith in
       subst (λ (r : Ran). Runs start inputs r after) (λ k. record { steps = steps k; ticks = ticks k; elapsed = elapsed k; stopped = more.stopped }) all
 
-  pub told_goes : (text line : List ℕ) → traced.word ≡ traced_word now i → ((w : Why) → traced.told.kind ≡ Stopped w → ⊥)
-      → ToldSoFar start inputs now left text → IsTraceLine traced line → ToldSoFar start inputs next rest (text ++ line)
+  pub told_goes : (text line : List ℕ) → traced.word ≡ traced_word now i
+      → ((w : Why) → traced.told.kind ≡ Stopped w → ⊥) → ToldSoFar start inputs now left text
+      → IsTraceLine traced line → ToldSoFar start inputs next rest (text ++ line)
   told_goes text line word not_stopped so_far is = λ more told.
-      let ends = goes_none traced.told.kind (line ++ more) (TextOn traced next rest (line ++ more)) not_stopped (line, is, more, told, refl) in
-      let whole = so_far (line ++ more) (subst (λ (is : List Input). TracesRun now is (line ++ more)) (sym at_hand) (traced, next, step, word, ends)) in
-      subst (TracesRun start inputs) (sym (append_assoc text line more)) whole
+      let on = TextOn traced next rest (line ++ more) in
+      let ends = goes_none traced.told.kind (line ++ more) on not_stopped (line, is, more, told, refl) in
+      let here = subst (λ (is : List Input). TracesRun now is (line ++ more)) (sym at_hand) (traced, next, step, word, ends) in
+      subst (TracesRun start inputs) (sym (append_assoc text line more)) (so_far (line ++ more) here)
 
   pub text_goes : (old mid new : List ℕ) → traced.word ≡ traced_word now i → ((w : Why) → traced.told.kind ≡ Stopped w → ⊥) → Adds (ToldSoFar start inputs now left) old mid → Adds (IsTraceLine traced) mid new
       → Adds (ToldSoFar start inputs next rest) old new
@@ -133,13 +135,15 @@ abbrev pub FrontRuns : State → List Input → (n : ℕ) → Ran → State → 
 FrontRuns start inputs n ran now = (tail : List Input) → RunSoFar start (take n inputs ++ tail) ran now tail
 
 abbrev pub FrontTold : State → List Input → (n : ℕ) → State → List ℕ → Type 0
-FrontTold start inputs n now text = (tail : List Input) → ToldSoFar start (take n inputs ++ tail) now tail text
+FrontTold start inputs n now text =
+    (tail : List Input) → ToldSoFar start (take n inputs ++ tail) now tail text
 
 module _ (start : State) (inputs : List Input) (n : ℕ) (now next : State) (i : Input) (traced : Traced)
     (here : take (n + 1) inputs ≡ take n inputs ++ i ∷ []) (step : Step now i traced.told next)
     (not_stopped : (w : Why) → traced.told.kind ≡ Stopped w → ⊥) where
   longer : (tail : List Input) → take n inputs ++ i ∷ tail ≡ take (n + 1) inputs ++ tail
-  longer tail = sym (append_assoc (take n inputs) (i ∷ []) tail) ∙ ap (λ (front : List Input). front ++ tail) (sym here)
+  longer tail =
+      sym (append_assoc (take n inputs) (i ∷ []) tail) ∙ ap (λ (front : List Input). front ++ tail) (sym here)
 
   abbrev one_more : Ran → Ran
   one_more ran = record {
@@ -149,31 +153,41 @@ module _ (start : State) (inputs : List Input) (n : ℕ) (now next : State) (i :
     stopped = ran.stopped;
   }
 
-  pub front_runs : (ran : Ran) → FrontRuns start inputs n ran now → FrontRuns start inputs (n + 1) (one_more ran) next
+  pub front_runs : (ran : Ran) → FrontRuns start inputs n ran now
+      → FrontRuns start inputs (n + 1) (one_more ran) next
   front_runs ran so_far = λ tail.
-      subst (λ (all : List Input). RunSoFar start all (one_more ran) next tail) (longer tail)
-      (run_goes start (take n inputs ++ i ∷ tail) now next (i ∷ tail) tail i traced refl step ran (so_far (i ∷ tail)) not_stopped)
+      let all = take n inputs ++ i ∷ tail in
+      let goes = run_goes start all now next (i ∷ tail) tail i traced refl step ran (so_far (i ∷ tail)) not_stopped in
+      subst (λ (all : List Input). RunSoFar start all (one_more ran) next tail) (longer tail) goes
 
-  pub front_told : (old mid new : List ℕ) → traced.word ≡ traced_word now i → Adds (FrontTold start inputs n now) old mid
-      → Adds (IsTraceLine traced) mid new → Adds (FrontTold start inputs (n + 1) next) old new
+  pub front_told : (old mid new : List ℕ) → traced.word ≡ traced_word now i
+      → Adds (FrontTold start inputs n now) old mid → Adds (IsTraceLine traced) mid new
+      → Adds (FrontTold start inputs (n + 1) next) old new
   front_told old mid new word adds line =
-      let told : FrontTold start inputs (n + 1) next (adds.0 ++ line.0) = λ tail.
-      subst (λ (all : List Input). ToldSoFar start all next tail (adds.0 ++ line.0)) (longer tail)
-      (told_goes start (take n inputs ++ i ∷ tail) now next (i ∷ tail) tail i traced refl step adds.0 line.0 word not_stopped (adds.1 (i ∷ tail)) line.1) in
-      (adds.0 ++ line.0, told, line.2 ∙ ap (λ (t : List ℕ). t ++ line.0) adds.2 ∙ append_assoc old adds.0 line.0)
+      let text = adds.0 ++ line.0 in
+      let told : FrontTold start inputs (n + 1) next text = λ tail.
+      let all = take n inputs ++ i ∷ tail in
+      let law = told_goes start all now next (i ∷ tail) tail i traced refl step adds.0 line.0 word not_stopped in
+      subst (λ (all : List Input). ToldSoFar start all next tail text) (longer tail) (law (adds.1 (i ∷ tail)) line.1) in
+      let is = line.2 ∙ ap (λ (t : List ℕ). t ++ line.0) adds.2 ∙ append_assoc old adds.0 line.0 in
+      (text, told, is)
+
+  -- a run that nothing stopped
+  abbrev going : Ran → Ran
+  going ran = record { steps = ran.steps; ticks = ran.ticks; elapsed = ran.elapsed; stopped = None }
 
   -- the line was refused
-  pub run_refused : (rest : List Input) (ran : Ran) (old mid new : List ℕ) → drop n inputs ≡ i ∷ rest → FrontRuns start inputs n ran now
-      → Adds (FrontTold start inputs n now) old mid → new ≡ mid → RefusedRun start inputs next old new
+  pub run_refused : (rest : List Input) (ran : Ran) (old mid new : List ℕ)
+      → drop n inputs ≡ i ∷ rest → FrontRuns start inputs n ran now → Adds (FrontTold start inputs n now) old mid → new ≡ mid → RefusedRun start inputs next old new
   run_refused rest ran old mid new left runs told kept = record {
     done = take n inputs;
     input = i;
     rest = rest;
     are = sym (take-append-drop n inputs) ∙ ap (λ (behind : List Input). take n inputs ++ behind) left;
-    ran = record { steps = ran.steps; ticks = ran.ticks; elapsed = ran.elapsed; stopped = None };
+    ran = going ran;
     between = now;
     runs =
-        subst (λ (all : List Input). Runs start all (record { steps = ran.steps; ticks = ran.ticks; elapsed = ran.elapsed; stopped = None }) now) (append-nil (take n inputs))
+        subst (λ (all : List Input). Runs start all (going ran) now) (append-nil (take n inputs))
         (run_whole start (take n inputs ++ []) ran now now [] None (runs []) (refl, refl));
     goes_on = refl;
     told = traced.told;

@@ -114,8 +114,8 @@ TracesRun s (i ∷ rest) text =
     (traced : Traced) × (next : State) × Step s i traced.told next × (traced.word ≡ traced_word s i)
     × Goes (why_stopped traced.told.kind) text ((line : List ℕ) × IsTraceLine traced line × (more : List ℕ) × TracesRun next rest more × (text ≡ line ++ more))
 
--- A run that ended because the line of a step was refused: the machine stands behind that step, which did not stop it, and
--- the text has the lines of the steps before it.
+-- A run that ended because the line of a step was refused: the machine stands behind that step, which did not stop
+-- it, and the text has the lines of the steps before it.
 pub record RefusedRun (s : State) (inputs : List Input) (after : State) (old new : List ℕ) : Type 0 where
   pub done : List Input
   pub input : Input

@@ -120,8 +120,8 @@ fn put_registers(out: &mut String, machine: &Machine) -> Result<(), AllocError>
     put_four(out, machine, mode, 12)
 }
 
-/// Adds the sixteen registers of the mode in R15, four in a line, each with its word in eight hexadecimal digits. R15
-/// comes with its flags and mode.
+/// Adds the sixteen registers of the mode in R15, four in a line, each with its word in eight hexadecimal digits.
+/// R15 comes with its flags and mode.
 ///
 /// An error says that a growth was refused; the text is then as it was.
 pub fn write_registers(out: &mut String, machine: &Machine) -> Result<(), AllocError>

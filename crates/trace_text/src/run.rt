@@ -17,8 +17,8 @@ fn stretched(profile: Profile, bursts: u16) -> u32
 
 /// Steps a machine, once for each input up to the first step that is stopped, and adds the lines of the steps before it.
 ///
-/// An error says that a growth was refused. The machine has then made the steps up to the one whose line was refused,
-/// and the text has the lines of the steps before that one.
+/// An error says that a growth was refused. The machine has then made the steps up to the one whose line was
+/// refused, and the text has the lines of the steps before that one.
 pub fn write_run(
     out: &mut String,
     machine: &mut Machine,

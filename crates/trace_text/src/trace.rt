@@ -134,8 +134,8 @@ fn put_trace(out: &mut String, traced: &Traced) -> Result<(), AllocError>
     }
 }
 
-/// Adds the line of a step: its address, its word, its ticks, and the name of the exception that it took or the word's
-/// line. Of a step that stopped the machine it adds nothing.
+/// Adds the line of a step: its address, its word, its ticks, and the name of the exception that it took or the
+/// word's line. Of a step that stopped the machine it adds nothing.
 ///
 /// An error says that a growth was refused; the text is then as it was.
 pub fn write_trace(out: &mut String, traced: &Traced) -> Result<(), AllocError>

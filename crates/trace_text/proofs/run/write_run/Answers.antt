@@ -79,8 +79,10 @@ returns-in_err-write_trace-clause-refused c =
     let index = c.loop-input.input-index in
     let input : Input = slice_index_or inputs index (record { bursts = 0; lines = record { 0 = 0 }; port = 0 }) in
     let traced = c.step_traced-traced in
+    let here = take_more inputs index _ c.loop-input-test.true in
+    let left = drop_more inputs index _ c.loop-input-test.true in
+    let law = run_refused c.args.machine.now inputs index c.loop-input.machine traced.new.machine input traced.result
+    here traced.ensures.step c.in_default.not-Stopped (drop (index + 1) inputs) c.loop-input.ran in
     on_err c.from_residual.result _
-    (run_refused c.args.machine.now inputs index c.loop-input.machine traced.new.machine input traced.result
-    (take_more inputs index _ c.loop-input-test.true) traced.ensures.step c.in_default.not-Stopped (drop (index + 1) inputs) c.loop-input.ran
-    (string_bytes c.args.out.now) (string_bytes c.loop-input.out) (string_bytes c.write_trace.new.out)
-    (drop_more inputs index _ c.loop-input-test.true) c.loop-input.invariant.6 c.loop-input.invariant.7 c.in_err-write_trace.ensures)
+    (law (string_bytes c.args.out.now) (string_bytes c.loop-input.out) (string_bytes c.write_trace.new.out)
+    left c.loop-input.invariant.6 c.loop-input.invariant.7 c.in_err-write_trace.ensures)
