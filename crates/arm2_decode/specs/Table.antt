@@ -1,5 +1,5 @@
--- The table of instruction words (VL86C010 data sheet, instruction formats). Which words are unallocated is
--- our own choice where the data sheet only warns of them.
+-- The table of instruction words (VL86C010 data sheet, instruction formats). Which words are undefined
+-- and which unallocated is our own choice.
 use Rattle.std.specs.Prelude.{ℕ, ◌≤◌, ◌≡◌, Bool, true, not, ◌&&◌, ◌==◌, if◌then◌else◌, List, [], ◌∷◌, map}
 use Rattle.std.specs.Prelude.{bit_and}
 use Rattle.std.specs.Prelude.{Contains, MatchResult, Result}

@@ -1,5 +1,5 @@
 -- A step of the machine (VL86C010 data sheet, instruction set and exceptions; our own profile for the order
--- of its parts, for what stops the machine, and for the ticks).
+-- of its parts, for a fetch among the devices, for what stops the machine, and for the ticks).
 use Rattle.std.specs.Prelude.{◌≡◌, ◌⊎◌, ℕ, ◌+◌, ◌*◌, ◌/◌, ◌%◌, ◌^◌, ◌==◌, ◌&&◌, not, Bool, false}
 use Rattle.std.specs.Prelude.{if◌then◌else◌, Option, Some, None, Result, Ok, Err, List}
 use Rattle.bus_ticks.specs.declared.profile.RomTimes.{RomTimes}

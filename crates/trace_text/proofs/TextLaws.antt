@@ -12,7 +12,7 @@ padded_word n =
     let room : 8 - length (digits 16 true n) - 0 - 0 ≡ 8 - length (digits 16 true n) = omega arith in
     rw (append-nil (digits 16 true n), room) refl
 
--- what four calls add, one behind the other
+-- what four calls add, one after the other
 pub four_done : {T E : Type 0} (r : Result T E) (o a b c d o1 o2 o3 o4 : List ℕ) → o1 ≡ o ++ a → o2 ≡ o1 ++ b → o3 ≡ o2 ++ c → OnOk r (o4 ≡ o3 ++ d)
     → OnOk r (o4 ≡ o ++ (a ++ (b ++ (c ++ d))))
 four_done (Ok x) o a b c d o1 o2 o3 o4 one two three four =

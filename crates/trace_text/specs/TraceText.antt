@@ -1,11 +1,13 @@
 -- What a machine shows as text (our own format).
-use Rattle.std.specs.Prelude.{◌≡◌, ℕ, ◌+◌, ◌-◌, List, [], ◌∷◌, ◌++◌, codes, decimal, length, replicate, Option, Some, None}
+use Rattle.std.specs.Prelude.{◌≡◌, ℕ, ◌+◌, ◌-◌, List, [], ◌∷◌, ◌++◌, codes, decimal, length, replicate}
+use Rattle.std.specs.Prelude.{Option, Some, None}
 use Rattle.arm2_effect.specs.declared.done.Kind.{Kind}
 use Rattle.arm2_effect.specs.declared.done.Kind.TheVariants.{Plain, Taken, Stopped}
 use Rattle.arm2_effect.specs.declared.done.Why.{Why}
 use Rattle.arm2_effect.specs.declared.done.Why.TheVariants.{Unallocated, UnsupportedWrite}
 use Rattle.arm2_effect.specs.declared.exceptions.Vector.{Vector}
-use Rattle.arm2_effect.specs.declared.exceptions.Vector.TheVariants.{Undefined, Swi, PrefetchAbort, DataAbort, AddressException, Irq, Fiq}
+use Rattle.arm2_effect.specs.declared.exceptions.Vector.TheVariants.{Undefined, Swi, PrefetchAbort, DataAbort}
+use Rattle.arm2_effect.specs.declared.exceptions.Vector.TheVariants.{AddressException, Irq, Fiq}
 use Rattle.arm2_effect.specs.declared.modes.Mode.{Mode}
 use Rattle.arm2_effect.specs.Modes.{r15_in, register_in}
 use Rattle.arm2_effect.specs.ProgramCounter.{mode_of}
@@ -22,7 +24,7 @@ use Rattle.trace_text.specs.declared.trace.Traced.{Traced}
 abbrev pub hex8 : ℕ → List ℕ
 hex8 n = replicate (8 - length (hex n)) 48 ++ hex n
 
--- a text of a kind stands behind the old one
+-- a text of a kind stands after the old one
 abbrev pub Adds : (Is : List ℕ → Type 0) → (old new : List ℕ) → Type 0
 Adds Is old new = (text : List ℕ) × Is text × (new ≡ old ++ text)
 
@@ -40,7 +42,8 @@ four_text mode regs n =
 
 -- the sixteen registers of a mode
 abbrev pub mode_text : Mode → List ℕ → List ℕ
-mode_text mode regs = four_text mode regs 0 ++ (four_text mode regs 4 ++ (four_text mode regs 8 ++ four_text mode regs 12))
+mode_text mode regs =
+    four_text mode regs 0 ++ (four_text mode regs 4 ++ (four_text mode regs 8 ++ four_text mode regs 12))
 
 -- those of the mode in R15
 abbrev pub registers_text : List ℕ → List ℕ
@@ -49,7 +52,8 @@ registers_text regs = mode_text (mode_of (r15_in regs)) regs
 -- ---- ticks and stops
 
 abbrev pub ticks_text : (ticks elapsed : ℕ) → List ℕ
-ticks_text ticks elapsed = codes "ticks " ++ (decimal ticks ++ (codes " elapsed " ++ (decimal elapsed ++ codes "\n")))
+ticks_text ticks elapsed =
+    codes "ticks " ++ (decimal ticks ++ (codes " elapsed " ++ (decimal elapsed ++ codes "\n")))
 
 abbrev pub why_name : Why → List ℕ
 why_name Unallocated = codes "Unallocated"
@@ -67,7 +71,9 @@ word_unless None word = word
 
 -- the word that a step fetches: none where an interrupt is due, and none where the fetch is refused
 abbrev pub traced_word : State → Input → Option ℕ
-traced_word s i = word_unless (interrupt_due (with_lines i.lines.0 s.bus) (r15_in s.regs)) (fetched s.bus.memc (r15_in s.regs))
+traced_word s i =
+    word_unless (interrupt_due (with_lines i.lines.0 s.bus) (r15_in s.regs))
+    (fetched s.bus.memc (r15_in s.regs))
 
 abbrev pub exception_name : Vector → List ℕ
 exception_name Undefined = codes "undefined"
@@ -84,7 +90,9 @@ word_text None = codes "--------"
 
 -- the address, the word and the ticks, each before a blank
 abbrev pub front_text : Traced → List ℕ
-front_text t = hex8 t.told.from ++ (codes " " ++ (word_text t.word ++ (codes " " ++ (decimal t.told.ticks ++ codes " "))))
+front_text t =
+    hex8 t.told.from
+    ++ (codes " " ++ (word_text t.word ++ (codes " " ++ (decimal t.told.ticks ++ codes " "))))
 
 -- the line of a word at its address; nothing where there is no word
 abbrev pub IsWordLine : Option ℕ → (at : ℕ) → List ℕ → Type 0
@@ -95,7 +103,8 @@ IsWordLine None at text = text ≡ []
 abbrev pub IsLineOf : Kind → Traced → List ℕ → Type 0
 IsLineOf (Stopped why) t line = line ≡ []
 IsLineOf (Taken vector) t line = line ≡ front_text t ++ (exception_name vector ++ codes "\n")
-IsLineOf Plain t line = (text : List ℕ) × IsWordLine t.word t.told.from text × (line ≡ front_text t ++ (text ++ codes "\n"))
+IsLineOf Plain t line =
+    (text : List ℕ) × IsWordLine t.word t.told.from text × (line ≡ front_text t ++ (text ++ codes "\n"))
 
 abbrev pub IsTraceLine : Traced → List ℕ → Type 0
 IsTraceLine t line = IsLineOf t.told.kind t line
@@ -112,10 +121,12 @@ abbrev pub TracesRun : State → List Input → List ℕ → Type 0
 TracesRun s [] text = text ≡ []
 TracesRun s (i ∷ rest) text =
     (traced : Traced) × (next : State) × Step s i traced.told next × (traced.word ≡ traced_word s i)
-    × Goes (why_stopped traced.told.kind) text ((line : List ℕ) × IsTraceLine traced line × (more : List ℕ) × TracesRun next rest more × (text ≡ line ++ more))
+    × Goes (why_stopped traced.told.kind) text
+    ((line : List ℕ) × IsTraceLine traced line × (more : List ℕ) × TracesRun next rest more
+    × (text ≡ line ++ more))
 
--- A run that ended because the line of a step was refused: the machine stands behind that step, which did not stop
--- it, and the text has the lines of the steps before it.
+-- A run that ended because the line of a step was refused: the machine stands after that step, which did not
+-- stop it, and the text has the lines of the steps before it.
 pub record RefusedRun (s : State) (inputs : List Input) (after : State) (old new : List ℕ) : Type 0 where
   pub done : List Input
   pub input : Input

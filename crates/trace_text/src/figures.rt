@@ -7,9 +7,11 @@ use std::fmt::{self, Display, Formatter, Write};
 
 /// Adds a line of processor ticks, and of the ticks that passed with those of bursts, in decimal.
 ///
-/// An error says that a growth was refused; the text is then as it was.
+/// An error says that an allocation failed; the text is then as it was.
 pub fn write_ticks(out: &mut String, ticks: u128, elapsed: u128) -> Result<(), AllocError>
-    ensures { MatchResult result (λ _. string_bytes out.new ≡ string_bytes out.old ++ ticks_text ticks elapsed) (λ _. string_bytes out.new ≡ string_bytes out.old) }
+    ensures { MatchResult result
+        (λ _. string_bytes out.new ≡ string_bytes out.old ++ ticks_text ticks elapsed)
+        (λ _. string_bytes out.new ≡ string_bytes out.old) }
 {
     let line = format!(in *out.allocator(); "ticks {ticks} elapsed {elapsed}\n")?;
     out.push_str(line.as_str())
@@ -26,9 +28,10 @@ fn name_of(why: Why) -> &'static str
 
 /// Adds a line that says why a machine stopped and at which address, in hexadecimal.
 ///
-/// An error says that a growth was refused; the text is then as it was.
+/// An error says that an allocation failed; the text is then as it was.
 pub fn write_stop(out: &mut String, why: Why, address: u32) -> Result<(), AllocError>
-    ensures { MatchResult result (λ _. string_bytes out.new ≡ string_bytes out.old ++ stop_text why address) (λ _. string_bytes out.new ≡ string_bytes out.old) }
+    ensures { MatchResult result (λ _. string_bytes out.new ≡ string_bytes out.old ++ stop_text why address)
+        (λ _. string_bytes out.new ≡ string_bytes out.old) }
 {
     let name = name_of(why);
     let line = format!(in *out.allocator(); "stopped {name} at {address:X}\n")?;

@@ -93,7 +93,9 @@ fn put_register(
     end: &str,
 ) -> Result<(), AllocError>
     requires { number < 16 }
-    ensures { OnOk result (string_bytes out.new ≡ string_bytes out.old ++ (register_text mode machine.now.regs number ++ end.now)) }
+    ensures { OnOk result
+        (string_bytes out.new
+        ≡ string_bytes out.old ++ (register_text mode machine.now.regs number ++ end.now)) }
 {
     let word = HexWord(machine.get(register_of(mode, number)));
     write!(out, "R{number}={word}{end}")
@@ -102,7 +104,8 @@ fn put_register(
 // A line of four registers.
 fn put_four(out: &mut String, machine: &Machine, mode: Mode, first: u32) -> Result<(), AllocError>
     requires { first + 3 < 16 }
-    ensures { OnOk result (string_bytes out.new ≡ string_bytes out.old ++ four_text mode machine.now.regs first) }
+    ensures { OnOk result
+        (string_bytes out.new ≡ string_bytes out.old ++ four_text mode machine.now.regs first) }
 {
     put_register(out, machine, mode, first, " ")?;
     put_register(out, machine, mode, first + 1, " ")?;
@@ -120,12 +123,14 @@ fn put_registers(out: &mut String, machine: &Machine) -> Result<(), AllocError>
     put_four(out, machine, mode, 12)
 }
 
-/// Adds the sixteen registers of the mode in R15, four in a line, each with its word in eight hexadecimal digits.
-/// R15 comes with its flags and mode.
+/// Adds the sixteen registers of the mode in R15, four in a line, each with its word in eight hexadecimal
+/// digits. R15 comes with its flags and mode.
 ///
-/// An error says that a growth was refused; the text is then as it was.
+/// An error says that an allocation failed; the text is then as it was.
 pub fn write_registers(out: &mut String, machine: &Machine) -> Result<(), AllocError>
-    ensures { MatchResult result (λ _. string_bytes out.new ≡ string_bytes out.old ++ registers_text machine.now.regs) (λ _. string_bytes out.new ≡ string_bytes out.old) }
+    ensures { MatchResult result
+        (λ _. string_bytes out.new ≡ string_bytes out.old ++ registers_text machine.now.regs)
+        (λ _. string_bytes out.new ≡ string_bytes out.old) }
 {
     let mut text = String::new(*out.allocator());
     put_registers(&mut text, machine)?;

@@ -15,9 +15,10 @@ fn stretched(profile: Profile, bursts: u16) -> u32
     profile.burst * u32::from(bursts)
 }
 
-/// Steps a machine, once for each input up to the first step that is stopped, and adds the lines of the steps before it.
+/// Steps a machine, once for each input up to the first step that is stopped, and adds the lines of the steps
+/// before it.
 ///
-/// An error says that a growth was refused. The machine has then made the steps up to the one whose line was
+/// An error says that an allocation failed. The machine has then made the steps up to the one whose line was
 /// refused, and the text has the lines of the steps before that one.
 pub fn write_run(
     out: &mut String,
@@ -25,8 +26,10 @@ pub fn write_run(
     inputs: &[Input],
 ) -> Result<Ran, AllocError>
     ensures runs { IfOk result (λ ran. Runs machine.old inputs.now ran machine.new) }
-    ensures text { OnOk result (Adds (TracesRun machine.old inputs.now) (string_bytes out.old) (string_bytes out.new)) }
-    ensures refused { OnErr result (RefusedRun machine.old inputs.now machine.new (string_bytes out.old) (string_bytes out.new)) }
+    ensures text { OnOk result
+        (Adds (TracesRun machine.old inputs.now) (string_bytes out.old) (string_bytes out.new)) }
+    ensures refused { OnErr result
+        (RefusedRun machine.old inputs.now machine.new (string_bytes out.old) (string_bytes out.new)) }
 {
     let mut ran = Ran {
         steps: 0,

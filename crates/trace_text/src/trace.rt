@@ -2,7 +2,8 @@ ghost use Rattle.std.specs.Prelude.{◌≡◌, ◌++◌, ◌<◌, ◌^◌, Match
 ghost use Rattle.arm2_effect.specs.Modes.{r15_in};
 ghost use Rattle.arm2_exec.specs.Step.{Step, fetched, interrupt_due, with_lines};
 ghost use Rattle.assembler.specs.ShownLines.{IsShown};
-ghost use Rattle.trace_text.specs.TraceText.{Adds, IsTraceLine, IsWordLine, exception_name, front_text, traced_word};
+ghost use Rattle.trace_text.specs.TraceText.{Adds, IsTraceLine, IsWordLine, exception_name, front_text};
+ghost use Rattle.trace_text.specs.TraceText.{traced_word};
 
 use crate::figures::HexWord;
 use arm2_effect::{Mode, address_of, mode_of};
@@ -23,7 +24,8 @@ pub struct Traced {
 
 // Whether an interrupt is due once the lines are those of a step.
 fn is_due(machine: &Machine, lines: Lines) -> bool
-    ensures { result ≡ is_some (interrupt_due (with_lines lines.0 machine.now.bus) (r15_in machine.now.regs)) }
+    ensures { result
+        ≡ is_some (interrupt_due (with_lines lines.0 machine.now.bus) (r15_in machine.now.regs)) }
 {
     let r15 = machine.get(Reg::R15);
     let mut ioc = machine.ioc().snapshot();
@@ -134,12 +136,14 @@ fn put_trace(out: &mut String, traced: &Traced) -> Result<(), AllocError>
     }
 }
 
-/// Adds the line of a step: its address, its word, its ticks, and the name of the exception that it took or the
-/// word's line. Of a step that stopped the machine it adds nothing.
+/// Adds the line of a step: its address, its word, its ticks, and the name of the exception that it took or
+/// the word's line. Of a step that stopped the machine it adds nothing.
 ///
-/// An error says that a growth was refused; the text is then as it was.
+/// An error says that an allocation failed; the text is then as it was.
 pub fn write_trace(out: &mut String, traced: &Traced) -> Result<(), AllocError>
-    ensures { MatchResult result (λ _. Adds (IsTraceLine traced.now) (string_bytes out.old) (string_bytes out.new)) (λ _. string_bytes out.new ≡ string_bytes out.old) }
+    ensures { MatchResult result
+        (λ _. Adds (IsTraceLine traced.now) (string_bytes out.old) (string_bytes out.new))
+        (λ _. string_bytes out.new ≡ string_bytes out.old) }
 {
     let mut line = String::new(*out.allocator());
     put_trace(&mut line, traced)?;
