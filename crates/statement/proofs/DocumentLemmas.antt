@@ -28,7 +28,10 @@ use Rattle.statement.proofs.TableLemmas.{access_judged, loop_judged, not_true, s
 
 fault_numbered : ℕ → StatementFault
 fault_numbered n =
-    cond (eqb n 1) Memory (cond (eqb n 2) NotToml (cond (eqb n 3) UnknownKey (cond (eqb n 4) WrongKind (cond (eqb n 5) UnknownLabel (cond (eqb n 6) OutOfRange Twice)))))
+    cond
+    (eqb n 1)
+    Memory
+    (cond (eqb n 2) NotToml (cond (eqb n 3) UnknownKey (cond (eqb n 4) WrongKind (cond (eqb n 5) UnknownLabel (cond (eqb n 6) OutOfRange Twice)))))
 
 numbered_back : (f : StatementFault) → fault_numbered (number_of f) ≡ f
 unfolding fault_numbered
@@ -43,14 +46,39 @@ numbered_back Twice = refl
 one_number : (f g : StatementFault) → number_of f ≡ number_of g → f ≡ g
 one_number f g e = sym (numbered_back f) ∙ ap fault_numbered e ∙ numbered_back g
 
-leave_judged : (ms : Members) → Judges statement_faults (λ c. AtKeyOr (codes "leave") ms (c ≡ Any) (λ d. IsNamed named_class d c)) (λ f. AtKey (codes "leave") ms (λ d. NameFault named_class d f)) (leave_in ms)
-leave_judged ms = optional_judged statement_faults (IsNamed named_class) (NameFault named_class) class_at (word_judged named_class) Any (get_member (codes "leave") ms)
+leave_judged :
+    (ms : Members)
+    → Judges
+    statement_faults
+    (λ c. AtKeyOr (codes "leave") ms (c ≡ Any) (λ d. IsNamed named_class d c))
+    (λ f. AtKey (codes "leave") ms (λ d. NameFault named_class d f))
+    (leave_in ms)
+leave_judged ms =
+    optional_judged
+    statement_faults
+    (IsNamed named_class)
+    (NameFault named_class)
+    class_at
+    (word_judged named_class)
+    Any
+    (get_member (codes "leave") ms)
 
-one_some : {X : Type 0} (P : X → ℕ → Type 0) → ((x : X) (a b : ℕ) → P x a → P x b → a ≡ b) → (o : Option X) (a b : ℕ) → IsSomeAnd o (λ x. P x a) → IsSomeAnd o (λ x. P x b) → a ≡ b
+one_some :
+    {X : Type 0} (P : X → ℕ → Type 0)
+    → ((x : X) (a b : ℕ) → P x a → P x b → a ≡ b)
+    → (o : Option X) (a b : ℕ)
+    → IsSomeAnd o (λ x. P x a)
+    → IsSomeAnd o (λ x. P x b)
+    → a ≡ b
 one_some P one None a b h k = absurd h
 one_some P one (Some x) a b h k = one x a b h k
 
-some_weaker : {X : Type 0} (P Q : X → Type 0) → ((x : X) → P x → Q x) → (o : Option X) → IsSomeAnd o P → IsSomeAnd o Q
+some_weaker :
+    {X : Type 0} (P Q : X → Type 0)
+    → ((x : X) → P x → Q x)
+    → (o : Option X)
+    → IsSomeAnd o P
+    → IsSomeAnd o Q
 some_weaker P Q to None h = absurd h
 some_weaker P Q to (Some x) h = to x h
 
@@ -61,13 +89,33 @@ module _ (names : Names) where
   AtOf ms a = AtKey (codes "at") ms (λ e. IsAddress names e a)
 
   one_at : (d : Data) (a b : ℕ) → IsAt names d a → IsAt names d b → a ≡ b
-  one_at d a b h k = one_some AtOf (λ ms. one_some (IsAddress names) (one_address names) (get_member (codes "at") ms)) (as_table d) a b h k
+  one_at d a b h k =
+      one_some
+      AtOf
+      (λ ms. one_some (IsAddress names) (one_address names) (get_member (codes "at") ms))
+      (as_table d)
+      a
+      b
+      h
+      k
 
   target_is_at : (d : Data) (t : ℕ × Target) → StatesTarget names d t → IsAt names d t.0
-  target_is_at d t h = some_weaker (λ ms. (has_only_keys target_keys ms ≡ true) × HasTarget names ms t) (λ ms. AtOf ms t.0) (λ ms s. s.1.address) (as_table d) h
+  target_is_at d t h =
+      some_weaker
+      (λ ms. (has_only_keys target_keys ms ≡ true) × HasTarget names ms t)
+      (λ ms. AtOf ms t.0)
+      (λ ms s. s.1.address)
+      (as_table d)
+      h
 
   access_is_at : (d : Data) (a : ℕ × Class) → StatesAccess names d a → IsAt names d a.0
-  access_is_at d a h = some_weaker (λ ms. (has_only_keys access_keys ms ≡ true) × HasAccess names ms a) (λ ms. AtOf ms a.0) (λ ms s. s.1.address) (as_table d) h
+  access_is_at d a h =
+      some_weaker
+      (λ ms. (has_only_keys access_keys ms ≡ true) × HasAccess names ms a)
+      (λ ms. AtOf ms a.0)
+      (λ ms s. s.1.address)
+      (as_table d)
+      h
 
   -- ## Parts
 
@@ -108,8 +156,11 @@ module _ (names : Names) where
 
   -- ## The whole
 
-  is_single : (st : Stated) → (are_distinct (keys_of st.targets) && are_distinct (keys_of st.accesses)) ≡ true ↔ IsSingle names st
-  is_single st = (λ e. and_parts (are_distinct (keys_of st.targets)) (are_distinct (keys_of st.accesses)) e, λ h. both_true h.0 h.1)
+  is_single :
+      (st : Stated)
+      → (are_distinct (keys_of st.targets) && are_distinct (keys_of st.accesses)) ≡ true ↔ IsSingle names st
+  is_single st =
+      (λ e. and_parts (are_distinct (keys_of st.targets)) (are_distinct (keys_of st.accesses)) e, λ h. both_true h.0 h.1)
 
   abbrev SingleFault : Members → StatementFault → Type 0
   SingleFault ms f = (p : Parts) × HasEach ms p × ((¬ IsSingle names (made_of p)) × (f ≡ Twice))
@@ -117,7 +168,13 @@ module _ (names : Names) where
   abbrev TwoFault : Members → StatementFault → Type 0
   TwoFault ms f = (HasTwo names (codes "target") ms ⊎ HasTwo names (codes "access") ms) × (f ≡ Twice)
 
-  single_judged : (ms : Members) → Judges statement_faults (λ st. (p : Parts) × HasEach ms p × (IsSingle names (made_of p) × (st ≡ made_of p))) (λ f. EachFault ms f ⊎ SingleFault ms f) (and_then (parts_of names ms) whole)
+  single_judged :
+      (ms : Members)
+      → Judges
+      statement_faults
+      (λ st. (p : Parts) × HasEach ms p × (IsSingle names (made_of p) × (st ≡ made_of p)))
+      (λ f. EachFault ms f ⊎ SingleFault ms f)
+      (and_then (parts_of names ms) whole)
   single_judged ms =
       then_judged
       statement_faults
@@ -130,11 +187,35 @@ module _ (names : Names) where
       (parts_of names ms)
       (each_judged ms)
 
-  targets_two : (ms : Members) (p : Parts) → HasEach ms p → are_distinct (keys_of p.1.0) ≡ false ↔ HasTwo names (codes "target") ms
-  targets_two ms p h = keys_not_distinct (IsAt names) one_at (StatesTarget names) target_is_at 1024 (get_member (codes "target") ms) p.1.0 h.1.0
+  targets_two :
+      (ms : Members) (p : Parts)
+      → HasEach ms p
+      → are_distinct (keys_of p.1.0) ≡ false ↔ HasTwo names (codes "target") ms
+  targets_two ms p h =
+      keys_not_distinct
+      (IsAt names)
+      one_at
+      (StatesTarget names)
+      target_is_at
+      1024
+      (get_member (codes "target") ms)
+      p.1.0
+      h.1.0
 
-  accesses_two : (ms : Members) (p : Parts) → HasEach ms p → are_distinct (keys_of p.1.1) ≡ false ↔ HasTwo names (codes "access") ms
-  accesses_two ms p h = keys_not_distinct (IsAt names) one_at (StatesAccess names) access_is_at 4096 (get_member (codes "access") ms) p.1.1 h.1.1
+  accesses_two :
+      (ms : Members) (p : Parts)
+      → HasEach ms p
+      → are_distinct (keys_of p.1.1) ≡ false ↔ HasTwo names (codes "access") ms
+  accesses_two ms p h =
+      keys_not_distinct
+      (IsAt names)
+      one_at
+      (StatesAccess names)
+      access_is_at
+      4096
+      (get_member (codes "access") ms)
+      p.1.1
+      h.1.1
 
   two_of : (ms : Members) (f : StatementFault) → SingleFault ms f → TwoFault ms f
   two_of ms f u = (
@@ -146,7 +227,10 @@ module _ (names : Names) where
   )
 
   -- two entries of one address are told of, or a fault that is no higher
-  two_under : (ms : Members) (f : StatementFault) → TwoFault ms f → (g : StatementFault) × (EachFault ms g ⊎ SingleFault ms g) × (number_of g ≤ number_of f)
+  two_under :
+      (ms : Members) (f : StatementFault)
+      → TwoFault ms f
+      → (g : StatementFault) × (EachFault ms g ⊎ SingleFault ms g) × (number_of g ≤ number_of f)
   two_under ms f h =
       elim
       (stated_or_faulty statement_faults (HasEach ms) (EachFault ms) (parts_of names ms) (each_judged ms)) [
@@ -154,11 +238,21 @@ module _ (names : Names) where
         | inr g ↦ (g.0, inl g.1, subst (λ (y : StatementFault). number_of g.0 ≤ number_of y) (sym h.1) (twice_last g.0))
       ]
     where
-      not_single : (p : Parts) → HasEach ms p → HasTwo names (codes "target") ms ⊎ HasTwo names (codes "access") ms → ¬ IsSingle names (made_of p)
+      not_single :
+          (p : Parts)
+          → HasEach ms p
+          → HasTwo names (codes "target") ms ⊎ HasTwo names (codes "access") ms
+          → ¬ IsSingle names (made_of p)
       not_single p e (inl t) s = false≢true (sym ((targets_two ms p e).1 t) ∙ s.0)
       not_single p e (inr t) s = false≢true (sym ((accesses_two ms p e).1 t) ∙ s.1)
 
-  parts_judged : (ms : Members) → Judges statement_faults (λ st. HasParts names ms st × IsSingle names st) (PartsFault names ms) (and_then (parts_of names ms) whole)
+  parts_judged :
+      (ms : Members)
+      → Judges
+      statement_faults
+      (λ st. HasParts names ms st × IsSingle names st)
+      (PartsFault names ms)
+      (and_then (parts_of names ms) whole)
   parts_judged ms =
       judged_as
       statement_faults
@@ -175,12 +269,15 @@ module _ (names : Names) where
       (widened_judged statement_faults _ (EachFault ms) (SingleFault ms) (TwoFault ms) (two_of ms) (two_under ms) (and_then (parts_of names ms) whole) (single_judged ms))
     where
       of_each : (p : Parts) → HasEach ms p → HasParts names ms (made_of p)
-      of_each p s = record { entry = s.0.0.0; leave = s.0.0.1; loops = s.0.1; targets = s.1.0; accesses = s.1.1 }
+      of_each p s =
+          record { entry = s.0.0.0; leave = s.0.0.1; loops = s.0.1; targets = s.1.0; accesses = s.1.1 }
 
       each_of : (st : Stated) → HasParts names ms st → HasEach ms (split st)
       each_of st h = (((h.entry, h.leave), h.loops), (h.targets, h.accesses))
 
-  document_judged : (ms : Members) → Judges statement_faults (States names ms) (HasFault names ms) (statement_of names ms)
+  document_judged :
+      (ms : Members)
+      → Judges statement_faults (States names ms) (HasFault names ms) (statement_of names ms)
   document_judged ms =
       judged_as
       statement_faults
@@ -194,7 +291,24 @@ module _ (names : Names) where
       (keys_judged statement_faults statement_keys (λ ms st. HasParts names ms st × IsSingle names st) (PartsFault names) (λ ms. and_then (parts_of names ms) whole) parts_judged ms)
 
   pub stated_as_read : (ms : Members) (st : Stated) → statement_of names ms ≡ Ok st ↔ States names ms st
-  stated_as_read ms st = judged_value statement_faults (States names ms) (HasFault names ms) (statement_of names ms) (document_judged ms) st
+  stated_as_read ms st =
+      judged_value
+      statement_faults
+      (States names ms)
+      (HasFault names ms)
+      (statement_of names ms)
+      (document_judged ms)
+      st
 
-  pub refused_as_read : (ms : Members) (f : StatementFault) → statement_of names ms ≡ Err f ↔ IsLowest statement_faults (HasFault names ms) f
-  refused_as_read ms f = judged_fault statement_faults (States names ms) (HasFault names ms) one_number (statement_of names ms) (document_judged ms) f
+  pub refused_as_read :
+      (ms : Members) (f : StatementFault)
+      → statement_of names ms ≡ Err f ↔ IsLowest statement_faults (HasFault names ms) f
+  refused_as_read ms f =
+      judged_fault
+      statement_faults
+      (States names ms)
+      (HasFault names ms)
+      one_number
+      (statement_of names ms)
+      (document_judged ms)
+      f

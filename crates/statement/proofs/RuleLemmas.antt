@@ -25,10 +25,29 @@ is_in_space n = (
   λ h. both_true (eq-eqb (n % 4) 0 h.0) (lt-ltb n (2 ^ 26) h.1),
 )
 
-natural_judged : (n : ℕ) → Judges statement_faults (λ a. IsInSpace n × (a ≡ n)) (λ f. (¬ IsInSpace n) × (f ≡ OutOfRange)) (in_space statement_faults (pos n))
-natural_judged n = test_judged statement_faults (IsInSpace n) n OutOfRange (eqb (n % 4) 0 && ltb n (2 ^ 26)) (is_in_space n)
+natural_judged :
+    (n : ℕ)
+    → Judges
+    statement_faults
+    (λ a. IsInSpace n × (a ≡ n))
+    (λ f. (¬ IsInSpace n) × (f ≡ OutOfRange))
+    (in_space statement_faults (pos n))
+natural_judged n =
+    test_judged
+    statement_faults
+    (IsInSpace n)
+    n
+    OutOfRange
+    (eqb (n % 4) 0 && ltb n (2 ^ 26))
+    (is_in_space n)
 
-integer_judged : (z : ℤ) → Judges statement_faults (λ a. (z ≡ pos a) × IsInSpace a) (λ f. ((a : ℕ) → z ≡ pos a → ¬ IsInSpace a) × (f ≡ OutOfRange)) (in_space statement_faults z)
+integer_judged :
+    (z : ℤ)
+    → Judges
+    statement_faults
+    (λ a. (z ≡ pos a) × IsInSpace a)
+    (λ f. ((a : ℕ) → z ≡ pos a → ¬ IsInSpace a) × (f ≡ OutOfRange))
+    (in_space statement_faults z)
 integer_judged (pos n) =
     judged_as
     statement_faults
@@ -53,8 +72,16 @@ integer_judged (negsuc n) = record {
 some_same : {A : Type 0} (x y : A) → Some x ≡ Some y → x ≡ y
 some_same x y e = ap (λ o. unwrap_or o x) e
 
-label_judged : (o : Option ℕ) → Judges statement_faults (λ a. (o ≡ Some a) × IsInSpace a) (λ f. MatchOption o (f ≡ UnknownLabel) (λ a. (¬ IsInSpace a) × (f ≡ OutOfRange))) (labelled o)
-label_judged None = record { told = (λ a s. none-some a s.0, record { has = refl; least = λ o e. le_of_eq (ap number_of (sym e)) }) }
+label_judged :
+    (o : Option ℕ)
+    → Judges
+    statement_faults
+    (λ a. (o ≡ Some a) × IsInSpace a)
+    (λ f. MatchOption o (f ≡ UnknownLabel) (λ a. (¬ IsInSpace a) × (f ≡ OutOfRange)))
+    (labelled o)
+label_judged None =
+    record
+    { told = (λ a s. none-some a s.0, record { has = refl; least = λ o e. le_of_eq (ap number_of (sym e)) }) }
 label_judged (Some n) =
     judged_as
     statement_faults
@@ -70,7 +97,9 @@ label_judged (Some n) =
     (labelled (Some n))
     (natural_judged n)
 
-pub address_judged : (names : Names) (d : Data) → Judges statement_faults (IsAddress names d) (AddressFault names d) (address_at names d)
+pub address_judged :
+    (names : Names) (d : Data)
+    → Judges statement_faults (IsAddress names d) (AddressFault names d) (address_at names d)
 address_judged names (string name) = label_judged (names name)
 address_judged names (integer z) = integer_judged z
 address_judged names (float x) = refusal_judged statement_faults WrongKind
@@ -79,8 +108,21 @@ address_judged names (datetime t) = refusal_judged statement_faults WrongKind
 address_judged names (array ds) = refusal_judged statement_faults WrongKind
 address_judged names (table ms) = refusal_judged statement_faults WrongKind
 
-pub address_in_judged : (names : Names) (key : List ℕ) (ms : Members) → Judges statement_faults (λ a. AtKey key ms (λ d. IsAddress names d a)) (RequiredFault key ms (AddressFault names)) (address_in names key ms)
-address_in_judged names key ms = required_judged statement_faults (IsAddress names) (AddressFault names) (address_at names) (address_judged names) (get_member key ms)
+pub address_in_judged :
+    (names : Names) (key : List ℕ) (ms : Members)
+    → Judges
+    statement_faults
+    (λ a. AtKey key ms (λ d. IsAddress names d a))
+    (RequiredFault key ms (AddressFault names))
+    (address_in names key ms)
+address_in_judged names key ms =
+    required_judged
+    statement_faults
+    (IsAddress names)
+    (AddressFault names)
+    (address_at names)
+    (address_judged names)
+    (get_member key ms)
 
 -- an address is one
 pub one_address : (names : Names) (d : Data) (a b : ℕ) → IsAddress names d a → IsAddress names d b → a ≡ b
@@ -94,17 +136,57 @@ one_address names (table ms) a b h k = absurd h
 
 -- ## Words
 
-found_judged : {A : Type 0} (o : Option A) → Judges statement_faults (λ a. o ≡ Some a) (λ f. (o ≡ None) × (f ≡ WrongKind)) (required statement_faults o (λ a. Ok a))
-found_judged None = record { told = (none-some, record { has = (refl, refl); least = λ o e. le_of_eq (ap number_of (sym e.1)) }) }
+found_judged :
+    {A : Type 0} (o : Option A)
+    → Judges
+    statement_faults
+    (λ a. o ≡ Some a)
+    (λ f. (o ≡ None) × (f ≡ WrongKind))
+    (required statement_faults o (λ a. Ok a))
+found_judged None =
+    record
+    { told = (none-some, record { has = (refl, refl); least = λ o e. le_of_eq (ap number_of (sym e.1)) }) }
 found_judged (Some x) = record {
   told = (record { stated = refl; only = λ b e. sym (some_same x b e) }, λ f h. none-some x (sym h.0));
 }
 
-pub word_judged : {A : Type 0} (named : List ℕ → Option A) (d : Data) → Judges statement_faults (IsNamed named d) (NameFault named d) (required statement_faults (option_and_then named (as_str d)) (λ a. Ok a))
+pub word_judged :
+    {A : Type 0} (named : List ℕ → Option A) (d : Data)
+    → Judges
+    statement_faults
+    (IsNamed named d)
+    (NameFault named d)
+    (required statement_faults (option_and_then named (as_str d)) (λ a. Ok a))
 word_judged named d = found_judged (option_and_then named (as_str d))
 
-pub kind_judged : (ms : Members) → Judges statement_faults (λ k. AtKey (codes "kind") ms (λ d. IsNamed named_kind d k)) (RequiredFault (codes "kind") ms (NameFault named_kind)) (kind_in ms)
-kind_judged ms = required_judged statement_faults (IsNamed named_kind) (NameFault named_kind) kind_at (word_judged named_kind) (get_member (codes "kind") ms)
+pub kind_judged :
+    (ms : Members)
+    → Judges
+    statement_faults
+    (λ k. AtKey (codes "kind") ms (λ d. IsNamed named_kind d k))
+    (RequiredFault (codes "kind") ms (NameFault named_kind))
+    (kind_in ms)
+kind_judged ms =
+    required_judged
+    statement_faults
+    (IsNamed named_kind)
+    (NameFault named_kind)
+    kind_at
+    (word_judged named_kind)
+    (get_member (codes "kind") ms)
 
-pub class_judged : (ms : Members) → Judges statement_faults (λ c. AtKey (codes "class") ms (λ d. IsNamed named_class d c)) (RequiredFault (codes "class") ms (NameFault named_class)) (class_in ms)
-class_judged ms = required_judged statement_faults (IsNamed named_class) (NameFault named_class) class_at (word_judged named_class) (get_member (codes "class") ms)
+pub class_judged :
+    (ms : Members)
+    → Judges
+    statement_faults
+    (λ c. AtKey (codes "class") ms (λ d. IsNamed named_class d c))
+    (RequiredFault (codes "class") ms (NameFault named_class))
+    (class_in ms)
+class_judged ms =
+    required_judged
+    statement_faults
+    (IsNamed named_class)
+    (NameFault named_class)
+    class_at
+    (word_judged named_class)
+    (get_member (codes "class") ms)

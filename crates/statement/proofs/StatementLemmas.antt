@@ -27,7 +27,9 @@ labelled_small : (o : Option ℕ) → IfOk (labelled o) IsSmall
 labelled_small (Some n) = in_space_holds statement_faults (pos n)
 labelled_small None = tt
 
-number_or_name_small : (names : Names) (o : Option ℤ) (name : Option (List ℕ)) → IfOk (number_or_name names o name) IsSmall
+number_or_name_small :
+    (names : Names) (o : Option ℤ) (name : Option (List ℕ))
+    → IfOk (number_or_name names o name) IsSmall
 number_or_name_small names (Some z) name = in_space_holds statement_faults z
 number_or_name_small names None (Some name) = labelled_small (names name)
 number_or_name_small names None None = tt
@@ -36,7 +38,8 @@ address_small : (names : Names) (d : Data) → IfOk (address_at names d) IsSmall
 address_small names d = number_or_name_small names (as_integer d) (as_str d)
 
 address_in_small : (names : Names) (key : List ℕ) (ms : Members) → IfOk (address_in names key ms) IsSmall
-address_in_small names key ms = required_holds statement_faults IsSmall (get_member key ms) (address_at names) (address_small names)
+address_in_small names key ms =
+    required_holds statement_faults IsSmall (get_member key ms) (address_at names) (address_small names)
 
 abbrev pub IsBound : ℕ → Type 0
 IsBound n = n ≤ 1048576
@@ -46,10 +49,16 @@ AreEnds p = (IsSmall p.0.0 × IsSmall p.0.1) × (IsSmall p.1.0 × IsBound p.1.1)
 
 placed_is_loop : (p : (ℕ × ℕ) × (ℕ × ℕ)) → AreEnds p → IfOk (placed_loop p) IsLoop
 placed_is_loop p h =
-    test_holds statement_faults IsLoop (leb p.0.0 p.1.0 && leb p.1.0 p.0.1) (record { header = p.1.0; first = p.0.0; last = p.0.1; bound = p.1.1 }) OutOfRange
+    test_holds
+    statement_faults
+    IsLoop
+    (leb p.0.0 p.1.0 && leb p.1.0 p.0.1)
+    (record { header = p.1.0; first = p.0.0; last = p.0.1; bound = p.1.1 })
+    OutOfRange
     (λ e.
     let parts = and_parts (leb p.0.0 p.1.0) (leb p.1.0 p.0.1) e in
-    record { from_first = leb-true p.0.0 p.1.0 parts.0; to_last = leb-true p.1.0 p.0.1 parts.1; last_small = h.0.1; bound_small = h.1.1 })
+    record
+    { from_first = leb-true p.0.0 p.1.0 parts.0; to_last = leb-true p.1.0 p.0.1 parts.1; last_small = h.0.1; bound_small = h.1.1 })
 
 loop_parts_hold : (names : Names) (ms : Members) → IfOk (loop_parts names ms) AreEnds
 loop_parts_hold names ms =
@@ -65,7 +74,8 @@ loop_in_holds names ms =
     (follows_holds statement_faults IsLoop AreEnds (loop_parts names ms) placed_loop (loop_parts_hold names ms) placed_is_loop)
 
 loop_holds : (names : Names) (d : Data) → IfOk (loop_at names d) IsLoop
-loop_holds names d = required_holds statement_faults IsLoop (as_table d) (loop_in names) (loop_in_holds names)
+loop_holds names d =
+    required_holds statement_faults IsLoop (as_table d) (loop_in names) (loop_in_holds names)
 
 -- ## Destinations
 
@@ -75,10 +85,19 @@ AllSmall to = All IsSmall to
 some_small : (names : Names) (ds : List Data) → IfOk (some_destinations names ds) AllSmall
 some_small names ds = by_length (eqb (length ds) 0)
   where
-    by_length : (b : Bool) → IfOk (cond b (Err WrongKind) (and_then (listed_up_to statement_faults 64 (address_at names) ds) once)) AllSmall
+    by_length :
+        (b : Bool)
+        → IfOk
+        (cond b (Err WrongKind) (and_then (listed_up_to statement_faults 64 (address_at names) ds) once))
+        AllSmall
     by_length true = tt
     by_length false =
-        follows_holds statement_faults AllSmall AllSmall (listed_up_to statement_faults 64 (address_at names) ds) once
+        follows_holds
+        statement_faults
+        AllSmall
+        AllSmall
+        (listed_up_to statement_faults 64 (address_at names) ds)
+        once
         (listed_up_to_holds statement_faults IsSmall (address_at names) (address_small names) 64 ds)
         (λ to h. test_holds statement_faults AllSmall (are_distinct to) to Twice (λ _. h))
 
@@ -86,19 +105,27 @@ none_small : (b : Bool) → IfOk (cond b (Ok []) (Err WrongKind)) AllSmall
 none_small true = All-nil IsSmall
 none_small false = tt
 
-called_small : (names : Names) (o : Option Data) → IfOk (required statement_faults o (destinations_at names)) AllSmall
+called_small :
+    (names : Names) (o : Option Data)
+    → IfOk (required statement_faults o (destinations_at names)) AllSmall
 called_small names o =
     required_holds statement_faults AllSmall o (destinations_at names)
     (λ d. required_holds statement_faults AllSmall (items_at d) (some_destinations names) (some_small names))
 
-pub destinations_small : (names : Names) (o : Option Data) (k : TargetKind) → IfOk (destinations names o k) AllSmall
+pub destinations_small :
+    (names : Names) (o : Option Data) (k : TargetKind)
+    → IfOk (destinations names o k) AllSmall
 destinations_small names o Jump = called_small names o
 destinations_small names o Call = called_small names o
 destinations_small names o Return = none_small (is_none o)
 destinations_small names o Leave = none_small (is_none o)
 
 -- destinations that were read
-pub read_small : (names : Names) (o : Option Data) (k : TargetKind) (r : Read (Vec ℕ Global)) (to : Vec ℕ Global) → r ≡ Ok to → items_in r ≡ destinations names o k → AllSmall to.items
+pub read_small :
+    (names : Names) (o : Option Data) (k : TargetKind) (r : Read (Vec ℕ Global)) (to : Vec ℕ Global)
+    → r ≡ Ok to
+    → items_in r ≡ destinations names o k
+    → AllSmall to.items
 read_small names o k r to is same =
     let whole : Ok to.items ≡ destinations names o k = ap items_in (sym is) ∙ same in
     subst (λ (x : Read (List ℕ)). IfOk x AllSmall) (sym whole) (destinations_small names o k)
@@ -109,7 +136,10 @@ IsStatedTarget t = IsTarget t.1
 directed_small : (names : Names) (o : Option Data) (k : TargetKind) → IfOk (directed names o k) IsTarget
 directed_small names o k = of_list (destinations names o k) (destinations_small names o k)
   where
-    of_list : (r : Read (List ℕ)) → IfOk r AllSmall → IfOk (seen (λ to. record { kind = k; to = to }) r) IsTarget
+    of_list :
+        (r : Read (List ℕ))
+        → IfOk r AllSmall
+        → IfOk (seen (λ to. record { kind = k; to = to }) r) IsTarget
     of_list (Ok to) h = h
     of_list (Err f) h = tt
 
@@ -120,7 +150,8 @@ target_in_holds names ms =
     (and_then_holds statement_faults IsTarget (kind_in ms) (directed names (get_member (codes "to") ms)) (directed_small names (get_member (codes "to") ms))))
 
 target_holds : (names : Names) (d : Data) → IfOk (target_at names d) IsStatedTarget
-target_holds names d = required_holds statement_faults IsStatedTarget (as_table d) (target_in names) (target_in_holds names)
+target_holds names d =
+    required_holds statement_faults IsStatedTarget (as_table d) (target_in names) (target_in_holds names)
 
 -- ## Parts
 
@@ -137,14 +168,24 @@ loops_hold names ms =
     (tables_few statement_faults (loop_at names) 256 (get_member (codes "loop") ms))
 
 targets_hold : (names : Names) (ms : Members) → IfOk (targets_in names ms) AreTargets
-targets_hold names ms = tables_up_to_hold statement_faults IsStatedTarget (target_at names) (target_holds names) 1024 (get_member (codes "target") ms)
+targets_hold names ms =
+    tables_up_to_hold
+    statement_faults
+    IsStatedTarget
+    (target_at names)
+    (target_holds names)
+    1024
+    (get_member (codes "target") ms)
 
 pub parts_hold : (names : Names) (ms : Members) → IfOk (parts_of names ms) AreParts
 parts_hold names ms =
     let ends = ends_in names ms in
     let few = both statement_faults ends (loops_in names ms) in
     let rest = both statement_faults (targets_in names ms) (accesses_in names ms) in
-    implied (λ (p : Parts). (IsSmall p.0.0.0 × AreLoops p.0.1) × AreTargets p.1.0) AreParts (parts_of names ms)
+    implied
+    (λ (p : Parts). (IsSmall p.0.0.0 × AreLoops p.0.1) × AreTargets p.1.0)
+    AreParts
+    (parts_of names ms)
     (λ p h. record { entry_small = h.0.0; within = h.0.1.0; few = h.0.1.1; destinations = h.1 })
     (both_hold statement_faults (λ p. IsSmall p.0.0 × AreLoops p.1) (λ p. AreTargets p.0) few rest
     (both_hold statement_faults (λ p. IsSmall p.0) AreLoops ends (loops_in names ms)
@@ -154,7 +195,14 @@ parts_hold names ms =
 
 -- ## As they are stored
 
-pub stored : (e : Read (ℕ × Class)) (l : Read (Vec Loop Global)) (t : Read (Vec (ℕ × Target) Global)) (a : Read (Vec (ℕ × Class) Global)) → seen parts_in (both statement_faults (both statement_faults e l) (both statement_faults t a)) ≡ both statement_faults (both statement_faults e (items_in l)) (both statement_faults (items_in t) (items_in a))
+pub stored :
+    (e : Read (ℕ × Class)) (l : Read (Vec Loop Global)) (t : Read (Vec (ℕ × Target) Global)) (a : Read (Vec (ℕ × Class) Global))
+    → seen parts_in (both statement_faults (both statement_faults e l) (both statement_faults t a)) ≡ both statement_faults (both statement_faults e (items_in l)) (both statement_faults (items_in t) (items_in a))
 stored e l t a =
-    seen_both statement_faults (λ p. (p.0, p.1.items)) (λ p. (p.0.items, p.1.items)) (both statement_faults e l) (both statement_faults t a)
+    seen_both
+    statement_faults
+    (λ p. (p.0, p.1.items))
+    (λ p. (p.0.items, p.1.items))
+    (both statement_faults e l)
+    (both statement_faults t a)
     ∙ (λ i. both statement_faults (seen_second statement_faults (λ v. v.items) e l i) (seen_both statement_faults (λ v. v.items) (λ v. v.items) t a i))

@@ -35,10 +35,18 @@ not_true false n = refl
 
 -- ## The order of the faults
 
-above : (f g : StatementFault) → f ≡ g → number_of WrongKind ≤ number_of g → number_of WrongKind ≤ number_of f
+above :
+    (f g : StatementFault)
+    → f ≡ g
+    → number_of WrongKind ≤ number_of g
+    → number_of WrongKind ≤ number_of f
 above f g e h = subst (λ (x : StatementFault). number_of WrongKind ≤ number_of x) (sym e) h
 
-at_most : (f g : StatementFault) → f ≡ g → number_of g ≤ number_of OutOfRange → number_of f ≤ number_of OutOfRange
+at_most :
+    (f g : StatementFault)
+    → f ≡ g
+    → number_of g ≤ number_of OutOfRange
+    → number_of f ≤ number_of OutOfRange
 at_most f g e h = subst (λ (x : StatementFault). number_of x ≤ number_of OutOfRange) (sym e) h
 
 pub twice_last : (f : StatementFault) → number_of f ≤ number_of Twice
@@ -138,18 +146,28 @@ module _ (names : Names) where
   )
 
   abbrev PlaceFault : Members → StatementFault → Type 0
-  PlaceFault ms f = (p : (ℕ × ℕ) × (ℕ × ℕ)) × HasEnds ms p × ((¬ IsPlaced names (loop_of p)) × (f ≡ OutOfRange))
+  PlaceFault ms f =
+      (p : (ℕ × ℕ) × (ℕ × ℕ)) × HasEnds ms p × ((¬ IsPlaced names (loop_of p)) × (f ≡ OutOfRange))
 
-  number_low : (o : Option ℤ) (g : StatementFault) → MatchOption o (g ≡ WrongKind) (λ z. IsOutside 1048576 z × (g ≡ OutOfRange)) → number_of g ≤ number_of OutOfRange
+  number_low :
+      (o : Option ℤ) (g : StatementFault)
+      → MatchOption o (g ≡ WrongKind) (λ z. IsOutside 1048576 z × (g ≡ OutOfRange))
+      → number_of g ≤ number_of OutOfRange
   number_low None g h = at_most g WrongKind h (omega arith)
   number_low (Some z) g h = at_most g OutOfRange h.1 (omega arith)
 
-  bound_low : (o : Option Data) (g : StatementFault) → MatchOption o (g ≡ WrongKind) (λ d. NumberFault statement_faults 1048576 d g) → number_of g ≤ number_of OutOfRange
+  bound_low :
+      (o : Option Data) (g : StatementFault)
+      → MatchOption o (g ≡ WrongKind) (λ d. NumberFault statement_faults 1048576 d g)
+      → number_of g ≤ number_of OutOfRange
   bound_low None g h = at_most g WrongKind h (omega arith)
   bound_low (Some d) g h = number_low (as_integer d) g h
 
   -- a header outside first to last is told of, or a fault of the bound that is no higher
-  misplaced_under : (ms : Members) (f : StatementFault) → IsMisplaced names ms × (f ≡ OutOfRange) → (g : StatementFault) × (EndsFault ms g ⊎ PlaceFault ms g) × (number_of g ≤ number_of f)
+  misplaced_under :
+      (ms : Members) (f : StatementFault)
+      → IsMisplaced names ms × (f ≡ OutOfRange)
+      → (g : StatementFault) × (EndsFault ms g ⊎ PlaceFault ms g) × (number_of g ≤ number_of f)
   misplaced_under ms f h =
       elim
       (stated_or_faulty statement_faults (λ n. AtKey (codes "bound") ms (λ d. IsNumber 1048576 d n)) (RequiredFault (codes "bound") ms (NumberFault statement_faults 1048576)) (number_in statement_faults (codes "bound") 1048576 ms) (number_in_judged statement_faults 1048576 (codes "bound") ms)) [
@@ -157,7 +175,13 @@ module _ (names : Names) where
         | inr g ↦ (g.0, inl (inr (inr g.1)), subst (λ (y : StatementFault). number_of g.0 ≤ number_of y) (sym h.1) (bound_low (get_member (codes "bound") ms) g.0 g.1))
       ]
 
-  placed_judged : (ms : Members) → Judges statement_faults (λ l. (p : (ℕ × ℕ) × (ℕ × ℕ)) × HasEnds ms p × (IsPlaced names (loop_of p) × (l ≡ loop_of p))) (λ f. EndsFault ms f ⊎ PlaceFault ms f) (and_then (loop_parts names ms) placed_loop)
+  placed_judged :
+      (ms : Members)
+      → Judges
+      statement_faults
+      (λ l. (p : (ℕ × ℕ) × (ℕ × ℕ)) × HasEnds ms p × (IsPlaced names (loop_of p) × (l ≡ loop_of p)))
+      (λ f. EndsFault ms f ⊎ PlaceFault ms f)
+      (and_then (loop_parts names ms) placed_loop)
   placed_judged ms =
       then_judged
       statement_faults
@@ -170,7 +194,13 @@ module _ (names : Names) where
       (loop_parts names ms)
       (ends_judged ms)
 
-  loop_keys_judged : (ms : Members) → Judges statement_faults (λ l. HasLoop names ms l × IsPlaced names l) (LoopKeysFault names ms) (and_then (loop_parts names ms) placed_loop)
+  loop_keys_judged :
+      (ms : Members)
+      → Judges
+      statement_faults
+      (λ l. HasLoop names ms l × IsPlaced names l)
+      (LoopKeysFault names ms)
+      (and_then (loop_parts names ms) placed_loop)
   loop_keys_judged ms =
       judged_as
       statement_faults
@@ -192,8 +222,18 @@ module _ (names : Names) where
       ends_of : (l : Loop) → HasLoop names ms l → HasEnds ms ((l.first, l.last), (l.header, l.bound))
       ends_of l h = ((h.first, h.last), (h.header, h.bound))
 
-  pub loop_judged : (d : Data) → Judges statement_faults (StatesLoop names d) (LoopFault names d) (loop_at names d)
-  loop_judged d = table_judged statement_faults loop_keys (λ ms l. HasLoop names ms l × IsPlaced names l) (LoopKeysFault names) (λ ms. and_then (loop_parts names ms) placed_loop) loop_keys_judged d
+  pub loop_judged :
+      (d : Data)
+      → Judges statement_faults (StatesLoop names d) (LoopFault names d) (loop_at names d)
+  loop_judged d =
+      table_judged
+      statement_faults
+      loop_keys
+      (λ ms l. HasLoop names ms l × IsPlaced names l)
+      (LoopKeysFault names)
+      (λ ms. and_then (loop_parts names ms) placed_loop)
+      loop_keys_judged
+      d
 
   -- ## Destinations
 
@@ -203,8 +243,22 @@ module _ (names : Names) where
   abbrev ReadFault : List Data → StatementFault → Type 0
   ReadFault ds f = ((64 < length ds) × (f ≡ OutOfRange)) ⊎ Any (λ e. AddressFault names e f) ds
 
-  read_judged : (ds : List Data) → Judges statement_faults (AreRead ds) (ReadFault ds) (listed_up_to statement_faults 64 (address_at names) ds)
-  read_judged ds = few_judged statement_faults 64 (IsAddress names) (AddressFault names) (address_at names) (address_judged names) ds
+  read_judged :
+      (ds : List Data)
+      → Judges
+      statement_faults
+      (AreRead ds)
+      (ReadFault ds)
+      (listed_up_to statement_faults 64 (address_at names) ds)
+  read_judged ds =
+      few_judged
+      statement_faults
+      64
+      (IsAddress names)
+      (AddressFault names)
+      (address_at names)
+      (address_judged names)
+      ds
 
   zip_nil : (ds : List Data) (to : List ℕ) → ds ≡ [] → AllZip (IsAddress names) ds to → to ≡ []
   zip_nil [] [] e z = refl
@@ -225,7 +279,10 @@ module _ (names : Names) where
       ⊎ MatchOption o (f ≡ WrongKind) (λ ds. ReadFault ds f)
       ⊎ (IsSomeAnd o (StandsTwice (IsAddress names)) × (f ≡ Twice))
 
-  none_judged : (ds : List Data) → ds ≡ [] → Judges statement_faults (AreSome (Some ds)) (SomeFault (Some ds)) (Err WrongKind)
+  none_judged :
+      (ds : List Data)
+      → ds ≡ []
+      → Judges statement_faults (AreSome (Some ds)) (SomeFault (Some ds)) (Err WrongKind)
   none_judged ds e = record {
     told = (
       λ to s. s.1 (zip_nil ds to e s.0.1),
@@ -245,7 +302,13 @@ module _ (names : Names) where
     );
   }
 
-  once_judged : (ds : List Data) → Judges statement_faults (λ to. (c : List ℕ) × AreRead ds c × ((are_distinct c ≡ true) × (to ≡ c))) (λ f. ReadFault ds f ⊎ ((c : List ℕ) × AreRead ds c × ((are_distinct c ≢ true) × (f ≡ Twice)))) (and_then (listed_up_to statement_faults 64 (address_at names) ds) once)
+  once_judged :
+      (ds : List Data)
+      → Judges
+      statement_faults
+      (λ to. (c : List ℕ) × AreRead ds c × ((are_distinct c ≡ true) × (to ≡ c)))
+      (λ f. ReadFault ds f ⊎ ((c : List ℕ) × AreRead ds c × ((are_distinct c ≢ true) × (f ≡ Twice))))
+      (and_then (listed_up_to statement_faults 64 (address_at names) ds) once)
   once_judged ds =
       then_judged
       statement_faults
@@ -259,7 +322,12 @@ module _ (names : Names) where
       (read_judged ds)
 
   -- addresses of which one stands twice are told of, or a fault of theirs, which is no higher
-  twice_under : (ds : List Data) (f : StatementFault) → StandsTwice (IsAddress names) ds × (f ≡ Twice) → (g : StatementFault) × (ReadFault ds g ⊎ ((c : List ℕ) × AreRead ds c × ((are_distinct c ≢ true) × (g ≡ Twice)))) × (number_of g ≤ number_of f)
+  twice_under :
+      (ds : List Data) (f : StatementFault)
+      → StandsTwice (IsAddress names) ds × (f ≡ Twice)
+      → (g : StatementFault)
+      × (ReadFault ds g ⊎ ((c : List ℕ) × AreRead ds c × ((are_distinct c ≢ true) × (g ≡ Twice))))
+      × (number_of g ≤ number_of f)
   twice_under ds f h =
       elim
       (stated_or_faulty statement_faults (AreRead ds) (ReadFault ds) (listed_up_to statement_faults 64 (address_at names) ds) (read_judged ds)) [
@@ -267,7 +335,14 @@ module _ (names : Names) where
         | inr g ↦ (g.0, inl g.1, subst (λ (y : StatementFault). number_of g.0 ≤ number_of y) (sym h.1) (twice_last g.0))
       ]
 
-  some_judged : (ds : List Data) → ds ≢ [] → Judges statement_faults (AreSome (Some ds)) (SomeFault (Some ds)) (and_then (listed_up_to statement_faults 64 (address_at names) ds) once)
+  some_judged :
+      (ds : List Data)
+      → ds ≢ []
+      → Judges
+      statement_faults
+      (AreSome (Some ds))
+      (SomeFault (Some ds))
+      (and_then (listed_up_to statement_faults 64 (address_at names) ds) once)
   some_judged ds ne =
       judged_as
       statement_faults
@@ -283,11 +358,25 @@ module _ (names : Names) where
       (and_then (listed_up_to statement_faults 64 (address_at names) ds) once)
       (widened_judged statement_faults _ (ReadFault ds) (λ f. (c : List ℕ) × AreRead ds c × ((are_distinct c ≢ true) × (f ≡ Twice))) (λ f. StandsTwice (IsAddress names) ds × (f ≡ Twice)) (λ f u. ((not_distinct (IsAddress names) (one_address names) ds u.0 u.1.1).0 (not_true (are_distinct u.0) u.2.0), u.2.1)) (twice_under ds) (and_then (listed_up_to statement_faults 64 (address_at names) ds) once) (once_judged ds))
 
-  by_length : (ds : List Data) (b : Bool) → eqb (length ds) 0 ≡ b → Judges statement_faults (AreSome (Some ds)) (SomeFault (Some ds)) (cond b (Err WrongKind) (and_then (listed_up_to statement_faults 64 (address_at names) ds) once))
+  by_length :
+      (ds : List Data) (b : Bool)
+      → eqb (length ds) 0 ≡ b
+      → Judges
+      statement_faults
+      (AreSome (Some ds))
+      (SomeFault (Some ds))
+      (cond b (Err WrongKind) (and_then (listed_up_to statement_faults 64 (address_at names) ds) once))
   by_length ds true e = none_judged ds (nil_from_length ds (eqb-true (length ds) 0 e))
-  by_length ds false e = some_judged ds (λ n. false≢true (sym e ∙ ap (λ (xs : List Data). eqb (length xs) 0) n))
+  by_length ds false e =
+      some_judged ds (λ n. false≢true (sym e ∙ ap (λ (xs : List Data). eqb (length xs) 0) n))
 
-  listed_judged : (o : Option (List Data)) → Judges statement_faults (AreSome o) (SomeFault o) (required statement_faults o (some_destinations names))
+  listed_judged :
+      (o : Option (List Data))
+      → Judges
+      statement_faults
+      (AreSome o)
+      (SomeFault o)
+      (required statement_faults o (some_destinations names))
   listed_judged None = record {
     told = (
       λ to s. s.0,
@@ -308,13 +397,35 @@ module _ (names : Names) where
   none_is None = (λ e. refl, λ e. refl)
   none_is (Some d) = (λ e. absurd (false≢true e), λ e. absurd (none-some d (sym e)))
 
-  to_judged : (k : TargetKind) (o : Option Data) → Judges statement_faults (GoesTo names k o) (ToFault names k o) (destinations names o k)
-  to_judged Jump o = required_judged statement_faults (AreDestinations names) (DestinationsFault names) (destinations_at names) (λ d. listed_judged (items_at d)) o
-  to_judged Call o = required_judged statement_faults (AreDestinations names) (DestinationsFault names) (destinations_at names) (λ d. listed_judged (items_at d)) o
+  to_judged :
+      (k : TargetKind) (o : Option Data)
+      → Judges statement_faults (GoesTo names k o) (ToFault names k o) (destinations names o k)
+  to_judged Jump o =
+      required_judged
+      statement_faults
+      (AreDestinations names)
+      (DestinationsFault names)
+      (destinations_at names)
+      (λ d. listed_judged (items_at d))
+      o
+  to_judged Call o =
+      required_judged
+      statement_faults
+      (AreDestinations names)
+      (DestinationsFault names)
+      (destinations_at names)
+      (λ d. listed_judged (items_at d))
+      o
   to_judged Return o = test_judged statement_faults (o ≡ None) [] WrongKind (is_none o) (none_is o)
   to_judged Leave o = test_judged statement_faults (o ≡ None) [] WrongKind (is_none o) (none_is o)
 
-  directed_judged : (k : TargetKind) (o : Option Data) → Judges statement_faults (λ t. (t.kind ≡ k) × GoesTo names k o t.to) (ToFault names k o) (directed names o k)
+  directed_judged :
+      (k : TargetKind) (o : Option Data)
+      → Judges
+      statement_faults
+      (λ t. (t.kind ≡ k) × GoesTo names k o t.to)
+      (ToFault names k o)
+      (directed names o k)
   directed_judged k o =
       seen_judged
       statement_faults
@@ -329,14 +440,22 @@ module _ (names : Names) where
 
   abbrev HasDirection : Members → Target → Type 0
   HasDirection ms t =
-      (k : TargetKind) × AtKey (codes "kind") ms (λ d. IsNamed named_kind d k) × ((t.kind ≡ k) × GoesTo names k (get_member (codes "to") ms) t.to)
+      (k : TargetKind)
+      × AtKey (codes "kind") ms (λ d. IsNamed named_kind d k)
+      × ((t.kind ≡ k) × GoesTo names k (get_member (codes "to") ms) t.to)
 
   abbrev DirectionFault : Members → StatementFault → Type 0
   DirectionFault ms f =
       RequiredFault (codes "kind") ms (NameFault named_kind) f
       ⊎ ((k : TargetKind) × AtKey (codes "kind") ms (λ d. IsNamed named_kind d k) × ToFault names k (get_member (codes "to") ms) f)
 
-  direction_judged : (ms : Members) → Judges statement_faults (HasDirection ms) (DirectionFault ms) (and_then (kind_in ms) (directed names (get_member (codes "to") ms)))
+  direction_judged :
+      (ms : Members)
+      → Judges
+      statement_faults
+      (HasDirection ms)
+      (DirectionFault ms)
+      (and_then (kind_in ms) (directed names (get_member (codes "to") ms)))
   direction_judged ms =
       then_judged
       statement_faults
@@ -349,7 +468,13 @@ module _ (names : Names) where
       (kind_in ms)
       (kind_judged ms)
 
-  target_keys_judged : (ms : Members) → Judges statement_faults (HasTarget names ms) (TargetKeysFault names ms) (both statement_faults (address_in names (codes "at") ms) (and_then (kind_in ms) (directed names (get_member (codes "to") ms))))
+  target_keys_judged :
+      (ms : Members)
+      → Judges
+      statement_faults
+      (HasTarget names ms)
+      (TargetKeysFault names ms)
+      (both statement_faults (address_in names (codes "at") ms) (and_then (kind_in ms) (directed names (get_member (codes "to") ms))))
   target_keys_judged ms =
       judged_as
       statement_faults
@@ -369,12 +494,28 @@ module _ (names : Names) where
       (both statement_faults (address_in names (codes "at") ms) (and_then (kind_in ms) (directed names (get_member (codes "to") ms))))
       (both_judged statement_faults _ _ _ _ _ _ (address_in_judged names (codes "at") ms) (direction_judged ms))
 
-  pub target_judged : (d : Data) → Judges statement_faults (StatesTarget names d) (TargetFault names d) (target_at names d)
-  target_judged d = table_judged statement_faults target_keys (HasTarget names) (TargetKeysFault names) (λ ms. both statement_faults (address_in names (codes "at") ms) (and_then (kind_in ms) (directed names (get_member (codes "to") ms)))) target_keys_judged d
+  pub target_judged :
+      (d : Data)
+      → Judges statement_faults (StatesTarget names d) (TargetFault names d) (target_at names d)
+  target_judged d =
+      table_judged
+      statement_faults
+      target_keys
+      (HasTarget names)
+      (TargetKeysFault names)
+      (λ ms. both statement_faults (address_in names (codes "at") ms) (and_then (kind_in ms) (directed names (get_member (codes "to") ms))))
+      target_keys_judged
+      d
 
   -- ## Accesses
 
-  access_keys_judged : (ms : Members) → Judges statement_faults (HasAccess names ms) (AccessKeysFault names ms) (both statement_faults (address_in names (codes "at") ms) (class_in ms))
+  access_keys_judged :
+      (ms : Members)
+      → Judges
+      statement_faults
+      (HasAccess names ms)
+      (AccessKeysFault names ms)
+      (both statement_faults (address_in names (codes "at") ms) (class_in ms))
   access_keys_judged ms =
       judged_as
       statement_faults
@@ -387,5 +528,15 @@ module _ (names : Names) where
       (both statement_faults (address_in names (codes "at") ms) (class_in ms))
       (both_judged statement_faults _ _ _ _ _ _ (address_in_judged names (codes "at") ms) (class_judged ms))
 
-  pub access_judged : (d : Data) → Judges statement_faults (StatesAccess names d) (AccessFault names d) (access_at names d)
-  access_judged d = table_judged statement_faults access_keys (HasAccess names) (AccessKeysFault names) (λ ms. both statement_faults (address_in names (codes "at") ms) (class_in ms)) access_keys_judged d
+  pub access_judged :
+      (d : Data)
+      → Judges statement_faults (StatesAccess names d) (AccessFault names d) (access_at names d)
+  access_judged d =
+      table_judged
+      statement_faults
+      access_keys
+      (HasAccess names)
+      (AccessKeysFault names)
+      (λ ms. both statement_faults (address_in names (codes "at") ms) (class_in ms))
+      access_keys_judged
+      d

@@ -19,14 +19,20 @@ module _ {F A : Type 0} (fs : Faults F) (x : F) where
   refusal_judged = record { told = refused }
 
 module _ {F A : Type 0} (fs : Faults F) (P : Type 0) (a : A) (x : F) where
-  tested : (b : Bool) → b ≡ true ↔ P → Told fs (λ c. P × (c ≡ a)) (λ f. (¬ P) × (f ≡ x)) (cond b (Ok a) (Err x))
+  tested :
+      (b : Bool)
+      → b ≡ true ↔ P
+      → Told fs (λ c. P × (c ≡ a)) (λ f. (¬ P) × (f ≡ x)) (cond b (Ok a) (Err x))
   tested true e = (record { stated = (e.0 refl, refl); only = λ c s. s.1 }, λ f h. h.0 (e.0 refl))
   tested false e = (
     λ c s. false≢true (e.1 s.0),
     record { has = (λ p. false≢true (e.1 p), refl); least = λ o h. le_of_eq (ap fs.rank (sym h.1)) },
   )
 
-  pub test_judged : (b : Bool) → b ≡ true ↔ P → Judges fs (λ c. P × (c ≡ a)) (λ f. (¬ P) × (f ≡ x)) (cond b (Ok a) (Err x))
+  pub test_judged :
+      (b : Bool)
+      → b ≡ true ↔ P
+      → Judges fs (λ c. P × (c ≡ a)) (λ f. (¬ P) × (f ≡ x)) (cond b (Ok a) (Err x))
   test_judged b e = record { told = tested b e }
 
 -- ## What is read from a value that was read
@@ -38,7 +44,12 @@ module _ {F A B : Type 0} (fs : Faults F) (S : A → Type 0) (T : A → B → Ty
   abbrev FollowsFault : F → Type 0
   FollowsFault x = H x ⊎ ((c : A) × S c × K c x)
 
-  followed : (a : A) → S a → ((c : A) → S c → c ≡ a) → ((x : F) → ¬ H x) → Judges fs Follows FollowsFault (f a)
+  followed :
+      (a : A)
+      → S a
+      → ((c : A) → S c → c ≡ a)
+      → ((x : F) → ¬ H x)
+      → Judges fs Follows FollowsFault (f a)
   followed a s only clean =
       judged_as
       fs
@@ -59,14 +70,18 @@ module _ {F A B : Type 0} (fs : Faults F) (S : A → Type 0) (T : A → B → Ty
   )
 
   -- the faults of the second reading are told of the one value that is stated
-  pub then_judged : (r : Reading F A) → Judges fs S H r → Judges fs (λ b. (c : A) × S c × T c b) (λ x. H x ⊎ ((c : A) × S c × K c x)) (and_then r f)
+  pub then_judged :
+      (r : Reading F A)
+      → Judges fs S H r
+      → Judges fs (λ b. (c : A) × S c × T c b) (λ x. H x ⊎ ((c : A) × S c × K c x)) (and_then r f)
   then_judged r h = record { told = then_told r h.told }
 
 -- ## More faults, none lower than one that is there
 
 module _ {F A : Type 0} (fs : Faults F) (S : A → Type 0) (H K L : F → Type 0) (to : (x : F) → K x → L x) (under : (x : F) → L x → (g : F) × (H g ⊎ K g) × (fs.rank g ≤ fs.rank x)) where
   widened_told : (r : Reading F A) → Told fs S (λ x. H x ⊎ K x) r → Told fs S (λ x. H x ⊎ L x) r
-  widened_told (Ok a) h = (h.0, λ x y. elim y [ inl z ↦ h.1 x (inl z) | inr z ↦ let u = under x z in h.1 u.0 u.1 ])
+  widened_told (Ok a) h =
+      (h.0, λ x y. elim y [ inl z ↦ h.1 x (inl z) | inr z ↦ let u = under x z in h.1 u.0 u.1 ])
   widened_told (Err g) h = (
     h.0,
     record {
@@ -96,7 +111,13 @@ module _ {F A : Type 0} (fs : Faults F) (limit : ℕ) (S : Data → A → Type 0
   abbrev FewFault : List Data → F → Type 0
   FewFault ds f = ((limit < length ds) × (f ≡ fs.out_of_range)) ⊎ Any (λ e. H e f) ds
 
-  pub few_judged : (ds : List Data) → Judges fs (λ xs. (length ds ≤ limit) × AllZip S ds xs) (λ f. ((limit < length ds) × (f ≡ fs.out_of_range)) ⊎ Any (λ e. H e f) ds) (listed_up_to fs limit reads ds)
+  pub few_judged :
+      (ds : List Data)
+      → Judges
+      fs
+      (λ xs. (length ds ≤ limit) × AllZip S ds xs)
+      (λ f. ((limit < length ds) × (f ≡ fs.out_of_range)) ⊎ Any (λ e. H e f) ds)
+      (listed_up_to fs limit reads ds)
   few_judged ds =
       judged_as
       fs
@@ -112,8 +133,31 @@ module _ {F A : Type 0} (fs : Faults F) (limit : ℕ) (S : Data → A → Type 0
       (listed_up_to fs limit reads ds)
       (checked_judged fs (AllZip S ds) (λ f. Any (λ e. H e f) ds) (leb (length ds) limit) fs.out_of_range (listed fs reads ds) (all_judged fs S H reads each ds))
 
-  pub list_up_to_judged : (d : Data) → Judges fs (IsListUpTo limit S d) (ListUpToFault fs limit H d) (list_up_to fs limit reads d)
-  list_up_to_judged d = required_judged fs (λ ds xs. (length ds ≤ limit) × AllZip S ds xs) FewFault (listed_up_to fs limit reads) few_judged (items_at d)
+  pub list_up_to_judged :
+      (d : Data)
+      → Judges fs (IsListUpTo limit S d) (ListUpToFault fs limit H d) (list_up_to fs limit reads d)
+  list_up_to_judged d =
+      required_judged
+      fs
+      (λ ds xs. (length ds ≤ limit) × AllZip S ds xs)
+      FewFault
+      (listed_up_to fs limit reads)
+      few_judged
+      (items_at d)
 
-  pub tables_up_to_judged : (o : Option Data) → Judges fs (λ xs. MatchOption o (xs ≡ []) (λ d. IsListUpTo limit S d xs)) (λ f. IsSomeAnd o (λ d. ListUpToFault fs limit H d f)) (tables_up_to fs limit reads o)
-  tables_up_to_judged o = optional_judged fs (IsListUpTo limit S) (ListUpToFault fs limit H) (list_up_to fs limit reads) list_up_to_judged [] o
+  pub tables_up_to_judged :
+      (o : Option Data)
+      → Judges
+      fs
+      (λ xs. MatchOption o (xs ≡ []) (λ d. IsListUpTo limit S d xs))
+      (λ f. IsSomeAnd o (λ d. ListUpToFault fs limit H d f))
+      (tables_up_to fs limit reads o)
+  tables_up_to_judged o =
+      optional_judged
+      fs
+      (IsListUpTo limit S)
+      (ListUpToFault fs limit H)
+      (list_up_to fs limit reads)
+      list_up_to_judged
+      []
+      o

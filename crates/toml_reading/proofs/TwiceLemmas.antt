@@ -17,7 +17,11 @@ module _ (Is : Data → ℕ → Type 0) (one : (d : Data) (n m : ℕ) → Is d n
   and_false true = refl
   and_false false = refl
 
-  found : (ds : List Data) (ns : List ℕ) (k : ℕ) → AllZip Is ds ns → list_any (nat_eq k) ns ≡ true → Any (λ e. Is e k) ds
+  found :
+      (ds : List Data) (ns : List ℕ) (k : ℕ)
+      → AllZip Is ds ns
+      → list_any (nat_eq k) ns ≡ true
+      → Any (λ e. Is e k) ds
   found [] [] k z h = absurd (false≢true h)
   found [] (n ∷ ns) k z h = absurd z
   found (d ∷ ds) [] k z h = absurd z
@@ -26,7 +30,11 @@ module _ (Is : Data → ℕ → Type 0) (one : (d : Data) (n m : ℕ) → Is d n
     | inr other ↦ any_later (λ e. Is e k) d ds (found ds ns k z.1 (rw other at h))
   ]
 
-  listed : (ds : List Data) (ns : List ℕ) (k : ℕ) → AllZip Is ds ns → Any (λ e. Is e k) ds → list_any (nat_eq k) ns ≡ true
+  listed :
+      (ds : List Data) (ns : List ℕ) (k : ℕ)
+      → AllZip Is ds ns
+      → Any (λ e. Is e k) ds
+      → list_any (nat_eq k) ns ≡ true
   listed [] [] k z h = absurd (any_none (λ e. Is e k) h)
   listed [] (n ∷ ns) k z h = absurd z
   listed (d ∷ ds) [] k z h = absurd z
@@ -39,8 +47,10 @@ module _ (Is : Data → ℕ → Type 0) (one : (d : Data) (n m : ℕ) → Is d n
   repeated [] [] z h = absurd h
   repeated [] (n ∷ ns) z h = absurd z
   repeated (d ∷ ds) [] z h = absurd z
-  repeated (d ∷ ds) (n ∷ ns) z (inl h) = rw (listed ds ns n z.1 (subst (λ (m : ℕ). Any (λ e. Is e m) ds) (one d h.0 n h.1 z.0) h.2)) refl
-  repeated (d ∷ ds) (n ∷ ns) z (inr h) = rw (repeated ds ns z.1 h) (and_false (not (list_any (nat_eq n) ns)))
+  repeated (d ∷ ds) (n ∷ ns) z (inl h) =
+      rw (listed ds ns n z.1 (subst (λ (m : ℕ). Any (λ e. Is e m) ds) (one d h.0 n h.1 z.0) h.2)) refl
+  repeated (d ∷ ds) (n ∷ ns) z (inr h) =
+      rw (repeated ds ns z.1 h) (and_false (not (list_any (nat_eq n) ns)))
 
   twice : (ds : List Data) (ns : List ℕ) → AllZip Is ds ns → are_distinct ns ≡ false → StandsTwice Is ds
   twice [] [] z h = absurd (true≢false h)
@@ -52,7 +62,10 @@ module _ (Is : Data → ℕ → Type 0) (one : (d : Data) (n m : ℕ) → Is d n
   ]
 
   -- the numbers that are read are not distinct exactly where two values are of one
-  pub not_distinct : (ds : List Data) (ns : List ℕ) → AllZip Is ds ns → are_distinct ns ≡ false ↔ StandsTwice Is ds
+  pub not_distinct :
+      (ds : List Data) (ns : List ℕ)
+      → AllZip Is ds ns
+      → are_distinct ns ≡ false ↔ StandsTwice Is ds
   not_distinct ds ns z = (twice ds ns z, repeated ds ns z)
 
   module _ {A : Type 0} (S : Data → ℕ × A → Type 0) (key : (d : Data) (x : ℕ × A) → S d x → Is d x.0) where
@@ -62,11 +75,18 @@ module _ (Is : Data → ℕ → Type 0) (one : (d : Data) (n m : ℕ) → Is d n
     keys_zip (d ∷ ds) [] z = absurd z
     keys_zip (d ∷ ds) (x ∷ xs) z = (key d x z.0, keys_zip ds xs z.1)
 
-    in_items : (limit : ℕ) (o : Option (List Data)) (xs : List (ℕ × A)) → IsSomeAnd o (λ ds. (length ds ≤ limit) × AllZip S ds xs) → are_distinct (keys_of xs) ≡ false ↔ IsSomeAnd o (StandsTwice Is)
+    in_items :
+        (limit : ℕ) (o : Option (List Data)) (xs : List (ℕ × A))
+        → IsSomeAnd o (λ ds. (length ds ≤ limit) × AllZip S ds xs)
+        → are_distinct (keys_of xs) ≡ false ↔ IsSomeAnd o (StandsTwice Is)
     in_items limit None xs h = absurd h
     in_items limit (Some ds) xs h = not_distinct ds (keys_of xs) (keys_zip ds xs h.1)
 
     -- the same of a list of entries, which may be missing
-    pub keys_not_distinct : (limit : ℕ) (o : Option Data) (xs : List (ℕ × A)) → MatchOption o (xs ≡ []) (λ d. IsListUpTo limit S d xs) → are_distinct (keys_of xs) ≡ false ↔ IsSomeAnd o (λ d. IsSomeAnd (items_at d) (StandsTwice Is))
-    keys_not_distinct limit None xs h = (λ e. true≢false (sym (ap (λ (ys : List (ℕ × A)). are_distinct (keys_of ys)) h) ∙ e), λ t. absurd t)
+    pub keys_not_distinct :
+        (limit : ℕ) (o : Option Data) (xs : List (ℕ × A))
+        → MatchOption o (xs ≡ []) (λ d. IsListUpTo limit S d xs)
+        → are_distinct (keys_of xs) ≡ false ↔ IsSomeAnd o (λ d. IsSomeAnd (items_at d) (StandsTwice Is))
+    keys_not_distinct limit None xs h =
+        (λ e. true≢false (sym (ap (λ (ys : List (ℕ × A)). are_distinct (keys_of ys)) h) ∙ e), λ t. absurd t)
     keys_not_distinct limit (Some d) xs h = in_items limit (items_at d) xs h
