@@ -17,7 +17,7 @@ use Rattle.toml_reading.proofs.LowestParts.{entries_state, keys_judged, number_o
 use Rattle.machine_file.specs.MachineFaults.{machine_faults, number_of}
 use Rattle.machine_file.specs.MachineFile.{are_single, controller_in, controller_of, event_at, events_in, flags_at, flags_in, is_mappable, machine_in, mapped, mode_at, mode_in, once, page_at, pages_in, pc_at, pc_in, processor_in, processor_of, registers_at, registers_in, schedule_in, schedule_of, set_flags, size_at, size_in, stated_of}
 use Rattle.machine_file.specs.MachineFaultRules.{IsPageTwice, IsStepTwice, IsUnmappable, are_below, page_numbers}
-use Rattle.machine_file.specs.MachineRules.{AreFlags, AreRegisters, IsAddress, IsEvent, IsNamed, IsPage, IsSize, IsWord, StatesMachine}
+use Rattle.machine_file.specs.MachineRules.{AreFlags, AreRegisters, IsAddress, IsEvent, IsNamed, IsPage, IsSize, IsWord, StatesController, StatesMachine, StatesProcessor, StatesSchedule}
 use Rattle.machine_file.specs.Names.{file_keys, map_keys, named_mode}
 use Rattle.machine_file.specs.Stated.{Controller, Processor, Schedule, Stated}
 use Rattle.machine_file.specs.declared.events.Event.{Event}
@@ -376,29 +376,31 @@ file_judged ms =
 to_machine : (ms : Members) (s : Stated) → (has_only_keys file_keys ms ≡ true) × FileStates ms s → StatesMachine ms s
 to_machine ms s h = record {
   known = h.0;
-  pc = h.1.0.0.0;
-  mode = h.1.0.0.1.0;
-  flags = h.1.0.0.1.1;
-  registers = h.1.0.1;
-  low_rom = h.1.1.0.0.0;
-  high_rom = h.1.1.0.0.1;
-  size = h.1.1.0.1.0.0;
-  pages = h.1.1.0.1.0.1;
-  mappable = h.1.1.0.1.1;
-  pages_once = h.1.1.0.1.2;
-  steps = h.1.1.1.0.0;
-  port = h.1.1.1.0.1;
-  events = h.1.1.1.1.0;
-  steps_once = h.1.1.1.1.1;
+  processor = record { pc = h.1.0.0.0; mode = h.1.0.0.1.0; flags = h.1.0.0.1.1; registers = h.1.0.1 };
+  controller = record {
+    low_rom = h.1.1.0.0.0;
+    high_rom = h.1.1.0.0.1;
+    size = h.1.1.0.1.0.0;
+    pages = h.1.1.0.1.0.1;
+    mappable = h.1.1.0.1.1;
+    pages_once = h.1.1.0.1.2;
+  };
+  schedule = record { steps = h.1.1.1.0.0; port = h.1.1.1.0.1; events = h.1.1.1.1.0; steps_once = h.1.1.1.1.1 };
 }
+
+from_processor : (ms : Members) (p : Processor) → StatesProcessor ms p → ProcessorStates ms p
+from_processor ms p h = ((h.pc, (h.mode, h.flags)), h.registers)
+
+from_controller : (ms : Members) (c : Controller) → StatesController ms c → ControllerStates ms c
+from_controller ms c h = ((h.low_rom, h.high_rom), ((h.size, h.pages), h.mappable, h.pages_once))
+
+from_schedule : (ms : Members) (s : Schedule) → StatesSchedule ms s → ScheduleStates ms s
+from_schedule ms s h = ((h.steps, h.port), (h.events, h.steps_once))
 
 from_machine : (ms : Members) (s : Stated) → StatesMachine ms s → (has_only_keys file_keys ms ≡ true) × FileStates ms s
 from_machine ms s m = (
   m.known,
-  (
-    ((m.pc, (m.mode, m.flags)), m.registers),
-    (((m.low_rom, m.high_rom), ((m.size, m.pages), m.mappable, m.pages_once)), ((m.steps, m.port), (m.events, m.steps_once))),
-  ),
+  (from_processor ms s.processor m.processor, (from_controller ms s.controller m.controller, from_schedule ms s.schedule m.schedule)),
 )
 
 -- the faults in the order of the readings, and by whether one value alone shows them

@@ -1,7 +1,6 @@
 -- Which faults a machine file has, told of all its tables. Source: our own format of machine files, over the
--- documents of TOML, and our own memory map.
-use Rattle.std.specs.Prelude.{◌≡◌, ◌≢◌, ◌⊎◌, ◌-◌, ◌^◌, ⊤, ℕ, pos, Bool, true, false, List, [], ◌∷◌, codes}
-use Rattle.std.specs.Prelude.{map, Any, nat_lt, None, IsSomeAnd, MatchOption}
+-- documents of TOML; what MEMC maps is told by the data sheet of VL86C110.
+use Rattle.std.specs.Prelude.{◌≡◌, ◌≢◌, ◌⊎◌, ◌-◌, ◌^◌, ⊤, ℕ, pos, Bool, true, false, List, [], ◌∷◌, codes, map, Any, nat_lt, None, IsSomeAnd, MatchOption}
 use Rattle.std.specs.List.{list_all}
 use Rattle.std.specs.Option.{option_and_then}
 use Rattle.toml.specs.Data.{Data, Members, as_integer, as_str, as_table, get_member}
@@ -12,16 +11,14 @@ use Rattle.toml_reading.specs.Documents.{are_distinct, has_only_keys, items_at}
 use Rattle.toml_reading.specs.Lowest.{AtKey, AtKeyOr, IsOutside, entries_at, numbers_at}
 use Rattle.machine_file.specs.MachineFile.{is_letter, is_single, named_line}
 use Rattle.machine_file.specs.MachineRules.{IsInSpace, IsSize, kilobytes}
-use Rattle.machine_file.specs.Names.{event_keys, file_keys, map_keys, name_of, named_mode, named_registers}
-use Rattle.machine_file.specs.Names.{register_keys}
+use Rattle.machine_file.specs.Names.{event_keys, file_keys, map_keys, name_of, named_mode, named_registers, register_keys}
 use Rattle.machine_file.specs.declared.machine_faults.MachineFileFault.{MachineFileFault}
-use Rattle.machine_file.specs.declared.machine_faults.MachineFileFault.TheVariants.{UnknownKey, WrongKind}
-use Rattle.machine_file.specs.declared.machine_faults.MachineFileFault.TheVariants.{OutOfRange, Twice}
+use Rattle.machine_file.specs.declared.machine_faults.MachineFileFault.TheVariants.{UnknownKey, WrongKind, OutOfRange, Twice}
 
 -- ## What the keys take
 
--- a number from 0 to a limit, an address of the program, the size of a page, the name of a mode, letters of
--- flags, names of lines
+-- a number from 0 to a limit, an address of the program, the size of a page, the name of a mode, letters of flags,
+-- names of lines
 pub data Takes : Type 0 where
   UpTo : ℕ → Takes
   Address : Takes

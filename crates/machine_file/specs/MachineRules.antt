@@ -1,7 +1,6 @@
 -- What a machine file states, told of its keys one by one. Source: our own format of machine files, over the
 -- documents of TOML.
-use Rattle.std.specs.Prelude.{◌≡◌, ◌<◌, ◌-◌, ◌^◌, ◌%◌, ℕ, ℤ, pos, true, List, [], codes, replicate, Option}
-use Rattle.std.specs.Prelude.{Some, None, IsSomeAnd}
+use Rattle.std.specs.Prelude.{◌≡◌, ◌<◌, ◌-◌, ◌^◌, ◌%◌, ℕ, ℤ, pos, true, List, [], codes, replicate, Option, Some, None, IsSomeAnd}
 use Rattle.std.specs.List.{AllZip, list_all}
 use Rattle.std.specs.Map.{keys_of}
 use Rattle.std.specs.Option.{option_and_then}
@@ -13,11 +12,9 @@ use Rattle.memc.specs.declared.spots.PageSize.{PageSize}
 use Rattle.memc.specs.declared.spots.PageSize.TheVariants.{K4, K8, K16, K32}
 use Rattle.toml_reading.specs.Documents.{are_distinct, has_only_keys}
 use Rattle.toml_reading.specs.Lowest.{AtKey, AtKeyOr, IsListOf, IsNumber, IsTable}
-use Rattle.machine_file.specs.MachineFile.{are_single, is_letter, is_mappable, is_single, named_line}
-use Rattle.machine_file.specs.MachineFile.{set_flags, union}
-use Rattle.machine_file.specs.Names.{event_keys, file_keys, map_keys, name_of, named_mode, named_registers}
-use Rattle.machine_file.specs.Names.{register_keys}
-use Rattle.machine_file.specs.Stated.{Stated}
+use Rattle.machine_file.specs.MachineFile.{are_single, is_letter, is_mappable, is_single, named_line, set_flags, union}
+use Rattle.machine_file.specs.Names.{event_keys, file_keys, map_keys, name_of, named_mode, named_registers, register_keys}
+use Rattle.machine_file.specs.Stated.{Controller, Processor, Schedule, Stated}
 use Rattle.machine_file.specs.declared.events.Event.{Event}
 use Rattle.machine_file.specs.declared.flags.PsrFlags.{PsrFlags}
 use Rattle.machine_file.specs.declared.pages.MappedPage.{MappedPage}
@@ -52,7 +49,8 @@ IsNamed named d a = option_and_then named (as_str d) ≡ Some a
 -- letters of NZCVIF, each once at most: those flags are set
 abbrev pub AreFlags : Data → PsrFlags → Type 0
 AreFlags d flags =
-    IsSomeAnd (as_str d)
+    IsSomeAnd
+    (as_str d)
     (λ text. (flags ≡ set_flags text) × (list_all is_letter text ≡ true) × (is_single text ≡ true))
 
 -- names of lines, which are active
@@ -64,8 +62,10 @@ AreLines d lines = (all : List Lines) × IsListOf (IsNamed named_line) d all × 
 -- the words of the registers in their order, 0 where one is not named
 abbrev pub AreRegisters : Data → List ℕ → Type 0
 AreRegisters d words =
-    IsTable register_keys
-    (λ ms. AllZip (λ r n. AtKeyOr (name_of r) ms (n ≡ 0) (λ e. IsWord e n)) named_registers words) d
+    IsTable
+    register_keys
+    (λ ms. AllZip (λ r n. AtKeyOr (name_of r) ms (n ≡ 0) (λ e. IsWord e n)) named_registers words)
+    d
 
 -- a mapped page, all of whose keys are required
 abbrev pub IsPage : Data → MappedPage → Type 0
@@ -93,28 +93,30 @@ IsEvent d event =
 -- ## What the file states
 
 -- only `pc` is required; where another key is missing, what stands here beside it holds
+
+pub record StatesProcessor (ms : Members) (p : Processor) : Type 0 where
+  pub pc : AtKey (codes "pc") ms (λ d. IsAddress d p.pc)
+  pub mode : AtKeyOr (codes "mode") ms (p.mode ≡ Svc) (λ d. IsNamed named_mode d p.mode)
+  pub flags : AtKeyOr (codes "flags") ms (p.flags ≡ set_flags (codes "IF")) (λ d. AreFlags d p.flags)
+  pub registers : AtKeyOr (codes "registers") ms (p.registers ≡ replicate 26 0) (λ d. AreRegisters d p.registers)
+
+-- the pages are such as MEMC maps beside one another
+pub record StatesController (ms : Members) (c : Controller) : Type 0 where
+  pub low_rom : AtKeyOr (codes "low_rom") ms (c.low_rom ≡ 0) (λ d. IsNumber 3 d c.low_rom)
+  pub high_rom : AtKeyOr (codes "high_rom") ms (c.high_rom ≡ 0) (λ d. IsNumber 3 d c.high_rom)
+  pub size : AtKeyOr (codes "pages") ms (c.size ≡ K4) (λ d. IsSize d c.size)
+  pub pages : AtKeyOr (codes "map") ms (c.pages ≡ []) (λ d. IsListOf IsPage d c.pages)
+  pub mappable : list_all (is_mappable (shift_of_size c.size)) c.pages ≡ true
+  pub pages_once : are_single c.pages ≡ true
+
+pub record StatesSchedule (ms : Members) (s : Schedule) : Type 0 where
+  pub steps : AtKeyOr (codes "steps") ms (s.steps ≡ 65536) (λ d. IsNumber 65536 d s.steps)
+  pub port : AtKeyOr (codes "port") ms (s.port ≡ 0) (λ d. IsWord d s.port)
+  pub events : AtKeyOr (codes "event") ms (s.events ≡ []) (λ d. IsListOf IsEvent d s.events)
+  pub steps_once : are_distinct (keys_of s.events) ≡ true
+
 pub record StatesMachine (ms : Members) (stated : Stated) : Type 0 where
   pub known : has_only_keys file_keys ms ≡ true
-  pub pc : AtKey (codes "pc") ms (λ d. IsAddress d stated.processor.pc)
-  pub mode : AtKeyOr (codes "mode") ms (stated.processor.mode ≡ Svc)
-      (λ d. IsNamed named_mode d stated.processor.mode)
-  pub flags : AtKeyOr (codes "flags") ms (stated.processor.flags ≡ set_flags (codes "IF"))
-      (λ d. AreFlags d stated.processor.flags)
-  pub registers : AtKeyOr (codes "registers") ms (stated.processor.registers ≡ replicate 26 0)
-      (λ d. AreRegisters d stated.processor.registers)
-  pub low_rom : AtKeyOr (codes "low_rom") ms (stated.controller.low_rom ≡ 0)
-      (λ d. IsNumber 3 d stated.controller.low_rom)
-  pub high_rom : AtKeyOr (codes "high_rom") ms (stated.controller.high_rom ≡ 0)
-      (λ d. IsNumber 3 d stated.controller.high_rom)
-  pub size : AtKeyOr (codes "pages") ms (stated.controller.size ≡ K4) (λ d. IsSize d stated.controller.size)
-  pub pages : AtKeyOr (codes "map") ms (stated.controller.pages ≡ [])
-      (λ d. IsListOf IsPage d stated.controller.pages)
-  -- the pages can be mapped beside one another
-  pub mappable : list_all (is_mappable (shift_of_size stated.controller.size)) stated.controller.pages ≡ true
-  pub pages_once : are_single stated.controller.pages ≡ true
-  pub steps : AtKeyOr (codes "steps") ms (stated.schedule.steps ≡ 65536)
-      (λ d. IsNumber 65536 d stated.schedule.steps)
-  pub port : AtKeyOr (codes "port") ms (stated.schedule.port ≡ 0) (λ d. IsWord d stated.schedule.port)
-  pub events : AtKeyOr (codes "event") ms (stated.schedule.events ≡ [])
-      (λ d. IsListOf IsEvent d stated.schedule.events)
-  pub steps_once : are_distinct (keys_of stated.schedule.events) ≡ true
+  pub processor : StatesProcessor ms stated.processor
+  pub controller : StatesController ms stated.controller
+  pub schedule : StatesSchedule ms stated.schedule

@@ -1,7 +1,6 @@
--- What a document of TOML states and which faults it has, told of its keys, numbers, lists and tables; the
--- lowest fault is the one that is answered (our own).
-use Rattle.std.specs.Prelude.{◌≡◌, ◌≤◌, ◌<◌, ◌⊎◌, ℕ, ℤ, pos, negsuc, true, false, List, [], Any, filter_map}
-use Rattle.std.specs.Prelude.{Option, Some, None, IsSomeAnd, MatchOption, unwrap_or}
+-- What a document of TOML states and which faults it has, told of its keys, numbers, lists and tables; the lowest
+-- fault is the one that is answered (our own).
+use Rattle.std.specs.Prelude.{◌≡◌, ◌≤◌, ◌<◌, ◌⊎◌, ℕ, ℤ, pos, negsuc, true, false, List, [], Any, filter_map, Option, Some, None, IsSomeAnd, MatchOption, unwrap_or}
 use Rattle.std.specs.List.{AllZip}
 use Rattle.std.specs.Option.{option_and_then}
 use Rattle.toml.specs.Data.{Data, Members, as_integer, as_table, get_member}
@@ -52,7 +51,9 @@ IsOutside limit z = (n : ℕ) → z ≡ pos n → limit < n
 
 abbrev pub NumberFault : {F : Type 0} → Faults F → ℕ → Data → F → Type 0
 NumberFault faults limit d fault =
-    MatchOption (as_integer d) (fault ≡ faults.wrong_kind)
+    MatchOption
+    (as_integer d)
+    (fault ≡ faults.wrong_kind)
     (λ z. IsOutside limit z × (fault ≡ faults.out_of_range))
 
 -- ## Lists
