@@ -14,10 +14,13 @@ module _ {X : Type 0} where
   pub any_map : (P Q : X → Type 0) → ((x : X) → P x → Q x) → (xs : List X) → Any P xs → Any Q xs
   any_map P Q f xs h = (h.0, h.1, h.2, h.3, f h.1 h.4)
 
-  any_sum : (P Q R : X → Type 0) → ((x : X) → P x → Q x ⊎ R x) → (xs : List X) → Any P xs → Any Q xs ⊎ Any R xs
-  any_sum P Q R f xs h = elim (f h.1 h.4) [ inl q ↦ inl (h.0, h.1, h.2, h.3, q) | inr r ↦ inr (h.0, h.1, h.2, h.3, r) ]
+  any_sum : (P Q R : X → Type 0) → ((x : X) → P x → Q x ⊎ R x) → (xs : List X) → Any P xs
+      → Any Q xs ⊎ Any R xs
+  any_sum P Q R f xs h =
+      elim (f h.1 h.4) [ inl q ↦ inl (h.0, h.1, h.2, h.3, q) | inr r ↦ inr (h.0, h.1, h.2, h.3, r) ]
 
-  some_sum : (P Q R : X → Type 0) → ((x : X) → P x → Q x ⊎ R x) → (o : Option X) → IsSomeAnd o P → IsSomeAnd o Q ⊎ IsSomeAnd o R
+  some_sum : (P Q R : X → Type 0) → ((x : X) → P x → Q x ⊎ R x) → (o : Option X) → IsSomeAnd o P
+      → IsSomeAnd o Q ⊎ IsSomeAnd o R
   some_sum P Q R f None h = absurd h
   some_sum P Q R f (Some x) h = f x h
 
@@ -34,9 +37,12 @@ module _ (P Q : Shape → Members → Type 0) (f : (s : Shape) (t : Members) →
 
   table_map : OfSomeTable P ms → OfSomeTable Q ms
   table_map (inl h) = inl (f file_shape ms h)
-  table_map (inr (inl h)) = inr (inl (some_weaker (In (P register_shape)) (In (Q register_shape)) (in_map register_shape) (get_member (codes "registers") ms) h))
-  table_map (inr (inr (inl h))) = inr (inr (inl (any_map (In (P map_shape)) (In (Q map_shape)) (in_map map_shape) (entries_at (codes "map") ms) h)))
-  table_map (inr (inr (inr h))) = inr (inr (inr (any_map (In (P event_shape)) (In (Q event_shape)) (in_map event_shape) (entries_at (codes "event") ms) h)))
+  table_map (inr (inl h)) =
+      inr (inl (some_weaker (In (P register_shape)) (In (Q register_shape)) (in_map register_shape) (get_member (codes "registers") ms) h))
+  table_map (inr (inr (inl h))) =
+      inr (inr (inl (any_map (In (P map_shape)) (In (Q map_shape)) (in_map map_shape) (entries_at (codes "map") ms) h)))
+  table_map (inr (inr (inr h))) =
+      inr (inr (inr (any_map (In (P event_shape)) (In (Q event_shape)) (in_map event_shape) (entries_at (codes "event") ms) h)))
 
 module _ (P Q R : Shape → Members → Type 0) (f : (s : Shape) (t : Members) → P s t → Q s t ⊎ R s t) (ms : Members) where
   in_sum : (s : Shape) (d : Data) → In (P s) d → In (Q s) d ⊎ In (R s) d
@@ -66,7 +72,8 @@ module _ (P : Shape → Members → Type 0) (C : Type 0) (f : (s : Shape) (t : M
 
   table_fact : OfSomeTable P ms → C
   table_fact (inl h) = f file_shape ms h
-  table_fact (inr (inl h)) = some_fact (In (P register_shape)) C (in_fact register_shape) (get_member (codes "registers") ms) h
+  table_fact (inr (inl h)) =
+      some_fact (In (P register_shape)) C (in_fact register_shape) (get_member (codes "registers") ms) h
   table_fact (inr (inr (inl h))) = in_fact map_shape h.1 h.4
   table_fact (inr (inr (inr h))) = in_fact event_shape h.1 h.4
 
@@ -77,7 +84,8 @@ module _ (f : MachineFileFault) where
   KindFault takes d = (IsOtherKind takes d × (f ≡ WrongKind)) ⊎ (IsOtherNumber takes d × (f ≡ OutOfRange))
 
   abbrev pub RowFault : Members → Row → Type 0
-  RowFault t row = MatchOption (get_member row.key t) ((row.required ≡ true) × (f ≡ WrongKind)) (KindFault row.takes)
+  RowFault t row =
+      MatchOption (get_member row.key t) ((row.required ≡ true) × (f ≡ WrongKind)) (KindFault row.takes)
 
   abbrev pub ShapeFault : Shape → Members → Type 0
   ShapeFault shape t = (HasOtherKey shape t × (f ≡ UnknownKey)) ⊎ Any (RowFault t) shape.rows
@@ -88,12 +96,15 @@ module _ (f : MachineFileFault) where
   abbrev OtherNumber : Shape → Members → Type 0
   OtherNumber shape t = HasOtherNumber shape t × (f ≡ OutOfRange)
 
-  row_split : (takes : Takes) (R : Type 0) (o : Option Data) → MatchOption o (R × (f ≡ WrongKind)) (KindFault takes) → ((R × (o ≡ None)) × (f ≡ WrongKind)) ⊎ ((IsSomeAnd o (IsOtherKind takes) × (f ≡ WrongKind)) ⊎ (IsSomeAnd o (IsOtherNumber takes) × (f ≡ OutOfRange)))
+  row_split : (takes : Takes) (R : Type 0) (o : Option Data)
+      → MatchOption o (R × (f ≡ WrongKind)) (KindFault takes)
+      → ((R × (o ≡ None)) × (f ≡ WrongKind)) ⊎ ((IsSomeAnd o (IsOtherKind takes) × (f ≡ WrongKind)) ⊎ (IsSomeAnd o (IsOtherNumber takes) × (f ≡ OutOfRange)))
   row_split takes R None h = inl ((h.0, refl), h.1)
   row_split takes R (Some d) (inl h) = inr (inl h)
   row_split takes R (Some d) (inr h) = inr (inr h)
 
-  rows_split : (shape : Shape) (t : Members) → Any (RowFault t) shape.rows → Lacking shape t ⊎ OtherNumber shape t
+  rows_split : (shape : Shape) (t : Members) → Any (RowFault t) shape.rows
+      → Lacking shape t ⊎ OtherNumber shape t
   rows_split shape t h = elim (row_split h.1.takes (h.1.required ≡ true) (get_member h.1.key t) h.4) [
     | inl x ↦ inl (inl (h.0, h.1, h.2, h.3, x.0), x.1)
     | inr y ↦ elim y [
@@ -102,36 +113,44 @@ module _ (f : MachineFileFault) where
     ]
   ]
 
-  shape_split : (shape : Shape) (t : Members) → ShapeFault shape t → (HasOtherKey shape t × (f ≡ UnknownKey)) ⊎ (Lacking shape t ⊎ OtherNumber shape t)
+  shape_split : (shape : Shape) (t : Members) → ShapeFault shape t
+      → (HasOtherKey shape t × (f ≡ UnknownKey)) ⊎ (Lacking shape t ⊎ OtherNumber shape t)
   shape_split shape t (inl h) = inl h
   shape_split shape t (inr h) = inr (rows_split shape t h)
 
-  row_missing : (takes : Takes) (R : Type 0) (o : Option Data) → f ≡ WrongKind → R × (o ≡ None) → MatchOption o (R × (f ≡ WrongKind)) (KindFault takes)
+  row_missing : (takes : Takes) (R : Type 0) (o : Option Data) → f ≡ WrongKind → R × (o ≡ None)
+      → MatchOption o (R × (f ≡ WrongKind)) (KindFault takes)
   row_missing takes R None e h = (h.0, e)
   row_missing takes R (Some d) e h = absurd (true≢false (ap is_some h.1))
 
-  row_kind : (takes : Takes) (R : Type 0) (o : Option Data) → f ≡ WrongKind → IsSomeAnd o (IsOtherKind takes) → MatchOption o (R × (f ≡ WrongKind)) (KindFault takes)
+  row_kind : (takes : Takes) (R : Type 0) (o : Option Data) → f ≡ WrongKind
+      → IsSomeAnd o (IsOtherKind takes) → MatchOption o (R × (f ≡ WrongKind)) (KindFault takes)
   row_kind takes R None e h = absurd h
   row_kind takes R (Some d) e h = inl (h, e)
 
-  row_number : (takes : Takes) (R : Type 0) (o : Option Data) → f ≡ OutOfRange → IsSomeAnd o (IsOtherNumber takes) → MatchOption o (R × (f ≡ WrongKind)) (KindFault takes)
+  row_number : (takes : Takes) (R : Type 0) (o : Option Data) → f ≡ OutOfRange
+      → IsSomeAnd o (IsOtherNumber takes) → MatchOption o (R × (f ≡ WrongKind)) (KindFault takes)
   row_number takes R None e h = absurd h
   row_number takes R (Some d) e h = inr (h, e)
 
   lacks_shape : f ≡ WrongKind → (shape : Shape) (t : Members) → LacksKey shape t → ShapeFault shape t
-  lacks_shape e shape t h = inr (h.0, h.1, h.2, h.3, row_missing h.1.takes (h.1.required ≡ true) (get_member h.1.key t) e h.4)
+  lacks_shape e shape t h =
+      inr (h.0, h.1, h.2, h.3, row_missing h.1.takes (h.1.required ≡ true) (get_member h.1.key t) e h.4)
 
   kind_shape : f ≡ WrongKind → (shape : Shape) (t : Members) → HasOtherKind shape t → ShapeFault shape t
-  kind_shape e shape t h = inr (h.0, h.1, h.2, h.3, row_kind h.1.takes (h.1.required ≡ true) (get_member h.1.key t) e h.4)
+  kind_shape e shape t h =
+      inr (h.0, h.1, h.2, h.3, row_kind h.1.takes (h.1.required ≡ true) (get_member h.1.key t) e h.4)
 
   number_shape : f ≡ OutOfRange → (shape : Shape) (t : Members) → HasOtherNumber shape t → ShapeFault shape t
-  number_shape e shape t h = inr (h.0, h.1, h.2, h.3, row_number h.1.takes (h.1.required ≡ true) (get_member h.1.key t) e h.4)
+  number_shape e shape t h =
+      inr (h.0, h.1, h.2, h.3, row_number h.1.takes (h.1.required ≡ true) (get_member h.1.key t) e h.4)
 
 -- ## The faults of the file, table by table
 
 module _ (ms : Members) (f : MachineFileFault) where
   abbrev pub NoTables : Type 0
-  NoTables = AtKey (codes "registers") ms IsNoTable ⊎ AtKey (codes "map") ms AreNoTables ⊎ AtKey (codes "event") ms AreNoTables
+  NoTables =
+      AtKey (codes "registers") ms IsNoTable ⊎ AtKey (codes "map") ms AreNoTables ⊎ AtKey (codes "event") ms AreNoTables
 
   abbrev pub Repeated : Type 0
   Repeated = IsLetterTwice ms ⊎ IsPageTwice ms ⊎ IsStepTwice ms

@@ -26,7 +26,10 @@ AddressFault d fault =
 
 abbrev pub SizeFault : Data → MachineFileFault → Type 0
 SizeFault d fault =
-    MatchOption (as_integer d) (fault ≡ WrongKind) (λ z. ((size : PageSize) → z ≢ pos (kilobytes size)) × (fault ≡ OutOfRange))
+    MatchOption
+    (as_integer d)
+    (fault ≡ WrongKind)
+    (λ z. ((size : PageSize) → z ≢ pos (kilobytes size)) × (fault ≡ OutOfRange))
 
 abbrev pub NameFault : {A : Type 0} → (List ℕ → Option A) → Data → MachineFileFault → Type 0
 NameFault named d fault = (option_and_then named (as_str d) ≡ None) × (fault ≡ WrongKind)
@@ -43,7 +46,12 @@ LinesFault d fault = ListFault machine_faults (NameFault named_line) d fault
 
 abbrev pub RegistersFault : Data → MachineFileFault → Type 0
 RegistersFault d fault =
-    TableFault machine_faults register_keys (λ ms f. Any (λ r. AtKey (name_of r) ms (λ e. WordFault e f)) named_registers) d fault
+    TableFault
+    machine_faults
+    register_keys
+    (λ ms f. Any (λ r. AtKey (name_of r) ms (λ e. WordFault e f)) named_registers)
+    d
+    fault
 
 abbrev pub PageFault : Data → MachineFileFault → Type 0
 PageFault d fault =

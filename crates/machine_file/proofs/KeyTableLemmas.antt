@@ -41,14 +41,16 @@ module _ {X : Type 0} where
   any_iff : (P Q : X → Type 0) → ((x : X) → P x ↔ Q x) → (xs : List X) → Any P xs ↔ Any Q xs
   any_iff P Q each xs = (any_map P Q (λ x. (each x).0) xs, any_map Q P (λ x. (each x).1) xs)
 
-  to_mapped : {Y : Type 0} (P : Y → Type 0) (g : X → Y) (xs : List X) → Any (λ x. P (g x)) xs → Any P (map g xs)
+  to_mapped : {Y : Type 0} (P : Y → Type 0) (g : X → Y) (xs : List X) → Any (λ x. P (g x)) xs
+      → Any P (map g xs)
   to_mapped P g [] h = absurd (any_none (λ x. P (g x)) h)
   to_mapped P g (x ∷ xs) h = elim (any_cases (λ x. P (g x)) x xs h) [
     | inl p ↦ any_first P (g x) (map g xs) p
     | inr a ↦ any_later P (g x) (map g xs) (to_mapped P g xs a)
   ]
 
-  of_mapped : {Y : Type 0} (P : Y → Type 0) (g : X → Y) (xs : List X) → Any P (map g xs) → Any (λ x. P (g x)) xs
+  of_mapped : {Y : Type 0} (P : Y → Type 0) (g : X → Y) (xs : List X) → Any P (map g xs)
+      → Any (λ x. P (g x)) xs
   of_mapped P g [] h = absurd (any_none P h)
   of_mapped P g (x ∷ xs) h = elim (any_cases P (g x) (map g xs) h) [
     | inl p ↦ any_first (λ x. P (g x)) x xs p
@@ -61,9 +63,11 @@ module _ (f : MachineFileFault) where
 
   -- ## Values
 
-  number_parts : {X : Type 0} (O : X → Type 0) (o : Option X) → MatchOption o W (λ z. O z × (f ≡ OutOfRange)) ↔ ((o ≡ None) × W) ⊎ (IsSomeAnd o O × (f ≡ OutOfRange))
+  number_parts : {X : Type 0} (O : X → Type 0) (o : Option X)
+      → MatchOption o W (λ z. O z × (f ≡ OutOfRange)) ↔ ((o ≡ None) × W) ⊎ (IsSomeAnd o O × (f ≡ OutOfRange))
   number_parts O None = (λ e. inl (refl, e), λ x. elim x [ inl y ↦ y.1 | inr y ↦ absurd y.0 ])
-  number_parts O (Some z) = (λ e. inr e, λ x. elim x [ inl y ↦ absurd (true≢false (ap is_some y.0)) | inr y ↦ y ])
+  number_parts O (Some z) =
+      (λ e. inr e, λ x. elim x [ inl y ↦ absurd (true≢false (ap is_some y.0)) | inr y ↦ y ])
 
   alone : {A : Type 0} → A ↔ A ⊎ (⊥ × (f ≡ OutOfRange))
   alone = (λ a. inl a, λ x. elim x [ inl a ↦ a | inr y ↦ absurd y.0 ])
@@ -80,7 +84,8 @@ module _ (f : MachineFileFault) where
   mode_kind : (d : Data) → NameFault named_mode d f ↔ KindFault f ModeName d
   mode_kind d = alone
 
-  lines_parts : (N : Data → Type 0) (o : Option (List Data)) → MatchOption o W (Any (λ e. N e × W)) ↔ (MatchOption o ⊤ (Any N) × W) ⊎ (⊥ × (f ≡ OutOfRange))
+  lines_parts : (N : Data → Type 0) (o : Option (List Data))
+      → MatchOption o W (Any (λ e. N e × W)) ↔ (MatchOption o ⊤ (Any N) × W) ⊎ (⊥ × (f ≡ OutOfRange))
   lines_parts N None = (λ e. inl (tt, e), λ x. elim x [ inl y ↦ y.1 | inr y ↦ absurd y.0 ])
   lines_parts N (Some ds) = (
     λ a. inl ((a.0, a.1, a.2, a.3, a.4.0), a.4.1),
@@ -90,7 +95,8 @@ module _ (f : MachineFileFault) where
   lines_kind : (d : Data) → LinesFault d f ↔ KindFault f LineNames d
   lines_kind d = lines_parts (λ e. option_and_then named_line (as_str e) ≡ None) (items_at d)
 
-  letters_parts : (A B : List ℕ → Type 0) (o : Option (List ℕ)) → MatchOption o W (λ t. (A t × W) ⊎ (B t × (f ≡ Twice))) ↔ ((MatchOption o ⊤ A × W) ⊎ (⊥ × (f ≡ OutOfRange))) ⊎ (IsSomeAnd o B × (f ≡ Twice))
+  letters_parts : (A B : List ℕ → Type 0) (o : Option (List ℕ))
+      → MatchOption o W (λ t. (A t × W) ⊎ (B t × (f ≡ Twice))) ↔ ((MatchOption o ⊤ A × W) ⊎ (⊥ × (f ≡ OutOfRange))) ⊎ (IsSomeAnd o B × (f ≡ Twice))
   letters_parts A B None = (
     λ e. inl (inl (tt, e)),
     λ x. elim x [ inl y ↦ elim y [ inl z ↦ z.1 | inr z ↦ absurd z.0 ] | inr y ↦ absurd y.0 ],
@@ -100,20 +106,25 @@ module _ (f : MachineFileFault) where
     λ x. elim x [ inl y ↦ elim y [ inl z ↦ inl z | inr z ↦ absurd z.0 ] | inr y ↦ inr y ],
   )
 
-  flags_kind : (d : Data) → FlagsFault d f ↔ KindFault f FlagLetters d ⊎ (IsSomeAnd (as_str d) (λ text. is_single text ≡ false) × (f ≡ Twice))
-  flags_kind d = letters_parts (λ text. list_all is_letter text ≡ false) (λ text. is_single text ≡ false) (as_str d)
+  flags_kind : (d : Data)
+      → FlagsFault d f ↔ KindFault f FlagLetters d ⊎ (IsSomeAnd (as_str d) (λ text. is_single text ≡ false) × (f ≡ Twice))
+  flags_kind d =
+      letters_parts (λ text. list_all is_letter text ≡ false) (λ text. is_single text ≡ false) (as_str d)
 
   -- ## Rows
 
-  needs_parts : (V K : Data → Type 0) → ((d : Data) → V d ↔ K d) → (o : Option Data) → MatchOption o W V ↔ MatchOption o ((true ≡ true) × W) K
+  needs_parts : (V K : Data → Type 0) → ((d : Data) → V d ↔ K d) → (o : Option Data)
+      → MatchOption o W V ↔ MatchOption o ((true ≡ true) × W) K
   needs_parts V K each None = (λ e. (refl, e), λ x. x.1)
   needs_parts V K each (Some d) = each d
 
-  may_parts : (V K : Data → Type 0) → ((d : Data) → V d ↔ K d) → (o : Option Data) → IsSomeAnd o V ↔ MatchOption o ((false ≡ true) × W) K
+  may_parts : (V K : Data → Type 0) → ((d : Data) → V d ↔ K d) → (o : Option Data)
+      → IsSomeAnd o V ↔ MatchOption o ((false ≡ true) × W) K
   may_parts V K each None = (λ h. absurd h, λ x. absurd (false≢true x.0))
   may_parts V K each (Some d) = each d
 
-  also_parts : (V K L : Data → Type 0) (C : Type 0) → ((d : Data) → V d ↔ K d ⊎ (L d × C)) → (o : Option Data) → IsSomeAnd o V ↔ MatchOption o ((false ≡ true) × W) K ⊎ (IsSomeAnd o L × C)
+  also_parts : (V K L : Data → Type 0) (C : Type 0) → ((d : Data) → V d ↔ K d ⊎ (L d × C))
+      → (o : Option Data) → IsSomeAnd o V ↔ MatchOption o ((false ≡ true) × W) K ⊎ (IsSomeAnd o L × C)
   also_parts V K L C each None = (
     λ h. absurd h,
     λ x. elim x [ inl y ↦ absurd (false≢true y.0) | inr y ↦ absurd y.0 ],
@@ -121,22 +132,26 @@ module _ (f : MachineFileFault) where
   also_parts V K L C each (Some d) = each d
 
   module _ (t : Members) where
-    needs_row : (key : List ℕ) (takes : Takes) (V : Data → Type 0) → ((d : Data) → V d ↔ KindFault f takes d) → AtKeyOr key t W V ↔ RowFault f t (needs key takes)
+    needs_row : (key : List ℕ) (takes : Takes) (V : Data → Type 0)
+        → ((d : Data) → V d ↔ KindFault f takes d) → AtKeyOr key t W V ↔ RowFault f t (needs key takes)
     needs_row key takes V each = needs_parts V (KindFault f takes) each (get_member key t)
 
-    may_row : (key : List ℕ) (takes : Takes) (V : Data → Type 0) → ((d : Data) → V d ↔ KindFault f takes d) → AtKey key t V ↔ RowFault f t (may_have key takes)
+    may_row : (key : List ℕ) (takes : Takes) (V : Data → Type 0) → ((d : Data) → V d ↔ KindFault f takes d)
+        → AtKey key t V ↔ RowFault f t (may_have key takes)
     may_row key takes V each = may_parts V (KindFault f takes) each (get_member key t)
 
   -- ## Tables
 
-  table_parts : (V T : Members → Type 0) → ((t : Members) → V t ↔ T t) → (o : Option Members) → MatchOption o W V ↔ ((o ≡ None) × W) ⊎ IsSomeAnd o T
+  table_parts : (V T : Members → Type 0) → ((t : Members) → V t ↔ T t) → (o : Option Members)
+      → MatchOption o W V ↔ ((o ≡ None) × W) ⊎ IsSomeAnd o T
   table_parts V T each None = (λ e. inl (refl, e), λ x. elim x [ inl y ↦ y.1 | inr y ↦ absurd y ])
   table_parts V T each (Some t) = (
     λ h. inr ((each t).0 h),
     λ x. elim x [ inl y ↦ absurd (true≢false (ap is_some y.0)) | inr y ↦ (each t).1 y ],
   )
 
-  value_parts : (A N T : Data → Type 0) → ((d : Data) → A d ↔ (N d × W) ⊎ T d) → (o : Option Data) → IsSomeAnd o A ↔ (IsSomeAnd o N × W) ⊎ IsSomeAnd o T
+  value_parts : (A N T : Data → Type 0) → ((d : Data) → A d ↔ (N d × W) ⊎ T d) → (o : Option Data)
+      → IsSomeAnd o A ↔ (IsSomeAnd o N × W) ⊎ IsSomeAnd o T
   value_parts A N T each None = (λ h. absurd h, λ x. elim x [ inl y ↦ absurd y.0 | inr y ↦ absurd y ])
   value_parts A N T each (Some d) = each d
 
@@ -151,15 +166,18 @@ module _ (f : MachineFileFault) where
     join_any ds (inl n) = (n.0.0, n.0.1, n.0.2, n.0.3, (each n.0.1).1 (inl (n.0.4, n.1)))
     join_any ds (inr t) = (t.0, t.1, t.2, t.3, (each t.1).1 (inr t.4))
 
-    items_parts : (o : Option (List Data)) → MatchOption o W (Any A) ↔ (MatchOption o ⊤ (Any N) × W) ⊎ Any T (unwrap_or o [])
+    items_parts : (o : Option (List Data))
+        → MatchOption o W (Any A) ↔ (MatchOption o ⊤ (Any N) × W) ⊎ Any T (unwrap_or o [])
     items_parts None = (λ e. inl (tt, e), λ x. elim x [ inl y ↦ y.1 | inr y ↦ absurd (any_none T y) ])
     items_parts (Some ds) = (split_any ds, join_any ds)
 
-    list_parts : (o : Option Data) → IsSomeAnd o (λ d. MatchOption (items_at d) W (Any A)) ↔ (IsSomeAnd o (λ d. MatchOption (items_at d) ⊤ (Any N)) × W) ⊎ Any T (unwrap_or (option_and_then items_at o) [])
+    list_parts : (o : Option Data)
+        → IsSomeAnd o (λ d. MatchOption (items_at d) W (Any A)) ↔ (IsSomeAnd o (λ d. MatchOption (items_at d) ⊤ (Any N)) × W) ⊎ Any T (unwrap_or (option_and_then items_at o) [])
     list_parts None = (λ h. absurd h, λ x. elim x [ inl y ↦ absurd y.0 | inr y ↦ absurd (any_none T y) ])
     list_parts (Some d) = items_parts (items_at d)
 
-  word_needed : (t : Members) (key : List ℕ) → AtKeyOr key t W (λ e. WordFault e f) ↔ RowFault f t (needs key Word)
+  word_needed : (t : Members) (key : List ℕ)
+      → AtKeyOr key t W (λ e. WordFault e f) ↔ RowFault f t (needs key Word)
   word_needed t key = needs_row t key Word (λ e. WordFault e f) (up_to_kind (2 ^ 32 - 1))
 
   registers_parts : (d : Data) → RegistersFault d f ↔ (IsNoTable d × W) ⊎ In (ShapeFault f register_shape) d
@@ -201,7 +219,9 @@ module _ (f : MachineFileFault) where
 
 -- ## The file
 
-gathered : {K PC MO FL LO HI SI ST PO R M E NR NM NE V U LT PT SP T : Type 0} → K ⊎ ((PC ⊎ (MO ⊎ ((FL ⊎ (LT × T)) ⊎ (((NR × V) ⊎ R) ⊎ (LO ⊎ (HI ⊎ (SI ⊎ (((NM × V) ⊎ M) ⊎ (ST ⊎ (PO ⊎ ((NE × V) ⊎ E))))))))))) ⊎ (U ⊎ ((PT × T) ⊎ (SP × T)))) → ((K ⊎ (PC ⊎ (MO ⊎ (FL ⊎ (LO ⊎ (HI ⊎ (SI ⊎ (ST ⊎ (PO ⊎ ⊥))))))))) ⊎ (R ⊎ (M ⊎ E))) ⊎ (((NR ⊎ (NM ⊎ NE)) × V) ⊎ (U ⊎ ((LT ⊎ (PT ⊎ SP)) × T)))
+gathered : {K PC MO FL LO HI SI ST PO R M E NR NM NE V U LT PT SP T : Type 0}
+    → K ⊎ ((PC ⊎ (MO ⊎ ((FL ⊎ (LT × T)) ⊎ (((NR × V) ⊎ R) ⊎ (LO ⊎ (HI ⊎ (SI ⊎ (((NM × V) ⊎ M) ⊎ (ST ⊎ (PO ⊎ ((NE × V) ⊎ E))))))))))) ⊎ (U ⊎ ((PT × T) ⊎ (SP × T))))
+    → ((K ⊎ (PC ⊎ (MO ⊎ (FL ⊎ (LO ⊎ (HI ⊎ (SI ⊎ (ST ⊎ (PO ⊎ ⊥))))))))) ⊎ (R ⊎ (M ⊎ E))) ⊎ (((NR ⊎ (NM ⊎ NE)) × V) ⊎ (U ⊎ ((LT ⊎ (PT ⊎ SP)) × T)))
 gathered (inl x) = inl (inl (inl x))
 gathered (inr (inl (inl x))) = inl (inl (inr (inl x)))
 gathered (inr (inl (inr (inl x)))) = inl (inl (inr (inr (inl x))))
@@ -211,18 +231,25 @@ gathered (inr (inl (inr (inr (inr (inl (inl x))))))) = inr (inl (inl x.0, x.1))
 gathered (inr (inl (inr (inr (inr (inl (inr x))))))) = inl (inr (inl x))
 gathered (inr (inl (inr (inr (inr (inr (inl x))))))) = inl (inl (inr (inr (inr (inr (inl x))))))
 gathered (inr (inl (inr (inr (inr (inr (inr (inl x)))))))) = inl (inl (inr (inr (inr (inr (inr (inl x)))))))
-gathered (inr (inl (inr (inr (inr (inr (inr (inr (inl x))))))))) = inl (inl (inr (inr (inr (inr (inr (inr (inl x))))))))
+gathered (inr (inl (inr (inr (inr (inr (inr (inr (inl x))))))))) =
+    inl (inl (inr (inr (inr (inr (inr (inr (inl x))))))))
 gathered (inr (inl (inr (inr (inr (inr (inr (inr (inr (inl (inl x))))))))))) = inr (inl (inr (inl x.0), x.1))
 gathered (inr (inl (inr (inr (inr (inr (inr (inr (inr (inl (inr x))))))))))) = inl (inr (inr (inl x)))
-gathered (inr (inl (inr (inr (inr (inr (inr (inr (inr (inr (inl x))))))))))) = inl (inl (inr (inr (inr (inr (inr (inr (inr (inl x)))))))))
-gathered (inr (inl (inr (inr (inr (inr (inr (inr (inr (inr (inr (inl x)))))))))))) = inl (inl (inr (inr (inr (inr (inr (inr (inr (inr (inl x))))))))))
-gathered (inr (inl (inr (inr (inr (inr (inr (inr (inr (inr (inr (inr (inl x))))))))))))) = inr (inl (inr (inr x.0), x.1))
-gathered (inr (inl (inr (inr (inr (inr (inr (inr (inr (inr (inr (inr (inr x))))))))))))) = inl (inr (inr (inr x)))
+gathered (inr (inl (inr (inr (inr (inr (inr (inr (inr (inr (inl x))))))))))) =
+    inl (inl (inr (inr (inr (inr (inr (inr (inr (inl x)))))))))
+gathered (inr (inl (inr (inr (inr (inr (inr (inr (inr (inr (inr (inl x)))))))))))) =
+    inl (inl (inr (inr (inr (inr (inr (inr (inr (inr (inl x))))))))))
+gathered (inr (inl (inr (inr (inr (inr (inr (inr (inr (inr (inr (inr (inl x))))))))))))) =
+    inr (inl (inr (inr x.0), x.1))
+gathered (inr (inl (inr (inr (inr (inr (inr (inr (inr (inr (inr (inr (inr x))))))))))))) =
+    inl (inr (inr (inr x)))
 gathered (inr (inr (inl x))) = inr (inr (inl x))
 gathered (inr (inr (inr (inl x)))) = inr (inr (inr (inr (inl x.0), x.1)))
 gathered (inr (inr (inr (inr x)))) = inr (inr (inr (inr (inr x.0), x.1)))
 
-scattered : {K PC MO FL LO HI SI ST PO R M E NR NM NE V U LT PT SP T : Type 0} → ((K ⊎ (PC ⊎ (MO ⊎ (FL ⊎ (LO ⊎ (HI ⊎ (SI ⊎ (ST ⊎ (PO ⊎ ⊥))))))))) ⊎ (R ⊎ (M ⊎ E))) ⊎ (((NR ⊎ (NM ⊎ NE)) × V) ⊎ (U ⊎ ((LT ⊎ (PT ⊎ SP)) × T))) → K ⊎ ((PC ⊎ (MO ⊎ ((FL ⊎ (LT × T)) ⊎ (((NR × V) ⊎ R) ⊎ (LO ⊎ (HI ⊎ (SI ⊎ (((NM × V) ⊎ M) ⊎ (ST ⊎ (PO ⊎ ((NE × V) ⊎ E))))))))))) ⊎ (U ⊎ ((PT × T) ⊎ (SP × T))))
+scattered : {K PC MO FL LO HI SI ST PO R M E NR NM NE V U LT PT SP T : Type 0}
+    → ((K ⊎ (PC ⊎ (MO ⊎ (FL ⊎ (LO ⊎ (HI ⊎ (SI ⊎ (ST ⊎ (PO ⊎ ⊥))))))))) ⊎ (R ⊎ (M ⊎ E))) ⊎ (((NR ⊎ (NM ⊎ NE)) × V) ⊎ (U ⊎ ((LT ⊎ (PT ⊎ SP)) × T)))
+    → K ⊎ ((PC ⊎ (MO ⊎ ((FL ⊎ (LT × T)) ⊎ (((NR × V) ⊎ R) ⊎ (LO ⊎ (HI ⊎ (SI ⊎ (((NM × V) ⊎ M) ⊎ (ST ⊎ (PO ⊎ ((NE × V) ⊎ E))))))))))) ⊎ (U ⊎ ((PT × T) ⊎ (SP × T))))
 scattered (inl (inl (inl x))) = inl x
 scattered (inl (inl (inr (inl x)))) = inr (inl (inl x))
 scattered (inl (inl (inr (inr (inl x))))) = inr (inl (inr (inl x)))
@@ -230,11 +257,15 @@ scattered (inl (inl (inr (inr (inr (inl x)))))) = inr (inl (inr (inr (inl (inl x
 scattered (inl (inr (inl x))) = inr (inl (inr (inr (inr (inl (inr x))))))
 scattered (inl (inl (inr (inr (inr (inr (inl x))))))) = inr (inl (inr (inr (inr (inr (inl x))))))
 scattered (inl (inl (inr (inr (inr (inr (inr (inl x)))))))) = inr (inl (inr (inr (inr (inr (inr (inl x)))))))
-scattered (inl (inl (inr (inr (inr (inr (inr (inr (inl x))))))))) = inr (inl (inr (inr (inr (inr (inr (inr (inl x))))))))
+scattered (inl (inl (inr (inr (inr (inr (inr (inr (inl x))))))))) =
+    inr (inl (inr (inr (inr (inr (inr (inr (inl x))))))))
 scattered (inl (inr (inr (inl x)))) = inr (inl (inr (inr (inr (inr (inr (inr (inr (inl (inr x))))))))))
-scattered (inl (inl (inr (inr (inr (inr (inr (inr (inr (inl x)))))))))) = inr (inl (inr (inr (inr (inr (inr (inr (inr (inr (inl x))))))))))
-scattered (inl (inl (inr (inr (inr (inr (inr (inr (inr (inr (inl x))))))))))) = inr (inl (inr (inr (inr (inr (inr (inr (inr (inr (inr (inl x)))))))))))
-scattered (inl (inr (inr (inr x)))) = inr (inl (inr (inr (inr (inr (inr (inr (inr (inr (inr (inr (inr x))))))))))))
+scattered (inl (inl (inr (inr (inr (inr (inr (inr (inr (inl x)))))))))) =
+    inr (inl (inr (inr (inr (inr (inr (inr (inr (inr (inl x))))))))))
+scattered (inl (inl (inr (inr (inr (inr (inr (inr (inr (inr (inl x))))))))))) =
+    inr (inl (inr (inr (inr (inr (inr (inr (inr (inr (inr (inl x)))))))))))
+scattered (inl (inr (inr (inr x)))) =
+    inr (inl (inr (inr (inr (inr (inr (inr (inr (inr (inr (inr (inr x))))))))))))
 scattered (inr (inr (inl x))) = inr (inr (inl x))
 scattered (inl (inl (inr (inr (inr (inr (inr (inr (inr (inr (inr x))))))))))) = absurd x
 scattered (inr (inl x)) = elim x.0 [
@@ -252,7 +283,8 @@ scattered (inr (inr (inr x))) = elim x.0 [
   ]
 ]
 
-regrouped : {K PC MO FL LO HI SI ST PO R M E NR NM NE V U LT PT SP T : Type 0} → K ⊎ ((PC ⊎ (MO ⊎ ((FL ⊎ (LT × T)) ⊎ (((NR × V) ⊎ R) ⊎ (LO ⊎ (HI ⊎ (SI ⊎ (((NM × V) ⊎ M) ⊎ (ST ⊎ (PO ⊎ ((NE × V) ⊎ E))))))))))) ⊎ (U ⊎ ((PT × T) ⊎ (SP × T)))) ↔ ((K ⊎ (PC ⊎ (MO ⊎ (FL ⊎ (LO ⊎ (HI ⊎ (SI ⊎ (ST ⊎ (PO ⊎ ⊥))))))))) ⊎ (R ⊎ (M ⊎ E))) ⊎ (((NR ⊎ (NM ⊎ NE)) × V) ⊎ (U ⊎ ((LT ⊎ (PT ⊎ SP)) × T)))
+regrouped : {K PC MO FL LO HI SI ST PO R M E NR NM NE V U LT PT SP T : Type 0}
+    → K ⊎ ((PC ⊎ (MO ⊎ ((FL ⊎ (LT × T)) ⊎ (((NR × V) ⊎ R) ⊎ (LO ⊎ (HI ⊎ (SI ⊎ (((NM × V) ⊎ M) ⊎ (ST ⊎ (PO ⊎ ((NE × V) ⊎ E))))))))))) ⊎ (U ⊎ ((PT × T) ⊎ (SP × T)))) ↔ ((K ⊎ (PC ⊎ (MO ⊎ (FL ⊎ (LO ⊎ (HI ⊎ (SI ⊎ (ST ⊎ (PO ⊎ ⊥))))))))) ⊎ (R ⊎ (M ⊎ E))) ⊎ (((NR ⊎ (NM ⊎ NE)) × V) ⊎ (U ⊎ ((LT ⊎ (PT ⊎ SP)) × T)))
 regrouped = (λ h. gathered h, λ h. scattered h)
 
 module _ (ms : Members) (f : MachineFileFault) where
@@ -278,10 +310,36 @@ module _ (ms : Members) (f : MachineFileFault) where
   faults_iff = along key_tables (to_machine_fault ms f, from_machine_fault ms f)
 
 tables_judged : (ms : Members) → Judges machine_faults (StatesMachine ms) (HasMachineFault ms) (machine_in ms)
-tables_judged ms = judged_as machine_faults (StatesMachine ms) (StatesMachine ms) (HasKeyFault ms) (HasMachineFault ms) (λ s. same) (faults_iff ms) (machine_in ms) (machine_judged ms)
+tables_judged ms =
+    judged_as
+    machine_faults
+    (StatesMachine ms)
+    (StatesMachine ms)
+    (HasKeyFault ms)
+    (HasMachineFault ms)
+    (λ s. same)
+    (faults_iff ms)
+    (machine_in ms)
+    (machine_judged ms)
 
 pub machine_stated : (ms : Members) (stated : Stated) → machine_in ms ≡ Ok stated ↔ StatesMachine ms stated
-machine_stated ms stated = judged_value machine_faults (StatesMachine ms) (HasMachineFault ms) (machine_in ms) (tables_judged ms) stated
+machine_stated ms stated =
+    judged_value
+    machine_faults
+    (StatesMachine ms)
+    (HasMachineFault ms)
+    (machine_in ms)
+    (tables_judged ms)
+    stated
 
-pub machine_fault : (ms : Members) (fault : MachineFileFault) → machine_in ms ≡ Err fault ↔ IsLowest machine_faults (HasMachineFault ms) fault
-machine_fault ms fault = judged_fault machine_faults (StatesMachine ms) (HasMachineFault ms) one_rank (machine_in ms) (tables_judged ms) fault
+pub machine_fault : (ms : Members) (fault : MachineFileFault)
+    → machine_in ms ≡ Err fault ↔ IsLowest machine_faults (HasMachineFault ms) fault
+machine_fault ms fault =
+    judged_fault
+    machine_faults
+    (StatesMachine ms)
+    (HasMachineFault ms)
+    one_rank
+    (machine_in ms)
+    (tables_judged ms)
+    fault

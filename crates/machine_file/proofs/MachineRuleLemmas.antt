@@ -38,7 +38,8 @@ module _ (ms : Members) where
   PcFault f = AtKeyOr (codes "pc") ms (f ≡ WrongKind) (λ d. AddressFault d f)
 
   pc_judged : Judges machine_faults PcStates PcFault (pc_in ms)
-  pc_judged = required_judged machine_faults IsAddress AddressFault pc_at address_judged (get_member (codes "pc") ms)
+  pc_judged =
+      required_judged machine_faults IsAddress AddressFault pc_at address_judged (get_member (codes "pc") ms)
 
   abbrev ModeStates : Mode → Type 0
   ModeStates m = AtKeyOr (codes "mode") ms (m ≡ Svc) (λ d. IsNamed named_mode d m)
@@ -47,7 +48,15 @@ module _ (ms : Members) where
   ModeFault f = AtKey (codes "mode") ms (λ d. NameFault named_mode d f)
 
   mode_judged : Judges machine_faults ModeStates ModeFault (mode_in ms)
-  mode_judged = optional_judged machine_faults (IsNamed named_mode) (NameFault named_mode) mode_at (named_judged named_mode) Svc (get_member (codes "mode") ms)
+  mode_judged =
+      optional_judged
+      machine_faults
+      (IsNamed named_mode)
+      (NameFault named_mode)
+      mode_at
+      (named_judged named_mode)
+      Svc
+      (get_member (codes "mode") ms)
 
   abbrev FlagStates : PsrFlags → Type 0
   FlagStates flags = AtKeyOr (codes "flags") ms (flags ≡ set_flags (codes "IF")) (λ d. AreFlags d flags)
@@ -56,7 +65,15 @@ module _ (ms : Members) where
   FlagFault f = AtKey (codes "flags") ms (λ d. FlagsFault d f)
 
   flags_in_judged : Judges machine_faults FlagStates FlagFault (flags_in ms)
-  flags_in_judged = optional_judged machine_faults AreFlags FlagsFault flags_at flags_judged (set_flags (codes "IF")) (get_member (codes "flags") ms)
+  flags_in_judged =
+      optional_judged
+      machine_faults
+      AreFlags
+      FlagsFault
+      flags_at
+      flags_judged
+      (set_flags (codes "IF"))
+      (get_member (codes "flags") ms)
 
   abbrev RegisterStates : List ℕ → Type 0
   RegisterStates words = AtKeyOr (codes "registers") ms (words ≡ replicate 26 0) (λ d. AreRegisters d words)
@@ -65,7 +82,15 @@ module _ (ms : Members) where
   RegisterFault f = AtKey (codes "registers") ms (λ d. RegistersFault d f)
 
   registers_in_judged : Judges machine_faults RegisterStates RegisterFault (registers_in ms)
-  registers_in_judged = optional_judged machine_faults AreRegisters RegistersFault registers_at registers_judged (replicate 26 0) (get_member (codes "registers") ms)
+  registers_in_judged =
+      optional_judged
+      machine_faults
+      AreRegisters
+      RegistersFault
+      registers_at
+      registers_judged
+      (replicate 26 0)
+      (get_member (codes "registers") ms)
 
   abbrev ProcessorStates : Processor → Type 0
   ProcessorStates p = (PcStates p.pc × (ModeStates p.mode × FlagStates p.flags)) × RegisterStates p.registers
@@ -95,7 +120,8 @@ module _ (ms : Members) where
   SizesFault f = AtKey (codes "pages") ms (λ d. SizeFault d f)
 
   size_in_judged : Judges machine_faults SizeStates SizesFault (size_in ms)
-  size_in_judged = optional_judged machine_faults IsSize SizeFault size_at size_judged K4 (get_member (codes "pages") ms)
+  size_in_judged =
+      optional_judged machine_faults IsSize SizeFault size_at size_judged K4 (get_member (codes "pages") ms)
 
   abbrev PageStates : List MappedPage → Type 0
   PageStates pages = AtKeyOr (codes "map") ms (pages ≡ []) (λ d. IsListOf IsPage d pages)
@@ -107,7 +133,9 @@ module _ (ms : Members) where
   listed_judged = tables_judged machine_faults IsPage PageFault page_at page_judged (codes "map") ms
 
 -- the three numbers of a page that is read
-page_number : (key : List ℕ) (f : MappedPage → ℕ) → ((ms : Members) (page : MappedPage) → (has_only_keys map_keys ms ≡ true) × (AtKey (codes "logical") ms (λ e. IsWord e page.logical) × AtKey (codes "physical") ms (λ e. IsWord e page.physical) × AtKey (codes "level") ms (λ e. IsWord e page.level)) → AtKey key ms (λ e. IsWord e (f page))) → (ms : Members) (pages : List MappedPage) → PageStates ms pages → page_numbers key ms ≡ map f pages
+page_number : (key : List ℕ) (f : MappedPage → ℕ)
+    → ((ms : Members) (page : MappedPage) → (has_only_keys map_keys ms ≡ true) × (AtKey (codes "logical") ms (λ e. IsWord e page.logical) × AtKey (codes "physical") ms (λ e. IsWord e page.physical) × AtKey (codes "level") ms (λ e. IsWord e page.level)) → AtKey key ms (λ e. IsWord e (f page)))
+    → (ms : Members) (pages : List MappedPage) → PageStates ms pages → page_numbers key ms ≡ map f pages
 page_number key f part ms pages s =
     numbers_read
     IsPage
@@ -118,13 +146,16 @@ page_number key f part ms pages s =
     pages
     (entries_state IsPage (codes "map") ms pages s)
 
-logical_numbers : (ms : Members) (pages : List MappedPage) → PageStates ms pages → page_numbers (codes "logical") ms ≡ map (λ p. p.logical) pages
+logical_numbers : (ms : Members) (pages : List MappedPage) → PageStates ms pages
+    → page_numbers (codes "logical") ms ≡ map (λ p. p.logical) pages
 logical_numbers ms pages s = page_number (codes "logical") (λ p. p.logical) (λ t page h. h.1.0) ms pages s
 
-physical_numbers : (ms : Members) (pages : List MappedPage) → PageStates ms pages → page_numbers (codes "physical") ms ≡ map (λ p. p.physical) pages
+physical_numbers : (ms : Members) (pages : List MappedPage) → PageStates ms pages
+    → page_numbers (codes "physical") ms ≡ map (λ p. p.physical) pages
 physical_numbers ms pages s = page_number (codes "physical") (λ p. p.physical) (λ t page h. h.1.1) ms pages s
 
-level_numbers : (ms : Members) (pages : List MappedPage) → PageStates ms pages → page_numbers (codes "level") ms ≡ map (λ p. p.level) pages
+level_numbers : (ms : Members) (pages : List MappedPage) → PageStates ms pages
+    → page_numbers (codes "level") ms ≡ map (λ p. p.level) pages
 level_numbers ms pages s = page_number (codes "level") (λ p. p.level) (λ t page h. h.1.2) ms pages s
 
 shuffled : (a b c d e f : Bool) → (((a && b) && c) && ((d && e) && f)) ≡ (((a && d) && (b && e)) && (c && f))
@@ -137,7 +168,8 @@ shuffled true true false false e f = refl
 shuffled true true true d e f = refl
 
 -- pages can be mapped where each of their numbers is low enough
-mappable_numbers : (shift : ℕ) (pages : List MappedPage) → list_all (is_mappable shift) pages ≡ ((are_below (2 ^ (25 - shift)) (map (λ p. p.logical) pages) && are_below 128 (map (λ p. p.physical) pages)) && are_below 4 (map (λ p. p.level) pages))
+mappable_numbers : (shift : ℕ) (pages : List MappedPage)
+    → list_all (is_mappable shift) pages ≡ ((are_below (2 ^ (25 - shift)) (map (λ p. p.logical) pages) && are_below 128 (map (λ p. p.physical) pages)) && are_below 4 (map (λ p. p.level) pages))
 mappable_numbers shift [] = refl
 mappable_numbers shift (p ∷ pages) =
     ap (λ b. is_mappable shift p && b) (mappable_numbers shift pages)
@@ -170,7 +202,8 @@ module _ (ms : Members) (a : PageSize × List MappedPage) (s : SizeStates ms a.0
   unmappable (inl x) =
       let same : x.0 ≡ a.0 = judged_one machine_faults (SizeStates ms) (SizesFault ms) (size_in ms) (size_in_judged ms) x.0 a.0 x.1 s.0 in
       and_left (low_logical a.0 && low_physical) low_level (and_left (low_logical a.0) low_physical (ap low_logical (sym same) ∙ x.2))
-  unmappable (inr (inl x)) = and_left (low_logical a.0 && low_physical) low_level (and_right (low_logical a.0) low_physical x)
+  unmappable (inr (inl x)) =
+      and_left (low_logical a.0 && low_physical) low_level (and_right (low_logical a.0) low_physical x)
   unmappable (inr (inr x)) = and_right (low_logical a.0 && low_physical) low_level x
 
   mappable_iff : list_all (is_mappable (shift_of_size a.0)) a.1 ≡ false ↔ IsUnmappable ms
@@ -190,14 +223,26 @@ module _ (ms : Members) (a : PageSize × List MappedPage) (s : SizeStates ms a.0
   twice (inr x) = and_right once_logical once_physical x
 
   single_iff : are_single a.1 ≡ false ↔ IsPageTwice ms
-  single_iff = (λ e. and_cases once_logical once_physical (sym single_numbers ∙ e), λ x. single_numbers ∙ twice x)
+  single_iff =
+      (λ e. and_cases once_logical once_physical (sym single_numbers ∙ e), λ x. single_numbers ∙ twice x)
 
   abbrev LateFault : MachineFileFault → Type 0
   LateFault f = (IsUnmappable ms × (f ≡ OutOfRange)) ⊎ (IsPageTwice ms × (f ≡ Twice))
 
   mapped_judged : Judges machine_faults (λ b. (b ≡ a) × (list_all (is_mappable (shift_of_size a.0)) a.1 ≡ true) × (are_single a.1 ≡ true)) LateFault (mapped a)
   mapped_judged =
-      two_tests machine_faults a (list_all (is_mappable (shift_of_size a.0)) a.1) (IsUnmappable ms) mappable_iff (are_single a.1) (IsPageTwice ms) single_iff OutOfRange Twice (omega arith)
+      two_tests
+      machine_faults
+      a
+      (list_all (is_mappable (shift_of_size a.0)) a.1)
+      (IsUnmappable ms)
+      mappable_iff
+      (are_single a.1)
+      (IsPageTwice ms)
+      single_iff
+      OutOfRange
+      Twice
+      (omega arith)
 
 module _ (ms : Members) where
   abbrev MappedStates : PageSize × List MappedPage → Type 0
@@ -207,7 +252,8 @@ module _ (ms : Members) where
   abbrev PageLate : MachineFileFault → Type 0
   PageLate f = (IsUnmappable ms × (f ≡ OutOfRange)) ⊎ (IsPageTwice ms × (f ≡ Twice))
 
-  pages_higher : (x y : MachineFileFault) → SizesFault ms x ⊎ PagesFault ms x → PageLate y → number_of x ≤ number_of y
+  pages_higher : (x y : MachineFileFault) → SizesFault ms x ⊎ PagesFault ms x → PageLate y
+      → number_of x ≤ number_of y
   pages_higher x y h late = omega (arith, first h, second late)
     where
       first : SizesFault ms x ⊎ PagesFault ms x → number_of x ≤ 5
@@ -245,11 +291,13 @@ module _ (ms : Members) where
   abbrev RomFault : List ℕ → MachineFileFault → Type 0
   RomFault key f = AtKey key ms (λ d. UpToFault 3 d f)
 
-  rom_judged : (key : List ℕ) → Judges machine_faults (Rom key) (RomFault key) (Rattle.toml_reading.specs.Documents.number_or machine_faults key 3 0 ms)
+  rom_judged : (key : List ℕ)
+      → Judges machine_faults (Rom key) (RomFault key) (Rattle.toml_reading.specs.Documents.number_or machine_faults key 3 0 ms)
   rom_judged key = number_or_judged machine_faults 3 key 0 ms
 
   abbrev ControllerStates : Controller → Type 0
-  ControllerStates c = (Rom (codes "low_rom") c.low_rom × Rom (codes "high_rom") c.high_rom) × MappedStates (c.size, c.pages)
+  ControllerStates c =
+      (Rom (codes "low_rom") c.low_rom × Rom (codes "high_rom") c.high_rom) × MappedStates (c.size, c.pages)
 
   abbrev ControllerFault : MachineFileFault → Type 0
   ControllerFault f =
@@ -279,7 +327,8 @@ module _ (ms : Members) where
   abbrev StepFault : MachineFileFault → Type 0
   StepFault f = IsStepTwice ms × (f ≡ Twice)
 
-  step_numbers : (events : List (ℕ × Event)) → EventStates events → numbers_at (codes "step") (entries_at (codes "event") ms) ≡ keys_of events
+  step_numbers : (events : List (ℕ × Event)) → EventStates events
+      → numbers_at (codes "step") (entries_at (codes "event") ms) ≡ keys_of events
   step_numbers events s =
       numbers_read
       IsEvent
@@ -290,7 +339,8 @@ module _ (ms : Members) where
       events
       (entries_state IsEvent (codes "event") ms events s)
 
-  once_iff : (events : List (ℕ × Event)) → EventStates events → are_distinct (keys_of events) ≡ false ↔ IsStepTwice ms
+  once_iff : (events : List (ℕ × Event)) → EventStates events
+      → are_distinct (keys_of events) ≡ false ↔ IsStepTwice ms
   once_iff events s = (
     λ e. ap are_distinct (step_numbers events s) ∙ e,
     λ e. ap are_distinct (sym (step_numbers events s)) ∙ e,
@@ -355,12 +405,14 @@ module _ (ms : Members) where
 -- ## The file
 
 abbrev FileStates : Members → Stated → Type 0
-FileStates ms s = ProcessorStates ms s.processor × (ControllerStates ms s.controller × ScheduleStates ms s.schedule)
+FileStates ms s =
+    ProcessorStates ms s.processor × (ControllerStates ms s.controller × ScheduleStates ms s.schedule)
 
 abbrev FileFault : Members → MachineFileFault → Type 0
 FileFault ms f = ProcessorFault ms f ⊎ (ControllerFault ms f ⊎ ScheduleFault ms f)
 
-file_judged : (ms : Members) → Judges machine_faults (FileStates ms) (FileFault ms) (seen stated_of (both machine_faults (processor_in ms) (both machine_faults (controller_in ms) (schedule_in ms))))
+file_judged : (ms : Members)
+    → Judges machine_faults (FileStates ms) (FileFault ms) (seen stated_of (both machine_faults (processor_in ms) (both machine_faults (controller_in ms) (schedule_in ms))))
 file_judged ms =
     seen_judged
     machine_faults
@@ -373,7 +425,8 @@ file_judged ms =
     _
     (joint (processor_judged ms) (joint (controller_judged ms) (schedule_judged ms)))
 
-to_machine : (ms : Members) (s : Stated) → (has_only_keys file_keys ms ≡ true) × FileStates ms s → StatesMachine ms s
+to_machine : (ms : Members) (s : Stated) → (has_only_keys file_keys ms ≡ true) × FileStates ms s
+    → StatesMachine ms s
 to_machine ms s h = record {
   known = h.0;
   processor = record { pc = h.1.0.0.0; mode = h.1.0.0.1.0; flags = h.1.0.0.1.1; registers = h.1.0.1 };
@@ -385,7 +438,8 @@ to_machine ms s h = record {
     mappable = h.1.1.0.1.1;
     pages_once = h.1.1.0.1.2;
   };
-  schedule = record { steps = h.1.1.1.0.0; port = h.1.1.1.0.1; events = h.1.1.1.1.0; steps_once = h.1.1.1.1.1 };
+  schedule =
+      record { steps = h.1.1.1.0.0; port = h.1.1.1.0.1; events = h.1.1.1.1.0; steps_once = h.1.1.1.1.1 };
 }
 
 from_processor : (ms : Members) (p : Processor) → StatesProcessor ms p → ProcessorStates ms p
@@ -397,14 +451,17 @@ from_controller ms c h = ((h.low_rom, h.high_rom), ((h.size, h.pages), h.mappabl
 from_schedule : (ms : Members) (s : Schedule) → StatesSchedule ms s → ScheduleStates ms s
 from_schedule ms s h = ((h.steps, h.port), (h.events, h.steps_once))
 
-from_machine : (ms : Members) (s : Stated) → StatesMachine ms s → (has_only_keys file_keys ms ≡ true) × FileStates ms s
+from_machine : (ms : Members) (s : Stated) → StatesMachine ms s
+    → (has_only_keys file_keys ms ≡ true) × FileStates ms s
 from_machine ms s m = (
   m.known,
   (from_processor ms s.processor m.processor, (from_controller ms s.controller m.controller, from_schedule ms s.schedule m.schedule)),
 )
 
 -- the faults in the order of the readings, and by whether one value alone shows them
-to_faults : {K P M F R L H S A T O E U W V : Type 0} → K ⊎ (((P ⊎ (M ⊎ F)) ⊎ R) ⊎ (((L ⊎ H) ⊎ ((S ⊎ A) ⊎ (U ⊎ W))) ⊎ ((T ⊎ O) ⊎ (E ⊎ V)))) → K ⊎ ((P ⊎ (M ⊎ (F ⊎ (R ⊎ (L ⊎ (H ⊎ (S ⊎ (A ⊎ (T ⊎ (O ⊎ E)))))))))) ⊎ (U ⊎ (W ⊎ V)))
+to_faults : {K P M F R L H S A T O E U W V : Type 0}
+    → K ⊎ (((P ⊎ (M ⊎ F)) ⊎ R) ⊎ (((L ⊎ H) ⊎ ((S ⊎ A) ⊎ (U ⊎ W))) ⊎ ((T ⊎ O) ⊎ (E ⊎ V))))
+    → K ⊎ ((P ⊎ (M ⊎ (F ⊎ (R ⊎ (L ⊎ (H ⊎ (S ⊎ (A ⊎ (T ⊎ (O ⊎ E)))))))))) ⊎ (U ⊎ (W ⊎ V)))
 to_faults (inl x) = inl x
 to_faults (inr (inl (inl (inl x)))) = inr (inl (inl x))
 to_faults (inr (inl (inl (inr (inl x))))) = inr (inl (inr (inl x)))
@@ -417,11 +474,15 @@ to_faults (inr (inr (inl (inr (inl (inr x)))))) = inr (inl (inr (inr (inr (inr (
 to_faults (inr (inr (inl (inr (inr (inl x)))))) = inr (inr (inl x))
 to_faults (inr (inr (inl (inr (inr (inr x)))))) = inr (inr (inr (inl x)))
 to_faults (inr (inr (inr (inl (inl x))))) = inr (inl (inr (inr (inr (inr (inr (inr (inr (inr (inl x))))))))))
-to_faults (inr (inr (inr (inl (inr x))))) = inr (inl (inr (inr (inr (inr (inr (inr (inr (inr (inr (inl x)))))))))))
-to_faults (inr (inr (inr (inr (inl x))))) = inr (inl (inr (inr (inr (inr (inr (inr (inr (inr (inr (inr x)))))))))))
+to_faults (inr (inr (inr (inl (inr x))))) =
+    inr (inl (inr (inr (inr (inr (inr (inr (inr (inr (inr (inl x)))))))))))
+to_faults (inr (inr (inr (inr (inl x))))) =
+    inr (inl (inr (inr (inr (inr (inr (inr (inr (inr (inr (inr x)))))))))))
 to_faults (inr (inr (inr (inr (inr x))))) = inr (inr (inr (inr x)))
 
-from_faults : {K P M F R L H S A T O E U W V : Type 0} → K ⊎ ((P ⊎ (M ⊎ (F ⊎ (R ⊎ (L ⊎ (H ⊎ (S ⊎ (A ⊎ (T ⊎ (O ⊎ E)))))))))) ⊎ (U ⊎ (W ⊎ V))) → K ⊎ (((P ⊎ (M ⊎ F)) ⊎ R) ⊎ (((L ⊎ H) ⊎ ((S ⊎ A) ⊎ (U ⊎ W))) ⊎ ((T ⊎ O) ⊎ (E ⊎ V))))
+from_faults : {K P M F R L H S A T O E U W V : Type 0}
+    → K ⊎ ((P ⊎ (M ⊎ (F ⊎ (R ⊎ (L ⊎ (H ⊎ (S ⊎ (A ⊎ (T ⊎ (O ⊎ E)))))))))) ⊎ (U ⊎ (W ⊎ V)))
+    → K ⊎ (((P ⊎ (M ⊎ F)) ⊎ R) ⊎ (((L ⊎ H) ⊎ ((S ⊎ A) ⊎ (U ⊎ W))) ⊎ ((T ⊎ O) ⊎ (E ⊎ V))))
 from_faults (inl x) = inl x
 from_faults (inr (inl (inl x))) = inr (inl (inl (inl x)))
 from_faults (inr (inl (inr (inl x)))) = inr (inl (inl (inr (inl x))))
@@ -430,15 +491,20 @@ from_faults (inr (inl (inr (inr (inr (inl x)))))) = inr (inl (inr x))
 from_faults (inr (inl (inr (inr (inr (inr (inl x))))))) = inr (inr (inl (inl (inl x))))
 from_faults (inr (inl (inr (inr (inr (inr (inr (inl x)))))))) = inr (inr (inl (inl (inr x))))
 from_faults (inr (inl (inr (inr (inr (inr (inr (inr (inl x))))))))) = inr (inr (inl (inr (inl (inl x)))))
-from_faults (inr (inl (inr (inr (inr (inr (inr (inr (inr (inl x)))))))))) = inr (inr (inl (inr (inl (inr x)))))
-from_faults (inr (inl (inr (inr (inr (inr (inr (inr (inr (inr (inl x))))))))))) = inr (inr (inr (inl (inl x))))
-from_faults (inr (inl (inr (inr (inr (inr (inr (inr (inr (inr (inr (inl x)))))))))))) = inr (inr (inr (inl (inr x))))
-from_faults (inr (inl (inr (inr (inr (inr (inr (inr (inr (inr (inr (inr x)))))))))))) = inr (inr (inr (inr (inl x))))
+from_faults (inr (inl (inr (inr (inr (inr (inr (inr (inr (inl x)))))))))) =
+    inr (inr (inl (inr (inl (inr x)))))
+from_faults (inr (inl (inr (inr (inr (inr (inr (inr (inr (inr (inl x))))))))))) =
+    inr (inr (inr (inl (inl x))))
+from_faults (inr (inl (inr (inr (inr (inr (inr (inr (inr (inr (inr (inl x)))))))))))) =
+    inr (inr (inr (inl (inr x))))
+from_faults (inr (inl (inr (inr (inr (inr (inr (inr (inr (inr (inr (inr x)))))))))))) =
+    inr (inr (inr (inr (inl x))))
 from_faults (inr (inr (inl x))) = inr (inr (inl (inr (inr (inl x)))))
 from_faults (inr (inr (inr (inl x)))) = inr (inr (inl (inr (inr (inr x)))))
 from_faults (inr (inr (inr (inr x)))) = inr (inr (inr (inr (inr x))))
 
-pub machine_judged : (ms : Members) → Judges machine_faults (StatesMachine ms) (HasKeyFault ms) (machine_in ms)
+pub machine_judged : (ms : Members)
+    → Judges machine_faults (StatesMachine ms) (HasKeyFault ms) (machine_in ms)
 machine_judged ms =
     judged_as
     machine_faults

@@ -24,7 +24,11 @@ use Rattle.machine_file.proofs.KeyFaults.{AddressFault, EventFault, FlagsFault, 
 -- ## The ranks of faults
 
 fault_at : ℕ → MachineFileFault
-fault_at n = cond (eqb n 1) Memory (cond (eqb n 2) NotToml (cond (eqb n 3) UnknownKey (cond (eqb n 4) WrongKind (cond (eqb n 5) OutOfRange Twice))))
+fault_at n =
+    cond
+    (eqb n 1)
+    Memory
+    (cond (eqb n 2) NotToml (cond (eqb n 3) UnknownKey (cond (eqb n 4) WrongKind (cond (eqb n 5) OutOfRange Twice))))
 
 at_rank : (f : MachineFileFault) → fault_at (number_of f) ≡ f
 unfolding fault_at
@@ -55,16 +59,19 @@ module _ (n : ℕ) where
         | inr high ↦ above (2 ^ 26) m same s.2 (ltb-false n (2 ^ 26) high)
       ]
 
-  space_tested : (b : Bool) → (eqb (n % 4) 0 && ltb n (2 ^ 26)) ≡ b → Told machine_faults (IsInSpace (pos n)) (λ f. ((m : ℕ) → ¬ IsInSpace (pos n) m) × (f ≡ OutOfRange)) (cond b (Ok n) (Err OutOfRange))
+  space_tested : (b : Bool) → (eqb (n % 4) 0 && ltb n (2 ^ 26)) ≡ b
+      → Told machine_faults (IsInSpace (pos n)) (λ f. ((m : ℕ) → ¬ IsInSpace (pos n) m) × (f ≡ OutOfRange)) (cond b (Ok n) (Err OutOfRange))
   space_tested true e =
       let parts = and_parts (eqb (n % 4) 0) (ltb n (2 ^ 26)) e in
       let stated : IsInSpace (pos n) n = (refl, eqb-true (n % 4) 0 parts.0, ltb-true n (2 ^ 26) parts.1) in (
         record { stated = stated; only = λ m s. sym (whole_same n m s.0) },
         λ f x. x.0 n stated,
       )
-  space_tested false e = (not_in_space e, record { has = (not_in_space e, refl); least = λ f x. is_fault f OutOfRange x.1 })
+  space_tested false e =
+      (not_in_space e, record { has = (not_in_space e, refl); least = λ f x. is_fault f OutOfRange x.1 })
 
-space_told : (z : ℤ) → Told machine_faults (IsInSpace z) (λ f. ((m : ℕ) → ¬ IsInSpace z m) × (f ≡ OutOfRange)) (in_space z)
+space_told : (z : ℤ)
+    → Told machine_faults (IsInSpace z) (λ f. ((m : ℕ) → ¬ IsInSpace z m) × (f ≡ OutOfRange)) (in_space z)
 space_told (pos n) = space_tested n (eqb (n % 4) 0 && ltb n (2 ^ 26)) refl
 space_told (negsuc n) = (
   λ m s. not_whole n m s.0,
@@ -72,7 +79,14 @@ space_told (negsuc n) = (
 )
 
 pub address_judged : (d : Data) → Judges machine_faults (IsAddress d) (AddressFault d) (pc_at d)
-address_judged d = required_judged machine_faults IsInSpace (λ z f. ((m : ℕ) → ¬ IsInSpace z m) × (f ≡ OutOfRange)) in_space (λ z. record { told = space_told z }) (as_integer d)
+address_judged d =
+    required_judged
+    machine_faults
+    IsInSpace
+    (λ z f. ((m : ℕ) → ¬ IsInSpace z m) × (f ≡ OutOfRange))
+    in_space
+    (λ z. record { told = space_told z })
+    (as_integer d)
 
 -- ## Page sizes
 
@@ -90,22 +104,26 @@ abbrev OtherSize : ℤ → MachineFileFault → Type 0
 OtherSize z f = ((s : PageSize) → z ≡ pos (kilobytes s) → ⊥) × (f ≡ OutOfRange)
 
 module _ (n : ℕ) where
-  sized : (s : PageSize) → n ≡ kilobytes s → Told machine_faults (λ t. pos n ≡ pos (kilobytes t)) (OtherSize (pos n)) (Ok s)
+  sized : (s : PageSize) → n ≡ kilobytes s
+      → Told machine_faults (λ t. pos n ≡ pos (kilobytes t)) (OtherSize (pos n)) (Ok s)
   sized s e = (
     record {
       stated = ap pos e;
-      only = λ t is. sym (size_back t) ∙ ap size_numbered (sym (whole_same n (kilobytes t) is) ∙ e) ∙ size_back s;
+      only =
+          λ t is. sym (size_back t) ∙ ap size_numbered (sym (whole_same n (kilobytes t) is) ∙ e) ∙ size_back s;
     },
     λ f x. x.0 s (ap pos e),
   )
 
-  other_size : eqb n 4 ≡ false → eqb n 8 ≡ false → eqb n 16 ≡ false → eqb n 32 ≡ false → (s : PageSize) → n ≡ kilobytes s → ⊥
+  other_size : eqb n 4 ≡ false → eqb n 8 ≡ false → eqb n 16 ≡ false → eqb n 32 ≡ false → (s : PageSize)
+      → n ≡ kilobytes s → ⊥
   other_size a b c d K4 e = false≢true (sym a ∙ eq-eqb n 4 e)
   other_size a b c d K8 e = false≢true (sym b ∙ eq-eqb n 8 e)
   other_size a b c d K16 e = false≢true (sym c ∙ eq-eqb n 16 e)
   other_size a b c d K32 e = false≢true (sym d ∙ eq-eqb n 32 e)
 
-  size_tested : (a b c d : Bool) → eqb n 4 ≡ a → eqb n 8 ≡ b → eqb n 16 ≡ c → eqb n 32 ≡ d → Told machine_faults (λ t. pos n ≡ pos (kilobytes t)) (OtherSize (pos n)) (cond a (Ok K4) (cond b (Ok K8) (cond c (Ok K16) (cond d (Ok K32) (Err OutOfRange)))))
+  size_tested : (a b c d : Bool) → eqb n 4 ≡ a → eqb n 8 ≡ b → eqb n 16 ≡ c → eqb n 32 ≡ d
+      → Told machine_faults (λ t. pos n ≡ pos (kilobytes t)) (OtherSize (pos n)) (cond a (Ok K4) (cond b (Ok K8) (cond c (Ok K16) (cond d (Ok K32) (Err OutOfRange)))))
   size_tested true b c d ea eb ec ed = sized K4 (eqb-true n 4 ea)
   size_tested false true c d ea eb ec ed = sized K8 (eqb-true n 8 eb)
   size_tested false false true d ea eb ec ed = sized K16 (eqb-true n 16 ec)
@@ -122,12 +140,20 @@ size_told (negsuc n) = (
 )
 
 pub size_judged : (d : Data) → Judges machine_faults (IsSize d) (SizeFault d) (size_at d)
-size_judged d = required_judged machine_faults (λ z s. z ≡ pos (kilobytes s)) OtherSize size_of (λ z. record { told = size_told z }) (as_integer d)
+size_judged d =
+    required_judged
+    machine_faults
+    (λ z s. z ≡ pos (kilobytes s))
+    OtherSize
+    size_of
+    (λ z. record { told = size_told z })
+    (as_integer d)
 
 -- ## Names and letters
 
 module _ {A : Type 0} where
-  named_told : (o : Option A) → Told machine_faults (λ a. o ≡ Some a) (λ f. (o ≡ None) × (f ≡ WrongKind)) (required machine_faults o (λ a. Ok a))
+  named_told : (o : Option A)
+      → Told machine_faults (λ a. o ≡ Some a) (λ f. (o ≡ None) × (f ≡ WrongKind)) (required machine_faults o (λ a. Ok a))
   named_told None = (
     λ a e. false≢true (ap is_some e),
     record { has = (refl, refl); least = λ f x. is_fault f WrongKind x.1 },
@@ -137,22 +163,43 @@ module _ {A : Type 0} where
     λ f x. true≢false (ap is_some x.0),
   )
 
-  pub named_judged : (named : List ℕ → Option A) (d : Data) → Judges machine_faults (IsNamed named d) (NameFault named d) (required machine_faults (option_and_then named (as_str d)) (λ a. Ok a))
+  pub named_judged : (named : List ℕ → Option A) (d : Data)
+      → Judges machine_faults (IsNamed named d) (NameFault named d) (required machine_faults (option_and_then named (as_str d)) (λ a. Ok a))
   named_judged named d = record { told = named_told (option_and_then named (as_str d)) }
 
 same_test : (b : Bool) → b ≡ false ↔ (b ≡ false)
 same_test b = (λ e. e, λ e. e)
 
-letters_judged : (text : List ℕ) → Judges machine_faults (λ flags. (flags ≡ set_flags text) × (list_all is_letter text ≡ true) × (is_single text ≡ true)) (λ f. ((list_all is_letter text ≡ false) × (f ≡ WrongKind)) ⊎ ((is_single text ≡ false) × (f ≡ Twice))) (lettered text)
+letters_judged : (text : List ℕ)
+    → Judges machine_faults (λ flags. (flags ≡ set_flags text) × (list_all is_letter text ≡ true) × (is_single text ≡ true)) (λ f. ((list_all is_letter text ≡ false) × (f ≡ WrongKind)) ⊎ ((is_single text ≡ false) × (f ≡ Twice))) (lettered text)
 letters_judged text =
-    two_tests machine_faults (set_flags text) (list_all is_letter text) (list_all is_letter text ≡ false) (same_test (list_all is_letter text)) (is_single text) (is_single text ≡ false) (same_test (is_single text)) WrongKind Twice (omega arith)
+    two_tests
+    machine_faults
+    (set_flags text)
+    (list_all is_letter text)
+    (list_all is_letter text ≡ false)
+    (same_test (list_all is_letter text))
+    (is_single text)
+    (is_single text ≡ false)
+    (same_test (is_single text))
+    WrongKind
+    Twice
+    (omega arith)
 
 pub flags_judged : (d : Data) → Judges machine_faults (AreFlags d) (FlagsFault d) (flags_at d)
-flags_judged d = required_judged machine_faults (λ text flags. (flags ≡ set_flags text) × (list_all is_letter text ≡ true) × (is_single text ≡ true)) (λ text f. ((list_all is_letter text ≡ false) × (f ≡ WrongKind)) ⊎ ((is_single text ≡ false) × (f ≡ Twice))) lettered letters_judged (as_str d)
+flags_judged d =
+    required_judged
+    machine_faults
+    (λ text flags. (flags ≡ set_flags text) × (list_all is_letter text ≡ true) × (is_single text ≡ true))
+    (λ text f. ((list_all is_letter text ≡ false) × (f ≡ WrongKind)) ⊎ ((is_single text ≡ false) × (f ≡ Twice)))
+    lettered
+    letters_judged
+    (as_str d)
 
 -- ## Lines and ports of events
 
-lines_of : (d : Data) (o : Option Lines) → IsSomeAnd o (AreLines d) → (ls : List Lines) × IsListOf (IsNamed named_line) d ls × (o ≡ Some (union ls))
+lines_of : (d : Data) (o : Option Lines) → IsSomeAnd o (AreLines d)
+    → (ls : List Lines) × IsListOf (IsNamed named_line) d ls × (o ≡ Some (union ls))
 lines_of d None t = absurd t
 lines_of d (Some l) t = (t.0, t.1, ap (λ (x : Lines). Some x) t.2)
 
@@ -175,12 +222,29 @@ port_of d (Some n) t = (n, t, refl)
 
 port_judged : (d : Data) → Judges machine_faults (λ o. IsSomeAnd o (IsWord d)) (WordFault d) (port_at d)
 port_judged d =
-    seen_judged machine_faults (IsWord d) (λ o. IsSomeAnd o (IsWord d)) (WordFault d) (λ n. Some n) (λ n s. s) (port_of d) _ (number_judged machine_faults (2 ^ 32 - 1) d)
+    seen_judged
+    machine_faults
+    (IsWord d)
+    (λ o. IsSomeAnd o (IsWord d))
+    (WordFault d)
+    (λ n. Some n)
+    (λ n s. s)
+    (port_of d)
+    _
+    (number_judged machine_faults (2 ^ 32 - 1) d)
 
 -- ## Tables
 
-registers_told : (ms : Members) → Judges machine_faults (λ ws. AllZip (λ r n. AtKeyOr (name_of r) ms (n ≡ 0) (λ e. IsWord e n)) named_registers ws) (λ f. Any (λ r. AtKey (name_of r) ms (λ e. WordFault e f)) named_registers) (all machine_faults (map (register_in ms) named_registers))
-registers_told ms = all_judged machine_faults (λ r n. AtKeyOr (name_of r) ms (n ≡ 0) (λ e. IsWord e n)) (λ r f. AtKey (name_of r) ms (λ e. WordFault e f)) (register_in ms) (λ r. number_or_judged machine_faults (2 ^ 32 - 1) (name_of r) 0 ms) named_registers
+registers_told : (ms : Members)
+    → Judges machine_faults (λ ws. AllZip (λ r n. AtKeyOr (name_of r) ms (n ≡ 0) (λ e. IsWord e n)) named_registers ws) (λ f. Any (λ r. AtKey (name_of r) ms (λ e. WordFault e f)) named_registers) (all machine_faults (map (register_in ms) named_registers))
+registers_told ms =
+    all_judged
+    machine_faults
+    (λ r n. AtKeyOr (name_of r) ms (n ≡ 0) (λ e. IsWord e n))
+    (λ r f. AtKey (name_of r) ms (λ e. WordFault e f))
+    (register_in ms)
+    (λ r. number_or_judged machine_faults (2 ^ 32 - 1) (name_of r) 0 ms)
+    named_registers
 
 pub registers_judged : (d : Data) → Judges machine_faults (AreRegisters d) (RegistersFault d) (registers_at d)
 registers_judged d =
@@ -204,10 +268,12 @@ module _ (ms : Members) where
   word key = number_in_judged machine_faults (2 ^ 32 - 1) key ms
 
 abbrev PageStates : Members → MappedPage → Type 0
-PageStates ms page = Word ms (codes "logical") page.logical × Word ms (codes "physical") page.physical × Word ms (codes "level") page.level
+PageStates ms page =
+    Word ms (codes "logical") page.logical × Word ms (codes "physical") page.physical × Word ms (codes "level") page.level
 
 abbrev PageFaults : Members → MachineFileFault → Type 0
-PageFaults ms f = NeedsWord ms (codes "logical") f ⊎ NeedsWord ms (codes "physical") f ⊎ NeedsWord ms (codes "level") f
+PageFaults ms f =
+    NeedsWord ms (codes "logical") f ⊎ NeedsWord ms (codes "physical") f ⊎ NeedsWord ms (codes "level") f
 
 three_to : {A B C : Type 0} → (A ⊎ B) ⊎ C → A ⊎ (B ⊎ C)
 three_to (inl (inl x)) = inl x
@@ -226,7 +292,8 @@ numbers_of_page ms =
     (both machine_faults (word_in (codes "logical") ms) (word_in (codes "physical") ms))
     (word_in (codes "level") ms)
 
-page_numbers_judged : (ms : Members) → Judges machine_faults (λ (p : (ℕ × ℕ) × ℕ). PageStates ms (page_of p)) (PageFaults ms) (numbers_of_page ms)
+page_numbers_judged : (ms : Members)
+    → Judges machine_faults (λ (p : (ℕ × ℕ) × ℕ). PageStates ms (page_of p)) (PageFaults ms) (numbers_of_page ms)
 page_numbers_judged ms =
     judged_as
     machine_faults
@@ -239,7 +306,8 @@ page_numbers_judged ms =
     (numbers_of_page ms)
     (joint (joint (word ms (codes "logical")) (word ms (codes "physical"))) (word ms (codes "level")))
 
-page_told : (ms : Members) → Judges machine_faults (PageStates ms) (PageFaults ms) (seen page_of (numbers_of_page ms))
+page_told : (ms : Members)
+    → Judges machine_faults (PageStates ms) (PageFaults ms) (seen page_of (numbers_of_page ms))
 page_told ms =
     seen_judged
     machine_faults
@@ -253,7 +321,15 @@ page_told ms =
     (page_numbers_judged ms)
 
 pub page_judged : (d : Data) → Judges machine_faults (IsPage d) (PageFault d) (page_at d)
-page_judged d = table_judged machine_faults map_keys PageStates PageFaults (λ ms. seen page_of (numbers_of_page ms)) page_told d
+page_judged d =
+    table_judged
+    machine_faults
+    map_keys
+    PageStates
+    PageFaults
+    (λ ms. seen page_of (numbers_of_page ms))
+    page_told
+    d
 
 abbrev EventStates : Members → ℕ × Event → Type 0
 EventStates ms event =
@@ -276,13 +352,32 @@ event_parts ms =
     (number_in machine_faults (codes "step") 65535 ms)
     (both machine_faults (number_or machine_faults (codes "bursts") 65535 0 ms) (both machine_faults (lines_in ms) (port_in ms)))
 
-lines_in_judged : (ms : Members) → Judges machine_faults (λ o. AtKeyOr (codes "lines") ms (o ≡ None) (λ e. IsSomeAnd o (AreLines e))) (λ f. AtKey (codes "lines") ms (λ e. LinesFault e f)) (lines_in ms)
-lines_in_judged ms = optional_judged machine_faults (λ e o. IsSomeAnd o (AreLines e)) LinesFault lines_at lines_judged None (get_member (codes "lines") ms)
+lines_in_judged : (ms : Members)
+    → Judges machine_faults (λ o. AtKeyOr (codes "lines") ms (o ≡ None) (λ e. IsSomeAnd o (AreLines e))) (λ f. AtKey (codes "lines") ms (λ e. LinesFault e f)) (lines_in ms)
+lines_in_judged ms =
+    optional_judged
+    machine_faults
+    (λ e o. IsSomeAnd o (AreLines e))
+    LinesFault
+    lines_at
+    lines_judged
+    None
+    (get_member (codes "lines") ms)
 
-port_in_judged : (ms : Members) → Judges machine_faults (λ o. AtKeyOr (codes "port") ms (o ≡ None) (λ e. IsSomeAnd o (IsWord e))) (λ f. AtKey (codes "port") ms (λ e. WordFault e f)) (port_in ms)
-port_in_judged ms = optional_judged machine_faults (λ e o. IsSomeAnd o (IsWord e)) WordFault port_at port_judged None (get_member (codes "port") ms)
+port_in_judged : (ms : Members)
+    → Judges machine_faults (λ o. AtKeyOr (codes "port") ms (o ≡ None) (λ e. IsSomeAnd o (IsWord e))) (λ f. AtKey (codes "port") ms (λ e. WordFault e f)) (port_in ms)
+port_in_judged ms =
+    optional_judged
+    machine_faults
+    (λ e o. IsSomeAnd o (IsWord e))
+    WordFault
+    port_at
+    port_judged
+    None
+    (get_member (codes "port") ms)
 
-event_told : (ms : Members) → Judges machine_faults (EventStates ms) (EventFaults ms) (seen event_of (event_parts ms))
+event_told : (ms : Members)
+    → Judges machine_faults (EventStates ms) (EventFaults ms) (seen event_of (event_parts ms))
 event_told ms =
     seen_judged
     machine_faults
@@ -296,7 +391,15 @@ event_told ms =
     (joint (number_in_judged machine_faults 65535 (codes "step") ms) (joint (number_or_judged machine_faults 65535 (codes "bursts") 0 ms) (joint (lines_in_judged ms) (port_in_judged ms))))
 
 pub event_judged : (d : Data) → Judges machine_faults (IsEvent d) (EventFault d) (event_at d)
-event_judged d = table_judged machine_faults event_keys EventStates EventFaults (λ ms. seen event_of (event_parts ms)) event_told d
+event_judged d =
+    table_judged
+    machine_faults
+    event_keys
+    EventStates
+    EventFaults
+    (λ ms. seen event_of (event_parts ms))
+    event_told
+    d
 
 -- ## Ranks of the faults of pages and events
 
@@ -307,11 +410,13 @@ module _ (f : MachineFileFault) where
   low_at : (g : MachineFileFault) → number_of g ≤ 5 → f ≡ g → IsLow f
   low_at g low e = let r : number_of f ≡ number_of g = ap number_of e in omega (arith, r, low)
 
-  pub some_low : {X : Type 0} (P : X → Type 0) → ((x : X) → P x → IsLow f) → (o : Option X) → IsSomeAnd o P → IsLow f
+  pub some_low : {X : Type 0} (P : X → Type 0) → ((x : X) → P x → IsLow f) → (o : Option X) → IsSomeAnd o P
+      → IsLow f
   some_low P each None h = absurd h
   some_low P each (Some x) h = each x h
 
-  match_low : {X : Type 0} (P : X → Type 0) → ((x : X) → P x → IsLow f) → (o : Option X) → MatchOption o (f ≡ WrongKind) P → IsLow f
+  match_low : {X : Type 0} (P : X → Type 0) → ((x : X) → P x → IsLow f) → (o : Option X)
+      → MatchOption o (f ≡ WrongKind) P → IsLow f
   match_low P each None h = low_at WrongKind (omega arith) h
   match_low P each (Some x) h = each x h
 
@@ -321,14 +426,18 @@ module _ (f : MachineFileFault) where
   pub size_low : (d : Data) → SizeFault d f → IsLow f
   size_low d h = match_low _ (λ z x. low_at OutOfRange (omega arith) x.1) (as_integer d) h
 
-  pub list_low : (H : Data → MachineFileFault → Type 0) → ((d : Data) → H d f → IsLow f) → (d : Data) → ListFault machine_faults H d f → IsLow f
+  pub list_low : (H : Data → MachineFileFault → Type 0) → ((d : Data) → H d f → IsLow f) → (d : Data)
+      → ListFault machine_faults H d f → IsLow f
   list_low H each d h = match_low _ (λ ds a. each a.1 a.4) (items_at d) h
 
-  keys_low : (keys : List (List ℕ)) (H : Members → MachineFileFault → Type 0) → ((ms : Members) → H ms f → IsLow f) → (ms : Members) → KeysFault machine_faults keys H ms f → IsLow f
+  keys_low : (keys : List (List ℕ)) (H : Members → MachineFileFault → Type 0)
+      → ((ms : Members) → H ms f → IsLow f) → (ms : Members) → KeysFault machine_faults keys H ms f
+      → IsLow f
   keys_low keys H each ms (inl e) = low_at UnknownKey (omega arith) e.1
   keys_low keys H each ms (inr h) = each ms h
 
-  table_low : (keys : List (List ℕ)) (H : Members → MachineFileFault → Type 0) → ((ms : Members) → H ms f → IsLow f) → (d : Data) → TableFault machine_faults keys H d f → IsLow f
+  table_low : (keys : List (List ℕ)) (H : Members → MachineFileFault → Type 0)
+      → ((ms : Members) → H ms f → IsLow f) → (d : Data) → TableFault machine_faults keys H d f → IsLow f
   table_low keys H each d h = match_low _ (keys_low keys H each) (as_table d) h
 
   needs_low : (key : List ℕ) (ms : Members) → NeedsWord ms key f → IsLow f
@@ -344,10 +453,16 @@ module _ (f : MachineFileFault) where
 
   event_faults_low : (ms : Members) → EventFaults ms f → IsLow f
   event_faults_low ms (inl h) = match_low _ (λ d x. up_to_low 65535 d x) (get_member (codes "step") ms) h
-  event_faults_low ms (inr (inl h)) = some_low _ (λ d x. up_to_low 65535 d x) (get_member (codes "bursts") ms) h
+  event_faults_low ms (inr (inl h)) =
+      some_low _ (λ d x. up_to_low 65535 d x) (get_member (codes "bursts") ms) h
   event_faults_low ms (inr (inr (inl h))) =
-      some_low _ (λ d x. list_low (NameFault named_line) (λ e y. low_at WrongKind (omega arith) y.1) d x) (get_member (codes "lines") ms) h
-  event_faults_low ms (inr (inr (inr h))) = some_low _ (λ d x. up_to_low (2 ^ 32 - 1) d x) (get_member (codes "port") ms) h
+      some_low
+      _
+      (λ d x. list_low (NameFault named_line) (λ e y. low_at WrongKind (omega arith) y.1) d x)
+      (get_member (codes "lines") ms)
+      h
+  event_faults_low ms (inr (inr (inr h))) =
+      some_low _ (λ d x. up_to_low (2 ^ 32 - 1) d x) (get_member (codes "port") ms) h
 
   pub event_low : (d : Data) → EventFault d f → IsLow f
   event_low d h = table_low event_keys EventFaults event_faults_low d h

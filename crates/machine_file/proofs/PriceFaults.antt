@@ -16,7 +16,10 @@ TicksFault d fault = NumberFault profile_faults (2 ^ 32 - 1) d fault
 -- those of a list of four such numbers
 abbrev pub FourFault : Data → ProfileFileFault → Type 0
 FourFault d fault =
-    MatchOption (items_at d) (fault ≡ WrongKind) (λ ds. ((length ds ≢ 4) × (fault ≡ WrongKind)) ⊎ Any (λ e. TicksFault e fault) ds)
+    MatchOption
+    (items_at d)
+    (fault ≡ WrongKind)
+    (λ ds. ((length ds ≢ 4) × (fault ≡ WrongKind)) ⊎ Any (λ e. TicksFault e fault) ds)
 
 -- a key that is missing or takes another value
 abbrev pub PriceFault : Members → ProfileFileFault → Type 0

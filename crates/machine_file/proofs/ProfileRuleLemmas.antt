@@ -22,7 +22,11 @@ use Rattle.machine_file.proofs.PriceFaults.{FourFault, HasPriceFault, OrderFault
 -- ## The ranks of faults
 
 fault_at : ℕ → ProfileFileFault
-fault_at n = cond (eqb n 1) Memory (cond (eqb n 2) NotToml (cond (eqb n 3) UnknownKey (cond (eqb n 4) WrongKind (cond (eqb n 5) OutOfRange Disordered))))
+fault_at n =
+    cond
+    (eqb n 1)
+    Memory
+    (cond (eqb n 2) NotToml (cond (eqb n 3) UnknownKey (cond (eqb n 4) WrongKind (cond (eqb n 5) OutOfRange Disordered))))
 
 at_rank : (f : ProfileFileFault) → fault_at (number_of f) ≡ f
 unfolding fault_at
@@ -47,14 +51,17 @@ range_middle : (f : ProfileFileFault) → f ≡ OutOfRange → IsMiddle f
 range_middle f e = let r : number_of f ≡ 5 = ap number_of e in (omega (arith, r), omega (arith, r))
 
 module _ (f : ProfileFileFault) where
-  ticks_at : (o : Option ℤ) → MatchOption o (f ≡ WrongKind) (λ z. IsOutside (2 ^ 32 - 1) z × (f ≡ OutOfRange)) → IsMiddle f
+  ticks_at : (o : Option ℤ)
+      → MatchOption o (f ≡ WrongKind) (λ z. IsOutside (2 ^ 32 - 1) z × (f ≡ OutOfRange)) → IsMiddle f
   ticks_at None e = kind_middle f e
   ticks_at (Some z) e = range_middle f e.1
 
   ticks_middle : (d : Data) → TicksFault d f → IsMiddle f
   ticks_middle d h = ticks_at (as_integer d) h
 
-  four_items : (o : Option (List Data)) → MatchOption o (f ≡ WrongKind) (λ ds. ((length ds ≢ 4) × (f ≡ WrongKind)) ⊎ Any (λ e. TicksFault e f) ds) → IsMiddle f
+  four_items : (o : Option (List Data))
+      → MatchOption o (f ≡ WrongKind) (λ ds. ((length ds ≢ 4) × (f ≡ WrongKind)) ⊎ Any (λ e. TicksFault e f) ds)
+      → IsMiddle f
   four_items None e = kind_middle f e
   four_items (Some ds) (inl e) = kind_middle f e.1
   four_items (Some ds) (inr a) = ticks_middle a.1 a.4
@@ -62,7 +69,8 @@ module _ (f : ProfileFileFault) where
   four_middle : (d : Data) → FourFault d f → IsMiddle f
   four_middle d h = four_items (items_at d) h
 
-  key_middle : (P : Data → Type 0) → ((d : Data) → P d → IsMiddle f) → (o : Option Data) → MatchOption o (f ≡ WrongKind) P → IsMiddle f
+  key_middle : (P : Data → Type 0) → ((d : Data) → P d → IsMiddle f) → (o : Option Data)
+      → MatchOption o (f ≡ WrongKind) P → IsMiddle f
   key_middle P each None e = kind_middle f e
   key_middle P each (Some d) h = each d h
 
@@ -71,7 +79,9 @@ module _ (f : ProfileFileFault) where
   price_middle ms (inr a) = key_middle (λ d. FourFault d f) four_middle (get_member a.1 ms) a.4
 
 -- two parts
-joint : {A B : Type 0} {S : A → Type 0} {T : B → Type 0} {H K : ProfileFileFault → Type 0} {a : Read A} {b : Read B} → Judges profile_faults S H a → Judges profile_faults T K b → Judges profile_faults (λ p. S p.0 × T p.1) (λ f. H f ⊎ K f) (both profile_faults a b)
+joint : {A B : Type 0} {S : A → Type 0} {T : B → Type 0} {H K : ProfileFileFault → Type 0} {a : Read A} {b : Read B}
+    → Judges profile_faults S H a → Judges profile_faults T K b
+    → Judges profile_faults (λ p. S p.0 × T p.1) (λ f. H f ⊎ K f) (both profile_faults a b)
 joint {S = S} {T = T} {H = H} {K = K} {a = a} {b = b} h k = both_judged profile_faults S T H K a b h k
 
 -- ## Lists of four
@@ -88,7 +98,8 @@ ItemsFault ds f = ((length ds ≢ 4) × (f ≡ WrongKind)) ⊎ Any (λ e. TicksF
 ticks_judged : (d : Data) → Judges profile_faults (IsTicks d) (TicksFault d) (word_at d)
 ticks_judged d = number_judged profile_faults (2 ^ 32 - 1) d
 
-wrong_told : (ds : List Data) → length ds ≢ 4 → Told profile_faults (ListsFour ds) (ItemsFault ds) (four_of ds)
+wrong_told : (ds : List Data) → length ds ≢ 4
+    → Told profile_faults (ListsFour ds) (ItemsFault ds) (four_of ds)
 wrong_told ds other =
     rw (not_four ds other) (
       λ p z. other (sym (AllZip-long IsTicks ds (four_list p) z)),
@@ -114,7 +125,8 @@ four_back P a b c d (inr (inr (inl x))) = inr (inl x)
 four_back P a b c d (inr (inr (inr (inl x)))) = inr (inr x)
 four_back P a b c d (inr (inr (inr (inr x)))) = absurd x
 
-four_exact : (a b c d : Data) → Judges profile_faults (ListsFour (a ∷ b ∷ c ∷ d ∷ [])) (ItemsFault (a ∷ b ∷ c ∷ d ∷ [])) (four_of (a ∷ b ∷ c ∷ d ∷ []))
+four_exact : (a b c d : Data)
+    → Judges profile_faults (ListsFour (a ∷ b ∷ c ∷ d ∷ [])) (ItemsFault (a ∷ b ∷ c ∷ d ∷ [])) (four_of (a ∷ b ∷ c ∷ d ∷ []))
 four_exact a b c d =
     judged_as
     profile_faults
@@ -141,8 +153,16 @@ four_told (a ∷ b ∷ c ∷ []) = wrong_told (a ∷ b ∷ c ∷ []) (λ e. absu
 four_told (a ∷ b ∷ c ∷ d ∷ []) = (four_exact a b c d).told
 four_told (a ∷ b ∷ c ∷ d ∷ e ∷ ds) = wrong_told (a ∷ b ∷ c ∷ d ∷ e ∷ ds) (λ h. absurd (omega (arith, h)))
 
-four_at_judged : (d : Data) → Judges profile_faults (λ p. IsListOf IsTicks d (four_list p)) (FourFault d) (four_at d)
-four_at_judged d = required_judged profile_faults ListsFour ItemsFault four_of (λ ds. record { told = four_told ds }) (items_at d)
+four_at_judged : (d : Data)
+    → Judges profile_faults (λ p. IsListOf IsTicks d (four_list p)) (FourFault d) (four_at d)
+four_at_judged d =
+    required_judged
+    profile_faults
+    ListsFour
+    ItemsFault
+    four_of
+    (λ ds. record { told = four_told ds })
+    (items_at d)
 
 -- ## The nine keys
 
@@ -163,10 +183,18 @@ module _ (ms : Members) where
   word key = number_in_judged profile_faults (2 ^ 32 - 1) key ms
 
   fours : (key : List ℕ) → Judges profile_faults (Fours key) (FoursFault key) (four_in key ms)
-  fours key = required_judged profile_faults (λ d p. IsListOf IsTicks d (four_list p)) FourFault four_at four_at_judged (get_member key ms)
+  fours key =
+      required_judged
+      profile_faults
+      (λ d p. IsListOf IsTicks d (four_list p))
+      FourFault
+      four_at
+      four_at_judged
+      (get_member key ms)
 
 -- the nine keys' faults in the order of the readings, and by what the keys take
-prices_to : {N S Q R I C U T B : Type 0} → ((N ⊎ (S ⊎ Q)) ⊎ (R ⊎ I)) ⊎ ((C ⊎ U) ⊎ (T ⊎ B)) → (N ⊎ (S ⊎ (Q ⊎ (C ⊎ (U ⊎ (T ⊎ (B ⊎ ⊥))))))) ⊎ (R ⊎ (I ⊎ ⊥))
+prices_to : {N S Q R I C U T B : Type 0} → ((N ⊎ (S ⊎ Q)) ⊎ (R ⊎ I)) ⊎ ((C ⊎ U) ⊎ (T ⊎ B))
+    → (N ⊎ (S ⊎ (Q ⊎ (C ⊎ (U ⊎ (T ⊎ (B ⊎ ⊥))))))) ⊎ (R ⊎ (I ⊎ ⊥))
 prices_to (inl (inl (inl x))) = inl (inl x)
 prices_to (inl (inl (inr (inl x)))) = inl (inr (inl x))
 prices_to (inl (inl (inr (inr x)))) = inl (inr (inr (inl x)))
@@ -177,7 +205,8 @@ prices_to (inr (inl (inr x))) = inl (inr (inr (inr (inr (inl x)))))
 prices_to (inr (inr (inl x))) = inl (inr (inr (inr (inr (inr (inl x))))))
 prices_to (inr (inr (inr x))) = inl (inr (inr (inr (inr (inr (inr (inl x)))))))
 
-prices_back : {N S Q R I C U T B : Type 0} → (N ⊎ (S ⊎ (Q ⊎ (C ⊎ (U ⊎ (T ⊎ (B ⊎ ⊥))))))) ⊎ (R ⊎ (I ⊎ ⊥)) → ((N ⊎ (S ⊎ Q)) ⊎ (R ⊎ I)) ⊎ ((C ⊎ U) ⊎ (T ⊎ B))
+prices_back : {N S Q R I C U T B : Type 0} → (N ⊎ (S ⊎ (Q ⊎ (C ⊎ (U ⊎ (T ⊎ (B ⊎ ⊥))))))) ⊎ (R ⊎ (I ⊎ ⊥))
+    → ((N ⊎ (S ⊎ Q)) ⊎ (R ⊎ I)) ⊎ ((C ⊎ U) ⊎ (T ⊎ B))
 prices_back (inl (inl x)) = inl (inl (inl x))
 prices_back (inl (inr (inl x))) = inl (inl (inr (inl x)))
 prices_back (inl (inr (inr (inl x)))) = inl (inl (inr (inr x)))
@@ -191,7 +220,8 @@ prices_back (inr (inr (inl x))) = inl (inr (inr x))
 prices_back (inr (inr (inr x))) = absurd x
 
 module _ (ms : Members) where
-  prices_iff : (f : ProfileFileFault) → OneOf (λ key. WordFault ms key f) number_keys ⊎ OneOf (λ key. FoursFault ms key f) list_keys ↔ PriceFault ms f
+  prices_iff : (f : ProfileFileFault)
+      → OneOf (λ key. WordFault ms key f) number_keys ⊎ OneOf (λ key. FoursFault ms key f) list_keys ↔ PriceFault ms f
   prices_iff f = (
     λ h. elim h [
       | inl x ↦ inl ((any_one_of (λ key. WordFault ms key f) number_keys).0 x)
@@ -224,12 +254,14 @@ module _ (ms : Members) where
 abbrev Known : Members → Type 0
 Known ms = has_only_keys profile_keys ms ≡ true
 
-parts_of : (ms : Members) (ns : List ℕ) → Known ms × StatesNumbers ms ns → (p : Parts) × (Known ms × StatesNumbers ms (joined p)) × (ns ≡ joined p)
+parts_of : (ms : Members) (ns : List ℕ) → Known ms × StatesNumbers ms ns
+    → (p : Parts) × (Known ms × StatesNumbers ms (joined p)) × (ns ≡ joined p)
 parts_of ms (n ∷ s ∷ quad ∷ rom_0 ∷ rom_1 ∷ rom_2 ∷ rom_3 ∷ slow ∷ medium ∷ fast ∷ synchronous ∷ control ∷ unfitted ∷ internal ∷ burst ∷ []) t =
     ((((n, (s, quad)), (((rom_0, rom_1), (rom_2, rom_3)), ((slow, medium), (fast, synchronous)))), ((control, unfitted), (internal, burst))), t, refl)
 parts_of ms _ t = absurd t.1
 
-numbers_judged : (ms : Members) → Judges profile_faults (λ ns. Known ms × StatesNumbers ms ns) (KeysFault profile_faults profile_keys PriceFault ms) (numbers_in ms)
+numbers_judged : (ms : Members)
+    → Judges profile_faults (λ ns. Known ms × StatesNumbers ms ns) (KeysFault profile_faults profile_keys PriceFault ms) (numbers_in ms)
 numbers_judged ms =
     seen_judged
     profile_faults
@@ -326,7 +358,8 @@ module _ (ms : Members) where
     only_order f (inr (inl p)) = absurd (h.1 f (inr p))
     only_order f (inr (inr o)) = o
 
-    profile_told : AreInRange ns → AreOrdered ns → Told profile_faults (StatesProfile ms) (HasPriceFault ms) (Ok ns)
+    profile_told : AreInRange ns → AreOrdered ns
+        → Told profile_faults (StatesProfile ms) (HasPriceFault ms) (Ok ns)
     profile_told r o = (
       record {
         stated = record { known = h.0.stated.0; numbers_stated = h.0.stated.1; in_range = r; ordered = o };
@@ -347,7 +380,8 @@ module _ (ms : Members) where
       },
     )
 
-    order_told : AreInRange ns → ¬ AreOrdered ns → Told profile_faults (StatesProfile ms) (HasPriceFault ms) (Err Disordered)
+    order_told : AreInRange ns → ¬ AreOrdered ns
+        → Told profile_faults (StatesProfile ms) (HasPriceFault ms) (Err Disordered)
     order_told r o = (
       λ other s. o (subst AreOrdered (same other s.numbers_stated) s.ordered),
       record {
@@ -359,7 +393,8 @@ module _ (ms : Members) where
       },
     )
 
-  read_told : (reading answer : Read (List ℕ)) → Told profile_faults States KeyFault reading → IsPriced reading answer → Told profile_faults (StatesProfile ms) (HasPriceFault ms) answer
+  read_told : (reading answer : Read (List ℕ)) → Told profile_faults States KeyFault reading
+      → IsPriced reading answer → Told profile_faults (StatesProfile ms) (HasPriceFault ms) answer
   read_told (Ok ns) answer h p = elim (range_tells ns) [
     | inl r ↦ elim (order_tells ns) [
       | inl o ↦ rw (p.0 r o) (profile_told ns h r o)
@@ -376,7 +411,9 @@ module _ (ms : Members) where
       above : (f : ProfileFileFault) → HasPriceFault ms f → number_of g ≤ number_of f
       above f (inl e) = h.1.least f (inl e)
       above f (inr (inl y)) = h.1.least f (inr y)
-      above f (inr (inr o)) = let low = key_low g h.1.has in let high = order_high f o in omega (arith, low, high)
+      above f (inr (inr o)) =
+          let low = key_low g h.1.has in let high = order_high f o in omega (arith, low, high)
 
-  pub profile_judged : (answer : Read (List ℕ)) → IsPriced (numbers_in ms) answer → Judges profile_faults (StatesProfile ms) (HasPriceFault ms) answer
+  pub profile_judged : (answer : Read (List ℕ)) → IsPriced (numbers_in ms) answer
+      → Judges profile_faults (StatesProfile ms) (HasPriceFault ms) answer
   profile_judged answer p = record { told = read_told (numbers_in ms) answer (numbers_judged ms).told p }

@@ -33,7 +33,8 @@ module _ {F : Type 0} (fs : Faults F) (limit : ℕ) where
   abbrev UpFault : ℤ → F → Type 0
   UpFault z f = IsOutside limit z × (f ≡ fs.out_of_range)
 
-  tested : (n : ℕ) (b : Bool) → leb n limit ≡ b → Told fs (Up (pos n)) (UpFault (pos n)) (cond b (Ok n) (Err fs.out_of_range))
+  tested : (n : ℕ) (b : Bool) → leb n limit ≡ b
+      → Told fs (Up (pos n)) (UpFault (pos n)) (cond b (Ok n) (Err fs.out_of_range))
   tested n true e =
       let low = leb-true n limit e in (
         record { stated = (refl, low); only = λ m s. sym (whole_same n m s.0) },
@@ -55,23 +56,51 @@ module _ {F : Type 0} (fs : Faults F) (limit : ℕ) where
     record { has = (λ m s. absurd (not_whole n m s), refl); least = λ o y. le_of_eq (ap fs.rank (sym y.1)) },
   )
 
-  pub number_judged : (d : Data) → Judges fs (IsNumber limit d) (NumberFault fs limit d) (number_at fs limit d)
-  number_judged d = required_judged fs Up UpFault (up_to fs limit) (λ z. record { told = up_to_told z }) (as_integer d)
+  pub number_judged : (d : Data)
+      → Judges fs (IsNumber limit d) (NumberFault fs limit d) (number_at fs limit d)
+  number_judged d =
+      required_judged fs Up UpFault (up_to fs limit) (λ z. record { told = up_to_told z }) (as_integer d)
 
-  pub number_in_judged : (key : List ℕ) (ms : Members) → Judges fs (λ n. AtKey key ms (λ d. IsNumber limit d n)) (λ f. AtKeyOr key ms (f ≡ fs.wrong_kind) (λ d. NumberFault fs limit d f)) (number_in fs key limit ms)
-  number_in_judged key ms = required_judged fs (IsNumber limit) (NumberFault fs limit) (number_at fs limit) number_judged (get_member key ms)
+  pub number_in_judged : (key : List ℕ) (ms : Members)
+      → Judges fs (λ n. AtKey key ms (λ d. IsNumber limit d n)) (λ f. AtKeyOr key ms (f ≡ fs.wrong_kind) (λ d. NumberFault fs limit d f)) (number_in fs key limit ms)
+  number_in_judged key ms =
+      required_judged
+      fs
+      (IsNumber limit)
+      (NumberFault fs limit)
+      (number_at fs limit)
+      number_judged
+      (get_member key ms)
 
-  pub number_or_judged : (key : List ℕ) (missing : ℕ) (ms : Members) → Judges fs (λ n. AtKeyOr key ms (n ≡ missing) (λ d. IsNumber limit d n)) (λ f. AtKey key ms (λ d. NumberFault fs limit d f)) (number_or fs key limit missing ms)
-  number_or_judged key missing ms = optional_judged fs (IsNumber limit) (NumberFault fs limit) (number_at fs limit) number_judged missing (get_member key ms)
+  pub number_or_judged : (key : List ℕ) (missing : ℕ) (ms : Members)
+      → Judges fs (λ n. AtKeyOr key ms (n ≡ missing) (λ d. IsNumber limit d n)) (λ f. AtKey key ms (λ d. NumberFault fs limit d f)) (number_or fs key limit missing ms)
+  number_or_judged key missing ms =
+      optional_judged
+      fs
+      (IsNumber limit)
+      (NumberFault fs limit)
+      (number_at fs limit)
+      number_judged
+      missing
+      (get_member key ms)
 
 -- ## Tables
 
 module _ {F A : Type 0} (fs : Faults F) (keys : List (List ℕ)) (S : Members → A → Type 0) (H : Members → F → Type 0) (reads : Members → Reading F A) (each : (ms : Members) → Judges fs (S ms) (H ms) (reads ms)) where
-  pub keys_judged : (ms : Members) → Judges fs (λ a. (has_only_keys keys ms ≡ true) × S ms a) (KeysFault fs keys H ms) (of_keys fs keys ms (reads ms))
+  pub keys_judged : (ms : Members)
+      → Judges fs (λ a. (has_only_keys keys ms ≡ true) × S ms a) (KeysFault fs keys H ms) (of_keys fs keys ms (reads ms))
   keys_judged ms = checked_judged fs (S ms) (H ms) (has_only_keys keys ms) fs.unknown_key (reads ms) (each ms)
 
-  pub table_judged : (d : Data) → Judges fs (λ a. IsTable keys (λ ms. S ms a) d) (TableFault fs keys H d) (required fs (as_table d) (λ ms. of_keys fs keys ms (reads ms)))
-  table_judged d = required_judged fs (λ ms a. (has_only_keys keys ms ≡ true) × S ms a) (KeysFault fs keys H) (λ ms. of_keys fs keys ms (reads ms)) keys_judged (as_table d)
+  pub table_judged : (d : Data)
+      → Judges fs (λ a. IsTable keys (λ ms. S ms a) d) (TableFault fs keys H d) (required fs (as_table d) (λ ms. of_keys fs keys ms (reads ms)))
+  table_judged d =
+      required_judged
+      fs
+      (λ ms a. (has_only_keys keys ms ≡ true) × S ms a)
+      (KeysFault fs keys H)
+      (λ ms. of_keys fs keys ms (reads ms))
+      keys_judged
+      (as_table d)
 
 -- ## Lists
 
@@ -85,7 +114,8 @@ module _ {X : Type 0} (P : X → Type 0) where
   pub any_later : (x : X) (xs : List X) → Any P xs → Any P (x ∷ xs)
   any_later x xs h = let low : h.0 < length xs = h.2 in (suc h.0, h.1, omega (arith, low), h.3, h.4)
 
-  any_at : (x : X) (xs : List X) (k : ℕ) (y : X) → k < length (x ∷ xs) → slice_index_or (x ∷ xs) k y ≡ y → P y → P x ⊎ Any P xs
+  any_at : (x : X) (xs : List X) (k : ℕ) (y : X) → k < length (x ∷ xs) → slice_index_or (x ∷ xs) k y ≡ y
+      → P y → P x ⊎ Any P xs
   any_at x xs zero y low is p = inl (subst P (sym is) p)
   any_at x xs (suc k) y low is p = inr (k, y, omega (arith, low), is, p)
 
@@ -114,13 +144,15 @@ module _ {F A : Type 0} (fs : Faults F) (S : List A → Type 0) (T : A → Type 
   abbrev Longer : List A → Type 0
   Longer xs = (ys : List A) × (z : A) × S ys × T z × (xs ≡ ys ++ z ∷ [])
 
-  after_both : (list : Reading F (List A)) (r : Reading F A) → after fs list r ≡ seen (λ p. p.0 ++ p.1 ∷ []) (both fs list r)
+  after_both : (list : Reading F (List A)) (r : Reading F A)
+      → after fs list r ≡ seen (λ p. p.0 ++ p.1 ∷ []) (both fs list r)
   after_both (Ok xs) (Ok a) = refl
   after_both (Ok xs) (Err g) = refl
   after_both (Err f) (Ok a) = refl
   after_both (Err f) (Err g) = refl
 
-  after_judged : (list : Reading F (List A)) (r : Reading F A) → Judges fs S H list → Judges fs T K r → Judges fs Longer (λ f. H f ⊎ K f) (after fs list r)
+  after_judged : (list : Reading F (List A)) (r : Reading F A) → Judges fs S H list → Judges fs T K r
+      → Judges fs Longer (λ f. H f ⊎ K f) (after fs list r)
   after_judged list r h k =
       rw (after_both list r) (seen_judged fs (λ p. S p.0 × T p.1) Longer (λ f. H f ⊎ K f) (λ p. p.0 ++ p.1 ∷ []) (λ p s. (p.0, p.1, s.0, s.1, refl)) (λ xs l. ((l.0, l.1), (l.2, l.3), l.4)) (both fs list r) (both_judged fs S T H K list r h k))
 
@@ -133,11 +165,15 @@ module _ {F A X : Type 0} (fs : Faults F) (T : X → A → Type 0) (K : X → F 
   to_front S xs ys [] s a e = subst S (sym (e ∙ append-nil ys)) s
   to_front S xs ys (z ∷ zs) s a e = absurd a
 
-  first_more : (S : List A → Type 0) (d : X) (ds : List X) (xs ys zs : List A) → S ys → AllZip T (d ∷ ds) zs → xs ≡ ys ++ zs → Together (λ vs. (us : List A) × (w : A) × S us × T d w × (vs ≡ us ++ w ∷ [])) ds xs
+  first_more : (S : List A → Type 0) (d : X) (ds : List X) (xs ys zs : List A) → S ys → AllZip T (d ∷ ds) zs
+      → xs ≡ ys ++ zs → Together (λ vs. (us : List A) × (w : A) × S us × T d w × (vs ≡ us ++ w ∷ [])) ds xs
   first_more S d ds xs ys [] s a e = absurd a
-  first_more S d ds xs ys (z ∷ zs) s a e = (ys ++ z ∷ [], zs, (ys, z, s, a.0, refl), a.1, e ∙ sym (append_assoc ys (z ∷ []) zs))
+  first_more S d ds xs ys (z ∷ zs) s a e =
+      (ys ++ z ∷ [], zs, (ys, z, s, a.0, refl), a.1, e ∙ sym (append_assoc ys (z ∷ []) zs))
 
-  gathered : (ds : List X) (S : List A → Type 0) (H : F → Type 0) (list : Reading F (List A)) → Judges fs S H list → Judges fs (Together S ds) (λ f. H f ⊎ Any (λ x. K x f) ds) (fold (after fs) list (map reads ds))
+  gathered : (ds : List X) (S : List A → Type 0) (H : F → Type 0) (list : Reading F (List A))
+      → Judges fs S H list
+      → Judges fs (Together S ds) (λ f. H f ⊎ Any (λ x. K x f) ds) (fold (after fs) list (map reads ds))
   gathered [] S H list h =
       judged_as
       fs
@@ -188,28 +224,42 @@ module _ {F A X : Type 0} (fs : Faults F) (T : X → A → Type 0) (K : X → F 
 
 module _ {F A : Type 0} (fs : Faults F) (S : Data → A → Type 0) (H : Data → F → Type 0) (reads : Data → Reading F A) (each : (d : Data) → Judges fs (S d) (H d) (reads d)) where
   pub list_judged : (d : Data) → Judges fs (IsListOf S d) (ListFault fs H d) (list_at fs reads d)
-  list_judged d = required_judged fs (AllZip S) (λ ds f. Any (λ e. H e f) ds) (listed fs reads) (all_judged fs S H reads each) (items_at d)
+  list_judged d =
+      required_judged
+      fs
+      (AllZip S)
+      (λ ds f. Any (λ e. H e f) ds)
+      (listed fs reads)
+      (all_judged fs S H reads each)
+      (items_at d)
 
-  pub tables_judged : (key : List ℕ) (ms : Members) → Judges fs (λ xs. AtKeyOr key ms (xs ≡ []) (λ d. IsListOf S d xs)) (λ f. AtKey key ms (λ d. ListFault fs H d f)) (tables_at fs reads (get_member key ms))
-  tables_judged key ms = optional_judged fs (IsListOf S) (ListFault fs H) (list_at fs reads) list_judged [] (get_member key ms)
+  pub tables_judged : (key : List ℕ) (ms : Members)
+      → Judges fs (λ xs. AtKeyOr key ms (xs ≡ []) (λ d. IsListOf S d xs)) (λ f. AtKey key ms (λ d. ListFault fs H d f)) (tables_at fs reads (get_member key ms))
+  tables_judged key ms =
+      optional_judged fs (IsListOf S) (ListFault fs H) (list_at fs reads) list_judged [] (get_member key ms)
 
 -- ## The numbers at a key of a list's tables
 
 module _ {A : Type 0} (S : Data → A → Type 0) where
-  items_state : (o : Option (List Data)) (xs : List A) → IsSomeAnd o (λ ds. AllZip S ds xs) → AllZip S (unwrap_or o []) xs
+  items_state : (o : Option (List Data)) (xs : List A) → IsSomeAnd o (λ ds. AllZip S ds xs)
+      → AllZip S (unwrap_or o []) xs
   items_state None xs h = absurd h
   items_state (Some ds) xs h = h
 
-  entries_state_of : (o : Option Data) (xs : List A) → MatchOption o (xs ≡ []) (λ d. IsListOf S d xs) → AllZip S (unwrap_or (option_and_then items_at o) []) xs
+  entries_state_of : (o : Option Data) (xs : List A) → MatchOption o (xs ≡ []) (λ d. IsListOf S d xs)
+      → AllZip S (unwrap_or (option_and_then items_at o) []) xs
   entries_state_of None xs h = rw h tt
   entries_state_of (Some d) xs h = items_state (items_at d) xs h
 
   -- the entries at a key state what is read of them
-  pub entries_state : (key : List ℕ) (ms : Members) (xs : List A) → AtKeyOr key ms (xs ≡ []) (λ d. IsListOf S d xs) → AllZip S (entries_at key ms) xs
+  pub entries_state : (key : List ℕ) (ms : Members) (xs : List A)
+      → AtKeyOr key ms (xs ≡ []) (λ d. IsListOf S d xs) → AllZip S (entries_at key ms) xs
   entries_state key ms xs h = entries_state_of (get_member key ms) xs h
 
   -- their numbers at a key
-  pub numbers_read : (key : List ℕ) (f : A → ℕ) → ((d : Data) (x : A) → S d x → number_of_entry key d ≡ Some (f x)) → (ds : List Data) (xs : List A) → AllZip S ds xs → numbers_at key ds ≡ map f xs
+  pub numbers_read : (key : List ℕ) (f : A → ℕ)
+      → ((d : Data) (x : A) → S d x → number_of_entry key d ≡ Some (f x)) → (ds : List Data) (xs : List A)
+      → AllZip S ds xs → numbers_at key ds ≡ map f xs
   numbers_read key f each [] [] h = refl
   numbers_read key f each [] (x ∷ xs) h = absurd h
   numbers_read key f each (d ∷ ds) [] h = absurd h
@@ -217,22 +267,29 @@ module _ {A : Type 0} (S : Data → A → Type 0) where
       ap (λ o. cons_option o (numbers_at key ds)) (each d x h.0) ∙ ap (λ ns. f x ∷ ns) (numbers_read key f each ds xs h.1)
 
 module _ (limit n : ℕ) where
-  natural_read : (o : Option ℤ) → IsSomeAnd o (λ z. (z ≡ pos n) × (n ≤ limit)) → option_and_then natural o ≡ Some n
+  natural_read : (o : Option ℤ) → IsSomeAnd o (λ z. (z ≡ pos n) × (n ≤ limit))
+      → option_and_then natural o ≡ Some n
   natural_read None h = absurd h
   natural_read (Some z) h = ap natural h.0
 
-  value_read : (o : Option Data) → IsSomeAnd o (λ d. IsNumber limit d n) → option_and_then natural (option_and_then as_integer o) ≡ Some n
+  value_read : (o : Option Data) → IsSomeAnd o (λ d. IsNumber limit d n)
+      → option_and_then natural (option_and_then as_integer o) ≡ Some n
   value_read None h = absurd h
   value_read (Some d) h = natural_read (as_integer d) h
 
-  entry_read : (key : List ℕ) (o : Option Members) → IsSomeAnd o (λ ms. AtKey key ms (λ d. IsNumber limit d n)) → option_and_then natural (option_and_then as_integer (option_and_then (get_member key) o)) ≡ Some n
+  entry_read : (key : List ℕ) (o : Option Members)
+      → IsSomeAnd o (λ ms. AtKey key ms (λ d. IsNumber limit d n))
+      → option_and_then natural (option_and_then as_integer (option_and_then (get_member key) o)) ≡ Some n
   entry_read key None h = absurd h
   entry_read key (Some ms) h = value_read (get_member key ms) h
 
   -- the number at a key of a table
-  pub number_read : (key : List ℕ) (d : Data) → IsSomeAnd (as_table d) (λ ms. AtKey key ms (λ e. IsNumber limit e n)) → number_of_entry key d ≡ Some n
+  pub number_read : (key : List ℕ) (d : Data)
+      → IsSomeAnd (as_table d) (λ ms. AtKey key ms (λ e. IsNumber limit e n))
+      → number_of_entry key d ≡ Some n
   number_read key d h = entry_read key (as_table d) h
 
-pub some_weaker : {X : Type 0} (P Q : X → Type 0) → ((x : X) → P x → Q x) → (o : Option X) → IsSomeAnd o P → IsSomeAnd o Q
+pub some_weaker : {X : Type 0} (P Q : X → Type 0) → ((x : X) → P x → Q x) → (o : Option X) → IsSomeAnd o P
+    → IsSomeAnd o Q
 some_weaker P Q to None h = absurd h
 some_weaker P Q to (Some x) h = to x h
