@@ -44,7 +44,8 @@ module _ (P Q : Shape → Members → Type 0) (f : (s : Shape) (t : Members) →
   table_map (inr (inr (inr h))) =
       inr (inr (inr (any_map (In (P event_shape)) (In (Q event_shape)) (in_map event_shape) (entries_at (codes "event") ms) h)))
 
-module _ (P Q R : Shape → Members → Type 0) (f : (s : Shape) (t : Members) → P s t → Q s t ⊎ R s t) (ms : Members) where
+module _ (P Q R : Shape → Members → Type 0) (f : (s : Shape) (t : Members) → P s t → Q s t ⊎ R s t)
+    (ms : Members) where
   in_sum : (s : Shape) (d : Data) → In (P s) d → In (Q s) d ⊎ In (R s) d
   in_sum s d h = some_sum (P s) (Q s) (R s) (f s) (as_table d) h
 
@@ -66,7 +67,8 @@ module _ (P Q R : Shape → Members → Type 0) (f : (s : Shape) (t : Members) �
         | inr r ↦ inr (inr (inr (inr r)))
       ]
 
-module _ (P : Shape → Members → Type 0) (C : Type 0) (f : (s : Shape) (t : Members) → P s t → C) (ms : Members) where
+module _ (P : Shape → Members → Type 0) (C : Type 0) (f : (s : Shape) (t : Members) → P s t → C)
+    (ms : Members) where
   in_fact : (s : Shape) (d : Data) → In (P s) d → C
   in_fact s d h = some_fact (P s) C (f s) (as_table d) h
 

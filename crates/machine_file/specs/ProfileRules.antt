@@ -72,9 +72,9 @@ HasOtherNumber ms =
     Any (λ key. AtKey key ms IsOtherNumber) number_keys
     ⊎ Any (λ key. AtKey key ms (λ d. IsSomeAnd (items_at d) (Any IsOtherNumber))) list_keys
 
--- fifteen numbers of which something does not hold
-abbrev pub StatesOthers : Members → (List ℕ → Type 0) → Type 0
-StatesOthers ms Holds = (numbers : List ℕ) × StatesNumbers ms numbers × (¬ Holds numbers)
+-- fifteen numbers that do not meet a condition
+abbrev pub StatesUnfit : Members → (List ℕ → Type 0) → Type 0
+StatesUnfit ms Holds = (numbers : List ℕ) × StatesNumbers ms numbers × (¬ Holds numbers)
 
 -- ## The faults
 
@@ -82,5 +82,5 @@ abbrev pub HasProfileFault : Members → ProfileFileFault → Type 0
 HasProfileFault ms fault =
     ((has_only_keys profile_keys ms ≡ false) × (fault ≡ UnknownKey))
     ⊎ (HasWrongKind ms × (fault ≡ WrongKind))
-    ⊎ ((HasOtherNumber ms ⊎ StatesOthers ms AreInRange) × (fault ≡ OutOfRange))
-    ⊎ (StatesOthers ms AreOrdered × (fault ≡ Disordered))
+    ⊎ ((HasOtherNumber ms ⊎ StatesUnfit ms AreInRange) × (fault ≡ OutOfRange))
+    ⊎ (StatesUnfit ms AreOrdered × (fault ≡ Disordered))

@@ -67,7 +67,8 @@ module _ {F A : Type 0} (fs : Faults F) (S : A → Type 0) (H : F → Type 0) wh
 
 -- ## In other words
 
-module _ {F A B : Type 0} (fs : Faults F) (S : A → Type 0) (T : B → Type 0) (H : F → Type 0) (f : A → B) (to : (a : A) → S a → T (f a)) (back : (b : B) → T b → (a : A) × S a × (b ≡ f a)) where
+module _ {F A B : Type 0} (fs : Faults F) (S : A → Type 0) (T : B → Type 0) (H : F → Type 0) (f : A → B)
+    (to : (a : A) → S a → T (f a)) (back : (b : B) → T b → (a : A) × S a × (b ≡ f a)) where
   seen_told : (r : Reading F A) → Told fs S H r → Told fs T H (seen f r)
   seen_told (Ok a) h =
       (record { stated = to a h.0.stated; only = λ b t. let p = back b t in p.2 ∙ ap f (h.0.only p.0 p.1) }, h.1)
@@ -77,7 +78,8 @@ module _ {F A B : Type 0} (fs : Faults F) (S : A → Type 0) (T : B → Type 0) 
   pub seen_judged : (r : Reading F A) → Judges fs S H r → Judges fs T H (seen f r)
   seen_judged r h = record { told = seen_told r h.told }
 
-module _ {F A : Type 0} (fs : Faults F) (S T : A → Type 0) (H K : F → Type 0) (values : (a : A) → S a ↔ T a) (faults : (f : F) → H f ↔ K f) where
+module _ {F A : Type 0} (fs : Faults F) (S T : A → Type 0) (H K : F → Type 0) (values : (a : A) → S a ↔ T a)
+    (faults : (f : F) → H f ↔ K f) where
   told_as : (r : Reading F A) → Told fs S H r → Told fs T K r
   told_as (Ok a) h =
       (record { stated = (values a).0 h.0.stated; only = λ b t. h.0.only b ((values b).1 t) }, λ f k. h.1 f ((faults f).1 k))
@@ -136,7 +138,8 @@ module _ {F A : Type 0} (fs : Faults F) (a : A) (m : Bool) (U : Type 0) (u : m �
 
 -- ## A value that is there, and one that may be missing
 
-module _ {F A X : Type 0} (fs : Faults F) (S : X → A → Type 0) (H : X → F → Type 0) (f : X → Reading F A) (each : (x : X) → Judges fs (S x) (H x) (f x)) where
+module _ {F A X : Type 0} (fs : Faults F) (S : X → A → Type 0) (H : X → F → Type 0) (f : X → Reading F A)
+    (each : (x : X) → Judges fs (S x) (H x) (f x)) where
   required_told : (o : Option X)
       → Told fs (λ a. IsSomeAnd o (λ x. S x a)) (λ g. MatchOption o (g ≡ fs.wrong_kind) (λ x. H x g)) (required fs o f)
   required_told None = (λ a s. s, record { has = refl; least = λ o e. le_of_eq (ap fs.rank (sym e)) })
@@ -157,7 +160,8 @@ module _ {F A X : Type 0} (fs : Faults F) (S : X → A → Type 0) (H : X → F 
 
 -- ## One more condition, and two parts
 
-module _ {F : Type 0} (fs : Faults F) (H K : F → Type 0) (f g : F) (h : IsLowest fs H f) (k : IsLowest fs K g) where
+module _ {F : Type 0} (fs : Faults F) (H K : F → Type 0) (f g : F) (h : IsLowest fs H f)
+    (k : IsLowest fs K g) where
   by_order : (b : Bool) → leb (fs.rank f) (fs.rank g) ≡ b → IsLowest fs (λ x. H x ⊎ K x) (cond b f g)
   by_order true e = record {
     has = inl h.has;
@@ -231,7 +235,9 @@ joint {fs = fs} {S = S} {T = T} {H = H} {K = K} {a = a} {b = b} h k = both_judge
 
 -- Late are the faults of the second reading, told of what stands there even where there is nothing to read it from; those of
 -- the first are no higher
-module _ {F A B : Type 0} (fs : Faults F) (S : A → Type 0) (H Late : F → Type 0) (T : A → B → Type 0) (f : A → Reading F B) (then_judged : (a : A) → S a → Judges fs (T a) Late (f a)) (higher : (x y : F) → H x → Late y → fs.rank x ≤ fs.rank y) where
+module _ {F A B : Type 0} (fs : Faults F) (S : A → Type 0) (H Late : F → Type 0) (T : A → B → Type 0)
+    (f : A → Reading F B) (then_judged : (a : A) → S a → Judges fs (T a) Late (f a))
+    (higher : (x y : F) → H x → Late y → fs.rank x ≤ fs.rank y) where
   moved : (a c : A) (b : B) → c ≡ a → T c b → T a b
   moved a c b e t = rw e at t
 

@@ -86,7 +86,9 @@ module _ {F : Type 0} (fs : Faults F) (limit : ℕ) where
 
 -- ## Tables
 
-module _ {F A : Type 0} (fs : Faults F) (keys : List (List ℕ)) (S : Members → A → Type 0) (H : Members → F → Type 0) (reads : Members → Reading F A) (each : (ms : Members) → Judges fs (S ms) (H ms) (reads ms)) where
+module _ {F A : Type 0} (fs : Faults F) (keys : List (List ℕ)) (S : Members → A → Type 0)
+    (H : Members → F → Type 0) (reads : Members → Reading F A)
+    (each : (ms : Members) → Judges fs (S ms) (H ms) (reads ms)) where
   pub keys_judged : (ms : Members)
       → Judges fs (λ a. (has_only_keys keys ms ≡ true) × S ms a) (KeysFault fs keys H ms) (of_keys fs keys ms (reads ms))
   keys_judged ms = checked_judged fs (S ms) (H ms) (has_only_keys keys ms) fs.unknown_key (reads ms) (each ms)
@@ -156,7 +158,8 @@ module _ {F A : Type 0} (fs : Faults F) (S : List A → Type 0) (T : A → Type 
   after_judged list r h k =
       rw (after_both list r) (seen_judged fs (λ p. S p.0 × T p.1) Longer (λ f. H f ⊎ K f) (λ p. p.0 ++ p.1 ∷ []) (λ p s. (p.0, p.1, s.0, s.1, refl)) (λ xs l. ((l.0, l.1), (l.2, l.3), l.4)) (both fs list r) (both_judged fs S T H K list r h k))
 
-module _ {F A X : Type 0} (fs : Faults F) (T : X → A → Type 0) (K : X → F → Type 0) (reads : X → Reading F A) (each : (x : X) → Judges fs (T x) (K x) (reads x)) where
+module _ {F A X : Type 0} (fs : Faults F) (T : X → A → Type 0) (K : X → F → Type 0)
+    (reads : X → Reading F A) (each : (x : X) → Judges fs (T x) (K x) (reads x)) where
   -- what stands in front, and what each of the rest states
   abbrev Together : (List A → Type 0) → List X → List A → Type 0
   Together S ds xs = (ys : List A) × (zs : List A) × S ys × AllZip T ds zs × (xs ≡ ys ++ zs)
@@ -222,7 +225,8 @@ module _ {F A X : Type 0} (fs : Faults F) (T : X → A → Type 0) (K : X → F 
       (all fs (map reads ds))
       (gathered ds (λ xs. xs ≡ []) (λ f. ⊥) (Ok []) (record { told = (record { stated = refl; only = λ ys e. e }, λ f z. z) }))
 
-module _ {F A : Type 0} (fs : Faults F) (S : Data → A → Type 0) (H : Data → F → Type 0) (reads : Data → Reading F A) (each : (d : Data) → Judges fs (S d) (H d) (reads d)) where
+module _ {F A : Type 0} (fs : Faults F) (S : Data → A → Type 0) (H : Data → F → Type 0)
+    (reads : Data → Reading F A) (each : (d : Data) → Judges fs (S d) (H d) (reads d)) where
   pub list_judged : (d : Data) → Judges fs (IsListOf S d) (ListFault fs H d) (list_at fs reads d)
   list_judged d =
       required_judged
