@@ -17,8 +17,8 @@ use Rattle.machine_file.specs.declared.machine_faults.MachineFileFault.TheVarian
 
 -- ## What the keys take
 
--- a number from 0 to a limit, an address of the program, the size of a page, the name of a mode, letters of flags,
--- names of lines
+-- a number from 0 to a limit, an address of the program, a page's size in KB, the name of a mode, letters of flags, or
+-- a list of names of lines
 pub data Takes : Type 0 where
   UpTo : ℕ → Takes
   Address : Takes
@@ -101,7 +101,7 @@ HasOtherKey shape ms = has_only_keys shape.keys ms ≡ false
 abbrev pub LacksKey : Shape → Members → Type 0
 LacksKey shape ms = Any (λ row. (row.required ≡ true) × (get_member row.key ms ≡ None)) shape.rows
 
--- a value of another type; a text that names no mode, has another letter, or a list with no name of a line
+-- a value of another type, a text that names no mode or has another letter, a list with a value that names no line
 abbrev pub IsOtherKind : Takes → Data → Type 0
 IsOtherKind (UpTo limit) d = as_integer d ≡ None
 IsOtherKind Address d = as_integer d ≡ None
