@@ -1,6 +1,7 @@
 -- Which faults a machine file has, told of all its tables. Source: our own format of machine files, over the
 -- documents of TOML; what MEMC maps is told by the data sheet of VL86C110.
-use Rattle.std.specs.Prelude.{◌≡◌, ◌≢◌, ◌⊎◌, ◌-◌, ◌^◌, ⊤, ℕ, pos, Bool, true, false, List, [], ◌∷◌, codes, map, Any, nat_lt, None, IsSomeAnd, MatchOption}
+use Rattle.std.specs.Prelude.{◌≡◌, ◌≢◌, ◌⊎◌, ◌-◌, ◌^◌, ⊤, ℕ, pos, Bool, true, false, List, [], ◌∷◌, codes}
+use Rattle.std.specs.Prelude.{map, Any, nat_lt, None, IsSomeAnd, MatchOption}
 use Rattle.std.specs.List.{list_all}
 use Rattle.std.specs.Option.{option_and_then}
 use Rattle.toml.specs.Data.{Data, Members, as_integer, as_str, as_table, get_member}
@@ -11,14 +12,16 @@ use Rattle.toml_reading.specs.Documents.{are_distinct, has_only_keys, items_at}
 use Rattle.toml_reading.specs.Lowest.{AtKey, AtKeyOr, IsOutside, entries_at, numbers_at}
 use Rattle.machine_file.specs.MachineFile.{is_letter, is_single, named_line}
 use Rattle.machine_file.specs.MachineRules.{IsInSpace, IsSize, kilobytes}
-use Rattle.machine_file.specs.Names.{event_keys, file_keys, map_keys, name_of, named_mode, named_registers, register_keys}
+use Rattle.machine_file.specs.Names.{event_keys, file_keys, map_keys, name_of, named_mode, named_registers}
+use Rattle.machine_file.specs.Names.{register_keys}
 use Rattle.machine_file.specs.declared.machine_faults.MachineFileFault.{MachineFileFault}
-use Rattle.machine_file.specs.declared.machine_faults.MachineFileFault.TheVariants.{UnknownKey, WrongKind, OutOfRange, Twice}
+use Rattle.machine_file.specs.declared.machine_faults.MachineFileFault.TheVariants.{UnknownKey, WrongKind}
+use Rattle.machine_file.specs.declared.machine_faults.MachineFileFault.TheVariants.{OutOfRange, Twice}
 
 -- ## What the keys take
 
--- a number from 0 to a limit, an address of the program, a page's size in KB, the name of a mode, letters of flags, or
--- a list of names of lines
+-- a number from 0 to a limit, an address of the program, a page's size in KB, the name of a mode, letters of
+-- flags, or a list of names of lines
 pub data Takes : Type 0 where
   UpTo : ℕ → Takes
   Address : Takes
@@ -101,7 +104,8 @@ HasOtherKey shape ms = has_only_keys shape.keys ms ≡ false
 abbrev pub LacksKey : Shape → Members → Type 0
 LacksKey shape ms = Any (λ row. (row.required ≡ true) × (get_member row.key ms ≡ None)) shape.rows
 
--- a value of another type, a text that names no mode or has another letter, a list with a value that names no line
+-- a value of another type, a text that names no mode or has another letter, a list with a value that names no
+-- line
 abbrev pub IsOtherKind : Takes → Data → Type 0
 IsOtherKind (UpTo limit) d = as_integer d ≡ None
 IsOtherKind Address d = as_integer d ≡ None

@@ -1,6 +1,7 @@
 -- What a machine file states, told of its keys one by one. Source: our own format of machine files, over the
 -- documents of TOML.
-use Rattle.std.specs.Prelude.{◌≡◌, ◌<◌, ◌-◌, ◌^◌, ◌%◌, ℕ, ℤ, pos, true, List, [], codes, replicate, Option, Some, None, IsSomeAnd}
+use Rattle.std.specs.Prelude.{◌≡◌, ◌<◌, ◌-◌, ◌^◌, ◌%◌, ℕ, ℤ, pos, true, List, [], codes, replicate, Option}
+use Rattle.std.specs.Prelude.{Some, None, IsSomeAnd}
 use Rattle.std.specs.List.{AllZip, list_all}
 use Rattle.std.specs.Map.{keys_of}
 use Rattle.std.specs.Option.{option_and_then}
@@ -12,8 +13,10 @@ use Rattle.memc.specs.declared.spots.PageSize.{PageSize}
 use Rattle.memc.specs.declared.spots.PageSize.TheVariants.{K4, K8, K16, K32}
 use Rattle.toml_reading.specs.Documents.{are_distinct, has_only_keys}
 use Rattle.toml_reading.specs.Lowest.{AtKey, AtKeyOr, IsListOf, IsNumber, IsTable}
-use Rattle.machine_file.specs.MachineFile.{are_single, is_letter, is_mappable, is_single, named_line, set_flags, union}
-use Rattle.machine_file.specs.Names.{event_keys, file_keys, map_keys, name_of, named_mode, named_registers, register_keys}
+use Rattle.machine_file.specs.MachineFile.{are_single, is_letter, is_mappable, is_single, named_line}
+use Rattle.machine_file.specs.MachineFile.{set_flags, union}
+use Rattle.machine_file.specs.Names.{event_keys, file_keys, map_keys, name_of, named_mode, named_registers}
+use Rattle.machine_file.specs.Names.{register_keys}
 use Rattle.machine_file.specs.Stated.{Controller, Processor, Schedule, Stated}
 use Rattle.machine_file.specs.declared.events.Event.{Event}
 use Rattle.machine_file.specs.declared.flags.PsrFlags.{PsrFlags}
@@ -98,7 +101,8 @@ pub record StatesProcessor (ms : Members) (p : Processor) : Type 0 where
   pub pc : AtKey (codes "pc") ms (λ d. IsAddress d p.pc)
   pub mode : AtKeyOr (codes "mode") ms (p.mode ≡ Svc) (λ d. IsNamed named_mode d p.mode)
   pub flags : AtKeyOr (codes "flags") ms (p.flags ≡ set_flags (codes "IF")) (λ d. AreFlags d p.flags)
-  pub registers : AtKeyOr (codes "registers") ms (p.registers ≡ replicate 26 0) (λ d. AreRegisters d p.registers)
+  pub registers : AtKeyOr (codes "registers") ms (p.registers ≡ replicate 26 0)
+      (λ d. AreRegisters d p.registers)
 
 -- the pages are such as MEMC maps beside one another
 pub record StatesController (ms : Members) (c : Controller) : Type 0 where

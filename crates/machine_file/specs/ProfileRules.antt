@@ -1,13 +1,15 @@
--- What a cycle profile file states, told of its keys one by one, and which faults it has. Source: our own format of
--- cycle profile files, over the documents of TOML.
-use Rattle.std.specs.Prelude.{◌≡◌, ◌≢◌, ◌⊎◌, ◌-◌, ◌^◌, ⊤, ℕ, true, false, List, [], ◌∷◌, length, codes, Any, None, IsSomeAnd, MatchOption}
+-- What a cycle profile file states, told of its keys one by one, and which faults it has. Source: our own
+-- format of cycle profile files, over the documents of TOML.
+use Rattle.std.specs.Prelude.{◌≡◌, ◌≢◌, ◌⊎◌, ◌-◌, ◌^◌, ⊤, ℕ, true, false, List, [], ◌∷◌, length, codes, Any}
+use Rattle.std.specs.Prelude.{None, IsSomeAnd, MatchOption}
 use Rattle.toml.specs.Data.{Data, Members, as_integer, get_member}
 use Rattle.bus_ticks.specs.Ranges.{AreInRange, AreOrdered}
 use Rattle.toml_reading.specs.Documents.{has_only_keys, items_at}
 use Rattle.toml_reading.specs.Lowest.{AtKey, IsListOf, IsNumber, IsOutside}
 use Rattle.machine_file.specs.ProfileFile.{profile_keys}
 use Rattle.machine_file.specs.declared.profile_faults.ProfileFileFault.{ProfileFileFault}
-use Rattle.machine_file.specs.declared.profile_faults.ProfileFileFault.TheVariants.{UnknownKey, WrongKind, OutOfRange, Disordered}
+use Rattle.machine_file.specs.declared.profile_faults.ProfileFileFault.TheVariants.{UnknownKey, WrongKind}
+use Rattle.machine_file.specs.declared.profile_faults.ProfileFileFault.TheVariants.{OutOfRange, Disordered}
 
 -- ## What the file states
 
@@ -17,7 +19,9 @@ IsTicks d n = IsNumber (2 ^ 32 - 1) d n
 
 -- the fifteen numbers that stand at the nine keys, all of which are required
 abbrev pub StatesNumbers : Members → List ℕ → Type 0
-StatesNumbers ms (n ∷ s ∷ quad ∷ rom_0 ∷ rom_1 ∷ rom_2 ∷ rom_3 ∷ slow ∷ medium ∷ fast ∷ synchronous ∷ control ∷ unfitted ∷ internal ∷ burst ∷ []) =
+StatesNumbers ms
+    (n ∷ s ∷ quad ∷ rom_0 ∷ rom_1 ∷ rom_2 ∷ rom_3 ∷ slow ∷ medium ∷ fast ∷ synchronous ∷ control ∷ unfitted
+    ∷ internal ∷ burst ∷ []) =
     AtKey (codes "n") ms (λ d. IsTicks d n)
     × AtKey (codes "s") ms (λ d. IsTicks d s)
     × AtKey (codes "quad") ms (λ d. IsTicks d quad)
@@ -40,7 +44,9 @@ pub record StatesProfile (ms : Members) (numbers : List ℕ) : Type 0 where
 
 -- the keys that take one number, and those that take a list of four
 abbrev pub number_keys : List (List ℕ)
-number_keys = codes "n" ∷ codes "s" ∷ codes "quad" ∷ codes "control" ∷ codes "unfitted" ∷ codes "internal" ∷ codes "burst" ∷ []
+number_keys =
+    codes "n" ∷ codes "s" ∷ codes "quad" ∷ codes "control" ∷ codes "unfitted" ∷ codes "internal"
+    ∷ codes "burst" ∷ []
 
 abbrev pub list_keys : List (List ℕ)
 list_keys = codes "rom" ∷ codes "io" ∷ []

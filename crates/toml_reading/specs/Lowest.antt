@@ -1,6 +1,7 @@
--- What a document of TOML states and which faults it has, told of its keys, numbers, lists and tables; the lowest
--- fault is the one that is answered (our own).
-use Rattle.std.specs.Prelude.{◌≡◌, ◌≤◌, ◌<◌, ◌⊎◌, ℕ, ℤ, pos, negsuc, true, false, List, [], Any, filter_map, Option, Some, None, IsSomeAnd, MatchOption, unwrap_or}
+-- What a document of TOML states and which faults it has, told of its keys, numbers, lists and tables; the
+-- lowest fault is the one that is answered (our own).
+use Rattle.std.specs.Prelude.{◌≡◌, ◌≤◌, ◌<◌, ◌⊎◌, ℕ, ℤ, pos, negsuc, true, false, List, [], Any, filter_map}
+use Rattle.std.specs.Prelude.{Option, Some, None, IsSomeAnd, MatchOption, unwrap_or}
 use Rattle.std.specs.List.{AllZip}
 use Rattle.std.specs.Option.{option_and_then}
 use Rattle.toml.specs.Data.{Data, Members, as_integer, as_table, get_member}
