@@ -1,5 +1,5 @@
 -- Which faults a machine file has, told of all its tables. Source: our own format of machine files, over the
--- documents of TOML; what MEMC maps is told by the data sheet of VL86C110.
+-- documents of TOML, and our own memory map.
 use Rattle.std.specs.Prelude.{◌≡◌, ◌≢◌, ◌⊎◌, ◌-◌, ◌^◌, ⊤, ℕ, pos, Bool, true, false, List, [], ◌∷◌, codes}
 use Rattle.std.specs.Prelude.{map, Any, nat_lt, None, IsSomeAnd, MatchOption}
 use Rattle.std.specs.List.{list_all}
