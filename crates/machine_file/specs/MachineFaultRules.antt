@@ -1,4 +1,4 @@
--- Which faults a machine file has, told of all its tables. Source: our own format of machine files, over the
+-- Which faults a machine file has, over all its tables. Source: our own format of machine files, over the
 -- documents of TOML, and our own memory map.
 use Rattle.std.specs.Prelude.{◌≡◌, ◌≢◌, ◌⊎◌, ◌-◌, ◌^◌, ⊤, ℕ, pos, Bool, true, false, List, [], ◌∷◌, codes}
 use Rattle.std.specs.Prelude.{map, Any, nat_lt, None, IsSomeAnd, MatchOption}

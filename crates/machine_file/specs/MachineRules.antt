@@ -1,4 +1,4 @@
--- What a machine file states, told of its keys one by one. Source: our own format of machine files, over the
+-- What a machine file states, key by key. Source: our own format of machine files, over the
 -- documents of TOML.
 use Rattle.std.specs.Prelude.{◌≡◌, ◌<◌, ◌-◌, ◌^◌, ◌%◌, ℕ, ℤ, pos, true, List, [], codes, replicate, Option}
 use Rattle.std.specs.Prelude.{Some, None, IsSomeAnd}
