@@ -64,7 +64,8 @@ abbrev pub PutsWord : Single → List ℕ → Bus → (value : ℕ) → (after :
 PutsWord x regs bus value after =
     (spot : Spot) × IsSpot x regs bus spot × (after ≡ put_single x.byte spot (address_at x regs) value bus)
 
--- a single transfer and its base, which is not R15
+-- a single transfer and its base, for any base but R15, which moves on with each instruction and is stored with
+-- its PSR
 pub record SingleBase (x : Single) (port : ℕ) (regs : List ℕ) (bus : Bus) (m : Moved) : Type 0 where
   pub leaves : LeavesBase (x.load && is_own_base x) (writes_base x) (IsLoadedWord x port regs bus)
       (base_at x.rn regs) (moved_by x.up (base_at x.rn regs) x.offset) (base_left x.rn regs m.regs)
@@ -119,7 +120,7 @@ PutsWords x regs start i (register ∷ rest) old new =
     (spot : Spot) × (word : ℕ) × IsWordSpot x regs start i spot × Gives x regs (i == 0) register word
     × PutsWords x regs start (i + 1) rest (put spot word old) new
 
--- a block transfer and its base
+-- a block transfer and its base, which is never R15: a word with that base is unallocated
 pub record BlockBase (x : Block) (port : ℕ) (regs : List ℕ) (bus : Bus) (m : Moved) : Type 0 where
   pub leaves : LeavesBase (loads_base x regs) x.write_back (IsBaseWord x port regs bus)
       (base_at x.rn regs) (base_moved x regs) (base_left x.rn regs m.regs)

@@ -48,7 +48,8 @@ pub record BeginsLine (text : List ℕ) : Type 0 where
   pub label-is : (label ≡ []) ⊎ (is_label label ≡ true)
   pub statement : IsBlanks behind ⊎ BeginsStatement behind
 
--- why a line cannot be read: it has such a byte, has no label or word where one must stand, or means nothing
+-- why a line cannot be read: it has such a byte; what begins in its first column is no label, or what comes
+-- next is no word; or it means nothing
 abbrev pub IsUnreadable : List ℕ → Fault → Type 0
 IsUnreadable line NotText = HasStrayByte line
 IsUnreadable line UnknownWord = BeginsLine (body line) → ⊥
@@ -93,7 +94,7 @@ IsMisplaced before said =
 abbrev pub AreTooLong : List Parsed → Type 0
 AreTooLong lines = (65536 < length (flat_map places (laid lines))) ⊎ (16 < segments false (laid lines))
 
--- what does not go with the lines before it
+-- a label that stands before it, an address that it cannot have, or too many words or segments
 abbrev pub Clashes : List Parsed → Parsed → Fault → Type 0
 Clashes before p LabelTwice = IsRepeated before p.label
 Clashes before p OutOfRange = IsMisplaced before p.said

@@ -49,7 +49,7 @@ IsSize d size = IsSomeAnd (as_integer d) (λ z. z ≡ pos (kilobytes size))
 abbrev pub IsNamed : {A : Type 0} → (List ℕ → Option A) → Data → A → Type 0
 IsNamed named d a = option_and_then named (as_str d) ≡ Some a
 
--- letters of NZCVIF, each once at most: those flags are set
+-- letters of NZCVIF, each once at most: those flags are set, and no others
 abbrev pub AreFlags : Data → PsrFlags → Type 0
 AreFlags d flags =
     IsSomeAnd
@@ -104,7 +104,7 @@ pub record StatesProcessor (ms : Members) (p : Processor) : Type 0 where
   pub registers : AtKeyOr (codes "registers") ms (p.registers ≡ replicate 26 0)
       (λ d. AreRegisters d p.registers)
 
--- the pages are such as MEMC maps beside one another
+-- MEMC can map each of the pages, and no logical or physical page stands twice
 pub record StatesController (ms : Members) (c : Controller) : Type 0 where
   pub low_rom : AtKeyOr (codes "low_rom") ms (c.low_rom ≡ 0) (λ d. IsNumber 3 d c.low_rom)
   pub high_rom : AtKeyOr (codes "high_rom") ms (c.high_rom ≡ 0) (λ d. IsNumber 3 d c.high_rom)

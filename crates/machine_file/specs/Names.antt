@@ -1,4 +1,4 @@
--- The words, letters and names of machine files, and the keys of their tables (our own format; the lines'
+-- The words and names of machine files, and the keys of their tables (our own format; the lines'
 -- names and bits are those of IOC's lines).
 use Rattle.std.specs.Prelude.{ℕ, List, [], ◌∷◌, map, codes, Option, Some, None, if◌then◌else◌}
 use Rattle.std.specs.Str.{bytes_eq}

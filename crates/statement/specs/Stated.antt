@@ -40,7 +40,7 @@ pub record IsLoop (l : Loop) : Type 0 where
 abbrev pub IsTarget : Target → Type 0
 IsTarget t = All (λ a. a < 2 ^ 26) t.to
 
--- what holds of each statement
+-- what the crates above use of each statement
 pub record IsStated (st : Stated) : Type 0 where
   pub entry_small : st.entry < 2 ^ 26
   pub within : All IsLoop st.loops

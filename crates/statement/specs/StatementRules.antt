@@ -54,7 +54,7 @@ RequiredFault key ms Has fault = AtKeyOr key ms (fault ≡ WrongKind) (λ d. Has
 module _ (names : Names) where
   -- ## A loop
 
-  -- what stands at the keys of a loop's table; at most 1,048,576 rounds
+  -- what stands at the keys of a loop's table; a bound of at most 1,048,576
   pub record HasLoop (ms : Members) (l : Loop) : Type 0 where
     pub first : AtKey (codes "first") ms (λ d. IsAddress names d l.first)
     pub last : AtKey (codes "last") ms (λ d. IsAddress names d l.last)
@@ -111,7 +111,7 @@ module _ (names : Names) where
   GoesTo Return o to = (o ≡ None) × (to ≡ [])
   GoesTo Leave o to = (o ≡ None) × (to ≡ [])
 
-  -- no list where there must be one, its faults, or a list where there may be none
+  -- no list where there must be one, its faults, or a value where there may be none
   abbrev pub ToFault : TargetKind → Option Data → StatementFault → Type 0
   ToFault Jump o fault = MatchOption o (fault ≡ WrongKind) (λ d. DestinationsFault d fault)
   ToFault Call o fault = MatchOption o (fault ≡ WrongKind) (λ d. DestinationsFault d fault)
