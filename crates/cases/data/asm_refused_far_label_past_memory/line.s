@@ -1,0 +1,4 @@
+ B far
+ ORG &3FFFFFC
+ DCD 0
+far
