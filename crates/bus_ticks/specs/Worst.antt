@@ -75,3 +75,12 @@ worst_leave_of p Io = p.unfitted + max p.unfitted (worst_rom p)
 worst_leave_of p Any =
     max (max (p.n + max p.quad p.unfitted) (worst_rom p + max (worst_rom p) p.quad))
     (p.unfitted + max p.unfitted (worst_rom p))
+
+-- taking FIQ where an instruction is interrupted: the fetch that follows its own, and the two at FIQ's vector
+abbrev pub fiq_entry_price : Profile → Access → ℕ
+fiq_entry_price p t =
+    s_price p t.rom ((t.address + 8) % 0x4000000) + (n_price p t.rom 0x1C + s_price p t.rom 0x20)
+
+-- the greatest price of taking FIQ: the first fetch may be of any class, and the vector stands in Ram
+abbrev pub fiq_entry : Profile → ℕ
+fiq_entry p = max p.quad (max (worst_rom p) p.unfitted) + (p.n + p.quad)

@@ -10,4 +10,4 @@ mod worst;
 
 pub use prices::{class_of, fetch_n, fetch_s, transfer};
 pub use profile::{Class, NumbersFault, Profile, RomTimes};
-pub use worst::{worst_fetch_n, worst_fetch_s, worst_leave, worst_transfer};
+pub use worst::{fiq_entry, worst_fetch_n, worst_fetch_s, worst_leave, worst_transfer};

@@ -3,7 +3,7 @@ ghost use Rattle.bus_ticks.specs.Prices.{n_price, s_price};
 ghost use Rattle.bus_ticks.specs.Ranges.{greatest};
 ghost use Rattle.bus_ticks.specs.Worst.{worst_block, worst_leave_of, worst_n_price, worst_rom, worst_s_price};
 ghost use Rattle.bus_ticks.specs.Worst.{IsAnyTimes, IsGreatest, IsBlockOf, IsTargetOf, transfer_price};
-ghost use Rattle.bus_ticks.specs.Worst.{leave_price};
+ghost use Rattle.bus_ticks.specs.Worst.{fiq_entry, fiq_entry_price, leave_price};
 
 use crate::prices::{class_of, ram_following};
 use crate::profile::{Class, Profile};
@@ -132,4 +132,24 @@ pub fn worst_leave(profile: &Profile, class: Class) -> u32
     ensures small { result < 512 }
 {
     worst_leave_ticks(profile, class)
+}
+
+// The greatest price as a number.
+fn fiq_entry_ticks(profile: &Profile) -> u32
+    ensures { result ≡ fiq_entry profile.now }
+{
+    let first = profile
+        .quad
+        .max(worst_rom_ticks(profile).max(profile.unfitted));
+    first + (profile.n + profile.quad)
+}
+
+/// The greatest ticks of taking FIQ, over all addresses at which a handler may be interrupted and all time
+/// fields of ROM: the fetch that follows the interrupted one, and the two at FIQ's vector, 1C.
+pub fn fiq_entry(profile: &Profile) -> u32
+    ensures number { result ≡ fiq_entry profile.now }
+    ensures greatest { IsGreatest (IsTargetOf Class.Any) (fiq_entry_price profile.now) result }
+    ensures small { result < 768 }
+{
+    fiq_entry_ticks(profile)
 }

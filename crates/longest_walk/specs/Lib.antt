@@ -3,3 +3,4 @@ pub mod Rows
 pub mod Longest
 pub mod Built
 pub mod Ways
+pub mod Visits

@@ -9,8 +9,10 @@ mod listing;
 mod rounds;
 mod rows;
 mod trace;
+mod visits;
 
 pub use folded::{FoldedWalk, Item, Longest};
 pub use greatest::longest;
 pub use numbered_walks::WalkFault;
 pub use rows::{InstanceRow, PlaceRow, Potentials, Rows};
+pub use visits::visits_bound;
