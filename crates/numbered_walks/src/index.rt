@@ -39,7 +39,6 @@ pub(crate) fn is_header(spans: &[Span], headers: &[Option<Span>], number: usize)
     requires known { number < length headers.now }
     ensures { result ≡ is_header_in spans.now number }
 {
-    let _all = spans;
     headers[number].is_some()
 }
 
