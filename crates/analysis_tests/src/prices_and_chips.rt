@@ -1,9 +1,10 @@
-//! Prices of bus accesses, shifts, IOC and VIDC.
+//! Prices of bus accesses and of FIQ visits, shifts, IOC and VIDC.
 
 use arm2_decode::Shift;
 use bitflags::Flags;
 use bus_ticks::*;
 use ioc::{Asserted, Ioc, Lines};
+use longest_walk::visits_bound;
 use shifter::{multiply_cycles, rotate_imm, shift_imm, shift_reg};
 use std::test::Fail;
 use vidc::Vidc;
@@ -66,8 +67,9 @@ fn prices_of_fetches(rt: HostRuntime) {
         worst_leave(&one, Class::Rom),
         worst_leave(&one, Class::Io),
         worst_leave(&one, Class::Any),
+        fiq_entry(&one),
     ];
-    assert_eq!(rt; worst, [4, 2, 4, 8, 6, 8]);
+    assert_eq!(rt; worst, [4, 2, 4, 8, 6, 8, 8]);
 }
 
 #[test]
@@ -77,8 +79,9 @@ fn profiles(rt: HostRuntime) -> Result<(), Fail> {
         worst_leave(&other, Class::Ram),
         worst_leave(&other, Class::Any),
         worst_transfer(&other, Class::Ram, 4, true),
+        fiq_entry(&other),
     );
-    assert_eq!(rt; (other.numbers(), worst), (other_numbers(), (5, 10, 7)));
+    assert_eq!(rt; (other.numbers(), worst), (other_numbers(), (5, 10, 7, 10)));
     for (place, number, answer) in [
         (1, 3, Some(NumbersFault::Disordered)),
         (0, 0, Some(NumbersFault::OutOfRange)),
@@ -93,6 +96,20 @@ fn profiles(rt: HostRuntime) -> Result<(), Fail> {
         assert_eq!(rt; Profile::new(numbers).err(), answer, "{number} at {place}");
     }
     Ok(())
+}
+
+#[test]
+fn visits_overflow(rt: HostRuntime) {
+    let one = Profile::one();
+    let totals = [
+        visits_bound(&one, 21, 5, 2).ok(),
+        visits_bound(&one, 21, 5, 0).ok(),
+        visits_bound(&one, 1 << 62, (1 << 62) - 9, 1).ok(),
+        visits_bound(&one, 1 << 62, (1 << 62) - 8, 1).ok(),
+        visits_bound(&one, 1 << 62, 1 << 62, 1).ok(),
+    ];
+    let wanted = [Some(47), Some(21), Some((1 << 63) - 1), None, None];
+    assert_eq!(rt; totals, wanted);
 }
 
 #[test]

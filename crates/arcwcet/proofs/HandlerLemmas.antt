@@ -27,13 +27,13 @@ use Rattle.arcwcet.specs.declared.fault.ReportFault.TheVariants as report_fault
 
 -- ## A source has one image, a statement one value, and both one graph
 
-one_ok : {T E : Type 0} (x y : T) (r : Result T E) → r ≡ Ok x → r ≡ Ok y → x ≡ y
+pub one_ok : {T E : Type 0} (x y : T) (r : Result T E) → r ≡ Ok x → r ≡ Ok y → x ≡ y
 one_ok x y r p q = let same : Ok x ≡ Ok y = sym p ∙ q in cc same
 
-never_both : {T E : Type 0} (x : T) (e : E) (r : Result T E) → r ≡ Ok x → r ≡ Err e → ⊥
+pub never_both : {T E : Type 0} (x : T) (e : E) (r : Result T E) → r ≡ Ok x → r ≡ Err e → ⊥
 never_both x e r p q = let same : Ok x ≡ Err e = sym p ∙ q in cc same
 
-same_statement : (statement : List ℕ) (names others : Names) (answer other : Result Stated StatementFault) → names ≡ others → IsStatement statement names answer → IsStatement statement others other → answer ≡ other
+pub same_statement : (statement : List ℕ) (names others : Names) (answer other : Result Stated StatementFault) → names ≡ others → IsStatement statement names answer → IsStatement statement others other → answer ≡ other
 same_statement statement names others answer other same h k = one_statement statement others answer other (subst (λ (n : Names). IsStatement statement n answer) same h) k
 
 -- two graphs of the same texts
@@ -72,6 +72,7 @@ handler_refusals source statement profile st flow (Cert f) a r = absurd r
 handler_refusals source statement profile st flow (MachineFile f) a r = absurd r
 handler_refusals source statement profile st flow (Load f) a r = absurd r
 handler_refusals source statement profile st flow (report_fault.Profile f) a r = absurd r
+handler_refusals source statement profile st flow report_fault.NotFiqEntry a r = absurd r
 handler_refusals source statement profile st flow (Source f) a r =
     let g = a.graph in
     absurd (never_both (g.words, g.names) (Source f) (source_of source) g.source_is r)
@@ -156,3 +157,4 @@ source_refusal source statement profile (Load f) h = absurd h
 source_refusal source statement profile (Cert f) h = absurd h
 source_refusal source statement profile Device h = absurd h
 source_refusal source statement profile (report_fault.Profile f) h = absurd h
+source_refusal source statement profile report_fault.NotFiqEntry h = absurd h

@@ -8,3 +8,5 @@ pub mod MachineLemmas
 pub mod ReportLemmas
 pub mod RunLemmas
 pub mod SourceLemmas
+pub mod VisitLemmas
+pub mod VisitsReportLemmas

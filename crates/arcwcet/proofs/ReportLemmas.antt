@@ -27,7 +27,7 @@ use Rattle.certificate.proofs.LongestLaws.{longest_is_spelled}
 use Rattle.cert_check.proofs.OtherTree.{longest_by_other}
 use Rattle.arcwcet.specs.Faults.{of_walk}
 use Rattle.arcwcet.specs.Keeping.{BoundsRuns}
-use Rattle.arcwcet.specs.Report.{HasLoops, IsAccepted, IsGreatestWalk, IsHandlerRefused, IsRefused, IsReport, IsTreeOf, IsWalkRefusal}
+use Rattle.arcwcet.specs.Report.{HasLoops, IsAccepted, IsBoundReport, IsGreatestWalk, IsHandlerRefused, IsRefused, IsReport, IsTreeOf, IsWalkRefusal}
 use Rattle.arcwcet.specs.declared.fault.ReportFault.{ReportFault}
 use Rattle.arcwcet.specs.declared.fault.ReportFault.TheVariants.{Memory, Source, Image, Statement, Graph, Loops, Walk, MachineFile, Load, Device}
 use Rattle.arcwcet.specs.declared.fault.ReportFault.TheVariants as report_fault
@@ -48,6 +48,7 @@ accepted_refusals source statement profile (Image f) a r = inl (handler_refusals
 accepted_refusals source statement profile (MachineFile f) a r = inl (handler_refusals source statement profile a.stated a.flow (MachineFile f) a.loops r)
 accepted_refusals source statement profile (Load f) a r = inl (handler_refusals source statement profile a.stated a.flow (Load f) a.loops r)
 accepted_refusals source statement profile (report_fault.Profile f) a r = inl (handler_refusals source statement profile a.stated a.flow (report_fault.Profile f) a.loops r)
+accepted_refusals source statement profile report_fault.NotFiqEntry a r = inl (handler_refusals source statement profile a.stated a.flow report_fault.NotFiqEntry a.loops r)
 accepted_refusals source statement profile (Statement f) a r = inl (handler_refusals source statement profile a.stated a.flow (Statement f) a.loops r)
 accepted_refusals source statement profile (Graph f) a r = inl (handler_refusals source statement profile a.stated a.flow (Graph f) a.loops r)
 accepted_refusals source statement profile (Loops f) a r = inl (handler_refusals source statement profile a.stated a.flow (Loops f) a.loops r)
@@ -69,6 +70,7 @@ report_refusal source statement profile (Image f) h = (λ e. cc e, h)
 report_refusal source statement profile (MachineFile f) h = (λ e. cc e, h)
 report_refusal source statement profile (Load f) h = (λ e. cc e, h)
 report_refusal source statement profile (report_fault.Profile f) h = (λ e. cc e, h)
+report_refusal source statement profile report_fault.NotFiqEntry h = (λ e. cc e, h)
 report_refusal source statement profile (Statement f) h = (λ e. cc e, h)
 report_refusal source statement profile (Graph f) h = (λ e. cc e, h)
 report_refusal source statement profile (Loops f) h = (λ e. cc e, h)
@@ -148,6 +150,12 @@ module _ (source statement : List ℕ) (profile : Profile) (st : Stated) (flow :
         can_spell = longest_is_spelled flow formed tree of.tree_is l is;
         spelled = e;
       }
+
+  -- the same, with its statement and its bound
+  pub reported_bound : (l : Longest) (text : List ℕ) → RunLaw → IsWellFormed flow → IsLongest flow tree l → ((f : WalkFault) → f ≢ walk_fault.Memory → IsWalkFault flow tree f → ⊥)
+      → ((other : Tree) → IsTreeOf flow st.loops other → (cert : Cert) → said_by cert ≡ said_of l → IsVerdict flow other cert Yes) → text ≡ cert_text (said_of l) → IsBoundReport source statement profile st l.bound text
+  unfolding reported
+  reported_bound l text law formed is allowed judged e = record { report = reported l text law formed is allowed judged e; stated_is = refl; bound_is = refl }
 
   -- a refusal of the walk
   pub walk_refusal : (f : WalkFault) → IsWalkFault flow tree f → (of_walk f ≢ Device) × IsRefused source statement profile (of_walk f)

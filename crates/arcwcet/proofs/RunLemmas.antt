@@ -7,12 +7,14 @@ use Rattle.arcwcet.specs.Bound.{Reports}
 use Rattle.arcwcet.specs.Check.{Checks, IsAnswer, IsCheckRefused, IsCheckable}
 use Rattle.arcwcet.specs.Debug.{IsDebugReport}
 use Rattle.arcwcet.specs.Files.{FailsToRead, ReadsAll, Reading, Texts, in_front}
-use Rattle.command_line.specs.Line.{Asked, asm, run, trace, debug, bound, check}
+use Rattle.command_line.specs.Line.{Asked, asm, run, trace, debug, bound, check, visits}
 use Rattle.arcwcet.specs.Machine.{Front, IsMachineReport, IsRunRefused, IsRunnable, ShowsRegisters, ShowsSteps}
 use Rattle.arcwcet.specs.Priced.{ByProfile, HasNoProfile, Priced, PricedFault}
 use Rattle.arcwcet.specs.Assembly.{IsSourceRefused}
 use Rattle.arcwcet.specs.Report.{IsAccepted, IsRefused, IsReport}
-use Rattle.arcwcet.specs.Run.{HasNoReport, HasNoRun, HasNoVerdict, HasHeard, HasPrinted, IsAnswerOf, IsReportOf, IsRunOf, IsSessionOf, OfThree, OfTwo, Runs, RunsAsked, RunsAsm, RunsBound, RunsCheck, RunsDebug, RunsMachine, Writing, answer_status, report_status, store_status}
+use Rattle.arcwcet.specs.Run.{HasNoReport, HasNoRun, HasNoVerdict, HasNoVisitsReport, HasHeard, HasPrinted, IsAnswerOf, IsReportOf, IsRunOf, IsSessionOf, IsVisitsReportOf, OfThree, OfTwo}
+use Rattle.arcwcet.specs.Run.{Runs, RunsAsked, RunsAsm, RunsBound, RunsCheck, RunsDebug, RunsMachine, RunsVisits, Writing, answer_status, report_status, store_status}
+use Rattle.arcwcet.specs.VisitsReport.{AreAccepted, AreRefused, IsVisitsReport, ReportsVisits}
 use Rattle.arcwcet.specs.declared.fault.ReportFault.{ReportFault}
 use Rattle.arcwcet.specs.declared.fault.ReportFault.TheVariants.{Memory, Source, Image, Statement, Graph, Loops, Walk, MachineFile, Load, Cert, Device}
 use Rattle.arcwcet.specs.declared.fault.ReportFault.TheVariants as report_fault
@@ -33,6 +35,7 @@ told (Image f) = of_other (λ e. cc e) (λ e. cc e) refl
 told (MachineFile f) = of_other (λ e. cc e) (λ e. cc e) refl
 told (Load f) = of_other (λ e. cc e) (λ e. cc e) refl
 told (report_fault.Profile f) = of_other (λ e. cc e) (λ e. cc e) refl
+told report_fault.NotFiqEntry = of_other (λ e. cc e) (λ e. cc e) refl
 told (Statement f) = of_other (λ e. cc e) (λ e. cc e) refl
 told (Graph f) = of_other (λ e. cc e) (λ e. cc e) refl
 told (Loops f) = of_other (λ e. cc e) (λ e. cc e) refl
@@ -194,6 +197,14 @@ module _ {S O : Type 0} (reads : Reading S) (taken : O → Option (List ℕ)) (f
   priced_ran (Err fault) h status is =
       priced_refused reads taken failures IsRunText IsRunFault names old new before after files read file IsText IsFine IsFault (λ x. x) texts faults fault h status is
 
+-- what is refused has another status than 0
+pub refused_status : (fault : ReportFault) (status : ℕ) → status ≡ report_status fault → status ≡ 0 → ⊥
+refused_status fault status is zero = elim (told fault) [
+  | of_memory m ↦ let three : status ≡ 3 = is ∙ ap report_status m in absurd (omega (arith, three, zero))
+  | of_device d ↦ let four : status ≡ 4 = is ∙ ap report_status d in absurd (omega (arith, four, zero))
+  | of_other memory other one ↦ let here : status ≡ 1 = is ∙ one in absurd (omega (arith, here, zero))
+]
+
 -- ## `asm`
 
 -- the source is refused
@@ -264,6 +275,30 @@ check_ran reads taken failures profile source statement cert file one two three 
     file (λ p. IsAnswer one two three p) (λ p. IsCheckable one two three p) (λ p. IsCheckRefused one two three p)
     (λ x text b. of_three (λ f s t u. ByProfile f (λ p. IsAnswer s t u p x text)) file one two three b)
     (λ fault k. of_three (λ f s t u. PricedFault f (λ p e. IsCheckRefused s t u p e) fault) file one two three k)
+
+module _ {S O : Type 0} (reads : Reading S) (taken : O → Option (List ℕ)) (failures : O → ℕ) (profile : Option (List ℕ)) (source irq fiq : List ℕ) (k : ℕ) (file : Option (List ℕ))
+    (one two three : List ℕ) (old new : S) (before after : O) (read : ReadsAll reads old (in_front profile (source ∷ irq ∷ fiq ∷ [])) (in_front file (one ∷ two ∷ three ∷ [])) new) where
+  visits_text : {T : Type 0} (x : T) (text : List ℕ) → ByProfile file (λ p. IsVisitsReport one two three k p text) → IsVisitsReportOf k true (in_front file (one ∷ two ∷ three ∷ [])) text
+  visits_text x text b = of_three (λ f s t u. ByProfile f (λ p. IsVisitsReport s t u k p text)) file one two three b
+
+  visits_fault : (fault : ReportFault) → PricedFault file (λ p e. AreRefused one two three k p e) fault → HasNoVisitsReport k (in_front file (one ∷ two ∷ three ∷ [])) fault
+  visits_fault fault h = of_three (λ f s t u. PricedFault f (λ p e. AreRefused s t u k p e) fault) file one two three h
+
+  pub visits_done : {T : Type 0} (x : T) → Priced file (λ p. ReportsVisits taken failures one two three k p before after (Ok x)) before after (Ok x)
+      → RunsVisits reads taken failures profile source irq fiq k old new before after 0
+  visits_done {T} x h =
+      let names = in_front profile (source ∷ irq ∷ fiq ∷ []) in
+      let files = in_front file (one ∷ two ∷ three ∷ []) in
+      done reads taken failures (IsVisitsReportOf k) (HasNoVisitsReport k) names old new before after files read
+      (priced_printed {T = T} reads taken failures (IsVisitsReportOf k) (HasNoVisitsReport k) names old new before after files read
+      file (λ p y text. IsVisitsReport one two three k p text) (λ p. AreAccepted one two three k p) (λ p. AreRefused one two three k p) (λ y. true) visits_text visits_fault x h)
+
+  pub visits_refused : {T : Type 0} (fault : ReportFault) → Priced {T = T} file (λ p. ReportsVisits {T = T} taken failures one two three k p before after (Err fault)) before after (Err fault)
+      → (status : ℕ) → status ≡ report_status fault → RunsVisits reads taken failures profile source irq fiq k old new before after status
+  visits_refused {T} =
+      priced_refused {T = T} reads taken failures (IsVisitsReportOf k) (HasNoVisitsReport k) (in_front profile (source ∷ irq ∷ fiq ∷ [])) old new before after
+      (in_front file (one ∷ two ∷ three ∷ [])) read
+      file (λ p y text. IsVisitsReport one two three k p text) (λ p. AreAccepted one two three k p) (λ p. AreRefused one two three k p) (λ y. true) visits_text visits_fault
 
 module _ {S I O : Type 0} (reads : Reading S) (remaining : I → Option (List ℕ)) (taken : O → Option (List ℕ)) (failures : O → ℕ) (profile : Option (List ℕ)) (source machine : List ℕ)
     (old new : S) (heard_old heard_new : I) (before after : O) where
@@ -342,3 +377,4 @@ module _ {S I O : Type 0} (reads : Reading S) (writes : Writing S) (remaining : 
   starved_asked (trace n) = (starved_run (IsRunOf ShowsSteps) HasNoRun (in_front n.profile (n.first ∷ n.second ∷ [])), refl)
   starved_asked (bound n) = (starved_run IsReportOf HasNoReport (in_front n.profile (n.first ∷ n.second ∷ [])), refl)
   starved_asked (check n cert) = (starved_run IsAnswerOf HasNoVerdict (in_front n.profile (n.first ∷ n.second ∷ cert ∷ [])), refl)
+  starved_asked (visits n fiq k) = (starved_run (IsVisitsReportOf k) (HasNoVisitsReport k) (in_front n.profile (n.first ∷ n.second ∷ fiq ∷ [])), refl)

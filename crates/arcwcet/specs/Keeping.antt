@@ -13,15 +13,19 @@ use Rattle.flow_graph.specs.declared.edges.Edge.{Edge}
 use Rattle.statement.specs.Stated.{Stated}
 use Rattle.loop_bounds.specs.Bounds.{IsCompleteWalk, KeepsTheBounds}
 
--- From this state the steps are the edges of a walk from the entry to Exit that keeps the loop bounds: each
--- does the image's word at its address, takes no exception and does not stop, moves words of the stated
--- class, and goes where its edge leads; the last one to an address of the leave class.
-pub record KeepsStatement (words : Words) (stated : Stated) (profile : Profile) (flow : Flow) (s : State)
-    (inputs : List Input) : Type 0 where
+-- a walk from the entry to Exit that keeps the loop bounds, along which this goes
+pub record HasKeptWalk (stated : Stated) (flow : Flow) (GoesAlong : List Edge → Type 0) : Type 0 where
   pub walk : List Edge
   pub complete : IsCompleteWalk flow walk
   pub kept : KeepsTheBounds flow stated.loops walk
-  pub follows : Follows words stated profile s inputs walk
+  pub follows : GoesAlong walk
+
+-- From this state the steps are the edges of a walk from the entry to Exit that keeps the loop bounds: each
+-- does the image's word at its address, takes no exception and does not stop, moves words of the stated
+-- class, and goes where its edge leads; the last one to an address of the leave class.
+abbrev pub KeepsStatement : Words → Stated → Profile → Flow → State → List Input → Type 0
+KeepsStatement words stated profile flow s inputs =
+    HasKeptWalk stated flow (Follows words stated profile s inputs)
 
 -- at most so many ticks of the processor, and with those of DMA bursts at most their price more
 pub record TakesAtMost (profile : Profile) (bound : ℕ) (inputs : List Input) (ran : Ran) : Type 0 where

@@ -14,4 +14,6 @@ pub mod Report
 pub mod Run
 pub mod Source
 pub mod Store
+pub mod Visits
+pub mod VisitsReport
 pub use Rattle.command_line.specs.Line

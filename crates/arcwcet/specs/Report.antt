@@ -95,6 +95,13 @@ pub record IsReport (source statement : List ℕ) (profile : Profile) (text : Li
   pub can_spell : CanSpell (said_of longest)
   pub spelled : text ≡ cert_text (said_of longest)
 
+-- a report of this statement and with this bound, in ticks
+pub record IsBoundReport (source statement : List ℕ) (profile : Profile) (stated : Stated) (bound : ℕ)
+    (text : List ℕ) : Type 0 where
+  pub report : IsReport source statement profile text
+  pub stated_is : report.accepted.stated ≡ stated
+  pub bound_is : report.longest.bound ≡ bound
+
 -- a fault of the statement, of a source that has an image
 pub record IsStatementRefused (source statement : List ℕ) (fault : StatementFault) : Type 0 where
   pub words : Words

@@ -7,11 +7,12 @@ use Rattle.arcwcet.specs.Assembly.{IsSourceRefused, IsWritten}
 use Rattle.arcwcet.specs.Check.{IsAnswer, IsCheckRefused}
 use Rattle.arcwcet.specs.Debug.{IsDebugReport}
 use Rattle.arcwcet.specs.Files.{FailsToRead, ReadsAll, Reading, Texts, in_front}
-use Rattle.command_line.specs.Line.{Asked, asm, run, trace, debug, bound, check}
+use Rattle.command_line.specs.Line.{Asked, asm, run, trace, debug, bound, check, visits}
 use Rattle.arcwcet.specs.Machine.{Front, IsMachineReport, IsRunRefused, ShowsRegisters, ShowsSteps}
 use Rattle.arcwcet.specs.Output.{TakesFront, FailsSince}
 use Rattle.arcwcet.specs.Priced.{ByProfile, PricedFault}
 use Rattle.arcwcet.specs.Report.{IsRefused, IsReport}
+use Rattle.arcwcet.specs.VisitsReport.{AreRefused, IsVisitsReport}
 use Rattle.arcwcet.specs.declared.fault.ReportFault.{ReportFault}
 use Rattle.arcwcet.specs.declared.fault.ReportFault.TheVariants as report_fault
 use Rattle.arcwcet.specs.declared.fault.StoreFault.{StoreFault}
@@ -144,6 +145,25 @@ abbrev pub RunsCheck : {S O : Type 0} → Reading S → (O → Option (List ℕ)
 RunsCheck reads taken failures profile source statement cert old new before after status =
     Runs reads taken failures IsAnswerOf HasNoVerdict
     (in_front profile (source ∷ statement ∷ cert ∷ [])) old new before after status
+
+-- ## `visits SOURCE STATEMENT FIQSTATEMENT K`
+
+-- the report of a source and two statements for k visits by the profile, at 0 alone
+abbrev pub IsVisitsReportOf : (k : ℕ) → Bool → Texts → List ℕ → Type 0
+IsVisitsReportOf k true files text =
+    OfThree (λ file source irq fiq. ByProfile file (λ p. IsVisitsReport source irq fiq k p text)) files
+IsVisitsReportOf k false files text = ⊥
+
+abbrev pub HasNoVisitsReport : (k : ℕ) → Texts → ReportFault → Type 0
+HasNoVisitsReport k files fault =
+    OfThree
+    (λ file source irq fiq. PricedFault file (λ p f. AreRefused source irq fiq k p f) fault) files
+
+abbrev pub RunsVisits : {S O : Type 0} → Reading S → (O → Option (List ℕ)) → (O → ℕ) → Option (List ℕ) → List ℕ
+    → List ℕ → List ℕ → ℕ → S → S → O → O → ℕ → Type 0
+RunsVisits reads taken failures profile source irq fiq k old new before after status =
+    Runs reads taken failures (IsVisitsReportOf k) (HasNoVisitsReport k)
+    (in_front profile (source ∷ irq ∷ fiq ∷ [])) old new before after status
 
 -- ## `run SOURCE MACHINE` and `trace SOURCE MACHINE`
 
@@ -296,4 +316,8 @@ RunsAsked reads writes remaining taken failures (bound n) old new heard_old hear
 RunsAsked reads writes remaining taken failures
     (check n cert) old new heard_old heard_new before after status =
     RunsCheck reads taken failures n.profile n.first n.second cert old new before after status
+    × (heard_new ≡ heard_old)
+RunsAsked reads writes remaining taken failures
+    (visits n fiq k) old new heard_old heard_new before after status =
+    RunsVisits reads taken failures n.profile n.first n.second fiq k old new before after status
     × (heard_new ≡ heard_old)

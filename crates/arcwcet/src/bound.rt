@@ -3,7 +3,7 @@ ghost use Rattle.bus_ticks.specs.declared.profile.Profile.{Profile};
 ghost use Rattle.flow_graph.specs.Flow.{IsWellFormed};
 ghost use Rattle.arcwcet.specs.Bound.{Reports};
 ghost use Rattle.arcwcet.specs.Priced.{Priced};
-ghost use Rattle.arcwcet.specs.Report.{HasLoops, IsAccepted, IsRefused, IsReport, IsTreeOf};
+ghost use Rattle.arcwcet.specs.Report.{HasLoops, IsAccepted, IsBoundReport, IsRefused, IsReport, IsTreeOf};
 
 use crate::fault::ReportFault;
 use crate::handler::{Handler, read_handler};
@@ -29,16 +29,25 @@ fn text_of(
         (λ e. (e ≢ ReportFault.Device) × IsRefused source.now statement.now profile.now e) }
 {
     let handler = read_handler(alloc, source, statement, profile)?;
-    longest_text(alloc, &handler)
+    let report = longest_report(alloc, &handler)?;
+    Ok(report.text)
 }
 
-// The report of a handler that was read.
-fn longest_text(alloc: Global, handler: &Handler) -> Result<Vec<u8>, ReportFault>
+/// The bound of a report, in ticks, and its text.
+#[derive(Drop)]
+pub(crate) struct BoundReport {
+    pub(crate) bound: u64,
+    pub(crate) text: Vec<u8>,
+}
+
+/// The report of a handler that was read.
+pub(crate) fn longest_report(alloc: Global, handler: &Handler) -> Result<BoundReport, ReportFault>
     requires formed { IsWellFormed handler.now.graph }
     requires tree { IsTreeOf handler.now.graph handler.now.statement.loops handler.now.tree }
     ensures report { (source statement : List ℕ) (profile : Profile)
         → HasLoops source statement profile handler.now.statement handler.now.graph
-        → IfOk result (λ v. IsReport source statement profile v.items) }
+        → IfOk result
+        (λ r. IsBoundReport source statement profile handler.now.statement r.bound r.text.items) }
     ensures accepted { (source statement : List ℕ) (profile : Profile)
         → HasLoops source statement profile handler.now.statement handler.now.graph
         → OnOk result (IsAccepted source statement profile) }
@@ -50,7 +59,10 @@ fn longest_text(alloc: Global, handler: &Handler) -> Result<Vec<u8>, ReportFault
     run_law();
     longest_gets_yes();
     let text = write_cert(alloc, &found)?;
-    Ok(text)
+    Ok(BoundReport {
+        bound: found.bound,
+        text,
+    })
 }
 
 /// Writes the report of a source and a statement by a cycle profile's file, or by the first profile, the

@@ -1,18 +1,19 @@
 ghost use Rattle.std.specs.Prelude.{◌≡◌, option_map};
 ghost use Rattle.arcwcet.specs.Machine.{ShowsRegisters, ShowsSteps};
-ghost use Rattle.arcwcet.specs.Run.{RunsAsm, RunsBound, RunsCheck, RunsDebug, RunsMachine};
+ghost use Rattle.arcwcet.specs.Run.{RunsAsm, RunsBound, RunsCheck, RunsDebug, RunsMachine, RunsVisits};
 
 use crate::assembly::image_written;
 use crate::bound::bound_report;
 use crate::check::check_report;
 use crate::debug::debug_report;
 use crate::fault::ReportFault;
-use crate::files::{read_check_files, read_files};
+use crate::files::{read_files, read_three_files};
 use crate::machine::{run_report, trace_report};
 use crate::output::Output;
 use crate::read::read_limited;
 use crate::store::Store;
 use crate::told::{told_answer, told_report, told_store};
+use crate::visits::visits_report;
 use crate::whole::write_whole;
 use command_line::Names;
 use std::alloc::Global;
@@ -162,7 +163,7 @@ pub(crate) fn run_check<S: Store, O: Output, E: Output>(
         names.entry.first.now names.entry.second.now cert.now store.old store.new out.old out.new result }
     ensures silent { result ≡ 0 → err.new ≡ err.old }
 {
-    let files = match read_check_files(alloc, names, cert, store) {
+    let files = match read_three_files(alloc, names, cert, store) {
         Ok(files) => files,
         Err(fault) => return told_store(fault, err),
     };
@@ -171,9 +172,50 @@ pub(crate) fn run_check<S: Store, O: Output, E: Output>(
         alloc,
         &handler.first,
         &handler.second,
-        &files.cert,
+        &files.third,
         handler.profile(),
         out,
     );
     told_answer(answer, err)
+}
+
+/// The names of the files of `visits`, and the number of visits.
+#[derive(Clone, Copy)]
+pub(crate) struct VisitsNames<'a> {
+    pub(crate) names: Names<'a>,
+    pub(crate) fiq_statement: &'a str,
+    pub(crate) visits: u32,
+}
+
+/// `visits`: reads the files and prints the report.
+pub(crate) fn run_visits<S: Store, O: Output, E: Output>(
+    alloc: Global,
+    asked: VisitsNames<'_>,
+    store: &mut S,
+    out: &mut O,
+    err: &mut E,
+) -> u8
+    ensures ran { RunsVisits S.read_gives O.taken O.failures
+        (option_map (λ n. n.now) asked.entry.names.profile) asked.entry.names.first.now
+        asked.entry.names.second.now asked.entry.fiq_statement.now asked.entry.visits store.old store.new
+        out.old out.new result }
+    ensures silent { result ≡ 0 → err.new ≡ err.old }
+{
+    let files = match read_three_files(alloc, asked.names, asked.fiq_statement, store) {
+        Ok(files) => files,
+        Err(fault) => return told_store(fault, err),
+    };
+    let handler = &files.handler;
+    match visits_report(
+        alloc,
+        &handler.first,
+        &handler.second,
+        &files.third,
+        asked.visits,
+        handler.profile(),
+        out,
+    ) {
+        Ok(()) => 0,
+        Err(fault) => told_report(fault, err),
+    }
 }

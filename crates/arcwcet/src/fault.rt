@@ -66,6 +66,9 @@ pub enum ReportFault {
     /// The cycle profile file cannot be read.
     #[error("{0}")]
     Profile(ProfileFileFault),
+    /// The statement of FIQ's handler has another entry than FIQ's vector, 1C.
+    #[error("NotFiqEntry")]
+    NotFiqEntry,
 }
 
 impl From<AllocError> for ReportFault {

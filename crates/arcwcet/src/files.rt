@@ -69,31 +69,32 @@ pub(crate) fn read_files<S: Store>(
     })
 }
 
-/// The bytes of the files of a check.
+/// The bytes of a source and a statement, of a cycle profile where one is named, and of a third file.
 #[derive(Drop)]
-pub(crate) struct CheckFiles {
+pub(crate) struct ThreeFiles {
     pub(crate) handler: Files,
-    pub(crate) cert: Vec<u8>,
+    pub(crate) third: Vec<u8>,
 }
 
-pub(crate) fn read_check_files<S: Store>(
+/// Reads the profile's file first, and then the other three.
+pub(crate) fn read_three_files<S: Store>(
     alloc: Global,
     names: Names<'_>,
-    cert: &str,
+    third: &str,
     store: &mut S,
-) -> Result<CheckFiles, StoreFault>
+) -> Result<ThreeFiles, StoreFault>
     ensures read { IfOk result
         (λ f. ReadsAll S.read_gives store.old
         (in_front (option_map (λ n. n.now) names.entry.profile)
-        (names.entry.first.now ∷ names.entry.second.now ∷ cert.now ∷ []))
+        (names.entry.first.now ∷ names.entry.second.now ∷ third.now ∷ []))
         (in_front (option_map (λ v. v.items) f.handler.profile)
-        (f.handler.first.items ∷ f.handler.second.items ∷ f.cert.items ∷ [])) store.new) }
+        (f.handler.first.items ∷ f.handler.second.items ∷ f.third.items ∷ [])) store.new) }
     ensures fault { IfErr result
         (λ e. FailsToRead S.read_gives store.old
         (in_front (option_map (λ n. n.now) names.entry.profile)
-        (names.entry.first.now ∷ names.entry.second.now ∷ cert.now ∷ [])) e store.new) }
+        (names.entry.first.now ∷ names.entry.second.now ∷ third.now ∷ [])) e store.new) }
 {
     let handler = read_files(alloc, names, store)?;
-    let cert = store.read(alloc, cert)?;
-    Ok(CheckFiles { handler, cert })
+    let third = store.read(alloc, third)?;
+    Ok(ThreeFiles { handler, third })
 }

@@ -22,6 +22,7 @@ mod source;
 mod store;
 mod stream_output;
 mod told;
+mod visits;
 mod whole;
 
 pub use assembly::asm_report;
@@ -39,4 +40,5 @@ pub use read::{LIMIT, read_limited};
 pub use run::program;
 pub use store::{HostStore, Store};
 pub use stream_output::StreamOutput;
+pub use visits::visits_report;
 pub use whole::write_whole;

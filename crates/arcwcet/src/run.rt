@@ -2,7 +2,9 @@ ghost use Rattle.std.specs.Prelude.{◌≡◌, ◌≢◌, ◌⊎◌, None, Some}
 ghost use Rattle.command_line.specs.Line.{Asked, asked_in, asked_of};
 ghost use Rattle.arcwcet.specs.Run.{RunsAsked};
 
-use crate::commands::{run_asm, run_bound, run_check, run_debug, run_run, run_trace};
+use crate::commands::{
+    VisitsNames, run_asm, run_bound, run_check, run_debug, run_run, run_trace, run_visits,
+};
 use crate::output::Output;
 use crate::store::Store;
 use crate::told::told_line;
@@ -29,6 +31,18 @@ fn obey<S: Store, I: Read, O: Output, E: Output>(
         Request::Debug(names) => run_debug(alloc, names, store, input, out, err),
         Request::Bound(names) => run_bound(alloc, names, store, out, err),
         Request::Check { names, cert } => run_check(alloc, names, cert, store, out, err),
+        Request::Visits {
+            names,
+            fiq_statement,
+            visits,
+        } => {
+            let asked = VisitsNames {
+                names,
+                fiq_statement,
+                visits,
+            };
+            run_visits(alloc, asked, store, out, err)
+        }
     }
 }
 

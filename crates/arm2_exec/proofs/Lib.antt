@@ -1,5 +1,5 @@
 mod WorkLemmas
 mod StillLemmas
-mod TakenLemmas
-mod StepLemmas
-mod RunLemmas
+pub mod TakenLemmas
+pub mod StepLemmas
+pub mod RunLemmas

@@ -1,9 +1,8 @@
 -- A run, step after step.
-use Rattle.std.proofs.Common.{◌≡◌, ◌∙◌, ℕ, ◌+◌, ◌*◌, Bool, true, false, List, [], ◌∷◌, Option, Some, None, refl, sym, ap, arith, subst}
+use Rattle.std.proofs.Common.{◌≡◌, ℕ, ◌+◌, ◌*◌, List, [], ◌∷◌, Option, Some, None, refl, sym, ap, arith, subst}
 use Rattle.arm2_effect.specs.declared.done.Kind.{Kind}
 use Rattle.arm2_effect.specs.declared.done.Kind.TheVariants.{Plain, Taken, Stopped}
 use Rattle.arm2_effect.specs.declared.done.Why.{Why}
-use Rattle.arm2_effect.specs.Effects.{is_stopped}
 use Rattle.arm2_exec.specs.declared.machine.Input.{Input}
 use Rattle.arm2_exec.specs.declared.machine.Ran.{Ran}
 use Rattle.arm2_exec.specs.declared.machine.Stepped.{Stepped}
@@ -20,7 +19,7 @@ added ran more = record { steps = ran.steps + more.steps; ticks = ran.ticks + mo
 abbrev pub SoFar : State → List Input → Ran → State → List Input → Type 0
 SoFar start inputs ran now left = (more : Ran) (after : State) → Runs now left more after → Runs start inputs (added ran more) after
 
-plus_none : (n : ℕ) → n ≡ n + 0
+pub plus_none : (n : ℕ) → n ≡ n + 0
 plus_none n = omega arith
 
 pub ends_with : (start : State) (inputs : List Input) (ran : Ran) (now after : State) (left : List Input) (why : Option Why) → SoFar start inputs ran now left → Runs now left (at_rest why) after
@@ -34,18 +33,18 @@ at_end start inputs ran now left so_far none going =
     subst (λ (why : Option Why). Runs start inputs (record { steps = ran.steps; ticks = ran.ticks; elapsed = ran.elapsed; stopped = why }) now) (sym going)
     (ends_with start inputs ran now now left None so_far (subst (λ (is : List Input). Runs now is (at_rest None) now) (sym none) (refl, refl)))
 
-why_of : (k : Kind) (w : Why) → k ≡ Stopped w → why_stopped k ≡ Some w
+pub why_of : (k : Kind) (w : Why) → k ≡ Stopped w → why_stopped k ≡ Some w
 why_of k w is = ap why_stopped is
 
-goes : (k : Kind) → ((w : Why) → k ≡ Stopped w → ⊥) → why_stopped k ≡ None
+pub goes : (k : Kind) → ((w : Why) → k ≡ Stopped w → ⊥) → why_stopped k ≡ None
 goes Plain not_stopped = refl
 goes (Taken v) not_stopped = refl
 goes (Stopped w) not_stopped = absurd (not_stopped w refl)
 
-ends_some : (k : Kind) (w : Why) (now after : State) (ran : Ran) (goes_on : Type 0) → k ≡ Stopped w → ran ≡ at_rest (Some w) → after ≡ now → Ends (why_stopped k) now ran after goes_on
+pub ends_some : (k : Kind) (w : Why) (now after : State) (ran : Ran) (goes_on : Type 0) → k ≡ Stopped w → ran ≡ at_rest (Some w) → after ≡ now → Ends (why_stopped k) now ran after goes_on
 ends_some k w now after ran goes_on is rest same = subst (λ (why : Option Why). Ends why now ran after goes_on) (sym (why_of k w is)) (rest, same)
 
-ends_none : (k : Kind) (now after : State) (ran : Ran) (goes_on : Type 0) → ((w : Why) → k ≡ Stopped w → ⊥) → goes_on → Ends (why_stopped k) now ran after goes_on
+pub ends_none : (k : Kind) (now after : State) (ran : Ran) (goes_on : Type 0) → ((w : Why) → k ≡ Stopped w → ⊥) → goes_on → Ends (why_stopped k) now ran after goes_on
 ends_none k now after ran goes_on not_stopped more = subst (λ (why : Option Why). Ends why now ran after goes_on) (sym (goes k not_stopped)) more
 
 -- the step at hand stopped

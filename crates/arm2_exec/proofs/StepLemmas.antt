@@ -1,6 +1,6 @@
 -- From what a step does to its whole outcome.
-use Rattle.std.proofs.Common.{◌≡◌, ◌∙◌, ℕ, ◌+◌, ◌*◌, Bool, true, false, cond, List, Option, Some, None, refl, sym, ap, inl, inr, subst}
-use Rattle.std.specs.Prelude.{IfOk, IfErr, Result, Ok, Err, ◌⊎◌}
+use Rattle.std.proofs.Common.{◌≡◌, ◌∙◌, ℕ, ◌+◌, ◌*◌, true, false, List, Option, Some, None, refl, sym, ap, inl, inr, subst}
+use Rattle.std.specs.Prelude.{IfOk, IfErr, Result, Ok, Err}
 use Rattle.std.proofs.lemmas.Bool.{false≢true, cases_Bool, cond-true, cond-false}
 use Rattle.arm2_decode.specs.Table.{Means, IsUnallocated}
 use Rattle.arm2_decode.specs.declared.instr.Instr.{Instr}
@@ -22,7 +22,7 @@ use Rattle.arm2_exec.specs.declared.machine.Stepped.{Stepped}
 use Rattle.arm2_exec.specs.State.{State}
 use Rattle.arm2_exec.specs.Step.{Obeys, ObeysFetched, Works, Step, HasOneOutcome, address_in, answer_of, elapsed, fetched, instruction_moved, interrupt_due, state_after, unallocated_moved, with_lines}
 use Rattle.arm2_exec.specs.Work.{Worked}
-use Rattle.arm2_exec.proofs.StillLemmas.{IsStill, works_still}
+use Rattle.arm2_exec.proofs.StillLemmas.{works_still}
 
 pub stops : (k : Kind) (w : Why) → k ≡ Stopped w → is_stopped k ≡ true
 stops k w is = ap is_stopped is
@@ -108,14 +108,18 @@ module _ (port : ℕ) (regs : List ℕ) (bus : Bus) where
   some_work None word is obeyed = (obeyed.0, subst (λ (x : Option ℕ). ObeysFetched x port regs bus obeyed.0) (sym is) obeyed.1)
 
 module _ (s : State) (i : Input) where
+  -- a step has no second outcome
+  pub one_step : (told other : Stepped) (after last : State) → Step s i told after → Step s i other last → (other ≡ told) × (last ≡ after)
+  one_step told other after last this step =
+      let same = works_one i.port s.regs (with_lines i.lines.0 s.bus) (interrupt_due (with_lines i.lines.0 s.bus) (r15_in s.regs)) step.moved this.moved step.works this.works in
+      (step.told_is ∙ ap (answer_of s) same ∙ sym this.told_is, step.after_is ∙ ap (state_after s i) same ∙ sym this.after_is)
+
   one_outcome : (m : Moved) → Works (interrupt_due (with_lines i.lines.0 s.bus) (r15_in s.regs)) i.port s.regs (with_lines i.lines.0 s.bus) m → HasOneOutcome s i
   one_outcome m works = record {
     told = answer_of s m;
     after = state_after s i m;
     is = record { moved = m; works = works; told_is = refl; after_is = refl };
-    only = λ told after step.
-        let same = works_one i.port s.regs (with_lines i.lines.0 s.bus) (interrupt_due (with_lines i.lines.0 s.bus) (r15_in s.regs)) step.moved m step.works works in
-        (step.told_is ∙ ap (answer_of s) same, step.after_is ∙ ap (state_after s i) same);
+    only = λ told after step. one_step (answer_of s m) told (state_after s i m) after (record { moved = m; works = works; told_is = refl; after_is = refl }) step;
   }
 
   outcome_of_fetched : (word : Option ℕ) → fetched s.bus.memc (r15_in s.regs) ≡ word → (m : Moved) × ObeysFetched word i.port s.regs (with_lines i.lines.0 s.bus) m → HasOneOutcome s i

@@ -1,27 +1,23 @@
 -- A step that stops has changed nothing.
 use Rattle.std.proofs.Common.{◌≡◌, ◌∙◌, ℕ, Bool, true, false, cond, List, Option, Some, None, refl, sym, inl, inr}
-use Rattle.std.specs.Prelude.{nat_lt, ◌==◌, ◌^◌, not, Result, Ok, Err, ◌⊎◌, length}
+use Rattle.std.specs.Prelude.{nat_lt, ◌==◌, ◌^◌, not, Result, Ok, Err}
 use Rattle.std.proofs.lemmas.Bool.{false≢true}
 use Rattle.arm2_decode.specs.Conditions.{condition_holds}
 use Rattle.arm2_decode.specs.Names.{register_number}
-use Rattle.arm2_decode.specs.declared.instr.Instr.{Instr}
-use Rattle.arm2_decode.specs.declared.instr.Unallocated.{Unallocated}
 use Rattle.arm2_decode.specs.declared.instr.Operation.{Operation}
 use Rattle.arm2_decode.specs.declared.instr.Operation.TheVariants as row
 use Rattle.arm2_decode.specs.declared.instr.Block.{Block}
-use Rattle.arm2_decode.specs.declared.names.Opcode.{Opcode}
 use Rattle.memc.specs.Memory.{located}
 use Rattle.memc.specs.declared.spots.Spot.{Spot}
 use Rattle.arm2_effect.specs.declared.exceptions.Vector.{Vector}
 use Rattle.arm2_effect.specs.declared.exceptions.Vector.TheVariants as vector
 use Rattle.arm2_effect.specs.declared.done.Why.{Why}
 use Rattle.arm2_effect.specs.declared.done.Why.TheVariants as why
-use Rattle.arm2_effect.specs.Modes.{r15_in, register_in}
+use Rattle.arm2_effect.specs.Modes.{r15_in}
 use Rattle.arm2_effect.specs.ProgramCounter.{flags_of, mode_of}
-use Rattle.arm2_effect.specs.Operands.{first_of}
 use Rattle.arm2_effect.specs.Effects.{Effect, is_stopped, skipped, stopped}
 use Rattle.arm2_effect.specs.Exceptions.{taken}
-use Rattle.arm2_effect.specs.Operations.{operation_effect, placed, compared, jumped, entered, delayed, data_immediate_effect, data_register_effect, data_register_shift_effect, multiply_effect, branch_effect, untouched}
+use Rattle.arm2_effect.specs.Operations.{operation_effect, placed, compared, jumped, entered, data_immediate_effect, data_register_effect, data_register_shift_effect, multiply_effect, branch_effect, untouched}
 use Rattle.arm2_effect.specs.Outcomes.{is_compare}
 use Rattle.arm2_transfer.specs.declared.bus.Bus.{Bus}
 use Rattle.arm2_transfer.specs.declared.single.Single.{Single}
@@ -29,13 +25,12 @@ use Rattle.arm2_transfer.specs.declared.span.Span.{Span}
 use Rattle.arm2_transfer.specs.declared.words.Move.{Move}
 use Rattle.arm2_transfer.specs.declared.words.Trouble.{Trouble}
 use Rattle.arm2_transfer.specs.declared.words.Trouble.TheVariants as trouble
-use Rattle.arm2_transfer.specs.Moved.{Moved, on_bus, out_of_space, troubled}
+use Rattle.arm2_transfer.specs.Moved.{Moved, on_bus, troubled}
 use Rattle.arm2_transfer.specs.Operations.{operation_moved}
-use Rattle.arm2_transfer.specs.Registers.{is_user}
 use Rattle.arm2_transfer.specs.Single.{address_for, has_user_rights, of_immediate, of_register, single_loads, single_stores, single_carried_out, single_by, single_at}
-use Rattle.arm2_transfer.specs.Block.{block_loads, block_stores, block_carried_out, block_by, block_at, block_moved, span_of}
-use Rattle.arm2_transfer.specs.Words.{met, registers_in, verdict_of}
-use Rattle.arm2_exec.specs.Step.{instruction_moved, unallocated_moved, Obeys, ObeysFetched, Works, fetched}
+use Rattle.arm2_transfer.specs.Block.{block_loads, block_stores, block_carried_out, block_by, block_at, block_moved}
+use Rattle.arm2_transfer.specs.Words.{met}
+use Rattle.arm2_exec.specs.Step.{Obeys, ObeysFetched, Works, fetched}
 
 -- ## What the registers alone do
 

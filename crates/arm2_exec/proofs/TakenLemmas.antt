@@ -1,8 +1,10 @@
 -- A step that takes an exception has done nothing else.
-use Rattle.std.proofs.Common.{◌≡◌, ◌≢◌, ◌∙◌, ℕ, ◌+◌, ◌*◌, Bool, true, false, cond, List, Option, Some, None, refl, sym, ap, inl, inr}
+use Rattle.std.proofs.Common.{◌≡◌, ◌≢◌, ◌∙◌, ℕ, ◌+◌, ◌*◌, ◌%◌, Bool, true, false, cond, List, Option, Some, None, refl, sym, ap, inl, inr, arith}
 use Rattle.std.specs.Prelude.{nat_lt, ◌==◌, ◌^◌, not, Result, Ok, Err, slice_index}
 use Rattle.std.proofs.lemmas.Bool.{false≢true, cases_Bool, cond-true, cond-false}
 use Rattle.std.proofs.lemmas.List.{get_or-set_other}
+use Rattle.bus_ticks.specs.Prices.{n_price, s_price}
+use Rattle.bus_ticks.specs.Worst.{fiq_entry_price}
 use Rattle.arm2_decode.specs.Conditions.{condition_holds}
 use Rattle.arm2_decode.specs.Names.{register_number}
 use Rattle.arm2_decode.specs.declared.instr.Operation.{Operation}
@@ -37,9 +39,9 @@ use Rattle.arm2_transfer.specs.Block.{block_loads, block_stores, block_carried_o
 use Rattle.arm2_transfer.specs.Words.{met}
 use Rattle.arm2_exec.specs.declared.machine.Input.{Input}
 use Rattle.arm2_exec.specs.declared.machine.Stepped.{Stepped}
-use Rattle.arm2_exec.specs.Kept.{KeepsTheRest}
+use Rattle.arm2_exec.specs.Kept.{KeepsTheRest, interrupted_in}
 use Rattle.arm2_exec.specs.State.{State}
-use Rattle.arm2_exec.specs.Step.{Obeys, ObeysFetched, Step, Works, answer_of, elapsed, fetched, interrupt_due, state_after, with_lines}
+use Rattle.arm2_exec.specs.Step.{Obeys, ObeysFetched, Step, Works, address_in, answer_of, elapsed, fetched, interrupt_due, state_after, ticks_in, with_lines}
 
 -- ## What is done where an exception is taken
 
@@ -171,9 +173,11 @@ taken_keeps : (v : Vector) (regs : List ℕ) (n : ℕ) → n ≢ slot_of (entry_
 unfolding taken
 taken_keeps v regs n other last = get_or-set_other _ 26 n _ 0 (λ same. last (same ∙ sym (slot_of_r15 (entry_at v).mode))) ∙ get_or-set_other regs (slot_of (entry_at v).mode 14) n _ 0 other
 
-pub keeps_the_rest : (s : State) (i : Input) (told : Stepped) (after : State) (v : Vector) → Step s i told after → told.kind ≡ Taken v → KeepsTheRest v s i told after
-unfolding answer_of state_after
-keeps_the_rest s i told after v step kind = elim (cases_Bool (is_stopped step.moved.kind)) [
+-- what a step did that took the exception, and that it did not stop
+pub took : (s : State) (i : Input) (told : Stepped) (after : State) (v : Vector) (step : Step s i told after) → told.kind ≡ Taken v
+    → (step.moved ≡ on_bus (with_lines i.lines.0 s.bus) (taken v s.regs)) × (is_stopped step.moved.kind ≡ false)
+unfolding answer_of
+took s i told after v step kind = elim (cases_Bool (is_stopped step.moved.kind)) [
   | inl stopped ↦
       let told_is = step.told_is ∙ cond-true (is_stopped step.moved.kind) _ _ stopped in
       let moved_kind : step.moved.kind ≡ Taken v = sym (ap (λ (t : Stepped). t.kind) told_is) ∙ kind in
@@ -182,19 +186,46 @@ keeps_the_rest s i told after v step kind = elim (cases_Bool (is_stopped step.mo
       let m = step.moved in
       let bus = with_lines i.lines.0 s.bus in
       let told_is = step.told_is ∙ cond-false (is_stopped m.kind) _ _ goes in
-      let after_is = step.after_is ∙ cond-false (is_stopped m.kind) _ _ goes in
-      let moved_is : m ≡ on_bus bus (taken v s.regs) = works_takes s.regs bus v (interrupt_due bus (r15_in s.regs)) i.port m step.works (sym (ap (λ (t : Stepped). t.kind) told_is) ∙ kind) in
-      let devices : after.bus ≡ elapsed (told.ticks + s.profile.burst * i.bursts) bus =
-      ap (λ (t : State). t.bus) after_is
-      ∙ ap (λ (n : ℕ). elapsed (n + s.profile.burst * i.bursts) m.bus) (sym (ap (λ (t : Stepped). t.ticks) told_is))
-      ∙ ap (λ (x : Moved). elapsed (told.ticks + s.profile.burst * i.bursts) x.bus) moved_is in
-      record {
-        memory = ap (λ (b : Bus). b.memc) devices;
-        registers = λ r other last.
-            ap (λ (t : State). slice_index t.regs (reg_number r)) after_is
-            ∙ ap (λ (x : Moved). slice_index x.regs (reg_number r)) moved_is
-            ∙ taken_keeps v s.regs (reg_number r) other last;
-        prices = ap (λ (t : State). t.profile) after_is;
-        devices = devices;
-      }
+      (works_takes s.regs bus v (interrupt_due bus (r15_in s.regs)) i.port m step.works (sym (ap (λ (t : Stepped). t.kind) told_is) ∙ kind), goes)
 ]
+
+pub keeps_the_rest : (s : State) (i : Input) (told : Stepped) (after : State) (v : Vector) → Step s i told after → told.kind ≡ Taken v → KeepsTheRest v s i told after
+unfolding answer_of state_after
+keeps_the_rest s i told after v step kind =
+    let m = step.moved in
+    let bus = with_lines i.lines.0 s.bus in
+    let done = took s i told after v step kind in
+    let told_is = step.told_is ∙ cond-false (is_stopped m.kind) _ _ done.1 in
+    let after_is = step.after_is ∙ cond-false (is_stopped m.kind) _ _ done.1 in
+    let devices : after.bus ≡ elapsed (told.ticks + s.profile.burst * i.bursts) bus =
+    ap (λ (t : State). t.bus) after_is
+    ∙ ap (λ (n : ℕ). elapsed (n + s.profile.burst * i.bursts) m.bus) (sym (ap (λ (t : Stepped). t.ticks) told_is))
+    ∙ ap (λ (x : Moved). elapsed (told.ticks + s.profile.burst * i.bursts) x.bus) done.0 in
+    record {
+      memory = ap (λ (b : Bus). b.memc) devices;
+      registers = λ r other last.
+          ap (λ (t : State). slice_index t.regs (reg_number r)) after_is
+          ∙ ap (λ (x : Moved). slice_index x.regs (reg_number r)) done.0
+          ∙ taken_keeps v s.regs (reg_number r) other last;
+      prices = ap (λ (t : State). t.profile) after_is;
+      devices = devices;
+    }
+
+-- ## What taking FIQ costs
+
+fiq_ticks : (s : State) (bus : Bus) → ticks_in s (on_bus bus (taken vector.Fiq s.regs)) ≡ fiq_entry_price s.profile (interrupted_in s)
+unfolding taken
+fiq_ticks s bus =
+    let first = s_price s.profile s.bus.memc.control.rom_times ((address_in s.regs + 8) % 0x4000000) in
+    let second = n_price s.profile s.bus.memc.control.rom_times 0x1C in
+    let third = s_price s.profile s.bus.memc.control.rom_times 0x20 in
+    let total : ticks_in s (on_bus bus (taken vector.Fiq s.regs)) ≡ 0 + first + second + third = refl in
+    omega (arith, total)
+
+pub fiq_costs : (s : State) (i : Input) (told : Stepped) (after : State) → Step s i told after → told.kind ≡ Taken vector.Fiq → told.ticks ≡ fiq_entry_price s.profile (interrupted_in s)
+unfolding answer_of
+fiq_costs s i told after step kind =
+    let done = took s i told after vector.Fiq step kind in
+    ap (λ (t : Stepped). t.ticks) (step.told_is ∙ cond-false (is_stopped step.moved.kind) _ _ done.1)
+    ∙ ap (λ (m : Moved). ticks_in s m) done.0
+    ∙ fiq_ticks s (with_lines i.lines.0 s.bus)

@@ -1,11 +1,7 @@
 -- What a step does before time passes.
-use Rattle.std.proofs.Common.{◌≡◌, ◌∙◌, ℕ, Bool, true, false, cond, List, Option, Some, None, refl, sym, ap, inl, inr, subst}
-use Rattle.std.specs.Prelude.{nat_lt, Result, Ok, Err, ◌⊎◌}
+use Rattle.std.proofs.Common.{◌≡◌, ℕ, List, Option, Some, None, refl, subst}
 use Rattle.bus_ticks.specs.declared.profile.Profile.{Profile}
 use Rattle.bus_ticks.specs.declared.profile.RomTimes.{RomTimes}
-use Rattle.arm2_decode.specs.Table.{Means, IsUnallocated}
-use Rattle.arm2_decode.specs.declared.instr.Instr.{Instr}
-use Rattle.arm2_decode.specs.declared.instr.Unallocated.{Unallocated}
 use Rattle.arm2_effect.specs.declared.exceptions.Vector.{Vector}
 use Rattle.arm2_effect.specs.declared.exceptions.Vector.TheVariants as vector
 use Rattle.arm2_effect.specs.declared.done.Done.{Done}
@@ -13,8 +9,8 @@ use Rattle.arm2_effect.specs.Effects.{Effect, IsEffect}
 use Rattle.arm2_effect.specs.Exceptions.{taken}
 use Rattle.arm2_effect.specs.Modes.{r15_in}
 use Rattle.arm2_transfer.specs.declared.bus.Bus.{Bus}
-use Rattle.arm2_transfer.specs.Moved.{Moved, IsMoved, on_bus}
-use Rattle.arm2_exec.specs.Step.{ObeysFetched, Works, fetched}
+use Rattle.arm2_transfer.specs.Moved.{IsMoved, on_bus}
+use Rattle.arm2_exec.specs.Step.{ObeysFetched, fetched}
 use Rattle.arm2_exec.specs.Work.{Obeyed, Worked}
 
 module _ (p : Profile) (rom : RomTimes) (port : ℕ) (old : List ℕ) (bus : Bus) (done : Done) (new : List ℕ) where

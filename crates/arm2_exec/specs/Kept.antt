@@ -1,6 +1,7 @@
 -- What a step keeps that takes an exception (VL86C010 data sheet, exceptions; our own rule: an aborted
--- transfer moves no word and writes back no base).
+-- transfer moves no word and writes back no base), and where it is taken.
 use Rattle.std.specs.Prelude.{◌≡◌, ◌≢◌, ◌+◌, ◌*◌}
+use Rattle.bus_ticks.specs.Worst.{Access}
 use Rattle.arm2_effect.specs.declared.exceptions.Vector.{Vector}
 use Rattle.arm2_effect.specs.declared.modes.Reg.{Reg}
 use Rattle.arm2_effect.specs.Exceptions.{entry_at}
@@ -8,7 +9,7 @@ use Rattle.arm2_effect.specs.Modes.{reg_number, slot_of}
 use Rattle.arm2_exec.specs.declared.machine.Input.{Input}
 use Rattle.arm2_exec.specs.declared.machine.Stepped.{Stepped}
 use Rattle.arm2_exec.specs.State.{State, register_of}
-use Rattle.arm2_exec.specs.Step.{elapsed, with_lines}
+use Rattle.arm2_exec.specs.Step.{address_in, elapsed, with_lines}
 
 -- memory and its controller, all registers but R14 and R15 of the exception's mode, and the prices; the
 -- devices have the lines and the time alone
@@ -19,3 +20,7 @@ pub record KeepsTheRest (vector : Vector) (s : State) (i : Input) (told : Steppe
       → reg_number r ≢ slot_of (entry_at vector).mode 15 → register_of r after ≡ register_of r s
   pub prices : after.profile ≡ s.profile
   pub devices : after.bus ≡ elapsed (told.ticks + s.profile.burst * i.bursts) (with_lines i.lines.0 s.bus)
+
+-- where a step interrupts the handler: at this address, by these time fields of ROM
+abbrev pub interrupted_in : State → Access
+interrupted_in s = record { address = address_in s.regs; rom = s.bus.memc.control.rom_times }

@@ -1,8 +1,7 @@
 -- A step of the machine (VL86C010 data sheet, instruction set and exceptions; our own profile for the order
 -- of its parts, for a fetch among the devices, for what stops the machine, and for the ticks).
-use Rattle.std.specs.Prelude.{◌≡◌, ◌⊎◌, ℕ, ◌+◌, ◌*◌, ◌/◌, ◌%◌, ◌^◌, ◌==◌, ◌&&◌, not, Bool, false}
+use Rattle.std.specs.Prelude.{◌≡◌, ◌⊎◌, ℕ, ◌+◌, ◌*◌, ◌/◌, ◌%◌, ◌^◌, ◌==◌, ◌&&◌, not, false}
 use Rattle.std.specs.Prelude.{if◌then◌else◌, Option, Some, None, Result, Ok, Err, List}
-use Rattle.bus_ticks.specs.declared.profile.RomTimes.{RomTimes}
 use Rattle.arm2_decode.specs.Conditions.{condition_holds}
 use Rattle.arm2_decode.specs.Table.{Means, IsUnallocated}
 use Rattle.arm2_decode.specs.declared.instr.Instr.{Instr}
@@ -35,10 +34,13 @@ with_lines lines bus = record bus { ioc = ioc.with_lines lines bus.ioc }
 
 -- ## 2. The interrupt that is due: FIQ where F is clear, or else IRQ where I is clear
 
+abbrev pub interrupt_of : ioc.Controller → (r15 : ℕ) → Option Vector
+interrupt_of c r15 =
+    if ioc.fiq_of c && not (r15 / 2 ^ 26 % 2 == 1) then Some vector.Fiq
+    else (if ioc.irq_of c && not (r15 / 2 ^ 27 % 2 == 1) then Some vector.Irq else None)
+
 abbrev pub interrupt_due : Bus → (r15 : ℕ) → Option Vector
-interrupt_due bus r15 =
-    if ioc.fiq_of bus.ioc && not (r15 / 2 ^ 26 % 2 == 1) then Some vector.Fiq
-    else (if ioc.irq_of bus.ioc && not (r15 / 2 ^ 27 % 2 == 1) then Some vector.Irq else None)
+interrupt_due bus r15 = interrupt_of bus.ioc r15
 
 -- ## 3. The word at the address, by the mode's rights: none where it is refused, and none among the devices
 

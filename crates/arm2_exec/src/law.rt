@@ -1,5 +1,6 @@
 ghost use Rattle.std.specs.Prelude.{◌≡◌};
-ghost use Rattle.arm2_exec.specs.Kept.{KeepsTheRest};
+ghost use Rattle.bus_ticks.specs.Worst.{fiq_entry_price};
+ghost use Rattle.arm2_exec.specs.Kept.{KeepsTheRest, interrupted_in};
 ghost use Rattle.arm2_exec.specs.State.{State};
 ghost use Rattle.arm2_exec.specs.Step.{Step};
 
@@ -14,4 +15,11 @@ use arm2_effect::{Kind, Vector};
 pub fn exceptions_keep_the_rest()
     ensures { (s : State) → (i : Input) → (told : Stepped) → (after : State) → (vector : Vector)
         → Step s i told after → told.kind ≡ Kind.Taken vector → KeepsTheRest vector s i told after }
+{}
+
+/// States what a step costs that takes FIQ, in ticks: the fetch that follows the interrupted instruction's, and
+/// the two at FIQ's vector, by the prices and the time fields of ROM before it. It does nothing.
+pub fn fiq_costs_its_entry()
+    ensures { (s : State) → (i : Input) → (told : Stepped) → (after : State) → Step s i told after
+        → told.kind ≡ Kind.Taken Vector.Fiq → told.ticks ≡ fiq_entry_price s.profile (interrupted_in s) }
 {}

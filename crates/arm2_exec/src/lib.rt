@@ -10,5 +10,5 @@ mod machine;
 mod work;
 
 pub use arm2_effect::{Kind, Reg, Vector, Why};
-pub use law::exceptions_keep_the_rest;
+pub use law::{exceptions_keep_the_rest, fiq_costs_its_entry};
 pub use machine::{Input, Machine, MachineFault, Ran, Stepped};

@@ -1,15 +1,16 @@
-ghost use Rattle.std.specs.Prelude.{◌≡◌, ◌<◌, ◌*◌, ◌^◌, IfOk};
+ghost use Rattle.std.specs.Prelude.{◌≡◌, ◌<◌, ◌^◌, IfOk};
 ghost use Rattle.std.specs.Borrow.{sem};
 ghost use Rattle.memc.specs.Memory.{shift_of_size};
+ghost use Rattle.arm2_effect.specs.Modes.{r15_in};
 ghost use Rattle.arm2_exec.specs.State.{IsReset, register_of, reset_r15, with_register_of};
-ghost use Rattle.arm2_exec.specs.Step.{HasOneOutcome, Step};
+ghost use Rattle.arm2_exec.specs.Step.{HasOneOutcome, Step, fetched, interrupt_due, with_lines};
 ghost use Rattle.arm2_exec.specs.Run.{Runs};
 ghost use Rattle.arm2_exec.specs.Lent.{LendsIoc, LendsMemc, LendsVidc};
 ghost use Rattle.arm2_effect.specs.declared.modes.Reg.TheVariants.{R15};
 
-use crate::work::{elapse, fetch, work};
+use crate::work::{elapse, fetch, interrupt, work};
 use arm2_decode::decode;
-use arm2_effect::{Kind, Prices, Reg, Registers, Why, address_of};
+use arm2_effect::{Kind, Prices, Reg, Registers, Vector, Why, address_of};
 use arm2_transfer::Bus;
 use bus_ticks::Profile;
 use ioc::{Ioc, Lines};
@@ -185,6 +186,22 @@ impl Machine {
         self.profile
     }
 
+    /// The interrupt that a step takes once the lines are these: FIQ, or else IRQ, each unless R15 masks it.
+    pub fn interrupt_due(&self, lines: Lines) -> Option<Vector>
+        ensures { result ≡ interrupt_due (with_lines lines.0 self.now.bus) (r15_in self.now.regs) }
+    {
+        let mut ioc = self.bus.ioc.snapshot();
+        ioc.lines(lines);
+        interrupt(&ioc, self.registers.get(Reg::R15))
+    }
+
+    /// The word at the address in R15; none where the mode may not fetch there, and among the devices.
+    pub fn fetched(&self) -> Option<u32>
+        ensures { result ≡ fetched self.now.bus.memc (r15_in self.now.regs) }
+    {
+        fetch(&self.bus.memc, self.registers.get(Reg::R15))
+    }
+
     /// One step: an interrupt is taken, or the instruction at the address in R15 is carried out or passed
     /// over. It takes constant time and no memory.
     #[tactic(auto, unfolding(crate::specs::Step::answer_of, crate::specs::Step::state_after))]
@@ -209,7 +226,7 @@ impl Machine {
                 to: from,
             };
         }
-        let stretched = stretched(self.profile, input.bursts);
+        let stretched = self.profile.burst_ticks(input.bursts);
         elapse(&mut self.bus, done.ticks + stretched);
         Stepped {
             kind: done.kind,
@@ -235,7 +252,7 @@ impl Machine {
                 ran.stopped = Some(why);
                 return ran;
             }
-            let stretched = stretched(self.profile, input.bursts);
+            let stretched = self.profile.burst_ticks(input.bursts);
             ran.steps += 1;
             ran.ticks += u128::from(stepped.ticks);
             ran.elapsed += u128::from(stepped.ticks) + u128::from(stretched);
@@ -251,12 +268,4 @@ impl Machine {
             let _instruction = decode(word);
         }
     }
-}
-
-// The ticks of DMA bursts.
-fn stretched(profile: Profile, bursts: u16) -> u32
-    ensures ticks { result ≡ profile.burst * bursts }
-    ensures bound { result < 2 ^ 24 }
-{
-    profile.burst * u32::from(bursts)
 }

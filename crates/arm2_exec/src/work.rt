@@ -1,19 +1,21 @@
 ghost use Rattle.std.specs.Prelude.{◌≡◌, ◌<◌, ◌^◌};
 ghost use Rattle.arm2_effect.specs.Modes.{r15_in};
 ghost use Rattle.arm2_transfer.specs.Moved.{IsMoved};
-ghost use Rattle.arm2_exec.specs.Step.{elapsed, fetched, instruction_moved, interrupt_due, unallocated_moved};
+ghost use Rattle.arm2_exec.specs.Step.{elapsed, fetched, instruction_moved, interrupt_due, interrupt_of};
+ghost use Rattle.arm2_exec.specs.Step.{unallocated_moved};
 ghost use Rattle.arm2_exec.specs.Work.{Obeyed, Worked};
 
 use arm2_decode::{Instr, Unallocated, decode};
 use arm2_effect::{Done, Mode, Prices, Reg, Registers, Vector, Why, address_of, mode_of};
 use arm2_transfer::{Bus, execute};
+use ioc::Ioc;
 use memc::{Memc, Spot};
 
 // The interrupt that is due: FIQ, or else IRQ, each unless R15 masks it.
-fn interrupt(bus: &Bus, r15: u32) -> Option<Vector>
-    ensures { result ≡ interrupt_due bus.now r15 }
+pub(crate) fn interrupt(ioc: &Ioc, r15: u32) -> Option<Vector>
+    ensures { result ≡ interrupt_of ioc.now r15 }
 {
-    let asserted = bus.ioc.asserted();
+    let asserted = ioc.asserted();
     if asserted.fiq && r15 / 0x400_0000 % 2 != 1 {
         return Some(Vector::Fiq);
     }
@@ -99,7 +101,7 @@ pub(crate) fn work(registers: &mut Registers, bus: &mut Bus, port: u32, prices: 
     ensures bound { result.ticks < 2 ^ 16 }
 {
     let r15 = registers.get(Reg::R15);
-    if let Some(vector) = interrupt(bus, r15) {
+    if let Some(vector) = interrupt(&bus.ioc, r15) {
         return registers.take(prices, vector);
     }
     let word = fetch(&bus.memc, r15);

@@ -1,4 +1,4 @@
-ghost use Rattle.std.specs.Prelude.{◌≡◌, ◌↔◌, All, IsOk, IfOk, IsTrue, take, ◌<◌, ◌≤◌, ℕ};
+ghost use Rattle.std.specs.Prelude.{◌≡◌, ◌↔◌, All, IsOk, IfOk, IsTrue, take, ◌*◌, ◌<◌, ◌≤◌, ◌^◌, ℕ};
 ghost use Rattle.bus_ticks.specs.Ranges.{AreInRange, AreOrdered, IsPrice, greatest};
 
 use thiserror::Error;
@@ -232,5 +232,13 @@ impl Profile {
             internal: 1,
             burst: 6,
         }
+    }
+
+    /// The ticks of so many DMA bursts.
+    pub fn burst_ticks(&self, bursts: u16) -> u32
+        ensures ticks { result ≡ self.now.burst * bursts }
+        ensures bound { result < 2 ^ 24 }
+    {
+        self.burst * u32::from(bursts)
     }
 }

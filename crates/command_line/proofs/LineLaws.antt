@@ -1,15 +1,22 @@
 -- From what clap's calls give to what a line asks for.
-use Rattle.std.proofs.Common.{◌≡◌, ◌∙◌, true, List, [], ◌∷◌, Option, None, refl, sym, ap, inl, inr, subst}
-use Rattle.std.specs.Prelude.{option_and_then}
+use Rattle.std.proofs.Common.{◌≡◌, ◌∙◌, ℕ, Bool, true, false, List, [], ◌∷◌, Option, Some, None, Result, Ok, Err, refl, sym, ap, inl, inr, subst, arith}
+use Rattle.std.specs.Prelude.{option_and_then, if◌then◌else◌}
+use Rattle.std.specs.Result.{result_ok}
+use Rattle.std.specs.Str.Parse.{ExplainsUnsignedError, HasUnsignedDigitsIfOk, ParsesUnsigned, digits_value, without_leading_plus}
+use Rattle.std.specs.declared.num.ParseIntError.{ParseIntError}
 use Rattle.clap.specs.Walk.{Row, Text}
 use Rattle.clap.specs.Simple.{App, is_simple, subcommand_of}
 use Rattle.clap.specs.Kinds.{HasKind, IsAmong, Kinds}
 use Rattle.clap.specs.Faults.{fault_of, is_simple_and_free}
+use Rattle.clap.specs.Matches.{ReadsOne}
 use Rattle.clap.specs.Values.{kind_of}
+use Rattle.clap.specs.ValueTests.{is_unsigned_in}
+use Rattle.clap.specs.declared.builder.value_parser.ValueParser.TheVariants as parser
 use Rattle.clap.specs.declared.error.Error.{Error}
 use Rattle.clap.specs.declared.error.kind.ErrorKind.TheVariants.{OutOfMemory}
 use Rattle.clap.specs.declared.error.kind.ErrorKind.{ErrorKind}
-use Rattle.command_line.specs.Line.{Asked, arcwcet_command, asked, asked_by, unless_refused}
+use Rattle.clap.proofs.ValueTestLemmas.{accepts-Accepts, Accepts-accepts}
+use Rattle.command_line.specs.Line.{Asked, arcwcet_command, asked, asked_by, most_visits, unless_refused, visits_in}
 
 shut : (kinds : Kinds) (x : Option Asked) (k : ErrorKind) → IsAmong k kinds → unless_refused kinds x ≡ None
 shut [] x k among = absurd among
@@ -42,3 +49,33 @@ asked_of_error app words e is kinds other =
       | inl memory ↦ absurd (other memory)
       | inr among ↦ asked_refused words (kind_of e) among
     ]
+
+visits_or_none : Text → Bool → Option ℕ
+visits_or_none t fits = if fits then Some (digits_value 10 (without_leading_plus t)) else None
+
+-- `u32` reads a text as the number of visits that it writes
+visits_parsed : {E : Type 0} (t : Text) (r : Result ℕ E) → ParsesUnsigned 32 10 t r → result_ok r ≡ visits_in t
+unfolding visits_or_none
+visits_parsed t (Ok n) h =
+    let fits = Accepts-accepts false (parser.Unsigned 0 most_visits) t (h.0.0, omega (arith, h.0.1), omega arith, omega (arith, h.0.1)) in
+    ap (λ (k : ℕ). Some k) h.1 ∙ sym (ap (visits_or_none t) fits)
+visits_parsed t (Err e) h = go (is_unsigned_in 0 most_visits t) refl
+  where
+    go : (fits : Bool) → is_unsigned_in 0 most_visits t ≡ fits → None ≡ visits_or_none t fits
+    go false is = refl
+    go true is =
+        let fits = accepts-Accepts false (parser.Unsigned 0 most_visits) t is in
+        absurd (h (fits.0, omega (arith, fits.3)))
+
+-- what `u32` says of a text that it reads
+abbrev pub ReadsU32 : Text → Result ℕ ParseIntError → Type 0
+ReadsU32 t r = ParsesUnsigned 32 10 t r × ExplainsUnsignedError 10 t r × HasUnsignedDigitsIfOk t r
+
+-- what `get_one` gives is the number of visits that the text writes
+pub visits_read : (o : Option Text) (r : Option ℕ) → (o ≡ None → r ≡ None) → ((t : Text) → o ≡ Some t → ReadsOne ReadsU32 t r)
+    → r ≡ option_and_then visits_in o
+visits_read None r none value = none refl
+visits_read (Some t) (Some n) none value = visits_parsed {E = ParseIntError} t (Ok n) (value t refl).0
+visits_read (Some t) None none value =
+    let failed = value t refl in
+    visits_parsed t (Err failed.0) failed.1.0

@@ -1,13 +1,16 @@
 -- What a line of words asks of the program, by clap's function for a simple command. The commands are our
 -- own.
-use Rattle.std.specs.Prelude.{true, List, [], ◌∷◌, Option, Some, None, String, codes, map, option_and_then}
+use Rattle.std.specs.Prelude.{ℕ, pos, true, List, [], ◌∷◌, Option, Some, None, String, codes, map, option_and_then}
 use Rattle.std.specs.Prelude.{option_map, string_bytes, if◌then◌else◌}
 use Rattle.std.specs.declared.alloc.Global.{Global}
 use Rattle.std.specs.Str.{bytes_eq}
-use Rattle.clap.specs.Walk.{Row, Rule, Text, first_of}
+use Rattle.std.specs.Str.Parse.{digits_value, without_leading_plus}
+use Rattle.clap.specs.Walk.{Row, Rule, Text, first_of, one_of}
 use Rattle.clap.specs.Simple.{App, new_app, new_rule, on_top, subcommand_of, with_rule, with_subcommand}
 use Rattle.clap.specs.Faults.{fault_of}
 use Rattle.clap.specs.Kinds.{Kinds}
+use Rattle.clap.specs.ValueTests.{is_unsigned_in}
+use Rattle.clap.specs.declared.builder.value_parser.ValueParser.TheVariants as parser
 use Rattle.command_line.specs.declared.line.Request.{Request}
 use Rattle.command_line.specs.declared.line.Request.TheVariants as request
 use Rattle.command_line.specs.declared.line.Names.{Names}
@@ -45,6 +48,24 @@ bound_command = priced_command (codes "bound") (codes "statement")
 abbrev pub check_command : App
 check_command = with_rule (priced_command (codes "check") (codes "statement")) (wanted (codes "cert"))
 
+-- the most visits: the greatest number of 32 bits
+abbrev pub most_visits : ℕ
+most_visits = 4294967295
+
+-- a whole number of visits, in its place
+abbrev pub visits_rule : Rule
+visits_rule = record (wanted (codes "visits")) {
+  value_names = 1;
+  parser = Some (parser.Signed (pos 0) (pos most_visits));
+}
+
+-- `visits SOURCE STATEMENT FIQSTATEMENT K`, with a cycle profile
+abbrev pub visits_command : App
+visits_command =
+    with_rule
+    (with_rule (priced_command (codes "visits") (codes "statement")) (wanted (codes "fiq_statement")))
+    visits_rule
+
 abbrev pub arcwcet_top : App
 arcwcet_top = on_top (λ s. record s { subcommand_required = true }) (new_app (codes "arcwcet"))
 
@@ -56,8 +77,10 @@ arcwcet_command =
     (with_subcommand
     (with_subcommand
     (with_subcommand
+    (with_subcommand
     (with_subcommand arcwcet_top
-    asm_command.top) run_command.top) trace_command.top) debug_command.top) bound_command.top) check_command.top
+    asm_command.top) run_command.top) trace_command.top) debug_command.top) bound_command.top) check_command.top)
+    visits_command.top
 
 -- the names of two files, and of a cycle profile's
 pub record FileNames : Type 0 where
@@ -73,6 +96,7 @@ pub data Asked : Type 0 where
   debug : FileNames → Asked
   bound : FileNames → Asked
   check : FileNames → Text → Asked
+  visits : FileNames → Text → ℕ → Asked
 
 abbrev pub names_of : Names → FileNames
 names_of n =
@@ -85,6 +109,7 @@ asked_of (request.Trace names) = trace (names_of names)
 asked_of (request.Debug names) = debug (names_of names)
 asked_of (request.Bound names) = bound (names_of names)
 asked_of (request.Check names cert) = check (names_of names) cert.now
+asked_of (request.Visits names fiq_statement k) = visits (names_of names) fiq_statement.now k
 
 abbrev pub asm_of : Option Text → Option Text → Option Asked
 asm_of (Some source) (Some image) = Some (asm source image)
@@ -97,6 +122,15 @@ named profile _ _ = None
 abbrev pub check_of : Option FileNames → Option Text → Option Asked
 check_of (Some names) (Some cert) = Some (check names cert)
 check_of _ _ = None
+
+abbrev pub visits_of : Option FileNames → Option Text → Option ℕ → Option Asked
+visits_of (Some names) (Some fiq_statement) (Some k) = Some (visits names fiq_statement k)
+visits_of _ _ _ = None
+
+-- the number of visits that a text writes: decimal digits, after any plus, and no more than the most
+abbrev pub visits_in : Text → Option ℕ
+visits_in text =
+    if is_unsigned_in 0 most_visits text then Some (digits_value 10 (without_leading_plus text)) else None
 
 -- by the values of `asm`
 abbrev pub asked_asm : List Row → Option Asked
@@ -111,6 +145,12 @@ names_in second rows =
 abbrev pub asked_check : List Row → Option Asked
 asked_check rows = check_of (names_in (codes "statement") rows) (first_of (codes "cert") rows)
 
+-- by the values of `visits`: the number's word is read as clap's typed getters read it
+abbrev pub asked_visits : List Row → Option Asked
+asked_visits rows =
+    visits_of (names_in (codes "statement") rows) (first_of (codes "fiq_statement") rows)
+    (option_and_then visits_in (one_of (codes "visits") rows))
+
 -- by the subcommand's name and its values
 abbrev pub asked_by : Text × List Row → Option Asked
 asked_by p =
@@ -119,7 +159,8 @@ asked_by p =
     else (if bytes_eq p.0 (codes "trace") then option_map trace (names_in (codes "machine") p.1)
     else (if bytes_eq p.0 (codes "debug") then option_map debug (names_in (codes "machine") p.1)
     else (if bytes_eq p.0 (codes "bound") then option_map bound (names_in (codes "statement") p.1)
-    else (if bytes_eq p.0 (codes "check") then asked_check p.1 else None)))))
+    else (if bytes_eq p.0 (codes "check") then asked_check p.1
+    else (if bytes_eq p.0 (codes "visits") then asked_visits p.1 else None))))))
 
 -- only where there is no fault
 abbrev pub unless_refused : Kinds → Option Asked → Option Asked

@@ -12,7 +12,10 @@ pub struct Names<'a> {
 #[derive(Clone, Copy)]
 pub enum Request<'a> {
     /// The image of a source.
-    Asm { source: &'a str, image: &'a str },
+    Asm {
+        source: &'a str,
+        image: &'a str,
+    },
     /// The registers and the ticks of a run of a source's image, by a machine file.
     Run(Names<'a>),
     /// The lines of its steps.
@@ -22,7 +25,16 @@ pub enum Request<'a> {
     /// The longest run time of the handler in a source, under a statement.
     Bound(Names<'a>),
     /// The verdict on a certificate of that.
-    Check { names: Names<'a>, cert: &'a str },
+    Check {
+        names: Names<'a>,
+        cert: &'a str,
+    },
+    /// The longest run time of that handler with up to so many visits of FIQ's, and FIQ's statement.
+    Visits {
+        names: Names<'a>,
+        fiq_statement: &'a str,
+        visits: u32,
+    },
 }
 
 /// Why a line of words asks for nothing.

@@ -7,11 +7,12 @@ ghost use Rattle.clap.specs.declared.builder.command.Command.TheViews.{out-Comma
 ghost use Rattle.command_line.specs.Line.{arcwcet_command, asked_asm, asked_by, asked_check, asked_in};
 ghost use Rattle.command_line.specs.Line.{asked_of, asm_command, bound_command, check_command, debug_command};
 ghost use Rattle.command_line.specs.Line.{names_in, names_of, priced_command, profile_rule};
-ghost use Rattle.command_line.specs.Line.{run_command, trace_command, wanted};
+ghost use Rattle.command_line.specs.Line.{asked_visits, run_command, trace_command, visits_command};
+ghost use Rattle.command_line.specs.Line.{visits_rule, wanted};
 
 use crate::line::{LineFault, Names, Request};
 use clap::error::ErrorKind;
-use clap::{Arg, ArgMatches, Command, Error};
+use clap::{Arg, ArgMatches, Command, Error, value_parser};
 use std::alloc::{AllocError, Global};
 
 /// An argument that has to be there, in its place.
@@ -61,6 +62,26 @@ fn check<'a>(alloc: Global) -> Result<Command<'a>, AllocError>
     priced(alloc, "check", "statement")?.arg(wanted(alloc, "cert"))
 }
 
+/// A whole number of visits, in its place.
+fn visit_count<'a>(alloc: Global) -> Arg<'a>
+    ensures rule { rule_of result ≡ visits_rule }
+    ensures local { result.global ≡ false }
+{
+    wanted(alloc, "visits")
+        .value_name("K")
+        .value_parser(value_parser!(u32))
+}
+
+/// The command `visits SOURCE STATEMENT FIQSTATEMENT K`.
+fn visits<'a>(alloc: Global) -> Result<Command<'a>, AllocError>
+    ensures shape { IfOk result (λ c. app_of c ≡ visits_command) }
+    ensures no_globals { IfOk result (λ c. (out-Command c).has_globals ≡ false) }
+{
+    priced(alloc, "visits", "statement")?
+        .arg(wanted(alloc, "fiq_statement"))?
+        .arg(visit_count(alloc))
+}
+
 /// A command with one more that has a cycle profile, `NAME SOURCE SECOND`.
 fn with_priced<'a>(
     alloc: Global,
@@ -73,6 +94,20 @@ fn with_priced<'a>(
         ≡ with_subcommand (app_of command.entry) (priced_command name.entry.now second.entry.now).top) }
 {
     command.subcommand(priced(alloc, name, second)?)
+}
+
+/// A command with one more, `check`.
+fn with_check<'a>(alloc: Global, command: Command<'a>) -> Result<Command<'a>, AllocError>
+    ensures { IfOk result (λ c. app_of c ≡ with_subcommand (app_of command.entry) check_command.top) }
+{
+    command.subcommand(check(alloc)?)
+}
+
+/// A command with one more, `visits`.
+fn with_visits<'a>(alloc: Global, command: Command<'a>) -> Result<Command<'a>, AllocError>
+    ensures { IfOk result (λ c. app_of c ≡ with_subcommand (app_of command.entry) visits_command.top) }
+{
+    command.subcommand(visits(alloc)?)
 }
 
 /// A command with those that run a machine.
@@ -92,10 +127,13 @@ fn with_machine<'a>(alloc: Global, command: Command<'a>) -> Result<Command<'a>, 
 fn with_analysis<'a>(alloc: Global, command: Command<'a>) -> Result<Command<'a>, AllocError>
     ensures { IfOk result
         (λ c. app_of c
-        ≡ with_subcommand (with_subcommand (app_of command.entry) bound_command.top) check_command.top) }
+        ≡ with_subcommand
+        (with_subcommand
+        (with_subcommand (app_of command.entry) bound_command.top) check_command.top) visits_command.top) }
 {
     let command = with_priced(alloc, command, "bound", "statement")?;
-    command.subcommand(check(alloc)?)
+    let command = with_check(alloc, command)?;
+    with_visits(alloc, command)
 }
 
 /// The program's command.
@@ -140,6 +178,20 @@ fn check_in<'a>(values: &ArgMatches<'a>) -> Option<Request<'a>>
     Some(Request::Check { names, cert })
 }
 
+/// What `visits` is asked with.
+fn visits_in<'a>(values: &ArgMatches<'a>) -> Option<Request<'a>>
+    ensures { option_map asked_of result ≡ asked_visits (rows_of (found_of values.now)) }
+{
+    let names = names_in(values, "statement")?;
+    let fiq_statement = values.get_str("fiq_statement")?;
+    let visits = values.get_one::<u32>("visits")?;
+    Some(Request::Visits {
+        names,
+        fiq_statement,
+        visits,
+    })
+}
+
 /// What the matches ask for.
 fn request_in<'a>(matches: &ArgMatches<'a>) -> Option<Request<'a>>
     ensures { option_map asked_of result ≡ option_and_then asked_by (subcommand_rows_of matches.now) }
@@ -162,6 +214,9 @@ fn request_in<'a>(matches: &ArgMatches<'a>) -> Option<Request<'a>>
     }
     if name == "check" {
         return check_in(values);
+    }
+    if name == "visits" {
+        return visits_in(values);
     }
     None
 }

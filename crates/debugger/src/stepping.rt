@@ -5,7 +5,6 @@ ghost use Rattle.debugger.specs.Watching.{HasRoom, Watches, inputs_of, is_break,
 use crate::printed::put_trace;
 use arm2_effect::address_of;
 use arm2_exec::{Input, Kind, Machine, Ran, Reg};
-use bus_ticks::Profile;
 use trace_text::{Traced, step_traced};
 
 /// Which lines of a run are kept.
@@ -13,14 +12,6 @@ use trace_text::{Traced, step_traced};
 pub(crate) enum Keep {
     All,
     Last,
-}
-
-// The ticks of DMA bursts.
-fn stretched(profile: Profile, bursts: u16) -> u32
-    ensures ticks { result ≡ profile.burst * bursts }
-    ensures bound { result < 2 ^ 24 }
-{
-    profile.burst * u32::from(bursts)
 }
 
 fn is_at_break(breaks: &[u32], machine: &Machine) -> bool
@@ -72,7 +63,7 @@ pub(crate) fn run_watched(
     };
     let mut input = first;
     for made in 0..steps {
-        let stretched = stretched(machine.profile(), input.bursts);
+        let stretched = machine.profile().burst_ticks(input.bursts);
         let traced = step_traced(machine, input);
         if let Kind::Stopped(why) = traced.told.kind {
             ran.stopped = Some(why);

@@ -8,7 +8,6 @@ use Rattle.bus_ticks.specs.declared.profile.Profile.{Profile}
 use Rattle.bus_ticks.specs.declared.profile.RomTimes.{RomTimes}
 use Rattle.loader.specs.Image.{Words}
 use Rattle.walks.specs.Walk.{cost_of}
-use Rattle.arm2_decode.proofs.Unique.{never_both, one_instr, one_unallocated}
 use Rattle.arm2_decode.specs.Table.{Means}
 use Rattle.arm2_decode.specs.declared.instr.Instr.{Instr}
 use Rattle.arm2_decode.specs.declared.instr.Unallocated.{Unallocated}
@@ -28,6 +27,7 @@ use Rattle.arm2_exec.specs.declared.machine.Stepped.{Stepped}
 use Rattle.arm2_exec.specs.Run.{Ends, Runs, at_rest, counted, why_stopped}
 use Rattle.arm2_exec.specs.State.{State}
 use Rattle.arm2_exec.specs.Step.{Obeys, ObeysFetched, Step, Works, address_in, answer_of, fetched, instruction_moved, interrupt_due, state_after, ticks_in, unallocated_moved, with_lines}
+use Rattle.arm2_exec.proofs.StepLemmas.{one_step}
 use Rattle.flow_graph.specs.Edges.{doing, do_edge, passing, skip_edge, word_edges}
 use Rattle.flow_graph.specs.Flow.{edge_shape}
 use Rattle.flow_graph.specs.Graph.{IsReached, IsTooDeep, makes_call}
@@ -86,18 +86,6 @@ works_plain (Some vector) port regs bus m works plain =
     let interrupted : m.kind ≡ ended.Taken vector = ap (λ (x : Moved). x.kind) works in
     let both : ended.Taken vector ≡ ended.Plain = sym interrupted ∙ plain in
     absurd (cc)
-
--- a word that is fetched does one thing
-one_deed : (word port : ℕ) (regs : List ℕ) (bus : Bus) (m n : Moved) → Obeys word port regs bus m → Obeys word port regs bus n → m ≡ n
-one_deed word port regs bus m n (inl (i, means, e)) (inl (j, other, f)) = e ∙ ap (λ x. instruction_moved x port regs bus) (one_instr word i j means other) ∙ sym f
-one_deed word port regs bus m n (inl (i, means, e)) (inr (v, none, f)) = absurd (never_both word i v means none)
-one_deed word port regs bus m n (inr (u, none, e)) (inl (j, means, f)) = absurd (never_both word j u means none)
-one_deed word port regs bus m n (inr (u, none, e)) (inr (v, other, f)) = e ∙ ap (λ x. unallocated_moved x regs bus) (one_unallocated word u v none other) ∙ sym f
-
-one_work : (word port : ℕ) (regs : List ℕ) (bus : Bus) (due : Option Vector) (m n : Moved) → fetched bus.memc (r15_in regs) ≡ Some word → Works due port regs bus m → Works due port regs bus n → m ≡ n
-one_work word port regs bus (Some vector) m n is works other = works ∙ sym other
-one_work word port regs bus None m n is works other =
-    one_deed word port regs bus m n (subst (λ o. ObeysFetched o port regs bus m) is works) (subst (λ o. ObeysFetched o port regs bus n) is other)
 
 -- ## What the word does
 
@@ -249,19 +237,19 @@ cost words st profile s i told after e h = taken_cost words st profile h.calls h
 
 -- ## Whole runs
 
+-- what a run does whose first step was not stopped
+abbrev pub GoesOn : State → Input → List Input → Ran → State → Stepped → State → Type 0
+GoesOn s i rest ran after told next = (more : Ran) × Runs next rest more after × (ran ≡ counted s.profile.burst i told more)
+
+pub goes_on : (s : State) (i : Input) (rest : List Input) (ran : Ran) (after : State) (told : Stepped) (next : State)
+    → Step s i told next → why_stopped told.kind ≡ None → Runs s (i ∷ rest) ran after → GoesOn s i rest ran after told next
+goes_on s i rest ran after told next step plain run =
+    let same = one_step s i told run.0 next run.1 step run.2 in
+    let none : why_stopped run.0.kind ≡ None = ap (λ (t : Stepped). why_stopped t.kind) same.0 ∙ plain in
+    let on : GoesOn s i rest ran after run.0 run.1 = subst (λ w. Ends w s ran after (GoesOn s i rest ran after run.0 run.1)) none run.3 in
+    (on.0, subst (λ n. Runs n rest on.0 after) same.1 on.1, on.2 ∙ ap (λ t. counted s.profile.burst i t on.0) same.0)
+
 module _ (words : Words) (st : Stated) (profile : Profile) where
-  -- what a run does whose first step was not stopped
-  abbrev GoesOn : State → Input → List Input → Ran → State → Stepped → State → Type 0
-  GoesOn s i rest ran after told next = (more : Ran) × Runs next rest more after × (ran ≡ counted s.profile.burst i told more)
-
-  -- a step that is an edge has no other outcome
-  one_step : (s : State) (i : Input) (told other : Stepped) (next after : State) (e : Edge) → IsEdgeOf words st profile s i told next e → Step s i other after → (other ≡ told) × (after ≡ next)
-  one_step s i told other next after e h step =
-      let bus : Bus = with_lines i.lines.0 s.bus in
-      let this : Step s i told next = h.executes.step in
-      let same : step.moved ≡ this.moved = one_work h.executes.has.word i.port s.regs bus (interrupt_due bus (r15_in s.regs)) step.moved this.moved (h.executes.fetches ∙ h.executes.has.stands) step.works this.works in
-      (step.told_is ∙ ap (answer_of s) same ∙ sym this.told_is, step.after_is ∙ ap (state_after s i) same ∙ sym this.after_is)
-
   one_more : (s : State) (i : Input) (rest : List Input) (told : Stepped) (next : State) (e : Edge) (walk : List Edge) (ran more : Ran) → IsEdgeOf words st profile s i told next e → ran ≡ counted s.profile.burst i told more → IsWithin profile walk rest more → IsWithin profile (e ∷ walk) (i ∷ rest) ran
   one_more s i rest told next e walk ran more h is within =
       let step : told.ticks ≤ e.cost = cost words st profile s i told next e h in
@@ -287,12 +275,8 @@ module _ (words : Words) (st : Stated) (profile : Profile) where
   run_within s (i ∷ rest) [] ran after run follows = absurd follows
   run_within s (i ∷ rest) (e ∷ walk) ran after run follows =
       let edge : IsEdgeOf words st profile s i follows.0 follows.1 e = follows.2 in
-      let same = one_step s i follows.0 run.0 follows.1 run.1 e edge run.2 in
-      let plain : run.0.kind ≡ ended.Plain = ap (λ (t : Stepped). t.kind) same.0 ∙ edge.executes.plain in
-      let on : GoesOn s i rest ran after run.0 run.1 = subst (λ w. Ends w s ran after (GoesOn s i rest ran after run.0 run.1)) (ap why_stopped plain) run.3 in
-      one_more s i rest follows.0 follows.1 e walk ran on.0 edge
-      (on.2 ∙ ap (λ t. counted s.profile.burst i t on.0) same.0)
-      (run_within follows.1 rest walk on.0 after (subst (λ n. Runs n rest on.0 after) same.1 on.1) follows.3)
+      let on = goes_on s i rest ran after follows.0 follows.1 edge.executes.step (ap why_stopped edge.executes.plain) run in
+      one_more s i rest follows.0 follows.1 e walk ran on.0 edge on.2 (run_within follows.1 rest walk on.0 after on.1 follows.3)
 
 pub run_law : RunLaw
 run_law words st profile s inputs walk ran after run follows = run_within words st profile s inputs walk ran after run follows

@@ -1,19 +1,10 @@
-ghost use Rattle.std.specs.Prelude.{◌≡◌, ◌<◌, ◌*◌, ◌^◌, IfOk, OnErr, OnOk, string_bytes};
+ghost use Rattle.std.specs.Prelude.{◌≡◌, IfOk, OnErr, OnOk, string_bytes};
 ghost use Rattle.arm2_exec.specs.Run.{Runs};
 ghost use Rattle.trace_text.specs.TraceText.{Adds, RefusedRun, TracesRun};
 
 use crate::trace::{step_traced, write_trace};
 use arm2_exec::{Input, Kind, Machine, Ran};
-use bus_ticks::Profile;
 use std::alloc::AllocError;
-
-// The ticks of DMA bursts.
-fn stretched(profile: Profile, bursts: u16) -> u32
-    ensures ticks { result ≡ profile.burst * bursts }
-    ensures bound { result < 2 ^ 24 }
-{
-    profile.burst * u32::from(bursts)
-}
 
 /// Steps a machine, once for each input up to the first step that is stopped, and adds the lines of the steps
 /// before it.
@@ -38,7 +29,7 @@ pub fn write_run(
         stopped: None,
     };
     for input in inputs {
-        let stretched = stretched(machine.profile(), input.bursts);
+        let stretched = machine.profile().burst_ticks(input.bursts);
         let traced = step_traced(machine, *input);
         if let Kind::Stopped(why) = traced.told.kind {
             ran.stopped = Some(why);

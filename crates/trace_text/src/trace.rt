@@ -1,16 +1,12 @@
-ghost use Rattle.std.specs.Prelude.{◌≡◌, ◌++◌, ◌<◌, ◌^◌, MatchResult, OnOk, is_some, string_bytes};
-ghost use Rattle.arm2_effect.specs.Modes.{r15_in};
-ghost use Rattle.arm2_exec.specs.Step.{Step, fetched, interrupt_due, with_lines};
+ghost use Rattle.std.specs.Prelude.{◌≡◌, ◌++◌, ◌<◌, ◌^◌, MatchResult, OnOk, string_bytes};
+ghost use Rattle.arm2_exec.specs.Step.{Step};
 ghost use Rattle.assembler.specs.ShownLines.{IsShown};
 ghost use Rattle.trace_text.specs.TraceText.{Adds, IsTraceLine, IsWordLine, exception_name, front_text};
 ghost use Rattle.trace_text.specs.TraceText.{traced_word};
 
 use crate::figures::HexWord;
-use arm2_effect::{Mode, address_of, mode_of};
-use arm2_exec::{Input, Kind, Machine, Reg, Stepped, Vector};
+use arm2_exec::{Input, Kind, Machine, Stepped, Vector};
 use assembler::disassemble;
-use ioc::Lines;
-use memc::Spot;
 use std::alloc::AllocError;
 use std::fmt::Write;
 
@@ -22,40 +18,13 @@ pub struct Traced {
     pub word: Option<u32>,
 }
 
-// Whether an interrupt is due once the lines are those of a step.
-fn is_due(machine: &Machine, lines: Lines) -> bool
-    ensures { result
-        ≡ is_some (interrupt_due (with_lines lines.0 machine.now.bus) (r15_in machine.now.regs)) }
-{
-    let r15 = machine.get(Reg::R15);
-    let mut ioc = machine.ioc().snapshot();
-    ioc.lines(lines);
-    let asserted = ioc.asserted();
-    if asserted.fiq && r15 / 0x400_0000 % 2 != 1 {
-        return true;
-    }
-    asserted.irq && r15 / 0x800_0000 % 2 != 1
-}
-
-// The word at the address in R15, if the mode may fetch one there.
-fn fetch(machine: &Machine) -> Option<u32>
-    ensures { result ≡ fetched machine.now.bus.memc (r15_in machine.now.regs) }
-{
-    let r15 = machine.get(Reg::R15);
-    let user = matches!(mode_of(r15), Mode::User);
-    match machine.memc().locate(address_of(r15), user, false) {
-        Ok(spot @ (Spot::Ram(_) | Spot::Rom(_))) => Some(machine.memc().load(spot)),
-        _ => None,
-    }
-}
-
 fn word_of_step(machine: &Machine, input: Input) -> Option<u32>
     ensures { result ≡ traced_word machine.now input }
 {
-    if is_due(machine, input.lines) {
-        return None;
+    match machine.interrupt_due(input.lines) {
+        Some(_) => None,
+        None => machine.fetched(),
     }
-    fetch(machine)
 }
 
 /// One step of a machine, with the word that it fetches.

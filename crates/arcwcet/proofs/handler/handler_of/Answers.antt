@@ -1,9 +1,8 @@
-use Rattle.std.proofs.Common.{rules, subst}
+use Rattle.std.proofs.Common.{rules}
 use Rattle.loader.specs.Labels.{address_of}
-use Rattle.flow_graph.specs.Flow.{IsWellFormed}
-use Rattle.arcwcet.specs.Faults.{of_graph, of_loops, of_statement}
-use Rattle.arcwcet.specs.Report.{HasGraph, IsHandlerRefused}
-use Rattle.arcwcet.proofs.HandlerLemmas.{graph_refusal, loops_refusal, refused_as, statement_refusal}
+use Rattle.arcwcet.specs.Faults.{of_statement}
+use Rattle.arcwcet.specs.Report.{IsHandlerRefused}
+use Rattle.arcwcet.proofs.HandlerLemmas.{refused_as, statement_refusal}
 use Rattle.arcwcet.proofs.handler.handler_of.Goals as goal
 
 pub returns-in_err-statement-clause-fault : goal.returns-in_err-statement-clause-fault
@@ -13,42 +12,12 @@ returns-in_err-statement-clause-fault c = λ source is.
     refused_as c.from_residual.result (of_statement f) (IsHandlerRefused source c.args.statement.now c.args.profile.now) c.from_residual.ensures.1
     (statement_refusal source c.args.statement.now c.args.profile.now said.image (address_of said.labels) is f (search rules))
 
-pub returns-in_err-graph-clause-fault : goal.returns-in_err-graph-clause-fault
-returns-in_err-graph-clause-fault c = λ source is.
-    let said = c.args.said.now in
-    let f = c.in_err-graph.field-0.0 in
-    refused_as c.from_residual-in_err-graph.result (of_graph f) (IsHandlerRefused source c.args.statement.now c.args.profile.now) c.from_residual-in_err-graph.ensures.1
-    (graph_refusal source c.args.statement.now c.args.profile.now said.image (address_of said.labels) is c.in_ok-statement.statement (c.in_ok-statement.ensures (λ e. cc e)) f (search rules))
-
-pub returns-in_err-tree-clause-fault : goal.returns-in_err-tree-clause-fault
-returns-in_err-tree-clause-fault c = λ source is.
-    let said = c.args.said.now in
-    let f = c.in_err-tree.field-0.0 in
-    let graph : HasGraph source c.args.statement.now c.args.profile.now c.in_ok-statement.statement c.in_ok-graph.graph = record {
-      words = said.image;
-      names = address_of said.labels;
-      source_is = is;
-      statement_is = c.in_ok-statement.ensures (λ e. cc e);
-      no_fault = c.in_ok-graph.ensures.allowed;
-      graph_is = c.in_ok-graph.ensures.graph;
-    } in
-    refused_as c.from_residual-in_err-tree.result (of_loops f) (IsHandlerRefused source c.args.statement.now c.args.profile.now) c.from_residual-in_err-tree.ensures.1
-    (loops_refusal source c.args.statement.now c.args.profile.now c.in_ok-statement.statement c.in_ok-graph.graph f graph (search rules))
-
-pub returns-clause-loops : goal.returns-clause-loops
-returns-clause-loops c = λ source is.
-    let said = c.args.said.now in
+pub returns : goal.returns
+returns c =
+    let read = c.in_ok-statement.ensures (λ e. cc e) in
     record {
-      graph = record {
-        words = said.image;
-        names = address_of said.labels;
-        source_is = is;
-        statement_is = c.in_ok-statement.ensures (λ e. cc e);
-        no_fault = c.in_ok-graph.ensures.allowed;
-        graph_is = c.in_ok-graph.ensures.graph;
-      };
-      no_fault = c.in_ok-tree.ensures.allowed;
+      loops = λ source is. c.stated_handler.ensures.loops source c.args.statement.now is read;
+      formed = c.stated_handler.ensures.formed;
+      tree = c.stated_handler.ensures.tree;
+      fault = λ source is. c.stated_handler.ensures.fault source c.args.statement.now is read;
     }
-
-pub returns-clause-formed : goal.returns-clause-formed
-returns-clause-formed c = subst IsWellFormed c.graph.view_is c.graph.invariant

@@ -1,4 +1,4 @@
-use Rattle.std.proofs.Common.{◌≡◌, refl, inl, inr, rules}
+use Rattle.std.proofs.Common.{refl, inl, inr}
 use Rattle.arm2_exec.specs.Step.{instruction_moved, unallocated_moved}
 use Rattle.arm2_exec.proofs.WorkLemmas.{obeyed_none}
 use Rattle.arm2_exec.proofs.work.obey.Goals as goal

@@ -1,5 +1,4 @@
-use Rattle.std.proofs.Common.{◌≡◌, ◌∙◌, ap, sym, rules, Option, None, Some}
-use Rattle.arm2_effect.specs.Modes.{r15_in}
+use Rattle.std.proofs.Common.{◌∙◌, ap, sym}
 use Rattle.arm2_exec.specs.Step.{fetched, interrupt_due}
 use Rattle.arm2_exec.proofs.WorkLemmas.{worked_interrupt, worked_word}
 use Rattle.arm2_exec.proofs.work.work.Goals as goal

@@ -1,10 +1,10 @@
-use Rattle.std.proofs.Common.{◌≡◌, ◌∙◌, ap, ap₂}
+use Rattle.std.proofs.Common.{◌∙◌, ap}
 use Rattle.std.proofs.lemmas.Result.{IfOk-weaker}
-use Rattle.clap.specs.Simple.{App, app_of, with_subcommand}
-use Rattle.command_line.specs.Line.{check_command}
+use Rattle.clap.specs.Simple.{App, with_subcommand}
+use Rattle.command_line.specs.Line.{check_command, visits_command}
 use Rattle.command_line.proofs.words.with_analysis.Goals as goal
 
 pub returns : goal.returns
 returns c =
-    let check_is : app_of c.in_ok-check.field-0 ≡ check_command = c.in_ok-check.ensures.shape in
-    IfOk-weaker c.subcommand.result _ _ (λ r h. h.shape c.in_ok-check.ensures.no_globals ∙ ap₂ with_subcommand c.in_ok-command.ensures (ap (λ (a : App). a.top) check_is)) c.subcommand.ensures
+    let two = c.in_ok-command-2.ensures ∙ ap (λ (a : App). with_subcommand a check_command.top) c.in_ok-command.ensures in
+    IfOk-weaker c.with_visits.result _ _ (λ r h. h ∙ ap (λ (a : App). with_subcommand a visits_command.top) two) c.with_visits.ensures

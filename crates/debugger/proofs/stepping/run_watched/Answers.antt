@@ -40,7 +40,7 @@ returns-then-is_at_break c =
     let done = run_breaks c.args.breaks.now c.args.machine.now (inputs_of c.args.first steps) c.loop-made.machine traced.new.machine (inputs_of i (steps - made)) (inputs_of (behind i) (steps - (made + 1)))
     i traced.result c.args.keep c.loop-made.ran c.loop-made.out.items (at_hand i steps made c.loop-made-test.true) traced.ensures.step traced.ensures.word c.loop-made.invariant.0
     line.0 c.put_line.new.out.items line.1 line.2 c.in_default.not-Stopped (sym c.if-is_at_break.ensures) in
-    let stretched : c.from.result ≡ c.loop-made.machine.profile.burst * i.bursts = c.from.ensures ∙ c.stretched-stretched.ensures.ticks ∙ ap (λ (p : Profile). p.burst * i.bursts) c.profile.ensures in
+    let stretched : c.from.result ≡ c.loop-made.machine.profile.burst * i.bursts = c.from.ensures ∙ c.burst_ticks-stretched.ensures.ticks ∙ ap (λ (p : Profile). p.burst * i.bursts) c.profile.ensures in
     rw (c.from-ticks.ensures, stretched) done
 
 pub loop-made-preserved : goal.loop-made-preserved
@@ -54,13 +54,13 @@ loop-made-preserved c =
     let on = run_goes c.args.breaks.now c.args.machine.now (inputs_of c.args.first steps) c.loop-made.machine traced.new.machine (inputs_of i (steps - made)) (inputs_of (behind i) (steps - (made + 1)))
     i traced.result c.args.keep c.loop-made.ran c.loop-made.out.items (at_hand i steps made less) traced.ensures.step traced.ensures.word c.loop-made.invariant.0
     line.0 c.put_line.new.out.items line.1 line.2 c.in_default.not-Stopped (sym c.if-is_at_break.ensures) in
-    let stretched : c.from.result ≡ c.loop-made.machine.profile.burst * i.bursts = c.from.ensures ∙ c.stretched-stretched.ensures.ticks ∙ ap (λ (p : Profile). p.burst * i.bursts) c.profile.ensures in
+    let stretched : c.from.result ≡ c.loop-made.machine.profile.burst * i.bursts = c.from.ensures ∙ c.burst_ticks-stretched.ensures.ticks ∙ ap (λ (p : Profile). p.burst * i.bursts) c.profile.ensures in
     let more : steps - made ≡ steps - (made + 1) + 1 = omega (arith, less) in
     let room = c.put_line.ensures.room (steps - (made + 1)) (subst (λ (n : ℕ). HasRoom c.args.keep (length c.loop-made.out.items) n (vec_capacity c.loop-made.out)) more c.loop-made.invariant.1) in
     let same = c.from-ticks.ensures in
     let again = c.from.ensures in
     let bound = traced.ensures.bound in
-    let stretch = c.stretched-stretched.ensures.bound in
+    let stretch = c.burst_ticks-stretched.ensures.bound in
     let long = c.loop-made.invariant.2 in
     let spent = c.loop-made.invariant.3 in
     let passed = c.loop-made.invariant.4 in

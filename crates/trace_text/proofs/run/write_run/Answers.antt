@@ -41,11 +41,11 @@ loop-input-preserved c =
     let line : Adds (IsTraceLine traced.result) (string_bytes c.loop-input.out) (string_bytes c.write_trace.new.out) = search rules in
     let told = text_goes start inputs now next (drop index inputs) (drop (index + 1) inputs) input traced.result at_hand traced.ensures.step
     (string_bytes c.args.out.now) (string_bytes c.loop-input.out) (string_bytes c.write_trace.new.out) traced.ensures.word c.in_default.not-Stopped c.loop-input.invariant.1 line in
-    let stretched : c.from.result ≡ now.profile.burst * input.bursts = c.from.ensures ∙ c.stretched-stretched.ensures.ticks ∙ ap (λ (p : Profile). p.burst * input.bursts) c.profile.ensures in
+    let stretched : c.from.result ≡ now.profile.burst * input.bursts = c.from.ensures ∙ c.burst_ticks-stretched.ensures.ticks ∙ ap (λ (p : Profile). p.burst * input.bursts) c.profile.ensures in
     let same = c.from-ticks.ensures in
     let again = c.from.ensures in
     let bound = traced.ensures.bound in
-    let stretch = c.stretched-stretched.ensures.bound in
+    let stretch = c.burst_ticks-stretched.ensures.bound in
     let long = c.loop-input.invariant.3 in
     let spent = c.loop-input.invariant.4 in
     let passed = c.loop-input.invariant.5 in

@@ -1,4 +1,4 @@
-use Rattle.std.proofs.Common.{◌≡◌, ◌≤◌, ◌*◌, ◌+◌, None, drop}
+use Rattle.std.proofs.Common.{◌≡◌, ◌≤◌, ◌*◌, None, drop}
 use Rattle.arm2_exec.proofs.RunLemmas.{SoFar}
 use Rattle.arm2_exec.proofs.machine.Machine.run.Given as goal
 

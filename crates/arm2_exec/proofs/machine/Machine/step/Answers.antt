@@ -1,4 +1,4 @@
-use Rattle.std.proofs.Common.{◌≡◌, ◌∙◌, sym, ap, rules}
+use Rattle.std.proofs.Common.{◌≡◌, ◌∙◌, ap}
 use Rattle.arm2_effect.specs.ProgramCounter.{address_of}
 use Rattle.arm2_exec.specs.State.{State}
 use Rattle.arm2_exec.specs.Step.{address_in}
@@ -19,6 +19,6 @@ returns c =
     let to : c.address_of.result ≡ address_in c.work-done.new.registers = c.address_of.ensures.address ∙ ap address_of c.get-2.ensures.word in
     let w = rw (c.rom_times.ensures, c.lines.ensures) at c.work-done.ensures.worked in
     record {
-      step = rw (← c.self.view_is) (rw (from, to, c.elapse.ensures, c.stretched-stretched.ensures.ticks) (going_step s c.args.input c.work-done.result c.work-done.new.registers c.work-done.new.bus w (goes_on c.work-done.result.kind c.in_default.not-Stopped)));
+      step = rw (← c.self.view_is) (rw (from, to, c.elapse.ensures, c.burst_ticks-stretched.ensures.ticks) (going_step s c.args.input c.work-done.result c.work-done.new.registers c.work-done.new.bus w (goes_on c.work-done.result.kind c.in_default.not-Stopped)));
       bound = c.work-done.ensures.bound;
     }

@@ -3,8 +3,8 @@ use Rattle.arcwcet.specs.Faults.{of_walk}
 use Rattle.arcwcet.specs.Report.{IsRefused}
 use Rattle.arcwcet.specs.declared.fault.ReportFault.TheVariants.{Device}
 use Rattle.arcwcet.proofs.HandlerLemmas.{refused_as}
-use Rattle.arcwcet.proofs.ReportLemmas.{accepted, longest_by_each, reported, walk_refusal}
-use Rattle.arcwcet.proofs.bound.longest_text.Goals as goal
+use Rattle.arcwcet.proofs.ReportLemmas.{accepted, longest_by_each, reported_bound, walk_refusal}
+use Rattle.arcwcet.proofs.bound.longest_report.Goals as goal
 
 pub returns-in_err-found-clause-fault : goal.returns-in_err-found-clause-fault
 returns-in_err-found-clause-fault c = λ source statement profile loops.
@@ -17,7 +17,7 @@ pub returns-clause-report : goal.returns-clause-report
 returns-clause-report c = λ source statement profile loops.
     let h = c.args.handler.now in
     let graph = loops.graph in
-    reported source statement profile h.statement h.graph h.tree loops c.requires.tree
+    reported_bound source statement profile h.statement h.graph h.tree loops c.requires.tree
     c.in_ok-found.found c.in_ok-text.text.items c.run_law.ensures c.requires.formed c.in_ok-found.ensures.longest c.in_ok-found.ensures.allowed
     (λ other of cert said. c.longest_gets_yes.ensures graph.words h.statement profile h.graph other c.in_ok-found.found cert graph.graph_is c.requires.formed
     of.tree_is (longest_by_each h.graph h.statement.loops h.tree other c.requires.tree of c.in_ok-found.found c.in_ok-found.ensures.longest) said)

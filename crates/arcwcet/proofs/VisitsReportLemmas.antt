@@ -1,0 +1,178 @@
+-- The report of a handler that FIQ interrupts, and its refusals.
+use Rattle.std.proofs.Common.{◌≡◌, ◌≢◌, ◌∙◌, ◌⊎◌, ◌++◌, ℕ, ◌≤◌, ◌<◌, List, Result, Ok, Err, refl, sym, ap, subst, inl, inr, arith}
+use Rattle.std.specs.Prelude.{IfErr, IfOk, OnOk, ◌^◌}
+use Rattle.bus_ticks.specs.declared.profile.Profile.{Profile}
+use Rattle.bus_ticks.specs.Worst.{fiq_entry}
+use Rattle.bus_ticks.proofs.EntryLemmas.{fiq_entry_greatest}
+use Rattle.loader.specs.Image.{Words}
+use Rattle.flow_graph.specs.Flow.{Flow}
+use Rattle.statement.specs.Stated.{Stated}
+use Rattle.statement.specs.Statement.{IsStatement, Names}
+use Rattle.statement.specs.declared.faults.StatementFault.{StatementFault}
+use Rattle.statement.specs.declared.faults.StatementFault.TheVariants as statement_fault
+use Rattle.loop_bounds.specs.Bounds.{IsGreatestCost}
+use Rattle.longest_walk.specs.Visits.{visits_bound}
+use Rattle.numbered_walks.specs.declared.fault.WalkFault.TheVariants as walk_fault
+use Rattle.arcwcet.specs.Faults.{of_statement}
+use Rattle.arcwcet.specs.Report.{IsAccepted, IsRefused, IsReport}
+use Rattle.arcwcet.specs.Source.{Said, source_of}
+use Rattle.arcwcet.specs.VisitsReport.{AreAccepted, AreRefused, EntersElsewhere, HasBound, HasFiqBound, HaveReports, IsFiqRefused, IsVisitsReport, summary, total_of}
+use Rattle.arcwcet.specs.declared.fault.ReportFault.{ReportFault}
+use Rattle.arcwcet.specs.declared.fault.ReportFault.TheVariants.{Memory, Source, Image, Statement, Graph, Loops, Walk, MachineFile, Load, Cert, Device, NotFiqEntry}
+use Rattle.arcwcet.specs.declared.fault.ReportFault.TheVariants as report_fault
+use Rattle.arcwcet.proofs.HandlerLemmas.{never_both, one_graph, one_ok, same_statement, statement_refusal}
+use Rattle.arcwcet.proofs.ReportLemmas.{accepted_refusals, report_refusal}
+use Rattle.arcwcet.proofs.VisitLemmas.{bounds_visited}
+
+-- two claims on an answer
+pub when_small : {T E : Type 0} (r : Result T E) (P Q : T → Type 0) (S : Type 0) → ((x : T) → P x → S → Q x) → IfOk r P → OnOk r S → IfOk r Q
+when_small (Ok x) P Q S both p s = both x p s
+when_small (Err e) P Q S both p s = tt
+
+-- ## One bound
+
+one_greatest : (flow : Flow) (st : Stated) (n m : ℕ) → IsGreatestCost flow st.loops n → IsGreatestCost flow st.loops m → n ≡ m
+one_greatest flow st n m g h =
+    let up = h.upper g.walk g.complete g.kept in
+    let down = g.upper h.walk h.complete h.kept in
+    omega (arith, up, down, g.costs, h.costs)
+
+one_bound : (source statement : List ℕ) (profile : Profile) (text other : List ℕ) (r : IsReport source statement profile text) (s : IsReport source statement profile other) → r.longest.bound ≡ s.longest.bound
+one_bound source statement profile text other r s =
+    let a = r.accepted in
+    let b = s.accepted in
+    let same = one_graph source statement profile a.stated b.stated a.flow b.flow a.loops.graph b.loops.graph in
+    one_greatest b.flow b.stated r.longest.bound s.longest.bound
+    (subst (λ (st : Stated). IsGreatestCost b.flow st.loops r.longest.bound) same.same_stated
+    (subst (λ (flow : Flow). IsGreatestCost flow a.stated.loops r.longest.bound) same.same_flow r.walk.greatest))
+    s.walk.greatest
+
+-- ## Refusals of FIQ's handler
+
+module _ (source fiq : List ℕ) (profile : Profile) where
+  -- where its entry is right, or not read, the refusals are those of any handler
+  pub fiq_refusal : (e : ReportFault) → (EntersElsewhere source fiq → ⊥) → (e ≢ Device) × IsRefused source fiq profile e → (e ≢ Device) × IsFiqRefused source fiq profile e
+  fiq_refusal Memory right r = (λ e. cc e, tt)
+  fiq_refusal NotFiqEntry right r = absurd r.1
+  fiq_refusal Device right r = absurd (r.0 refl)
+  fiq_refusal (Source f) right r = (λ e. cc e, (r.1, right))
+  fiq_refusal (Image f) right r = (λ e. cc e, (r.1, right))
+  fiq_refusal (Statement f) right r = (λ e. cc e, (r.1, right))
+  fiq_refusal (Graph f) right r = (λ e. cc e, (r.1, right))
+  fiq_refusal (Loops f) right r = (λ e. cc e, (r.1, right))
+  fiq_refusal (Walk f) right r = (λ e. cc e, (r.1, right))
+  fiq_refusal (MachineFile f) right r = (λ e. cc e, (r.1, right))
+  fiq_refusal (Load f) right r = (λ e. cc e, (r.1, right))
+  fiq_refusal (Cert f) right r = (λ e. cc e, (r.1, right))
+  fiq_refusal (report_fault.Profile f) right r = (λ e. cc e, (r.1, right))
+
+  -- the same of an answer
+  pub fiq_answer : {T : Type 0} (r : Result T ReportFault) → (EntersElsewhere source fiq → ⊥) → IfErr r (λ e. (e ≢ Device) × IsRefused source fiq profile e)
+      → IfErr r (λ e. (e ≢ Device) × IsFiqRefused source fiq profile e)
+  fiq_answer (Ok x) right h = tt
+  fiq_answer (Err e) right h = fiq_refusal e right h
+
+  module _ (words : Words) (names : Names) (said : source_of source ≡ Ok (words, names)) where
+    -- a statement that was read has one entry
+    pub enters_there : (st : Stated) → IsStatement fiq names (Ok st) → st.entry ≡ 0x1C → EntersElsewhere source fiq → ⊥
+    enters_there st is there other =
+        let same_said : (other.words, other.names) ≡ (words, names) = one_ok (other.words, other.names) (words, names) (source_of source) other.source_is said in
+        let ok : Ok other.stated ≡ Ok st = same_statement fiq other.names names (Ok other.stated) (Ok st) (ap (λ (s : Said). s.1) same_said) other.statement_is is in
+        let same : other.stated ≡ st = cc ok in
+        other.elsewhere (ap (λ (s : Stated). s.entry) same ∙ there)
+
+    -- one that cannot be read has none
+    enters_nowhere : (f : StatementFault) → IsStatement fiq names (Err f) → EntersElsewhere source fiq → ⊥
+    enters_nowhere f is other =
+        let same_said : (other.words, other.names) ≡ (words, names) = one_ok (other.words, other.names) (words, names) (source_of source) other.source_is said in
+        let both : Ok other.stated ≡ Err f = same_statement fiq other.names names (Ok other.stated) (Err f) (ap (λ (s : Said). s.1) same_said) other.statement_is is in
+        absurd (cc both)
+
+    refused_reading : (f : StatementFault) → f ≢ statement_fault.Memory → (f ≢ statement_fault.Memory → IsStatement fiq names (Err f)) → (of_statement f ≢ Device) × IsFiqRefused source fiq profile (of_statement f)
+    refused_reading f other h =
+        fiq_refusal (of_statement f) (enters_nowhere f (h other)) (report_refusal source fiq profile (of_statement f) (statement_refusal source fiq profile words names said f h))
+
+    pub fiq_statement_refusal : (f : StatementFault) → (f ≢ statement_fault.Memory → IsStatement fiq names (Err f)) → (of_statement f ≢ Device) × IsFiqRefused source fiq profile (of_statement f)
+    fiq_statement_refusal statement_fault.Memory h = (λ e. cc e, tt)
+    fiq_statement_refusal statement_fault.NotToml h = refused_reading statement_fault.NotToml (λ e. cc e) h
+    fiq_statement_refusal statement_fault.UnknownKey h = refused_reading statement_fault.UnknownKey (λ e. cc e) h
+    fiq_statement_refusal statement_fault.WrongKind h = refused_reading statement_fault.WrongKind (λ e. cc e) h
+    fiq_statement_refusal statement_fault.UnknownLabel h = refused_reading statement_fault.UnknownLabel (λ e. cc e) h
+    fiq_statement_refusal statement_fault.OutOfRange h = refused_reading statement_fault.OutOfRange (λ e. cc e) h
+    fiq_statement_refusal statement_fault.Twice h = refused_reading statement_fault.Twice (λ e. cc e) h
+
+-- ## The report
+
+module _ (source irq fiq : List ℕ) (profile : Profile) where
+  module _ (b c : ℕ) (t u : List ℕ) (h : HasBound source irq profile b t) (f : HasFiqBound source fiq profile c u) where
+    pub both_reports : HaveReports source irq fiq profile
+    both_reports = record {
+      irq_text = t;
+      irq_is = h.1.report;
+      fiq_text = u;
+      fiq_is = f.1.report;
+      entry_is = ap (λ (st : Stated). st.entry) f.1.stated_is ∙ f.2;
+    }
+
+    pub total_is : (k : ℕ) → total_of source irq fiq k profile both_reports ≡ visits_bound profile b c k
+    unfolding both_reports
+    total_is k = λ i. visits_bound profile (h.1.bound_is i) (f.1.bound_is i) k
+
+    pub visits_reported : (k : ℕ) (text : List ℕ) → visits_bound profile b c k < 2 ^ 63 → text ≡ summary profile b c k ++ (t ++ u) → IsVisitsReport source irq fiq k profile text
+    unfolding both_reports
+    visits_reported k text small e =
+        let first = h.1.report in
+        let second = f.1.report in
+        record {
+          both = both_reports;
+          small = subst (λ n. n < 2 ^ 63) (sym (total_is k)) small;
+          runs =
+              bounds_visited first.accepted.loops.graph.words second.accepted.stated profile second.accepted.flow second.longest.bound
+              (fiq_entry_greatest profile (fiq_entry profile) refl) second.walk.greatest first.accepted.stated first.accepted.flow first.longest.bound k first.walk.greatest;
+          spelled = e ∙ (λ i. summary profile (sym h.1.bound_is i) (sym f.1.bound_is i) k ++ (t ++ u));
+        }
+
+    -- why the texts cannot be joined
+    pub joined_refusal : (k : ℕ) (e : ReportFault) → (e ≡ Memory) ⊎ ((e ≡ Walk walk_fault.BoundTooLarge) × (2 ^ 63 ≤ visits_bound profile b c k))
+        → (e ≢ Device) × AreRefused source irq fiq k profile e
+    joined_refusal k e (inl memory) = (λ d. cc (memory, d), subst (AreRefused source irq fiq k profile) (sym memory) (inl tt))
+    joined_refusal k e (inr large) =
+        (λ d. cc (large.0, d), inr (inr (large.0, (both_reports, subst (λ n. 2 ^ 63 ≤ n) (sym (total_is k)) large.1))))
+
+  -- ## What accepted statements are refused for
+
+  other_entry : HaveReports source irq fiq profile → EntersElsewhere source fiq → ⊥
+  other_entry both other =
+      let g = both.fiq_is.accepted.loops.graph in
+      enters_there source fiq profile g.words g.names g.source_is both.fiq_is.accepted.stated g.statement_is both.entry_is other
+
+  fiq_refusals : (e : ReportFault) → HaveReports source irq fiq profile → IsFiqRefused source fiq profile e → (e ≡ Memory) ⊎ (e ≡ Device)
+  fiq_refusals Memory both r = inl refl
+  fiq_refusals NotFiqEntry both r = absurd (other_entry both r)
+  fiq_refusals Device both r = inr refl
+  fiq_refusals (Source f) both r = accepted_refusals source fiq profile (Source f) both.fiq_is.accepted r.0
+  fiq_refusals (Image f) both r = accepted_refusals source fiq profile (Image f) both.fiq_is.accepted r.0
+  fiq_refusals (Statement f) both r = accepted_refusals source fiq profile (Statement f) both.fiq_is.accepted r.0
+  fiq_refusals (Graph f) both r = accepted_refusals source fiq profile (Graph f) both.fiq_is.accepted r.0
+  fiq_refusals (Loops f) both r = accepted_refusals source fiq profile (Loops f) both.fiq_is.accepted r.0
+  fiq_refusals (Walk f) both r = accepted_refusals source fiq profile (Walk f) both.fiq_is.accepted r.0
+  fiq_refusals (MachineFile f) both r = accepted_refusals source fiq profile (MachineFile f) both.fiq_is.accepted r.0
+  fiq_refusals (Load f) both r = accepted_refusals source fiq profile (Load f) both.fiq_is.accepted r.0
+  fiq_refusals (Cert f) both r = accepted_refusals source fiq profile (Cert f) both.fiq_is.accepted r.0
+  fiq_refusals (report_fault.Profile f) both r = accepted_refusals source fiq profile (report_fault.Profile f) both.fiq_is.accepted r.0
+
+  visits_refusals : (k : ℕ) (e : ReportFault) → AreAccepted source irq fiq k profile → AreRefused source irq fiq k profile e → (e ≡ Memory) ⊎ (e ≡ Device)
+  visits_refusals k e a (inl r) = accepted_refusals source irq profile e a.0.irq_is.accepted r
+  visits_refusals k e a (inr (inl r)) = fiq_refusals e a.0 r.1
+  visits_refusals k e a (inr (inr r)) =
+      let both = r.1.0 in
+      let first = one_bound source irq profile both.irq_text a.0.irq_text both.irq_is a.0.irq_is in
+      let second = one_bound source fiq profile both.fiq_text a.0.fiq_text both.fiq_is a.0.fiq_is in
+      let same : total_of source irq fiq k profile both ≡ total_of source irq fiq k profile a.0 = λ i. visits_bound profile (first i) (second i) k in
+      absurd (omega (arith, same, a.1, r.1.1))
+
+  -- the same of an answer
+  pub only_starved : {T : Type 0} (k : ℕ) (r : Result T ReportFault) → IfErr r (λ e. (e ≢ Device) × AreRefused source irq fiq k profile e)
+      → AreAccepted source irq fiq k profile → IfErr r (λ e. (e ≡ Memory) ⊎ (e ≡ Device))
+  only_starved k (Ok x) h a = tt
+  only_starved k (Err e) h a = visits_refusals k e a h.1

@@ -1,0 +1,96 @@
+-- What the report of a handler that FIQ interrupts prints, and when it is refused (our own format).
+use Rattle.std.specs.Prelude.{◌≡◌, ◌≢◌, ◌⊎◌, ◌≤◌, ◌<◌, ◌^◌, ◌++◌, ℕ, List, Option, Result, Ok, codes, decimal}
+use Rattle.bus_ticks.specs.declared.profile.Profile.{Profile}
+use Rattle.bus_ticks.specs.Worst.{fiq_entry}
+use Rattle.loader.specs.Image.{Words}
+use Rattle.statement.specs.Stated.{Stated}
+use Rattle.statement.specs.Statement.{IsStatement, Names}
+use Rattle.longest_walk.specs.Visits.{visits_bound}
+use Rattle.numbered_walks.specs.declared.fault.WalkFault.TheVariants as walk_fault
+use Rattle.arcwcet.specs.Answers.{Answers}
+use Rattle.arcwcet.specs.Report.{IsAccepted, IsBoundReport, IsRefused, IsReport}
+use Rattle.arcwcet.specs.Source.{source_of}
+use Rattle.arcwcet.specs.Visits.{BoundsVisitedRuns}
+use Rattle.arcwcet.specs.declared.fault.ReportFault.{ReportFault}
+use Rattle.arcwcet.specs.declared.fault.ReportFault.TheVariants as report_fault
+
+-- the bound of the interrupted handler, that of FIQ's, and the price of taking FIQ, in ticks
+abbrev pub summary : Profile → (irq fiq k : ℕ) → List ℕ
+summary profile irq fiq k =
+    codes "arcwcet visits\nvisits "
+    ++ (decimal k ++ (codes "\nirq "
+    ++ (decimal irq ++ (codes "\nfiq "
+    ++ (decimal fiq ++ (codes "\nentry "
+    ++ (decimal (fiq_entry profile) ++ (codes "\ntotal "
+    ++ (decimal (visits_bound profile irq fiq k) ++ codes "\n")))))))))
+
+-- FIQ's handler does not begin at FIQ's vector
+pub record EntersElsewhere (source fiq : List ℕ) : Type 0 where
+  pub words : Words
+  pub names : Names
+  pub stated : Stated
+  pub source_is : source_of source ≡ Ok (words, names)
+  pub statement_is : IsStatement fiq names (Ok stated)
+  pub elsewhere : stated.entry ≢ 0x1C
+
+-- a source and a statement have this bound and this report
+abbrev pub HasBound : List ℕ → List ℕ → Profile → (bound : ℕ) → List ℕ → Type 0
+HasBound source statement profile bound text =
+    (stated : Stated) × IsBoundReport source statement profile stated bound text
+
+-- so have FIQ's, and the handler begins at FIQ's vector
+abbrev pub HasFiqBound : List ℕ → List ℕ → Profile → (bound : ℕ) → List ℕ → Type 0
+HasFiqBound source fiq profile bound text =
+    (stated : Stated) × IsBoundReport source fiq profile stated bound text × (stated.entry ≡ 0x1C)
+
+-- both handlers have reports, and FIQ's begins at its vector
+pub record HaveReports (source irq fiq : List ℕ) (profile : Profile) : Type 0 where
+  pub irq_text : List ℕ
+  pub irq_is : IsReport source irq profile irq_text
+  pub fiq_text : List ℕ
+  pub fiq_is : IsReport source fiq profile fiq_text
+  pub entry_is : fiq_is.accepted.stated.entry ≡ 0x1C
+
+module _ (source irq fiq : List ℕ) (k : ℕ) (profile : Profile) where
+  -- the most ticks of the interrupted handler with k visits
+  abbrev pub total_of : HaveReports source irq fiq profile → ℕ
+  total_of both = visits_bound profile both.irq_is.longest.bound both.fiq_is.longest.bound k
+
+  -- The report of a source and two statements, of which FIQ's handler has the second: the summary, and the
+  -- reports of both statements. Every run of the machine that keeps both with at most k visits takes at most
+  -- the total.
+  pub record IsVisitsReport (text : List ℕ) : Type 0 where
+    pub both : HaveReports source irq fiq profile
+    pub small : total_of both < 2 ^ 63
+    pub runs : BoundsVisitedRuns both.irq_is.accepted.loops.graph.words both.fiq_is.accepted.stated profile
+        both.fiq_is.accepted.flow both.irq_is.accepted.stated both.irq_is.accepted.flow k (total_of both)
+    pub spelled : text ≡ summary profile both.irq_is.longest.bound both.fiq_is.longest.bound k
+        ++ (both.irq_text ++ both.fiq_text)
+
+  -- what has a report
+  abbrev pub AreAccepted : Type 0
+  AreAccepted = (both : HaveReports source irq fiq profile) × (total_of both < 2 ^ 63)
+
+-- When each refusal of FIQ's handler is answered: that of its entry after those of its statement's text, and
+-- before all others.
+abbrev pub IsFiqRefused : List ℕ → List ℕ → Profile → ReportFault → Type 0
+IsFiqRefused source fiq profile report_fault.Memory = Unit {0}
+IsFiqRefused source fiq profile report_fault.NotFiqEntry = EntersElsewhere source fiq
+IsFiqRefused source fiq profile fault =
+    IsRefused source fiq profile fault × (EntersElsewhere source fiq → ⊥)
+
+-- When each refusal is answered: those of the interrupted handler, then those of FIQ's, and last that the
+-- total is 2^63 ticks or more.
+abbrev pub AreRefused : List ℕ → List ℕ → List ℕ → ℕ → Profile → ReportFault → Type 0
+AreRefused source irq fiq k profile fault =
+    IsRefused source irq profile fault
+    ⊎ ((IsAccepted source irq profile × IsFiqRefused source fiq profile fault)
+    ⊎ ((fault ≡ report_fault.Walk walk_fault.BoundTooLarge)
+    × ((both : HaveReports source irq fiq profile) × (2 ^ 63 ≤ total_of source irq fiq k profile both))))
+
+-- the answer to a source, two statements and a number of visits: their report
+abbrev pub ReportsVisits : {O T : Type 0} → (O → Option (List ℕ)) → (O → ℕ) → List ℕ → List ℕ → List ℕ → ℕ
+    → Profile → O → O → Result T ReportFault → Type 0
+ReportsVisits taken failures source irq fiq k profile old new result =
+    Answers taken failures (λ _ text. IsVisitsReport source irq fiq k profile text)
+    (AreAccepted source irq fiq k profile) (AreRefused source irq fiq k profile) old new result

@@ -1,0 +1,220 @@
+ghost use Rattle.std.specs.Prelude.{◌≡◌, ◌≢◌, ◌⊎◌, ◌++◌, ◌≤◌, ◌<◌, ◌^◌, List, ℕ, Ok, IfErr, IfOk};
+ghost use Rattle.std.specs.Prelude.{OnOk, option_map};
+ghost use Rattle.loader.specs.Labels.{address_of};
+ghost use Rattle.flow_graph.specs.Flow.{IsWellFormed};
+ghost use Rattle.longest_walk.specs.Visits.{visits_bound};
+ghost use Rattle.arcwcet.specs.Priced.{Priced};
+ghost use Rattle.arcwcet.specs.Report.{HasLoops, IsRefused, IsTreeOf};
+ghost use Rattle.arcwcet.specs.Source.{source_of};
+ghost use Rattle.arcwcet.specs.VisitsReport.{AreRefused, HasBound, HasFiqBound, IsFiqRefused};
+ghost use Rattle.arcwcet.specs.VisitsReport.{IsVisitsReport, ReportsVisits, summary};
+
+use crate::bound::{BoundReport, longest_report};
+use crate::fault::ReportFault;
+use crate::handler::{Handler, handler_of, stated_handler};
+use crate::output::Output;
+use crate::priced::profile_of;
+use crate::source::read_source;
+use crate::whole::write_whole;
+use assembler::Assembly;
+use bus_ticks::{Profile, fiq_entry};
+use flow_graph::read_statement;
+use longest_walk::{WalkFault, visits_bound};
+use std::alloc::Global;
+use std::fmt::Write;
+
+/// Where FIQ's handler begins.
+const FIQ_VECTOR: u32 = 0x1C;
+
+/// The statement of an interrupt handler, that of FIQ's handler, and how often FIQ interrupts it at most.
+#[derive(Clone, Copy)]
+struct Visited<'a> {
+    irq: &'a [u8],
+    fiq: &'a [u8],
+    visits: u32,
+}
+
+// FIQ's handler, which begins at its vector.
+fn fiq_handler(
+    alloc: Global,
+    said: &Assembly,
+    statement: &[u8],
+    profile: &Profile,
+) -> Result<Handler, ReportFault>
+    ensures loops { (source : List ℕ) → source_of source ≡ Ok (said.now.image, address_of said.now.labels)
+        → IfOk result (λ h. HasLoops source statement.now profile.now h.statement h.graph) }
+    ensures formed { IfOk result (λ h. IsWellFormed h.graph) }
+    ensures tree { IfOk result (λ h. IsTreeOf h.graph h.statement.loops h.tree) }
+    ensures entry { IfOk result (λ h. h.statement.entry ≡ 0x1C) }
+    ensures fault { (source : List ℕ) → source_of source ≡ Ok (said.now.image, address_of said.now.labels)
+        → IfErr result (λ e. (e ≢ ReportFault.Device) × IsFiqRefused source statement.now profile.now e) }
+{
+    let statement = read_statement(alloc, statement, &said.labels)?;
+    if statement.entry() != FIQ_VECTOR {
+        return Err(ReportFault::NotFiqEntry);
+    }
+    stated_handler(alloc, said, statement, profile)
+}
+
+// The report of the interrupted handler.
+fn irq_report(
+    alloc: Global,
+    said: &Assembly,
+    statement: &[u8],
+    profile: &Profile,
+) -> Result<BoundReport, ReportFault>
+    ensures report { (source : List ℕ) → source_of source ≡ Ok (said.now.image, address_of said.now.labels)
+        → IfOk result (λ r. HasBound source statement.now profile.now r.bound r.text.items) }
+    ensures fault { (source : List ℕ) → source_of source ≡ Ok (said.now.image, address_of said.now.labels)
+        → IfErr result (λ e. (e ≢ ReportFault.Device) × IsRefused source statement.now profile.now e) }
+{
+    let handler = handler_of(alloc, said, statement, profile)?;
+    longest_report(alloc, &handler)
+}
+
+// The report of FIQ's handler.
+fn fiq_report(
+    alloc: Global,
+    said: &Assembly,
+    statement: &[u8],
+    profile: &Profile,
+) -> Result<BoundReport, ReportFault>
+    ensures report { (source : List ℕ) → source_of source ≡ Ok (said.now.image, address_of said.now.labels)
+        → IfOk result (λ r. HasFiqBound source statement.now profile.now r.bound r.text.items) }
+    ensures fault { (source : List ℕ) → source_of source ≡ Ok (said.now.image, address_of said.now.labels)
+        → IfErr result (λ e. (e ≢ ReportFault.Device) × IsFiqRefused source statement.now profile.now e) }
+{
+    let handler = fiq_handler(alloc, said, statement, profile)?;
+    longest_report(alloc, &handler)
+}
+
+// The lines before the reports.
+fn summary(
+    alloc: Global,
+    profile: &Profile,
+    visits: u32,
+    irq: &BoundReport,
+    fiq: &BoundReport,
+) -> Result<Vec<u8>, ReportFault>
+    ensures text { IfOk result (λ v. v.items ≡ summary profile.now irq.now.bound fiq.now.bound visits) }
+    ensures small { OnOk result (visits_bound profile.now irq.now.bound fiq.now.bound visits < 2 ^ 63) }
+    ensures fault { IfErr result (λ e. (e ≡ ReportFault.Memory)
+        ⊎ ((e ≡ ReportFault.Walk WalkFault.BoundTooLarge)
+        × (2 ^ 63 ≤ visits_bound profile.now irq.now.bound fiq.now.bound visits))) }
+{
+    let total = visits_bound(profile, irq.bound, fiq.bound, visits)?;
+    let entry = fiq_entry(profile);
+    let (irq, fiq) = (irq.bound, fiq.bound);
+    let mut text = String::new(alloc);
+    write!(
+        text,
+        "arcwcet visits\nvisits {visits}\nirq {irq}\nfiq {fiq}\n"
+    )?;
+    write!(text, "entry {entry}\ntotal {total}\n")?;
+    Ok(text.into_bytes())
+}
+
+// The summary and both reports.
+fn joined_text(
+    alloc: Global,
+    profile: &Profile,
+    visits: u32,
+    irq: &BoundReport,
+    fiq: &BoundReport,
+) -> Result<Vec<u8>, ReportFault>
+    ensures text { IfOk result (λ v. v.items ≡ summary profile.now irq.now.bound fiq.now.bound visits
+        ++ (irq.now.text.items ++ fiq.now.text.items)) }
+    ensures small { OnOk result (visits_bound profile.now irq.now.bound fiq.now.bound visits < 2 ^ 63) }
+    ensures fault { IfErr result (λ e. (e ≡ ReportFault.Memory)
+        ⊎ ((e ≡ ReportFault.Walk WalkFault.BoundTooLarge)
+        × (2 ^ 63 ≤ visits_bound profile.now irq.now.bound fiq.now.bound visits))) }
+{
+    let mut text = summary(alloc, profile, visits, irq, fiq)?;
+    text.extend_from_slice(&irq.text)?;
+    text.extend_from_slice(&fiq.text)?;
+    Ok(text)
+}
+
+// The report of a source that was read.
+fn visits_text(
+    alloc: Global,
+    said: &Assembly,
+    asked: Visited<'_>,
+    profile: &Profile,
+) -> Result<Vec<u8>, ReportFault>
+    ensures report { (source : List ℕ) → source_of source ≡ Ok (said.now.image, address_of said.now.labels)
+        → IfOk result (λ v. IsVisitsReport source asked.entry.irq.now asked.entry.fiq.now asked.entry.visits
+        profile.now v.items) }
+    ensures fault { (source : List ℕ) → source_of source ≡ Ok (said.now.image, address_of said.now.labels)
+        → IfErr result (λ e. (e ≢ ReportFault.Device)
+        × AreRefused source asked.entry.irq.now asked.entry.fiq.now asked.entry.visits profile.now e) }
+{
+    let irq = irq_report(alloc, said, asked.irq, profile)?;
+    let fiq = fiq_report(alloc, said, asked.fiq, profile)?;
+    joined_text(alloc, profile, asked.visits, &irq, &fiq)
+}
+
+// The report of a source.
+fn read_visits(
+    alloc: Global,
+    source: &[u8],
+    asked: Visited<'_>,
+    profile: &Profile,
+) -> Result<Vec<u8>, ReportFault>
+    ensures report { IfOk result (λ v. IsVisitsReport source.now asked.entry.irq.now asked.entry.fiq.now
+        asked.entry.visits profile.now v.items) }
+    ensures fault { IfErr result (λ e. (e ≢ ReportFault.Device)
+        × AreRefused source.now asked.entry.irq.now asked.entry.fiq.now asked.entry.visits profile.now e) }
+{
+    let said = read_source(alloc, source)?;
+    visits_text(alloc, &said, asked, profile)
+}
+
+/// Writes the report of a source, the statement of an interrupt handler and that of FIQ's, which interrupts it
+/// up to `visits` times, by a cycle profile's file or the first profile: the bounds of both handlers, the
+/// greatest price of taking FIQ and the total, in ticks, and then the report of each statement as
+/// [`bound_report`](crate::bound_report) writes it. No run of the machine that keeps both statements with at
+/// most so many visits takes more than the total, but for the profile's burst price for each DMA burst.
+///
+/// Nothing is written until the report is finished. Of several faults the first in the order of the work is
+/// answered: profile, source, the handler's statement, graph, loops and walk, those of FIQ's handler with
+/// `NotFiqEntry` after its statement, and last `Walk` with `BoundTooLarge` for the total. After any but
+/// `Device` nothing was written.
+pub fn visits_report<O: Output>(
+    alloc: Global,
+    source: &[u8],
+    irq_statement: &[u8],
+    fiq_statement: &[u8],
+    visits: u32,
+    profile: Option<&[u8]>,
+    out: &mut O,
+) -> Result<(), ReportFault>
+    ensures { Priced (option_map (λ f. f.now) profile.entry)
+        (λ p. ReportsVisits O.taken O.failures source.now irq_statement.now fiq_statement.now visits p out.old
+        out.new result) out.old out.new result }
+{
+    let profile = profile_of(alloc, profile)?;
+    let asked = Visited {
+        irq: irq_statement,
+        fiq: fiq_statement,
+        visits,
+    };
+    priced_visits(alloc, source, asked, &profile, out)
+}
+
+fn priced_visits<O: Output>(
+    alloc: Global,
+    source: &[u8],
+    asked: Visited<'_>,
+    profile: &Profile,
+    out: &mut O,
+) -> Result<(), ReportFault>
+    ensures { ReportsVisits O.taken O.failures source.now asked.entry.irq.now asked.entry.fiq.now
+        asked.entry.visits profile.now out.old out.new result }
+{
+    let text = read_visits(alloc, source, asked, profile)?;
+    match write_whole(out, &text) {
+        Ok(()) => Ok(()),
+        Err(_) => Err(ReportFault::Device),
+    }
+}
