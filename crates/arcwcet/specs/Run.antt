@@ -159,8 +159,8 @@ HasNoVisitsReport k files fault =
     OfThree
     (λ file source irq fiq. PricedFault file (λ p f. AreRefused source irq fiq k p f) fault) files
 
-abbrev pub RunsVisits : {S O : Type 0} → Reading S → (O → Option (List ℕ)) → (O → ℕ) → Option (List ℕ) → List ℕ
-    → List ℕ → List ℕ → ℕ → S → S → O → O → ℕ → Type 0
+abbrev pub RunsVisits : {S O : Type 0} → Reading S → (O → Option (List ℕ)) → (O → ℕ) → Option (List ℕ)
+    → List ℕ → List ℕ → List ℕ → ℕ → S → S → O → O → ℕ → Type 0
 RunsVisits reads taken failures profile source irq fiq k old new before after status =
     Runs reads taken failures (IsVisitsReportOf k) (HasNoVisitsReport k)
     (in_front profile (source ∷ irq ∷ fiq ∷ [])) old new before after status

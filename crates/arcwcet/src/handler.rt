@@ -62,13 +62,15 @@ pub(crate) fn stated_handler(
     statement: Statement,
     profile: &Profile,
 ) -> Result<Handler, ReportFault>
-    ensures loops { (source text : List ℕ) → source_of source ≡ Ok (said.now.image, address_of said.now.labels)
+    ensures loops { (source text : List ℕ)
+        → source_of source ≡ Ok (said.now.image, address_of said.now.labels)
         → IsStatement text (address_of said.now.labels) (Ok statement)
         → IfOk result (λ h. HasLoops source text profile.now h.statement h.graph) }
     ensures formed { IfOk result (λ h. IsWellFormed h.graph) }
     ensures tree { IfOk result (λ h. IsTreeOf h.graph h.statement.loops h.tree) }
     ensures same { IfOk result (λ h. h.statement ≡ statement) }
-    ensures fault { (source text : List ℕ) → source_of source ≡ Ok (said.now.image, address_of said.now.labels)
+    ensures fault { (source text : List ℕ)
+        → source_of source ≡ Ok (said.now.image, address_of said.now.labels)
         → IsStatement text (address_of said.now.labels) (Ok statement)
         → IfErr result (IsHandlerRefused source text profile.now) }
 {

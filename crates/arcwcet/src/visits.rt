@@ -170,8 +170,8 @@ fn read_visits(
     visits_text(alloc, &said, asked, profile)
 }
 
-/// Writes the report of a source, the statement of an interrupt handler and that of FIQ's, which interrupts it
-/// up to `visits` times, by a cycle profile's file or the first profile: the bounds of both handlers, the
+/// Writes the report of a source, the statement of an interrupt handler and that of FIQ's, which interrupts
+/// it up to `visits` times, by a cycle profile's file or the first profile: the bounds of both handlers, the
 /// greatest price of taking FIQ and the total, in ticks, and then the report of each statement as
 /// [`bound_report`](crate::bound_report) writes it. No run of the machine that keeps both statements with at
 /// most so many visits takes more than the total, but for the profile's burst price for each DMA burst.

@@ -1,7 +1,7 @@
 -- What a line of words asks of the program, by clap's function for a simple command. The commands are our
 -- own.
-use Rattle.std.specs.Prelude.{ℕ, pos, true, List, [], ◌∷◌, Option, Some, None, String, codes, map, option_and_then}
-use Rattle.std.specs.Prelude.{option_map, string_bytes, if◌then◌else◌}
+use Rattle.std.specs.Prelude.{ℕ, pos, true, List, [], ◌∷◌, Option, Some, None, String, codes, map}
+use Rattle.std.specs.Prelude.{option_and_then, option_map, string_bytes, if◌then◌else◌}
 use Rattle.std.specs.declared.alloc.Global.{Global}
 use Rattle.std.specs.Str.{bytes_eq}
 use Rattle.std.specs.Str.Parse.{digits_value, without_leading_plus}
@@ -79,8 +79,8 @@ arcwcet_command =
     (with_subcommand
     (with_subcommand
     (with_subcommand arcwcet_top
-    asm_command.top) run_command.top) trace_command.top) debug_command.top) bound_command.top) check_command.top)
-    visits_command.top
+    asm_command.top) run_command.top) trace_command.top) debug_command.top) bound_command.top)
+    check_command.top) visits_command.top
 
 -- the names of two files, and of a cycle profile's
 pub record FileNames : Type 0 where
