@@ -5,8 +5,10 @@ pub mod Fronts
 pub mod HandlerLemmas
 pub mod KeptRun
 pub mod MachineLemmas
+pub mod OneWord
 pub mod ReportLemmas
 pub mod RunLemmas
 pub mod SourceLemmas
 pub mod VisitLemmas
 pub mod VisitsReportLemmas
+pub mod VisitedRun

@@ -1,5 +1,5 @@
 -- What visits of FIQ add to the run of a handler that they interrupt.
-use Rattle.std.proofs.Common.{◌≡◌, ◌∙◌, ℕ, ◌+◌, ◌*◌, ◌<◌, ◌≤◌, List, [], ◌∷◌, ◌++◌, length, None, refl, sym, ap, subst, arith}
+use Rattle.std.proofs.Common.{◌≡◌, ◌∙◌, ℕ, ◌+◌, ◌*◌, ◌<◌, ◌≤◌, List, [], ◌∷◌, ◌++◌, length, None, sym, ap, subst, arith}
 use Rattle.std.proofs.Math.Nat.{add-mul, mul-add, mul-le-mul_right, suc-mul}
 use Rattle.std.proofs.lemmas.List.Sums.{sum_by-cons}
 use Rattle.bus_ticks.specs.declared.profile.Class.TheVariants.{Any}
@@ -8,7 +8,7 @@ use Rattle.bus_ticks.specs.Worst.{IsGreatest, IsTargetOf, fiq_entry, fiq_entry_p
 use Rattle.loader.specs.Image.{Words}
 use Rattle.walks.specs.Walk.{cost_of}
 use Rattle.arm2_exec.specs.Kept.{interrupted_in}
-use Rattle.arm2_exec.specs.Run.{Runs, at_rest, counted, why_stopped}
+use Rattle.arm2_exec.specs.Run.{Runs, why_stopped}
 use Rattle.arm2_exec.specs.State.{State}
 use Rattle.arm2_exec.specs.Step.{Step, address_in}
 use Rattle.arm2_exec.specs.declared.machine.Input.{Input}

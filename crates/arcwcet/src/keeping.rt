@@ -1,8 +1,16 @@
 ghost use Rattle.bus_ticks.specs.declared.profile.Profile.{Profile};
 ghost use Rattle.arcwcet.specs.Keeping.{HasKeptRun};
+ghost use Rattle.arcwcet.specs.Visits.{HasVisitedRun};
 
 /// States that runs can keep statements: by each cycle profile some run does, of a handler that returns at
 /// once. So what a report says of every run that keeps the statement is not said of none. It does nothing.
 pub fn some_run_keeps()
     ensures { (profile : Profile) → HasKeptRun profile }
+{}
+
+/// States that runs can keep two statements: by each cycle profile some run does, of a handler that FIQ
+/// interrupts twice before it returns. So what a report says of every run with visits is not said of none. It
+/// does nothing.
+pub fn some_run_has_visits()
+    ensures { (profile : Profile) → HasVisitedRun profile }
 {}

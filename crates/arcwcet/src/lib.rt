@@ -30,7 +30,7 @@ pub use bound::bound_report;
 pub use check::check_report;
 pub use debug::debug_report;
 pub use fault::{ReportFault, StoreFault};
-pub use keeping::some_run_keeps;
+pub use keeping::{some_run_has_visits, some_run_keeps};
 pub use law::certificates_are_accepted;
 pub use machine::{run_report, trace_report};
 pub use machine_file::{MachineFile, read_machine, read_profile};
