@@ -79,9 +79,8 @@ fn profiles(rt: HostRuntime) -> Result<(), Fail> {
         worst_leave(&other, Class::Ram),
         worst_leave(&other, Class::Any),
         worst_transfer(&other, Class::Ram, 4, true),
-        fiq_entry(&other),
     );
-    assert_eq!(rt; (other.numbers(), worst), (other_numbers(), (5, 10, 7, 10)));
+    assert_eq!(rt; (other.numbers(), worst), (other_numbers(), (5, 10, 7)));
     for (place, number, answer) in [
         (1, 3, Some(NumbersFault::Disordered)),
         (0, 0, Some(NumbersFault::OutOfRange)),

@@ -27,7 +27,7 @@ pub record MainStep : Type 0 where
   pub visits : List Visit
   pub input : Input
 
--- the inputs of all steps, in their order
+-- the inputs of all steps, in their order: of visits and then the rest, and of main steps
 abbrev pub visits_before : List Visit → List Input → List Input
 visits_before [] rest = rest
 visits_before (v ∷ visits) rest = v.taking ∷ (v.handling ++ visits_before visits rest)
@@ -42,8 +42,8 @@ visits_of steps = sum_by (λ m. length m.visits) steps
 
 -- FIQ's handler, by its words, statement, prices and graph
 module _ (words : Words) (fiq : Stated) (profile : Profile) (fiq_flow : Flow) where
-  -- From this state a step takes FIQ, and then a run keeps the statement of FIQ's handler, whose last step
-  -- leads back to the interrupted address.
+  -- From this state, with these prices, a step takes FIQ, and then a run keeps the statement of FIQ's handler,
+  -- whose last step leads back to the interrupted address.
   pub record IsVisit (s : State) (v : Visit) (after : State) : Type 0 where
     pub told : Stepped
     pub entered : State
@@ -70,7 +70,8 @@ module _ (words : Words) (fiq : Stated) (profile : Profile) (fiq_flow : Flow) wh
       × ((told : Stepped) × (next : State) × IsEdgeOf words irq profile visited m.input told next e
       × FollowsVisited irq next steps walk)
 
-  -- From this state the run keeps the statement of the interrupted handler, the visits of FIQ's left out.
+  -- From this state the run keeps both statements: the main steps that of the interrupted handler, as if there
+  -- were no visits, and each visit that of FIQ's.
   abbrev pub KeepsVisited : (irq : Stated) (irq_flow : Flow) → State → List MainStep → Type 0
   KeepsVisited irq irq_flow s steps = HasKeptWalk irq irq_flow (FollowsVisited irq s steps)
 

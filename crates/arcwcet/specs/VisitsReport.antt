@@ -14,7 +14,8 @@ use Rattle.arcwcet.specs.Visits.{BoundsVisitedRuns}
 use Rattle.arcwcet.specs.declared.fault.ReportFault.{ReportFault}
 use Rattle.arcwcet.specs.declared.fault.ReportFault.TheVariants as report_fault
 
--- the bound of the interrupted handler, that of FIQ's, and the price of taking FIQ, in ticks
+-- the number of visits, the bound of the interrupted handler, that of FIQ's, the price of taking FIQ, and the
+-- total, in ticks
 abbrev pub summary : Profile → (irq fiq k : ℕ) → List ℕ
 summary profile irq fiq k =
     codes "arcwcet visits\nvisits "
@@ -72,7 +73,7 @@ module _ (source irq fiq : List ℕ) (k : ℕ) (profile : Profile) where
   AreAccepted = (both : HaveReports source irq fiq profile) × (total_of both < 2 ^ 63)
 
 -- When each refusal of FIQ's handler is answered: that of its entry after those of its statement's text, and
--- before all others.
+-- before those of its graph.
 abbrev pub IsFiqRefused : List ℕ → List ℕ → Profile → ReportFault → Type 0
 IsFiqRefused source fiq profile report_fault.Memory = Unit {0}
 IsFiqRefused source fiq profile report_fault.NotFiqEntry = EntersElsewhere source fiq

@@ -76,7 +76,7 @@ worst_leave_of p Any =
     max (max (p.n + max p.quad p.unfitted) (worst_rom p + max (worst_rom p) p.quad))
     (p.unfitted + max p.unfitted (worst_rom p))
 
--- taking FIQ where an instruction is interrupted: the fetch that follows its own, and the two at FIQ's vector
+-- taking FIQ before the instruction at an address: the fetch 8 bytes on, and the two at FIQ's vector
 abbrev pub fiq_entry_price : Profile → Access → ℕ
 fiq_entry_price p t =
     s_price p t.rom ((t.address + 8) % 0x4000000) + (n_price p t.rom 0x1C + s_price p t.rom 0x20)
