@@ -14,6 +14,9 @@ const STATEMENT: &[u8] = b"entry = 0x1C\n";
 const REPORT: &[u8] =
     b"arcwcet certificate 1\nbound 9\nstep 1C do exit 9\nclose\nplace - 1C 0\nstop\n";
 
+// What `visits` prints above two such reports.
+const VISITS: &[u8] = b"arcwcet visits\nvisits 1\nirq 9\nfiq 9\nentry 8\ntotal 26\n";
+
 /// Takes at most `step` bytes a write and `left` bytes in all, and then nothing.
 #[derive(Drop)]
 struct Narrow {
@@ -79,24 +82,11 @@ fn outputs_take_all(rt: HostRuntime) -> Result<(), Fail> {
     Ok(())
 }
 
-#[test]
-fn reports_at_each_cut(rt: HostRuntime) -> Result<(), Fail> {
+/// What the program prints and answers at an output that fails within the report.
+fn program_at_each_cut(rt: HostRuntime, words: &[String], report: &[u8]) -> Result<(), Fail> {
     let alloc = rt.alloc();
-    let words = line(alloc, "bound")?;
-    for (step, left) in (0..=100).flat_map(|left| [(1, left), (7, left)]) {
-        let kept = &REPORT[..REPORT.len().min(left)];
-        let (answer, status, failures) = if left < REPORT.len() {
-            (Err(ReportFault::Device), 4, 1)
-        } else {
-            (Ok(()), 0, 0)
-        };
-        let mut report = Narrow::new(alloc, step, left);
-        let found = bound_report(alloc, SOURCE, STATEMENT, None, &mut report);
-        assert_eq!(rt;
-            (found, report.bytes.as_slice(), report.failures),
-            (answer, kept, failures),
-            "at {left}"
-        );
+    for (step, left) in (0..=report.len()).flat_map(|left| [(1, left), (7, left)]) {
+        let status = if left < report.len() { 4 } else { 0 };
         let mut out = Narrow::new(alloc, step, left);
         // What standard error takes changes no status.
         let mut err = Narrow::new(alloc, 1, 0);
@@ -105,8 +95,46 @@ fn reports_at_each_cut(rt: HostRuntime) -> Result<(), Fail> {
             second: STATEMENT,
         };
         let mut input: &[u8] = b"";
-        let found = program(alloc, &words, &mut files, &mut input, &mut out, &mut err);
-        assert_eq!(rt; (found, out.bytes.as_slice()), (status, kept), "at {left}");
+        let found = program(alloc, words, &mut files, &mut input, &mut out, &mut err);
+        assert_eq!(rt;
+            (found, out.bytes.as_slice()),
+            (status, &report[..left]),
+            "at {left}"
+        );
     }
     Ok(())
+}
+
+#[test]
+fn reports_at_each_cut(rt: HostRuntime) -> Result<(), Fail> {
+    let alloc = rt.alloc();
+    for (step, left) in (0..=100).flat_map(|left| [(1, left), (7, left)]) {
+        let kept = &REPORT[..REPORT.len().min(left)];
+        let (answer, failures) = if left < REPORT.len() {
+            (Err(ReportFault::Device), 1)
+        } else {
+            (Ok(()), 0)
+        };
+        let mut report = Narrow::new(alloc, step, left);
+        let found = bound_report(alloc, SOURCE, STATEMENT, None, &mut report);
+        assert_eq!(rt;
+            (found, report.bytes.as_slice(), report.failures),
+            (answer, kept, failures),
+            "at {left}"
+        );
+    }
+    Ok(())
+}
+
+#[test]
+fn program_at_outputs_that_fail(rt: HostRuntime) -> Result<(), Fail> {
+    let alloc = rt.alloc();
+    program_at_each_cut(rt, &line(alloc, "bound")?, REPORT)?;
+    let mut words = line(alloc, "visits")?;
+    words.push(String::from_str(alloc, "second")?)?;
+    words.push(String::from_str(alloc, "1")?)?;
+    let mut report = VISITS.to_vec(alloc)?;
+    report.extend_from_slice(REPORT)?;
+    report.extend_from_slice(REPORT)?;
+    program_at_each_cut(rt, &words, &report)
 }

@@ -12,16 +12,71 @@ const LONE_RETURN: &[u8] =
     b"arcwcet certificate 1\nbound 9\nstep 1C do exit 9\nclose\nplace - 1C 0\nstop\n";
 
 /// A loop that is taken twice.
-const COUNTDOWN: &[u8] =
-    b"arcwcet certificate 1\nbound 25\nstep 8000 do 8004 1\nrepeat 2\nstep 8004 do 8008 1\nstep 8008 do 8004 5\nend\nstep 8004 do 8008 1\nstep 8008 skip 800C 2\nstep 800C do exit 9\nclose\nplace - 8000 0\nplace - 8004 0\nplace - 8008 1\nplace - 800C 16\ninstance - 8004 1 6\nstop\n";
+const COUNTDOWN: &[u8] = b"arcwcet certificate 1
+bound 25
+step 8000 do 8004 1
+repeat 2
+step 8004 do 8008 1
+step 8008 do 8004 5
+end
+step 8004 do 8008 1
+step 8008 skip 800C 2
+step 800C do exit 9
+close
+place - 8000 0
+place - 8004 0
+place - 8008 1
+place - 800C 16
+instance - 8004 1 6
+stop
+";
 
 /// A loop in a loop.
-const NESTED_COUNTDOWN: &[u8] =
-    b"arcwcet certificate 1\nbound 50\nstep 8000 do 8004 1\nrepeat 1\nstep 8004 do 8008 1\nrepeat 2\nstep 8008 do 800C 2\nstep 800C do 8008 4\nend\nstep 8008 do 800C 2\nstep 800C skip 8010 1\nstep 8010 do 8014 1\nstep 8014 do 8004 4\nend\nstep 8004 do 8008 1\nrepeat 2\nstep 8008 do 800C 2\nstep 800C do 8008 4\nend\nstep 8008 do 800C 2\nstep 800C skip 8010 1\nstep 8010 do 8014 1\nstep 8014 skip 8018 1\nstep 8018 do exit 10\nclose\nplace - 8000 0\nplace - 8004 0\nplace - 8008 0\nplace - 800C 2\nplace - 8010 16\nplace - 8014 17\nplace - 8018 40\ninstance - 8004 1 21\ninstance - 8008 1 6\nstop\n";
+const NESTED_COUNTDOWN: &[u8] = b"arcwcet certificate 1
+bound 50
+step 8000 do 8004 1
+repeat 1
+step 8004 do 8008 1
+repeat 2
+step 8008 do 800C 2
+step 800C do 8008 4
+end
+step 8008 do 800C 2
+step 800C skip 8010 1
+step 8010 do 8014 1
+step 8014 do 8004 4
+end
+step 8004 do 8008 1
+repeat 2
+step 8008 do 800C 2
+step 800C do 8008 4
+end
+step 8008 do 800C 2
+step 800C skip 8010 1
+step 8010 do 8014 1
+step 8014 skip 8018 1
+step 8018 do exit 10
+close
+place - 8000 0
+place - 8004 0
+place - 8008 0
+place - 800C 2
+place - 8010 16
+place - 8014 17
+place - 8018 40
+instance - 8004 1 21
+instance - 8008 1 6
+stop
+";
 
 /// By another profile, with a list of calls, the greatest bound, and no walk.
-const OTHER_PROFILE: &[u8] =
-    b"arcwcet certificate 2\nprofile 3 1 2 5 4 3 2 8 6 5 10 2 2 1 8\nbound 9223372036854775807\nclose\nplace 8004/8008 3FFFFFF 7\nstop\n";
+const OTHER_PROFILE: &[u8] = b"arcwcet certificate 2
+profile 3 1 2 5 4 3 2 8 6 5 10 2 2 1 8
+bound 9223372036854775807
+close
+place 8004/8008 3FFFFFF 7
+stop
+";
 
 const OTHER_NUMBERS: [u32; 15] = [3, 1, 2, 5, 4, 3, 2, 8, 6, 5, 10, 2, 2, 1, 8];
 

@@ -3,9 +3,8 @@ ghost use Rattle.arcwcet.specs.Answers.{Answers};
 ghost use Rattle.arcwcet.specs.Assembly.{IsAsmReport, IsSource, IsSourceRefused, IsWritten};
 
 use crate::fault::ReportFault;
-use crate::output::Output;
-use crate::source::read_source;
-use crate::whole::write_whole;
+use crate::handler::read_source;
+use crate::output::{Output, write_whole};
 use loader::writing::write_image;
 use std::alloc::Global;
 use std::fmt::Write;

@@ -6,10 +6,8 @@ ghost use Rattle.arcwcet.specs.Check.{verdict_line};
 ghost use Rattle.arcwcet.specs.Report.{HasLoops, IsTreeOf};
 
 use crate::fault::ReportFault;
-use crate::handler::{Handler, read_handler};
-use crate::output::Output;
-use crate::priced::profile_of;
-use crate::whole::write_whole;
+use crate::handler::{Handler, profile_of, read_handler};
+use crate::output::{Output, write_whole};
 use bus_ticks::Profile;
 use cert_check::{Objection, Verdict, check};
 use certificate::read_cert;

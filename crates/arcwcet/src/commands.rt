@@ -1,26 +1,95 @@
-ghost use Rattle.std.specs.Prelude.{◌≡◌, option_map};
-ghost use Rattle.arcwcet.specs.Machine.{ShowsRegisters, ShowsSteps};
-ghost use Rattle.arcwcet.specs.Run.{RunsAsm, RunsBound, RunsCheck, RunsDebug, RunsMachine, RunsVisits};
+ghost use Rattle.std.specs.Prelude.{◌≡◌, ◌≢◌, ◌⊎◌, None, Some, option_map};
+ghost use Rattle.command_line.specs.Line.{Asked, asked_in, asked_of};
+ghost use Rattle.arcwcet.specs.Run.{RunsAsked, RunsAsm, RunsBound, RunsCheck, RunsDebug, RunsMachine};
+ghost use Rattle.arcwcet.specs.Run.{RunsVisits};
 
 use crate::assembly::image_written;
 use crate::bound::bound_report;
 use crate::check::check_report;
 use crate::debug::debug_report;
 use crate::fault::ReportFault;
-use crate::files::{read_files, read_three_files};
-use crate::machine::{run_report, trace_report};
-use crate::output::Output;
-use crate::read::read_limited;
-use crate::store::Store;
-use crate::told::{told_answer, told_report, told_store};
+use crate::files::{Store, read_limited, read_three_files, read_two_files};
+use crate::machine::{Front, Registers, Steps, machine_report};
+use crate::output::{Output, write_whole};
+use crate::status::{answer_status, line_status, report_status, store_status};
 use crate::visits::visits_report;
-use crate::whole::write_whole;
-use command_line::Names;
+use command_line::{Names, Request, request};
 use std::alloc::Global;
 use std::io::Read;
 
+fn obey<S: Store, I: Read, O: Output, E: Output>(
+    alloc: Global,
+    asked: Request<'_>,
+    store: &mut S,
+    input: &mut I,
+    out: &mut O,
+    err: &mut E,
+) -> u8
+    ensures done { RunsAsked S.read_gives S.write_gives I.remaining O.taken O.failures
+        (asked_of asked.entry) store.old store.new input.old input.new out.old out.new result }
+    ensures silent { result ≡ 0 → err.new ≡ err.old }
+{
+    match asked {
+        Request::Asm { source, image } => run_asm(alloc, source, image, store, out, err),
+        Request::Run(names) => run_machine::<Registers, S, O, E>(alloc, names, store, out, err),
+        Request::Trace(names) => run_machine::<Steps, S, O, E>(alloc, names, store, out, err),
+        Request::Debug(names) => run_debug(alloc, names, store, input, out, err),
+        Request::Bound(names) => run_bound(alloc, names, store, out, err),
+        Request::Check { names, cert } => run_check(alloc, names, cert, store, out, err),
+        Request::Visits {
+            names,
+            fiq_statement,
+            visits,
+        } => {
+            let asked = VisitsNames {
+                names,
+                fiq_statement,
+                visits,
+            };
+            run_visits(alloc, asked, store, out, err)
+        }
+    }
+}
+
+/// Runs the program on its words, of which the first is its name, and answers its exit status: 0; 1 where the
+/// work is refused, a certificate's verdict is No, or a machine stopped; 2 for wrong usage; 3 for lack of
+/// memory; 4 where a file, a stream or the output fails.
+///
+/// A refusal is one line on `err`, whose failures change no status. The work begins once everything is read:
+/// a cycle profile's file, the others as the words name them, then for `debug` alone standard input, each up
+/// to [`LIMIT`](crate::LIMIT) bytes; a longer one is refused with status 1. No memory is taken once the words
+/// are refused.
+pub fn program<S: Store, I: Read, O: Output, E: Output>(
+    alloc: Global,
+    words: &[String],
+    store: &mut S,
+    input: &mut I,
+    out: &mut O,
+    err: &mut E,
+) -> u8
+    // Words that ask for nothing are wrong usage, and no others are.
+    ensures usage { asked_in words.now ≡ None
+        → ((result ≡ 2) ⊎ (result ≡ 3)) × (out.new ≡ out.old) × (store.new ≡ store.old)
+        × (input.new ≡ input.old) }
+    ensures no_usage { asked_in words.now ≢ None → result ≢ 2 }
+
+    // What the words ask for was done.
+    ensures done { (asked : Asked) → asked_in words.now ≡ Some asked
+        → RunsAsked S.read_gives S.write_gives I.remaining O.taken O.failures asked store.old store.new
+        input.old input.new out.old out.new result }
+
+    // Nothing is printed on standard error at 0.
+    ensures silent { result ≡ 0 → err.new ≡ err.old }
+{
+    let asked = match request(alloc, words) {
+        Ok(asked) => asked,
+        Err(fault) => return line_status(fault, err),
+    };
+    obey(alloc, asked, store, input, out, err)
+}
+
 /// `asm`: reads the source, writes the image's file, and prints its size.
-pub(crate) fn run_asm<S: Store, O: Output, E: Output>(
+fn run_asm<S: Store, O: Output, E: Output>(
     alloc: Global,
     source: &str,
     image: &str,
@@ -34,65 +103,44 @@ pub(crate) fn run_asm<S: Store, O: Output, E: Output>(
 {
     let source = match store.read(alloc, source) {
         Ok(source) => source,
-        Err(fault) => return told_store(fault, err),
+        Err(fault) => return store_status(fault, err),
     };
     let written = match image_written(alloc, &source) {
         Ok(written) => written,
-        Err(fault) => return told_report(fault, err),
+        Err(fault) => return report_status(fault, err),
     };
     if let Err(fault) = store.write(image, &written.bytes) {
-        return told_store(fault, err);
+        return store_status(fault, err);
     }
     match write_whole(out, written.line.as_bytes()) {
         Ok(()) => 0,
-        Err(_) => told_report(ReportFault::Device, err),
+        Err(_) => report_status(ReportFault::Device, err),
     }
 }
 
-/// `run`: reads the files and prints the registers and the ticks of the run.
-pub(crate) fn run_run<S: Store, O: Output, E: Output>(
+/// `run` and `trace`: reads the files and prints the report of the run.
+fn run_machine<F: Front, S: Store, O: Output, E: Output>(
     alloc: Global,
     names: Names<'_>,
     store: &mut S,
     out: &mut O,
     err: &mut E,
 ) -> u8
-    ensures ran { RunsMachine ShowsRegisters S.read_gives O.taken O.failures
+    ensures ran { RunsMachine F.shows S.read_gives O.taken O.failures
         (option_map (λ n. n.now) names.entry.profile)
         names.entry.first.now names.entry.second.now store.old store.new out.old out.new result }
     ensures silent { result ≡ 0 → err.new ≡ err.old }
 {
-    let files = match read_files(alloc, names, store) {
+    let files = match read_two_files(alloc, names, store) {
         Ok(files) => files,
-        Err(fault) => return told_store(fault, err),
+        Err(fault) => return store_status(fault, err),
     };
-    let answer = run_report(alloc, &files.first, &files.second, files.profile(), out);
-    told_answer(answer, err)
-}
-
-/// `trace`: reads the files and prints the steps of the run.
-pub(crate) fn run_trace<S: Store, O: Output, E: Output>(
-    alloc: Global,
-    names: Names<'_>,
-    store: &mut S,
-    out: &mut O,
-    err: &mut E,
-) -> u8
-    ensures ran { RunsMachine ShowsSteps S.read_gives O.taken O.failures
-        (option_map (λ n. n.now) names.entry.profile)
-        names.entry.first.now names.entry.second.now store.old store.new out.old out.new result }
-    ensures silent { result ≡ 0 → err.new ≡ err.old }
-{
-    let files = match read_files(alloc, names, store) {
-        Ok(files) => files,
-        Err(fault) => return told_store(fault, err),
-    };
-    let answer = trace_report(alloc, &files.first, &files.second, files.profile(), out);
-    told_answer(answer, err)
+    let answer = machine_report::<F, O>(alloc, &files.first, &files.second, files.profile(), out);
+    answer_status(answer, err)
 }
 
 /// `debug`: reads the files, and standard input to its end, and prints the session of these commands.
-pub(crate) fn run_debug<S: Store, I: Read, O: Output, E: Output>(
+fn run_debug<S: Store, I: Read, O: Output, E: Output>(
     alloc: Global,
     names: Names<'_>,
     store: &mut S,
@@ -105,13 +153,13 @@ pub(crate) fn run_debug<S: Store, I: Read, O: Output, E: Output>(
         store.old store.new input.old input.new out.old out.new result }
     ensures silent { result ≡ 0 → err.new ≡ err.old }
 {
-    let files = match read_files(alloc, names, store) {
+    let files = match read_two_files(alloc, names, store) {
         Ok(files) => files,
-        Err(fault) => return told_store(fault, err),
+        Err(fault) => return store_status(fault, err),
     };
     let commands = match read_limited(alloc, input) {
         Ok(commands) => commands,
-        Err(fault) => return told_store(fault, err),
+        Err(fault) => return store_status(fault, err),
     };
     match debug_report(
         alloc,
@@ -122,12 +170,12 @@ pub(crate) fn run_debug<S: Store, I: Read, O: Output, E: Output>(
         out,
     ) {
         Ok(()) => 0,
-        Err(fault) => told_report(fault, err),
+        Err(fault) => report_status(fault, err),
     }
 }
 
 /// `bound`: reads the files and prints the report.
-pub(crate) fn run_bound<S: Store, O: Output, E: Output>(
+fn run_bound<S: Store, O: Output, E: Output>(
     alloc: Global,
     names: Names<'_>,
     store: &mut S,
@@ -139,18 +187,18 @@ pub(crate) fn run_bound<S: Store, O: Output, E: Output>(
         names.entry.first.now names.entry.second.now store.old store.new out.old out.new result }
     ensures silent { result ≡ 0 → err.new ≡ err.old }
 {
-    let files = match read_files(alloc, names, store) {
+    let files = match read_two_files(alloc, names, store) {
         Ok(files) => files,
-        Err(fault) => return told_store(fault, err),
+        Err(fault) => return store_status(fault, err),
     };
     match bound_report(alloc, &files.first, &files.second, files.profile(), out) {
         Ok(()) => 0,
-        Err(fault) => told_report(fault, err),
+        Err(fault) => report_status(fault, err),
     }
 }
 
 /// `check`: reads the files and prints the verdict.
-pub(crate) fn run_check<S: Store, O: Output, E: Output>(
+fn run_check<S: Store, O: Output, E: Output>(
     alloc: Global,
     names: Names<'_>,
     cert: &str,
@@ -165,7 +213,7 @@ pub(crate) fn run_check<S: Store, O: Output, E: Output>(
 {
     let files = match read_three_files(alloc, names, cert, store) {
         Ok(files) => files,
-        Err(fault) => return told_store(fault, err),
+        Err(fault) => return store_status(fault, err),
     };
     let handler = &files.handler;
     let answer = check_report(
@@ -176,19 +224,19 @@ pub(crate) fn run_check<S: Store, O: Output, E: Output>(
         handler.profile(),
         out,
     );
-    told_answer(answer, err)
+    answer_status(answer, err)
 }
 
 /// The names of the files of `visits`, and the number of visits.
 #[derive(Clone, Copy)]
-pub(crate) struct VisitsNames<'a> {
-    pub(crate) names: Names<'a>,
-    pub(crate) fiq_statement: &'a str,
-    pub(crate) visits: u32,
+struct VisitsNames<'a> {
+    names: Names<'a>,
+    fiq_statement: &'a str,
+    visits: u32,
 }
 
 /// `visits`: reads the files and prints the report.
-pub(crate) fn run_visits<S: Store, O: Output, E: Output>(
+fn run_visits<S: Store, O: Output, E: Output>(
     alloc: Global,
     asked: VisitsNames<'_>,
     store: &mut S,
@@ -203,7 +251,7 @@ pub(crate) fn run_visits<S: Store, O: Output, E: Output>(
 {
     let files = match read_three_files(alloc, asked.names, asked.fiq_statement, store) {
         Ok(files) => files,
-        Err(fault) => return told_store(fault, err),
+        Err(fault) => return store_status(fault, err),
     };
     let handler = &files.handler;
     match visits_report(
@@ -216,6 +264,6 @@ pub(crate) fn run_visits<S: Store, O: Output, E: Output>(
         out,
     ) {
         Ok(()) => 0,
-        Err(fault) => told_report(fault, err),
+        Err(fault) => report_status(fault, err),
     }
 }

@@ -5,23 +5,22 @@ ghost use Rattle.arcwcet.specs.Machine.{IsRunRefused, IsRunnable};
 ghost use Rattle.arcwcet.specs.Priced.{Priced};
 
 use crate::fault::ReportFault;
+use crate::handler::profile_of;
 use crate::machine::place;
-use crate::output::Output;
-use crate::priced::profile_of;
-use crate::whole::write_whole;
+use crate::output::{Output, write_whole};
 use bus_ticks::Profile;
 use debugger::converse;
 use std::alloc::Global;
 
-// What the session tells.
-fn told(
+// What the session prints.
+fn session_text(
     alloc: Global,
     source: &[u8],
     machine: &[u8],
     commands: &[u8],
     profile: Profile,
 ) -> Result<Vec<u8>, ReportFault>
-    ensures told { IfOk result
+    ensures session { IfOk result
         (λ text. IsDebugReport source.now machine.now commands.now profile text.items) }
     ensures fault { IfErr result
         (λ e. (e ≢ ReportFault.Device) × IsRunRefused source.now machine.now profile e) }
@@ -71,7 +70,7 @@ fn priced_session<O: Output>(
         (IsRunnable source.now machine.now profile)
         (IsRunRefused source.now machine.now profile) out.old out.new result }
 {
-    let text = told(alloc, source, machine, commands, profile)?;
+    let text = session_text(alloc, source, machine, commands, profile)?;
     match write_whole(out, &text) {
         Ok(()) => Ok(()),
         Err(_) => Err(ReportFault::Device),

@@ -1,20 +1,104 @@
-ghost use Rattle.std.specs.Prelude.{◌≡◌, [], ◌∷◌, IfOk, IfErr, option_map};
+ghost use Rattle.std.specs.Prelude.{◌≡◌, ◌≤◌, ◌+◌, ℕ, List, [], ◌∷◌, length, vec_len, option_map};
+ghost use Rattle.std.specs.Prelude.{Result, IfErr, IfOk, IfSome, IsErrOf, OnErr, OnOk};
+ghost use Rattle.std.specs.Io.KnownBytes.{Consumes, IsAtEnd};
 ghost use Rattle.arcwcet.specs.Files.{FailsToRead, ReadsAll, in_front};
+ghost use Rattle.arcwcet.specs.Store.{bytes_read};
+ghost use Rattle.arcwcet.specs.declared.fault.StoreFault.{StoreFault};
 
 use crate::fault::StoreFault;
-use crate::store::Store;
 use command_line::Names;
 use std::alloc::Global;
+use std::fs;
+use std::io::{Read, Write};
+use std::rt::Files;
+
+/// Where the program's files lie.
+pub trait Store {
+    /// What a read of a name may give, and the store after it; the default says nothing.
+    ghost read_gives: { Self → List ℕ → Result (List ℕ) StoreFault → Self → Type 0 } = { λ _ _ _ _. Unit {0} };
+
+    /// The file's bytes, of which there are at most 16,777,216.
+    fn read(&mut self, alloc: Global, name: &str) -> Result<Vec<u8>, StoreFault>
+        ensures gives { read_gives self.old name.now (bytes_read result) self.new }
+        ensures limit { IfOk result (λ v. vec_len v ≤ 16777216) };
+
+    /// What a write of bytes to a name may give, and the store after it; the default says nothing.
+    ghost write_gives: { Self → List ℕ → List ℕ → Result (Unit {0}) StoreFault → Self → Type 0 } = { λ _ _ _ _ _. Unit {0} };
+
+    /// Makes the bytes the file's. The only refusal is `Device`.
+    fn write(&mut self, name: &str, bytes: &[u8]) -> Result<(), StoreFault>
+        ensures gives { write_gives self.old name.now bytes.now result self.new }
+        ensures device { IfErr result (λ e. e ≡ StoreFault.Device) };
+}
+
+/// The files of the system.
+#[derive(Drop)]
+pub struct HostStore<'a, R: Files> {
+    rt: &'a R,
+}
+
+impl<'a, R: Files> HostStore<'a, R> {
+    pub fn new(rt: &'a R) -> Self {
+        HostStore { rt }
+    }
+}
+
+impl<R: Files> Store for HostStore<'_, R> {
+    fn read(&mut self, alloc: Global, name: &str) -> Result<Vec<u8>, StoreFault> {
+        match fs::open(self.rt, name) {
+            Ok(mut file) => read_limited(alloc, &mut file),
+            Err(_) => Err(StoreFault::Device),
+        }
+    }
+
+    fn write(&mut self, name: &str, bytes: &[u8]) -> Result<(), StoreFault> {
+        match fs::write(self.rt, name, bytes) {
+            Ok(()) => Ok(()),
+            Err(_) => Err(StoreFault::Device),
+        }
+    }
+}
+
+/// The greatest length of an input.
+pub const LIMIT: usize = 16_777_216;
+
+/// What a reader has left, to its end. A longer one is left at its byte 16,777,217.
+pub fn read_limited<R: Read>(alloc: Global, reader: &mut R) -> Result<Vec<u8>, StoreFault>
+    ensures limit { IfOk result (λ v. vec_len v ≤ LIMIT) }
+    ensures consumed { IfOk result (λ v. Consumes (R.remaining reader.old) (R.remaining reader.new) v.items) }
+    ensures at_end { OnOk result (IsAtEnd (R.remaining reader.new)) }
+    ensures whole { IfOk result (λ v. IfSome (R.remaining reader.old) (λ xs. v.items ≡ xs)) }
+    ensures too_long { IsErrOf result StoreFault.InputTooLong → (front : List ℕ) × (length front ≡ LIMIT + 1)
+        × Consumes (R.remaining reader.old) (R.remaining reader.new) front }
+{
+    let mut bytes = Vec::new(alloc);
+    let mut chunk = [0u8; 4096];
+    while bytes.len() <= LIMIT {
+        let want = (LIMIT + 1 - bytes.len()).min(4096);
+        let part = &mut chunk[..want];
+        let n = match reader.read(part) {
+            Ok(n) => n,
+            Err(_) => return Err(StoreFault::Device),
+        };
+        if n == 0 {
+            return Ok(bytes);
+        }
+        if bytes.extend_from_slice(&part[..n]).is_err() {
+            return Err(StoreFault::Memory);
+        }
+    }
+    Err(StoreFault::InputTooLong)
+}
 
 /// The bytes of two files, and of a cycle profile's where one is named.
 #[derive(Drop)]
-pub(crate) struct Files {
+pub(crate) struct TwoFiles {
     pub(crate) profile: Option<Vec<u8>>,
     pub(crate) first: Vec<u8>,
     pub(crate) second: Vec<u8>,
 }
 
-impl Files {
+impl TwoFiles {
     pub(crate) fn profile(&self) -> Option<&[u8]>
         ensures { option_map (λ f. f.now) result ≡ option_map (λ v. v.items) self.now.profile }
     {
@@ -44,11 +128,11 @@ fn read_if_named<S: Store>(
 }
 
 /// Reads the profile's file first, and then the other two.
-pub(crate) fn read_files<S: Store>(
+pub(crate) fn read_two_files<S: Store>(
     alloc: Global,
     names: Names<'_>,
     store: &mut S,
-) -> Result<Files, StoreFault>
+) -> Result<TwoFiles, StoreFault>
     ensures read { IfOk result
         (λ f. ReadsAll S.read_gives store.old
         (in_front (option_map (λ n. n.now) names.entry.profile)
@@ -62,7 +146,7 @@ pub(crate) fn read_files<S: Store>(
     let profile = read_if_named(alloc, names.profile, store)?;
     let first = store.read(alloc, names.first)?;
     let second = store.read(alloc, names.second)?;
-    Ok(Files {
+    Ok(TwoFiles {
         profile,
         first,
         second,
@@ -72,7 +156,7 @@ pub(crate) fn read_files<S: Store>(
 /// The bytes of a source and a statement, of a cycle profile where one is named, and of a third file.
 #[derive(Drop)]
 pub(crate) struct ThreeFiles {
-    pub(crate) handler: Files,
+    pub(crate) handler: TwoFiles,
     pub(crate) third: Vec<u8>,
 }
 
@@ -94,7 +178,7 @@ pub(crate) fn read_three_files<S: Store>(
         (in_front (option_map (λ n. n.now) names.entry.profile)
         (names.entry.first.now ∷ names.entry.second.now ∷ third.now ∷ [])) e store.new) }
 {
-    let handler = read_files(alloc, names, store)?;
+    let handler = read_two_files(alloc, names, store)?;
     let third = store.read(alloc, third)?;
     Ok(ThreeFiles { handler, third })
 }

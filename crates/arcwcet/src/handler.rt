@@ -1,17 +1,49 @@
-ghost use Rattle.std.specs.Prelude.{◌≡◌, List, ℕ, Ok, IfErr, IfOk};
+ghost use Rattle.std.specs.Prelude.{◌≡◌, List, ℕ, Ok, IfErr, IfOk, option_map};
 ghost use Rattle.loader.specs.Labels.{address_of};
 ghost use Rattle.flow_graph.specs.Flow.{IsWellFormed};
 ghost use Rattle.statement.specs.Statement.{IsStatement};
+ghost use Rattle.arcwcet.specs.Priced.{HasNoProfile, IsProfile};
 ghost use Rattle.arcwcet.specs.Report.{HasLoops, IsHandlerRefused, IsTreeOf};
-ghost use Rattle.arcwcet.specs.Source.{source_of};
+ghost use Rattle.arcwcet.specs.Source.{IsSourceFault, source_of};
 
 use crate::fault::ReportFault;
-use crate::source::read_source;
-use assembler::Assembly;
+use assembler::{Assembly, assemble};
 use bus_ticks::Profile;
 use flow_graph::{Graph, Statement, build, read_statement};
+use loader::labels::Labels;
+use loader::reading::{MAGIC, read_image};
 use loop_bounds::{LoopTree, nest};
+use machine_file::read_profile;
 use std::alloc::Global;
+
+/// The cycle profile of a file, or the first one where there is no file.
+pub(crate) fn profile_of(alloc: Global, file: Option<&[u8]>) -> Result<Profile, ReportFault>
+    ensures is { IfOk result (IsProfile (option_map (λ f. f.now) file.entry)) }
+    ensures none { IfErr result (HasNoProfile (option_map (λ f. f.now) file.entry)) }
+{
+    match file {
+        Some(text) => {
+            let profile = read_profile(alloc, text)?;
+            Ok(profile)
+        }
+        None => Ok(Profile::one()),
+    }
+}
+
+/// The words and the labels of a source: of an image where it begins as one, which has no labels, else of a
+/// text.
+pub(crate) fn read_source(alloc: Global, source: &[u8]) -> Result<Assembly, ReportFault>
+    ensures said { IfOk result (λ a. source_of source.now ≡ Ok (a.image, address_of a.labels)) }
+    ensures fault { IfErr result (IsSourceFault source.now) }
+{
+    if source.starts_with(&MAGIC) {
+        let image = read_image(alloc, source)?;
+        let labels = Labels::new(alloc);
+        return Ok(Assembly { image, labels });
+    }
+    let assembly = assemble(alloc, source)?;
+    Ok(assembly)
+}
 
 /// A handler's statement, its flow graph and the tree of its loops.
 #[derive(Drop)]

@@ -1,21 +1,21 @@
 ghost use Rattle.std.specs.Prelude.{◌≡◌, ◌≢◌, ◌++◌, List, ℕ, Ok, IfErr, IfOk, OnOk, option_map, string_bytes};
 ghost use Rattle.std.specs.Io.KnownBytes.{Appends};
 ghost use Rattle.bus_ticks.specs.declared.profile.Profile.{Profile};
+ghost use Rattle.arm2_exec.specs.Run.{Runs};
 ghost use Rattle.loader.specs.Labels.{address_of};
+ghost use Rattle.trace_text.specs.TraceText.{Adds};
 ghost use Rattle.arcwcet.specs.Answers.{Answers};
-ghost use Rattle.arcwcet.specs.Machine.{IsMachineReport, IsPlaced, IsRunRefused, IsRunnable, IsStated};
-ghost use Rattle.arcwcet.specs.Machine.{ShowsRegisters, ShowsSteps, end_text};
+ghost use Rattle.arcwcet.specs.Machine.{Front, IsMachineReport, IsPlaced, IsRunRefused, IsRunnable};
+ghost use Rattle.arcwcet.specs.Machine.{IsStated, ShowsRegisters, ShowsSteps, end_text};
 ghost use Rattle.arcwcet.specs.Output.{FailsSince, TakesFront};
 ghost use Rattle.arcwcet.specs.Priced.{Priced};
 ghost use Rattle.arcwcet.specs.Source.{source_of};
 
 use crate::fault::ReportFault;
-use crate::output::Output;
-use crate::priced::profile_of;
-use crate::source::read_source;
-use crate::whole::write_whole;
+use crate::handler::{profile_of, read_source};
+use crate::output::{Output, write_whole};
 use arm2_effect::address_of;
-use arm2_exec::{Machine, Ran, Reg};
+use arm2_exec::{Input, Machine, Ran, Reg};
 use assembler::Assembly;
 use bus_ticks::Profile;
 use loader::image::Image;
@@ -98,67 +98,80 @@ fn put_end(out: &mut String, machine: &Machine, ran: &Ran) -> Result<(), AllocEr
     write_ticks(out, ran.ticks, ran.elapsed)
 }
 
-fn shown_run(
+/// What the report of a run prints in front of its end.
+pub(crate) trait Front {
+    /// The text, of the machine before the run, its inputs and the machine after it.
+    ghost shows: { Front };
+
+    /// Runs the machine and adds the text.
+    fn write_front(
+        out: &mut String,
+        machine: &mut Machine,
+        inputs: &[Input],
+    ) -> Result<Ran, AllocError>
+        ensures runs { IfOk result (λ ran. Runs machine.old inputs.now ran machine.new) }
+        ensures text { OnOk result
+            (Adds (shows machine.old inputs.now machine.new) (string_bytes out.old) (string_bytes out.new)) };
+}
+
+/// The registers in which the run ends.
+pub(crate) struct Registers;
+
+impl Front for Registers {
+    ghost shows = { ShowsRegisters };
+
+    fn write_front(
+        out: &mut String,
+        machine: &mut Machine,
+        inputs: &[Input],
+    ) -> Result<Ran, AllocError> {
+        let ran = machine.run(inputs);
+        write_registers(out, machine)?;
+        Ok(ran)
+    }
+}
+
+/// A line for each step.
+pub(crate) struct Steps;
+
+impl Front for Steps {
+    ghost shows = { ShowsSteps };
+
+    fn write_front(
+        out: &mut String,
+        machine: &mut Machine,
+        inputs: &[Input],
+    ) -> Result<Ran, AllocError> {
+        write_run(out, machine, inputs)
+    }
+}
+
+fn report_of<F: Front>(
     alloc: Global,
     source: &[u8],
     machine: &[u8],
     profile: Profile,
 ) -> Result<Shown, ReportFault>
     ensures shown { IfOk result
-        (λ s. IsMachineReport ShowsRegisters source.now machine.now profile s.done (string_bytes s.text)) }
+        (λ s. IsMachineReport F.shows source.now machine.now profile s.done (string_bytes s.text)) }
     ensures fault { IfErr result
         (λ e. (e ≢ ReportFault.Device) × IsRunRefused source.now machine.now profile e) }
     ensures only { IsRunnable source.now machine.now profile → IfErr result (λ e. e ≡ ReportFault.Memory) }
 {
     let mut placed = place(alloc, source, machine, profile)?;
-    run_text(alloc, &mut placed)
+    placed_report::<F>(alloc, &mut placed)
 }
 
 // The report of a machine that has its image.
-fn run_text(alloc: Global, placed: &mut Placed) -> Result<Shown, ReportFault>
+fn placed_report<F: Front>(alloc: Global, placed: &mut Placed) -> Result<Shown, ReportFault>
     ensures shown { (source machine : List ℕ) (profile : Profile)
         → IsPlaced source machine profile placed.old.file placed.old.machine
-        → IfOk result
-        (λ s. IsMachineReport ShowsRegisters source machine profile s.done (string_bytes s.text)) }
-    ensures memory { IfErr result (λ e. e ≡ ReportFault.Memory) }
-{
-    let inputs = placed.file.inputs(alloc)?;
-    let ran = placed.machine.run(&inputs);
-    let mut text = String::new(alloc);
-    write_registers(&mut text, &placed.machine)?;
-    put_end(&mut text, &placed.machine, &ran)?;
-    Ok(Shown {
-        text,
-        done: ran.stopped.is_none(),
-    })
-}
-
-fn shown_trace(
-    alloc: Global,
-    source: &[u8],
-    machine: &[u8],
-    profile: Profile,
-) -> Result<Shown, ReportFault>
-    ensures shown { IfOk result
-        (λ s. IsMachineReport ShowsSteps source.now machine.now profile s.done (string_bytes s.text)) }
-    ensures fault { IfErr result
-        (λ e. (e ≢ ReportFault.Device) × IsRunRefused source.now machine.now profile e) }
-    ensures only { IsRunnable source.now machine.now profile → IfErr result (λ e. e ≡ ReportFault.Memory) }
-{
-    let mut placed = place(alloc, source, machine, profile)?;
-    steps_text(alloc, &mut placed)
-}
-
-// The lines of the steps of a machine that has its image.
-fn steps_text(alloc: Global, placed: &mut Placed) -> Result<Shown, ReportFault>
-    ensures shown { (source machine : List ℕ) (profile : Profile)
-        → IsPlaced source machine profile placed.old.file placed.old.machine
-        → IfOk result (λ s. IsMachineReport ShowsSteps source machine profile s.done (string_bytes s.text)) }
+        → IfOk result (λ s. IsMachineReport F.shows source machine profile s.done (string_bytes s.text)) }
     ensures memory { IfErr result (λ e. e ≡ ReportFault.Memory) }
 {
     let inputs = placed.file.inputs(alloc)?;
     let mut text = String::new(alloc);
-    let ran = write_run(&mut text, &mut placed.machine, &inputs)?;
+    let ran = F::write_front(&mut text, &mut placed.machine, &inputs)?;
     put_end(&mut text, &placed.machine, &ran)?;
     Ok(Shown {
         text,
@@ -182,6 +195,39 @@ fn print<O: Output>(shown: &Shown, out: &mut O) -> Result<bool, ReportFault>
     }
 }
 
+fn priced<F: Front, O: Output>(
+    alloc: Global,
+    source: &[u8],
+    machine: &[u8],
+    profile: Profile,
+    out: &mut O,
+) -> Result<bool, ReportFault>
+    ensures { Answers O.taken O.failures (IsMachineReport F.shows source.now machine.now profile)
+        (IsRunnable source.now machine.now profile)
+        (IsRunRefused source.now machine.now profile) out.old out.new result }
+{
+    let shown = report_of::<F>(alloc, source, machine, profile)?;
+    print(&shown, out)
+}
+
+/// Runs the machine of a source and a machine file by a cycle profile's file or the first profile, prints the
+/// report, and answers whether the run did all its steps.
+pub(crate) fn machine_report<F: Front, O: Output>(
+    alloc: Global,
+    source: &[u8],
+    machine: &[u8],
+    profile: Option<&[u8]>,
+    out: &mut O,
+) -> Result<bool, ReportFault>
+    ensures { Priced (option_map (λ f. f.now) profile.entry)
+        (λ p. Answers O.taken O.failures (IsMachineReport F.shows source.now machine.now p)
+        (IsRunnable source.now machine.now p)
+        (IsRunRefused source.now machine.now p) out.old out.new result) out.old out.new result }
+{
+    let profile = profile_of(alloc, profile)?;
+    priced::<F, O>(alloc, source, machine, profile, out)
+}
+
 /// Runs the machine of a source and a machine file ([`read_machine`](machine_file::read_machine)) for the
 /// file's steps, 65,536 at most, by a cycle profile's file or the first profile. Writes the registers of the
 /// mode that it ends in, where it stopped (if it did), and the ticks of the processor and those that passed,
@@ -203,23 +249,7 @@ pub fn run_report<O: Output>(
         (IsRunnable source.now machine.now p)
         (IsRunRefused source.now machine.now p) out.old out.new result) out.old out.new result }
 {
-    let profile = profile_of(alloc, profile)?;
-    priced_run(alloc, source, machine, profile, out)
-}
-
-fn priced_run<O: Output>(
-    alloc: Global,
-    source: &[u8],
-    machine: &[u8],
-    profile: Profile,
-    out: &mut O,
-) -> Result<bool, ReportFault>
-    ensures { Answers O.taken O.failures (IsMachineReport ShowsRegisters source.now machine.now profile)
-        (IsRunnable source.now machine.now profile)
-        (IsRunRefused source.now machine.now profile) out.old out.new result }
-{
-    let shown = shown_run(alloc, source, machine, profile)?;
-    print(&shown, out)
+    machine_report::<Registers, O>(alloc, source, machine, profile, out)
 }
 
 /// Runs the machine as [`run_report`] does, and writes the line of each step (the instruction's address,
@@ -240,21 +270,5 @@ pub fn trace_report<O: Output>(
         (IsRunnable source.now machine.now p)
         (IsRunRefused source.now machine.now p) out.old out.new result) out.old out.new result }
 {
-    let profile = profile_of(alloc, profile)?;
-    priced_trace(alloc, source, machine, profile, out)
-}
-
-fn priced_trace<O: Output>(
-    alloc: Global,
-    source: &[u8],
-    machine: &[u8],
-    profile: Profile,
-    out: &mut O,
-) -> Result<bool, ReportFault>
-    ensures { Answers O.taken O.failures (IsMachineReport ShowsSteps source.now machine.now profile)
-        (IsRunnable source.now machine.now profile)
-        (IsRunRefused source.now machine.now profile) out.old out.new result }
-{
-    let shown = shown_trace(alloc, source, machine, profile)?;
-    print(&shown, out)
+    machine_report::<Steps, O>(alloc, source, machine, profile, out)
 }

@@ -11,11 +11,8 @@ ghost use Rattle.arcwcet.specs.VisitsReport.{IsVisitsReport, ReportsVisits, summ
 
 use crate::bound::{BoundReport, longest_report};
 use crate::fault::ReportFault;
-use crate::handler::{Handler, handler_of, stated_handler};
-use crate::output::Output;
-use crate::priced::profile_of;
-use crate::source::read_source;
-use crate::whole::write_whole;
+use crate::handler::{Handler, handler_of, profile_of, read_source, stated_handler};
+use crate::output::{Output, write_whole};
 use assembler::Assembly;
 use bus_ticks::{Profile, fiq_entry};
 use flow_graph::read_statement;

@@ -1,5 +1,7 @@
+use crate::sample::Sample;
 use arcwcet::{
     MemoryOutput, ReportFault, Store, StoreFault, bound_report, check_report, run_report,
+    visits_report,
 };
 use std::alloc::{AllocError, Global};
 use std::fmt::Write;
@@ -35,30 +37,42 @@ impl From<ReportFault> for Unjudged {
     }
 }
 
-/// What was found about a handler: its bound in ticks, the verdict on its certificate, and what its run took.
+/// The greatest run time of a handler, in ticks, and whether the checker accepts all certificates of it.
 #[derive(Clone, Copy, Debug)]
-pub(crate) struct Judgement {
-    bound: u64,
+struct Bounded {
+    ticks: u64,
     accepted: bool,
+}
+
+/// What a run of a handler took.
+#[derive(Clone, Copy, Debug)]
+struct Run {
     finished: bool,
     ticks: u64,
     elapsed: u64,
 }
 
+/// What was found about a handler: its bound, and what its run took.
+#[derive(Clone, Copy, Debug)]
+pub(crate) struct Judgement {
+    bound: Bounded,
+    run: Run,
+}
+
 impl Judgement {
-    /// Whether the certificate was accepted and the run kept the bound.
+    /// Whether each certificate was accepted and the run kept the bound.
     pub(crate) fn holds(&self) -> bool {
-        self.accepted && self.finished && self.ticks <= self.bound
+        self.bound.accepted && self.run.finished && self.run.ticks <= self.bound.ticks
     }
 }
 
 impl fmt::Display for Judgement {
     fn fmt<W: Write>(&self, f: &mut fmt::Formatter<W>) -> fmt::Result {
-        let verdict = if self.accepted { "yes" } else { "no" };
+        let verdict = if self.bound.accepted { "yes" } else { "no" };
         write!(
             f,
             "bound {}, {verdict}, ticks {} elapsed {}",
-            self.bound, self.ticks, self.elapsed
+            self.bound.ticks, self.run.ticks, self.run.elapsed
         )
     }
 }
@@ -71,14 +85,21 @@ struct Files {
     machine: Vec<u8>,
 }
 
-fn read_files<S: Store>(alloc: Global, store: &mut S, name: &str) -> Result<Files, Unjudged> {
-    let source = format!(in alloc; "{name}/handler.s")?;
-    let statement = format!(in alloc; "{name}/handler.toml")?;
-    let machine = format!(in alloc; "{name}/machine.toml")?;
+fn read_file<S: Store>(
+    alloc: Global,
+    store: &mut S,
+    folder: &str,
+    name: &str,
+) -> Result<Vec<u8>, Unjudged> {
+    let path = format!(in alloc; "{folder}/{name}")?;
+    Ok(store.read(alloc, path.as_str())?)
+}
+
+fn read_files<S: Store>(alloc: Global, store: &mut S, folder: &str) -> Result<Files, Unjudged> {
     Ok(Files {
-        source: store.read(alloc, source.as_str())?,
-        statement: store.read(alloc, statement.as_str())?,
-        machine: store.read(alloc, machine.as_str())?,
+        source: read_file(alloc, store, folder, "handler.s")?,
+        statement: read_file(alloc, store, folder, "handler.toml")?,
+        machine: read_file(alloc, store, folder, "machine.toml")?,
     })
 }
 
@@ -94,10 +115,10 @@ fn number_after(line: &str, word: &str) -> Option<u64> {
     None
 }
 
-// The bound of a certificate's text, which its second line gives.
-fn bound_of(cert: &[u8]) -> Option<u64> {
-    let text = str::from_utf8(cert).ok()?;
-    number_after(text.lines().nth(1)?, "bound")
+// The number that a line of a text gives after a word; lines are counted from 0.
+fn number_in(text: &[u8], line: usize, word: &str) -> Option<u64> {
+    let text = str::from_utf8(text).ok()?;
+    number_after(text.lines().nth(line)?, word)
 }
 
 // The ticks and the elapsed ticks of a run's report, which its last line gives.
@@ -107,33 +128,86 @@ fn ticks_of(report: &[u8]) -> Option<(u64, u64)> {
     Some((number_after(line, "ticks")?, number_after(line, "elapsed")?))
 }
 
-/// Judges the handler of a name.
-pub(crate) fn judge<S: Store>(
+fn is_accepted(
     alloc: Global,
-    store: &mut S,
-    name: &str,
-) -> Result<Judgement, Unjudged> {
-    let files = read_files(alloc, store, name)?;
+    files: &Files,
+    statement: &[u8],
+    cert: &[u8],
+) -> Result<bool, Unjudged> {
+    let mut verdict = MemoryOutput::with_room(alloc, 0)?;
+    Ok(check_report(alloc, &files.source, statement, cert, None, &mut verdict)?)
+}
+
+// By `bound`.
+fn bounded_alone(alloc: Global, files: &Files) -> Result<Bounded, Unjudged> {
     let mut cert = MemoryOutput::with_room(alloc, 0)?;
     bound_report(alloc, &files.source, &files.statement, None, &mut cert)?;
-    let bound = bound_of(cert.bytes()).ok_or(Unjudged::Text)?;
-    let mut verdict = MemoryOutput::with_room(alloc, 0)?;
-    let accepted = check_report(
+    Ok(Bounded {
+        ticks: number_in(cert.bytes(), 1, "bound").ok_or(Unjudged::Text)?,
+        accepted: is_accepted(alloc, files, &files.statement, cert.bytes())?,
+    })
+}
+
+// Both certificates in what `visits` prints, the IRQ handler's first.
+fn certificates_of(report: &[u8]) -> Option<(&str, &str)> {
+    let text = str::from_utf8(report).ok()?;
+    let irq = text.find("arcwcet certificate ")?;
+    let fiq = text.rfind("arcwcet certificate ")?;
+    Some((text.get(irq..fiq)?, text.get(fiq..)?))
+}
+
+// By `visits`.
+fn bounded_with_visits(
+    alloc: Global,
+    files: &Files,
+    fiq: &[u8],
+    visits: u32,
+) -> Result<Bounded, Unjudged> {
+    let mut report = MemoryOutput::with_room(alloc, 0)?;
+    visits_report(
         alloc,
         &files.source,
         &files.statement,
-        cert.bytes(),
+        fiq,
+        visits,
         None,
-        &mut verdict,
+        &mut report,
     )?;
-    let mut run = MemoryOutput::with_room(alloc, 0)?;
-    let finished = run_report(alloc, &files.source, &files.machine, None, &mut run)?;
-    let (ticks, elapsed) = ticks_of(run.bytes()).ok_or(Unjudged::Text)?;
-    Ok(Judgement {
-        bound,
-        accepted,
+    let (of_irq, of_fiq) = certificates_of(report.bytes()).ok_or(Unjudged::Text)?;
+    Ok(Bounded {
+        ticks: number_in(report.bytes(), 5, "total").ok_or(Unjudged::Text)?,
+        accepted: is_accepted(alloc, files, &files.statement, of_irq.as_bytes())?
+            && is_accepted(alloc, files, fiq, of_fiq.as_bytes())?,
+    })
+}
+
+fn run_of(alloc: Global, files: &Files) -> Result<Run, Unjudged> {
+    let mut report = MemoryOutput::with_room(alloc, 0)?;
+    let finished = run_report(alloc, &files.source, &files.machine, None, &mut report)?;
+    let (ticks, elapsed) = ticks_of(report.bytes()).ok_or(Unjudged::Text)?;
+    Ok(Run {
         finished,
         ticks,
         elapsed,
+    })
+}
+
+/// Judges a sample handler.
+pub(crate) fn judge<S: Store>(
+    alloc: Global,
+    store: &mut S,
+    sample: Sample,
+) -> Result<Judgement, Unjudged> {
+    let files = read_files(alloc, store, sample.folder)?;
+    let bound = match sample.visits {
+        None => bounded_alone(alloc, &files)?,
+        Some(visits) => {
+            let fiq = read_file(alloc, store, sample.folder, "fiq.toml")?;
+            bounded_with_visits(alloc, &files, &fiq, visits)?
+        }
+    };
+    Ok(Judgement {
+        bound,
+        run: run_of(alloc, &files)?,
     })
 }

@@ -1,35 +1,26 @@
 //! Judges the sample handlers in `data/`, each with its source, its statement and its machine file in a
 //! folder of its own: a line of its greatest run time, of the checker's verdict on the certificate that says
-//! so, and of the ticks of a run from its entry to the address to which it returns. It fails where a
-//! certificate is not accepted, or where a run takes more ticks than its bound or stops.
+//! so, and of the ticks of a run from its entry to the address to which it returns. Where FIQ interrupts the
+//! handler, the bound is that with as many visits as the run has. It fails where a certificate is not
+//! accepted, or where a run takes more ticks than its bound or stops.
 #![tactic(auto)]
 
 mod judgement;
+mod sample;
 
 use arcwcet::HostStore;
 use judgement::judge;
+use sample::samples;
 use std::io;
 use std::process::ExitCode;
-
-/// The folders in `data/`.
-const HANDLERS: [&str; 9] = [
-    "floppy",
-    "econet",
-    "podule_block",
-    "timer",
-    "vsync",
-    "keyboard",
-    "serial",
-    "dispatch",
-    "sound",
-];
 
 fn main(rt: HostRuntime) -> io::Result<ExitCode> {
     let alloc = rt.alloc();
     let mut store = HostStore::new(&rt);
     let mut failed = false;
-    for name in HANDLERS {
-        match judge(alloc, &mut store, name) {
+    for sample in samples() {
+        let name = sample.folder;
+        match judge(alloc, &mut store, sample) {
             Ok(judgement) => {
                 println!(rt; "{name}: {judgement}")?;
                 failed = failed || !judgement.holds();

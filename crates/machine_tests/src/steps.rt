@@ -1,8 +1,10 @@
 use arm2_effect::{Kind, Reg, Why};
 use arm2_exec::{Input, Machine, Stepped, exceptions_keep_the_rest};
+use assembler::assemble;
 use bitflags::Flags;
 use bus_ticks::Profile;
 use ioc::Lines;
+use loader::loading::load;
 use memc::{Memc, PageSize, Spot};
 use std::alloc::Global;
 use std::test::Fail;
@@ -113,5 +115,49 @@ fn stopped_step_changes_nothing(rt: HostRuntime) -> Result<(), Fail> {
     };
     assert!(rt; told == wanted);
     assert!(rt; !status(&machine, 4));
+    Ok(())
+}
+
+// An IRQ handler that counts down from 3, and a FIQ handler that returns at once.
+const COUNTDOWN_AND_FIQ: &[u8] = b"
+    ORG    &1C
+fiq SUBS   PC,R14,#4
+    ORG    &8000
+    MOV    R0,#3
+on  SUBS   R0,R0,#1
+    BNE    on
+    SUBS   PC,R14,#4
+";
+
+// The address and the ticks of each step where FIQ is requested at the second one alone.
+const WITH_ONE_FIQ: [(u32, u32); 10] = [
+    (0x8000, 1),
+    (0x8004, 5),
+    (0x1C, 4),
+    (0x8004, 1),
+    (0x8008, 5),
+    (0x8004, 1),
+    (0x8008, 5),
+    (0x8004, 1),
+    (0x8008, 2),
+    (0x800C, 5),
+];
+
+#[test]
+fn fiq_in_an_irq_handler(rt: HostRuntime) -> Result<(), Fail> {
+    let alloc = rt.alloc();
+    let mut machine = Machine::new(alloc, PageSize::K32, Profile::one())?;
+    load(alloc, &mut machine, &assemble(alloc, COUNTDOWN_AND_FIQ)?.image)?;
+    machine.set(Reg::R15, 0x0800_8002);
+    machine.set(Reg::R14Irq, 0x1010);
+    machine.ioc_mut().write(0x320_0038, 1);
+    let mut total = 0u32;
+    for (n, (from, ticks)) in WITH_ONE_FIQ.iter().enumerate() {
+        let lines = if n == 1 { Lines::F0 } else { Lines::empty() };
+        let told = machine.step(Input { lines, ..quiet() });
+        assert!(rt; (told.from, told.ticks) == (*from, *ticks), "step {n}");
+        total = total.wrapping_add(told.ticks);
+    }
+    assert!(rt; (machine.get(Reg::R15), total) == (0x100C, 30));
     Ok(())
 }

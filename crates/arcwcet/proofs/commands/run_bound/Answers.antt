@@ -9,8 +9,8 @@ returns-in-Ok-bound_report-clause-ran g c =
     let names = c.args.names in
     let profile = option_map (λ n. n.now) names.profile in
     let file = option_map (λ f. f.now) c.profile.result in
-    bound_done reads g.O.Output.taken g.O.Output.failures profile names.first.now names.second.now file c.deref.result.now c.deref-2.result.now c.args.store.now c.read_files.new.store c.args.out.now c.bound_report.new.out
-    (subst (λ (files : Texts). ReadsAll reads c.args.store.now (in_front profile (names.first.now ∷ names.second.now ∷ [])) files c.read_files.new.store)
+    bound_done reads g.O.Output.taken g.O.Output.failures profile names.first.now names.second.now file c.deref.result.now c.deref-2.result.now c.args.store.now c.read_two_files.new.store c.args.out.now c.bound_report.new.out
+    (subst (λ (files : Texts). ReadsAll reads c.args.store.now (in_front profile (names.first.now ∷ names.second.now ∷ [])) files c.read_two_files.new.store)
     (λ i. in_front (sym c.profile.ensures i) (sym c.deref.ensures.value i ∷ sym c.deref-2.ensures.value i ∷ []))
     c.in-Ok.ensures.read)
     c.in-Ok-bound_report.field-0 c.in-Ok-bound_report.ensures
@@ -21,8 +21,8 @@ returns-clause-ran g c =
     let names = c.args.names in
     let profile = option_map (λ n. n.now) names.profile in
     let file = option_map (λ f. f.now) c.profile.result in
-    bound_refused reads g.O.Output.taken g.O.Output.failures profile names.first.now names.second.now file c.deref.result.now c.deref-2.result.now c.args.store.now c.read_files.new.store c.args.out.now c.bound_report.new.out
-    (subst (λ (files : Texts). ReadsAll reads c.args.store.now (in_front profile (names.first.now ∷ names.second.now ∷ [])) files c.read_files.new.store)
+    bound_refused reads g.O.Output.taken g.O.Output.failures profile names.first.now names.second.now file c.deref.result.now c.deref-2.result.now c.args.store.now c.read_two_files.new.store c.args.out.now c.bound_report.new.out
+    (subst (λ (files : Texts). ReadsAll reads c.args.store.now (in_front profile (names.first.now ∷ names.second.now ∷ [])) files c.read_two_files.new.store)
     (λ i. in_front (sym c.profile.ensures i) (sym c.deref.ensures.value i ∷ sym c.deref-2.ensures.value i ∷ []))
     c.in-Ok.ensures.read)
-    c.in-Err-bound_report.fault c.in-Err-bound_report.ensures c.told_report.result c.told_report.ensures
+    c.in-Err-bound_report.fault c.in-Err-bound_report.ensures c.report_status.result c.report_status.ensures

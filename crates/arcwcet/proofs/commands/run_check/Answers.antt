@@ -14,4 +14,4 @@ returns-clause-ran g c =
     (subst (λ (files : Texts). ReadsAll reads c.args.store.now (in_front profile (names.first.now ∷ names.second.now ∷ c.args.cert.now ∷ [])) files c.read_three_files.new.store)
     (λ i. in_front (sym c.profile.ensures i) (sym c.deref.ensures.value i ∷ sym c.deref-2.ensures.value i ∷ sym c.deref-3.ensures.value i ∷ []))
     c.in-Ok.ensures.read)
-    c.check_report-answer.result c.check_report-answer.ensures c.told_answer.result c.told_answer.ensures.status
+    c.check_report-answer.result c.check_report-answer.ensures c.answer_status.result c.answer_status.ensures.status

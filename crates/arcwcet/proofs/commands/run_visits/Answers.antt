@@ -29,7 +29,7 @@ returns-clause-ran g c =
     (subst (λ (files : Texts). ReadsAll reads c.args.store.now (in_front profile (names.first.now ∷ names.second.now ∷ third ∷ [])) files c.read_three_files.new.store)
     (λ i. in_front (sym c.profile.ensures i) (sym c.deref.ensures.value i ∷ sym c.deref-2.ensures.value i ∷ sym c.deref-3.ensures.value i ∷ []))
     c.in-Ok.ensures.read)
-    c.in-Err-visits_report.fault c.in-Err-visits_report.ensures c.told_report.result c.told_report.ensures
+    c.in-Err-visits_report.fault c.in-Err-visits_report.ensures c.report_status.result c.report_status.ensures
 
 pub returns-clause-silent : goal.returns-clause-silent
-returns-clause-silent g c = λ zero. absurd (refused_status c.in-Err-visits_report.fault c.told_report.result c.told_report.ensures zero)
+returns-clause-silent g c = λ zero. absurd (refused_status c.in-Err-visits_report.fault c.report_status.result c.report_status.ensures zero)

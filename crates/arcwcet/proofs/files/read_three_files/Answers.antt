@@ -12,4 +12,4 @@ returns-in_err-third-clause-fault g c =
     let before = in_front (option_map (λ n. n.now) names.profile) (names.first.now ∷ names.second.now ∷ c.args.third.now ∷ []) in
     refused_with c.from_residual-in_err-third.result c.in_err-third.field-0.0 (λ (e : StoreFault). FailsToRead reads c.args.store.now before e c.read.new.self) c.from_residual-in_err-third.ensures.1
     (third_fails reads (option_map (λ n. n.now) names.profile) (option_map (λ v. v.items) c.in_ok-handler.handler.profile) names.first.now names.second.now c.args.third.now
-    c.in_ok-handler.handler.first.items c.in_ok-handler.handler.second.items c.in_err-third.field-0.0 c.args.store.now c.read_files.new.store c.read.new.self c.in_ok-handler.ensures.read c.in_err-third.ensures.gives)
+    c.in_ok-handler.handler.first.items c.in_ok-handler.handler.second.items c.in_err-third.field-0.0 c.args.store.now c.read_two_files.new.store c.read.new.self c.in_ok-handler.ensures.read c.in_err-third.ensures.gives)

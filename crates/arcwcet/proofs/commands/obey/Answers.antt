@@ -1,0 +1,5 @@
+use Rattle.std.proofs.Common.{refl}
+use Rattle.arcwcet.proofs.commands.obey.Goals as goal
+
+pub returns-in-Visits-clause-done : goal.returns-in-Visits-clause-done
+returns-in-Visits-clause-done g c = rw (c.in-Visits.is) (c.run_visits.ensures.ran, refl)

@@ -1,5 +1,0 @@
-use Rattle.arcwcet.proofs.keeping.some_run_keeps.Goals as goal
-use Rattle.arcwcet.proofs.KeptRun.{kept}
-
-pub returns : goal.returns
-returns c = kept

@@ -1,5 +1,0 @@
-use Rattle.std.proofs.Common.{refl}
-use Rattle.arcwcet.proofs.run.obey.Goals as goal
-
-pub returns-in-Visits-clause-done : goal.returns-in-Visits-clause-done
-returns-in-Visits-clause-done g c = rw (c.in-Visits.is) (c.run_visits.ensures.ran, refl)

@@ -1,0 +1,79 @@
+ghost use Rattle.std.specs.Prelude.{◌≡◌, ◌≢◌, ◌⊎◌};
+ghost use Rattle.arcwcet.specs.Run.{answer_status, report_status, store_status};
+
+use crate::fault::{ReportFault, StoreFault};
+use crate::output::{Output, write_whole};
+use command_line::LineFault;
+use std::fmt;
+use std::fmt::Write;
+
+/// An output as a formatter's writer, which takes no memory.
+#[derive(Drop)]
+struct Text<'a, O: Output> {
+    out: &'a mut O,
+}
+
+impl<O: Output> Write for Text<'_, O> {
+    fn write_str(&mut self, text: &str) -> fmt::Result {
+        match write_whole(self.out, text.as_bytes()) {
+            Ok(()) => Ok(()),
+            Err(_) => Err(fmt::Error),
+        }
+    }
+}
+
+/// Prints why a line of words asks for nothing, and answers the exit status.
+pub(crate) fn line_status<E: Output>(fault: LineFault, err: &mut E) -> u8
+    ensures { ((result ≡ 2) × (fault ≢ LineFault.Memory)) ⊎ ((result ≡ 3) × (fault ≡ LineFault.Memory)) }
+{
+    let mut text = Text { out: err };
+    match fault {
+        LineFault::Memory => {
+            let _ = writeln!(text, "refused: Memory");
+            3
+        }
+        LineFault::Usage(error) => {
+            let _ = write!(text, "{error}");
+            2
+        }
+        LineFault::Other => 2,
+    }
+}
+
+/// Prints why a file was not read or written, and answers the exit status.
+pub(crate) fn store_status<E: Output>(fault: StoreFault, err: &mut E) -> u8
+    ensures { result ≡ store_status fault }
+{
+    let mut text = Text { out: err };
+    let _ = writeln!(text, "refused: {fault}");
+    match fault {
+        StoreFault::Memory => 3,
+        StoreFault::Device => 4,
+        StoreFault::InputTooLong => 1,
+    }
+}
+
+/// Prints why there is no report, and answers the exit status.
+pub(crate) fn report_status<E: Output>(fault: ReportFault, err: &mut E) -> u8
+    ensures { result ≡ report_status fault }
+{
+    let mut text = Text { out: err };
+    let _ = writeln!(text, "refused: {fault}");
+    match fault {
+        ReportFault::Memory => 3,
+        ReportFault::Device => 4,
+        _ => 1,
+    }
+}
+
+/// Prints the refusal of a report, if it was refused, and answers the exit status.
+pub(crate) fn answer_status<E: Output>(answer: Result<bool, ReportFault>, err: &mut E) -> u8
+    ensures status { result ≡ answer_status answer }
+    ensures silent { result ≡ 0 → err.new ≡ err.old }
+{
+    match answer {
+        Ok(true) => 0,
+        Ok(false) => 1,
+        Err(fault) => report_status(fault, err),
+    }
+}
