@@ -3,8 +3,7 @@
 
 use bus_ticks::Profile;
 use flow_graph::{Edge, Graph, Place, build, read_statement};
-use loader::image::Image;
-use loader::labels::Labels;
+use loader::{Image, Labels};
 use longest_walk::longest;
 use loop_bounds::nest;
 use std::alloc::{AllocError, Global};

@@ -1,10 +1,10 @@
 //! Images that are cut, and words and labels that are put twice.
 
 use arcwcet::{MemoryOutput, ReportFault, asm_report};
-use loader::image::{Image, ImageFault};
-use loader::labels::{LabelFault, Labels};
-use loader::law::{images_are_read, other_faults_begin_no_image, truncated_begins_an_image};
-use loader::reading::ReadFault;
+use loader::{
+    Image, ImageFault, LabelFault, Labels, ReadFault, images_are_read, other_faults_begin_no_image,
+    truncated_begins_an_image,
+};
 use std::test::Fail;
 
 /// A segment of four words at 8000.

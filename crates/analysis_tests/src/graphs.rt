@@ -1,7 +1,6 @@
 use bus_ticks::Profile;
 use flow_graph::{Graph, Label, Place, build};
-use loader::image::Image;
-use loader::labels::Labels;
+use loader::{Image, Labels};
 use statement::read_statement;
 use std::alloc::Global;
 use std::test::Fail;

@@ -2,8 +2,7 @@ ghost use Rattle.std.specs.Prelude.{◌≡◌};
 
 use bus_ticks::Profile;
 use flow_graph::{Graph, Place, Statement, build, read_statement};
-use loader::image::Image;
-use loader::labels::Labels;
+use loader::{Image, Labels};
 use loop_bounds::{Instance, Instances, LoopTree, nest};
 use numbered_walks::{NumberedEdge, Span};
 use std::alloc::{AllocError, Global};

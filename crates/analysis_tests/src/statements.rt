@@ -1,5 +1,5 @@
 use bus_ticks::Class;
-use loader::labels::Labels;
+use loader::Labels;
 use statement::{Loop, Statement, TargetKind, read_statement};
 use std::alloc::Global;
 use std::test::Fail;

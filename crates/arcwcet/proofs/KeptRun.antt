@@ -1,4 +1,4 @@
--- A run that keeps a statement: of a handler of one word in ROM, SUBS PC,R14,#4, in IRQ mode (our own).
+-- A run that keeps a statement: of a handler of one word in ROM, SUBS PC,R14,#4, in IRQ mode.
 use Rattle.std.proofs.Common.{◌≡◌, ◌++◌, ℕ, List, [], ◌∷◌, length, None, Some, replicate, refl, ap}
 use Rattle.bus_ticks.specs.declared.profile.Profile.{Profile}
 use Rattle.loader.specs.Image.{Words, word_of}

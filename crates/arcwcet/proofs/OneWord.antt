@@ -1,4 +1,4 @@
--- A handler of one word, SUBS PC,R14,#4: its flow graph, and its step from any state (our own).
+-- A handler of one word, SUBS PC,R14,#4: its flow graph, and its step from any state.
 use Rattle.std.proofs.Common.{◌≡◌, ◌∙◌, ℕ, zero, suc, List, [], ◌∷◌, length, true, Option, None, Some, Contains, ⊎_elim, refl, sym, ap, subst, inl, lit<, arith}
 use Rattle.std.specs.Prelude.{unwrap_or}
 use Rattle.std.specs.List.Sorted.{IsStrictlySortedBy}

@@ -1,5 +1,5 @@
--- A run that keeps two statements, with two visits of FIQ: both handlers are the one word SUBS PC,R14,#4, FIQ's
--- at its vector and the interrupted one in ROM, in IRQ mode (our own).
+-- A run that keeps two statements, with two visits of FIQ: both handlers are the one word SUBS PC,R14,#4,
+-- FIQ's at its vector and the interrupted one in ROM, in IRQ mode.
 use Rattle.std.proofs.Common.{◌≡◌, ◌++◌, ℕ, List, [], ◌∷◌, length, Bool, true, false, None, Some, replicate, refl, ap, subst}
 use Rattle.std.specs.Prelude.{◌&&◌, if◌then◌else◌}
 use Rattle.bus_ticks.specs.declared.profile.Profile.{Profile}

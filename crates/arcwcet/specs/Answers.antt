@@ -1,4 +1,4 @@
--- What a call that prints one text answers. Our own.
+-- What a call that prints one text answers.
 use Rattle.std.specs.Prelude.{◌≡◌, ◌≢◌, ◌⊎◌, ℕ, List, Option, Result, Err, OnOk, IfOk, IfErr}
 use Rattle.std.specs.Io.KnownBytes.{Appends}
 use Rattle.arcwcet.specs.Output.{TakesFront, FailsSince}

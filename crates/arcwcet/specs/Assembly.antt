@@ -1,4 +1,4 @@
--- What the report of a source's image prints, and its file. Our own.
+-- What the report of a source's image prints, and its file.
 use Rattle.std.specs.Prelude.{◌≡◌, ◌++◌, ℕ, List, codes, decimal, length, Ok}
 use Rattle.loader.specs.Image.{Words}
 use Rattle.loader.specs.ImageBytes.{image_bytes, segments_of}

@@ -1,4 +1,4 @@
--- What a report's call answers and prints. Our own.
+-- What a report's call answers and prints.
 use Rattle.std.specs.Prelude.{ℕ, List, Option, Result}
 use Rattle.bus_ticks.specs.declared.profile.Profile.{Profile}
 use Rattle.arcwcet.specs.Answers.{Answers}

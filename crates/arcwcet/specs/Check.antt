@@ -1,4 +1,4 @@
--- What a certificate's check answers and prints. Our own.
+-- What a certificate's check answers and prints.
 use Rattle.std.specs.Prelude.{◌≡◌, ◌≢◌, ◌↔◌, ℕ, Bool, IsTrue, List, [], ◌∷◌, ◌++◌, codes, Option, Result}
 use Rattle.bus_ticks.specs.declared.profile.Profile.{Profile}
 use Rattle.flow_graph.specs.Flow.{Flow}

@@ -1,4 +1,4 @@
--- What the report of a debugger's session prints. Our own.
+-- What the report of a debugger's session prints.
 use Rattle.std.specs.Prelude.{ℕ, List}
 use Rattle.bus_ticks.specs.declared.profile.Profile.{Profile}
 use Rattle.arm2_exec.specs.State.{State}

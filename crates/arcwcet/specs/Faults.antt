@@ -1,4 +1,4 @@
--- Faults of the parts as a report's: lack of memory is one for all. Our own.
+-- Faults of the parts as a report's: lack of memory is one for all.
 use Rattle.assembler.specs.declared.fault.AsmFault.{AsmFault}
 use Rattle.assembler.specs.declared.fault.AsmFault.TheVariants as asm_fault
 use Rattle.loader.specs.declared.reading.ReadFault.{ReadFault}

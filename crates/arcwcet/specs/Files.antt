@@ -1,4 +1,4 @@
--- Reading of files from a store, one after another. Our own.
+-- Reading of files from a store, one after another.
 use Rattle.std.specs.Prelude.{◌≡◌, ◌⊎◌, ℕ, List, [], ◌∷◌, Option, Some, None, Result, Ok, Err}
 use Rattle.arcwcet.specs.declared.fault.StoreFault.{StoreFault}
 

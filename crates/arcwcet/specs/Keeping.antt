@@ -1,4 +1,4 @@
--- Machine runs that keep a statement, and what a bound says of them (our own profile).
+-- Machine runs that keep a statement, and what a bound says of them.
 use Rattle.std.specs.Prelude.{ℕ, ◌+◌, ◌*◌, ◌≤◌, List}
 use Rattle.bus_ticks.specs.declared.profile.Profile.{Profile}
 use Rattle.loader.specs.Image.{Words}

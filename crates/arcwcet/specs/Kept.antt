@@ -1,4 +1,4 @@
--- What an output keeps. Our own.
+-- What an output keeps.
 use Rattle.std.specs.Prelude.{ℕ, List, Option}
 
 -- an output in memory: what it took, the room that it was made with, in bytes, and its failures

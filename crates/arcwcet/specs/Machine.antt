@@ -1,4 +1,4 @@
--- What the reports of a machine's run print. Our own.
+-- What the reports of a machine's run print.
 use Rattle.std.specs.Prelude.{◌≡◌, ◌≢◌, ◌↔◌, ◌++◌, ℕ, Bool, true, false, IsTrue, List, [], Option, Some, None}
 use Rattle.std.specs.Prelude.{Ok, Err}
 use Rattle.bus_ticks.specs.declared.profile.Profile.{Profile}

@@ -1,4 +1,4 @@
--- What an output took, and how often it failed. Our own.
+-- What an output took, and how often it failed.
 use Rattle.std.specs.Prelude.{◌≡◌, ◌⊎◌, ℕ, ◌+◌, ◌-◌, ◌^◌, ◌<◌, ◌≤◌, ◌==◌, ◌&&◌, min, List, length, take}
 use Rattle.std.specs.Prelude.{Option, Result, Ok, Err, Bool, true, not, if◌then◌else◌}
 use Rattle.std.specs.Io.KnownBytes.{Appends}

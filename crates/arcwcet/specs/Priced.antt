@@ -1,4 +1,4 @@
--- The cycle profile of a call: that of a file, or where there is no file the first one. Our own.
+-- The cycle profile of a call: that of a file, or where there is no file the first one.
 use Rattle.std.specs.Prelude.{◌≡◌, ◌⊎◌, ℕ, List, Option, Some, None, Result, Ok, Err}
 use Rattle.bus_ticks.specs.Numbers.{numbers_of, profile_one}
 use Rattle.bus_ticks.specs.declared.profile.Profile.{Profile}

@@ -1,5 +1,5 @@
 -- Reports of a handler's greatest run time, which sources and statements have one, and why the others have
--- none. Our own.
+-- none.
 use Rattle.std.specs.Prelude.{◌≡◌, ◌≢◌, ◌↔◌, ℕ, List, Ok, Err, Contains}
 use Rattle.bus_ticks.specs.declared.profile.Profile.{Profile}
 use Rattle.loader.specs.Image.{Words}

@@ -1,4 +1,4 @@
--- What a source says: an image where it begins as one, which names no addresses, else a text. Our own.
+-- What a source says: an image where it begins as one, which names no addresses, else a text.
 use Rattle.std.specs.Prelude.{◌≡◌, ℕ, Bool, List, None, Result, Ok, Err, nat_eq, if◌then◌else◌}
 use Rattle.std.specs.List.{starts_with}
 use Rattle.loader.specs.Image.{Words}

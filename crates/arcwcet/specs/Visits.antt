@@ -1,4 +1,4 @@
--- Runs of an interrupt handler that FIQ interrupts, and what a bound says of them (our own profile).
+-- Runs of an interrupt handler that FIQ interrupts, and what a bound says of them.
 use Rattle.std.specs.Prelude.{◌≡◌, ℕ, ◌≤◌, List, [], ◌∷◌, ◌++◌, length, sum_by}
 use Rattle.bus_ticks.specs.declared.profile.Profile.{Profile}
 use Rattle.loader.specs.Image.{Words}
@@ -42,8 +42,8 @@ visits_of steps = sum_by (λ m. length m.visits) steps
 
 -- FIQ's handler, by its words, statement, prices and graph
 module _ (words : Words) (fiq : Stated) (profile : Profile) (fiq_flow : Flow) where
-  -- From this state, with these prices, a step takes FIQ, and then a run keeps the statement of FIQ's handler,
-  -- whose last step leads back to the interrupted address.
+  -- From this state, with these prices, a step takes FIQ, and then a run keeps the statement of FIQ's
+  -- handler, whose last step leads back to the interrupted address.
   pub record IsVisit (s : State) (v : Visit) (after : State) : Type 0 where
     pub told : Stepped
     pub entered : State
@@ -70,8 +70,8 @@ module _ (words : Words) (fiq : Stated) (profile : Profile) (fiq_flow : Flow) wh
       × ((told : Stepped) × (next : State) × IsEdgeOf words irq profile visited m.input told next e
       × FollowsVisited irq next steps walk)
 
-  -- From this state the run keeps both statements: the main steps that of the interrupted handler, as if there
-  -- were no visits, and each visit that of FIQ's.
+  -- From this state the run keeps both statements: the main steps that of the interrupted handler, as if
+  -- there were no visits, and each visit that of FIQ's.
   abbrev pub KeepsVisited : (irq : Stated) (irq_flow : Flow) → State → List MainStep → Type 0
   KeepsVisited irq irq_flow s steps = HasKeptWalk irq irq_flow (FollowsVisited irq s steps)
 

@@ -1,4 +1,4 @@
--- What the report of a handler that FIQ interrupts prints, and when it is refused (our own format).
+-- What the report of a handler that FIQ interrupts prints, and when it is refused.
 use Rattle.std.specs.Prelude.{◌≡◌, ◌≢◌, ◌⊎◌, ◌≤◌, ◌<◌, ◌^◌, ◌++◌, ℕ, List, Option, Result, Ok, codes, decimal}
 use Rattle.bus_ticks.specs.declared.profile.Profile.{Profile}
 use Rattle.bus_ticks.specs.Worst.{fiq_entry}

@@ -5,7 +5,7 @@ ghost use Rattle.arcwcet.specs.Assembly.{IsAsmReport, IsSource, IsSourceRefused,
 use crate::fault::ReportFault;
 use crate::handler::read_source;
 use crate::output::{Output, write_whole};
-use loader::writing::write_image;
+use loader::write_image;
 use std::alloc::Global;
 use std::fmt::Write;
 

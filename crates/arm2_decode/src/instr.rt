@@ -250,17 +250,30 @@ pub struct Instr {
 pub struct Unallocated {
     /// The word's condition: where it fails, the word is passed over like any other.
     pub cond: Cond,
-    /// The lowest number that holds of the word, from 1 to 10:
-    ///
-    /// 1. a compare (TST, TEQ, CMP, CMN) that does not set the flags;
-    /// 2. bits 27 to 25 clear with bits 7 and 4 set, and not a multiply;
-    /// 3. a multiply that names R15 in a field that it uses, or one register as Rd and Rm;
-    /// 4. a shift amount in R15;
-    /// 5. an offset in R15;
-    /// 6. a single transfer whose base R15 is written back;
-    /// 7. a block transfer with base R15;
-    /// 8. a block transfer with an empty list;
-    /// 9. a load of the base that is written back;
-    /// 10. a byte to or from R15.
+    /// The lowest number that holds of the word, from 1 to 10, by the names below.
     pub why: u32,
+}
+
+/// The numbers of the reasons.
+impl Unallocated {
+    /// A compare (TST, TEQ, CMP, CMN) that does not set the flags.
+    pub const COMPARE_WITHOUT_FLAGS: u32 = 1;
+    /// Bits 27 to 25 clear with bits 7 and 4 set, and not a multiply.
+    pub const NO_MULTIPLY: u32 = 2;
+    /// A multiply that names R15 in a field that it uses, or one register as Rd and Rm.
+    pub const MULTIPLY_REGISTERS: u32 = 3;
+    /// A shift amount in R15.
+    pub const AMOUNT_IN_R15: u32 = 4;
+    /// An offset in R15.
+    pub const OFFSET_IN_R15: u32 = 5;
+    /// A single transfer whose base R15 is written back.
+    pub const R15_WRITTEN_BACK: u32 = 6;
+    /// A block transfer with base R15.
+    pub const BLOCK_BASE_R15: u32 = 7;
+    /// A block transfer with an empty list.
+    pub const EMPTY_LIST: u32 = 8;
+    /// A single transfer that loads its base and writes it back.
+    pub const BASE_LOADED: u32 = 9;
+    /// A byte transfer of R15.
+    pub const BYTE_OF_R15: u32 = 10;
 }

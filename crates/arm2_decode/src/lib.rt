@@ -8,7 +8,7 @@ mod clashes;
 mod field;
 mod flags;
 mod instr;
-mod laws;
+mod law;
 mod names;
 mod reading;
 mod writing;
@@ -20,7 +20,7 @@ pub use instr::{
     DataRegisterShift, Instr, Multiply, Operation, SingleImmediate, SingleRegister, Swi,
     Unallocated, UndefinedTransfer,
 };
-pub use laws::{decode_encoded, encode_decoded};
+pub use law::{decode_encoded, encode_decoded};
 pub use names::{Cond, Opcode, Register, Shift};
 pub use reading::decode;
 pub use writing::encode;

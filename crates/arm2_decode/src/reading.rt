@@ -313,7 +313,7 @@ fn stray(word: u32) -> Result<Instr, Unallocated>
 {
     Err(Unallocated {
         cond: Cond::of(Field::<31, 28>::get(word)),
-        why: 2,
+        why: Unallocated::NO_MULTIPLY,
     })
 }
 

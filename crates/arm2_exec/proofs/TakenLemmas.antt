@@ -36,7 +36,7 @@ use Rattle.arm2_transfer.specs.Moved.{Moved, on_bus, troubled}
 use Rattle.arm2_transfer.specs.Operations.{operation_moved}
 use Rattle.arm2_transfer.specs.Single.{address_for, has_user_rights, of_immediate, of_register, single_loads, single_stores, single_carried_out, single_by, single_at}
 use Rattle.arm2_transfer.specs.Block.{block_loads, block_stores, block_carried_out, block_by, block_at, block_moved}
-use Rattle.arm2_transfer.specs.Words.{met}
+use Rattle.arm2_transfer.specs.Words.{or_trouble}
 use Rattle.arm2_exec.specs.declared.machine.Input.{Input}
 use Rattle.arm2_exec.specs.declared.machine.Stepped.{Stepped}
 use Rattle.arm2_exec.specs.Kept.{KeepsTheRest, interrupted_in}
@@ -117,7 +117,7 @@ module _ (regs : List ℕ) (bus : Bus) (v : Vector) where
   unfolding single_at
   single_takes x base port =
       one_of (nat_lt (address_for x base) (2 ^ 26)) _ _
-      (single_by_takes x base port (met (located bus.memc (address_for x base) (has_user_rights x (mode_of (r15_in regs))) (not x.load))))
+      (single_by_takes x base port (or_trouble (located bus.memc (address_for x base) (has_user_rights x (mode_of (r15_in regs))) (not x.load))))
       (takes vector.AddressException)
 
   block_carried_takes : (x : Block) (span : Span) (port : ℕ) (moves : List Move) → IsTaken (block_carried_out x span port moves regs bus)

@@ -1,4 +1,4 @@
--- A part of the machine that is lent: the machine ends with the part as it was last written (our own).
+-- A part of the machine that is lent: the machine ends with the part as it was last written.
 use Rattle.std.specs.Borrow.{Lends, MutBor, Fml}
 use Rattle.memc.specs.Memory.{Memory}
 use Rattle.memc.specs.contracts.memory.Memc.{the_row as memc_row}

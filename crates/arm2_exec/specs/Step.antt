@@ -57,7 +57,7 @@ fetched_at m (Err refused) = None
 abbrev pub fetched : Memory → (r15 : ℕ) → Option ℕ
 fetched m r15 = fetched_at m (located m (address_of r15) (is_user (mode_of r15)) false)
 
--- ## 4 to 6. A failed condition skips the word; an unallocated one stops the machine; any other is carried out
+-- ## 4 to 6. A failed condition skips the word; an unallocated one stops the machine; any other is done
 
 abbrev pub instruction_moved : Instr → (port : ℕ) → List ℕ → Bus → Moved
 instruction_moved i port regs bus =

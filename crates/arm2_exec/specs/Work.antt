@@ -1,4 +1,4 @@
--- What the code of a step answers (our own).
+-- What the code of a step answers.
 use Rattle.std.specs.Prelude.{ℕ, List, Option}
 use Rattle.bus_ticks.specs.declared.profile.Profile.{Profile}
 use Rattle.bus_ticks.specs.declared.profile.RomTimes.{RomTimes}

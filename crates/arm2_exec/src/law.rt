@@ -17,8 +17,8 @@ pub fn exceptions_keep_the_rest()
         → Step s i told after → told.kind ≡ Kind.Taken vector → KeepsTheRest vector s i told after }
 {}
 
-/// States what a step costs that takes FIQ, in ticks: the fetch 8 bytes after the interrupted address, and the
-/// two at FIQ's vector, by the prices and the time fields of ROM before it. It does nothing.
+/// States what a step costs that takes FIQ, in ticks: the fetch 8 bytes after the interrupted address, and
+/// the two at FIQ's vector, by the prices and the time fields of ROM before it. It does nothing.
 pub fn fiq_costs_its_entry()
     ensures { (s : State) → (i : Input) → (told : Stepped) → (after : State) → Step s i told after
         → told.kind ≡ Kind.Taken Vector.Fiq → told.ticks ≡ fiq_entry_price s.profile (interrupted_in s) }

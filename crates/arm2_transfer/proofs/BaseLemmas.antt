@@ -32,7 +32,7 @@ use Rattle.arm2_transfer.specs.Bus.{made_of, put, put_single, seen}
 use Rattle.arm2_transfer.specs.Moved.{on_bus, out_of_space, troubled}
 use Rattle.arm2_transfer.specs.Registers.{given, is_user, moved_by, passed, with_base, with_loaded}
 use Rattle.arm2_transfer.specs.Single.{base_after, has_user_rights, single_at, single_by, single_carried_out, single_loaded, single_loads, single_moved, single_stores, writes_base}
-use Rattle.arm2_transfer.specs.Words.{Word, is_abort, is_listed, is_unsupported, met, moves_of, registers_in, verdict_of, words_from}
+use Rattle.arm2_transfer.specs.Words.{Word, is_abort, is_listed, is_unsupported, or_trouble, moves_of, registers_in, verdict_of, words_from}
 use Rattle.arm2_transfer.proofs.Slots.{AtMostOne, base_slot, based_kept, based_long, based_written, given_apart, given_here, loaded_apart, loaded_here, loaded_long, one_listed, other_stands, passed_base, passed_long, place, same_stands, stands_at}
 
 -- ## Where the words of a block are
@@ -335,7 +335,7 @@ module _ (x : Block) (port : ℕ) (regs : List ℕ) (bus : Bus) where
 
 -- ## A single transfer
 
-met_located : (found : Result Spot Refused) (spot : Spot) → met found ≡ Ok spot → found ≡ Ok spot
+met_located : (found : Result Spot Refused) (spot : Spot) → or_trouble found ≡ Ok spot → found ≡ Ok spot
 met_located (Ok other) spot is = cc
 met_located (Err NoPage) spot is = absurd cc
 met_located (Err Protected) spot is = absurd cc
@@ -415,7 +415,7 @@ module _ (x : Single) (port : ℕ) (regs : List ℕ) (bus : Bus) (not_15 : regis
         cond_both x.load _ _ (SingleBase x port regs bus) single_loads_base single_stores_base
 
   single_base_by : (within : Bool) (found : Result Spot Trouble)
-      → met (located bus.memc (address_at x regs) (has_user_rights x (mode_at regs)) (not x.load)) ≡ found
+      → or_trouble (located bus.memc (address_at x regs) (has_user_rights x (mode_at regs)) (not x.load)) ≡ found
       → (cond within (single_by x base port found regs bus) (out_of_space regs bus)).kind ≡ Plain
       → SingleBase x port regs bus
       (cond within (single_by x base port found regs bus) (out_of_space regs bus))

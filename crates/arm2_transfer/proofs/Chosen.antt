@@ -13,7 +13,7 @@ use Rattle.arm2_transfer.specs.declared.single.Single.{Single}
 use Rattle.arm2_transfer.specs.declared.span.Span.{Span}
 use Rattle.arm2_transfer.specs.declared.words.Move.{Move}
 use Rattle.arm2_transfer.specs.declared.words.Trouble.{Trouble}
-use Rattle.arm2_transfer.specs.Words.{met, registers_in, words_from, verdict_of}
+use Rattle.arm2_transfer.specs.Words.{or_trouble, registers_in, words_from, verdict_of}
 use Rattle.arm2_transfer.specs.Registers.{is_user}
 use Rattle.arm2_transfer.specs.Moved.{out_of_space}
 use Rattle.arm2_transfer.specs.Single.{address_for, has_user_rights, single_carried_out, single_by, single_at}
@@ -24,16 +24,16 @@ in_space address below = grind (arith, nat_tests)
 
 pub single_at-moves : (x : Single) (base port address : ℕ) (user : Bool) (mode : Mode) (r : ℕ) (found : Result Spot Trouble) (spot : Spot) (regs : List ℕ) (bus : Bus) →
     r ≡ r15_in regs → mode ≡ mode_of r → user ≡ has_user_rights x mode → address ≡ address_for x base → address < 2 ^ 26 →
-    found ≡ met (located bus.memc address user (not x.load)) → found ≡ Ok spot →
+    found ≡ or_trouble (located bus.memc address user (not x.load)) → found ≡ Ok spot →
     single_at x base port regs bus ≡ single_carried_out x base port spot regs bus
 unfolding single_at single_by
 single_at-moves x base port address user mode r found spot regs bus program_counter in_mode rights here below is ok =
-    let at : met (located bus.memc (address_for x base) user (not x.load)) ≡ Ok spot = ap (λ (a : ℕ). met (located bus.memc a user (not x.load))) (sym here) ∙ sym is ∙ ok in
+    let at : or_trouble (located bus.memc (address_for x base) user (not x.load)) ≡ Ok spot = ap (λ (a : ℕ). or_trouble (located bus.memc a user (not x.load))) (sym here) ∙ sym is ∙ ok in
     let same : has_user_rights x (mode_of (r15_in regs)) ≡ user = ap (λ (n : ℕ). has_user_rights x (mode_of n)) (sym program_counter) ∙ ap (λ (m : Mode). has_user_rights x m) (sym in_mode) ∙ sym rights in
-    let all : met (located bus.memc (address_for x base) (has_user_rights x (mode_of (r15_in regs))) (not x.load)) ≡ Ok spot
-    = ap (λ (u : Bool). met (located bus.memc (address_for x base) u (not x.load))) same ∙ at in
+    let all : or_trouble (located bus.memc (address_for x base) (has_user_rights x (mode_of (r15_in regs))) (not x.load)) ≡ Ok spot
+    = ap (λ (u : Bool). or_trouble (located bus.memc (address_for x base) u (not x.load))) same ∙ at in
     let test : nat_lt (address_for x base) (2 ^ 26) ≡ true = ap (λ (a : ℕ). nat_lt a (2 ^ 26)) (sym here) ∙ in_space address below in
-    ap (λ (b : Bool). if b then single_by x base port (met (located bus.memc (address_for x base) (has_user_rights x (mode_of (r15_in regs))) (not x.load))) regs bus else out_of_space regs bus) test
+    ap (λ (b : Bool). if b then single_by x base port (or_trouble (located bus.memc (address_for x base) (has_user_rights x (mode_of (r15_in regs))) (not x.load))) regs bus else out_of_space regs bus) test
     ∙ ap (λ (v : Result Spot Trouble). single_by x base port v regs bus) all
 
 pub block_at-moves : (x : Block) (span : Span) (port : ℕ) (user : Bool) (mode : Mode) (r : ℕ) (registers : List Register) (verdict : Result (List Move) Trouble) (moves : List Move) (regs : List ℕ) (bus : Bus) →

@@ -12,7 +12,7 @@ use Rattle.arm2_transfer.specs.declared.words.Move.{Move}
 use Rattle.arm2_transfer.specs.declared.words.Trouble.{Trouble}
 use Rattle.arm2_transfer.specs.declared.words.Trouble.TheVariants as trouble
 use Rattle.bus_ticks.specs.Prices.{word_address}
-use Rattle.arm2_transfer.specs.Words.{Word, words_from, is_abort, is_unsupported, moves_of, met, AllFit}
+use Rattle.arm2_transfer.specs.Words.{Word, words_from, is_abort, is_unsupported, moves_of, or_trouble, AllFit}
 
 -- the verdict where some words before these were moves, or were unsupported
 abbrev pub verdict_after : Bool → List Move → List Word → Result (List Move) Trouble
@@ -22,7 +22,7 @@ verdict_after unsupported moves words =
     else Ok (moves ++ moves_of words))
 
 -- one word on: it was located, it aborts, or it is unsupported
-after-ok : (unsupported : Bool) (moves : List Move) (register : Register) (spot : Spot) (found : Result Spot Refused) (words : List Word) → met found ≡ Ok spot →
+after-ok : (unsupported : Bool) (moves : List Move) (register : Register) (spot : Spot) (found : Result Spot Refused) (words : List Word) → or_trouble found ≡ Ok spot →
     verdict_after unsupported (moves ++ record { register = register; spot = spot } ∷ []) words ≡ verdict_after unsupported moves ((register, found) ∷ words)
 after-ok unsupported moves register spot (Ok other) words e =
     let same : other ≡ spot = cc in
@@ -36,14 +36,14 @@ after-ok unsupported moves register spot (Err NoPage) words e = cc
 after-ok unsupported moves register spot (Err Protected) words e = cc
 after-ok unsupported moves register spot (Err UnsupportedWrite) words e = cc
 
-after-abort : (unsupported : Bool) (moves : List Move) (register : Register) (found : Result Spot Refused) (words : List Word) → met found ≡ Err trouble.DataAbort →
+after-abort : (unsupported : Bool) (moves : List Move) (register : Register) (found : Result Spot Refused) (words : List Word) → or_trouble found ≡ Err trouble.DataAbort →
     Err trouble.DataAbort ≡ verdict_after unsupported moves ((register, found) ∷ words)
 after-abort unsupported moves register (Ok spot) words e = cc
 after-abort unsupported moves register (Err NoPage) words e = refl
 after-abort unsupported moves register (Err Protected) words e = refl
 after-abort unsupported moves register (Err UnsupportedWrite) words e = cc
 
-after-unsupported : (unsupported : Bool) (moves : List Move) (register : Register) (found : Result Spot Refused) (words : List Word) → met found ≡ Err trouble.UnsupportedWrite →
+after-unsupported : (unsupported : Bool) (moves : List Move) (register : Register) (found : Result Spot Refused) (words : List Word) → or_trouble found ≡ Err trouble.UnsupportedWrite →
     verdict_after true moves words ≡ verdict_after unsupported moves ((register, found) ∷ words)
 after-unsupported unsupported moves register (Ok spot) words e = cc
 after-unsupported unsupported moves register (Err NoPage) words e = cc
@@ -60,27 +60,27 @@ words_on-more : (m : Memory) (user store : Bool) (lowest : ℕ) (registers : Lis
 words_on-more m user store lowest registers i d h = at_drop_more (words_from m user store lowest i) registers i d h
 
 pub verdict-ok : (m : Memory) (user store unsupported : Bool) (lowest at : ℕ) (registers : List Register) (i : ℕ) (d : Register) (moves new : List Move) (spot : Spot) →
-    i < length registers → at ≡ word_address lowest i → met (located m at user store) ≡ Ok spot → new ≡ moves ++ record { register = get_or registers i d; spot = spot } ∷ [] →
+    i < length registers → at ≡ word_address lowest i → or_trouble (located m at user store) ≡ Ok spot → new ≡ moves ++ record { register = get_or registers i d; spot = spot } ∷ [] →
     verdict_after unsupported new (words_on m user store lowest registers (i + 1)) ≡ verdict_after unsupported moves (words_on m user store lowest registers i)
 verdict-ok m user store unsupported lowest at registers i d moves new spot h here ok pushed =
-    let found : met (located m (word_address lowest i) user store) ≡ Ok spot = ap (λ (x : ℕ). met (located m x user store)) (sym here) ∙ ok in
+    let found : or_trouble (located m (word_address lowest i) user store) ≡ Ok spot = ap (λ (x : ℕ). or_trouble (located m x user store)) (sym here) ∙ ok in
     ap (λ (all : List Move). verdict_after unsupported all (words_on m user store lowest registers (i + 1))) pushed
     ∙ after-ok unsupported moves (get_or registers i d) spot (located m (word_address lowest i) user store) (words_on m user store lowest registers (i + 1)) found
     ∙ ap (λ (words : List Word). verdict_after unsupported moves words) (sym (words_on-more m user store lowest registers i d h))
 
 pub verdict-abort : (m : Memory) (user store unsupported : Bool) (lowest at : ℕ) (registers : List Register) (i : ℕ) (d : Register) (moves : List Move) →
-    i < length registers → at ≡ word_address lowest i → met (located m at user store) ≡ Err trouble.DataAbort →
+    i < length registers → at ≡ word_address lowest i → or_trouble (located m at user store) ≡ Err trouble.DataAbort →
     Err trouble.DataAbort ≡ verdict_after unsupported moves (words_on m user store lowest registers i)
 verdict-abort m user store unsupported lowest at registers i d moves h here err =
-    let found : met (located m (word_address lowest i) user store) ≡ Err trouble.DataAbort = ap (λ (x : ℕ). met (located m x user store)) (sym here) ∙ err in
+    let found : or_trouble (located m (word_address lowest i) user store) ≡ Err trouble.DataAbort = ap (λ (x : ℕ). or_trouble (located m x user store)) (sym here) ∙ err in
     after-abort unsupported moves (get_or registers i d) (located m (word_address lowest i) user store) (words_on m user store lowest registers (i + 1)) found
     ∙ ap (λ (words : List Word). verdict_after unsupported moves words) (sym (words_on-more m user store lowest registers i d h))
 
 pub verdict-unsupported : (m : Memory) (user store unsupported : Bool) (lowest at : ℕ) (registers : List Register) (i : ℕ) (d : Register) (moves : List Move) →
-    i < length registers → at ≡ word_address lowest i → met (located m at user store) ≡ Err trouble.UnsupportedWrite →
+    i < length registers → at ≡ word_address lowest i → or_trouble (located m at user store) ≡ Err trouble.UnsupportedWrite →
     verdict_after true moves (words_on m user store lowest registers (i + 1)) ≡ verdict_after unsupported moves (words_on m user store lowest registers i)
 verdict-unsupported m user store unsupported lowest at registers i d moves h here err =
-    let found : met (located m (word_address lowest i) user store) ≡ Err trouble.UnsupportedWrite = ap (λ (x : ℕ). met (located m x user store)) (sym here) ∙ err in
+    let found : or_trouble (located m (word_address lowest i) user store) ≡ Err trouble.UnsupportedWrite = ap (λ (x : ℕ). or_trouble (located m x user store)) (sym here) ∙ err in
     after-unsupported unsupported moves (get_or registers i d) (located m (word_address lowest i) user store) (words_on m user store lowest registers (i + 1)) found
     ∙ ap (λ (words : List Word). verdict_after unsupported moves words) (sym (words_on-more m user store lowest registers i d h))
 

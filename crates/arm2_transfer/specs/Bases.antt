@@ -64,8 +64,8 @@ abbrev pub PutsWord : Single → List ℕ → Bus → (value : ℕ) → (after :
 PutsWord x regs bus value after =
     (spot : Spot) × IsSpot x regs bus spot × (after ≡ put_single x.byte spot (address_at x regs) value bus)
 
--- a single transfer and its base, for any base but R15, which moves on with each instruction and is stored with
--- its PSR
+-- a single transfer and its base, for any base but R15, which moves on with each instruction and is stored
+-- with its PSR
 pub record SingleBase (x : Single) (port : ℕ) (regs : List ℕ) (bus : Bus) (m : Moved) : Type 0 where
   pub leaves : LeavesBase (x.load && is_own_base x) (writes_base x) (IsLoadedWord x port regs bus)
       (base_at x.rn regs) (moved_by x.up (base_at x.rn regs) x.offset) (base_left x.rn regs m.regs)

@@ -16,7 +16,7 @@ use Rattle.arm2_transfer.specs.declared.bus.Bus.{Bus}
 use Rattle.arm2_transfer.specs.declared.words.Trouble.{Trouble}
 use Rattle.arm2_transfer.specs.declared.single.Single.{Single}
 use Rattle.arm2_transfer.specs.Bus.{seen, made_of, put_single}
-use Rattle.arm2_transfer.specs.Words.{met}
+use Rattle.arm2_transfer.specs.Words.{or_trouble}
 use Rattle.arm2_transfer.specs.Registers.{is_user, is_r15, moved_by, given, with_loaded, with_base, passed}
 use Rattle.arm2_transfer.specs.Moved.{Moved, out_of_space, troubled, load_accesses, store_accesses}
 
@@ -84,7 +84,7 @@ unfoldable pub single_at : Single → (base port : ℕ) → List ℕ → Bus →
 single_at x base port regs bus =
     if nat_lt (address_for x base) (2 ^ 26) then
     single_by x base port
-    (met
+    (or_trouble
     (located bus.memc (address_for x base) (has_user_rights x (mode_of (r15_in regs)))
     (not x.load))) regs bus
     else out_of_space regs bus

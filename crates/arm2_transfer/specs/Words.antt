@@ -66,11 +66,11 @@ verdict_of words =
     else Ok (moves_of words))
 
 -- the one word of a single transfer
-abbrev pub met : Result Spot Refused → Result Spot Trouble
-met (Ok spot) = Ok spot
-met (Err NoPage) = Err trouble.DataAbort
-met (Err Protected) = Err trouble.DataAbort
-met (Err UnsupportedWrite) = Err trouble.UnsupportedWrite
+abbrev pub or_trouble : Result Spot Refused → Result Spot Trouble
+or_trouble (Ok spot) = Ok spot
+or_trouble (Err NoPage) = Err trouble.DataAbort
+or_trouble (Err Protected) = Err trouble.DataAbort
+or_trouble (Err UnsupportedWrite) = Err trouble.UnsupportedWrite
 
 -- each move goes to a spot of a memory with pages of 2 ^ shift bytes
 abbrev pub AllFit : ℕ → List Move → Type 0

@@ -1,7 +1,7 @@
 ghost use Rattle.std.specs.Prelude.{◌≡◌, ◌<◌, ◌≤◌, ◌^◌, length, IfOk};
 ghost use Rattle.bus_ticks.specs.Prices.{word_address};
 ghost use Rattle.memc.specs.Memory.{Fits, located};
-ghost use Rattle.arm2_transfer.specs.Words.{all_registers, is_listed, registers_in, met, words_from};
+ghost use Rattle.arm2_transfer.specs.Words.{all_registers, is_listed, registers_in, or_trouble, words_from};
 ghost use Rattle.arm2_transfer.specs.Words.{verdict_of, AllFit};
 
 use crate::few::Few;
@@ -63,7 +63,7 @@ pub(crate) fn locate_word(
     store: bool,
 ) -> Result<Spot, Trouble>
     requires { address < 2 ^ 26 }
-    ensures met { result ≡ met (located memc.now address user store) }
+    ensures met { result ≡ or_trouble (located memc.now address user store) }
     ensures fitted { IfOk result (Fits memc.now.shift) }
 {
     match memc.locate(address, user, store) {

@@ -5,7 +5,7 @@ use Rattle.arm2_decode.specs.declared.names.Register.{Register}
 use Rattle.asm_text.specs.Pieces.{Piece, Run, Comma, Sign}
 use Rattle.asm_text.specs.Numbers.{number_first}
 use Rattle.asm_text.specs.Registers.{register_first}
-use Rattle.asm_text.specs.Operands.{Offset, address, address_of, after_of, bang_of, based, before_of, by_amount, closed_of, number_offset, offset_first, plain_of, register_offset, shifting_first, signed_offset, whole}
+use Rattle.asm_text.specs.Operands.{Offset, address, address_of, after_of, bang_of, based, before_of, by_amount, closed_of, number_offset, offset_first, plain_of, register_offset, shifting_first, signed_offset, all_read}
 use Rattle.asm_text.specs.SpelledOperands.{IsRegister, SpellsAddress, SpellsAfter, SpellsBase, SpellsBefore, SpellsNumber, SpellsOffset, SpellsShifting, marked}
 use Rattle.asm_text.specs.declared.token.Mark.TheVariants.{Hash, Minus, Bang, CloseBracket}
 use Rattle.asm_text.specs.declared.said.Amount.{Amount}
@@ -71,13 +71,13 @@ front_offset false (distance.Number n) a rest h ends = rw h.1 (signed_again fals
 front_offset true (distance.Register m b) a rest h ends = rw (h.2, register_again h.0 m h.3, front_shifting (shifting.Amount b) h.1 rest h.4 ends) refl
 front_offset false (distance.Register m b) a rest h ends = rw (h.2, register_again h.0 m h.3, front_shifting (shifting.Amount b) h.1 rest h.4 ends) refl
 
-offset_whole : (ps : List Piece) (o : Offset) → whole (offset_first ps) ≡ Some o → SpellsOffset o.0 o.1 ps
+offset_whole : (ps : List Piece) (o : Offset) → all_read (offset_first ps) ≡ Some o → SpellsOffset o.0 o.1 ps
 offset_whole ps o e =
     let k = offset_front ps (o, []) (whole_is (offset_first ps) o e) in
     subst (SpellsOffset o.0 o.1) (sym (append-nil k.0) ∙ sym k.1) k.2
 
-whole_offset : (up : Bool) (d : Distance) (ps : List Piece) → SpellsOffset up d ps → whole (offset_first ps) ≡ Some (up, d)
-whole_offset up d ps h = ap (λ (qs : List Piece). whole (offset_first qs)) (sym (append-nil ps)) ∙ ap whole (front_offset up d ps [] h refl)
+whole_offset : (up : Bool) (d : Distance) (ps : List Piece) → SpellsOffset up d ps → all_read (offset_first ps) ≡ Some (up, d)
+whole_offset up d ps h = ap (λ (qs : List Piece). all_read (offset_first qs)) (sym (append-nil ps)) ∙ ap all_read (front_offset up d ps [] h refl)
 
 -- ---- the end
 
@@ -111,9 +111,9 @@ base_is t n ps x r e =
     let w = map_is (λ w. address n true w (true, distance.Number 0)) (bang_of ps) x e in
     record { rn = n; write_back = w.0; means = sym w.2; n = t; spelled = ap (λ (qs : List Piece). Run t ∷ Sign CloseBracket ∷ qs) (bang_is ps w.0 w.1); n-is = r }
 
-after_is : (user : Bool) (t : List ℕ) (n : Register) (ps : List Piece) (x : Address) → IsRegister t n → option_map (address n false user) (whole (offset_first ps)) ≡ Some x → SpellsAfter user x (Run t ∷ Sign CloseBracket ∷ Comma ∷ ps)
+after_is : (user : Bool) (t : List ℕ) (n : Register) (ps : List Piece) (x : Address) → IsRegister t n → option_map (address n false user) (all_read (offset_first ps)) ≡ Some x → SpellsAfter user x (Run t ∷ Sign CloseBracket ∷ Comma ∷ ps)
 after_is user t n ps x r e =
-    let o = map_is (address n false user) (whole (offset_first ps)) x e in
+    let o = map_is (address n false user) (all_read (offset_first ps)) x e in
     subst (λ y. SpellsAfter user y (Run t ∷ Sign CloseBracket ∷ Comma ∷ ps)) o.2
     (record { after = refl; rights = refl; n = t; offset = ps; spelled = refl; n-is = r; offset-is = offset_whole ps o.0 o.1 })
 

@@ -13,7 +13,7 @@ use Rattle.arm2_decode.specs.declared.names.Register.{Register}
 use Rattle.arm2_decode.specs.declared.names.Shift.{Shift}
 use Rattle.asm_text.specs.Pieces.{Piece, Run, Comma, Sign}
 use Rattle.asm_text.specs.Numbers.{after_zero, digits_of, fits, number_by, number_first, run_number, with_rest}
-use Rattle.asm_text.specs.Operands.{alone, whole}
+use Rattle.asm_text.specs.Operands.{alone, all_read}
 use Rattle.asm_text.specs.Registers.{found, in_both_cases, is_rrx, register_comma_first, register_first, register_names, register_of, shift_names, shift_of}
 use Rattle.asm_text.specs.SpelledOperands.{IsDigits, IsNumber, IsRegister, IsRrx, IsShift, SpellsNumber}
 use Rattle.asm_text.specs.declared.token.Mark.TheVariants.{Ampersand}
@@ -38,7 +38,7 @@ alone_is : {A : Type 0} (a : A) (ps : List Piece) (b : A) → alone a ps ≡ Som
 alone_is a [] b e = (refl, some_is a b e)
 alone_is a (p ∷ ps) b e = absurd (nothing_is b e)
 
-pub whole_is : {A : Type 0} (o : Option (A × List Piece)) (a : A) → whole o ≡ Some a → o ≡ Some (a, [])
+pub whole_is : {A : Type 0} (o : Option (A × List Piece)) (a : A) → all_read o ≡ Some a → o ≡ Some (a, [])
 whole_is None a e = absurd (nothing_is a e)
 whole_is (Some f) a e = let k = alone_is f.0 f.1 a e in ap Some (rw (← k.0, ← k.1) refl)
 
@@ -133,13 +133,13 @@ front_number n a rest h =
       | inr k ↦ rw (k.1, digits_again 16 k.0 n k.2) refl
     ]
 
-pub number_whole : (ps : List Piece) (n : ℕ) → whole (number_first ps) ≡ Some n → SpellsNumber n ps
+pub number_whole : (ps : List Piece) (n : ℕ) → all_read (number_first ps) ≡ Some n → SpellsNumber n ps
 number_whole ps n e =
     let k = number_front ps (n, []) (whole_is (number_first ps) n e) in
     subst (SpellsNumber n) (sym (append-nil k.0) ∙ sym k.1) k.2
 
-pub whole_number : (n : ℕ) (ps : List Piece) → SpellsNumber n ps → whole (number_first ps) ≡ Some n
-whole_number n ps h = ap (λ (qs : List Piece). whole (number_first qs)) (sym (append-nil ps)) ∙ ap whole (front_number n ps [] h)
+pub whole_number : (n : ℕ) (ps : List Piece) → SpellsNumber n ps → all_read (number_first ps) ≡ Some n
+whole_number n ps h = ap (λ (qs : List Piece). all_read (number_first qs)) (sym (append-nil ps)) ∙ ap all_read (front_number n ps [] h)
 
 -- ---- names
 

@@ -11,7 +11,7 @@ use Rattle.asm_text.specs.Lines.{starts_gap}
 use Rattle.asm_text.specs.Names.{is_compare}
 use Rattle.asm_text.specs.Numbers.{number_first}
 use Rattle.asm_text.specs.Registers.{is_rrx, register_comma_first, register_first, register_of, shift_of}
-use Rattle.asm_text.specs.Operands.{compare_of, compare_rd, data_behind, data_of, factors_of, is_move, is_s, move_of, operand_of, product_of, shift_by, shift_first, shift_words, shifting_first, sum_of, three_of, whole}
+use Rattle.asm_text.specs.Operands.{compare_of, compare_rd, data_behind, data_of, factors_of, is_move, is_s, move_of, operand_of, product_of, shift_by, shift_first, shift_words, shifting_first, sum_of, three_of, all_read}
 use Rattle.asm_text.specs.SpelledOperands.{SpellsCompare, SpellsData, SpellsMove, SpellsOperand, SpellsProduct, SpellsShift, SpellsShifting, SpellsSum, SpellsThree}
 use Rattle.asm_text.specs.declared.token.Mark.TheVariants.{Hash}
 use Rattle.asm_text.specs.declared.names.Suffix.{Suffix}
@@ -104,23 +104,23 @@ front_shifting s a rest h ends =
       | inr k ↦ rw (k.0, k.1) (plain_first rest ends)
     ]
 
-shifting_whole : (ps : List Piece) (s : Shifting) → whole (shifting_first ps) ≡ Some s → SpellsShifting s ps
+shifting_whole : (ps : List Piece) (s : Shifting) → all_read (shifting_first ps) ≡ Some s → SpellsShifting s ps
 shifting_whole ps s e =
     let k = shifting_front ps (s, []) (whole_is (shifting_first ps) s e) in
     subst (SpellsShifting s) (sym (append-nil k.0) ∙ sym k.1) k.2
 
-whole_shifting : (s : Shifting) (ps : List Piece) → SpellsShifting s ps → whole (shifting_first ps) ≡ Some s
-whole_shifting s ps h = ap (λ (qs : List Piece). whole (shifting_first qs)) (sym (append-nil ps)) ∙ ap whole (front_shifting s ps [] h refl)
+whole_shifting : (s : Shifting) (ps : List Piece) → SpellsShifting s ps → all_read (shifting_first ps) ≡ Some s
+whole_shifting s ps h = ap (λ (qs : List Piece). all_read (shifting_first qs)) (sym (append-nil ps)) ∙ ap all_read (front_shifting s ps [] h refl)
 
 -- ---- data processing
 
 pub operand_is : (ps : List Piece) (o : Operand) → operand_of ps ≡ Some o → SpellsOperand o ps
 operand_is (Sign Hash ∷ ps) o e =
-    let k = map_is operand.Immediate (whole (number_first ps)) o e in
+    let k = map_is operand.Immediate (all_read (number_first ps)) o e in
     subst (λ x. SpellsOperand x (Sign Hash ∷ ps)) k.2 (ps, refl, number_whole ps k.0 k.1)
 operand_is (Run r ∷ ps) o e =
-    let k = and_then_is (λ m. option_map (operand.Shifted m) (whole (shifting_first ps))) (register_of r) o e in
-    let s = map_is (operand.Shifted k.0) (whole (shifting_first ps)) o k.2 in
+    let k = and_then_is (λ m. option_map (operand.Shifted m) (all_read (shifting_first ps))) (register_of r) o e in
+    let s = map_is (operand.Shifted k.0) (all_read (shifting_first ps)) o k.2 in
     subst (λ x. SpellsOperand x (Run r ∷ ps)) s.2 (r, ps, refl, register_is r k.0 k.1, shifting_whole ps s.0 s.1)
 operand_is _ o e = absurd (nothing_is o e)
 
@@ -180,7 +180,7 @@ pub product_is : (a : Bool) (s : Suffix) (ps : List Piece) (x : Product) → pro
 product_is false s ps x e =
     let f = and_then_is (λ f. option_and_then (λ g. factors_of s f.0 g.0 g.1) (register_comma_first f.1)) (register_comma_first ps) x e in
     let g = and_then_is (λ g. factors_of s f.0.0 g.0 g.1) (register_comma_first f.0.1) x f.2 in
-    let k = map_is (λ t. record { accumulate = false; sets_flags = is_s s; rd = f.0.0; rn = R0; rs = t; rm = g.0.0 }) (whole (register_first g.0.1)) x g.2 in
+    let k = map_is (λ t. record { accumulate = false; sets_flags = is_s s; rd = f.0.0; rn = R0; rs = t; rm = g.0.0 }) (all_read (register_first g.0.1)) x g.2 in
     let d = register_comma_front ps f.0 f.1 in
     let m = register_comma_front f.0.1 g.0 g.1 in
     let t = register_front g.0.1 (k.0, []) (whole_is (register_first g.0.1) k.0 k.1) in
@@ -200,8 +200,8 @@ product_is false s ps x e =
 product_is true s ps x e =
     let f = and_then_is (λ f. option_and_then (λ g. sum_of s f.0 g.0 g.1) (register_comma_first f.1)) (register_comma_first ps) x e in
     let g = and_then_is (λ g. sum_of s f.0.0 g.0 g.1) (register_comma_first f.0.1) x f.2 in
-    let h = and_then_is (λ h. option_map (λ n. record { accumulate = true; sets_flags = is_s s; rd = f.0.0; rn = n; rs = h.0; rm = g.0.0 }) (whole (register_first h.1))) (register_comma_first g.0.1) x g.2 in
-    let k = map_is (λ n. record { accumulate = true; sets_flags = is_s s; rd = f.0.0; rn = n; rs = h.0.0; rm = g.0.0 }) (whole (register_first h.0.1)) x h.2 in
+    let h = and_then_is (λ h. option_map (λ n. record { accumulate = true; sets_flags = is_s s; rd = f.0.0; rn = n; rs = h.0; rm = g.0.0 }) (all_read (register_first h.1))) (register_comma_first g.0.1) x g.2 in
+    let k = map_is (λ n. record { accumulate = true; sets_flags = is_s s; rd = f.0.0; rn = n; rs = h.0.0; rm = g.0.0 }) (all_read (register_first h.0.1)) x h.2 in
     let d = register_comma_front ps f.0 f.1 in
     let m = register_comma_front f.0.1 g.0 g.1 in
     let t = register_comma_front g.0.1 h.0 h.1 in

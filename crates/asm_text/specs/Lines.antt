@@ -1,4 +1,4 @@
--- How pieces are written, one after the other (our own source format).
+-- How pieces are written, one after the other.
 use Rattle.std.specs.Prelude.{◌≡◌, ◌==◌, ◌<◌, ℕ, Bool, true, false, List, [], ◌∷◌, ◌++◌, length}
 use Rattle.std.specs.List.{list_all}
 use Rattle.asm_text.specs.Pieces.{Piece, Run, Comma, Sign, Gap, is_blank, is_name, mark_of}

@@ -1,4 +1,4 @@
--- Numbers of the source: decimal, and hexadecimal after `0x` or `&`, below 2^32 (our own source format).
+-- Numbers of the source: decimal, and hexadecimal after `0x` or `&`, below 2^32.
 use Rattle.std.specs.Prelude.{◌==◌, ◌&&◌, ◌^◌, nat_lt, min, ℕ, List, [], ◌∷◌, length, Option, Some, None}
 use Rattle.std.specs.Prelude.{if◌then◌else◌}
 use Rattle.std.specs.Char.{is_digit}

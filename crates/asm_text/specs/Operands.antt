@@ -38,9 +38,9 @@ abbrev pub alone : {A : Type 0} → A → List Piece → Option A
 alone a [] = Some a
 alone a (p ∷ ps) = None
 
-abbrev pub whole : {A : Type 0} → Option (A × List Piece) → Option A
-whole None = None
-whole (Some f) = alone f.0 f.1
+abbrev pub all_read : {A : Type 0} → Option (A × List Piece) → Option A
+all_read None = None
+all_read (Some f) = alone f.0 f.1
 
 -- ---- shifts: LSL #3, LSL R2, RRX
 
@@ -69,9 +69,9 @@ shifting_first ps = Some (shifting.Amount (amount.By Lsl 0), ps)
 
 -- #n; Rm; Rm,shift
 abbrev pub operand_of : List Piece → Option Operand
-operand_of (Sign Hash ∷ ps) = option_map operand.Immediate (whole (number_first ps))
+operand_of (Sign Hash ∷ ps) = option_map operand.Immediate (all_read (number_first ps))
 operand_of (Run r ∷ ps) =
-    option_and_then (λ m. option_map (operand.Shifted m) (whole (shifting_first ps))) (register_of r)
+    option_and_then (λ m. option_map (operand.Shifted m) (all_read (shifting_first ps))) (register_of r)
 operand_of _ = None
 
 abbrev pub is_move : Opcode → Bool
@@ -122,14 +122,14 @@ data_of op s ps = option_and_then (λ f. data_behind op s f.0 f.1) (register_com
 abbrev pub factors_of : Suffix → Register → Register → List Piece → Option Product
 factors_of s d m ps =
     option_map (λ t. record { accumulate = false; sets_flags = is_s s; rd = d; rn = R0; rs = t; rm = m })
-    (whole (register_first ps))
+    (all_read (register_first ps))
 
 abbrev pub sum_of : Suffix → Register → Register → List Piece → Option Product
 sum_of s d m ps =
     option_and_then
     (λ f. option_map
     (λ n. record { accumulate = true; sets_flags = is_s s; rd = d; rn = n; rs = f.0; rm = m })
-    (whole (register_first f.1)))
+    (all_read (register_first f.1)))
     (register_comma_first ps)
 
 abbrev pub product_of : Bool → Suffix → List Piece → Option Product
@@ -193,7 +193,7 @@ plain_of n ps = option_map (λ w. address n true w (true, distance.Number 0)) (b
 
 -- after [Rn] nothing, a mark, or a comma and an offset; T asks the last and sets W
 abbrev pub after_of : Bool → Register → List Piece → Option Address
-after_of user n (Comma ∷ ps) = option_map (address n false user) (whole (offset_first ps))
+after_of user n (Comma ∷ ps) = option_map (address n false user) (all_read (offset_first ps))
 after_of user n ps = if user then None else plain_of n ps
 
 abbrev pub based : Bool → Register → List Piece → Option Address

@@ -1,4 +1,4 @@
--- The names of registers and shifts, wholly in upper or in lower case (our own source format).
+-- The names of registers and shifts, wholly in upper or in lower case.
 use Rattle.std.specs.Prelude.{ℕ, Bool, ◌||◌, List, [], ◌∷◌, ◌++◌, codes, Option, Some, None, map}
 use Rattle.std.specs.Prelude.{if◌then◌else◌}
 use Rattle.std.specs.Borrow.{Bor}

@@ -1,4 +1,4 @@
--- Lines as they are shown: in upper case, without a label and a comment (our own source format).
+-- Lines as they are shown: in upper case, without a label and a comment.
 use Rattle.std.specs.Prelude.{ℕ, ◌==◌, ◌&&◌, not, nat_le, Bool, true, List, [], ◌∷◌, length, Option, Some}
 use Rattle.std.specs.Prelude.{None, Result, Ok, Err}
 use Rattle.std.specs.Char.{is_ascii_lowercase}

@@ -1,4 +1,4 @@
--- The lines of a source (our own source format).
+-- The lines of a source.
 use Rattle.std.specs.Prelude.{ℕ, ◌==◌, ◌&&◌, not, Bool, false, List, [], ◌∷◌, if◌then◌else◌, option_map}
 use Rattle.std.specs.List.{prefix_len}
 use Rattle.asm_text.specs.Said.{said}

@@ -1,4 +1,4 @@
--- Statements, by the pieces that spell them, and lines (our own source format).
+-- Statements, by the pieces that spell them, and lines.
 use Rattle.std.specs.Prelude.{ℕ, ◌==◌, ◌&&◌, ◌||◌, not, nat_le, nat_lt, Bool, true, false, List, [], ◌∷◌}
 use Rattle.std.specs.Prelude.{Option, Some, None, Result, Ok, Err, option_map, option_and_then, if◌then◌else◌}
 use Rattle.std.specs.Prelude.{length, take, drop}
@@ -11,7 +11,7 @@ use Rattle.asm_text.specs.Numbers.{hex_first, number_by, number_first, run_numbe
 use Rattle.asm_text.specs.Registers.{register_comma_first}
 use Rattle.asm_text.specs.Words.{spelled_word_of}
 use Rattle.asm_text.specs.Said.{Target, Number, Label, Said, Codes, Refers, Orgs, Lists}
-use Rattle.asm_text.specs.Operands.{address_of, block_of, data_of, is_byte, is_user, product_of, whole}
+use Rattle.asm_text.specs.Operands.{address_of, block_of, data_of, is_byte, is_user, product_of, all_read}
 use Rattle.asm_text.specs.declared.token.Mark.TheVariants.{Ampersand, OpenBracket}
 use Rattle.asm_text.specs.declared.names.Head.{Head}
 use Rattle.asm_text.specs.declared.names.Head.TheVariants as head
@@ -48,10 +48,10 @@ target_first (Sign Ampersand ∷ ps) = option_map (λ f. (Number f.0, f.1)) (hex
 target_first _ = None
 
 abbrev pub only_target : List Piece → Option Target
-only_target ps = whole (target_first ps)
+only_target ps = all_read (target_first ps)
 
 abbrev pub only_number : List Piece → Option ℕ
-only_number ps = whole (number_first ps)
+only_number ps = all_read (number_first ps)
 
 -- ---- the operands of each word
 

@@ -1,4 +1,4 @@
--- The words of the source: a head, a condition or none, and a suffix (our own source format).
+-- The words of the source: a head, a condition or none, and a suffix.
 use Rattle.std.specs.Prelude.{◌≡◌, ◌||◌, ℕ, List, [], ◌∷◌, ◌++◌, codes, Bool, true, false, Option, Some, None}
 use Rattle.std.specs.Prelude.{◌⊎◌, map, take, drop, if◌then◌else◌}
 use Rattle.std.specs.Char.{to_ascii_uppercase, to_ascii_lowercase}

@@ -4,7 +4,7 @@ ghost use Rattle.asm_text.specs.Operands.{address_of, after_of, bang_of, based, 
 ghost use Rattle.asm_text.specs.Operands.{address, closed_of, plain_of};
 ghost use Rattle.asm_text.specs.Operands.{signed_offset};
 ghost use Rattle.asm_text.specs.Operands.{number_offset, offset_first};
-ghost use Rattle.asm_text.specs.Operands.{register_offset, whole};
+ghost use Rattle.asm_text.specs.Operands.{register_offset, all_read};
 
 use crate::number::first_number;
 use crate::operand::first_shifting;
@@ -59,7 +59,7 @@ fn first_offset<'a, 'b>(tokens: &'a [Token<'b>]) -> Option<(Offset, &'a [Token<'
 
 // An offset, and nothing after it.
 fn only_offset(tokens: &[Token<'_>]) -> Option<Offset>
-    ensures { result ≡ whole (offset_first (map piece_of tokens.now)) }
+    ensures { result ≡ all_read (offset_first (map piece_of tokens.now)) }
 {
     let (offset, rest) = first_offset(tokens)?;
     match rest {

@@ -3,7 +3,7 @@ ghost use Rattle.asm_text.specs.Pieces.{behind, piece_of};
 ghost use Rattle.asm_text.specs.Operands.{amount_behind, compare_of, data_behind, data_of, factors_of};
 ghost use Rattle.asm_text.specs.Operands.{is_move, is_s, compare_rd, move_of, operand_of};
 ghost use Rattle.asm_text.specs.Operands.{product_of, shift_by, shift_first, shift_words, shifting_first};
-ghost use Rattle.asm_text.specs.Operands.{sum_of, three_of, whole};
+ghost use Rattle.asm_text.specs.Operands.{sum_of, three_of, all_read};
 ghost use Rattle.asm_text.specs.Registers.{register_first};
 
 use crate::names::{Suffix, compares};
@@ -83,7 +83,7 @@ pub(crate) fn first_shifting<'a, 'b>(tokens: &'a [Token<'b>]) -> Option<(Shiftin
 
 /// A register, and nothing after it.
 pub(crate) fn only_register(tokens: &[Token<'_>]) -> Option<Register>
-    ensures { result ≡ whole (register_first (map piece_of tokens.now)) }
+    ensures { result ≡ all_read (register_first (map piece_of tokens.now)) }
 {
     let (r, rest) = first_register(tokens)?;
     if rest.is_empty() { Some(r) } else { None }

@@ -1,4 +1,4 @@
--- What it is for a source to give an image and names (our own source format).
+-- What it is for a source to give an image and names.
 use Rattle.std.specs.Prelude.{◌≡◌, ◌≢◌, ◌↔◌, ◌+◌, ◌*◌, ◌≤◌, ◌==◌, ◌||◌, not, ℕ, zero, suc, Bool, true, false}
 use Rattle.std.specs.Prelude.{List, [], ◌∷◌, ◌++◌, length, map, flat_map, Option, Some, None, Ok}
 use Rattle.std.specs.Prelude.{if◌then◌else◌}

@@ -1,5 +1,4 @@
--- The word of a statement at an address (VL86C010 data sheet, instruction formats), and why
--- it has none (our own).
+-- The word of a statement at an address (VL86C010 data sheet, instruction formats), and why it has none.
 use Rattle.std.specs.Prelude.{ℕ, ◌+◌, ◌-◌, ◌*◌, ◌/◌, ◌%◌, ◌^◌, ◌==◌, ◌&&◌, ◌||◌, nat_le, nat_lt, Bool, true}
 use Rattle.std.specs.Prelude.{false, List, [], ◌∷◌, Option, Some, None, Result, Ok, Err, if◌then◌else◌}
 use Rattle.std.specs.Int.{w32, rotate_left}

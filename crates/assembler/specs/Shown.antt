@@ -1,4 +1,4 @@
--- Words as lines (our own source format).
+-- Words as lines.
 use Rattle.std.specs.Prelude.{◌≡◌, ℕ, zero, suc, ◌+◌, ◌/◌, ◌%◌, nat_lt, List, [], ◌∷◌, ◌++◌, codes, Some}
 use Rattle.std.specs.Prelude.{None, Ok, if◌then◌else◌}
 use Rattle.asm_text.specs.Said.{Number, Said, Codes, Refers, Lists}

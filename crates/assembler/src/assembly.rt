@@ -12,8 +12,7 @@ use crate::law::{sources_are_assembled, sources_are_refused};
 use crate::reference::refer;
 use crate::sweep::Sweep;
 use asm_text::first_line;
-use loader::image::{Image, ImageFault};
-use loader::labels::Labels;
+use loader::{Image, ImageFault, Labels};
 use std::alloc::Global;
 
 /// The words of a source by their addresses, and the addresses of its labels.

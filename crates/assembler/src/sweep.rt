@@ -19,7 +19,7 @@ use crate::fault::{AsmFault, Fault, lower, lowest};
 use crate::item::{Item, Pending};
 use crate::reference::{refer, use_fault};
 use asm_text::{Code, Line, Reference, Statement, Value, Wrong, read_line};
-use loader::labels::Labels;
+use loader::Labels;
 use std::alloc::Global;
 
 /// The most words of an image.

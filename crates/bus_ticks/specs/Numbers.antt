@@ -1,4 +1,4 @@
--- A profile as its fifteen numbers, in order (our own cycle profile).
+-- A profile as its fifteen numbers, in order.
 use Rattle.std.specs.Prelude.{ℕ, List, [], ◌∷◌}
 use Rattle.bus_ticks.specs.declared.profile.Profile.{Profile}
 

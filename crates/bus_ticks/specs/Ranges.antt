@@ -1,5 +1,5 @@
--- What the fifteen numbers of a cycle profile have to meet (our own cycle profile). In order they are
--- n, s, quad, rom 0 to 3, the devices slow, medium, fast and synchronous, control, unfitted, internal, burst.
+-- What the fifteen numbers of a cycle profile have to meet. In order they are n, s, quad, rom 0 to 3, the
+-- devices slow, medium, fast and synchronous, control, unfitted, internal, burst.
 use Rattle.std.specs.Prelude.{ℕ, ◌≤◌, ◌<◌, max, List, All, take, slice_index}
 
 -- a price in ticks

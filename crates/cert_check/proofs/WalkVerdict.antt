@@ -25,7 +25,7 @@ use Rattle.cert_check.specs.declared.walker.Walker.{Walker}
 use Rattle.cert_check.specs.Followed.{Followed, followed}
 use Rattle.cert_check.specs.Index.{IsIndex}
 use Rattle.cert_check.specs.Verdict.{CostsBound, IsFollowed, KeepsAll}
-use Rattle.cert_check.specs.Walking.{CanFollow, IsFresh, IsRefused, IsTaken, Tells, capped, whole}
+use Rattle.cert_check.specs.Walking.{CanFollow, IsFresh, IsRefused, IsTaken, Tells, capped, graph_span}
 use Rattle.cert_check.proofs.WalkFollowing.{leads_of}
 use Rattle.cert_check.proofs.WalkParts.{ends_same}
 
@@ -39,16 +39,16 @@ module _ (flow : Flow) (tree : Tree) (index : Index) (well : IsWellFormed flow) 
   at_entry : place_in flow tree x.number ≡ flow.entry
   at_entry = ap place fresh.number_is ∙ t.entry_first
 
-  pub ready : CanFollow flow tree index (whole flow) x
+  pub ready : CanFollow flow tree index (graph_span flow) x
   ready = record {
     well_formed = well;
     tree_is = t;
     indexed = indexed;
     holds_inner = λ s s_in here n is.
         let shape = t.ordered.shape s s_in in
-        is_member (whole flow) n (omega arith) (omega (arith, member_last s n is, shape.1));
+        is_member (graph_span flow) n (omega arith) (omega (arith, member_last s n is, shape.1));
     known = omega (arith, fresh.number_is);
-    inside = is_member (whole flow) x.number (omega arith) (omega (arith, fresh.number_is));
+    inside = is_member (graph_span flow) x.number (omega arith) (omega (arith, fresh.number_is));
     room = ap length fresh.turns_are ∙ length-replicate (exit + 1) 0;
   }
 
@@ -64,18 +64,18 @@ module _ (flow : Flow) (tree : Tree) (index : Index) (well : IsWellFormed flow) 
   }
 
   module _ (cert : Cert) where
-    pub refused_whole : IsRefused flow tree (whole flow) 16 (followed flow cert.walk) x.number → (walk : Followed) × IsFollowed flow tree cert.walk walk → ⊥
+    pub refused_whole : IsRefused flow tree (graph_span flow) 16 (followed flow cert.walk) x.number → (walk : Followed) × IsFollowed flow tree cert.walk walk → ⊥
     refused_whole refused (f, is) =
         refused f Exit (ap (followed flow cert.walk) at_entry ∙ is.followed_is) (subst (λ (p : Place). Leads edge_shape (HasEdge flow) p f.opened.walk Exit) (sym at_entry) is.complete)
-        (λ k d lt n le to. is_member (whole flow) n (omega arith) le)
+        (λ k d lt n le to. is_member (graph_span flow) n (omega arith) le)
         (record { bodies = is.bodies; counts = is.counts; shallow = is.shallow })
 
-    module _ (y : Walker) (a : IsTaken flow tree index (whole flow) 16 (length cert.walk) (followed flow cert.walk) x y) where
+    module _ (y : Walker) (a : IsTaken flow tree index (graph_span flow) 16 (length cert.walk) (followed flow cert.walk) x y) where
       abbrev v : List NumberedEdge
       v = edges_of tree.edges a.numbers
 
       leads : Leads edge_shape (HasEdge flow) flow.entry a.walk.opened.walk (place_in flow tree y.number)
-      leads = subst (λ (p : Place). Leads edge_shape (HasEdge flow) p a.walk.opened.walk (place y.number)) at_entry (leads_of flow tree index well (whole flow) 16 (length cert.walk) (followed flow cert.walk) x y t a)
+      leads = subst (λ (p : Place). Leads edge_shape (HasEdge flow) p a.walk.opened.walk (place y.number)) at_entry (leads_of flow tree index well (graph_span flow) 16 (length cert.walk) (followed flow cert.walk) x y t a)
 
       is_walk : (f : Followed) → IsFollowed flow tree cert.walk f → a.walk ≡ f
       is_walk f is = same_Some a.walk f (sym a.walk_is ∙ ap (followed flow cert.walk) at_entry ∙ is.followed_is)

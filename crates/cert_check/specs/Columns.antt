@@ -1,4 +1,4 @@
--- The numbers of a certificate by the numbers of a tree's order (our own).
+-- The numbers of a certificate by the numbers of a tree's order.
 use Rattle.std.specs.Prelude.{◌≡◌, ℕ, ◌<◌, List, length, map, slice_index}
 use Rattle.std.specs.List.{find}
 use Rattle.std.specs.List.Sorted.{IsStrictlySortedBy}

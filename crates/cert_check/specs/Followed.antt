@@ -1,5 +1,5 @@
 -- The edges that a certificate's walk stands for. Its lines name no calls: those follow from where the walk
--- begins (our own format).
+-- begins.
 use Rattle.std.specs.Prelude.{ℕ, Bool, true, false, ◌&&◌, ◌==◌, List, [], ◌∷◌, Option, Some, option_and_then}
 use Rattle.std.specs.Prelude.{option_map, map}
 use Rattle.std.specs.List.{find}

@@ -1,4 +1,4 @@
--- The checker's own index: which instances hold each number, and which begins there (our own).
+-- The checker's own index: which instances hold each number, and which begins there.
 use Rattle.std.specs.Prelude.{◌≡◌, ℕ, ◌+◌, ◌<◌, ◌≤◌, List, length}
 use Rattle.numbered_walks.specs.declared.span.Span.{Span}
 use Rattle.numbered_walks.specs.Index.{AreHeaders, AreHolders}

@@ -1,4 +1,4 @@
--- Lists of places that can be searched (our own).
+-- Lists of places that can be searched.
 use Rattle.std.specs.Prelude.{◌↔◌, List, Contains}
 use Rattle.std.specs.List.Sorted.{IsSorted}
 use Rattle.flow_graph.specs.declared.places.Place.{Place}

@@ -1,4 +1,4 @@
--- What the check of a certificate answers (our own format).
+-- What the check of a certificate answers.
 use Rattle.std.specs.Prelude.{◌≡◌, ◌⊎◌, ◌<◌, ◌≤◌, Bool, true, false, List, [], ◌∷◌, map, All, Contains, Some}
 use Rattle.std.specs.List.{list_any}
 use Rattle.walks.specs.Walk.{cost_of}

@@ -1,4 +1,4 @@
--- What following a certificate's walk tells of it (our own).
+-- What following a certificate's walk tells of it.
 use Rattle.std.specs.Prelude.{◌≡◌, ℕ, ◌+◌, ◌-◌, ◌*◌, ◌<◌, ◌≤◌, ◌^◌, min, Bool, true, false, cond, nat_lt}
 use Rattle.std.specs.Prelude.{◌||◌, List, ◌++◌, length, replicate, slice_index, slice_index_or, slice_set}
 use Rattle.std.specs.Prelude.{All, Contains, Option, Some, None}
@@ -144,8 +144,8 @@ Follows flow tree index within levels least lines old new false =
     IsRefused flow tree within levels lines old.number
 
 -- the whole graph as a span
-abbrev pub whole : Flow → Span
-whole flow = record { header = 0; last = length flow.places; bound = 0 }
+abbrev pub graph_span : Flow → Span
+graph_span flow = record { header = 0; last = length flow.places; bound = 0 }
 
 -- ## A repeat
 

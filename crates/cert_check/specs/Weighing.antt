@@ -1,4 +1,4 @@
--- The rows by the numbers of a tree's order (our own).
+-- The rows by the numbers of a tree's order.
 use Rattle.std.specs.Prelude.{◌≡◌, ◌≢◌, ℕ, ◌<◌, Bool, true, false, not, List, length, AllPairs}
 use Rattle.std.specs.List.{list_any}
 use Rattle.walks.specs.Rows as rows

@@ -30,7 +30,6 @@ fn edge_passes(
     requires inside { number < length graph.now.edges }
     ensures { IsTrue result ↔ EdgePasses tree.now cert.now test (step_at graph.now.edges number) }
 {
-    let _stated = cert;
     let exit = graph.places().len();
     passes(
         tree.spans(),

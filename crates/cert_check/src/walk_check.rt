@@ -3,7 +3,7 @@ ghost use Rattle.loop_bounds.specs.Tree.{IsTree};
 ghost use Rattle.cert_check.specs.Followed.{followed};
 ghost use Rattle.cert_check.specs.Index.{IsIndex};
 ghost use Rattle.cert_check.specs.Verdict.{IsFirstOf, walk_objections};
-ghost use Rattle.cert_check.specs.Walking.{Follows, IsFresh, whole};
+ghost use Rattle.cert_check.specs.Walking.{Follows, IsFresh, graph_span};
 
 use crate::index::Index;
 use crate::verdict::{Objection, Verdict};
@@ -42,7 +42,7 @@ fn follow_lines(
     requires tree { IsTree graph.now tree.now }
     requires indexed { IsIndex (length graph.now.places) tree.now.spans index.now }
     requires fresh { IsFresh (length graph.now.places) walker.old }
-    ensures { Follows graph.now tree.now index.now (whole graph.now) 16 (length cert.now.walk)
+    ensures { Follows graph.now tree.now index.now (graph_span graph.now) 16 (length cert.now.walk)
         (followed graph.now cert.now.walk) walker.old walker.new result }
 {
     let whole = Span {

@@ -79,7 +79,6 @@ fn needed_at(spans: &[Span], index: &Index, tables: &Tables, edge: &NumberedEdge
     ensures { MatchOption result (2 ^ 64 ≤ needed spans.now tables.now edge.now)
         (λ n. n ≡ needed spans.now tables.now edge.now) }
 {
-    let _all = spans;
     needed_with(&index.holders[edge.from], tables, edge)
 }
 
@@ -90,7 +89,6 @@ fn span_at(spans: &[Span], headers: &[Option<Span>], number: usize) -> Option<Sp
     requires inside { number < length headers.now }
     ensures { result ≡ find (λ s. nat_eq number s.header) spans.now }
 {
-    let _all = spans;
     headers[number]
 }
 
@@ -178,7 +176,6 @@ fn goes_out(spans: &[Span], index: &Index, edge: &NumberedEdge) -> bool
     requires { CanWeigh spans.now index.now edge.now }
     ensures { result ≡ leaves spans.now edge.now }
 {
-    let _all = spans;
     is_outside(&index.holders[edge.from], edge.to)
 }
 

@@ -1,4 +1,4 @@
--- What stands in a certificate of which some lines are read (our own format).
+-- What stands in a certificate of which some lines are read.
 use Rattle.std.specs.Prelude.{◌≡◌, List, [], ◌∷◌, ◌++◌, length, map, Bool, true, false, Some, None}
 use Rattle.std.specs.List.{flat_map}
 use Rattle.bus_ticks.specs.Numbers.{numbers_of}

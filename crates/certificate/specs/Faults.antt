@@ -1,4 +1,4 @@
--- What each fault of a text means (our own format).
+-- What each fault of a text means.
 use Rattle.std.specs.Prelude.{◌≡◌, ◌≢◌, ℕ, ◌+◌, List, [], ◌∷◌, ◌++◌, length, Some, None, Result, MatchResult}
 use Rattle.std.specs.List.{AllByRecursion}
 use Rattle.certificate.specs.declared.cert.Cert.{Cert}

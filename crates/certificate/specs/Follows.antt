@@ -1,4 +1,4 @@
--- Which line may follow which (our own format).
+-- Which line may follow which.
 use Rattle.std.specs.Prelude.{ℕ, zero, suc, List, Bool, true, Option, Some, None, if◌then◌else◌}
 use Rattle.std.specs.Ordering.{is_lt}
 use Rattle.flow_graph.specs.declared.places.Place.{Place}

@@ -1,4 +1,4 @@
--- The lines of a walk that is written with repeats (our own format).
+-- The lines of a walk that is written with repeats.
 use Rattle.std.specs.Prelude.{◌≡◌, ℕ, zero, suc, List, [], ◌∷◌, ◌++◌, Bool, true, false, Option, Some, None}
 use Rattle.std.specs.Prelude.{option_and_then, nat_lt, if◌then◌else◌}
 use Rattle.std.specs.List.{flat_map}

@@ -1,4 +1,4 @@
--- How the lines of a certificate are spelled (our own format).
+-- How the lines of a certificate are spelled.
 use Rattle.std.specs.Prelude.{◌≡◌, ◌≢◌, ℕ, ◌<◌, ◌≤◌, ◌^◌, List, [], ◌∷◌, ◌++◌, length, map, true, codes}
 use Rattle.std.specs.Prelude.{slice_index, All, ⊤}
 use Rattle.std.specs.Fmt.{decimal, digits}

@@ -1,4 +1,4 @@
--- The sections of a certificate's text (our own format).
+-- The sections of a certificate's text.
 use Rattle.std.specs.Prelude.{ℕ, List}
 use Rattle.std.specs.List.{flat_map}
 use Rattle.longest_walk.specs.declared.rows.PlaceRow.{PlaceRow}

@@ -15,7 +15,7 @@ use Rattle.bus_ticks.specs.declared.profile.Class.{Class}
 use Rattle.bus_ticks.specs.declared.profile.Class.TheVariants.{Any, Ram, Rom, Io}
 use Rattle.bus_ticks.specs.declared.profile.Profile.{Profile}
 use Rattle.loader.specs.Image.{Words}
-use Rattle.flow_graph.specs.Edges.{AreEdgesOf, HasAction, IsEdge, arriving, calling, do_edge, done, dos, fetching, inside, jumping, landings, returning, skip_edge, skips, stated_landings, target, word_edges, working, wrapped, writer_landings}
+use Rattle.flow_graph.specs.Edges.{AreEdgesOf, HasAction, IsEdge, arrival_ticks, call_places, do_edge, landing_edges, do_edges, fetch_ticks, places_at, jump_ticks, landings, return_place, skip_edge, skip_edges, stated_landings, branch_target, word_edges, work_ticks, wrapped, writer_landings}
 use Rattle.flow_graph.specs.Kinds.{IsAction, IsWork, instr_action, is_always, is_never, unallocated_action}
 use Rattle.flow_graph.specs.Places.{IsInRange}
 use Rattle.statement.specs.Stated.{IsStated, IsTarget, Stated, Target, class_of, target_of}
@@ -94,11 +94,11 @@ leave_small p Rom = omega (arith, rom_is_price p, p.quad_price)
 leave_small p Io = omega (arith, rom_is_price p, p.unfitted_price)
 leave_small p Any = omega (arith, rom_is_price p, p.n_price, p.quad_price, p.unfitted_price)
 
-jumping_small : (leave : Class) (p : Profile) (to : Place) → jumping leave p to < 512
+jumping_small : (leave : Class) (p : Profile) (to : Place) → jump_ticks leave p to < 512
 jumping_small leave p (At calls t) = omega (arith, n_is_price p t, s_is_price p (wrapped (t + 4)))
 jumping_small leave p Exit = leave_small p leave
 
-arriving_small : (leave : Class) (p : Profile) (k : Kind) (to : Place) → arriving leave p k to < 512
+arriving_small : (leave : Class) (p : Profile) (k : Kind) (to : Place) → arrival_ticks leave p k to < 512
 arriving_small leave p Plain to = omega arith
 arriving_small leave p (Branch offset) to = jumping_small leave p to
 arriving_small leave p (Call offset) to = jumping_small leave p to
@@ -106,12 +106,12 @@ arriving_small leave p Writer to = jumping_small leave p to
 arriving_small leave p Trap to = omega arith
 arriving_small leave p Unallocated to = omega arith
 
-fetching_is_price : (p : Profile) (address : ℕ) (w : Work) → IsPrice (fetching p address w)
+fetching_is_price : (p : Profile) (address : ℕ) (w : Work) → IsPrice (fetch_ticks p address w)
 fetching_is_price p address (Internal cycles) = s_is_price p (wrapped (address + 8))
 fetching_is_price p address (Load words) = s_is_price p (wrapped (address + 8))
 fetching_is_price p address (Store words) = n_is_price p (wrapped (address + 8))
 
-working_small : (p : Profile) (c : Class) (w : Work) → IsWork w → working p c w < 4400
+working_small : (p : Profile) (c : Class) (w : Work) → IsWork w → work_ticks p c w < 4400
 working_small p c (Internal cycles) few = omega (arith, mul-le cycles p.internal 16 255 few (omega (arith, p.internal_price)))
 working_small p c (Load words) fits = omega (arith, worst_block_small p c words false (worst_block p c words false) fits.0 fits.1 refl, fits.1, p.internal_price)
 working_small p c (Store words) fits = omega (arith, worst_block_small p c words true (worst_block p c words true) fits.0 fits.1 refl, fits.1)
@@ -125,7 +125,7 @@ IsSmall Exit = Unit {0}
 wrapped_in_range : (calls : List ℕ) (address n : ℕ) → IsInRange calls address → IsInRange calls (wrapped n)
 wrapped_in_range calls address n h = (omega arith, h.1, h.2)
 
-returning_in_range : (calls : List ℕ) (address : ℕ) → IsInRange calls address → IsSmall (returning calls)
+returning_in_range : (calls : List ℕ) (address : ℕ) → IsInRange calls address → IsSmall (return_place calls)
 returning_in_range calls address h =
     cond_all
     IsSmall
@@ -135,13 +135,13 @@ returning_in_range calls address h =
     tt
     (omega arith, let e : length (take (length calls - 1) calls) ≡ length calls - 1 = length-take-le (length calls - 1) calls (omega arith) in omega (arith, h.1), All-take (λ c. c < 2 ^ 26) (length calls - 1) calls h.2)
 
-inside_in_range : (calls to : List ℕ) → length calls ≤ 8 → All (λ c. c < 2 ^ 26) calls → All (λ a. a < 2 ^ 26) to → All IsSmall (inside calls to)
+inside_in_range : (calls to : List ℕ) → length calls ≤ 8 → All (λ c. c < 2 ^ 26) calls → All (λ a. a < 2 ^ 26) to → All IsSmall (places_at calls to)
 inside_in_range calls to few small all = All-map IsSmall (λ (a : ℕ). At calls a) to (All-weaker (λ a. a < 2 ^ 26) (λ (a : ℕ). IsInRange calls a) (λ a h. (h, few, small)) to all)
 
 -- the places to which a call leads, by whether the calls are fewer than eight
-calling_in_range : (calls : List ℕ) (address : ℕ) (to : List ℕ) → IsInRange calls address → All (λ a. a < 2 ^ 26) to → All IsSmall (calling calls address to)
+calling_in_range : (calls : List ℕ) (address : ℕ) (to : List ℕ) → IsInRange calls address → All (λ a. a < 2 ^ 26) to → All IsSmall (call_places calls address to)
 calling_in_range calls address to h all =
-    elim (ltb (length calls) 8) as (λ b. ltb (length calls) 8 ≡ b → All IsSmall (cond b (inside (calls ++ address ∷ []) to) [])) [
+    elim (ltb (length calls) 8) as (λ b. ltb (length calls) 8 ≡ b → All IsSmall (cond b (places_at (calls ++ address ∷ []) to) [])) [
       | true ↦ λ e.
           let few : length calls < 8 = ltb-true (length calls) 8 e in
           inside_in_range (calls ++ address ∷ []) to (omega (arith, length-append calls (address ∷ []))) (All-push (λ c. c < 2 ^ 26) calls address h.2 h.0) all
@@ -154,19 +154,19 @@ one_in_range p h = All-cons IsSmall p [] h (All-nil IsSmall)
 stated_in_range : (calls : List ℕ) (address : ℕ) (k : TargetKind) (to : List ℕ) → IsInRange calls address → All (λ a. a < 2 ^ 26) to → All IsSmall (stated_landings calls address k to)
 stated_in_range calls address stated.Jump to h all = inside_in_range calls to h.1 h.2 all
 stated_in_range calls address stated.Call to h all = calling_in_range calls address to h all
-stated_in_range calls address stated.Return to h all = one_in_range (returning calls) (returning_in_range calls address h)
+stated_in_range calls address stated.Return to h all = one_in_range (return_place calls) (returning_in_range calls address h)
 stated_in_range calls address stated.Leave to h all = one_in_range Exit tt
 
 writer_in_range : (calls : List ℕ) (address : ℕ) (t : Option Target) → IsInRange calls address → IfSome t IsTarget → All IsSmall (writer_landings calls address t)
-writer_in_range calls address None h target = one_in_range (returning calls) (returning_in_range calls address h)
+writer_in_range calls address None h target = one_in_range (return_place calls) (returning_in_range calls address h)
 writer_in_range calls address (Some t) h target = stated_in_range calls address t.kind t.to h target
 
 landings_in_range : (st : Stated) (calls : List ℕ) (address : ℕ) (k : Kind) → IsStated st → IsInRange calls address → All IsSmall (landings st calls address k)
 landings_in_range st calls address Plain s h = one_in_range (At calls (wrapped (address + 4))) (wrapped_in_range calls address (address + 4) h)
-landings_in_range st calls address (Branch offset) s h = one_in_range (At calls (target address offset)) (wrapped_in_range calls address (address + 8 + 4 * offset) h)
+landings_in_range st calls address (Branch offset) s h = one_in_range (At calls (branch_target address offset)) (wrapped_in_range calls address (address + 8 + 4 * offset) h)
 landings_in_range st calls address (Call offset) s h =
-    let small : target address offset < 2 ^ 26 = omega arith in
-    calling_in_range calls address (target address offset ∷ []) h (All-cons (λ a. a < 2 ^ 26) (target address offset) [] small (All-nil (λ a. a < 2 ^ 26)))
+    let small : branch_target address offset < 2 ^ 26 = omega arith in
+    calling_in_range calls address (branch_target address offset ∷ []) h (All-cons (λ a. a < 2 ^ 26) (branch_target address offset) [] small (All-nil (λ a. a < 2 ^ 26)))
 landings_in_range st calls address Writer s h = writer_in_range calls address (target_of st address) h (All-lookup IsTarget (nat_eq address) st.targets s.destinations)
 landings_in_range st calls address Trap s h = All-nil IsSmall
 landings_in_range st calls address Unallocated s h = All-nil IsSmall
@@ -223,10 +223,10 @@ module _ (st : Stated) (profile : Profile) (calls : List ℕ) (address : ℕ) wh
   word_leaves a fits =
       All-append
       (Leaves st (At calls address))
-      (skips profile calls address a)
-      (dos st profile calls address a)
+      (skip_edges profile calls address a)
+      (do_edges st profile calls address a)
       (cond_all AllLeave (is_always a.cond) [] (skip_edge profile calls address ∷ []) none_leaves skip_leaves)
-      (cond_all AllLeave (is_never a.cond) [] (done st profile calls address a) none_leaves (done_leaves a fits (landings st calls address a.kind) (λ s h. landings_in_range st calls address a.kind s h)))
+      (cond_all AllLeave (is_never a.cond) [] (landing_edges st profile calls address a) none_leaves (done_leaves a fits (landings st calls address a.kind) (λ s h. landings_in_range st calls address a.kind s h)))
 
 module _ (words : Words) (st : Stated) (profile : Profile) where
   pub leaves : (p : Place) (edges : List Edge) (e : Edge) → AreEdgesOf words st profile p edges → Contains edges e → Leaves st p e

@@ -8,7 +8,7 @@ use Rattle.std.proofs.lemmas.List.Elements.{All-contains, All-contains_itself, A
 use Rattle.std.proofs.lemmas.Map.Keys.{Less-from_sorted}
 use Rattle.bus_ticks.specs.declared.profile.Profile.{Profile}
 use Rattle.loader.specs.Image.{Words}
-use Rattle.flow_graph.specs.Edges.{AreEdgesOf, calling, do_edge, inside, landings, returning, skip_edge, skips, stated_landings, target, word_edges, wrapped, writer_landings, dos}
+use Rattle.flow_graph.specs.Edges.{AreEdgesOf, call_places, do_edge, places_at, landings, return_place, skip_edge, skip_edges, stated_landings, branch_target, word_edges, wrapped, writer_landings, do_edges}
 use Rattle.flow_graph.specs.Flow.{Flow, HasEdge}
 use Rattle.flow_graph.specs.Graph.{IsFlowGraph}
 use Rattle.flow_graph.specs.Kinds.{is_always, is_never}
@@ -58,34 +58,34 @@ cond_apart false ps qs h k = k
 abbrev IsInside : List ℕ → Place → Type 0
 IsInside calls p = (a : ℕ) × (p ≡ At calls a)
 
-all_inside : (calls to : List ℕ) → All (IsInside calls) (inside calls to)
+all_inside : (calls to : List ℕ) → All (IsInside calls) (places_at calls to)
 all_inside calls to = All-map (IsInside calls) (λ a. At calls a) to (All-weaker (Contains to) (λ a. IsInside calls (At calls a)) (λ a h. (a, refl)) to (All-contains_itself to))
 
-inside_apart : (calls to : List ℕ) → AreApart (inside calls to)
+inside_apart : (calls to : List ℕ) → AreApart (places_at calls to)
 inside_apart calls to p q h k alike =
-    let a = All-contains (IsInside calls) (inside calls to) p (all_inside calls to) h in
-    let b = All-contains (IsInside calls) (inside calls to) q (all_inside calls to) k in
+    let a = All-contains (IsInside calls) (places_at calls to) p (all_inside calls to) h in
+    let b = All-contains (IsInside calls) (places_at calls to) q (all_inside calls to) k in
     let half : AreAlike (At calls a.0) q = subst (λ x. AreAlike x q) a.1 alike in
     let same : a.0 ≡ b.0 = subst (AreAlike (At calls a.0)) b.1 half in
     a.1 ∙ ap (λ x. At calls x) same ∙ sym b.1
 
-calling_apart : (calls : List ℕ) (address : ℕ) (to : List ℕ) → AreApart (calling calls address to)
-calling_apart calls address to = cond_apart (nat_lt (length calls) 8) (inside (calls ++ address ∷ []) to) [] (inside_apart (calls ++ address ∷ []) to) none_apart
+calling_apart : (calls : List ℕ) (address : ℕ) (to : List ℕ) → AreApart (call_places calls address to)
+calling_apart calls address to = cond_apart (nat_lt (length calls) 8) (places_at (calls ++ address ∷ []) to) [] (inside_apart (calls ++ address ∷ []) to) none_apart
 
 stated_apart : (calls : List ℕ) (address : ℕ) (k : TargetKind) (to : List ℕ) → AreApart (stated_landings calls address k to)
 stated_apart calls address stated.Jump to = inside_apart calls to
 stated_apart calls address stated.Call to = calling_apart calls address to
-stated_apart calls address stated.Return to = one_apart (returning calls)
+stated_apart calls address stated.Return to = one_apart (return_place calls)
 stated_apart calls address stated.Leave to = one_apart Exit
 
 writer_apart : (calls : List ℕ) (address : ℕ) (t : Option Target) → AreApart (writer_landings calls address t)
-writer_apart calls address None = one_apart (returning calls)
+writer_apart calls address None = one_apart (return_place calls)
 writer_apart calls address (Some t) = stated_apart calls address t.kind t.to
 
 landings_apart : (st : Stated) (calls : List ℕ) (address : ℕ) (k : Kind) → AreApart (landings st calls address k)
 landings_apart st calls address Plain = one_apart (At calls (wrapped (address + 4)))
-landings_apart st calls address (Branch offset) = one_apart (At calls (target address offset))
-landings_apart st calls address (Call offset) = calling_apart calls address (target address offset ∷ [])
+landings_apart st calls address (Branch offset) = one_apart (At calls (branch_target address offset))
+landings_apart st calls address (Call offset) = calling_apart calls address (branch_target address offset ∷ [])
 landings_apart st calls address Writer = writer_apart calls address (target_of st address)
 landings_apart st calls address Trap = none_apart
 landings_apart st calls address Unallocated = none_apart
@@ -118,7 +118,7 @@ module _ (st : Stated) (profile : Profile) (calls : List ℕ) (address : ℕ) (a
   is_made : (e : Edge) → Contains (word_edges st profile calls address action) e → IsMade e
   is_made e h =
       ⊎_elim (λ w. inl (is_skip (is_always action.cond) e w)) (λ w. inr (is_done (is_never action.cond) e w))
-      (Contains-append_cases (skips profile calls address action) (dos st profile calls address action) e h)
+      (Contains-append_cases (skip_edges profile calls address action) (do_edges st profile calls address action) e h)
 
   one_made : (e f : Edge) → e.label ≡ f.label → AreAlike e.to f.to → IsMade e → IsMade f → e ≡ f
   one_made e f label alike (inl p) (inl q) = p ∙ sym q

@@ -15,7 +15,7 @@ use Rattle.arm2_decode.specs.Conditions.{condition_holds}
 use Rattle.arm2_decode.specs.declared.flags.Flags.{Flags}
 use Rattle.arm2_decode.specs.declared.names.Cond.{Cond}
 use Rattle.arm2_decode.specs.declared.names.Cond.TheVariants as condition
-use Rattle.flow_graph.specs.Edges.{arriving, calling, do_edge, done, dos, inside, jumping, landings, skip_edge, skips, target, word_edges, wrapped, writer_landings}
+use Rattle.flow_graph.specs.Edges.{arrival_ticks, call_places, do_edge, landing_edges, do_edges, places_at, jump_ticks, landings, skip_edge, skip_edges, branch_target, word_edges, wrapped, writer_landings}
 use Rattle.flow_graph.specs.Kinds.{is_always, is_never, is_writer}
 use Rattle.flow_graph.specs.StepLaw.{IsPlaceOf}
 use Rattle.flow_graph.specs.declared.edges.Edge.{Edge}
@@ -78,21 +78,21 @@ module _ (st : Stated) (profile : Profile) (calls : List ℕ) (a : ℕ) (action 
   Which e = (skip_edge profile calls a ≡ e) ⊎ ((to : Place) × Contains (landings st calls a action.kind) to × (do_edge st profile calls a action to ≡ e))
 
   pub which_edge : (e : Edge) → Contains (word_edges st profile calls a action) e → Which e
-  which_edge e h = by_part (Contains-append_cases (skips profile calls a action) (dos st profile calls a action) e h)
+  which_edge e h = by_part (Contains-append_cases (skip_edges profile calls a action) (do_edges st profile calls a action) e h)
     where
-      by_part : Contains (skips profile calls a action) e ⊎ Contains (dos st profile calls a action) e → Which e
+      by_part : Contains (skip_edges profile calls a action) e ⊎ Contains (do_edges st profile calls a action) e → Which e
       by_part (inl skip) = inl (only_one (skip_edge profile calls a) e (cond_contains (is_always action.cond) (skip_edge profile calls a ∷ []) e skip))
-      by_part (inr more) = inr (contains_map (do_edge st profile calls a action) (landings st calls a action.kind) e (cond_contains (is_never action.cond) (done st profile calls a action) e more))
+      by_part (inr more) = inr (contains_map (do_edge st profile calls a action) (landings st calls a action.kind) e (cond_contains (is_never action.cond) (landing_edges st profile calls a action) e more))
 
   pub skip_among : is_always action.cond ≡ false → Contains (word_edges st profile calls a action) (skip_edge profile calls a)
   skip_among may =
-      Contains-append_left (skips profile calls a action) (dos st profile calls a action) (skip_edge profile calls a)
+      Contains-append_left (skip_edges profile calls a action) (do_edges st profile calls a action) (skip_edge profile calls a)
       (contains_cond (is_always action.cond) (skip_edge profile calls a ∷ []) (skip_edge profile calls a) may (here (skip_edge profile calls a) []))
 
   pub do_among : (to : Place) → is_never action.cond ≡ false → Contains (landings st calls a action.kind) to → Contains (word_edges st profile calls a action) (do_edge st profile calls a action to)
   do_among to may lands =
-      Contains-append_right (skips profile calls a action) (dos st profile calls a action) (do_edge st profile calls a action to)
-      (contains_cond (is_never action.cond) (done st profile calls a action) (do_edge st profile calls a action to) may
+      Contains-append_right (skip_edges profile calls a action) (do_edges st profile calls a action) (do_edge st profile calls a action to)
+      (contains_cond (is_never action.cond) (landing_edges st profile calls a action) (do_edge st profile calls a action to) may
       (map_contains (do_edge st profile calls a action) (landings st calls a action.kind) to lands))
 
 -- ## Where edges end
@@ -144,29 +144,29 @@ Lands st calls a k t =
     ((p : Place) × Contains (landings st calls a k) p × IsPlaceOf st t p)
     ⊎ ((is_writer k ≡ true) × ((p : Place) → Contains (landings st calls a k) p → IsPlaceOf st t p → ⊥))
 
-call_lands : (calls : List ℕ) (a to : ℕ) → length calls < 8 → Contains (calling calls a (to ∷ [])) (At (calls ++ a ∷ []) to)
+call_lands : (calls : List ℕ) (a to : ℕ) → length calls < 8 → Contains (call_places calls a (to ∷ [])) (At (calls ++ a ∷ []) to)
 call_lands calls a to few =
-    subst (λ b. Contains (cond b (inside (calls ++ a ∷ []) (to ∷ [])) []) (At (calls ++ a ∷ []) to)) (sym (lt-ltb (length calls) 8 few))
+    subst (λ b. Contains (cond b (places_at (calls ++ a ∷ []) (to ∷ [])) []) (At (calls ++ a ∷ []) to)) (sym (lt-ltb (length calls) 8 few))
     (here (At (calls ++ a ∷ []) to) [])
 
 pub lands : (st : Stated) (p : Profile) (rom : RomTimes) (class : Class) (calls : List ℕ) (a : ℕ) (k : Kind) (t : ℕ) → Reaches p rom class a k t → ((offset : ℕ) → k ≡ kind.Call offset → length calls < 8) → Lands st calls a k t
 lands st p rom class calls a kind.Plain t e few = inl (At calls (wrapped (a + 4)), here (At calls (wrapped (a + 4))) [], sym e)
-lands st p rom class calls a (kind.Branch offset) t e few = inl (At calls (target a offset), here (At calls (target a offset)) [], sym e)
-lands st p rom class calls a (kind.Call offset) t e few = inl (At (calls ++ a ∷ []) (target a offset), call_lands calls a (target a offset) (few offset refl), sym e)
+lands st p rom class calls a (kind.Branch offset) t e few = inl (At calls (branch_target a offset), here (At calls (branch_target a offset)) [], sym e)
+lands st p rom class calls a (kind.Call offset) t e few = inl (At (calls ++ a ∷ []) (branch_target a offset), call_lands calls a (branch_target a offset) (few offset refl), sym e)
 lands st p rom class calls a kind.Writer t e few = elim (find_place st t (writer_landings calls a (target_of st a))) [ inl w ↦ inl w | inr none ↦ inr (refl, none) ]
 lands st p rom class calls a kind.Trap t e few = absurd e
 lands st p rom class calls a kind.Unallocated t e few = absurd e
 
 -- ## What a jump costs
 
-jump_arrives : (st : Stated) (p : Profile) (rom : RomTimes) (class : Class) (a : ℕ) (to : Place) (t : ℕ) → t < 2 ^ 26 → IsPlaceOf st t to → n_price p rom t + s_price p rom (wrapped (t + 4)) ≤ jumping st.leave p to
+jump_arrives : (st : Stated) (p : Profile) (rom : RomTimes) (class : Class) (a : ℕ) (to : Place) (t : ℕ) → t < 2 ^ 26 → IsPlaceOf st t to → n_price p rom t + s_price p rom (wrapped (t + 4)) ≤ jump_ticks st.leave p to
 jump_arrives st p rom class a (At calls x) t small e =
     subst (λ y. n_price p rom y + s_price p rom (wrapped (y + 4)) ≤ worst_n_price p x + worst_s_price p (wrapped (x + 4))) e
     (omega (arith, n_most p rom class a x, s_most p rom class a (wrapped (x + 4))))
 jump_arrives st p rom class a Exit t small is =
     (worst_leave_greatest p st.leave (worst_leave_of p st.leave) refl).none_above (record { address = t; rom = rom }) (record { below = small; is_of = is })
 
-pub arrives : (st : Stated) (p : Profile) (rom : RomTimes) (class : Class) (a : ℕ) (k : Kind) (to : Place) (t : ℕ) → t < 2 ^ 26 → IsPlaceOf st t to → jump_price p rom class a k t ≤ arriving st.leave p k to
+pub arrives : (st : Stated) (p : Profile) (rom : RomTimes) (class : Class) (a : ℕ) (k : Kind) (to : Place) (t : ℕ) → t < 2 ^ 26 → IsPlaceOf st t to → jump_price p rom class a k t ≤ arrival_ticks st.leave p k to
 arrives st p rom class a kind.Plain to t small is = omega arith
 arrives st p rom class a (kind.Branch offset) to t small is = jump_arrives st p rom class a to t small is
 arrives st p rom class a (kind.Call offset) to t small is = jump_arrives st p rom class a to t small is

@@ -28,7 +28,7 @@ use Rattle.arm2_exec.specs.Run.{Ends, Runs, at_rest, counted, why_stopped}
 use Rattle.arm2_exec.specs.State.{State}
 use Rattle.arm2_exec.specs.Step.{Obeys, ObeysFetched, Step, Works, address_in, answer_of, fetched, instruction_moved, interrupt_due, state_after, ticks_in, unallocated_moved, with_lines}
 use Rattle.arm2_exec.proofs.StepLemmas.{one_step}
-use Rattle.flow_graph.specs.Edges.{doing, do_edge, passing, skip_edge, word_edges}
+use Rattle.flow_graph.specs.Edges.{do_ticks, do_edge, passing_ticks, skip_edge, word_edges}
 use Rattle.flow_graph.specs.Flow.{edge_shape}
 use Rattle.flow_graph.specs.Graph.{IsReached, IsTooDeep, makes_call}
 use Rattle.flow_graph.specs.Kinds.{IsAction, instr_action, is_never, kind_of, unallocated_action, work_of}
@@ -167,10 +167,10 @@ module _ (words : Words) (st : Stated) (profile : Profile) (calls : List ℕ) (a
   cost_by true costs e (inl skip) label to = absurd (no_label (skip_edge profile calls (address_in s.regs)) e refl label skip)
   cost_by true costs e (inr (p, among, is)) label to =
       let jump = arrives st profile s.bus.memc.control.rom_times (class_of st (address_in s.regs)) (address_in s.regs) action.kind p told.to small (ends_at p e is to) in
-      let cost : doing st profile (address_in s.regs) action p ≡ e.cost = ap (λ (x : Edge). x.cost) is in
+      let cost : do_ticks st profile (address_in s.regs) action p ≡ e.cost = ap (λ (x : Edge). x.cost) is in
       omega (arith, jump, costs.most, ticks, cost)
   cost_by false costs e (inl skip) label to =
-      let cost : passing profile (address_in s.regs) ≡ e.cost = ap (λ (x : Edge). x.cost) skip in
+      let cost : passing_ticks profile (address_in s.regs) ≡ e.cost = ap (λ (x : Edge). x.cost) skip in
       omega (arith, costs.most, ticks, cost)
   cost_by false costs e (inr (p, among, is)) label to = absurd (no_label e (do_edge st profile calls (address_in s.regs) action p) label refl (sym is))
 

@@ -37,7 +37,7 @@ use Rattle.arm2_transfer.specs.Operations.{operation_moved}
 use Rattle.arm2_transfer.specs.Registers.{is_r15, is_user, moved_by, passed, with_base}
 use Rattle.arm2_transfer.specs.Single.{address_for, base_after, of_immediate, of_register, single_at, single_by, single_carried_out, single_loaded, single_loads, single_stores, writes_base}
 use Rattle.arm2_transfer.specs.Words.{is_listed, registers_in}
-use Rattle.flow_graph.specs.Edges.{target}
+use Rattle.flow_graph.specs.Edges.{branch_target}
 use Rattle.flow_graph.specs.Kinds.{IsWork, data_kind, is_compare, is_pc, kind_of, lists_pc, transfer, work_of, writer_if}
 use Rattle.flow_graph.specs.StepLaw.{TransfersIn}
 use Rattle.flow_graph.specs.declared.kinds.Kind.{Kind}
@@ -169,7 +169,7 @@ module _ (p : Profile) (rom : RomTimes) (class : Class) (regs : List ℕ) (long 
   linked true = long_with (mode_of (r15_in regs)) 14 (r15_ahead (r15_in regs) 4) regs long
   linked false = long
 
-  branch_by : (link : Bool) (offset t : ℕ) → t ≡ target (address_of (r15_in regs)) offset →
+  branch_by : (link : Bool) (offset t : ℕ) → t ≡ branch_target (address_of (r15_in regs)) offset →
       Costs p rom class (address_of (r15_in regs)) (cond link (kind.Call offset) (kind.Branch offset)) (work.Internal 0) (onward (address_of (r15_in regs)) t) t
   branch_by true offset t e = call_costs p rom class (address_of (r15_in regs)) offset t e
   branch_by false offset t e = branch_costs p rom class (address_of (r15_in regs)) offset t e
@@ -178,7 +178,7 @@ module _ (p : Profile) (rom : RomTimes) (class : Class) (regs : List ℕ) (long 
   unfolding branch_effect
   branch_goes x =
       let t : ℕ = ahead_of (address_of (r15_in regs)) (8 + 4 * x.offset) in
-      let same : t ≡ target (address_of (r15_in regs)) x.offset = ap (λ n. n % 2 ^ 26) (let e : address_of (r15_in regs) + (8 + 4 * x.offset) ≡ address_of (r15_in regs) + 8 + 4 * x.offset = omega arith in e) in
+      let same : t ≡ branch_target (address_of (r15_in regs)) x.offset = ap (λ n. n % 2 ^ 26) (let e : address_of (r15_in regs) + (8 + 4 * x.offset) ≡ address_of (r15_in regs) + 8 + 4 * x.offset = omega arith in e) in
       let is_word : IsWordAddress t = (omega arith, omega arith) in
       subst (Costs p rom class (address_of (r15_in regs)) (cond x.link (kind.Call x.offset) (kind.Branch x.offset)) (work.Internal 0) (onward (address_of (r15_in regs)) t))
       (sym (goes (cond x.link (with_register (mode_of (r15_in regs)) 14 (r15_ahead (r15_in regs) 4) regs) regs) (r15_of (psr_of (r15_in regs)) t (mode_of (r15_in regs))) t (linked x.link) (address_put (psr_of (r15_in regs)) t (mode_of (r15_in regs)) is_word)))

@@ -15,7 +15,7 @@ use Rattle.arm2_effect.specs.Effects.{Access, FetchN, FetchS, Internal, Word, st
 use Rattle.arm2_effect.specs.ProgramCounter.{ahead_of}
 use Rattle.arm2_transfer.proofs.Ticks.{load_ticks-jumps, load_ticks-passes, ticks_of-append, ticks_of-words_at}
 use Rattle.arm2_transfer.specs.Moved.{load_accesses, store_accesses, words_at}
-use Rattle.flow_graph.specs.Edges.{fetching, passing, target, working, wrapped}
+use Rattle.flow_graph.specs.Edges.{fetch_ticks, passing_ticks, branch_target, work_ticks, wrapped}
 use Rattle.flow_graph.specs.Kinds.{writer_if}
 use Rattle.flow_graph.specs.StepLaw.{TransfersIn}
 use Rattle.flow_graph.specs.declared.kinds.Kind.{Kind}
@@ -61,8 +61,8 @@ module _ (p : Profile) (rom : RomTimes) (class : Class) (a : ℕ) where
   -- where a word of the kind leads from address a, by its own fields
   abbrev pub Reaches : Kind → ℕ → Type 0
   Reaches kind.Plain t = t ≡ wrapped (a + 4)
-  Reaches (kind.Branch offset) t = t ≡ target a offset
-  Reaches (kind.Call offset) t = t ≡ target a offset
+  Reaches (kind.Branch offset) t = t ≡ branch_target a offset
+  Reaches (kind.Call offset) t = t ≡ branch_target a offset
   Reaches kind.Writer t = Unit {0}
   Reaches kind.Trap t = ⊥
   Reaches kind.Unallocated t = ⊥
@@ -79,7 +79,7 @@ module _ (p : Profile) (rom : RomTimes) (class : Class) (a : ℕ) where
   -- a step of these accesses that ends at t is one of a word of the kind and the work, and costs no more than they do
   pub record Costs (k : Kind) (w : Work) (accesses : List Access) (t : ℕ) : Type 0 where
     pub reaches : Reaches k t
-    pub most : ticks_of p rom accesses ≤ fetching p a w + working p class w + jump_price k t
+    pub most : ticks_of p rom accesses ≤ fetch_ticks p a w + work_ticks p class w + jump_price k t
 
   pub straight_costs : (t : ℕ) → t ≡ wrapped (a + 4) → Costs kind.Plain (work.Internal 0) (straight a) t
   straight_costs t e = record { reaches = e; most = omega (arith, s_most (wrapped (a + 8))) }
@@ -87,10 +87,10 @@ module _ (p : Profile) (rom : RomTimes) (class : Class) (a : ℕ) where
   pub jump_costs : (t : ℕ) → Costs kind.Writer (work.Internal 0) (FetchS (ahead_of a 8) ∷ refill t) t
   jump_costs t = record { reaches = tt; most = omega (arith, s_most (wrapped (a + 8))) }
 
-  pub branch_costs : (offset t : ℕ) → t ≡ target a offset → Costs (kind.Branch offset) (work.Internal 0) (FetchS (ahead_of a 8) ∷ refill t) t
+  pub branch_costs : (offset t : ℕ) → t ≡ branch_target a offset → Costs (kind.Branch offset) (work.Internal 0) (FetchS (ahead_of a 8) ∷ refill t) t
   branch_costs offset t e = record { reaches = e; most = omega (arith, s_most (wrapped (a + 8))) }
 
-  pub call_costs : (offset t : ℕ) → t ≡ target a offset → Costs (kind.Call offset) (work.Internal 0) (FetchS (ahead_of a 8) ∷ refill t) t
+  pub call_costs : (offset t : ℕ) → t ≡ branch_target a offset → Costs (kind.Call offset) (work.Internal 0) (FetchS (ahead_of a 8) ∷ refill t) t
   call_costs offset t e = record { reaches = e; most = omega (arith, s_most (wrapped (a + 8))) }
 
   -- internal cycles before
@@ -100,7 +100,7 @@ module _ (p : Profile) (rom : RomTimes) (class : Class) (a : ℕ) where
     most =
         let all = ticks_of-append p rom (Internal cycles ∷ []) accesses in
         let product : cycles * p.internal ≤ most * p.internal = mul-le cycles p.internal most p.internal few (omega arith) in
-        let before : ticks_of p rom accesses ≤ passing p a + 0 * p.internal + jump_price k t = h.most in
+        let before : ticks_of p rom accesses ≤ passing_ticks p a + 0 * p.internal + jump_price k t = h.most in
         omega (arith, all, product, before);
   }
 

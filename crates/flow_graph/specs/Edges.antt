@@ -29,40 +29,40 @@ wrapped n = n % 2 ^ 26
 
 -- a branch counts words from the one after the next, signed in 24 bits: as addresses wrap after 2^24 words,
 -- the number leads to the same word unsigned
-abbrev pub target : ℕ → ℕ → ℕ
-target address offset = wrapped (address + 8 + 4 * offset)
+abbrev pub branch_target : ℕ → ℕ → ℕ
+branch_target address offset = wrapped (address + 8 + 4 * offset)
 
 -- a return takes the last call away and goes past it; with no call it leaves the handler
-abbrev pub returning : List ℕ → Place
-returning calls =
+abbrev pub return_place : List ℕ → Place
+return_place calls =
     cond (nat_eq (length calls) 0) Exit
     (At (take (length calls - 1) calls) (wrapped (slice_index calls (length calls - 1) + 4)))
 
 -- at each of the addresses, inside the calls
-abbrev pub inside : List ℕ → List ℕ → List Place
-inside calls addresses = map (λ a. At calls a) addresses
+abbrev pub places_at : List ℕ → List ℕ → List Place
+places_at calls addresses = map (λ a. At calls a) addresses
 
 -- a call appends its own address; from a place with eight calls it leads nowhere
-abbrev pub calling : List ℕ → ℕ → List ℕ → List Place
-calling calls address to = cond (nat_lt (length calls) 8) (inside (calls ++ address ∷ []) to) []
+abbrev pub call_places : List ℕ → ℕ → List ℕ → List Place
+call_places calls address to = cond (nat_lt (length calls) 8) (places_at (calls ++ address ∷ []) to) []
 
 -- a stated jump keeps the calls
 abbrev pub stated_landings : List ℕ → ℕ → TargetKind → List ℕ → List Place
-stated_landings calls address stated.Jump to = inside calls to
-stated_landings calls address stated.Call to = calling calls address to
-stated_landings calls address stated.Return to = returning calls ∷ []
+stated_landings calls address stated.Jump to = places_at calls to
+stated_landings calls address stated.Call to = call_places calls address to
+stated_landings calls address stated.Return to = return_place calls ∷ []
 stated_landings calls address stated.Leave to = Exit ∷ []
 
 -- a word that writes R15 returns where nothing is stated of it
 abbrev pub writer_landings : List ℕ → ℕ → Option Target → List Place
-writer_landings calls address None = returning calls ∷ []
+writer_landings calls address None = return_place calls ∷ []
 writer_landings calls address (Some t) = stated_landings calls address t.kind t.to
 
 -- the places to which a word leads where its condition holds
 abbrev pub landings : Stated → List ℕ → ℕ → Kind → List Place
 landings st calls address Plain = At calls (wrapped (address + 4)) ∷ []
-landings st calls address (Branch offset) = At calls (target address offset) ∷ []
-landings st calls address (Call offset) = calling calls address (target address offset ∷ [])
+landings st calls address (Branch offset) = At calls (branch_target address offset) ∷ []
+landings st calls address (Call offset) = call_places calls address (branch_target address offset ∷ [])
 landings st calls address Writer = writer_landings calls address (target_of st address)
 landings st calls address Trap = []
 landings st calls address Unallocated = []
@@ -70,40 +70,40 @@ landings st calls address Unallocated = []
 -- ## Costs in ticks
 
 -- an instruction fetches the word after the next, which follows the access before it
-abbrev pub passing : Profile → ℕ → ℕ
-passing profile address = worst_s_price profile (wrapped (address + 8))
+abbrev pub passing_ticks : Profile → ℕ → ℕ
+passing_ticks profile address = worst_s_price profile (wrapped (address + 8))
 
 -- but after a store it does not follow it
-abbrev pub fetching : Profile → ℕ → Work → ℕ
-fetching profile address (Internal cycles) = passing profile address
-fetching profile address (Load words) = passing profile address
-fetching profile address (Store words) = worst_n_price profile (wrapped (address + 8))
+abbrev pub fetch_ticks : Profile → ℕ → Work → ℕ
+fetch_ticks profile address (Internal cycles) = passing_ticks profile address
+fetch_ticks profile address (Load words) = passing_ticks profile address
+fetch_ticks profile address (Store words) = worst_n_price profile (wrapped (address + 8))
 
 -- besides its fetches: internal cycles, and words of the stated class
-abbrev pub working : Profile → Class → Work → ℕ
-working profile class (Internal cycles) = cycles * profile.internal
-working profile class (Load words) = worst_block profile class words false + profile.internal
-working profile class (Store words) = worst_block profile class words true
+abbrev pub work_ticks : Profile → Class → Work → ℕ
+work_ticks profile class (Internal cycles) = cycles * profile.internal
+work_ticks profile class (Load words) = worst_block profile class words false + profile.internal
+work_ticks profile class (Store words) = worst_block profile class words true
 
 -- a jump fetches the word at its target, and the next; out of the handler, at any address of the stated class
-abbrev pub jumping : Class → Profile → Place → ℕ
-jumping leave profile (At calls t) = worst_n_price profile t + worst_s_price profile (wrapped (t + 4))
-jumping leave profile Exit = worst_leave_of profile leave
+abbrev pub jump_ticks : Class → Profile → Place → ℕ
+jump_ticks leave profile (At calls t) = worst_n_price profile t + worst_s_price profile (wrapped (t + 4))
+jump_ticks leave profile Exit = worst_leave_of profile leave
 
 -- which words jump
-abbrev pub arriving : Class → Profile → Kind → Place → ℕ
-arriving leave profile Plain to = 0
-arriving leave profile (Branch offset) to = jumping leave profile to
-arriving leave profile (Call offset) to = jumping leave profile to
-arriving leave profile Writer to = jumping leave profile to
-arriving leave profile Trap to = 0
-arriving leave profile Unallocated to = 0
+abbrev pub arrival_ticks : Class → Profile → Kind → Place → ℕ
+arrival_ticks leave profile Plain to = 0
+arrival_ticks leave profile (Branch offset) to = jump_ticks leave profile to
+arrival_ticks leave profile (Call offset) to = jump_ticks leave profile to
+arrival_ticks leave profile Writer to = jump_ticks leave profile to
+arrival_ticks leave profile Trap to = 0
+arrival_ticks leave profile Unallocated to = 0
 
 -- what a word costs where its condition holds
-abbrev pub doing : Stated → Profile → ℕ → Action → Place → ℕ
-doing st profile address action to =
-    fetching profile address action.work + working profile (class_of st address) action.work
-    + arriving st.leave profile action.kind to
+abbrev pub do_ticks : Stated → Profile → ℕ → Action → Place → ℕ
+do_ticks st profile address action to =
+    fetch_ticks profile address action.work + work_ticks profile (class_of st address) action.work
+    + arrival_ticks st.leave profile action.kind to
 
 -- ## Edges
 
@@ -113,27 +113,29 @@ skip_edge profile calls address =
       from = At calls address;
       label = Skip;
       to = At calls (wrapped (address + 4));
-      cost = passing profile address;
+      cost = passing_ticks profile address;
     }
 
 abbrev pub do_edge : Stated → Profile → List ℕ → ℕ → Action → Place → Edge
 do_edge st profile calls address action to =
-    record { from = At calls address; label = Do; to = to; cost = doing st profile address action to }
+    record { from = At calls address; label = Do; to = to; cost = do_ticks st profile address action to }
 
-abbrev pub skips : Profile → List ℕ → ℕ → Action → List Edge
-skips profile calls address action = cond (is_always action.cond) [] (skip_edge profile calls address ∷ [])
+abbrev pub skip_edges : Profile → List ℕ → ℕ → Action → List Edge
+skip_edges profile calls address action =
+    cond (is_always action.cond) [] (skip_edge profile calls address ∷ [])
 
-abbrev pub done : Stated → Profile → List ℕ → ℕ → Action → List Edge
-done st profile calls address action =
+abbrev pub landing_edges : Stated → Profile → List ℕ → ℕ → Action → List Edge
+landing_edges st profile calls address action =
     map (do_edge st profile calls address action) (landings st calls address action.kind)
 
-abbrev pub dos : Stated → Profile → List ℕ → ℕ → Action → List Edge
-dos st profile calls address action = cond (is_never action.cond) [] (done st profile calls address action)
+abbrev pub do_edges : Stated → Profile → List ℕ → ℕ → Action → List Edge
+do_edges st profile calls address action =
+    cond (is_never action.cond) [] (landing_edges st profile calls address action)
 
 -- a word may be passed over unless its condition always holds, and done unless it never does
 abbrev pub word_edges : Stated → Profile → List ℕ → ℕ → Action → List Edge
 word_edges st profile calls address action =
-    skips profile calls address action ++ dos st profile calls address action
+    skip_edges profile calls address action ++ do_edges st profile calls address action
 
 -- the image has a word at the address, which does this
 pub record HasAction (words : Words) (address : ℕ) (action : Action) : Type 0 where

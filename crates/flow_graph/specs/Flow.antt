@@ -1,4 +1,4 @@
--- A flow graph as a value: its places in order, and the edges of each in turn (our own format).
+-- A flow graph as a value: its places in order, and the edges of each in turn.
 use Rattle.std.specs.Prelude.{◌≡◌, ℕ, ◌+◌, ◌<◌, ◌≤◌, ◌^◌, List, [], length, slice_index, slice_index_or}
 use Rattle.std.specs.Prelude.{Contains, ◌⊎◌}
 use Rattle.std.specs.List.Sorted.{IsStrictlySortedBy}

@@ -1,4 +1,4 @@
--- The flow graph of a handler, and why there is none (our own format).
+-- The flow graph of a handler, and why there is none.
 use Rattle.std.specs.Prelude.{◌≡◌, ℕ, ◌+◌, ◌<◌, ◌≤◌, Bool, true, false, List, [], ◌∷◌, length, Option, Some}
 use Rattle.std.specs.Prelude.{None, Contains, ◌↔◌}
 use Rattle.std.specs.List.{AllZip, flat_map}

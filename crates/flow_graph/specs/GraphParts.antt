@@ -1,4 +1,4 @@
--- A flow graph as it is stored (our own).
+-- A flow graph as it is stored.
 use Rattle.flow_graph.specs.declared.flow.Graph.TheInside.{Inside}
 use Rattle.flow_graph.specs.Flow.{Flow}
 

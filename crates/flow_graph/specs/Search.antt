@@ -1,4 +1,4 @@
--- What the search for places knows on its way (our own).
+-- What the search for places knows on its way.
 use Rattle.std.specs.Prelude.{◌≡◌, ℕ, ◌<◌, ◌≤◌, cond, nat_lt, List, [], ◌∷◌, ◌++◌, length, slice_index_or}
 use Rattle.std.specs.Prelude.{Option, Some, None, Contains, IsTrue, ◌↔◌, ◌⊎◌}
 use Rattle.std.specs.List.{AllZip, flat_map}

@@ -14,7 +14,7 @@ use crate::pushing::push_edges;
 use crate::search::{add, add_ends, sorted};
 use crate::strays::stray_target;
 use bus_ticks::Profile;
-use loader::image::Image;
+use loader::Image;
 use statement::Statement;
 use std::alloc::Global;
 use std::collections::BTreeSet;

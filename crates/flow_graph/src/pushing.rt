@@ -1,6 +1,6 @@
 ghost use Rattle.std.specs.Prelude.{◌≡◌, ◌++◌, ◌∷◌, [], map, All, IfErr, OnOk, Some, None, ◌⊎◌, ◌<◌, ◌^◌};
-ghost use Rattle.flow_graph.specs.Edges.{calling, do_edge, done, inside, returning, skip_edge, word_edges};
-ghost use Rattle.flow_graph.specs.Edges.{writer_landings};
+ghost use Rattle.flow_graph.specs.Edges.{call_places, do_edge, landing_edges, places_at, return_place};
+ghost use Rattle.flow_graph.specs.Edges.{skip_edge, word_edges, writer_landings};
 ghost use Rattle.flow_graph.specs.Kinds.{IsWork};
 ghost use Rattle.flow_graph.specs.Places.{IsInSpace};
 ghost use Rattle.statement.specs.Stated.{target_of};
@@ -14,7 +14,7 @@ use crate::kinds::{Action, Kind, action_of, holds_always, holds_never};
 use crate::places::Place;
 use crate::ticks::{after, branch_target, do_ticks, passing_ticks};
 use bus_ticks::Profile;
-use loader::image::Image;
+use loader::Image;
 use statement::{Statement, TargetKind};
 
 // A word of the image at a place, and what it does.
@@ -80,7 +80,7 @@ fn push_inside(
         (out.new.items
         ≡ out.old.items
         ++ map (do_edge statement.now profile.now site.now.calls site.now.address site.now.action)
-        (inside calls.now to.now)) }
+        (places_at calls.now to.now)) }
     ensures err { IfErr result (λ fault. fault ≡ BuildFault.Memory) }
 {
     for address in to {
@@ -104,7 +104,7 @@ fn push_call(
         (out.new.items
         ≡ out.old.items
         ++ map (do_edge statement.now profile.now site.now.calls site.now.address site.now.action)
-        (calling site.now.calls site.now.address to.now)) }
+        (call_places site.now.calls site.now.address to.now)) }
     ensures sound { OnOk result (call_fault site.now.calls ≡ None) }
     ensures err { IfErr result
         (λ fault. (fault ≡ BuildFault.Memory) ⊎ (call_fault site.now.calls ≡ Some fault)) }
@@ -117,7 +117,7 @@ fn push_call(
 
 // Where a return goes.
 fn return_place(calls: &Calls) -> Place
-    ensures value { result ≡ returning calls.now }
+    ensures value { result ≡ return_place calls.now }
     ensures fits { IsInSpace result }
 {
     match calls.split_last() {
@@ -168,7 +168,8 @@ fn push_done(
     requires work { IsWork site.now.action.work }
     ensures ok { OnOk result
         (out.new.items
-        ≡ out.old.items ++ done statement.now profile.now site.now.calls site.now.address site.now.action) }
+        ≡ out.old.items
+        ++ landing_edges statement.now profile.now site.now.calls site.now.address site.now.action) }
     ensures sound { OnOk result
         (kind_fault statement.now site.now.calls site.now.address site.now.action.kind ≡ None) }
     ensures err { IfErr result

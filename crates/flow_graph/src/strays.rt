@@ -2,7 +2,7 @@ ghost use Rattle.std.specs.Prelude.{◌≡◌, ℕ, true, false, IfSome, IsNone}
 ghost use Rattle.flow_graph.specs.Graph.{IsStray, IsWriterAt};
 
 use crate::kinds::{action_of, is_r15_writer};
-use loader::image::Image;
+use loader::Image;
 use statement::Statement;
 
 // Whether the image has a word there that writes R15.

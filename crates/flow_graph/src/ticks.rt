@@ -1,7 +1,7 @@
 ghost use Rattle.std.specs.Prelude.{◌≡◌, ◌+◌, ◌*◌, ◌<◌, ◌^◌};
 ghost use Rattle.bus_ticks.specs.Worst.{worst_n_price, worst_s_price};
-ghost use Rattle.flow_graph.specs.Edges.{arriving, doing, fetching, jumping, passing, target, working};
-ghost use Rattle.flow_graph.specs.Edges.{wrapped};
+ghost use Rattle.flow_graph.specs.Edges.{arrival_ticks, branch_target, do_ticks, fetch_ticks, jump_ticks};
+ghost use Rattle.flow_graph.specs.Edges.{passing_ticks, work_ticks, wrapped};
 ghost use Rattle.flow_graph.specs.Kinds.{IsWork};
 ghost use Rattle.flow_graph.specs.Places.{IsInSpace};
 
@@ -24,7 +24,7 @@ pub fn after(address: u32, bytes: u32) -> u32
 
 /// The address to which a branch leads.
 pub fn branch_target(address: u32, offset: u32) -> u32
-    ensures sum { result ≡ target address offset }
+    ensures sum { result ≡ branch_target address offset }
     ensures fits { result < 2 ^ 26 }
 {
     after(after(address, 8), offset.wrapping_mul(4))
@@ -32,7 +32,7 @@ pub fn branch_target(address: u32, offset: u32) -> u32
 
 /// What a word costs that is passed over: the fetch of the word after the next.
 pub fn passing_ticks(profile: &Profile, address: u32) -> u32
-    ensures ticks { result ≡ passing profile.now address }
+    ensures ticks { result ≡ passing_ticks profile.now address }
     ensures small { result < 256 }
 {
     worst_fetch_s(profile, after(address, 8))
@@ -40,7 +40,7 @@ pub fn passing_ticks(profile: &Profile, address: u32) -> u32
 
 // The fetch of the word after the next.
 fn fetch_ticks(profile: &Profile, address: u32, work: Work) -> u32
-    ensures ticks { result ≡ fetching profile.now address work }
+    ensures ticks { result ≡ fetch_ticks profile.now address work }
     ensures small { result < 256 }
 {
     match work {
@@ -52,7 +52,7 @@ fn fetch_ticks(profile: &Profile, address: u32, work: Work) -> u32
 // What a word costs besides its fetches.
 fn work_ticks(profile: &Profile, class: Class, work: Work) -> u32
     requires { IsWork work }
-    ensures ticks { result ≡ working profile.now class work }
+    ensures ticks { result ≡ work_ticks profile.now class work }
     ensures small { result < 4400 }
 {
     match work {
@@ -65,7 +65,7 @@ fn work_ticks(profile: &Profile, class: Class, work: Work) -> u32
 // What the fetches after a jump cost: of the word at its target, and of the next.
 fn jump_ticks(profile: &Profile, leave: Class, to: &Place) -> u32
     requires { IsInSpace to.now }
-    ensures ticks { result ≡ jumping leave profile.now to.now }
+    ensures ticks { result ≡ jump_ticks leave profile.now to.now }
     ensures small { result < 512 }
 {
     match to {
@@ -78,7 +78,7 @@ fn jump_ticks(profile: &Profile, leave: Class, to: &Place) -> u32
 
 fn arrival_ticks(profile: &Profile, leave: Class, kind: Kind, to: &Place) -> u32
     requires { IsInSpace to.now }
-    ensures ticks { result ≡ arriving leave profile.now kind to.now }
+    ensures ticks { result ≡ arrival_ticks leave profile.now kind to.now }
     ensures small { result < 512 }
 {
     match kind {
@@ -97,7 +97,7 @@ pub fn do_ticks(
 ) -> u32
     requires work { IsWork action.work }
     requires to { IsInSpace to.now }
-    ensures { result ≡ doing statement.now profile.now address action to.now }
+    ensures { result ≡ do_ticks statement.now profile.now address action to.now }
 {
     fetch_ticks(profile, address, action.work)
         + work_ticks(profile, statement.class_at(address), action.work)

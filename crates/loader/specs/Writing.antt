@@ -1,4 +1,4 @@
--- Words side by side, as an image is written (our own).
+-- Words side by side, as an image is written.
 use Rattle.std.specs.Prelude.{ℕ, suc, ◌+◌, ◌==◌, Bool, if◌then◌else◌, [], ◌∷◌, map}
 use Rattle.loader.specs.Image.{Words}
 use Rattle.loader.specs.ImageBytes.{Segment}

@@ -5,7 +5,7 @@ ghost use Rattle.loader.specs.Spelling.{AreImage, BeginImage, PassImage, Spell};
 
 use crate::reading::ReadFault;
 
-/// States that [`read_image`](crate::reading::read_image) takes the bytes of every list of segments that
+/// States that [`read_image`](crate::read_image) takes the bytes of every list of segments that
 /// spell an image, in whatever order, and gives that image; it does nothing.
 pub fn images_are_read()
     ensures { (segments : List Segment) → (words : Words) → Spell segments words

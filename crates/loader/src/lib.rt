@@ -1,9 +1,19 @@
 //! Images: the words of a program by their addresses, and the labels of its source.
 #![tactic(auto)]
 
-pub mod image;
-pub mod labels;
-pub mod law;
-pub mod loading;
-pub mod reading;
-pub mod writing;
+mod image;
+mod labels;
+mod law;
+mod loading;
+mod reading;
+mod writing;
+
+pub use image::{Image, ImageFault};
+pub use labels::{LabelFault, Labels};
+pub use law::{
+    images_are_read, other_faults_begin_no_image, trailing_bytes_follow_an_image,
+    truncated_begins_an_image,
+};
+pub use loading::{LoadFault, load};
+pub use reading::{MAGIC, ReadFault, read_image};
+pub use writing::write_image;

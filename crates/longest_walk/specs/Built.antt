@@ -1,4 +1,4 @@
--- What is built from the numbers of a greatest walk, before it is carried over to places (our own format).
+-- What is built from the numbers of a greatest walk, before it is carried over to places.
 use Rattle.std.specs.Prelude.{◌≡◌, ◌≢◌, ◌↔◌, ℕ, ◌+◌, ◌<◌, ◌≤◌, List, [], ◌∷◌, length, map, slice_index_or}
 use Rattle.std.specs.Prelude.{All, Contains, None}
 use Rattle.std.specs.List.{AllZip}

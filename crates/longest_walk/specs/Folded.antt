@@ -1,4 +1,4 @@
--- A walk written with repeats, and what it unfolds to (our own format).
+-- A walk written with repeats, and what it unfolds to.
 use Rattle.std.specs.Prelude.{ℕ, ◌+◌, max, List, [], ◌∷◌, flat_map, map}
 use Rattle.walks.specs.Segments.{repeated}
 use Rattle.flow_graph.specs.declared.edges.Edge.{Edge}

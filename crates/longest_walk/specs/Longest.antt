@@ -1,4 +1,4 @@
--- What the greatest walk through a flow graph and its tree of loop instances is (our own profile).
+-- What the greatest walk through a flow graph and its tree of loop instances is.
 use Rattle.std.specs.Prelude.{◌≡◌, ◌≢◌, ℕ, ◌<◌, ◌≤◌, true, List, [], All, AllPairs, Contains}
 use Rattle.std.specs.List.{AllPass, AllZip}
 use Rattle.walks.specs.Walk.{Leads, cost_of}

@@ -1,4 +1,4 @@
--- The numbers of a certificate as lists of rows (our own format).
+-- The numbers of a certificate as lists of rows.
 use Rattle.std.specs.Prelude.{◌≡◌, ◌↔◌, ℕ, Bool, false, ◌&&◌, ◌==◌, List, map, Contains, Option, Some, None}
 use Rattle.std.specs.List.{find}
 use Rattle.std.specs.List.Sorted.{IsStrictlySortedBy}

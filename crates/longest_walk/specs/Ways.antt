@@ -1,4 +1,4 @@
--- How a folded walk is put together from the numbers of edges (our own).
+-- How a folded walk is put together from the numbers of edges.
 use Rattle.std.specs.Prelude.{◌≡◌, ◌≢◌, ℕ, ◌+◌, ◌<◌, ◌≤◌, Bool, true, false, List, [], ◌∷◌, length, flat_map}
 use Rattle.std.specs.Prelude.{slice_index_or, count_by, All, Contains, Option, Some, None}
 use Rattle.std.specs.List.{AllZip}

@@ -8,13 +8,14 @@ use crate::builder::fold_walk;
 use crate::folded::Longest;
 use crate::listing::{instance_rows, place_rows};
 use crate::rows::Potentials;
+use crate::trace::Search;
 use flow_graph::Graph;
 use loop_bounds::LoopTree;
 use numbered_walks::{Index, Tables, WalkFault, find_tables};
 use std::alloc::Global;
 
 // The numbers of the greatest walk, and the edges and spans by number.
-fn search(alloc: Global, graph: &Graph, tree: &LoopTree) -> Result<(Index, Tables), WalkFault>
+fn found(alloc: Global, graph: &Graph, tree: &LoopTree) -> Result<(Index, Tables), WalkFault>
     requires { IsTree graph.now tree.now }
     ensures found { IfOk result (λ found. AreSearched graph.now tree.now found.0 found.1) }
     ensures fault { IfErr result (IsWalkFault graph.now tree.now) }
@@ -42,8 +43,14 @@ pub fn longest(alloc: Global, graph: &Graph, tree: &LoopTree) -> Result<Longest,
         ((fault : WalkFault) → fault ≢ WalkFault.Memory → IsWalkFault graph.now tree.now fault → ⊥) }
     ensures fault { IfErr result (IsWalkFault graph.now tree.now) }
 {
-    let (index, tables) = search(alloc, graph, tree)?;
-    let walk = fold_walk(alloc, graph, tree, &index, &tables)?;
+    let (index, tables) = found(alloc, graph, tree)?;
+    let search = Search {
+        graph,
+        tree,
+        index: &index,
+        tables: &tables,
+    };
+    let walk = fold_walk(alloc, search)?;
     let places = place_rows(alloc, graph, tree, &tables)?;
     let instances = instance_rows(alloc, graph, tree, &tables)?;
     Ok(Longest {

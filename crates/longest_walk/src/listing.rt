@@ -17,7 +17,6 @@ fn numbers(alloc: Global, graph: &Graph, tree: &LoopTree) -> Result<Vec<usize>, 
     requires { IsTree graph.now tree.now }
     ensures { IfOk result (λ numbers. AreNumbers tree.now.order numbers.items (length tree.now.order)) }
 {
-    let _graph = graph;
     let mut numbers = vec![in alloc; 0; tree.order().len()]?;
     for (number, index) in tree.order().iter().enumerate() {
         numbers[*index] = number;
@@ -81,7 +80,6 @@ pub(crate) fn instance_rows(
     requires room { HasRoom (length graph.now.places + 1) tables.now }
     ensures { IfOk result (AreInstanceRowsAt tree.now tables.now) }
 {
-    let _graph = graph;
     order_of_places();
     let found = tree.instances();
     let spans = tree.spans();

@@ -7,10 +7,10 @@ ghost use Rattle.longest_walk.specs.Ways.{AreRounds, AreSearched, HasRounds, IsR
 ghost use Rattle.longest_walk.specs.Ways.{opened_rounds, opened_way, rounds_at};
 
 use crate::folded::Item;
-use crate::trace::{last_turn, trace};
+use crate::trace::{Search, last_turn, trace};
 use flow_graph::Graph;
 use loop_bounds::LoopTree;
-use numbered_walks::{Index, Span, Tables, WalkFault};
+use numbered_walks::{Span, WalkFault};
 use std::alloc::{AllocError, Global};
 use std::rc::Rc;
 
@@ -63,24 +63,23 @@ pub(crate) fn add_way(
 // One round of the span's instance, whose last edge is given.
 fn one_round(
     alloc: Global,
-    graph: &Graph,
-    tree: &LoopTree,
-    index: &Index,
-    tables: &Tables,
+    search: Search<'_>,
     rounds: &[Option<Rounds>],
     span: &Span,
     last: usize,
 ) -> Result<Vec<Item>, AllocError>
-    requires searched { AreSearched graph.now tree.now index.now tables.now }
-    requires known { Contains tree.now.spans span.now }
-    requires turns { IsTurning tree.now.edges tree.now.spans tables.now span.now last }
-    requires rounds { HasRounds graph.now tree.now tables.now (Some span.now) rounds.now }
+    requires searched { AreSearched search.graph.now search.tree.now search.index.now search.tables.now }
+    requires known { Contains search.tree.now.spans span.now }
+    requires turns { IsTurning search.tree.now.edges search.tree.now.spans search.tables.now span.now last }
+    requires rounds { HasRounds search.graph.now search.tree.now search.tables.now (Some span.now) rounds.now }
     ensures { IfOk result
-        (λ body. IsRound graph.now tree.now tables.now span.now (map open_item body.items)) }
+        (λ body. IsRound search.entry.graph.now search.entry.tree.now search.entry.tables.now span.now
+        (map open_item body.items)) }
 {
+    let Search { graph, tree, .. } = search;
     let mut body = Vec::new(alloc);
     let from = tree.edges()[last].from;
-    let way = trace(alloc, graph, tree, index, tables, Some(*span), from)?;
+    let way = trace(alloc, search, Some(*span), from)?;
     add_way(&mut body, graph, tree, rounds, &way)?;
     body.push(Item::Step(graph.edges()[last]))?;
     Ok(body)
@@ -89,23 +88,21 @@ fn one_round(
 // All rounds of the span's instance; `None` where a stay takes none.
 fn rounds_of(
     alloc: Global,
-    graph: &Graph,
-    tree: &LoopTree,
-    index: &Index,
-    tables: &Tables,
+    search: Search<'_>,
     rounds: &[Option<Rounds>],
     span: &Span,
 ) -> Result<Option<Rounds>, WalkFault>
-    requires searched { AreSearched graph.now tree.now index.now tables.now }
-    requires known { Contains tree.now.spans span.now }
-    requires rounds { HasRounds graph.now tree.now tables.now (Some span.now) rounds.now }
-    ensures rounds { IfOk result (IsRounds graph.now tree.now tables.now span.now) }
+    requires searched { AreSearched search.graph.now search.tree.now search.index.now search.tables.now }
+    requires known { Contains search.tree.now.spans span.now }
+    requires rounds { HasRounds search.graph.now search.tree.now search.tables.now (Some span.now) rounds.now }
+    ensures rounds { IfOk result
+        (IsRounds search.entry.graph.now search.entry.tree.now search.entry.tables.now span.now) }
     ensures memory { IfErr result (λ fault. fault ≡ WalkFault.Memory) }
 {
-    let Some(last) = last_turn(graph, tree, index, tables, span) else {
+    let Some(last) = last_turn(search, span) else {
         return Ok(None);
     };
-    let body = one_round(alloc, graph, tree, index, tables, rounds, span, last)?;
+    let body = one_round(alloc, search, rounds, span, last)?;
     Ok(Some(Rounds {
         count: span.bound,
         body: Rc::new(alloc, body)?,
@@ -127,20 +124,18 @@ fn no_rounds(alloc: Global, size: usize) -> Result<Vec<Option<Rounds>>, AllocErr
 /// The rounds of each instance by the number of its header.
 pub(crate) fn all_rounds(
     alloc: Global,
-    graph: &Graph,
-    tree: &LoopTree,
-    index: &Index,
-    tables: &Tables,
+    search: Search<'_>,
 ) -> Result<Vec<Option<Rounds>>, WalkFault>
-    requires { AreSearched graph.now tree.now index.now tables.now }
+    requires { AreSearched search.graph.now search.tree.now search.index.now search.tables.now }
     ensures rounds { IfOk result
-        (λ rounds. AreRounds graph.now tree.now tables.now (length tree.now.spans) rounds.items) }
+        (λ rounds. AreRounds search.entry.graph.now search.entry.tree.now search.entry.tables.now
+        (length search.entry.tree.now.spans) rounds.items) }
     ensures memory { IfErr result (λ fault. fault ≡ WalkFault.Memory) }
 {
-    let mut rounds = no_rounds(alloc, graph.places().len() + 1)?;
+    let mut rounds = no_rounds(alloc, search.graph.places().len() + 1)?;
     // The inner ones come before the outer ones.
-    for span in tree.spans() {
-        rounds[span.header] = rounds_of(alloc, graph, tree, index, tables, &rounds, span)?;
+    for span in search.tree.spans() {
+        rounds[span.header] = rounds_of(alloc, search, &rounds, span)?;
     }
     Ok(rounds)
 }

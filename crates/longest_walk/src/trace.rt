@@ -8,32 +8,53 @@ use loop_bounds::LoopTree;
 use numbered_walks::{Index, Span, Tables, entering_edge, turning_edge};
 use std::alloc::{AllocError, Global};
 
+/// A graph and the tree of its loops, whose edges and spans are found by number, with the numbers of its
+/// greatest walk.
+#[derive(Clone, Copy)]
+pub(crate) struct Search<'a> {
+    pub(crate) graph: &'a Graph,
+    pub(crate) tree: &'a LoopTree,
+    pub(crate) index: &'a Index,
+    pub(crate) tables: &'a Tables,
+}
+
 // The last edge of a greatest walk to the number.
-fn last_edge(graph: &Graph, tree: &LoopTree, index: &Index, tables: &Tables, number: usize) -> usize
-    requires searched { AreSearched graph.now tree.now index.now tables.now }
+fn last_edge(search: Search<'_>, number: usize) -> usize
+    requires searched { AreSearched search.graph.now search.tree.now search.index.now search.tables.now }
     requires later { 0 < number }
-    requires known { number ≤ length graph.now.places }
-    ensures { IsEntering tree.now.edges tree.now.spans tables.now number result }
+    requires known { number ≤ length search.graph.now.places }
+    ensures { IsEntering search.entry.tree.now.edges search.entry.tree.now.spans search.entry.tables.now
+        number result }
 {
-    let exit = graph.places().len();
-    entering_edge(tree.edges(), tree.spans(), exit, index, tables, number)
+    let tree = search.tree;
+    let exit = search.graph.places().len();
+    entering_edge(
+        tree.edges(),
+        tree.spans(),
+        exit,
+        search.index,
+        search.tables,
+        number,
+    )
 }
 
 /// The last edge of a heaviest round of the span's instance; `None` where a stay takes no round.
-pub(crate) fn last_turn(
-    graph: &Graph,
-    tree: &LoopTree,
-    index: &Index,
-    tables: &Tables,
-    span: &Span,
-) -> Option<usize>
-    requires searched { AreSearched graph.now tree.now index.now tables.now }
-    requires known { Contains tree.now.spans span.now }
-    ensures { MatchOption result (round_of tables.now span.now ≡ 0)
-        (IsTurning tree.now.edges tree.now.spans tables.now span.now) }
+pub(crate) fn last_turn(search: Search<'_>, span: &Span) -> Option<usize>
+    requires searched { AreSearched search.graph.now search.tree.now search.index.now search.tables.now }
+    requires known { Contains search.tree.now.spans span.now }
+    ensures { MatchOption result (round_of search.entry.tables.now span.now ≡ 0)
+        (IsTurning search.entry.tree.now.edges search.entry.tree.now.spans search.entry.tables.now span.now) }
 {
-    let exit = graph.places().len();
-    turning_edge(tree.edges(), tree.spans(), exit, index, tables, span)
+    let tree = search.tree;
+    let exit = search.graph.places().len();
+    turning_edge(
+        tree.edges(),
+        tree.spans(),
+        exit,
+        search.index,
+        search.tables,
+        span,
+    )
 }
 
 /// Where the walks of a context begin: at the header of an instance, or at the entry.
@@ -49,27 +70,25 @@ fn start(context: Option<Span>) -> usize
 /// The edges of a greatest walk to the number from the start of the context, as their places in the list.
 pub(crate) fn trace(
     alloc: Global,
-    graph: &Graph,
-    tree: &LoopTree,
-    index: &Index,
-    tables: &Tables,
+    search: Search<'_>,
     context: Option<Span>,
     number: usize,
 ) -> Result<Vec<usize>, AllocError>
-    requires searched { AreSearched graph.now tree.now index.now tables.now }
-    requires context { InTree tree.now.spans context }
+    requires searched { AreSearched search.graph.now search.tree.now search.index.now search.tables.now }
+    requires context { InTree search.tree.now.spans context }
     requires inside { holds context number ≡ true }
-    requires known { number ≤ length graph.now.places }
+    requires known { number ≤ length search.graph.now.places }
     ensures { IfOk result
-        (λ way. IsWay tree.now.edges tree.now.spans tables.now context (start_of context) way.items number) }
+        (λ way. IsWay search.entry.tree.now.edges search.entry.tree.now.spans search.entry.tables.now context
+        (start_of context) way.items number) }
 {
     let first = start(context);
     let mut way = Vec::new(alloc);
     let mut here = number;
     while here != first {
-        let edge = last_edge(graph, tree, index, tables, here);
+        let edge = last_edge(search, here);
         way.push(edge)?;
-        here = tree.edges()[edge].from;
+        here = search.tree.edges()[edge].from;
     }
     way.reverse();
     Ok(way)

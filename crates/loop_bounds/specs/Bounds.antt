@@ -1,4 +1,4 @@
--- The walks of a handler that count for its bound, and the greatest cost of one (our own profile).
+-- The walks of a handler that count for its bound, and the greatest cost of one.
 use Rattle.std.specs.Prelude.{ℕ, List}
 use Rattle.walks.specs.Walk.{Leads}
 use Rattle.walks.specs.Greatest.{KeepsBounds, IsGreatest, TooLarge}

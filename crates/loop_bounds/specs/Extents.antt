@@ -1,5 +1,5 @@
--- Instances as extents of positions in the order of keys: which cross, which contain which, and which of them
--- an edge enters (our own).
+-- Instances as extents of positions in the order of keys: which cross, which contain which, and which of
+-- them an edge enters.
 use Rattle.std.specs.Prelude.{◌≡◌, ◌≢◌, AllPairs, ◌==◌, ◌&&◌, nat_le, nat_lt, Bool, ℕ, ◌+◌, ◌<◌, ◌≤◌, ◌⊎◌}
 use Rattle.std.specs.Prelude.{List, length, Contains, IsTrue, ◌↔◌, slice_index_or, Option, Some, None}
 use Rattle.std.specs.BTreeSet.{BTreeSet, contains}

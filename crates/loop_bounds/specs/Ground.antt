@@ -1,4 +1,4 @@
--- What a handler's loops are in positions: what `nest` finds on its way from places to a tree (our own).
+-- What a handler's loops are in positions: what `nest` finds on its way from places to a tree.
 use Rattle.std.specs.Prelude.{◌≡◌, ℕ, ◌<◌, ◌≤◌, ◌↔◌, ◌⊎◌, List, length, map, Contains, All, slice_index}
 use Rattle.walks.specs.Walk.{Cycle}
 use Rattle.statement.specs.declared.stated.Loop.{Loop}

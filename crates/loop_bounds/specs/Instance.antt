@@ -1,5 +1,5 @@
--- Instances of the stated loops, and their members (our own profile). A loop is stated by addresses; inside
--- each list of calls with which its header is reached it is an instance of its own.
+-- Instances of the stated loops, and their members. A loop is stated by addresses; inside each list of
+-- calls with which its header is reached it is an instance of its own.
 use Rattle.std.specs.Prelude.{◌≡◌, ℕ, Bool, false, ◌&&◌, List, [], ◌∷◌, ◌++◌, Contains, nat_le, nat_eq, ◌==◌}
 use Rattle.std.specs.Cmp.Lexicographic.{pointwise}
 use Rattle.walks.specs.Greatest.{Loops}

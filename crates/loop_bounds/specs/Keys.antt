@@ -1,4 +1,4 @@
--- The order of places by their keys, in which the members of an instance stand side by side (our own).
+-- The order of places by their keys, in which the members of an instance stand side by side.
 use Rattle.std.specs.Prelude.{◌≡◌, ℕ, ◌<◌, ◌≤◌, Bool, true, false, nat_lt, nat_eq, ◌&&◌, ◌||◌, List, [], ◌∷◌}
 use Rattle.std.specs.Prelude.{◌++◌, length}
 use Rattle.std.specs.Ordering.{nat_cmp}

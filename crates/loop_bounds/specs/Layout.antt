@@ -1,5 +1,4 @@
--- The order in which the members of each instance stand together and every edge but the back edges goes up
--- (our own).
+-- The order in which the members of each instance stand together and every edge but the back edges goes up.
 use Rattle.std.specs.Prelude.{◌≡◌, ◌≢◌, ℕ, ◌+◌, ◌<◌, ◌≤◌, Bool, true, false, nat_eq, ◌&&◌, List, [], ◌∷◌}
 use Rattle.std.specs.Prelude.{◌++◌, length, map, take, filter, Contains, slice_index, slice_index_or, Option}
 use Rattle.std.specs.Prelude.{Some, None, AllPairs, Vec, count_by}

@@ -1,5 +1,5 @@
--- Why the loops of a handler have no tree, and when each refusal comes: the first that applies, in the order
--- given here (our own profile).
+-- Why the loops of a handler have no tree, and when each refusal comes: the first that applies, in the
+-- order given here.
 use Rattle.std.specs.Prelude.{◌≡◌, ◌≢◌, true, false, ℕ, ◌<◌, ◌⊎◌, List, length, Contains, slice_index_or}
 use Rattle.std.specs.Prelude.{AllPairs, All}
 use Rattle.walks.specs.Walk.{Cycle}

@@ -1,4 +1,4 @@
--- The instances of a tree with those directly inside each (our own format).
+-- The instances of a tree with those directly inside each.
 use Rattle.std.specs.Prelude.{◌≡◌, true, false, ◌↔◌, List, [], ◌∷◌, ◌++◌, map, filter, flat_map, Contains}
 use Rattle.std.specs.Prelude.{All}
 use Rattle.flow_graph.specs.declared.places.Place.{Place}

@@ -1,4 +1,4 @@
--- Instances in closing order, each taken with those that it holds (our own).
+-- Instances in closing order, each taken with those that it holds.
 use Rattle.std.specs.Prelude.{◌≡◌, ℕ, ◌<◌, ◌≤◌, ◌⊎◌, ◌↔◌, List, [], ◌∷◌, ◌++◌, length, map, take, drop}
 use Rattle.std.specs.Prelude.{slice_index, slice_index_or, Contains, All}
 use Rattle.std.specs.List.Sorted.{IsNonDecreasingBy}

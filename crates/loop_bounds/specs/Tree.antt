@@ -1,5 +1,4 @@
--- The tree of a handler's loop instances, and an order of its places in which each instance is an interval
--- (our own format).
+-- The tree of a handler's loop instances, and an order of its places in which each instance is an interval.
 use Rattle.std.specs.Prelude.{◌≡◌, ◌≢◌, ℕ, ◌+◌, ◌<◌, ◌≤◌, ◌⊎◌, Bool, true, false, ◌&&◌, ◌==◌, nat_le, List}
 use Rattle.std.specs.Prelude.{length, Contains, count_by, slice_index, slice_index_or, AllPairs}
 use Rattle.flow_graph.specs.declared.places.Place.{Place}

@@ -1,4 +1,4 @@
--- A tree as it is stored (our own).
+-- A tree as it is stored.
 use Rattle.std.specs.Prelude.{◌≡◌, ℕ, ◌<◌, List, length, map, slice_index_or}
 use Rattle.flow_graph.specs.declared.places.Place.{Place}
 use Rattle.flow_graph.specs.declared.edges.Edge.{Edge}

@@ -1,4 +1,4 @@
--- The inputs of a machine file's steps, by its events (our own).
+-- The inputs of a machine file's steps, by its events.
 use Rattle.std.specs.Prelude.{◌≡◌, ◌<◌, ◌⊎◌, ◌+◌, ℕ, List, length, Option, Some, None, option_map, nat_eq}
 use Rattle.std.specs.Prelude.{slice_index_or, unwrap_or}
 use Rattle.std.specs.Map.{lookup}

@@ -1,4 +1,4 @@
--- The faults of machine files, in their order (our own).
+-- The faults of machine files, in their order.
 use Rattle.std.specs.Prelude.{ℕ}
 use Rattle.toml_reading.specs.Readings.{Faults}
 use Rattle.machine_file.specs.declared.machine_faults.MachineFileFault.{MachineFileFault}

@@ -1,4 +1,4 @@
--- The faults of cycle profile files, in their order (our own).
+-- The faults of cycle profile files, in their order.
 use Rattle.std.specs.Prelude.{ℕ}
 use Rattle.toml_reading.specs.Readings.{Faults}
 use Rattle.machine_file.specs.declared.profile_faults.ProfileFileFault.{ProfileFileFault}

@@ -1,4 +1,4 @@
--- What the parts of a start leave (our own).
+-- What the parts of a start leave.
 use Rattle.std.specs.Prelude.{◌≡◌, ◌<◌, ◌++◌, ℕ, true, List, length, drop, None}
 use Rattle.std.specs.List.{list_all}
 use Rattle.arm2_exec.specs.State.{State}

@@ -1,4 +1,4 @@
--- What a machine file states, as a value (our own format).
+-- What a machine file states, as a value.
 use Rattle.std.specs.Prelude.{ℕ, List}
 use Rattle.arm2_effect.specs.declared.modes.Mode.{Mode}
 use Rattle.memc.specs.declared.spots.PageSize.{PageSize}

@@ -1,9 +1,6 @@
 use arm2_exec::Machine;
 use bus_ticks::Profile;
-use loader::image::{Image, ImageFault};
-use loader::labels::{LabelFault, Labels};
-use loader::loading::{LoadFault, load};
-use loader::reading::{ReadFault, read_image};
+use loader::{Image, ImageFault, LabelFault, Labels, LoadFault, ReadFault, load, read_image};
 use memc::{Memc, PageSize, Spot};
 use std::alloc::Global;
 use std::test::Fail;

@@ -4,7 +4,7 @@ use assembler::assemble;
 use bitflags::Flags;
 use bus_ticks::Profile;
 use ioc::Lines;
-use loader::loading::load;
+use loader::load;
 use memc::{Memc, PageSize, Spot};
 use std::alloc::Global;
 use std::test::Fail;
@@ -147,7 +147,11 @@ const WITH_ONE_FIQ: [(u32, u32); 10] = [
 fn fiq_in_an_irq_handler(rt: HostRuntime) -> Result<(), Fail> {
     let alloc = rt.alloc();
     let mut machine = Machine::new(alloc, PageSize::K32, Profile::one())?;
-    load(alloc, &mut machine, &assemble(alloc, COUNTDOWN_AND_FIQ)?.image)?;
+    load(
+        alloc,
+        &mut machine,
+        &assemble(alloc, COUNTDOWN_AND_FIQ)?.image,
+    )?;
     machine.set(Reg::R15, 0x0800_8002);
     machine.set(Reg::R14Irq, 0x1010);
     machine.ioc_mut().write(0x320_0038, 1);

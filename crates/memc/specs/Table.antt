@@ -1,4 +1,4 @@
--- What the page table and its inverse keep (our own).
+-- What the page table and its inverse keep.
 use Rattle.std.specs.Prelude.{◌≡◌, ℕ, ◌+◌, ◌*◌, ◌^◌, ◌<◌, ◌≤◌, Option, Some, None, List, length}
 use Rattle.std.specs.Prelude.{slice_index_or}
 use Rattle.memc.specs.declared.pages.Entry.{Entry}

@@ -1,4 +1,4 @@
--- The memory controller's fields as plain maps, whatever the size of a page (our own).
+-- The memory controller's fields as plain maps, whatever the size of a page.
 use Rattle.std.specs.Prelude.{ℕ}
 use Rattle.memc.specs.declared.memory.Sized.{Sized}
 use Rattle.memc.specs.declared.memory.Sized.TheVariants.{K4, K8, K16, K32}

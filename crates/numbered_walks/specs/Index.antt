@@ -1,4 +1,4 @@
--- Edges and spans by number (our own).
+-- Edges and spans by number.
 use Rattle.std.specs.Prelude.{◌≡◌, ℕ, ◌+◌, ◌<◌, ◌↔◌, Bool, cond, nat_le, nat_lt, ◌&&◌, List, [], ◌∷◌, ◌++◌}
 use Rattle.std.specs.Prelude.{length, map, slice_index_or, Vec, Contains, Option, Some, None, true, false}
 use Rattle.std.specs.Global.{Global}

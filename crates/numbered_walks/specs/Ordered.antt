@@ -1,5 +1,5 @@
 -- Edges and spans of loop instances over the numbers of places, in an order where each instance is an
--- interval (our own format), and what walks, bounds and rows mean along them.
+-- interval, and what walks, bounds and rows mean along them.
 use Rattle.std.specs.Prelude.{◌≡◌, ◌≢◌, ℕ, ◌<◌, ◌≤◌, ◌⊎◌, Bool, true, false, ◌&&◌, nat_le, nat_eq, List}
 use Rattle.std.specs.Prelude.{Contains, count_by, AllPairs}
 use Rattle.walks.specs.Walk.{Shape}

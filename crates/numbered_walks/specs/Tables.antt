@@ -1,4 +1,4 @@
--- Potentials as tables by number, and as far as a pass over the numbers has found them (our own).
+-- Potentials as tables by number, and as far as a pass over the numbers has found them.
 use Rattle.std.specs.Prelude.{◌≡◌, ◌≢◌, ℕ, ◌+◌, ◌^◌, ◌<◌, ◌≤◌, Bool, true, false, cond, nat_eq, ◌⊎◌, List, []}
 use Rattle.std.specs.Prelude.{◌∷◌, length, All, Contains, slice_index, slice_index_or, sum_by}
 use Rattle.walks.specs.Rows.{Potentials}

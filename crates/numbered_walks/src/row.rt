@@ -51,7 +51,6 @@ pub(crate) fn needed_in(
     ensures { MatchOption result (2 ^ 64 ≤ needed spans.now tables.now edge.now)
         (λ n. n ≡ needed spans.now tables.now edge.now) }
 {
-    let _all = spans;
     needed_with(&holders[edge.from], tables, edge)
 }
 

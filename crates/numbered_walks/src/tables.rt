@@ -69,7 +69,6 @@ pub(crate) fn write_place(
     ensures arrivals { length tables.new.arrivals.items ≡ length tables.old.arrivals.items }
     ensures rounds { length tables.new.rounds.items ≡ length tables.old.rounds.items }
 {
-    let _all = spans;
     if header {
         tables.arrivals[number] = value;
     } else {

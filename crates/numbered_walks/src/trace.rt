@@ -81,7 +81,6 @@ pub fn entering_edge(
     requires known { place ≤ exit }
     ensures { IsEntering edges.now spans.now tables.now place result }
 {
-    let _exit = exit;
     let number = number_at(spans, &index.headers, tables, place);
     let group = &index.entering[place];
     match attaining(spans, &index.holders, tables, edges, group, number) {
@@ -107,7 +106,6 @@ pub fn turning_edge(
     ensures { MatchOption result (round_of tables.now span.now ≡ 0)
         (IsTurning edges.now spans.now tables.now span.now) }
 {
-    let _exit = exit;
     let number = round(tables, span);
     if number == 0 {
         return None;

@@ -17,7 +17,7 @@ use Rattle.toml_reading.proofs.LowestParts.{keys_judged}
 use Rattle.toml_reading.proofs.TwiceLemmas.{keys_not_distinct}
 use Rattle.statement.specs.StatementRules.{AccessFault, AddressFault, HasAccess, HasFault, HasParts, HasTarget, HasTwo, IsAddress, IsAt, IsSingle, IsNamed, LoopFault, PartsFault, RequiredFault, States, StatesAccess, StatesLoop, StatesTarget, TargetFault, NameFault}
 use Rattle.statement.specs.Stated.{Stated, Target}
-use Rattle.statement.specs.Statement.{Names, Parts, access_at, access_keys, class_at, leave_in, loop_at, named_class, parts_of, statement_keys, statement_of, target_at, target_keys, whole}
+use Rattle.statement.specs.Statement.{Names, Parts, access_at, access_keys, class_at, leave_in, loop_at, named_class, parts_of, statement_keys, statement_of, target_at, target_keys, stated_by_parts}
 use Rattle.statement.specs.StatementFaults.{number_of, statement_faults}
 use Rattle.statement.specs.declared.faults.StatementFault.{StatementFault}
 use Rattle.statement.specs.declared.faults.StatementFault.TheVariants.{Memory, NotToml, UnknownKey, WrongKind, UnknownLabel, OutOfRange, Twice}
@@ -174,7 +174,7 @@ module _ (names : Names) where
       statement_faults
       (λ st. (p : Parts) × HasEach ms p × (IsSingle names (made_of p) × (st ≡ made_of p)))
       (λ f. EachFault ms f ⊎ SingleFault ms f)
-      (and_then (parts_of names ms) whole)
+      (and_then (parts_of names ms) stated_by_parts)
   single_judged ms =
       then_judged
       statement_faults
@@ -182,7 +182,7 @@ module _ (names : Names) where
       (λ p st. IsSingle names (made_of p) × (st ≡ made_of p))
       (EachFault ms)
       (λ p f. (¬ IsSingle names (made_of p)) × (f ≡ Twice))
-      whole
+      stated_by_parts
       (λ p s. test_judged statement_faults (IsSingle names (made_of p)) (made_of p) Twice (are_distinct (keys_of p.1.0) && are_distinct (keys_of p.1.1)) (is_single (made_of p)))
       (parts_of names ms)
       (each_judged ms)
@@ -252,7 +252,7 @@ module _ (names : Names) where
       statement_faults
       (λ st. HasParts names ms st × IsSingle names st)
       (PartsFault names ms)
-      (and_then (parts_of names ms) whole)
+      (and_then (parts_of names ms) stated_by_parts)
   parts_judged ms =
       judged_as
       statement_faults
@@ -265,8 +265,8 @@ module _ (names : Names) where
         λ h. (split st, each_of st h.0, (h.1, refl)),
       ))
       (λ f. six_in_line)
-      (and_then (parts_of names ms) whole)
-      (widened_judged statement_faults _ (EachFault ms) (SingleFault ms) (TwoFault ms) (two_of ms) (two_under ms) (and_then (parts_of names ms) whole) (single_judged ms))
+      (and_then (parts_of names ms) stated_by_parts)
+      (widened_judged statement_faults _ (EachFault ms) (SingleFault ms) (TwoFault ms) (two_of ms) (two_under ms) (and_then (parts_of names ms) stated_by_parts) (single_judged ms))
     where
       of_each : (p : Parts) → HasEach ms p → HasParts names ms (made_of p)
       of_each p s =
@@ -288,7 +288,7 @@ module _ (names : Names) where
       (λ st. (λ h. record { known = h.0; parts = h.1.0; single = h.1.1 }, λ h. (h.known, (h.parts, h.single))))
       (λ f. (λ y. y, λ y. y))
       (statement_of names ms)
-      (keys_judged statement_faults statement_keys (λ ms st. HasParts names ms st × IsSingle names st) (PartsFault names) (λ ms. and_then (parts_of names ms) whole) parts_judged ms)
+      (keys_judged statement_faults statement_keys (λ ms st. HasParts names ms st × IsSingle names st) (PartsFault names) (λ ms. and_then (parts_of names ms) stated_by_parts) parts_judged ms)
 
   pub stated_as_read : (ms : Members) (st : Stated) → statement_of names ms ≡ Ok st ↔ States names ms st
   stated_as_read ms st =

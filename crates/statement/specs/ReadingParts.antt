@@ -1,4 +1,4 @@
--- The parts of a statement as they are read (our own).
+-- The parts of a statement as they are read.
 use Rattle.std.specs.Prelude.{ℕ, ◌≤◌, ◌<◌, ◌^◌, length, All, Vec}
 use Rattle.std.specs.declared.alloc.Global.{Global}
 use Rattle.bus_ticks.specs.declared.profile.Class.{Class}

@@ -1,4 +1,4 @@
--- What an author states of a handler, as a value (our own format).
+-- What an author states of a handler, as a value.
 use Rattle.std.specs.Prelude.{ℕ, ◌≤◌, ◌<◌, ◌^◌, List, length, All, Option, nat_eq, unwrap_or}
 use Rattle.std.specs.Map.{lookup}
 use Rattle.bus_ticks.specs.declared.profile.Class.{Class}

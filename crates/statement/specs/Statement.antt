@@ -101,8 +101,8 @@ abbrev pub Parts : Type 0
 Parts = ((ℕ × Class) × List Loop) × (List (ℕ × Target) × List (ℕ × Class))
 
 -- one target and one access at most for an address
-abbrev pub whole : Parts → Read Stated
-whole p =
+abbrev pub stated_by_parts : Parts → Read Stated
+stated_by_parts p =
     if are_distinct (keys_of p.1.0) && are_distinct (keys_of p.1.1)
     then Ok (record { entry = p.0.0.0; leave = p.0.0.1; loops = p.0.1; targets = p.1.0; accesses = p.1.1 })
     else Err Twice
@@ -195,7 +195,7 @@ module _ (names : Names) where
       (both statement_faults (targets_in ms) (accesses_in ms))
 
   abbrev pub statement_of : Members → Read Stated
-  statement_of ms = of_keys statement_faults statement_keys ms (and_then (parts_of ms) whole)
+  statement_of ms = of_keys statement_faults statement_keys ms (and_then (parts_of ms) stated_by_parts)
 
 -- the answer to a text, but for lack of memory
 abbrev pub IsStatement : List ℕ → Names → Read Stated → Type 0

@@ -1,4 +1,4 @@
--- The faults of statements, in their order (our own).
+-- The faults of statements, in their order.
 use Rattle.std.specs.Prelude.{ℕ}
 use Rattle.toml_reading.specs.Readings.{Faults}
 use Rattle.statement.specs.declared.faults.StatementFault.{StatementFault}

@@ -1,4 +1,4 @@
--- A statement as it is stored (our own).
+-- A statement as it is stored.
 use Rattle.statement.specs.declared.stated.Statement.TheInside.{Inside}
 use Rattle.statement.specs.Stated.{Stated, IsStated}
 

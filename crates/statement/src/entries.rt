@@ -10,7 +10,7 @@ ghost use Rattle.statement.specs.Statement.{once, placed_loop, some_destinations
 use crate::faults::{Read, StatementFault};
 use crate::stated::{Loop, Target, TargetKind};
 use bus_ticks::Class;
-use loader::labels::Labels;
+use loader::Labels;
 use std::alloc::{AllocError, Global};
 use toml::{Table, Value};
 use toml_reading::{

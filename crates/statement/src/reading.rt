@@ -3,13 +3,14 @@ ghost use Rattle.toml.specs.View.{table_view};
 ghost use Rattle.loader.specs.Labels.{address_of};
 ghost use Rattle.toml_reading.specs.Readings.{and_then, seen};
 ghost use Rattle.statement.specs.ReadingParts.{AreParts, parts_in};
-ghost use Rattle.statement.specs.Statement.{IsStatement, ends_in, leave_in, parts_of, statement_of, whole};
+ghost use Rattle.statement.specs.Statement.{IsStatement, ends_in, leave_in, parts_of, stated_by_parts};
+ghost use Rattle.statement.specs.Statement.{statement_of};
 
 use crate::entries::{class, required_address};
 use crate::faults::{Read, StatementFault};
 use crate::stated::{Loop, Statement, Target};
 use bus_ticks::Class;
-use loader::labels::Labels;
+use loader::Labels;
 use std::alloc::{AllocError, Global};
 use toml::Table;
 use toml_reading::{by_number, check, document, only_keys, pair, tables_up_to, value_at};
@@ -49,7 +50,7 @@ type Parts = (
 // The statement of its parts.
 fn stated(alloc: Global, parts: Read<Parts>) -> Result<Read<Statement>, AllocError>
     requires { IfOk (seen parts_in parts) AreParts }
-    ensures { IfOk result (λ reading. reading ≡ and_then (seen parts_in parts) whole) }
+    ensures { IfOk result (λ reading. reading ≡ and_then (seen parts_in parts) stated_by_parts) }
 {
     let (((entry, leave), loops), (targets, accesses)) = match parts {
         Ok(parts) => parts,

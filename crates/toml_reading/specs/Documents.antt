@@ -1,4 +1,4 @@
--- What is read of the documents of TOML: the keys of tables, lists, numbers and whole texts (our own).
+-- What is read of the documents of TOML: the keys of tables, lists, numbers and whole texts.
 use Rattle.std.specs.Prelude.{◌≡◌, ◌&&◌, ◌==◌, ◌%◌, ◌^◌, ◌⊎◌, not, ℕ, ℤ, pos, negsuc, Bool, true, List, []}
 use Rattle.std.specs.Prelude.{◌∷◌, map, length, option_map, Option, Some, None, Ok, Err, nat_eq, nat_le}
 use Rattle.std.specs.Prelude.{nat_lt, if◌then◌else◌}

@@ -1,5 +1,5 @@
 -- What a document of TOML states and which faults it has, by its keys, numbers, lists and tables; the
--- lowest fault is the one that is answered (our own).
+-- lowest fault is the one that is answered.
 use Rattle.std.specs.Prelude.{◌≡◌, ◌≤◌, ◌<◌, ◌⊎◌, ℕ, ℤ, pos, negsuc, true, false, List, [], Any, filter_map}
 use Rattle.std.specs.Prelude.{Option, Some, None, IsSomeAnd, MatchOption, unwrap_or}
 use Rattle.std.specs.List.{AllZip}

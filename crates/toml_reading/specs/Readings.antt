@@ -1,4 +1,4 @@
--- Readings: a value, or the lowest of the faults of its parts (our own).
+-- Readings: a value, or the lowest of the faults of its parts.
 use Rattle.std.specs.Prelude.{ℕ, ℤ, pos, negsuc, Bool, true, false, nat_le, if◌then◌else◌, List, [], ◌∷◌}
 use Rattle.std.specs.Prelude.{◌++◌, fold, Option, Some, None, Result, Ok, Err, Vec}
 use Rattle.std.specs.declared.alloc.Global.{Global}

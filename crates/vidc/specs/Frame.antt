@@ -1,6 +1,5 @@
--- The position in a frame, one sixth of a tick after the other (our own profile). A tick is one cycle of the
--- 8 MHz processor; its sixth is the longest time of which a pixel takes a whole number at each of the four
--- pixel rates.
+-- The position in a frame, one sixth of a tick after the other. A tick is one cycle of the 8 MHz processor;
+-- its sixth is the longest time of which a pixel takes a whole number at each of the four pixel rates.
 use Rattle.std.specs.Prelude.{ℕ, zero, suc, ◌+◌, ◌==◌, if◌then◌else◌}
 
 -- one sixth on, in a frame of so many sixths: after the last comes the first

@@ -1,4 +1,4 @@
--- Time adds up (our own): one advance is two that take the same ticks together.
+-- Time adds up: one advance is two that take the same ticks together.
 use Rattle.std.specs.Prelude.{ℕ, ◌≡◌, ◌+◌}
 use Rattle.vidc.specs.Video.{Video, advanced, flybacks}
 

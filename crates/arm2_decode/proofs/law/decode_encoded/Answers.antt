@@ -4,7 +4,7 @@ use Rattle.arm2_decode.specs.declared.instr.Instr.{Instr}
 use Rattle.arm2_decode.specs.declared.instr.Unallocated.{Unallocated}
 use Rattle.arm2_decode.specs.Table.{IsUnallocated, Means}
 use Rattle.arm2_decode.proofs.Unique.{never_both, one_instr}
-use Rattle.arm2_decode.proofs.laws.decode_encoded.Goals as goal
+use Rattle.arm2_decode.proofs.law.decode_encoded.Goals as goal
 
 one_answer : (instr : Instr) (word : ℕ) → Means word instr → (answer : Result Instr Unallocated) → IfOk answer (Means word) → IfErr answer (IsUnallocated word) → answer ≡ Ok instr
 one_answer instr word means (Ok other) found none = ap Ok (one_instr word other instr found means)

@@ -2,7 +2,7 @@ use Rattle.std.proofs.Common.{length}
 use Rattle.std.proofs.lemmas.Result.{err_from_is_err_and}
 use Rattle.numbered_walks.specs.Found as numbered
 use Rattle.longest_walk.proofs.Carrying.{carried_fault}
-use Rattle.longest_walk.proofs.greatest.search.Goals as goal
+use Rattle.longest_walk.proofs.greatest.found.Goals as goal
 
 pub returns-in_err-tables-clause-fault : goal.returns-in_err-tables-clause-fault
 returns-in_err-tables-clause-fault c =
