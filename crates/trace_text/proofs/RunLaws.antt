@@ -1,85 +1,40 @@
 -- A run and its text, step after step.
-use Rattle.std.proofs.Common.{◌≡◌, ◌∙◌, ℕ, ◌+◌, ◌*◌, true, List, [], ◌∷◌, ◌++◌, Option, Some, None, Result, Ok, Err, OnErr, refl, sym, ap, append_assoc, arith, drop, inl, inr, subst, take}
-use Rattle.std.proofs.lemmas.Bool.{false≢true, cases_Bool, cond-true, cond-false}
+use Rattle.std.proofs.Common.{◌≡◌, ◌∙◌, ℕ, ◌+◌, ◌*◌, List, [], ◌∷◌, ◌++◌, Option, None, Result, Ok, Err, OnErr}
+use Rattle.std.proofs.Common.{refl, sym, ap, append_assoc, drop, subst, take}
 use Rattle.std.proofs.lemmas.List.{append-nil, take-append-drop}
 use Rattle.arm2_effect.specs.declared.done.Kind.{Kind}
-use Rattle.arm2_effect.specs.declared.done.Kind.TheVariants.{Plain, Taken, Stopped}
+use Rattle.arm2_effect.specs.declared.done.Kind.TheVariants.{Stopped}
 use Rattle.arm2_effect.specs.declared.done.Why.{Why}
-use Rattle.arm2_effect.specs.Effects.{is_stopped}
 use Rattle.arm2_exec.specs.declared.machine.Input.{Input}
 use Rattle.arm2_exec.specs.declared.machine.Ran.{Ran}
-use Rattle.arm2_exec.specs.declared.machine.Stepped.{Stepped}
 use Rattle.arm2_exec.specs.State.{State}
-use Rattle.arm2_exec.specs.Step.{Step, answer_of, state_after}
-use Rattle.arm2_exec.specs.Run.{Ends, Runs, at_rest, counted, why_stopped}
+use Rattle.arm2_exec.specs.Step.{Step}
+use Rattle.arm2_exec.specs.Run.{Runs, why_stopped}
+use Rattle.arm2_exec.proofs.RunLemmas.{SoFar, ends_with, goes, more_steps, why_of}
 use Rattle.trace_text.specs.declared.trace.Traced.{Traced}
 use Rattle.trace_text.specs.TraceText.{Adds, Goes, IsTraceLine, RefusedRun, TracesRun, traced_word}
 
--- ---- a step
-
-stopped_same : (s : State) (i : Input) (told : Stepped) (after : State) → Step s i told after → is_stopped told.kind ≡ true → after ≡ s
-unfolding answer_of state_after
-stopped_same s i told after step stopped = elim (cases_Bool (is_stopped step.moved.kind)) [
-  | inl stops ↦ step.after_is ∙ cond-true (is_stopped step.moved.kind) _ _ stops
-  | inr goes ↦ absurd (false≢true (sym goes ∙ sym (ap (λ (t : Stepped). is_stopped t.kind) (step.told_is ∙ cond-false (is_stopped step.moved.kind) _ _ goes)) ∙ stopped))
-]
-
-goes : (k : Kind) → ((w : Why) → k ≡ Stopped w → ⊥) → why_stopped k ≡ None
-goes Plain not_stopped = refl
-goes (Taken v) not_stopped = refl
-goes (Stopped w) not_stopped = absurd (not_stopped w refl)
-
-abbrev RunOn : ℕ → Input → Stepped → State → List Input → Ran → State → Type 0
-RunOn burst i told next rest ran after = (more : Ran) × Runs next rest more after × (ran ≡ counted burst i told more)
+-- ---- the text of a step
 
 abbrev TextOn : Traced → State → List Input → List ℕ → Type 0
 TextOn traced next rest text = (line : List ℕ) × IsTraceLine traced line × (more : List ℕ) × TracesRun next rest more × (text ≡ line ++ more)
 
-ends_some : (k : Kind) (w : Why) (s : State) (ran : Ran) (after : State) (goes_on : Type 0) → k ≡ Stopped w → ran ≡ at_rest (Some w) → after ≡ s → Ends (why_stopped k) s ran after goes_on
-ends_some k w s ran after goes_on is rest same = subst (λ (why : Option Why). Ends why s ran after goes_on) (sym (ap why_stopped is)) (rest, same)
-
-ends_none : (k : Kind) (s : State) (ran : Ran) (after : State) (goes_on : Type 0) → ((w : Why) → k ≡ Stopped w → ⊥) → goes_on → Ends (why_stopped k) s ran after goes_on
-ends_none k s ran after goes_on not_stopped more = subst (λ (why : Option Why). Ends why s ran after goes_on) (sym (goes k not_stopped)) more
-
 goes_some : (k : Kind) (w : Why) (goes_on : Type 0) → k ≡ Stopped w → Goes (why_stopped k) [] goes_on
-goes_some k w goes_on is = subst (λ (why : Option Why). Goes why [] goes_on) (sym (ap why_stopped is)) refl
+goes_some k w goes_on is = subst (λ (why : Option Why). Goes why [] goes_on) (sym (why_of k w is)) refl
 
 goes_none : (k : Kind) (text : List ℕ) (goes_on : Type 0) → ((w : Why) → k ≡ Stopped w → ⊥) → goes_on → Goes (why_stopped k) text goes_on
 goes_none k text goes_on not_stopped more = subst (λ (why : Option Why). Goes why text goes_on) (sym (goes k not_stopped)) more
 
--- ---- what has run and what was told, whatever follows
-
-abbrev added : Ran → Ran → Ran
-added ran more = record { steps = ran.steps + more.steps; ticks = ran.ticks + more.ticks; elapsed = ran.elapsed + more.elapsed; stopped = more.stopped }
-
-abbrev pub RunSoFar : State → List Input → Ran → State → List Input → Type 0
-RunSoFar start inputs ran now left = (more : Ran) (after : State) → Runs now left more after → Runs start inputs (added ran more) after
+-- ---- what was told, whatever follows
 
 abbrev pub ToldSoFar : State → List Input → State → List Input → List ℕ → Type 0
 ToldSoFar start inputs now left text = (more : List ℕ) → TracesRun now left more → TracesRun start inputs (text ++ more)
 
--- the text at a start, and where nothing more is told
-pub at_start : (start : State) (inputs : List Input) (old : List ℕ) → Adds (ToldSoFar start inputs start inputs) old old
-at_start start inputs old = ([], (λ more told. told), sym (append-nil old))
-
+-- nothing more is told
 told_whole : (start : State) (inputs : List Input) (now : State) (left : List Input) (old new : List ℕ) → Adds (ToldSoFar start inputs now left) old new → TracesRun now left [] → Adds (TracesRun start inputs) old new
 told_whole start inputs now left old new adds rest = (adds.0, subst (TracesRun start inputs) (append-nil adds.0) (adds.1 [] rest), adds.2)
 
-run_whole : (start : State) (inputs : List Input) (ran : Ran) (now after : State) (left : List Input) (why : Option Why) → RunSoFar start inputs ran now left → Runs now left (at_rest why) after
-    → Runs start inputs (record { steps = ran.steps; ticks = ran.ticks; elapsed = ran.elapsed; stopped = why }) after
-run_whole start inputs ran now after left why so_far runs =
-    let steps : ran.steps + 0 ≡ ran.steps = omega arith in
-    let ticks : ran.ticks + 0 ≡ ran.ticks = omega arith in
-    let elapsed : ran.elapsed + 0 ≡ ran.elapsed = omega arith in
-    subst (λ (r : Ran). Runs start inputs r after) (λ k. record { steps = steps k; ticks = ticks k; elapsed = elapsed k; stopped = why }) (so_far (at_rest why) after runs)
-
--- ---- the last input was taken
-
-pub run_ends : (start : State) (inputs : List Input) (ran : Ran) (now : State) (left : List Input) → RunSoFar start inputs ran now left → left ≡ [] → ran.stopped ≡ None → Runs start inputs ran now
-run_ends start inputs ran now left so_far none going =
-    subst (λ (why : Option Why). Runs start inputs (record { steps = ran.steps; ticks = ran.ticks; elapsed = ran.elapsed; stopped = why }) now) (sym going)
-    (run_whole start inputs ran now now left None so_far (subst (λ (is : List Input). Runs now is (at_rest None) now) (sym none) (refl, refl)))
-
+-- the last input was taken
 pub text_ends : (start : State) (inputs : List Input) (now : State) (left : List Input) (old new : List ℕ) → Adds (ToldSoFar start inputs now left) old new → left ≡ [] → Adds (TracesRun start inputs) old new
 text_ends start inputs now left old new adds none = told_whole start inputs now left old new adds (subst (λ (is : List Input). TracesRun now is []) (sym none) refl)
 
@@ -88,30 +43,12 @@ text_ends start inputs now left old new adds none = told_whole start inputs now 
 module _ (start : State) (inputs : List Input) (now next : State) (left rest : List Input) (i : Input) (traced : Traced)
     (at_hand : left ≡ i ∷ rest) (step : Step now i traced.told next) where
   -- it stopped
-  pub run_stops : (ran : Ran) (w : Why) → RunSoFar start inputs ran now left → traced.told.kind ≡ Stopped w
-      → Runs start inputs (record { steps = ran.steps; ticks = ran.ticks; elapsed = ran.elapsed; stopped = Some w }) next
-  run_stops ran w so_far is =
-      let rest_on = RunOn now.profile.burst i traced.told next rest (at_rest (Some w)) next in
-      let ends = ends_some traced.told.kind w now (at_rest (Some w)) next rest_on is refl (stopped_same now i traced.told next step (ap is_stopped is)) in
-      run_whole start inputs ran now next left (Some w) so_far (subst (λ (is : List Input). Runs now is (at_rest (Some w)) next) (sym at_hand) (traced.told, next, step, ends))
-
   pub text_stops : (w : Why) (old new : List ℕ) → traced.word ≡ traced_word now i → traced.told.kind ≡ Stopped w → Adds (ToldSoFar start inputs now left) old new → Adds (TracesRun start inputs) old new
   text_stops w old new word is adds =
       let ends = goes_some traced.told.kind w (TextOn traced next rest []) is in
       told_whole start inputs now left old new adds (subst (λ (is : List Input). TracesRun now is []) (sym at_hand) (traced, next, step, word, ends))
 
   -- it went on
-  pub run_goes : (ran : Ran) → RunSoFar start inputs ran now left → ((w : Why) → traced.told.kind ≡ Stopped w → ⊥)
-      → RunSoFar start inputs (record { steps = ran.steps + 1; ticks = ran.ticks + traced.told.ticks; elapsed = ran.elapsed + (traced.told.ticks + now.profile.burst * i.bursts); stopped = ran.stopped }) next rest
-  run_goes ran so_far not_stopped = λ more after runs.
-      let whole = counted now.profile.burst i traced.told more in
-      let ends = ends_none traced.told.kind now whole after (RunOn now.profile.burst i traced.told next rest whole after) not_stopped (more, runs, refl) in
-      let all = so_far whole after (subst (λ (is : List Input). Runs now is whole after) (sym at_hand) (traced.told, next, step, ends)) in
-      let steps : ran.steps + (1 + more.steps) ≡ ran.steps + 1 + more.steps = omega arith in
-      let ticks : ran.ticks + (traced.told.ticks + more.ticks) ≡ ran.ticks + traced.told.ticks + more.ticks = omega arith in
-      let elapsed : ran.elapsed + (traced.told.ticks + now.profile.burst * i.bursts + more.elapsed) ≡ ran.elapsed + (traced.told.ticks + now.profile.burst * i.bursts) + more.elapsed = omega arith in
-      subst (λ (r : Ran). Runs start inputs r after) (λ k. record { steps = steps k; ticks = ticks k; elapsed = elapsed k; stopped = more.stopped }) all
-
   pub told_goes : (text line : List ℕ) → traced.word ≡ traced_word now i
       → ((w : Why) → traced.told.kind ≡ Stopped w → ⊥) → ToldSoFar start inputs now left text
       → IsTraceLine traced line → ToldSoFar start inputs next rest (text ++ line)
@@ -132,7 +69,7 @@ module _ (start : State) (inputs : List Input) (now next : State) (left rest : L
 -- ---- a front of the inputs, whatever would follow it
 
 abbrev pub FrontRuns : State → List Input → (n : ℕ) → Ran → State → Type 0
-FrontRuns start inputs n ran now = (tail : List Input) → RunSoFar start (take n inputs ++ tail) ran now tail
+FrontRuns start inputs n ran now = (tail : List Input) → SoFar start (take n inputs ++ tail) ran now tail
 
 abbrev pub FrontTold : State → List Input → (n : ℕ) → State → List ℕ → Type 0
 FrontTold start inputs n now text =
@@ -157,8 +94,8 @@ module _ (start : State) (inputs : List Input) (n : ℕ) (now next : State) (i :
       → FrontRuns start inputs (n + 1) (one_more ran) next
   front_runs ran so_far = λ tail.
       let all = take n inputs ++ i ∷ tail in
-      let goes = run_goes start all now next (i ∷ tail) tail i traced refl step ran (so_far (i ∷ tail)) not_stopped in
-      subst (λ (all : List Input). RunSoFar start all (one_more ran) next tail) (longer tail) goes
+      let goes = more_steps start all ran now next (i ∷ tail) tail i traced.told (so_far (i ∷ tail)) refl step not_stopped in
+      subst (λ (all : List Input). SoFar start all (one_more ran) next tail) (longer tail) goes
 
   pub front_told : (old mid new : List ℕ) → traced.word ≡ traced_word now i
       → Adds (FrontTold start inputs n now) old mid → Adds (IsTraceLine traced) mid new
@@ -188,7 +125,7 @@ module _ (start : State) (inputs : List Input) (n : ℕ) (now next : State) (i :
     between = now;
     runs =
         subst (λ (all : List Input). Runs start all (going ran) now) (append-nil (take n inputs))
-        (run_whole start (take n inputs ++ []) ran now now [] None (runs []) (refl, refl));
+        (ends_with start (take n inputs ++ []) ran now now [] None (runs []) (refl, refl));
     goes_on = refl;
     told = traced.told;
     step = step;

@@ -4,8 +4,10 @@ use Rattle.std.proofs.lemmas.List.{drop_more, take_more}
 use Rattle.std.proofs.Math.ListN.{drop_of_length-le}
 use Rattle.bus_ticks.specs.declared.profile.Profile.{Profile}
 use Rattle.arm2_exec.specs.declared.machine.Input.{Input}
+use Rattle.arm2_exec.proofs.RunLemmas.{at_end, at_stop, more_steps}
 use Rattle.trace_text.specs.TraceText.{Adds, IsTraceLine}
-use Rattle.trace_text.proofs.RunLaws.{front_runs, front_told, on_err, run_ends, run_refused, run_goes, run_stops, text_ends, text_goes, text_stops}
+use Rattle.trace_text.proofs.RunLaws.{front_runs, front_told, on_err, run_refused, text_ends, text_goes}
+use Rattle.trace_text.proofs.RunLaws.{text_stops}
 use Rattle.trace_text.proofs.run.write_run.Goals as goal
 
 pub returns-in-Stopped-clause-runs : goal.returns-in-Stopped-clause-runs
@@ -14,8 +16,9 @@ returns-in-Stopped-clause-runs c =
     let index = c.loop-input.input-index in
     let input : Input = slice_index_or inputs index (record { bursts = 0; lines = record { 0 = 0 }; port = 0 }) in
     let traced = c.step_traced-traced in
-    run_stops c.args.machine.now inputs c.loop-input.machine traced.new.machine (drop index inputs) (drop (index + 1) inputs) input traced.result
-    (drop_more inputs index _ c.loop-input-test.true) traced.ensures.step c.loop-input.ran c.in-Stopped.why c.loop-input.invariant.0 c.in-Stopped.is
+    at_stop c.args.machine.now inputs c.loop-input.ran c.loop-input.machine traced.new.machine
+    (drop index inputs) (drop (index + 1) inputs) input traced.result.told c.in-Stopped.why
+    c.loop-input.invariant.0 (drop_more inputs index _ c.loop-input-test.true) traced.ensures.step c.in-Stopped.is
 
 pub returns-in-Stopped-clause-text : goal.returns-in-Stopped-clause-text
 returns-in-Stopped-clause-text c =
@@ -37,7 +40,8 @@ loop-input-preserved c =
     let now = c.loop-input.machine in
     let next = traced.new.machine in
     let at_hand = drop_more inputs index _ c.loop-input-test.true in
-    let runs = run_goes start inputs now next (drop index inputs) (drop (index + 1) inputs) input traced.result at_hand traced.ensures.step c.loop-input.ran c.loop-input.invariant.0 c.in_default.not-Stopped in
+    let runs = more_steps start inputs c.loop-input.ran now next (drop index inputs) (drop (index + 1) inputs) input
+    traced.result.told c.loop-input.invariant.0 at_hand traced.ensures.step c.in_default.not-Stopped in
     let line : Adds (IsTraceLine traced.result) (string_bytes c.loop-input.out) (string_bytes c.write_trace.new.out) = search rules in
     let told = text_goes start inputs now next (drop index inputs) (drop (index + 1) inputs) input traced.result at_hand traced.ensures.step
     (string_bytes c.args.out.now) (string_bytes c.loop-input.out) (string_bytes c.write_trace.new.out) traced.ensures.word c.in_default.not-Stopped c.loop-input.invariant.1 line in
@@ -66,7 +70,8 @@ loop-input-preserved c =
 pub returns-clause-runs : goal.returns-clause-runs
 returns-clause-runs c =
     let left = drop c.loop-input.input-index c.args.inputs.now in
-    run_ends c.args.machine.now c.args.inputs.now c.loop-input.ran c.loop-input.machine left c.loop-input.invariant.0 (drop_of_length-le c.args.inputs.now c.loop-input-test.false) c.loop-input.invariant.2
+    at_end c.args.machine.now c.args.inputs.now c.loop-input.ran c.loop-input.machine left
+    c.loop-input.invariant.0 (drop_of_length-le c.args.inputs.now c.loop-input-test.false) c.loop-input.invariant.2
 
 pub returns-clause-text : goal.returns-clause-text
 returns-clause-text c =
