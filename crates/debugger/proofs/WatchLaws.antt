@@ -1,18 +1,18 @@
 -- A run that is watched, step after step.
-use Rattle.std.proofs.Common.{◌≡◌, ◌∙◌, ℕ, zero, suc, ◌+◌, ◌*◌, ◌<◌, Bool, true, false, List, [], ◌∷◌, ◌++◌, Option, Some, None, refl, sym, ap, append_assoc, arith, inl, inr, subst}
+use Rattle.std.proofs.Common.{◌≡◌, ◌∙◌, ℕ, zero, suc, ◌+◌, ◌*◌, ◌<◌, Bool, true, false, List, [], ◌∷◌, ◌++◌, Option}
+use Rattle.std.proofs.Common.{Some, None, refl, sym, ap, append_assoc, arith, subst}
 use Rattle.std.specs.Prelude.{is_some}
-use Rattle.std.proofs.lemmas.Bool.{false≢true, cases_Bool, cond-true, cond-false}
 use Rattle.std.proofs.lemmas.List.{append-nil}
-use Rattle.arm2_effect.specs.declared.done.Kind.{Kind}
-use Rattle.arm2_effect.specs.declared.done.Kind.TheVariants.{Plain, Taken, Stopped}
+use Rattle.arm2_effect.specs.declared.done.Kind.TheVariants.{Stopped}
 use Rattle.arm2_effect.specs.declared.done.Why.{Why}
-use Rattle.arm2_effect.specs.Effects.{is_stopped}
 use Rattle.arm2_exec.specs.declared.machine.Input.{Input}
 use Rattle.arm2_exec.specs.declared.machine.Ran.{Ran}
 use Rattle.arm2_exec.specs.declared.machine.Stepped.{Stepped}
 use Rattle.arm2_exec.specs.State.{State}
-use Rattle.arm2_exec.specs.Step.{Step, answer_of, state_after}
+use Rattle.arm2_exec.specs.Step.{Step}
 use Rattle.arm2_exec.specs.Run.{Ends, Runs, at_rest, counted, why_stopped}
+use Rattle.arm2_exec.proofs.StepLemmas.{stopped_same, stops}
+use Rattle.arm2_exec.proofs.RunLemmas.{added, goes, plus_none, why_of}
 use Rattle.trace_text.specs.declared.trace.Traced.{Traced}
 use Rattle.trace_text.specs.TraceText.{Goes, IsTraceLine, TracesRun, traced_word}
 use Rattle.debugger.specs.declared.stepping.Keep.{Keep}
@@ -20,24 +20,7 @@ use Rattle.debugger.specs.declared.stepping.Keep.TheVariants.{All, Last}
 use Rattle.debugger.specs.Watching.{EndsAt, UpTo, Watches, all_lines, inputs_of, is_break, kept, kept_line}
 use Rattle.debugger.specs.Answers.{RunsFirst}
 
--- ---- a step
-
-stopped_same : (s : State) (i : Input) (told : Stepped) (after : State) → Step s i told after → is_stopped told.kind ≡ true → after ≡ s
-unfolding answer_of state_after
-stopped_same s i told after step stopped = elim (cases_Bool (is_stopped step.moved.kind)) [
-  | inl stops ↦ step.after_is ∙ cond-true (is_stopped step.moved.kind) _ _ stops
-  | inr goes ↦ absurd (false≢true (sym goes ∙ sym (ap (λ (t : Stepped). is_stopped t.kind) (step.told_is ∙ cond-false (is_stopped step.moved.kind) _ _ goes)) ∙ stopped))
-]
-
-goes : (k : Kind) → ((w : Why) → k ≡ Stopped w → ⊥) → why_stopped k ≡ None
-goes Plain not_stopped = refl
-goes (Taken v) not_stopped = refl
-goes (Stopped w) not_stopped = absurd (not_stopped w refl)
-
 -- ---- what has run, whatever follows
-
-abbrev added : Ran → Ran → Ran
-added ran more = record { steps = ran.steps + more.steps; ticks = ran.ticks + more.ticks; elapsed = ran.elapsed + more.elapsed; stopped = more.stopped }
 
 pub record SoFar (breaks : List ℕ) (start : State) (inputs : List Input) (now : State) (left : List Input) (keep : Keep) (ran : Ran) (out : List ℕ) : Type 0 where
   pub lines : List (List ℕ)
@@ -68,14 +51,20 @@ at_start breaks start inputs keep out empty = record {
   going = refl;
 }
 
+-- nothing is added
+unadded : (ran : Ran) (why : Option Why) → added ran (at_rest why) ≡ record ran { stopped = why }
+unadded ran why = λ k. record {
+  steps = sym (plus_none ran.steps) k;
+  ticks = sym (plus_none ran.ticks) k;
+  elapsed = sym (plus_none ran.elapsed) k;
+  stopped = why;
+}
+
 -- the run ends where it stands
 ended : (breaks : List ℕ) (start : State) (inputs : List Input) (now : State) (left : List Input) (keep : Keep) (ran : Ran) (out : List ℕ) (why : Option Why)
     → SoFar breaks start inputs now left keep ran out → Watches breaks now left [] (at_rest why) now → Done breaks start inputs keep (record ran { stopped = why }) now out
 ended breaks start inputs now left keep ran out why so_far rests =
-    let steps : ran.steps + 0 ≡ ran.steps = omega arith in
-    let ticks : ran.ticks + 0 ≡ ran.ticks = omega arith in
-    let elapsed : ran.elapsed + 0 ≡ ran.elapsed = omega arith in
-    let same : added ran (at_rest why) ≡ record ran { stopped = why } = λ k. record { steps = steps k; ticks = ticks k; elapsed = elapsed k; stopped = why } in
+    let same = unadded ran why in
     let lines = append-nil so_far.lines in
     let whole = so_far.whole [] (at_rest why) now rests in
     let P : List (List ℕ) → Type 0 = λ ls. Watches breaks start inputs ls (added ran (at_rest why)) now in
@@ -117,8 +106,8 @@ module _ (breaks : List ℕ) (start : State) (inputs : List Input) (now next : S
   -- it was stopped
   pub run_stops : (w : Why) → traced.told.kind ≡ Stopped w → Done breaks start inputs keep (record ran { stopped = Some w }) next out
   run_stops w is =
-      let same : next ≡ now = stopped_same now i traced.told next step (ap is_stopped is) in
-      let on : On [] (at_rest (Some w)) now = subst (λ (why : Option Why). EndsAt why now [] (at_rest (Some w)) now (Counts [] (at_rest (Some w)) now)) (sym (ap why_stopped is)) (refl, refl, refl) in
+      let same : next ≡ now = stopped_same now i traced.told next step (stops traced.told.kind w is) in
+      let on : On [] (at_rest (Some w)) now = subst (λ (why : Option Why). EndsAt why now [] (at_rest (Some w)) now (Counts [] (at_rest (Some w)) now)) (sym (why_of traced.told.kind w is)) (refl, refl, refl) in
       let done = ended breaks start inputs now left keep ran out (Some w) so_far (here [] (at_rest (Some w)) now on) in
       subst (λ (s : State). Done breaks start inputs keep (record ran { stopped = Some w }) s out) (sym same) done
 
@@ -157,11 +146,10 @@ module _ (breaks : List ℕ) (start : State) (inputs : List Input) (now next : S
     pub run_breaks : is_break breaks next ≡ true → Done breaks start inputs keep further next new
     run_breaks at =
         let all = passes [] (at_rest None) next (subst (λ (b : Bool). UpTo b next [] (at_rest None) next (Watches breaks next rest [] (at_rest None) next)) (sym at) (refl, refl, refl)) in
-        let steps : further.steps + 0 ≡ further.steps = omega arith in
-        let ticks : further.ticks + 0 ≡ further.ticks = omega arith in
-        let elapsed : further.elapsed + 0 ≡ further.elapsed = omega arith in
         let going = so_far.going in
-        let same : added further (at_rest None) ≡ further = λ k. record { steps = steps k; ticks = ticks k; elapsed = elapsed k; stopped = sym going k } in
+        let clear : record further { stopped = None } ≡ further =
+        ap (λ (why : Option Why). record further { stopped = why }) (sym going) in
+        let same : added further (at_rest None) ≡ further = unadded further None ∙ clear in
         let P : List (List ℕ) → Type 0 = λ ls. Watches breaks start inputs ls (added further (at_rest None)) next in
         let Q : Ran → Type 0 = λ r. Watches breaks start inputs (so_far.lines ++ line ∷ []) r next in
         (so_far.lines ++ line ∷ [], subst Q same (subst P (append-nil (so_far.lines ++ line ∷ [])) all), kept_more)
