@@ -1,5 +1,4 @@
 mod WordLaws
-pub mod HexLaws
 mod WatchLaws
 mod BreakLaws
 mod RowLaws

@@ -10,7 +10,6 @@ ghost use Rattle.debugger.specs.SessionState.{Ascending, begun, moved_on, toggle
 
 use crate::command::Command;
 use crate::fault::DebugFault;
-use crate::printed::LINE_ROOM;
 use crate::reading::read_command;
 use crate::rows::{ROW_ROOM, Row, put_breaks, put_rows};
 use crate::stepping::{Keep, run_watched};
@@ -21,7 +20,7 @@ use ioc::Lines;
 use memc::Spot;
 use std::alloc::Global;
 use std::marker::Model;
-use trace_text::{write_registers, write_ticks};
+use trace_text::{LINE_ROOM, write_registers, write_ticks};
 
 /// The most breakpoints.
 const BREAKS: usize = 16;

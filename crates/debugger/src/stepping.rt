@@ -1,11 +1,11 @@
 ghost use Rattle.std.specs.Prelude.{◌≡◌, ◌<◌, ◌≤◌, ◌*◌, ◌^◌, ◌+◌, ℕ, List, [], length, vec_capacity};
-ghost use Rattle.trace_text.specs.TraceText.{IsTraceLine};
+ghost use Rattle.trace_text.specs.TraceText.{Adds, IsTraceLine};
 ghost use Rattle.debugger.specs.Watching.{HasRoom, Watches, inputs_of, is_break, kept, kept_line};
 
-use crate::printed::put_trace;
+use crate::printed::put;
 use arm2_effect::address_of;
 use arm2_exec::{Input, Kind, Machine, Ran, Reg};
-use trace_text::{Traced, step_traced};
+use trace_text::{Traced, step_traced, trace_line};
 
 /// Which lines of a run are kept.
 #[derive(Clone, Copy)]
@@ -19,6 +19,17 @@ fn is_at_break(breaks: &[u32], machine: &Machine) -> bool
 {
     let address = address_of(machine.get(Reg::R15));
     breaks.iter().any(|a| *a == address)
+}
+
+// Adds the line of a step.
+fn put_trace(out: &mut Vec<u8>, traced: &Traced)
+    requires { length out.old.items + 94 ≤ vec_capacity out.old }
+    ensures text { Adds (IsTraceLine traced.now) out.old.items out.new.items }
+    ensures len { length out.new.items ≤ length out.old.items + 94 }
+    ensures room { vec_capacity out.old ≤ vec_capacity out.new }
+{
+    let line = trace_line(traced);
+    put(out, line.as_str().as_bytes());
 }
 
 fn put_line(out: &mut Vec<u8>, keep: Keep, traced: &Traced)

@@ -1,4 +1,4 @@
--- The lines of words are ASCII.
+-- Words and their lines are ASCII.
 use Rattle.std.proofs.Common.{◌≡◌, ◌∙◌, ℕ, zero, suc, ◌/◌, ◌%◌, ◌<◌, ◌≤◌, Bool, true, ◌&&◌, nat_lt, List, [], ◌∷◌, ◌++◌, length, inl, inr, refl, sym, ap, arith}
 use Rattle.std.specs.Prelude.{slice_index}
 use Rattle.std.specs.List.{list_all}
@@ -59,6 +59,9 @@ index_ascii : (line : List ℕ) → list_all is_ascii line ≡ true → (i : ℕ
 index_ascii [] h i = omega arith
 index_ascii (b ∷ bs) h zero = below b (and_parts (is_ascii b) (list_all is_ascii bs) h).0
 index_ascii (b ∷ bs) h (suc i) = index_ascii bs (and_parts (is_ascii b) (list_all is_ascii bs) h).1 i
+
+pub digits_utf8 : (n : ℕ) → IsUtf8 (hex_chars 8 n)
+digits_utf8 n = IsUtf8-from_ascii (hex_chars 8 n) (index_ascii (hex_chars 8 n) (hex_ascii 8 n))
 
 pub shown_utf8 : (word at : ℕ) (line : List ℕ) → IsShown word at line → length line ≤ 64 → IsUtf8 line
 shown_utf8 word at line shown short = IsUtf8-from_ascii line (index_ascii line (shown_all word at line shown short))

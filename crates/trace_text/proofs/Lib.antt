@@ -1,3 +1,4 @@
 mod TextLaws
+mod HexLaws
 mod RunLaws
-mod AsciiLaws
+pub mod AsciiLaws

@@ -3,7 +3,7 @@ ghost use Rattle.arm2_effect.specs.Modes.{reg_number, slot_of};
 ghost use Rattle.arm2_effect.specs.declared.modes.Mode.TheVariants.{Fiq, Irq, Svc, User};
 ghost use Rattle.trace_text.specs.TraceText.{four_text, register_text, registers_text};
 
-use crate::figures::HexWord;
+use crate::figures::hex_word;
 use arm2_effect::{Mode, mode_of};
 use arm2_exec::{Machine, Reg};
 use std::alloc::AllocError;
@@ -97,7 +97,7 @@ fn put_register(
         (string_bytes out.new
         ≡ string_bytes out.old ++ (register_text mode machine.now.regs number ++ end.now)) }
 {
-    let word = HexWord(machine.get(register_of(mode, number)));
+    let word = hex_word(machine.get(register_of(mode, number)));
     write!(out, "R{number}={word}{end}")
 }
 

@@ -1,14 +1,19 @@
-ghost use Rattle.std.specs.Prelude.{◌≡◌, ◌++◌, ◌<◌, ◌^◌, MatchResult, OnOk, string_bytes};
+ghost use Rattle.std.specs.Prelude.{◌≡◌, ◌+◌, ◌<◌, ◌≤◌, ◌^◌, MatchResult, length, string_bytes};
 ghost use Rattle.arm2_exec.specs.Step.{Step};
 ghost use Rattle.assembler.specs.ShownLines.{IsShown};
 ghost use Rattle.trace_text.specs.TraceText.{Adds, IsTraceLine, IsWordLine, exception_name, front_text};
-ghost use Rattle.trace_text.specs.TraceText.{traced_word};
+ghost use Rattle.trace_text.specs.TraceText.{traced_word, word_text};
 
-use crate::figures::HexWord;
+use crate::figures::hex_word;
 use arm2_exec::{Input, Kind, Machine, Stepped, Vector};
+use arrayvec::ArrayString;
 use assembler::disassemble;
+use itoa::Buffer;
 use std::alloc::AllocError;
-use std::fmt::Write;
+
+/// The most bytes of a step's line: 29 of its address, its word and its ticks, 64 of its word's line, and the
+/// line's end.
+pub const LINE_ROOM: usize = 94;
 
 /// A step and the word that it fetched.
 #[derive(Clone, Copy, Debug, PartialEq, Eq)]
@@ -39,7 +44,8 @@ pub fn step_traced(machine: &mut Machine, input: Input) -> Traced
 }
 
 fn name_of(vector: Vector) -> &'static str
-    ensures { result.now ≡ exception_name vector }
+    ensures name { result.now ≡ exception_name vector }
+    ensures short { length result.now ≤ 9 }
 {
     match vector {
         Vector::Undefined => "undefined",
@@ -52,61 +58,87 @@ fn name_of(vector: Vector) -> &'static str
     }
 }
 
-// The address, the word and the ticks.
-fn put_front(out: &mut String, traced: &Traced) -> Result<(), AllocError>
-    ensures { OnOk result (string_bytes out.new ≡ string_bytes out.old ++ front_text traced.now) }
+// The word, or dashes where there is none.
+fn word_shown(word: Option<u32>) -> ArrayString<8>
+    ensures { result.bytes ≡ word_text word }
 {
-    let from = HexWord(traced.told.from);
-    let ticks = traced.told.ticks;
-    match traced.word {
-        Some(word) => {
-            let word = HexWord(word);
-            write!(out, "{from} {word} {ticks} ")
+    match word {
+        Some(word) => hex_word(word),
+        None => {
+            let mut text = ArrayString::new();
+            text.push_str("--------");
+            text
         }
-        None => write!(out, "{from} -------- {ticks} "),
     }
 }
 
-// The line of a word at its address, which is ASCII.
-fn put_shown(out: &mut String, word: u32, at: u32) -> Result<(), AllocError>
-    ensures { OnOk result (Adds (IsShown word at) (string_bytes out.old) (string_bytes out.new)) }
+// The address, the word and the ticks.
+fn front_of(traced: &Traced) -> ArrayString<LINE_ROOM>
+    ensures text { result.bytes ≡ front_text traced.now }
+    ensures short { length result.bytes ≤ 29 }
+{
+    let from = hex_word(traced.told.from);
+    let word = word_shown(traced.word);
+    let mut ticks = Buffer::new();
+    let mut front = ArrayString::new();
+    front.push_str(from.as_str());
+    front.push_str(" ");
+    front.push_str(word.as_str());
+    front.push_str(" ");
+    front.push_str(ticks.format(traced.told.ticks));
+    front.push_str(" ");
+    front
+}
+
+// Adds the line of a word at its address, which is ASCII.
+fn put_shown(out: &mut ArrayString<LINE_ROOM>, word: u32, at: u32)
+    requires { length out.old.bytes + 64 ≤ 94 }
+    ensures text { Adds (IsShown word at) out.old.bytes out.new.bytes }
+    ensures len { length out.new.bytes ≤ length out.old.bytes + 64 }
 {
     let line = disassemble(word, at);
     let Ok(text) = str::from_utf8(line.items()) else {
         unreachable!()
     };
-    out.push_str(text)
+    out.push_str(text);
 }
 
-fn put_word_line(out: &mut String, word: Option<u32>, at: u32) -> Result<(), AllocError>
-    ensures { OnOk result (Adds (IsWordLine word at) (string_bytes out.old) (string_bytes out.new)) }
+fn put_word_line(out: &mut ArrayString<LINE_ROOM>, word: Option<u32>, at: u32)
+    requires { length out.old.bytes + 64 ≤ 94 }
+    ensures text { Adds (IsWordLine word at) out.old.bytes out.new.bytes }
+    ensures len { length out.new.bytes ≤ length out.old.bytes + 64 }
 {
     match word {
         Some(word) => put_shown(out, word, at),
-        None => Ok(()),
+        None => {}
     }
 }
 
-fn put_trace(out: &mut String, traced: &Traced) -> Result<(), AllocError>
-    ensures { OnOk result (Adds (IsTraceLine traced.now) (string_bytes out.old) (string_bytes out.new)) }
+/// The line of a step: its address, its word, its ticks, and the name of the exception that it took or the
+/// word's line. Of a step that stopped the machine it is empty.
+///
+/// It lies in place, so that no memory can refuse it.
+pub fn trace_line(traced: &Traced) -> ArrayString<LINE_ROOM>
+    ensures { IsTraceLine traced.now result.bytes }
 {
     match traced.told.kind {
-        Kind::Stopped(_) => Ok(()),
+        Kind::Stopped(_) => ArrayString::new(),
         Kind::Taken(vector) => {
-            put_front(out, traced)?;
-            out.push_str(name_of(vector))?;
-            out.push_str("\n")
+            let mut line = front_of(traced);
+            line.push_str(name_of(vector));
+            line.push_str("\n");
+            line
         }
         Kind::Plain => {
-            put_front(out, traced)?;
-            put_word_line(out, traced.word, traced.told.from)?;
-            out.push_str("\n")
+            let mut line = front_of(traced);
+            put_word_line(&mut line, traced.word, traced.told.from);
+            line.push_str("\n");
+            line
         }
     }
 }
 
-/// Adds the line of a step: its address, its word, its ticks, and the name of the exception that it took or
-/// the word's line. Of a step that stopped the machine it adds nothing.
+/// Adds the line of a step.
 ///
 /// An error says that an allocation failed; the text is then as it was.
 pub fn write_trace(out: &mut String, traced: &Traced) -> Result<(), AllocError>
@@ -114,7 +146,6 @@ pub fn write_trace(out: &mut String, traced: &Traced) -> Result<(), AllocError>
         (λ _. Adds (IsTraceLine traced.now) (string_bytes out.old) (string_bytes out.new))
         (λ _. string_bytes out.new ≡ string_bytes out.old) }
 {
-    let mut line = String::new(*out.allocator());
-    put_trace(&mut line, traced)?;
+    let line = trace_line(traced);
     out.push_str(line.as_str())
 }
