@@ -3,3 +3,4 @@ mod WatchLaws
 mod BreakLaws
 mod RowLaws
 mod TalkLaws
+mod NameLaws

@@ -1,7 +1,8 @@
 -- The commands of a session and how a line says them (our own format).
 use Rattle.std.specs.Prelude.{◌==◌, ◌&&◌, ◌+◌, ◌-◌, ◌*◌, ◌%◌, ◌^◌, ◌≤◌, nat_le, ℕ, Bool, true, false, List}
-use Rattle.std.specs.Prelude.{[], ◌∷◌, codes, Option, Some, None, Result, Ok, Err, if◌then◌else◌}
+use Rattle.std.specs.Prelude.{[], ◌∷◌, codes, Option, Some, None, Result, Ok, Err, if◌then◌else◌, option_map}
 use Rattle.std.specs.Str.{bytes_eq}
+use Rattle.bitflags.specs.Sets.{find_name}
 use Rattle.ioc.specs.declared.lines.Lines.{Lines}
 use Rattle.debugger.specs.declared.command.Command.{Command}
 use Rattle.debugger.specs.declared.command.Command.TheVariants.{Step, Run, ListBreaks, Break, Regs, Mem, Dis}
@@ -40,12 +41,8 @@ line_names =
     ∷ (codes "B6", 0x4000) ∷ (codes "B7", 0x8000) ∷ (codes "F0", 0x10000) ∷ (codes "F1", 0x20000)
     ∷ (codes "F2", 0x40000) ∷ (codes "F3", 0x80000) ∷ (codes "F4", 0x100000) ∷ (codes "F5", 0x200000) ∷ []
 
-abbrev pub line_in : List (List ℕ × ℕ) → List ℕ → Option Lines
-line_in [] name = None
-line_in (row ∷ rows) name = if bytes_eq name row.0 then Some (record { 0 = row.1 }) else line_in rows name
-
 abbrev pub line_named : List ℕ → Option Lines
-line_named name = line_in line_names name
+line_named name = option_map (λ bits. record { 0 = bits }) (find_name line_names name)
 
 abbrev pub switched : Option Lines → (on : Bool) → Result Command DebugFault
 switched (Some line) on = Ok (Line line on)

@@ -6,6 +6,7 @@ ghost use Rattle.debugger.specs.Commands.{switched, three_words, two_words};
 use crate::command::Command;
 use crate::fault::DebugFault;
 use crate::words::{first_word, read_number};
+use bitflags::Flags;
 use ioc::Lines;
 
 /// The first address past memory.
@@ -73,25 +74,9 @@ fn two_words(name: &[u8], number: &[u8]) -> Result<Command, DebugFault>
 fn line_of(name: &[u8]) -> Option<Lines>
     ensures { result ≡ line_named name.now }
 {
-    match name {
-        b"A0" => Some(Lines::A0),
-        b"A1" => Some(Lines::A1),
-        b"A2" => Some(Lines::A2),
-        b"IL0" => Some(Lines::IL0),
-        b"B1" => Some(Lines::B1),
-        b"B2" => Some(Lines::B2),
-        b"B3" => Some(Lines::B3),
-        b"B4" => Some(Lines::B4),
-        b"B5" => Some(Lines::B5),
-        b"B6" => Some(Lines::B6),
-        b"B7" => Some(Lines::B7),
-        b"F0" => Some(Lines::F0),
-        b"F1" => Some(Lines::F1),
-        b"F2" => Some(Lines::F2),
-        b"F3" => Some(Lines::F3),
-        b"F4" => Some(Lines::F4),
-        b"F5" => Some(Lines::F5),
-        _ => None,
+    match str::from_utf8(name) {
+        Ok(name) => Lines::from_name(name),
+        Err(_) => None,
     }
 }
 

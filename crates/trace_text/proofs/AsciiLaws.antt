@@ -60,6 +60,11 @@ index_ascii [] h i = omega arith
 index_ascii (b ∷ bs) h zero = below b (and_parts (is_ascii b) (list_all is_ascii bs) h).0
 index_ascii (b ∷ bs) h (suc i) = index_ascii bs (and_parts (is_ascii b) (list_all is_ascii bs) h).1 i
 
+-- for the crates above
+pub ascii_utf8 : (text : List ℕ) → list_all (λ b. nat_lt b 128) text ≡ true → IsUtf8 text
+unfolding is_ascii
+ascii_utf8 text all = IsUtf8-from_ascii text (index_ascii text all)
+
 pub digits_utf8 : (n : ℕ) → IsUtf8 (hex_chars 8 n)
 digits_utf8 n = IsUtf8-from_ascii (hex_chars 8 n) (index_ascii (hex_chars 8 n) (hex_ascii 8 n))
 
