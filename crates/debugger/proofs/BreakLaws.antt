@@ -1,5 +1,7 @@
 -- Breakpoints that are added and removed.
-use Rattle.std.proofs.Common.{◌≡◌, ◌≢◌, ◌∙◌, ℕ, suc, ◌+◌, ◌<◌, ◌≤◌, Bool, true, false, nat_lt, ◌==◌, List, [], ◌∷◌, length, take, drop, length-append, length-take, length-drop, get_or, cond, refl, sym, ap, inl, inr, eq-eqb, ne_eqb, arith}
+use Rattle.std.proofs.Common.{◌≡◌, ◌≢◌, ◌∙◌, ℕ, suc, ◌+◌, ◌<◌, ◌≤◌, Bool, true, false, nat_lt, ◌==◌, List, []}
+use Rattle.std.proofs.Common.{◌∷◌, length, take, drop, length-append, length-take, length-drop, get_or, cond}
+use Rattle.std.proofs.Common.{refl, sym, ap, inl, inr, eq-eqb, ne_eqb, arith}
 use Rattle.std.specs.List.{prefix_len, insert, remove}
 use Rattle.std.proofs.lemmas.Bool.{cases_lt, lt-ltb, le-ltb}
 use Rattle.debugger.specs.SessionState.{Ascending, IsBelow, toggled}
@@ -14,12 +16,15 @@ over : (a x : ℕ) (xs : List ℕ) → a ≤ x → at a (x ∷ xs) ≡ 0
 over a x xs ge = rw (le-ltb x a ge) refl
 
 -- a breakpoint that is there
-pub toggled_there : (a n : ℕ) (xs : List ℕ) → n ≡ at a xs → n < length xs → get_or xs n 0 ≡ a → toggled a xs ≡ remove xs n
+pub toggled_there : (a n : ℕ) (xs : List ℕ) → n ≡ at a xs → n < length xs → get_or xs n 0 ≡ a
+    → toggled a xs ≡ remove xs n
 toggled_there a n [] is lt same = absurd (omega arith)
 toggled_there a n (x ∷ xs) is lt same = elim (cases_lt x a) [
   | inl less ↦
       let here : n ≡ suc (at a xs) = is ∙ under a x xs less in
-      let more = toggled_there a (at a xs) xs refl (omega (arith, here, lt)) (sym (ap (λ (k : ℕ). get_or (x ∷ xs) k 0) here) ∙ same) in
+      let more =
+      toggled_there a (at a xs) xs refl (omega (arith, here, lt))
+      (sym (ap (λ (k : ℕ). get_or (x ∷ xs) k 0) here) ∙ same) in
       rw (here, lt-ltb x a less) (ap (λ (l : List ℕ). x ∷ l) more)
   | inr ge ↦
       let here : n ≡ 0 = is ∙ over a x xs ge in
@@ -28,21 +33,28 @@ toggled_there a n (x ∷ xs) is lt same = elim (cases_lt x a) [
 ]
 
 -- one that is not there
-pub toggled_new : (a n : ℕ) (xs : List ℕ) → n ≡ at a xs → (n < length xs → get_or xs n 0 ≢ a) → toggled a xs ≡ insert xs n a
+pub toggled_new : (a n : ℕ) (xs : List ℕ) → n ≡ at a xs → (n < length xs → get_or xs n 0 ≢ a)
+    → toggled a xs ≡ insert xs n a
 toggled_new a n [] is other = rw is refl
 toggled_new a n (x ∷ xs) is other = elim (cases_lt x a) [
   | inl less ↦
       let here : n ≡ suc (at a xs) = is ∙ under a x xs less in
-      let more = toggled_new a (at a xs) xs refl (λ lt same. other (omega (arith, here, lt)) (ap (λ (k : ℕ). get_or (x ∷ xs) k 0) here ∙ same)) in
+      let more =
+      toggled_new a (at a xs) xs refl
+      (λ lt same. other (omega (arith, here, lt)) (ap (λ (k : ℕ). get_or (x ∷ xs) k 0) here ∙ same)) in
       rw (here, lt-ltb x a less) (ap (λ (l : List ℕ). x ∷ l) more)
   | inr ge ↦
       let here : n ≡ 0 = is ∙ over a x xs ge in
-      let differs : x ≢ a = λ same. other (omega (arith, here)) (ap (λ (k : ℕ). get_or (x ∷ xs) k 0) here ∙ same) in
+      let differs : x ≢ a =
+      λ same. other (omega (arith, here)) (ap (λ (k : ℕ). get_or (x ∷ xs) k 0) here ∙ same) in
       rw (here, le-ltb x a ge, ne_eqb x a differs) refl
 ]
 
-pub toggled_longer : (a n : ℕ) (xs : List ℕ) → n ≡ at a xs → n ≤ length xs → (n < length xs → get_or xs n 0 ≢ a) → length (toggled a xs) ≡ length xs + 1
-toggled_longer a n xs is fits other = ap length (toggled_new a n xs is other) ∙ omega (arith, length-append (take n xs) (a ∷ drop n xs), length-take n xs, length-drop n xs, fits)
+pub toggled_longer : (a n : ℕ) (xs : List ℕ) → n ≡ at a xs → n ≤ length xs
+    → (n < length xs → get_or xs n 0 ≢ a) → length (toggled a xs) ≡ length xs + 1
+toggled_longer a n xs is fits other =
+    ap length (toggled_new a n xs is other)
+    ∙ omega (arith, length-append (take n xs) (a ∷ drop n xs), length-take n xs, length-drop n xs, fits)
 
 below_toggled : (b a : ℕ) (xs : List ℕ) → b < a → IsBelow b xs → Ascending xs → IsBelow b (toggled a xs)
 below_toggled b a [] lt below up = lt

@@ -1,5 +1,6 @@
 -- The first word of a line.
-use Rattle.std.proofs.Common.{◌≡◌, ◌∙◌, ℕ, suc, ◌+◌, ◌<◌, Bool, true, false, not, List, [], ◌∷◌, length, take, drop, refl, ap, subst, inl, inr, arith}
+use Rattle.std.proofs.Common.{◌≡◌, ◌∙◌, ℕ, suc, ◌+◌, ◌<◌, Bool, true, false, not, List, [], ◌∷◌, length, take}
+use Rattle.std.proofs.Common.{drop, refl, ap, subst, inl, inr, arith}
 use Rattle.std.specs.List.{prefix_len}
 use Rattle.asm_text.specs.Pieces.{is_blank}
 use Rattle.asm_text.proofs.PieceLaws.{cases}
@@ -12,7 +13,8 @@ blank_step : (b : ℕ) (bs : List ℕ) → is_blank b ≡ true → words_of (b �
 unfolding words_of
 blank_step b bs h = rw h refl
 
-word_step : (b : ℕ) (bs : List ℕ) → is_blank b ≡ false → words_of (b ∷ bs) ≡ joined b (starts_word bs) (words_of bs)
+word_step : (b : ℕ) (bs : List ℕ) → is_blank b ≡ false
+    → words_of (b ∷ bs) ≡ joined b (starts_word bs) (words_of bs)
 unfolding words_of
 word_step b bs h = rw h refl
 
@@ -24,17 +26,20 @@ words_none = refl
 pub words_skip : (text : List ℕ) → words_of text ≡ words_of (drop (prefix_len is_blank text) text)
 words_skip [] = refl
 words_skip (b ∷ bs) = elim (cases (is_blank b)) [
-  | inl h ↦ let m : 1 + prefix_len is_blank bs ≡ suc (prefix_len is_blank bs) = omega arith in rw (h, m) (blank_step b bs h ∙ words_skip bs)
+  | inl h ↦ let m : 1 + prefix_len is_blank bs ≡ suc (prefix_len is_blank bs) =
+      omega arith in rw (h, m) (blank_step b bs h ∙ words_skip bs)
   | inr h ↦ rw h refl
 ]
 
 -- after them stands a word, or nothing
-pub starts_behind : (text : List ℕ) → 0 < length (drop (prefix_len is_blank text) text) → starts_word (drop (prefix_len is_blank text) text) ≡ true
+pub starts_behind : (text : List ℕ) → 0 < length (drop (prefix_len is_blank text) text)
+    → starts_word (drop (prefix_len is_blank text) text) ≡ true
 starts_behind [] some = absurd (omega arith)
 starts_behind (b ∷ bs) some = elim (cases (is_blank b)) [
   | inl h ↦
       let m : 1 + prefix_len is_blank bs ≡ suc (prefix_len is_blank bs) = omega arith in
-      let same : drop (prefix_len is_blank (b ∷ bs)) (b ∷ bs) ≡ drop (prefix_len is_blank bs) bs = rw (h, m) refl in
+      let same : drop (prefix_len is_blank (b ∷ bs)) (b ∷ bs) ≡ drop (prefix_len is_blank bs) bs =
+      rw (h, m) refl in
       ap starts_word same ∙ starts_behind bs (subst (λ (t : List ℕ). 0 < length t) same some)
   | inr h ↦ rw (h, h) refl
 ]
@@ -44,13 +49,16 @@ other true h = absurd cc
 other false h = refl
 
 abbrev IsFront : List ℕ → Type 0
-IsFront text = words_of text ≡ take (prefix_len no_blank text) text ∷ words_of (drop (prefix_len no_blank text) text)
+IsFront text =
+    words_of text ≡ take (prefix_len no_blank text) text ∷ words_of (drop (prefix_len no_blank text) text)
 
 -- a byte more in front of a word, or of a blank
-front_more : (b c : ℕ) (bs : List ℕ) → is_blank b ≡ false → is_blank c ≡ false → IsFront (c ∷ bs) → IsFront (b ∷ c ∷ bs)
+front_more : (b c : ℕ) (bs : List ℕ) → is_blank b ≡ false → is_blank c ≡ false → IsFront (c ∷ bs)
+    → IsFront (b ∷ c ∷ bs)
 front_more b c bs e f front =
     let m : 1 + prefix_len no_blank (c ∷ bs) ≡ suc (prefix_len no_blank (c ∷ bs)) = omega arith in
-    let whole : words_of (b ∷ c ∷ bs) ≡ joined b true (words_of (c ∷ bs)) = word_step b (c ∷ bs) e ∙ ap (λ (t : Bool). joined b (not t) (words_of (c ∷ bs))) f in
+    let whole : words_of (b ∷ c ∷ bs) ≡ joined b true (words_of (c ∷ bs)) =
+    word_step b (c ∷ bs) e ∙ ap (λ (t : Bool). joined b (not t) (words_of (c ∷ bs))) f in
     let len : prefix_len no_blank (b ∷ c ∷ bs) ≡ suc (prefix_len no_blank (c ∷ bs)) = rw e m in
     rw len (whole ∙ ap (joined b true) front)
 

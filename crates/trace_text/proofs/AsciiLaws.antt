@@ -1,5 +1,6 @@
 -- Words and their lines are ASCII.
-use Rattle.std.proofs.Common.{◌≡◌, ◌∙◌, ℕ, zero, suc, ◌/◌, ◌%◌, ◌<◌, ◌≤◌, Bool, true, ◌&&◌, nat_lt, List, [], ◌∷◌, ◌++◌, length, inl, inr, refl, sym, ap, arith}
+use Rattle.std.proofs.Common.{◌≡◌, ◌∙◌, ℕ, zero, suc, ◌/◌, ◌%◌, ◌<◌, ◌≤◌, Bool, true, ◌&&◌, nat_lt, List, []}
+use Rattle.std.proofs.Common.{◌∷◌, ◌++◌, length, inl, inr, refl, sym, ap, arith}
 use Rattle.std.specs.Prelude.{slice_index}
 use Rattle.std.specs.List.{list_all}
 use Rattle.std.specs.Str.{IsUtf8}
@@ -28,7 +29,8 @@ char_ascii : (n : ℕ) → is_ascii (hex_char (n % 16)) ≡ true
 unfolding is_ascii
 char_ascii n = grind (arith, nat_tests)
 
-all_push : (xs : List ℕ) (x : ℕ) → list_all is_ascii xs ≡ true → is_ascii x ≡ true → list_all is_ascii (xs ++ x ∷ []) ≡ true
+all_push : (xs : List ℕ) (x : ℕ) → list_all is_ascii xs ≡ true → is_ascii x ≡ true
+    → list_all is_ascii (xs ++ x ∷ []) ≡ true
 all_push [] x h k = rw k refl
 all_push (y ∷ xs) x h k =
     let a = and_parts (is_ascii y) (list_all is_ascii xs) h in
@@ -36,19 +38,24 @@ all_push (y ∷ xs) x h k =
 
 hex_ascii : (k n : ℕ) → list_all is_ascii (hex_chars k n) ≡ true
 hex_ascii zero n = refl
-hex_ascii (suc k) n = all_push (hex_chars k (n / 16)) (hex_char (n % 16)) (hex_ascii k (n / 16)) (char_ascii n)
+hex_ascii (suc k) n =
+    all_push (hex_chars k (n / 16)) (hex_char (n % 16)) (hex_ascii k (n / 16)) (char_ascii n)
 
 line_ascii : (word : ℕ) → list_all is_ascii (hex_line word) ≡ true
 unfolding is_ascii
 line_ascii word = hex_ascii 8 word
 
 -- of a spelling, or else of a DCD line
-shown_all : (word at : ℕ) (line : List ℕ) → IsShown word at line → length line ≤ 64 → list_all is_ascii line ≡ true
+shown_all : (word at : ℕ) (line : List ℕ) → IsShown word at line → length line ≤ 64
+    → list_all is_ascii line ≡ true
 shown_all word at line shown short = elim (cases_Bool (list_all is_ascii line)) [
   | inl all ↦ all
   | inr other ↦ ap (list_all is_ascii) (shown.dcd (λ i means gives.
-      let text = and_parts (list_all is_shown line && is_upper line) _ (spelling_shown line i at (shown.spelled i means gives) short) in
-      absurd (false≢true (sym other ∙ all_ascii line (and_parts (list_all is_shown line) (is_upper line) text.0).0)))) ∙ line_ascii word
+      let text =
+      and_parts (list_all is_shown line && is_upper line) _
+      (spelling_shown line i at (shown.spelled i means gives) short) in
+      absurd (false≢true (sym other ∙ all_ascii line
+      (and_parts (list_all is_shown line) (is_upper line) text.0).0)))) ∙ line_ascii word
 ]
 
 below : (b : ℕ) → is_ascii b ≡ true → b < 128
@@ -69,4 +76,5 @@ pub digits_utf8 : (n : ℕ) → IsUtf8 (hex_chars 8 n)
 digits_utf8 n = IsUtf8-from_ascii (hex_chars 8 n) (index_ascii (hex_chars 8 n) (hex_ascii 8 n))
 
 pub shown_utf8 : (word at : ℕ) (line : List ℕ) → IsShown word at line → length line ≤ 64 → IsUtf8 line
-shown_utf8 word at line shown short = IsUtf8-from_ascii line (index_ascii line (shown_all word at line shown short))
+shown_utf8 word at line shown short =
+    IsUtf8-from_ascii line (index_ascii line (shown_all word at line shown short))

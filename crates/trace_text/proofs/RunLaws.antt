@@ -1,6 +1,6 @@
 -- A run and its text, step after step.
-use Rattle.std.proofs.Common.{◌≡◌, ◌∙◌, ℕ, ◌+◌, ◌*◌, List, [], ◌∷◌, ◌++◌, Option, None, Result, Ok, Err, OnErr}
-use Rattle.std.proofs.Common.{refl, sym, ap, append_assoc, drop, subst, take}
+use Rattle.std.proofs.Common.{◌≡◌, ◌∙◌, ℕ, ◌+◌, ◌*◌, List, [], ◌∷◌, ◌++◌, Option, None, Result, Ok, Err}
+use Rattle.std.proofs.Common.{OnErr, refl, sym, ap, append_assoc, drop, subst, take}
 use Rattle.std.proofs.lemmas.List.{append-nil, take-append-drop}
 use Rattle.arm2_effect.specs.declared.done.Kind.{Kind}
 use Rattle.arm2_effect.specs.declared.done.Kind.TheVariants.{Stopped}
@@ -17,36 +17,50 @@ use Rattle.trace_text.specs.TraceText.{Adds, Goes, IsTraceLine, RefusedRun, Trac
 -- ---- the text of a step
 
 abbrev TextOn : Traced → State → List Input → List ℕ → Type 0
-TextOn traced next rest text = (line : List ℕ) × IsTraceLine traced line × (more : List ℕ) × TracesRun next rest more × (text ≡ line ++ more)
+TextOn traced next rest text = (line : List ℕ) × IsTraceLine traced line × (more : List ℕ)
+    × TracesRun next rest more × (text ≡ line ++ more)
 
 goes_some : (k : Kind) (w : Why) (goes_on : Type 0) → k ≡ Stopped w → Goes (why_stopped k) [] goes_on
 goes_some k w goes_on is = subst (λ (why : Option Why). Goes why [] goes_on) (sym (why_of k w is)) refl
 
-goes_none : (k : Kind) (text : List ℕ) (goes_on : Type 0) → ((w : Why) → k ≡ Stopped w → ⊥) → goes_on → Goes (why_stopped k) text goes_on
-goes_none k text goes_on not_stopped more = subst (λ (why : Option Why). Goes why text goes_on) (sym (goes k not_stopped)) more
+goes_none : (k : Kind) (text : List ℕ) (goes_on : Type 0) → ((w : Why) → k ≡ Stopped w → ⊥) → goes_on
+    → Goes (why_stopped k) text goes_on
+goes_none k text goes_on not_stopped more =
+    subst (λ (why : Option Why). Goes why text goes_on) (sym (goes k not_stopped)) more
 
 -- ---- what was told, whatever follows
 
 abbrev pub ToldSoFar : State → List Input → State → List Input → List ℕ → Type 0
-ToldSoFar start inputs now left text = (more : List ℕ) → TracesRun now left more → TracesRun start inputs (text ++ more)
+ToldSoFar start inputs now left text =
+    (more : List ℕ) → TracesRun now left more → TracesRun start inputs (text ++ more)
 
 -- nothing more is told
-told_whole : (start : State) (inputs : List Input) (now : State) (left : List Input) (old new : List ℕ) → Adds (ToldSoFar start inputs now left) old new → TracesRun now left [] → Adds (TracesRun start inputs) old new
-told_whole start inputs now left old new adds rest = (adds.0, subst (TracesRun start inputs) (append-nil adds.0) (adds.1 [] rest), adds.2)
+told_whole : (start : State) (inputs : List Input) (now : State) (left : List Input) (old new : List ℕ)
+    → Adds (ToldSoFar start inputs now left) old new → TracesRun now left []
+    → Adds (TracesRun start inputs) old new
+told_whole start inputs now left old new adds rest =
+    (adds.0, subst (TracesRun start inputs) (append-nil adds.0) (adds.1 [] rest), adds.2)
 
 -- the last input was taken
-pub text_ends : (start : State) (inputs : List Input) (now : State) (left : List Input) (old new : List ℕ) → Adds (ToldSoFar start inputs now left) old new → left ≡ [] → Adds (TracesRun start inputs) old new
-text_ends start inputs now left old new adds none = told_whole start inputs now left old new adds (subst (λ (is : List Input). TracesRun now is []) (sym none) refl)
+pub text_ends : (start : State) (inputs : List Input) (now : State) (left : List Input) (old new : List ℕ)
+    → Adds (ToldSoFar start inputs now left) old new → left ≡ [] → Adds (TracesRun start inputs) old new
+text_ends start inputs now left old new adds none =
+    told_whole start inputs now left old new adds
+    (subst (λ (is : List Input). TracesRun now is []) (sym none) refl)
 
 -- ---- a step from here
 
-module _ (start : State) (inputs : List Input) (now next : State) (left rest : List Input) (i : Input) (traced : Traced)
+module _ (start : State) (inputs : List Input) (now next : State) (left rest : List Input) (i : Input)
+    (traced : Traced)
     (at_hand : left ≡ i ∷ rest) (step : Step now i traced.told next) where
   -- it stopped
-  pub text_stops : (w : Why) (old new : List ℕ) → traced.word ≡ traced_word now i → traced.told.kind ≡ Stopped w → Adds (ToldSoFar start inputs now left) old new → Adds (TracesRun start inputs) old new
+  pub text_stops : (w : Why) (old new : List ℕ) → traced.word ≡ traced_word now i
+      → traced.told.kind ≡ Stopped w → Adds (ToldSoFar start inputs now left) old new
+      → Adds (TracesRun start inputs) old new
   text_stops w old new word is adds =
       let ends = goes_some traced.told.kind w (TextOn traced next rest []) is in
-      told_whole start inputs now left old new adds (subst (λ (is : List Input). TracesRun now is []) (sym at_hand) (traced, next, step, word, ends))
+      told_whole start inputs now left old new adds
+      (subst (λ (is : List Input). TracesRun now is []) (sym at_hand) (traced, next, step, word, ends))
 
   -- it went on
   pub told_goes : (text line : List ℕ) → traced.word ≡ traced_word now i
@@ -55,10 +69,14 @@ module _ (start : State) (inputs : List Input) (now next : State) (left rest : L
   told_goes text line word not_stopped so_far is = λ more told.
       let on = TextOn traced next rest (line ++ more) in
       let ends = goes_none traced.told.kind (line ++ more) on not_stopped (line, is, more, told, refl) in
-      let here = subst (λ (is : List Input). TracesRun now is (line ++ more)) (sym at_hand) (traced, next, step, word, ends) in
+      let here =
+      subst (λ (is : List Input). TracesRun now is (line ++ more)) (sym at_hand)
+      (traced, next, step, word, ends) in
       subst (TracesRun start inputs) (sym (append_assoc text line more)) (so_far (line ++ more) here)
 
-  pub text_goes : (old mid new : List ℕ) → traced.word ≡ traced_word now i → ((w : Why) → traced.told.kind ≡ Stopped w → ⊥) → Adds (ToldSoFar start inputs now left) old mid → Adds (IsTraceLine traced) mid new
+  pub text_goes : (old mid new : List ℕ) → traced.word ≡ traced_word now i
+      → ((w : Why) → traced.told.kind ≡ Stopped w → ⊥) → Adds (ToldSoFar start inputs now left) old mid
+      → Adds (IsTraceLine traced) mid new
       → Adds (ToldSoFar start inputs next rest) old new
   text_goes old mid new word not_stopped adds line = (
     adds.0 ++ line.0,
@@ -94,7 +112,9 @@ module _ (start : State) (inputs : List Input) (n : ℕ) (now next : State) (i :
       → FrontRuns start inputs (n + 1) (one_more ran) next
   front_runs ran so_far = λ tail.
       let all = take n inputs ++ i ∷ tail in
-      let goes = more_steps start all ran now next (i ∷ tail) tail i traced.told (so_far (i ∷ tail)) refl step not_stopped in
+      let goes =
+      more_steps start all ran now next (i ∷ tail) tail i traced.told
+      (so_far (i ∷ tail)) refl step not_stopped in
       subst (λ (all : List Input). SoFar start all (one_more ran) next tail) (longer tail) goes
 
   pub front_told : (old mid new : List ℕ) → traced.word ≡ traced_word now i
@@ -104,8 +124,10 @@ module _ (start : State) (inputs : List Input) (n : ℕ) (now next : State) (i :
       let text = adds.0 ++ line.0 in
       let told : FrontTold start inputs (n + 1) next text = λ tail.
       let all = take n inputs ++ i ∷ tail in
-      let law = told_goes start all now next (i ∷ tail) tail i traced refl step adds.0 line.0 word not_stopped in
-      subst (λ (all : List Input). ToldSoFar start all next tail text) (longer tail) (law (adds.1 (i ∷ tail)) line.1) in
+      let law =
+      told_goes start all now next (i ∷ tail) tail i traced refl step adds.0 line.0 word not_stopped in
+      subst (λ (all : List Input). ToldSoFar start all next tail text) (longer tail)
+      (law (adds.1 (i ∷ tail)) line.1) in
       let is = line.2 ∙ ap (λ (t : List ℕ). t ++ line.0) adds.2 ∙ append_assoc old adds.0 line.0 in
       (text, told, is)
 
@@ -115,7 +137,8 @@ module _ (start : State) (inputs : List Input) (n : ℕ) (now next : State) (i :
 
   -- the line was refused
   pub run_refused : (rest : List Input) (ran : Ran) (old mid new : List ℕ)
-      → drop n inputs ≡ i ∷ rest → FrontRuns start inputs n ran now → Adds (FrontTold start inputs n now) old mid → new ≡ mid → RefusedRun start inputs next old new
+      → drop n inputs ≡ i ∷ rest → FrontRuns start inputs n ran now
+      → Adds (FrontTold start inputs n now) old mid → new ≡ mid → RefusedRun start inputs next old new
   run_refused rest ran old mid new left runs told kept = record {
     done = take n inputs;
     input = i;

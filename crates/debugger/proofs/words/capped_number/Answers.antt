@@ -16,7 +16,9 @@ loop-byte-preserved c =
     let turn = at_drop_more (digits_value_after r v) ds i 0 c.loop-byte-test.true in
     let whole = v * r + digit_value (get_or ds i 0) in
     let is : c.min-value.result ≡ min whole (2 ^ 32) = grind (arith, common_steps) in
-    let step = cap_fold (2 ^ 32) r (drop (i + 1) ds) c.min-value.result whole (omega (arith, c.requires)) (omega (arith, is)) in
+    let step =
+    cap_fold (2 ^ 32) r (drop (i + 1) ds) c.min-value.result whole (omega (arith, c.requires))
+    (omega (arith, is)) in
     record {
       small = omega (arith, is);
       value = grind (arith, common_steps);

@@ -8,6 +8,8 @@ use Rattle.debugger.proofs.words.capped_number.Given as goal
 abbrev pub invariant-loop-byte : goal.invariant-loop-byte
 invariant-loop-byte l = record {
   small : l.value ≤ 2 ^ 32;
-  value : min (digits_value_after l.radix l.value (drop l.byte-index l.text)) (2 ^ 32) ≡ min (digits_value l.radix l.text) (2 ^ 32);
-  digits : list_all (λ c. is_digit c l.radix) (drop l.byte-index l.text) ≡ list_all (λ c. is_digit c l.radix) l.text;
+  value : min (digits_value_after l.radix l.value (drop l.byte-index l.text)) (2 ^ 32)
+      ≡ min (digits_value l.radix l.text) (2 ^ 32);
+  digits : list_all (λ c. is_digit c l.radix) (drop l.byte-index l.text)
+      ≡ list_all (λ c. is_digit c l.radix) l.text;
 }

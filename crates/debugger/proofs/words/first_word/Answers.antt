@@ -16,6 +16,7 @@ returns c =
     let text = c.without_blanks-text.result.now in
     let some : 0 < length text = grind (arith, nat_tests) in
     let same = c.without_blanks-text.ensures in
-    let starts : starts_word text ≡ true = ap starts_word same ∙ starts_behind line (subst (λ (t : List ℕ). 0 < length t) same some) in
+    let starts : starts_word text ≡ true =
+    ap starts_word same ∙ starts_behind line (subst (λ (t : List ℕ). 0 < length t) same some) in
     words_skip line ∙ ap words_of (sym c.without_blanks-text.ensures)
     ∙ rw (c.split_at.ensures.front, c.split_at.ensures.back, c.word_len.ensures.len) (words_take text starts)

@@ -14,38 +14,52 @@ pub returns-in-Stopped-clause-runs : goal.returns-in-Stopped-clause-runs
 returns-in-Stopped-clause-runs c =
     let inputs = c.args.inputs.now in
     let index = c.loop-input.input-index in
-    let input : Input = slice_index_or inputs index (record { bursts = 0; lines = record { 0 = 0 }; port = 0 }) in
+    let input : Input =
+    slice_index_or inputs index (record { bursts = 0; lines = record { 0 = 0 }; port = 0 }) in
     let traced = c.step_traced-traced in
     at_stop c.args.machine.now inputs c.loop-input.ran c.loop-input.machine traced.new.machine
     (drop index inputs) (drop (index + 1) inputs) input traced.result.told c.in-Stopped.why
-    c.loop-input.invariant.0 (drop_more inputs index _ c.loop-input-test.true) traced.ensures.step c.in-Stopped.is
+    c.loop-input.invariant.0 (drop_more inputs index _ c.loop-input-test.true) traced.ensures.step
+    c.in-Stopped.is
 
 pub returns-in-Stopped-clause-text : goal.returns-in-Stopped-clause-text
 returns-in-Stopped-clause-text c =
     let inputs = c.args.inputs.now in
     let index = c.loop-input.input-index in
-    let input : Input = slice_index_or inputs index (record { bursts = 0; lines = record { 0 = 0 }; port = 0 }) in
+    let input : Input =
+    slice_index_or inputs index (record { bursts = 0; lines = record { 0 = 0 }; port = 0 }) in
     let traced = c.step_traced-traced in
-    text_stops c.args.machine.now inputs c.loop-input.machine traced.new.machine (drop index inputs) (drop (index + 1) inputs) input traced.result
-    (drop_more inputs index _ c.loop-input-test.true) traced.ensures.step c.in-Stopped.why (string_bytes c.args.out.now) (string_bytes c.loop-input.out)
+    text_stops c.args.machine.now inputs c.loop-input.machine traced.new.machine (drop index inputs)
+    (drop (index + 1) inputs) input traced.result
+    (drop_more inputs index _ c.loop-input-test.true) traced.ensures.step c.in-Stopped.why
+    (string_bytes c.args.out.now) (string_bytes c.loop-input.out)
     traced.ensures.word c.in-Stopped.is c.loop-input.invariant.1
 
 pub loop-input-preserved : goal.loop-input-preserved
 loop-input-preserved c =
     let inputs = c.args.inputs.now in
     let index = c.loop-input.input-index in
-    let input : Input = slice_index_or inputs index (record { bursts = 0; lines = record { 0 = 0 }; port = 0 }) in
+    let input : Input =
+    slice_index_or inputs index (record { bursts = 0; lines = record { 0 = 0 }; port = 0 }) in
     let traced = c.step_traced-traced in
     let start = c.args.machine.now in
     let now = c.loop-input.machine in
     let next = traced.new.machine in
     let at_hand = drop_more inputs index _ c.loop-input-test.true in
-    let runs = more_steps start inputs c.loop-input.ran now next (drop index inputs) (drop (index + 1) inputs) input
+    let runs =
+    more_steps start inputs c.loop-input.ran now next (drop index inputs) (drop (index + 1) inputs) input
     traced.result.told c.loop-input.invariant.0 at_hand traced.ensures.step c.in_default.not-Stopped in
-    let line : Adds (IsTraceLine traced.result) (string_bytes c.loop-input.out) (string_bytes c.write_trace.new.out) = search rules in
-    let told = text_goes start inputs now next (drop index inputs) (drop (index + 1) inputs) input traced.result at_hand traced.ensures.step
-    (string_bytes c.args.out.now) (string_bytes c.loop-input.out) (string_bytes c.write_trace.new.out) traced.ensures.word c.in_default.not-Stopped c.loop-input.invariant.1 line in
-    let stretched : c.from.result ≡ now.profile.burst * input.bursts = c.from.ensures ∙ c.burst_ticks-stretched.ensures.ticks ∙ ap (λ (p : Profile). p.burst * input.bursts) c.profile.ensures in
+    let old = string_bytes c.loop-input.out in
+    let line : Adds (IsTraceLine traced.result) old (string_bytes c.write_trace.new.out) = search rules in
+    let told =
+    text_goes start inputs now next (drop index inputs)
+    (drop (index + 1) inputs) input traced.result at_hand traced.ensures.step
+    (string_bytes c.args.out.now) (string_bytes c.loop-input.out)
+    (string_bytes c.write_trace.new.out) traced.ensures.word c.in_default.not-Stopped
+    c.loop-input.invariant.1 line in
+    let stretched : c.from.result ≡ now.profile.burst * input.bursts =
+    c.from.ensures ∙ c.burst_ticks-stretched.ensures.ticks
+    ∙ ap (λ (p : Profile). p.burst * input.bursts) c.profile.ensures in
     let same = c.from-ticks.ensures in
     let again = c.from.ensures in
     let bound = traced.ensures.bound in
@@ -54,9 +68,14 @@ loop-input-preserved c =
     let spent = c.loop-input.invariant.4 in
     let passed = c.loop-input.invariant.5 in
     let here = take_more inputs index _ c.loop-input-test.true in
-    let front = front_runs start inputs index now next input traced.result here traced.ensures.step c.in_default.not-Stopped c.loop-input.ran c.loop-input.invariant.6 in
-    let front_text = front_told start inputs index now next input traced.result here traced.ensures.step c.in_default.not-Stopped
-    (string_bytes c.args.out.now) (string_bytes c.loop-input.out) (string_bytes c.write_trace.new.out) traced.ensures.word c.loop-input.invariant.7 line in (
+    let front =
+    front_runs start inputs index now next input traced.result here traced.ensures.step
+    c.in_default.not-Stopped c.loop-input.ran c.loop-input.invariant.6 in
+    let front_text =
+    front_told start inputs index now next input traced.result here traced.ensures.step
+    c.in_default.not-Stopped
+    (string_bytes c.args.out.now) (string_bytes c.loop-input.out)
+    (string_bytes c.write_trace.new.out) traced.ensures.word c.loop-input.invariant.7 line in (
       rw (same, stretched) runs,
       told,
       c.loop-input.invariant.2,
@@ -71,22 +90,28 @@ pub returns-clause-runs : goal.returns-clause-runs
 returns-clause-runs c =
     let left = drop c.loop-input.input-index c.args.inputs.now in
     at_end c.args.machine.now c.args.inputs.now c.loop-input.ran c.loop-input.machine left
-    c.loop-input.invariant.0 (drop_of_length-le c.args.inputs.now c.loop-input-test.false) c.loop-input.invariant.2
+    c.loop-input.invariant.0 (drop_of_length-le c.args.inputs.now c.loop-input-test.false)
+    c.loop-input.invariant.2
 
 pub returns-clause-text : goal.returns-clause-text
 returns-clause-text c =
     let left = drop c.loop-input.input-index c.args.inputs.now in
-    text_ends c.args.machine.now c.args.inputs.now c.loop-input.machine left (string_bytes c.args.out.now) (string_bytes c.loop-input.out) c.loop-input.invariant.1 (drop_of_length-le c.args.inputs.now c.loop-input-test.false)
+    text_ends c.args.machine.now c.args.inputs.now c.loop-input.machine left (string_bytes c.args.out.now)
+    (string_bytes c.loop-input.out) c.loop-input.invariant.1
+    (drop_of_length-le c.args.inputs.now c.loop-input-test.false)
 
 pub returns-in_err-write_trace-clause-refused : goal.returns-in_err-write_trace-clause-refused
 returns-in_err-write_trace-clause-refused c =
     let inputs = c.args.inputs.now in
     let index = c.loop-input.input-index in
-    let input : Input = slice_index_or inputs index (record { bursts = 0; lines = record { 0 = 0 }; port = 0 }) in
+    let input : Input =
+    slice_index_or inputs index (record { bursts = 0; lines = record { 0 = 0 }; port = 0 }) in
     let traced = c.step_traced-traced in
     let here = take_more inputs index _ c.loop-input-test.true in
     let left = drop_more inputs index _ c.loop-input-test.true in
-    let law = run_refused c.args.machine.now inputs index c.loop-input.machine traced.new.machine input traced.result
+    let law =
+    run_refused c.args.machine.now inputs index c.loop-input.machine traced.new.machine input
+    traced.result
     here traced.ensures.step c.in_default.not-Stopped (drop (index + 1) inputs) c.loop-input.ran in
     on_err c.from_residual.result _
     (law (string_bytes c.args.out.now) (string_bytes c.loop-input.out) (string_bytes c.write_trace.new.out)

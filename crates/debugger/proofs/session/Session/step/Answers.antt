@@ -10,15 +10,26 @@ pub returns-then-ran-eq0-clause-err : goal.returns-then-ran-eq0-clause-err
 returns-then-ran-eq0-clause-err c =
     let s = c.self.inside in
     let ran = c.run_watched-ran in
-    let stopped = still [] s.machine s.next c.args.steps ran.ensures.0 ran.result ran.new.machine (omega (arith, c.requires)) ran.ensures.1 c.if-ran-eq0.true in
+    let stopped =
+    still [] s.machine s.next c.args.steps ran.ensures.0 ran.result ran.new.machine
+    (omega (arith, c.requires)) ran.ensures.1 c.if-ran-eq0.true in
     inr (refl, rw (← c.self.view_is) stopped.1)
 
 pub returns-then-ran-eq0-clause-unchanged : goal.returns-then-ran-eq0-clause-unchanged
 returns-then-ran-eq0-clause-unchanged c =
     let s = c.self.inside in
     let ran = c.run_watched-ran in
-    let stopped = still [] s.machine s.next c.args.steps ran.ensures.0 ran.result ran.new.machine (omega (arith, c.requires)) ran.ensures.1 c.if-ran-eq0.true in
-    let with_machine : State → SessionState = λ m. record { machine = m; breaks = s.breaks.items; next = s.next; ticks = s.ticks; elapsed = s.elapsed } in
+    let stopped =
+    still [] s.machine s.next c.args.steps ran.ensures.0 ran.result ran.new.machine
+    (omega (arith, c.requires)) ran.ensures.1 c.if-ran-eq0.true in
+    let with_machine : State → SessionState =
+    λ m. record {
+      machine = m;
+      breaks = s.breaks.items;
+      next = s.next;
+      ticks = s.ticks;
+      elapsed = s.elapsed;
+    } in
     rw (← c.self.view_is) (ap with_machine stopped.0)
 
 pub returns-clause-ok : goal.returns-clause-ok
@@ -28,5 +39,7 @@ returns-clause-ok c =
     let inputs = inputs_of s.next c.args.steps in
     let some : 0 < ran.result.steps = omega (arith, c.if-ran-eq0.false) in
     let runs = run_of_watch s.machine inputs ran.ensures.0 ran.result ran.new.machine ran.ensures.1 in
-    let text = subst (TracesRun s.machine inputs) (sym ran.ensures.2) (text_of_watch s.machine inputs ran.ensures.0 ran.result ran.new.machine ran.ensures.1) in
+    let text =
+    subst (TracesRun s.machine inputs) (sym ran.ensures.2)
+    (text_of_watch s.machine inputs ran.ensures.0 ran.result ran.new.machine ran.ensures.1) in
     rw (← c.self.view_is) (ran.result, ran.new.machine, runs, some, text, c.settle.ensures)
