@@ -154,7 +154,7 @@ fn fiq_in_an_irq_handler(rt: HostRuntime) -> Result<(), Fail> {
     )?;
     machine.set(Reg::R15, 0x0800_8002);
     machine.set(Reg::R14Irq, 0x1010);
-    machine.ioc_mut().write(0x320_0038, 1);
+    machine.ioc_mut().write(0x320_0038, 0x1_0000);
     let mut total = 0u32;
     for (n, (from, ticks)) in WITH_ONE_FIQ.iter().enumerate() {
         let lines = if n == 1 { Lines::F0 } else { Lines::empty() };
