@@ -35,6 +35,7 @@ mod word;
 pub use law::lines_are_spelled;
 pub use lines::{Line, first_line, read_line};
 pub use names::{Head, Suffix, cond_letters, opcode_letters};
+pub use number::{read_hex, read_number};
 pub use said::{
     Action, Address, Amount, BlockTransfer, Code, Data, Distance, Operand, Product, Reference,
     Shifting, Statement, Transfer, Use, Value,

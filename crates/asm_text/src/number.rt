@@ -37,7 +37,7 @@ fn number(radix: u32, text: &[u8]) -> Option<u32>
 }
 
 /// The number that a run of letters and digits spells: decimal, or hexadecimal after `0x`, below 2^32.
-pub(crate) fn read_number(text: &[u8]) -> Option<u32>
+pub fn read_number(text: &[u8]) -> Option<u32>
     ensures { result ≡ run_number text.now }
 {
     match text {
@@ -47,7 +47,7 @@ pub(crate) fn read_number(text: &[u8]) -> Option<u32>
 }
 
 /// The number that hexadecimal digits spell, below 2^32.
-pub(crate) fn read_hex(text: &[u8]) -> Option<u32>
+pub fn read_hex(text: &[u8]) -> Option<u32>
     ensures { result ≡ number_by 16 text.now }
 {
     number(16, text)

@@ -1,4 +1,4 @@
--- What each command answers and what it leaves, and when it is refused (our own).
+-- What each command answers and what it leaves, and when it is refused.
 use Rattle.std.specs.Prelude.{◌≡◌, ◌⊎◌, ℕ, ◌+◌, ◌*◌, ◌<◌, ◌≤◌, Bool, true, false, if◌then◌else◌, List, []}
 use Rattle.std.specs.Prelude.{◌∷◌, ◌++◌, codes, length, Option, Some, None, Ok, Err, is_some}
 use Rattle.std.specs.Int.RustNames.{bit_or}

@@ -1,4 +1,4 @@
--- The commands of a session and how a line says them (our own format).
+-- The commands of a session and how a line says them.
 use Rattle.std.specs.Prelude.{◌==◌, ◌&&◌, ◌+◌, ◌-◌, ◌*◌, ◌%◌, ◌^◌, ◌≤◌, nat_le, ℕ, Bool, true, false, List}
 use Rattle.std.specs.Prelude.{[], ◌∷◌, codes, Option, Some, None, Result, Ok, Err, if◌then◌else◌, option_map}
 use Rattle.std.specs.Str.{bytes_eq}

@@ -1,4 +1,4 @@
--- A whole session (our own format).
+-- A whole session.
 use Rattle.std.specs.Prelude.{◌≡◌, ◌⊎◌, ℕ, Bool, true, false, List, [], ◌∷◌, ◌++◌, codes}
 use Rattle.std.specs.Str.{bytes_eq}
 use Rattle.debugger.specs.declared.fault.DebugFault.{DebugFault}

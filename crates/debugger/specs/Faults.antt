@@ -1,4 +1,4 @@
--- The names of the refusals (our own).
+-- The names of the refusals.
 use Rattle.std.specs.Prelude.{ℕ, List, codes}
 use Rattle.debugger.specs.declared.fault.DebugFault.{DebugFault}
 use Rattle.debugger.specs.declared.fault.DebugFault.TheVariants.{Memory, UnknownCommand, BadNumber, NoPage}

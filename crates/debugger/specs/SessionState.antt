@@ -1,4 +1,4 @@
--- What a session holds (our own).
+-- What a session holds.
 use Rattle.std.specs.Prelude.{◌==◌, ◌+◌, ◌-◌, ◌^◌, ◌<◌, min, nat_lt, ℕ, List, [], ◌∷◌, if◌then◌else◌}
 use Rattle.arm2_exec.specs.declared.machine.Input.{Input}
 use Rattle.arm2_exec.specs.declared.machine.Ran.{Ran}

@@ -1,4 +1,4 @@
--- A run of the machine that is watched: the line of each step, and an end at a breakpoint (our own).
+-- A run of the machine that is watched: the line of each step, and an end at a breakpoint.
 use Rattle.std.specs.Prelude.{◌≡◌, ◌+◌, ◌*◌, ◌≤◌, ℕ, zero, suc, Bool, true, false, List, [], ◌∷◌, ◌++◌, ◌==◌}
 use Rattle.std.specs.Prelude.{Option, Some, None}
 use Rattle.std.specs.List.{list_any}

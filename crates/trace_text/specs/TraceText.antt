@@ -1,4 +1,4 @@
--- What a machine shows as text (our own format).
+-- What a machine shows as text.
 use Rattle.std.specs.Prelude.{◌≡◌, ℕ, ◌+◌, ◌-◌, List, [], ◌∷◌, ◌++◌, codes, decimal, length, replicate}
 use Rattle.std.specs.Prelude.{Option, Some, None}
 use Rattle.arm2_effect.specs.declared.done.Kind.{Kind}
