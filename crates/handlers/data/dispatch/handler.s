@@ -82,7 +82,7 @@ hush     STRB   R2,[R1,#4]
 which    STRB   R3,[R12,#2]
          MOV    PC,R14
 
-; A MIDI interface has a byte, which goes behind those that have come.
+; A MIDI interface has a byte, which goes after those that have come.
 midi     LDRB   R0,[R1,#8]
 place    LDR    R2,[R12,#&10]
 queue    STRB   R0,[R2],#1
