@@ -1,73 +1,102 @@
 ghost use Rattle.std.specs.Prelude.{◌≡◌};
 
+use assembler::assemble;
 use bus_ticks::Profile;
 use flow_graph::{Graph, Place, Statement, build, read_statement};
-use loader::{Image, Labels};
 use loop_bounds::{Instance, Instances, LoopTree, nest};
 use numbered_walks::{NumberedEdge, Span};
 use std::alloc::{AllocError, Global};
 use std::test::Fail;
 
-// A loop as a statement's text has it: header, first, last and bound.
-type Stated = (u32, u32, u32, u32);
-
-// The graph of words from 8000 on, and the statement with these loops.
-fn graph_of(alloc: Global, words: &[u32], loops: &[Stated]) -> Result<(Graph, Statement), Fail> {
-    let mut image = Image::new(alloc);
-    let mut address = 0x8000;
-    for word in words {
-        image.put(alloc, address, *word)?;
-        address = u32::wrapping_add(address, 4);
-    }
-    let mut text = format!(in alloc; "entry = 0x8000\n")?;
-    for (header, first, last, bound) in loops {
-        let one = format!(in alloc;
-            "[[loop]]\nheader = {header}\nfirst = {first}\nlast = {last}\nbound = {bound}\n"
-        )?;
-        text.push_str(&one)?;
-    }
-    let statement = read_statement(alloc, text.as_bytes(), &Labels::new(alloc))?;
-    let graph = build(alloc, &image, &statement, &Profile::one())?;
+fn graph_of(alloc: Global, source: &[u8], statement: &[u8]) -> Result<(Graph, Statement), Fail> {
+    let said = assemble(alloc, source)?;
+    let statement = read_statement(alloc, statement, &said.labels)?;
+    let graph = build(alloc, &said.image, &statement, &Profile::one())?;
     Ok((graph, statement))
 }
 
-fn tree_of(alloc: Global, words: &[u32], loops: &[Stated]) -> Result<LoopTree, Fail> {
-    let (graph, statement) = graph_of(alloc, words, loops)?;
+fn tree_of(alloc: Global, source: &[u8], statement: &[u8]) -> Result<LoopTree, Fail> {
+    let (graph, statement) = graph_of(alloc, source, statement)?;
     Ok(nest(alloc, &graph, &statement)?)
 }
 
-fn instances_of(alloc: Global, words: &[u32], loops: &[Stated]) -> Result<Instances, Fail> {
-    let (graph, statement) = graph_of(alloc, words, loops)?;
+fn instances_of(alloc: Global, source: &[u8], statement: &[u8]) -> Result<Instances, Fail> {
+    let (graph, statement) = graph_of(alloc, source, statement)?;
     let tree = nest(alloc, &graph, &statement)?;
     Ok(tree.nested(alloc, &graph)?)
 }
 
-// MOV R1,#2; MOV R0,#3; SUBS R0,R0,#1; BNE 8008; SUBS R1,R1,#1; BNE 8004; SUBS PC,R14,#4
-const NESTED_COUNTDOWN: [u32; 7] = [
-    0xE3A0_1002,
-    0xE3A0_0003,
-    0xE250_0001,
-    0x1AFF_FFFD,
-    0xE251_1001,
-    0x1AFF_FFFA,
-    0xE25E_F004,
-];
+const NO_LOOPS: &[u8] = b"entry = 0x8000";
 
-const NESTED_LOOPS: [Stated; 2] = [(0x8004, 0x8004, 0x8014, 1), (0x8008, 0x8008, 0x800C, 2)];
+const NESTED_COUNTDOWN: &[u8] = b"
+        MOV  R1,#2
+outer   MOV  R0,#3
+inner   SUBS R0,R0,#1
+again   BNE  inner
+        SUBS R1,R1,#1
+last    BNE  outer
+        SUBS PC,R14,#4
+";
 
-// 8000: BL 8010; BL 8010; SUBS PC,R14,#4; 8010: SUBS R0,R0,#1; BNE 8010; MOV PC,R14. Each call has its own
-// instance.
-const CALLED_TWICE: [u32; 7] = [
-    0xEB00_0002,
-    0xEB00_0001,
-    0xE25E_F004,
-    0,
-    0xE250_0001,
-    0x1AFF_FFFD,
-    0xE1A0_F00E,
-];
+const NESTED_LOOPS: &[u8] = b"entry = 0x8000
+loop = [
+  {header = \"outer\", first = \"outer\", last = \"last\", bound = 1},
+  {header = \"inner\", first = \"inner\", last = \"again\", bound = 2},
+]";
 
-const CALLED_LOOP: [Stated; 1] = [(0x8010, 0x8010, 0x8014, 5)];
+// Each call has its own instance of the routine's loop.
+const CALLED_TWICE: &[u8] = b"
+        BL   wait
+        BL   wait
+        SUBS PC,R14,#4
+        DCD  0
+wait    SUBS R0,R0,#1
+again   BNE  wait
+        MOV  PC,R14
+";
+
+const CALLED_LOOP: &[u8] = b"entry = 0x8000
+loop = [{header = \"wait\", first = \"wait\", last = \"again\", bound = 5}]";
+
+// Both ways meet at the return, and there is one order.
+const BRANCH: &[u8] = b"
+        SUBS R0,R0,#1
+        BEQ  out
+        MOV  R0,#3
+out     SUBS PC,R14,#4
+";
+
+// The routine's place is a member of the loop.
+const CALL_IN_A_LOOP: &[u8] = b"
+start   BL   routine
+        SUBS R0,R0,#1
+again   BNE  start
+        SUBS PC,R14,#4
+routine MOV  PC,R14
+";
+
+const LOOP_WITH_A_CALL: &[u8] = b"entry = 0x8000
+loop = [{header = \"start\", first = \"start\", last = \"again\", bound = 3}]";
+
+const SIDE_BY_SIDE: &[u8] = b"
+        MOV  R1,#2
+outer   MOV  R0,#3
+one     SUBS R0,R0,#1
+again   BNE  one
+        MOV  R0,#3
+other   SUBS R0,R0,#1
+turn    BNE  other
+        SUBS R1,R1,#1
+last    BNE  outer
+        SUBS PC,R14,#4
+";
+
+const THREE_LOOPS: &[u8] = b"entry = 0x8000
+loop = [
+  {header = \"other\", first = \"other\", last = \"turn\", bound = 3},
+  {header = \"outer\", first = \"outer\", last = \"last\", bound = 1},
+  {header = \"one\", first = \"one\", last = \"again\", bound = 2},
+]";
 
 fn span(header: usize, last: usize, bound: u32) -> Span {
     Span {
@@ -80,47 +109,31 @@ fn span(header: usize, last: usize, bound: u32) -> Span {
 #[test]
 fn orders_and_spans(rt: HostRuntime) -> Result<(), Fail> {
     let alloc = rt.alloc();
-    // SUBS R0,R0,#1; BEQ 800C; MOV R0,#3; SUBS PC,R14,#4: both ways meet at 800C, and there is one order.
-    let branch = [0xE250_0001, 0x0A00_0000, 0xE3A0_0003, 0xE25E_F004];
-    // 8000: BL 8010; SUBS R0,R0,#1; BNE 8000; SUBS PC,R14,#4; 8010: MOV PC,R14. The function's place is a
-    // member.
-    let call_in_a_loop = [
-        0xEB00_0002,
-        0xE250_0001,
-        0x1AFF_FFFC,
-        0xE25E_F004,
-        0xE1A0_F00E,
-    ];
-    for (words, loops, order, spans) in [
+    for (source, statement, order, spans) in [
+        (BRANCH, NO_LOOPS, [0, 1, 2, 3, 4].as_slice(), [].as_slice()),
         (
-            branch.as_slice(),
-            [].as_slice(),
-            [0, 1, 2, 3, 4].as_slice(),
-            [].as_slice(),
-        ),
-        (
-            &NESTED_COUNTDOWN,
-            &NESTED_LOOPS,
+            NESTED_COUNTDOWN,
+            NESTED_LOOPS,
             &[0, 1, 2, 3, 4, 5, 6, 7],
             &[span(2, 3, 2), span(1, 5, 1)],
         ),
         (
-            &call_in_a_loop,
-            &[(0x8000, 0x8000, 0x8008, 3)],
+            CALL_IN_A_LOOP,
+            LOOP_WITH_A_CALL,
             &[0, 4, 1, 2, 3, 5],
             &[span(0, 3, 3)],
         ),
         (
-            &CALLED_TWICE,
-            &CALLED_LOOP,
+            CALLED_TWICE,
+            CALLED_LOOP,
             &[0, 3, 4, 5, 1, 6, 7, 8, 2, 9],
             &[span(1, 2, 5), span(5, 6, 5)],
         ),
     ] {
-        let tree = tree_of(alloc, words, loops)?;
+        let tree = tree_of(alloc, source, statement)?;
         assert_eq!(rt; (tree.order(), tree.spans()), (order, spans));
     }
-    let tree = tree_of(alloc, &branch, &[])?;
+    let tree = tree_of(alloc, BRANCH, NO_LOOPS)?;
     let wanted = [(0, 1, 1), (1, 2, 1), (1, 3, 5), (2, 3, 2), (3, 4, 9)].map(|(
         from,
         to,
@@ -130,19 +143,26 @@ fn orders_and_spans(rt: HostRuntime) -> Result<(), Fail> {
     Ok(())
 }
 
-// 16 times MOVNV R0,R0, 16 BNE, each to the MOVNV before that of the one before, and SUBS PC,R14,#4, with a
-// loop round each pair.
+// A loop in a loop and so on: each BNE leads to the MOVNV before that of the one before.
 #[test]
 fn sixteen_deep(rt: HostRuntime) -> Result<(), Fail> {
     let alloc = rt.alloc();
-    let mut words = vec![in alloc; 0xF1A0_0000u32; 16]?;
-    let mut loops = Vec::new(alloc);
-    for j in 0u32..16 {
-        words.push(0x1AFF_FFFD - 2 * j)?;
-        loops.push((0x8000 + 4 * j, 0x8000 + 4 * j, 0x8000 + 4 * (31 - j), 7))?;
+    let mut source = String::new(alloc);
+    let mut statement = String::from_str(alloc, "entry = 0x8000\n")?;
+    for _ in 0..16 {
+        source.push_str(" MOVNV R0,R0\n")?;
     }
-    words.push(0xE25E_F004)?;
-    let tree = tree_of(alloc, &words, &loops)?;
+    for j in 0u32..16 {
+        let (first, last) = (0x803C - 4 * j, 0x8040 + 4 * j);
+        let branch = format!(in alloc; " BNE {first}\n")?;
+        source.push_str(&branch)?;
+        let one = format!(in alloc;
+            "[[loop]]\nheader = {first}\nfirst = {first}\nlast = {last}\nbound = 7\n"
+        )?;
+        statement.push_str(&one)?;
+    }
+    source.push_str(" SUBS PC,R14,#4\n")?;
+    let tree = tree_of(alloc, source.as_bytes(), statement.as_bytes())?;
     let spans = (tree.spans().len(), tree.spans().first().copied());
     assert_eq!(rt; spans, (16, Some(span(15, 16, 7))));
     Ok(())
@@ -183,29 +203,10 @@ fn flat(alloc: Global, instances: &Instances) -> Result<Vec<u64>, AllocError> {
 #[test]
 fn instances(rt: HostRuntime) -> Result<(), Fail> {
     let alloc = rt.alloc();
-    // MOV R1,#2; 8004: MOV R0,#3; SUBS R0,R0,#1; BNE 8008; MOV R0,#3; SUBS R0,R0,#1; BNE 8014; SUBS
-    // R1,R1,#1; BNE 8004; SUBS PC,R14,#4
-    let side_by_side = [
-        0xE3A0_1002,
-        0xE3A0_0003,
-        0xE250_0001,
-        0x1AFF_FFFD,
-        0xE3A0_0003,
-        0xE250_0001,
-        0x1AFF_FFFD,
-        0xE251_1001,
-        0x1AFF_FFF7,
-        0xE25E_F004,
-    ];
-    let three_loops = [
-        (0x8014, 0x8014, 0x8018, 3),
-        (0x8004, 0x8004, 0x8020, 1),
-        (0x8008, 0x8008, 0x800C, 2),
-    ];
-    for (words, loops, wanted) in [
+    for (source, statement, wanted) in [
         (
-            NESTED_COUNTDOWN.as_slice(),
-            NESTED_LOOPS.as_slice(),
+            NESTED_COUNTDOWN,
+            NESTED_LOOPS,
             [
                 0x8004, 1, 0x8004, 0x8008, 0x800C, 0x8010, 0x8014, 1, // outside
                 0x8008, 2, 0x8008, 0x800C, 0, // inside
@@ -213,8 +214,8 @@ fn instances(rt: HostRuntime) -> Result<(), Fail> {
             .as_slice(),
         ),
         (
-            &side_by_side,
-            &three_loops,
+            SIDE_BY_SIDE,
+            THREE_LOOPS,
             &[
                 0x8004, 1, 0x8004, 0x8008, 0x800C, 0x8010, 0x8014, 0x8018, 0x801C, 0x8020, 2,
                 0x8008, 2, 0x8008, 0x800C, 0, // one inside
@@ -222,15 +223,15 @@ fn instances(rt: HostRuntime) -> Result<(), Fail> {
             ],
         ),
         (
-            &CALLED_TWICE,
-            &CALLED_LOOP,
+            CALLED_TWICE,
+            CALLED_LOOP,
             &[
                 0x8000, 0x8010, 5, 0x8000, 0x8010, 0x8000, 0x8014, 0, // of the first call
                 0x8004, 0x8010, 5, 0x8004, 0x8010, 0x8004, 0x8014, 0, // and of the second
             ],
         ),
     ] {
-        let instances = instances_of(alloc, words, loops)?;
+        let instances = instances_of(alloc, source, statement)?;
         assert_eq!(rt; flat(alloc, &instances)?.as_slice(), wanted);
     }
     Ok(())

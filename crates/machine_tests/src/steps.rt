@@ -5,7 +5,7 @@ use bitflags::Flags;
 use bus_ticks::Profile;
 use ioc::Lines;
 use loader::load;
-use memc::{Memc, PageSize, Spot};
+use memc::PageSize;
 use std::alloc::Global;
 use std::test::Fail;
 
@@ -20,24 +20,11 @@ fn quiet() -> Input {
     }
 }
 
-fn put(memc: &mut Memc, address: u32, word: u32) {
-    if let Ok(Spot::Ram(place)) = memc.locate(address % 0x400_0000, false, true) {
-        memc.store(Spot::Ram(place), word);
-    }
-}
-
-// In SVC mode with IRQ and FIQ masked, at an address, with words there.
-fn machine_at(
-    alloc: Global,
-    size: PageSize,
-    address: u32,
-    words: [u32; 2],
-) -> Result<Machine, Fail> {
+// In SVC mode with IRQ and FIQ masked, at an address, with a source's words.
+fn machine_at(alloc: Global, size: PageSize, address: u32, source: &[u8]) -> Result<Machine, Fail> {
     let mut machine = Machine::new(alloc, size, Profile::one())?;
     machine.set(Reg::R15, SVC | address);
-    let [first, second] = words;
-    put(machine.memc_mut(), address, first);
-    put(machine.memc_mut(), address.wrapping_add(4), second);
+    load(alloc, &mut machine, &assemble(alloc, source)?.image)?;
     Ok(machine)
 }
 
@@ -68,11 +55,11 @@ fn timer(machine: &mut Machine) -> u32 {
     machine.ioc().read(0x320_0040)
 }
 
-// MOV R0,#3 twice, with a burst in the first step. Timer 0 with latch 2 requests in the second step.
+// Two steps, with a burst in the first. Timer 0 with latch 2 requests in the second step.
 // VIDC's registers, of 2 pixels to a raster and 2 rasters, give a flyback each 4 ticks.
 #[test]
 fn bursts_move_the_timer_and_vidc(rt: HostRuntime) -> Result<(), Fail> {
-    let mut machine = machine_at(rt.alloc(), PageSize::K4, 0x8000, [0xE3A0_0003; 2])?;
+    let mut machine = machine_at(rt.alloc(), PageSize::K4, 0x8000, b" MOV R0,#3\n MOV R0,#3")?;
     machine.ioc_mut().write(0x320_0040, 0x2_0000);
     machine.ioc_mut().write(0x320_0048, 0);
     for word in [0x8000_0000, 0xA000_4000, 0xB000_0000, 0xE000_0000] {
@@ -96,11 +83,16 @@ fn bursts_move_the_timer_and_vidc(rt: HostRuntime) -> Result<(), Fail> {
     Ok(())
 }
 
-// STR R1,[R0] to MEMC's page tables, whose pages are of 32 KB: A2, which rises in the step that stops, is
+// A store to MEMC's page tables, whose pages are of 32 KB: A2, which rises in the step that stops, is
 // not latched.
 #[test]
 fn stopped_step_changes_nothing(rt: HostRuntime) -> Result<(), Fail> {
-    let mut machine = machine_at(rt.alloc(), PageSize::K32, 0x1000, [0xE580_1000, 0])?;
+    let mut machine = machine_at(
+        rt.alloc(),
+        PageSize::K32,
+        0x1000,
+        b" ORG &1000\n STR R1,[R0]",
+    )?;
     machine.set(Reg::R0, 0x380_8105);
     let told = machine.step(Input {
         bursts: 3,
@@ -145,13 +137,7 @@ const WITH_ONE_FIQ: [(u32, u32); 10] = [
 
 #[test]
 fn fiq_in_an_irq_handler(rt: HostRuntime) -> Result<(), Fail> {
-    let alloc = rt.alloc();
-    let mut machine = Machine::new(alloc, PageSize::K32, Profile::one())?;
-    load(
-        alloc,
-        &mut machine,
-        &assemble(alloc, COUNTDOWN_AND_FIQ)?.image,
-    )?;
+    let mut machine = machine_at(rt.alloc(), PageSize::K32, 0x8000, COUNTDOWN_AND_FIQ)?;
     machine.set(Reg::R15, 0x0800_8002);
     machine.set(Reg::R14Irq, 0x1010);
     machine.ioc_mut().write(0x320_0038, 0x1_0000);
