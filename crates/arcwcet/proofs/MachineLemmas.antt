@@ -6,7 +6,7 @@ use Rattle.std.proofs.lemmas.Bool.{cases_lt}
 use Rattle.std.proofs.lemmas.List.{ext_get_or}
 use Rattle.bus_ticks.specs.declared.profile.Profile.{Profile}
 use Rattle.toml.specs.Data.{Members}
-use Rattle.toml_reading.specs.Documents.{IsDocument, IsNoDocument}
+use Rattle.toml_reading.proofs.Unique.{one_answer}
 use Rattle.arm2_exec.specs.State.{State}
 use Rattle.loader.specs.Image.{Words}
 use Rattle.loader.specs.Loading.{is_refused, lacks_page, spot_of}
@@ -34,28 +34,8 @@ use Rattle.arcwcet.specs.declared.fault.ReportFault.TheVariants as report_fault
 
 -- ## A text has one answer
 
-never_both : (text : List ℕ) (ms : Members) → IsDocument text ms → IsNoDocument text → ⊥
-never_both text ms document none =
-    let both : Some ms ≡ None = sym document.parsed ∙ none document.utf8 in
-    cc both
-
-one_document : (text : List ℕ) (ms ns : Members) → IsDocument text ms → IsDocument text ns → ms ≡ ns
-one_document text ms ns h k =
-    let both : Some ms ≡ Some ns = sym h.parsed ∙ k.parsed in
-    cc both
-
 pub one_machine_file : (text : List ℕ) (answer other : Result Stated MachineFileFault) → IsMachineFile text answer → IsMachineFile text other → answer ≡ other
-one_machine_file text answer other h k =
-    ⊎_elim
-    (λ m. ⊎_elim
-    (λ n. m.2 ∙ ap machine_in (one_document text m.0 n.0 m.1 n.1) ∙ sym n.2)
-    (λ none. absurd (never_both text m.0 m.1 none.0))
-    k)
-    (λ none. ⊎_elim
-    (λ n. absurd (never_both text n.0 n.1 none.0))
-    (λ same. none.1 ∙ sym same.1)
-    k)
-    h
+one_machine_file text answer other h k = one_answer machine_fault.NotToml machine_in text answer other h k
 
 -- ## A file states one map
 

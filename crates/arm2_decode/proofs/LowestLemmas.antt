@@ -5,10 +5,10 @@ use Rattle.std.specs.List.{list_all}
 use Rattle.std.specs.Int.Bits.{bit_and}
 use Rattle.std.proofs.lemmas.Bool.Decides.{nat_tests}
 use Rattle.std.proofs.lemmas.List.Elements.{Contains-get_or}
+use Rattle.std.proofs.lemmas.Bool.{eq-eqb, and_parts, eqb-true}
 use Rattle.arm2_decode.specs.declared.instr.Unallocated.{Unallocated}
 use Rattle.arm2_decode.specs.declared.instr.Instr.{Instr}
 use Rattle.arm2_decode.specs.Table.{Bar, bars, why_from, Decodes, IsBarred, IsLowestBar, IsUnallocated}
-use Rattle.arm2_decode.proofs.PatternLemmas.{eqb_same, eqb_means, and_both}
 
 -- the word meets the bar
 meets : ℕ → Bar → Bool
@@ -32,15 +32,15 @@ leb_means x y h = grind (arith, nat_tests)
 
 all_at : (why : ℕ) (list : List Bar) (k : ℕ) (d : Bar) → k < length list → list_all (λ b. leb why b.why) list ≡ true → why ≤ (get_or list k d).why
 all_at why [] k d room e = absurd (omega arith)
-all_at why (bar ∷ rest) zero d room e = let here = and_both (leb why bar.why) (list_all (λ b. leb why b.why) rest) e in leb_means why bar.why here.0
-all_at why (bar ∷ rest) (suc k) d room e = let later = and_both (leb why bar.why) (list_all (λ b. leb why b.why) rest) e in all_at why rest k d (omega arith) later.1
+all_at why (bar ∷ rest) zero d room e = let here = and_parts (leb why bar.why) (list_all (λ b. leb why b.why) rest) e in leb_means why bar.why here.0
+all_at why (bar ∷ rest) (suc k) d room e = let later = and_parts (leb why bar.why) (list_all (λ b. leb why b.why) rest) e in all_at why rest k d (omega arith) later.1
 
 first_lowest : (w : ℕ) (list : List Bar) (k : ℕ) (d : Bar) → k < length list → meets w (get_or list k d) ≡ true → rises list ≡ true → why_from list w ≤ (get_or list k d).why
 unfolding rises
 first_lowest w [] k d room met e = absurd (omega arith)
 first_lowest w (bar ∷ rest) zero d room met e = omega (arith, is_met w bar rest met)
 first_lowest w (bar ∷ rest) (suc k) d room met e =
-    let parts = and_both (list_all (λ b. leb bar.why b.why) rest) (rises rest) e in
+    let parts = and_parts (list_all (λ b. leb bar.why b.why) rest) (rises rest) e in
     elim (meets w bar) as (λ b. meets w bar ≡ b → why_from (bar ∷ rest) w ≤ (get_or rest k d).why) [
       | true ↦ λ here. omega (arith, is_met w bar rest here, all_at bar.why rest k d (omega arith) parts.0)
       | false ↦ λ past. omega (arith, unmet w bar rest past, first_lowest w rest k d (omega arith) met parts.1)
@@ -67,12 +67,12 @@ no_bar = record { why = 0; mask = 0; fixed = 0; test = λ w. false }
 barred_at : (w : ℕ) (d : Bar) (k : ℕ) (why : ℕ) → k < length bars → meets w (get_or bars k d) ≡ true → (get_or bars k d).why ≡ why → IsBarred w why
 unfolding meets
 barred_at w d k why room met e =
-    let parts = and_both (eqb (bit_and w (get_or bars k d).mask) (get_or bars k d).fixed) ((get_or bars k d).test w) met in
-    record { bar = get_or bars k d; of_table = Contains-get_or bars k d room; numbered = e; fixed = eqb_means _ _ parts.0; met = parts.1 }
+    let parts = and_parts (eqb (bit_and w (get_or bars k d).mask) (get_or bars k d).fixed) ((get_or bars k d).test w) met in
+    record { bar = get_or bars k d; of_table = Contains-get_or bars k d room; numbered = e; fixed = eqb-true _ _ parts.0; met = parts.1 }
 
 met_by : (w : ℕ) (bar : Bar) → bit_and w bar.mask ≡ bar.fixed → bar.test w ≡ true → meets w bar ≡ true
 unfolding meets
-met_by w bar f t = rw (eqb_same _ _ f, t) refl
+met_by w bar f t = rw (eq-eqb _ _ f, t) refl
 
 all_rise : rises bars ≡ true
 unfolding rises

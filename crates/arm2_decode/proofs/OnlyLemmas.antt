@@ -8,7 +8,7 @@ use Rattle.arm2_decode.specs.declared.instr.Operation.{Operation}
 use Rattle.arm2_decode.specs.declared.instr.Operation.TheVariants.{Multiply, DataRegister, DataRegisterShift, DataImmediate, SingleImmediate, SingleRegister, Block, Branch, Swi, UndefinedTransfer, CoprocessorTransfer, Coprocessor}
 use Rattle.arm2_decode.specs.Names.{cond_number}
 use Rattle.arm2_decode.specs.Allowed.{block_clash, data_clash, data_shift_clash, multiply_clash, single_clash, single_register_clash}
-use Rattle.arm2_decode.specs.Table.{Row, row_of, operands, place_of, IsOfRow, Means, why_of, Decodes, multiply_row, data_register_row, data_register_shift_row, data_immediate_row, single_immediate_row, single_register_row, block_row, branch_row, swi_row, undefined_transfer_row, coprocessor_transfer_row, coprocessor_row}
+use Rattle.arm2_decode.specs.Table.{Row, row_of, operands, place_of, IsOfRow, Means, why_of, Decodes, multiply_row, data_register_row, data_register_shift_row, data_immediate_row, single_immediate_row, single_register_row, block_row, branch_row, swi_row, undefined_transfer_row, coprocessor_transfer_row, coprocessor_row, word_in}
 use Rattle.arm2_decode.proofs.NameLemmas.{same_cond}
 use Rattle.arm2_decode.proofs.FieldLemmas.{mask_kind, mask_wide, mask_multiply, mask_four, mask_seven_four}
 use Rattle.arm2_decode.proofs.PatternLemmas.{agrees, first_fit, first_fit_at}
@@ -95,15 +95,9 @@ pub decode_only : (w : ℕ) (i : Instr) (r : Result Instr Unallocated) → Decod
 decode_only w i (Ok j) h m = ap Ok (one_meaning w j i h m)
 decode_only w i (Err u) h m = absurd (omega (arith, h.why, h.some, allowed w (cond_number i.cond) i.operation m))
 
--- fields at their places, together
-laid : List (ℕ × ℕ) → List ℕ → ℕ
-laid [] fields = 0
-laid (place ∷ places) [] = 0
-laid (place ∷ places) (field ∷ fields) = field * 2 ^ place.1 + laid places fields
-
 -- a word is its fixed bits and its fields
-word_laid : (w : ℕ) (o : Operation) → w < 2 ^ 32 → bit_and w (row_of o).mask ≡ (row_of o).fixed → w ≡ (row_of o).fixed + laid (row_of o).places (map (place_of w) (row_of o).places)
-unfolding laid
+pub word_laid : (w : ℕ) (o : Operation) → w < 2 ^ 32 → bit_and w (row_of o).mask ≡ (row_of o).fixed
+    → w ≡ word_in (row_of o) (map (place_of w) (row_of o).places)
 word_laid w (Multiply x) below h = omega (arith, h, mask_multiply w)
 word_laid w (DataRegister x) below h = omega (arith, h, mask_four w)
 word_laid w (DataRegisterShift x) below h = omega (arith, h, mask_seven_four w)
@@ -120,5 +114,5 @@ word_laid w (Coprocessor x) below h = omega (arith, h, mask_wide w)
 pub one_word : (v w : ℕ) (i : Instr) → v < 2 ^ 32 → w < 2 ^ 32 → Means v i → Means w i → v ≡ w
 one_word v w i lv lw h m =
     word_laid v i.operation lv h.fixed
-    ∙ ap (λ fields. (row_of i.operation).fixed + laid (row_of i.operation).places fields) (h.fields ∙ sym m.fields)
+    ∙ ap (word_in (row_of i.operation)) (h.fields ∙ sym m.fields)
     ∙ sym (word_laid w i.operation lw m.fixed)

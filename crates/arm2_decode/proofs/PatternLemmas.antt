@@ -5,14 +5,12 @@ use Rattle.std.specs.List.{list_all}
 use Rattle.std.specs.Int.Bits.{bit_and}
 use Rattle.std.proofs.lemmas.Nat.{and_assoc, and_comm}
 use Rattle.std.proofs.lemmas.Bool.Decides.{nat_tests}
+use Rattle.std.proofs.lemmas.Bool.{eq-eqb, and_parts, not-true, eqb-true}
 use Rattle.arm2_decode.specs.Table.{Row, Bar, bars, why_from, why_of}
 
 -- two numbers that differ, as a test, and two that are the same
 pub eqb_apart : (x y : ℕ) → x ≢ y → eqb x y ≡ false
 eqb_apart x y h = grind (arith, nat_tests)
-
-pub eqb_same : (x y : ℕ) → x ≡ y → eqb x y ≡ true
-eqb_same x y h = grind (arith, nat_tests)
 
 -- two patterns agree where both masks have ones
 unfoldable pub agrees : ℕ → ℕ → ℕ → ℕ → Bool
@@ -27,29 +25,17 @@ both_fit w mask fixed other_mask other_fixed h k =
 pub never_fits : (w mask fixed other_mask other_fixed : ℕ) → bit_and w mask ≡ fixed → agrees mask fixed other_mask other_fixed ≡ false → eqb (bit_and w other_mask) other_fixed ≡ false
 unfolding agrees
 never_fits w mask fixed other_mask other_fixed h apart =
-    eqb_apart _ _ (λ k. let same : eqb (bit_and fixed other_mask) (bit_and other_fixed mask) ≡ true = eqb_same _ _ (both_fit w mask fixed other_mask other_fixed h k) in cc)
+    eqb_apart _ _ (λ k. let same : eqb (bit_and fixed other_mask) (bit_and other_fixed mask) ≡ true = eq-eqb _ _ (both_fit w mask fixed other_mask other_fixed h k) in cc)
 
 -- a pattern within another
 unfoldable pub within : ℕ → ℕ → ℕ → ℕ → Bool
 within mask fixed other_mask other_fixed = eqb (bit_and mask other_mask) other_mask && eqb (bit_and fixed other_mask) other_fixed
 
-pub and_both : (a b : Bool) → (a && b) ≡ true → (a ≡ true) × (b ≡ true)
-and_both true true e = (refl, refl)
-and_both true false e = absurd (cc)
-and_both false b e = absurd (cc)
-
-not_true : (b : Bool) → not b ≡ true → b ≡ false
-not_true true e = absurd (cc)
-not_true false e = refl
-
-pub eqb_means : (x y : ℕ) → eqb x y ≡ true → x ≡ y
-eqb_means x y h = grind (arith, nat_tests)
-
 pub fits_within : (w mask fixed other_mask other_fixed : ℕ) → bit_and w mask ≡ fixed → within mask fixed other_mask other_fixed ≡ true → eqb (bit_and w other_mask) other_fixed ≡ true
 unfolding within
 fits_within w mask fixed other_mask other_fixed h e =
-    let parts = and_both _ _ e in
-    eqb_same _ _ (ap (bit_and w) (sym (eqb_means _ _ parts.0)) ∙ sym (and_assoc other_mask w mask) ∙ ap (λ x. bit_and x other_mask) h ∙ eqb_means _ _ parts.1)
+    let parts = and_parts _ _ e in
+    eq-eqb _ _ (ap (bit_and w) (sym (eqb-true _ _ parts.0)) ∙ sym (and_assoc other_mask w mask) ∙ ap (λ x. bit_and x other_mask) h ∙ eqb-true _ _ parts.1)
 
 -- the bars that a word of the row can meet
 unfoldable pub bars_of : Row → List Bar → List Bar
@@ -73,7 +59,7 @@ why_by_tests : (row : Row) (w : ℕ) → bit_and w row.mask ≡ row.fixed → (l
 unfolding why_from first_met
 why_by_tests row w h [] e = refl
 why_by_tests row w h (bar ∷ rest) e =
-    let parts = and_both (within row.mask row.fixed bar.mask bar.fixed) (list_all (λ bar. within row.mask row.fixed bar.mask bar.fixed) rest) e in
+    let parts = and_parts (within row.mask row.fixed bar.mask bar.fixed) (list_all (λ bar. within row.mask row.fixed bar.mask bar.fixed) rest) e in
     rw (fits_within w row.mask row.fixed bar.mask bar.fixed h parts.0, why_by_tests row w h rest parts.1) refl
 
 -- why a word of the row is none of its instructions: its bars are within its pattern
@@ -89,7 +75,7 @@ first_fit (row ∷ rest) w = cond (eqb (bit_and w row.mask) row.fixed) 0 (suc (f
 pub first_fit_at : (row : Row) (w : ℕ) → bit_and w row.mask ≡ row.fixed → (list : List Row) (n : ℕ) → n < length list → slice_index_or list n row ≡ row → list_all (λ r. not (agrees row.mask row.fixed r.mask r.fixed)) (take n list) ≡ true → first_fit list w ≡ n
 unfolding first_fit
 first_fit_at row w h [] n room here e = absurd (omega arith)
-first_fit_at row w h (r ∷ rest) zero room here e = rw (here, eqb_same _ _ h) refl
+first_fit_at row w h (r ∷ rest) zero room here e = rw (here, eq-eqb _ _ h) refl
 first_fit_at row w h (r ∷ rest) (suc n) room here e =
-    let parts = and_both (not (agrees row.mask row.fixed r.mask r.fixed)) (list_all (λ r. not (agrees row.mask row.fixed r.mask r.fixed)) (take n rest)) e in
-    rw (never_fits w row.mask row.fixed r.mask r.fixed h (not_true _ parts.0)) (ap suc (first_fit_at row w h rest n (omega arith) here parts.1))
+    let parts = and_parts (not (agrees row.mask row.fixed r.mask r.fixed)) (list_all (λ r. not (agrees row.mask row.fixed r.mask r.fixed)) (take n rest)) e in
+    rw (never_fits w row.mask row.fixed r.mask r.fixed h (not-true _ parts.0)) (ap suc (first_fit_at row w h rest n (omega arith) here parts.1))

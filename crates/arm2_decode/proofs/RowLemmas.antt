@@ -2,13 +2,14 @@
 use Rattle.std.proofs.Common.{ℕ, ◌≡◌, ◌≢◌, true, false, not, ◌&&◌, refl, ap, sym, ◌∙◌, inl, inr, arith, eqb, cond, [], ◌∷◌}
 use Rattle.std.proofs.lemmas.Bool.Decides.{eqb_tells}
 use Rattle.std.specs.Int.Bits.{bit_and}
+use Rattle.std.proofs.lemmas.Bool.{eq-eqb}
 use Rattle.arm2_decode.specs.declared.names.Cond.{Cond}
 use Rattle.arm2_decode.specs.Names.{cond_number}
 use Rattle.arm2_decode.specs.Bits.{bits}
 use Rattle.arm2_decode.specs.Allowed.{block_clash, data_clash, data_shift_clash, multiply_clash, single_clash, single_register_clash}
 use Rattle.arm2_decode.specs.Table.{multiply_row, data_register_row, data_register_shift_row, data_immediate_row, single_immediate_row, single_register_row, block_row, branch_row, swi_row, undefined_transfer_row, coprocessor_transfer_row, coprocessor_row, IsOfRow, why_from, why_of, bars, stray_bar, IsUnallocated}
 use Rattle.arm2_decode.proofs.FieldLemmas.{mask_kind, mask_wide, mask_multiply, mask_four, mask_seven_four}
-use Rattle.arm2_decode.proofs.PatternLemmas.{agrees, within, bars_of, first_met, eqb_apart, eqb_same, why_among, why_of_row}
+use Rattle.arm2_decode.proofs.PatternLemmas.{agrees, within, bars_of, first_met, eqb_apart, why_among, why_of_row}
 
 -- the fixed bits of a word, by its fields
 multiply_fixed : (w : ℕ) → bits 27 22 w ≡ 0 → bits 7 4 w ≡ 9 → bit_and w 0x0FC000F0 ≡ 0x00000090
@@ -132,8 +133,8 @@ coprocessor_why w h = why_of_row coprocessor_row w h refl
 -- a multiply passes the bar of the words that only resemble one
 stray_passed : (w : ℕ) → bit_and w 0x0FC000F0 ≡ 0x00000090 → stray_bar w ≡ false
 stray_passed w h =
-    let high : eqb (bits 27 22 w) 0 ≡ true = eqb_same _ _ (omega (arith, mask_multiply w)) in
-    let low : eqb (bits 7 4 w) 9 ≡ true = eqb_same _ _ (omega (arith, mask_multiply w)) in
+    let high : eqb (bits 27 22 w) 0 ≡ true = eq-eqb _ _ (omega (arith, mask_multiply w)) in
+    let low : eqb (bits 7 4 w) 9 ≡ true = eq-eqb _ _ (omega (arith, mask_multiply w)) in
     rw (high, low) refl
 
 pub multiply_why : (w : ℕ) → bit_and w 0x0FC000F0 ≡ 0x00000090 → why_of w ≡ multiply_clash (bits 21 21 w) (bits 19 16 w) (bits 15 12 w) (bits 11 8 w) (bits 3 0 w)
@@ -152,7 +153,7 @@ not_both x y h =
 stray_why : (w : ℕ) → bit_and w 0x0E000090 ≡ 0x00000090 → stray_bar w ≡ true → why_of w ≡ 2
 unfolding why_from agrees bars_of
 stray_why w h met =
-    let here : eqb (bit_and w 0x0E000090) 0x00000090 ≡ true = eqb_same _ _ h in
+    let here : eqb (bit_and w 0x0E000090) 0x00000090 ≡ true = eq-eqb _ _ h in
     why_among (record { mask = 0x0E000090; fixed = 0x00000090; places = [] }) w h bars ∙ rw (here, met) refl
 
 pub stray_barred : (w : ℕ) (c : Cond) → bits 27 25 w ≡ 0 → bits 7 7 w ≡ 1 → bits 4 4 w ≡ 1 → (bits 27 22 w ≡ 0 → bits 7 4 w ≢ 9) → cond_number c ≡ bits 31 28 w → IsUnallocated w (record { cond = c; why = 2 })

@@ -1,6 +1,6 @@
 -- The numbers of conditions, opcodes, shifts and registers in a word (VL86C010 data sheet, instruction
 -- formats).
-use Rattle.std.specs.Prelude.{ℕ}
+use Rattle.std.specs.Prelude.{ℕ, Bool, true, false, ◌==◌}
 use Rattle.arm2_decode.specs.declared.names.Cond.{Cond}
 use Rattle.arm2_decode.specs.declared.names.Cond.TheVariants.{Eq, Ne, Cs, Cc, Mi, Pl, Vs, Vc, Hi, Ls, Ge, Lt}
 use Rattle.arm2_decode.specs.declared.names.Cond.TheVariants.{Gt, Le, Al, Nv}
@@ -49,6 +49,14 @@ opcode_number Mov = 13
 opcode_number Bic = 14
 opcode_number Mvn = 15
 
+-- TST TEQ CMP CMN, which give flags alone
+abbrev pub is_compare : Opcode → Bool
+is_compare Tst = true
+is_compare Teq = true
+is_compare Cmp = true
+is_compare Cmn = true
+is_compare _ = false
+
 abbrev pub shift_number : Shift → ℕ
 shift_number Lsl = 0
 shift_number Lsr = 1
@@ -72,3 +80,7 @@ register_number R12 = 12
 register_number R13 = 13
 register_number R14 = 14
 register_number R15 = 15
+
+-- R15 is the program counter
+abbrev pub is_pc : Register → Bool
+is_pc register = register_number register == 15

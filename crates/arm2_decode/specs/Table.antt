@@ -1,6 +1,7 @@
 -- The table of instruction words (VL86C010 data sheet, instruction formats). Which words are undefined
 -- and which unallocated is our own choice.
-use Rattle.std.specs.Prelude.{ℕ, ◌≤◌, ◌≡◌, Bool, true, not, ◌&&◌, ◌==◌, if◌then◌else◌, List, [], ◌∷◌, map}
+use Rattle.std.specs.Prelude.{ℕ, ◌+◌, ◌*◌, ◌^◌, ◌≤◌, ◌≡◌, Bool, true, not, ◌&&◌, ◌==◌, if◌then◌else◌, List, []}
+use Rattle.std.specs.Prelude.{◌∷◌, map}
 use Rattle.std.specs.Prelude.{bit_and}
 use Rattle.std.specs.Prelude.{Contains, MatchResult, Result}
 use Rattle.arm2_decode.specs.declared.instr.Instr.{Instr}
@@ -177,6 +178,16 @@ pub record IsOfRow (row : Row) (word : ℕ) (values : List ℕ) : Type 0 where
 -- the word is the instruction
 abbrev pub Means : ℕ → Instr → Type 0
 Means word i = IsOfRow (row_of i.operation) word (cond_number i.cond ∷ operands i.operation)
+
+-- fields at their places, together
+abbrev pub laid : List (ℕ × ℕ) → List ℕ → ℕ
+laid [] fields = 0
+laid (place ∷ places) [] = 0
+laid (place ∷ places) (field ∷ fields) = field * 2 ^ place.1 + laid places fields
+
+-- the word of a row with these fields
+abbrev pub word_in : Row → List ℕ → ℕ
+word_in row fields = row.fixed + laid row.places fields
 
 -- Words of no instruction: those that agree with fixed where mask has ones and meet the test.
 pub record Bar : Type 0 where

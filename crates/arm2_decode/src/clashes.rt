@@ -1,8 +1,10 @@
-//! The number of the first bar that the fields of a word meet, or 0: see `Unallocated::why`.
+//! Which fields make no instruction: the number of the first bar that they meet, as `Unallocated::why` has
+//! it, or 0.
 
 ghost use Rattle.std.specs.Prelude.{◌≡◌};
-ghost use Rattle.arm2_decode.specs.Allowed.{bit_of, block_clash, data_clash, data_shift_clash, is_bad_compare};
-ghost use Rattle.arm2_decode.specs.Allowed.{multiply_clash, single_clash, single_register_clash};
+ghost use Rattle.arm2_decode.specs.Allowed.{bit_of, block_clash, data_clash, data_shift_clash};
+ghost use Rattle.arm2_decode.specs.Allowed.{is_bad_compare, multiply_clash, single_clash};
+ghost use Rattle.arm2_decode.specs.Allowed.{single_register_clash};
 
 use crate::instr::Unallocated;
 
@@ -12,7 +14,8 @@ fn is_compare_without_flags(opcode: u32, sets_flags: bool) -> bool
     opcode / 4 == 2 && !sets_flags
 }
 
-pub fn data_clash_number(opcode: u32, sets_flags: bool) -> u32
+/// Of data processing, by its opcode's number: 0 or 1.
+pub fn data_clash(opcode: u32, sets_flags: bool) -> u32
     ensures { result ≡ data_clash opcode (bit_of sets_flags) }
 {
     if is_compare_without_flags(opcode, sets_flags) {
@@ -22,7 +25,8 @@ pub fn data_clash_number(opcode: u32, sets_flags: bool) -> u32
     }
 }
 
-pub fn data_shift_clash_number(opcode: u32, sets_flags: bool, rs: u32) -> u32
+/// Of data processing whose shift amount is in the register `rs`: 0, 1 or 4.
+pub fn data_shift_clash(opcode: u32, sets_flags: bool, rs: u32) -> u32
     ensures { result ≡ data_shift_clash opcode (bit_of sets_flags) rs }
 {
     if is_compare_without_flags(opcode, sets_flags) {
@@ -34,7 +38,8 @@ pub fn data_shift_clash_number(opcode: u32, sets_flags: bool, rs: u32) -> u32
     }
 }
 
-pub fn multiply_clash_number(accumulate: bool, rd: u32, rn: u32, rs: u32, rm: u32) -> u32
+/// Of a multiply, by its registers' numbers: 0 or 3.
+pub fn multiply_clash(accumulate: bool, rd: u32, rn: u32, rs: u32, rm: u32) -> u32
     ensures { result ≡ multiply_clash (bit_of accumulate) rd rn rs rm }
 {
     if rd == rm || rd == 15 || rm == 15 || rs == 15 || (accumulate && rn == 15) {
@@ -44,48 +49,56 @@ pub fn multiply_clash_number(accumulate: bool, rd: u32, rn: u32, rs: u32, rm: u3
     }
 }
 
-pub fn single_clash_number(
-    before: bool,
-    byte: bool,
-    write_back: bool,
-    load: bool,
-    rn: u32,
-    rd: u32,
-) -> u32
-    ensures { result ≡ single_clash (bit_of before) (bit_of byte) (bit_of write_back) (bit_of load) rn rd }
+/// The fields of a single transfer that may bar it.
+#[derive(Clone, Copy)]
+pub struct SingleFields {
+    /// P, bit 24.
+    pub before: bool,
+    /// B, bit 22.
+    pub byte: bool,
+    /// W, bit 21.
+    pub write_back: bool,
+    /// L, bit 20.
+    pub load: bool,
+    /// The base, bits 19 to 16.
+    pub rn: u32,
+    /// Bits 15 to 12.
+    pub rd: u32,
+}
+
+/// Of a single transfer: 0, 6, 9 or 10.
+pub fn single_clash(fields: SingleFields) -> u32
+    ensures { result
+        ≡ single_clash (bit_of fields.before) (bit_of fields.byte) (bit_of fields.write_back)
+        (bit_of fields.load) fields.rn fields.rd }
 {
-    let writes_back = !before || write_back;
-    if rn == 15 && writes_back {
+    let writes_back = !fields.before || fields.write_back;
+    if fields.rn == 15 && writes_back {
         Unallocated::R15_WRITTEN_BACK
-    } else if load && writes_back && rd == rn {
+    } else if fields.load && writes_back && fields.rd == fields.rn {
         Unallocated::BASE_LOADED
-    } else if byte && rd == 15 {
+    } else if fields.byte && fields.rd == 15 {
         Unallocated::BYTE_OF_R15
     } else {
         0
     }
 }
 
-pub fn single_register_clash_number(
-    before: bool,
-    byte: bool,
-    write_back: bool,
-    load: bool,
-    rn: u32,
-    rd: u32,
-    rm: u32,
-) -> u32
+/// Of a single transfer whose offset is in the register `rm`: 0, 5, 6, 9 or 10.
+pub fn single_register_clash(fields: SingleFields, rm: u32) -> u32
     ensures { result
-        ≡ single_register_clash (bit_of before) (bit_of byte) (bit_of write_back) (bit_of load) rn rd rm }
+        ≡ single_register_clash (bit_of fields.before) (bit_of fields.byte) (bit_of fields.write_back)
+        (bit_of fields.load) fields.rn fields.rd rm }
 {
     if rm == 15 {
         Unallocated::OFFSET_IN_R15
     } else {
-        single_clash_number(before, byte, write_back, load, rn, rd)
+        single_clash(fields)
     }
 }
 
-pub fn block_clash_number(rn: u32, list: u32) -> u32
+/// Of a block transfer, by its base and the 16 bits of its list: 0, 7 or 8.
+pub fn block_clash(rn: u32, list: u32) -> u32
     ensures { result ≡ block_clash rn list }
 {
     if rn == 15 {

@@ -13,6 +13,10 @@ mod names;
 mod reading;
 mod writing;
 
+pub use clashes::{
+    SingleFields, block_clash, data_clash, data_shift_clash, multiply_clash, single_clash,
+    single_register_clash,
+};
 pub use field::Field;
 pub use flags::{Flags, holds};
 pub use instr::{

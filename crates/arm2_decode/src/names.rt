@@ -1,5 +1,6 @@
 ghost use Rattle.std.specs.Prelude.{◌≡◌, ◌<◌};
-ghost use Rattle.arm2_decode.specs.Names.{cond_number, opcode_number, shift_number, register_number};
+ghost use Rattle.arm2_decode.specs.Names.{cond_number, is_compare, is_pc, opcode_number, register_number};
+ghost use Rattle.arm2_decode.specs.Names.{shift_number};
 
 // The variant of a number: the last one stands for all numbers that follow.
 macro_rules! variant {
@@ -62,7 +63,11 @@ impl Cond {
         requires { number < 16 }
         ensures { cond_number result ≡ number }
     {
-        variant!(number, Cond: 0 Eq 1 Ne 2 Cs 3 Cc 4 Mi 5 Pl 6 Vs 7 Vc 8 Hi 9 Ls 10 Ge 11 Lt 12 Gt 13 Le 14 Al, Nv)
+        variant!(
+            number,
+            Cond: 0 Eq 1 Ne 2 Cs 3 Cc 4 Mi 5 Pl 6 Vs 7 Vc 8 Hi 9 Ls 10 Ge 11 Lt 12 Gt 13 Le 14 Al,
+            Nv
+        )
     }
 }
 
@@ -117,7 +122,19 @@ impl Opcode {
         requires { number < 16 }
         ensures { opcode_number result ≡ number }
     {
-        variant!(number, Opcode: 0 And 1 Eor 2 Sub 3 Rsb 4 Add 5 Adc 6 Sbc 7 Rsc 8 Tst 9 Teq 10 Cmp 11 Cmn 12 Orr 13 Mov 14 Bic, Mvn)
+        variant!(
+            number,
+            Opcode: 0 And 1 Eor 2 Sub 3 Rsb 4 Add 5 Adc 6 Sbc 7 Rsc
+                8 Tst 9 Teq 10 Cmp 11 Cmn 12 Orr 13 Mov 14 Bic,
+            Mvn
+        )
+    }
+
+    /// Whether it gives flags alone, and writes no register: TST, TEQ, CMP, CMN.
+    pub fn is_compare(self) -> bool
+        ensures { result ≡ is_compare self }
+    {
+        matches!(self, Opcode::Tst | Opcode::Teq | Opcode::Cmp | Opcode::Cmn)
     }
 }
 
@@ -187,6 +204,18 @@ impl Register {
         requires { number < 16 }
         ensures { register_number result ≡ number }
     {
-        variant!(number, Register: 0 R0 1 R1 2 R2 3 R3 4 R4 5 R5 6 R6 7 R7 8 R8 9 R9 10 R10 11 R11 12 R12 13 R13 14 R14, R15)
+        variant!(
+            number,
+            Register: 0 R0 1 R1 2 R2 3 R3 4 R4 5 R5 6 R6 7 R7
+                8 R8 9 R9 10 R10 11 R11 12 R12 13 R13 14 R14,
+            R15
+        )
+    }
+
+    /// Whether it is R15, the program counter.
+    pub fn is_pc(self) -> bool
+        ensures { result ≡ is_pc self }
+    {
+        self.number() == 15
     }
 }

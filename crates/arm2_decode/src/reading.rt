@@ -1,11 +1,12 @@
 ghost use Rattle.std.specs.Prelude.{◌≡◌, ◌≢◌, IfOk, IfErr};
+ghost use Rattle.arm2_decode.specs.Allowed.{bit_of};
 ghost use Rattle.arm2_decode.specs.Bits.{bits};
 ghost use Rattle.arm2_decode.specs.declared.instr.Instr.{Instr};
 ghost use Rattle.arm2_decode.specs.Table.{Decodes, IsLowestBar, IsUnallocated, Means};
 
 use crate::clashes::{
-    block_clash_number, data_clash_number, data_shift_clash_number, multiply_clash_number,
-    single_clash_number, single_register_clash_number,
+    SingleFields, block_clash, data_clash, data_shift_clash, multiply_clash, single_clash,
+    single_register_clash,
 };
 use crate::field::Field;
 use crate::instr::{
@@ -27,7 +28,7 @@ fn multiply(word: u32) -> Result<Instr, Unallocated>
     let rn = Field::<15, 12>::get(word);
     let rs = Field::<11, 8>::get(word);
     let rm = Field::<3, 0>::get(word);
-    let why = multiply_clash_number(accumulate, rd, rn, rs, rm);
+    let why = multiply_clash(accumulate, rd, rn, rs, rm);
     if why != 0 {
         return Err(Unallocated { cond, why });
     }
@@ -54,7 +55,7 @@ fn data_register(word: u32) -> Result<Instr, Unallocated>
     let cond = Cond::of(Field::<31, 28>::get(word));
     let opcode = Field::<24, 21>::get(word);
     let sets_flags = Field::<20, 20>::is_set(word);
-    let why = data_clash_number(opcode, sets_flags);
+    let why = data_clash(opcode, sets_flags);
     if why != 0 {
         return Err(Unallocated { cond, why });
     }
@@ -84,7 +85,7 @@ fn data_register_shift(word: u32) -> Result<Instr, Unallocated>
     let opcode = Field::<24, 21>::get(word);
     let sets_flags = Field::<20, 20>::is_set(word);
     let rs = Field::<11, 8>::get(word);
-    let why = data_shift_clash_number(opcode, sets_flags, rs);
+    let why = data_shift_clash(opcode, sets_flags, rs);
     if why != 0 {
         return Err(Unallocated { cond, why });
     }
@@ -111,7 +112,7 @@ fn data_immediate(word: u32) -> Result<Instr, Unallocated>
     let cond = Cond::of(Field::<31, 28>::get(word));
     let opcode = Field::<24, 21>::get(word);
     let sets_flags = Field::<20, 20>::is_set(word);
-    let why = data_clash_number(opcode, sets_flags);
+    let why = data_clash(opcode, sets_flags);
     if why != 0 {
         return Err(Unallocated { cond, why });
     }
@@ -129,30 +130,43 @@ fn data_immediate(word: u32) -> Result<Instr, Unallocated>
     })
 }
 
+fn single_fields(word: u32) -> SingleFields
+    ensures before { bit_of result.before ≡ bits 24 24 word }
+    ensures byte { bit_of result.byte ≡ bits 22 22 word }
+    ensures write_back { bit_of result.write_back ≡ bits 21 21 word }
+    ensures load { bit_of result.load ≡ bits 20 20 word }
+    ensures rn { result.rn ≡ bits 19 16 word }
+    ensures rd { result.rd ≡ bits 15 12 word }
+{
+    SingleFields {
+        before: Field::<24, 24>::is_set(word),
+        byte: Field::<22, 22>::is_set(word),
+        write_back: Field::<21, 21>::is_set(word),
+        load: Field::<20, 20>::is_set(word),
+        rn: Field::<19, 16>::get(word),
+        rd: Field::<15, 12>::get(word),
+    }
+}
+
 #[tactic(auto, using(crate::proofs::RowLemmas::single_immediate_words))]
 fn single_immediate(word: u32) -> Result<Instr, Unallocated>
     requires { bits 27 25 word ≡ 2 }
     ensures { Decodes word result }
 {
     let cond = Cond::of(Field::<31, 28>::get(word));
-    let before = Field::<24, 24>::is_set(word);
-    let byte = Field::<22, 22>::is_set(word);
-    let write_back = Field::<21, 21>::is_set(word);
-    let load = Field::<20, 20>::is_set(word);
-    let rn = Field::<19, 16>::get(word);
-    let rd = Field::<15, 12>::get(word);
-    let why = single_clash_number(before, byte, write_back, load, rn, rd);
+    let single = single_fields(word);
+    let why = single_clash(single);
     if why != 0 {
         return Err(Unallocated { cond, why });
     }
     let fields = SingleImmediate {
-        before,
+        before: single.before,
         up: Field::<23, 23>::is_set(word),
-        byte,
-        write_back,
-        load,
-        rn: Register::of(rn),
-        rd: Register::of(rd),
+        byte: single.byte,
+        write_back: single.write_back,
+        load: single.load,
+        rn: Register::of(single.rn),
+        rd: Register::of(single.rd),
         offset: Field::<11, 0>::get(word),
     };
     Ok(Instr {
@@ -168,25 +182,20 @@ fn single_register(word: u32) -> Result<Instr, Unallocated>
     ensures { Decodes word result }
 {
     let cond = Cond::of(Field::<31, 28>::get(word));
-    let before = Field::<24, 24>::is_set(word);
-    let byte = Field::<22, 22>::is_set(word);
-    let write_back = Field::<21, 21>::is_set(word);
-    let load = Field::<20, 20>::is_set(word);
-    let rn = Field::<19, 16>::get(word);
-    let rd = Field::<15, 12>::get(word);
+    let single = single_fields(word);
     let rm = Field::<3, 0>::get(word);
-    let why = single_register_clash_number(before, byte, write_back, load, rn, rd, rm);
+    let why = single_register_clash(single, rm);
     if why != 0 {
         return Err(Unallocated { cond, why });
     }
     let fields = SingleRegister {
-        before,
+        before: single.before,
         up: Field::<23, 23>::is_set(word),
-        byte,
-        write_back,
-        load,
-        rn: Register::of(rn),
-        rd: Register::of(rd),
+        byte: single.byte,
+        write_back: single.write_back,
+        load: single.load,
+        rn: Register::of(single.rn),
+        rd: Register::of(single.rd),
         amount: Field::<11, 7>::get(word),
         shift: Shift::of(Field::<6, 5>::get(word)),
         rm: Register::of(rm),
@@ -205,7 +214,7 @@ fn block(word: u32) -> Result<Instr, Unallocated>
     let cond = Cond::of(Field::<31, 28>::get(word));
     let rn = Field::<19, 16>::get(word);
     let list = Field::<15, 0>::get(word);
-    let why = block_clash_number(rn, list);
+    let why = block_clash(rn, list);
     if why != 0 {
         return Err(Unallocated { cond, why });
     }

@@ -1,6 +1,8 @@
 -- Operands, and what the barrel shifter makes of them (VL86C010 data sheet, data processing).
-use Rattle.std.specs.Prelude.{ℕ, ◌+◌, ◌*◌, ◌%◌, ◌^◌, ◌==◌, Bool, if◌then◌else◌, List, [], ◌∷◌}
+use Rattle.std.specs.Prelude.{ℕ, ◌+◌, ◌*◌, ◌%◌, ◌^◌, Bool, if◌then◌else◌, List, [], ◌∷◌}
 use Rattle.arm2_decode.specs.Allowed.{bit_of}
+use Rattle.arm2_decode.specs.Names.{is_pc, register_number}
+use Rattle.arm2_decode.specs.declared.names.Register.{Register}
 use Rattle.arm2_decode.specs.declared.names.Shift.{Shift}
 use Rattle.arm2_decode.specs.declared.names.Shift.TheVariants.{Ror}
 use Rattle.shifter.specs.declared.shifts.Shifted.{Shifted}
@@ -17,26 +19,30 @@ word_of (bit ∷ bits) = bit_of bit + 2 * word_of bits
 abbrev pub shifted_of : BitsAndCarry → Shifted
 shifted_of s = record { value = word_of s.bits; carry = s.carry }
 
--- Register n as the first operand, or as a base: R15 gives its address bits alone, so many bytes ahead.
-abbrev pub first_of : ℕ → ℕ → List ℕ → ℕ
-first_of by n regs =
-    if n == 15 then ahead_of (address_of (r15_in regs)) by else register_in (mode_of (r15_in regs)) n regs
+-- a register of the current mode
+abbrev pub current_in : Register → List ℕ → ℕ
+current_in register regs = register_in (mode_of (r15_in regs)) (register_number register) regs
 
--- Register n where it is shifted: R15 gives all its bits, with its address so many bytes ahead.
-abbrev pub operand_of : ℕ → ℕ → List ℕ → ℕ
-operand_of by n regs =
-    if n == 15 then r15_ahead (r15_in regs) by else register_in (mode_of (r15_in regs)) n regs
+-- A register as the first operand, or as a base: R15 gives its address bits alone, so many bytes ahead.
+abbrev pub first_of : ℕ → Register → List ℕ → ℕ
+first_of by register regs =
+    if is_pc register then ahead_of (address_of (r15_in regs)) by else current_in register regs
+
+-- A register where it is shifted: R15 gives all its bits, with its address so many bytes ahead.
+abbrev pub operand_of : ℕ → Register → List ℕ → ℕ
+operand_of by register regs =
+    if is_pc register then r15_ahead (r15_in regs) by else current_in register regs
 
 -- a register that is shifted by an amount in the word
-abbrev pub shifted_by_amount : Shift → ℕ → ℕ → List ℕ → Shifted
+abbrev pub shifted_by_amount : Shift → ℕ → Register → List ℕ → Shifted
 shifted_by_amount shift amount rm regs =
     shifted_of (by_immediate shift amount (word_bits (operand_of 8 rm regs)) (flags_of (r15_in regs)).carry)
 
 -- a register that is shifted by the low byte of another
-abbrev pub shifted_by_register : Shift → ℕ → ℕ → List ℕ → Shifted
+abbrev pub shifted_by_register : Shift → Register → Register → List ℕ → Shifted
 shifted_by_register shift rs rm regs =
     shifted_of
-    (by_register shift (register_in (mode_of (r15_in regs)) rs regs % 2 ^ 8)
+    (by_register shift (current_in rs regs % 2 ^ 8)
     (word_bits (operand_of 12 rm regs)) (flags_of (r15_in regs)).carry)
 
 -- a byte, rotated right by twice the rotation

@@ -1,9 +1,10 @@
 -- What each instruction does that is no load or store (VL86C010 data sheet, instruction set; our own rule: a
 -- multiply keeps C).
-use Rattle.std.specs.Prelude.{ℕ, ◌+◌, ◌*◌, ◌%◌, ◌^◌, ◌==◌, nat_lt, zero, suc, ◌-◌, Bool, true, false}
+use Rattle.std.specs.Prelude.{ℕ, ◌+◌, ◌*◌, ◌%◌, ◌^◌, nat_lt, zero, suc, ◌-◌, Bool, true, false}
 use Rattle.std.specs.Prelude.{if◌then◌else◌, List, [], ◌∷◌}
-use Rattle.arm2_decode.specs.Names.{register_number}
+use Rattle.arm2_decode.specs.Names.{is_compare, is_pc, register_number}
 use Rattle.arm2_decode.specs.declared.names.Opcode.{Opcode}
+use Rattle.arm2_decode.specs.declared.names.Register.{Register}
 use Rattle.arm2_decode.specs.declared.instr.Operation.{Operation}
 use Rattle.arm2_decode.specs.declared.instr.Operation.TheVariants as row
 use Rattle.arm2_decode.specs.declared.instr.DataRegister.{DataRegister}
@@ -20,7 +21,7 @@ use Rattle.arm2_effect.specs.ProgramCounter.{psr_with, r15_ahead, r15_of, restor
 use Rattle.arm2_effect.specs.Effects.{Effect, Internal, onward, straight}
 use Rattle.arm2_effect.specs.Exceptions.{taken}
 use Rattle.arm2_effect.specs.Operands.{first_of, rotated_byte, shifted_by_amount, shifted_by_register}
-use Rattle.arm2_effect.specs.Outcomes.{flags_after, is_compare, outcome_of}
+use Rattle.arm2_effect.specs.Outcomes.{flags_after, outcome_of}
 
 -- R15 at the next instruction, with the flags of an outcome where they are set
 abbrev pub next_r15 : Bool → Outcome → ℕ → ℕ
@@ -29,14 +30,14 @@ next_r15 sets_flags out r =
     (ahead_of (address_of r) 4) (mode_of r)
 
 -- a value enters register rd, which is not R15
-unfoldable pub entered : Bool → ℕ → Outcome → List ℕ → Effect
+unfoldable pub entered : Bool → Register → Outcome → List ℕ → Effect
 entered sets_flags rd out regs =
     record {
       kind = Plain;
       accesses = straight (address_of (r15_in regs));
       regs =
           with_r15 (next_r15 sets_flags out (r15_in regs))
-          (with_register (mode_of (r15_in regs)) rd out.value regs);
+          (with_register (mode_of (r15_in regs)) (register_number rd) out.value regs);
     }
 
 -- a value enters R15: its address bits, and where flags are set the PSR and the mode too
@@ -53,23 +54,23 @@ jumped sets_flags out regs =
     }
 
 -- a compare sets the flags, and with Rd = R15 the PSR and the mode by the bits of the value
-unfoldable pub compared : ℕ → Outcome → List ℕ → Effect
+unfoldable pub compared : Register → Outcome → List ℕ → Effect
 compared rd out regs =
     record {
       kind = Plain;
       accesses = straight (address_of (r15_in regs));
       regs =
           with_r15
-          (if rd == 15 then restored_of (r15_in regs) out.value (ahead_of (address_of (r15_in regs)) 4)
+          (if is_pc rd then restored_of (r15_in regs) out.value (ahead_of (address_of (r15_in regs)) 4)
           else next_r15 true out (r15_in regs))
           regs;
     }
 
 -- what data processing does with its outcome
-unfoldable pub placed : Opcode → Bool → ℕ → Outcome → List ℕ → Effect
+unfoldable pub placed : Opcode → Bool → Register → Outcome → List ℕ → Effect
 placed opcode sets_flags rd out regs =
     if is_compare opcode then compared rd out regs
-    else (if rd == 15 then jumped sets_flags out regs else entered sets_flags rd out regs)
+    else (if is_pc rd then jumped sets_flags out regs else entered sets_flags rd out regs)
 
 -- an effect that takes some internal cycles more
 abbrev pub delayed : ℕ → Effect → Effect
@@ -80,8 +81,8 @@ data_immediate_effect x regs =
     placed
     x.opcode
     x.sets_flags
-    (register_number x.rd)
-    (outcome_of x.opcode (first_of 8 (register_number x.rn) regs) (rotated_byte x.value x.rotation regs)
+    x.rd
+    (outcome_of x.opcode (first_of 8 x.rn regs) (rotated_byte x.value x.rotation regs)
     (flags_of (r15_in regs)))
     regs
 
@@ -90,9 +91,9 @@ data_register_effect x regs =
     placed
     x.opcode
     x.sets_flags
-    (register_number x.rd)
-    (outcome_of x.opcode (first_of 8 (register_number x.rn) regs)
-    (shifted_by_amount x.shift x.amount (register_number x.rm) regs) (flags_of (r15_in regs)))
+    x.rd
+    (outcome_of x.opcode (first_of 8 x.rn regs)
+    (shifted_by_amount x.shift x.amount x.rm regs) (flags_of (r15_in regs)))
     regs
 
 -- with the amount in a register: one internal cycle more, so the program counter is a word further on
@@ -103,9 +104,9 @@ data_register_shift_effect x regs =
     (placed
     x.opcode
     x.sets_flags
-    (register_number x.rd)
-    (outcome_of x.opcode (first_of 12 (register_number x.rn) regs)
-    (shifted_by_register x.shift (register_number x.rs) (register_number x.rm) regs)
+    x.rd
+    (outcome_of x.opcode (first_of 12 x.rn regs)
+    (shifted_by_register x.shift x.rs x.rm regs)
     (flags_of (r15_in regs)))
     regs)
 
@@ -136,7 +137,7 @@ unfoldable pub multiply_effect : Multiply → List ℕ → Effect
 multiply_effect x regs =
     delayed
     (cycles_of (register_in (mode_of (r15_in regs)) (register_number x.rs) regs))
-    (entered x.sets_flags (register_number x.rd) (product_of x regs) regs)
+    (entered x.sets_flags x.rd (product_of x regs) regs)
 
 -- where a branch leads: its offset in words is signed, which makes no difference modulo 2 ^ 26
 abbrev pub target_of : Branch → ℕ → ℕ

@@ -1,8 +1,7 @@
 -- What data processing computes (VL86C010 data sheet, data processing): the word, C and V of each operation.
-use Rattle.std.specs.Prelude.{ℕ, ◌+◌, ◌-◌, ◌/◌, ◌%◌, ◌^◌, ◌==◌, ◌&&◌, not, nat_le, nat_lt, Bool, false}
+use Rattle.std.specs.Prelude.{ℕ, ◌+◌, ◌-◌, ◌%◌, ◌^◌, ◌==◌, ◌&&◌, not, nat_le, nat_lt, Bool, false}
 use Rattle.std.specs.Prelude.{bit_and, bit_or, bit_xor}
 use Rattle.arm2_decode.specs.Allowed.{bit_of}
-use Rattle.arm2_decode.specs.Names.{opcode_number}
 use Rattle.arm2_decode.specs.declared.flags.Flags.{Flags}
 use Rattle.arm2_decode.specs.declared.names.Opcode.{Opcode}
 use Rattle.arm2_decode.specs.declared.names.Opcode.TheVariants.{And, Eor, Sub, Rsb, Add, Adc, Sbc, Rsc, Tst}
@@ -68,7 +67,3 @@ outcome_of Mvn x y f = bits_of (inverted y.value) y f
 abbrev pub flags_after : Outcome → Flags
 flags_after o =
     record { negative = nat_le (2 ^ 31) o.value; zero = o.value == 0; carry = o.carry; overflow = o.overflow }
-
--- TST TEQ CMP CMN give flags alone
-abbrev pub is_compare : Opcode → Bool
-is_compare opcode = opcode_number opcode / 4 == 2

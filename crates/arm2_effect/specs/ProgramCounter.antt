@@ -1,6 +1,6 @@
 -- R15: N Z C V I F in bits 31 to 26, a word address in bits 25 to 2, the mode in bits 1 and 0 (VL86C010 data
 -- sheet, registers).
-use Rattle.std.specs.Prelude.{ℕ, ◌+◌, ◌*◌, ◌/◌, ◌%◌, ◌^◌, ◌==◌, if◌then◌else◌}
+use Rattle.std.specs.Prelude.{Bool, ℕ, ◌+◌, ◌*◌, ◌/◌, ◌%◌, ◌^◌, ◌==◌, if◌then◌else◌}
 use Rattle.arm2_decode.specs.declared.flags.Flags.{Flags}
 use Rattle.arm2_decode.specs.Allowed.{bit_of}
 use Rattle.arm2_effect.specs.declared.modes.Mode.{Mode}
@@ -33,6 +33,13 @@ flags_of r =
       carry = r / 2 ^ 29 % 2 == 1;
       overflow = r / 2 ^ 28 % 2 == 1;
     }
+
+-- F and I: FIQ and IRQ are not taken
+abbrev pub is_fiq_masked : ℕ → Bool
+is_fiq_masked r = r / 2 ^ 26 % 2 == 1
+
+abbrev pub is_irq_masked : ℕ → Bool
+is_irq_masked r = r / 2 ^ 27 % 2 == 1
 
 -- the PSR with other condition flags: I and F stay
 abbrev pub psr_with : Flags → ℕ → ℕ

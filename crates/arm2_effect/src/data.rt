@@ -1,10 +1,8 @@
 ghost use Rattle.std.specs.Prelude.{◌≡◌, ◌<◌, ◌^◌, false};
-ghost use Rattle.arm2_decode.specs.Names.{register_number};
 ghost use Rattle.arm2_effect.specs.Effects.{IsEffect, is_stopped};
 ghost use Rattle.arm2_effect.specs.Operations.{compared, data_immediate_effect, data_register_effect};
 ghost use Rattle.arm2_effect.specs.Operations.{data_register_shift_effect, entered, jumped};
 ghost use Rattle.arm2_effect.specs.Operations.{next_r15, placed};
-ghost use Rattle.arm2_effect.specs.Outcomes.{is_compare};
 ghost use Rattle.arm2_effect.specs.ProgramCounter.{psr_with};
 
 use crate::done::{Done, Kind};
@@ -17,13 +15,12 @@ use crate::program_counter::{
 use crate::registers::Registers;
 use arm2_decode::{DataImmediate, DataRegister, DataRegisterShift, Flags, Opcode, Register};
 
-fn is_compare(opcode: Opcode) -> bool
-    ensures { result ≡ is_compare opcode }
-{
-    matches!(
-        opcode,
-        Opcode::Tst | Opcode::Teq | Opcode::Cmp | Opcode::Cmn
-    )
+// The fields of a data processing word that say where its outcome goes.
+#[derive(Clone, Copy)]
+struct Destination {
+    opcode: Opcode,
+    sets_flags: bool,
+    rd: Register,
 }
 
 // The PSR with other condition flags, from 0 to 63.
@@ -53,6 +50,16 @@ fn next_r15(sets_flags: bool, outcome: Outcome, r15: u32) -> u32
     )
 }
 
+macro_rules! destination {
+    ($fields:expr) => {
+        Destination {
+            opcode: $fields.opcode,
+            sets_flags: $fields.sets_flags,
+            rd: $fields.rd,
+        }
+    };
+}
+
 impl Registers {
     /// Puts a value into a register other than R15, and goes on.
     #[tactic(auto, unfolding(crate::specs::Operations::entered))]
@@ -64,7 +71,7 @@ impl Registers {
         outcome: Outcome,
     ) -> Done
         ensures effect { IsEffect prices.profile prices.rom result self.new
-            (entered sets_flags (register_number rd) outcome self.old) }
+            (entered sets_flags rd outcome self.old) }
         ensures goes_on { is_stopped result.kind ≡ false }
         ensures bound { result.ticks < 2 ^ 10 }
     {
@@ -100,12 +107,12 @@ impl Registers {
     #[tactic(auto, unfolding(crate::specs::Operations::compared))]
     fn compare(&mut self, prices: Prices, rd: Register, outcome: Outcome) -> Done
         ensures effect { IsEffect prices.profile prices.rom result self.new
-            (compared (register_number rd) outcome self.old) }
+            (compared rd outcome self.old) }
         ensures goes_on { is_stopped result.kind ≡ false }
         ensures bound { result.ticks < 2 ^ 10 }
     {
         let r15 = self.get(Reg::R15);
-        if rd.number() == 15 {
+        if rd.is_pc() {
             self.set(
                 Reg::R15,
                 restored(r15, outcome.value, ahead(address_of(r15), 4)),
@@ -120,26 +127,19 @@ impl Registers {
     }
 
     #[tactic(auto, unfolding(crate::specs::Operations::placed))]
-    fn place(
-        &mut self,
-        prices: Prices,
-        opcode: Opcode,
-        sets_flags: bool,
-        rd: Register,
-        outcome: Outcome,
-    ) -> Done
+    fn place(&mut self, prices: Prices, to: Destination, outcome: Outcome) -> Done
         ensures effect { IsEffect prices.profile prices.rom result self.new
-            (placed opcode sets_flags (register_number rd) outcome self.old) }
+            (placed to.opcode to.sets_flags to.rd outcome self.old) }
         ensures goes_on { is_stopped result.kind ≡ false }
         ensures bound { result.ticks < 2 ^ 10 }
     {
-        if is_compare(opcode) {
-            return self.compare(prices, rd, outcome);
+        if to.opcode.is_compare() {
+            return self.compare(prices, to.rd, outcome);
         }
-        if rd.number() == 15 {
-            return self.jump(prices, sets_flags, outcome);
+        if to.rd.is_pc() {
+            return self.jump(prices, to.sets_flags, outcome);
         }
-        self.enter(prices, sets_flags, rd, outcome)
+        self.enter(prices, to.sets_flags, to.rd, outcome)
     }
 
     /// Data processing with a byte that is rotated.
@@ -153,7 +153,7 @@ impl Registers {
         let operand = self.rotated_byte(fields.value, fields.rotation);
         let flags = flags_of(self.get(Reg::R15));
         let outcome = outcome_of(fields.opcode, self.first(fields.rn, 8), operand, flags);
-        self.place(prices, fields.opcode, fields.sets_flags, fields.rd, outcome)
+        self.place(prices, destination!(fields), outcome)
     }
 
     /// Data processing with a register that is shifted by an amount in the word.
@@ -167,7 +167,7 @@ impl Registers {
         let operand = self.shifted_by_amount(fields.shift, fields.amount, fields.rm);
         let flags = flags_of(self.get(Reg::R15));
         let outcome = outcome_of(fields.opcode, self.first(fields.rn, 8), operand, flags);
-        self.place(prices, fields.opcode, fields.sets_flags, fields.rd, outcome)
+        self.place(prices, destination!(fields), outcome)
     }
 
     /// Data processing with a register that is shifted by another.
@@ -181,7 +181,7 @@ impl Registers {
         let operand = self.shifted_by_register(fields.shift, fields.rs, fields.rm);
         let flags = flags_of(self.get(Reg::R15));
         let outcome = outcome_of(fields.opcode, self.first(fields.rn, 12), operand, flags);
-        let done = self.place(prices, fields.opcode, fields.sets_flags, fields.rd, outcome);
+        let done = self.place(prices, destination!(fields), outcome);
         Done {
             kind: done.kind,
             ticks: prices.internal(1) + done.ticks,

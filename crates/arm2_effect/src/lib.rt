@@ -22,6 +22,7 @@ pub use execute::is_transfer;
 pub use modes::{Mode, Reg};
 pub use prices::Prices;
 pub use program_counter::{
-    address_of, advanced, ahead, flags_of, jumped, mode_of, r15_of, restored,
+    address_of, advanced, ahead, flags_of, is_fiq_masked, is_irq_masked, jumped, mode_of, r15_of,
+    restored,
 };
 pub use registers::Registers;

@@ -1,5 +1,4 @@
 ghost use Rattle.std.specs.Prelude.{◌≡◌, ◌<◌, ◌%◌, ◌^◌};
-ghost use Rattle.arm2_decode.specs.Names.{register_number};
 ghost use Rattle.arm2_effect.specs.Operands.{first_of, operand_of, rotated_byte};
 ghost use Rattle.arm2_effect.specs.Operands.{shifted_by_amount};
 ghost use Rattle.arm2_effect.specs.Operands.{shifted_by_register};
@@ -16,10 +15,10 @@ impl Registers {
     pub fn first(&self, register: Register, bytes: u32) -> u32
         requires words { bytes % 4 ≡ 0 }
         requires small { bytes < 16 }
-        ensures { result ≡ first_of bytes (register_number register) self.now }
+        ensures { result ≡ first_of bytes register self.now }
     {
         let r15 = self.get(Reg::R15);
-        if register.number() == 15 {
+        if register.is_pc() {
             return ahead(address_of(r15), bytes);
         }
         self.read(mode_of(r15), register)
@@ -30,10 +29,10 @@ impl Registers {
     fn operand(&self, register: Register, bytes: u32) -> u32
         requires words { bytes % 4 ≡ 0 }
         requires small { bytes < 16 }
-        ensures { result ≡ operand_of bytes (register_number register) self.now }
+        ensures { result ≡ operand_of bytes register self.now }
     {
         let r15 = self.get(Reg::R15);
-        if register.number() == 15 {
+        if register.is_pc() {
             return advanced(r15, bytes);
         }
         self.read(mode_of(r15), register)
@@ -45,7 +44,7 @@ impl Registers {
     #[tactic(auto, using(crate::proofs::Words::shifted_is))]
     pub fn shifted_by_amount(&self, shift: Shift, amount: u32, rm: Register) -> Shifted
         requires { amount < 32 }
-        ensures { result ≡ shifted_by_amount shift amount (register_number rm) self.now }
+        ensures { result ≡ shifted_by_amount shift amount rm self.now }
     {
         let carry = flags_of(self.get(Reg::R15)).carry;
         shift_imm(shift, amount, self.operand(rm, 8), carry)
@@ -54,7 +53,7 @@ impl Registers {
     /// A register that is shifted by the low byte of another.
     #[tactic(auto, using(crate::proofs::Words::shifted_is))]
     pub(crate) fn shifted_by_register(&self, shift: Shift, rs: Register, rm: Register) -> Shifted
-        ensures { result ≡ shifted_by_register shift (register_number rs) (register_number rm) self.now }
+        ensures { result ≡ shifted_by_register shift rs rm self.now }
     {
         let r15 = self.get(Reg::R15);
         let amount = self.read(mode_of(r15), rs) % 256;

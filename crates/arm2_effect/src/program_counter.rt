@@ -1,7 +1,8 @@
 //! R15: N Z C V I F in bits 31 to 26, a word address in bits 25 to 2, the mode in bits 1 and 0.
 ghost use Rattle.std.specs.Prelude.{◌≡◌, ◌%◌, ◌^◌, ◌<◌};
 ghost use Rattle.arm2_effect.specs.ProgramCounter.{address_of, ahead_of};
-ghost use Rattle.arm2_effect.specs.ProgramCounter.{flags_of, jumped_of, mode_of};
+ghost use Rattle.arm2_effect.specs.ProgramCounter.{flags_of, is_fiq_masked, is_irq_masked};
+ghost use Rattle.arm2_effect.specs.ProgramCounter.{jumped_of, mode_of};
 ghost use Rattle.arm2_effect.specs.ProgramCounter.{psr_of, r15_ahead, r15_of};
 ghost use Rattle.arm2_effect.specs.ProgramCounter.{restored_of};
 
@@ -42,6 +43,20 @@ pub fn flags_of(r15: u32) -> Flags
         carry: r15 / 0x2000_0000 % 2 == 1,
         overflow: r15 / 0x1000_0000 % 2 == 1,
     }
+}
+
+/// Whether F in R15 keeps FIQ from being taken.
+pub fn is_fiq_masked(r15: u32) -> bool
+    ensures { result ≡ is_fiq_masked r15 }
+{
+    r15 / 0x400_0000 % 2 == 1
+}
+
+/// Whether I in R15 keeps IRQ from being taken.
+pub fn is_irq_masked(r15: u32) -> bool
+    ensures { result ≡ is_irq_masked r15 }
+{
+    r15 / 0x800_0000 % 2 == 1
 }
 
 /// An address some bytes on: addresses wrap at 2^26.

@@ -1,9 +1,9 @@
 -- A step that stops has changed nothing.
 use Rattle.std.proofs.Common.{◌≡◌, ◌∙◌, ℕ, Bool, true, false, cond, List, Option, Some, None, refl, sym, inl, inr}
-use Rattle.std.specs.Prelude.{nat_lt, ◌==◌, ◌^◌, not, Result, Ok, Err}
+use Rattle.std.specs.Prelude.{nat_lt, ◌^◌, not, Result, Ok, Err}
 use Rattle.std.proofs.lemmas.Bool.{false≢true}
 use Rattle.arm2_decode.specs.Conditions.{condition_holds}
-use Rattle.arm2_decode.specs.Names.{register_number}
+use Rattle.arm2_decode.specs.Names.{is_compare, is_pc}
 use Rattle.arm2_decode.specs.declared.instr.Operation.{Operation}
 use Rattle.arm2_decode.specs.declared.instr.Operation.TheVariants as row
 use Rattle.arm2_decode.specs.declared.instr.Block.{Block}
@@ -18,9 +18,8 @@ use Rattle.arm2_effect.specs.ProgramCounter.{flags_of, mode_of}
 use Rattle.arm2_effect.specs.Effects.{Effect, is_stopped, skipped, stopped}
 use Rattle.arm2_effect.specs.Exceptions.{taken}
 use Rattle.arm2_effect.specs.Operations.{operation_effect, placed, compared, jumped, entered, data_immediate_effect, data_register_effect, data_register_shift_effect, multiply_effect, branch_effect, untouched}
-use Rattle.arm2_effect.specs.Outcomes.{is_compare}
 use Rattle.arm2_transfer.specs.declared.bus.Bus.{Bus}
-use Rattle.arm2_transfer.specs.declared.single.Single.{Single}
+use Rattle.arm2_transfer.specs.declared.single_fields.Single.{Single}
 use Rattle.arm2_transfer.specs.declared.span.Span.{Span}
 use Rattle.arm2_transfer.specs.declared.words.Move.{Move}
 use Rattle.arm2_transfer.specs.declared.words.Trouble.{Trouble}
@@ -47,9 +46,9 @@ data_goes_on is_compare is_jump x y z gx gy gz = either is_compare x _ gx (eithe
 operation_goes_on : (o : Operation) (regs : List ℕ) → GoesOn (operation_effect o regs)
 unfolding operation_effect multiply_effect data_immediate_effect data_register_effect data_register_shift_effect branch_effect untouched placed compared jumped entered taken
 operation_goes_on (row.Multiply x) regs = refl
-operation_goes_on (row.DataRegister x) regs = data_goes_on (is_compare x.opcode) (register_number x.rd == 15) _ _ _ refl refl refl
-operation_goes_on (row.DataRegisterShift x) regs = data_goes_on (is_compare x.opcode) (register_number x.rd == 15) _ _ _ refl refl refl
-operation_goes_on (row.DataImmediate x) regs = data_goes_on (is_compare x.opcode) (register_number x.rd == 15) _ _ _ refl refl refl
+operation_goes_on (row.DataRegister x) regs = data_goes_on (is_compare x.opcode) (is_pc x.rd) _ _ _ refl refl refl
+operation_goes_on (row.DataRegisterShift x) regs = data_goes_on (is_compare x.opcode) (is_pc x.rd) _ _ _ refl refl refl
+operation_goes_on (row.DataImmediate x) regs = data_goes_on (is_compare x.opcode) (is_pc x.rd) _ _ _ refl refl refl
 operation_goes_on (row.SingleImmediate x) regs = refl
 operation_goes_on (row.SingleRegister x) regs = refl
 operation_goes_on (row.Block x) regs = refl

@@ -1,12 +1,12 @@
 -- A step that takes an exception has done nothing else.
 use Rattle.std.proofs.Common.{◌≡◌, ◌≢◌, ◌∙◌, ℕ, ◌+◌, ◌*◌, ◌%◌, Bool, true, false, cond, List, Option, Some, None, refl, sym, ap, inl, inr, arith}
-use Rattle.std.specs.Prelude.{nat_lt, ◌==◌, ◌^◌, not, Result, Ok, Err, slice_index}
+use Rattle.std.specs.Prelude.{nat_lt, ◌^◌, not, Result, Ok, Err, slice_index}
 use Rattle.std.proofs.lemmas.Bool.{false≢true, cases_Bool, cond-true, cond-false}
 use Rattle.std.proofs.lemmas.List.{get_or-set_other}
 use Rattle.bus_ticks.specs.Prices.{n_price, s_price}
 use Rattle.bus_ticks.specs.Worst.{fiq_entry_price}
 use Rattle.arm2_decode.specs.Conditions.{condition_holds}
-use Rattle.arm2_decode.specs.Names.{register_number}
+use Rattle.arm2_decode.specs.Names.{is_compare, is_pc}
 use Rattle.arm2_decode.specs.declared.instr.Operation.{Operation}
 use Rattle.arm2_decode.specs.declared.instr.Operation.TheVariants as row
 use Rattle.arm2_decode.specs.declared.instr.Block.{Block}
@@ -18,16 +18,13 @@ use Rattle.arm2_effect.specs.declared.done.Kind.{Kind}
 use Rattle.arm2_effect.specs.declared.done.Kind.TheVariants.{Plain, Taken}
 use Rattle.arm2_effect.specs.declared.done.Why.{Why}
 use Rattle.arm2_effect.specs.declared.done.Why.TheVariants as why
-use Rattle.arm2_effect.specs.declared.modes.Mode.{Mode}
-use Rattle.arm2_effect.specs.declared.modes.Mode.TheVariants.{User, Fiq, Irq, Svc}
 use Rattle.arm2_effect.specs.Modes.{r15_in, reg_number, slot_of}
 use Rattle.arm2_effect.specs.ProgramCounter.{flags_of, mode_of}
-use Rattle.arm2_effect.specs.Outcomes.{is_compare}
 use Rattle.arm2_effect.specs.Effects.{Effect, is_stopped, skipped, stopped}
 use Rattle.arm2_effect.specs.Exceptions.{entry_at, taken}
 use Rattle.arm2_effect.specs.Operations.{operation_effect, placed, compared, jumped, entered, data_immediate_effect, data_register_effect, data_register_shift_effect, multiply_effect, branch_effect, untouched}
 use Rattle.arm2_transfer.specs.declared.bus.Bus.{Bus}
-use Rattle.arm2_transfer.specs.declared.single.Single.{Single}
+use Rattle.arm2_transfer.specs.declared.single_fields.Single.{Single}
 use Rattle.arm2_transfer.specs.declared.span.Span.{Span}
 use Rattle.arm2_transfer.specs.declared.words.Move.{Move}
 use Rattle.arm2_transfer.specs.declared.words.Trouble.{Trouble}
@@ -37,6 +34,7 @@ use Rattle.arm2_transfer.specs.Operations.{operation_moved}
 use Rattle.arm2_transfer.specs.Single.{address_for, has_user_rights, of_immediate, of_register, single_loads, single_stores, single_carried_out, single_by, single_at}
 use Rattle.arm2_transfer.specs.Block.{block_loads, block_stores, block_carried_out, block_by, block_at, block_moved}
 use Rattle.arm2_transfer.specs.Words.{or_trouble}
+use Rattle.arm2_transfer.proofs.Slots.{slot_of_r15}
 use Rattle.arm2_exec.specs.declared.machine.Input.{Input}
 use Rattle.arm2_exec.specs.declared.machine.Stepped.{Stepped}
 use Rattle.arm2_exec.specs.Kept.{KeepsTheRest, interrupted_in}
@@ -86,9 +84,9 @@ module _ (regs : List ℕ) (bus : Bus) (v : Vector) where
   operation_takes : (o : Operation) → IsTaken (on_bus bus (operation_effect o regs))
   unfolding operation_effect multiply_effect data_immediate_effect data_register_effect data_register_shift_effect branch_effect untouched placed compared jumped entered
   operation_takes (row.Multiply x) = plain (on_bus bus (operation_effect (row.Multiply x) regs)) refl
-  operation_takes (row.DataRegister x) = plain (on_bus bus (operation_effect (row.DataRegister x) regs)) (data_plain (is_compare x.opcode) (register_number x.rd == 15) _ _ _ refl refl refl)
-  operation_takes (row.DataRegisterShift x) = plain (on_bus bus (operation_effect (row.DataRegisterShift x) regs)) (data_plain (is_compare x.opcode) (register_number x.rd == 15) _ _ _ refl refl refl)
-  operation_takes (row.DataImmediate x) = plain (on_bus bus (operation_effect (row.DataImmediate x) regs)) (data_plain (is_compare x.opcode) (register_number x.rd == 15) _ _ _ refl refl refl)
+  operation_takes (row.DataRegister x) = plain (on_bus bus (operation_effect (row.DataRegister x) regs)) (data_plain (is_compare x.opcode) (is_pc x.rd) _ _ _ refl refl refl)
+  operation_takes (row.DataRegisterShift x) = plain (on_bus bus (operation_effect (row.DataRegisterShift x) regs)) (data_plain (is_compare x.opcode) (is_pc x.rd) _ _ _ refl refl refl)
+  operation_takes (row.DataImmediate x) = plain (on_bus bus (operation_effect (row.DataImmediate x) regs)) (data_plain (is_compare x.opcode) (is_pc x.rd) _ _ _ refl refl refl)
   operation_takes (row.SingleImmediate x) = plain (on_bus bus (operation_effect (row.SingleImmediate x) regs)) refl
   operation_takes (row.SingleRegister x) = plain (on_bus bus (operation_effect (row.SingleRegister x) regs)) refl
   operation_takes (row.Block x) = plain (on_bus bus (operation_effect (row.Block x) regs)) refl
@@ -162,12 +160,6 @@ module _ (regs : List ℕ) (bus : Bus) (v : Vector) where
   works_takes None port m obeys = fetched_takes (fetched bus.memc (r15_in regs)) port m obeys
 
 -- ## What it keeps
-
-slot_of_r15 : (mode : Mode) → slot_of mode 15 ≡ 26
-slot_of_r15 User = refl
-slot_of_r15 Fiq = refl
-slot_of_r15 Irq = refl
-slot_of_r15 Svc = refl
 
 taken_keeps : (v : Vector) (regs : List ℕ) (n : ℕ) → n ≢ slot_of (entry_at v).mode 14 → n ≢ slot_of (entry_at v).mode 15 → slice_index (taken v regs).regs n ≡ slice_index regs n
 unfolding taken

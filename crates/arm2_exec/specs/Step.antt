@@ -1,6 +1,6 @@
 -- A step of the machine (VL86C010 data sheet, instruction set and exceptions; our own profile for the order
 -- of its parts, for a fetch among the devices, for what stops the machine, and for the ticks).
-use Rattle.std.specs.Prelude.{◌≡◌, ◌⊎◌, ℕ, ◌+◌, ◌*◌, ◌/◌, ◌%◌, ◌^◌, ◌==◌, ◌&&◌, not, false}
+use Rattle.std.specs.Prelude.{◌≡◌, ◌⊎◌, ℕ, ◌+◌, ◌*◌, ◌==◌, ◌&&◌, not, false}
 use Rattle.std.specs.Prelude.{if◌then◌else◌, Option, Some, None, Result, Ok, Err, List}
 use Rattle.arm2_decode.specs.Conditions.{condition_holds}
 use Rattle.arm2_decode.specs.Table.{Means, IsUnallocated}
@@ -16,7 +16,7 @@ use Rattle.arm2_effect.specs.declared.exceptions.Vector.{Vector}
 use Rattle.arm2_effect.specs.declared.exceptions.Vector.TheVariants as vector
 use Rattle.arm2_effect.specs.declared.done.Why.TheVariants as why
 use Rattle.arm2_effect.specs.Modes.{r15_in}
-use Rattle.arm2_effect.specs.ProgramCounter.{address_of, flags_of, mode_of}
+use Rattle.arm2_effect.specs.ProgramCounter.{address_of, flags_of, is_fiq_masked, is_irq_masked, mode_of}
 use Rattle.arm2_effect.specs.Effects.{is_stopped, skipped, stopped, ticks_of}
 use Rattle.arm2_effect.specs.Exceptions.{taken}
 use Rattle.arm2_transfer.specs.declared.bus.Bus.{Bus}
@@ -36,8 +36,8 @@ with_lines lines bus = record bus { ioc = ioc.with_lines lines bus.ioc }
 
 abbrev pub interrupt_of : ioc.Controller → (r15 : ℕ) → Option Vector
 interrupt_of c r15 =
-    if ioc.fiq_of c && not (r15 / 2 ^ 26 % 2 == 1) then Some vector.Fiq
-    else (if ioc.irq_of c && not (r15 / 2 ^ 27 % 2 == 1) then Some vector.Irq else None)
+    if ioc.fiq_of c && not (is_fiq_masked r15) then Some vector.Fiq
+    else (if ioc.irq_of c && not (is_irq_masked r15) then Some vector.Irq else None)
 
 abbrev pub interrupt_due : Bus → (r15 : ℕ) → Option Vector
 interrupt_due bus r15 = interrupt_of bus.ioc r15

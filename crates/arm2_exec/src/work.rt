@@ -6,7 +6,10 @@ ghost use Rattle.arm2_exec.specs.Step.{unallocated_moved};
 ghost use Rattle.arm2_exec.specs.Work.{Obeyed, Worked};
 
 use arm2_decode::{Instr, Unallocated, decode};
-use arm2_effect::{Done, Mode, Prices, Reg, Registers, Vector, Why, address_of, mode_of};
+use arm2_effect::{
+    Done, Mode, Prices, Reg, Registers, Vector, Why, address_of, is_fiq_masked, is_irq_masked,
+    mode_of,
+};
 use arm2_transfer::{Bus, execute};
 use ioc::Ioc;
 use memc::{Memc, Spot};
@@ -16,10 +19,10 @@ pub(crate) fn interrupt(ioc: &Ioc, r15: u32) -> Option<Vector>
     ensures { result ≡ interrupt_of ioc.now r15 }
 {
     let asserted = ioc.asserted();
-    if asserted.fiq && r15 / 0x400_0000 % 2 != 1 {
+    if asserted.fiq && !is_fiq_masked(r15) {
         return Some(Vector::Fiq);
     }
-    if asserted.irq && r15 / 0x800_0000 % 2 != 1 {
+    if asserted.irq && !is_irq_masked(r15) {
         return Some(Vector::Irq);
     }
     None

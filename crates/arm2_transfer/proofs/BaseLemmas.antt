@@ -21,7 +21,7 @@ use Rattle.arm2_effect.specs.Exceptions.{taken}
 use Rattle.arm2_effect.specs.Modes.{r15_in}
 use Rattle.arm2_effect.specs.Operands.{first_of}
 use Rattle.arm2_transfer.specs.declared.bus.Bus.{Bus}
-use Rattle.arm2_transfer.specs.declared.single.Single.{Single}
+use Rattle.arm2_transfer.specs.declared.single_fields.Single.{Single}
 use Rattle.arm2_transfer.specs.declared.span.Span.{Span}
 use Rattle.arm2_transfer.specs.declared.words.Move.{Move}
 use Rattle.arm2_transfer.specs.declared.words.Trouble.{Trouble}
@@ -431,7 +431,7 @@ module _ (x : Single) (port : ℕ) (regs : List ℕ) (bus : Bus) (not_15 : regis
 
 -- a base other than R15
 first_is_base : (rn : Register) (regs : List ℕ) → register_number rn ≢ 15
-    → first_of 8 (register_number rn) regs ≡ base_at rn regs
+    → first_of 8 rn regs ≡ base_at rn regs
 first_is_base rn regs other =
     cond-false (register_number rn == 15) _ (base_at rn regs) (ne_eqb (register_number rn) 15 other)
 

@@ -9,7 +9,7 @@ use Rattle.arm2_effect.specs.declared.modes.Mode.{Mode}
 use Rattle.arm2_effect.specs.Modes.{r15_in}
 use Rattle.arm2_effect.specs.ProgramCounter.{mode_of}
 use Rattle.arm2_transfer.specs.declared.bus.Bus.{Bus}
-use Rattle.arm2_transfer.specs.declared.single.Single.{Single}
+use Rattle.arm2_transfer.specs.declared.single_fields.Single.{Single}
 use Rattle.arm2_transfer.specs.declared.span.Span.{Span}
 use Rattle.arm2_transfer.specs.declared.words.Move.{Move}
 use Rattle.arm2_transfer.specs.declared.words.Trouble.{Trouble}

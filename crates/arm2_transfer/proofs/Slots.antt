@@ -7,17 +7,17 @@ use Rattle.std.proofs.lemmas.Bool.Decides.{nat_tests}
 use Rattle.std.proofs.lemmas.List.{get_or-set_same, get_or-set_other, length-set}
 use Rattle.arm2_decode.specs.declared.names.Register.{Register}
 use Rattle.arm2_decode.specs.declared.names.Register.TheVariants.{R0, R1, R2, R3, R4, R5, R6, R7, R8, R9, R10, R11, R12, R13, R14, R15}
-use Rattle.arm2_decode.specs.Names.{register_number}
+use Rattle.arm2_decode.specs.Names.{is_pc, register_number}
 use Rattle.arm2_effect.specs.declared.modes.Mode.{Mode}
 use Rattle.arm2_effect.specs.declared.modes.Mode.TheVariants.{User, Fiq, Irq, Svc}
 use Rattle.arm2_effect.specs.Modes.{r15_in, slot_of, with_r15}
 use Rattle.arm2_effect.specs.ProgramCounter.{r15_ahead}
 use Rattle.arm2_transfer.specs.Words.{all_registers}
-use Rattle.arm2_transfer.specs.Registers.{given, is_r15, loaded_r15, passed, with_base, with_loaded}
+use Rattle.arm2_transfer.specs.Registers.{given, loaded_r15, passed, with_base, with_loaded}
 
 -- ## Where a register stands
 
-below_15 : (r : Register) → register_number r ≢ 15 → register_number r < 15
+pub below_15 : (r : Register) → register_number r ≢ 15 → register_number r < 15
 below_15 R0 h = omega arith
 below_15 R1 h = omega arith
 below_15 R2 h = omega arith
@@ -41,7 +41,7 @@ number_below r = elim (cases_eq (register_number r) 15) [
   | inr other ↦ omega (arith, below_15 r other)
 ]
 
-slot_below : (mode : Mode) (n : ℕ) → n < 15 → slot_of mode n < 26
+pub slot_below : (mode : Mode) (n : ℕ) → n < 15 → slot_of mode n < 26
 slot_below User n h = grind (arith, nat_tests)
 slot_below Fiq n h = grind (arith, nat_tests)
 slot_below Irq n h = grind (arith, nat_tests)
@@ -53,7 +53,7 @@ slot_same Fiq a b f h e = grind (arith, nat_tests)
 slot_same Irq a b f h e = grind (arith, nat_tests)
 slot_same Svc a b f h e = grind (arith, nat_tests)
 
-slot_of_r15 : (mode : Mode) → slot_of mode 15 ≡ 26
+pub slot_of_r15 : (mode : Mode) → slot_of mode 15 ≡ 26
 slot_of_r15 User = refl
 slot_of_r15 Fiq = refl
 slot_of_r15 Irq = refl
@@ -82,8 +82,8 @@ other_stands mode r rn base other =
     ne_eqb (place mode r) (place mode rn) (λ e. eqb-false (register_number r) (register_number rn) other
     (slot_same mode (register_number r) (register_number rn) (number_below r) (below_15 rn base) e))
 
-no_r15 : (mode : Mode) (s : ℕ) (r : Register) → s < 26 → stands_at mode s r ≡ true → is_r15 r ≡ false
-no_r15 mode s r low here = elim (cases_Bool (is_r15 r)) [
+no_r15 : (mode : Mode) (s : ℕ) (r : Register) → s < 26 → stands_at mode s r ≡ true → is_pc r ≡ false
+no_r15 mode s r low here = elim (cases_Bool (is_pc r)) [
   | inl last ↦
       let number : register_number r ≡ 15 = eqb-true (register_number r) 15 last in
       let at : place mode r ≡ 26 = ap (slot_of mode) number ∙ slot_of_r15 mode in
@@ -104,51 +104,51 @@ module _ (mode : Mode) (s : ℕ) (register : Register) (regs : List ℕ) (low : 
       → slice_index (with_loaded psr mode r register word regs) s ≡ word
   loaded_here psr r word long here =
       ap (λ (xs : List ℕ). slice_index xs s)
-      (cond-false (is_r15 register) _ _ (no_r15 mode s register low here))
+      (cond-false (is_pc register) _ _ (no_r15 mode s register low here))
       ∙ ap (λ (k : ℕ). slice_index (slice_set regs k word) s) (at_place here)
       ∙ get_or-set_same regs s word 0 (omega (arith, low, long))
 
   pub loaded_apart : (psr : Bool) (r word : ℕ) → stands_at mode s register ≡ false
       → slice_index (with_loaded psr mode r register word regs) s ≡ slice_index regs s
-  loaded_apart psr r word apart = elim (cases_Bool (is_r15 register)) [
+  loaded_apart psr r word apart = elim (cases_Bool (is_pc register)) [
     | inl last ↦
-        ap (λ (xs : List ℕ). slice_index xs s) (cond-true (is_r15 register) _ _ last)
+        ap (λ (xs : List ℕ). slice_index xs s) (cond-true (is_pc register) _ _ last)
         ∙ get_or-set_other regs 26 s (loaded_r15 psr r word) 0 apart_from_r15
     | inr other ↦
-        ap (λ (xs : List ℕ). slice_index xs s) (cond-false (is_r15 register) _ _ other)
+        ap (λ (xs : List ℕ). slice_index xs s) (cond-false (is_pc register) _ _ other)
         ∙ get_or-set_other regs (place mode register) s word 0
         (λ same. eqb-false (place mode register) s apart (sym same))
   ]
 
   pub loaded_long : (psr : Bool) (r word : ℕ) → 26 < length regs
       → 26 < length (with_loaded psr mode r register word regs)
-  loaded_long psr r word long = elim (cases_Bool (is_r15 register)) [
+  loaded_long psr r word long = elim (cases_Bool (is_pc register)) [
     | inl last ↦
-        rw (cond-true (is_r15 register) (with_r15 (loaded_r15 psr r word) regs) _ last)
+        rw (cond-true (is_pc register) (with_r15 (loaded_r15 psr r word) regs) _ last)
         (omega (arith, long, length-set regs 26 (loaded_r15 psr r word)))
     | inr other ↦
-        rw (cond-false (is_r15 register) _ (slice_set regs (place mode register) word) other)
+        rw (cond-false (is_pc register) _ (slice_set regs (place mode register) word) other)
         (omega (arith, long, length-set regs (place mode register) word))
   ]
 
   -- what a register gives to a store: one that stands at the place, and another once the place was written
   pub given_here : stands_at mode s register ≡ true → given mode register regs ≡ slice_index regs s
   given_here here =
-      cond-false (is_r15 register) _ _ (no_r15 mode s register low here)
+      cond-false (is_pc register) _ _ (no_r15 mode s register low here)
       ∙ ap (slice_index regs) (at_place here)
 
   pub given_apart : (word : ℕ) → stands_at mode s register ≡ false
       → given mode register (slice_set regs s word) ≡ given mode register regs
-  given_apart word apart = elim (cases_Bool (is_r15 register)) [
+  given_apart word apart = elim (cases_Bool (is_pc register)) [
     | inl last ↦
-        cond-true (is_r15 register) _ _ last
+        cond-true (is_pc register) _ _ last
         ∙ ap (λ (r : ℕ). r15_ahead r 12)
         (get_or-set_other regs s 26 word 0 (λ same. apart_from_r15 (sym same)))
-        ∙ sym (cond-true (is_r15 register) _ _ last)
+        ∙ sym (cond-true (is_pc register) _ _ last)
     | inr other ↦
-        cond-false (is_r15 register) _ _ other
+        cond-false (is_pc register) _ _ other
         ∙ get_or-set_other regs s (place mode register) word 0 (eqb-false (place mode register) s apart)
-        ∙ sym (cond-false (is_r15 register) _ _ other)
+        ∙ sym (cond-false (is_pc register) _ _ other)
   ]
 
 -- ## The base's write

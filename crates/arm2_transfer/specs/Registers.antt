@@ -1,8 +1,8 @@
 -- What a load or a store does to the registers (VL86C010 data sheet, data transfer; our own profile where it
 -- is silent).
-use Rattle.std.specs.Prelude.{ℕ, ◌+◌, ◌-◌, ◌%◌, ◌^◌, ◌==◌, Bool, true, false, if◌then◌else◌, List}
+use Rattle.std.specs.Prelude.{ℕ, ◌+◌, ◌-◌, ◌%◌, ◌^◌, Bool, true, false, if◌then◌else◌, List}
 use Rattle.arm2_decode.specs.declared.names.Register.{Register}
-use Rattle.arm2_decode.specs.Names.{register_number}
+use Rattle.arm2_decode.specs.Names.{is_pc, register_number}
 use Rattle.arm2_effect.specs.declared.modes.Mode.{Mode}
 use Rattle.arm2_effect.specs.declared.modes.Mode.TheVariants.{User, Fiq, Irq, Svc}
 use Rattle.arm2_effect.specs.Modes.{r15_in, with_r15, register_in, with_register}
@@ -14,9 +14,6 @@ is_user Fiq = false
 is_user Irq = false
 is_user Svc = false
 
-abbrev pub is_r15 : Register → Bool
-is_r15 register = register_number register == 15
-
 -- a base and an offset, on 32 bits
 abbrev pub moved_by : (up : Bool) → (base offset : ℕ) → ℕ
 moved_by up base offset = if up then (base + offset) % 2 ^ 32 else (base + (2 ^ 32 - offset)) % 2 ^ 32
@@ -24,7 +21,7 @@ moved_by up base offset = if up then (base + offset) % 2 ^ 32 else (base + (2 ^ 
 -- what a store takes from a register of a mode: R15 stands three words on, with its PSR and mode
 abbrev pub given : Mode → Register → List ℕ → ℕ
 given mode register regs =
-    if is_r15 register then r15_ahead (r15_in regs) 12 else register_in mode (register_number register) regs
+    if is_pc register then r15_ahead (r15_in regs) 12 else register_in mode (register_number register) regs
 
 -- a loaded word in R15, of which r was the value before the instruction: the PSR comes along where it is
 -- asked for
@@ -34,7 +31,7 @@ loaded_r15 psr r word = if psr then restored_of r word (address_of word) else ju
 -- a loaded word in a register of a mode
 abbrev pub with_loaded : (psr : Bool) → Mode → (r : ℕ) → Register → (word : ℕ) → List ℕ → List ℕ
 with_loaded psr mode r register word regs =
-    if is_r15 register then with_r15 (loaded_r15 psr r word) regs
+    if is_pc register then with_r15 (loaded_r15 psr r word) regs
     else with_register mode (register_number register) word regs
 
 -- a new base in a register of the current mode, where it is written back

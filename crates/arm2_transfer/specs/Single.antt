@@ -6,18 +6,19 @@ use Rattle.memc.specs.Memory.{located}
 use Rattle.memc.specs.declared.spots.Spot.{Spot}
 use Rattle.arm2_decode.specs.declared.instr.SingleImmediate.{SingleImmediate}
 use Rattle.arm2_decode.specs.declared.instr.SingleRegister.{SingleRegister}
+use Rattle.arm2_decode.specs.declared.names.Register.{Register}
 use Rattle.arm2_effect.specs.declared.modes.Mode.{Mode}
 use Rattle.arm2_effect.specs.declared.done.Kind.TheVariants.{Plain}
 use Rattle.arm2_effect.specs.Modes.{r15_in}
 use Rattle.arm2_effect.specs.Operands.{first_of, shifted_by_amount}
-use Rattle.arm2_decode.specs.Names.{register_number}
+use Rattle.arm2_decode.specs.Names.{is_pc}
 use Rattle.arm2_effect.specs.ProgramCounter.{address_of, mode_of}
 use Rattle.arm2_transfer.specs.declared.bus.Bus.{Bus}
 use Rattle.arm2_transfer.specs.declared.words.Trouble.{Trouble}
-use Rattle.arm2_transfer.specs.declared.single.Single.{Single}
+use Rattle.arm2_transfer.specs.declared.single_fields.Single.{Single}
 use Rattle.arm2_transfer.specs.Bus.{seen, made_of, put_single}
 use Rattle.arm2_transfer.specs.Words.{or_trouble}
-use Rattle.arm2_transfer.specs.Registers.{is_user, is_r15, moved_by, given, with_loaded, with_base, passed}
+use Rattle.arm2_transfer.specs.Registers.{is_user, moved_by, given, with_loaded, with_base, passed}
 use Rattle.arm2_transfer.specs.Moved.{Moved, out_of_space, troubled, load_accesses, store_accesses}
 
 -- the address, of 32 bits: the base, moved before the access where P is set
@@ -52,7 +53,7 @@ single_loads x base port spot regs bus =
     record {
       kind = Plain;
       accesses =
-          load_accesses (address_of (r15_in regs)) (address_for x base) 1 (is_r15 x.rd)
+          load_accesses (address_of (r15_in regs)) (address_for x base) 1 (is_pc x.rd)
           (address_of (r15_in after));
       regs = after;
       bus = bus;
@@ -91,32 +92,35 @@ single_at x base port regs bus =
 
 -- a single transfer: R15 as the base stands two words on, without its PSR and mode
 abbrev pub single_moved : Single → (port : ℕ) → List ℕ → Bus → Moved
-single_moved x port regs bus = single_at x (first_of 8 (register_number x.rn) regs) port regs bus
+single_moved x port regs bus = single_at x (first_of 8 x.rn regs) port regs bus
+
+-- the fields of a single transfer
+abbrev single : (before up byte write_back load : Bool) → (rn rd : Register) → (offset : ℕ) → Single
+single before up byte write_back load rn rd offset =
+    record {
+      before = before;
+      up = up;
+      byte = byte;
+      write_back = write_back;
+      load = load;
+      rn = rn;
+      rd = rd;
+      offset = offset;
+    }
 
 -- with the offset in the word
 abbrev pub of_immediate : SingleImmediate → Single
-of_immediate x =
-    record {
-      before = x.before;
-      up = x.up;
-      byte = x.byte;
-      write_back = x.write_back;
-      load = x.load;
-      rn = x.rn;
-      rd = x.rd;
-      offset = x.offset;
-    }
+of_immediate x = single x.before x.up x.byte x.write_back x.load x.rn x.rd x.offset
 
 -- with the offset in a register, shifted by an amount in the word
 abbrev pub of_register : SingleRegister → List ℕ → Single
 of_register x regs =
-    record {
-      before = x.before;
-      up = x.up;
-      byte = x.byte;
-      write_back = x.write_back;
-      load = x.load;
-      rn = x.rn;
-      rd = x.rd;
-      offset = (shifted_by_amount x.shift x.amount (register_number x.rm) regs).value;
-    }
+    single
+    x.before
+    x.up
+    x.byte
+    x.write_back
+    x.load
+    x.rn
+    x.rd
+    (shifted_by_amount x.shift x.amount x.rm regs).value

@@ -5,7 +5,7 @@ ghost use Rattle.arm2_transfer.specs.Block.{block_moved};
 ghost use Rattle.arm2_transfer.specs.Single.{single_moved};
 
 use crate::bus::Bus;
-use crate::single::Single;
+use crate::single_fields::Single;
 use arm2_decode::Block;
 use arm2_effect::Kind;
 

@@ -7,15 +7,16 @@
 //! constant time.
 #![tactic(auto)]
 
-mod blocks;
+mod block_transfer;
 mod bus;
 mod few;
+mod inputs;
 mod law;
 mod moved;
 mod operations;
 mod registers;
-mod single;
-mod singles;
+mod single_fields;
+mod single_transfer;
 mod span;
 mod words;
 

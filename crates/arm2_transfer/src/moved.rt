@@ -24,28 +24,39 @@ pub(crate) fn refuse(registers: &mut Registers, bus: &Bus, prices: Prices, troub
     }
 }
 
-/// The ticks of a load by the instruction at `from`, of so many words from `address` on; where it writes R15
-/// it jumps to `to`.
-pub(crate) fn load_ticks(
-    prices: Prices,
-    from: u32,
-    address: u32,
-    words: u32,
-    jumps: bool,
-    to: u32,
-) -> u32
-    requires from { from < 2 ^ 26 }
-    requires from_aligned { from % 4 ≡ 0 }
-    requires address { address < 2 ^ 26 }
-    requires some { 1 ≤ words }
-    requires few { words ≤ 16 }
+/// The words of a transfer in memory.
+#[derive(Clone, Copy)]
+pub struct Accesses {
+    /// The address of the instruction, a multiple of 4 below 2^26.
+    pub from: u32,
+    /// The address of the first word, below 2^26.
+    pub address: u32,
+    /// How many words, from 1 to 16.
+    pub words: u32,
+}
+
+/// The ticks of a load; where it writes R15 it jumps to `to`.
+pub(crate) fn load_ticks(prices: Prices, accesses: Accesses, jumps: bool, to: u32) -> u32
+    requires from { accesses.from < 2 ^ 26 }
+    requires from_aligned { accesses.from % 4 ≡ 0 }
+    requires address { accesses.address < 2 ^ 26 }
+    requires some { 1 ≤ accesses.words }
+    requires few { accesses.words ≤ 16 }
     requires to { to < 2 ^ 26 }
     requires to_aligned { to % 4 ≡ 0 }
-    ensures ticks { result ≡ ticks_of prices.profile prices.rom (load_accesses from address words jumps to) }
+    ensures ticks { result
+        ≡ ticks_of prices.profile prices.rom
+        (load_accesses accesses.from accesses.address accesses.words jumps to) }
     ensures bound { result < 2 ^ 16 }
 {
-    let moved = transfer(&prices.profile, address, words, false, prices.rom);
-    let ticks = prices.straight(from) + moved + prices.internal(1);
+    let moved = transfer(
+        &prices.profile,
+        accesses.address,
+        accesses.words,
+        false,
+        prices.rom,
+    );
+    let ticks = prices.straight(accesses.from) + moved + prices.internal(1);
     if jumps {
         ticks + prices.refill(to)
     } else {
@@ -54,7 +65,7 @@ pub(crate) fn load_ticks(
 }
 
 // The ticks of the fetch after a store by the instruction at `from`: it does not follow the access before it.
-fn fetch_behind(prices: Prices, from: u32) -> u32
+fn fetch_after(prices: Prices, from: u32) -> u32
     requires from { from < 2 ^ 26 }
     requires from_aligned { from % 4 ≡ 0 }
     ensures price { result ≡ n_price prices.profile prices.rom (ahead_of from 8) }
@@ -63,15 +74,24 @@ fn fetch_behind(prices: Prices, from: u32) -> u32
     fetch_n(&prices.profile, ahead(from, 8), prices.rom)
 }
 
-/// The ticks of a store by the instruction at `from`, of so many words from `address` on.
-pub(crate) fn store_ticks(prices: Prices, from: u32, address: u32, words: u32) -> u32
-    requires from { from < 2 ^ 26 }
-    requires from_aligned { from % 4 ≡ 0 }
-    requires address { address < 2 ^ 26 }
-    requires some { 1 ≤ words }
-    requires few { words ≤ 16 }
-    ensures ticks { result ≡ ticks_of prices.profile prices.rom (store_accesses from address words) }
+/// The ticks of a store.
+pub(crate) fn store_ticks(prices: Prices, accesses: Accesses) -> u32
+    requires from { accesses.from < 2 ^ 26 }
+    requires from_aligned { accesses.from % 4 ≡ 0 }
+    requires address { accesses.address < 2 ^ 26 }
+    requires some { 1 ≤ accesses.words }
+    requires few { accesses.words ≤ 16 }
+    ensures ticks { result
+        ≡ ticks_of prices.profile prices.rom
+        (store_accesses accesses.from accesses.address accesses.words) }
     ensures bound { result < 2 ^ 16 }
 {
-    fetch_behind(prices, from) + transfer(&prices.profile, address, words, true, prices.rom)
+    let moved = transfer(
+        &prices.profile,
+        accesses.address,
+        accesses.words,
+        true,
+        prices.rom,
+    );
+    fetch_after(prices, accesses.from) + moved
 }

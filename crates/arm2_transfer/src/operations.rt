@@ -3,9 +3,10 @@ ghost use Rattle.arm2_effect.specs.Effects.{is_stopped};
 ghost use Rattle.arm2_transfer.specs.Moved.{ChangesNothing, IsMoved};
 ghost use Rattle.arm2_transfer.specs.Operations.{operation_moved};
 
-use crate::blocks::block;
+use crate::block_transfer::block;
 use crate::bus::Bus;
-use crate::singles::{single_immediate, single_register};
+use crate::inputs::Inputs;
+use crate::single_transfer::{single_immediate, single_register};
 use arm2_decode::Operation;
 use arm2_effect::{Done, Prices, Registers};
 
@@ -26,14 +27,11 @@ pub fn execute(
     ensures stopped { is_stopped result.kind ≡ true
         → ChangesNothing result registers.old registers.new bus.old bus.new }
 {
+    let inputs = Inputs { port, prices };
     match operation {
-        Operation::SingleImmediate(transfer) => single_immediate(
-            registers, bus, port, prices, transfer,
-        ),
-        Operation::SingleRegister(transfer) => single_register(
-            registers, bus, port, prices, transfer,
-        ),
-        Operation::Block(transfer) => block(registers, bus, port, prices, transfer),
+        Operation::SingleImmediate(fields) => single_immediate(registers, bus, inputs, fields),
+        Operation::SingleRegister(fields) => single_register(registers, bus, inputs, fields),
+        Operation::Block(transfer) => block(registers, bus, inputs, transfer),
         _ => registers.execute(prices, operation),
     }
 }

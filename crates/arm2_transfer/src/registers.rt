@@ -1,5 +1,5 @@
 ghost use Rattle.std.specs.Prelude.{◌≡◌, ◌<◌, ◌^◌};
-ghost use Rattle.arm2_transfer.specs.Registers.{is_r15, is_user, moved_by, given, with_loaded, with_base};
+ghost use Rattle.arm2_transfer.specs.Registers.{is_user, moved_by, given, with_loaded, with_base};
 ghost use Rattle.arm2_transfer.specs.Registers.{passed, loaded_r15};
 
 use arm2_decode::Register;
@@ -9,12 +9,6 @@ pub(crate) fn is_user(mode: Mode) -> bool
     ensures { result ≡ is_user mode }
 {
     matches!(mode, Mode::User)
-}
-
-pub(crate) fn is_r15(register: Register) -> bool
-    ensures { result ≡ is_r15 register }
-{
-    register.number() == 15
 }
 
 /// A base and an offset, on 32 bits.
@@ -32,7 +26,7 @@ pub(crate) fn moved_by(up: bool, base: u32, offset: u32) -> u32
 pub(crate) fn give(registers: &Registers, mode: Mode, register: Register) -> u32
     ensures { result ≡ given mode register registers.now }
 {
-    if is_r15(register) {
+    if register.is_pc() {
         advanced(registers.get(Reg::R15), 12)
     } else {
         registers.read(mode, register)
@@ -49,21 +43,26 @@ fn load_r15(psr: bool, r15: u32, word: u32) -> u32
     }
 }
 
-/// A loaded word enters its register; `r15` is R15 as it was before the instruction.
-pub(crate) fn enter(
-    registers: &mut Registers,
-    psr: bool,
-    mode: Mode,
-    r15: u32,
-    register: Register,
-    word: u32,
-)
-    ensures { registers.new ≡ with_loaded psr mode r15 register word registers.old }
+/// How a load enters words into the registers.
+#[derive(Clone, Copy)]
+pub struct Loading {
+    /// Whether the PSR comes along with R15.
+    pub psr: bool,
+    /// Whose registers are loaded.
+    pub mode: Mode,
+    /// R15 as it was before the instruction.
+    pub r15: u32,
+}
+
+/// A loaded word enters its register.
+pub(crate) fn enter(registers: &mut Registers, loading: Loading, register: Register, word: u32)
+    ensures { registers.new
+        ≡ with_loaded loading.psr loading.mode loading.r15 register word registers.old }
 {
-    if is_r15(register) {
-        registers.set(Reg::R15, load_r15(psr, r15, word));
+    if register.is_pc() {
+        registers.set(Reg::R15, load_r15(loading.psr, loading.r15, word));
     } else {
-        registers.write(mode, register, word);
+        registers.write(loading.mode, register, word);
     }
 }
 

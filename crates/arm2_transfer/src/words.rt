@@ -1,11 +1,11 @@
 ghost use Rattle.std.specs.Prelude.{◌≡◌, ◌<◌, ◌≤◌, ◌^◌, length, IfOk};
-ghost use Rattle.bus_ticks.specs.Prices.{word_address};
 ghost use Rattle.memc.specs.Memory.{Fits, located};
 ghost use Rattle.arm2_transfer.specs.Words.{all_registers, is_listed, registers_in, or_trouble, words_from};
 ghost use Rattle.arm2_transfer.specs.Words.{verdict_of, AllFit};
 
 use crate::few::Few;
 use arm2_decode::Register;
+use bus_ticks::word_address;
 use memc::{Memc, Refused, Spot};
 
 /// Why no word of a transfer is moved.
@@ -71,15 +71,6 @@ pub(crate) fn locate_word(
         Err(Refused::NoPage | Refused::Protected) => Err(Trouble::DataAbort),
         Err(Refused::UnsupportedWrite) => Err(Trouble::UnsupportedWrite),
     }
-}
-
-fn word_address(lowest: u32, word: u32) -> u32
-    requires below { lowest < 2 ^ 26 }
-    requires few { word < 16 }
-    ensures address { result ≡ word_address lowest word }
-    ensures below { result < 2 ^ 26 }
-{
-    4 * (lowest / 4 + word) % 0x400_0000
 }
 
 /// Where the words of some registers go or come from, from the lowest address on.

@@ -1,4 +1,5 @@
 pub mod PieceLaws
+pub mod HexLaws
 mod NameLaws
 pub mod WordLaws
 pub mod Capped
@@ -10,5 +11,5 @@ mod SpelledNames
 mod SpelledShifts
 mod SpelledAddresses
 mod SpelledLists
-mod WordEnds
+pub mod WordEnds
 mod SpelledLines

@@ -3,7 +3,7 @@ use Rattle.std.proofs.Common.{◌≡◌, ℕ, suc, ◌+◌, ◌<◌, ◌≤◌, 
 use Rattle.std.specs.List.{prefix_len, list_all}
 use Rattle.std.proofs.Common.{length-take, length-drop, eqb-true}
 use Rattle.std.proofs.lemmas.List.{take-append-drop, take_all}
-use Rattle.std.proofs.lemmas.Bool.{cases_lt}
+use Rattle.std.proofs.lemmas.Bool.{cases_lt, cases_Bool}
 use Rattle.std.proofs.lemmas.List.Sums.{prefix_len-le-length}
 use Rattle.std.proofs.lemmas.Bool.{and_parts}
 use Rattle.std.proofs.lemmas.Bool.Decides.{nat_tests}
@@ -16,10 +16,6 @@ use Rattle.asm_text.specs.declared.token.Mark.{Mark}
 use Rattle.asm_text.specs.declared.token.Token.{Token}
 use Rattle.asm_text.specs.Pieces.{piece_of, Piece, Run, Comma, Sign, Gap, is_blank, is_name, first_blank, name_before, gap_before, without_gap, byte_before, mark_of, pieces}
 use Rattle.asm_text.specs.Lines.{IsBlanks, Written, starts_run, starts_gap, may_follow_gap, WellSpaced}
-
-pub cases : (b : Bool) → (b ≡ true) ⊎ (b ≡ false)
-cases true = inl refl
-cases false = inr refl
 
 -- ---- one byte
 
@@ -44,9 +40,9 @@ pub first_no_gap : (bs : List ℕ) → first_blank bs ≡ false → starts_gap (
 unfolding pieces
 first_no_gap [] h = refl
 first_no_gap (b ∷ bs) h =
-    elim (cases (is_name b)) [
+    elim (cases_Bool (is_name b)) [
       | inl n ↦ rw (at_name b (pieces bs) n) (name_first b (pieces bs))
-      | inr n ↦ elim (cases (b == 44)) [
+      | inr n ↦ elim (cases_Bool (b == 44)) [
         | inl k ↦ rw (h, n, k) refl
         | inr k ↦ rw (h, n, k) refl
       ]
@@ -74,9 +70,9 @@ pub first_no_run : (bs : List ℕ) → first_name bs ≡ false → starts_run (p
 unfolding pieces
 first_no_run [] h = refl
 first_no_run (b ∷ bs) h =
-    elim (cases (is_blank b)) [
+    elim (cases_Bool (is_blank b)) [
       | inl k ↦ rw (at_blank b (pieces bs) k) (gap_no_run (pieces bs))
-      | inr k ↦ elim (cases (b == 44)) [
+      | inr k ↦ elim (cases_Bool (b == 44)) [
         | inl e ↦ rw (k, h, e) refl
         | inr e ↦ rw (k, h, e) refl
       ]
@@ -167,11 +163,11 @@ first_passes p (b ∷ bs) = p b
 
 pub prefix_all : (p : ℕ → Bool) (text : List ℕ) → list_all p (take (prefix_len p text) text) ≡ true
 prefix_all p [] = refl
-prefix_all p (b ∷ bs) = elim (cases (p b)) [ inl h ↦ let m : 1 + prefix_len p bs ≡ suc (prefix_len p bs) = omega arith in rw (h, m, h) (prefix_all p bs) | inr h ↦ rw h refl ]
+prefix_all p (b ∷ bs) = elim (cases_Bool (p b)) [ inl h ↦ let m : 1 + prefix_len p bs ≡ suc (prefix_len p bs) = omega arith in rw (h, m, h) (prefix_all p bs) | inr h ↦ rw h refl ]
 
 pub prefix_stop : (p : ℕ → Bool) (text : List ℕ) → first_passes p (drop (prefix_len p text) text) ≡ false
 prefix_stop p [] = refl
-prefix_stop p (b ∷ bs) = elim (cases (p b)) [ inl h ↦ let m : 1 + prefix_len p bs ≡ suc (prefix_len p bs) = omega arith in rw (h, m) (prefix_stop p bs) | inr h ↦ rw (h, h) refl ]
+prefix_stop p (b ∷ bs) = elim (cases_Bool (p b)) [ inl h ↦ let m : 1 + prefix_len p bs ≡ suc (prefix_len p bs) = omega arith in rw (h, m) (prefix_stop p bs) | inr h ↦ rw (h, h) refl ]
 
 pub same_blank : (bs : List ℕ) → first_passes is_blank bs ≡ first_blank bs
 same_blank [] = refl
@@ -271,11 +267,11 @@ unfolding pieces
 pieces_written [] = refl
 pieces_written (b ∷ bs) =
     let w = pieces_written bs in
-    elim (cases (is_blank b)) [
+    elim (cases_Bool (is_blank b)) [
       | inl h ↦ rw (at_blank b (pieces bs) h) (written_gap b (pieces bs) bs h w)
-      | inr h ↦ elim (cases (is_name b)) [
+      | inr h ↦ elim (cases_Bool (is_name b)) [
         | inl n ↦ rw (at_name b (pieces bs) n) (written_name b (pieces bs) bs n w)
-        | inr n ↦ elim (cases (b == 44)) [
+        | inr n ↦ elim (cases_Bool (b == 44)) [
           | inl e ↦ let is : b ≡ 44 = eqb-true b 44 e in
               rw is (written_comma (pieces bs) bs w)
           | inr e ↦ rw (at_sign b (pieces bs) h n e) (b, bs, refl, h, n, e, refl, w)
@@ -316,11 +312,11 @@ unfolding pieces
 pieces_spaced [] = tt
 pieces_spaced (b ∷ bs) =
     let s = pieces_spaced bs in
-    elim (cases (is_blank b)) [
+    elim (cases_Bool (is_blank b)) [
       | inl h ↦ rw (at_blank b (pieces bs) h) (spaced_gap (pieces bs) s)
-      | inr h ↦ elim (cases (is_name b)) [
+      | inr h ↦ elim (cases_Bool (is_name b)) [
         | inl n ↦ rw (at_name b (pieces bs) n) (spaced_name b (pieces bs) s)
-        | inr n ↦ elim (cases (b == 44)) [
+        | inr n ↦ elim (cases_Bool (b == 44)) [
           | inl e ↦ let is : b ≡ 44 = eqb-true b 44 e in
               rw is (spaced_comma (pieces bs) s)
           | inr e ↦ rw (at_sign b (pieces bs) h n e) s
@@ -343,7 +339,7 @@ name_len_text [] lt e = absurd (omega arith)
 name_len_text (b ∷ bs) lt e = run_first (b ∷ bs) e
 
 no_comma : (b : ℕ) → b ≢ 44 → (b == 44) ≡ false
-no_comma b h = elim (cases (b == 44)) [ inl e ↦ absurd (h (eqb-true b 44 e)) | inr e ↦ e ]
+no_comma b h = elim (cases_Bool (b == 44)) [ inl e ↦ absurd (h (eqb-true b 44 e)) | inr e ↦ e ]
 
 pub sign_text : (text : List ℕ) → 0 < length text → first_blank text ≡ false → is_name (get_or text 0 0) ≡ false → get_or text 0 0 ≢ 44 → pieces text ≡ Sign (mark_of (get_or text 0 0)) ∷ pieces (drop 1 text)
 sign_text [] lt e h k = absurd (omega arith)
@@ -362,7 +358,7 @@ solid_follows : (rest : List ℕ) → first_blank rest ≡ false → 0 < length 
 unfolding pieces
 solid_follows [] h lt k = absurd (omega arith)
 solid_follows (b ∷ bs) h lt k =
-    elim (cases (is_name b)) [
+    elim (cases_Bool (is_name b)) [
       | inl n ↦ rw (at_name b (pieces bs) n) (name_follows b (pieces bs))
       | inr n ↦ rw (at_sign b (pieces bs) h n (no_comma b k)) refl
     ]

@@ -7,8 +7,8 @@ use Rattle.std.proofs.lemmas.Bool.{and_parts}
 use Rattle.std.proofs.lemmas.Bool.Decides.{nat_tests}
 use Rattle.asm_text.specs.Pieces.{Piece, Run, Comma, Sign, Gap, gap_before, is_blank, is_name, mark_of, name_before, pieces, without_gap}
 use Rattle.asm_text.specs.Said.{Target, Number, Label, Said, Codes, Refers, Orgs, Lists}
-use Rattle.asm_text.specs.declared.shown.Shown.{Shown}
-use Rattle.asm_text.specs.declared.shown.Shown.TheVariants as shown
+use Rattle.asm_text.specs.declared.printed_lines.Shown.{Shown}
+use Rattle.asm_text.specs.declared.printed_lines.Shown.TheVariants as shown
 use Rattle.asm_text.specs.declared.statement.Wrong.{Wrong}
 use Rattle.asm_text.specs.declared.statement.Wrong.TheVariants.{UnknownWord}
 use Rattle.asm_text.specs.Lines.{starts_run}
@@ -66,7 +66,7 @@ gap_parsed (Comma ∷ ps) h = absurd cc
 gap_parsed (Sign m ∷ ps) h = absurd cc
 gap_parsed (Gap ∷ ps) h = absurd cc
 
-blank_pieces : (text : List ℕ) → pieces (32 ∷ text) ≡ gap_before (pieces text)
+pub blank_pieces : (text : List ℕ) → pieces (32 ∷ text) ≡ gap_before (pieces text)
 unfolding pieces
 blank_pieces text = refl
 

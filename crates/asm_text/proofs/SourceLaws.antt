@@ -2,9 +2,9 @@
 use Rattle.std.proofs.Common.{◌≡◌, ℕ, suc, ◌+◌, ◌-◌, ◌<◌, Bool, true, false, cond, not, ◌==◌, ◌&&◌, List, [], ◌∷◌, ◌++◌, length, take, drop, get_or, refl, sym, ap, ◌∙◌, inl, inr, eqb-true, arith}
 use Rattle.std.specs.List.{list_all}
 use Rattle.std.proofs.lemmas.List.{take-append-drop, take_all, drop_more}
-use Rattle.std.proofs.lemmas.Bool.{and_parts}
+use Rattle.std.proofs.lemmas.Bool.{and_parts, cases_Bool}
 use Rattle.asm_text.specs.Source.{feed_len, in_front, lines_of, no_return, starts_feed}
-use Rattle.asm_text.proofs.PieceLaws.{cases, first_passes, prefix_all, prefix_stop}
+use Rattle.asm_text.proofs.PieceLaws.{first_passes, prefix_all, prefix_stop}
 
 pub line_none : lines_of [] ≡ []
 unfolding lines_of
@@ -18,10 +18,10 @@ abbrev no_feed : ℕ → Bool
 no_feed b = not (b == 10)
 
 other : (b : ℕ) → no_feed b ≡ true → (b == 10) ≡ false
-other b h = elim (cases (b == 10)) [ inl e ↦ let k : not true ≡ true = rw e at h in absurd cc | inr e ↦ e ]
+other b h = elim (cases_Bool (b == 10)) [ inl e ↦ let k : not true ≡ true = rw e at h in absurd cc | inr e ↦ e ]
 
 feed : (b : ℕ) → no_feed b ≡ false → b ≡ 10
-feed b h = elim (cases (b == 10)) [ inl e ↦ eqb-true b 10 e | inr e ↦ let k : not false ≡ false = rw e at h in absurd cc ]
+feed b h = elim (cases_Bool (b == 10)) [ inl e ↦ eqb-true b 10 e | inr e ↦ let k : not false ≡ false = rw e at h in absurd cc ]
 
 line_step : (b : ℕ) (bs : List ℕ) → lines_of (b ∷ bs) ≡ cond (b == 10) ([] ∷ lines_of bs) (cond (b == 13 && starts_feed bs) (lines_of bs) (in_front b (lines_of bs)))
 unfolding lines_of
@@ -34,7 +34,7 @@ feed_step : (rest : List ℕ) → lines_of (10 ∷ rest) ≡ [] ∷ lines_of res
 feed_step rest = line_step 10 rest
 
 no_end : (b : ℕ) (bs : List ℕ) → starts_feed bs ≡ false → (b == 13 && starts_feed bs) ≡ false
-no_end b bs h = elim (cases (b == 13)) [ inl e ↦ rw (e, h) refl | inr e ↦ rw e refl ]
+no_end b bs h = elim (cases_Bool (b == 13)) [ inl e ↦ rw (e, h) refl | inr e ↦ rw e refl ]
 
 -- without an LF it is one line
 one_line : (b : ℕ) (bs : List ℕ) → list_all no_feed (b ∷ bs) ≡ true → lines_of (b ∷ bs) ≡ (b ∷ bs) ∷ []

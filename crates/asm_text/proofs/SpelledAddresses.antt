@@ -8,14 +8,15 @@ use Rattle.asm_text.specs.Registers.{register_first}
 use Rattle.asm_text.specs.Operands.{Offset, address, address_of, after_of, bang_of, based, before_of, by_amount, closed_of, number_offset, offset_first, plain_of, register_offset, shifting_first, signed_offset, all_read}
 use Rattle.asm_text.specs.SpelledOperands.{IsRegister, SpellsAddress, SpellsAfter, SpellsBase, SpellsBefore, SpellsNumber, SpellsOffset, SpellsShifting, marked}
 use Rattle.asm_text.specs.declared.token.Mark.TheVariants.{Hash, Minus, Bang, CloseBracket}
-use Rattle.asm_text.specs.declared.said.Amount.{Amount}
-use Rattle.asm_text.specs.declared.said.Shifting.{Shifting}
-use Rattle.asm_text.specs.declared.said.Shifting.TheVariants as shifting
-use Rattle.asm_text.specs.declared.said.Distance.{Distance}
-use Rattle.asm_text.specs.declared.said.Distance.TheVariants as distance
-use Rattle.asm_text.specs.declared.said.Address.{Address}
+use Rattle.asm_text.specs.declared.syntax.Amount.{Amount}
+use Rattle.asm_text.specs.declared.syntax.Shifting.{Shifting}
+use Rattle.asm_text.specs.declared.syntax.Shifting.TheVariants as shifting
+use Rattle.asm_text.specs.declared.syntax.Distance.{Distance}
+use Rattle.asm_text.specs.declared.syntax.Distance.TheVariants as distance
+use Rattle.asm_text.specs.declared.syntax.Address.{Address}
 use Rattle.std.proofs.lemmas.List.{append-nil}
-use Rattle.asm_text.proofs.WordLaws.{nothing_is, some_is}
+use Rattle.std.proofs.lemmas.Option.{none-some}
+use Rattle.asm_text.proofs.WordLaws.{some_is}
 use Rattle.asm_text.proofs.SpelledNames.{and_then_is, front_number, front_register, map_is, number_front, register_again, register_front, whole_is}
 use Rattle.asm_text.proofs.SpelledShifts.{ends_shift, front_shifting, shifting_front}
 
@@ -39,7 +40,7 @@ number_offset_is ps f e = signed_is true ps f e
 
 amount_is : (up : Bool) (m : Register) (s : Shifting) (qs : List Piece) (f : Offset × List Piece) → by_amount up m (s, qs) ≡ Some f → (a : Amount) × (s ≡ shifting.Amount a) × (((up, distance.Register m a), qs) ≡ f)
 amount_is up m (shifting.Amount a) qs f e = (a, refl, some_is ((up, distance.Register m a), qs) f e)
-amount_is up m (shifting.Register s r) qs f e = absurd (nothing_is f e)
+amount_is up m (shifting.Register s r) qs f e = absurd (none-some f e)
 
 -- a register, with its sign in front
 register_offset_is : (up : Bool) (ps : List Piece) (f : Offset × List Piece) → register_offset up ps ≡ Some f → FrontOffset (marked (not up) Minus ++ ps) f
@@ -84,8 +85,8 @@ whole_offset up d ps h = ap (λ (qs : List Piece). all_read (offset_first qs)) (
 bang_is : (ps : List Piece) (w : Bool) → bang_of ps ≡ Some w → ps ≡ marked w Bang
 bang_is [] w e = ap (λ b. marked b Bang) (some_is false w e)
 bang_is (Sign Bang ∷ []) w e = ap (λ b. marked b Bang) (some_is true w e)
-bang_is (Sign Bang ∷ p ∷ ps) w e = absurd (nothing_is w e)
-bang_is _ w e = absurd (nothing_is w e)
+bang_is (Sign Bang ∷ p ∷ ps) w e = absurd (none-some w e)
+bang_is _ w e = absurd (none-some w e)
 
 bang_again : (w : Bool) → bang_of (marked w Bang) ≡ Some w
 bang_again true = refl
@@ -93,7 +94,7 @@ bang_again false = refl
 
 closed_is : (ps : List Piece) (w : Bool) → closed_of ps ≡ Some w → ps ≡ Sign CloseBracket ∷ marked w Bang
 closed_is (Sign CloseBracket ∷ ps) w e = ap (λ (qs : List Piece). Sign CloseBracket ∷ qs) (bang_is ps w e)
-closed_is _ w e = absurd (nothing_is w e)
+closed_is _ w e = absurd (none-some w e)
 
 -- ---- addresses
 
@@ -118,7 +119,7 @@ after_is user t n ps x r e =
     (record { after = refl; rights = refl; n = t; offset = ps; spelled = refl; n-is = r; offset-is = offset_whole ps o.0 o.1 })
 
 plain_is : (user : Bool) (t : List ℕ) (n : Register) (ps : List Piece) (x : Address) → IsRegister t n → cond user None (plain_of n ps) ≡ Some x → SpellsAddress user x (Run t ∷ Sign CloseBracket ∷ ps)
-plain_is true t n ps x r e = absurd (nothing_is x e)
+plain_is true t n ps x r e = absurd (none-some x e)
 plain_is false t n ps x r e = inl (refl, base_is t n ps x r e)
 
 closed_after : (user : Bool) (t : List ℕ) (n : Register) (ps : List Piece) (x : Address) → IsRegister t n → after_of user n ps ≡ Some x → SpellsAddress user x (Run t ∷ Sign CloseBracket ∷ ps)
@@ -126,13 +127,13 @@ closed_after user t n (Comma ∷ ps) x r e = inr (inr (after_is user t n ps x r 
 closed_after user t n ps x r e = plain_is user t n ps x r e
 
 comma_after : (user : Bool) (t : List ℕ) (n : Register) (ps : List Piece) (x : Address) → IsRegister t n → cond user None (before_of n ps) ≡ Some x → SpellsAddress user x (Run t ∷ Comma ∷ ps)
-comma_after true t n ps x r e = absurd (nothing_is x e)
+comma_after true t n ps x r e = absurd (none-some x e)
 comma_after false t n ps x r e = inr (inl (refl, before_is t n ps x r e))
 
 based_is : (user : Bool) (t : List ℕ) (n : Register) (ps : List Piece) (x : Address) → IsRegister t n → based user n ps ≡ Some x → SpellsAddress user x (Run t ∷ ps)
 based_is user t n (Sign CloseBracket ∷ ps) x r e = closed_after user t n ps x r e
 based_is user t n (Comma ∷ ps) x r e = comma_after user t n ps x r e
-based_is user t n _ x r e = absurd (nothing_is x e)
+based_is user t n _ x r e = absurd (none-some x e)
 
 pub address_is : (user : Bool) (ps : List Piece) (x : Address) → address_of user ps ≡ Some x → SpellsAddress user x ps
 address_is user ps x e =

@@ -2,8 +2,9 @@
 use Rattle.std.proofs.Common.{◌≡◌, ℕ, Bool, true, false, cond, not, ◌==◌, List, [], ◌∷◌, ◌++◌, Option, Some, None, Result, Ok, Err, refl, sym, ap, subst, ◌∙◌, inl, inr, take, drop, length, arith, eqb-true}
 use Rattle.std.specs.Prelude.{option_and_then}
 use Rattle.std.specs.List.{list_all}
-use Rattle.std.proofs.lemmas.Bool.{and_parts}
+use Rattle.std.proofs.lemmas.Bool.{and_parts, cases_Bool}
 use Rattle.std.proofs.lemmas.List.{take-append-drop}
+use Rattle.std.proofs.lemmas.Option.{none-some}
 use Rattle.arm2_decode.specs.declared.names.Cond.{Cond}
 use Rattle.arm2_decode.specs.declared.names.Register.{Register}
 use Rattle.asm_text.specs.Pieces.{Piece, Run, Comma, Sign, Gap, pieces}
@@ -20,15 +21,15 @@ use Rattle.asm_text.specs.declared.names.Head.TheVariants as head
 use Rattle.asm_text.specs.declared.names.Suffix.{Suffix}
 use Rattle.asm_text.specs.declared.word.Word.{Word}
 use Rattle.asm_text.specs.declared.word.Word.TheVariants.{Plain, Branch, Org, Dcd}
-use Rattle.asm_text.specs.declared.said.Action.{Action}
-use Rattle.asm_text.specs.declared.said.Action.TheVariants as action
-use Rattle.asm_text.specs.declared.said.Use.{Use}
-use Rattle.asm_text.specs.declared.said.Use.TheVariants as use_of
+use Rattle.asm_text.specs.declared.syntax.Action.{Action}
+use Rattle.asm_text.specs.declared.syntax.Action.TheVariants as action
+use Rattle.asm_text.specs.declared.syntax.Use.{Use}
+use Rattle.asm_text.specs.declared.syntax.Use.TheVariants as use_of
 use Rattle.asm_text.specs.declared.statement.Expects.TheVariants as expects
 use Rattle.asm_text.specs.declared.statement.Wrong.{Wrong}
 use Rattle.asm_text.specs.declared.statement.Wrong.TheVariants.{NotText, UnknownWord}
-use Rattle.asm_text.proofs.PieceLaws.{cases, first_passes, pieces_again, pieces_spaced, pieces_written, prefix_all, prefix_stop}
-use Rattle.asm_text.proofs.WordLaws.{chosen, nothing_is, spelled_again, spelled_is}
+use Rattle.asm_text.proofs.PieceLaws.{first_passes, pieces_again, pieces_spaced, pieces_written, prefix_all, prefix_stop}
+use Rattle.asm_text.proofs.WordLaws.{chosen, spelled_again, spelled_is}
 use Rattle.asm_text.proofs.SpelledNames.{and_then_is, front_register_comma, map_is, number_whole, register_comma_front, whole_number}
 use Rattle.asm_text.proofs.SpelledShifts.{data_again, data_is, product_again, product_is}
 use Rattle.asm_text.proofs.SpelledAddresses.{address_again, address_is}
@@ -53,7 +54,7 @@ action_is (head.Block load) s ps a e =
 action_is head.Swi s ps a e =
     let k = map_is action.Swi (only_number ps) a e in
     subst (λ x. SpellsAction x head.Swi s ps) k.2 (number_whole ps k.0 k.1)
-action_is _ s ps a e = absurd (nothing_is a e)
+action_is _ s ps a e = absurd (none-some a e)
 
 code_is : (h : Head) (c : Cond) (s : Suffix) (ps : List Piece) (x : Said) → code_said h c s ps ≡ Some x → SpellsOperands x (Plain h c s) ps
 code_is h c s ps x e =
@@ -74,7 +75,7 @@ at_target : (c : Cond) (load : Bool) (s : Suffix) (d : Register) (t : List ℕ) 
     → cond (is_user s) None (refers c (use_of.Transfer load (is_byte s) d) ps) ≡ Some x → SpellsOperands x (Plain (head.Single load) c s) (Run t ∷ Comma ∷ ps)
 at_target c load s d t ps x r e =
     elim (chosen (is_user s) None (refers c (use_of.Transfer load (is_byte s) d) ps) (Some x) e) [
-      | inl h ↦ absurd (nothing_is x h.1)
+      | inl h ↦ absurd (none-some x h.1)
       | inr h ↦
           let k = refers_is c (use_of.Transfer load (is_byte s) d) ps x h.1 in
           subst (λ y. SpellsOperands y (Plain (head.Single load) c s) (Run t ∷ Comma ∷ ps)) k.2
@@ -216,7 +217,7 @@ abbrev no_semicolon : ℕ → Bool
 no_semicolon b = not (b == 59)
 
 semicolon : (b : ℕ) → no_semicolon b ≡ false → b ≡ 59
-semicolon b h = elim (cases (b == 59)) [ inl e ↦ eqb-true b 59 e | inr e ↦ let k : not false ≡ false = rw e at h in absurd cc ]
+semicolon b h = elim (cases_Bool (b == 59)) [ inl e ↦ eqb-true b 59 e | inr e ↦ let k : not false ≡ false = rw e at h in absurd cc ]
 
 comment_is : (text : List ℕ) → first_passes no_semicolon text ≡ false → list_all is_comment_text text ≡ true → IsComment text
 comment_is [] h all = inl refl

@@ -4,7 +4,7 @@ use Rattle.std.specs.Prelude.{◌==◌, ◌||◌, nat_le, nat_lt, length, bit_or
 use Rattle.std.specs.Char.{is_ascii_alphabetic, is_digit}
 use Rattle.std.specs.List.{fold}
 use Rattle.std.proofs.Common.{eqb-true}
-use Rattle.std.proofs.lemmas.Bool.{and_parts}
+use Rattle.std.proofs.lemmas.Bool.{and_parts, cases_Bool}
 use Rattle.std.proofs.lemmas.Bool.Decides.{nat_tests}
 use Rattle.arm2_decode.specs.declared.names.Register.{Register}
 use Rattle.arm2_decode.specs.Names.{register_number}
@@ -22,12 +22,12 @@ use Rattle.asm_text.specs.declared.list.Place.{Place}
 use Rattle.asm_text.specs.declared.list.Place.TheVariants as place
 use Rattle.asm_text.specs.declared.list.Step.{Step}
 use Rattle.asm_text.specs.declared.list.Step.TheVariants as step
-use Rattle.asm_text.specs.declared.said.BlockTransfer.{BlockTransfer}
+use Rattle.asm_text.specs.declared.syntax.BlockTransfer.{BlockTransfer}
 use Rattle.asm_text.specs.declared.statement.Expects.{Expects}
 use Rattle.asm_text.specs.declared.statement.Expects.TheVariants as expects
 use Rattle.std.proofs.lemmas.List.{append-nil}
-use Rattle.asm_text.proofs.PieceLaws.{cases}
-use Rattle.asm_text.proofs.WordLaws.{chosen, nothing_is, some_is}
+use Rattle.std.proofs.lemmas.Option.{none-some}
+use Rattle.asm_text.proofs.WordLaws.{chosen, some_is}
 use Rattle.asm_text.proofs.SpelledNames.{and_then_is, digits_again, digits_is, front_register, map_is, number_again, number_front, number_is, register_again, register_front, register_is, whole_is, with_rest_is}
 
 -- ---- a list, one more in front
@@ -77,14 +77,14 @@ bits_is : (a b : Register) (bits : ℕ) → run_bits a b ≡ Some bits → (regi
 bits_is a b bits e =
     elim (chosen (nat_le (register_number a) (register_number b)) (Some (bits_of (a, b))) None (Some bits) e) [
       | inl h ↦ (grind (arith, nat_tests, h.0), sym (some_is (bits_of (a, b)) bits h.1))
-      | inr h ↦ absurd (nothing_is bits h.1)
+      | inr h ↦ absurd (none-some bits h.1)
     ]
 
 bits_again : (a b : Register) → register_number a ≤ register_number b → run_bits a b ≡ Some (bits_of (a, b))
 bits_again a b le = let k : nat_le (register_number a) (register_number b) ≡ true = grind (arith, nat_tests, le) in rw k refl
 
 by_is : (on : ℕ → Place → Option (ℕ × List Piece)) (ps : List Piece) (o : Option Step) (f : ℕ × List Piece) → list_by on ps o ≡ Some f → (s : Step) × (o ≡ Some s) × (list_by on ps (Some s) ≡ Some f)
-by_is on ps None f e = absurd (nothing_is f e)
+by_is on ps None f e = absurd (none-some f e)
 by_is on ps (Some s) f e = (s, refl, e)
 
 -- the same, of a list that goes on
@@ -97,7 +97,7 @@ ended_is : (list : ℕ) (p : Piece) (ps : List Piece) (f : ℕ × List Piece)
 unfolding Ended Runs
 ended_is list Comma ps f start e = inr (ps, refl, start list e)
 ended_is list (Sign CloseBrace) ps f start e = let same = some_is (list, ps) f e in inl (ap (λ (g : ℕ × List Piece). Sign CloseBrace ∷ g.1) same, sym (ap (λ (g : ℕ × List Piece). g.0) same))
-ended_is list _ ps f start e = absurd (nothing_is f e)
+ended_is list _ ps f start e = absurd (none-some f e)
 
 -- after a register that is alone
 alone_is : (list : ℕ) (a : Register) (p : Piece) (ps : List Piece) (f : ℕ × List Piece)
@@ -114,7 +114,7 @@ alone_is list a p ps f start e =
 
 left_is : (ps : List Piece) (at : Place) (list : ℕ) (f : ℕ × List Piece) → list_behind list at ps ≡ Some f → Left at list f ps
 unfolding Left To Ended Runs
-left_is [] at list f e = absurd (nothing_is f e)
+left_is [] at list f e = absurd (none-some f e)
 left_is (Run t ∷ ps) place.Start list f e =
     let s = by_is (λ more next. list_behind more next ps) ps (option_map (λ r. step.Goes list (place.First r)) (register_of t)) f e in
     let r = map_is (λ r. step.Goes list (place.First r)) (register_of t) s.0 s.1 in
@@ -126,7 +126,7 @@ left_is (Run t ∷ ps) place.Start list f e =
           (run_added list (r.0, to.1) f (Run t ∷ Sign Minus ∷ Run to.0 ∷ []) to.2 (inr (t, to.0, refl, register_is t r.0 r.1, to.4, to.5)) to.6)
       | inr k ↦ run_added list (r.0, r.0) f (Run t ∷ []) ps (inl (t, refl, register_is t r.0 r.1, refl)) k
     ]
-left_is (p ∷ ps) place.Start list f e = absurd (nothing_is f e)
+left_is (p ∷ ps) place.Start list f e = absurd (none-some f e)
 left_is (Sign Minus ∷ ps) (place.First a) list f e = inl (ps, refl, left_is ps (place.To a) list f e)
 left_is (p ∷ ps) (place.First a) list f e = inr (alone_is list a p ps f (λ m. left_is ps place.Start m f) e)
 left_is (Run t ∷ ps) (place.To a) list f e =
@@ -137,7 +137,7 @@ left_is (Run t ∷ ps) (place.To a) list f e =
     let k = bits_is a r.0 b.0 b.1 in
     let there : list_behind m.0 place.Behind ps ≡ Some f = ap (λ q. list_by (λ more next. list_behind more next ps) ps (Some q)) m.2 ∙ s.2 in
     (t, r.0, ps, refl, register_is t r.0 r.1, k.0, subst (λ n. Ended n f ps) (sym b.2 ∙ ap (bit_or list) k.1) (left_is ps place.Behind m.0 f there))
-left_is (p ∷ ps) (place.To a) list f e = absurd (nothing_is f e)
+left_is (p ∷ ps) (place.To a) list f e = absurd (none-some f e)
 left_is (p ∷ ps) place.Behind list f e = ended_is list p ps f (λ m. left_is ps place.Start m f) e
 
 -- ---- and back
@@ -173,8 +173,8 @@ list_again (run ∷ next ∷ runs) a rest list h =
 caret_is : (ps : List Piece) (w : Bool) → caret_of ps ≡ Some w → ps ≡ marked w Caret
 caret_is [] w e = ap (λ b. marked b Caret) (some_is false w e)
 caret_is (Sign Caret ∷ []) w e = ap (λ b. marked b Caret) (some_is true w e)
-caret_is (Sign Caret ∷ p ∷ ps) w e = absurd (nothing_is w e)
-caret_is _ w e = absurd (nothing_is w e)
+caret_is (Sign Caret ∷ p ∷ ps) w e = absurd (none-some w e)
+caret_is _ w e = absurd (none-some w e)
 
 caret_again : (w : Bool) → caret_of (marked w Caret) ≡ Some w
 caret_again true = refl
@@ -200,7 +200,7 @@ braced_is load s t n w (Comma ∷ Sign OpenBrace ∷ ps) x r e =
       runs-are = k.3;
       list = k.4;
     })
-braced_is load s t n w _ x r e = absurd (nothing_is x e)
+braced_is load s t n w _ x r e = absurd (none-some x e)
 
 block_based_is : (load : Bool) (s : Suffix) (t : List ℕ) (n : Register) (ps : List Piece) (x : BlockTransfer) → IsRegister t n → block_based load s n ps ≡ Some x → SpellsBlock load s x (Run t ∷ ps)
 block_based_is load s t n (Sign Bang ∷ ps) x r e = braced_is load s t n true ps x r e
@@ -237,7 +237,7 @@ label_no_number [] h = absurd cc
 label_no_number (c ∷ cs) h =
     let letter = (and_parts (is_ascii_alphabetic c || c == 95) _ h).0 in
     let other = letter_is c letter in
-    elim (cases (c == 48)) [
+    elim (cases_Bool (c == 48)) [
       | inl e ↦ let k : is_digit 48 10 ≡ false = subst (λ (b : ℕ). is_digit b 10 ≡ false) (eqb-true c 48 e) other in absurd cc
       | inr e ↦ let some : nat_lt 0 (length (c ∷ cs)) ≡ true = grind (arith, nat_tests) in rw (e, some, other) refl
     ]
@@ -247,7 +247,7 @@ target_by_is (Some n) d t is e = subst (λ x. SpellsTarget x (Run d ∷ [])) (so
 target_by_is None d t is e =
     elim (chosen (is_label d) (Some (Label d)) None (Some t) e) [
       | inl h ↦ subst (λ x. SpellsTarget x (Run d ∷ [])) (some_is (Label d) t h.1) (refl, h.0)
-      | inr h ↦ absurd (nothing_is t h.1)
+      | inr h ↦ absurd (none-some t h.1)
     ]
 
 run_target_is : (d : List ℕ) (t : Target) → run_target d ≡ Some t → SpellsTarget t (Run d ∷ [])
@@ -263,7 +263,7 @@ target_is (Sign Ampersand ∷ ps) t e =
     let rest : m.0.1 ≡ [] = ap (λ (x : Target × List Piece). x.1) m.2 in
     let all : n.0 ≡ Sign Ampersand ∷ ps = sym (append-nil n.0) ∙ ap (λ (qs : List Piece). n.0 ++ qs) (sym rest) ∙ sym n.1 in
     subst (λ x. SpellsTarget x (Sign Ampersand ∷ ps)) (ap (λ (x : Target × List Piece). x.0) m.2) (subst (SpellsNumber m.0.0) all n.2)
-target_is _ t e = absurd (nothing_is t e)
+target_is _ t e = absurd (none-some t e)
 
 number_target : (ps : List Piece) (n : ℕ) → SpellsNumber n ps → only_target ps ≡ Some (Number n)
 number_target ps n h =
@@ -300,7 +300,7 @@ value_added t vs a qs h rest =
 values_is : (ps : List Piece) (at : Expects) (vs : List Target) → values_in at ps ≡ Some vs → Values at vs ps
 unfolding Values Rest
 values_is [] expects.Behind vs e = inl (refl, sym (some_is [] vs e))
-values_is [] at vs e = absurd (nothing_is vs e)
+values_is [] at vs e = absurd (none-some vs e)
 values_is (Run d ∷ ps) expects.Start vs e =
     let k = and_then_is (λ f. option_map (with_value f.0) (values_in f.1 ps)) (option_map (λ v. (Some v, expects.Behind)) (run_target d)) vs e in
     let v = map_is (λ v. (Some v, expects.Behind)) (run_target d) k.0 k.1 in
@@ -312,18 +312,18 @@ values_is (Sign Ampersand ∷ ps) expects.Start vs e =
     let h = values_is ps expects.Hex m.0 m.1 in
     let front = value_added (Number h.1) h.2 (Sign Ampersand ∷ Run h.0 ∷ []) h.3 (inr (h.0, refl, h.5)) h.7 in
     subst (λ (rs : List Piece). Listed SpellsTarget vs (Sign Ampersand ∷ rs)) (sym h.4) (subst (λ (ws : List Target). Listed SpellsTarget ws (Sign Ampersand ∷ Run h.0 ∷ h.3)) (sym h.6 ∙ m.2) front)
-values_is (p ∷ ps) expects.Start vs e = absurd (nothing_is vs e)
+values_is (p ∷ ps) expects.Start vs e = absurd (none-some vs e)
 values_is (Run d ∷ ps) expects.Hex vs e =
     let k = and_then_is (λ f. option_map (with_value f.0) (values_in f.1 ps)) (option_map (λ n. (Some (Number n), expects.Behind)) (number_by 16 d)) vs e in
     let n = map_is (λ n. (Some (Number n), expects.Behind)) (number_by 16 d) k.0 k.1 in
     let there : option_map (with_value (Some (Number n.0))) (values_in expects.Behind ps) ≡ Some vs = ap (λ (f : Option Target × Expects). option_map (with_value f.0) (values_in f.1 ps)) n.2 ∙ k.2 in
     let m = map_is (with_value (Some (Number n.0))) (values_in expects.Behind ps) vs there in
     (d, n.0, m.0, ps, refl, digits_is 16 d n.0 n.1, sym m.2, values_is ps expects.Behind m.0 m.1)
-values_is (p ∷ ps) expects.Hex vs e = absurd (nothing_is vs e)
+values_is (p ∷ ps) expects.Hex vs e = absurd (none-some vs e)
 values_is (Comma ∷ ps) expects.Behind vs e =
     let m = map_is (with_value None) (values_in expects.Start ps) vs e in
     inr (ps, refl, subst (λ (ws : List Target). Listed SpellsTarget ws ps) m.2 (values_is ps expects.Start m.0 m.1))
-values_is (p ∷ ps) expects.Behind vs e = absurd (nothing_is vs e)
+values_is (p ∷ ps) expects.Behind vs e = absurd (none-some vs e)
 
 pub dcd_is : (ps : List Piece) (vs : List Target) → values_in expects.Start ps ≡ Some vs → Listed SpellsTarget vs ps
 unfolding Values

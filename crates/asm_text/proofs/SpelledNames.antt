@@ -5,10 +5,11 @@ use Rattle.std.specs.Char.{is_digit}
 use Rattle.std.specs.List.{Contains, list_all}
 use Rattle.std.specs.Str.{bytes_eq}
 use Rattle.std.specs.Str.Parse.{digits_value}
-use Rattle.std.proofs.lemmas.Bool.{and_parts}
+use Rattle.std.proofs.lemmas.Bool.{and_parts, cases_Bool}
 use Rattle.std.proofs.lemmas.Bool.Decides.{nat_tests}
 use Rattle.std.proofs.lemmas.List.{append-nil}
 use Rattle.std.proofs.lemmas.Slice.Eq.{bytes_eq-Decides}
+use Rattle.std.proofs.lemmas.Option.{none-some}
 use Rattle.arm2_decode.specs.declared.names.Register.{Register}
 use Rattle.arm2_decode.specs.declared.names.Shift.{Shift}
 use Rattle.asm_text.specs.Pieces.{Piece, Run, Comma, Sign}
@@ -17,29 +18,28 @@ use Rattle.asm_text.specs.Operands.{alone, all_read}
 use Rattle.asm_text.specs.Registers.{found, in_both_cases, is_rrx, register_comma_first, register_first, register_names, register_of, shift_names, shift_of}
 use Rattle.asm_text.specs.SpelledOperands.{IsDigits, IsNumber, IsRegister, IsRrx, IsShift, SpellsNumber}
 use Rattle.asm_text.specs.declared.token.Mark.TheVariants.{Ampersand}
-use Rattle.asm_text.proofs.PieceLaws.{cases}
-use Rattle.asm_text.proofs.WordLaws.{chosen, equal_bytes, nothing_is, some_is}
+use Rattle.asm_text.proofs.WordLaws.{chosen, equal_bytes, some_is}
 
 -- ---- what an option came from
 
 pub and_then_is : {A B : Type 0} (f : A → Option B) (o : Option A) (b : B) → option_and_then f o ≡ Some b → (a : A) × (o ≡ Some a) × (f a ≡ Some b)
-and_then_is f None b e = absurd (nothing_is b e)
+and_then_is f None b e = absurd (none-some b e)
 and_then_is f (Some a) b e = (a, refl, e)
 
 pub map_is : {A B : Type 0} (f : A → B) (o : Option A) (b : B) → option_map f o ≡ Some b → (a : A) × (o ≡ Some a) × (f a ≡ b)
-map_is f None b e = absurd (nothing_is b e)
+map_is f None b e = absurd (none-some b e)
 map_is f (Some a) b e = (a, refl, some_is (f a) b e)
 
 pub with_rest_is : {A : Type 0} (ps : List Piece) (o : Option A) (f : A × List Piece) → with_rest ps o ≡ Some f → (o ≡ Some f.0) × (ps ≡ f.1)
-with_rest_is ps None f e = absurd (nothing_is f e)
+with_rest_is ps None f e = absurd (none-some f e)
 with_rest_is ps (Some a) f e = let same = some_is (a, ps) f e in (ap (λ g. Some g.0) same, ap (λ g. g.1) same)
 
 alone_is : {A : Type 0} (a : A) (ps : List Piece) (b : A) → alone a ps ≡ Some b → (ps ≡ []) × (a ≡ b)
 alone_is a [] b e = (refl, some_is a b e)
-alone_is a (p ∷ ps) b e = absurd (nothing_is b e)
+alone_is a (p ∷ ps) b e = absurd (none-some b e)
 
 pub whole_is : {A : Type 0} (o : Option (A × List Piece)) (a : A) → all_read o ≡ Some a → o ≡ Some (a, [])
-whole_is None a e = absurd (nothing_is a e)
+whole_is None a e = absurd (none-some a e)
 whole_is (Some f) a e = let k = alone_is f.0 f.1 a e in ap Some (rw (← k.0, ← k.1) refl)
 
 pub same_bytes : (text : List ℕ) → bytes_eq text text ≡ true
@@ -51,11 +51,11 @@ false_true e = absurd cc
 -- ---- digits
 
 fits_is : (o : Option ℕ) (n : ℕ) → fits o ≡ Some n → (o ≡ Some n) × (n < 2 ^ 32)
-fits_is None n e = absurd (nothing_is n e)
+fits_is None n e = absurd (none-some n e)
 fits_is (Some m) n e =
     elim (chosen (nat_lt m (2 ^ 32)) (Some m) None (Some n) e) [
       | inl h ↦ let same = some_is m n h.1 in let lt : m < 2 ^ 32 = grind (arith, nat_tests, h.0) in (ap Some same, omega arith)
-      | inr h ↦ absurd (nothing_is n h.1)
+      | inr h ↦ absurd (none-some n h.1)
     ]
 
 pub digits_is : (radix : ℕ) (text : List ℕ) (n : ℕ) → number_by radix text ≡ Some n → IsDigits radix text n
@@ -65,7 +65,7 @@ digits_is radix text n e =
       | inl h ↦
           let k = and_parts (nat_lt 0 (length text)) (list_all (λ c. is_digit c radix) text) h.0 in
           record { some = grind (arith, nat_tests, k.0); digits = k.1; value = sym (some_is (digits_value radix text) n h.1); fits = f.1 }
-      | inr h ↦ absurd (nothing_is n h.1)
+      | inr h ↦ absurd (none-some n h.1)
     ]
 
 pub digits_again : (radix : ℕ) (text : List ℕ) (n : ℕ) → IsDigits radix text n → number_by radix text ≡ Some n
@@ -86,7 +86,7 @@ zero_is (c ∷ d) n e =
     ]
 
 pub number_is : (text : List ℕ) (n : ℕ) → run_number text ≡ Some n → IsNumber text n
-number_is [] n e = absurd (nothing_is n e)
+number_is [] n e = absurd (none-some n e)
 number_is (c ∷ d) n e =
     elim (chosen (c == 48) (after_zero d) (number_by 10 (c ∷ d)) (Some n) e) [
       | inl h ↦ rw (eqb-true c 48 h.0) (zero_is d n h.1)
@@ -96,7 +96,7 @@ number_is (c ∷ d) n e =
 zero_again : (d : List ℕ) (n : ℕ) → IsDigits 10 (48 ∷ d) n → after_zero d ≡ Some n
 zero_again [] n h = digits_again 10 (48 ∷ []) n h
 zero_again (c ∷ d) n h =
-    elim (cases (c == 120)) [
+    elim (cases_Bool (c == 120)) [
       | inl e ↦
           let k = and_parts (is_digit 48 10) (list_all (λ c. is_digit c 10) (c ∷ d)) h.digits in
           let m = and_parts (is_digit c 10) (list_all (λ c. is_digit c 10) d) k.1 in
@@ -107,7 +107,7 @@ zero_again (c ∷ d) n h =
 decimal_again : (text : List ℕ) (n : ℕ) → IsDigits 10 text n → run_number text ≡ Some n
 decimal_again [] n h = absurd (omega (arith, h.some))
 decimal_again (c ∷ d) n h =
-    elim (cases (c == 48)) [
+    elim (cases_Bool (c == 48)) [
       | inl e ↦ rw e (zero_again d n (subst (λ b. IsDigits 10 (b ∷ d) n) (eqb-true c 48 e) h))
       | inr e ↦ rw e (digits_again 10 (c ∷ d) n h)
     ]
@@ -124,7 +124,7 @@ number_front (Run d ∷ ps) f e =
 number_front (Sign Ampersand ∷ Run d ∷ ps) f e =
     let k = with_rest_is ps (number_by 16 d) f e in
     (Sign Ampersand ∷ Run d ∷ [], ap (λ (qs : List Piece). Sign Ampersand ∷ Run d ∷ qs) k.1, inr (d, refl, digits_is 16 d f.0 k.0))
-number_front _ f e = absurd (nothing_is f e)
+number_front _ f e = absurd (none-some f e)
 
 pub front_number : (n : ℕ) (a rest : List Piece) → SpellsNumber n a → number_first (a ++ rest) ≡ Some (n, rest)
 front_number n a rest h =
@@ -156,7 +156,7 @@ in_cases e es x zero lt is = inl is
 in_cases e es x (suc k) lt is = inr (k, omega arith, is)
 
 found_is : {A : Type 0} (names : List (List ℕ × A)) (text : List ℕ) (a : A) → found names text ≡ Some a → Contains names (text, a)
-found_is [] text a e = absurd (nothing_is a e)
+found_is [] text a e = absurd (none-some a e)
 found_is (x ∷ xs) text a e =
     elim (chosen (bytes_eq text x.0) (Some x.1) (found xs text) (Some a) e) [
       | inl h ↦ (0, omega arith, rw (← (equal_bytes text x.0 h.0), ← (some_is x.1 a h.1)) refl)
@@ -171,7 +171,7 @@ found_first (x ∷ xs) text a u h =
       | inl is ↦ rw is (rw (same_bytes text) refl)
       | inr later ↦
           let there = found_first xs text a k.1 later in
-          elim (cases (bytes_eq text x.0)) [
+          elim (cases_Bool (bytes_eq text x.0)) [
             | inl same ↦ false_true (ap is_none (sym there ∙ ap (found xs) (equal_bytes text x.0 same)) ∙ k.0)
             | inr other ↦ rw other there
           ]
@@ -195,7 +195,7 @@ shift_again text s h = found_first (in_both_cases shift_names) text s refl h
 
 pub rrx_is : (text : List ℕ) → is_rrx text ≡ true → IsRrx text
 rrx_is text e =
-    elim (cases (bytes_eq text (codes "RRX"))) [
+    elim (cases_Bool (bytes_eq text (codes "RRX"))) [
       | inl h ↦ inl (equal_bytes text (codes "RRX") h)
       | inr h ↦ let k : bytes_eq text (codes "rrx") ≡ true = rw h at e in inr (equal_bytes text (codes "rrx") k)
     ]
@@ -209,7 +209,7 @@ pub register_front : (ps : List Piece) (f : Register × List Piece) → register
 register_front (Run t ∷ ps) f e =
     let k = with_rest_is ps (register_of t) f e in
     (t, ap (λ (qs : List Piece). Run t ∷ qs) k.1, register_is t f.0 k.0)
-register_front _ f e = absurd (nothing_is f e)
+register_front _ f e = absurd (none-some f e)
 
 pub front_register : (t : List ℕ) (r : Register) (ps : List Piece) → IsRegister t r → register_first (Run t ∷ ps) ≡ Some (r, ps)
 front_register t r ps h = rw (register_again t r h) refl
@@ -218,7 +218,7 @@ pub register_comma_front : (ps : List Piece) (f : Register × List Piece) → re
 register_comma_front (Run t ∷ Comma ∷ ps) f e =
     let k = with_rest_is ps (register_of t) f e in
     (t, ap (λ (qs : List Piece). Run t ∷ Comma ∷ qs) k.1, register_is t f.0 k.0)
-register_comma_front _ f e = absurd (nothing_is f e)
+register_comma_front _ f e = absurd (none-some f e)
 
 pub front_register_comma : (t : List ℕ) (r : Register) (ps : List Piece) → IsRegister t r → register_comma_first (Run t ∷ Comma ∷ ps) ≡ Some (r, ps)
 front_register_comma t r ps h = rw (register_again t r h) refl

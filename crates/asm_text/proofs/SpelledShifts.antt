@@ -8,22 +8,23 @@ use Rattle.arm2_decode.specs.declared.names.Shift.{Shift}
 use Rattle.arm2_decode.specs.declared.names.Shift.TheVariants.{Lsl}
 use Rattle.asm_text.specs.Pieces.{Piece, Run, Comma, Sign, Gap}
 use Rattle.asm_text.specs.Lines.{starts_gap}
-use Rattle.asm_text.specs.Names.{is_compare}
+use Rattle.arm2_decode.specs.Names.{is_compare}
 use Rattle.asm_text.specs.Numbers.{number_first}
 use Rattle.asm_text.specs.Registers.{is_rrx, register_comma_first, register_first, register_of, shift_of}
 use Rattle.asm_text.specs.Operands.{compare_of, compare_rd, data_behind, data_of, factors_of, is_move, is_s, move_of, operand_of, product_of, shift_by, shift_first, shift_words, shifting_first, sum_of, three_of, all_read}
 use Rattle.asm_text.specs.SpelledOperands.{SpellsCompare, SpellsData, SpellsMove, SpellsOperand, SpellsProduct, SpellsShift, SpellsShifting, SpellsSum, SpellsThree}
 use Rattle.asm_text.specs.declared.token.Mark.TheVariants.{Hash}
 use Rattle.asm_text.specs.declared.names.Suffix.{Suffix}
-use Rattle.asm_text.specs.declared.said.Amount.TheVariants as amount
-use Rattle.asm_text.specs.declared.said.Shifting.{Shifting}
-use Rattle.asm_text.specs.declared.said.Shifting.TheVariants as shifting
-use Rattle.asm_text.specs.declared.said.Operand.{Operand}
-use Rattle.asm_text.specs.declared.said.Operand.TheVariants as operand
-use Rattle.asm_text.specs.declared.said.Data.{Data}
-use Rattle.asm_text.specs.declared.said.Product.{Product}
+use Rattle.asm_text.specs.declared.syntax.Amount.TheVariants as amount
+use Rattle.asm_text.specs.declared.syntax.Shifting.{Shifting}
+use Rattle.asm_text.specs.declared.syntax.Shifting.TheVariants as shifting
+use Rattle.asm_text.specs.declared.syntax.Operand.{Operand}
+use Rattle.asm_text.specs.declared.syntax.Operand.TheVariants as operand
+use Rattle.asm_text.specs.declared.syntax.Data.{Data}
+use Rattle.asm_text.specs.declared.syntax.Product.{Product}
 use Rattle.std.proofs.lemmas.List.{append-nil}
-use Rattle.asm_text.proofs.WordLaws.{chosen, nothing_is, some_is}
+use Rattle.std.proofs.lemmas.Option.{none-some}
+use Rattle.asm_text.proofs.WordLaws.{chosen, some_is}
 use Rattle.asm_text.proofs.SpelledNames.{and_then_is, front_number, front_register, front_register_comma, map_is, number_front, number_whole, register_again, register_comma_front, register_front, register_is, rrx_again, rrx_is, shift_again, shift_is, whole_is, whole_number}
 
 -- ---- shifts
@@ -42,13 +43,13 @@ shift_by_is w s (Run r ∷ ps) f is e =
     let k = map_is (λ m. (shifting.Register s m, ps)) (register_of r) f e in
     subst (FrontShift (Run w ∷ Gap ∷ Run r ∷ ps)) k.2
     (Run w ∷ Gap ∷ Run r ∷ [], refl, (w, r, refl, shift_is w s is, register_is r k.0 k.1))
-shift_by_is w s _ f is e = absurd (nothing_is f e)
+shift_by_is w s _ f is e = absurd (none-some f e)
 
 rrx_words_is : (w : List ℕ) (ps : List Piece) (f : Shifting × List Piece) → cond (is_rrx w) (Some (shifting.Amount amount.Rrx, ps)) None ≡ Some f → FrontShift (Run w ∷ ps) f
 rrx_words_is w ps f e =
     elim (chosen (is_rrx w) (Some (shifting.Amount amount.Rrx, ps)) None (Some f) e) [
       | inl h ↦ subst (FrontShift (Run w ∷ ps)) (some_is (shifting.Amount amount.Rrx, ps) f h.1) (Run w ∷ [], refl, (w, refl, rrx_is w h.0))
-      | inr h ↦ absurd (nothing_is f h.1)
+      | inr h ↦ absurd (none-some f h.1)
     ]
 
 shift_words_is : (w : List ℕ) (ps : List Piece) (f : Shifting × List Piece) → shift_words w ps ≡ Some f → FrontShift (Run w ∷ ps) f
@@ -59,7 +60,7 @@ shift_words_is w ps f e = rrx_words_is w ps f e
 
 pub shift_front : (ps : List Piece) (f : Shifting × List Piece) → shift_first ps ≡ Some f → FrontShift ps f
 shift_front (Run w ∷ ps) f e = shift_words_is w ps f e
-shift_front _ f e = absurd (nothing_is f e)
+shift_front _ f e = absurd (none-some f e)
 
 rrx_first : (w : List ℕ) (rest : List Piece) → is_rrx w ≡ true → starts_gap rest ≡ false → shift_words w rest ≡ Some (shifting.Amount amount.Rrx, rest)
 rrx_first w (Gap ∷ rest) h none = absurd cc
@@ -122,7 +123,7 @@ operand_is (Run r ∷ ps) o e =
     let k = and_then_is (λ m. option_map (operand.Shifted m) (all_read (shifting_first ps))) (register_of r) o e in
     let s = map_is (operand.Shifted k.0) (all_read (shifting_first ps)) o k.2 in
     subst (λ x. SpellsOperand x (Run r ∷ ps)) s.2 (r, ps, refl, register_is r k.0 k.1, shifting_whole ps s.0 s.1)
-operand_is _ o e = absurd (nothing_is o e)
+operand_is _ o e = absurd (none-some o e)
 
 pub operand_again : (o : Operand) (ps : List Piece) → SpellsOperand o ps → operand_of ps ≡ Some o
 operand_again (operand.Immediate n) ps h = rw (h.1, whole_number n h.0 h.2) refl

@@ -12,7 +12,7 @@ use Rattle.asm_text.proofs.PieceLaws.{first_passes, name_no_blank}
 
 -- ---- fronts
 
-past_front : (sort : ℕ → Bool) (front rest : List ℕ) → list_all sort front ≡ true → first_passes sort rest ≡ false → past sort (front ++ rest) ≡ rest
+pub past_front : (sort : ℕ → Bool) (front rest : List ℕ) → list_all sort front ≡ true → first_passes sort rest ≡ false → past sort (front ++ rest) ≡ rest
 past_front sort [] [] h k = refl
 past_front sort [] (b ∷ rest) h k = rw k refl
 past_front sort (b ∷ front) rest h k =
@@ -23,7 +23,7 @@ past_front sort (b ∷ front) rest h k =
 past_none : (sort : ℕ → Bool) (text : List ℕ) → first_passes sort text ≡ false → past sort text ≡ text
 past_none sort text h = past_front sort [] text refl h
 
-blank_no_name : (b : ℕ) → is_blank b ≡ true → is_name b ≡ false
+pub blank_no_name : (b : ℕ) → is_blank b ≡ true → is_name b ≡ false
 blank_no_name b h = grind (arith, nat_tests)
 
 -- ---- what the front of a text is
@@ -32,19 +32,19 @@ gap_ends : (gap rest : List ℕ) → 0 < length gap → IsBlanks gap → begins_
 gap_ends [] rest lt h = absurd (omega arith)
 gap_ends (b ∷ gap) rest lt h = (and_parts (is_blank b) (list_all is_blank gap) h).0
 
-gap_no_name : (gap rest : List ℕ) → 0 < length gap → IsBlanks gap → first_passes is_name (gap ++ rest) ≡ false
+pub gap_no_name : (gap rest : List ℕ) → 0 < length gap → IsBlanks gap → first_passes is_name (gap ++ rest) ≡ false
 gap_no_name [] rest lt h = absurd (omega arith)
 gap_no_name (b ∷ gap) rest lt h = blank_no_name b (and_parts (is_blank b) (list_all is_blank gap) h).0
 
-blanks_no_name : (text : List ℕ) → IsBlanks text → first_passes is_name text ≡ false
+pub blanks_no_name : (text : List ℕ) → IsBlanks text → first_passes is_name text ≡ false
 blanks_no_name [] h = refl
 blanks_no_name (b ∷ bs) h = blank_no_name b (and_parts (is_blank b) (list_all is_blank bs) h).0
 
-name_no_gap : (name rest : List ℕ) → 0 < length name → list_all is_name name ≡ true → first_passes is_blank (name ++ rest) ≡ false
+pub name_no_gap : (name rest : List ℕ) → 0 < length name → list_all is_name name ≡ true → first_passes is_blank (name ++ rest) ≡ false
 name_no_gap [] rest lt h = absurd (omega arith)
 name_no_gap (b ∷ name) rest lt h = name_no_blank b (and_parts (is_name b) (list_all is_name name) h).0
 
-past_blanks : (text : List ℕ) → IsBlanks text → past is_blank text ≡ []
+pub past_blanks : (text : List ℕ) → IsBlanks text → past is_blank text ≡ []
 past_blanks [] h = refl
 past_blanks (b ∷ bs) h =
     let m = and_parts (is_blank b) (list_all is_blank bs) h in
@@ -69,7 +69,7 @@ gap_first name ps text (gap, behind, is, some, blanks, w) =
     let stops : first_passes is_blank behind ≡ false = rw w.1 (name_no_gap name w.0 w.2 w.3) in
     (rw is (gap_no_name gap behind some blanks), rw (is, past_front is_blank gap behind blanks stops) (word_first name ps behind w))
 
-blanks_alone : (text : List ℕ) → IsBlanks text → WordBehind text
+pub blanks_alone : (text : List ℕ) → IsBlanks text → WordBehind text
 blanks_alone text h = rw (past_blanks text h) refl
 
 pub parts_end : (label : Option (List ℕ)) (x : Option Said) (ps : List Piece) (text : List ℕ) → Written ps text → SpellsParts label x ps → word_ends text ≡ true

@@ -4,6 +4,7 @@ use Rattle.std.proofs.Common.{◌≡◌, ◌<◌, length-take, ℕ, Bool, true, 
 use Rattle.std.specs.Str.{bytes_eq}
 use Rattle.std.proofs.lemmas.List.{take-append-drop}
 use Rattle.std.proofs.lemmas.Slice.Eq.{bytes_eq-Decides}
+use Rattle.std.proofs.lemmas.Option.{none-some}
 use Rattle.arm2_decode.specs.declared.names.Cond.{Cond}
 use Rattle.arm2_decode.specs.declared.names.Cond.TheVariants.{Eq, Ne, Cs, Cc, Mi, Pl, Vs, Vc, Hi, Ls, Ge, Lt, Gt, Le, Al, Nv}
 use Rattle.arm2_decode.specs.declared.names.Opcode.TheVariants.{And, Eor, Sub, Rsb, Add, Adc, Sbc, Rsc, Tst, Teq, Cmp, Cmn, Orr, Mov, Bic, Mvn}
@@ -231,9 +232,6 @@ made_is : (make : Cond → Word) (o : Option Cond) (w : Word) → word_of_cond m
 made_is make None w e = absurd cc
 made_is make (Some c) w e = (c, refl, some_is (make c) w e)
 
-pub nothing_is : {A : Type 0} (w : A) → None ≡ Some w → ⊥
-nothing_is w e = cc
-
 linked_is : (text : List ℕ) (w : Word) → linked text ≡ Some w → (rest : List ℕ) × (c : Cond) × (text ≡ codes "L" ++ rest) × IsCond rest c × (w ≡ Branch true c)
 linked_is [] w e = absurd cc
 linked_is (b ∷ rest) w e =
@@ -241,7 +239,7 @@ linked_is (b ∷ rest) w e =
       | inl h ↦
           let m = made_is (Branch true) (whole_cond rest) w h.1 in
           (rest, m.0, ap (λ (t : List ℕ). t ++ rest) (equal_bytes (b ∷ []) (codes "L") h.0), whole_is rest m.0 m.1, sym m.2)
-      | inr h ↦ absurd (nothing_is w h.1)
+      | inr h ↦ absurd (none-some w h.1)
     ]
 
 branch_rest_is : (o : Option Cond) (rest : List ℕ) (w : Word) → whole_cond rest ≡ o → branch_rest o rest ≡ Some w → IsWord (codes "B" ++ rest) w
@@ -255,7 +253,7 @@ branch_is [] w e = absurd cc
 branch_is (b ∷ rest) w e =
     elim (chosen (bytes_eq (b ∷ []) (codes "B")) (branch_rest (whole_cond rest) rest) None (Some w) e) [
       | inl h ↦ subst (λ (t : List ℕ). IsWord (t ++ rest) w) (sym (equal_bytes (b ∷ []) (codes "B") h.0)) (branch_rest_is (whole_cond rest) rest w refl h.1)
-      | inr h ↦ absurd (nothing_is w h.1)
+      | inr h ↦ absurd (none-some w h.1)
     ]
 
 suffixed_is : (h : Head) (c : Cond) (o : Option Suffix) (rest : List ℕ) (w : Word) → suffix_of rest ≡ o → with_suffix h c o ≡ Some w → (s : Suffix) × (may_have h s ≡ true) × (rest ≡ suffix_name s) × (w ≡ Plain h c s)
@@ -264,7 +262,7 @@ suffixed_is h c None rest w is e = absurd cc
 suffixed_is h c (Some s) rest w is e =
     elim (chosen (may_have h s) (Some (Plain h c s)) None (Some w) e) [
       | inl m ↦ (s, m.0, named_is suffix_name suffixes rest s is, sym (some_is (Plain h c s) w m.1))
-      | inr m ↦ absurd (nothing_is w m.1)
+      | inr m ↦ absurd (none-some w m.1)
     ]
 
 head_cond_is : (h : Head) (o : Option Cond) (rest : List ℕ) (w : Word) → cond_of (take 2 rest) ≡ o → head_cond h o rest ≡ Some w → IsWord (head_name h ++ rest) w
@@ -369,7 +367,7 @@ pub spelled_is : (text : List ℕ) (w : Word) → spelled_word_of text ≡ Some 
 spelled_is text w e =
     elim (chosen (is_one_case text) (word_of (upper text)) None (Some w) e) [
       | inl h ↦ (h.0, word_is (upper text) w h.1)
-      | inr h ↦ absurd (nothing_is w h.1)
+      | inr h ↦ absurd (none-some w h.1)
     ]
 
 pub spelled_again : (text : List ℕ) (w : Word) → IsSpelling text w → spelled_word_of text ≡ Some w

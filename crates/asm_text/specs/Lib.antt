@@ -3,6 +3,7 @@ pub mod Lines
 pub mod Names
 pub mod Words
 pub mod Numbers
+pub mod Hex
 pub mod Registers
 pub mod Said
 pub mod Operands

@@ -3,6 +3,7 @@
 use Rattle.std.specs.Prelude.{ℕ, List, [], ◌∷◌, codes, Bool, true, false, Option}
 use Rattle.std.specs.List.{find}
 use Rattle.std.specs.Str.{bytes_eq}
+use Rattle.arm2_decode.specs.Names.{is_compare}
 use Rattle.arm2_decode.specs.declared.names.Cond.{Cond}
 use Rattle.arm2_decode.specs.declared.names.Cond.TheVariants.{Eq, Ne, Cs, Cc, Mi, Pl, Vs, Vc, Hi, Ls, Ge, Lt}
 use Rattle.arm2_decode.specs.declared.names.Cond.TheVariants.{Gt, Le, Al, Nv}
@@ -126,13 +127,6 @@ head_of text = named head_name heads text
 
 unfoldable pub suffix_of : List ℕ → Option Suffix
 suffix_of text = named suffix_name suffixes text
-
-abbrev pub is_compare : Opcode → Bool
-is_compare Tst = true
-is_compare Teq = true
-is_compare Cmp = true
-is_compare Cmn = true
-is_compare _ = false
 
 abbrev pub is_block_suffix : Suffix → Bool
 is_block_suffix Ia = true

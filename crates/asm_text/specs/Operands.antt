@@ -12,7 +12,7 @@ use Rattle.arm2_decode.specs.Names.{register_number}
 use Rattle.asm_text.specs.Pieces.{Piece, Run, Comma, Sign, Gap}
 use Rattle.asm_text.specs.Numbers.{number_first}
 use Rattle.asm_text.specs.Registers.{is_rrx, register_comma_first, register_first, register_of, shift_of}
-use Rattle.asm_text.specs.Names.{is_compare}
+use Rattle.arm2_decode.specs.Names.{is_compare}
 use Rattle.asm_text.specs.declared.token.Mark.TheVariants.{Hash, Minus, Bang, Caret, CloseBracket, OpenBrace}
 use Rattle.asm_text.specs.declared.token.Mark.TheVariants.{CloseBrace}
 use Rattle.asm_text.specs.declared.names.Suffix.{Suffix}
@@ -21,17 +21,17 @@ use Rattle.asm_text.specs.declared.list.Place.{Place}
 use Rattle.asm_text.specs.declared.list.Place.TheVariants.{Start, First, To, Behind}
 use Rattle.asm_text.specs.declared.list.Step.{Step}
 use Rattle.asm_text.specs.declared.list.Step.TheVariants.{Goes, Ends}
-use Rattle.asm_text.specs.declared.said.Amount.TheVariants as amount
-use Rattle.asm_text.specs.declared.said.Shifting.{Shifting}
-use Rattle.asm_text.specs.declared.said.Shifting.TheVariants as shifting
-use Rattle.asm_text.specs.declared.said.Operand.{Operand}
-use Rattle.asm_text.specs.declared.said.Operand.TheVariants as operand
-use Rattle.asm_text.specs.declared.said.Data.{Data}
-use Rattle.asm_text.specs.declared.said.Product.{Product}
-use Rattle.asm_text.specs.declared.said.Distance.{Distance}
-use Rattle.asm_text.specs.declared.said.Distance.TheVariants as distance
-use Rattle.asm_text.specs.declared.said.Address.{Address}
-use Rattle.asm_text.specs.declared.said.BlockTransfer.{BlockTransfer}
+use Rattle.asm_text.specs.declared.syntax.Amount.TheVariants as amount
+use Rattle.asm_text.specs.declared.syntax.Shifting.{Shifting}
+use Rattle.asm_text.specs.declared.syntax.Shifting.TheVariants as shifting
+use Rattle.asm_text.specs.declared.syntax.Operand.{Operand}
+use Rattle.asm_text.specs.declared.syntax.Operand.TheVariants as operand
+use Rattle.asm_text.specs.declared.syntax.Data.{Data}
+use Rattle.asm_text.specs.declared.syntax.Product.{Product}
+use Rattle.asm_text.specs.declared.syntax.Distance.{Distance}
+use Rattle.asm_text.specs.declared.syntax.Distance.TheVariants as distance
+use Rattle.asm_text.specs.declared.syntax.Address.{Address}
+use Rattle.asm_text.specs.declared.syntax.BlockTransfer.{BlockTransfer}
 
 -- what is read, where nothing stands after it
 abbrev pub alone : {A : Type 0} → A → List Piece → Option A

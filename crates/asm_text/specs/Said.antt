@@ -1,11 +1,11 @@
 -- What a line says, its labels by their bytes.
 use Rattle.std.specs.Prelude.{ℕ, List, map}
-use Rattle.asm_text.specs.declared.said.Code.{Code}
-use Rattle.asm_text.specs.declared.said.Reference.{Reference}
-use Rattle.asm_text.specs.declared.said.Value.{Value}
-use Rattle.asm_text.specs.declared.said.Value.TheVariants as value
-use Rattle.asm_text.specs.declared.said.Statement.{Statement}
-use Rattle.asm_text.specs.declared.said.Statement.TheVariants as statement
+use Rattle.asm_text.specs.declared.syntax.Code.{Code}
+use Rattle.asm_text.specs.declared.syntax.Reference.{Reference}
+use Rattle.asm_text.specs.declared.syntax.Value.{Value}
+use Rattle.asm_text.specs.declared.syntax.Value.TheVariants as value
+use Rattle.asm_text.specs.declared.syntax.Statement.{Statement}
+use Rattle.asm_text.specs.declared.syntax.Statement.TheVariants as statement
 
 -- a number, or the name of an address
 pub data Target : Type 0 where

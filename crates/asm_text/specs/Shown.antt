@@ -7,8 +7,8 @@ use Rattle.asm_text.specs.Pieces.{Piece, Run}
 use Rattle.asm_text.specs.Said.{Number, Said, Codes, Refers}
 use Rattle.asm_text.specs.Statements.{Parsed}
 use Rattle.asm_text.specs.declared.statement.Wrong.{Wrong}
-use Rattle.asm_text.specs.declared.shown.Shown.{Shown}
-use Rattle.asm_text.specs.declared.shown.Shown.TheVariants as shown
+use Rattle.asm_text.specs.declared.printed_lines.Shown.{Shown}
+use Rattle.asm_text.specs.declared.printed_lines.Shown.TheVariants as shown
 
 -- 20 to 7E, but for `;`
 abbrev pub is_shown : ℕ → Bool

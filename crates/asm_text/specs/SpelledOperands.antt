@@ -13,23 +13,23 @@ use Rattle.arm2_decode.specs.declared.names.Shift.TheVariants.{Lsl}
 use Rattle.arm2_decode.specs.Names.{register_number}
 use Rattle.asm_text.specs.Pieces.{Piece, Run, Comma, Sign, Gap}
 use Rattle.asm_text.specs.Registers.{in_both_cases, register_names, shift_names}
-use Rattle.asm_text.specs.Names.{is_compare}
+use Rattle.arm2_decode.specs.Names.{is_compare}
 use Rattle.asm_text.specs.Operands.{block_before, block_up, compare_rd, is_move, is_s}
 use Rattle.asm_text.specs.declared.token.Mark.{Mark}
 use Rattle.asm_text.specs.declared.token.Mark.TheVariants.{Hash, Minus, Bang, Caret, Ampersand, CloseBracket}
 use Rattle.asm_text.specs.declared.token.Mark.TheVariants.{OpenBrace, CloseBrace}
 use Rattle.asm_text.specs.declared.names.Suffix.{Suffix}
-use Rattle.asm_text.specs.declared.said.Amount.TheVariants as amount
-use Rattle.asm_text.specs.declared.said.Shifting.{Shifting}
-use Rattle.asm_text.specs.declared.said.Shifting.TheVariants as shifting
-use Rattle.asm_text.specs.declared.said.Operand.{Operand}
-use Rattle.asm_text.specs.declared.said.Operand.TheVariants as operand
-use Rattle.asm_text.specs.declared.said.Data.{Data}
-use Rattle.asm_text.specs.declared.said.Product.{Product}
-use Rattle.asm_text.specs.declared.said.Distance.{Distance}
-use Rattle.asm_text.specs.declared.said.Distance.TheVariants as distance
-use Rattle.asm_text.specs.declared.said.Address.{Address}
-use Rattle.asm_text.specs.declared.said.BlockTransfer.{BlockTransfer}
+use Rattle.asm_text.specs.declared.syntax.Amount.TheVariants as amount
+use Rattle.asm_text.specs.declared.syntax.Shifting.{Shifting}
+use Rattle.asm_text.specs.declared.syntax.Shifting.TheVariants as shifting
+use Rattle.asm_text.specs.declared.syntax.Operand.{Operand}
+use Rattle.asm_text.specs.declared.syntax.Operand.TheVariants as operand
+use Rattle.asm_text.specs.declared.syntax.Data.{Data}
+use Rattle.asm_text.specs.declared.syntax.Product.{Product}
+use Rattle.asm_text.specs.declared.syntax.Distance.{Distance}
+use Rattle.asm_text.specs.declared.syntax.Distance.TheVariants as distance
+use Rattle.asm_text.specs.declared.syntax.Address.{Address}
+use Rattle.asm_text.specs.declared.syntax.BlockTransfer.{BlockTransfer}
 
 -- ---- numbers and names
 

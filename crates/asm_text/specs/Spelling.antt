@@ -18,12 +18,12 @@ use Rattle.asm_text.specs.declared.names.Head.TheVariants as head
 use Rattle.asm_text.specs.declared.names.Suffix.{Suffix}
 use Rattle.asm_text.specs.declared.word.Word.{Word}
 use Rattle.asm_text.specs.declared.word.Word.TheVariants.{Plain, Branch, Org, Dcd}
-use Rattle.asm_text.specs.declared.said.Action.{Action}
-use Rattle.asm_text.specs.declared.said.Action.TheVariants as action
-use Rattle.asm_text.specs.declared.said.Address.{Address}
-use Rattle.asm_text.specs.declared.said.Transfer.{Transfer}
-use Rattle.asm_text.specs.declared.said.Use.{Use}
-use Rattle.asm_text.specs.declared.said.Use.TheVariants as use_of
+use Rattle.asm_text.specs.declared.syntax.Action.{Action}
+use Rattle.asm_text.specs.declared.syntax.Action.TheVariants as action
+use Rattle.asm_text.specs.declared.syntax.Address.{Address}
+use Rattle.asm_text.specs.declared.syntax.Transfer.{Transfer}
+use Rattle.asm_text.specs.declared.syntax.Use.{Use}
+use Rattle.asm_text.specs.declared.syntax.Use.TheVariants as use_of
 
 -- a number, or a label by its name
 abbrev pub SpellsTarget : Target → List Piece → Type 0

@@ -18,10 +18,10 @@ use Rattle.asm_text.specs.declared.names.Head.TheVariants as head
 use Rattle.asm_text.specs.declared.names.Suffix.{Suffix}
 use Rattle.asm_text.specs.declared.word.Word.{Word}
 use Rattle.asm_text.specs.declared.word.Word.TheVariants.{Plain, Branch, Org, Dcd}
-use Rattle.asm_text.specs.declared.said.Action.{Action}
-use Rattle.asm_text.specs.declared.said.Action.TheVariants as action
-use Rattle.asm_text.specs.declared.said.Use.{Use}
-use Rattle.asm_text.specs.declared.said.Use.TheVariants as use_of
+use Rattle.asm_text.specs.declared.syntax.Action.{Action}
+use Rattle.asm_text.specs.declared.syntax.Action.TheVariants as action
+use Rattle.asm_text.specs.declared.syntax.Use.{Use}
+use Rattle.asm_text.specs.declared.syntax.Use.TheVariants as use_of
 use Rattle.asm_text.specs.declared.statement.Expects.{Expects}
 use Rattle.asm_text.specs.declared.statement.Expects.TheVariants.{Start, Hex, Behind}
 use Rattle.asm_text.specs.declared.statement.Wrong.{Wrong}

@@ -9,7 +9,7 @@ ghost use Rattle.asm_text.specs.Operands.{register_offset, all_read};
 use crate::number::first_number;
 use crate::operand::first_shifting;
 use crate::register::first_register;
-use crate::said::{Address, Distance, Shifting};
+use crate::syntax::{Address, Distance, Shifting};
 use crate::token::{Mark, Token};
 use arm2_decode::Register;
 

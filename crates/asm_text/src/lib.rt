@@ -18,29 +18,31 @@
 #![tactic(auto)]
 
 mod address;
+mod hex;
 mod law;
 mod lines;
 mod list;
 mod names;
 mod number;
 mod operand;
+mod printed_lines;
 mod register;
-mod said;
-mod shown;
 mod statement;
+mod syntax;
 mod table;
 mod token;
 mod word;
 
+pub use hex::{hex_digit, hex8};
 pub use law::lines_are_spelled;
 pub use lines::{Line, first_line, read_line};
 pub use names::{Head, Suffix, cond_letters, opcode_letters};
 pub use number::{read_hex, read_number};
-pub use said::{
+pub use printed_lines::{Shown, read_shown};
+pub use statement::Wrong;
+pub use syntax::{
     Action, Address, Amount, BlockTransfer, Code, Data, Distance, Operand, Product, Reference,
     Shifting, Statement, Transfer, Use, Value,
 };
-pub use shown::{Shown, read_shown};
-pub use statement::Wrong;
 pub use token::{Mark, Token, tokens};
 pub use word::{Word, spelled_word};

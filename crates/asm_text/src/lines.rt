@@ -7,8 +7,8 @@ ghost use Rattle.asm_text.specs.Statements.{is_comment_text, is_text, is_text_li
 ghost use Rattle.asm_text.specs.Statements.{parsed};
 ghost use Rattle.asm_text.specs.Source.{feed_len, line_view, lines_of, no_return};
 
-use crate::said::Statement;
 use crate::statement::{Wrong, is_label, read_statement};
+use crate::syntax::Statement;
 use crate::token::{Token, tokens, word_ends};
 use std::alloc::Global;
 

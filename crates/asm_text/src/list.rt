@@ -7,7 +7,7 @@ ghost use Rattle.asm_text.specs.declared.list.Place.TheVariants.{Start};
 
 use crate::names::Suffix;
 use crate::register::{first_register, named_register};
-use crate::said::BlockTransfer;
+use crate::syntax::BlockTransfer;
 use crate::token::{Mark, Token};
 use arm2_decode::Register;
 

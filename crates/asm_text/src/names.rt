@@ -1,6 +1,6 @@
 ghost use Rattle.std.specs.Prelude.{◌≡◌, length};
 ghost use Rattle.asm_text.specs.Names.{cond_name, cond_of, head_of, may_have, opcode_name};
-ghost use Rattle.asm_text.specs.Names.{suffix_of, is_compare, is_block_suffix};
+ghost use Rattle.asm_text.specs.Names.{suffix_of, is_block_suffix};
 
 use crate::table::{name_at, named_in};
 use arm2_decode::{Cond, Opcode};
@@ -160,16 +160,6 @@ pub(crate) fn named_suffix(text: &[u8]) -> Option<Suffix>
     named_in(&SUFFIXES, text)
 }
 
-/// Whether a word writes the flags alone.
-pub(crate) fn compares(opcode: Opcode) -> bool
-    ensures { result ≡ is_compare opcode }
-{
-    matches!(
-        opcode,
-        Opcode::Tst | Opcode::Teq | Opcode::Cmp | Opcode::Cmn
-    )
-}
-
 fn orders_block(suffix: Suffix) -> bool
     ensures { result ≡ is_block_suffix suffix }
 {
@@ -193,7 +183,7 @@ pub(crate) fn may_have(head: Head, suffix: Suffix) -> bool
     match head {
         Head::Data(opcode) => match suffix {
             Suffix::Bare | Suffix::S => true,
-            Suffix::P => compares(opcode),
+            Suffix::P => opcode.is_compare(),
             _ => false,
         },
         Head::Multiply(_) => matches!(suffix, Suffix::Bare | Suffix::S),

@@ -6,12 +6,12 @@ ghost use Rattle.asm_text.specs.Operands.{product_of, shift_by, shift_first, shi
 ghost use Rattle.asm_text.specs.Operands.{sum_of, three_of, all_read};
 ghost use Rattle.asm_text.specs.Registers.{register_first};
 
-use crate::names::{Suffix, compares};
+use crate::names::Suffix;
 use crate::number::first_number;
 use crate::register::{
     first_register, first_register_comma, named_register, named_shift, names_rrx,
 };
-use crate::said::{Amount, Data, Operand, Product, Shifting};
+use crate::syntax::{Amount, Data, Operand, Product, Shifting};
 use crate::token::{Mark, Token};
 use arm2_decode::{Opcode, Register, Shift};
 
@@ -178,7 +178,7 @@ fn three(opcode: Opcode, suffix: Suffix, rd: Register, tokens: &[Token<'_>]) -> 
 fn data_with(opcode: Opcode, suffix: Suffix, r: Register, tokens: &[Token<'_>]) -> Option<Data>
     ensures { result ≡ data_behind opcode suffix r (map piece_of tokens.now) }
 {
-    if compares(opcode) {
+    if opcode.is_compare() {
         compare(opcode, suffix, r, tokens)
     } else if moves(opcode) {
         move_data(opcode, suffix, r, tokens)

@@ -17,7 +17,7 @@ use crate::names::{Head, Suffix};
 use crate::number::{first_hex, first_number, read_hex, read_number};
 use crate::operand::{data, product};
 use crate::register::first_register_comma;
-use crate::said::{Action, Code, Reference, Statement, Transfer, Use, Value};
+use crate::syntax::{Action, Code, Reference, Statement, Transfer, Use, Value};
 use crate::token::{Mark, Token};
 use crate::word::{Word, spelled_word};
 use arm2_decode::{Cond, Register};

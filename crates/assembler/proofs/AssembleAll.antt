@@ -1,5 +1,6 @@
 -- All lines of an assembly pass the first sweep.
 use Rattle.std.proofs.Common.{◌≡◌, ◌≢◌, ◌+◌, ◌≤◌, ℕ, Bool, true, List, [], ◌∷◌, ◌++◌, length, map, Option, Some, None, Ok, refl, sym, subst, inl, inr, ◌⊎◌, arith}
+use Rattle.std.proofs.lemmas.Bool.{cases_Bool}
 use Rattle.std.specs.Prelude.{is_some, flat_map}
 use Rattle.std.specs.List.{AllByRecursion, AllZip}
 use Rattle.std.specs.Str.{bytes_eq}
@@ -12,7 +13,7 @@ use Rattle.assembler.specs.Sweeps.{Names, State, label_fault, labelled, swept, w
 use Rattle.assembler.proofs.AssembleSteps.{Step, said_is, segments_in}
 use Rattle.assembler.proofs.AssembleBack.{Apart, Exact, In}
 use Rattle.assembler.proofs.AssembleReady.{NotEmpty, Passes, Ready, said_ok}
-use Rattle.assembler.proofs.AssembleBasics.{all_both, all_parts, all_true, cases, count_places}
+use Rattle.assembler.proofs.AssembleBasics.{all_both, all_parts, all_true, count_places}
 
 -- ---- lists in two parts
 
@@ -54,7 +55,7 @@ free_label s (Some name) labels h = rw h.0 refl
 
 still_none : (name : List ℕ) (at : ℕ) (old : Names) (other : List ℕ) → old other ≡ None → name ≢ other → with_name name at old other ≡ None
 still_none name at old other free differs =
-    elim (cases (bytes_eq other name)) [
+    elim (cases_Bool (bytes_eq other name)) [
       | inl e ↦ absurd (differs (sym ((bytes_eq-Decides other name).0 e)))
       | inr e ↦ rw e free
     ]

@@ -1,15 +1,16 @@
 -- Lines that are an assembly's pass the first sweep.
-use Rattle.std.proofs.Common.{◌≡◌, ◌≢◌, ◌+◌, ◌*◌, ◌%◌, ◌<◌, ◌≤◌, ℕ, zero, suc, Bool, true, false, not, ◌&&◌, ◌||◌, ◌==◌, List, [], ◌∷◌, ◌++◌, length, Option, Some, None, refl, sym, subst, inl, inr, ◌⊎◌, arith, append_assoc, eqb-true}
+use Rattle.std.proofs.Common.{◌≡◌, ◌≢◌, ◌+◌, ◌*◌, ◌%◌, ◌<◌, ◌≤◌, ℕ, zero, suc, Bool, true, false, ◌&&◌, ◌||◌, List, [], ◌∷◌, ◌++◌, length, Option, Some, None, refl, sym, subst, inl, inr, ◌⊎◌, arith, append_assoc}
 use Rattle.std.specs.Prelude.{nat_le, nat_lt, unwrap_or}
 use Rattle.std.specs.List.{AllByRecursion, list_any}
-use Rattle.std.proofs.lemmas.Bool.{and_parts}
+use Rattle.std.proofs.lemmas.Bool.{and_parts, cases_Bool}
 use Rattle.std.proofs.lemmas.Bool.Decides.{nat_tests}
 use Rattle.std.proofs.lemmas.List.{length-append}
-use Rattle.loader.specs.Image.{may_hold}
+use Rattle.loader.specs.Image.{lies_in_memory, may_hold}
+use Rattle.loader.proofs.PlaceLemmas.{Lies, lies_in, lies_more, lies_one, may_parts}
 use Rattle.assembler.specs.Assembles.{places_from}
-use Rattle.assembler.specs.Sweeps.{Pending, State, closed_with, in_memory, moved, open_has, overlaps, placed}
+use Rattle.assembler.specs.Sweeps.{Pending, State, closed_with, moved, open_has, overlaps, placed}
 use Rattle.assembler.proofs.AssembleSteps.{InSegments, put_all}
-use Rattle.assembler.proofs.AssembleBasics.{all_more, cases, false_true}
+use Rattle.assembler.proofs.AssembleBasics.{all_more, false_true}
 use Rattle.std.proofs.lemmas.List.{append-nil}
 
 -- ---- addresses in a list
@@ -61,7 +62,7 @@ open_parts None at a e k h =
 open_parts (Some from) at a e k h =
     let p = and_parts (nat_le from a) (nat_lt a (at + 4)) h in
     let high : a < at + 4 = grind (arith, nat_tests, p.1) in
-    elim (cases (nat_lt a at)) [
+    elim (cases_Bool (nat_lt a at)) [
       | inl lt ↦ inl (rw (p.0, lt) refl)
       | inr no-lt ↦ let ge : at ≤ a = grind (arith, nat_tests, no-lt) in inr (omega arith)
     ]
@@ -90,9 +91,9 @@ exact_put s k (p ∷ ps) taken h =
     (exact_put (placed s k p) k ps (taken ++ s.at ∷ []) (exact_placed s k p taken h))
 
 any_split : (p : ℕ × ℕ → Bool) (xs : List (ℕ × ℕ)) (x : ℕ × ℕ) → list_any p (xs ++ x ∷ []) ≡ true → (list_any p xs ≡ true) ⊎ (p x ≡ true)
-any_split p [] x h = elim (cases (p x)) [ inl e ↦ inr e | inr e ↦ let k : false ≡ true = rw e at h in false_true k ]
+any_split p [] x h = elim (cases_Bool (p x)) [ inl e ↦ inr e | inr e ↦ let k : false ≡ true = rw e at h in false_true k ]
 any_split p (y ∷ xs) x h =
-    elim (cases (p y)) [
+    elim (cases_Bool (p y)) [
       | inl e ↦ inl (rw e refl)
       | inr e ↦
           let k : list_any p (xs ++ x ∷ []) ≡ true = rw e at h in
@@ -127,66 +128,19 @@ exact_moved s n taken four h = record {
 
 -- ---- words that stand where they may
 
-may_parts : (a : ℕ) → may_hold a ≡ true → (a % 4 ≡ 0) × (a < 67108864) × ((a < 50331648) ⊎ (54525952 ≤ a))
-may_parts a h =
-    let p = and_parts (a % 4 == 0 && nat_lt a 67108864) (not (nat_le 50331648 a && nat_lt a 54525952)) h in
-    let q = and_parts (a % 4 == 0) (nat_lt a 67108864) p.0 in (
-      eqb-true (a % 4) 0 q.0,
-      grind (arith, nat_tests, q.1),
-      elim (cases (nat_lt a 50331648)) [
-        | inl lt ↦ inl (grind (arith, nat_tests, lt))
-        | inr no-lt ↦ elim (cases (nat_lt a 54525952)) [
-          | inl lt ↦
-              let ge : nat_le 50331648 a ≡ true = grind (arith, nat_tests, no-lt) in
-              let k : false ≡ true = rw (ge, lt) at p.1 in false_true k
-          | inr no-lt2 ↦ inr (grind (arith, nat_tests, no-lt2))
-        ]
-      ],
-    )
-
 pub may_four : (a : ℕ) → may_hold a ≡ true → a % 4 ≡ 0
 may_four a h = (may_parts a h).0
 
-InMemory : ℕ → ℕ → Type 0
-InMemory from to = (to ≤ 50331648) ⊎ ((54525952 ≤ from) × (to ≤ 67108864))
-
-memory_one : (a : ℕ) → may_hold a ≡ true → InMemory a (a + 4)
-unfolding InMemory
-memory_one a h =
-    let p = may_parts a h in
-    elim p.2 [ inl lt ↦ inl (omega (arith, p.0, lt)) | inr ge ↦ inr (ge, omega (arith, p.0, p.1)) ]
-
-memory_more : (a to : ℕ) → may_hold a ≡ true → a + 4 < to → InMemory (a + 4) to → InMemory a to
-unfolding InMemory
-memory_more a to h lt k =
-    let p = may_parts a h in
-    elim k [
-      | inl le ↦ inl le
-      | inr m ↦ elim p.2 [ inl low ↦ absurd (omega (arith, p.0, low, m.0)) | inr ge ↦ inr (ge, m.1) ]
-    ]
-
-memory_all : (n at : ℕ) → AllByRecursion (λ a. may_hold a ≡ true) (places_from at (suc n)) → InMemory at (at + 4 * suc n)
-unfolding InMemory
-memory_all zero at h = memory_one at h.0
+memory_all : (n at : ℕ) → AllByRecursion (λ a. may_hold a ≡ true) (places_from at (suc n)) → Lies at (at + 4 * suc n)
+memory_all zero at h = lies_one at h.0
 memory_all (suc n) at h =
     let rest = memory_all n (at + 4) h.1 in
     let to : at + 4 + 4 * suc n ≡ at + 4 * suc (suc n) = omega arith in
-    memory_more at (at + 4 * suc (suc n)) h.0 (omega arith) (subst (InMemory (at + 4)) to rest)
+    lies_more at (at + 4 * suc (suc n)) h.0 (subst (Lies (at + 4)) to rest) (omega arith)
 
-pub in_memory_all : (n at : ℕ) → AllByRecursion (λ a. may_hold a ≡ true) (places_from at (suc n)) → in_memory at (at + 4 * suc n) ≡ true
-unfolding InMemory
-in_memory_all n at h =
-    elim (memory_all n at h) [
-      | inl le ↦ let k : nat_le (at + 4 * suc n) 50331648 ≡ true = grind (arith, nat_tests, le) in rw k refl
-      | inr m ↦
-          let k : nat_le 54525952 at ≡ true = grind (arith, nat_tests, m.0) in
-          let l : nat_le (at + 4 * suc n) 67108864 ≡ true = grind (arith, nat_tests, m.1) in
-          rw (k, l) (or_true (nat_le (at + 4 * suc n) 50331648))
-    ]
-  where
-    or_true : (b : Bool) → (b || true) ≡ true
-    or_true true = refl
-    or_true false = refl
+pub in_memory_all : (n at : ℕ) → AllByRecursion (λ a. may_hold a ≡ true) (places_from at (suc n))
+    → lies_in_memory at (at + 4 * suc n) ≡ true
+in_memory_all n at h = lies_in at (at + 4 * suc n) (memory_all n at h)
 
 -- ---- words on no other's place
 
@@ -195,12 +149,12 @@ overlap_point : (closed : List (ℕ × ℕ)) (from to : ℕ) → from % 4 ≡ 0 
     → (a : ℕ) × (a % 4 ≡ 0) × (from ≤ a) × (a < to) × (overlaps closed a (a + 1) ≡ true)
 overlap_point [] from to four lt spans h = false_true h
 overlap_point (s ∷ closed) from to four lt spans h =
-    elim (cases (nat_lt s.0 to && nat_lt from s.1)) [
+    elim (cases_Bool (nat_lt s.0 to && nat_lt from s.1)) [
       | inl e ↦
           let k = and_parts (nat_lt s.0 to) (nat_lt from s.1) e in
           let a-to : s.0 < to = grind (arith, nat_tests, k.0) in
           let from-b : from < s.1 = grind (arith, nat_tests, k.1) in
-          elim (cases (nat_lt from s.0)) [
+          elim (cases_Bool (nat_lt from s.0)) [
             | inl above ↦
                 let x : nat_lt s.0 (s.0 + 1) ≡ true = grind (arith, nat_tests) in
                 let y : nat_lt s.0 s.1 ≡ true = grind (arith, nat_tests, spans.0.1) in
@@ -225,7 +179,7 @@ in_places : (n at a : ℕ) → at % 4 ≡ 0 → a % 4 ≡ 0 → at ≤ a → a <
 unfolding In
 in_places zero at a e k le lt = absurd (omega (arith, le, lt))
 in_places (suc n) at a e k le lt =
-    elim (cases (nat_lt at a)) [
+    elim (cases_Bool (nat_lt at a)) [
       | inl above ↦ let m : at < a = grind (arith, nat_tests, above) in inr (in_places n (at + 4) a (omega (arith, e)) k (omega (arith, e, k, m)) (omega (arith, lt)))
       | inr same ↦ let m : a ≤ at = grind (arith, nat_tests, same) in inl (omega (arith, le, m))
     ]
@@ -242,7 +196,7 @@ apart_at taken (x ∷ xs) a h k there = elim k [ inl e ↦ h.0 (subst (In taken)
 pub no_overlap : (s : State) (taken : List ℕ) (n : ℕ) → Exact s taken → Apart taken (places_from s.at n) → 0 < n → overlaps s.closed s.at (s.at + 4 * n) ≡ false
 unfolding InSegments
 no_overlap s taken n h apart some =
-    elim (cases (overlaps s.closed s.at (s.at + 4 * n))) [
+    elim (cases_Bool (overlaps s.closed s.at (s.at + 4 * n))) [
       | inl e ↦
           let p = overlap_point s.closed s.at (s.at + 4 * n) h.even (omega (arith, some)) h.spans e in
           absurd (apart_at taken (places_from s.at n) p.0 apart (in_places n s.at p.0 h.even p.1 p.2 p.3) (h.within p.0 p.1 (inl p.4)))

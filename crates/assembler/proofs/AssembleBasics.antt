@@ -1,6 +1,7 @@
 -- Lists, tests and words that several of the next lemmas need.
-use Rattle.std.proofs.Common.{◌≡◌, ◌+◌, ℕ, zero, suc, Bool, true, false, cond, not, List, [], ◌∷◌, ◌++◌, length, map, Option, Some, None, refl, ap, inl, inr, ◌⊎◌}
+use Rattle.std.proofs.Common.{◌≡◌, ◌+◌, ℕ, zero, suc, true, false, List, [], ◌∷◌, ◌++◌, length, map, Option, Some, None, refl, ap, inl, inr}
 use Rattle.std.specs.Prelude.{nat_lt}
+use Rattle.std.proofs.lemmas.Bool.{cases_Bool}
 use Rattle.std.specs.List.{AllByRecursion}
 use Rattle.std.specs.Str.{bytes_eq}
 use Rattle.std.proofs.lemmas.Slice.Eq.{bytes_eq-Decides}
@@ -9,20 +10,8 @@ use Rattle.asm_text.specs.Said.{Target}
 use Rattle.assembler.specs.Assembles.{places_from}
 use Rattle.assembler.specs.Sweeps.{State, labelled, value_pending}
 
-pub cases : (b : Bool) → (b ≡ true) ⊎ (b ≡ false)
-cases true = inl refl
-cases false = inr refl
-
-pub chosen : {A : Type 0} (b : Bool) (x y z : A) → cond b x y ≡ z → ((b ≡ true) × (x ≡ z)) ⊎ ((b ≡ false) × (y ≡ z))
-chosen true x y z e = inl (refl, e)
-chosen false x y z e = inr (refl, e)
-
 pub false_true : {A : Type 0} → false ≡ true → A
 false_true e = absurd cc
-
-pub not_false : (a : Bool) → not a ≡ false → a ≡ true
-not_false true e = refl
-not_false false e = absurd cc
 
 pub all_map : {A : Type 0} (P Q : A → Type 0) (xs : List A) → ((x : A) → P x → Q x) → AllByRecursion P xs → AllByRecursion Q xs
 all_map P Q [] f h = tt
@@ -47,12 +36,9 @@ all_true P (x ∷ xs) f = (f x, all_true P xs f)
 pub same_bytes : (text : List ℕ) → bytes_eq text text ≡ true
 same_bytes text = (bytes_eq-Decides text text).1 refl
 
-pub equal_bytes : (xs ys : List ℕ) → bytes_eq xs ys ≡ true → xs ≡ ys
-equal_bytes xs ys e = (bytes_eq-Decides xs ys).0 e
-
 pub one_more : (image : Words) (at w : ℕ) → length (with_word image at w) ≡ suc (length image)
 one_more [] at w = refl
-one_more (f ∷ rest) at w = elim (cases (nat_lt at f.0)) [ inl e ↦ rw e refl | inr e ↦ rw e (ap suc (one_more rest at w)) ]
+one_more (f ∷ rest) at w = elim (cases_Bool (nat_lt at f.0)) [ inl e ↦ rw e refl | inr e ↦ rw e (ap suc (one_more rest at w)) ]
 
 pub count_places : (at n : ℕ) → length (places_from at n) ≡ n
 count_places at zero = refl

@@ -3,6 +3,8 @@ use Rattle.std.proofs.Common.{◌≡◌, ◌≢◌, ◌+◌, ◌<◌, ◌≤◌,
 use Rattle.std.specs.Prelude.{is_some, nat_le, nat_lt, flat_map}
 use Rattle.std.specs.List.{AllByRecursion, AllZip, fold}
 use Rattle.std.proofs.lemmas.Bool.Decides.{nat_tests}
+use Rattle.std.proofs.lemmas.Bool.{not-false, or_parts}
+use Rattle.asm_text.proofs.WordLaws.{chosen}
 use Rattle.loader.specs.Image.{Words, may_hold, put_fault, runs_of, with_word, word_of}
 use Rattle.loader.specs.declared.image.ImageFault.{ImageFault}
 use Rattle.loader.specs.declared.image.ImageFault.TheVariants as image_fault
@@ -13,13 +15,9 @@ use Rattle.assembler.specs.Sweeps.{Fixed, Waits, Item, Names, Pending, filled, f
 use Rattle.assembler.specs.declared.fault.Fault.{Fault}
 use Rattle.assembler.proofs.AssembleSteps.{Pends, items_at}
 use Rattle.assembler.proofs.AssembleSweep.{NewItems, flat}
-use Rattle.assembler.proofs.AssembleBasics.{all_map, chosen, false_true, not_false, one_more}
+use Rattle.assembler.proofs.AssembleBasics.{all_map, false_true, one_more}
 
 -- ---- one word put
-
-or_none : (a b : Bool) → (a || b) ≡ false → (a ≡ false) × (b ≡ false)
-or_none true b e = absurd cc
-or_none false b e = (refl, e)
 
 none_there : (o : Option ℕ) → is_some o ≡ false → o ≡ None
 none_there None e = refl
@@ -37,9 +35,9 @@ may_put image at w e =
       | inr h ↦ elim (chosen (nat_le 65536 (length image) || nat_lt 16 (runs_of (with_word image at w))) (Some image_fault.TooLong) None None h.1) [
         | inl g ↦ let k = g.1 in absurd cc
         | inr g ↦
-            let k = or_none (not (may_hold at)) (is_some (word_of image at)) h.0 in
-            let few = (or_none (nat_le 65536 (length image)) (nat_lt 16 (runs_of (with_word image at w))) g.0).0 in
-            record { may = not_false (may_hold at) k.0; free = none_there (word_of image at) k.1; room = grind (arith, nat_tests, few) }
+            let k = or_parts (not (may_hold at)) (is_some (word_of image at)) h.0 in
+            let few = (or_parts (nat_le 65536 (length image)) (nat_lt 16 (runs_of (with_word image at w))) g.0).0 in
+            record { may = not-false (may_hold at) k.0; free = none_there (word_of image at) k.1; room = grind (arith, nat_tests, few) }
       ]
     ]
 

@@ -1,13 +1,14 @@
 -- Each line of an assembly passes, and so do all.
 use Rattle.std.proofs.Common.{◌≡◌, ◌≢◌, ◌+◌, ◌≤◌, ℕ, suc, Bool, true, false, cond, ◌||◌, ◌==◌, List, [], ◌∷◌, ◌++◌, length, map, Option, Some, None, Result, Ok, Err, refl, sym, ap, subst, ◌∙◌, inl, inr, arith}
+use Rattle.std.proofs.lemmas.Bool.{cases_Bool}
 use Rattle.std.specs.Prelude.{nat_le, nat_lt, is_some, if◌then◌else◌}
 use Rattle.std.specs.List.{AllByRecursion}
 use Rattle.std.proofs.lemmas.Bool.Decides.{nat_tests}
 use Rattle.arm2_decode.specs.declared.names.Register.TheVariants.{R15}
 use Rattle.loader.specs.Image.{may_hold}
 use Rattle.asm_text.specs.Said.{Number, Label, Said, Codes, Refers, Orgs, Lists}
-use Rattle.asm_text.specs.declared.said.Use.{Use}
-use Rattle.asm_text.specs.declared.said.Use.TheVariants as use_of
+use Rattle.asm_text.specs.declared.syntax.Use.{Use}
+use Rattle.asm_text.specs.declared.syntax.Use.TheVariants as use_of
 use Rattle.assembler.specs.Assembles.{AreWords, IsFree, places_from, word_count}
 use Rattle.assembler.specs.Codes.{action_word, encoded, refer, use_action, use_fault}
 use Rattle.assembler.specs.Faults.{lower}
@@ -15,7 +16,7 @@ use Rattle.assembler.specs.Sweeps.{Names, Pending, Fixed, Waits, State, around_f
 use Rattle.assembler.specs.declared.fault.Fault.{Fault}
 use Rattle.assembler.proofs.AssembleSteps.{InSegments, put_all, segments_in, values_put}
 use Rattle.assembler.proofs.AssembleBack.{Apart, Exact, StartEven, exact_moved, exact_put, in_memory_all, may_four, no_overlap, not_in}
-use Rattle.assembler.proofs.AssembleBasics.{cases, count_map, labelled_at}
+use Rattle.assembler.proofs.AssembleBasics.{count_map, labelled_at}
 use Rattle.std.proofs.lemmas.List.{append-nil}
 
 -- ---- places
@@ -31,7 +32,7 @@ place_ok s taken m h held apart few room =
 no_17th : (s : State) (n : ℕ) → (n == 0) ≡ false → segments_in s + (if is_some s.start || n == 0 then 0 else 1) ≤ 16 → is_17th s ≡ false
 unfolding segments_in
 no_17th s n some h =
-    elim (cases (is_some s.start)) [
+    elim (cases_Bool (is_some s.start)) [
       | inl e ↦ rw e refl
       | inr e ↦
           let k : length s.closed + 0 + 1 ≤ 16 = rw (e, some) at h in
@@ -96,9 +97,9 @@ unfolding InSegments
 org_ok s n taken h free =
     let four = may_four n free.0 in
     let none : InSegments s n → ⊥ = λ held. not_in taken n free.1 (h.within n four held) in
-    elim (cases (overlaps s.closed n (n + 1))) [
+    elim (cases_Bool (overlaps s.closed n (n + 1))) [
       | inl e ↦ absurd (none (inl e))
-      | inr e ↦ elim (cases (open_has s.start s.at n)) [
+      | inr e ↦ elim (cases_Bool (open_has s.start s.at n)) [
         | inl g ↦ absurd (none (inr g))
         | inr g ↦ rw (free.0, e, g) refl
       ]

@@ -3,18 +3,19 @@ use Rattle.std.proofs.Common.{◌≡◌, ◌≢◌, ◌+◌, ◌*◌, ◌≤◌,
 use Rattle.std.specs.Prelude.{nat_le, nat_lt, is_some, unwrap_or, if◌then◌else◌}
 use Rattle.std.proofs.lemmas.List.{length-append}
 use Rattle.std.specs.List.{AllByRecursion, list_any}
-use Rattle.std.proofs.lemmas.Bool.{and_parts}
+use Rattle.std.proofs.lemmas.Bool.{and_parts, cases_Bool, not-false}
 use Rattle.std.proofs.lemmas.Bool.Decides.{nat_tests}
-use Rattle.loader.specs.Image.{may_hold}
+use Rattle.loader.specs.Image.{lies_in_memory, may_hold}
 use Rattle.asm_text.specs.Said.{Target, Number, Label, Said, Codes, Refers, Orgs, Lists}
 use Rattle.assembler.specs.Assembles.{IsFree, address_behind, is_open, places_from, word_count}
 use Rattle.assembler.specs.Codes.{encoded, refer, use_fault}
 use Rattle.assembler.specs.Faults.{lower}
-use Rattle.assembler.specs.Sweeps.{Pending, Fixed, Waits, Item, State, all_placed, around_fault, closed_with, is_17th, in_memory, label_fault, labelled, moved, open_has, org_fault, overlaps, pending_step, pending_unless, place_fault, placed, said_step, unless, value_pending, word_pending}
+use Rattle.assembler.specs.Sweeps.{Pending, Fixed, Waits, Item, State, all_placed, around_fault, closed_with, is_17th, label_fault, labelled, moved, open_has, org_fault, overlaps, pending_step, pending_unless, place_fault, placed, said_step, unless, value_pending, word_pending}
 use Rattle.assembler.specs.declared.fault.Fault.{Fault}
 use Rattle.assembler.specs.declared.fault.Fault.TheVariants.{OutOfRange, TooLong}
-use Rattle.assembler.proofs.AssembleBasics.{all_map, all_more, cases, chosen, count_map, false_true, labelled_at, not_false}
+use Rattle.assembler.proofs.AssembleBasics.{all_map, all_more, count_map, false_true, labelled_at}
 use Rattle.std.proofs.lemmas.List.{append-nil}
+use Rattle.asm_text.proofs.WordLaws.{chosen}
 
 -- ---- small facts
 
@@ -142,7 +143,7 @@ segments_in s = length s.closed + (if is_some s.start then 1 else 0)
 room : (s : State) → is_17th s ≡ false → segments_in s ≤ 16 → length s.closed + 1 ≤ 16
 unfolding segments_in
 room s h few =
-    elim (cases (is_some s.start)) [
+    elim (cases_Bool (is_some s.start)) [
       | inl e ↦ rw e at few
       | inr e ↦ let k : nat_le 16 (length s.closed) ≡ false = rw e at h in grind (arith, nat_tests, k)
     ]
@@ -166,11 +167,11 @@ put_segments s k ps h few =
 
 any_first : (p : ℕ × ℕ → Bool) (xs ys : List (ℕ × ℕ)) → list_any p xs ≡ true → list_any p (xs ++ ys) ≡ true
 any_first p [] ys h = false_true h
-any_first p (x ∷ xs) ys h = elim (cases (p x)) [ inl e ↦ rw e refl | inr e ↦ let k : list_any p xs ≡ true = rw e at h in rw e (any_first p xs ys k) ]
+any_first p (x ∷ xs) ys h = elim (cases_Bool (p x)) [ inl e ↦ rw e refl | inr e ↦ let k : list_any p xs ≡ true = rw e at h in rw e (any_first p xs ys k) ]
 
 any_last : (p : ℕ × ℕ → Bool) (xs : List (ℕ × ℕ)) (x : ℕ × ℕ) → p x ≡ true → list_any p (xs ++ x ∷ []) ≡ true
 any_last p [] x h = rw h refl
-any_last p (y ∷ xs) x h = elim (cases (p y)) [ inl e ↦ rw e refl | inr e ↦ rw e (any_last p xs x h) ]
+any_last p (y ∷ xs) x h = elim (cases_Bool (p y)) [ inl e ↦ rw e refl | inr e ↦ rw e (any_last p xs x h) ]
 
 closed_keeps : (o : Option ℕ) (to a : ℕ) (closed : List (ℕ × ℕ)) → (overlaps closed a (a + 1) ≡ true) ⊎ (open_has o to a ≡ true) → overlaps (closed_with o to closed) a (a + 1) ≡ true
 closed_keeps None to a closed h = elim h [ inl e ↦ e | inr e ↦ false_true e ]
@@ -204,7 +205,7 @@ org_is s n e =
       | inl h ↦ let k = h.1 in absurd cc
       | inr h ↦
           let rest = or_second (not (may_hold n)) (overlaps s.closed n (n + 1) || open_has s.start s.at n) h.0 in (
-            not_false (may_hold n) (or_first (not (may_hold n)) (overlaps s.closed n (n + 1) || open_has s.start s.at n) h.0),
+            not-false (may_hold n) (or_first (not (may_hold n)) (overlaps s.closed n (n + 1) || open_has s.start s.at n) h.0),
             or_first (overlaps s.closed n (n + 1)) (open_has s.start s.at n) rest,
             or_second (overlaps s.closed n (n + 1)) (open_has s.start s.at n) rest,
           )
@@ -326,7 +327,7 @@ labelled_org s (Some name) n = refl
 
 place_room : (s : State) (n : ℕ) → place_fault s n ≡ None → is_17th s ≡ false
 place_room s n e =
-    elim (chosen (not (in_memory s.at (s.at + 4 * n)) || overlaps s.closed s.at (s.at + 4 * n)) (Some OutOfRange) _ None e) [
+    elim (chosen (not (lies_in_memory s.at (s.at + 4 * n)) || overlaps s.closed s.at (s.at + 4 * n)) (Some OutOfRange) _ None e) [
       | inl h ↦ let k = h.1 in absurd cc
       | inr h ↦ elim (chosen (nat_lt 65536 (s.words + n) || is_17th s) (Some TooLong) None None h.1) [
         | inl g ↦ let k = g.1 in absurd cc

@@ -1,5 +1,6 @@
 -- What the first sweep says of all lines.
 use Rattle.std.proofs.Common.{◌≡◌, ◌≢◌, ◌+◌, ◌<◌, ◌≤◌, ◌↔◌, ℕ, zero, suc, Bool, List, [], ◌∷◌, ◌++◌, length, map, Option, Some, None, Result, Ok, Err, refl, sym, ap, subst, ◌∙◌, inl, inr, ◌⊎◌, arith, append_assoc, get_or}
+use Rattle.std.proofs.lemmas.Bool.{cases_Bool}
 use Rattle.std.specs.Prelude.{is_some, if◌then◌else◌}
 use Rattle.std.specs.List.{AllByRecursion, AllZip, Contains}
 use Rattle.std.specs.Str.{bytes_eq}
@@ -10,8 +11,9 @@ use Rattle.assembler.specs.Sweeps.{Item, Names, Pending, State, label_fault, lab
 use Rattle.assembler.specs.declared.fault.Fault.{Fault}
 use Rattle.assembler.specs.declared.fault.Fault.TheVariants.{LabelTwice}
 use Rattle.assembler.proofs.AssembleSteps.{Covers, Pends, Step, items_at, said_is, segments_in}
-use Rattle.assembler.proofs.AssembleBasics.{all_map, cases, chosen, equal_bytes, false_true, same_bytes}
+use Rattle.assembler.proofs.AssembleBasics.{all_map, false_true, same_bytes}
 use Rattle.std.proofs.lemmas.List.{append-nil}
+use Rattle.asm_text.proofs.WordLaws.{chosen, equal_bytes}
 
 nothing : {A B : Type 0} (a : A) → None ≡ Some a → B
 nothing a e = absurd cc
@@ -53,7 +55,7 @@ name_before name at old other a e =
 
 name_still : (name : List ℕ) (at : ℕ) (old : Names) (other : List ℕ) (a : ℕ) → old name ≡ None → old other ≡ Some a → with_name name at old other ≡ Some a
 name_still name at old other a free e =
-    elim (cases (bytes_eq other name)) [
+    elim (cases_Bool (bytes_eq other name)) [
       | inl h ↦ nothing a (sym free ∙ ap old (sym (equal_bytes other name h)) ∙ e)
       | inr h ↦ rw h e
     ]

@@ -25,7 +25,8 @@ use Rattle.arm2_decode.specs.Names.{register_number}
 use Rattle.asm_text.specs.Names.{opcode_name}
 use Rattle.asm_text.specs.Shown.{is_shown, is_shown_text, is_upper}
 use Rattle.asm_text.specs.Words.{branch_name}
-use Rattle.assembler.specs.ShownLines.{amount_text, block_name, block_suffix, block_text, closed, comma_register, compare_front, compare_text, cond_text, data_front, factors_text, flags_text, follows, has, hex, is_plain, is_user, list_operand, list_text, listed, listed_below, load_name, mark_if, move_front, multiply_text, numbered, offset_text, opened, operation_text, register_text, run_first, run_last, shift_text, shifted_text, shown_line, sign_of, single_immediate_text, single_register_text, target_of, three_front, transfer_front, transfer_suffix, word_text}
+use Rattle.asm_text.specs.Hex.{hex}
+use Rattle.assembler.specs.ShownLines.{amount_text, block_name, block_suffix, block_text, closed, comma_register, compare_front, compare_text, cond_text, data_front, factors_text, flags_text, follows, has, is_plain, is_user, list_operand, list_text, listed, listed_below, load_name, mark_if, move_front, multiply_text, numbered, offset_text, opened, operation_text, register_text, run_first, run_last, shift_text, shifted_text, shown_line, sign_of, single_immediate_text, single_register_text, target_of, three_front, transfer_front, transfer_suffix, word_text}
 
 is_spelled : ℕ → Bool
 is_spelled b = is_shown b && not (is_ascii_lowercase b)

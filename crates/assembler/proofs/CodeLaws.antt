@@ -1,30 +1,13 @@
 -- A word is its row's fixed bits and its fields; the lowest rotation.
-use Rattle.std.proofs.Common.{ℕ, suc, ◌+◌, ◌-◌, ◌*◌, ◌^◌, ◌<◌, ◌≤◌, ◌≡◌, refl, ap, ◌∙◌, arith, ◌∷◌, map, Option, Some}
+use Rattle.std.proofs.Common.{ℕ, suc, ◌+◌, ◌-◌, ◌*◌, ◌^◌, ◌<◌, ◌≤◌, ◌≡◌, refl, ap, ◌∙◌, arith, ◌∷◌, Option, Some}
 use Rattle.std.specs.Int.{w32, rotate_left}
 use Rattle.std.specs.List.{find, range_with_len}
-use Rattle.std.specs.Int.Bits.{bit_and}
 use Rattle.std.proofs.lemmas.Bool.{lt-ltb, le-ltb}
 use Rattle.arm2_decode.specs.declared.instr.Instr.{Instr}
-use Rattle.arm2_decode.specs.declared.instr.Operation.{Operation}
-use Rattle.arm2_decode.specs.declared.instr.Operation.TheVariants.{Multiply, DataRegister, DataRegisterShift, DataImmediate, SingleImmediate, SingleRegister, Block, Branch, Swi, UndefinedTransfer, CoprocessorTransfer, Coprocessor}
 use Rattle.arm2_decode.specs.Names.{cond_number}
-use Rattle.arm2_decode.specs.Table.{row_of, operands, place_of, Means}
-use Rattle.arm2_decode.proofs.FieldLemmas.{mask_kind, mask_wide, mask_multiply, mask_four, mask_seven_four}
-use Rattle.assembler.specs.Codes.{is_byte_by, word_in}
-
-word_laid : (w : ℕ) (o : Operation) → w < 2 ^ 32 → bit_and w (row_of o).mask ≡ (row_of o).fixed → w ≡ word_in (row_of o) (map (place_of w) (row_of o).places)
-word_laid w (Multiply x) below h = omega (arith, h, mask_multiply w)
-word_laid w (DataRegister x) below h = omega (arith, h, mask_four w)
-word_laid w (DataRegisterShift x) below h = omega (arith, h, mask_seven_four w)
-word_laid w (DataImmediate x) below h = omega (arith, h, mask_kind w)
-word_laid w (SingleImmediate x) below h = omega (arith, h, mask_kind w)
-word_laid w (SingleRegister x) below h = omega (arith, h, mask_four w)
-word_laid w (Block x) below h = omega (arith, h, mask_kind w)
-word_laid w (Branch x) below h = omega (arith, h, mask_kind w)
-word_laid w (Swi x) below h = omega (arith, h, mask_wide w)
-word_laid w (UndefinedTransfer x) below h = omega (arith, h, mask_four w)
-word_laid w (CoprocessorTransfer x) below h = omega (arith, h, mask_kind w)
-word_laid w (Coprocessor x) below h = omega (arith, h, mask_wide w)
+use Rattle.arm2_decode.specs.Table.{row_of, operands, Means, word_in}
+use Rattle.arm2_decode.proofs.OnlyLemmas.{word_laid}
+use Rattle.assembler.specs.Codes.{is_byte_by}
 
 pub means_word : (w : ℕ) (i : Instr) → w < 2 ^ 32 → Means w i → w ≡ word_in (row_of i.operation) (cond_number i.cond ∷ operands i.operation)
 means_word w i below h = word_laid w i.operation below h.fixed ∙ ap (word_in (row_of i.operation)) h.fields

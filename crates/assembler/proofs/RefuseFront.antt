@@ -1,6 +1,7 @@
 -- After lines without a fault: what the first sweep's state says of them.
 use Rattle.std.specs.Prelude.{flat_map, is_some, nat_le, nat_lt, if◌then◌else◌}
 use Rattle.std.proofs.Common.{◌≡◌, ◌||◌, ◌↔◌, ◌+◌, ◌<◌, ◌≤◌, ◌==◌, ℕ, suc, Bool, true, false, List, [], ◌∷◌, ◌++◌, length, map, Option, Some, None, Result, Ok, Err, refl, sym, ap, subst, ◌∙◌, inl, inr, ◌⊎◌, arith, append_assoc}
+use Rattle.std.proofs.lemmas.Bool.{cases_Bool, or_cases}
 use Rattle.std.specs.List.{AllByRecursion, Contains}
 use Rattle.std.proofs.lemmas.Bool.Decides.{nat_tests}
 use Rattle.std.proofs.lemmas.List.{append-nil, length-append}
@@ -15,7 +16,7 @@ use Rattle.assembler.specs.Sweeps.{Waits, Item, Pending, State, all_placed, arou
 use Rattle.assembler.specs.declared.fault.Fault.{Fault}
 use Rattle.assembler.specs.declared.fault.Fault.TheVariants.{LabelTwice, OutOfRange, TooLong}
 use Rattle.assembler.proofs.AssembleBack.{Exact, exact_moved, exact_put, may_four}
-use Rattle.assembler.proofs.AssembleBasics.{cases, count_map, count_places, false_true, labelled_at}
+use Rattle.assembler.proofs.AssembleBasics.{count_map, count_places, false_true, labelled_at}
 use Rattle.assembler.proofs.AssembleReady.{NotEmpty, exact_labelled}
 use Rattle.assembler.proofs.AssembleSteps.{Covers, Pends, items_at, pending_is, put_all, segments_in, unless_is, values_put}
 use Rattle.assembler.proofs.RefuseLeast.{IsLeast, failed, least_both, least_guard, least_none, least_option, least_result, least_same}
@@ -177,7 +178,7 @@ seventeenth : (s : State) (n g : ℕ) → (n == 0) ≡ false → segments_in s �
     × (16 < g + (if is_some s.start || n == 0 then 0 else 1) → is_17th s ≡ true)
 unfolding segments_in
 seventeenth s n g some is few =
-    elim (cases (is_some s.start)) [
+    elim (cases_Bool (is_some s.start)) [
       | inl e ↦ (
         λ h. let k : false ≡ true =
             rw e at h in false_true k,
@@ -193,10 +194,6 @@ seventeenth s n g some is few =
                 grind (arith, nat_tests, k, count) in rw (e, le) refl,
           )
     ]
-
-or_either : (a b : Bool) → (a || b) ≡ true → (a ≡ true) ⊎ (b ≡ true)
-or_either true b e = inl refl
-or_either false b e = inr e
 
 left_true : (a b : Bool) → a ≡ true → (a || b) ≡ true
 left_true true b e = refl
@@ -228,7 +225,7 @@ long_there : (s : State) (k : ℕ) (before : List Parsed) (p : Parsed) → Front
     → (nat_lt 65536 (s.words + word_count p.said) || is_17th s) ≡ true → AreTooLong (before ++ p ∷ [])
 long_there s k before p h some e =
     let c = counts s k before p h in
-    elim (or_either (nat_lt 65536 (s.words + word_count p.said)) (is_17th s) e) [
+    elim (or_cases (nat_lt 65536 (s.words + word_count p.said)) (is_17th s) e) [
       | inl x ↦ let lt : 65536 < s.words + word_count p.said =
           grind (arith, nat_tests, x) in inl (omega (arith, c.words, lt))
       | inr x ↦

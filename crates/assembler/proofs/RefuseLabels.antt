@@ -13,7 +13,7 @@ use Rattle.assembler.specs.declared.fault.Fault.TheVariants.{LabelMissing}
 use Rattle.assembler.proofs.AssembleSteps.{Pends, items_at}
 use Rattle.assembler.proofs.AssembleFits.{Fits}
 use Rattle.assembler.proofs.RefuseFront.{ItemsOf}
-use Rattle.assembler.proofs.RefuseLeast.{IsLeast, failed, is_least, least_is, least_no, least_none, least_result, least_same, no_least, same_le}
+use Rattle.assembler.proofs.RefuseLeast.{IsLeast, either, failed, is_least, least_is, least_no, least_none, least_result, least_same, no_least, same_le}
 
 -- the names of all labels, and no others
 unfoldable pub Known : Names → List (List ℕ × ℕ) → Type 0
@@ -276,10 +276,6 @@ pub record LabelStops (labels : List (List ℕ × ℕ)) (lines : List Laid) : Ty
   pub none : AreFaultless labels front
   pub fault : Fault
   pub fault-is : IsLowest (HasLabelFault labels line.at line.said) fault
-
-either : (o : Option Fault) → (o ≡ None) ⊎ ((f : Fault) × (o ≡ Some f))
-either None = inl refl
-either (Some f) = inr (f, refl)
 
 pub known_or_stop : (names : Names) (labels : List (List ℕ × ℕ)) (k : ℕ) (lines : List Laid)
     (items : List Item) → Known names labels → ItemsOf k lines items → AreFaultless labels lines

@@ -1,17 +1,22 @@
 -- The lowest of some faults, joined from the parts that they come from.
 use Rattle.std.proofs.Common.{◌≡◌, ◌≤◌, ◌==◌, ℕ, Bool, true, false, Option, Some, None, Result, Ok, Err, refl, sym, ap, subst, ◌∙◌, inl, inr, ◌⊎◌, arith}
+use Rattle.std.proofs.lemmas.Bool.{cases_Bool}
 use Rattle.std.specs.Prelude.{nat_lt, if◌then◌else◌}
 use Rattle.std.proofs.lemmas.Bool.Decides.{nat_tests}
 use Rattle.assembler.specs.Faults.{lower, number}
 use Rattle.assembler.specs.Refusals.{IsLowest}
 use Rattle.assembler.specs.declared.fault.Fault.{Fault}
 use Rattle.assembler.specs.declared.fault.Fault.TheVariants.{NotText, UnknownWord, BadOperand, ImmediateNotRotated, BranchTooFar, LabelTwice, LabelMissing, OutOfRange, Unallocated, TooLong}
-use Rattle.assembler.proofs.AssembleBasics.{cases, false_true}
+use Rattle.assembler.proofs.AssembleBasics.{false_true}
 
 -- the lowest fault of those that hold, or none does
 unfoldable pub IsLeast : (Fault → Type 0) → Option Fault → Type 0
 IsLeast Has None = (fault : Fault) → Has fault → ⊥
 IsLeast Has (Some fault) = IsLowest Has fault
+
+pub either : (o : Option Fault) → (o ≡ None) ⊎ ((f : Fault) × (o ≡ Some f))
+either None = inl refl
+either (Some f) = inr (f, refl)
 
 -- ---- numbers
 
@@ -90,7 +95,7 @@ least_both P Q None (Some b) h k =
 least_both P Q (Some a) None h k =
     record { holds = inl h.holds; lowest = λ f e. elim e [ inl x ↦ h.lowest f x | inr x ↦ absurd (k f x) ] }
 least_both P Q (Some a) (Some b) h k =
-    elim (cases (nat_lt (number b) (number a))) [
+    elim (cases_Bool (nat_lt (number b) (number a))) [
       | inl t ↦
           let lt : number b ≤ number a = grind (arith, nat_tests, t) in
           rw t (record {

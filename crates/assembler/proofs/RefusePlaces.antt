@@ -2,15 +2,16 @@
 use Rattle.std.proofs.Common.{◌≡◌, ◌||◌, ◌+◌, ◌*◌, ◌%◌, ◌<◌, ◌≤◌, ◌==◌, ◌&&◌, not, ℕ, zero, suc, Bool, true, false, List, [], ◌∷◌, Option, Some, None, refl, sym, ap, subst, ◌∙◌, inl, inr, ◌⊎◌, arith, eqb-true}
 use Rattle.std.specs.Prelude.{nat_le, nat_lt, if◌then◌else◌}
 use Rattle.std.specs.List.{AllByRecursion, Contains}
-use Rattle.std.proofs.lemmas.Bool.{and_parts}
+use Rattle.std.proofs.lemmas.Bool.{and_parts, cases_Bool, or_parts, not-false}
 use Rattle.std.proofs.lemmas.Bool.Decides.{nat_tests}
-use Rattle.loader.specs.Image.{may_hold}
+use Rattle.loader.specs.Image.{lies_in_memory, may_hold}
+use Rattle.loader.proofs.PlaceLemmas.{may_within}
 use Rattle.assembler.specs.Assembles.{places_from}
 use Rattle.assembler.specs.Faults.{lower}
-use Rattle.assembler.specs.Sweeps.{State, in_memory, is_17th, open_has, org_fault, overlaps, place_fault}
+use Rattle.assembler.specs.Sweeps.{State, is_17th, open_has, org_fault, overlaps, place_fault}
 use Rattle.assembler.specs.declared.fault.Fault.TheVariants.{OutOfRange, TooLong}
 use Rattle.assembler.proofs.AssembleBack.{Apart, Exact, In, in_memory_all, may_four, no_overlap}
-use Rattle.assembler.proofs.AssembleBasics.{cases, false_true}
+use Rattle.assembler.proofs.AssembleBasics.{false_true}
 use Rattle.assembler.proofs.AssembleSteps.{Covers, InSegments}
 use Rattle.assembler.proofs.RefuseLeast.{IsLeast, guard, least_both, least_guard}
 
@@ -41,7 +42,7 @@ in_or_not : (xs : List ℕ) (a : ℕ) → In xs a ⊎ (In xs a → ⊥)
 unfolding In
 in_or_not [] a = inr (λ h. h)
 in_or_not (x ∷ xs) a =
-    elim (cases (x == a)) [
+    elim (cases_Bool (x == a)) [
       | inl e ↦ inl (inl (eqb-true x a e))
       | inr e ↦ elim (in_or_not xs a) [
         | inl m ↦ inl (inr m)
@@ -66,7 +67,7 @@ bad_or_fine : (taken ats : List ℕ) → Bad taken ats ⊎ Fine taken ats
 unfolding Apart
 bad_or_fine taken [] = inr (record { held = tt; apart = tt })
 bad_or_fine taken (x ∷ xs) =
-    elim (cases (may_hold x)) [
+    elim (cases_Bool (may_hold x)) [
       | inr e ↦ inl (x, (0, omega arith, refl), inl e)
       | inl e ↦ elim (in_or_not taken x) [
         | inl m ↦ inl (x, (0, omega arith, refl), inr (in_contains taken x m))
@@ -112,43 +113,11 @@ within (suc n) at a h =
           }
     ]
 
-low_or_high : (from to : ℕ) → in_memory from to ≡ true
-    → (to ≤ 50331648) ⊎ ((54525952 ≤ from) × (to ≤ 67108864))
-low_or_high from to h =
-    elim (cases (nat_le to 50331648)) [
-      | inl e ↦ inl (grind (arith, nat_tests, e))
-      | inr e ↦
-          let k : (nat_le 54525952 from && nat_le to 67108864) ≡ true = rw e at h in
-          let m = and_parts (nat_le 54525952 from) (nat_le to 67108864) k in
-          inr (grind (arith, nat_tests, m.0), grind (arith, nat_tests, m.1))
-    ]
-
-may_within : (from to a : ℕ) → in_memory from to ≡ true → a % 4 ≡ 0 → from ≤ a → a + 4 ≤ to
-    → may_hold a ≡ true
-may_within from to a h four low high =
-    let even : (a % 4 == 0) ≡ true = grind (arith, nat_tests, four) in
-    elim (low_or_high from to h) [
-      | inl le ↦
-          let x : nat_lt a 67108864 ≡ true = grind (arith, nat_tests, high, le) in
-          let y : nat_le 50331648 a ≡ false = grind (arith, nat_tests, high, le) in
-          rw (even, x, y) refl
-      | inr m ↦
-          let ge = m.0 in
-          let le = m.1 in
-          let x : nat_lt a 67108864 ≡ true = grind (arith, nat_tests, high, le) in
-          let y : nat_lt a 54525952 ≡ false = grind (arith, nat_tests, low, ge) in
-          rw (even, x, y) (out (nat_le 50331648 a))
-    ]
-  where
-    out : (b : Bool) → not (b && false) ≡ true
-    out true = refl
-    out false = refl
-
 wider : (closed : List (ℕ × ℕ)) (from to a : ℕ) → from ≤ a → a + 1 ≤ to → overlaps closed a (a + 1) ≡ true
     → overlaps closed from to ≡ true
 wider [] from to a low high h = h
 wider (s ∷ closed) from to a low high h =
-    elim (cases (nat_lt s.0 (a + 1) && nat_lt a s.1)) [
+    elim (cases_Bool (nat_lt s.0 (a + 1) && nat_lt a s.1)) [
       | inl e ↦
           let k = and_parts (nat_lt s.0 (a + 1)) (nat_lt a s.1) e in
           let x : nat_lt s.0 to ≡ true = let y = k.0 in grind (arith, nat_tests, y, high) in
@@ -170,31 +139,23 @@ not_behind (Some from) at a le h =
     let k = (and_parts (nat_le from a) (nat_lt a at) h).1 in let lt : a < at =
     grind (arith, nat_tests, k) in omega (arith, lt, le)
 
-or_parts : (a b : Bool) → (a || b) ≡ false → (a ≡ false) × (b ≡ false)
-or_parts true b e = false_true (sym e)
-or_parts false b e = (refl, e)
-
-not_not : (a : Bool) → not a ≡ false → a ≡ true
-not_not true e = refl
-not_not false e = false_true (sym e)
-
 abbrev outside : State → ℕ → Bool
-outside s n = not (in_memory s.at (s.at + 4 * n)) || overlaps s.closed s.at (s.at + 4 * n)
+outside s n = not (lies_in_memory s.at (s.at + 4 * n)) || overlaps s.closed s.at (s.at + 4 * n)
 
 bad_outside : (s : State) (taken : List ℕ) (n : ℕ) → Exact s taken → Covers s taken
     → Bad taken (places_from s.at n) → outside s n ≡ true
 unfolding InSegments
 bad_outside s taken n exact covers (a, there, why) =
-    elim (cases (outside s n)) [
+    elim (cases_Bool (outside s n)) [
       | inl e ↦ e
       | inr e ↦
-          let k = or_parts (not (in_memory s.at (s.at + 4 * n))) (overlaps s.closed s.at (s.at + 4 * n)) e in
+          let k = or_parts (not (lies_in_memory s.at (s.at + 4 * n))) (overlaps s.closed s.at (s.at + 4 * n)) e in
           let w = within n s.at a (contains_in (places_from s.at n) a there) in
           elim why [
             | inl not-may ↦
                 false_true
                 (sym not-may
-                ∙ may_within s.at (s.at + 4 * n) a (not_not (in_memory s.at (s.at + 4 * n)) k.0)
+                ∙ may_within s.at (s.at + 4 * n) a (not-false (lies_in_memory s.at (s.at + 4 * n)) k.0)
                 (w.four exact.even) w.low w.high)
             | inr c ↦ elim (all_in (InSegments s) taken a covers.covered (contains_in taken a c)) [
               | inl held ↦ let high =
@@ -255,13 +216,13 @@ bad_org : (s : State) (n : ℕ) (taken : List ℕ) → Covers s taken → Bad ta
 unfolding InSegments
 bad_org s n taken covers (a, there, why) =
     let same = one_of n a there in
-    elim (cases (org_bad s n)) [
+    elim (cases_Bool (org_bad s n)) [
       | inl e ↦ e
       | inr e ↦
           let k = or_parts (not (may_hold n)) (overlaps s.closed n (n + 1) || open_has s.start s.at n) e in
           let l = or_parts (overlaps s.closed n (n + 1)) (open_has s.start s.at n) k.1 in
           elim why [
-            | inl not-may ↦ false_true (sym not-may ∙ ap may_hold (sym same) ∙ not_not (may_hold n) k.0)
+            | inl not-may ↦ false_true (sym not-may ∙ ap may_hold (sym same) ∙ not-false (may_hold n) k.0)
             | inr c ↦
                 elim (all_in (InSegments s) taken n covers.covered
                 (subst (In taken) (sym same) (contains_in taken a c))) [
@@ -274,12 +235,12 @@ bad_org s n taken covers (a, there, why) =
 org_is_bad : (s : State) (n : ℕ) (taken : List ℕ) → Exact s taken → org_bad s n ≡ true → Bad taken (n ∷ [])
 unfolding InSegments
 org_is_bad s n taken exact h =
-    elim (cases (may_hold n)) [
+    elim (cases_Bool (may_hold n)) [
       | inr e ↦ (n, (0, omega arith, refl), inl e)
       | inl e ↦
           let four = may_four n e in
           let k : (overlaps s.closed n (n + 1) || open_has s.start s.at n) ≡ true = rw e at h in
-          elim (cases (overlaps s.closed n (n + 1))) [
+          elim (cases_Bool (overlaps s.closed n (n + 1))) [
             | inl held ↦
                 (n, (0, omega arith, refl), inr (in_contains taken n (exact.within n four (inl held))))
             | inr other ↦

@@ -1,9 +1,11 @@
 -- Which line of a source is the first that is refused at once.
 use Rattle.std.specs.Prelude.{is_some, nat_lt, if◌then◌else◌}
 use Rattle.std.proofs.Common.{◌≡◌, ◌||◌, ◌≢◌, ◌↔◌, ◌+◌, ◌<◌, ◌≤◌, ◌==◌, ℕ, zero, suc, true, false, List, [], ◌∷◌, ◌++◌, length, Option, Some, None, Result, Ok, Err, refl, sym, ap, subst, ◌∙◌, inl, inr, ◌⊎◌, arith, append_assoc}
+use Rattle.std.proofs.lemmas.Bool.{cases_Bool}
 use Rattle.std.specs.List.{AllByRecursion, Contains}
 use Rattle.std.proofs.lemmas.Bool.Decides.{nat_tests}
 use Rattle.std.proofs.lemmas.List.{append-nil, length-append}
+use Rattle.std.proofs.lemmas.List.Elements.{Contains-append_cases, Contains-append_left, Contains-append_right}
 use Rattle.loader.specs.Image.{may_hold}
 use Rattle.asm_text.specs.Said.{Said, Codes, Refers, Orgs, Lists}
 use Rattle.asm_text.specs.Spelling.{Spells}
@@ -15,36 +17,17 @@ use Rattle.assembler.specs.Sweeps.{Names, State, at_first, label_fault, labelled
 use Rattle.assembler.specs.declared.fault.Fault.{Fault}
 use Rattle.assembler.specs.declared.fault.Fault.TheVariants.{OutOfRange, TooLong}
 use Rattle.assembler.proofs.AssembleBack.{Apart, Exact, In}
-use Rattle.assembler.proofs.AssembleBasics.{all_map, cases}
+use Rattle.assembler.proofs.AssembleBasics.{all_map}
 use Rattle.assembler.proofs.AssembleLaws.{first_covers, first_exact, first_segments, parts_some}
 use Rattle.assembler.proofs.AssembleReady.{NotEmpty}
 use Rattle.assembler.proofs.AssembleSteps.{Covers, Pends, items_at, said_is, segments_in}
 use Rattle.assembler.proofs.AssembleSweep.{NamesOf, label_names, no_labels, step_is}
 use Rattle.assembler.proofs.RefuseFront.{Front, ItemsOf, address_more, count_laid, counts, exact_said, items_more, laid_more, labels_more, open_behind, open_more, said_least, taken_by, taken_more}
-use Rattle.assembler.proofs.RefuseLeast.{IsLeast, failed, is_least, least_is, least_no, least_same, no_least}
+use Rattle.assembler.proofs.RefuseLeast.{IsLeast, either, failed, is_least, least_is, least_no, least_same, no_least}
 use Rattle.assembler.proofs.RefusePlaces.{Fine, fine}
 use Rattle.assembler.proofs.RefuseText.{wrong_in}
 
 -- ---- lists
-
-contains_split : {A : Type 0} (xs ys : List A) (x : A) → Contains (xs ++ ys) x → Contains xs x ⊎ Contains ys x
-contains_split [] ys x h = inr h
-contains_split (z ∷ xs) ys x (zero, lt, is) = inl (0, omega arith, is)
-contains_split (z ∷ xs) ys x (suc k, lt, is) =
-    elim (contains_split xs ys x (k, omega (arith, lt), is)) [
-      | inl c ↦ inl (suc c.0, omega (arith, c.1), c.2)
-      | inr c ↦ inr c
-    ]
-
-contains_left : {A : Type 0} (xs ys : List A) (x : A) → Contains xs x → Contains (xs ++ ys) x
-contains_left [] ys x (k, lt, is) = absurd (omega arith)
-contains_left (z ∷ xs) ys x (zero, lt, is) = (0, omega arith, is)
-contains_left (z ∷ xs) ys x (suc k, lt, is) =
-    let c = contains_left xs ys x (k, omega (arith, lt), is) in (suc c.0, omega (arith, c.1), c.2)
-
-contains_right : {A : Type 0} (xs ys : List A) (x : A) → Contains ys x → Contains (xs ++ ys) x
-contains_right [] ys x h = h
-contains_right (z ∷ xs) ys x h = let c = contains_right xs ys x h in (suc c.0, omega (arith, c.1), c.2)
 
 all_join : {A : Type 0} (P : A → Type 0) (xs ys : List A) → AllByRecursion P xs → AllByRecursion P ys
     → AllByRecursion P (xs ++ ys)
@@ -100,10 +83,10 @@ names_next s k before label said h fresh name a =
     let all : labels_of (laid (before ++ record { label = label; said = said } ∷ [])) ≡ old ++ here =
     labels_more before (record { label = label; said = said }) in (
       λ e. subst (λ ls. Contains ls (name, a)) (sym all) (elim ((n.named name a).0 e) [
-        | inl was ↦ contains_left old here (name, a) ((h.named name a).0 was)
-        | inr c ↦ contains_right old here (name, a) (subst (λ ls. Contains ls (name, a)) same c)
+        | inl was ↦ Contains-append_left old here (name, a) ((h.named name a).0 was)
+        | inr c ↦ Contains-append_right old here (name, a) (subst (λ ls. Contains ls (name, a)) same c)
       ]),
-      λ c. elim (contains_split old here (name, a) (subst (λ ls. Contains ls (name, a)) all c)) [
+      λ c. elim (Contains-append_cases old here (name, a) (subst (λ ls. Contains ls (name, a)) all c)) [
         | inl was ↦ (n.named name a).1 (inl ((h.named name a).1 was))
         | inr now ↦ (n.named name a).1 (inr (subst (λ ls. Contains ls (name, a)) (sym same) now))
       ],
@@ -112,7 +95,7 @@ names_next s k before label said h fresh name a =
 few_words : (before : List Parsed) (p : Parsed) → ((f : Fault) → IsWrong before p f → ⊥)
     → length (taken_by (before ++ p ∷ [])) ≤ 65536
 few_words before p none =
-    elim (cases (nat_lt 65536 (length (taken_by (before ++ p ∷ []))))) [
+    elim (cases_Bool (nat_lt 65536 (length (taken_by (before ++ p ∷ []))))) [
       | inl e ↦ absurd (none TooLong (inr (inl (grind (arith, nat_tests, e)))))
       | inr e ↦ grind (arith, nat_tests, e)
     ]
@@ -303,10 +286,6 @@ pub record Stops (before : List Parsed) (lines : List (List ℕ)) : Type 0 where
   pub passed : ArePassed before front said
   pub fault : Fault
   pub fault-is : IsLowest (HasFault (before ++ said) line) fault
-
-either : (o : Option Fault) → (o ≡ None) ⊎ ((f : Fault) × (o ≡ Some f))
-either None = inl refl
-either (Some f) = inr (f, refl)
 
 pub pass_or_stop : Texts → (s : State) (k : ℕ) (before : List Parsed) (lines : List (List ℕ))
     → Front s k before → ((said : List Parsed) × ArePassed before lines said) ⊎ Stops before lines

@@ -1,10 +1,11 @@
 -- A line that cannot be read, by its text.
 use Rattle.std.specs.Prelude.{if◌then◌else◌}
 use Rattle.std.proofs.Common.{◌≡◌, ◌+◌, ◌<◌, ◌≤◌, ◌==◌, not, ℕ, suc, Bool, true, false, List, [], ◌∷◌, ◌++◌, length, drop, Option, Some, None, Result, Ok, Err, refl, sym, ap, subst, ◌∙◌, inl, inr, ◌⊎◌, arith, eqb-true, append_assoc}
-use Rattle.std.specs.List.{list_all, prefix_len}
-use Rattle.std.proofs.lemmas.Bool.{and_parts}
+use Rattle.std.specs.List.{list_all}
+use Rattle.std.proofs.lemmas.Bool.{and_parts, cases_Bool}
 use Rattle.std.proofs.lemmas.Bool.Decides.{nat_tests}
 use Rattle.std.proofs.lemmas.List.{take-append-drop}
+use Rattle.std.proofs.lemmas.Option.{none-some}
 use Rattle.asm_text.specs.Lines.{IsBlanks, WellSpaced, Written, starts_run}
 use Rattle.asm_text.specs.Names.{head_of}
 use Rattle.asm_text.specs.Pieces.{Piece, Run, Comma, Sign, Gap, gap_before, is_blank, is_name, pieces}
@@ -15,14 +16,15 @@ use Rattle.asm_text.specs.Words.{IsSpelling, spelled_word_of, word_of}
 use Rattle.asm_text.specs.declared.word.Word.{Word}
 use Rattle.asm_text.specs.declared.statement.Wrong.{Wrong}
 use Rattle.asm_text.specs.declared.statement.Wrong.TheVariants as wrong
-use Rattle.asm_text.proofs.PieceLaws.{first_name, first_no_run, first_passes, name_no_blank, pieces-blanks, pieces-gap, pieces-run, pieces_spaced, pieces_written, prefix_all}
-use Rattle.asm_text.proofs.WordLaws.{nothing_is, spelled_again, spelled_is}
+use Rattle.asm_text.proofs.PieceLaws.{first_name, first_no_run, first_passes, pieces-blanks, pieces-gap, pieces-run, pieces_spaced, pieces_written, prefix_all}
+use Rattle.asm_text.proofs.WordEnds.{blank_no_name, blanks_no_name, gap_no_name, name_no_gap, past_front, blanks_alone}
+use Rattle.asm_text.proofs.WordLaws.{spelled_again, spelled_is}
 use Rattle.assembler.specs.Faults.{number}
 use Rattle.assembler.specs.Refusals.{BeginsLine, BeginsStatement, HasStrayByte, IsUnreadable}
 use Rattle.assembler.specs.Sweeps.{wrong_fault}
 use Rattle.assembler.specs.declared.fault.Fault.{Fault}
 use Rattle.assembler.specs.declared.fault.Fault.TheVariants.{NotText, UnknownWord, BadOperand}
-use Rattle.assembler.proofs.AssembleBasics.{cases, false_true}
+use Rattle.assembler.proofs.AssembleBasics.{false_true}
 use Rattle.assembler.proofs.RefuseLeast.{IsLeast}
 
 -- ---- stray bytes
@@ -56,7 +58,7 @@ stray_in : (p : ℕ → Bool) (xs : List ℕ) → list_all p xs ≡ false
     → (front rest : List ℕ) × (b : ℕ) × (xs ≡ front ++ (b ∷ rest)) × (p b ≡ false)
 stray_in p [] h = false_true (sym h)
 stray_in p (x ∷ xs) h =
-    elim (cases (p x)) [
+    elim (cases_Bool (p x)) [
       | inl e ↦
           let k : list_all p xs ≡ false = rw e at h in
           let m = stray_in p xs k in
@@ -74,7 +76,7 @@ body_front (b ∷ front) rest h =
 
 text_semicolon : (b : ℕ) → is_text b ≡ false → no_semicolon b ≡ true
 text_semicolon b h =
-    elim (cases (b == 59)) [
+    elim (cases_Bool (b == 59)) [
       | inl e ↦ let k : is_text 59 ≡ false =
           subst (λ c. is_text c ≡ false) (eqb-true b 59 e) h in absurd cc
       | inr e ↦ rw e refl
@@ -85,7 +87,7 @@ comment_of_text b h = rw h refl
 
 stray_text : (line : List ℕ) → HasStrayByte line → is_text_line line ≡ false
 stray_text line (front, rest, b, is, why) =
-    elim (cases (is_text_line line)) [
+    elim (cases_Bool (is_text_line line)) [
       | inr e ↦ e
       | inl e ↦
           let k = and_parts (list_all is_text (body line))
@@ -114,7 +116,7 @@ text_stray : (line : List ℕ) → is_text_line line ≡ false → HasStrayByte 
 text_stray line h =
     let n = body_len line in
     let whole = take-append-drop n line in
-    elim (cases (list_all is_text (body line))) [
+    elim (cases_Bool (list_all is_text (body line))) [
       | inr odd ↦
           let s = stray_in is_text (body line) odd in
           let parts : line ≡ s.0 ++ (s.2 ∷ (s.1 ++ drop n line)) =
@@ -142,43 +144,10 @@ text_stray line h =
 
 -- ---- fronts
 
-past_front : (sort : ℕ → Bool) (front rest : List ℕ) → list_all sort front ≡ true
-    → first_passes sort rest ≡ false → past sort (front ++ rest) ≡ rest
-past_front sort [] [] h k = refl
-past_front sort [] (b ∷ rest) h k = rw k refl
-past_front sort (b ∷ front) rest h k =
-    let m = and_parts (sort b) (list_all sort front) h in
-    let n : 1 + prefix_len sort (front ++ rest) ≡ suc (prefix_len sort (front ++ rest)) = omega arith in
-    rw (m.0, n) (past_front sort front rest m.1 k)
-
-past_blanks : (text : List ℕ) → IsBlanks text → past is_blank text ≡ []
-past_blanks [] h = refl
-past_blanks (b ∷ bs) h =
-    let m = and_parts (is_blank b) (list_all is_blank bs) h in
-    let n : 1 + prefix_len is_blank bs ≡ suc (prefix_len is_blank bs) = omega arith in
-    rw (m.0, n) (past_blanks bs m.1)
-
-blank_no_name : (b : ℕ) → is_blank b ≡ true → is_name b ≡ false
-blank_no_name b h = grind (arith, nat_tests)
-
-blanks_no_name : (blanks rest : List ℕ) → IsBlanks blanks → first_passes is_name rest ≡ false
+spaced_no_name : (blanks rest : List ℕ) → IsBlanks blanks → first_passes is_name rest ≡ false
     → first_passes is_name (blanks ++ rest) ≡ false
-blanks_no_name [] rest h k = k
-blanks_no_name (b ∷ bs) rest h k = blank_no_name b (and_parts (is_blank b) (list_all is_blank bs) h).0
-
-alone_no_name : (blanks : List ℕ) → IsBlanks blanks → first_passes is_name blanks ≡ false
-alone_no_name [] h = refl
-alone_no_name (b ∷ bs) h = blank_no_name b (and_parts (is_blank b) (list_all is_blank bs) h).0
-
-gap_no_name : (blanks rest : List ℕ) → IsBlanks blanks → 0 < length blanks
-    → first_passes is_name (blanks ++ rest) ≡ false
-gap_no_name [] rest h some = absurd (omega arith)
-gap_no_name (b ∷ bs) rest h some = blank_no_name b (and_parts (is_blank b) (list_all is_blank bs) h).0
-
-name_no_gap : (name rest : List ℕ) → 0 < length name → list_all is_name name ≡ true
-    → first_passes is_blank (name ++ rest) ≡ false
-name_no_gap [] rest lt h = absurd (omega arith)
-name_no_gap (b ∷ name) rest lt h = name_no_blank b (and_parts (is_name b) (list_all is_name name) h).0
+spaced_no_name [] rest h k = k
+spaced_no_name (b ∷ bs) rest h k = blank_no_name b (and_parts (is_blank b) (list_all is_blank bs) h).0
 
 ends_no_name : (text : List ℕ) → begins_blank_or_ends text ≡ true → first_passes is_name text ≡ false
 ends_no_name [] h = refl
@@ -190,7 +159,7 @@ first_same (b ∷ bs) h = h
 
 word_some : (name : List ℕ) (w : Word) → IsSpelling name w → 0 < length name
 unfolding word_of head_of
-word_some [] w h = absurd (nothing_is w (spelled_again [] w h))
+word_some [] w h = absurd (none-some w (spelled_again [] w h))
 word_some (b ∷ bs) w h = omega arith
 
 label_letters : (label : List ℕ) → is_label label ≡ true
@@ -238,13 +207,13 @@ begins_pieces text h =
           ]
       | inr label ↦ elim h.statement [
         | inl blanks ↦
-            let is = ap pieces h.parts ∙ label_pieces h.label h.behind label (alone_no_name h.behind blanks)
+            let is = ap pieces h.parts ∙ label_pieces h.label h.behind label (blanks_no_name h.behind blanks)
             ∙ ap (λ (ps : List Piece). Run h.label ∷ ps) (pieces-blanks h.behind blanks) in
             subst PiecesBegin (sym is) label
         | inr b ↦
             let stops =
             subst (λ t. first_passes is_name t ≡ false) (sym b.parts)
-            (gap_no_name b.blanks (b.name ++ b.rest) b.blank b.some) in
+            (gap_no_name b.blanks (b.name ++ b.rest) b.some b.blank) in
             let is = ap pieces h.parts ∙ label_pieces h.label h.behind label stops
             ∙ ap (λ (ps : List Piece). Run h.label ∷ ps) (statement_pieces h.behind b) in
             subst PiecesBegin (sym is) (label, (b.word, spelled_again b.name b.word b.word-is))
@@ -265,17 +234,14 @@ statement_ends text b =
     past_front is_name b.name b.rest b.letters (ends_no_name b.rest b.ends) in
     ap begins_blank_or_ends (ap (past is_name) first ∙ second) ∙ b.ends
 
-blanks_end : (text : List ℕ) → IsBlanks text → WordBehind text
-blanks_end text h = rw (past_blanks text h) refl
-
 behind_ends : (text : List ℕ) → IsBlanks text ⊎ BeginsStatement text
     → (first_passes is_name text ≡ false) × WordBehind text
 behind_ends text h =
     elim h [
-      | inl blanks ↦ (alone_no_name text blanks, blanks_end text blanks)
+      | inl blanks ↦ (blanks_no_name text blanks, blanks_alone text blanks)
       | inr b ↦ (
         subst (λ t. first_passes is_name t ≡ false) (sym b.parts)
-            (gap_no_name b.blanks (b.name ++ b.rest) b.blank b.some),
+            (gap_no_name b.blanks (b.name ++ b.rest) b.some b.blank),
         statement_ends text b,
       )
     ]
@@ -293,16 +259,16 @@ begins_end text h =
 
 comma_no_name : (blanks rest : List ℕ) → IsBlanks blanks
     → first_passes is_name (blanks ++ (44 ∷ rest)) ≡ false
-comma_no_name blanks rest h = blanks_no_name blanks (44 ∷ rest) h refl
+comma_no_name blanks rest h = spaced_no_name blanks (44 ∷ rest) h refl
 
 written_no_name : (ps : List Piece) (text : List ℕ) → Written ps text → starts_run ps ≡ false
     → first_passes is_name text ≡ false
-written_no_name [] text w e = alone_no_name text w
+written_no_name [] text w e = blanks_no_name text w
 written_no_name (Run r ∷ ps) text w e = false_true (sym e)
 written_no_name (Comma ∷ ps) text (before, after, rest, is, blanks, more, w) e =
     rw is (comma_no_name before (after ++ rest) blanks)
 written_no_name (Sign m ∷ ps) text (b, rest, is, not-blank, not-name, not-comma, mark, w) e = rw is not-name
-written_no_name (Gap ∷ ps) text (gap, rest, is, some, blanks, w) e = rw is (gap_no_name gap rest blanks some)
+written_no_name (Gap ∷ ps) text (gap, rest, is, some, blanks, w) e = rw is (gap_no_name gap rest some blanks)
 
 statement_from : (ps : List Piece) (text : List ℕ) → Written (Gap ∷ ps) text → WellSpaced ps → StartsWord ps
     → WordBehind text → BeginsStatement text
@@ -340,7 +306,7 @@ pieces_begin [] text w spaced ends h =
     record { label = []; behind = text; parts = refl; label-is = inl refl; statement = inl w }
 pieces_begin (Gap ∷ ps) text w spaced ends h =
     let (gap, behind, is, some, blanks, more) = w in
-    let stops = subst (λ t. first_passes is_name t ≡ false) (sym is) (gap_no_name gap behind blanks some) in
+    let stops = subst (λ t. first_passes is_name t ≡ false) (sym is) (gap_no_name gap behind some blanks) in
     let none : past is_name text ≡ text = past_front is_name [] text refl stops in
     let word : WordBehind text =
     ap (λ (t : List ℕ). begins_blank_or_ends (past is_name (past is_blank t))) (sym none) ∙ ends in
@@ -358,7 +324,7 @@ pieces_begin (Run label ∷ []) text (behind, is, some, letters, blanks) spaced 
     record { label = label; behind = behind; parts = is; label-is = inr h; statement = inl blanks }
 pieces_begin (Run label ∷ Gap ∷ ps) text (behind, is, some, letters, w) spaced ends h =
     let (gap, rest, more, one, blanks, v) = w in
-    let stops = subst (λ t. first_passes is_name t ≡ false) (sym more) (gap_no_name gap rest blanks one) in
+    let stops = subst (λ t. first_passes is_name t ≡ false) (sym more) (gap_no_name gap rest one blanks) in
     let front : past is_name text ≡ behind =
     ap (past is_name) is ∙ past_front is_name label behind letters stops in
     let word : WordBehind behind =
@@ -401,7 +367,7 @@ behind_either w (Sign m ∷ ps) = inr refl
 word_sorted : (o : Option Word) (name : List ℕ) (ps : List Piece) → spelled_word_of name ≡ o
     → Sorted (with_word o ps) (StartsWord (Run name ∷ ps))
 unfolding Sorted StartsWord
-word_sorted None name ps is = inr (refl, λ h. nothing_is h.0 (sym is ∙ h.1))
+word_sorted None name ps is = inr (refl, λ h. none-some h.0 (sym is ∙ h.1))
 word_sorted (Some w) name ps is = inl (behind_either w ps, (w, is))
 
 statement_sorted : (ps : List Piece) → Sorted (statement_of ps) (StartsWord ps)
@@ -450,7 +416,7 @@ parsed_sorted (Gap ∷ ps) =
     label_sorted None (statement_of ps) (StartsWord ps) (StartsWord ps) (λ h. h) (λ h. h)
     (statement_sorted ps)
 parsed_sorted (Run label ∷ ps) =
-    elim (cases (is_label label)) [
+    elim (cases_Bool (is_label label)) [
       | inl e ↦
           subst (λ b. Sorted (if b then behind_label label ps else Err wrong.UnknownWord)
           (PiecesBegin (Run label ∷ ps))) (sym e) (run_sorted label ps e)
@@ -499,11 +465,11 @@ pub read_least : ((line : List ℕ) (p : Parsed) → line_of line ≡ Ok p → S
     → (line : List ℕ) → IsLeast (IsUnreadable line) (wrong_in (line_of line))
 unfolding IsLeast Sorted
 read_least spells reads line =
-    elim (cases (is_text_line line)) [
+    elim (cases_Bool (is_text_line line)) [
       | inr odd ↦
           let is : line_of line ≡ Err wrong.NotText = rw odd refl in
           known (Err wrong.NotText) is (record { holds = text_stray line odd; lowest = from_two line })
-      | inl text ↦ elim (cases (word_ends (body line))) [
+      | inl text ↦ elim (cases_Bool (word_ends (body line))) [
         | inr ragged ↦
             let is : line_of line ≡ Err wrong.UnknownWord = rw (text, ragged) refl in
             known (Err wrong.UnknownWord) is

@@ -19,16 +19,17 @@ use Rattle.asm_text.specs.declared.names.Head.{Head}
 use Rattle.asm_text.specs.declared.names.Head.TheVariants as head
 use Rattle.asm_text.specs.declared.names.Suffix.{Suffix}
 use Rattle.asm_text.specs.declared.names.Suffix.TheVariants as suffix
-use Rattle.asm_text.specs.declared.said.Action.{Action}
-use Rattle.asm_text.specs.declared.said.Action.TheVariants as action
-use Rattle.asm_text.specs.declared.said.Address.{Address}
-use Rattle.asm_text.specs.declared.said.Use.{Use}
-use Rattle.asm_text.specs.declared.said.Use.TheVariants as use_of
+use Rattle.asm_text.specs.declared.syntax.Action.{Action}
+use Rattle.asm_text.specs.declared.syntax.Action.TheVariants as action
+use Rattle.asm_text.specs.declared.syntax.Address.{Address}
+use Rattle.asm_text.specs.declared.syntax.Use.{Use}
+use Rattle.asm_text.specs.declared.syntax.Use.TheVariants as use_of
 use Rattle.asm_text.specs.declared.statement.Wrong.{Wrong}
 use Rattle.asm_text.specs.declared.token.Mark.TheVariants.{OpenBracket}
 use Rattle.asm_text.specs.declared.word.Word.{Word}
 use Rattle.asm_text.specs.declared.word.Word.TheVariants as word
-use Rattle.asm_text.specs.Names.{head_name, is_compare, may_have, opcode_name, suffix_name}
+use Rattle.arm2_decode.specs.Names.{is_compare}
+use Rattle.asm_text.specs.Names.{head_name, may_have, opcode_name, suffix_name}
 use Rattle.asm_text.specs.Numbers.{with_rest}
 use Rattle.asm_text.specs.Operands.{address_of, is_byte, is_user as is_user_suffix}
 use Rattle.asm_text.specs.Pieces.{Piece, Run, Comma, Sign, Gap, gap_before, is_name, pieces, without_gap}
@@ -36,7 +37,7 @@ use Rattle.asm_text.specs.Registers.{register_of}
 use Rattle.asm_text.specs.Said.{Target, Number, Label, Said, Codes, Refers, Orgs, Lists}
 use Rattle.asm_text.specs.Shown.{is_upper}
 use Rattle.arm2_decode.specs.declared.instr.Instr.{Instr}
-use Rattle.asm_text.specs.declared.shown.Shown.TheVariants as shown
+use Rattle.asm_text.specs.declared.printed_lines.Shown.TheVariants as shown
 use Rattle.asm_text.specs.Shown.{is_shown_text}
 use Rattle.asm_text.specs.Statements.{Parsed, action_of, behind_word, line_of, only_target, operands_of, or_bad, parsed, single_said, single_with, with_label, with_word}
 use Rattle.assembler.specs.declared.fault.Fault.{Fault}
@@ -44,7 +45,7 @@ use Rattle.assembler.specs.Codes.{encoded, refer}
 use Rattle.assembler.specs.Shown.{Gives, Says}
 use Rattle.asm_text.specs.Words.{IsCond, branch_name, word_of}
 use Rattle.asm_text.proofs.PieceLaws.{comma_step, first_no_run, pieces-run, sign_step}
-use Rattle.asm_text.proofs.ShownLaws.{blank_line, upper_spelled}
+use Rattle.asm_text.proofs.ShownLaws.{blank_line, upper_spelled, blank_pieces}
 use Rattle.asm_text.proofs.WordLaws.{word_again}
 use Rattle.assembler.specs.ShownLines.{GivesBack, shown_line as spelling, target_word, word_given, block_name, block_suffix, comma_register, compare_front, compare_text, cond_text, data_front, factors_text, flags_text, is_user, load_name, move_front, operation_text, register_text, three_front, transfer_front, transfer_suffix, word_text}
 
@@ -234,14 +235,10 @@ suffix_lettered suffix.Ed = refl
 suffix_lettered suffix.Fa = refl
 suffix_lettered suffix.Ea = refl
 
-blank_gap : (text : List ℕ) → pieces (32 ∷ text) ≡ gap_before (pieces text)
-unfolding pieces
-blank_gap text = refl
-
 -- the statement of a word and what stands after its blank
 word_said : (w rest : List ℕ) (is : Word) → Lettered w → 0 < length w → word_of w ≡ Some is → heard (pieces (w ++ 32 ∷ rest)) ≡ with_label None (behind_word is (gap_before (pieces rest)))
 word_said w rest is letters some spelled =
-    ap heard (pieces-run w (32 ∷ rest) (letters_named w letters) some (first_no_run (32 ∷ rest) refl) ∙ ap (λ (ps : List Piece). Run w ∷ ps) (blank_gap rest))
+    ap heard (pieces-run w (32 ∷ rest) (letters_named w letters) some (first_no_run (32 ∷ rest) refl) ∙ ap (λ (ps : List Piece). Run w ∷ ps) (blank_pieces rest))
     ∙ ap (λ (o : Option Word). with_label None (with_word o (gap_before (pieces rest)))) (upper_spelled w (letters_upper w letters) ∙ spelled)
 
 -- a word's text with what stands after it

@@ -13,7 +13,7 @@ use Rattle.asm_text.specs.Source.{lines_of}
 use Rattle.asm_text.specs.Statements.{line_of}
 use Rattle.assembler.specs.declared.sweep.Span.{Span}
 use Rattle.asm_text.specs.Said.{target_of}
-use Rattle.asm_text.specs.declared.said.Value.{Value}
+use Rattle.asm_text.specs.declared.syntax.Value.{Value}
 
 -- a name more
 pub named_more : (old new : Names) (name : List ℕ) (at : ℕ) → ((other : List ℕ) → address_of new other ≡ cond (bytes_eq other name) (Some at) (address_of old other)) → address_of new ≡ with_name name at (address_of old)

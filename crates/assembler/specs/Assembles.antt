@@ -4,6 +4,7 @@ use Rattle.std.specs.Prelude.{List, [], ◌∷◌, ◌++◌, length, map, flat_m
 use Rattle.std.specs.Prelude.{if◌then◌else◌}
 use Rattle.std.specs.List.{AllByRecursion, AllZip, Contains, fold}
 use Rattle.loader.specs.Image.{Words, may_hold, with_word}
+use Rattle.loader.specs.declared.places.TheConstants.{MOST_SEGMENTS, MOST_WORDS}
 use Rattle.asm_text.specs.Said.{Target, Number, Label, Said, Codes, Refers, Orgs, Lists}
 use Rattle.asm_text.specs.Source.{lines_of}
 use Rattle.asm_text.specs.Spelling.{Spells}
@@ -136,5 +137,5 @@ pub record IsAssembly (source : List ℕ) (image : Words) (names : Names) : Type
   -- an ORG's address may hold a word, and no line before the ORG has one there
   pub free : AreFree [] (laid lines)
   -- 65,536 words and 16 segments at most
-  pub few : length (flat_map places (laid lines)) ≤ 65536
-  pub few_segments : segments false (laid lines) ≤ 16
+  pub few : length (flat_map places (laid lines)) ≤ MOST_WORDS
+  pub few_segments : segments false (laid lines) ≤ MOST_SEGMENTS

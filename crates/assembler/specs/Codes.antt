@@ -1,6 +1,6 @@
 -- The word of a statement at an address (VL86C010 data sheet, instruction formats), and why it has none.
 use Rattle.std.specs.Prelude.{ℕ, ◌+◌, ◌-◌, ◌*◌, ◌/◌, ◌%◌, ◌^◌, ◌==◌, ◌&&◌, ◌||◌, nat_le, nat_lt, Bool, true}
-use Rattle.std.specs.Prelude.{false, List, [], ◌∷◌, Option, Some, None, Result, Ok, Err, if◌then◌else◌}
+use Rattle.std.specs.Prelude.{false, [], ◌∷◌, Option, Some, None, Result, Ok, Err, if◌then◌else◌}
 use Rattle.std.specs.Int.{w32, rotate_left}
 use Rattle.std.specs.List.{find, range_with_len}
 use Rattle.arm2_decode.specs.declared.names.Opcode.TheVariants as opcode
@@ -11,42 +11,30 @@ use Rattle.arm2_decode.specs.declared.names.Shift.TheVariants.{Lsl, Lsr, Asr, Ro
 use Rattle.arm2_decode.specs.Names.{cond_number, opcode_number, register_number, shift_number}
 use Rattle.arm2_decode.specs.Allowed.{bit_of, block_clash, data_clash, data_shift_clash, multiply_clash}
 use Rattle.arm2_decode.specs.Allowed.{single_clash, single_register_clash}
-use Rattle.arm2_decode.specs.Table.{Row, multiply_row, data_register_row, data_register_shift_row}
+use Rattle.arm2_decode.specs.Table.{multiply_row, data_register_row, data_register_shift_row}
 use Rattle.arm2_decode.specs.Table.{data_immediate_row, single_immediate_row, single_register_row, block_row}
-use Rattle.arm2_decode.specs.Table.{branch_row, swi_row}
-use Rattle.asm_text.specs.declared.said.Amount.{Amount}
-use Rattle.asm_text.specs.declared.said.Amount.TheVariants.{By, Rrx}
-use Rattle.asm_text.specs.declared.said.Shifting.{Shifting}
-use Rattle.asm_text.specs.declared.said.Shifting.TheVariants as shifting
-use Rattle.asm_text.specs.declared.said.Operand.{Operand}
-use Rattle.asm_text.specs.declared.said.Operand.TheVariants as operand
-use Rattle.asm_text.specs.declared.said.Data.{Data}
-use Rattle.asm_text.specs.declared.said.Product.{Product}
-use Rattle.asm_text.specs.declared.said.Distance.{Distance}
-use Rattle.asm_text.specs.declared.said.Distance.TheVariants as distance
-use Rattle.asm_text.specs.declared.said.Transfer.{Transfer}
-use Rattle.asm_text.specs.declared.said.BlockTransfer.{BlockTransfer}
-use Rattle.asm_text.specs.declared.said.Action.{Action}
-use Rattle.asm_text.specs.declared.said.Action.TheVariants as action
-use Rattle.asm_text.specs.declared.said.Code.{Code}
-use Rattle.asm_text.specs.declared.said.Use.{Use}
-use Rattle.asm_text.specs.declared.said.Use.TheVariants as use_of
-use Rattle.asm_text.specs.declared.said.Reference.{Reference}
+use Rattle.arm2_decode.specs.Table.{branch_row, swi_row, word_in}
+use Rattle.asm_text.specs.declared.syntax.Amount.{Amount}
+use Rattle.asm_text.specs.declared.syntax.Amount.TheVariants.{By, Rrx}
+use Rattle.asm_text.specs.declared.syntax.Shifting.{Shifting}
+use Rattle.asm_text.specs.declared.syntax.Shifting.TheVariants as shifting
+use Rattle.asm_text.specs.declared.syntax.Operand.{Operand}
+use Rattle.asm_text.specs.declared.syntax.Operand.TheVariants as operand
+use Rattle.asm_text.specs.declared.syntax.Data.{Data}
+use Rattle.asm_text.specs.declared.syntax.Product.{Product}
+use Rattle.asm_text.specs.declared.syntax.Distance.{Distance}
+use Rattle.asm_text.specs.declared.syntax.Distance.TheVariants as distance
+use Rattle.asm_text.specs.declared.syntax.Transfer.{Transfer}
+use Rattle.asm_text.specs.declared.syntax.BlockTransfer.{BlockTransfer}
+use Rattle.asm_text.specs.declared.syntax.Action.{Action}
+use Rattle.asm_text.specs.declared.syntax.Action.TheVariants as action
+use Rattle.asm_text.specs.declared.syntax.Code.{Code}
+use Rattle.asm_text.specs.declared.syntax.Use.{Use}
+use Rattle.asm_text.specs.declared.syntax.Use.TheVariants as use_of
+use Rattle.asm_text.specs.declared.syntax.Reference.{Reference}
 use Rattle.assembler.specs.declared.fault.Fault.{Fault}
 use Rattle.assembler.specs.declared.fault.Fault.TheVariants.{ImmediateNotRotated, BranchTooFar, OutOfRange}
 use Rattle.assembler.specs.declared.fault.Fault.TheVariants.{Unallocated}
-
--- ---- words
-
--- fields at their places, together
-abbrev pub laid : List (ℕ × ℕ) → List ℕ → ℕ
-laid [] fields = 0
-laid (place ∷ places) [] = 0
-laid (place ∷ places) (field ∷ fields) = field * 2 ^ place.1 + laid places fields
-
--- the word of a row with these fields
-abbrev pub word_in : Row → List ℕ → ℕ
-word_in row fields = row.fixed + laid row.places fields
 
 -- a word that no bar holds
 abbrev pub allowed : ℕ → ℕ → Result ℕ Fault

@@ -3,6 +3,7 @@ use Rattle.std.specs.Prelude.{◌≡◌, ◌⊎◌, ◌+◌, ◌<◌, ◌≤◌,
 use Rattle.std.specs.Prelude.{flat_map, Option, Some, Err}
 use Rattle.std.specs.List.{AllByRecursion, Contains, list_all}
 use Rattle.loader.specs.Image.{may_hold}
+use Rattle.loader.specs.declared.places.TheConstants.{MOST_SEGMENTS, MOST_WORDS}
 use Rattle.asm_text.specs.Lines.{IsBlanks}
 use Rattle.asm_text.specs.Pieces.{is_name}
 use Rattle.asm_text.specs.Words.{IsSpelling}
@@ -92,7 +93,8 @@ IsMisplaced before said =
 
 -- lines have more than 65,536 words, or their words more than 16 segments
 abbrev pub AreTooLong : List Parsed → Type 0
-AreTooLong lines = (65536 < length (flat_map places (laid lines))) ⊎ (16 < segments false (laid lines))
+AreTooLong lines =
+    (MOST_WORDS < length (flat_map places (laid lines))) ⊎ (MOST_SEGMENTS < segments false (laid lines))
 
 -- a label that stands before it, an address that it cannot have, or too many words or segments
 abbrev pub Clashes : List Parsed → Parsed → Fault → Type 0

@@ -1,6 +1,6 @@
 -- Words as lines.
-use Rattle.std.specs.Prelude.{◌≡◌, ℕ, zero, suc, ◌+◌, ◌/◌, ◌%◌, nat_lt, List, [], ◌∷◌, ◌++◌, codes, Some}
-use Rattle.std.specs.Prelude.{None, Ok, if◌then◌else◌}
+use Rattle.std.specs.Prelude.{◌≡◌, ℕ, List, [], ◌∷◌, ◌++◌, codes, Some, None, Ok}
+use Rattle.asm_text.specs.Hex.{hex8}
 use Rattle.asm_text.specs.Said.{Number, Said, Codes, Refers, Lists}
 use Rattle.asm_text.specs.Statements.{line_of}
 use Rattle.assembler.specs.Codes.{encoded, refer}
@@ -17,14 +17,6 @@ abbrev pub Gives : List ℕ → ℕ → ℕ → Type 0
 Gives text at word =
     (s : Said) × (line_of (32 ∷ text) ≡ Ok (record { label = None; said = Some s })) × Says s at word
 
-abbrev pub hex_char : ℕ → ℕ
-hex_char d = if nat_lt d 10 then 48 + d else 55 + d
-
--- so many hexadecimal digits of a number
-abbrev pub hex_chars : ℕ → ℕ → List ℕ
-hex_chars zero n = []
-hex_chars (suc places) n = hex_chars places (n / 16) ++ hex_char (n % 16) ∷ []
-
 -- DCD and eight digits
 abbrev pub hex_line : ℕ → List ℕ
-hex_line word = codes "DCD &" ++ hex_chars 8 word
+hex_line word = codes "DCD &" ++ hex8 word

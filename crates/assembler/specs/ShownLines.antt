@@ -3,7 +3,6 @@
 use Rattle.std.specs.Prelude.{◌≡◌, ℕ, zero, suc, ◌+◌, ◌-◌, ◌*◌, ◌/◌, ◌%◌, ◌^◌, ◌==◌, ◌&&◌, not, nat_lt, Bool}
 use Rattle.std.specs.Prelude.{true, false, List, [], ◌∷◌, ◌++◌, codes, decimal, Option, Some, None, Result}
 use Rattle.std.specs.Prelude.{Ok, Err, if◌then◌else◌}
-use Rattle.std.specs.Fmt.{digits}
 use Rattle.std.specs.Int.{w32, rotate_right}
 use Rattle.arm2_decode.specs.declared.instr.Block.{Block}
 use Rattle.arm2_decode.specs.declared.instr.Branch.{Branch}
@@ -24,16 +23,17 @@ use Rattle.arm2_decode.specs.declared.names.Opcode.TheVariants.{Tst, Teq, Cmp, C
 use Rattle.arm2_decode.specs.declared.names.Register.{Register}
 use Rattle.arm2_decode.specs.declared.names.Shift.{Shift}
 use Rattle.arm2_decode.specs.declared.names.Shift.TheVariants.{Lsl, Lsr, Asr, Ror}
-use Rattle.arm2_decode.specs.Names.{register_number}
+use Rattle.arm2_decode.specs.Names.{is_pc, register_number}
 use Rattle.arm2_decode.specs.Table.{Means}
+use Rattle.asm_text.specs.Hex.{hex}
 use Rattle.asm_text.specs.Names.{cond_name, opcode_name}
 use Rattle.asm_text.specs.Shown.{parsed_shown}
 use Rattle.asm_text.specs.Statements.{line_of}
 use Rattle.asm_text.specs.Words.{branch_name}
-use Rattle.asm_text.specs.declared.said.Use.{Use}
-use Rattle.asm_text.specs.declared.said.Use.TheVariants as use_of
-use Rattle.asm_text.specs.declared.shown.Shown.{Shown}
-use Rattle.asm_text.specs.declared.shown.Shown.TheVariants as shown
+use Rattle.asm_text.specs.declared.syntax.Use.{Use}
+use Rattle.asm_text.specs.declared.syntax.Use.TheVariants as use_of
+use Rattle.asm_text.specs.declared.printed_lines.Shown.{Shown}
+use Rattle.asm_text.specs.declared.printed_lines.Shown.TheVariants as shown
 use Rattle.assembler.specs.declared.fault.Fault.{Fault}
 use Rattle.assembler.specs.Codes.{encoded, refer}
 use Rattle.assembler.specs.Shown.{Gives, hex_line}
@@ -84,7 +84,7 @@ shifted_text s n = amount_text s (if n == 0 then 32 else n)
 
 -- P where a compare has R15 as Rd; its S is not written
 abbrev pub compare_text : Register → List ℕ
-compare_text rd = if register_number rd == 15 then codes "P" else []
+compare_text rd = if is_pc rd then codes "P" else []
 
 abbrev pub compare_front : Cond → Opcode → Register → Register → List ℕ
 compare_front c op rn rd = word_text (opcode_name op) c (compare_text rd) ++ (register_text rn ++ codes ",")
@@ -250,10 +250,6 @@ block_text c x =
 -- the signed number of words from the address two words on; 0 where that is below 0
 abbrev pub target_of : ℕ → ℕ → ℕ
 target_of at offset = if nat_lt offset (2 ^ 23) then at + 8 + 4 * offset else (at + 8 + 4 * offset) - 2 ^ 26
-
--- upper-case hexadecimal without leading zeros
-abbrev pub hex : ℕ → List ℕ
-hex n = digits 16 true n
 
 abbrev pub branch_text : Cond → Branch → ℕ → List ℕ
 branch_text c x at = word_text (branch_name x.link) c [] ++ (codes "&" ++ hex (target_of at x.offset))

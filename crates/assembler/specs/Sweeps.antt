@@ -3,10 +3,11 @@ use Rattle.std.specs.Prelude.{ℕ, ◌+◌, ◌*◌, ◌&&◌, ◌||◌, not, na
 use Rattle.std.specs.Prelude.{length, Option, Some, None, is_some, unwrap_or, Result, Ok, Err, if◌then◌else◌}
 use Rattle.std.specs.List.{list_any}
 use Rattle.std.specs.Str.{bytes_eq}
-use Rattle.loader.specs.Image.{Words, may_hold, put_fault, with_word}
+use Rattle.loader.specs.Image.{Words, lies_in_memory, may_hold, put_fault, with_word}
+use Rattle.loader.specs.declared.places.TheConstants.{MOST_SEGMENTS, MOST_WORDS}
 use Rattle.loader.specs.declared.image.ImageFault.{ImageFault}
 use Rattle.loader.specs.declared.image.ImageFault.TheVariants as image_fault
-use Rattle.asm_text.specs.declared.said.Reference.{Reference}
+use Rattle.asm_text.specs.declared.syntax.Reference.{Reference}
 use Rattle.asm_text.specs.declared.statement.Wrong.{Wrong}
 use Rattle.asm_text.specs.declared.statement.Wrong.TheVariants as wrong
 use Rattle.asm_text.specs.Said.{Target, Number, Label, Said, Codes, Refers, Orgs, Lists}
@@ -61,19 +62,15 @@ at_first = record { at = 32768; start = None; closed = []; words = 0; names = no
 abbrev pub overlaps : List (ℕ × ℕ) → ℕ → ℕ → Bool
 overlaps closed from to = list_any (λ s. nat_lt s.0 to && nat_lt from s.1) closed
 
--- the addresses lie below I/O, or above it and below 4000000
-abbrev pub in_memory : ℕ → ℕ → Bool
-in_memory from to = nat_le to 50331648 || (nat_le 54525952 from && nat_le to 67108864)
-
 -- the 17th segment begins with the next word
 abbrev pub is_17th : State → Bool
-is_17th s = not (is_some s.start) && nat_le 16 (length s.closed)
+is_17th s = not (is_some s.start) && nat_le MOST_SEGMENTS (length s.closed)
 
 -- why so many words cannot stand next
 abbrev pub place_fault : State → ℕ → Option Fault
 place_fault s n =
-    if not (in_memory s.at (s.at + 4 * n)) || overlaps s.closed s.at (s.at + 4 * n) then Some OutOfRange
-    else (if nat_lt 65536 (s.words + n) || is_17th s then Some TooLong else None)
+    if not (lies_in_memory s.at (s.at + 4 * n)) || overlaps s.closed s.at (s.at + 4 * n) then Some OutOfRange
+    else (if nat_lt MOST_WORDS (s.words + n) || is_17th s then Some TooLong else None)
 
 -- the segment of the words before, closed
 abbrev pub closed_with : Option ℕ → ℕ → List (ℕ × ℕ) → List (ℕ × ℕ)

@@ -1,19 +1,18 @@
-ghost use Rattle.std.specs.Prelude.{◌≡◌, ◌<◌, ◌≤◌, ◌∷◌, ◌^◌, ◌*◌, [], Ok, Err, IfSome, not, ◌==◌};
+ghost use Rattle.std.specs.Prelude.{◌≡◌, ◌<◌, ◌≤◌, ◌∷◌, ◌^◌, ◌*◌, [], Ok, Err, IfSome};
 ghost use Rattle.std.specs.Int.{w32, rotate_left};
-ghost use Rattle.arm2_decode.specs.Allowed.{bit_of, block_clash, data_clash, data_shift_clash};
-ghost use Rattle.arm2_decode.specs.Allowed.{multiply_clash, single_clash, single_register_clash};
-ghost use Rattle.arm2_decode.specs.Names.{cond_number, opcode_number, register_number, shift_number};
+ghost use Rattle.arm2_decode.specs.Names.{cond_number, register_number, shift_number};
 ghost use Rattle.assembler.specs.Codes.{action_word, amount_field, amount_fits, amount_shift, block_word};
 ghost use Rattle.assembler.specs.Codes.{branch_offset, branch_word, encoded, immediate_word, is_far};
 ghost use Rattle.assembler.specs.Codes.{is_target, number_transfer, operand_word, product_word};
 ghost use Rattle.assembler.specs.Codes.{register_shift_word, register_transfer, register_word, rotated_word};
-ghost use Rattle.assembler.specs.Codes.{rotation_of, shifted_word, swi_word, transfer_word, word_in};
-ghost use Rattle.arm2_decode.specs.Table.{operands, row_of};
+ghost use Rattle.assembler.specs.Codes.{rotation_of, shifted_word, swi_word, transfer_word};
+ghost use Rattle.arm2_decode.specs.Table.{operands, row_of, word_in};
 
 use crate::fault::Fault;
 use arm2_decode::{
-    Block, Branch, Cond, DataImmediate, DataRegister, DataRegisterShift, Instr, Multiply, Opcode,
-    Operation, Register, Shift, SingleImmediate, SingleRegister, Swi, encode,
+    Block, Branch, Cond, DataImmediate, DataRegister, DataRegisterShift, Instr, Multiply,
+    Operation, Register, Shift, SingleFields, SingleImmediate, SingleRegister, Swi, block_clash,
+    data_clash, data_shift_clash, encode, multiply_clash, single_clash, single_register_clash,
 };
 use asm_text::{
     Action, Amount, BlockTransfer, Code, Data, Distance, Operand, Product, Shifting, Transfer,
@@ -25,13 +24,6 @@ fn word_of(cond: Cond, operation: Operation) -> u32
     ensures { result ≡ word_in (row_of operation) (cond_number cond ∷ operands operation) }
 {
     encode(&Instr { cond, operation })
-}
-
-// Whether a data processing word with these is no instruction.
-fn is_bad_data(opcode: Opcode, sets_flags: bool) -> bool
-    ensures { result ≡ not (data_clash (opcode_number opcode) (bit_of sets_flags) == 0) }
-{
-    opcode.number() / 4 == 2 && !sets_flags
 }
 
 // The lowest rotation that gives a number: to the left by twice as many places it is a byte.
@@ -55,7 +47,7 @@ fn immediate(cond: Cond, fields: Data, n: u32) -> Result<u32, Fault>
     let Some(rotation) = rotation(n) else {
         return Err(Fault::ImmediateNotRotated);
     };
-    if is_bad_data(fields.opcode, fields.sets_flags) {
+    if data_clash(fields.opcode.number(), fields.sets_flags) != 0 {
         return Err(Fault::Unallocated);
     }
     let operation = Operation::DataImmediate(DataImmediate {
@@ -109,7 +101,7 @@ fn register(cond: Cond, fields: Data, rm: Register, amount: Amount) -> Result<u3
     if !amount_fits(amount) {
         return Err(Fault::OutOfRange);
     }
-    if is_bad_data(fields.opcode, fields.sets_flags) {
+    if data_clash(fields.opcode.number(), fields.sets_flags) != 0 {
         return Err(Fault::Unallocated);
     }
     let operation = Operation::DataRegister(DataRegister {
@@ -133,10 +125,7 @@ fn register_shift(
 ) -> Result<u32, Fault>
     ensures { result ≡ register_shift_word (cond_number cond) fields rm shift rs }
 {
-    if is_bad_data(fields.opcode, fields.sets_flags) {
-        return Err(Fault::Unallocated);
-    }
-    if rs.number() == 15 {
+    if data_shift_clash(fields.opcode.number(), fields.sets_flags, rs.number()) != 0 {
         return Err(Fault::Unallocated);
     }
     let operation = Operation::DataRegisterShift(DataRegisterShift {
@@ -169,26 +158,12 @@ fn operand(cond: Cond, fields: Data, operand: Operand) -> Result<u32, Fault>
     }
 }
 
-fn is_bad_product(product: Product) -> bool
-    ensures { result
-        ≡ not
-        (multiply_clash (bit_of product.accumulate) (register_number product.rd)
-        (register_number product.rn) (register_number product.rs) (register_number product.rm)
-        == 0) }
-{
-    let rd = product.rd.number();
-    let rm = product.rm.number();
-    rd == rm
-        || rd == 15
-        || rm == 15
-        || product.rs.number() == 15
-        || (product.accumulate && product.rn.number() == 15)
-}
-
 fn product(cond: Cond, product: Product) -> Result<u32, Fault>
     ensures { result ≡ product_word (cond_number cond) product }
 {
-    if is_bad_product(product) {
+    let (rd, rn) = (product.rd.number(), product.rn.number());
+    let (rs, rm) = (product.rs.number(), product.rm.number());
+    if multiply_clash(product.accumulate, rd, rn, rs, rm) != 0 {
         return Err(Fault::Unallocated);
     }
     let operation = Operation::Multiply(Multiply {
@@ -202,24 +177,23 @@ fn product(cond: Cond, product: Product) -> Result<u32, Fault>
     Ok(word_of(cond, operation))
 }
 
-fn is_bad_transfer(transfer: Transfer) -> bool
-    ensures { result
-        ≡ not
-        (single_clash (bit_of transfer.address.before) (bit_of transfer.byte)
-        (bit_of transfer.address.write_back) (bit_of transfer.load) (register_number transfer.address.rn)
-        (register_number transfer.rd)
-        == 0) }
+// The fields of a transfer's word that may bar it.
+fn single_fields(transfer: Transfer) -> SingleFields
+    ensures before { result.before ≡ transfer.address.before }
+    ensures byte { result.byte ≡ transfer.byte }
+    ensures write_back { result.write_back ≡ transfer.address.write_back }
+    ensures load { result.load ≡ transfer.load }
+    ensures rn { result.rn ≡ register_number transfer.address.rn }
+    ensures rd { result.rd ≡ register_number transfer.rd }
 {
-    let rn = transfer.address.rn.number();
-    let rd = transfer.rd.number();
-    let writes_back = !transfer.address.before || transfer.address.write_back;
-    if rn == 15 && writes_back {
-        return true;
+    SingleFields {
+        before: transfer.address.before,
+        byte: transfer.byte,
+        write_back: transfer.address.write_back,
+        load: transfer.load,
+        rn: transfer.address.rn.number(),
+        rd: transfer.rd.number(),
     }
-    if transfer.load && writes_back && rd == rn {
-        return true;
-    }
-    transfer.byte && rd == 15
 }
 
 fn number_offset(cond: Cond, transfer: Transfer, n: u32) -> Result<u32, Fault>
@@ -228,7 +202,7 @@ fn number_offset(cond: Cond, transfer: Transfer, n: u32) -> Result<u32, Fault>
     if n >= 4096 {
         return Err(Fault::OutOfRange);
     }
-    if is_bad_transfer(transfer) {
+    if single_clash(single_fields(transfer)) != 0 {
         return Err(Fault::Unallocated);
     }
     let operation = Operation::SingleImmediate(SingleImmediate {
@@ -255,10 +229,7 @@ fn register_offset(
     if !amount_fits(amount) {
         return Err(Fault::OutOfRange);
     }
-    if rm.number() == 15 {
-        return Err(Fault::Unallocated);
-    }
-    if is_bad_transfer(transfer) {
+    if single_register_clash(single_fields(transfer), rm.number()) != 0 {
         return Err(Fault::Unallocated);
     }
     let operation = Operation::SingleRegister(SingleRegister {
@@ -291,10 +262,7 @@ fn block(cond: Cond, block: BlockTransfer) -> Result<u32, Fault>
     if block.list >= 0x1_0000 {
         return Err(Fault::OutOfRange);
     }
-    if block.rn.number() == 15 {
-        return Err(Fault::Unallocated);
-    }
-    if block.list == 0 {
+    if block_clash(block.rn.number(), block.list) != 0 {
         return Err(Fault::Unallocated);
     }
     let operation = Operation::Block(Block {

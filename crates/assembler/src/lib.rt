@@ -2,18 +2,18 @@
 #![tactic(auto)]
 
 mod assembly;
+mod disassembly;
 mod encoded;
 mod fault;
 mod item;
 mod law;
 mod reference;
-mod shown;
 mod spelling;
 mod sweep;
 mod text;
 
 pub use assembly::{Assembly, assemble};
+pub use disassembly::disassemble;
 pub use fault::{AsmFault, Fault};
 pub use law::{sources_are_assembled, sources_are_refused};
-pub use shown::disassemble;
 pub use text::Line;

@@ -1,6 +1,5 @@
 ghost use Rattle.std.specs.Prelude.{◌≡◌, ◌+◌, ◌*◌, ◌<◌, ◌≤◌, ◌/◌, ◌%◌, ◌^◌, ◌==◌, ◌&&◌, ◌++◌, ◌∷◌, [], codes};
 ghost use Rattle.std.specs.Prelude.{decimal, length, not, if◌then◌else◌};
-ghost use Rattle.arm2_decode.specs.Names.{register_number};
 ghost use Rattle.asm_text.specs.Words.{branch_name};
 ghost use Rattle.assembler.specs.ShownLines.{amount_text, block_name, block_suffix, block_text, branch_text};
 ghost use Rattle.assembler.specs.ShownLines.{closed, comma_register, compare_front, cond_text, data_front};
@@ -46,17 +45,14 @@ fn flags_bytes(sets_flags: bool) -> &'static [u8]
     ensures text { result.now ≡ flags_text sets_flags }
     ensures room { length result.now ≤ 1 }
 {
-    match sets_flags {
-        true => b"S",
-        false => b"",
-    }
+    if sets_flags { b"S" } else { b"" }
 }
 
 fn compare_bytes(rd: Register) -> &'static [u8]
     ensures text { result.now ≡ compare_text rd }
     ensures room { length result.now ≤ 1 }
 {
-    if rd.number() == 15 { b"P" } else { b"" }
+    if rd.is_pc() { b"P" } else { b"" }
 }
 
 fn transfer_bytes(byte: bool, user: bool) -> &'static [u8]
@@ -75,20 +71,14 @@ fn load_bytes(load: bool) -> &'static [u8]
     ensures text { result.now ≡ load_name load }
     ensures room { length result.now ≤ 3 }
 {
-    match load {
-        true => b"LDR",
-        false => b"STR",
-    }
+    if load { b"LDR" } else { b"STR" }
 }
 
 fn block_bytes(load: bool) -> &'static [u8]
     ensures text { result.now ≡ block_name load }
     ensures room { length result.now ≤ 3 }
 {
-    match load {
-        true => b"LDM",
-        false => b"STM",
-    }
+    if load { b"LDM" } else { b"STM" }
 }
 
 fn block_suffix_bytes(before: bool, up: bool) -> &'static [u8]
@@ -107,20 +97,14 @@ fn branch_bytes(link: bool) -> &'static [u8]
     ensures text { result.now ≡ branch_name link }
     ensures room { length result.now ≤ 2 }
 {
-    match link {
-        true => b"BL",
-        false => b"B",
-    }
+    if link { b"BL" } else { b"B" }
 }
 
 fn open_bytes(before: bool) -> &'static [u8]
     ensures text { result.now ≡ opened before }
     ensures room { length result.now ≤ 2 }
 {
-    match before {
-        true => b",",
-        false => b"],",
-    }
+    if before { b"," } else { b"]," }
 }
 
 fn close_bytes(before: bool, write_back: bool) -> &'static [u8]
@@ -138,10 +122,7 @@ fn sign_bytes(up: bool) -> &'static [u8]
     ensures text { result.now ≡ sign_of up }
     ensures room { length result.now ≤ 1 }
 {
-    match up {
-        true => b"",
-        false => b"-",
-    }
+    if up { b"" } else { b"-" }
 }
 
 // Whether a list has a register, by its number.
@@ -158,6 +139,26 @@ fn is_lowest(list: u32, n: u32) -> bool
     ensures { result ≡ (list % 2 ^ n == 0) }
 {
     list % (1 << n) == 0
+}
+
+// What stands in front of the last operand of data processing.
+#[derive(Clone, Copy)]
+struct DataFront {
+    opcode: Opcode,
+    sets_flags: bool,
+    rn: Register,
+    rd: Register,
+}
+
+// What stands in front of the offset of a single transfer.
+#[derive(Clone, Copy)]
+struct TransferFront {
+    load: bool,
+    byte: bool,
+    /// T: whether the access is the user's.
+    user: bool,
+    rd: Register,
+    rn: Register,
 }
 
 impl Line {
@@ -266,64 +267,42 @@ impl Line {
         self.put_all(b",");
     }
 
-    fn push_three(
-        &mut self,
-        cond: Cond,
-        opcode: Opcode,
-        sets_flags: bool,
-        rn: Register,
-        rd: Register,
-    )
+    fn push_three(&mut self, cond: Cond, x: DataFront)
         requires { length self.old + 16 ≤ 64 }
-        ensures text { self.new ≡ self.old ++ three_front cond opcode sets_flags rn rd }
+        ensures text { self.new ≡ self.old ++ three_front cond x.opcode x.sets_flags x.rn x.rd }
         ensures room { length self.new ≤ length self.old + 16 }
     {
-        self.push_word(opcode_letters(opcode), cond, flags_bytes(sets_flags));
-        self.push_register(rd);
-        self.push_comma_register(rn);
+        self.push_word(opcode_letters(x.opcode), cond, flags_bytes(x.sets_flags));
+        self.push_register(x.rd);
+        self.push_comma_register(x.rn);
         self.put_all(b",");
     }
 
     // The word, and the registers in front of the last operand.
-    fn push_data(
-        &mut self,
-        cond: Cond,
-        opcode: Opcode,
-        sets_flags: bool,
-        rn: Register,
-        rd: Register,
-    )
+    fn push_data(&mut self, cond: Cond, x: DataFront)
         requires { length self.old + 16 ≤ 64 }
-        ensures text { self.new ≡ self.old ++ data_front cond opcode sets_flags rn rd }
+        ensures text { self.new ≡ self.old ++ data_front cond x.opcode x.sets_flags x.rn x.rd }
         ensures room { length self.new ≤ length self.old + 16 }
     {
-        match opcode {
+        match x.opcode {
             Opcode::Tst | Opcode::Teq | Opcode::Cmp | Opcode::Cmn => {
-                self.push_compare(cond, opcode, rn, rd);
+                self.push_compare(cond, x.opcode, x.rn, x.rd);
             }
-            Opcode::Mov | Opcode::Mvn => self.push_move(cond, opcode, sets_flags, rd),
-            _ => self.push_three(cond, opcode, sets_flags, rn, rd),
+            Opcode::Mov | Opcode::Mvn => self.push_move(cond, x.opcode, x.sets_flags, x.rd),
+            _ => self.push_three(cond, x),
         }
     }
 
     // LDR or STR with Rd and the base, up to what follows the base.
-    fn push_transfer(
-        &mut self,
-        cond: Cond,
-        load: bool,
-        byte: bool,
-        user: bool,
-        rd: Register,
-        rn: Register,
-    )
+    fn push_transfer(&mut self, cond: Cond, x: TransferFront)
         requires { length self.old + 16 ≤ 64 }
-        ensures text { self.new ≡ self.old ++ transfer_front cond load byte user rd rn }
+        ensures text { self.new ≡ self.old ++ transfer_front cond x.load x.byte x.user x.rd x.rn }
         ensures room { length self.new ≤ length self.old + 16 }
     {
-        self.push_word(load_bytes(load), cond, transfer_bytes(byte, user));
-        self.push_register(rd);
+        self.push_word(load_bytes(x.load), cond, transfer_bytes(x.byte, x.user));
+        self.push_register(x.rd);
         self.put_all(b",[");
-        self.push_register(rn);
+        self.push_register(x.rn);
     }
 
     fn push_offset(&mut self, before: bool, up: bool, offset: u32)
@@ -497,7 +476,13 @@ fn data_register(cond: Cond, x: DataRegister) -> Line
     ensures { result ≡ data_register_text cond x }
 {
     let mut line = Line::new();
-    line.push_data(cond, x.opcode, x.sets_flags, x.rn, x.rd);
+    let front = DataFront {
+        opcode: x.opcode,
+        sets_flags: x.sets_flags,
+        rn: x.rn,
+        rd: x.rd,
+    };
+    line.push_data(cond, front);
     line.push_register(x.rm);
     line.push_shift(x.shift, x.amount);
     line
@@ -507,7 +492,13 @@ fn data_register_shift(cond: Cond, x: DataRegisterShift) -> Line
     ensures { result ≡ data_register_shift_text cond x }
 {
     let mut line = Line::new();
-    line.push_data(cond, x.opcode, x.sets_flags, x.rn, x.rd);
+    let front = DataFront {
+        opcode: x.opcode,
+        sets_flags: x.sets_flags,
+        rn: x.rn,
+        rd: x.rd,
+    };
+    line.push_data(cond, front);
     line.push_register(x.rm);
     line.put_all(shift_bytes(x.shift));
     line.push_register(x.rs);
@@ -518,7 +509,13 @@ fn data_immediate(cond: Cond, x: DataImmediate) -> Line
     ensures { result ≡ data_immediate_text cond x }
 {
     let mut line = Line::new();
-    line.push_data(cond, x.opcode, x.sets_flags, x.rn, x.rd);
+    let front = DataFront {
+        opcode: x.opcode,
+        sets_flags: x.sets_flags,
+        rn: x.rn,
+        rd: x.rd,
+    };
+    line.push_data(cond, front);
     line.push_number(x.value.rotate_right(2 * x.rotation));
     line
 }
@@ -526,9 +523,15 @@ fn data_immediate(cond: Cond, x: DataImmediate) -> Line
 fn single_immediate(cond: Cond, x: SingleImmediate) -> Line
     ensures { result ≡ single_immediate_text cond x }
 {
-    let user = is_user(x.before, x.write_back);
+    let front = TransferFront {
+        load: x.load,
+        byte: x.byte,
+        user: is_user(x.before, x.write_back),
+        rd: x.rd,
+        rn: x.rn,
+    };
     let mut line = Line::new();
-    line.push_transfer(cond, x.load, x.byte, user, x.rd, x.rn);
+    line.push_transfer(cond, front);
     line.push_offset_of(x);
     line.put_all(close_bytes(x.before, x.write_back));
     line
@@ -537,9 +540,15 @@ fn single_immediate(cond: Cond, x: SingleImmediate) -> Line
 fn single_register(cond: Cond, x: SingleRegister) -> Line
     ensures { result ≡ single_register_text cond x }
 {
-    let user = is_user(x.before, x.write_back);
+    let front = TransferFront {
+        load: x.load,
+        byte: x.byte,
+        user: is_user(x.before, x.write_back),
+        rd: x.rd,
+        rn: x.rn,
+    };
     let mut line = Line::new();
-    line.push_transfer(cond, x.load, x.byte, user, x.rd, x.rn);
+    line.push_transfer(cond, front);
     line.put_all(open_bytes(x.before));
     line.put_all(sign_bytes(x.up));
     line.push_register(x.rm);
@@ -577,7 +586,7 @@ fn branch_target(at: u32, offset: u32) -> u64
     }
 }
 
-#[tactic(auto, using(crate::proofs::HexLaws::hex_room))]
+#[tactic(auto, using(asm_text::proofs::HexLaws::hex_room))]
 fn branch(cond: Cond, x: Branch, at: u32) -> Line
     ensures { result ≡ branch_text cond x at }
 {

@@ -5,8 +5,7 @@ ghost use Rattle.std.specs.List.{list_any};
 ghost use Rattle.asm_text.specs.Said.{target_of};
 ghost use Rattle.asm_text.specs.Source.{line_view};
 ghost use Rattle.asm_text.specs.Statements.{line_of};
-ghost use Rattle.loader.specs.Image.{may_hold};
-ghost use Rattle.assembler.specs.Sweeps.{all_placed, at_first, closed_state, in_memory, is_17th, label_fault};
+ghost use Rattle.assembler.specs.Sweeps.{all_placed, at_first, closed_state, is_17th, label_fault};
 ghost use Rattle.assembler.specs.Sweeps.{labelled, line_step, list_step, moved, org_fault, open_has};
 ghost use Rattle.assembler.specs.Sweeps.{org_step, overlaps, pending_step, place_fault, placed, said_step};
 ghost use Rattle.assembler.specs.Sweeps.{target_pending, value_pending, word_pending, wrong_fault};
@@ -19,14 +18,8 @@ use crate::fault::{AsmFault, Fault, lower, lowest};
 use crate::item::{Item, Pending};
 use crate::reference::{refer, use_fault};
 use asm_text::{Code, Line, Reference, Statement, Value, Wrong, read_line};
-use loader::Labels;
+use loader::{Labels, MOST_SEGMENTS, MOST_WORDS, lies_in_memory, may_hold};
 use std::alloc::Global;
-
-/// The most words of an image.
-const MOST_WORDS: u64 = 65_536;
-
-/// The most segments of a source.
-const MOST_SEGMENTS: usize = 16;
 
 /// Words side by side: the address of the first, and that after the last.
 #[derive(Clone, Copy)]
@@ -48,19 +41,6 @@ pub struct Sweep<'a> {
     pub words: u32,
     pub labels: Labels,
     pub items: Vec<Item<'a>>,
-}
-
-fn in_memory(from: u64, to: u64) -> bool
-    ensures { result ≡ in_memory from to }
-{
-    to <= 0x300_0000 || (from >= 0x340_0000 && to <= 0x400_0000)
-}
-
-// Whether a word may stand at an address: a multiple of 4 up to 3FFFFFC, and not in I/O.
-fn can_hold(address: u32) -> bool
-    ensures { result ≡ may_hold address }
-{
-    address % 4 == 0 && address < 0x400_0000 && !(address >= 0x300_0000 && address < 0x340_0000)
 }
 
 fn any_overlaps(closed: &[Span], from: u64, to: u64) -> bool
@@ -146,20 +126,20 @@ impl<'a> Sweep<'a> {
     fn place_fault(&self, count: usize) -> Option<Fault>
         ensures value { result ≡ place_fault (state_of self.now) count }
         ensures room { IfNone result (self.now.at + 4 * count ≤ 2 ^ 26) }
-        ensures few { IfNone result (self.now.words + count ≤ 65536) }
+        ensures few { IfNone result (self.now.words + count ≤ MOST_WORDS) }
     {
         if count > 0x100_0000 {
             return Some(Fault::OutOfRange);
         }
         let from = u64::from(self.at);
         let to = from + 4 * count as u64;
-        if !in_memory(from, to) {
+        if !lies_in_memory(from, to) {
             return Some(Fault::OutOfRange);
         }
         if overlaps(&self.closed, from, to) {
             return Some(Fault::OutOfRange);
         }
-        if u64::from(self.words) + count as u64 > MOST_WORDS {
+        if self.words as usize + count as usize > MOST_WORDS {
             return Some(Fault::TooLong);
         }
         if self.start.is_none() && self.closed.len() >= MOST_SEGMENTS {
@@ -182,7 +162,7 @@ impl<'a> Sweep<'a> {
         ensures value { result ≡ org_fault (state_of self.now) address }
         ensures within { IfNone result (address ≤ 2 ^ 26) }
     {
-        if !can_hold(address) {
+        if !may_hold(address) {
             return Some(Fault::OutOfRange);
         }
         let from = u64::from(address);
@@ -215,7 +195,7 @@ impl<'a> Sweep<'a> {
     // Puts a word next.
     fn place(&mut self, line: usize, pending: Pending<'a>) -> Result<(), AsmFault>
         requires room { self.old.at + 4 ≤ 2 ^ 26 }
-        requires few { self.old.words < 65536 }
+        requires few { self.old.words < MOST_WORDS }
         ensures ok { OnOk result
             (state_of self.new ≡ placed (state_of self.old) line (pending_of pending.entry)) }
         ensures at { OnOk result (self.new.at ≡ self.old.at + 4) }
@@ -302,7 +282,7 @@ impl<'a> Sweep<'a> {
     #[tactic(auto, using(crate::proofs::SweepLaws::placed_more))]
     fn place_all(&mut self, line: usize, values: &[Value<'a>]) -> Result<(), AsmFault>
         requires room { self.old.at + 4 * length values.now ≤ 2 ^ 26 }
-        requires few { self.old.words + length values.now ≤ 65536 }
+        requires few { self.old.words + length values.now ≤ MOST_WORDS }
         ensures ok { OnOk result
             (state_of self.new ≡ all_placed (state_of self.old) line (map target_of values.now)) }
         ensures within { OnOk result (self.new.at ≤ 2 ^ 26) }

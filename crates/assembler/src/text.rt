@@ -1,7 +1,7 @@
 ghost use Rattle.std.specs.Prelude.{◌≡◌, ◌+◌, ◌<◌, ◌≤◌, ◌++◌, ◌∷◌, [], decimal, length};
-ghost use Rattle.assembler.specs.Shown.{hex_char};
-ghost use Rattle.assembler.specs.ShownLines.{hex};
+ghost use Rattle.asm_text.specs.Hex.{hex};
 
+use asm_text::hex_digit;
 use itoa::Buffer;
 use std::marker::Model;
 
@@ -79,7 +79,7 @@ impl Line {
     }
 
     /// Adds a number in upper-case hexadecimal, without leading zeros.
-    #[tactic(auto, using(crate::proofs::HexLaws::hex_one))]
+    #[tactic(auto, using(asm_text::proofs::HexLaws::hex_one))]
     pub(crate) fn push_hex(&mut self, n: u64)
         requires { length self.old + length (hex n) ≤ 64 }
         ensures { self.new ≡ self.old ++ hex n }
@@ -91,13 +91,4 @@ impl Line {
         self.push_hex(n / 16);
         self.put(hex_digit((n % 16) as u32));
     }
-}
-
-/// The digit of a number below 16.
-pub(crate) fn hex_digit(n: u32) -> u8
-    requires { n < 16 }
-    ensures { result ≡ hex_char n }
-{
-    let n = n as u8;
-    if n < 10 { b'0' + n } else { b'A' - 10 + n }
 }

@@ -1,6 +1,7 @@
 -- The prices of accesses, in ticks of the 8 MHz processor (our own cycle profile, shaped on the N and S
 -- cycles of the VL86C010 data sheet).
 use Rattle.std.specs.Prelude.{ℕ, zero, suc, ◌+◌, ◌*◌, ◌/◌, ◌%◌, Bool, nat_lt, ◌==◌, if◌then◌else◌}
+use Rattle.bus_ticks.specs.declared.space.TheConstants.{IO_START, ROM_START, SPACE_END}
 use Rattle.bus_ticks.specs.declared.profile.Profile.{Profile}
 use Rattle.bus_ticks.specs.declared.profile.RomTimes.{RomTimes}
 use Rattle.bus_ticks.specs.declared.profile.Class.{Class}
@@ -8,7 +9,7 @@ use Rattle.bus_ticks.specs.declared.profile.Class.TheVariants.{Ram, Rom, Io, Any
 
 -- Ram 0000000 to 2FFFFFF; Io 3000000 to 33FFFFF; Rom 3400000 to 3FFFFFF
 abbrev pub class_at : ℕ → Class
-class_at x = if nat_lt x 0x3000000 then Ram else (if nat_lt x 0x3400000 then Io else Rom)
+class_at x = if nat_lt x IO_START then Ram else (if nat_lt x ROM_START then Io else Rom)
 
 -- a choice by the class of an address, which is never Any
 abbrev pub by_class : {A : Type 0} → Class → A → A → A → A
@@ -51,9 +52,9 @@ word_price p rom store first x =
     (if store then p.control else rom_price p rom x)
     (io_price p x)
 
--- where word number i of a block stands: at a multiple of 4, wrapped at 2 ^ 26
+-- where word number i of a block stands: at a multiple of 4, wrapped at 4000000
 abbrev pub word_address : ℕ → ℕ → ℕ
-word_address address i = 4 * (address / 4 + i) % 0x4000000
+word_address address i = 4 * (address / 4 + i) % SPACE_END
 
 -- the first words of a block, together
 unfoldable pub block_price : Profile → RomTimes → Bool → ℕ → ℕ → ℕ

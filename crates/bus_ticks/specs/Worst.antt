@@ -1,5 +1,6 @@
 -- The greatest prices over all accesses of a class, in ticks.
 use Rattle.std.specs.Prelude.{ℕ, ◌+◌, ◌-◌, ◌*◌, ◌/◌, ◌%◌, ◌≤◌, ◌<◌, ◌≡◌, Bool, if◌then◌else◌, max}
+use Rattle.bus_ticks.specs.declared.space.TheConstants.{SPACE_END}
 use Rattle.bus_ticks.specs.declared.profile.Profile.{Profile}
 use Rattle.bus_ticks.specs.declared.profile.RomTimes.{RomTimes}
 use Rattle.bus_ticks.specs.declared.profile.Class.{Class}
@@ -21,12 +22,12 @@ pub record Access : Type 0 where
 
 -- all words of the block are of the class
 pub record IsBlockOf (class : Class) (words : ℕ) (b : Access) : Type 0 where
-  pub below : b.address < 0x4000000
+  pub below : b.address < SPACE_END
   pub each : (i : ℕ) → i < words → IsOf class (word_address b.address i)
 
 -- a target of the class
 pub record IsTargetOf (class : Class) (t : Access) : Type 0 where
-  pub below : t.address < 0x4000000
+  pub below : t.address < SPACE_END
   pub is_of : IsOf class t.address
 
 -- no price exceeds top, and something has it
@@ -43,7 +44,7 @@ transfer_price p words store b = block_price p b.rom store b.address words
 
 -- the fetch at a target, and the one that follows
 abbrev pub leave_price : Profile → Access → ℕ
-leave_price p t = n_price p t.rom t.address + s_price p t.rom ((t.address + 4) % 0x4000000)
+leave_price p t = n_price p t.rom t.address + s_price p t.rom ((t.address + 4) % SPACE_END)
 
 -- ROM at its dearest time field, and the dearest device
 abbrev pub worst_rom : Profile → ℕ
@@ -79,7 +80,7 @@ worst_leave_of p Any =
 -- taking FIQ before the instruction at an address: the fetch 8 bytes on, and the two at FIQ's vector
 abbrev pub fiq_entry_price : Profile → Access → ℕ
 fiq_entry_price p t =
-    s_price p t.rom ((t.address + 8) % 0x4000000) + (n_price p t.rom 0x1C + s_price p t.rom 0x20)
+    s_price p t.rom ((t.address + 8) % SPACE_END) + (n_price p t.rom 0x1C + s_price p t.rom 0x20)
 
 -- the greatest price of taking FIQ: the first fetch may be of any class, and the vector stands in Ram
 abbrev pub fiq_entry : Profile → ℕ

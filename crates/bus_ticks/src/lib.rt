@@ -6,8 +6,10 @@
 
 mod prices;
 mod profile;
+mod space;
 mod worst;
 
 pub use prices::{class_of, fetch_n, fetch_s, transfer};
 pub use profile::{Class, NumbersFault, Profile, RomTimes};
+pub use space::{IO_START, ROM_START, SPACE_END, word_address};
 pub use worst::{fiq_entry, worst_fetch_n, worst_fetch_s, worst_leave, worst_transfer};

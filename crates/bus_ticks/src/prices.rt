@@ -3,15 +3,16 @@ ghost use Rattle.bus_ticks.specs.Prices.{class_at, rom_price, io_price, n_price,
 ghost use Rattle.bus_ticks.specs.Prices.{word_price, block_price};
 
 use crate::profile::{Class, Profile, RomTimes};
+use crate::space::{IO_START, ROM_START, SPACE_END, word_address};
 
 /// The class of an address below 4000000: never `Any`.
 pub fn class_of(address: u32) -> Class
-    requires { address < 0x4000000 }
+    requires { address < SPACE_END }
     ensures { result ≡ class_at address }
 {
-    if address < 0x3000000 {
+    if address < IO_START {
         Class::Ram
-    } else if address < 0x3400000 {
+    } else if address < ROM_START {
         Class::Io
     } else {
         Class::Rom
@@ -42,7 +43,7 @@ fn rom_access(profile: &Profile, rom: RomTimes, address: u32) -> u32
 
 /// The ticks of an instruction fetch that does not follow the access before it.
 pub fn fetch_n(profile: &Profile, address: u32, rom: RomTimes) -> u32
-    requires { address < 0x4000000 }
+    requires { address < SPACE_END }
     ensures price { result ≡ n_price profile.now rom address }
     ensures small { result < 256 }
 {
@@ -67,7 +68,7 @@ pub fn ram_following(profile: &Profile, address: u32) -> u32
 
 /// The ticks of an instruction fetch that follows the access before it.
 pub fn fetch_s(profile: &Profile, address: u32, rom: RomTimes) -> u32
-    requires { address < 0x4000000 }
+    requires { address < SPACE_END }
     ensures price { result ≡ s_price profile.now rom address }
     ensures small { result < 256 }
 {
@@ -82,11 +83,12 @@ fn io_access(profile: &Profile, address: u32) -> u32
     ensures price { result ≡ io_price profile.now address }
     ensures small { result < 256 }
 {
-    pick!(address / 0x80000 % 4, 0 => profile.slow, 1 => profile.medium, 2 => profile.fast; profile.synchronous)
+    let field = address / 0x80000 % 4;
+    pick!(field, 0 => profile.slow, 1 => profile.medium, 2 => profile.fast; profile.synchronous)
 }
 
 fn word_ticks(profile: &Profile, address: u32, first: bool, store: bool, rom: RomTimes) -> u32
-    requires { address < 0x4000000 }
+    requires { address < SPACE_END }
     ensures price { result ≡ word_price profile.now rom store first address }
     ensures small { result < 256 }
 {
@@ -115,16 +117,15 @@ fn word_ticks(profile: &Profile, address: u32, first: bool, store: bool, rom: Ro
 /// costs as much as the word that holds it.
 #[tactic(auto, unfolding(crate::specs::Prices::block_price))]
 pub fn transfer(profile: &Profile, address: u32, words: u32, store: bool, rom: RomTimes) -> u32
-    requires in_space { address < 0x4000000 }
+    requires in_space { address < SPACE_END }
     requires some { 1 ≤ words }
     requires few { words ≤ 16 }
     ensures price { result ≡ block_price profile.now rom store address words }
     ensures small { result ≤ 255 * words }
 {
-    let first = address / 4;
     let mut ticks = 0;
     for i in 0..words {
-        ticks += word_ticks(profile, 4 * (first + i) % 0x4000000, i == 0, store, rom);
+        ticks += word_ticks(profile, word_address(address, i), i == 0, store, rom);
     }
     ticks
 }

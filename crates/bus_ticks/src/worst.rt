@@ -7,6 +7,7 @@ ghost use Rattle.bus_ticks.specs.Worst.{fiq_entry, fiq_entry_price, leave_price}
 
 use crate::prices::{class_of, ram_following};
 use crate::profile::{Class, Profile};
+use crate::space::SPACE_END;
 
 fn greatest_of(a: u32, b: u32, c: u32, d: u32) -> u32
     ensures { result ≡ greatest a b c d }
@@ -22,7 +23,7 @@ fn worst_rom_ticks(profile: &Profile) -> u32
 
 // The greatest price as a number.
 fn worst_n_ticks(profile: &Profile, address: u32) -> u32
-    requires { address < 0x4000000 }
+    requires { address < SPACE_END }
     ensures { result ≡ worst_n_price profile.now address }
 {
     match class_of(address) {
@@ -34,7 +35,7 @@ fn worst_n_ticks(profile: &Profile, address: u32) -> u32
 
 // The greatest price as a number.
 fn worst_s_ticks(profile: &Profile, address: u32) -> u32
-    requires { address < 0x4000000 }
+    requires { address < SPACE_END }
     ensures { result ≡ worst_s_price profile.now address }
 {
     match class_of(address) {
@@ -47,7 +48,7 @@ fn worst_s_ticks(profile: &Profile, address: u32) -> u32
 /// The greatest ticks, over all time fields of ROM, of a fetch that does not follow the access
 /// before it.
 pub fn worst_fetch_n(profile: &Profile, address: u32) -> u32
-    requires { address < 0x4000000 }
+    requires { address < SPACE_END }
     ensures number { result ≡ worst_n_price profile.now address }
     ensures greatest { IsGreatest IsAnyTimes (λ rom. n_price profile.now rom address) result }
     ensures small { result < 256 }
@@ -57,7 +58,7 @@ pub fn worst_fetch_n(profile: &Profile, address: u32) -> u32
 
 /// The greatest ticks, over all time fields of ROM, of a fetch that follows the access before it.
 pub fn worst_fetch_s(profile: &Profile, address: u32) -> u32
-    requires { address < 0x4000000 }
+    requires { address < SPACE_END }
     ensures number { result ≡ worst_s_price profile.now address }
     ensures greatest { IsGreatest IsAnyTimes (λ rom. s_price profile.now rom address) result }
     ensures small { result < 256 }

@@ -2,6 +2,7 @@
 use Rattle.std.proofs.Common.{◌≡◌, ◌∙◌, ℕ, zero, suc, ◌<◌, Bool, true, false, List, [], ◌∷◌, length, get_or, Contains, refl, ap, arith}
 use Rattle.std.specs.Prelude.{◌||◌, ◌&&◌, filter, if◌then◌else◌}
 use Rattle.std.specs.List.{list_any}
+use Rattle.std.proofs.Math.Bool.{or-true}
 use Rattle.flow_graph.proofs.SortedLemmas.{here, there}
 
 or_same : (a b c d : Bool) → a ≡ c → b ≡ d → (a || b) ≡ (c || d)
@@ -18,14 +19,10 @@ pub any_none : {X : Type 0} (f : X → Bool) (xs : List X) → ((x : X) → Cont
 any_none f [] none = refl
 any_none f (x ∷ xs) none = or_same (f x) (list_any f xs) false false (none x (here x xs)) (any_none f xs (λ y has. none y (there x xs y has)))
 
-or_true : (b : Bool) → (b || true) ≡ true
-or_true true = refl
-or_true false = refl
-
 pub any_some : {X : Type 0} (f : X → Bool) (xs : List X) (x : X) → Contains xs x → f x ≡ true → list_any f xs ≡ true
 any_some f [] x has pass = let lt : has.0 < 0 = has.1 in absurd (omega arith)
 any_some f (y ∷ xs) x (zero, lt, at) pass = or_same (f y) (list_any f xs) true (list_any f xs) (ap f at ∙ pass) refl
-any_some f (y ∷ xs) x (suc k, lt, at) pass = or_same (f y) (list_any f xs) (f y) true refl (any_some f xs x (k, omega (arith, lt), at) pass) ∙ or_true (f y)
+any_some f (y ∷ xs) x (suc k, lt, at) pass = or_same (f y) (list_any f xs) (f y) true refl (any_some f xs x (k, omega (arith, lt), at) pass) ∙ or-true (f y)
 
 pub any_filter : {X : Type 0} (f g : X → Bool) (xs : List X) → list_any f (filter g xs) ≡ list_any (λ x. g x && f x) xs
 any_filter f g [] = refl

@@ -3,7 +3,7 @@
 use Rattle.std.proofs.Common.{◌≡◌, ◌∙◌, ◌↔◌, ℕ, ◌+◌, ◌*◌, ◌^◌, ◌<◌, ◌≤◌, true, cond, List, length, get_or, map, sum_by, Contains, Option, Some, None, refl, sym, ap, subst, arith}
 use Rattle.std.specs.List.{find}
 use Rattle.std.specs.Option.{IfSome}
-use Rattle.std.proofs.lemmas.List.{get_or_default, length-map}
+use Rattle.std.proofs.lemmas.List.{get_or_default, length-map, get_or-map}
 use Rattle.std.proofs.lemmas.List.Elements.{All-weaker}
 use Rattle.walks.specs.Rows as rows
 use Rattle.flow_graph.specs.declared.places.Place.{Place}
@@ -13,7 +13,6 @@ use Rattle.flow_graph.specs.Flow.{Flow, edge_shape}
 use Rattle.loop_bounds.specs.Instance.{Instance, is_header, place_loops}
 use Rattle.loop_bounds.specs.Tree.{IsTree, Tree}
 use Rattle.loop_bounds.proofs.ExtentOf.{header_place}
-use Rattle.loop_bounds.proofs.Moved.{at_map}
 use Rattle.longest_walk.specs.declared.folded.Longest.{Longest}
 use Rattle.longest_walk.specs.Folded.{open_items}
 use Rattle.longest_walk.specs.Longest.{AreAllRounds, IsBody, IsLongest, KeepsTree, TreeTooLarge}
@@ -30,7 +29,7 @@ module _ (flow : Flow) (tree : Tree) (t : IsTree flow tree) where
   same_number : (i j : ℕ) (x y : Instance) → i < length tree.instances → j < length tree.instances → header_of (get_or tree.instances i x) ≡ header_of (get_or tree.instances j y) → i ≡ j
   same_number i j x y i_in j_in same =
       headers_once flow tree t i j Exit (omega (arith, i_in, length-map tree.instances header_of)) (omega (arith, j_in, length-map tree.instances header_of))
-      (at_map header_of tree.instances i x Exit i_in ∙ same ∙ sym (at_map header_of tree.instances j y Exit j_in))
+      (get_or-map header_of tree.instances i x Exit i_in ∙ same ∙ sym (get_or-map header_of tree.instances j y Exit j_in))
 
   instances_differ : Differ tree.instances
   instances_differ i j d less lt same =

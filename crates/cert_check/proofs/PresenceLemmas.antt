@@ -16,8 +16,9 @@ use Rattle.flow_graph.specs.declared.places.Place.TheVariants.{Exit}
 use Rattle.flow_graph.specs.Flow.{Flow}
 use Rattle.flow_graph.specs.Places.{place_cmp}
 use Rattle.flow_graph.specs.Search.{by_order}
-use Rattle.flow_graph.proofs.PlaceLemmas.{by_order_is_place_cmp, place_exact, place_total}
-use Rattle.loop_bounds.specs.declared.find.Found.{Found}
+use Rattle.loop_bounds.proofs.Positions.{sorted}
+use Rattle.flow_graph.proofs.PlaceLemmas.{by_place, place_exact, place_total}
+use Rattle.loop_bounds.specs.declared.loop_instances.Found.{Found}
 use Rattle.loop_bounds.specs.Extents.{found_instance}
 use Rattle.loop_bounds.specs.Tree.{Tree}
 use Rattle.longest_walk.specs.Rows.{header_of, header_of_row, place_of_row}
@@ -29,15 +30,8 @@ use Rattle.cert_check.proofs.FindLemmas.{not_less}
 
 -- ## Places that ascend
 
-by_place : by_order ≡ place_cmp
-by_place = λ i x y. by_order_is_place_cmp x y i
-
 sorted_by_place : (places : List Place) → IsSorted by_order places → IsSorted place_cmp places
 sorted_by_place places ascending = subst (λ R. IsSorted R places) by_place ascending
-
-sorted_from_strict : (places : List Place) → IsStrictlySortedBy place_cmp places → IsSorted place_cmp places
-sorted_from_strict places ordered k d low high =
-    not_less (place_cmp (get_or places (k + 1) d) (get_or places k d)) (place_cmp (get_or places k d) (get_or places (k + 1) d)) (place_total.antisymm (get_or places (k + 1) d) (get_or places k d)) (Less-from_sorted place_cmp places k (k + 1) d ordered (omega arith) high)
 
 module _ (places : List Place) (p : Place) (ascending : IsSorted place_cmp places) where
   -- a search for a place that is there does not miss it
@@ -76,7 +70,7 @@ lists_sorted stated listed moved ascending = record {
 }
 
 pub lists_itself : (places listed : List Place) → listed ≡ places → IsStrictlySortedBy place_cmp places → Lists places listed
-lists_itself places listed is ordered = subst (Lists places) (sym is) (record { same = λ p. (λ has. has, λ has. has); ascending = sorted_from_strict places ordered })
+lists_itself places listed is ordered = subst (Lists places) (sym is) (record { same = λ p. (λ has. has, λ has. has); ascending = sorted places ordered })
 
 -- what holds of the lists holds of what they list
 pub has_all_listed : (wanted given one other : List Place) → Lists wanted one → Lists given other → HasAll one other ↔ HasAll wanted given

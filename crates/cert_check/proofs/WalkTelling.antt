@@ -1,6 +1,6 @@
 -- What is told of a walk, with an edge more, and with the rounds of a repeat in place of one.
 use Rattle.std.proofs.Common.{◌≡◌, ◌≢◌, ◌∙◌, ℕ, zero, suc, ◌+◌, ◌-◌, ◌*◌, ◌<◌, ◌≤◌, ◌^◌, min, max, Bool, true, false, cond, ◌||◌, ◌&&◌, List, [], ◌∷◌, ◌++◌, length, get_or, slice_set, All, Contains, Option, Some, None, ⊎_elim, refl, sym, ap, subst, arith, append-nil, get_or-set_same, get_or-set_other}
-use Rattle.std.proofs.lemmas.Bool.{and_from, cases_Bool, cases_eq, cases_lt, eq-eqb, lt-ltb, ltb-true, ne_eqb, or_cases, true≢false}
+use Rattle.std.proofs.lemmas.Bool.{and_from, cases_Bool, cases_eq, cases_lt, eq-eqb, lt-ltb, ltb-true, ne_eqb, or_cases, true≢false, or_parts}
 use Rattle.std.proofs.lemmas.List.Elements.{All-head, All-tail, All-weaker}
 use Rattle.std.proofs.lemmas.List.Sums.{sum_by-cons}
 use Rattle.walks.specs.Segments.{count, head, most, repeated, tail, whole}
@@ -39,10 +39,6 @@ gained-exact limit a b k some = ⊎_elim
 
 pub gained_is : (a b k : ℕ) → 0 < k → gained (capped a) (capped (a + b)) k ≡ capped (a + k * b)
 gained_is a b k some = gained-exact (2 ^ 64) a b k some
-
-or_none : (x y : Bool) → (x || y) ≡ false → (x ≡ false) × (y ≡ false)
-or_none true y is = absurd (true≢false is)
-or_none false y is = (refl, is)
 
 breaks_some : (o : Option Span) (turns : ℕ) → breaks o turns ≡ true → (s : Span) × (o ≡ Some s) × (s.bound < turns)
 breaks_some None turns is = absurd (true≢false (sym is))
@@ -167,7 +163,7 @@ module _ (exit : ℕ) (edges : List NumberedEdge) (spans : List Span) (order : I
 
     kept_told : new.over ≡ false → (s : Span) → Contains spans s → most_in s w ≤ s.bound
     kept_told is s has =
-        let parts = or_none old.over (breaks (header_at headers to) turns) (sym goes.over_is ∙ is) in
+        let parts = or_parts old.over (breaks (header_at headers to) turns) (sym goes.over_is ∙ is) in
         let before : most_in s v ≤ s.bound = told.kept parts.0 s has in
         ⊎_elim
         (λ (at : s.header ≡ to).

@@ -1,5 +1,5 @@
 -- The verdict on a walk, from what following its lines told.
-use Rattle.std.proofs.Common.{◌≡◌, ◌≢◌, ◌∙◌, ℕ, ◌+◌, ◌<◌, ◌≤◌, ◌^◌, true, false, List, [], length, get_or, sym, ap, subst, arith}
+use Rattle.std.proofs.Common.{◌≡◌, ◌≢◌, ◌∙◌, ℕ, ◌+◌, ◌<◌, ◌≤◌, ◌^◌, true, false, List, [], ◌∷◌, inr, length, get_or, sym, ap, subst, arith}
 use Rattle.std.proofs.lemmas.List.{get_or-replicate, length-replicate}
 use Rattle.std.proofs.lemmas.Bool.{false≢true}
 use Rattle.std.proofs.lemmas.Option.{same_Some}
@@ -24,7 +24,9 @@ use Rattle.cert_check.specs.declared.index.Index.{Index}
 use Rattle.cert_check.specs.declared.walker.Walker.{Walker}
 use Rattle.cert_check.specs.Followed.{Followed, followed}
 use Rattle.cert_check.specs.Index.{IsIndex}
-use Rattle.cert_check.specs.Verdict.{CostsBound, IsFollowed, KeepsAll}
+use Rattle.cert_check.specs.declared.verdict.Verdict.{Verdict}
+use Rattle.cert_check.specs.declared.verdict.Objection.TheVariants.{WalkCost}
+use Rattle.cert_check.specs.Verdict.{CostsBound, IsFirstOf, IsFollowed, KeepsAll, walk_objections}
 use Rattle.cert_check.specs.Walking.{CanFollow, IsFresh, IsRefused, IsTaken, Tells, capped, graph_span}
 use Rattle.cert_check.proofs.WalkFollowing.{leads_of}
 use Rattle.cert_check.proofs.WalkParts.{ends_same}
@@ -113,6 +115,10 @@ module _ (flow : Flow) (tree : Tree) (index : Index) (well : IsWellFormed flow) 
 
         cost_told : y.cost ≡ capped (cost_of edge_shape a.walk.opened.walk)
         cost_told = told.cost_is ∙ ap capped (sym (ap (λ (w : List Edge). cost_of edge_shape w) a.edges_are ∙ costs_same flow tree well t a.numbers a.inside))
+
+        -- of a walk within the bounds the cost alone is left to judge
+        pub cost_left : (v : Verdict) → y.over ≡ false → IsFirstOf flow tree cert (WalkCost ∷ []) v → IsFirstOf flow tree cert walk_objections v
+        cost_left v fine rest = inr ((a.walk, finished), inr (within_bounds fine, rest))
 
         pub other_cost : cert.bound < 2 ^ 64 → y.cost ≢ cert.bound → CostsBound flow tree cert → ⊥
         other_cost fits other costs =

@@ -8,6 +8,7 @@ mod checking;
 mod columns;
 mod fault;
 mod finding;
+mod handler;
 mod index;
 mod law;
 mod presence;

@@ -4,6 +4,7 @@ ghost use Rattle.cert_check.specs.Columns.{AreTablesOf};
 ghost use Rattle.cert_check.specs.Index.{IsIndex};
 ghost use Rattle.cert_check.specs.Verdict.{IsFirstOf, row_objections};
 
+use crate::handler::Handler;
 use crate::index::Index;
 use crate::row_tests::all_pass;
 use crate::verdict::{Objection, Verdict};
@@ -26,19 +27,20 @@ pub(crate) fn verdict_on_rows(
     requires tables { AreTablesOf graph.now tree.now cert.now tables.now }
     ensures { IsFirstOf graph.now tree.now cert.now row_objections result }
 {
-    let fit = all_pass(graph, tree, cert, index, tables, RowTest::Fits);
+    let handler = Handler { graph, tree, index };
+    let fit = all_pass(handler, cert, tables, RowTest::Fits);
     if !fit {
         return Verdict::No(Objection::NumberTooLarge);
     }
-    let plain = all_pass(graph, tree, cert, index, tables, RowTest::Plain);
+    let plain = all_pass(handler, cert, tables, RowTest::Plain);
     if !plain {
         return Verdict::No(Objection::EdgeTooHeavy);
     }
-    let rounds = all_pass(graph, tree, cert, index, tables, RowTest::Round);
+    let rounds = all_pass(handler, cert, tables, RowTest::Round);
     if !rounds {
         return Verdict::No(Objection::RoundTooHeavy);
     }
-    let leaves = all_pass(graph, tree, cert, index, tables, RowTest::Leave);
+    let leaves = all_pass(handler, cert, tables, RowTest::Leave);
     if !leaves {
         return Verdict::No(Objection::LeaveTooHeavy);
     }

@@ -7,56 +7,47 @@ ghost use Rattle.cert_check.specs.Columns.{AreTablesOf};
 ghost use Rattle.cert_check.specs.Index.{IsIndex};
 ghost use Rattle.cert_check.specs.Weighing.{EdgePasses};
 
-use crate::index::Index;
-use crate::weighing::{RowTest, passes};
+use crate::handler::Handler;
+use crate::weighing::{RowTest, Weighing, passes};
 use certificate::Cert;
-use flow_graph::Graph;
-use loop_bounds::LoopTree;
 use numbered_walks::Tables;
 
 // Whether the row of the edge with this number passes the test.
 fn edge_passes(
-    graph: &Graph,
-    tree: &LoopTree,
+    handler: Handler<'_>,
     cert: &Cert,
-    index: &Index,
     tables: &Tables,
     test: RowTest,
     number: usize,
 ) -> bool
-    requires tree { IsTree graph.now tree.now }
-    requires indexed { IsIndex (length graph.now.places) tree.now.spans index.now }
-    requires tables { AreTablesOf graph.now tree.now cert.now tables.now }
-    requires inside { number < length graph.now.edges }
-    ensures { IsTrue result ↔ EdgePasses tree.now cert.now test (step_at graph.now.edges number) }
+    requires tree { IsTree handler.graph.now handler.tree.now }
+    requires indexed { IsIndex (length handler.graph.now.places) handler.tree.now.spans handler.index.now }
+    requires tables { AreTablesOf handler.graph.now handler.tree.now cert.now tables.now }
+    requires inside { number < length handler.graph.now.edges }
+    ensures { IsTrue result
+        ↔ EdgePasses handler.entry.tree.now cert.now test (step_at handler.entry.graph.now.edges number) }
 {
-    let exit = graph.places().len();
-    passes(
-        tree.spans(),
-        index,
+    let exit = handler.graph.places().len();
+    let weighing = Weighing {
+        spans: handler.tree.spans(),
+        index: handler.index,
         tables,
         exit,
-        test,
-        &tree.edges()[number],
-    )
+    };
+    passes(weighing, test, &handler.tree.edges()[number])
 }
 
 /// Whether the rows of all edges pass the test.
-pub(crate) fn all_pass(
-    graph: &Graph,
-    tree: &LoopTree,
-    cert: &Cert,
-    index: &Index,
-    tables: &Tables,
-    test: RowTest,
-) -> bool
-    requires tree { IsTree graph.now tree.now }
-    requires indexed { IsIndex (length graph.now.places) tree.now.spans index.now }
-    requires tables { AreTablesOf graph.now tree.now cert.now tables.now }
-    ensures { IsTrue result ↔ ((e : Edge) → HasEdge graph.now e → EdgePasses tree.now cert.now test e) }
+pub(crate) fn all_pass(handler: Handler<'_>, cert: &Cert, tables: &Tables, test: RowTest) -> bool
+    requires tree { IsTree handler.graph.now handler.tree.now }
+    requires indexed { IsIndex (length handler.graph.now.places) handler.tree.now.spans handler.index.now }
+    requires tables { AreTablesOf handler.graph.now handler.tree.now cert.now tables.now }
+    ensures { IsTrue result
+        ↔ ((e : Edge) → HasEdge handler.entry.graph.now e
+        → EdgePasses handler.entry.tree.now cert.now test e) }
 {
-    for number in 0..graph.edges().len() {
-        if !edge_passes(graph, tree, cert, index, tables, test, number) {
+    for number in 0..handler.graph.edges().len() {
+        if !edge_passes(handler, cert, tables, test, number) {
             return false;
         }
     }

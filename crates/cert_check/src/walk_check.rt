@@ -5,6 +5,7 @@ ghost use Rattle.cert_check.specs.Index.{IsIndex};
 ghost use Rattle.cert_check.specs.Verdict.{IsFirstOf, walk_objections};
 ghost use Rattle.cert_check.specs.Walking.{Follows, IsFresh, graph_span};
 
+use crate::handler::Handler;
 use crate::index::Index;
 use crate::verdict::{Objection, Verdict};
 use crate::walk_trace::follow_all;
@@ -51,7 +52,8 @@ fn follow_lines(
         bound: 0,
     };
     let lines = cert.walk.items();
-    follow_all(graph, tree, index, &whole, LEVELS, walker, lines)
+    let handler = Handler { graph, tree, index };
+    follow_all(handler, &whole, LEVELS, walker, lines)
 }
 
 // The first of the three tests of the walk that is not passed.

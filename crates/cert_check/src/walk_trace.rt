@@ -5,6 +5,7 @@ ghost use Rattle.cert_check.specs.Followed.{edge_named, follow_edge, follow_item
 ghost use Rattle.cert_check.specs.Followed.{is_named, leads_to};
 ghost use Rattle.cert_check.specs.Walking.{Begins, CanFollow, CannotBegin, Follows, IsPartOf};
 
+use crate::handler::Handler;
 use crate::index::Index;
 use crate::walker::{Round, Walker};
 use crate::weighing::holds;
@@ -80,27 +81,21 @@ fn named_edge(graph: &Graph, tree: &LoopTree, number: usize, line: &StepLine) ->
 
 // Follows the edge that the line names, if there is one and it ends inside the span. No level is asked, as no
 // repeat stands here.
-fn follow_step(
-    graph: &Graph,
-    tree: &LoopTree,
-    index: &Index,
-    within: &Span,
-    walker: &mut Walker,
-    line: &StepLine,
-) -> bool
-    requires { CanFollow graph.now tree.now index.now within.now walker.old }
+fn follow_step(handler: Handler<'_>, within: &Span, walker: &mut Walker, line: &StepLine) -> bool
+    requires { CanFollow handler.graph.now handler.tree.now handler.index.now within.now walker.old }
     ensures { (levels : ℕ)
-        → Follows graph.now tree.now index.now within.now levels 1
-        (λ p. option_map follow_edge (edge_named graph.now p line.now)) walker.old walker.new result }
+        → Follows handler.entry.graph.now handler.entry.tree.now handler.entry.index.now within.now levels 1
+        (λ p. option_map follow_edge (edge_named handler.entry.graph.now p line.now))
+        walker.old walker.new result }
 {
-    let Some(number) = named_edge(graph, tree, walker.number, line) else {
+    let Some(number) = named_edge(handler.graph, handler.tree, walker.number, line) else {
         return false;
     };
-    let edge = tree.edges()[number];
+    let edge = handler.tree.edges()[number];
     if !holds(within, edge.to) {
         return false;
     }
-    walker.take(&index.headers, &edge);
+    walker.take(&handler.index.headers, &edge);
     true
 }
 
@@ -134,31 +129,29 @@ fn begin(
 // Follows one item: a repeat's body once, inside the instance that begins where the walker stands.
 #[cycle(walk)]
 fn follow_one(
-    graph: &Graph,
-    tree: &LoopTree,
-    index: &Index,
+    handler: Handler<'_>,
     within: &Span,
     levels: u32,
     walker: &mut Walker,
     item: &CertItem,
 ) -> bool
-    requires { CanFollow graph.now tree.now index.now within.now walker.old }
-    ensures { Follows graph.now tree.now index.now within.now levels 1
-        (follow_item graph.now item.now) walker.old walker.new result }
+    requires { CanFollow handler.graph.now handler.tree.now handler.index.now within.now walker.old }
+    ensures { Follows handler.entry.graph.now handler.entry.tree.now handler.entry.index.now within.now levels
+        1 (follow_item handler.entry.graph.now item.now) walker.old walker.new result }
 {
     match item {
-        CertItem::Step(line) => follow_step(graph, tree, index, within, walker, line),
+        CertItem::Step(line) => follow_step(handler, within, walker, line),
         CertItem::Repeat(count, body) => {
-            let Some(round) = begin(index, walker, levels, *count, body) else {
+            let Some(round) = begin(handler.index, walker, levels, *count, body) else {
                 return false;
             };
-            if !follow_all(graph, tree, index, &round.span, levels - 1, walker, body) {
+            if !follow_all(handler, &round.span, levels - 1, walker, body) {
                 return false;
             }
             if walker.number != round.span.header {
                 return false;
             }
-            walker.repeat(&index.headers, &round, *count);
+            walker.repeat(&handler.index.headers, &round, *count);
             true
         }
     }
@@ -168,20 +161,18 @@ fn follow_one(
 /// each repeat once: whether they are such a walk.
 #[cycle(walk)]
 pub(crate) fn follow_all(
-    graph: &Graph,
-    tree: &LoopTree,
-    index: &Index,
+    handler: Handler<'_>,
     within: &Span,
     levels: u32,
     walker: &mut Walker,
     items: &[CertItem],
 ) -> bool
-    requires { CanFollow graph.now tree.now index.now within.now walker.old }
-    ensures { Follows graph.now tree.now index.now within.now levels (length items.now)
-        (followed graph.now items.now) walker.old walker.new result }
+    requires { CanFollow handler.graph.now handler.tree.now handler.index.now within.now walker.old }
+    ensures { Follows handler.entry.graph.now handler.entry.tree.now handler.entry.index.now within.now levels
+        (length items.now) (followed handler.entry.graph.now items.now) walker.old walker.new result }
 {
     for item in items {
-        if !follow_one(graph, tree, index, within, levels, walker, item) {
+        if !follow_one(handler, within, levels, walker, item) {
             return false;
         }
     }

@@ -24,6 +24,15 @@ pub(crate) enum RowTest {
     Leave,
 }
 
+/// What rows are weighed by: the spans with their index, the certificate's numbers, and the number of Exit.
+#[derive(Clone, Copy)]
+pub(crate) struct Weighing<'a> {
+    pub(crate) spans: &'a [Span],
+    pub(crate) index: &'a Index,
+    pub(crate) tables: &'a Tables,
+    pub(crate) exit: usize,
+}
+
 /// Whether the number is that of a member.
 pub(crate) fn holds(span: &Span, number: usize) -> bool
     ensures { result ≡ is_in span.now number }
@@ -93,18 +102,14 @@ fn span_at(spans: &[Span], headers: &[Option<Span>], number: usize) -> Option<Sp
 }
 
 // The number that the edge's row is about: none for a back edge of bound 0.
-fn limit(
-    spans: &[Span],
-    index: &Index,
-    tables: &Tables,
-    exit: usize,
-    edge: &NumberedEdge,
-) -> Option<u64>
-    requires { CanWeigh spans.now index.now edge.now }
+fn limit(weighing: Weighing<'_>, edge: &NumberedEdge) -> Option<u64>
+    requires { CanWeigh weighing.spans.now weighing.index.now edge.now }
     ensures { result
-        ≡ limit_of number_shape span_loops spans.now (potentials_of tables.now) (is_exit exit) edge.now }
+        ≡ limit_of number_shape span_loops weighing.entry.spans.now
+        (potentials_of weighing.entry.tables.now) (is_exit weighing.entry.exit) edge.now }
 {
-    match span_at(spans, &index.headers, edge.to) {
+    let tables = weighing.tables;
+    match span_at(weighing.spans, &weighing.index.headers, edge.to) {
         Some(span) => {
             if holds(&span, edge.from) {
                 if span.bound == 0 {
@@ -117,7 +122,7 @@ fn limit(
             }
         }
         None => {
-            if edge.to == exit {
+            if edge.to == weighing.exit {
                 Some(tables.bound)
             } else {
                 Some(distance(tables, edge.to))
@@ -126,38 +131,28 @@ fn limit(
     }
 }
 
-fn row_fits(
-    spans: &[Span],
-    index: &Index,
-    tables: &Tables,
-    exit: usize,
-    edge: &NumberedEdge,
-) -> bool
-    requires { CanWeigh spans.now index.now edge.now }
-    ensures { IsTrue result ↔ NumberFits exit spans.now tables.now edge.now }
+fn row_fits(weighing: Weighing<'_>, edge: &NumberedEdge) -> bool
+    requires { CanWeigh weighing.spans.now weighing.index.now edge.now }
+    ensures { IsTrue result
+        ↔ NumberFits weighing.entry.exit weighing.entry.spans.now weighing.entry.tables.now edge.now }
 {
-    match limit(spans, index, tables, exit, edge) {
+    match limit(weighing, edge) {
         None => true,
-        Some(_) => match needed_at(spans, index, tables, edge) {
+        Some(_) => match needed_at(weighing.spans, weighing.index, weighing.tables, edge) {
             None => false,
             Some(needed) => needed < 1 << 63,
         },
     }
 }
 
-fn row_holds(
-    spans: &[Span],
-    index: &Index,
-    tables: &Tables,
-    exit: usize,
-    edge: &NumberedEdge,
-) -> bool
-    requires { CanWeigh spans.now index.now edge.now }
-    ensures { IsTrue result ↔ NumberHolds exit spans.now tables.now edge.now }
+fn row_holds(weighing: Weighing<'_>, edge: &NumberedEdge) -> bool
+    requires { CanWeigh weighing.spans.now weighing.index.now edge.now }
+    ensures { IsTrue result
+        ↔ NumberHolds weighing.entry.exit weighing.entry.spans.now weighing.entry.tables.now edge.now }
 {
-    match limit(spans, index, tables, exit, edge) {
+    match limit(weighing, edge) {
         None => true,
-        Some(limit) => match needed_at(spans, index, tables, edge) {
+        Some(limit) => match needed_at(weighing.spans, weighing.index, weighing.tables, edge) {
             None => false,
             Some(needed) => needed <= limit,
         },
@@ -180,26 +175,17 @@ fn goes_out(spans: &[Span], index: &Index, edge: &NumberedEdge) -> bool
 }
 
 /// Whether the edge's row passes the test.
-pub(crate) fn passes(
-    spans: &[Span],
-    index: &Index,
-    tables: &Tables,
-    exit: usize,
-    test: RowTest,
-    edge: &NumberedEdge,
-) -> bool
-    requires { CanWeigh spans.now index.now edge.now }
-    ensures { IsTrue result ↔ NumberPasses exit spans.now tables.now test edge.now }
+pub(crate) fn passes(weighing: Weighing<'_>, test: RowTest, edge: &NumberedEdge) -> bool
+    requires { CanWeigh weighing.spans.now weighing.index.now edge.now }
+    ensures { IsTrue result
+        ↔ NumberPasses weighing.entry.exit weighing.entry.spans.now weighing.entry.tables.now test edge.now }
 {
+    let Weighing { spans, index, .. } = weighing;
     let back = edge.to <= edge.from;
     match test {
-        RowTest::Fits => row_fits(spans, index, tables, exit, edge),
-        RowTest::Plain => {
-            back || goes_out(spans, index, edge) || row_holds(spans, index, tables, exit, edge)
-        }
-        RowTest::Round => !back || row_holds(spans, index, tables, exit, edge),
-        RowTest::Leave => {
-            back || !goes_out(spans, index, edge) || row_holds(spans, index, tables, exit, edge)
-        }
+        RowTest::Fits => row_fits(weighing, edge),
+        RowTest::Plain => back || goes_out(spans, index, edge) || row_holds(weighing, edge),
+        RowTest::Round => !back || row_holds(weighing, edge),
+        RowTest::Leave => { back || !goes_out(spans, index, edge) || row_holds(weighing, edge) }
     }
 }

@@ -2,12 +2,10 @@
 use Rattle.std.proofs.Common.{◌≡◌, ◌≢◌, ◌∙◌, ℕ, ◌<◌, ◌≤◌, ◌^◌, List, [], ◌∷◌, ◌++◌, length, map, codes, All, suc, ◌+◌, refl, sym, ap, subst, arith, append_assoc, append-nil, length-append, Option, Some, None, IfSome, IsNone, MatchOption, ◌↔◌, true≢false}
 use Rattle.std.specs.List.{AllByRecursion, join_with_byte}
 use Rattle.std.proofs.lemmas.List.Elements.{All-push, recursion_from_All}
-use Rattle.certificate.specs.Words.{AreCalls, Lacks, hex, list_words}
+use Rattle.std.proofs.lemmas.List.{map_push}
+use Rattle.asm_text.specs.Hex.{hex}
+use Rattle.certificate.specs.Words.{AreCalls, Lacks, list_words}
 use Rattle.certificate.proofs.JoinLaws.{join_cut, join_end, join_whole, marked}
-
-map_end : {A B : Type 0} (f : A → B) (xs : List A) (y : A) → map f (xs ++ y ∷ []) ≡ map f xs ++ f y ∷ []
-map_end f [] y = refl
-map_end f (x ∷ xs) y = ap (λ rest. f x ∷ rest) (map_end f xs y)
 
 -- the numbers that are still to be read, and their words
 pub record Ahead (mark : ℕ) (spell : ℕ → List ℕ) (all read : List ℕ) (words : List ℕ) : Type 0 where
@@ -18,7 +16,7 @@ pub record Ahead (mark : ℕ) (spell : ℕ → List ℕ) (all read : List ℕ) (
 
 module _ (mark : ℕ) (spell : ℕ → List ℕ) where
   pub joined_end : (ns : List ℕ) (n : ℕ) → join_with_byte mark (map spell (ns ++ n ∷ [])) ≡ marked mark (map spell ns) ++ spell n
-  joined_end ns n = ap (join_with_byte mark) (map_end spell ns n) ∙ join_end mark (map spell ns) (spell n)
+  joined_end ns n = ap (join_with_byte mark) (map_push spell ns n) ∙ join_end mark (map spell ns) (spell n)
 
   pub marked_end : (ns : List ℕ) (n : ℕ) (rest : List ℕ) → marked mark (map spell ns) ++ (spell n ++ mark ∷ rest) ≡ marked mark (map spell (ns ++ n ∷ [])) ++ rest
   marked_end [] n rest = sym (ap (λ (x : List ℕ). x ++ rest) (append-nil (spell n ++ mark ∷ [])) ∙ append_assoc (spell n) (mark ∷ []) rest)

@@ -121,7 +121,7 @@ cert_follows said spelled =
 
 -- ## Its lines fit
 
-all_append : (xs ys : List Line) → AllByRecursion LineFits xs → AllByRecursion LineFits ys → AllByRecursion LineFits (xs ++ ys)
+pub all_append : (xs ys : List Line) → AllByRecursion LineFits xs → AllByRecursion LineFits ys → AllByRecursion LineFits (xs ++ ys)
 all_append [] ys f g = g
 all_append (x ∷ xs) ys f g = (f.0, all_append xs ys f.1 g)
 

@@ -22,7 +22,7 @@ use Rattle.certificate.specs.Follows.{Reached, follows, reached_by, start}
 use Rattle.certificate.specs.Lines.{CanSpell, Said, cert_lines, cert_text, said_by}
 use Rattle.certificate.specs.Walk.{Nest, follow_all, nest_after}
 use Rattle.certificate.specs.Words.{IsProfile, LineFits, StepFits, ended, text_of}
-use Rattle.certificate.proofs.CertLaws.{cert_fits, cert_follows, one_said, spelled_by}
+use Rattle.certificate.proofs.CertLaws.{all_append, cert_fits, cert_follows, one_said, spelled_by}
 use Rattle.certificate.proofs.FollowLaws.{at, follow-none, follow-on, walk_follows}
 use Rattle.certificate.proofs.ParseLaws.{Ends, stops}
 use Rattle.certificate.proofs.TextLaws.{begins, next_line, no_line, one_text}
@@ -89,10 +89,6 @@ complete_at s.Walk n going = complete_walk n
 complete_at (s.Places last) n going = record { next = l.Stop; more = []; fit = (tt, tt); ends = (at n s.Done, refl, refl) }
 complete_at (s.Instances last) n going = record { next = l.Stop; more = []; fit = (tt, tt); ends = (at n s.Done, refl, refl) }
 complete_at s.Done n going = absurd (going refl)
-
-all_append : (xs ys : List Line) → AllByRecursion LineFits xs → AllByRecursion LineFits ys → AllByRecursion LineFits (xs ++ ys)
-all_append [] ys f g = g
-all_append (x ∷ xs) ys f g = (f.0, all_append xs ys f.1 g)
 
 all_behind : (xs ys : List Line) → AllByRecursion LineFits (xs ++ ys) → AllByRecursion LineFits ys
 all_behind [] ys f = f

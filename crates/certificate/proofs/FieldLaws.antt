@@ -7,7 +7,8 @@ use Rattle.flow_graph.specs.declared.edges.Label.{Label}
 use Rattle.flow_graph.specs.declared.edges.Label.TheVariants.{Skip, Do}
 use Rattle.certificate.specs.declared.walk.To.{To}
 use Rattle.certificate.specs.declared.walk.To.TheVariants.{At, Exit}
-use Rattle.certificate.specs.Words.{AreCalls, Lacks, ToFits, hex, label_words, list_words, to_words}
+use Rattle.asm_text.specs.Hex.{hex}
+use Rattle.certificate.specs.Words.{AreCalls, Lacks, ToFits, label_words, list_words, to_words}
 use Rattle.certificate.proofs.CutLaws.{Lacks-append, Lacks-tested, one_cut}
 use Rattle.certificate.proofs.JoinLaws.{one_join}
 use Rattle.certificate.proofs.NumberLaws.{decimal_is_one, decimal_lacks, hex_is_one, hex_lacks}

@@ -1,13 +1,15 @@
 -- What the spellings of numbers are made of.
-use Rattle.std.proofs.Common.{◌≡◌, ◌∙◌, ℕ, ◌+◌, ◌*◌, ◌/◌, ◌%◌, ◌<◌, ◌^◌, ◌≤◌, Bool, true, cond, List, [], ◌∷◌, ◌++◌, length, Result, Ok, refl, sym, ap, ap₂, subst, arith, zero, suc, inl, inr, append_assoc, eq-eqb, ne_eqb, length-append, take, drop, get_or, take-append-drop, drop-cons, take_all, take-suc, length-take, ◌-◌}
+use Rattle.std.proofs.Common.{◌≡◌, ◌∙◌, ℕ, ◌+◌, ◌*◌, ◌/◌, ◌%◌, ◌<◌, ◌^◌, ◌≤◌, true, List, [], ◌∷◌, ◌++◌, length, Result, Ok, refl, sym, ap, ap₂, subst, arith, zero, suc, inl, inr, append_assoc, length-append, take, drop, get_or, take-append-drop, drop-cons, take_all, take-suc, length-take, ◌-◌}
 use Rattle.std.specs.Char.{digit_value}
 use Rattle.std.specs.Str.{IsUtf8}
 use Rattle.std.specs.Str.Parse.{AllDigits, IsNumeral, digits_value}
-use Rattle.std.specs.Fmt.{decimal, digits, digits_onto, digit_glyph}
+use Rattle.std.specs.Fmt.{decimal, digit_glyph}
 use Rattle.std.proofs.lemmas.Bool.{cases_lt}
 use Rattle.std.proofs.lemmas.Fmt.{digits_is_IsNumeral, decimal_injective, decimal_is_IsNumeral, hex_one_digit, IsAscii-decimal}
 use Rattle.std.proofs.lemmas.Str.{IsUtf8-from_ascii}
-use Rattle.certificate.specs.Words.{Lacks, hex}
+use Rattle.asm_text.specs.Hex.{hex}
+use Rattle.asm_text.proofs.HexLaws.{hex_step}
+use Rattle.certificate.specs.Words.{Lacks}
 
 pub decimal-IsUtf8 : (n : ℕ) → n < 2 ^ 63 → IsUtf8 (decimal n)
 decimal-IsUtf8 n h = IsUtf8-from_ascii (decimal n) (IsAscii-decimal n (omega arith))
@@ -40,53 +42,12 @@ hex_is_one m n a b e = sym (hex_is_IsNumeral m a).1 ∙ ap (digits_value 16) e �
 
 -- ## Hex, digit by digit
 
-abbrev glyph : ℕ → ℕ
-glyph d = digit_glyph true d
-
-abbrev spell : ℕ → ℕ → List ℕ → List ℕ
-spell k n acc = digits_onto k 16 true n acc
-
-spell_all : (n : ℕ) → spell 64 n [] ≡ hex n
-unfolding digits
-spell_all n = refl
-
-spell_last : (k n : ℕ) (acc : List ℕ) → n < 16 → spell (suc k) n acc ≡ glyph (n % 16) ∷ acc
-spell_last k n acc h = ap (λ (t : Bool). cond t (glyph (n % 16) ∷ acc) (spell k (n / 16) (glyph (n % 16) ∷ acc))) (eq-eqb (n / 16) 0 (omega arith))
-
-spell_next : (k n : ℕ) (acc : List ℕ) → 16 ≤ n → spell (suc k) n acc ≡ spell k (n / 16) (glyph (n % 16) ∷ acc)
-spell_next k n acc h = ap (λ (t : Bool). cond t (glyph (n % 16) ∷ acc) (spell k (n / 16) (glyph (n % 16) ∷ acc))) (ne_eqb (n / 16) 0 (λ e. omega arith))
-
-spell-append : (k n : ℕ) (acc : List ℕ) → spell k n acc ≡ spell k n [] ++ acc
-spell-append zero n acc = refl
-spell-append (suc k) n acc =
-    elim (cases_lt n 16) [
-      | inl lt ↦ spell_last k n acc lt ∙ ap (λ (x : List ℕ). x ++ acc) (sym (spell_last k n [] lt))
-      | inr le ↦
-          spell_next k n acc le ∙ spell-append k (n / 16) (glyph (n % 16) ∷ acc) ∙ sym (append_assoc (spell k (n / 16) []) (glyph (n % 16) ∷ []) acc)
-          ∙ ap (λ (x : List ℕ). x ++ acc) (sym (spell_next k n [] le ∙ spell-append k (n / 16) (glyph (n % 16) ∷ [])))
-    ]
-
--- how many digits are allowed does not matter where there are enough
-spell_enough : (j k n : ℕ) (acc : List ℕ) → n < 16 ^ suc j → n < 16 ^ suc k → spell (suc j) n acc ≡ spell (suc k) n acc
-spell_enough zero k n acc p q = spell_last zero n acc (omega arith) ∙ sym (spell_last k n acc (omega arith))
-spell_enough (suc j) zero n acc p q = spell_last (suc j) n acc (omega arith) ∙ sym (spell_last zero n acc (omega arith))
-spell_enough (suc j) (suc k) n acc p q =
-    elim (cases_lt n 16) [
-      | inl lt ↦ spell_last (suc j) n acc lt ∙ sym (spell_last (suc k) n acc lt)
-      | inr le ↦ spell_next (suc j) n acc le ∙ spell_enough j k (n / 16) (glyph (n % 16) ∷ acc) (omega arith) (omega arith) ∙ sym (spell_next (suc k) n acc le)
-    ]
-
-pub hex_step : (n : ℕ) → 16 ≤ n → n < 2 ^ 32 → hex n ≡ hex (n / 16) ++ (glyph (n % 16) ∷ [])
-hex_step n h small =
-    sym (spell_all n) ∙ spell_next 63 n [] h ∙ spell_enough 62 63 (n / 16) (glyph (n % 16) ∷ []) (omega arith) (omega arith)
-    ∙ spell-append 64 (n / 16) (glyph (n % 16) ∷ []) ∙ ap (λ (x : List ℕ). x ++ (glyph (n % 16) ∷ [])) (spell_all (n / 16))
-
 -- a digit more
-pub hex_more : (n d : ℕ) → 0 < n → n < 2 ^ 22 → d < 16 → hex (n * 16 + d) ≡ hex n ++ (glyph d ∷ [])
+pub hex_more : (n d : ℕ) → 0 < n → n < 2 ^ 22 → d < 16 → hex (n * 16 + d) ≡ hex n ++ (digit_glyph true d ∷ [])
 hex_more n d some small digit =
     let front : (n * 16 + d) / 16 ≡ n = omega arith in
     let last : (n * 16 + d) % 16 ≡ d = omega arith in
-    hex_step (n * 16 + d) (omega arith) (omega arith) ∙ ap₂ (λ (a b : ℕ). hex a ++ (glyph b ∷ [])) front last
+    hex_step (n * 16 + d) (omega arith) (omega arith) ∙ ap₂ (λ (a b : ℕ). hex a ++ (digit_glyph true b ∷ [])) front last
 
 -- ## A number that goes on
 
@@ -130,14 +91,14 @@ hex_front (suc k) m n b bs le p q e =
       | inr big ↦ by (λ front le small same. hex_front k (m / 16) n b front le small q same) bs (sym (hex_step m big (omega arith)) ∙ e) big
     ]
   where
-    by : ((front : List ℕ) → m / 16 ≤ k → m / 16 < 2 ^ 26 → hex (m / 16) ≡ hex n ++ b ∷ front → GoesOn (m / 16) n b) → (cs : List ℕ) → hex (m / 16) ++ (glyph (m % 16) ∷ []) ≡ hex n ++ b ∷ cs → 16 ≤ m → GoesOn m n b
+    by : ((front : List ℕ) → m / 16 ≤ k → m / 16 < 2 ^ 26 → hex (m / 16) ≡ hex n ++ b ∷ front → GoesOn (m / 16) n b) → (cs : List ℕ) → hex (m / 16) ++ (digit_glyph true (m % 16) ∷ []) ≡ hex n ++ b ∷ cs → 16 ≤ m → GoesOn m n b
     by again [] f big =
-        let parts = one_end (hex (m / 16)) (hex n) (glyph (m % 16)) b f in
+        let parts = one_end (hex (m / 16)) (hex n) (digit_glyph true (m % 16)) b f in
         let same : m / 16 ≡ n = hex_is_one (m / 16) n (omega arith) q parts.0 in
         record { some = omega (arith, same); small = omega (arith, same); digit = m % 16; digit_small = omega arith; byte_is = sym parts.1 }
     by again (c ∷ cs) f big =
         let view = snoc_view c cs in
-        let parts = one_end (hex (m / 16)) (hex n ++ b ∷ view.0) (glyph (m % 16)) view.1
+        let parts = one_end (hex (m / 16)) (hex n ++ b ∷ view.0) (digit_glyph true (m % 16)) view.1
         (f ∙ ap (λ (x : List ℕ). hex n ++ b ∷ x) view.2 ∙ sym (append_assoc (hex n) (b ∷ view.0) (view.1 ∷ []))) in
         let deeper = again view.0 (omega arith) (omega arith) parts.0 in
         record { some = deeper.some; small = omega (arith, deeper.small); digit = deeper.digit; digit_small = deeper.digit_small; byte_is = deeper.byte_is }
@@ -169,7 +130,7 @@ hex_starts (suc k) n le small =
           record {
             digit = deeper.digit;
             small = deeper.small;
-            is = ap (λ (x : List ℕ). get_or x 0 0) (hex_step n big (omega arith)) ∙ first_of_front (hex (n / 16)) (glyph (n % 16) ∷ []) (hex_some (n / 16) (omega arith)) ∙ deeper.is;
+            is = ap (λ (x : List ℕ). get_or x 0 0) (hex_step n big (omega arith)) ∙ first_of_front (hex (n / 16)) (digit_glyph true (n % 16) ∷ []) (hex_some (n / 16) (omega arith)) ∙ deeper.is;
           }
     ]
 

@@ -1,10 +1,11 @@
 -- What the lines that are read say of the text.
-use Rattle.std.proofs.Common.{◌≡◌, ◌∙◌, ℕ, ◌+◌, List, [], ◌∷◌, ◌++◌, Some, None, length, sym, ap, subst, append_assoc, length-append}
+use Rattle.std.proofs.Common.{◌≡◌, ◌≢◌, ◌∙◌, ℕ, ◌+◌, List, [], ◌∷◌, ◌++◌, Some, None, length, sym, ap, subst, append_assoc, length-append}
 use Rattle.std.specs.List.{AllByRecursion}
+use Rattle.certificate.specs.declared.draft.Stage.TheVariants as s
 use Rattle.certificate.specs.declared.line.Line.{Line}
-use Rattle.certificate.specs.Faults.{Follow}
+use Rattle.certificate.specs.Faults.{Follow, StopsAt}
 use Rattle.certificate.specs.Follows.{Reached, follows, start}
-use Rattle.certificate.specs.Words.{LineFits, ended, line_words, text_of}
+use Rattle.certificate.specs.Words.{Lacks, LineFits, ended, line_words, text_of}
 use Rattle.certificate.proofs.FollowLaws.{follow-end}
 use Rattle.certificate.proofs.TextLaws.{one_line}
 use Rattle.certificate.proofs.WalkLaws.{flat_map-end}
@@ -41,3 +42,20 @@ front_grows text lines longer to next rest words after x e follow cut is fits go
 -- a line that may not follow has no other reading
 pub no_other : (to : Reached) (words : List ℕ) (x : Line) → LineFits x → words ≡ line_words x → follows to x ≡ None → (y : Line) → LineFits y → words ≡ line_words y → follows to y ≡ None
 no_other to words x fits is none y other same = ap (follows to) (one_line y x other fits (sym same ∙ is)) ∙ none
+
+-- the line that is cut off next does not follow
+pub stops_at : (text : List ℕ) (n : ℕ) (lines : List Line) (to : Reached) (rest words after : List ℕ) → Follow lines to
+    → to.stage ≢ s.Done → text ≡ text_of lines ++ rest → rest ≡ words ++ 10 ∷ after → Lacks 10 words
+    → n ≡ length lines + 1 → ((l : Line) → LineFits l → words ≡ line_words l → follows to l ≡ None) → StopsAt text n
+stops_at text n lines to rest words after follow going e cut within counted misfit = record {
+  lines = lines;
+  to = to;
+  follow = follow;
+  going = going;
+  words = words;
+  rest = after;
+  text_is = cut_off text lines rest words after e cut;
+  within = within;
+  counted = counted;
+  misfit = misfit;
+}

@@ -14,7 +14,8 @@ use Rattle.certificate.specs.declared.line.WalkLine.{WalkLine}
 use Rattle.certificate.specs.declared.line.WalkLine.TheVariants as w
 use Rattle.certificate.specs.declared.line.Line.{Line}
 use Rattle.certificate.specs.declared.line.Line.TheVariants as l
-use Rattle.certificate.specs.Words.{InstanceFits, Lacks, LineFits, PlaceFits, StepFits, WalkFits, ended, hex, instance_words, label_words, line_words, list_words, place_words, step_words, text_of, title_words, to_words, walk_words}
+use Rattle.asm_text.specs.Hex.{hex}
+use Rattle.certificate.specs.Words.{InstanceFits, Lacks, LineFits, PlaceFits, StepFits, WalkFits, ended, instance_words, label_words, line_words, list_words, place_words, step_words, text_of, title_words, to_words, walk_words}
 use Rattle.certificate.proofs.CutLaws.{Lacks-append, Lacks-middle, Lacks-tested, one_cut}
 use Rattle.certificate.proofs.FieldLaws.{decimal-end, decimal_first, hex-end, hex_first, joined_lacks, label_first, list-end, list_first, to-end, to_first}
 use Rattle.certificate.proofs.NumberLaws.{decimal_is_one}

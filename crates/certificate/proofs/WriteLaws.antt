@@ -7,6 +7,7 @@ use Rattle.std.specs.List.{flat_map, join_with_byte}
 use Rattle.std.specs.Fmt.{decimal}
 use Rattle.std.specs.declared.alloc.Global.{Global}
 use Rattle.std.specs.Cmp.Lexicographic.{pointwise}
+use Rattle.std.proofs.lemmas.Grind.{flat_map-append}
 use Rattle.bus_ticks.specs.Numbers.{profile_one}
 use Rattle.flow_graph.specs.declared.edges.Edge.{Edge}
 use Rattle.longest_walk.specs.declared.folded.Item.{Item}
@@ -21,13 +22,10 @@ use Rattle.certificate.specs.declared.line.Line.{Line}
 use Rattle.certificate.specs.declared.line.Line.TheVariants as l
 use Rattle.certificate.specs.Lines.{Said, cert_text, head_lines}
 use Rattle.certificate.specs.Walk.{item_lines, item_step, repeated_lines, step_of, walk_lines}
-use Rattle.certificate.specs.Words.{ended, hex, instance_words, line_words, list_words, place_words, step_words, text_of, walk_words}
+use Rattle.asm_text.specs.Hex.{hex}
+use Rattle.certificate.specs.Words.{ended, instance_words, line_words, list_words, place_words, step_words, text_of, walk_words}
 use Rattle.certificate.specs.Written.{head_text, instances_text, places_text, walk_text}
 use Rattle.certificate.proofs.WalkLaws.{flat_map-joined}
-
-pub flat_map-append : {A B : Type 0} (f : A → List B) (xs ys : List A) → flat_map f (xs ++ ys) ≡ flat_map f xs ++ flat_map f ys
-flat_map-append f [] ys = refl
-flat_map-append f (x ∷ xs) ys = ap (λ rest. f x ++ rest) (flat_map-append f xs ys) ∙ sym (append_assoc (f x) (flat_map f xs) (flat_map f ys))
 
 -- ## The walk
 

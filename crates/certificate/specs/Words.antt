@@ -1,8 +1,9 @@
 -- How the lines of a certificate are spelled.
-use Rattle.std.specs.Prelude.{◌≡◌, ◌≢◌, ℕ, ◌<◌, ◌≤◌, ◌^◌, List, [], ◌∷◌, ◌++◌, length, map, true, codes}
+use Rattle.std.specs.Prelude.{◌≡◌, ◌≢◌, ℕ, ◌<◌, ◌≤◌, ◌^◌, List, [], ◌∷◌, ◌++◌, length, map, codes}
 use Rattle.std.specs.Prelude.{slice_index, All, ⊤}
-use Rattle.std.specs.Fmt.{decimal, digits}
+use Rattle.std.specs.Fmt.{decimal}
 use Rattle.std.specs.List.{flat_map, join_with_byte}
+use Rattle.asm_text.specs.Hex.{hex}
 use Rattle.bus_ticks.specs.Numbers.{profile_one}
 use Rattle.bus_ticks.specs.Ranges.{AreInRange, AreOrdered}
 use Rattle.flow_graph.specs.declared.edges.Label.{Label}
@@ -23,10 +24,6 @@ use Rattle.certificate.specs.declared.line.Line.TheVariants as l
 -- no such byte stands among these
 abbrev pub Lacks : ℕ → List ℕ → Type 0
 Lacks mark bytes = (k : ℕ) → k < length bytes → slice_index bytes k ≢ mark
-
--- upper-case hex without leading zeros
-abbrev pub hex : ℕ → List ℕ
-hex n = digits 16 true n
 
 -- ## Fields
 

@@ -1,11 +1,12 @@
 ghost use Rattle.std.specs.Prelude.{◌≡◌, ◌<◌, ◌^◌, ◌∷◌, ◌++◌, ℕ, List, MatchOption};
 ghost use Rattle.std.specs.Fmt.{decimal};
-ghost use Rattle.certificate.specs.Words.{AreCalls, ToFits, hex, label_words, list_words, to_words};
+ghost use Rattle.asm_text.specs.Hex.{hex};
+ghost use Rattle.certificate.specs.Words.{AreCalls, ToFits, label_words, list_words, to_words};
 ghost use Rattle.certificate.specs.declared.walk.To.{To};
 ghost use Rattle.flow_graph.specs.declared.edges.Label.{Label};
 
-use crate::cuts::{behind, cut_at};
 use crate::numbers::{decimal_at, hex_at};
+use crate::splitting::{behind, cut_at};
 use crate::walk::To;
 use flow_graph::{Calls, Label};
 

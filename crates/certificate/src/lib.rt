@@ -3,7 +3,6 @@
 #![tactic(auto)]
 
 mod cert;
-mod cuts;
 mod draft;
 mod fault;
 mod fields;
@@ -13,6 +12,7 @@ mod line_reading;
 mod numbers;
 mod open_walk;
 mod reading;
+mod splitting;
 mod walk;
 mod writing;
 

@@ -13,10 +13,10 @@ ghost use Rattle.certificate.specs.declared.walk.StepLine.{StepLine};
 ghost use Rattle.longest_walk.specs.declared.rows.PlaceRow.{PlaceRow};
 ghost use Rattle.longest_walk.specs.declared.rows.InstanceRow.{InstanceRow};
 
-use crate::cuts::{behind, cut_at};
 use crate::fields::{address_first, calls_at, label_first, number_first, to_first};
 use crate::line::{Line, Version, WalkLine};
 use crate::numbers::decimal_at;
+use crate::splitting::{behind, cut_at};
 use crate::walk::StepLine;
 use bus_ticks::Profile;
 use longest_walk::{InstanceRow, PlaceRow};

@@ -1,6 +1,6 @@
-ghost use Rattle.std.specs.Prelude.{◌≡◌, ◌<◌, ◌^◌, ℕ, true, MatchOption};
-ghost use Rattle.std.specs.Fmt.{decimal, digit_glyph};
-ghost use Rattle.certificate.specs.Words.{hex};
+ghost use Rattle.std.specs.Prelude.{◌≡◌, ◌<◌, ◌^◌, ℕ, MatchOption};
+ghost use Rattle.std.specs.Fmt.{decimal};
+ghost use Rattle.asm_text.specs.Hex.{hex, hex_digit};
 
 use itoa::Buffer;
 
@@ -36,8 +36,8 @@ pub(crate) fn decimal_at(word: &[u8]) -> Option<u64>
 
 /// The value of an upper-case hex digit.
 fn digit_at(byte: u8) -> Option<u32>
-    ensures { MatchOption result ((d : ℕ) → d < 16 → byte ≡ digit_glyph true d → ⊥)
-        (λ d. (d < 16) × (byte ≡ digit_glyph true d)) }
+    ensures { MatchOption result ((d : ℕ) → d < 16 → byte ≡ hex_digit d → ⊥)
+        (λ d. (d < 16) × (byte ≡ hex_digit d)) }
 {
     match byte {
         b'0'..=b'9' => Some(u32::from(byte - b'0')),

@@ -4,10 +4,10 @@ ghost use Rattle.certificate.specs.Faults.{StopsShort};
 ghost use Rattle.certificate.specs.Lines.{CanSpell, Said, cert_text, said_by};
 
 use crate::cert::Cert;
-use crate::cuts::cut_at;
 use crate::draft::Draft;
 use crate::fault::CertFault;
 use crate::line_reading::line_of;
+use crate::splitting::cut_at;
 use std::alloc::Global;
 
 fn read_lines(alloc: Global, text: &[u8]) -> Result<Cert, CertFault>

@@ -46,11 +46,11 @@ impl Model for CertWalk {
     ghost use Rattle.std.specs.Prelude.{List};
     ghost use Rattle.std.specs.Coded.{codes};
     ghost use Rattle.certificate.specs.declared.walk.CertItem.{CertItem};
-    ghost use Rattle.certificate.specs.contracts.walk.CertItem as item;
+    ghost use Rattle.certificate.specs.contracts.walk.CertItem.{the_row};
 
     ghost Value = { List CertItem };
 
-    ghost coded = { Prim.hlevel (codes, item.the_row.coded) };
+    ghost coded = { Prim.hlevel (codes, the_row.coded) };
 
     ghost view = { λ walk. walk.list.items };
 }

@@ -9,7 +9,7 @@ use Rattle.std.proofs.lemmas.Slice.Eq.{bytes_eq-Decides}
 use Rattle.bitflags.specs.Sets.{Row, find_name, find_row}
 use Rattle.ioc.specs.declared.lines.Lines.{Lines}
 use Rattle.trace_text.proofs.AsciiLaws.{ascii_utf8}
-use Rattle.debugger.specs.Commands.{line_named, line_names}
+use Rattle.ioc.specs.LineNames.{line_named, line_names}
 
 abbrev is_plain : List ℕ → Bool
 is_plain text = list_all (λ b. nat_lt b 128) text

@@ -18,6 +18,7 @@ use Rattle.trace_text.specs.TraceText.{Goes, IsTraceLine, TracesRun, traced_word
 use Rattle.debugger.specs.declared.stepping.Keep.{Keep}
 use Rattle.debugger.specs.declared.stepping.Keep.TheVariants.{All, Last}
 use Rattle.debugger.specs.Watching.{EndsAt, UpTo, Watches, all_lines, inputs_of, is_break, kept, kept_line}
+use Rattle.debugger.specs.SessionState.{SessionState}
 use Rattle.debugger.specs.Answers.{RunsFirst}
 
 -- ---- what has run, whatever follows
@@ -358,3 +359,8 @@ still breaks s i (suc n) lines ran after some (traced, next, step, word, on) non
     (λ (line, is_line, later, more, lines_are, ran_is, up). counts ran more s.profile.burst i traced.told
     ran_is none) on in
     (at_end.0, (traced.told, next, step, at_end.1))
+
+-- a session, by its machine
+abbrev pub session_on : (breaks : List ℕ) (next : Input) (ticks elapsed : ℕ) → State → SessionState
+session_on breaks next ticks elapsed machine =
+    record { machine = machine; breaks = breaks; next = next; ticks = ticks; elapsed = elapsed }

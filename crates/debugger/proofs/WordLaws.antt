@@ -2,8 +2,8 @@
 use Rattle.std.proofs.Common.{◌≡◌, ◌∙◌, ℕ, suc, ◌+◌, ◌<◌, Bool, true, false, not, List, [], ◌∷◌, length, take}
 use Rattle.std.proofs.Common.{drop, refl, ap, subst, inl, inr, arith}
 use Rattle.std.specs.List.{prefix_len}
+use Rattle.std.proofs.lemmas.Bool.{cases_Bool, not-true}
 use Rattle.asm_text.specs.Pieces.{is_blank}
-use Rattle.asm_text.proofs.PieceLaws.{cases}
 use Rattle.debugger.specs.Words.{joined, starts_word, words_of}
 
 abbrev no_blank : ℕ → Bool
@@ -25,7 +25,7 @@ words_none = refl
 -- blanks in front say nothing
 pub words_skip : (text : List ℕ) → words_of text ≡ words_of (drop (prefix_len is_blank text) text)
 words_skip [] = refl
-words_skip (b ∷ bs) = elim (cases (is_blank b)) [
+words_skip (b ∷ bs) = elim (cases_Bool (is_blank b)) [
   | inl h ↦ let m : 1 + prefix_len is_blank bs ≡ suc (prefix_len is_blank bs) =
       omega arith in rw (h, m) (blank_step b bs h ∙ words_skip bs)
   | inr h ↦ rw h refl
@@ -35,7 +35,7 @@ words_skip (b ∷ bs) = elim (cases (is_blank b)) [
 pub starts_behind : (text : List ℕ) → 0 < length (drop (prefix_len is_blank text) text)
     → starts_word (drop (prefix_len is_blank text) text) ≡ true
 starts_behind [] some = absurd (omega arith)
-starts_behind (b ∷ bs) some = elim (cases (is_blank b)) [
+starts_behind (b ∷ bs) some = elim (cases_Bool (is_blank b)) [
   | inl h ↦
       let m : 1 + prefix_len is_blank bs ≡ suc (prefix_len is_blank bs) = omega arith in
       let same : drop (prefix_len is_blank (b ∷ bs)) (b ∷ bs) ≡ drop (prefix_len is_blank bs) bs =
@@ -43,10 +43,6 @@ starts_behind (b ∷ bs) some = elim (cases (is_blank b)) [
       ap starts_word same ∙ starts_behind bs (subst (λ (t : List ℕ). 0 < length t) same some)
   | inr h ↦ rw (h, h) refl
 ]
-
-other : (t : Bool) → not t ≡ true → t ≡ false
-other true h = absurd cc
-other false h = refl
 
 abbrev IsFront : List ℕ → Type 0
 IsFront text =
@@ -72,12 +68,12 @@ front_ends b c bs e f =
 pub words_take : (text : List ℕ) → starts_word text ≡ true → IsFront text
 words_take [] h = absurd cc
 words_take (b ∷ []) h =
-    let e : is_blank b ≡ false = other (is_blank b) h in
+    let e : is_blank b ≡ false = not-true (is_blank b) h in
     let len : prefix_len no_blank (b ∷ []) ≡ 1 = rw e refl in
     rw len (word_step b [] e)
 words_take (b ∷ c ∷ bs) h =
-    let e : is_blank b ≡ false = other (is_blank b) h in
-    elim (cases (is_blank c)) [
+    let e : is_blank b ≡ false = not-true (is_blank b) h in
+    elim (cases_Bool (is_blank c)) [
       | inl f ↦ front_ends b c bs e f
       | inr f ↦ front_more b c bs e f (words_take (c ∷ bs) (ap not f))
     ]

@@ -12,7 +12,8 @@ use Rattle.arm2_exec.specs.State.{State}
 use Rattle.arm2_exec.specs.Step.{Step as MachineStep, fetched_at}
 use Rattle.arm2_exec.specs.Run.{Runs, why_stopped}
 use Rattle.assembler.specs.ShownLines.{IsShown}
-use Rattle.trace_text.specs.TraceText.{TracesRun, hex8, registers_text, ticks_text}
+use Rattle.asm_text.specs.Hex.{hex8}
+use Rattle.trace_text.specs.TraceText.{TracesRun, registers_text, ticks_text}
 use Rattle.debugger.specs.declared.command.Command.{Command}
 use Rattle.debugger.specs.declared.command.Command.TheVariants.{Step, Run, ListBreaks, Break, Regs, Mem, Dis}
 use Rattle.debugger.specs.declared.command.Command.TheVariants.{Ticks, Burst, Line, Port}

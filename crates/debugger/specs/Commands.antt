@@ -1,8 +1,8 @@
 -- The commands of a session and how a line says them.
 use Rattle.std.specs.Prelude.{◌==◌, ◌&&◌, ◌+◌, ◌-◌, ◌*◌, ◌%◌, ◌^◌, ◌≤◌, nat_le, ℕ, Bool, true, false, List}
-use Rattle.std.specs.Prelude.{[], ◌∷◌, codes, Option, Some, None, Result, Ok, Err, if◌then◌else◌, option_map}
+use Rattle.std.specs.Prelude.{[], ◌∷◌, codes, Option, Some, None, Result, Ok, Err, if◌then◌else◌}
 use Rattle.std.specs.Str.{bytes_eq}
-use Rattle.bitflags.specs.Sets.{find_name}
+use Rattle.ioc.specs.LineNames.{line_named}
 use Rattle.ioc.specs.declared.lines.Lines.{Lines}
 use Rattle.debugger.specs.declared.command.Command.{Command}
 use Rattle.debugger.specs.declared.command.Command.TheVariants.{Step, Run, ListBreaks, Break, Regs, Mem, Dis}
@@ -32,17 +32,7 @@ abbrev pub given : Result ℕ DebugFault → (ℕ → Command) → Result Comman
 given (Ok n) command = Ok (command n)
 given (Err fault) command = Err fault
 
--- ---- the names of the interrupt lines, those of machine files, each with its bit
-
-abbrev pub line_names : List (List ℕ × ℕ)
-line_names =
-    (codes "A0", 0x1) ∷ (codes "A1", 0x2) ∷ (codes "A2", 0x4) ∷ (codes "IL0", 0x100) ∷ (codes "B1", 0x200)
-    ∷ (codes "B2", 0x400) ∷ (codes "B3", 0x800) ∷ (codes "B4", 0x1000) ∷ (codes "B5", 0x2000)
-    ∷ (codes "B6", 0x4000) ∷ (codes "B7", 0x8000) ∷ (codes "F0", 0x10000) ∷ (codes "F1", 0x20000)
-    ∷ (codes "F2", 0x40000) ∷ (codes "F3", 0x80000) ∷ (codes "F4", 0x100000) ∷ (codes "F5", 0x200000) ∷ []
-
-abbrev pub line_named : List ℕ → Option Lines
-line_named name = option_map (λ bits. record { 0 = bits }) (find_name line_names name)
+-- ---- interrupt lines, by their names
 
 abbrev pub switched : Option Lines → (on : Bool) → Result Command DebugFault
 switched (Some line) on = Ok (Line line on)

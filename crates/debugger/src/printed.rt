@@ -2,7 +2,8 @@
 
 ghost use Rattle.std.specs.Prelude.{◌≡◌, ◌++◌, ◌+◌, ◌≤◌, length, vec_capacity};
 ghost use Rattle.assembler.specs.ShownLines.{IsShown};
-ghost use Rattle.trace_text.specs.TraceText.{Adds, hex8};
+ghost use Rattle.asm_text.specs.Hex.{hex8};
+ghost use Rattle.trace_text.specs.TraceText.{Adds};
 
 use assembler::disassemble;
 use trace_text::hex_word;

@@ -1,6 +1,7 @@
 ghost use Rattle.std.specs.Prelude.{◌≡◌, ◌+◌, ◌*◌, ◌^◌, ◌≤◌, IfOk};
 ghost use Rattle.debugger.specs.Commands.{IsInRange, address_in, command_of, line_command};
-ghost use Rattle.debugger.specs.Commands.{line_named, number_in, one_word};
+ghost use Rattle.debugger.specs.Commands.{number_in, one_word};
+ghost use Rattle.ioc.specs.LineNames.{line_named};
 ghost use Rattle.debugger.specs.Commands.{switched, three_words, two_words};
 
 use crate::command::Command;

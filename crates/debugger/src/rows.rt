@@ -1,5 +1,6 @@
 ghost use Rattle.std.specs.Prelude.{◌≡◌, ◌+◌, ◌*◌, ◌^◌, ◌≤◌, ◌++◌, codes, length, vec_capacity};
-ghost use Rattle.trace_text.specs.TraceText.{Adds, hex8};
+ghost use Rattle.asm_text.specs.Hex.{hex8};
+ghost use Rattle.trace_text.specs.TraceText.{Adds};
 ghost use Rattle.debugger.specs.Answers.{IsLineRow, IsRowOf, IsWordRow, Rows, breaks_text};
 
 use crate::printed::{put, put_hex, put_shown};

@@ -12,7 +12,7 @@ use crate::command::Command;
 use crate::fault::DebugFault;
 use crate::reading::read_command;
 use crate::rows::{ROW_ROOM, Row, put_breaks, put_rows};
-use crate::stepping::{Keep, run_watched};
+use crate::stepping::{Keep, Watch, run_watched};
 use arm2_exec::{Input, Machine, Ran};
 use arrayvec::ArrayVec;
 use bitflags::Flags;
@@ -146,14 +146,12 @@ impl Session {
         ensures unchanged { OnErr result (self.new ≡ self.old) }
     {
         let mut answer = Vec::with_capacity(alloc, steps as usize * LINE_ROOM)?;
-        let ran = run_watched(
-            &mut answer,
-            &mut self.machine,
-            &[],
-            self.next,
+        let watch = Watch {
+            first: self.next,
             steps,
-            Keep::All,
-        );
+            keep: Keep::All,
+        };
+        let ran = run_watched(&mut answer, &mut self.machine, &[], watch);
         if ran.steps == 0 {
             return Err(DebugFault::MachineStopped);
         }
@@ -171,14 +169,12 @@ impl Session {
     {
         let mut answer = Vec::with_capacity(alloc, LINE_ROOM)?;
         let breaks = self.breaks.as_slice();
-        let ran = run_watched(
-            &mut answer,
-            &mut self.machine,
-            breaks,
-            self.next,
+        let watch = Watch {
+            first: self.next,
             steps,
-            Keep::Last,
-        );
+            keep: Keep::Last,
+        };
+        let ran = run_watched(&mut answer, &mut self.machine, breaks, watch);
         if ran.steps == 0 {
             return Err(DebugFault::MachineStopped);
         }

@@ -14,6 +14,14 @@ pub(crate) enum Keep {
     Last,
 }
 
+/// How a machine is stepped: the inputs of the first step, the most steps, and which lines are kept.
+#[derive(Clone, Copy)]
+pub(crate) struct Watch {
+    pub(crate) first: Input,
+    pub(crate) steps: u32,
+    pub(crate) keep: Keep,
+}
+
 fn is_at_break(breaks: &[u32], machine: &Machine) -> bool
     ensures { result ≡ is_break breaks.now machine.now }
 {
@@ -55,16 +63,14 @@ pub(crate) fn run_watched(
     out: &mut Vec<u8>,
     machine: &mut Machine,
     breaks: &[u32],
-    first: Input,
-    steps: u32,
-    keep: Keep,
+    watch: Watch,
 ) -> Ran
     requires empty { out.old.items ≡ [] }
-    requires room { HasRoom keep 0 steps (vec_capacity out.old) }
-    requires some { 0 < steps }
+    requires room { HasRoom watch.keep 0 watch.steps (vec_capacity out.old) }
+    requires some { 0 < watch.steps }
     ensures { (lines : List (List ℕ))
-        × Watches breaks.now machine.old (inputs_of first steps) lines result machine.new
-        × (out.new.items ≡ kept keep lines) }
+        × Watches breaks.now machine.old (inputs_of watch.first watch.steps) lines result machine.new
+        × (out.new.items ≡ kept watch.keep lines) }
 {
     let mut ran = Ran {
         steps: 0,
@@ -72,15 +78,15 @@ pub(crate) fn run_watched(
         elapsed: 0,
         stopped: None,
     };
-    let mut input = first;
-    for made in 0..steps {
+    let mut input = watch.first;
+    for made in 0..watch.steps {
         let stretched = machine.profile().burst_ticks(input.bursts);
         let traced = step_traced(machine, input);
         if let Kind::Stopped(why) = traced.told.kind {
             ran.stopped = Some(why);
             return ran;
         }
-        put_line(out, keep, &traced);
+        put_line(out, watch.keep, &traced);
         let ticks = u128::from(traced.told.ticks);
         ran.steps += 1;
         ran.ticks += ticks;

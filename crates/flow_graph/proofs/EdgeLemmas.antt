@@ -8,6 +8,7 @@ use Rattle.std.proofs.lemmas.Bool.{ltb-true}
 use Rattle.std.proofs.lemmas.Nat.{mul-le}
 use Rattle.arm2_decode.proofs.Unique.{one_instr, never_both, one_unallocated}
 use Rattle.bus_ticks.proofs.WorstLemmas.{worst_block_small}
+use Rattle.arm2_effect.specs.ProgramCounter.{ahead_of}
 use Rattle.bus_ticks.specs.Prices.{by_class, class_at}
 use Rattle.bus_ticks.specs.Ranges.{IsPrice}
 use Rattle.bus_ticks.specs.Worst.{worst_block, worst_n_price, worst_s_price, worst_rom, worst_leave_of}
@@ -15,7 +16,7 @@ use Rattle.bus_ticks.specs.declared.profile.Class.{Class}
 use Rattle.bus_ticks.specs.declared.profile.Class.TheVariants.{Any, Ram, Rom, Io}
 use Rattle.bus_ticks.specs.declared.profile.Profile.{Profile}
 use Rattle.loader.specs.Image.{Words}
-use Rattle.flow_graph.specs.Edges.{AreEdgesOf, HasAction, IsEdge, arrival_ticks, call_places, do_edge, landing_edges, do_edges, fetch_ticks, places_at, jump_ticks, landings, return_place, skip_edge, skip_edges, stated_landings, branch_target, word_edges, work_ticks, wrapped, writer_landings}
+use Rattle.flow_graph.specs.Edges.{AreEdgesOf, HasAction, IsEdge, arrival_ticks, call_places, do_edge, landing_edges, do_edges, fetch_ticks, places_at, jump_ticks, landings, return_place, skip_edge, skip_edges, stated_landings, branch_target, word_edges, work_ticks, writer_landings}
 use Rattle.flow_graph.specs.Kinds.{IsAction, IsWork, instr_action, is_always, is_never, unallocated_action}
 use Rattle.flow_graph.specs.Places.{IsInRange}
 use Rattle.statement.specs.Stated.{IsStated, IsTarget, Stated, Target, class_of, target_of}
@@ -95,7 +96,7 @@ leave_small p Io = omega (arith, rom_is_price p, p.unfitted_price)
 leave_small p Any = omega (arith, rom_is_price p, p.n_price, p.quad_price, p.unfitted_price)
 
 jumping_small : (leave : Class) (p : Profile) (to : Place) → jump_ticks leave p to < 512
-jumping_small leave p (At calls t) = omega (arith, n_is_price p t, s_is_price p (wrapped (t + 4)))
+jumping_small leave p (At calls t) = omega (arith, n_is_price p t, s_is_price p (ahead_of t 4))
 jumping_small leave p Exit = leave_small p leave
 
 arriving_small : (leave : Class) (p : Profile) (k : Kind) (to : Place) → arrival_ticks leave p k to < 512
@@ -107,9 +108,9 @@ arriving_small leave p Trap to = omega arith
 arriving_small leave p Unallocated to = omega arith
 
 fetching_is_price : (p : Profile) (address : ℕ) (w : Work) → IsPrice (fetch_ticks p address w)
-fetching_is_price p address (Internal cycles) = s_is_price p (wrapped (address + 8))
-fetching_is_price p address (Load words) = s_is_price p (wrapped (address + 8))
-fetching_is_price p address (Store words) = n_is_price p (wrapped (address + 8))
+fetching_is_price p address (Internal cycles) = s_is_price p (ahead_of address 8)
+fetching_is_price p address (Load words) = s_is_price p (ahead_of address 8)
+fetching_is_price p address (Store words) = n_is_price p (ahead_of address 8)
 
 working_small : (p : Profile) (c : Class) (w : Work) → IsWork w → work_ticks p c w < 4400
 working_small p c (Internal cycles) few = omega (arith, mul-le cycles p.internal 16 255 few (omega (arith, p.internal_price)))
@@ -122,8 +123,8 @@ abbrev pub IsSmall : Place → Type 0
 IsSmall (At calls address) = IsInRange calls address
 IsSmall Exit = Unit {0}
 
-wrapped_in_range : (calls : List ℕ) (address n : ℕ) → IsInRange calls address → IsInRange calls (wrapped n)
-wrapped_in_range calls address n h = (omega arith, h.1, h.2)
+ahead_in_range : (calls : List ℕ) (address from by : ℕ) → IsInRange calls address → IsInRange calls (ahead_of from by)
+ahead_in_range calls address from by h = (omega arith, h.1, h.2)
 
 returning_in_range : (calls : List ℕ) (address : ℕ) → IsInRange calls address → IsSmall (return_place calls)
 returning_in_range calls address h =
@@ -131,7 +132,7 @@ returning_in_range calls address h =
     IsSmall
     (eqb (length calls) 0)
     Exit
-    (At (take (length calls - 1) calls) (wrapped (get_or calls (length calls - 1) 0 + 4)))
+    (At (take (length calls - 1) calls) (ahead_of (get_or calls (length calls - 1) 0) 4))
     tt
     (omega arith, let e : length (take (length calls - 1) calls) ≡ length calls - 1 = length-take-le (length calls - 1) calls (omega arith) in omega (arith, h.1), All-take (λ c. c < 2 ^ 26) (length calls - 1) calls h.2)
 
@@ -162,8 +163,8 @@ writer_in_range calls address None h target = one_in_range (return_place calls) 
 writer_in_range calls address (Some t) h target = stated_in_range calls address t.kind t.to h target
 
 landings_in_range : (st : Stated) (calls : List ℕ) (address : ℕ) (k : Kind) → IsStated st → IsInRange calls address → All IsSmall (landings st calls address k)
-landings_in_range st calls address Plain s h = one_in_range (At calls (wrapped (address + 4))) (wrapped_in_range calls address (address + 4) h)
-landings_in_range st calls address (Branch offset) s h = one_in_range (At calls (branch_target address offset)) (wrapped_in_range calls address (address + 8 + 4 * offset) h)
+landings_in_range st calls address Plain s h = one_in_range (At calls (ahead_of address 4)) (ahead_in_range calls address address 4 h)
+landings_in_range st calls address (Branch offset) s h = one_in_range (At calls (branch_target address offset)) (ahead_in_range calls address (address + 8) (4 * offset) h)
 landings_in_range st calls address (Call offset) s h =
     let small : branch_target address offset < 2 ^ 26 = omega arith in
     calling_in_range calls address (branch_target address offset ∷ []) h (All-cons (λ a. a < 2 ^ 26) (branch_target address offset) [] small (All-nil (λ a. a < 2 ^ 26)))
@@ -195,9 +196,9 @@ module _ (st : Stated) (profile : Profile) (calls : List ℕ) (address : ℕ) wh
       []
       (record {
         from = refl;
-        some = (s_is_price profile (wrapped (address + 8))).0;
-        small = omega (arith, s_is_price profile (wrapped (address + 8)));
-        ends = λ s h. wrapped_in_range calls address (address + 4) h;
+        some = (s_is_price profile (ahead_of address 8)).0;
+        small = omega (arith, s_is_price profile (ahead_of address 8));
+        ends = λ s h. ahead_in_range calls address address 4 h;
       })
       none_leaves
 

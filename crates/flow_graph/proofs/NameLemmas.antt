@@ -1,14 +1,15 @@
 -- An edge is fixed by the place that it leaves, its label, and the address that it leads to.
-use Rattle.std.proofs.Common.{◌≡◌, ℕ, ◌+◌, ◌<◌, ◌≤◌, Bool, true, false, cond, List, [], ◌∷◌, ◌++◌, length, get_or, map, nat_lt, Option, Some, None, ◌⊎◌, inl, inr, ⊎_elim, refl, sym, ap, ◌∙◌, subst, arith}
+use Rattle.std.proofs.Common.{◌≡◌, ℕ, ◌<◌, ◌≤◌, Bool, true, false, cond, List, [], ◌∷◌, ◌++◌, length, get_or, map, nat_lt, Option, Some, None, ◌⊎◌, inl, inr, ⊎_elim, refl, sym, ap, ◌∙◌, subst, arith}
 use Rattle.std.specs.Prelude.{Contains, All}
 use Rattle.std.specs.Cmp.{tied_itself}
 use Rattle.std.specs.declared.cmp.Ordering.TheVariants.{Less, Equal}
 use Rattle.std.proofs.lemmas.Bool.{cases_lt}
 use Rattle.std.proofs.lemmas.List.Elements.{All-contains, All-contains_itself, All-map, All-weaker, Contains-append_cases}
 use Rattle.std.proofs.lemmas.Map.Keys.{Less-from_sorted}
+use Rattle.arm2_effect.specs.ProgramCounter.{ahead_of}
 use Rattle.bus_ticks.specs.declared.profile.Profile.{Profile}
 use Rattle.loader.specs.Image.{Words}
-use Rattle.flow_graph.specs.Edges.{AreEdgesOf, call_places, do_edge, places_at, landings, return_place, skip_edge, skip_edges, stated_landings, branch_target, word_edges, wrapped, writer_landings, do_edges}
+use Rattle.flow_graph.specs.Edges.{AreEdgesOf, call_places, do_edge, places_at, landings, return_place, skip_edge, skip_edges, stated_landings, branch_target, word_edges, writer_landings, do_edges}
 use Rattle.flow_graph.specs.Flow.{Flow, HasEdge}
 use Rattle.flow_graph.specs.Graph.{IsFlowGraph}
 use Rattle.flow_graph.specs.Kinds.{is_always, is_never}
@@ -83,7 +84,7 @@ writer_apart calls address None = one_apart (return_place calls)
 writer_apart calls address (Some t) = stated_apart calls address t.kind t.to
 
 landings_apart : (st : Stated) (calls : List ℕ) (address : ℕ) (k : Kind) → AreApart (landings st calls address k)
-landings_apart st calls address Plain = one_apart (At calls (wrapped (address + 4)))
+landings_apart st calls address Plain = one_apart (At calls (ahead_of address 4))
 landings_apart st calls address (Branch offset) = one_apart (At calls (branch_target address offset))
 landings_apart st calls address (Call offset) = calling_apart calls address (branch_target address offset ∷ [])
 landings_apart st calls address Writer = writer_apart calls address (target_of st address)

@@ -18,7 +18,7 @@ by_order_is_place_cmp (At c a) Exit = refl
 by_order_is_place_cmp Exit (At d b) = refl
 by_order_is_place_cmp Exit Exit = refl
 
-by_place : by_order ≡ place_cmp
+pub by_place : by_order ≡ place_cmp
 by_place = λ i x y. by_order_is_place_cmp x y i
 
 pub by_order_total : IsTotalOrder by_order

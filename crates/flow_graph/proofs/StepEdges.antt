@@ -4,6 +4,7 @@ use Rattle.std.specs.Prelude.{Contains}
 use Rattle.std.proofs.lemmas.Bool.{lt-ltb}
 use Rattle.std.proofs.lemmas.Bool.Decides.{eqb_tells}
 use Rattle.std.proofs.lemmas.List.Elements.{Contains-append_cases, Contains-append_left, Contains-append_right}
+use Rattle.arm2_effect.specs.ProgramCounter.{ahead_of}
 use Rattle.bus_ticks.specs.declared.profile.Class.{Class}
 use Rattle.bus_ticks.specs.declared.profile.Class.TheVariants.{Any, Ram, Rom, Io}
 use Rattle.bus_ticks.specs.declared.profile.Profile.{Profile}
@@ -15,7 +16,7 @@ use Rattle.arm2_decode.specs.Conditions.{condition_holds}
 use Rattle.arm2_decode.specs.declared.flags.Flags.{Flags}
 use Rattle.arm2_decode.specs.declared.names.Cond.{Cond}
 use Rattle.arm2_decode.specs.declared.names.Cond.TheVariants as condition
-use Rattle.flow_graph.specs.Edges.{arrival_ticks, call_places, do_edge, landing_edges, do_edges, places_at, jump_ticks, landings, skip_edge, skip_edges, branch_target, word_edges, wrapped, writer_landings}
+use Rattle.flow_graph.specs.Edges.{arrival_ticks, call_places, do_edge, landing_edges, do_edges, places_at, jump_ticks, landings, skip_edge, skip_edges, branch_target, word_edges, writer_landings}
 use Rattle.flow_graph.specs.Kinds.{is_always, is_never, is_writer}
 use Rattle.flow_graph.specs.StepLaw.{IsPlaceOf}
 use Rattle.flow_graph.specs.declared.edges.Edge.{Edge}
@@ -150,7 +151,7 @@ call_lands calls a to few =
     (here (At (calls ++ a ∷ []) to) [])
 
 pub lands : (st : Stated) (p : Profile) (rom : RomTimes) (class : Class) (calls : List ℕ) (a : ℕ) (k : Kind) (t : ℕ) → Reaches p rom class a k t → ((offset : ℕ) → k ≡ kind.Call offset → length calls < 8) → Lands st calls a k t
-lands st p rom class calls a kind.Plain t e few = inl (At calls (wrapped (a + 4)), here (At calls (wrapped (a + 4))) [], sym e)
+lands st p rom class calls a kind.Plain t e few = inl (At calls (ahead_of a 4), here (At calls (ahead_of a 4)) [], sym e)
 lands st p rom class calls a (kind.Branch offset) t e few = inl (At calls (branch_target a offset), here (At calls (branch_target a offset)) [], sym e)
 lands st p rom class calls a (kind.Call offset) t e few = inl (At (calls ++ a ∷ []) (branch_target a offset), call_lands calls a (branch_target a offset) (few offset refl), sym e)
 lands st p rom class calls a kind.Writer t e few = elim (find_place st t (writer_landings calls a (target_of st a))) [ inl w ↦ inl w | inr none ↦ inr (refl, none) ]
@@ -159,10 +160,10 @@ lands st p rom class calls a kind.Unallocated t e few = absurd e
 
 -- ## What a jump costs
 
-jump_arrives : (st : Stated) (p : Profile) (rom : RomTimes) (class : Class) (a : ℕ) (to : Place) (t : ℕ) → t < 2 ^ 26 → IsPlaceOf st t to → n_price p rom t + s_price p rom (wrapped (t + 4)) ≤ jump_ticks st.leave p to
+jump_arrives : (st : Stated) (p : Profile) (rom : RomTimes) (class : Class) (a : ℕ) (to : Place) (t : ℕ) → t < 2 ^ 26 → IsPlaceOf st t to → n_price p rom t + s_price p rom (ahead_of t 4) ≤ jump_ticks st.leave p to
 jump_arrives st p rom class a (At calls x) t small e =
-    subst (λ y. n_price p rom y + s_price p rom (wrapped (y + 4)) ≤ worst_n_price p x + worst_s_price p (wrapped (x + 4))) e
-    (omega (arith, n_most p rom class a x, s_most p rom class a (wrapped (x + 4))))
+    subst (λ y. n_price p rom y + s_price p rom (ahead_of y 4) ≤ worst_n_price p x + worst_s_price p (ahead_of x 4)) e
+    (omega (arith, n_most p rom class a x, s_most p rom class a (ahead_of x 4)))
 jump_arrives st p rom class a Exit t small is =
     (worst_leave_greatest p st.leave (worst_leave_of p st.leave) refl).none_above (record { address = t; rom = rom }) (record { below = small; is_of = is })
 

@@ -26,7 +26,7 @@ use Rattle.arm2_exec.specs.declared.machine.Ran.{Ran}
 use Rattle.arm2_exec.specs.declared.machine.Stepped.{Stepped}
 use Rattle.arm2_exec.specs.Run.{Ends, Runs, at_rest, counted, why_stopped}
 use Rattle.arm2_exec.specs.State.{State}
-use Rattle.arm2_exec.specs.Step.{Obeys, ObeysFetched, Step, Works, address_in, answer_of, fetched, instruction_moved, interrupt_due, state_after, ticks_in, unallocated_moved, with_lines}
+use Rattle.arm2_exec.specs.Step.{Obeys, ObeysFetched, Step, Works, address_in, answer_of, fetched, instruction_moved, interrupt_due, ticks_in, unallocated_moved, with_lines}
 use Rattle.arm2_exec.proofs.StepLemmas.{one_step}
 use Rattle.flow_graph.specs.Edges.{do_ticks, do_edge, passing_ticks, skip_edge, word_edges}
 use Rattle.flow_graph.specs.Flow.{edge_shape}

@@ -5,14 +5,13 @@ use Rattle.bus_ticks.specs.declared.profile.Class.{Class}
 use Rattle.bus_ticks.specs.declared.profile.Profile.{Profile}
 use Rattle.bus_ticks.specs.declared.profile.RomTimes.{RomTimes}
 use Rattle.arm2_decode.specs.Allowed.{bit_of, single_clash, is_bad_base}
-use Rattle.arm2_decode.specs.Names.{register_number}
+use Rattle.arm2_decode.specs.Names.{is_compare, is_pc, register_number}
 use Rattle.arm2_decode.specs.declared.instr.Block.{Block}
 use Rattle.arm2_decode.specs.declared.instr.Branch.{Branch}
 use Rattle.arm2_decode.specs.declared.instr.Multiply.{Multiply}
 use Rattle.arm2_decode.specs.declared.instr.Operation.{Operation}
 use Rattle.arm2_decode.specs.declared.instr.Operation.TheVariants as operation
 use Rattle.arm2_decode.specs.declared.names.Opcode.{Opcode}
-use Rattle.arm2_decode.specs.declared.names.Opcode.TheVariants.{And, Eor, Sub, Rsb, Add, Adc, Sbc, Rsc, Tst, Teq, Cmp, Cmn, Orr, Mov, Bic, Mvn}
 use Rattle.arm2_decode.specs.declared.names.Register.{Register}
 use Rattle.arm2_decode.specs.declared.names.Register.TheVariants.{R15}
 use Rattle.memc.specs.declared.spots.Spot.{Spot}
@@ -26,7 +25,7 @@ use Rattle.arm2_effect.specs.Operations.{branch_effect, compared, cycles_from, c
 use Rattle.arm2_effect.specs.Outcomes as effect
 use Rattle.arm2_effect.specs.ProgramCounter.{address_of, ahead_of, jumped_of, mode_of, psr_of, psr_with, r15_ahead, r15_of, restored_of}
 use Rattle.arm2_transfer.specs.declared.bus.Bus.{Bus}
-use Rattle.arm2_transfer.specs.declared.single.Single.{Single}
+use Rattle.arm2_transfer.specs.declared.single_fields.Single.{Single}
 use Rattle.arm2_transfer.specs.declared.span.Span.{Span}
 use Rattle.arm2_transfer.specs.declared.words.Move.{Move}
 use Rattle.arm2_transfer.specs.declared.words.Trouble.{Trouble}
@@ -34,11 +33,11 @@ use Rattle.arm2_transfer.specs.declared.words.Trouble.TheVariants as trouble
 use Rattle.arm2_transfer.specs.Block.{block_at, block_by, block_carried_out, block_loads, block_moved, block_stores, mode_for, span_of}
 use Rattle.arm2_transfer.specs.Moved.{Moved, on_bus, troubled}
 use Rattle.arm2_transfer.specs.Operations.{operation_moved}
-use Rattle.arm2_transfer.specs.Registers.{is_r15, is_user, moved_by, passed, with_base}
+use Rattle.arm2_transfer.specs.Registers.{is_user, moved_by, passed, with_base}
 use Rattle.arm2_transfer.specs.Single.{address_for, base_after, of_immediate, of_register, single_at, single_by, single_carried_out, single_loaded, single_loads, single_stores, writes_base}
 use Rattle.arm2_transfer.specs.Words.{is_listed, registers_in}
 use Rattle.flow_graph.specs.Edges.{branch_target}
-use Rattle.flow_graph.specs.Kinds.{IsWork, data_kind, is_compare, is_pc, kind_of, lists_pc, transfer, work_of, writer_if}
+use Rattle.flow_graph.specs.Kinds.{IsWork, data_kind, kind_of, lists_pc, transfer, work_of, writer_if}
 use Rattle.flow_graph.specs.StepLaw.{TransfersIn}
 use Rattle.flow_graph.specs.declared.kinds.Kind.{Kind}
 use Rattle.flow_graph.specs.declared.kinds.Kind.TheVariants as kind
@@ -47,24 +46,6 @@ use Rattle.flow_graph.specs.declared.kinds.Work.TheVariants as work
 use Rattle.flow_graph.proofs.StepRegisters.{IsWordAddress, address_ahead, address_jumped, address_put, address_restored, base_stays, goes, loaded_stays, long_with, passed_goes, word_address_ahead, word_address_of}
 use Rattle.flow_graph.proofs.StepTicks.{Costs, branch_costs, call_costs, delayed_costs, jump_costs, load_block, load_costs, store_block, store_costs, straight_costs}
 use Rattle.flow_graph.proofs.StepWords.{AllMoveOther, all_stay, pc_listed, verdict_others, words_are}
-
-same_compares : (o : Opcode) → effect.is_compare o ≡ is_compare o
-same_compares And = refl
-same_compares Eor = refl
-same_compares Sub = refl
-same_compares Rsb = refl
-same_compares Add = refl
-same_compares Adc = refl
-same_compares Sbc = refl
-same_compares Rsc = refl
-same_compares Tst = refl
-same_compares Teq = refl
-same_compares Cmp = refl
-same_compares Cmn = refl
-same_compares Orr = refl
-same_compares Mov = refl
-same_compares Bic = refl
-same_compares Mvn = refl
 
 cycles_few : (left m number : ℕ) → cycles_from left m number ≤ m + left
 unfolding cycles_from
@@ -91,9 +72,9 @@ base_by true false write_back h w = absurd (cc)
 base_by true true true h w = absurd (cc)
 base_by true true false h w = absurd (cc)
 
-base_other : (before byte write_back load : Bool) (rn rd : Register) → single_clash (bit_of before) (bit_of byte) (bit_of write_back) (bit_of load) (register_number rn) (register_number rd) ≡ 0 → (write_back || not before) ≡ true → is_r15 rn ≡ false
+base_other : (before byte write_back load : Bool) (rn rd : Register) → single_clash (bit_of before) (bit_of byte) (bit_of write_back) (bit_of load) (register_number rn) (register_number rd) ≡ 0 → (write_back || not before) ≡ true → is_pc rn ≡ false
 base_other before byte write_back load rn rd h w =
-    base_by (is_r15 rn) before write_back (refused_not (is_bad_base (bit_of before) (bit_of write_back) (register_number rn)) 5 _ h) w
+    base_by (is_pc rn) before write_back (refused_not (is_bad_base (bit_of before) (bit_of write_back) (register_number rn)) 5 _ h) w
 
 words_fit : (load : Bool) (words : ℕ) → IsWork (transfer load words) → (1 ≤ words) × (words ≤ 16)
 words_fit true words h = h
@@ -113,23 +94,23 @@ module _ (p : Profile) (rom : RomTimes) (class : Class) (regs : List ℕ) (long 
   next_address : (psr : ℕ) → address_of (r15_of psr (ahead_of (address_of (r15_in regs)) 4) (mode_of (r15_in regs))) ≡ ahead_of (address_of (r15_in regs)) 4
   next_address psr = address_put psr (ahead_of (address_of (r15_in regs)) 4) (mode_of (r15_in regs)) (word_address_ahead (r15_in regs) 1)
 
-  entered_costs : (sets_flags : Bool) (rd : ℕ) (out : _) → EffectCosts kind.Plain (work.Internal 0) (entered sets_flags rd out regs)
+  entered_costs : (sets_flags : Bool) (rd : Register) (out : _) → EffectCosts kind.Plain (work.Internal 0) (entered sets_flags rd out regs)
   unfolding entered
   entered_costs sets_flags rd out =
       straight_costs p rom class (address_of (r15_in regs)) _
-      (goes (with_register (mode_of (r15_in regs)) rd out.value regs) (next_r15 sets_flags out (r15_in regs)) (ahead_of (address_of (r15_in regs)) 4)
-      (long_with (mode_of (r15_in regs)) rd out.value regs long)
+      (goes (with_register (mode_of (r15_in regs)) (register_number rd) out.value regs) (next_r15 sets_flags out (r15_in regs)) (ahead_of (address_of (r15_in regs)) 4)
+      (long_with (mode_of (r15_in regs)) (register_number rd) out.value regs long)
       (next_address (cond sets_flags (psr_with (effect.flags_after out) (psr_of (r15_in regs))) (psr_of (r15_in regs)))))
 
   either_goes : (b : Bool) (x y t : ℕ) → address_of x ≡ t → address_of y ≡ t → address_of (r15_in (with_r15 (cond b x y) regs)) ≡ t
   either_goes true x y t h k = goes regs x t long h
   either_goes false x y t h k = goes regs y t long k
 
-  compared_costs : (rd : ℕ) (out : _) → EffectCosts kind.Plain (work.Internal 0) (compared rd out regs)
+  compared_costs : (rd : Register) (out : _) → EffectCosts kind.Plain (work.Internal 0) (compared rd out regs)
   unfolding compared
   compared_costs rd out =
       straight_costs p rom class (address_of (r15_in regs)) _
-      (either_goes (rd == 15) (restored_of (r15_in regs) out.value (ahead_of (address_of (r15_in regs)) 4)) (next_r15 true out (r15_in regs)) (ahead_of (address_of (r15_in regs)) 4)
+      (either_goes (is_pc rd) (restored_of (r15_in regs) out.value (ahead_of (address_of (r15_in regs)) 4)) (next_r15 true out (r15_in regs)) (ahead_of (address_of (r15_in regs)) 4)
       (address_restored (r15_in regs) out.value (ahead_of (address_of (r15_in regs)) 4) (word_address_ahead (r15_in regs) 1))
       (next_address (psr_with (effect.flags_after out) (psr_of (r15_in regs)))))
 
@@ -149,19 +130,18 @@ module _ (p : Profile) (rom : RomTimes) (class : Class) (regs : List ℕ) (long 
   placed_by false true c j e hc hj he = hj
   placed_by false false c j e hc hj he = he
 
-  placed_costs : (o : Opcode) (sets_flags : Bool) (rd : Register) (out : _) → EffectCosts (data_kind o rd) (work.Internal 0) (placed o sets_flags (register_number rd) out regs)
+  placed_costs : (o : Opcode) (sets_flags : Bool) (rd : Register) (out : _) → EffectCosts (data_kind o rd) (work.Internal 0) (placed o sets_flags rd out regs)
   unfolding placed
   placed_costs o sets_flags rd out =
-      subst (λ b. EffectCosts (writer_if (is_pc rd && not b)) (work.Internal 0) (placed o sets_flags (register_number rd) out regs)) (same_compares o)
-      (placed_by (effect.is_compare o) (register_number rd == 15) (compared (register_number rd) out regs) (jumped sets_flags out regs) (entered sets_flags (register_number rd) out regs)
-      (compared_costs (register_number rd) out) (jumped_costs sets_flags out) (entered_costs sets_flags (register_number rd) out))
+      placed_by (is_compare o) (is_pc rd) (compared rd out regs) (jumped sets_flags out regs) (entered sets_flags rd out regs)
+      (compared_costs rd out) (jumped_costs sets_flags out) (entered_costs sets_flags rd out)
 
   multiply_costs : (x : Multiply) → EffectCosts kind.Plain (work.Internal 16) (multiply_effect x regs)
   unfolding multiply_effect
   multiply_costs x =
       let number : ℕ = register_in (mode_of (r15_in regs)) (register_number x.rs) regs in
       let few : cycles_from 15 1 number ≤ 1 + 15 = cycles_few 15 1 number in
-      delayed_costs p rom class (address_of (r15_in regs)) (cycles_of number) 16 kind.Plain _ _ (omega arith) (entered_costs x.sets_flags (register_number x.rd) (product_of x regs))
+      delayed_costs p rom class (address_of (r15_in regs)) (cycles_of number) 16 kind.Plain _ _ (omega arith) (entered_costs x.sets_flags x.rd (product_of x regs))
 
   -- ## Branches
 
@@ -201,19 +181,19 @@ module _ (p : Profile) (rom : RomTimes) (class : Class) (regs : List ℕ) (long 
 
   -- ## Single transfers
 
-  base_passed : (x : Single) (base : ℕ) → (writes_base x ≡ true → is_r15 x.rn ≡ false) → address_of (r15_in (base_after x base regs)) ≡ ahead_of (address_of (r15_in regs)) 4
+  base_passed : (x : Single) (base : ℕ) → (writes_base x ≡ true → is_pc x.rn ≡ false) → address_of (r15_in (base_after x base regs)) ≡ ahead_of (address_of (r15_in regs)) 4
   base_passed x base other =
       ap address_of (base_stays (writes_base x) (mode_of (r15_in regs)) x.rn (moved_by x.up base x.offset) (passed regs) other) ∙ passed_goes regs long
 
-  single_loads_cost : (x : Single) (base port : ℕ) (spot : Spot) (bus : Bus) → (writes_base x ≡ true → is_r15 x.rn ≡ false) → address_for x base < 2 ^ 26 →
+  single_loads_cost : (x : Single) (base port : ℕ) (spot : Spot) (bus : Bus) → (writes_base x ≡ true → is_pc x.rn ≡ false) → address_for x base < 2 ^ 26 →
       MovedCosts (writer_if (is_pc x.rd)) (work.Load 1) (single_loads x base port spot regs bus)
   unfolding single_loads single_loaded
   single_loads_cost x base port spot bus other below in_class plain =
-      load_costs p rom class (address_of (r15_in regs)) (address_for x base) 1 (is_r15 x.rd) _ (omega arith) (omega arith)
-      (load_block class rom (address_of (r15_in regs)) (address_for x base) 1 (is_r15 x.rd) _ below in_class)
+      load_costs p rom class (address_of (r15_in regs)) (address_for x base) 1 (is_pc x.rd) _ (omega arith) (omega arith)
+      (load_block class rom (address_of (r15_in regs)) (address_for x base) 1 (is_pc x.rd) _ below in_class)
       (λ stays. ap address_of (loaded_stays false (mode_of (r15_in regs)) (r15_in regs) x.rd _ (base_after x base regs) stays) ∙ base_passed x base other)
 
-  single_stores_cost : (x : Single) (base : ℕ) (spot : Spot) (bus : Bus) → (writes_base x ≡ true → is_r15 x.rn ≡ false) → address_for x base < 2 ^ 26 →
+  single_stores_cost : (x : Single) (base : ℕ) (spot : Spot) (bus : Bus) → (writes_base x ≡ true → is_pc x.rn ≡ false) → address_for x base < 2 ^ 26 →
       MovedCosts kind.Plain (work.Store 1) (single_stores x base spot regs bus)
   unfolding single_stores
   single_stores_cost x base spot bus other below in_class plain =
@@ -226,7 +206,7 @@ module _ (p : Profile) (rom : RomTimes) (class : Class) (regs : List ℕ) (long 
   either_costs true to_pc words m n h g = h
   either_costs false to_pc words m n h g = g
 
-  single_by_costs : (x : Single) (base port : ℕ) (found : Result Spot Trouble) (bus : Bus) → (writes_base x ≡ true → is_r15 x.rn ≡ false) → address_for x base < 2 ^ 26 →
+  single_by_costs : (x : Single) (base port : ℕ) (found : Result Spot Trouble) (bus : Bus) → (writes_base x ≡ true → is_pc x.rn ≡ false) → address_for x base < 2 ^ 26 →
       MovedCosts (writer_if (x.load && is_pc x.rd)) (transfer x.load 1) (single_by x base port found regs bus)
   unfolding single_by single_carried_out
   single_by_costs x base port (Err why) bus other below = troubled_costs _ _ why bus
@@ -235,7 +215,7 @@ module _ (p : Profile) (rom : RomTimes) (class : Class) (regs : List ℕ) (long 
       (single_loads_cost x base port spot bus other below)
       (single_stores_cost x base spot bus other below)
 
-  single_costs : (x : Single) (base port : ℕ) (bus : Bus) → (writes_base x ≡ true → is_r15 x.rn ≡ false) → MovedCosts (writer_if (x.load && is_pc x.rd)) (transfer x.load 1) (single_at x base port regs bus)
+  single_costs : (x : Single) (base port : ℕ) (bus : Bus) → (writes_base x ≡ true → is_pc x.rn ≡ false) → MovedCosts (writer_if (x.load && is_pc x.rd)) (transfer x.load 1) (single_at x base port regs bus)
   unfolding single_at
   single_costs x base port bus other =
       choose (writer_if (x.load && is_pc x.rd)) (transfer x.load 1) (nat_lt (address_for x base) (2 ^ 26)) _ _
@@ -244,7 +224,7 @@ module _ (p : Profile) (rom : RomTimes) (class : Class) (regs : List ℕ) (long 
 
   -- ## Block transfers
 
-  block_loads_cost : (x : Block) (span : Span) (port : ℕ) (moves : List Move) (bus : Bus) → is_r15 x.rn ≡ false → span.lowest < 2 ^ 26 → 1 ≤ span.words → span.words ≤ 16 → (is_listed x.list R15 ≡ false → AllMoveOther moves) →
+  block_loads_cost : (x : Block) (span : Span) (port : ℕ) (moves : List Move) (bus : Bus) → is_pc x.rn ≡ false → span.lowest < 2 ^ 26 → 1 ≤ span.words → span.words ≤ 16 → (is_listed x.list R15 ≡ false → AllMoveOther moves) →
       MovedCosts (writer_if (is_listed x.list R15)) (work.Load span.words) (block_loads x span port moves regs bus)
   unfolding block_loads
   block_loads_cost x span port moves bus other below some few others in_class plain =
@@ -260,7 +240,7 @@ module _ (p : Profile) (rom : RomTimes) (class : Class) (regs : List ℕ) (long 
   based_long true rn base = long_with (mode_of (r15_in regs)) (register_number rn) base regs long
   based_long false rn base = long
 
-  block_stores_cost : (x : Block) (span : Span) (moves : List Move) (bus : Bus) → is_r15 x.rn ≡ false → span.lowest < 2 ^ 26 → 1 ≤ span.words → span.words ≤ 16 →
+  block_stores_cost : (x : Block) (span : Span) (moves : List Move) (bus : Bus) → is_pc x.rn ≡ false → span.lowest < 2 ^ 26 → 1 ≤ span.words → span.words ≤ 16 →
       MovedCosts kind.Plain (work.Store span.words) (block_stores x span moves regs bus)
   unfolding block_stores
   block_stores_cost x span moves bus other below some few in_class plain =
@@ -269,7 +249,7 @@ module _ (p : Profile) (rom : RomTimes) (class : Class) (regs : List ℕ) (long 
       (passed_goes (with_base x.write_back (mode_of (r15_in regs)) x.rn span.base regs) (based_long x.write_back x.rn span.base)
       ∙ ap (λ r. ahead_of (address_of r) 4) (base_stays x.write_back (mode_of (r15_in regs)) x.rn span.base regs (λ w. other)))
 
-  block_by_costs : (x : Block) (span : Span) (port : ℕ) (verdict : Result (List Move) Trouble) (bus : Bus) → is_r15 x.rn ≡ false → span.lowest < 2 ^ 26 → 1 ≤ span.words → span.words ≤ 16 →
+  block_by_costs : (x : Block) (span : Span) (port : ℕ) (verdict : Result (List Move) Trouble) (bus : Bus) → is_pc x.rn ≡ false → span.lowest < 2 ^ 26 → 1 ≤ span.words → span.words ≤ 16 →
       ((moves : List Move) → verdict ≡ Ok moves → is_listed x.list R15 ≡ false → AllMoveOther moves) →
       MovedCosts (writer_if (x.load && is_listed x.list R15)) (transfer x.load span.words) (block_by x span port verdict regs bus)
   unfolding block_by block_carried_out
@@ -279,7 +259,7 @@ module _ (p : Profile) (rom : RomTimes) (class : Class) (regs : List ℕ) (long 
       (block_loads_cost x span port moves bus other below some few (others moves refl))
       (block_stores_cost x span moves bus other below some few)
 
-  block_costs : (x : Block) (span : Span) (port : ℕ) (bus : Bus) → is_r15 x.rn ≡ false → 1 ≤ span.words → span.words ≤ 16 →
+  block_costs : (x : Block) (span : Span) (port : ℕ) (bus : Bus) → is_pc x.rn ≡ false → 1 ≤ span.words → span.words ≤ 16 →
       MovedCosts (writer_if (x.load && is_listed x.list R15)) (transfer x.load span.words) (block_at x span port regs bus)
   unfolding block_at
   block_costs x span port bus other some few =
@@ -293,7 +273,7 @@ module _ (p : Profile) (rom : RomTimes) (class : Class) (regs : List ℕ) (long 
   block_done x port bus fits =
       let words : length (registers_in x.list) ≡ count_ones x.list = words_are x.list x.list_fits in
       let fit = words_fit x.load (count_ones x.list) fits in
-      let other : is_r15 x.rn ≡ false = refused_not (is_r15 x.rn) 6 _ x.allocated in
+      let other : is_pc x.rn ≡ false = refused_not (is_pc x.rn) 6 _ x.allocated in
       let base : ℕ = register_in (mode_of (r15_in regs)) (register_number x.rn) regs in
       let moved : Moved = block_at x (span_of x base (length (registers_in x.list))) port regs bus in
       subst (λ n. MovedCosts (writer_if (x.load && lists_pc x.list)) (transfer x.load n) moved) words

@@ -1,15 +1,15 @@
 -- R15 after an instruction: what is written to it, and that no other register changes it.
 use Rattle.std.proofs.Common.{◌≡◌, ℕ, ◌+◌, ◌*◌, ◌/◌, ◌%◌, ◌^◌, ◌<◌, ◌==◌, Bool, true, false, cond, List, length, refl, ap, ◌∙◌, arith}
-use Rattle.std.proofs.lemmas.Bool.Decides.{nat_tests}
+use Rattle.std.proofs.lemmas.Bool.{eqb-false}
 use Rattle.std.proofs.lemmas.List.{get_or-set_same, get_or-set_other, length-set}
-use Rattle.arm2_decode.specs.Names.{register_number}
+use Rattle.arm2_decode.specs.Names.{is_pc, register_number}
 use Rattle.arm2_decode.specs.declared.names.Register.{Register}
-use Rattle.arm2_decode.specs.declared.names.Register.TheVariants.{R0, R1, R2, R3, R4, R5, R6, R7, R8, R9, R10, R11, R12, R13, R14, R15}
 use Rattle.arm2_effect.specs.declared.modes.Mode.{Mode}
 use Rattle.arm2_effect.specs.declared.modes.Mode.TheVariants.{User, Fiq, Irq, Svc}
 use Rattle.arm2_effect.specs.Modes.{mode_number, r15_in, slot_of, with_r15, with_register}
 use Rattle.arm2_effect.specs.ProgramCounter.{address_of, ahead_of, jumped_of, mode_of, psr_of, r15_ahead, r15_of, restored_of}
-use Rattle.arm2_transfer.specs.Registers.{with_base, with_loaded, loaded_r15, passed, is_r15}
+use Rattle.arm2_transfer.specs.Registers.{with_base, with_loaded, loaded_r15, passed}
+use Rattle.arm2_transfer.proofs.Slots.{below_15, slot_below}
 
 -- ## Addresses in R15
 
@@ -60,40 +60,19 @@ long_with mode n value regs long = omega (arith, length-set regs (slot_of mode n
 pub goes : (regs : List ℕ) (value t : ℕ) → 26 < length regs → address_of value ≡ t → address_of (r15_in (with_r15 value regs)) ≡ t
 goes regs value t long e = ap address_of (r15_put regs value long) ∙ e
 
-slot_apart : (mode : Mode) (n : ℕ) → n < 15 → 26 ≡ slot_of mode n → ⊥
-slot_apart User n h e = grind (arith, nat_tests)
-slot_apart Fiq n h e = grind (arith, nat_tests)
-slot_apart Irq n h e = grind (arith, nat_tests)
-slot_apart Svc n h e = grind (arith, nat_tests)
-
-below_15 : (r : Register) → (register_number r == 15) ≡ false → register_number r < 15
-below_15 R0 h = omega arith
-below_15 R1 h = omega arith
-below_15 R2 h = omega arith
-below_15 R3 h = omega arith
-below_15 R4 h = omega arith
-below_15 R5 h = omega arith
-below_15 R6 h = omega arith
-below_15 R7 h = omega arith
-below_15 R8 h = omega arith
-below_15 R9 h = omega arith
-below_15 R10 h = omega arith
-below_15 R11 h = omega arith
-below_15 R12 h = omega arith
-below_15 R13 h = omega arith
-below_15 R14 h = omega arith
-below_15 R15 h = absurd (cc)
+apart_r15 : (mode : Mode) (r : Register) → is_pc r ≡ false → 26 ≡ slot_of mode (register_number r) → ⊥
+apart_r15 mode r other e = omega (arith, slot_below mode (register_number r) (below_15 r (eqb-false (register_number r) 15 other)), e)
 
 -- a write to another register leaves R15
-pub r15_stays : (mode : Mode) (r : Register) (value : ℕ) (regs : List ℕ) → is_r15 r ≡ false → r15_in (with_register mode (register_number r) value regs) ≡ r15_in regs
-r15_stays mode r value regs other = get_or-set_other regs (slot_of mode (register_number r)) 26 value 0 (slot_apart mode (register_number r) (below_15 r other))
+pub r15_stays : (mode : Mode) (r : Register) (value : ℕ) (regs : List ℕ) → is_pc r ≡ false → r15_in (with_register mode (register_number r) value regs) ≡ r15_in regs
+r15_stays mode r value regs other = get_or-set_other regs (slot_of mode (register_number r)) 26 value 0 (apart_r15 mode r other)
 
 -- a base that is written back is not R15
-pub base_stays : (write_back : Bool) (mode : Mode) (rn : Register) (base : ℕ) (regs : List ℕ) → (write_back ≡ true → is_r15 rn ≡ false) → r15_in (with_base write_back mode rn base regs) ≡ r15_in regs
+pub base_stays : (write_back : Bool) (mode : Mode) (rn : Register) (base : ℕ) (regs : List ℕ) → (write_back ≡ true → is_pc rn ≡ false) → r15_in (with_base write_back mode rn base regs) ≡ r15_in regs
 base_stays true mode rn base regs other = r15_stays mode rn base regs (other refl)
 base_stays false mode rn base regs other = refl
 
-pub loaded_stays : (psr : Bool) (mode : Mode) (r : ℕ) (register : Register) (word : ℕ) (regs : List ℕ) → is_r15 register ≡ false → r15_in (with_loaded psr mode r register word regs) ≡ r15_in regs
+pub loaded_stays : (psr : Bool) (mode : Mode) (r : ℕ) (register : Register) (word : ℕ) (regs : List ℕ) → is_pc register ≡ false → r15_in (with_loaded psr mode r register word regs) ≡ r15_in regs
 loaded_stays psr mode r register word regs other =
     ap (λ (b : Bool). r15_in (cond b (with_r15 (loaded_r15 psr r word) regs) (with_register mode (register_number register) word regs))) other
     ∙ r15_stays mode register word regs other

@@ -15,7 +15,7 @@ use Rattle.arm2_effect.specs.Effects.{Access, FetchN, FetchS, Internal, Word, st
 use Rattle.arm2_effect.specs.ProgramCounter.{ahead_of}
 use Rattle.arm2_transfer.proofs.Ticks.{load_ticks-jumps, load_ticks-passes, ticks_of-append, ticks_of-words_at}
 use Rattle.arm2_transfer.specs.Moved.{load_accesses, store_accesses, words_at}
-use Rattle.flow_graph.specs.Edges.{fetch_ticks, passing_ticks, branch_target, work_ticks, wrapped}
+use Rattle.flow_graph.specs.Edges.{fetch_ticks, passing_ticks, branch_target, work_ticks}
 use Rattle.flow_graph.specs.Kinds.{writer_if}
 use Rattle.flow_graph.specs.StepLaw.{TransfersIn}
 use Rattle.flow_graph.specs.declared.kinds.Kind.{Kind}
@@ -60,7 +60,7 @@ module _ (p : Profile) (rom : RomTimes) (class : Class) (a : ℕ) where
 
   -- where a word of the kind leads from address a, by its own fields
   abbrev pub Reaches : Kind → ℕ → Type 0
-  Reaches kind.Plain t = t ≡ wrapped (a + 4)
+  Reaches kind.Plain t = t ≡ ahead_of a 4
   Reaches (kind.Branch offset) t = t ≡ branch_target a offset
   Reaches (kind.Call offset) t = t ≡ branch_target a offset
   Reaches kind.Writer t = Unit {0}
@@ -70,9 +70,9 @@ module _ (p : Profile) (rom : RomTimes) (class : Class) (a : ℕ) where
   -- the two fetches of a word that jumps
   abbrev pub jump_price : Kind → ℕ → ℕ
   jump_price kind.Plain t = 0
-  jump_price (kind.Branch offset) t = n_price p rom t + s_price p rom (wrapped (t + 4))
-  jump_price (kind.Call offset) t = n_price p rom t + s_price p rom (wrapped (t + 4))
-  jump_price kind.Writer t = n_price p rom t + s_price p rom (wrapped (t + 4))
+  jump_price (kind.Branch offset) t = n_price p rom t + s_price p rom (ahead_of t 4)
+  jump_price (kind.Call offset) t = n_price p rom t + s_price p rom (ahead_of t 4)
+  jump_price kind.Writer t = n_price p rom t + s_price p rom (ahead_of t 4)
   jump_price kind.Trap t = 0
   jump_price kind.Unallocated t = 0
 
@@ -81,17 +81,17 @@ module _ (p : Profile) (rom : RomTimes) (class : Class) (a : ℕ) where
     pub reaches : Reaches k t
     pub most : ticks_of p rom accesses ≤ fetch_ticks p a w + work_ticks p class w + jump_price k t
 
-  pub straight_costs : (t : ℕ) → t ≡ wrapped (a + 4) → Costs kind.Plain (work.Internal 0) (straight a) t
-  straight_costs t e = record { reaches = e; most = omega (arith, s_most (wrapped (a + 8))) }
+  pub straight_costs : (t : ℕ) → t ≡ ahead_of a 4 → Costs kind.Plain (work.Internal 0) (straight a) t
+  straight_costs t e = record { reaches = e; most = omega (arith, s_most (ahead_of a 8)) }
 
   pub jump_costs : (t : ℕ) → Costs kind.Writer (work.Internal 0) (FetchS (ahead_of a 8) ∷ refill t) t
-  jump_costs t = record { reaches = tt; most = omega (arith, s_most (wrapped (a + 8))) }
+  jump_costs t = record { reaches = tt; most = omega (arith, s_most (ahead_of a 8)) }
 
   pub branch_costs : (offset t : ℕ) → t ≡ branch_target a offset → Costs (kind.Branch offset) (work.Internal 0) (FetchS (ahead_of a 8) ∷ refill t) t
-  branch_costs offset t e = record { reaches = e; most = omega (arith, s_most (wrapped (a + 8))) }
+  branch_costs offset t e = record { reaches = e; most = omega (arith, s_most (ahead_of a 8)) }
 
   pub call_costs : (offset t : ℕ) → t ≡ branch_target a offset → Costs (kind.Call offset) (work.Internal 0) (FetchS (ahead_of a 8) ∷ refill t) t
-  call_costs offset t e = record { reaches = e; most = omega (arith, s_most (wrapped (a + 8))) }
+  call_costs offset t e = record { reaches = e; most = omega (arith, s_most (ahead_of a 8)) }
 
   -- internal cycles before
   pub delayed_costs : (cycles most : ℕ) (k : Kind) (accesses : List Access) (t : ℕ) → cycles ≤ most → Costs k (work.Internal 0) accesses t → Costs k (work.Internal most) (Internal cycles ∷ accesses) t
@@ -107,20 +107,20 @@ module _ (p : Profile) (rom : RomTimes) (class : Class) (a : ℕ) where
   block_most : (address k : ℕ) (store : Bool) → 1 ≤ k → k ≤ 16 → IsBlockOf class k (record { address = address; rom = rom }) → block_price p rom store address k ≤ worst_block p class k store
   block_most address k store some few of_class = (worst_transfer_greatest p class k store (worst_block p class k store) some few refl).none_above (record { address = address; rom = rom }) of_class
 
-  pub load_costs : (address k : ℕ) (jumps : Bool) (t : ℕ) → 1 ≤ k → k ≤ 16 → IsBlockOf class k (record { address = address; rom = rom }) → (jumps ≡ false → t ≡ wrapped (a + 4)) → Costs (writer_if jumps) (work.Load k) (load_accesses a address k jumps t) t
+  pub load_costs : (address k : ℕ) (jumps : Bool) (t : ℕ) → 1 ≤ k → k ≤ 16 → IsBlockOf class k (record { address = address; rom = rom }) → (jumps ≡ false → t ≡ ahead_of a 4) → Costs (writer_if jumps) (work.Load k) (load_accesses a address k jumps t) t
   load_costs address k true t some few of_class to = record {
     reaches = tt;
-    most = omega (arith, load_ticks-jumps p rom a address k t, s_most (wrapped (a + 8)), block_most address k false some few of_class);
+    most = omega (arith, load_ticks-jumps p rom a address k t, s_most (ahead_of a 8), block_most address k false some few of_class);
   }
   load_costs address k false t some few of_class to = record {
     reaches = to refl;
-    most = omega (arith, load_ticks-passes p rom a address k t, s_most (wrapped (a + 8)), block_most address k false some few of_class);
+    most = omega (arith, load_ticks-passes p rom a address k t, s_most (ahead_of a 8), block_most address k false some few of_class);
   }
 
-  pub store_costs : (address k t : ℕ) → 1 ≤ k → k ≤ 16 → IsBlockOf class k (record { address = address; rom = rom }) → t ≡ wrapped (a + 4) → Costs kind.Plain (work.Store k) (store_accesses a address k) t
+  pub store_costs : (address k t : ℕ) → 1 ≤ k → k ≤ 16 → IsBlockOf class k (record { address = address; rom = rom }) → t ≡ ahead_of a 4 → Costs kind.Plain (work.Store k) (store_accesses a address k) t
   store_costs address k t some few of_class to = record {
     reaches = to;
     most =
         let all = ticks_of-append p rom (FetchN (ahead_of a 8) ∷ []) (words_at true address k) in
-        omega (arith, all, ticks_of-words_at p rom true address k, n_most (wrapped (a + 8)), block_most address k true some few of_class);
+        omega (arith, all, ticks_of-words_at p rom true address k, n_most (ahead_of a 8), block_most address k true some few of_class);
   }

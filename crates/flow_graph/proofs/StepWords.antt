@@ -5,7 +5,7 @@ use Rattle.std.proofs.lemmas.Bool.{false≢true}
 use Rattle.std.proofs.lemmas.Nat.{ones_le_self}
 use Rattle.std.proofs.lemmas.Bool.Decides.{nat_tests}
 use lib.Count.{ones_step}
-use Rattle.arm2_decode.specs.Names.{register_number}
+use Rattle.arm2_decode.specs.Names.{is_pc, register_number}
 use Rattle.arm2_decode.specs.declared.names.Register.{Register}
 use Rattle.arm2_decode.specs.declared.names.Register.TheVariants.{R0, R1, R2, R3, R4, R5, R6, R7, R8, R9, R10, R11, R12, R13, R14, R15}
 use Rattle.memc.specs.Memory.{Memory}
@@ -21,7 +21,7 @@ use Rattle.arm2_transfer.specs.declared.words.Trouble.{Trouble}
 use Rattle.arm2_transfer.specs.declared.words.Trouble.TheVariants as trouble
 use Rattle.arm2_transfer.specs.Block.{all_loaded}
 use Rattle.arm2_transfer.specs.Bus.{seen}
-use Rattle.arm2_transfer.specs.Registers.{is_r15, with_loaded}
+use Rattle.arm2_transfer.specs.Registers.{with_loaded}
 use Rattle.arm2_transfer.specs.Words.{Word, all_registers, is_abort, is_listed, is_unsupported, moves_of, registers_in, verdict_of, words_from}
 use Rattle.std.specs.List.{list_any}
 use Rattle.flow_graph.specs.Kinds.{lists_pc}
@@ -87,9 +87,9 @@ pc_listed list fits = grind (arith, nat_tests)
 -- no register of the list is R15
 abbrev AllOther : List Register → Type 0
 AllOther [] = Unit {0}
-AllOther (r ∷ rest) = (is_r15 r ≡ false) × AllOther rest
+AllOther (r ∷ rest) = (is_pc r ≡ false) × AllOther rest
 
-other_register : (list : ℕ) → is_listed list R15 ≡ false → (r : Register) → is_listed list r ≡ true → is_r15 r ≡ false
+other_register : (list : ℕ) → is_listed list R15 ≡ false → (r : Register) → is_listed list r ≡ true → is_pc r ≡ false
 other_register list none R0 h = refl
 other_register list none R1 h = refl
 other_register list none R2 h = refl
@@ -107,7 +107,7 @@ other_register list none R13 h = refl
 other_register list none R14 h = refl
 other_register list none R15 h = absurd (false≢true (sym none ∙ h))
 
-kept_others : (test : Register → Bool) → ((r : Register) → test r ≡ true → is_r15 r ≡ false) → (rs : List Register) → AllOther (filter test rs)
+kept_others : (test : Register → Bool) → ((r : Register) → test r ≡ true → is_pc r ≡ false) → (rs : List Register) → AllOther (filter test rs)
 kept_others test other [] = tt
 kept_others test other (r ∷ rest) = by_test (kept_others test other rest) (test r) refl
   where
@@ -118,7 +118,7 @@ kept_others test other (r ∷ rest) = by_test (kept_others test other rest) (tes
 -- no move loads R15
 abbrev pub AllMoveOther : List Move → Type 0
 AllMoveOther [] = Unit {0}
-AllMoveOther (move ∷ rest) = (is_r15 move.register ≡ false) × AllMoveOther rest
+AllMoveOther (move ∷ rest) = (is_pc move.register ≡ false) × AllMoveOther rest
 
 moves_others : (m : Memory) (user store : Bool) (lowest i : ℕ) (rs : List Register) → AllOther rs → AllMoveOther (moves_of (words_from m user store lowest i rs))
 moves_others m user store lowest i [] h = tt

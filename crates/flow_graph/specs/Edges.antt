@@ -1,8 +1,9 @@
 -- The edges of a place, and their costs in ticks. Source: our own cycle profile, with each access at its
 -- dearest; where a word leads is the VL86C010 data sheet's; of a word that writes R15 the author states it,
 -- and where nothing is stated it returns, by our own rule.
-use Rattle.std.specs.Prelude.{◌≡◌, ℕ, ◌+◌, ◌-◌, ◌*◌, ◌%◌, ◌^◌, true, false, cond, nat_eq, nat_lt, List, []}
+use Rattle.std.specs.Prelude.{◌≡◌, ℕ, ◌+◌, ◌-◌, ◌*◌, true, false, cond, nat_eq, nat_lt, List, []}
 use Rattle.std.specs.Prelude.{◌∷◌, ◌++◌, length, take, map, slice_index, Option, Some, None, Contains}
+use Rattle.arm2_effect.specs.ProgramCounter.{ahead_of}
 use Rattle.bus_ticks.specs.Worst.{worst_n_price, worst_s_price, worst_block, worst_leave_of}
 use Rattle.bus_ticks.specs.declared.profile.Class.{Class}
 use Rattle.bus_ticks.specs.declared.profile.Profile.{Profile}
@@ -23,20 +24,16 @@ use Rattle.statement.specs.declared.stated.TargetKind.TheVariants as stated
 
 -- ## Where a word leads
 
--- addresses wrap at 4000000
-abbrev pub wrapped : ℕ → ℕ
-wrapped n = n % 2 ^ 26
-
 -- a branch counts words from the one after the next, signed in 24 bits: as addresses wrap after 2^24 words,
 -- the number leads to the same word unsigned
 abbrev pub branch_target : ℕ → ℕ → ℕ
-branch_target address offset = wrapped (address + 8 + 4 * offset)
+branch_target address offset = ahead_of (address + 8) (4 * offset)
 
 -- a return takes the last call away and goes past it; with no call it leaves the handler
 abbrev pub return_place : List ℕ → Place
 return_place calls =
     cond (nat_eq (length calls) 0) Exit
-    (At (take (length calls - 1) calls) (wrapped (slice_index calls (length calls - 1) + 4)))
+    (At (take (length calls - 1) calls) (ahead_of (slice_index calls (length calls - 1)) 4))
 
 -- at each of the addresses, inside the calls
 abbrev pub places_at : List ℕ → List ℕ → List Place
@@ -60,7 +57,7 @@ writer_landings calls address (Some t) = stated_landings calls address t.kind t.
 
 -- the places to which a word leads where its condition holds
 abbrev pub landings : Stated → List ℕ → ℕ → Kind → List Place
-landings st calls address Plain = At calls (wrapped (address + 4)) ∷ []
+landings st calls address Plain = At calls (ahead_of address 4) ∷ []
 landings st calls address (Branch offset) = At calls (branch_target address offset) ∷ []
 landings st calls address (Call offset) = call_places calls address (branch_target address offset ∷ [])
 landings st calls address Writer = writer_landings calls address (target_of st address)
@@ -71,13 +68,13 @@ landings st calls address Unallocated = []
 
 -- an instruction fetches the word after the next, which follows the access before it
 abbrev pub passing_ticks : Profile → ℕ → ℕ
-passing_ticks profile address = worst_s_price profile (wrapped (address + 8))
+passing_ticks profile address = worst_s_price profile (ahead_of address 8)
 
 -- but after a store it does not follow it
 abbrev pub fetch_ticks : Profile → ℕ → Work → ℕ
 fetch_ticks profile address (Internal cycles) = passing_ticks profile address
 fetch_ticks profile address (Load words) = passing_ticks profile address
-fetch_ticks profile address (Store words) = worst_n_price profile (wrapped (address + 8))
+fetch_ticks profile address (Store words) = worst_n_price profile (ahead_of address 8)
 
 -- besides its fetches: internal cycles, and words of the stated class
 abbrev pub work_ticks : Profile → Class → Work → ℕ
@@ -87,7 +84,7 @@ work_ticks profile class (Store words) = worst_block profile class words true
 
 -- a jump fetches the word at its target, and the next; out of the handler, at any address of the stated class
 abbrev pub jump_ticks : Class → Profile → Place → ℕ
-jump_ticks leave profile (At calls t) = worst_n_price profile t + worst_s_price profile (wrapped (t + 4))
+jump_ticks leave profile (At calls t) = worst_n_price profile t + worst_s_price profile (ahead_of t 4)
 jump_ticks leave profile Exit = worst_leave_of profile leave
 
 -- which words jump
@@ -112,7 +109,7 @@ skip_edge profile calls address =
     record {
       from = At calls address;
       label = Skip;
-      to = At calls (wrapped (address + 4));
+      to = At calls (ahead_of address 4);
       cost = passing_ticks profile address;
     }
 

@@ -1,8 +1,8 @@
 -- What a word does: to the flow of control, and besides its fetches. Source: the VL86C010 data sheet, by the
 -- table of instruction words; our own cycle profile for the cycles, with a multiply at its most.
-use Rattle.std.specs.Prelude.{◌≡◌, ℕ, ◌≤◌, Bool, true, false, not, nat_le, count_ones, ◌&&◌, ◌==◌}
+use Rattle.std.specs.Prelude.{◌≡◌, ℕ, ◌≤◌, Bool, true, false, not, nat_le, count_ones, ◌&&◌}
 use Rattle.std.specs.Prelude.{if◌then◌else◌, ◌⊎◌}
-use Rattle.arm2_decode.specs.Names.{register_number}
+use Rattle.arm2_decode.specs.Names.{is_compare, is_pc}
 use Rattle.arm2_decode.specs.Table.{Means, IsUnallocated}
 use Rattle.arm2_decode.specs.declared.instr.Instr.{Instr}
 use Rattle.arm2_decode.specs.declared.instr.Unallocated.{Unallocated}
@@ -11,7 +11,6 @@ use Rattle.arm2_decode.specs.declared.instr.Operation.TheVariants as operation
 use Rattle.arm2_decode.specs.declared.names.Cond.{Cond}
 use Rattle.arm2_decode.specs.declared.names.Cond.TheVariants as condition
 use Rattle.arm2_decode.specs.declared.names.Opcode.{Opcode}
-use Rattle.arm2_decode.specs.declared.names.Opcode.TheVariants as opcode
 use Rattle.arm2_decode.specs.declared.names.Register.{Register}
 use Rattle.flow_graph.specs.declared.kinds.Kind.{Kind}
 use Rattle.flow_graph.specs.declared.kinds.Kind.TheVariants as kind
@@ -20,17 +19,6 @@ use Rattle.flow_graph.specs.declared.kinds.Work.TheVariants as work
 use Rattle.flow_graph.specs.declared.kinds.Action.{Action}
 
 -- ## The flow of control
-
--- the compares, which write no register
-abbrev pub is_compare : Opcode → Bool
-is_compare opcode.Tst = true
-is_compare opcode.Teq = true
-is_compare opcode.Cmp = true
-is_compare opcode.Cmn = true
-is_compare _ = false
-
-abbrev pub is_pc : Register → Bool
-is_pc register = register_number register == 15
 
 -- bit 15 of a list, the highest, stands for R15
 abbrev pub lists_pc : ℕ → Bool

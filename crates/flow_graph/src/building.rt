@@ -1,7 +1,7 @@
-ghost use Rattle.std.specs.Prelude.{◌≡◌, ◌≢◌, OnOk, IfErr, IfOk};
+ghost use Rattle.std.specs.Prelude.{◌≡◌, ◌≢◌, [], OnOk, IfErr, IfOk};
 ghost use Rattle.flow_graph.specs.Graph.{ArePlaces, IsBuildFault, IsFlowGraph, start_of};
-ghost use Rattle.flow_graph.specs.Search.{AreInTurn, IsAllowed, IsFound, IsSearch, IsTurnFault, IsVisited};
-ghost use Rattle.flow_graph.specs.Search.{IsVisitFault};
+ghost use Rattle.flow_graph.specs.Search.{AddsEdges, AreInTurn, IsAllowed, IsEdgeFault, IsFound};
+ghost use Rattle.flow_graph.specs.Search.{IsSearch, IsSound, IsTurnFault};
 ghost use Rattle.statement.specs.Stated.{IsStated};
 ghost use Rattle.flow_graph.specs.declared.faults.BuildFault.{BuildFault};
 
@@ -27,25 +27,22 @@ fn start(statement: &Statement) -> Place
     Place::At(Calls::new(), statement.entry())
 }
 
-// Adds the places to which the place leads.
-fn visit(
+// The edges of the place.
+fn edges_at(
     alloc: Global,
     image: &Image,
     statement: &Statement,
     profile: &Profile,
-    seen: &mut BTreeSet<Place>,
-    order: &mut Vec<Place>,
     place: &Place,
-) -> Result<(), BuildFault>
-    requires { IsFound seen.old order.old.items }
-    ensures found { OnOk result (IsFound seen.new order.new.items) }
-    ensures visited { OnOk result
-        (IsVisited image.now statement.now profile.now order.old.items place.now order.new.items) }
-    ensures err { IfErr result (IsVisitFault image.now statement.now profile.now order.old.items place.now) }
+) -> Result<Vec<Edge>, BuildFault>
+    ensures adds { IfOk result
+        (λ edges. AddsEdges image.now statement.now profile.now place.now [] edges.items) }
+    ensures sound { OnOk result (IsSound image.now statement.now place.now) }
+    ensures err { IfErr result (IsEdgeFault image.now statement.now place.now) }
 {
     let mut edges = Vec::new(alloc);
     push_edges(&mut edges, image, statement, profile, place)?;
-    add_ends(seen, order, &edges)
+    Ok(edges)
 }
 
 // Finds the places. The list grows at its end while its next place is visited, so each is visited once.
@@ -65,9 +62,8 @@ fn explore(
     let mut next = 0;
     while next < order.len() {
         let place = order[next];
-        visit(
-            alloc, image, statement, profile, &mut seen, &mut order, &place,
-        )?;
+        let edges = edges_at(alloc, image, statement, profile, &place)?;
+        add_ends(&mut seen, &mut order, &edges)?;
         next += 1;
     }
     Ok(seen)

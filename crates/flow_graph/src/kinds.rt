@@ -1,6 +1,6 @@
 ghost use Rattle.std.specs.Prelude.{◌≡◌};
-ghost use Rattle.flow_graph.specs.Kinds.{IsAction, IsWork, data_kind, is_always, is_compare, is_never, is_pc};
-ghost use Rattle.flow_graph.specs.Kinds.{is_writer, kind_of, transfer, work_of, writer_if};
+ghost use Rattle.flow_graph.specs.Kinds.{IsAction, IsWork, data_kind, is_always, is_never, is_writer};
+ghost use Rattle.flow_graph.specs.Kinds.{kind_of, transfer, work_of, writer_if};
 
 use arm2_decode::{Cond, Opcode, Operation, Register, decode};
 
@@ -40,21 +40,6 @@ pub struct Action {
     pub work: Work,
 }
 
-fn compares(opcode: Opcode) -> bool
-    ensures { result ≡ is_compare opcode }
-{
-    matches!(
-        opcode,
-        Opcode::Tst | Opcode::Teq | Opcode::Cmp | Opcode::Cmn
-    )
-}
-
-fn is_r15(register: Register) -> bool
-    ensures { result ≡ is_pc register }
-{
-    register.number() == 15
-}
-
 fn kind_if(writes: bool) -> Kind
     ensures { result ≡ writer_if writes }
 {
@@ -64,7 +49,7 @@ fn kind_if(writes: bool) -> Kind
 fn data_processing(opcode: Opcode, rd: Register) -> Kind
     ensures { result ≡ data_kind opcode rd }
 {
-    kind_if(is_r15(rd) && !compares(opcode))
+    kind_if(rd.is_pc() && !opcode.is_compare())
 }
 
 fn operation_kind(operation: &Operation) -> Kind
@@ -75,8 +60,8 @@ fn operation_kind(operation: &Operation) -> Kind
         Operation::DataRegister(x) => data_processing(x.opcode, x.rd),
         Operation::DataRegisterShift(x) => data_processing(x.opcode, x.rd),
         Operation::DataImmediate(x) => data_processing(x.opcode, x.rd),
-        Operation::SingleImmediate(x) => kind_if(x.load && is_r15(x.rd)),
-        Operation::SingleRegister(x) => kind_if(x.load && is_r15(x.rd)),
+        Operation::SingleImmediate(x) => kind_if(x.load && x.rd.is_pc()),
+        Operation::SingleRegister(x) => kind_if(x.load && x.rd.is_pc()),
         Operation::Block(x) => kind_if(x.load && x.list >= 0x8000),
         Operation::Branch(x) => {
             if x.link {

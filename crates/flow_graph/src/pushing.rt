@@ -12,105 +12,101 @@ use crate::edges::{Edge, Label};
 use crate::faults::BuildFault;
 use crate::kinds::{Action, Kind, action_of, holds_always, holds_never};
 use crate::places::Place;
-use crate::ticks::{after, branch_target, do_ticks, passing_ticks};
+use crate::ticks::{ahead_of, branch_target, do_ticks, passing_ticks};
 use bus_ticks::Profile;
 use loader::Image;
 use statement::{Statement, TargetKind};
 
-// A word of the image at a place, and what it does.
+// A word of the image at a place, what it does, what is stated of it, and what it is priced by.
 #[derive(Clone, Copy)]
-struct Site {
+struct Site<'a> {
+    statement: &'a Statement,
+    profile: &'a Profile,
     calls: Calls,
     address: u32,
     action: Action,
 }
 
+// Where a word goes: to those addresses, inside the calls.
+#[derive(Clone, Copy)]
+struct Landing<'a> {
+    calls: Calls,
+    to: &'a [u32],
+}
+
 // The edge that passes over the word.
-fn push_skip(out: &mut Vec<Edge>, profile: &Profile, site: &Site) -> Result<(), BuildFault>
+fn push_skip(out: &mut Vec<Edge>, site: &Site) -> Result<(), BuildFault>
     ensures ok { OnOk result
-        (out.new.items ≡ out.old.items ++ skip_edge profile.now site.now.calls site.now.address ∷ []) }
+        (out.new.items
+        ≡ out.old.items ++ skip_edge site.now.profile.now site.now.calls site.now.address ∷ []) }
     ensures err { IfErr result (λ fault. fault ≡ BuildFault.Memory) }
 {
     out.push(Edge {
         from: Place::At(site.calls, site.address),
         label: Label::Skip,
-        to: Place::At(site.calls, after(site.address, 4)),
-        cost: passing_ticks(profile, site.address),
+        to: Place::At(site.calls, ahead_of(site.address, 4)),
+        cost: passing_ticks(site.profile, site.address),
     })?;
     Ok(())
 }
 
 // The edge that does the word and goes to that place.
-fn push_do(
-    out: &mut Vec<Edge>,
-    statement: &Statement,
-    profile: &Profile,
-    site: &Site,
-    to: Place,
-) -> Result<(), BuildFault>
+fn push_do(out: &mut Vec<Edge>, site: &Site, to: Place) -> Result<(), BuildFault>
     requires work { IsWork site.now.action.work }
     requires to { IsInSpace to }
     ensures ok { OnOk result
         (out.new.items
         ≡ out.old.items
-        ++ do_edge statement.now profile.now site.now.calls site.now.address site.now.action to ∷ []) }
+        ++ do_edge site.now.statement.now site.now.profile.now site.now.calls site.now.address
+        site.now.action to ∷ []) }
     ensures err { IfErr result (λ fault. fault ≡ BuildFault.Memory) }
 {
     out.push(Edge {
         from: Place::At(site.calls, site.address),
         label: Label::Do,
         to,
-        cost: do_ticks(statement, profile, site.address, site.action, &to),
+        cost: do_ticks(site.statement, site.profile, site.address, site.action, &to),
     })?;
     Ok(())
 }
 
-// The edges that do the word and go to those addresses, inside the calls.
-fn push_inside(
-    out: &mut Vec<Edge>,
-    statement: &Statement,
-    profile: &Profile,
-    site: &Site,
-    calls: &Calls,
-    to: &[u32],
-) -> Result<(), BuildFault>
+// The edges that do the word and go where it lands.
+fn push_landing(out: &mut Vec<Edge>, site: &Site, landing: &Landing) -> Result<(), BuildFault>
     requires work { IsWork site.now.action.work }
-    requires to { All (λ a. a < 2 ^ 26) to.now }
+    requires to { All (λ a. a < 2 ^ 26) landing.now.to.now }
     ensures ok { OnOk result
         (out.new.items
         ≡ out.old.items
-        ++ map (do_edge statement.now profile.now site.now.calls site.now.address site.now.action)
-        (places_at calls.now to.now)) }
+        ++ map
+        (do_edge site.now.statement.now site.now.profile.now site.now.calls site.now.address
+        site.now.action)
+        (places_at landing.now.calls landing.now.to.now)) }
     ensures err { IfErr result (λ fault. fault ≡ BuildFault.Memory) }
 {
-    for address in to {
-        push_do(out, statement, profile, site, Place::At(*calls, *address))?;
+    for address in landing.to {
+        push_do(out, site, Place::At(landing.calls, *address))?;
     }
     Ok(())
 }
 
 // The edges of a word that calls one of those addresses.
-fn push_call(
-    out: &mut Vec<Edge>,
-    statement: &Statement,
-    profile: &Profile,
-    site: &Site,
-    to: &[u32],
-) -> Result<(), BuildFault>
+fn push_call(out: &mut Vec<Edge>, site: &Site, to: &[u32]) -> Result<(), BuildFault>
     requires address { site.now.address < 2 ^ 26 }
     requires work { IsWork site.now.action.work }
     requires to { All (λ a. a < 2 ^ 26) to.now }
     ensures ok { OnOk result
         (out.new.items
         ≡ out.old.items
-        ++ map (do_edge statement.now profile.now site.now.calls site.now.address site.now.action)
+        ++ map
+        (do_edge site.now.statement.now site.now.profile.now site.now.calls site.now.address
+        site.now.action)
         (call_places site.now.calls site.now.address to.now)) }
     ensures sound { OnOk result (call_fault site.now.calls ≡ None) }
     ensures err { IfErr result
         (λ fault. (fault ≡ BuildFault.Memory) ⊎ (call_fault site.now.calls ≡ Some fault)) }
 {
     match site.calls.with(site.address) {
-        Some(calls) => push_inside(out, statement, profile, site, &calls, to),
+        Some(calls) => push_landing(out, site, &Landing { calls, to }),
         None => Err(BuildFault::TooDeep),
     }
 }
@@ -121,110 +117,97 @@ fn return_place(calls: &Calls) -> Place
     ensures fits { IsInSpace result }
 {
     match calls.split_last() {
-        Some((outer, last)) => Place::At(outer, after(last, 4)),
+        Some((outer, last)) => Place::At(outer, ahead_of(last, 4)),
         None => Place::Exit,
     }
 }
 
 // The edges of a word that writes R15, by what is stated of it.
-fn push_writer(
-    out: &mut Vec<Edge>,
-    statement: &Statement,
-    profile: &Profile,
-    site: &Site,
-) -> Result<(), BuildFault>
+fn push_writer(out: &mut Vec<Edge>, site: &Site) -> Result<(), BuildFault>
     requires address { site.now.address < 2 ^ 26 }
     requires work { IsWork site.now.action.work }
     ensures ok { OnOk result
         (out.new.items
         ≡ out.old.items
-        ++ map (do_edge statement.now profile.now site.now.calls site.now.address site.now.action)
-        (writer_landings site.now.calls site.now.address (target_of statement.now site.now.address))) }
+        ++ map
+        (do_edge site.now.statement.now site.now.profile.now site.now.calls site.now.address
+        site.now.action)
+        (writer_landings site.now.calls site.now.address
+        (target_of site.now.statement.now site.now.address))) }
     ensures sound { OnOk result
-        (writer_fault site.now.calls (target_of statement.now site.now.address) ≡ None) }
+        (writer_fault site.now.calls (target_of site.now.statement.now site.now.address) ≡ None) }
     ensures err { IfErr result
         (λ fault. (fault ≡ BuildFault.Memory)
-        ⊎ (writer_fault site.now.calls (target_of statement.now site.now.address) ≡ Some fault)) }
+        ⊎ (writer_fault site.now.calls (target_of site.now.statement.now site.now.address) ≡ Some fault)) }
 {
-    let Some(target) = statement.target_at(site.address) else {
-        return push_do(out, statement, profile, site, return_place(&site.calls));
+    let Some(target) = site.statement.target_at(site.address) else {
+        return push_do(out, site, return_place(&site.calls));
     };
     match target.kind() {
-        TargetKind::Jump => push_inside(out, statement, profile, site, &site.calls, target.to()),
-        TargetKind::Call => push_call(out, statement, profile, site, target.to()),
-        TargetKind::Return => push_do(out, statement, profile, site, return_place(&site.calls)),
-        TargetKind::Leave => push_do(out, statement, profile, site, Place::Exit),
+        TargetKind::Jump => {
+            let (calls, to) = (site.calls, target.to());
+            push_landing(out, site, &Landing { calls, to })
+        }
+        TargetKind::Call => push_call(out, site, target.to()),
+        TargetKind::Return => push_do(out, site, return_place(&site.calls)),
+        TargetKind::Leave => push_do(out, site, Place::Exit),
     }
 }
 
 // The edges that do the word.
-fn push_done(
-    out: &mut Vec<Edge>,
-    statement: &Statement,
-    profile: &Profile,
-    site: &Site,
-) -> Result<(), BuildFault>
+fn push_done(out: &mut Vec<Edge>, site: &Site) -> Result<(), BuildFault>
     requires address { site.now.address < 2 ^ 26 }
     requires work { IsWork site.now.action.work }
     ensures ok { OnOk result
         (out.new.items
         ≡ out.old.items
-        ++ landing_edges statement.now profile.now site.now.calls site.now.address site.now.action) }
+        ++ landing_edges site.now.statement.now site.now.profile.now site.now.calls site.now.address
+        site.now.action) }
     ensures sound { OnOk result
-        (kind_fault statement.now site.now.calls site.now.address site.now.action.kind ≡ None) }
+        (kind_fault site.now.statement.now site.now.calls site.now.address site.now.action.kind ≡ None) }
     ensures err { IfErr result
         (λ fault. (fault ≡ BuildFault.Memory)
-        ⊎ (kind_fault statement.now site.now.calls site.now.address site.now.action.kind ≡ Some fault)) }
+        ⊎ (kind_fault site.now.statement.now site.now.calls site.now.address site.now.action.kind
+        ≡ Some fault)) }
 {
     let address = site.address;
     match site.action.kind {
         Kind::Plain => {
-            let next = Place::At(site.calls, after(address, 4));
-            push_do(out, statement, profile, site, next)
+            let next = Place::At(site.calls, ahead_of(address, 4));
+            push_do(out, site, next)
         }
         Kind::Branch(offset) => {
             let to = Place::At(site.calls, branch_target(address, offset));
-            push_do(out, statement, profile, site, to)
+            push_do(out, site, to)
         }
-        Kind::Call(offset) => {
-            push_call(
-                out,
-                statement,
-                profile,
-                site,
-                &[branch_target(address, offset)],
-            )
-        }
-        Kind::Writer => push_writer(out, statement, profile, site),
+        Kind::Call(offset) => { push_call(out, site, &[branch_target(address, offset)]) }
+        Kind::Writer => push_writer(out, site),
         Kind::Trap => Err(BuildFault::TrapInHandler(address)),
         Kind::Unallocated => Err(BuildFault::UnallocatedWord(address)),
     }
 }
 
 // The edges of a word.
-fn push_word(
-    out: &mut Vec<Edge>,
-    statement: &Statement,
-    profile: &Profile,
-    site: &Site,
-) -> Result<(), BuildFault>
+fn push_word(out: &mut Vec<Edge>, site: &Site) -> Result<(), BuildFault>
     requires address { site.now.address < 2 ^ 26 }
     requires work { IsWork site.now.action.work }
     ensures ok { OnOk result
         (out.new.items
         ≡ out.old.items
-        ++ word_edges statement.now profile.now site.now.calls site.now.address site.now.action) }
+        ++ word_edges site.now.statement.now site.now.profile.now site.now.calls site.now.address
+        site.now.action) }
     ensures sound { OnOk result
-        (action_fault statement.now site.now.calls site.now.address site.now.action ≡ None) }
+        (action_fault site.now.statement.now site.now.calls site.now.address site.now.action ≡ None) }
     ensures err { IfErr result
         (λ fault. (fault ≡ BuildFault.Memory)
-        ⊎ (action_fault statement.now site.now.calls site.now.address site.now.action ≡ Some fault)) }
+        ⊎ (action_fault site.now.statement.now site.now.calls site.now.address site.now.action
+        ≡ Some fault)) }
 {
     if !holds_always(site.action.cond) {
-        push_skip(out, profile, site)?;
+        push_skip(out, site)?;
     }
     if !holds_never(site.action.cond) {
-        push_done(out, statement, profile, site)?;
+        push_done(out, site)?;
     }
     Ok(())
 }
@@ -250,9 +233,11 @@ pub fn push_edges(
         return Err(BuildFault::OutsideImage(address));
     };
     let site = Site {
+        statement,
+        profile,
         calls: *calls,
         address,
         action: action_of(word),
     };
-    push_word(out, statement, profile, &site)
+    push_word(out, &site)
 }

@@ -1,25 +1,25 @@
 ghost use Rattle.std.specs.Prelude.{◌≡◌, ◌+◌, ◌*◌, ◌<◌, ◌^◌};
 ghost use Rattle.bus_ticks.specs.Worst.{worst_n_price, worst_s_price};
+ghost use Rattle.arm2_effect.specs.ProgramCounter.{ahead_of};
 ghost use Rattle.flow_graph.specs.Edges.{arrival_ticks, branch_target, do_ticks, fetch_ticks, jump_ticks};
-ghost use Rattle.flow_graph.specs.Edges.{passing_ticks, work_ticks, wrapped};
+ghost use Rattle.flow_graph.specs.Edges.{passing_ticks, work_ticks};
 ghost use Rattle.flow_graph.specs.Kinds.{IsWork};
 ghost use Rattle.flow_graph.specs.Places.{IsInSpace};
 
 use crate::kinds::{Action, Kind, Work};
 use crate::places::Place;
-use bus_ticks::{Class, Profile, worst_fetch_n, worst_fetch_s, worst_leave, worst_transfer};
+use bus_ticks::{
+    Class, Profile, SPACE_END, worst_fetch_n, worst_fetch_s, worst_leave, worst_transfer,
+};
 use statement::Statement;
 
-/// How many bytes the addresses span.
-const SPACE: u32 = 1 << 26;
-
-/// The address so many bytes on.
-pub fn after(address: u32, bytes: u32) -> u32
+/// The address so many bytes on, which wraps at [`SPACE_END`].
+pub fn ahead_of(address: u32, bytes: u32) -> u32
     requires { bytes < 2 ^ 32 }
-    ensures sum { result ≡ wrapped (address + bytes) }
+    ensures sum { result ≡ ahead_of address bytes }
     ensures fits { result < 2 ^ 26 }
 {
-    address.wrapping_add(bytes) % SPACE
+    address.wrapping_add(bytes) % SPACE_END
 }
 
 /// The address to which a branch leads.
@@ -27,7 +27,7 @@ pub fn branch_target(address: u32, offset: u32) -> u32
     ensures sum { result ≡ branch_target address offset }
     ensures fits { result < 2 ^ 26 }
 {
-    after(after(address, 8), offset.wrapping_mul(4))
+    ahead_of(ahead_of(address, 8), offset.wrapping_mul(4))
 }
 
 /// What a word costs that is passed over: the fetch of the word after the next.
@@ -35,7 +35,7 @@ pub fn passing_ticks(profile: &Profile, address: u32) -> u32
     ensures ticks { result ≡ passing_ticks profile.now address }
     ensures small { result < 256 }
 {
-    worst_fetch_s(profile, after(address, 8))
+    worst_fetch_s(profile, ahead_of(address, 8))
 }
 
 // The fetch of the word after the next.
@@ -45,7 +45,7 @@ fn fetch_ticks(profile: &Profile, address: u32, work: Work) -> u32
 {
     match work {
         Work::Internal(_) | Work::Load(_) => passing_ticks(profile, address),
-        Work::Store(_) => worst_fetch_n(profile, after(address, 8)),
+        Work::Store(_) => worst_fetch_n(profile, ahead_of(address, 8)),
     }
 }
 
@@ -70,7 +70,7 @@ fn jump_ticks(profile: &Profile, leave: Class, to: &Place) -> u32
 {
     match to {
         Place::At(_, address) => {
-            worst_fetch_n(profile, *address) + worst_fetch_s(profile, after(*address, 4))
+            worst_fetch_n(profile, *address) + worst_fetch_s(profile, ahead_of(*address, 4))
         }
         Place::Exit => worst_leave(profile, leave),
     }

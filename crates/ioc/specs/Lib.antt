@@ -2,3 +2,4 @@ pub mod Timers
 pub mod Interrupts
 pub mod Registers
 pub mod Law
+pub mod LineNames

@@ -8,8 +8,8 @@ use Rattle.std.proofs.lemmas.Bool.{cases_lt, cases_eq, eq-eqb, ne_eqb, le-ltb, l
 use Rattle.std.proofs.lemmas.Bool.Decides.{nat_tests}
 use Rattle.std.proofs.lemmas.List.{append-nil, drop-append-le, take-append-drop, take-append-le, take_all, length-replicate}
 use Rattle.byteorder.specs.Endian.{little_bytes, little_number}
-use Rattle.loader.specs.Image.{Words, may_hold, word_of}
-use Rattle.loader.specs.ImageBytes.{Segment, count_read, cut_fault, end_fault, head_address, head_count, image_bytes, image_read, is_taken, lies_in_memory, magic, numbers, overlaps, read_by, segment_bytes, segment_fault, segments_read, with_words}
+use Rattle.loader.specs.Image.{Words, lies_in_memory, may_hold, word_of}
+use Rattle.loader.specs.ImageBytes.{Segment, count_read, cut_fault, end_fault, head_address, head_count, image_bytes, image_read, is_taken, magic, numbers, overlaps, read_by, segment_bytes, segment_fault, segments_read, with_words}
 use Rattle.loader.specs.Spelling.{AreNumbers, BeginImage, CanFollow, with_segments}
 use Rattle.loader.specs.declared.reading.ReadFault.{ReadFault}
 use Rattle.loader.specs.declared.reading.ReadFault.TheVariants.{BadMagic, Misaligned, OutOfRange, Overlap, Truncated}
@@ -230,7 +230,7 @@ cut_or_later None false end rest e = inr (refl, inr (refl, e))
 
 -- no fault of a head that is whole
 never_cut : (words : Words) (a n : ℕ) → segment_fault words a n ≡ Some Truncated → ⊥
-never_cut words a n e = by (not (a % 4 == 0)) (n == 0) (not (lies_in_memory a n) || nat_lt 65536 (length words + n)) (overlaps words a n) e
+never_cut words a n e = by (not (a % 4 == 0)) (n == 0) (not (lies_in_memory a (a + 4 * n)) || nat_lt 65536 (length words + n)) (overlaps words a n) e
   where
     by : (odd none long over : Bool) → cond odd (Some Misaligned) (cond (none || long) (Some OutOfRange) (cond over (Some Overlap) None)) ≡ Some Truncated → ⊥
     by true none long over e = absurd (cc)

@@ -1,6 +1,6 @@
 -- What begins an image's bytes is Truncated.
 use Rattle.std.proofs.Common.{◌≡◌, ◌≢◌, ◌∙◌, ℕ, zero, suc, ◌+◌, ◌-◌, ◌*◌, ◌%◌, ◌<◌, ◌≤◌, ◌⊎◌, Bool, true, false, cond, List, [], ◌∷◌, ◌++◌, length, take, drop, None, Result, Ok, Err, refl, sym, ap, subst, inl, inr, arith, length-append, length-drop}
-use Rattle.std.specs.Prelude.{◌&&◌, ◌||◌, ◌==◌, not, nat_lt, IsTrue}
+use Rattle.std.specs.Prelude.{◌&&◌, ◌||◌, ◌==◌, not, nat_lt}
 use Rattle.std.specs.Str.{bytes_eq}
 use Rattle.std.specs.Cmp.Lexicographic.{bytes_decides}
 use Rattle.std.proofs.lemmas.Bool.{cases_lt, cases_eq, eq-eqb, ne_eqb, le-ltb, lt-ltb, ltb-false}
@@ -8,11 +8,12 @@ use Rattle.std.proofs.lemmas.Bool.Decides.{nat_tests}
 use Rattle.std.proofs.lemmas.List.{append-nil, drop-append-le, take-append-le, take_all}
 use Rattle.std.proofs.Math.Seq.{take-append_seam, take-append-add}
 use Rattle.byteorder.specs.Endian.{little_number}
-use Rattle.loader.specs.Image.{Words, may_hold, with_word}
+use Rattle.loader.specs.Image.{Words, with_word}
 use Rattle.loader.specs.ImageBytes.{count_read, cut_fault, end_fault, head_address, head_count, image_read, is_taken, magic, numbers, overlaps, segment_fault, segments_read, with_words}
 use Rattle.loader.specs.Spelling.{AreImage, BeginImage}
 use Rattle.loader.specs.declared.reading.ReadFault.{ReadFault}
 use Rattle.loader.specs.declared.reading.ReadFault.TheVariants.{BadMagic, Misaligned, OutOfRange, Overlap, Truncated}
+use Rattle.loader.proofs.PlaceLemmas.{lies_in, may_within}
 use Rattle.loader.proofs.AcceptLemmas.{count_parts, head_counted, magic_parts, number_front, ok_parts, whole_part}
 use Rattle.loader.proofs.SegmentLemmas.{CanStand, can_stand, free_from, length_numbers}
 use Rattle.loader.proofs.SpellLemmas.{read_step, spelled_read}
@@ -163,7 +164,7 @@ free_at words a n can =
     let some = can.some in
     let a4 = can.aligned in
     let none = free_from words a n a can.apart (omega arith) (omega (arith, some)) in
-    let holds : IsTrue (may_hold a) = elim can.lies [ inl low ↦ grind (arith, nat_tests, a4, low, some) | inr high ↦ let least = high.0 in let most = high.1 in grind (arith, nat_tests, a4, least, most, some) ] in
+    let holds = may_within a (a + 4 * n) a (lies_in a (a + 4 * n) can.lies) a4 (omega arith) (omega (arith, some)) in
     rw (holds, none) refl
 
 four_taken : (t : ℕ → Bool) (h : ℕ) → h < 4 → t h ≡ false → (t 0 && (t 1 && (t 2 && t 3))) ≡ false

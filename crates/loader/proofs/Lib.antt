@@ -1,5 +1,6 @@
 mod WordLemmas
 mod LabelLemmas
+pub mod PlaceLemmas
 mod ReadLemmas
 mod SegmentLemmas
 mod RunLemmas

@@ -10,7 +10,8 @@ use Rattle.loader.specs.Inside.{Ascends, MayStand}
 use Rattle.loader.specs.Spelling.{AreNumbers, CanFollow}
 use Rattle.loader.proofs.SegmentLemmas.{CanStand, free_from, word_of_apart, word_of_here}
 use Rattle.loader.proofs.WordLemmas.{Ascends-with_word, MayStand-with_word, Quads, absent_first, absent_rest, above, begins_new, has, length_with_word, quads, runs_of-with_word}
-use Rattle.loader.proofs.WrittenLemmas.{may_parts, no_fault}
+use Rattle.loader.proofs.PlaceLemmas.{lies_in, lies_one, may_parts, may_within}
+use Rattle.loader.proofs.WrittenLemmas.{no_fault}
 
 -- ## The words of a segment
 
@@ -52,19 +53,17 @@ grown_behind words a (w ∷ ws) a4 up stand before free may =
     let few = more.few in
     record { ascends = more.ascends; may_stand = more.may_stand; long = omega (arith, long, longer); few = omega (arith, few, counted, before) }
 
-can_hold_all : (words : Words) (a n : ℕ) → CanStand words a n → MayHold a (a + 4 * n)
-can_hold_all words a n can = λ b low high b4.
-    elim can.lies [
-      | inl under ↦ grind (arith, nat_tests, low, high, b4, under)
-      | inr over ↦ let least = over.0 in let most = over.1 in grind (arith, nat_tests, low, high, b4, least, most)
-    ]
+may_hold_all : (words : Words) (a n : ℕ) → CanStand words a n → MayHold a (a + 4 * n)
+may_hold_all words a n can = λ b low high b4.
+    let a4 = can.aligned in
+    may_within a (a + 4 * n) b (lies_in a (a + 4 * n) can.lies) b4 low (omega (arith, a4, b4, high))
 
 -- a segment that can stand begins at most one run
 pub grown : (words : Words) (a : ℕ) (ws : List ℕ) → CanStand words a (length ws) → Ascends words → MayStand words → IsGrown words (with_words words a ws) (length ws) 1
 grown words a [] can up stand = let some = can.some in absurd (omega (arith, some))
 grown words a (w ∷ ws) can up stand =
     let free : IsFree words a (a + 4 * suc (length ws)) = λ b low high. free_from words a (suc (length ws)) b can.apart low high in
-    let may : MayHold a (a + 4 * suc (length ws)) = can_hold_all words a (suc (length ws)) can in
+    let may : MayHold a (a + 4 * suc (length ws)) = may_hold_all words a (suc (length ws)) can in
     let a4 = can.aligned in
     let none : word_of words a ≡ None = free a (omega arith) (omega arith) in
     let here : IsTrue (may_hold a) = may a (omega arith) (omega arith) a4 in
@@ -166,13 +165,11 @@ apart_one (e ∷ rest) a q a4 none =
 
 pub one_stands : (words : Words) (a : ℕ) → MayStand words → length words + 1 ≤ 65536 → IsTrue (may_hold a) → word_of words a ≡ None → CanStand words a 1
 one_stands words a stand short may none =
-    let parts = may_parts a may in
-    let a4 = parts.0 in
-    let most = parts.1 in
+    let a4 = (may_parts a may).0 in
     record {
       aligned = a4;
       some = omega arith;
-      lies = elim parts.2 [ inl low ↦ inl (omega (arith, a4, low)) | inr high ↦ inr (high, omega (arith, a4, most)) ];
+      lies = lies_one a may;
       few = short;
       apart = apart_one words a (quads words stand) a4 none;
     }

@@ -5,12 +5,13 @@ use Rattle.std.proofs.lemmas.List.{drop-drop}
 use Rattle.std.proofs.lemmas.Bool.{cases_lt, cases_eq, le-ltb, lt-ltb, ne_eqb, eq-eqb}
 use Rattle.std.proofs.lemmas.Bool.Decides.{nat_tests}
 use Rattle.byteorder.specs.Endian.{little_number}
-use Rattle.loader.specs.Image.{Words, may_hold, put_fault, runs_of, with_word, word_of}
-use Rattle.loader.specs.ImageBytes.{numbers, overlaps, lies_in_memory, segment_fault, with_words}
+use Rattle.loader.specs.Image.{Words, lies_in_memory, may_hold, put_fault, runs_of, with_word, word_of}
+use Rattle.loader.specs.ImageBytes.{numbers, overlaps, segment_fault, with_words}
 use Rattle.loader.specs.Inside.{AreWhole, IsPartly}
 use Rattle.loader.specs.declared.image.ImageFault.{ImageFault}
 use Rattle.loader.specs.declared.image.ImageFault.TheVariants as image
 use Rattle.loader.specs.declared.reading.ReadFault.TheVariants.{OutOfRange, Misaligned, Overlap}
+use Rattle.loader.proofs.PlaceLemmas.{Lies, lies_in, may_within}
 use Rattle.loader.proofs.WordLemmas.{has, quads, length_with_word, runs_of-with_word}
 
 -- ## One word more
@@ -51,7 +52,7 @@ with_words_more words a (v ∷ ws) w = with_words_more (with_word words a v) (a 
 pub record CanStand (words : Words) (address count : ℕ) : Type 0 where
   pub aligned : address % 4 ≡ 0
   pub some : 0 < count
-  pub lies : (address + 4 * count ≤ 0x3000000) ⊎ ((0x3400000 ≤ address) × (address + 4 * count ≤ 0x4000000))
+  pub lies : Lies address (address + 4 * count)
   pub few : length words + count ≤ 65536
   pub apart : overlaps words address count ≡ false
 
@@ -64,7 +65,7 @@ fault_parts false false false false e = (refl, refl, refl, refl)
 
 pub can_stand : (words : Words) (address count : ℕ) → segment_fault words address count ≡ None → CanStand words address count
 can_stand words address count e =
-    let p = fault_parts (not (address % 4 == 0)) (count == 0) (not (lies_in_memory address count) || nat_lt 65536 (length words + count)) (overlaps words address count) e in
+    let p = fault_parts (not (address % 4 == 0)) (count == 0) (not (lies_in_memory address (address + 4 * count)) || nat_lt 65536 (length words + count)) (overlaps words address count) e in
     let zero_count = p.1 in
     let odd = p.0 in
     let long = p.2 in
@@ -101,10 +102,8 @@ may_next : (old : Words) (address count next : ℕ) → CanStand old address cou
 may_next old address count next can lt =
     let aligned = can.aligned in
     let even : (address + 4 * next) % 4 ≡ 0 = omega (arith, aligned) in
-    elim can.lies [
-      | inl low ↦ grind (arith, nat_tests, even, low, lt)
-      | inr high ↦ let a = high.0 in let b = high.1 in grind (arith, nat_tests, even, a, b, lt)
-    ]
+    may_within address (address + 4 * count) (address + 4 * next) (lies_in address (address + 4 * count) can.lies) even (omega arith)
+    (omega (arith, lt))
 
 runs_next : (old now : Words) (address count next w : ℕ) (bytes : List ℕ) → CanStand old address count → next < count → AreWhole now → IsPartly old address count bytes next now
     → runs_of (with_word now (address + 4 * next) w) ≤ runs_of old + 1

@@ -3,7 +3,7 @@ use Rattle.std.proofs.Common.{◌≡◌, ◌∙◌, ℕ, suc, ◌+◌, ◌*◌, 
 use Rattle.std.specs.Prelude.{◌==◌, nat_lt}
 use Rattle.std.specs.List.{AllByRecursion}
 use Rattle.std.specs.Str.{bytes_eq}
-use Rattle.std.proofs.lemmas.Bool.{le-ltb, ne_eqb}
+use Rattle.std.proofs.lemmas.Bool.{le-ltb, ne_eqb, cond-false, cond-true}
 use Rattle.std.proofs.lemmas.List.{take_all, drop-drop}
 use Rattle.std.proofs.Math.Seq.{drop-append_seam}
 use Rattle.byteorder.specs.Endian.{little_bytes, little_number}
@@ -37,9 +37,6 @@ words_behind words rest = ap (λ (n : ℕ). drop n (flat_map (little_bytes 4) wo
 pub count_taken : (c d : ℕ) → 0 < c → cond (c == 0) d c ≡ c
 count_taken c d some = rw (ne_eqb c 0 (λ none. omega (arith, some, none))) refl
 
-passed : {X : Type 0} (b : Bool) (x y : X) → b ≡ false → cond b x y ≡ y
-passed b x y e = rw e refl
-
 no_fault : (fault : Option ReadFault) (short : Bool) (end : ReadFault) (rest : Result Words ReadFault) → fault ≡ None → short ≡ false → read_by fault (cond short (Err end) rest) ≡ rest
 no_fault fault short end rest none long = rw (none, long) refl
 
@@ -56,7 +53,7 @@ pub read_step : (left : ℕ) (words new : Words) (bytes rest : List ℕ) (addres
 read_step left words new bytes rest address count is_address is_count none long is_new is_rest =
     ap (λ (a : ℕ). read_at left words bytes a (head_count bytes)) is_address
     ∙ ap (λ (n : ℕ). read_at left words bytes address n) is_count
-    ∙ passed (nat_lt (length bytes) 4) _ _ (le-ltb (length bytes) 4 (omega (arith, long)))
+    ∙ cond-false (nat_lt (length bytes) 4) _ _ (le-ltb (length bytes) 4 (omega (arith, long)))
     ∙ no_fault (segment_fault words address count) (nat_lt (length bytes) (8 + 4 * count)) _ _ none (le-ltb (length bytes) (8 + 4 * count) long)
     ∙ ap (λ (ws : Words). segments_read left ws (drop (8 + 4 * count) bytes)) is_new
     ∙ ap (λ (bs : List ℕ). segments_read left new bs) is_rest
@@ -86,22 +83,19 @@ segments_all : (segments : List Segment) (before : Words) → CanFollow before s
 segments_all [] before follow all = refl
 segments_all (s ∷ rest) before follow all = segment_read s before (flat_map segment_bytes rest) (length rest) follow.0 all.0 ∙ segments_all rest (with_words before s.address s.words) follow.1 all.1
 
-taken : {X : Type 0} (b : Bool) (x y : X) → b ≡ true → cond b x y ≡ x
-taken b x y e = rw e refl
-
 pub begun : (body : List ℕ) → image_read (magic ++ body) ≡ count_read body
 begun body =
     let bytes = magic ++ body in
     let whole : take (length bytes) magic ≡ magic = take_all (length bytes) magic (omega arith) in
     let same : bytes_eq (take 8 bytes) (take (length bytes) magic) ≡ true = ap (λ (m : List ℕ). bytes_eq magic m) whole in
-    taken _ _ _ same ∙ passed _ _ _ (le-ltb (length bytes) 8 (omega arith))
+    cond-true _ _ _ same ∙ cond-false _ _ _ (le-ltb (length bytes) 8 (omega arith))
 
 pub counted : (n : ℕ) (body : List ℕ) → n ≤ 16 → count_read (little_bytes 4 n ++ body) ≡ segments_read n [] body
 counted n body few =
     let bytes = little_bytes 4 n ++ body in
     let number : little_number 4 bytes ≡ n = four_read n body (omega (arith, few)) in
     let most : nat_lt 16 (little_number 4 bytes) ≡ false = le-ltb 16 _ (subst (λ (m : ℕ). m ≤ 16) (sym number) few) in
-    passed _ _ _ most ∙ passed _ _ _ (le-ltb (length bytes) 4 (omega arith)) ∙ ap (λ (m : ℕ). segments_read m [] body) number
+    cond-false _ _ _ most ∙ cond-false _ _ _ (le-ltb (length bytes) 4 (omega arith)) ∙ ap (λ (m : ℕ). segments_read m [] body) number
 
 -- the bytes of segments that spell an image are read as the image
 pub spelled_read : (segments : List Segment) (words : Words) → Spell segments words → image_read (image_bytes segments) ≡ Ok words

@@ -7,8 +7,8 @@ use Rattle.std.specs.Cmp.Lexicographic.{bytes_decides}
 use Rattle.std.proofs.lemmas.Bool.{cases_lt, le-ltb, lt-ltb, ltb-false}
 use Rattle.std.proofs.lemmas.List.{take-append-drop, take_all}
 use Rattle.byteorder.specs.Endian.{little_bytes, little_number}
-use Rattle.loader.specs.Image.{Words}
-use Rattle.loader.specs.ImageBytes.{Segment, count_read, cut_fault, end_fault, head_address, head_count, image_bytes, image_read, is_taken, lies_in_memory, magic, numbers, overlaps, read_by, segment_bytes, segment_fault, segments_read, with_words}
+use Rattle.loader.specs.Image.{Words, lies_in_memory}
+use Rattle.loader.specs.ImageBytes.{Segment, count_read, cut_fault, end_fault, head_address, head_count, image_bytes, image_read, is_taken, magic, numbers, overlaps, read_by, segment_bytes, segment_fault, segments_read, with_words}
 use Rattle.loader.specs.Spelling.{AreNumbers, CanFollow, PassImage, with_segments}
 use Rattle.loader.specs.declared.reading.ReadFault.{ReadFault}
 use Rattle.loader.specs.declared.reading.ReadFault.TheVariants.{BadMagic, Misaligned, OutOfRange, Overlap, TrailingBytes, Truncated}
@@ -57,7 +57,7 @@ record Passes (left : ℕ) (before : Words) (bytes : List ℕ) : Type 0 where
 
 -- no fault of a head
 never_passed : (words : Words) (a n : ℕ) → segment_fault words a n ≡ Some TrailingBytes → ⊥
-never_passed words a n e = by (not (a % 4 == 0)) (n == 0) (not (lies_in_memory a n) || nat_lt 65536 (length words + n)) (overlaps words a n) e
+never_passed words a n e = by (not (a % 4 == 0)) (n == 0) (not (lies_in_memory a (a + 4 * n)) || nat_lt 65536 (length words + n)) (overlaps words a n) e
   where
     by : (odd none long over : Bool) → cond odd (Some Misaligned) (cond (none || long) (Some OutOfRange) (cond over (Some Overlap) None)) ≡ Some TrailingBytes → ⊥
     by true none long over e = absurd (cc)

@@ -8,6 +8,7 @@ use Rattle.std.specs.Ordering.{nat_cmp}
 use Rattle.std.proofs.lemmas.Bool.{cases_lt, cases_eq, le-ltb, lt-ltb, ltb-false, ne_eqb, eq-eqb, eqb-false}
 use Rattle.std.proofs.lemmas.Bool.Decides.{nat_tests}
 use mir.Val.{bool_byte}
+use Rattle.memc.proofs.Rom.{is_at-eqb}
 use Rattle.loader.specs.Image.{Words, begins, may_hold, put_fault, runs_behind, runs_of, with_word, word_of}
 use Rattle.loader.specs.Inside.{Ascends, MayStand}
 use Rattle.loader.specs.declared.image.ImageFault.{ImageFault}
@@ -16,9 +17,6 @@ use Rattle.loader.specs.declared.image.ImageFault.TheVariants.{OutOfRange, TooLo
 -- ## A map's search and insertion
 
 -- the test of the map's search
-is_at-eqb : (a b : ℕ) → is_at (nat_cmp a) b ≡ eqb b a
-is_at-eqb a b = grind (arith, nat_tests)
-
 -- the map's search finds the word
 pub lookup-word_of : (words : Words) (a : ℕ) → lookup (is_at (nat_cmp a)) words ≡ word_of words a
 lookup-word_of [] a = refl

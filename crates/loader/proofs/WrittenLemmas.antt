@@ -1,15 +1,16 @@
 -- The segments of an image spell it.
-use Rattle.std.proofs.Common.{◌≡◌, ◌∙◌, ℕ, suc, ◌+◌, ◌*◌, ◌%◌, ◌^◌, ◌<◌, ◌≤◌, ◌⊎◌, Bool, true, false, cond, List, [], ◌∷◌, ◌++◌, length, None, refl, sym, ap, subst, inl, inr, arith, length-append, append_assoc}
+use Rattle.std.proofs.Common.{◌≡◌, ◌∙◌, ℕ, suc, ◌+◌, ◌*◌, ◌%◌, ◌^◌, ◌<◌, ◌≤◌, Bool, true, false, cond, List, [], ◌∷◌, ◌++◌, length, None, refl, sym, ap, subst, inl, inr, arith, length-append, append_assoc}
 use Rattle.std.specs.Prelude.{◌||◌, ◌==◌, nat_lt, IsTrue}
 use Rattle.std.specs.List.{AllByRecursion}
-use Rattle.std.proofs.lemmas.Bool.{cases_lt, cases_eq, le-ltb, ne_eqb, eq-eqb}
+use Rattle.std.proofs.lemmas.Bool.{cases_eq, le-ltb, ne_eqb, eq-eqb}
 use Rattle.std.proofs.lemmas.Bool.Decides.{nat_tests}
 use Rattle.std.proofs.lemmas.List.{append-nil}
 use Rattle.loader.specs.Image.{Words, may_hold, with_word}
-use Rattle.loader.specs.ImageBytes.{Segment, joined, lies_in_memory, overlaps, segment_fault, segments_of, with_words}
+use Rattle.loader.specs.ImageBytes.{Segment, joined, overlaps, segment_fault, segments_of, with_words}
 use Rattle.loader.specs.Inside.{AreWhole, Ascends, MayStand}
 use Rattle.loader.specs.Spelling.{AreNumbers, CanFollow, Spell, with_segments}
 use Rattle.loader.proofs.RunLemmas as runs
+use Rattle.loader.proofs.PlaceLemmas.{Lies, lies_in, lies_more, lies_one, may_parts}
 use Rattle.loader.proofs.SegmentLemmas.{CanStand}
 
 -- ## The entries of segments
@@ -86,30 +87,11 @@ words_last before a (w ∷ ws) all =
 
 -- ## Where a run stands
 
-pub may_parts : (a : ℕ) → IsTrue (may_hold a) → (a % 4 ≡ 0) × (a < 0x4000000) × ((a < 0x3000000) ⊎ (0x3400000 ≤ a))
-may_parts a may = elim (cases_lt a 0x3000000) [
-  | inl low ↦ (grind (arith, nat_tests, may), grind (arith, nat_tests, may), inl low)
-  | inr high ↦ (grind (arith, nat_tests, may), grind (arith, nat_tests, may), inr (grind (arith, nat_tests, may, high)))
-]
-
-abbrev pub Lies : ℕ → ℕ → Type 0
-Lies address count = (address + 4 * count ≤ 0x3000000) ⊎ ((0x3400000 ≤ address) × (address + 4 * count ≤ 0x4000000))
-
-run_lies : (a w : ℕ) (ws : List ℕ) → MayStand (entries_from a (w ∷ ws)) → Lies a (suc (length ws))
-run_lies a w [] all =
-    let parts = may_parts a all.0 in
-    let even = parts.0 in
-    let most = parts.1 in
-    elim parts.2 [ inl low ↦ inl (omega (arith, even, low)) | inr high ↦ inr (high, omega (arith, even, most)) ]
+run_lies : (a w : ℕ) (ws : List ℕ) → MayStand (entries_from a (w ∷ ws)) → Lies a (a + 4 * suc (length ws))
+run_lies a w [] all = lies_one a all.0
 run_lies a w (v ∷ ws) all =
-    let parts = may_parts a all.0 in
-    elim (run_lies (a + 4) v ws all.1) [
-      | inl low ↦ inl (omega (arith, low))
-      | inr high ↦
-          let least = high.0 in
-          let most = high.1 in
-          elim parts.2 [ inl below ↦ absurd (omega (arith, least, below)) | inr above ↦ inr (above, omega (arith, most)) ]
-    ]
+    let to : a + 4 + 4 * suc (length ws) ≡ a + 4 * suc (suc (length ws)) = omega arith in
+    lies_more a (a + 4 * suc (suc (length ws))) all.0 (subst (Lies (a + 4)) to (run_lies (a + 4) v ws all.1)) (omega arith)
 
 none_overlaps : (before : Words) (a n : ℕ) → AllByRecursion (λ e. e.0 < a) before → overlaps before a n ≡ false
 none_overlaps [] a n all = refl
@@ -122,7 +104,7 @@ pub no_fault : (words : Words) (a n : ℕ) → CanStand words a n → segment_fa
 no_fault words a n can =
     let even : (a % 4 == 0) ≡ true = eq-eqb (a % 4) 0 can.aligned in
     let some : (n == 0) ≡ false = ne_eqb n 0 (λ none. let more = can.some in omega (arith, none, more)) in
-    let lies : lies_in_memory a n ≡ true = elim can.lies [ inl low ↦ grind (arith, nat_tests, low) | inr high ↦ let least = high.0 in let most = high.1 in grind (arith, nat_tests, least, most) ] in
+    let lies = lies_in a (a + 4 * n) can.lies in
     let few : nat_lt 65536 (length words + n) ≡ false = le-ltb 65536 (length words + n) can.few in
     rw (even, some, lies, few, can.apart) refl
 

@@ -2,6 +2,8 @@
 -- memory map, shaped on the VL86C110 data sheet's, with I/O from 3000000 to 33FFFFF.
 use Rattle.std.specs.Prelude.{ℕ, ◌+◌, ◌%◌, Bool, ◌&&◌, ◌||◌, ◌==◌, not, nat_lt, nat_le, if◌then◌else◌, List}
 use Rattle.std.specs.Prelude.{[], ◌∷◌, length, Option, Some, None, is_some}
+use Rattle.bus_ticks.specs.declared.space.TheConstants.{IO_START, ROM_START, SPACE_END}
+use Rattle.loader.specs.declared.places.TheConstants.{MOST_SEGMENTS, MOST_WORDS}
 use Rattle.loader.specs.declared.image.ImageFault.{ImageFault}
 use Rattle.loader.specs.declared.image.ImageFault.TheVariants.{OutOfRange, TooLong}
 
@@ -20,10 +22,13 @@ with_word [] address word = (address, word) ∷ []
 with_word (e ∷ rest) address word =
     if nat_lt address e.0 then (address, word) ∷ e ∷ rest else e ∷ with_word rest address word
 
--- a multiple of 4 up to 3FFFFFC, and not in I/O
+-- the addresses from one up to another, without it, lie in RAM or in ROM
+abbrev pub lies_in_memory : ℕ → ℕ → Bool
+lies_in_memory from to = nat_le to IO_START || (nat_le ROM_START from && nat_le to SPACE_END)
+
+-- a word may stand at a multiple of 4, in memory
 abbrev pub may_hold : ℕ → Bool
-may_hold address =
-    address % 4 == 0 && nat_lt address 0x4000000 && not (nat_le 0x3000000 address && nat_lt address 0x3400000)
+may_hold address = address % 4 == 0 && lies_in_memory address (address + 4)
 
 -- 1 where a word does not follow the word before it, and so begins a run
 abbrev pub begins : Option ℕ → ℕ → ℕ
@@ -44,5 +49,5 @@ abbrev pub put_fault : Words → ℕ → ℕ → Option ImageFault
 put_fault words address word =
     if not (may_hold address) || is_some (word_of words address) then Some OutOfRange
     else
-    (if nat_le 65536 (length words) || nat_lt 16 (runs_of (with_word words address word))
+    (if nat_le MOST_WORDS (length words) || nat_lt MOST_SEGMENTS (runs_of (with_word words address word))
     then Some TooLong else None)

@@ -5,7 +5,8 @@ use Rattle.std.specs.Prelude.{Option, Some, None, is_some, Result, Ok, Err}
 use Rattle.std.specs.List.{list_any}
 use Rattle.std.specs.Str.{bytes_eq}
 use Rattle.byteorder.specs.Endian.{little_bytes, little_number}
-use Rattle.loader.specs.Image.{Words, may_hold, with_word, word_of}
+use Rattle.loader.specs.Image.{Words, lies_in_memory, may_hold, with_word, word_of}
+use Rattle.loader.specs.declared.places.TheConstants.{MOST_SEGMENTS, MOST_WORDS}
 use Rattle.loader.specs.declared.reading.ReadFault.{ReadFault}
 use Rattle.loader.specs.declared.reading.ReadFault.TheVariants.{BadMagic, Truncated, Overlap, Misaligned}
 use Rattle.loader.specs.declared.reading.ReadFault.TheVariants.{TrailingBytes, OutOfRange}
@@ -63,12 +64,6 @@ head_count bytes =
     let count = little_number 4 (drop 4 bytes) in
     if count == 0 then little_number 4 (drop 4 bytes ++ 1 ∷ []) else count
 
--- the words lie below I/O, or above it and below 4000000
-abbrev pub lies_in_memory : ℕ → ℕ → Bool
-lies_in_memory address count =
-    nat_le (address + 4 * count) 0x3000000
-    || (nat_le 0x3400000 address && nat_le (address + 4 * count) 0x4000000)
-
 -- one of so many words from the address on is there
 abbrev pub overlaps : Words → ℕ → ℕ → Bool
 overlaps words address count = list_any (λ e. nat_le address e.0 && nat_lt e.0 (address + 4 * count)) words
@@ -78,7 +73,8 @@ abbrev pub segment_fault : Words → ℕ → ℕ → Option ReadFault
 segment_fault words address count =
     if not (address % 4 == 0) then Some Misaligned
     else
-    (if count == 0 || (not (lies_in_memory address count) || nat_lt 65536 (length words + count))
+    (if count == 0
+    || (not (lies_in_memory address (address + 4 * count)) || nat_lt MOST_WORDS (length words + count))
     then Some OutOfRange
     else (if overlaps words address count then Some Overlap else None))
 
@@ -89,7 +85,7 @@ is_taken words address = not (may_hold address) || is_some (word_of words addres
 -- why bytes that end too early are no image's: so many words that they name and one for each segment to come
 -- pass 65,536
 abbrev pub end_fault : ℕ → ℕ → ReadFault
-end_fault named to_come = if nat_lt 65536 (named + to_come) then OutOfRange else Truncated
+end_fault named to_come = if nat_lt MOST_WORDS (named + to_come) then OutOfRange else Truncated
 
 -- Why bytes that end within the address of a segment, with so many others to come, are no image's. Three
 -- bytes leave four addresses, 1000000 apart, and all of them may be taken or in I/O; fewer always leave a
@@ -98,7 +94,7 @@ abbrev pub cut_fault : Words → ℕ → List ℕ → ReadFault
 cut_fault words others bytes =
     let low = head_address bytes in
     if not (low % 4 == 0) then Misaligned
-    else (if nat_lt 65536 (length words + suc others) then OutOfRange
+    else (if nat_lt MOST_WORDS (length words + suc others) then OutOfRange
     else
     (if length bytes == 3
     &&
@@ -129,7 +125,7 @@ segments_read (suc left) words bytes =
 -- after the magic: at most 16 segments
 abbrev pub count_read : List ℕ → Result Words ReadFault
 count_read bytes =
-    if nat_lt 16 (little_number 4 bytes) then Err OutOfRange
+    if nat_lt MOST_SEGMENTS (little_number 4 bytes) then Err OutOfRange
     else
     (if nat_lt (length bytes) 4 then Err Truncated
     else segments_read (little_number 4 bytes) [] (drop 4 bytes))

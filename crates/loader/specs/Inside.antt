@@ -4,6 +4,7 @@ use Rattle.std.specs.Prelude.{is_some}
 use Rattle.std.specs.List.{AllByRecursion}
 use Rattle.loader.specs.Image.{Words, may_hold, runs_of, word_of}
 use Rattle.loader.specs.ImageBytes.{numbers, with_words}
+use Rattle.loader.specs.declared.places.TheConstants.{MOST_WORDS}
 use Rattle.loader.specs.declared.image.Image.TheInside.{Inside}
 
 abbrev pub words_in : Inside → Words
@@ -28,7 +29,7 @@ pub record IsImage (image : Inside) : Type 0 where
   pub numbers : HasNumbers image.words.entries
   pub counted : image.runs ≡ runs_of image.words.entries
   pub few_runs : image.runs ≤ 16
-  pub few_words : length image.words.entries ≤ 65536
+  pub few_words : length image.words.entries ≤ MOST_WORDS
 
 -- what every image keeps, by its words alone
 pub record AreWhole (words : Words) : Type 0 where
@@ -36,7 +37,7 @@ pub record AreWhole (words : Words) : Type 0 where
   pub may_stand : MayStand words
   pub numbers : HasNumbers words
   pub few_runs : runs_of words ≤ 16
-  pub few_words : length words ≤ 65536
+  pub few_words : length words ≤ MOST_WORDS
 
 -- so many words of a segment are put after the old ones, and the rest of it is free
 pub record IsPartly (old : Words) (address count : ℕ) (bytes : List ℕ) (done : ℕ) (new : Words) : Type 0 where

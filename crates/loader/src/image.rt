@@ -4,16 +4,11 @@ ghost use Rattle.loader.specs.ImageBytes.{segments_of};
 ghost use Rattle.loader.specs.Inside.{AreWhole};
 ghost use Rattle.loader.specs.Image.{may_hold, put_fault, runs_of, with_word, word_of};
 
+use crate::places::{MOST_SEGMENTS, MOST_WORDS, may_hold};
 use std::alloc::{AllocError, AllocFailed, Global};
 use std::collections::BTreeMap;
 use std::marker::Model;
 use thiserror::Error;
-
-/// The most words of an image.
-const MOST_WORDS: usize = 65_536;
-
-/// The most maximal runs of words side by side.
-const MOST_RUNS: usize = 16;
 
 /// Why an image does not take a word.
 #[derive(Clone, Copy, Debug, PartialEq, Eq, Drop, Error)]
@@ -70,13 +65,6 @@ impl Model for Image {
     ghost invariant = { IsImage };
 }
 
-// Whether a word may stand at an address.
-pub(crate) fn can_hold(address: u32) -> bool
-    ensures { result ≡ may_hold address }
-{
-    address % 4 == 0 && address < 0x400_0000 && !(address >= 0x300_0000 && address < 0x340_0000)
-}
-
 impl Image {
     /// An image without a word. It takes no memory.
     pub fn new(alloc: Global) -> Self
@@ -128,7 +116,7 @@ impl Image {
     // The words with their addresses, which ascend.
     pub(crate) fn listed(&self, alloc: Global) -> Result<Vec<(u32, u32)>, AllocError>
         ensures words { IfOk result (λ words. words.items ≡ self.now) }
-        ensures few { length self.now ≤ 65536 }
+        ensures few { length self.now ≤ MOST_WORDS }
     {
         self.words
             .iter()
@@ -151,7 +139,7 @@ impl Image {
     fn fault_of(&self, address: u32, word: u32) -> Option<ImageFault>
         ensures { result ≡ put_fault self.now address word }
     {
-        if !can_hold(address) {
+        if !may_hold(address) {
             return Some(ImageFault::OutOfRange);
         }
         if self.words.contains_key(&address) {
@@ -160,7 +148,7 @@ impl Image {
         if self.words.len() >= MOST_WORDS {
             return Some(ImageFault::TooLong);
         }
-        if self.runs_with(address, word) > MOST_RUNS {
+        if self.runs_with(address, word) > MOST_SEGMENTS {
             return Some(ImageFault::TooLong);
         }
         None

@@ -5,6 +5,7 @@ mod image;
 mod labels;
 mod law;
 mod loading;
+mod places;
 mod reading;
 mod writing;
 
@@ -15,5 +16,6 @@ pub use law::{
     truncated_begins_an_image,
 };
 pub use loading::{LoadFault, load};
+pub use places::{MOST_SEGMENTS, MOST_WORDS, lies_in_memory, may_hold};
 pub use reading::{MAGIC, ReadFault, read_image};
 pub use writing::write_image;

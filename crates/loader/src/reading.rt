@@ -3,23 +3,18 @@ ghost use Rattle.std.specs.Prelude.{None, IsTrue, IfOk, IfErr, OnOk, OnErr, drop
 ghost use Rattle.byteorder.specs.Endian.{little_number};
 ghost use Rattle.loader.specs.Image.{runs_of};
 ghost use Rattle.loader.specs.ImageBytes.{Segment, cut_fault, end_fault, head_address, head_count};
-ghost use Rattle.loader.specs.ImageBytes.{image_bytes, image_read, is_taken, lies_in_memory};
+ghost use Rattle.loader.specs.ImageBytes.{image_bytes, image_read, is_taken};
 ghost use Rattle.loader.specs.ImageBytes.{numbers, overlaps, segment_fault, segments_read, with_words};
 ghost use Rattle.loader.specs.Spelling.{Spell};
 
-use crate::image::{Image, ImageFault, can_hold};
+use crate::image::{Image, ImageFault};
+use crate::places::{MOST_SEGMENTS, MOST_WORDS, lies_in_memory, may_hold};
 use byteorder::{ByteOrder, LittleEndian};
 use std::alloc::Global;
 use thiserror::Error;
 
 /// The bytes with which every image begins.
 pub const MAGIC: [u8; 8] = *b"ARC2IMG1";
-
-/// The most words of an image.
-const MOST_WORDS: usize = 65_536;
-
-/// The most segments of an image.
-const MOST_SEGMENTS: u32 = 16;
 
 /// Why bytes are no image.
 #[derive(Clone, Copy, Debug, PartialEq, Eq, Drop, Error)]
@@ -79,6 +74,13 @@ struct Head {
 }
 
 impl Head {
+    // The address after the last word that the head says.
+    fn end(self) -> u64
+        ensures { result ≡ self.address + 4 * self.count }
+    {
+        u64::from(self.address) + 4 * u64::from(self.count)
+    }
+
     fn of(bytes: &[u8]) -> Head
         ensures address { result.address ≡ head_address bytes.now }
         ensures count { result.count ≡ head_count bytes.now }
@@ -94,14 +96,6 @@ impl Head {
             },
         }
     }
-}
-
-// Whether a segment lies below I/O, or above it and below 4000000.
-fn lies_in_memory(address: u32, count: u32) -> bool
-    ensures { result ≡ lies_in_memory address count }
-{
-    let end = address as u64 + 4 * count as u64;
-    end <= 0x300_0000 || (address >= 0x340_0000 && end <= 0x400_0000)
 }
 
 impl Image {
@@ -123,7 +117,7 @@ impl Image {
         if head.address % 4 != 0 {
             return Some(ReadFault::Misaligned);
         }
-        if head.count == 0 || !lies_in_memory(head.address, head.count) {
+        if head.count == 0 || !lies_in_memory(u64::from(head.address), head.end()) {
             return Some(ReadFault::OutOfRange);
         }
         if self.words.len() + head.count as usize > MOST_WORDS {
@@ -139,7 +133,7 @@ impl Image {
     fn is_taken(&self, address: u32) -> bool
         ensures { result ≡ is_taken self.now address }
     {
-        !can_hold(address) || self.word_at(address).is_some()
+        !may_hold(address) || self.word_at(address).is_some()
     }
 
     // Why bytes that end too early, where they name so many words more and so many segments are to come, are
@@ -244,7 +238,7 @@ fn read_count(bytes: &[u8]) -> Result<(u32, &[u8]), ReadFault>
         return Err(ReadFault::Truncated);
     }
     let count = Head::of(&bytes[8..]).address;
-    if count > MOST_SEGMENTS {
+    if count as usize > MOST_SEGMENTS {
         return Err(ReadFault::OutOfRange);
     }
     if bytes.len() < 12 {

@@ -4,6 +4,7 @@ ghost use Rattle.loader.specs.ImageBytes.{image_bytes, image_read, segment_bytes
 ghost use Rattle.loader.specs.Writing.{is_next, run_behind, segment_in};
 
 use crate::image::{Image, ImageFault};
+use crate::places::MOST_WORDS;
 use crate::reading::MAGIC;
 use byteorder::{ByteOrder, LittleEndian};
 use std::alloc::{AllocError, Global};
@@ -19,7 +20,7 @@ fn push_number(bytes: &mut Vec<u8>, number: u32) -> Result<(), AllocError>
 
 // Adds the segment of some words side by side: its address, its number of words and its words.
 fn push_segment(bytes: &mut Vec<u8>, address: u32, run: &[(u32, u32)]) -> Result<(), AllocError>
-    requires few { length run.now ≤ 65536 }
+    requires few { length run.now ≤ MOST_WORDS }
     ensures { OnOk result (bytes.new.items ≡ bytes.old.items ++ segment_bytes (segment_in address run.now)) }
 {
     push_number(bytes, address)?;
@@ -54,7 +55,7 @@ fn run_behind(address: u32, words: &[(u32, u32)]) -> usize
 
 // Adds the segments of words, whose addresses ascend.
 fn push_segments(bytes: &mut Vec<u8>, words: &[(u32, u32)]) -> Result<(), AllocError>
-    requires few { length words.now ≤ 65536 }
+    requires few { length words.now ≤ MOST_WORDS }
     ensures { OnOk result
         (bytes.new.items ≡ bytes.old.items ++ flat_map segment_bytes (segments_of words.now)) }
 {

@@ -7,7 +7,7 @@ use Rattle.std.proofs.lemmas.List.{get_or-map, length-map}
 use Rattle.flow_graph.specs.declared.places.Place.{Place}
 use Rattle.flow_graph.specs.declared.places.Place.TheVariants.{At, Exit}
 use Rattle.numbered_walks.specs.declared.span.Span.{Span}
-use Rattle.loop_bounds.proofs.ExtentOf.{same_list}
+use Rattle.loop_bounds.proofs.ExtentOf.{list_itself, same_list}
 use Rattle.longest_walk.specs.Rows.{is_at}
 
 -- ## Finding
@@ -52,10 +52,6 @@ into_map f xs x has =
     (has.0, lt, get_or-map f xs has.0 x (f x) has.1 ∙ ap f has.2)
 
 -- ## Places of rows
-
-list_itself : (c : List ℕ) → pointwise eqb c c ≡ true
-list_itself [] = refl
-list_itself (x ∷ c) = and_from (eqb x x) (pointwise eqb c c) (eq-eqb x x refl) (list_itself c)
 
 pub at_place : (list : List ℕ) (a : ℕ) (p : Place) → is_at list a p ≡ true → At list a ≡ p
 at_place list a (At calls b) h =

@@ -7,7 +7,7 @@ use Rattle.std.specs.declared.cmp.Ordering.TheVariants.{Less, Equal, Greater}
 use Rattle.std.specs.Ordering.{is_lt, ordering_reverse}
 use Rattle.std.specs.List.Sorted.{IsPermutation, IsSortedByKey, IsStrictlySortedBy}
 use Rattle.std.proofs.lemmas.Bool.{cases_lt, eqb-true, eq-eqb}
-use Rattle.std.proofs.lemmas.List.{get_or_default, length-map, map-append, take_more, take_all}
+use Rattle.std.proofs.lemmas.List.{get_or_default, length-map, map-append, take_more, take_all, get_or-map}
 use Rattle.std.proofs.lemmas.List.Elements.{All-nil, All-push, Contains-get_or, recursion_from_All}
 use Rattle.std.proofs.lemmas.List.Sorted.{All-permutation, Contains-permutation, IsPermutation-map, IsPermutation-sym, ranks_by, sorted_far}
 use Rattle.flow_graph.specs.declared.places.Place.{Place}
@@ -21,9 +21,9 @@ use Rattle.numbered_walks.specs.Tables.{arrival_of, distance_of, nth, round_of}
 use Rattle.loop_bounds.specs.Instance.{Instance, is_header}
 use Rattle.loop_bounds.specs.Extents.{found_instance}
 use Rattle.loop_bounds.specs.Layout.{AreNumbers}
-use Rattle.loop_bounds.specs.declared.find.Found.{Found}
+use Rattle.loop_bounds.specs.declared.loop_instances.Found.{Found}
 use Rattle.loop_bounds.specs.Tree.{Tree, IsTree, place_in}
-use Rattle.loop_bounds.proofs.Moved.{IsOnce, at_map, once_moved}
+use Rattle.loop_bounds.proofs.Moved.{IsOnce, once_moved}
 use Rattle.longest_walk.specs.Built.{AreInstanceRowsAt, ArePlaceRowsAt, IsInstanceRowAt, IsPlaceRowAt}
 use Rattle.longest_walk.specs.Rows.{header_of, header_of_row, place_of_row}
 use Rattle.longest_walk.specs.declared.rows.PlaceRow.{PlaceRow}
@@ -100,7 +100,7 @@ pub instance_rows_more : (tree : Tree) (c : Tables) (limit : ℕ) (rows : List I
     → i ≡ get_or tree.instances limit i → s ≡ get_or tree.spans limit s → header_of_row r ≡ header_of i → r.arrival ≡ arrival_of c s → r.round ≡ round_of c s → AreInstanceRowsTo tree c (limit + 1) (rows ++ r ∷ [])
 instance_rows_more tree c limit rows r i s lt inside so_far i_is s_is header arrival round =
     let many : limit < length (map header_of tree.instances) = omega (arith, length-map tree.instances header_of) in
-    let at : header_of_row r ≡ get_or (map header_of tree.instances) limit Exit = header ∙ ap header_of i_is ∙ sym (at_map header_of tree.instances limit i Exit lt) in
+    let at : header_of_row r ≡ get_or (map header_of tree.instances) limit Exit = header ∙ ap header_of i_is ∙ sym (get_or-map header_of tree.instances limit i Exit lt) in
     record {
       headers_are = map-append header_of_row rows (r ∷ []) ∙ ap (λ (ps : List Place). ps ++ header_of_row r ∷ []) so_far.headers_are ∙ ap (λ (p : Place). take limit (map header_of tree.instances) ++ p ∷ []) at ∙ sym (take_more (map header_of tree.instances) limit Exit many);
       each = All-push (IsInstanceRowAt tree c) rows r so_far.each
@@ -145,7 +145,7 @@ headers_once flow tree t i j d i_lt j_lt same =
     let j_small : j < length tree.spans = omega (arith, spans.same) in
     let shape = t.ordered.shape at_i (Contains-get_or tree.spans i none i_small) in
     let low : at_i.header ≤ length flow.places = omega (arith, shape.0, shape.1) in
-    let heads : header_of (get_or tree.instances i x) ≡ header_of (get_or tree.instances j x) = sym (at_map header_of tree.instances i x d i_in) ∙ same ∙ at_map header_of tree.instances j x d j_in in
+    let heads : header_of (get_or tree.instances i x) ≡ header_of (get_or tree.instances j x) = sym (get_or-map header_of tree.instances i x d i_in) ∙ same ∙ get_or-map header_of tree.instances j x d j_in in
     let p = place_in flow tree at_i.header in
     let one : is_header (get_or tree.instances i x) p ≡ true = (spans.each i x none i_in).headers at_i.header low ∙ eq-eqb at_i.header at_i.header refl in
     let two : is_header (get_or tree.instances j x) p ≡ true = sym (header_test (get_or tree.instances i x) (get_or tree.instances j x) p heads) ∙ one in
@@ -169,7 +169,7 @@ instance_inside flow tree t found are i lt =
 
 pub instance_at : (tree : Tree) (found : List Found) (f : Found) (i : ℕ) → map found_instance found ≡ tree.instances → i < length found → f ≡ get_or found i f → found_instance f ≡ get_or tree.instances i (found_instance f)
 instance_at tree found f i are lt is =
-    ap found_instance is ∙ sym (at_map found_instance found i f (found_instance f) lt) ∙ ap (λ (l : List Instance). get_or l i (found_instance f)) are
+    ap found_instance is ∙ sym (get_or-map found_instance found i f (found_instance f) lt) ∙ ap (λ (l : List Instance). get_or l i (found_instance f)) are
 
 -- ## In order
 
@@ -194,9 +194,9 @@ rows_strict rows sorted once = strictly (map header_of_row rows)
     let q = get_or rows j x in
     let far : is_lt (place_cmp (header_of_row q) (header_of_row p)) ≡ false = sorted_far (λ (a b : InstanceRow). is_lt (place_cmp (header_of_row a) (header_of_row b))) (ranks_by place_total header_of_row) rows sorted i j x (omega arith) j_in in
     let apart : place_cmp (header_of_row p) (header_of_row q) ≡ Equal → ⊥ =
-    λ tied. let same : i ≡ j = once i j d (omega (arith, len)) lt (at_map header_of_row rows i x d i_in ∙ place_exact (header_of_row p) (header_of_row q) tied ∙ sym (at_map header_of_row rows j x d j_in)) in omega arith in
+    λ tied. let same : i ≡ j = once i j d (omega (arith, len)) lt (get_or-map header_of_row rows i x d i_in ∙ place_exact (header_of_row p) (header_of_row q) tied ∙ sym (get_or-map header_of_row rows j x d j_in)) in omega arith in
     let less = pick (place_cmp (header_of_row p) (header_of_row q)) (place_cmp (header_of_row q) (header_of_row p)) (place_total.antisymm (header_of_row q) (header_of_row p)) far apart in
-    (λ k. place_cmp (at_map header_of_row rows i x d i_in k) (at_map header_of_row rows j x d j_in k)) ∙ less)
+    (λ k. place_cmp (get_or-map header_of_row rows i x d i_in k) (get_or-map header_of_row rows j x d j_in k)) ∙ less)
   where
     some_row : (xs : List InstanceRow) {n : ℕ} → n < length xs → InstanceRow
     some_row [] lt = absurd (omega arith)

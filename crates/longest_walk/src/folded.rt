@@ -27,11 +27,11 @@ impl Model for FoldedWalk {
     ghost use Rattle.std.specs.Prelude.{List};
     ghost use Rattle.std.specs.Coded.{codes};
     ghost use Rattle.longest_walk.specs.declared.folded.Item.{Item};
-    ghost use Rattle.longest_walk.specs.contracts.folded.Item as item;
+    ghost use Rattle.longest_walk.specs.contracts.folded.Item.{the_row};
 
     ghost Value = { List Item };
 
-    ghost coded = { Prim.hlevel (codes, item.the_row.coded) };
+    ghost coded = { Prim.hlevel (codes, the_row.coded) };
 
     ghost view = { λ walk. walk.list.items };
 }

@@ -11,18 +11,28 @@ use crate::rows::Potentials;
 use crate::trace::Search;
 use flow_graph::Graph;
 use loop_bounds::LoopTree;
-use numbered_walks::{Index, Tables, WalkFault, find_tables};
+use numbered_walks::{Index, NumberedGraph, Tables, WalkFault, find_tables};
 use std::alloc::Global;
 
 // The numbers of the greatest walk, and the edges and spans by number.
-fn found(alloc: Global, graph: &Graph, tree: &LoopTree) -> Result<(Index, Tables), WalkFault>
+fn numbers_of_walk(
+    alloc: Global,
+    graph: &Graph,
+    tree: &LoopTree,
+) -> Result<(Index, Tables), WalkFault>
     requires { IsTree graph.now tree.now }
     ensures found { IfOk result (λ found. AreSearched graph.now tree.now found.0 found.1) }
     ensures fault { IfErr result (IsWalkFault graph.now tree.now) }
 {
     let exit = graph.places().len();
     let index = Index::of(alloc, tree.edges(), tree.spans(), exit)?;
-    let tables = find_tables(alloc, tree.edges(), tree.spans(), exit, &index)?;
+    let numbered = NumberedGraph {
+        edges: tree.edges(),
+        spans: tree.spans(),
+        exit,
+        index: &index,
+    };
+    let tables = find_tables(alloc, numbered)?;
     Ok((index, tables))
 }
 
@@ -43,7 +53,7 @@ pub fn longest(alloc: Global, graph: &Graph, tree: &LoopTree) -> Result<Longest,
         ((fault : WalkFault) → fault ≢ WalkFault.Memory → IsWalkFault graph.now tree.now fault → ⊥) }
     ensures fault { IfErr result (IsWalkFault graph.now tree.now) }
 {
-    let (index, tables) = found(alloc, graph, tree)?;
+    let (index, tables) = numbers_of_walk(alloc, graph, tree)?;
     let search = Search {
         graph,
         tree,

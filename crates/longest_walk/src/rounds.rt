@@ -71,7 +71,8 @@ fn one_round(
     requires searched { AreSearched search.graph.now search.tree.now search.index.now search.tables.now }
     requires known { Contains search.tree.now.spans span.now }
     requires turns { IsTurning search.tree.now.edges search.tree.now.spans search.tables.now span.now last }
-    requires rounds { HasRounds search.graph.now search.tree.now search.tables.now (Some span.now) rounds.now }
+    requires rounds { HasRounds search.graph.now search.tree.now search.tables.now (Some span.now)
+        rounds.now }
     ensures { IfOk result
         (λ body. IsRound search.entry.graph.now search.entry.tree.now search.entry.tables.now span.now
         (map open_item body.items)) }
@@ -94,7 +95,8 @@ fn rounds_of(
 ) -> Result<Option<Rounds>, WalkFault>
     requires searched { AreSearched search.graph.now search.tree.now search.index.now search.tables.now }
     requires known { Contains search.tree.now.spans span.now }
-    requires rounds { HasRounds search.graph.now search.tree.now search.tables.now (Some span.now) rounds.now }
+    requires rounds { HasRounds search.graph.now search.tree.now search.tables.now (Some span.now)
+        rounds.now }
     ensures rounds { IfOk result
         (IsRounds search.entry.graph.now search.entry.tree.now search.entry.tables.now span.now) }
     ensures memory { IfErr result (λ fault. fault ≡ WalkFault.Memory) }

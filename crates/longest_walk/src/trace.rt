@@ -5,7 +5,7 @@ ghost use Rattle.longest_walk.specs.Ways.{AreSearched, InTree, IsWay, holds, sta
 
 use flow_graph::Graph;
 use loop_bounds::LoopTree;
-use numbered_walks::{Index, Span, Tables, entering_edge, turning_edge};
+use numbered_walks::{Index, NumberedGraph, Span, Tables, entering_edge, turning_edge};
 use std::alloc::{AllocError, Global};
 
 /// A graph and the tree of its loops, whose edges and spans are found by number, with the numbers of its
@@ -18,6 +18,21 @@ pub(crate) struct Search<'a> {
     pub(crate) tables: &'a Tables,
 }
 
+// The tree's edges and spans, with their index.
+fn numbered<'a>(search: Search<'a>) -> NumberedGraph<'a>
+    ensures edges { result.edges.now ≡ search.entry.tree.now.edges }
+    ensures spans { result.spans.now ≡ search.entry.tree.now.spans }
+    ensures exit { result.exit ≡ length search.entry.graph.now.places }
+    ensures index { result.index.now ≡ search.entry.index.now }
+{
+    NumberedGraph {
+        edges: search.tree.edges(),
+        spans: search.tree.spans(),
+        exit: search.graph.places().len(),
+        index: search.index,
+    }
+}
+
 // The last edge of a greatest walk to the number.
 fn last_edge(search: Search<'_>, number: usize) -> usize
     requires searched { AreSearched search.graph.now search.tree.now search.index.now search.tables.now }
@@ -26,16 +41,7 @@ fn last_edge(search: Search<'_>, number: usize) -> usize
     ensures { IsEntering search.entry.tree.now.edges search.entry.tree.now.spans search.entry.tables.now
         number result }
 {
-    let tree = search.tree;
-    let exit = search.graph.places().len();
-    entering_edge(
-        tree.edges(),
-        tree.spans(),
-        exit,
-        search.index,
-        search.tables,
-        number,
-    )
+    entering_edge(numbered(search), search.tables, number)
 }
 
 /// The last edge of a heaviest round of the span's instance; `None` where a stay takes no round.
@@ -45,16 +51,7 @@ pub(crate) fn last_turn(search: Search<'_>, span: &Span) -> Option<usize>
     ensures { MatchOption result (round_of search.entry.tables.now span.now ≡ 0)
         (IsTurning search.entry.tree.now.edges search.entry.tree.now.spans search.entry.tables.now span.now) }
 {
-    let tree = search.tree;
-    let exit = search.graph.places().len();
-    turning_edge(
-        tree.edges(),
-        tree.spans(),
-        exit,
-        search.index,
-        search.tables,
-        span,
-    )
+    turning_edge(numbered(search), search.tables, span)
 }
 
 /// Where the walks of a context begin: at the header of an instance, or at the entry.

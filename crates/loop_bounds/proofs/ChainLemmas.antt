@@ -162,7 +162,7 @@ IsLow extents limit = (k : ℕ) → k < limit → depth_at (take (k + 1) extents
 pub chain_depth : (rank : ℕ → ℕ) (extents : List Extent) (p : ℕ) → length (headers_in rank extents p) ≡ depth_at extents p
 chain_depth rank extents p = length-map (holders extents p) (λ (s : Extent). rank s.header) ∙ length-filter (λ s. is_within s p) extents
 
-count_cons : {X : Type 0} (f : X → Bool) (x : X) (xs : List X) → count_by f (x ∷ xs) ≡ cond {A = ℕ} (f x) 1 0 + count_by f xs
+pub count_cons : {X : Type 0} (f : X → Bool) (x : X) (xs : List X) → count_by f (x ∷ xs) ≡ cond {A = ℕ} (f x) 1 0 + count_by f xs
 count_cons f x xs = sum_by-cons (λ y. cond {A = ℕ} (f y) 1 0) x xs
 
 cond_le : (a b : Bool) → (a ≡ true → b ≡ true) → cond {A = ℕ} a 1 0 ≤ cond {A = ℕ} b 1 0

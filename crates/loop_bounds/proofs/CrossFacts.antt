@@ -4,7 +4,7 @@ use Rattle.std.specs.Prelude.{Contains, MatchOption, ◌&&◌, ◌==◌, nat_le}
 use Rattle.std.specs.Cmp.Lexicographic.{pointwise}
 use Rattle.std.specs.Option.{is_some, option_eq}
 use Rattle.std.proofs.lemmas.Bool.{both_ways, cases_eq, and_parts, and_from, eqb-true, eq-eqb, false_from_ne_true, false≢true}
-use Rattle.std.proofs.lemmas.List.{get_or_default, length-map}
+use Rattle.std.proofs.lemmas.List.{get_or_default, length-map, get_or-map}
 use Rattle.std.proofs.lemmas.List.Elements.{Contains-get_or}
 use Rattle.flow_graph.specs.declared.places.Place.{Place}
 use Rattle.flow_graph.specs.declared.places.Place.TheVariants.{At}
@@ -12,7 +12,7 @@ use Rattle.statement.specs.declared.stated.Loop.{Loop}
 use Rattle.flow_graph.specs.Flow.{Flow, IsWellFormed}
 use Rattle.flow_graph.specs.Places.{place_at}
 use Rattle.loop_bounds.specs.declared.extents.Extent.{Extent}
-use Rattle.loop_bounds.specs.declared.find.Found.{Found}
+use Rattle.loop_bounds.specs.declared.loop_instances.Found.{Found}
 use Rattle.loop_bounds.specs.Instance.{Instance, IsInstance, holds, is_member}
 use Rattle.loop_bounds.specs.Keys.{IsListed, key_of}
 use Rattle.loop_bounds.specs.Extents.{AreExtentsOf, AreNested, HaveCrossing, IsWithin, extent_at, found_instance, is_within}
@@ -20,9 +20,8 @@ use Rattle.loop_bounds.specs.Nest.{HasCrossing, HasCrossingWith, HasOwn}
 use Rattle.loop_bounds.specs.Tree.{ArePlaceNumbers}
 use Rattle.loop_bounds.proofs.ExtentLemmas.{nested}
 use Rattle.loop_bounds.proofs.ExtentOf.{member_by_key, no_instance, same_list}
-use Rattle.loop_bounds.proofs.GroundLemmas.{found_has}
-use Rattle.loop_bounds.proofs.Moved.{at_map}
-use Rattle.loop_bounds.proofs.Positions.{listed_length, positions}
+use Rattle.loop_bounds.proofs.InPlaces.{found_has}
+use Rattle.loop_bounds.proofs.Positions.{listed_length, place_numbers}
 use Rattle.loop_bounds.proofs.Within.{from_in, in_from, out_from}
 
 module _ (flow : Flow) (loops : List Loop) (listed : List Place) (found : List Found) (extents : List Extent) (well_formed : IsWellFormed flow) (listed_is : IsListed flow.places listed) (all_are : (i : Instance) → Contains (map found_instance found) i → IsInstance flow loops i) (extents_of : AreExtentsOf listed found extents) where
@@ -36,7 +35,7 @@ module _ (flow : Flow) (loops : List Loop) (listed : List Place) (found : List F
   len = listed_length flow.places listed listed_is
 
   numbers : ArePlaceNumbers flow (place_at listed)
-  numbers = positions flow listed well_formed listed_is
+  numbers = place_numbers flow listed well_formed listed_is
 
   instance_is : (s : Extent) → Contains extents s → IsInstance flow loops (instance_at s)
   instance_is s has = all_are (instance_at s) (found_has found s.instance no_instance (extents_of.named s has))
@@ -45,7 +44,7 @@ module _ (flow : Flow) (loops : List Loop) (listed : List Place) (found : List F
   extent_for i k =
       let k_lt : k.0 < length found = omega (arith, k.1, length-map found found_instance) in
       let a = extents_of.all k.0 k_lt in
-      (a.0, a.1, ap (λ (n : ℕ). found_instance (get_or found n no_instance)) a.2 ∙ sym (at_map found_instance found k.0 no_instance i k_lt) ∙ k.2)
+      (a.0, a.1, ap (λ (n : ℕ). found_instance (get_or found n no_instance)) a.2 ∙ sym (get_or-map found_instance found k.0 no_instance i k_lt) ∙ k.2)
 
   member : (s : Extent) → Contains extents s → (p : ℕ) → p ≤ exit → is_member (instance_at s) (place_at listed p) ≡ is_within s p
   member s has p le = (extents_of.are s no_instance has).members p (omega (arith, len))

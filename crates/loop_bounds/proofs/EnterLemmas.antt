@@ -2,7 +2,7 @@ use Rattle.std.proofs.Common.{◌≡◌, ℕ, ◌-◌, ◌<◌, ◌≤◌, ◌�
 use Rattle.std.proofs.lemmas.Bool.{cases_order, cases_lt, leb-true, leb-false}
 use Rattle.loop_bounds.specs.declared.extents.Extent.{Extent}
 use Rattle.loop_bounds.specs.Extents.{AreExtents, AreParents, IsParent, IsOpen, IsWithin, IsInnermost, EntersRight, EntersWrong, IsLeft, extent_at, parent_at, height}
-use Rattle.loop_bounds.proofs.ExtentLemmas.{first_of, end_of, sorted_first, open_some}
+use Rattle.loop_bounds.proofs.ExtentLemmas.{first_of, lower, end_of, sorted_first, open_some}
 use Rattle.std.proofs.lemmas.List.{get_or_default}
 use Rattle.std.proofs.lemmas.List.Sorted.{IsPartitionedBy-leb}
 use Rattle.std.specs.List.Sorted.{IsPartitionedBy, IsPartitionPoint}
@@ -49,10 +49,6 @@ step_from extents to k (Some d) all up left is =
 
 pub left_step : (extents : List Extent) (parents : List (Option ℕ)) (to k : ℕ) → AreExtents extents → AreParents extents parents (length extents) → IsLeft extents to (Some k) → to ≡ (extent_at extents k).header → IsLeft extents to (parent_at parents k)
 left_step extents parents to k all known left is = step_from extents to k (parent_at parents k) all (known k left.0) left is
-
-lower : (extents : List Extent) (k : ℕ) (o : Option ℕ) → IsParent extents k o → height o < height (Some k)
-lower extents k None up = omega arith
-lower extents k (Some d) up = let d_lt : d < k = up.opened.0 in omega arith
 
 pub left_lower : (extents : List Extent) (parents : List (Option ℕ)) (to k : ℕ) → AreParents extents parents (length extents) → IsLeft extents to (Some k) → height (parent_at parents k) < height (Some k)
 left_lower extents parents to k known left = lower extents k (parent_at parents k) (known k left.0)

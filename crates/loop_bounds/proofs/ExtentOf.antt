@@ -16,7 +16,7 @@ use Rattle.flow_graph.specs.declared.places.Place.{Place}
 use Rattle.flow_graph.specs.declared.places.Place.TheVariants.{At, Exit}
 use Rattle.flow_graph.specs.Places.{place_at}
 use Rattle.loop_bounds.specs.declared.extents.Extent.{Extent}
-use Rattle.loop_bounds.specs.declared.find.Found.{Found}
+use Rattle.loop_bounds.specs.declared.loop_instances.Found.{Found}
 use Rattle.loop_bounds.specs.Instance.{Instance, holds, is_member, is_header}
 use Rattle.loop_bounds.specs.Keys.{AreByKey, IsPoint, key_of, is_before}
 use Rattle.loop_bounds.specs.Extents.{AreExtents, AreExtentsOf, AreExtentsUpto, IsExtentOf, is_within, found_instance, extent_at}
@@ -47,7 +47,7 @@ same_list (x ∷ c) (y ∷ d) h =
     let r = same_list c d p.1 in
     (λ i. e i ∷ r i)
 
-list_itself : (c : List ℕ) → pointwise eqb c c ≡ true
+pub list_itself : (c : List ℕ) → pointwise eqb c c ≡ true
 list_itself [] = refl
 list_itself (x ∷ c) = and_from _ _ (eq-eqb x x refl) (list_itself c)
 

@@ -11,7 +11,7 @@ use Rattle.std.proofs.lemmas.List.Elements.{Contains-push, Contains-push_cases, 
 use Rattle.flow_graph.specs.declared.places.Place.{Place}
 use Rattle.flow_graph.specs.declared.places.Place.TheVariants.{At, Exit}
 use Rattle.statement.specs.declared.stated.Loop.{Loop}
-use Rattle.loop_bounds.specs.declared.find.Found.{Found}
+use Rattle.loop_bounds.specs.declared.loop_instances.Found.{Found}
 use Rattle.loop_bounds.specs.Instance.{Instance, instance_of}
 use Rattle.loop_bounds.specs.Extents.{AreSeen, HeadersDiffer, IsFoundAmong, PlacesDiffer, found_instance, header_place}
 use Rattle.loop_bounds.specs.Nest.{HasSharedHeader}

@@ -3,7 +3,7 @@ use Rattle.std.proofs.Common.{◌≡◌, ℕ, ◌+◌, ◌-◌, ◌<◌, ◌≤�
 use Rattle.std.specs.Prelude.{Contains, MatchOption, EachIndex}
 use Rattle.std.specs.Option.{unwrap_or}
 use Rattle.std.proofs.lemmas.Bool.{cases_eq, cases_lt}
-use Rattle.std.proofs.lemmas.List.{get_or_default, get_or_append_left, get_or-set_same, get_or-set_other, length-set, get_or-take, get_or-drop, length-drop, length-take-le, take_more}
+use Rattle.std.proofs.lemmas.List.{get_or_default, get_or_append_left, get_or-set_same, get_or-set_other, length-set, get_or-take, get_or-drop, length-drop, length-take-le, take_more, map_push}
 use Rattle.std.proofs.Math.Seq.{get_or-append_seam}
 use Rattle.std.specs.Cmp.{IsStrictWeakOrder}
 use Rattle.std.specs.Cmp.Lexicographic.{slice_cmp}
@@ -16,7 +16,7 @@ use Rattle.std.proofs.lemmas.List.Elements.{Contains-get_or}
 use Rattle.std.proofs.lemmas.List.Sorted.{ranks_by, sorted_far, Contains-permutation, IsPermutation-sym, length_permutation}
 use Rattle.loop_bounds.specs.declared.extents.Extent.{Extent}
 use Rattle.numbered_walks.specs.declared.span.NumberedEdge.{NumberedEdge}
-use Rattle.loop_bounds.specs.declared.find.Found.{Found}
+use Rattle.loop_bounds.specs.declared.loop_instances.Found.{Found}
 use Rattle.numbered_walks.specs.declared.span.Span.{Span}
 use Rattle.loop_bounds.specs.Extents.{extent_at}
 use Rattle.loop_bounds.specs.Keys.{is_before}
@@ -254,10 +254,6 @@ shown_from numbers s header bound last spare (Some m) some inside is most attain
     }
 
 -- ## Instances in order
-
-map_push : {X Y : Type 0} (f : X → Y) (xs : List X) (x : X) → map f (xs ++ x ∷ []) ≡ map f xs ++ f x ∷ []
-map_push f [] x = refl
-map_push f (y ∷ xs) x = λ i. f y ∷ map_push f xs x i
 
 abbrev no_span : Span × ℕ
 no_span = (record { header = 0; last = 0; bound = 0 }, 0)

@@ -13,7 +13,7 @@ pub mod ChainLemmas
 pub mod LayoutLemmas
 pub mod NestingLemmas
 pub mod FindLemmas
-pub mod GroundLemmas
+pub mod InPlaces
 pub mod CrossFacts
 pub mod PlaceFacts
 pub mod TreeLemmas

@@ -5,7 +5,7 @@ use Rattle.std.specs.List.Sorted.{IsPermutation}
 use Rattle.std.proofs.lemmas.Bool.{cases_eq}
 use Rattle.std.proofs.lemmas.List.Edits.{Swapped, swapped_from_swap, length-swap}
 use Rattle.std.proofs.lemmas.List.Sorted.{IsPermutation-keeps, IsPermutation-map}
-use Rattle.std.proofs.lemmas.List.{length-map}
+use Rattle.std.proofs.lemmas.List.{length-map, get_or-map}
 
 -- no element stands twice
 abbrev pub IsOnce : {X : Type 0} → List X → Type 0
@@ -32,11 +32,6 @@ once_swap xs a b p q once i j d within inside e =
 pub once_moved : {X : Type 0} (xs ys : List X) → IsPermutation xs ys → IsOnce xs → IsOnce ys
 once_moved xs ys moved once = IsPermutation-keeps xs IsOnce once once_swap ys moved
 
-pub at_map : {X Y : Type 0} (f : X → Y) (xs : List X) (j : ℕ) (d : X) (e : Y) → j < length xs → get_or (map f xs) j e ≡ f (get_or xs j d)
-at_map f [] j d e lt = absurd (omega arith)
-at_map f (x ∷ xs) zero d e lt = refl
-at_map f (x ∷ xs) (suc j) d e lt = at_map f xs j d e (omega arith)
-
 pub some_of : {X : Type 0} (xs : List X) → 0 < length xs → X
 some_of [] lt = absurd (omega arith)
 some_of (x ∷ xs) lt = x
@@ -49,6 +44,6 @@ numbers_once f xs ys moved once i j d ilt jlt same =
     let a_in : a < length xs = omega arith in
     let b_in : b < length xs = omega arith in
     let x = some_of xs (omega arith) in
-    once a b x a_in b_in (sym (at_map f xs a x e a_in) ∙ h ∙ at_map f xs b x e b_in) in
+    once a b x a_in b_in (sym (get_or-map f xs a x e a_in) ∙ h ∙ get_or-map f xs b x e b_in) in
     let len = length-map ys f in
-    once_moved (map f xs) (map f ys) (IsPermutation-map f xs ys moved) mapped i j 0 (omega arith) (omega arith) (at_map f ys i d 0 ilt ∙ same ∙ sym (at_map f ys j d 0 jlt))
+    once_moved (map f xs) (map f ys) (IsPermutation-map f xs ys moved) mapped i j 0 (omega arith) (omega arith) (get_or-map f ys i d 0 ilt ∙ same ∙ sym (get_or-map f ys j d 0 jlt))

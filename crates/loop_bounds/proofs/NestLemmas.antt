@@ -3,10 +3,11 @@ use Rattle.std.proofs.Common.{◌≡◌, ◌≢◌, ℕ, zero, suc, ◌+◌, ◌
 use Rattle.std.specs.Prelude.{Contains, All, AllPairs, filter}
 use Rattle.std.specs.List.{remove}
 use Rattle.std.proofs.lemmas.Bool.{cases_Bool, cases_lt}
-use Rattle.std.proofs.lemmas.List.{get_or_default, length-map}
+use Rattle.std.proofs.lemmas.List.{get_or_default, length-map, get_or-map}
 use Rattle.std.proofs.lemmas.List.Edits.{length-remove, get_or-remove_below, get_or-remove_above}
 use Rattle.std.proofs.lemmas.List.Elements.{All-filter, Contains-get_or, Contains-append_right, filter_passes}
 use Rattle.std.proofs.lemmas.List.Sums.{length-filter}
+use Rattle.std.proofs.lemmas.List.Kept.{AllPairs-cons, AllPairs-filter}
 use Rattle.flow_graph.specs.declared.places.Place.TheVariants.{At}
 use Rattle.statement.specs.declared.stated.Loop.{Loop}
 use Rattle.flow_graph.specs.Flow.{Flow, IsWellFormed}
@@ -14,18 +15,18 @@ use Rattle.flow_graph.specs.Places.{place_at}
 use Rattle.loop_bounds.specs.declared.extents.Extent.{Extent}
 use Rattle.loop_bounds.specs.declared.fault.NestFault.{NestFault}
 use Rattle.loop_bounds.specs.declared.fault.NestFault.TheVariants.{Memory, LoopsCross, SharedHeader, EntersMidLoop, UnboundedCycle, NestedTooDeep}
-use Rattle.loop_bounds.specs.declared.ground.Ground.{Ground}
+use Rattle.loop_bounds.specs.declared.handler_positions.HandlerPositions.{HandlerPositions}
 use Rattle.loop_bounds.specs.declared.nesting.Nesting.{Nesting}
 use Rattle.loop_bounds.specs.Instance.{Instance}
 use Rattle.loop_bounds.specs.Extents.{extent_at, found_instance, header_place, is_within}
-use Rattle.loop_bounds.specs.Ground.{IsGround, IsNesting, IsNestingFault}
+use Rattle.loop_bounds.specs.InPositions.{AreHandlerPositions, IsNesting, IsNestingFault}
 use Rattle.loop_bounds.specs.Layout.{AreShallow, depth_at}
 use Rattle.loop_bounds.specs.Nest.{Applies, HasDeepPlace, HasSharedHeader, IsNestFault}
 use Rattle.loop_bounds.proofs.ExtentLemmas.{nested}
 use Rattle.loop_bounds.proofs.ExtentOf.{no_instance}
-use Rattle.loop_bounds.proofs.Moved.{at_map}
 use Rattle.loop_bounds.proofs.NestingLemmas.{no_plain_cycle}
 use Rattle.loop_bounds.proofs.PlaceFacts.{apart, at_extent, bounded, crossing, entered_right, extent_for, instance_is, member, mid_entry, no_crossing, no_mid_entry, numbers, unbounded, within, within_exit}
+use Rattle.numbered_walks.proofs.Nesting.{AllPairs-tail}
 
 -- ## Lists without doubles
 
@@ -59,31 +60,15 @@ filter_has f (y ∷ xs) x (suc k, lt, is) yes_ = ⊎_elim
     (λ (t : f y ≡ false). rw t (filter_has f xs x (k, omega arith, is) yes_))
     (cases_Bool (f y))
 
-pairs_tail : {X : Type 0} (R : X → X → Type 0) (x : X) (xs : List X) → AllPairs R (x ∷ xs) → AllPairs R xs
-pairs_tail R x xs pairs a b d lt inside = pairs (suc a) (suc b) d (omega arith) (omega arith)
-
 pairs_head : {X : Type 0} (R : X → X → Type 0) (x : X) (xs : List X) → AllPairs R (x ∷ xs) → All (R x) xs
 pairs_head R x xs pairs k d lt = pairs 0 (suc k) d (omega arith) (omega arith)
 
-pairs_cons : {X : Type 0} (R : X → X → Type 0) (x : X) (xs : List X) → All (R x) xs → AllPairs R xs → AllPairs R (x ∷ xs)
-pairs_cons R x xs first rest zero zero d lt inside = absurd (omega arith)
-pairs_cons R x xs first rest zero (suc b) d lt inside = first b d (omega arith)
-pairs_cons R x xs first rest (suc a) zero d lt inside = absurd (omega arith)
-pairs_cons R x xs first rest (suc a) (suc b) d lt inside = rest a b d (omega arith) (omega arith)
-
-pairs_filter : {X : Type 0} (R : X → X → Type 0) (f : X → Bool) (xs : List X) → AllPairs R xs → AllPairs R (filter f xs)
-pairs_filter R f [] pairs = pairs
-pairs_filter R f (x ∷ xs) pairs = ⊎_elim
-    (λ (t : f x ≡ true). rw t (pairs_cons R x (filter f xs) (All-filter f (R x) xs (pairs_head R x xs pairs)) (pairs_filter R f xs (pairs_tail R x xs pairs))))
-    (λ (t : f x ≡ false). rw t (pairs_filter R f xs (pairs_tail R x xs pairs)))
-    (cases_Bool (f x))
-
-module _ (flow : Flow) (loops : List Loop) (ground : Ground) (well_formed : IsWellFormed flow) (g : IsGround flow loops ground) where
+module _ (flow : Flow) (loops : List Loop) (positions : HandlerPositions) (well_formed : IsWellFormed flow) (g : AreHandlerPositions flow loops positions) where
   abbrev extents : List Extent
-  extents = ground.extents.items
+  extents = positions.extents.items
 
   abbrev instance_at : Extent → Instance
-  instance_at s = found_instance (get_or ground.found.items s.instance no_instance)
+  instance_at s = found_instance (get_or positions.found.items s.instance no_instance)
 
   abbrev holders : ℕ → List Extent
   holders p = filter (λ s. is_within s p) extents
@@ -92,7 +77,7 @@ module _ (flow : Flow) (loops : List Loop) (ground : Ground) (well_formed : IsWe
   instances_differ j k d less lt same =
       let s : Extent = get_or extents j d in
       let t : Extent = get_or extents k d in
-      let place : header_place (get_or ground.found.items s.instance no_instance) ≡ header_place (get_or ground.found.items t.instance no_instance) = (λ i. At (same i).list (same i).header) in
+      let place : header_place (get_or positions.found.items s.instance no_instance) ≡ header_place (get_or positions.found.items t.instance no_instance) = (λ i. At (same i).list (same i).header) in
       let s_in = (g.extents_of).named s (Contains-get_or extents j d (omega arith)) in
       let t_in = (g.extents_of).named t (Contains-get_or extents k d lt) in
       let not_below : s.instance < t.instance → ⊥ = λ l. g.differ s.instance t.instance no_instance l t_in place in
@@ -106,56 +91,56 @@ module _ (flow : Flow) (loops : List Loop) (ground : Ground) (well_formed : IsWe
     filter_passes (λ s. is_within s p) extents k d lt,
   )
 
-  pub deep : (k : ℕ) → k < length ground.extents.items → 16 < depth_at ground.extents.items (extent_at ground.extents.items k).first → HasDeepPlace flow loops
+  pub deep : (k : ℕ) → k < length positions.extents.items → 16 < depth_at positions.extents.items (extent_at positions.extents.items k).first → HasDeepPlace flow loops
   deep k lt many =
       let s : Extent = extent_at extents k in
       let p : ℕ = s.first in
       let some : p < s.end = (g.extents_are).some k lt in
-      let end : s.end ≤ length flow.places = within_exit flow loops ground well_formed g s (at_extent flow loops ground well_formed g k lt) in
+      let end : s.end ≤ length flow.places = within_exit flow loops positions well_formed g s (at_extent flow loops positions well_formed g k lt) in
       let p_in : p < length flow.places = omega arith in
       let len : length (map instance_at (holders p)) ≡ length (holders p) = length-map (holders p) instance_at in
       let none : Extent = record { first = 0; end = 0; header = 0; instance = 0 } in
       record {
-        place = place_at ground.listed.items p;
-        has = (numbers flow loops ground well_formed g).place p p_in;
+        place = place_at positions.listed.items p;
+        has = (numbers flow loops positions well_formed g).place p p_in;
         instances = map instance_at (holders p);
         differ = λ a b d less inside same.
-            pairs_filter (λ (x : Extent) (y : Extent). instance_at x ≢ instance_at y) (λ x. is_within x p) extents instances_differ a b none less (omega arith)
-            (sym (at_map instance_at (holders p) a none d (omega arith)) ∙ same ∙ at_map instance_at (holders p) b none d (omega arith));
-        each = λ a d inside. rw (at_map instance_at (holders p) a none d (omega arith)) (instance_is flow loops ground well_formed g (get_or (holders p) a none) (holder_is p a none (omega arith)).0);
+            AllPairs-filter (λ (x : Extent) (y : Extent). instance_at x ≢ instance_at y) (λ x. is_within x p) extents instances_differ a b none less (omega arith)
+            (sym (get_or-map instance_at (holders p) a none d (omega arith)) ∙ same ∙ get_or-map instance_at (holders p) b none d (omega arith));
+        each = λ a d inside. rw (get_or-map instance_at (holders p) a none d (omega arith)) (instance_is flow loops positions well_formed g (get_or (holders p) a none) (holder_is p a none (omega arith)).0);
         members = λ a d inside.
             let h = holder_is p a none (omega arith) in
-            rw (at_map instance_at (holders p) a none d (omega arith)) (member flow loops ground well_formed g (get_or (holders p) a none) h.0 p (omega arith) ∙ h.1);
+            rw (get_or-map instance_at (holders p) a none d (omega arith)) (member flow loops positions well_formed g (get_or (holders p) a none) h.0 p (omega arith) ∙ h.1);
         many = omega (arith, len, length-filter (λ x. is_within x p) extents);
       }
 
-  pub not_deep : AreShallow ground.extents.items → HasDeepPlace flow loops → ⊥
+  pub not_deep : AreShallow positions.extents.items → HasDeepPlace flow loops → ⊥
   not_deep shallow h =
-      let p = (numbers flow loops ground well_formed g).number h.place h.has in
+      let p = (numbers flow loops positions well_formed g).number h.place h.has in
       let p_lt : p.0 < length flow.places = p.1 in
       let few : length h.instances ≤ length (map instance_at (holders p.0)) = no_longer h.instances (map instance_at (holders p.0)) h.differ
       (λ k d lt.
       let i : Instance = get_or h.instances k d in
-      let s = extent_for flow loops ground well_formed g i (h.each k d lt) in
-      let inside : is_within s.0 p.0 ≡ true = sym (within flow loops ground well_formed g i s.0 s.1 s.2 h.place p.0 (omega arith) p.2) ∙ h.members k d lt in
+      let s = extent_for flow loops positions well_formed g i (h.each k d lt) in
+      let inside : is_within s.0 p.0 ≡ true = sym (within flow loops positions well_formed g i s.0 s.1 s.2 h.place p.0 (omega arith) p.2) ∙ h.members k d lt in
       let kept = filter_has (λ x. is_within x p.0) extents s.0 s.1 inside in
-      (kept.0, omega (arith, kept.1, length-map (holders p.0) instance_at), at_map instance_at (holders p.0) kept.0 s.0 i kept.1 ∙ ap instance_at kept.2 ∙ s.2)) in
+      (kept.0, omega (arith, kept.1, length-map (holders p.0) instance_at), get_or-map instance_at (holders p.0) kept.0 s.0 i kept.1 ∙ ap instance_at kept.2 ∙ s.2)) in
       omega (arith, h.many, length-map (holders p.0) instance_at, length-filter (λ x. is_within x p.0) extents, shallow p.0)
 
   -- ## Refusals
 
-  pub of_nesting : (HasSharedHeader loops → ⊥) → (fault : NestFault) → IsNestingFault (length flow.places) ground.edges.items ground.entry ground.extents.items fault → IsNestFault flow loops fault
+  pub of_nesting : (HasSharedHeader loops → ⊥) → (fault : NestFault) → IsNestingFault (length flow.places) positions.edges.items positions.entry positions.extents.items fault → IsNestFault flow loops fault
   of_nesting apart Memory h = tt
-  of_nesting apart LoopsCross h = crossing flow loops ground well_formed g h
+  of_nesting apart LoopsCross h = crossing flow loops positions well_formed g h
   of_nesting apart SharedHeader h = absurd h
-  of_nesting apart EntersMidLoop h = (no_crossing flow loops ground well_formed g h.0, apart, mid_entry flow loops ground well_formed g h.1)
-  of_nesting apart UnboundedCycle h = (no_crossing flow loops ground well_formed g h.0, apart, no_mid_entry flow loops ground well_formed g (entered_right flow loops ground well_formed g h.1), unbounded flow loops ground well_formed g h.2)
-  of_nesting apart NestedTooDeep h = (no_crossing flow loops ground well_formed g h.0, apart, no_mid_entry flow loops ground well_formed g (entered_right flow loops ground well_formed g h.1), bounded flow loops ground well_formed g h.2, deep h.3.0 h.3.1 h.3.2)
+  of_nesting apart EntersMidLoop h = (no_crossing flow loops positions well_formed g h.0, apart, mid_entry flow loops positions well_formed g h.1)
+  of_nesting apart UnboundedCycle h = (no_crossing flow loops positions well_formed g h.0, apart, no_mid_entry flow loops positions well_formed g (entered_right flow loops positions well_formed g h.1), unbounded flow loops positions well_formed g h.2)
+  of_nesting apart NestedTooDeep h = (no_crossing flow loops positions well_formed g h.0, apart, no_mid_entry flow loops positions well_formed g (entered_right flow loops positions well_formed g h.1), bounded flow loops positions well_formed g h.2, deep h.3.0 h.3.1 h.3.2)
 
-  pub allowed : (HasSharedHeader loops → ⊥) → (nesting : Nesting) → IsNesting (length flow.places) ground.edges.items ground.entry ground.extents.items nesting → (fault : NestFault) → fault ≢ Memory → Applies flow loops fault → ⊥
+  pub allowed : (HasSharedHeader loops → ⊥) → (nesting : Nesting) → IsNesting (length flow.places) positions.edges.items positions.entry positions.extents.items nesting → (fault : NestFault) → fault ≢ Memory → Applies flow loops fault → ⊥
   allowed apart nesting n Memory other h = other refl
-  allowed apart nesting n LoopsCross other h = no_crossing flow loops ground well_formed g (nested extents nesting.parents.items n.nested) h
+  allowed apart nesting n LoopsCross other h = no_crossing flow loops positions well_formed g (nested extents nesting.parents.items n.nested) h
   allowed apart nesting n SharedHeader other h = apart h
-  allowed apart nesting n EntersMidLoop other h = no_mid_entry flow loops ground well_formed g (entered_right flow loops ground well_formed g n.entered) h
-  allowed apart nesting n UnboundedCycle other h = bounded flow loops ground well_formed g (no_plain_cycle (length flow.places) ground.edges.items extents nesting.ranks.items n.ranks) h
+  allowed apart nesting n EntersMidLoop other h = no_mid_entry flow loops positions well_formed g (entered_right flow loops positions well_formed g n.entered) h
+  allowed apart nesting n UnboundedCycle other h = bounded flow loops positions well_formed g (no_plain_cycle (length flow.places) positions.edges.items extents nesting.ranks.items n.ranks) h
   allowed apart nesting n NestedTooDeep other h = not_deep n.shallow h

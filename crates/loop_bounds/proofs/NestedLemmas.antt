@@ -4,7 +4,7 @@ use Rattle.std.proofs.lemmas.Grind.{flat_map-append}
 use Rattle.std.proofs.lemmas.List.{append-nil, append_assoc, drop-map, map-append, take-append-drop, take-map}
 use Rattle.std.proofs.lemmas.List.Folds.{flat_map-map}
 use Rattle.flow_graph.specs.declared.places.Place.{Place}
-use Rattle.loop_bounds.specs.declared.find.Found.{Found}
+use Rattle.loop_bounds.specs.declared.loop_instances.Found.{Found}
 use Rattle.loop_bounds.specs.declared.nested.Instance.{Instance as Nested, out-Instance, roll-Instance}
 use Rattle.loop_bounds.specs.declared.nested.Instance.TheOpen.{Instance-F}
 use Rattle.loop_bounds.specs.declared.nested.Instance.TheFolds.{fold-roll-Instance, fold_out-Instance}

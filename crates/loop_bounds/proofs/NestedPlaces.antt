@@ -3,7 +3,7 @@
 use Rattle.std.proofs.Common.{◌≡◌, ◌≢◌, ℕ, zero, suc, ◌+◌, ◌-◌, ◌<◌, ◌≤◌, ◌⊎◌, Bool, true, false, List, [], ◌∷◌, ◌++◌, length, map, take, drop, get_or, sym, refl, ap, ◌∙◌, subst, inl, inr, ⊎_elim, arith}
 use Rattle.std.specs.Prelude.{Contains, filter, slice_index}
 use Rattle.std.proofs.lemmas.Bool.{both_ways, cases_lt, cases_Bool}
-use Rattle.std.proofs.lemmas.List.{drop-take, drop_all, get_or-drop, get_or_default, get_or_past, length-drop, length-map, take_all, take_more}
+use Rattle.std.proofs.lemmas.List.{drop-take, drop_all, get_or-drop, get_or_default, get_or_past, length-drop, length-map, take_all, take_more, get_or-map}
 use Rattle.std.proofs.lemmas.List.Elements.{All-filter, Contains-get_or, filter_passes}
 use Rattle.flow_graph.specs.declared.places.Place.{Place}
 use Rattle.flow_graph.specs.declared.places.Place.TheVariants.{Exit}
@@ -14,7 +14,6 @@ use Rattle.loop_bounds.specs.Instance.{Instance, is_member}
 use Rattle.loop_bounds.specs.Nested.{IsInside, members}
 use Rattle.loop_bounds.specs.NestedParts.{HoldsSpan, instance_at, span_at}
 use Rattle.loop_bounds.specs.Tree.{IsSpanOf, IsTree, Tree, place_in}
-use Rattle.loop_bounds.proofs.Moved.{at_map}
 use Rattle.loop_bounds.proofs.NestLemmas.{filter_has}
 use Rattle.loop_bounds.proofs.NestedSpans.{in_from, in_parts, shape_at}
 
@@ -26,7 +25,7 @@ places_more places order so_far low n p le lt inside is before =
     let same : n - low + 1 ≡ n + 1 - low = omega arith in
     let at : low + (n - low) ≡ n = omega arith in
     let len = length-map order (place_at places) in
-    let found : get_or (drop low all) (n - low) Exit ≡ p = get_or-drop low all (n - low) Exit ∙ ap (λ (k : ℕ). get_or all k Exit) at ∙ at_map (place_at places) order n 0 Exit lt ∙ get_or_default places (get_or order n 0) Exit p inside ∙ sym is in
+    let found : get_or (drop low all) (n - low) Exit ≡ p = get_or-drop low all (n - low) Exit ∙ ap (λ (k : ℕ). get_or all k Exit) at ∙ get_or-map (place_at places) order n 0 Exit lt ∙ get_or_default places (get_or order n 0) Exit p inside ∙ sym is in
     ap (λ (ps : List Place). ps ++ p ∷ []) before
     ∙ ap (λ (q : Place). take (n - low) (drop low all) ++ q ∷ []) (sym found)
     ∙ sym (take_more (drop low all) (n - low) Exit (omega (arith, len, length-drop low all)))
@@ -101,7 +100,7 @@ module _ (flow : Flow) (tree : Tree) (t : IsTree flow tree) where
       (cases_Bool (is_member (I k) (place_in flow tree n)))
 
   in_order : (n : ℕ) (d : Place) → n < length (map (place_at flow.places) tree.order) → get_or (map (place_at flow.places) tree.order) n d ≡ place_in flow tree n
-  in_order n d lt = at_map (place_at flow.places) tree.order n exit d (omega (arith, length-map tree.order (place_at flow.places)))
+  in_order n d lt = get_or-map (place_at flow.places) tree.order n exit d (omega (arith, length-map tree.order (place_at flow.places)))
 
   pub members_are : (k : ℕ) → k < length tree.instances → take ((S k).last + 1 - (S k).header) (drop (S k).header (map (place_at flow.places) tree.order)) ≡ members flow tree (I k)
   members_are k lt =

@@ -3,14 +3,13 @@ use Rattle.std.proofs.Common.{◌≡◌, ◌≢◌, ℕ, zero, suc, ◌+◌, ◌
 use Rattle.std.specs.Prelude.{Contains, slice_index}
 use Rattle.std.specs.List.Sorted.{IsNonDecreasingBy}
 use Rattle.std.proofs.lemmas.Bool.{and_from, and_parts, cases_lt, le-leb, leb-true}
-use Rattle.std.proofs.lemmas.List.{get_or_default, length-map, map-append, take-map}
+use Rattle.std.proofs.lemmas.List.{get_or_default, length-map, map-append, take-map, get_or-map}
 use Rattle.std.proofs.lemmas.List.Elements.{Contains-append_left, Contains-append_right, Contains-get_or}
 use Rattle.numbered_walks.specs.declared.span.NumberedEdge.{NumberedEdge}
 use Rattle.numbered_walks.specs.declared.span.Span.{Span}
 use Rattle.numbered_walks.specs.Ordered.{HoldsAll, IsOrdered, is_in}
 use Rattle.loop_bounds.specs.Instance.{Instance}
 use Rattle.loop_bounds.specs.NestedParts.{AreOutermost, HoldsSpan, instance_at, span_at}
-use Rattle.loop_bounds.proofs.Moved.{at_map}
 
 pub in_parts : (s : Span) (n : ℕ) → is_in s n ≡ true → (s.header ≤ n) × (n ≤ s.last)
 in_parts s n h =
@@ -128,7 +127,7 @@ module _ (exit : ℕ) (edges : List NumberedEdge) (spans : List Span) (o : IsOrd
     len = ap length a.headers_are ∙ length-map indexes header_of
 
     header_at : (p : ℕ) → p < length indexes → get_or headers p 0 ≡ (S (get_or indexes p 0)).header
-    header_at p inside = ap (λ (hs : List ℕ). get_or hs p 0) a.headers_are ∙ at_map header_of indexes p 0 0 inside
+    header_at p inside = ap (λ (hs : List ℕ). get_or hs p 0) a.headers_are ∙ get_or-map header_of indexes p 0 0 inside
 
     holds_at : (p : ℕ) → first ≤ p → p < length indexes → HoldsSpan spans k (get_or indexes p 0)
     holds_at p from inside =

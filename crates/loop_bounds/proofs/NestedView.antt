@@ -1,24 +1,23 @@
 -- Each instance is shown under the smallest that it is inside of.
 use Rattle.std.proofs.Common.{◌≡◌, true, ℕ, ◌+◌, ◌-◌, ◌<◌, ◌≤◌, List, [], ◌∷◌, ◌++◌, length, map, take, drop, get_or, sym, ap, ◌∙◌, subst, ⊎_elim, arith}
 use Rattle.std.specs.Prelude.{Contains, All, ◌↔◌}
-use Rattle.std.proofs.lemmas.List.{get_or-drop, get_or_default, length-drop, length-map, map-append, take_all, take_more}
+use Rattle.std.proofs.lemmas.List.{get_or-drop, get_or_default, length-drop, length-map, map-append, take_all, take_more, get_or-map}
 use Rattle.std.proofs.lemmas.List.Elements.{All-nil, All-push, Contains-get_or}
 use Rattle.flow_graph.specs.declared.places.Place.{Place}
 use Rattle.flow_graph.specs.Flow.{Flow}
 use Rattle.numbered_walks.specs.declared.span.Span.{Span}
-use Rattle.loop_bounds.specs.declared.find.Found.{Found}
+use Rattle.loop_bounds.specs.declared.loop_instances.Found.{Found}
 use Rattle.loop_bounds.specs.declared.nested.Outermost.{Outermost}
 use Rattle.loop_bounds.specs.Extents.{found_instance}
 use Rattle.loop_bounds.specs.Instance.{Instance, is_member}
 use Rattle.loop_bounds.specs.Nested.{IsDirectlyInside, IsInside, IsNestedView, IsOutermost, Node, heads, instance_in, members, nodes}
 use Rattle.loop_bounds.specs.NestedParts.{AreNestedUpto, AreOutermost, Encloses, HoldsSpan, IsShown, instance_at, span_at}
 use Rattle.loop_bounds.specs.Tree.{IsTree, Tree}
-use Rattle.loop_bounds.proofs.Moved.{at_map}
 use Rattle.loop_bounds.proofs.NestedSpans.{IsDirectlyIn, direct_from, direct_to, outermost_more}
 use Rattle.loop_bounds.proofs.NestedPlaces.{as_many, inside_from, inside_to, is_of, member_from, member_to}
 
 pub found_at : (found : List Found) (instances : List Instance) (k : ℕ) (f : Found) → map found_instance found ≡ instances → k < length found → f ≡ get_or found k f → found_instance f ≡ instance_at instances k
-found_at found instances k f same lt is = ap found_instance is ∙ sym (at_map found_instance found k f _ lt) ∙ ap (λ (is : List Instance). instance_at is k) same
+found_at found instances k f same lt is = ap found_instance is ∙ sym (get_or-map found_instance found k f _ lt) ∙ ap (λ (is : List Instance). instance_at is k) same
 
 module _ (flow : Flow) (tree : Tree) (t : IsTree flow tree) where
   abbrev I : ℕ → Instance
@@ -72,7 +71,7 @@ module _ (flow : Flow) (tree : Tree) (t : IsTree flow tree) where
     outer_len = ap length (a.outer).outer_are ∙ length-map indexes (instance_at tree.instances)
 
     outer_at : (p : ℕ) (i : Instance) → p < length indexes → get_or outer p i ≡ I (get_or indexes p 0)
-    outer_at p i inside = ap (λ (is : List Instance). get_or is p i) (a.outer).outer_are ∙ at_map (instance_at tree.instances) indexes p 0 i inside
+    outer_at p i inside = ap (λ (is : List Instance). get_or is p i) (a.outer).outer_are ∙ get_or-map (instance_at tree.instances) indexes p 0 i inside
 
     abbrev IsInner : Instance → Type 0
     IsInner i = Contains tree.instances i × IsDirectlyInside flow tree.instances i (I k)
@@ -141,7 +140,7 @@ module _ (flow : Flow) (tree : Tree) (t : IsTree flow tree) where
     outers = heads o.instances.items
 
     outers_at : (p : ℕ) (i : Instance) → p < length all_indexes → get_or outers p i ≡ I (get_or all_indexes p 0)
-    outers_at p i inside = ap (λ (is : List Instance). get_or is p i) (a.outer).outer_are ∙ at_map (instance_at tree.instances) all_indexes p 0 i inside
+    outers_at p i inside = ap (λ (is : List Instance). get_or is p i) (a.outer).outer_are ∙ get_or-map (instance_at tree.instances) all_indexes p 0 i inside
 
     outers_len : length outers ≡ length all_indexes
     outers_len = ap length (a.outer).outer_are ∙ length-map all_indexes (instance_at tree.instances)

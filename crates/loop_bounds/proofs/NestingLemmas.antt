@@ -8,7 +8,7 @@ use Rattle.loop_bounds.specs.declared.fault.NestFault.TheVariants.{Memory, Loops
 use Rattle.numbered_walks.specs.declared.span.NumberedEdge.{NumberedEdge}
 use Rattle.numbered_walks.specs.Ordered.{number_shape}
 use Rattle.loop_bounds.specs.Extents.{AreNested, HaveCrossing}
-use Rattle.loop_bounds.specs.Ground.{EnterRight, HasPlainCycle, IsNestingFault}
+use Rattle.loop_bounds.specs.InPositions.{EnterRight, HasPlainCycle, IsNestingFault}
 use Rattle.loop_bounds.specs.Layout.{AreRanks, IsBack, IsChainFault, IsRankFault}
 
 -- ranks rise along edges that are no back edges

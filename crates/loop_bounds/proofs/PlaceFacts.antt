@@ -2,8 +2,9 @@
 use Rattle.std.proofs.Common.{◌≡◌, ℕ, ◌<◌, ◌≤◌, Bool, true, false, List, length, map, get_or, sym, refl, ap, ◌∙◌, subst, inl, inr, ⊎_elim, arith}
 use Rattle.std.specs.Prelude.{Contains, ◌==◌, ◌&&◌}
 use Rattle.std.proofs.lemmas.Bool.{both_ways, cases_lt, eqb-true, eq-eqb, false_from_ne_true}
-use Rattle.std.proofs.lemmas.List.{get_or_default, length-map}
+use Rattle.std.proofs.lemmas.List.{get_or_default, length-map, get_or-map}
 use Rattle.std.proofs.lemmas.List.Elements.{Contains-get_or}
+use Rattle.std.proofs.Math.Bool.{and_comm}
 use Rattle.walks.specs.Walk.{IsReached}
 use Rattle.walks.specs.Greatest.{is_back_edge}
 use Rattle.flow_graph.specs.declared.places.Place.{Place}
@@ -13,70 +14,63 @@ use Rattle.statement.specs.declared.stated.Loop.{Loop}
 use Rattle.flow_graph.specs.Flow.{Flow, IsWellFormed, edge_shape}
 use Rattle.flow_graph.specs.Places.{place_at}
 use Rattle.loop_bounds.specs.declared.extents.Extent.{Extent}
-use Rattle.loop_bounds.specs.declared.ground.Ground.{Ground}
+use Rattle.loop_bounds.specs.declared.handler_positions.HandlerPositions.{HandlerPositions}
 use Rattle.numbered_walks.specs.declared.span.NumberedEdge.{NumberedEdge}
 use Rattle.numbered_walks.specs.Ordered.{number_shape}
 use Rattle.loop_bounds.specs.Instance.{Instance, IsInstance, is_member, is_header, place_loops}
 use Rattle.loop_bounds.specs.Extents.{EntersRight, HaveCrossing, IsExtentOf, IsWithin, extent_at, found_instance, header_place, is_within}
-use Rattle.loop_bounds.specs.Ground.{EnterRight, EnterWrong, HasPlainCycle, IsGround, IsSound}
+use Rattle.loop_bounds.specs.InPositions.{EnterRight, EnterWrong, HasPlainCycle, AreHandlerPositions, IsSound}
 use Rattle.loop_bounds.specs.Layout.{IsBack, IsEnteredRight, is_back_of}
 use Rattle.loop_bounds.specs.Nest.{HasCrossing, HasMidEntry, HasUnboundedCycle, IsPlainEdge}
 use Rattle.loop_bounds.specs.Tree.{ArePlaceNumbers, NumbersEdge}
 use Rattle.loop_bounds.proofs.CrossFacts as cross
 use Rattle.loop_bounds.proofs.ExtentOf.{header_itself, holds_here, no_instance}
-use Rattle.loop_bounds.proofs.GroundLemmas.{found_has}
-use Rattle.loop_bounds.proofs.Moved.{at_map}
+use Rattle.loop_bounds.proofs.InPlaces.{found_has}
 use Rattle.loop_bounds.proofs.Numbers.{edges_in, flow_cycle, flow_edge, number_once, numbered_cycle, numbered_edge, numbers_reached}
-use Rattle.loop_bounds.proofs.Positions.{listed_length, positions}
+use Rattle.loop_bounds.proofs.Positions.{listed_length, place_numbers}
 use Rattle.loop_bounds.proofs.Within.{from_in, in_from, out_from}
 
-and_turned : (a b : Bool) → (a && b) ≡ (b && a)
-and_turned true true = refl
-and_turned true false = refl
-and_turned false true = refl
-and_turned false false = refl
-
-module _ (flow : Flow) (loops : List Loop) (ground : Ground) (well_formed : IsWellFormed flow) (g : IsGround flow loops ground) where
+module _ (flow : Flow) (loops : List Loop) (positions : HandlerPositions) (well_formed : IsWellFormed flow) (g : AreHandlerPositions flow loops positions) where
   abbrev extents : List Extent
-  extents = ground.extents.items
+  extents = positions.extents.items
 
   abbrev edges : List NumberedEdge
-  edges = ground.edges.items
+  edges = positions.edges.items
 
   abbrev place_of : ℕ → Place
-  place_of = place_at ground.listed.items
+  place_of = place_at positions.listed.items
 
   abbrev exit : ℕ
   exit = length flow.places
 
-  pub len : length ground.listed.items ≡ length flow.places
-  len = listed_length flow.places ground.listed.items g.listed_is
+  pub len : length positions.listed.items ≡ length flow.places
+  len = listed_length flow.places positions.listed.items g.listed_is
 
-  pub numbers : ArePlaceNumbers flow (place_at ground.listed.items)
-  numbers = positions flow ground.listed.items well_formed g.listed_is
+  pub numbers : ArePlaceNumbers flow (place_at positions.listed.items)
+  numbers = place_numbers flow positions.listed.items well_formed g.listed_is
 
   -- ## Instances and extents
 
   abbrev pub instance_at : Extent → Instance
-  instance_at s = found_instance (get_or ground.found.items s.instance no_instance)
+  instance_at s = found_instance (get_or positions.found.items s.instance no_instance)
 
-  pub instance_is : (s : Extent) → Contains ground.extents.items s → IsInstance flow loops (found_instance (get_or ground.found.items s.instance no_instance))
-  instance_is s has = (g.found_are (instance_at s)).0 (found_has ground.found.items s.instance no_instance (g.extents_of.named s has))
+  pub instance_is : (s : Extent) → Contains positions.extents.items s → IsInstance flow loops (found_instance (get_or positions.found.items s.instance no_instance))
+  instance_is s has = (g.found_are (instance_at s)).0 (found_has positions.found.items s.instance no_instance (g.extents_of.named s has))
 
-  pub extent_is : (s : Extent) → Contains ground.extents.items s → IsExtentOf ground.listed.items (found_instance (get_or ground.found.items s.instance no_instance)) s
+  pub extent_is : (s : Extent) → Contains positions.extents.items s → IsExtentOf positions.listed.items (found_instance (get_or positions.found.items s.instance no_instance)) s
   extent_is s has = g.extents_of.are s no_instance has
 
-  pub extent_for : (i : Instance) → IsInstance flow loops i → (s : Extent) × Contains ground.extents.items s × (found_instance (get_or ground.found.items s.instance no_instance) ≡ i)
+  pub extent_for : (i : Instance) → IsInstance flow loops i → (s : Extent) × Contains positions.extents.items s × (found_instance (get_or positions.found.items s.instance no_instance) ≡ i)
   extent_for i is =
       let k = (g.found_are i).1 is in
-      let k_lt : k.0 < length ground.found.items = omega (arith, k.1, length-map ground.found.items found_instance) in
+      let k_lt : k.0 < length positions.found.items = omega (arith, k.1, length-map positions.found.items found_instance) in
       let a = g.extents_of.all k.0 k_lt in
-      (a.0, a.1, ap (λ (n : ℕ). found_instance (get_or ground.found.items n no_instance)) a.2 ∙ sym (at_map found_instance ground.found.items k.0 no_instance i k_lt) ∙ k.2)
+      (a.0, a.1, ap (λ (n : ℕ). found_instance (get_or positions.found.items n no_instance)) a.2 ∙ sym (get_or-map found_instance positions.found.items k.0 no_instance i k_lt) ∙ k.2)
 
-  pub member : (s : Extent) → Contains ground.extents.items s → (p : ℕ) → p ≤ length flow.places → is_member (found_instance (get_or ground.found.items s.instance no_instance)) (place_at ground.listed.items p) ≡ is_within s p
+  pub member : (s : Extent) → Contains positions.extents.items s → (p : ℕ) → p ≤ length flow.places → is_member (found_instance (get_or positions.found.items s.instance no_instance)) (place_at positions.listed.items p) ≡ is_within s p
   member s has p le = (extent_is s has).members p (omega (arith, len))
 
-  pub header : (s : Extent) → Contains ground.extents.items s → (p : ℕ) → p ≤ length flow.places → is_header (found_instance (get_or ground.found.items s.instance no_instance)) (place_at ground.listed.items p) ≡ (p == s.header)
+  pub header : (s : Extent) → Contains positions.extents.items s → (p : ℕ) → p ≤ length flow.places → is_header (found_instance (get_or positions.found.items s.instance no_instance)) (place_at positions.listed.items p) ≡ (p == s.header)
   header s has p le = (extent_is s has).headers p (omega (arith, len))
 
   -- the header's place has its position
@@ -88,10 +82,10 @@ module _ (flow : Flow) (loops : List Loop) (ground : Ground) (well_formed : IsWe
       let same : h.0 ≡ s.header = eqb-true h.0 s.header yes_ in
       (omega arith, ap place_of (sym same) ∙ h.2)
 
-  pub header_in : (s : Extent) → Contains ground.extents.items s → s.header < length flow.places
+  pub header_in : (s : Extent) → Contains positions.extents.items s → s.header < length flow.places
   header_in s has = (header_number s has).0
 
-  pub header_within : (s : Extent) → Contains ground.extents.items s → is_within s s.header ≡ true
+  pub header_within : (s : Extent) → Contains positions.extents.items s → is_within s s.header ≡ true
   header_within s has =
       let h = header_number s has in
       let lt : s.header < exit = h.0 in
@@ -102,11 +96,11 @@ module _ (flow : Flow) (loops : List Loop) (ground : Ground) (well_formed : IsWe
   at_index : (s : Extent) (has : Contains extents s) → get_or extents has.0 s ≡ s
   at_index s has = has.2
 
-  pub apart : (s t : Extent) → Contains ground.extents.items s → Contains ground.extents.items t → s.header ≡ t.header → s ≡ t
+  pub apart : (s t : Extent) → Contains positions.extents.items s → Contains positions.extents.items t → s.header ≡ t.header → s ≡ t
   apart s t s_has t_has same =
-      let place : header_place (get_or ground.found.items s.instance no_instance) ≡ header_place (get_or ground.found.items t.instance no_instance) = sym (header_number s s_has).1 ∙ ap place_of same ∙ (header_number t t_has).1 in
-      let s_in : s.instance < length ground.found.items = g.extents_of.named s s_has in
-      let t_in : t.instance < length ground.found.items = g.extents_of.named t t_has in
+      let place : header_place (get_or positions.found.items s.instance no_instance) ≡ header_place (get_or positions.found.items t.instance no_instance) = sym (header_number s s_has).1 ∙ ap place_of same ∙ (header_number t t_has).1 in
+      let s_in : s.instance < length positions.found.items = g.extents_of.named s s_has in
+      let t_in : t.instance < length positions.found.items = g.extents_of.named t t_has in
       let not_below : s.instance < t.instance → ⊥ = λ less. g.differ s.instance t.instance no_instance less t_in place in
       let not_above : t.instance < s.instance → ⊥ = λ less. g.differ t.instance s.instance no_instance less s_in (sym place) in
       let one : s.instance ≡ t.instance = omega arith in
@@ -114,18 +108,18 @@ module _ (flow : Flow) (loops : List Loop) (ground : Ground) (well_formed : IsWe
       let k : s_has.0 ≡ t_has.0 = g.extents_of.once s_has.0 t_has.0 s s_has.1 t_has.1 (ap (λ (x : Extent). x.instance) s_has.2 ∙ one ∙ ap (λ (x : Extent). x.instance) (sym t_at)) in
       sym s_has.2 ∙ ap (λ (n : ℕ). get_or extents n s) k ∙ t_at
 
-  pub at_extent : (k : ℕ) → k < length ground.extents.items → Contains ground.extents.items (extent_at ground.extents.items k)
+  pub at_extent : (k : ℕ) → k < length positions.extents.items → Contains positions.extents.items (extent_at positions.extents.items k)
   at_extent k lt = Contains-get_or extents k _ lt
 
-  pub within_exit : (s : Extent) → Contains ground.extents.items s → s.end ≤ length flow.places
+  pub within_exit : (s : Extent) → Contains positions.extents.items s → s.end ≤ length flow.places
   within_exit s has = omega (arith, (extent_is s has).inside, len)
 
   -- ## What may be nested
 
-  pub edges_are : (e : NumberedEdge) → Contains ground.edges.items e → (e.from < length flow.places) × (e.to ≤ length flow.places)
+  pub edges_are : (e : NumberedEdge) → Contains positions.edges.items e → (e.from < length flow.places) × (e.to ≤ length flow.places)
   edges_are e has = edges_in flow place_of numbers well_formed edges g.numbered e has
 
-  pub sound : IsSound (length flow.places) ground.edges.items ground.extents.items
+  pub sound : IsSound (length flow.places) positions.edges.items positions.extents.items
   sound = record {
     few = well_formed.few;
     edges_in = λ k d lt. edges_are (get_or edges k d) (Contains-get_or edges k d lt);
@@ -136,17 +130,17 @@ module _ (flow : Flow) (loops : List Loop) (ground : Ground) (well_formed : IsWe
 
   -- ## Crossing
 
-  all_are : (i : Instance) → Contains (map found_instance ground.found.items) i → IsInstance flow loops i
+  all_are : (i : Instance) → Contains (map found_instance positions.found.items) i → IsInstance flow loops i
   all_are i = (g.found_are i).0
 
-  pub crossing : HaveCrossing ground.extents.items → HasCrossing flow loops
-  crossing = cross.crossing flow loops ground.listed.items ground.found.items extents well_formed g.listed_is all_are g.extents_of
+  pub crossing : HaveCrossing positions.extents.items → HasCrossing flow loops
+  crossing = cross.crossing flow loops positions.listed.items positions.found.items extents well_formed g.listed_is all_are g.extents_of
 
-  pub no_crossing : (HaveCrossing ground.extents.items → ⊥) → HasCrossing flow loops → ⊥
-  no_crossing none c = cross.no_crossing flow loops ground.listed.items ground.found.items extents well_formed g.listed_is all_are g.extents_of none c ((g.found_are c.one).1 c.one_is) ((g.found_are c.other).1 c.other_is)
+  pub no_crossing : (HaveCrossing positions.extents.items → ⊥) → HasCrossing flow loops → ⊥
+  no_crossing none c = cross.no_crossing flow loops positions.listed.items positions.found.items extents well_formed g.listed_is all_are g.extents_of none c ((g.found_are c.one).1 c.one_is) ((g.found_are c.other).1 c.other_is)
 
   -- a member's position lies in the extent
-  pub within : (i : Instance) (s : Extent) → Contains ground.extents.items s → found_instance (get_or ground.found.items s.instance no_instance) ≡ i → (p : Place) (n : ℕ) → n ≤ length flow.places → place_at ground.listed.items n ≡ p → is_member i p ≡ is_within s n
+  pub within : (i : Instance) (s : Extent) → Contains positions.extents.items s → found_instance (get_or positions.found.items s.instance no_instance) ≡ i → (p : Place) (n : ℕ) → n ≤ length flow.places → place_at positions.listed.items n ≡ p → is_member i p ≡ is_within s n
   within i s has is p n le at = ap (is_member i) (sym at) ∙ ap (λ (j : Instance). is_member j (place_of n)) (sym is) ∙ member s has n le
 
   index_of : (s : Extent) → (has : Contains extents s) → extent_at extents has.0 ≡ s
@@ -154,30 +148,30 @@ module _ (flow : Flow) (loops : List Loop) (ground : Ground) (well_formed : IsWe
 
   -- ## Entries
 
-  pub entry_in : ground.entry < length flow.places
+  pub entry_in : positions.entry < length flow.places
   entry_in = ⊎_elim
-      (λ (lt : ground.entry < exit). lt)
-      (λ (ge : exit ≤ ground.entry).
-      let top : ground.entry ≡ exit = omega (arith, g.entry_most, len) in
+      (λ (lt : positions.entry < exit). lt)
+      (λ (ge : exit ≤ positions.entry).
+      let top : positions.entry ≡ exit = omega (arith, g.entry_most, len) in
       absurd (well_formed.no_exit (subst (Contains flow.places) (sym g.entry_is ∙ ap place_of top ∙ numbers.exit) well_formed.entry_in)))
-      (cases_lt ground.entry exit)
+      (cases_lt positions.entry exit)
 
   not_header : (s : Extent) → Contains extents s → (p : ℕ) → p ≤ exit → (p ≡ s.header → ⊥) → is_header (instance_at s) (place_of p) ≡ false
   not_header s has p le differ = header s has p le ∙ false_from_ne_true (p == s.header) (λ h. differ (eqb-true p s.header h))
 
-  pub mid_entry : EnterWrong (length flow.places) ground.edges.items ground.entry ground.extents.items → HasMidEntry flow loops
+  pub mid_entry : EnterWrong (length flow.places) positions.edges.items positions.entry positions.extents.items → HasMidEntry flow loops
   mid_entry wrong = ⊎_elim
       (λ w.
       let s : Extent = extent_at extents w.0 in
       let s_has = at_extent w.0 w.1 in
-      let lt : ground.entry < exit = entry_in in
+      let lt : positions.entry < exit = entry_in in
       record {
         instance = instance_at s;
         is = instance_is s s_has;
         place = flow.entry;
         has = well_formed.entry_in;
-        member = ap (is_member (instance_at s)) (sym g.entry_is) ∙ member s s_has ground.entry (omega arith) ∙ from_in s ground.entry w.2;
-        no_header = ap (is_header (instance_at s)) (sym g.entry_is) ∙ not_header s s_has ground.entry (omega arith) w.4;
+        member = ap (is_member (instance_at s)) (sym g.entry_is) ∙ member s s_has positions.entry (omega arith) ∙ from_in s positions.entry w.2;
+        no_header = ap (is_header (instance_at s)) (sym g.entry_is) ∙ not_header s s_has positions.entry (omega arith) w.4;
         entered = inl refl;
       })
       (λ x.
@@ -201,7 +195,7 @@ module _ (flow : Flow) (loops : List Loop) (ground : Ground) (well_formed : IsWe
       wrong
 
   -- extents that are entered at their headers
-  pub entered_right : EnterRight (length flow.places) ground.edges.items ground.entry ground.extents.items → IsEnteredRight ground.edges.items ground.entry ground.extents.items
+  pub entered_right : EnterRight (length flow.places) positions.edges.items positions.entry positions.extents.items → IsEnteredRight positions.edges.items positions.entry positions.extents.items
   entered_right right =
       let at : (e from : ℕ) → EntersRight extents from e → (s : Extent) → Contains extents s → (IsWithin s from → ⊥) → is_within s e ≡ true → e ≡ s.header =
       λ e from enters s has out inside.
@@ -209,10 +203,10 @@ module _ (flow : Flow) (loops : List Loop) (ground : Ground) (well_formed : IsWe
       enters has.0 has.1 (subst (λ (x : Extent). IsWithin x e) (sym is) (in_from s e inside)) (λ h. out (subst (λ (x : Extent). IsWithin x from) is h)) ∙ ap (λ (x : Extent). x.header) is in
       record {
         entered = λ e has s s_has out inside. at e.to e.from (subst (λ (x : NumberedEdge). EntersRight extents x.from x.to) has.2 (right.along has.0 e has.1)) s s_has (out_from s e.from out) inside;
-        entry_at_header = λ s has inside. at ground.entry exit right.at_entry s has (λ h. let end : s.end ≤ exit = within_exit s has in let high : exit < s.end = h.1 in absurd (omega arith)) inside;
+        entry_at_header = λ s has inside. at positions.entry exit right.at_entry s has (λ h. let end : s.end ≤ exit = within_exit s has in let high : exit < s.end = h.1 in absurd (omega arith)) inside;
       }
 
-  pub no_mid_entry : IsEnteredRight ground.edges.items ground.entry ground.extents.items → HasMidEntry flow loops → ⊥
+  pub no_mid_entry : IsEnteredRight positions.edges.items positions.entry positions.extents.items → HasMidEntry flow loops → ⊥
   no_mid_entry right m =
       let s = extent_for m.instance m.is in
       let n = numbers.number m.place m.has in
@@ -222,7 +216,7 @@ module _ (flow : Flow) (loops : List Loop) (ground : Ground) (well_formed : IsWe
       let no_ : (n.0 ≡ (s.0).header) → ⊥ = λ same. both_ways (is_header m.instance m.place) m.no_header (headed ∙ eq-eqb n.0 (s.0).header same) in
       ⊎_elim
       (λ entry.
-      let one : n.0 ≡ ground.entry = numbers.once n.0 ground.entry n.1 entry_in (n.2 ∙ entry ∙ sym g.entry_is) in
+      let one : n.0 ≡ positions.entry = numbers.once n.0 positions.entry n.1 entry_in (n.2 ∙ entry ∙ sym g.entry_is) in
       no_ (one ∙ right.entry_at_header s.0 s.1 (subst (λ (p : ℕ). is_within s.0 p ≡ true) one inside)))
       (λ x.
       let e = numbered_edge flow place_of numbers well_formed edges g.numbered x.0 x.1 in
@@ -234,12 +228,12 @@ module _ (flow : Flow) (loops : List Loop) (ground : Ground) (well_formed : IsWe
 
   -- ## Back edges
 
-  pub back_down : (e : Edge) (n : NumberedEdge) → NumbersEdge (place_at ground.listed.items) (length flow.places) e n → (s : Extent) → Contains ground.extents.items s → is_back_edge edge_shape place_loops (found_instance (get_or ground.found.items s.instance no_instance)) e ≡ is_back_of n s
+  pub back_down : (e : Edge) (n : NumberedEdge) → NumbersEdge (place_at positions.listed.items) (length flow.places) e n → (s : Extent) → Contains positions.extents.items s → is_back_edge edge_shape place_loops (found_instance (get_or positions.found.items s.instance no_instance)) e ≡ is_back_of n s
   back_down e n numbered s has =
       let from_lt : n.from < exit = numbered.from_in in
       let a : is_member (instance_at s) e.from ≡ is_within s n.from = ap (is_member (instance_at s)) (sym numbered.from_is) ∙ member s has n.from (omega arith) in
       let b : is_header (instance_at s) e.to ≡ (n.to == s.header) = ap (is_header (instance_at s)) (sym numbered.to_is) ∙ header s has n.to numbered.to_in in
-      (λ i. a i && b i) ∙ and_turned (is_within s n.from) (n.to == s.header)
+      (λ i. a i && b i) ∙ and_comm (is_within s n.from) (n.to == s.header)
 
   plain_up : (n : NumberedEdge) → Contains edges n × (IsBack extents n → ⊥) → (e : Edge) × IsPlainEdge flow loops e × NumbersEdge place_of exit e n
   plain_up n plain =
@@ -259,11 +253,11 @@ module _ (flow : Flow) (loops : List Loop) (ground : Ground) (well_formed : IsWe
       let n = numbered_edge flow place_of numbers well_formed edges g.numbered e plain.has in
       (n.0, (n.1, λ back. both_ways (is_back_of n.0 back.0) (sym (back_down e n.0 n.2 back.0 back.1) ∙ plain.plain (instance_at back.0) (instance_is back.0 back.1)) back.2), n.2)
 
-  pub unbounded : HasPlainCycle ground.edges.items ground.extents.items → HasUnboundedCycle flow loops
+  pub unbounded : HasPlainCycle positions.edges.items positions.extents.items → HasUnboundedCycle flow loops
   unbounded = flow_cycle flow place_of numbers well_formed edges g.numbered (IsPlainEdge flow loops) (λ n. Contains edges n × (IsBack extents n → ⊥)) plain_up
 
-  pub bounded : (HasPlainCycle ground.edges.items ground.extents.items → ⊥) → HasUnboundedCycle flow loops → ⊥
+  pub bounded : (HasPlainCycle positions.edges.items positions.extents.items → ⊥) → HasUnboundedCycle flow loops → ⊥
   bounded none cycle = none (numbered_cycle flow place_of numbers well_formed edges g.numbered (IsPlainEdge flow loops) (λ n. Contains edges n × (IsBack extents n → ⊥)) plain_down cycle)
 
-  pub reached : (p : ℕ) → p < length flow.places → IsReached number_shape (Contains ground.edges.items) ground.entry p
-  reached p lt = numbers_reached flow place_of numbers well_formed edges g.numbered ground.entry (omega (arith, entry_in)) g.entry_is p lt
+  pub reached : (p : ℕ) → p < length flow.places → IsReached number_shape (Contains positions.edges.items) positions.entry p
+  reached p lt = numbers_reached flow place_of numbers well_formed edges g.numbered positions.entry (omega (arith, entry_in)) g.entry_is p lt

@@ -17,7 +17,7 @@ use Rattle.flow_graph.specs.declared.places.Place.TheVariants.{Exit}
 use Rattle.flow_graph.specs.Flow.{Flow, IsWellFormed}
 use Rattle.flow_graph.specs.Places.{place_cmp, place_at}
 use Rattle.flow_graph.specs.Search.{by_order}
-use Rattle.flow_graph.proofs.PlaceLemmas.{place_total, place_exact, by_order_is_place_cmp}
+use Rattle.flow_graph.proofs.PlaceLemmas.{by_place, place_total, place_exact}
 use Rattle.loop_bounds.specs.Keys.{IsListed, by_key, key_of}
 use Rattle.loop_bounds.specs.Tree.{ArePlaceNumbers}
 use Rattle.loop_bounds.proofs.KeyLemmas.{before_is, same_by_order, same_key}
@@ -54,11 +54,8 @@ position_found listed p r sorted = found_at by_key (λ q. tied_itself nat_list_c
 not_less : (a b : Ordering) → a ≡ ordering_reverse b → b ≡ Less → is_lt a ≡ false
 not_less a b is less = ap is_lt (is ∙ ap ordering_reverse less)
 
-sorted : (places : List Place) → IsStrictlySortedBy place_cmp places → IsSorted place_cmp places
+pub sorted : (places : List Place) → IsStrictlySortedBy place_cmp places → IsSorted place_cmp places
 sorted places ordered k d low high = not_less (place_cmp (get_or places (k + 1) d) (get_or places k d)) (place_cmp (get_or places k d) (get_or places (k + 1) d)) (place_total.antisymm (get_or places (k + 1) d) (get_or places k d)) (Less-from_sorted place_cmp places k (k + 1) d ordered (omega arith) high)
-
-by_place : by_order ≡ place_cmp
-by_place = λ i x y. by_order_is_place_cmp x y i
 
 same_place : (p : Place) → place_cmp p p ≡ Equal
 same_place p = tied_itself place_total p
@@ -91,8 +88,8 @@ pub listed_from : (places listed : List Place) → IsListed places listed → (p
 listed_from places listed l p = Contains-permutation listed places p (IsPermutation-sym places listed l.moved)
 
 -- each position stands for one place
-pub positions : (flow : Flow) (listed : List Place) → IsWellFormed flow → IsListed flow.places listed → ArePlaceNumbers flow (place_at listed)
-positions flow listed well_formed l =
+pub place_numbers : (flow : Flow) (listed : List Place) → IsWellFormed flow → IsListed flow.places listed → ArePlaceNumbers flow (place_at listed)
+place_numbers flow listed well_formed l =
     let len : length listed ≡ length flow.places = listed_length flow.places listed l in
     record {
       exit = get_or_past listed (length flow.places) Exit (omega arith);

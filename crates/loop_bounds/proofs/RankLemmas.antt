@@ -8,6 +8,7 @@ use Rattle.numbered_walks.specs.Ordered.{number_shape}
 use Rattle.loop_bounds.specs.Extents.{is_within}
 use Rattle.loop_bounds.specs.Keys.{is_before}
 use Rattle.loop_bounds.specs.Layout.{is_back_of, IsBack, IsRank, IsEnteredRight, key_in, HoldsLater, HoldLater}
+use Rattle.numbered_walks.proofs.Nesting.{AllPairs-tail}
 
 -- an edge to the place that is no back edge
 pub record Forward (edges : List NumberedEdge) (extents : List Extent) (p : ℕ) : Type 0 where
@@ -25,9 +26,6 @@ there s extents t at = (suc at.0, omega (arith, at.1), at.2)
 either : (s : Extent) (extents : List Extent) (t : Extent) → Contains (s ∷ extents) t → (t ≡ s) ⊎ Contains extents t
 either s extents t (zero, lt, is) = inl (sym is)
 either s extents t (suc k, lt, is) = inr (k, omega arith, is)
-
-pairs_tail : {X : Type 0} (R : X → X → Type 0) (x : X) (xs : List X) → AllPairs R (x ∷ xs) → AllPairs R xs
-pairs_tail R x xs pairs a b d lt inside = pairs (suc a) (suc b) d (omega arith) (omega arith)
 
 pairs_head : {X : Type 0} (R : X → X → Type 0) (x : X) (xs : List X) → AllPairs R (x ∷ xs) → (y : X) → Contains xs y → R x y
 pairs_head R x xs pairs y (k, lt, is) = subst (λ (z : _). R x z) is (pairs 0 (suc k) y (omega arith) (omega arith))
@@ -170,7 +168,7 @@ module _ (edges : List NumberedEdge) (entry exit : ℕ) (extents : List Extent) 
     key_up [] part nested e in_graph no_back = starts_before (key [] e.from) (key [] e.to) (rank e.from) (rank e.to) ([], refl) ([], refl) (up e in_graph no_back)
     key_up (s ∷ rest) part nested e in_graph no_back =
         let lower : rank e.from < rank e.to = up e in_graph no_back in
-        let later : is_before (key rest e.from) (key rest e.to) ≡ true = key_up rest (part_tail s rest part) (pairs_tail HoldsLater s rest nested) e in_graph no_back in
+        let later : is_before (key rest e.from) (key rest e.to) ≡ true = key_up rest (part_tail s rest part) (AllPairs-tail HoldsLater s rest nested) e in_graph no_back in
         ⊎_elim
         (λ from_in. ⊎_elim
         (λ to_in. both_before s rest e.from e.to from_in to_in later)
@@ -253,7 +251,7 @@ module _ (edges : List NumberedEdge) (entry exit : ℕ) (extents : List Extent) 
           (λ out. ⊎_elim
           (λ is. absurd (both_ways (is_within s p) out (subst (λ (z : Extent). is_within z p ≡ true) is i_p)))
           (λ later.
-          let h = same_start rest (part_tail s rest part) (pairs_tail HoldsLater s rest nested) i later p r i_p i_r in
+          let h = same_start rest (part_tail s rest part) (AllPairs-tail HoldsLater s rest nested) i later p r i_p i_r in
           let out_r : is_within s r ≡ false = not_held_by s rest nested i at p out i_p r i_r in
           (h.0, there s rest h.0 h.1, h.2, (h.3.0, key_without s rest p out ∙ h.3.1), (h.4.0, key_without s rest r out_r ∙ h.4.1)))
           (either s rest i at))
@@ -270,7 +268,7 @@ module _ (edges : List NumberedEdge) (entry exit : ℕ) (extents : List Extent) 
           ⊎_elim
           (λ s_x. ⊎_elim
           (λ is. subst (λ (z : Extent). is_within z x ≡ true) (sym is) s_x)
-          (λ later. together rest (part_tail s rest part) (pairs_tail HoldsLater s rest nested) i later p r x place i_p i_r
+          (λ later. together rest (part_tail s rest part) (AllPairs-tail HoldsLater s rest nested) i later p r x place i_p i_r
           (same_not_before (rank s.header) (key rest x) (key rest p) ((λ j. is_before (sym (key_with s rest x s_x) j) (sym (key_with s rest p s_p) j)) ∙ low))
           (same_not_before (rank s.header) (key rest r) (key rest x) ((λ j. is_before (sym (key_with s rest r s_r) j) (sym (key_with s rest x s_x) j)) ∙ high)))
           (either s rest i at))
@@ -287,12 +285,12 @@ module _ (edges : List NumberedEdge) (entry exit : ℕ) (extents : List Extent) 
           (λ is. absurd (both_ways (is_within s p) out_p (subst (λ (z : Extent). is_within z p ≡ true) is i_p)))
           (λ later. ⊎_elim
           (λ s_x.
-          let st = same_start rest (part_tail s rest part) (pairs_tail HoldsLater s rest nested) i later p r i_p i_r in
+          let st = same_start rest (part_tail s rest part) (AllPairs-tail HoldsLater s rest nested) i later p r i_p i_r in
           let above : rank st.0.header ≤ rank s.header = not_before (key (s ∷ rest) x) (key (s ∷ rest) p) (rank s.header) (rank st.0.header) (key rest x, key_with s rest x s_x) (st.3.0, key_without s rest p out_p ∙ st.3.1) low in
           let below : rank s.header ≤ rank st.0.header = not_before (key (s ∷ rest) r) (key (s ∷ rest) x) (rank st.0.header) (rank s.header) (st.4.0, key_without s rest r out_r ∙ st.4.1) (key rest x, key_with s rest x s_x) high in
           let e : st.0 ≡ s = same_span s st.0 s_at (part st.0 (there s rest st.0 st.1)) (omega arith) in
           absurd (both_ways (is_within s p) out_p (subst (λ (z : Extent). is_within z p ≡ true) e st.2)))
-          (λ out_x. together rest (part_tail s rest part) (pairs_tail HoldsLater s rest nested) i later p r x place i_p i_r
+          (λ out_x. together rest (part_tail s rest part) (AllPairs-tail HoldsLater s rest nested) i later p r x place i_p i_r
           ((λ j. is_before (sym (key_without s rest x out_x) j) (sym (key_without s rest p out_p) j)) ∙ low)
           ((λ j. is_before (sym (key_without s rest r out_r) j) (sym (key_without s rest x out_x) j)) ∙ high))
           (cases_Bool (is_within s x)))

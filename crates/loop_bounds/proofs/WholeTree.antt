@@ -4,28 +4,28 @@ use Rattle.std.specs.Prelude.{Contains, All, AllPairs, ◌↔◌}
 use Rattle.std.specs.Cmp.{IsStrictWeakOrder}
 use Rattle.std.proofs.lemmas.Bool.{cases_eq, cases_lt, eqb-true, and_parts, false_from_ne_true, leb-true}
 use Rattle.std.proofs.lemmas.Cmp.{nat_cmp_total, then_total, on_total, back_total}
-use Rattle.std.proofs.lemmas.List.{get_or_default, get_or_past, length-map, take_all}
+use Rattle.std.proofs.lemmas.List.{get_or_default, get_or_past, length-map, take_all, get_or-map}
 use Rattle.std.proofs.lemmas.List.Elements.{Contains-get_or}
-use Rattle.std.proofs.lemmas.List.Sums.{sum_by-cons}
 use Rattle.std.proofs.lemmas.List.Sorted.{ranks_by, sorted_far, Contains-permutation, IsPermutation-sym, length_permutation, sum_by-IsPermutation}
 use Rattle.flow_graph.specs.declared.places.Place.TheVariants.{Exit}
 use Rattle.statement.specs.declared.stated.Loop.{Loop}
 use Rattle.flow_graph.specs.Flow.{Flow, IsWellFormed}
 use Rattle.flow_graph.specs.Places.{place_at}
 use Rattle.loop_bounds.specs.declared.extents.Extent.{Extent}
-use Rattle.loop_bounds.specs.declared.find.Found.{Found}
-use Rattle.loop_bounds.specs.declared.ground.Ground.{Ground}
+use Rattle.loop_bounds.specs.declared.loop_instances.Found.{Found}
+use Rattle.loop_bounds.specs.declared.handler_positions.HandlerPositions.{HandlerPositions}
 use Rattle.loop_bounds.specs.declared.nesting.Nesting.{Nesting}
 use Rattle.numbered_walks.specs.declared.span.NumberedEdge.{NumberedEdge}
 use Rattle.numbered_walks.specs.declared.span.Span.{Span}
 use Rattle.loop_bounds.specs.Instance.{Instance, is_member, is_header}
 use Rattle.loop_bounds.specs.Extents.{extent_at, found_instance, is_within}
-use Rattle.loop_bounds.specs.Ground.{IsGround, IsNesting}
+use Rattle.loop_bounds.specs.InPositions.{AreHandlerPositions, IsNesting}
 use Rattle.loop_bounds.specs.Layout.{AreMoved, AreNumbers, AreParted, ArePlaced, AreShown, IsLaidOut, IsShown, depth_at, is_back_of, key_in, opens_after}
 use Rattle.numbered_walks.specs.Ordered.{ClosesBefore, GoesUpOrBack, HoldsAll, IsEnteredUp, IsOrdered, is_in}
 use Rattle.loop_bounds.specs.Tree.{AreSpansOf, IsNumbered, IsTree, Tree, place_in}
+use Rattle.loop_bounds.proofs.ChainLemmas.{count_cons}
 use Rattle.loop_bounds.proofs.ExtentOf.{no_instance, then_order}
-use Rattle.loop_bounds.proofs.Moved.{at_map, numbers_once}
+use Rattle.loop_bounds.proofs.Moved.{numbers_once}
 use Rattle.loop_bounds.proofs.PlaceFacts.{apart, edges_are, entered_right, entry_in, header, header_in, header_within, len, member, numbers, reached, within_exit}
 use Rattle.loop_bounds.proofs.Positions.{places_once}
 use Rattle.loop_bounds.proofs.RankLemmas.{is_back_any}
@@ -36,9 +36,6 @@ no_span = (record { header = 0; last = 0; bound = 0 }, 0)
 
 closing_ranks : IsStrictWeakOrder opens_after
 closing_ranks = ranks_by (then_total (on_total (λ (x : Span × ℕ). x.0.last) nat_cmp_total) (back_total (on_total (λ (x : Span × ℕ). x.0.header) nat_cmp_total))) (λ (x : Span × ℕ). x)
-
-count_cons : {X : Type 0} (f : X → Bool) (x : X) (xs : List X) → count_by f (x ∷ xs) ≡ cond {A = ℕ} (f x) 1 0 + count_by f xs
-count_cons f x xs = sum_by-cons (λ y. cond {A = ℕ} (f y) 1 0) x xs
 
 -- tests of two lists that agree in turn
 count_same : {X Y : Type 0} (f : X → Bool) (g : Y → Bool) (xs : List X) (ys : List Y) → length xs ≡ length ys → ((k : ℕ) (d : X) (e : Y) → k < length xs → f (get_or xs k d) ≡ g (get_or ys k e)) → count_by f xs ≡ count_by g ys
@@ -73,12 +70,12 @@ in_parts t k h =
 strict : (a b : ℕ) → b ≤ a → (a ≡ b → ⊥) → b < a
 strict a b le differ = omega arith
 
-module _ (flow : Flow) (loops : List Loop) (ground : Ground) (well_formed : IsWellFormed flow) (g : IsGround flow loops ground) (nesting : Nesting) (n : IsNesting (length flow.places) ground.edges.items ground.entry ground.extents.items nesting) (order numbers_list : List ℕ) (laid : IsLaidOut (key_in (slice_index nesting.ranks.items) ground.extents.items) (length flow.places) order) (numbered : AreNumbers order numbers_list (length order)) where
+module _ (flow : Flow) (loops : List Loop) (positions : HandlerPositions) (well_formed : IsWellFormed flow) (g : AreHandlerPositions flow loops positions) (nesting : Nesting) (n : IsNesting (length flow.places) positions.edges.items positions.entry positions.extents.items nesting) (order numbers_list : List ℕ) (laid : IsLaidOut (key_in (slice_index nesting.ranks.items) positions.extents.items) (length flow.places) order) (numbered : AreNumbers order numbers_list (length order)) where
   abbrev extents : List Extent
-  extents = ground.extents.items
+  extents = positions.extents.items
 
   abbrev edges : List NumberedEdge
-  edges = ground.edges.items
+  edges = positions.edges.items
 
   abbrev exit : ℕ
   exit = length flow.places
@@ -86,27 +83,27 @@ module _ (flow : Flow) (loops : List Loop) (ground : Ground) (well_formed : IsWe
   abbrev rank : ℕ → ℕ
   rank = slice_index nesting.ranks.items
 
-  plan : IsPlan edges ground.entry exit extents rank order numbers_list
+  plan : IsPlan edges positions.entry exit extents rank order numbers_list
   plan = record {
-    entered = entered_right flow loops ground well_formed g n.entered;
-    apart = apart flow loops ground well_formed g;
+    entered = entered_right flow loops positions well_formed g n.entered;
+    apart = apart flow loops positions well_formed g;
     up = n.ranks.up;
-    reached = reached flow loops ground well_formed g;
-    edges_in = edges_are flow loops ground well_formed g;
+    reached = reached flow loops positions well_formed g;
+    edges_in = edges_are flow loops positions well_formed g;
     once = n.ranks.once;
-    header_in = header_in flow loops ground well_formed g;
-    header_within = header_within flow loops ground well_formed g;
-    ends = within_exit flow loops ground well_formed g;
+    header_in = header_in flow loops positions well_formed g;
+    header_within = header_within flow loops positions well_formed g;
+    ends = within_exit flow loops positions well_formed g;
     later = hold_later extents nesting.parents.items n.nested;
     laid = laid;
     numbered = numbered;
-    entry_in = entry_in flow loops ground well_formed g;
+    entry_in = entry_in flow loops positions well_formed g;
   }
 
   back_of : (p : ℕ) → p < exit → (get_or numbers_list p 0 < exit) × (get_or order (get_or numbers_list p 0) 0 ≡ p)
-  back_of p lt = number_back edges ground.entry exit extents rank order numbers_list plan p lt
+  back_of p lt = number_back edges positions.entry exit extents rank order numbers_list plan p lt
 
-  module _ (closing : List (Span × ℕ)) (shown : AreShown numbers_list ground.found.items extents closing) (instances : List Found) (spans : List Span) (parted_upto : AreParted ground.found.items closing instances spans (length closing)) (indexes : List ℕ) (placed : ArePlaced flow.places ground.listed.items order indexes) (moved : List NumberedEdge) (moves : AreMoved numbers_list edges moved (length edges)) where
+  module _ (closing : List (Span × ℕ)) (shown : AreShown numbers_list positions.found.items extents closing) (instances : List Found) (spans : List Span) (parted_upto : AreParted positions.found.items closing instances spans (length closing)) (indexes : List ℕ) (placed : ArePlaced flow.places positions.listed.items order indexes) (moved : List NumberedEdge) (moves : AreMoved numbers_list edges moved (length edges)) where
     parted_spans : spans ≡ map (λ (x : Span × ℕ). x.0) closing
     parted_spans = parted_upto.spans_are ∙ ap (map (λ (x : Span × ℕ). x.0)) (take_all (length closing) closing (omega arith))
 
@@ -115,20 +112,20 @@ module _ (flow : Flow) (loops : List Loop) (ground : Ground) (well_formed : IsWe
 
     -- ## Places
 
-    place_is : (k : ℕ) → k ≤ exit → place_in flow tree k ≡ place_at ground.listed.items (get_or order k 0)
+    place_is : (k : ℕ) → k ≤ exit → place_in flow tree k ≡ place_at positions.listed.items (get_or order k 0)
     place_is k le = ⊎_elim
         (λ (lt : k < exit). ap (place_at flow.places) (get_or_default indexes k exit 0 (omega (arith, placed.whole))) ∙ placed.each k lt)
         (λ (ge : exit ≤ k).
         let top : k ≡ exit = omega arith in
         let last : get_or indexes k exit ≡ exit = get_or_default indexes k exit 0 (omega (arith, placed.whole)) ∙ ap (λ (x : ℕ). get_or indexes x 0) top ∙ placed.exit_last in
         ap (place_at flow.places) last ∙ get_or_past flow.places exit Exit (omega arith)
-        ∙ sym (ap (place_at ground.listed.items) (ap (λ (x : ℕ). get_or order x 0) top ∙ laid.exit_last) ∙ (numbers flow loops ground well_formed g).exit))
+        ∙ sym (ap (place_at positions.listed.items) (ap (λ (x : ℕ). get_or order x 0) top ∙ laid.exit_last) ∙ (numbers flow loops positions well_formed g).exit))
         (cases_lt k exit)
 
     -- ## Spans
 
     -- each of the pairs is an extent's
-    source : (x : Span × ℕ) → Contains closing x → (s : Extent) × Contains extents s × (x.1 ≡ s.instance) × IsShown numbers_list s (get_or ground.found.items s.instance no_instance).stated.bound x.0
+    source : (x : Span × ℕ) → Contains closing x → (s : Extent) × Contains extents s × (x.1 ≡ s.instance) × IsShown numbers_list s (get_or positions.found.items s.instance no_instance).stated.bound x.0
     source x has =
         let k = Contains-permutation closing shown.turn x (IsPermutation-sym shown.turn closing shown.moved) has in
         let k_lt : k.0 < length extents = omega (arith, k.1, (shown.turn_is).same) in
@@ -136,15 +133,15 @@ module _ (flow : Flow) (loops : List Loop) (ground : Ground) (well_formed : IsWe
           s,
           Contains-get_or extents k.0 _ k_lt,
           ap (λ (y : Span × ℕ). y.1) (sym k.2) ∙ (shown.turn_is).named k.0 _ x k_lt,
-          subst (λ (y : Span × ℕ). IsShown numbers_list s (get_or ground.found.items s.instance no_instance).stated.bound y.0) k.2 ((shown.turn_is).shown k.0 _ no_instance x k_lt),
+          subst (λ (y : Span × ℕ). IsShown numbers_list s (get_or positions.found.items s.instance no_instance).stated.bound y.0) k.2 ((shown.turn_is).shown k.0 _ no_instance x k_lt),
         )
 
     -- each extent has a pair
-    target : (s : Extent) → Contains extents s → (x : Span × ℕ) × Contains closing x × IsShown numbers_list s (get_or ground.found.items s.instance no_instance).stated.bound x.0
+    target : (s : Extent) → Contains extents s → (x : Span × ℕ) × Contains closing x × IsShown numbers_list s (get_or positions.found.items s.instance no_instance).stated.bound x.0
     target s has =
         let x : Span × ℕ = get_or shown.turn has.0 no_span in
         let in_turn : Contains shown.turn x = Contains-get_or shown.turn has.0 no_span (omega (arith, has.1, (shown.turn_is).same)) in
-        (x, Contains-permutation shown.turn closing x shown.moved in_turn, subst (λ (t : Extent). IsShown numbers_list t (get_or ground.found.items t.instance no_instance).stated.bound x.0) has.2 ((shown.turn_is).shown has.0 s no_instance no_span has.1))
+        (x, Contains-permutation shown.turn closing x shown.moved in_turn, subst (λ (t : Extent). IsShown numbers_list t (get_or positions.found.items t.instance no_instance).stated.bound x.0) has.2 ((shown.turn_is).shown has.0 s no_instance no_span has.1))
 
     target_named : (s : Extent) (has : Contains extents s) → (target s has).0.1 ≡ s.instance
     unfolding target
@@ -154,16 +151,16 @@ module _ (flow : Flow) (loops : List Loop) (ground : Ground) (well_formed : IsWe
     spans_len = ap length parted_spans ∙ length-map closing (λ (x : Span × ℕ). x.0)
 
     span_at : (k : ℕ) (d : Span) → k < length closing → get_or spans k d ≡ (get_or closing k no_span).0
-    span_at k d lt = ap (λ (xs : List Span). get_or xs k d) parted_spans ∙ at_map (λ (x : Span × ℕ). x.0) closing k no_span d lt
+    span_at k d lt = ap (λ (xs : List Span). get_or xs k d) parted_spans ∙ get_or-map (λ (x : Span × ℕ). x.0) closing k no_span d lt
 
-    span_source : (t : Span) → Contains spans t → (s : Extent) × Contains extents s × IsShown numbers_list s (get_or ground.found.items s.instance no_instance).stated.bound t
+    span_source : (t : Span) → Contains spans t → (s : Extent) × Contains extents s × IsShown numbers_list s (get_or positions.found.items s.instance no_instance).stated.bound t
     span_source t has =
         let k_lt : has.0 < length closing = omega (arith, has.1, spans_len) in
         let x = source (get_or closing has.0 no_span) (Contains-get_or closing has.0 no_span k_lt) in
         let at : (get_or closing has.0 no_span).0 ≡ t = sym (span_at has.0 t k_lt) ∙ has.2 in
-        (x.0, x.1, subst (λ (u : Span). IsShown numbers_list x.0 (get_or ground.found.items (x.0).instance no_instance).stated.bound u) at x.3)
+        (x.0, x.1, subst (λ (u : Span). IsShown numbers_list x.0 (get_or positions.found.items (x.0).instance no_instance).stated.bound u) at x.3)
 
-    span_target : (s : Extent) → Contains extents s → (t : Span) × Contains spans t × IsShown numbers_list s (get_or ground.found.items s.instance no_instance).stated.bound t
+    span_target : (s : Extent) → Contains extents s → (t : Span) × Contains spans t × IsShown numbers_list s (get_or positions.found.items s.instance no_instance).stated.bound t
     span_target s has =
         let x = target s has in
         let k_lt : (x.1).0 < length closing = (x.1).1 in
@@ -171,7 +168,7 @@ module _ (flow : Flow) (loops : List Loop) (ground : Ground) (well_formed : IsWe
         ((x.0).0, ((x.1).0, omega (arith, spans_len), span_at (x.1).0 (x.0).0 k_lt ∙ ap (λ (y : Span × ℕ). y.0) at), x.2)
 
     holds : (s : Extent) (has : Contains extents s) (bound : ℕ) (t : Span) → IsShown numbers_list s bound t → (k : ℕ) → k ≤ exit → is_in t k ≡ is_within s (get_or order k 0)
-    holds s has bound t is k le = span_holds edges ground.entry exit extents rank order numbers_list plan s has bound t is k le
+    holds s has bound t is k le = span_holds edges positions.entry exit extents rank order numbers_list plan s has bound t is k le
 
     order_upto : (m : ℕ) → m ≤ exit → get_or order m 0 ≤ exit
     order_upto m le = ⊎_elim
@@ -187,15 +184,15 @@ module _ (flow : Flow) (loops : List Loop) (ground : Ground) (well_formed : IsWe
           let k_lt : k < length closing = omega (arith, parted_upto.same) in
           let x = source (get_or closing k no_span) (Contains-get_or closing k no_span k_lt) in
           let s : Extent = x.0 in
-          let named : get_or (map found_instance instances) k i ≡ found_instance (get_or ground.found.items s.instance no_instance) =
-          at_map found_instance instances k no_instance i k_in ∙ ap found_instance (parted_upto.named k no_instance no_span k_lt ∙ ap (λ (m : ℕ). get_or ground.found.items m no_instance) x.2) in
+          let named : get_or (map found_instance instances) k i ≡ found_instance (get_or positions.found.items s.instance no_instance) =
+          get_or-map found_instance instances k no_instance i k_in ∙ ap found_instance (parted_upto.named k no_instance no_span k_lt ∙ ap (λ (m : ℕ). get_or positions.found.items m no_instance) x.2) in
           rw (named, span_at k t k_lt) (record {
             members = λ m le.
                 let p_in : get_or order m 0 ≤ exit = order_upto m le in
-                ap (is_member (found_instance (get_or ground.found.items s.instance no_instance))) (place_is m le) ∙ member flow loops ground well_formed g s x.1 (get_or order m 0) p_in ∙ sym (holds s x.1 _ _ x.3 m le);
+                ap (is_member (found_instance (get_or positions.found.items s.instance no_instance))) (place_is m le) ∙ member flow loops positions well_formed g s x.1 (get_or order m 0) p_in ∙ sym (holds s x.1 _ _ x.3 m le);
             headers = λ m le.
                 let p_in : get_or order m 0 ≤ exit = order_upto m le in
-                ap (is_header (found_instance (get_or ground.found.items s.instance no_instance))) (place_is m le) ∙ header flow loops ground well_formed g s x.1 (get_or order m 0) p_in ∙ span_header edges ground.entry exit extents rank order numbers_list plan s x.1 _ _ x.3 m le;
+                ap (is_header (found_instance (get_or positions.found.items s.instance no_instance))) (place_is m le) ∙ header flow loops positions well_formed g s x.1 (get_or order m 0) p_in ∙ span_header edges positions.entry exit extents rank order numbers_list plan s x.1 _ _ x.3 m le;
             bound = (x.3).bound_is;
           });
     }
@@ -205,7 +202,7 @@ module _ (flow : Flow) (loops : List Loop) (ground : Ground) (well_formed : IsWe
     new_upto : (p : ℕ) → p ≤ exit → get_or numbers_list p 0 ≤ exit
     new_upto p le = ⊎_elim
         (λ (lt : p < exit). let h = back_of p lt in omega (arith, h.0))
-        (λ (ge : exit ≤ p). let top : p ≡ exit = omega arith in let at : get_or numbers_list p 0 ≡ exit = ap (λ (x : ℕ). get_or numbers_list x 0) top ∙ number_exit edges ground.entry exit extents rank order numbers_list plan in omega arith)
+        (λ (ge : exit ≤ p). let top : p ≡ exit = omega arith in let at : get_or numbers_list p 0 ≡ exit = ap (λ (x : ℕ). get_or numbers_list x 0) top ∙ number_exit edges positions.entry exit extents rank order numbers_list plan in omega arith)
         (cases_lt p exit)
 
     order_new : (p : ℕ) → p ≤ exit → get_or order (get_or numbers_list p 0) 0 ≡ p
@@ -213,7 +210,7 @@ module _ (flow : Flow) (loops : List Loop) (ground : Ground) (well_formed : IsWe
         (λ (lt : p < exit). (back_of p lt).1)
         (λ (ge : exit ≤ p).
         let top : p ≡ exit = omega arith in
-        ap (λ (x : ℕ). get_or order (get_or numbers_list x 0) 0) top ∙ ap (λ (x : ℕ). get_or order x 0) (number_exit edges ground.entry exit extents rank order numbers_list plan) ∙ laid.exit_last ∙ sym top)
+        ap (λ (x : ℕ). get_or order (get_or numbers_list x 0) 0) top ∙ ap (λ (x : ℕ). get_or order x 0) (number_exit edges positions.entry exit extents rank order numbers_list plan) ∙ laid.exit_last ∙ sym top)
         (cases_lt p exit)
 
     moved_from : (e : NumberedEdge) → Contains moved e → (d : NumberedEdge) × Contains edges d × (e.from ≡ get_or numbers_list d.from 0) × (e.to ≡ get_or numbers_list d.to 0)
@@ -241,8 +238,8 @@ module _ (flow : Flow) (loops : List Loop) (ground : Ground) (well_formed : IsWe
           let new_from_lt : get_or numbers_list (get_or edges k m).from 0 < exit = from_new.0 in
           let to_up = new_upto (get_or edges k m).to old.to_in in
           record {
-            from_is = ap (place_in flow tree) mv.from_is ∙ place_is (get_or numbers_list (get_or edges k m).from 0) (omega arith) ∙ ap (place_at ground.listed.items) from_new.1 ∙ old.from_is;
-            to_is = ap (place_in flow tree) mv.to_is ∙ place_is (get_or numbers_list (get_or edges k m).to 0) to_up ∙ ap (place_at ground.listed.items) (order_new (get_or edges k m).to old.to_in) ∙ old.to_is;
+            from_is = ap (place_in flow tree) mv.from_is ∙ place_is (get_or numbers_list (get_or edges k m).from 0) (omega arith) ∙ ap (place_at positions.listed.items) from_new.1 ∙ old.from_is;
+            to_is = ap (place_in flow tree) mv.to_is ∙ place_is (get_or numbers_list (get_or edges k m).to 0) to_up ∙ ap (place_at positions.listed.items) (order_new (get_or edges k m).to old.to_in) ∙ old.to_is;
             cost_is = mv.cost_is ∙ old.cost_is;
             from_in = omega (arith, mv.from_is);
             to_in = omega (arith, mv.to_is, to_up);
@@ -252,18 +249,18 @@ module _ (flow : Flow) (loops : List Loop) (ground : Ground) (well_formed : IsWe
     -- ## What holds of the numbers
 
     some : 0 < exit
-    some = omega (arith, entry_in flow loops ground well_formed g)
+    some = omega (arith, entry_in flow loops positions well_formed g)
 
     moved_places : (e : NumberedEdge) → Contains moved e → (e.from < exit) × (e.to ≤ exit)
     moved_places e has =
         let d = moved_from e has in
-        let at = edges_are flow loops ground well_formed g d.0 d.1 in
+        let at = edges_are flow loops positions well_formed g d.0 d.1 in
         (omega (arith, d.2, (back_of (d.0).from at.0).0), omega (arith, d.3, new_upto (d.0).to at.1))
 
     up : (e : NumberedEdge) → Contains moved e → GoesUpOrBack spans e
     up e has =
         let d = moved_from e has in
-        let at = edges_are flow loops ground well_formed g d.0 d.1 in
+        let at = edges_are flow loops positions well_formed g d.0 d.1 in
         let from_lt : (d.0).from < exit = at.0 in
         ⊎_elim
         (λ back.
@@ -273,34 +270,34 @@ module _ (flow : Flow) (loops : List Loop) (ground : Ground) (well_formed : IsWe
         let from_new = back_of (d.0).from from_lt in
         let new_lt : get_or numbers_list (d.0).from 0 < exit = from_new.0 in
         inr (t.0, t.1, ap (is_in t.0) d.2 ∙ holds s back.1 _ t.0 t.2 (get_or numbers_list (d.0).from 0) (omega arith) ∙ ap (is_within s) from_new.1 ∙ parts.1, d.3 ∙ ap (λ (x : ℕ). get_or numbers_list x 0) parts.0 ∙ sym (t.2).header_is))
-        (λ forward_. inl (omega (arith, d.2, d.3, goes_up edges ground.entry exit extents rank order numbers_list plan d.0 d.1 forward_)))
+        (λ forward_. inl (omega (arith, d.2, d.3, goes_up edges positions.entry exit extents rank order numbers_list plan d.0 d.1 forward_)))
         (is_back_any extents d.0)
 
     -- a place but the entry is entered by an edge that goes up
-    up_to : (p : ℕ) → p < exit → (p ≡ ground.entry → ⊥) → (d : NumberedEdge) × Contains edges d × (d.to ≡ p) × (get_or numbers_list d.from 0 < get_or numbers_list p 0)
+    up_to : (p : ℕ) → p < exit → (p ≡ positions.entry → ⊥) → (d : NumberedEdge) × Contains edges d × (d.to ≡ p) × (get_or numbers_list d.from 0 < get_or numbers_list p 0)
     up_to p lt differ = ⊎_elim
         (λ is. absurd (differ (sym is)))
-        (λ f. (f.edge, f.in_graph, f.to_is, subst (λ (x : ℕ). get_or numbers_list f.edge.from 0 < get_or numbers_list x 0) f.to_is (goes_up edges ground.entry exit extents rank order numbers_list plan f.edge f.in_graph f.no_back)))
-        (forward edges ground.entry exit extents rank order numbers_list plan p lt)
+        (λ f. (f.edge, f.in_graph, f.to_is, subst (λ (x : ℕ). get_or numbers_list f.edge.from 0 < get_or numbers_list x 0) f.to_is (goes_up edges positions.entry exit extents rank order numbers_list plan f.edge f.in_graph f.no_back)))
+        (forward edges positions.entry exit extents rank order numbers_list plan p lt)
 
-    entry_first : get_or order 0 0 ≡ ground.entry
+    entry_first : get_or order 0 0 ≡ positions.entry
     entry_first =
         let p : ℕ = get_or order 0 0 in
         let p_lt : p < exit = laid.inside 0 some in
         ⊎_elim
-        (λ (same : p ≡ ground.entry). same)
-        (λ (differ : p ≡ ground.entry → ⊥).
+        (λ (same : p ≡ positions.entry). same)
+        (λ (differ : p ≡ positions.entry → ⊥).
         let u = up_to p p_lt differ in
-        let zero_is : get_or numbers_list p 0 ≡ 0 = number_of edges ground.entry exit extents rank order numbers_list plan 0 (omega (arith, some)) in
+        let zero_is : get_or numbers_list p 0 ≡ 0 = number_of edges positions.entry exit extents rank order numbers_list plan 0 (omega (arith, some)) in
         absurd (omega (arith, u.3)))
-        (cases_eq p ground.entry)
+        (cases_eq p positions.entry)
 
     entered_up : (k : ℕ) → 0 < k → k < exit → IsEnteredUp moved k
     entered_up k positive lt =
         let p : ℕ = get_or order k 0 in
         let p_lt : p < exit = laid.inside k lt in
-        let k_is : get_or numbers_list p 0 ≡ k = number_of edges ground.entry exit extents rank order numbers_list plan k (omega arith) in
-        let differ : p ≡ ground.entry → ⊥ = λ same. laid.once 0 k positive (omega (arith, laid.whole)) (entry_first ∙ sym same) in
+        let k_is : get_or numbers_list p 0 ≡ k = number_of edges positions.entry exit extents rank order numbers_list plan k (omega arith) in
+        let differ : p ≡ positions.entry → ⊥ = λ same. laid.once 0 k positive (omega (arith, laid.whole)) (entry_first ∙ sym same) in
         let u = up_to p p_lt differ in
         let e = moved_to u.0 u.1 in
         (e.0, e.1, e.3 ∙ ap (λ (x : ℕ). get_or numbers_list x 0) u.2 ∙ k_is, omega (arith, e.2, u.3))
@@ -308,7 +305,7 @@ module _ (flow : Flow) (loops : List Loop) (ground : Ground) (well_formed : IsWe
     shape : (t : Span) → Contains spans t → (t.header ≤ t.last) × (t.last < exit) × (t.bound ≤ 1048576)
     shape t has =
         let s = span_source t has in
-        let sh = span_shape edges ground.entry exit extents rank order numbers_list plan s.0 s.1 _ t s.2 in
+        let sh = span_shape edges positions.entry exit extents rank order numbers_list plan s.0 s.1 _ t s.2 in
         let l = g.bounded (s.0).instance no_instance ((g.extents_of).named s.0 s.1) in
         (sh.0, sh.1, omega (arith, (s.2).bound_is, l.bound_small))
 
@@ -390,7 +387,7 @@ module _ (flow : Flow) (loops : List Loop) (ground : Ground) (well_formed : IsWe
     entered e has t t_has out inside =
         let d = moved_from e has in
         let s = span_source t t_has in
-        let at = edges_are flow loops ground well_formed g d.0 d.1 in
+        let at = edges_are flow loops positions well_formed g d.0 d.1 in
         let from_new = back_of (d.0).from at.0 in
         let from_le : e.from ≤ exit = omega (arith, (moved_places e has).0) in
         let to_le : e.to ≤ exit = (moved_places e has).1 in
@@ -401,8 +398,8 @@ module _ (flow : Flow) (loops : List Loop) (ground : Ground) (well_formed : IsWe
     entry_at_header : (t : Span) → Contains spans t → is_in t 0 ≡ true → 0 ≡ t.header
     entry_at_header t t_has inside =
         let s = span_source t t_has in
-        let at : is_within s.0 ground.entry ≡ true = ap (is_within s.0) (sym entry_first) ∙ sym (holds s.0 s.1 _ t s.2 0 (omega arith)) ∙ inside in
-        let zero_is : get_or numbers_list ground.entry 0 ≡ 0 = ap (λ (x : ℕ). get_or numbers_list x 0) (sym entry_first) ∙ number_of edges ground.entry exit extents rank order numbers_list plan 0 (omega arith) in
+        let at : is_within s.0 positions.entry ≡ true = ap (is_within s.0) (sym entry_first) ∙ sym (holds s.0 s.1 _ t s.2 0 (omega arith)) ∙ inside in
+        let zero_is : get_or numbers_list positions.entry 0 ≡ 0 = ap (λ (x : ℕ). get_or numbers_list x 0) (sym entry_first) ∙ number_of edges positions.entry exit extents rank order numbers_list plan 0 (omega arith) in
         sym zero_is ∙ ap (λ (x : ℕ). get_or numbers_list x 0) ((plan.entered).entry_at_header s.0 s.1 at) ∙ sym (s.2).header_is
 
     shallow : (k : ℕ) → count_by (λ (t : Span). is_in t k) spans ≤ 16
@@ -440,17 +437,17 @@ module _ (flow : Flow) (loops : List Loop) (ground : Ground) (well_formed : IsWe
 
     pub whole_tree : IsTree flow tree
     whole_tree =
-        let lists = numbers flow loops ground well_formed g in
+        let lists = numbers flow loops positions well_formed g in
         record {
           whole = placed.whole;
-          entry_first = place_is 0 (omega arith) ∙ ap (place_at ground.listed.items) entry_first ∙ g.entry_is;
+          entry_first = place_is 0 (omega arith) ∙ ap (place_at positions.listed.items) entry_first ∙ g.entry_is;
           exit_last = placed.exit_last;
           inside = placed.inside;
           all = λ v lt.
               let p = lists.number (place_at flow.places v) (Contains-get_or flow.places v Exit lt) in
               let b = back_of p.0 p.1 in
               let m : ℕ = get_or numbers_list p.0 0 in
-              (m, b.0, places_once flow.places well_formed.ordered (get_or indexes m 0) v Exit (placed.inside m b.0) lt (placed.each m b.0 ∙ ap (place_at ground.listed.items) b.1 ∙ p.2));
+              (m, b.0, places_once flow.places well_formed.ordered (get_or indexes m 0) v Exit (placed.inside m b.0) lt (placed.each m b.0 ∙ ap (place_at positions.listed.items) b.1 ∙ p.2));
           distinct = λ a b less lt same. ⊎_elim
               (λ (below : b < exit).
               let one : get_or order a 0 ≡ get_or order b 0 = lists.once (get_or order a 0) (get_or order b 0) (laid.inside a (omega arith)) (laid.inside b below) (sym (placed.each a (omega arith)) ∙ ap (place_at flow.places) same ∙ placed.each b below) in
@@ -467,46 +464,46 @@ module _ (flow : Flow) (loops : List Loop) (ground : Ground) (well_formed : IsWe
         }
 
     -- the instances are those that were found
-    pub tree_instances : (i : Instance) → Contains (map found_instance instances) i ↔ Contains (map found_instance ground.found.items) i
+    pub tree_instances : (i : Instance) → Contains (map found_instance instances) i ↔ Contains (map found_instance positions.found.items) i
     tree_instances i = (
       (λ has.
           let k_in : has.0 < length instances = omega (arith, has.1, length-map instances found_instance) in
           let k_lt : has.0 < length closing = omega (arith, parted_upto.same) in
           let x = source (get_or closing has.0 no_span) (Contains-get_or closing has.0 no_span k_lt) in
-          let named : get_or instances has.0 no_instance ≡ get_or ground.found.items (x.0).instance no_instance = parted_upto.named has.0 no_instance no_span k_lt ∙ ap (λ (m : ℕ). get_or ground.found.items m no_instance) x.2 in
-          let is : found_instance (get_or ground.found.items (x.0).instance no_instance) ≡ i = ap found_instance (sym named) ∙ sym (at_map found_instance instances has.0 no_instance i k_in) ∙ has.2 in
+          let named : get_or instances has.0 no_instance ≡ get_or positions.found.items (x.0).instance no_instance = parted_upto.named has.0 no_instance no_span k_lt ∙ ap (λ (m : ℕ). get_or positions.found.items m no_instance) x.2 in
+          let is : found_instance (get_or positions.found.items (x.0).instance no_instance) ≡ i = ap found_instance (sym named) ∙ sym (get_or-map found_instance instances has.0 no_instance i k_in) ∙ has.2 in
           let m_in = (g.extents_of).named x.0 x.1 in
-          ((x.0).instance, omega (arith, m_in, length-map ground.found.items found_instance), at_map found_instance ground.found.items (x.0).instance no_instance i m_in ∙ is)),
+          ((x.0).instance, omega (arith, m_in, length-map positions.found.items found_instance), get_or-map found_instance positions.found.items (x.0).instance no_instance i m_in ∙ is)),
       (λ has.
-          let k_in : has.0 < length ground.found.items = omega (arith, has.1, length-map ground.found.items found_instance) in
+          let k_in : has.0 < length positions.found.items = omega (arith, has.1, length-map positions.found.items found_instance) in
           let s = (g.extents_of).all has.0 k_in in
           let x = target s.0 s.1 in
           let m_lt : (x.1).0 < length closing = (x.1).1 in
           let y = source x.0 x.1 in
           let m_in : (x.1).0 < length instances = omega (arith, parted_upto.same) in
           let second : (get_or closing (x.1).0 no_span).1 ≡ has.0 = ap (λ (z : Span × ℕ). z.1) (get_or_default closing (x.1).0 no_span x.0 m_lt ∙ (x.1).2) ∙ target_named s.0 s.1 ∙ s.2 in
-          ((x.1).0, omega (arith, length-map instances found_instance), at_map found_instance instances (x.1).0 no_instance i m_in ∙ ap found_instance (parted_upto.named (x.1).0 no_instance no_span m_lt ∙ ap (λ (m : ℕ). get_or ground.found.items m no_instance) second) ∙ sym (at_map found_instance ground.found.items has.0 no_instance i k_in) ∙ has.2)),
+          ((x.1).0, omega (arith, length-map instances found_instance), get_or-map found_instance instances (x.1).0 no_instance i m_in ∙ ap found_instance (parted_upto.named (x.1).0 no_instance no_span m_lt ∙ ap (λ (m : ℕ). get_or positions.found.items m no_instance) second) ∙ sym (get_or-map found_instance positions.found.items has.0 no_instance i k_in) ∙ has.2)),
     )
 
 -- ## What the functions ask for
 
-module _ (flow : Flow) (loops : List Loop) (ground : Ground) (well_formed : IsWellFormed flow) (g : IsGround flow loops ground) (numbers_list : List ℕ) (long : length numbers_list ≡ length flow.places + 1) where
-  pub ends_inside : All (λ (s : Extent). s.end ≤ length numbers_list) ground.extents.items
-  ends_inside k d lt = omega (arith, within_exit flow loops ground well_formed g (get_or ground.extents.items k d) (Contains-get_or ground.extents.items k d lt))
+module _ (flow : Flow) (loops : List Loop) (positions : HandlerPositions) (well_formed : IsWellFormed flow) (g : AreHandlerPositions flow loops positions) (numbers_list : List ℕ) (long : length numbers_list ≡ length flow.places + 1) where
+  pub ends_inside : All (λ (s : Extent). s.end ≤ length numbers_list) positions.extents.items
+  ends_inside k d lt = omega (arith, within_exit flow loops positions well_formed g (get_or positions.extents.items k d) (Contains-get_or positions.extents.items k d lt))
 
-  pub headers_inside : All (λ (s : Extent). s.header < length numbers_list) ground.extents.items
-  headers_inside k d lt = omega (arith, header_in flow loops ground well_formed g (get_or ground.extents.items k d) (Contains-get_or ground.extents.items k d lt))
+  pub headers_inside : All (λ (s : Extent). s.header < length numbers_list) positions.extents.items
+  headers_inside k d lt = omega (arith, header_in flow loops positions well_formed g (get_or positions.extents.items k d) (Contains-get_or positions.extents.items k d lt))
 
-  pub instances_named : All (λ (s : Extent). s.instance < length ground.found.items) ground.extents.items
-  instances_named k d lt = (g.extents_of).named (get_or ground.extents.items k d) (Contains-get_or ground.extents.items k d lt)
+  pub instances_named : All (λ (s : Extent). s.instance < length positions.found.items) positions.extents.items
+  instances_named k d lt = (g.extents_of).named (get_or positions.extents.items k d) (Contains-get_or positions.extents.items k d lt)
 
-  pub edges_inside : All (λ (e : NumberedEdge). (e.from < length numbers_list) × (e.to < length numbers_list)) ground.edges.items
+  pub edges_inside : All (λ (e : NumberedEdge). (e.from < length numbers_list) × (e.to < length numbers_list)) positions.edges.items
   edges_inside k d lt =
-      let e = edges_are flow loops ground well_formed g (get_or ground.edges.items k d) (Contains-get_or ground.edges.items k d lt) in
+      let e = edges_are flow loops positions well_formed g (get_or positions.edges.items k d) (Contains-get_or positions.edges.items k d lt) in
       (omega (arith, e.0), omega (arith, e.1))
 
-pub extents_some : (flow : Flow) (loops : List Loop) (ground : Ground) → IsGround flow loops ground → All (λ (s : Extent). s.first < s.end) ground.extents.items
-extents_some flow loops ground g k d lt = subst (λ (s : Extent). s.first < s.end) (get_or_default ground.extents.items k _ d lt) ((g.extents_are).some k lt)
+pub extents_some : (flow : Flow) (loops : List Loop) (positions : HandlerPositions) → AreHandlerPositions flow loops positions → All (λ (s : Extent). s.first < s.end) positions.extents.items
+extents_some flow loops positions g k d lt = subst (λ (s : Extent). s.first < s.end) (get_or_default positions.extents.items k _ d lt) ((g.extents_are).some k lt)
 
 pub pairs_named : (numbers_list : List ℕ) (found : List Found) (extents : List Extent) (closing : List (Span × ℕ)) → AreShown numbers_list found extents closing → All (λ (s : Extent). s.instance < length found) extents → All (λ (x : Span × ℕ). x.1 < length found) closing
 pairs_named numbers_list found extents closing shown named k d lt =

@@ -9,7 +9,7 @@ use Rattle.flow_graph.specs.declared.places.Place.TheVariants.{At}
 use Rattle.statement.specs.declared.stated.Loop.{Loop}
 use Rattle.flow_graph.specs.Places.{place_at}
 use Rattle.loop_bounds.specs.declared.extents.Extent.{Extent}
-use Rattle.loop_bounds.specs.declared.find.Found.{Found}
+use Rattle.loop_bounds.specs.declared.loop_instances.Found.{Found}
 use Rattle.loop_bounds.specs.Instance.{Instance, instance_of, is_member, is_header}
 
 abbrev pub extent_at : List Extent → ℕ → Extent

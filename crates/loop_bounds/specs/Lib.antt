@@ -8,7 +8,7 @@ pub mod Keys
 pub mod Extents
 pub mod Layout
 pub mod Tree
-pub mod Ground
+pub mod InPositions
 pub mod TreeParts
 pub mod Nested
 pub mod NestedParts

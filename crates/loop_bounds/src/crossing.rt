@@ -8,7 +8,7 @@ ghost use Rattle.loop_bounds.specs.Keys.{IsListed};
 ghost use Rattle.loop_bounds.specs.Nest.{HasCrossing, HasCrossingWith};
 
 use crate::extents::extents;
-use crate::find::Found;
+use crate::loop_instances::Found;
 use crate::parents::parents;
 use flow_graph::{Calls, Graph, Loop, Place};
 use std::alloc::{AllocError, Global};

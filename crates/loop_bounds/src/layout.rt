@@ -2,14 +2,15 @@ ghost use Rattle.std.specs.Prelude.{◌≡◌, ℕ, ◌+◌, ◌<◌, ◌≤◌,
 ghost use Rattle.std.specs.Prelude.{MatchOption, length, slice_index, slice_index_or};
 ghost use Rattle.std.specs.List.Sorted.{IsPermutation, IsStrictlySortedBy};
 ghost use Rattle.flow_graph.specs.Places.{place_cmp, place_at};
-ghost use Rattle.loop_bounds.specs.Extents.{AreNested};
-ghost use Rattle.loop_bounds.specs.Layout.{AreChains, AreNumbers, IsLaidOut, ArePlaced, AreMoved, Moves};
-ghost use Rattle.loop_bounds.specs.Layout.{IsShown, AreShown, AreKeyed, items_of, key_in};
+ghost use Rattle.loop_bounds.specs.InPositions.{HasKeys};
+ghost use Rattle.loop_bounds.specs.Layout.{AreNumbers, IsLaidOut, ArePlaced, AreMoved, Moves};
+ghost use Rattle.loop_bounds.specs.Layout.{IsShown, AreShown, AreKeyed, key_in};
 ghost use Rattle.loop_bounds.specs.Keys.{IsListed};
 
 use crate::chains::extended;
 use crate::extents::Extent;
-use crate::find::Found;
+use crate::loop_instances::Found;
+use crate::nesting::Nesting;
 use crate::numbering::index_of;
 use crate::parents::innermost;
 use flow_graph::Place;
@@ -21,22 +22,18 @@ use std::cmp::Reverse;
 fn keyed(
     alloc: Global,
     extents: &[Extent],
-    parents: &[Option<usize>],
-    chains: &[Vec<usize>],
-    ranks: &[usize],
+    nesting: &Nesting,
     exit: usize,
 ) -> Result<Vec<(Vec<usize>, usize)>, AllocError>
-    requires nested { AreNested extents.now parents.now }
-    requires whole { length chains.now ≡ length extents.now }
-    requires chains { AreChains (slice_index ranks.now) extents.now (items_of chains.now)
-        (length extents.now) }
-    requires ranks { length ranks.now ≡ exit + 1 }
-    ensures { IfOk result (λ keyed. AreKeyed (key_in (slice_index ranks.now) extents.now) exit keyed.items) }
+    requires { HasKeys exit extents.now nesting.now }
+    ensures { IfOk result
+        (λ keyed. AreKeyed (key_in (slice_index nesting.now.ranks.items) extents.now) exit keyed.items) }
 {
     let mut keyed = Vec::with_capacity(alloc, exit)?;
     for position in 0..exit {
-        let inner = innermost(extents, parents, position);
-        keyed.push((extended(alloc, chains, inner, ranks[position])?, position))?;
+        let inner = innermost(extents, &nesting.parents, position);
+        let key = extended(alloc, &nesting.chains, inner, nesting.ranks[position])?;
+        keyed.push((key, position))?;
     }
     Ok(keyed)
 }
@@ -45,19 +42,14 @@ fn keyed(
 pub(crate) fn order(
     alloc: Global,
     extents: &[Extent],
-    parents: &[Option<usize>],
-    chains: &[Vec<usize>],
-    ranks: &[usize],
+    nesting: &Nesting,
     exit: usize,
 ) -> Result<Vec<usize>, AllocError>
-    requires nested { AreNested extents.now parents.now }
-    requires whole { length chains.now ≡ length extents.now }
-    requires chains { AreChains (slice_index ranks.now) extents.now (items_of chains.now)
-        (length extents.now) }
-    requires ranks { length ranks.now ≡ exit + 1 }
-    ensures { IfOk result (λ order. IsLaidOut (key_in (slice_index ranks.now) extents.now) exit order.items) }
+    requires { HasKeys exit extents.now nesting.now }
+    ensures { IfOk result
+        (λ order. IsLaidOut (key_in (slice_index nesting.now.ranks.items) extents.now) exit order.items) }
 {
-    let mut keyed = keyed(alloc, extents, parents, chains, ranks, exit)?;
+    let mut keyed = keyed(alloc, extents, nesting, exit)?;
     keyed.sort_unstable();
     let mut order = Vec::with_capacity(alloc, exit + 1)?;
     for (_, position) in &keyed {

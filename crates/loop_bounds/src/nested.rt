@@ -8,7 +8,7 @@ ghost use Rattle.loop_bounds.specs.Nested.{places_in};
 ghost use Rattle.loop_bounds.specs.NestedParts.{Encloses};
 ghost use Rattle.loop_bounds.specs.Tree.{IsTree};
 
-use crate::find::Found;
+use crate::loop_instances::Found;
 use crate::tree::LoopTree;
 use flow_graph::{Calls, Graph, Place};
 use numbered_walks::Span;
@@ -72,11 +72,11 @@ impl Model for Instances {
     ghost use Rattle.std.specs.Prelude.{List};
     ghost use Rattle.std.specs.Coded.{codes};
     ghost use Rattle.loop_bounds.specs.declared.nested.Instance.{Instance};
-    ghost use Rattle.loop_bounds.specs.contracts.nested.Instance as instance;
+    ghost use Rattle.loop_bounds.specs.contracts.nested.Instance.{the_row};
 
     ghost Value = { List Instance };
 
-    ghost coded = { Prim.hlevel (codes, instance.the_row.coded) };
+    ghost coded = { Prim.hlevel (codes, the_row.coded) };
 
     ghost view = { λ instances. instances.list.items };
 }

@@ -1,12 +1,12 @@
 ghost use Rattle.std.specs.Prelude.{◌≡◌, ◌≤◌, IfOk, IfErr, MatchBool, length};
 ghost use Rattle.loop_bounds.specs.Extents.{AreNested};
-ghost use Rattle.loop_bounds.specs.Ground.{EnterRight, EnterWrong, IsNesting, IsNestingFault, IsSound};
+ghost use Rattle.loop_bounds.specs.InPositions.{EnterRight, EnterWrong, IsNesting, IsNestingFault, IsSound};
 
 use crate::chains::chains;
 use crate::extents::Extent;
 use crate::fault::NestFault;
 use crate::parents::{enters_right, parents};
-use crate::plain::ranks;
+use crate::ranks::ranks;
 use numbered_walks::NumberedEdge;
 use std::alloc::Global;
 

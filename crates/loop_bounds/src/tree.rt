@@ -1,7 +1,7 @@
 ghost use Rattle.std.specs.Prelude.{◌≡◌, ◌≢◌, ◌↔◌, ◌<◌, All, Contains, IfOk, OnOk, IfErr, List, length, map};
 ghost use Rattle.statement.specs.Stated.{IsLoop};
 ghost use Rattle.loop_bounds.specs.Extents.{found_instance};
-ghost use Rattle.loop_bounds.specs.Ground.{IsGround, IsNesting};
+ghost use Rattle.loop_bounds.specs.InPositions.{AreHandlerPositions, IsNesting};
 ghost use Rattle.loop_bounds.specs.Keys.{IsListed};
 ghost use Rattle.loop_bounds.specs.Layout.{AreParted};
 ghost use Rattle.loop_bounds.specs.Tree.{IsTree};
@@ -10,10 +10,10 @@ ghost use Rattle.loop_bounds.specs.Nest.{Applies, HasSharedHeader, IsNestFault};
 
 use crate::crossing::have_crossing;
 use crate::fault::NestFault;
-use crate::find::{Found, by_header, shares_header};
-use crate::ground::{Ground, lay_ground};
+use crate::handler_positions::{HandlerPositions, find_positions};
 use crate::keys::listed;
 use crate::layout::{indexes, numbers, order, renumbered, spans};
+use crate::loop_instances::{Found, by_header, shares_header};
 use crate::nesting::{Nesting, nest_extents};
 use flow_graph::{Graph, Loop, Place, Statement};
 use numbered_walks::{NumberedEdge, Span};
@@ -93,36 +93,28 @@ fn in_closing_order(
 fn laid_out(
     alloc: Global,
     graph: &Graph,
-    ground: &Ground,
+    positions: &HandlerPositions,
     nesting: &Nesting,
 ) -> Result<LoopTree, AllocError>
-    requires ground { (loops : List Loop) × IsGround graph.now loops ground.now }
-    requires nesting { IsNesting
-        (length
-        graph.now.places) ground.now.edges.items ground.now.entry ground.now.extents.items nesting.now }
+    requires positions { (loops : List Loop) × AreHandlerPositions graph.now loops positions.now }
+    requires nesting { IsNesting (length graph.now.places) positions.now.edges.items positions.now.entry
+        positions.now.extents.items nesting.now }
     ensures tree { IfOk result (IsTree graph.now) }
     ensures instances { IfOk result
         (λ tree. (i : Instance) → Contains tree.instances i
-        ↔ Contains (map found_instance ground.now.found.items) i) }
+        ↔ Contains (map found_instance positions.now.found.items) i) }
 {
     let places = graph.places();
     let exit = places.len();
-    let order = order(
-        alloc,
-        &ground.extents,
-        &nesting.parents,
-        &nesting.chains,
-        &nesting.ranks,
-        exit,
-    )?;
+    let order = order(alloc, &positions.extents, nesting, exit)?;
     let numbers = numbers(alloc, &order)?;
-    let closing = spans(alloc, &ground.extents, &ground.found, &numbers)?;
-    let (instances, spans) = in_closing_order(alloc, &ground.found, &closing)?;
+    let closing = spans(alloc, &positions.extents, &positions.found, &numbers)?;
+    let (instances, spans) = in_closing_order(alloc, &positions.found, &closing)?;
     Ok(LoopTree {
         instances,
         spans,
-        order: indexes(alloc, places, &ground.listed, &order)?,
-        edges: renumbered(alloc, &ground.edges, &numbers)?,
+        order: indexes(alloc, places, &positions.listed, &order)?,
+        edges: renumbered(alloc, &positions.edges, &numbers)?,
     })
 }
 
@@ -166,13 +158,13 @@ pub fn nest(alloc: Global, graph: &Graph, statement: &Statement) -> Result<LoopT
     if shares_header(alloc, loops)? {
         return Err(shared_fault(alloc, graph, &listed, loops)?);
     }
-    let ground = lay_ground(alloc, graph, listed, &sorted, loops)?;
+    let positions = find_positions(alloc, graph, listed, &sorted, loops)?;
     let nesting = nest_extents(
         alloc,
-        &ground.extents,
-        &ground.edges,
-        ground.entry,
+        &positions.extents,
+        &positions.edges,
+        positions.entry,
         places.len(),
     )?;
-    Ok(laid_out(alloc, graph, &ground, &nesting)?)
+    Ok(laid_out(alloc, graph, &positions, &nesting)?)
 }

@@ -4,11 +4,12 @@ use Rattle.std.specs.List.{list_all}
 use Rattle.toml.specs.Data.{Data, Members, as_integer, as_str}
 use Rattle.memc.specs.declared.spots.PageSize.{PageSize}
 use Rattle.toml_reading.specs.Documents.{has_only_keys}
-use Rattle.toml_reading.specs.Lowest.{AtKey, AtKeyOr, ListFault, NumberFault, TableFault}
+use Rattle.toml_reading.specs.Lowest.{AtKey, AtKeyOr, IsNoAddress, ListFault, NumberFault, TableFault}
 use Rattle.machine_file.specs.MachineFaults.{machine_faults}
-use Rattle.machine_file.specs.MachineFile.{is_letter, is_single, named_line}
+use Rattle.machine_file.specs.MachineFile.{is_letter, is_single}
+use Rattle.ioc.specs.LineNames.{line_named}
 use Rattle.machine_file.specs.MachineFaultRules.{IsPageTwice, IsStepTwice, IsUnmappable}
-use Rattle.machine_file.specs.MachineRules.{IsInSpace, kilobytes}
+use Rattle.machine_file.specs.MachineRules.{kilobytes}
 use Rattle.machine_file.specs.Names.{event_keys, file_keys, map_keys, name_of, named_mode, named_registers, register_keys}
 use Rattle.machine_file.specs.declared.machine_faults.MachineFileFault.{MachineFileFault}
 use Rattle.machine_file.specs.declared.machine_faults.MachineFileFault.TheVariants.{UnknownKey, WrongKind, OutOfRange, Twice}
@@ -22,7 +23,7 @@ WordFault d fault = UpToFault (2 ^ 32 - 1) d fault
 
 abbrev pub AddressFault : Data → MachineFileFault → Type 0
 AddressFault d fault =
-    MatchOption (as_integer d) (fault ≡ WrongKind) (λ z. ((n : ℕ) → ¬ IsInSpace z n) × (fault ≡ OutOfRange))
+    MatchOption (as_integer d) (fault ≡ WrongKind) (λ z. IsNoAddress z × (fault ≡ OutOfRange))
 
 abbrev pub SizeFault : Data → MachineFileFault → Type 0
 SizeFault d fault =
@@ -42,7 +43,7 @@ FlagsFault d fault =
     (λ text. ((list_all is_letter text ≡ false) × (fault ≡ WrongKind)) ⊎ ((is_single text ≡ false) × (fault ≡ Twice)))
 
 abbrev pub LinesFault : Data → MachineFileFault → Type 0
-LinesFault d fault = ListFault machine_faults (NameFault named_line) d fault
+LinesFault d fault = ListFault machine_faults (NameFault line_named) d fault
 
 abbrev pub RegistersFault : Data → MachineFileFault → Type 0
 RegistersFault d fault =

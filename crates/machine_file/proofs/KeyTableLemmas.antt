@@ -7,13 +7,14 @@ use Rattle.toml.specs.Data.{Data, Members, as_integer, as_str, as_table, get_mem
 use Rattle.arm2_effect.specs.declared.modes.Reg.{Reg}
 use Rattle.memc.specs.declared.spots.PageSize.{PageSize}
 use Rattle.toml_reading.specs.Documents.{items_at}
-use Rattle.toml_reading.specs.Lowest.{AtKey, AtKeyOr, IsLowest, IsOutside}
+use Rattle.toml_reading.specs.Lowest.{AtKey, AtKeyOr, IsLowest, IsNoAddress, IsOutside}
 use Rattle.toml_reading.proofs.LowestLemmas.{Judges, judged_as, judged_fault, judged_value}
 use Rattle.toml_reading.proofs.LowestParts.{any_cases, any_first, any_later, any_none, any_one_of}
 use Rattle.machine_file.specs.MachineFaults.{machine_faults}
 use Rattle.machine_file.specs.MachineFaultRules.{HasMachineFault, IsNoTable, Takes, UpTo, Address, Size, ModeName, FlagLetters, LineNames, Word, event_shape, file_shape, map_shape, may_have, needs, register_shape}
-use Rattle.machine_file.specs.MachineFile.{is_letter, is_single, machine_in, named_line}
-use Rattle.machine_file.specs.MachineRules.{IsInSpace, StatesMachine, kilobytes}
+use Rattle.machine_file.specs.MachineFile.{is_letter, is_single, machine_in}
+use Rattle.ioc.specs.LineNames.{line_named}
+use Rattle.machine_file.specs.MachineRules.{StatesMachine, kilobytes}
 use Rattle.machine_file.specs.Names.{name_of, named_mode, named_registers}
 use Rattle.machine_file.specs.Stated.{Stated}
 use Rattle.machine_file.specs.declared.machine_faults.MachineFileFault.{MachineFileFault}
@@ -76,7 +77,7 @@ module _ (f : MachineFileFault) where
   up_to_kind limit d = number_parts (IsOutside limit) (as_integer d)
 
   address_kind : (d : Data) → AddressFault d f ↔ KindFault f Address d
-  address_kind d = number_parts (λ z. (n : ℕ) → ¬ IsInSpace z n) (as_integer d)
+  address_kind d = number_parts IsNoAddress (as_integer d)
 
   size_kind : (d : Data) → SizeFault d f ↔ KindFault f Size d
   size_kind d = number_parts (λ z. (size : PageSize) → z ≡ pos (kilobytes size) → ⊥) (as_integer d)
@@ -93,7 +94,7 @@ module _ (f : MachineFileFault) where
   )
 
   lines_kind : (d : Data) → LinesFault d f ↔ KindFault f LineNames d
-  lines_kind d = lines_parts (λ e. option_and_then named_line (as_str e) ≡ None) (items_at d)
+  lines_kind d = lines_parts (λ e. option_and_then line_named (as_str e) ≡ None) (items_at d)
 
   letters_parts : (A B : List ℕ → Type 0) (o : Option (List ℕ))
       → MatchOption o W (λ t. (A t × W) ⊎ (B t × (f ≡ Twice))) ↔ ((MatchOption o ⊤ A × W) ⊎ (⊥ × (f ≡ OutOfRange))) ⊎ (IsSomeAnd o B × (f ≡ Twice))

@@ -1,19 +1,21 @@
 -- What is read of the values of a machine file, against what they state and their faults.
-use Rattle.std.proofs.Common.{◌≡◌, ℕ, ℤ, pos, negsuc, ◌-◌, ◌%◌, ◌^◌, ◌<◌, ◌≤◌, ◌⊎◌, ◌↔◌, ◌&&◌, Bool, true, false, cond, eqb, ltb, List, map, codes, Any, Option, Some, None, Ok, Err, IsSomeAnd, MatchOption, is_some, unwrap_or, option_and_then, inl, inr, refl, sym, ap, ◌∙◌, arith, le_of_eq}
+use Rattle.std.proofs.Common.{◌≡◌, ℕ, ℤ, pos, negsuc, ◌-◌, ◌^◌, ◌≤◌, ◌⊎◌, ◌↔◌, Bool, true, false, cond, eqb, get_or, List, [], ◌∷◌, map, codes, Any, Option, Some, None, Ok, Err, IsSomeAnd, MatchOption, is_some, unwrap_or, option_and_then, inl, inr, refl, sym, ap, ◌∙◌, arith, le_of_eq}
 use Rattle.std.specs.List.{AllZip, list_all}
-use Rattle.std.proofs.lemmas.Bool.{and_cases, and_parts, eq-eqb, eqb-true, false≢true, ltb-false, ltb-true, true≢false}
+use Rattle.std.proofs.lemmas.Bool.{eq-eqb, eqb-true, false≢true, true≢false}
 use Rattle.toml.specs.Data.{Data, Members, as_integer, as_str, as_table, get_member}
 use Rattle.ioc.specs.declared.lines.Lines.{Lines}
 use Rattle.memc.specs.declared.spots.PageSize.{PageSize}
 use Rattle.memc.specs.declared.spots.PageSize.TheVariants.{K4, K8, K16, K32}
-use Rattle.toml_reading.specs.Lowest.{AtKey, AtKeyOr, IsListOf, IsNumber, KeysFault, ListFault, TableFault}
-use Rattle.toml_reading.specs.Documents.{items_at, number_in, number_or}
+use Rattle.toml_reading.specs.Lowest.{AtKey, AtKeyOr, IsInSpace, IsListOf, IsNoAddress, IsNumber, KeysFault, ListFault, TableFault}
+use Rattle.toml_reading.specs.Documents.{in_space, items_at, number_in, number_or}
 use Rattle.toml_reading.specs.Readings.{all, both, required, seen}
-use Rattle.toml_reading.proofs.LowestLemmas.{Judges, Told, joint, judged_as, optional_judged, required_judged, seen_judged, two_tests}
+use Rattle.toml_reading.proofs.AddressLemmas.{integer_judged}
+use Rattle.toml_reading.proofs.LowestLemmas.{Judges, Told, joint, judged_as, one_by_rank, optional_judged, required_judged, seen_judged, two_tests}
 use Rattle.toml_reading.proofs.LowestParts.{all_judged, list_judged, not_whole, number_in_judged, number_judged, number_or_judged, table_judged, whole_same}
 use Rattle.machine_file.specs.MachineFaults.{machine_faults, number_of}
-use Rattle.machine_file.specs.MachineFile.{Read, event_at, event_of, flags_at, in_space, is_letter, is_single, lettered, line_at, lines_at, lines_in, named_line, page_at, page_of, pc_at, port_at, port_in, register_in, registers_at, set_flags, size_at, size_of, union, word_in}
-use Rattle.machine_file.specs.MachineRules.{AreFlags, AreLines, AreRegisters, IsAddress, IsEvent, IsInSpace, IsNamed, IsPage, IsSize, IsWord, kilobytes}
+use Rattle.machine_file.specs.MachineFile.{Read, event_at, event_of, flags_at, is_letter, is_single, lettered, line_at, lines_at, lines_in, page_at, page_of, pc_at, port_at, port_in, register_in, registers_at, set_flags, size_at, size_of, union, word_in}
+use Rattle.ioc.specs.LineNames.{line_named}
+use Rattle.machine_file.specs.MachineRules.{AreFlags, AreLines, AreRegisters, IsAddress, IsEvent, IsNamed, IsPage, IsSize, IsWord, kilobytes}
 use Rattle.machine_file.specs.Names.{event_keys, map_keys, name_of, named_registers, register_keys}
 use Rattle.machine_file.specs.declared.events.Event.{Event}
 use Rattle.machine_file.specs.declared.machine_faults.MachineFileFault.{MachineFileFault}
@@ -23,15 +25,10 @@ use Rattle.machine_file.proofs.KeyFaults.{AddressFault, EventFault, FlagsFault, 
 
 -- ## The ranks of faults
 
-fault_at : ℕ → MachineFileFault
-fault_at n =
-    cond
-    (eqb n 1)
-    Memory
-    (cond (eqb n 2) NotToml (cond (eqb n 3) UnknownKey (cond (eqb n 4) WrongKind (cond (eqb n 5) OutOfRange Twice))))
+abbrev fault_at : ℕ → MachineFileFault
+fault_at n = get_or (Memory ∷ Memory ∷ NotToml ∷ UnknownKey ∷ WrongKind ∷ OutOfRange ∷ Twice ∷ []) n Memory
 
 at_rank : (f : MachineFileFault) → fault_at (number_of f) ≡ f
-unfolding fault_at
 at_rank Memory = refl
 at_rank NotToml = refl
 at_rank UnknownKey = refl
@@ -40,52 +37,21 @@ at_rank OutOfRange = refl
 at_rank Twice = refl
 
 pub one_rank : (f g : MachineFileFault) → number_of f ≡ number_of g → f ≡ g
-one_rank f g e = sym (at_rank f) ∙ ap fault_at e ∙ at_rank g
+one_rank = one_by_rank machine_faults fault_at at_rank
 
 is_fault : (f g : MachineFileFault) → f ≡ g → number_of g ≤ number_of f
 is_fault f g e = le_of_eq (ap number_of (sym e))
 
 -- ## Addresses
 
-module _ (n : ℕ) where
-  above : (limit m : ℕ) → n ≡ m → m < limit → limit ≤ n → ⊥
-  above limit m same low high = omega (arith, same, low, high)
-
-  not_in_space : (eqb (n % 4) 0 && ltb n (2 ^ 26)) ≡ false → (m : ℕ) → ¬ IsInSpace (pos n) m
-  not_in_space e m s =
-      let same : n ≡ m = whole_same n m s.0 in
-      elim (and_cases (eqb (n % 4) 0) (ltb n (2 ^ 26)) e) [
-        | inl odd ↦ false≢true (sym odd ∙ eq-eqb (n % 4) 0 (ap (λ (k : ℕ). k % 4) same ∙ s.1))
-        | inr high ↦ above (2 ^ 26) m same s.2 (ltb-false n (2 ^ 26) high)
-      ]
-
-  space_tested : (b : Bool) → (eqb (n % 4) 0 && ltb n (2 ^ 26)) ≡ b
-      → Told machine_faults (IsInSpace (pos n)) (λ f. ((m : ℕ) → ¬ IsInSpace (pos n) m) × (f ≡ OutOfRange)) (cond b (Ok n) (Err OutOfRange))
-  space_tested true e =
-      let parts = and_parts (eqb (n % 4) 0) (ltb n (2 ^ 26)) e in
-      let stated : IsInSpace (pos n) n = (refl, eqb-true (n % 4) 0 parts.0, ltb-true n (2 ^ 26) parts.1) in (
-        record { stated = stated; only = λ m s. sym (whole_same n m s.0) },
-        λ f x. x.0 n stated,
-      )
-  space_tested false e =
-      (not_in_space e, record { has = (not_in_space e, refl); least = λ f x. is_fault f OutOfRange x.1 })
-
-space_told : (z : ℤ)
-    → Told machine_faults (IsInSpace z) (λ f. ((m : ℕ) → ¬ IsInSpace z m) × (f ≡ OutOfRange)) (in_space z)
-space_told (pos n) = space_tested n (eqb (n % 4) 0 && ltb n (2 ^ 26)) refl
-space_told (negsuc n) = (
-  λ m s. not_whole n m s.0,
-  record { has = (λ m s. not_whole n m s.0, refl); least = λ f x. is_fault f OutOfRange x.1 },
-)
-
 pub address_judged : (d : Data) → Judges machine_faults (IsAddress d) (AddressFault d) (pc_at d)
 address_judged d =
     required_judged
     machine_faults
-    IsInSpace
-    (λ z f. ((m : ℕ) → ¬ IsInSpace z m) × (f ≡ OutOfRange))
-    in_space
-    (λ z. record { told = space_told z })
+    (λ z n. (z ≡ pos n) × IsInSpace n)
+    (λ z f. IsNoAddress z × (f ≡ OutOfRange))
+    (in_space machine_faults)
+    (integer_judged machine_faults)
     (as_integer d)
 
 -- ## Page sizes
@@ -199,7 +165,7 @@ flags_judged d =
 -- ## Lines and ports of events
 
 lines_of : (d : Data) (o : Option Lines) → IsSomeAnd o (AreLines d)
-    → (ls : List Lines) × IsListOf (IsNamed named_line) d ls × (o ≡ Some (union ls))
+    → (ls : List Lines) × IsListOf (IsNamed line_named) d ls × (o ≡ Some (union ls))
 lines_of d None t = absurd t
 lines_of d (Some l) t = (t.0, t.1, ap (λ (x : Lines). Some x) t.2)
 
@@ -207,14 +173,14 @@ lines_judged : (d : Data) → Judges machine_faults (λ o. IsSomeAnd o (AreLines
 lines_judged d =
     seen_judged
     machine_faults
-    (IsListOf (IsNamed named_line) d)
+    (IsListOf (IsNamed line_named) d)
     (λ o. IsSomeAnd o (AreLines d))
     (LinesFault d)
     (λ ls. Some (union ls))
     (λ ls s. (ls, s, refl))
     (lines_of d)
     _
-    (list_judged machine_faults (IsNamed named_line) (NameFault named_line) line_at (named_judged named_line) d)
+    (list_judged machine_faults (IsNamed line_named) (NameFault line_named) line_at (named_judged line_named) d)
 
 port_of : (d : Data) (o : Option ℕ) → IsSomeAnd o (IsWord d) → (n : ℕ) × IsWord d n × (o ≡ Some n)
 port_of d None t = absurd t
@@ -458,7 +424,7 @@ module _ (f : MachineFileFault) where
   event_faults_low ms (inr (inr (inl h))) =
       some_low
       _
-      (λ d x. list_low (NameFault named_line) (λ e y. low_at WrongKind (omega arith) y.1) d x)
+      (λ d x. list_low (NameFault line_named) (λ e y. low_at WrongKind (omega arith) y.1) d x)
       (get_member (codes "lines") ms)
       h
   event_faults_low ms (inr (inr (inr h))) =

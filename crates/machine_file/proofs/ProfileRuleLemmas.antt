@@ -1,5 +1,5 @@
 -- What is read of a cycle profile file, against what its keys state and their faults.
-use Rattle.std.proofs.Common.{◌≡◌, ◌≢◌, ℕ, ℤ, ◌-◌, ◌^◌, ◌≤◌, ◌⊎◌, ◌↔◌, true, cond, eqb, List, [], ◌∷◌, length, take, codes, All, Any, MatchOption, slice_index, Option, Some, None, Ok, Err, inl, inr, refl, sym, ap, subst, ◌∙◌, arith, le_of_eq}
+use Rattle.std.proofs.Common.{◌≡◌, ◌≢◌, ℕ, ℤ, ◌-◌, ◌^◌, ◌≤◌, ◌⊎◌, ◌↔◌, true, get_or, List, [], ◌∷◌, length, take, codes, All, Any, MatchOption, slice_index, Option, Some, None, Ok, Err, inl, inr, refl, sym, ap, subst, arith, le_of_eq}
 use Rattle.std.specs.List.{AllZip}
 use Rattle.std.proofs.lemmas.Bool.{cases_lt}
 use Rattle.std.proofs.lemmas.List.Elements.{All-cons, All-head, All-nil, All-tail}
@@ -9,7 +9,7 @@ use Rattle.bus_ticks.specs.Ranges.{AreInRange, AreOrdered, IsPrice, device_numbe
 use Rattle.toml_reading.specs.Documents.{has_only_keys, items_at}
 use Rattle.toml_reading.specs.Lowest.{AtKey, AtKeyOr, IsListOf, IsOutside, KeysFault}
 use Rattle.toml_reading.specs.Readings.{both}
-use Rattle.toml_reading.proofs.LowestLemmas.{Judges, Told, both_judged, judged_as, required_judged, seen_judged}
+use Rattle.toml_reading.proofs.LowestLemmas.{Judges, Told, both_judged, judged_as, one_by_rank, required_judged, seen_judged}
 use Rattle.toml_reading.proofs.LowestParts.{OneOf, any_one_of, keys_judged, number_in_judged, number_judged}
 use Rattle.machine_file.specs.ProfileFaults.{number_of, profile_faults}
 use Rattle.machine_file.specs.ProfileFile.{Four, IsPriced, Parts, Read, four_at, four_in, four_of, joined, numbers_in, parts_in, profile_keys, word_at, word_in}
@@ -21,15 +21,10 @@ use Rattle.machine_file.proofs.PriceFaults.{FourFault, HasPriceFault, OrderFault
 
 -- ## The ranks of faults
 
-fault_at : ℕ → ProfileFileFault
-fault_at n =
-    cond
-    (eqb n 1)
-    Memory
-    (cond (eqb n 2) NotToml (cond (eqb n 3) UnknownKey (cond (eqb n 4) WrongKind (cond (eqb n 5) OutOfRange Disordered))))
+abbrev fault_at : ℕ → ProfileFileFault
+fault_at n = get_or (Memory ∷ Memory ∷ NotToml ∷ UnknownKey ∷ WrongKind ∷ OutOfRange ∷ Disordered ∷ []) n Memory
 
 at_rank : (f : ProfileFileFault) → fault_at (number_of f) ≡ f
-unfolding fault_at
 at_rank Memory = refl
 at_rank NotToml = refl
 at_rank UnknownKey = refl
@@ -38,7 +33,7 @@ at_rank OutOfRange = refl
 at_rank Disordered = refl
 
 pub one_rank : (f g : ProfileFileFault) → number_of f ≡ number_of g → f ≡ g
-one_rank f g e = sym (at_rank f) ∙ ap fault_at e ∙ at_rank g
+one_rank = one_by_rank profile_faults fault_at at_rank
 
 -- from a wrong kind to a number out of range
 abbrev IsMiddle : ProfileFileFault → Type 0

@@ -9,9 +9,10 @@ use Rattle.memc.specs.Memory.{shift_of_size}
 use Rattle.memc.specs.declared.spots.PageSize.{PageSize}
 use Rattle.memc.specs.declared.spots.PageSize.TheVariants.{K4}
 use Rattle.toml_reading.specs.Documents.{are_distinct, has_only_keys, items_at}
-use Rattle.toml_reading.specs.Lowest.{AtKey, AtKeyOr, IsOutside, entries_at, numbers_at}
-use Rattle.machine_file.specs.MachineFile.{is_letter, is_single, named_line}
-use Rattle.machine_file.specs.MachineRules.{IsInSpace, IsSize, kilobytes}
+use Rattle.toml_reading.specs.Lowest.{AtKey, AtKeyOr, IsNoAddress, IsOutside, entries_at, numbers_at}
+use Rattle.machine_file.specs.MachineFile.{is_letter, is_single}
+use Rattle.ioc.specs.LineNames.{line_named}
+use Rattle.machine_file.specs.MachineRules.{IsSize, kilobytes}
 use Rattle.machine_file.specs.Names.{event_keys, file_keys, map_keys, name_of, named_mode, named_registers}
 use Rattle.machine_file.specs.Names.{register_keys}
 use Rattle.machine_file.specs.declared.machine_faults.MachineFileFault.{MachineFileFault}
@@ -112,7 +113,7 @@ IsOtherKind Address d = as_integer d ≡ None
 IsOtherKind Size d = as_integer d ≡ None
 IsOtherKind ModeName d = option_and_then named_mode (as_str d) ≡ None
 IsOtherKind FlagLetters d = MatchOption (as_str d) ⊤ (λ text. list_all is_letter text ≡ false)
-IsOtherKind LineNames d = MatchOption (items_at d) ⊤ (Any (λ e. option_and_then named_line (as_str e) ≡ None))
+IsOtherKind LineNames d = MatchOption (items_at d) ⊤ (Any (λ e. option_and_then line_named (as_str e) ≡ None))
 
 abbrev pub HasOtherKind : Shape → Members → Type 0
 HasOtherKind shape ms = Any (λ row. AtKey row.key ms (IsOtherKind row.takes)) shape.rows
@@ -136,7 +137,7 @@ HasWrongKind ms =
 
 abbrev pub IsOtherNumber : Takes → Data → Type 0
 IsOtherNumber (UpTo limit) d = IsSomeAnd (as_integer d) (IsOutside limit)
-IsOtherNumber Address d = IsSomeAnd (as_integer d) (λ z. (n : ℕ) → ¬ IsInSpace z n)
+IsOtherNumber Address d = IsSomeAnd (as_integer d) IsNoAddress
 IsOtherNumber Size d = IsSomeAnd (as_integer d) (λ z. (size : PageSize) → z ≢ pos (kilobytes size))
 IsOtherNumber _ d = ⊥
 

@@ -1,14 +1,13 @@
 -- Which machine a text states, and its faults, of which the lowest over the whole text is answered. Source:
 -- our own format of machine files, over the documents of TOML.
-use Rattle.std.specs.Prelude.{◌==◌, ◌&&◌, not, ◌-◌, ◌%◌, ◌^◌, ℕ, ℤ, pos, negsuc, Bool, List, map, fold}
+use Rattle.std.specs.Prelude.{◌==◌, ◌&&◌, not, ◌-◌, ◌^◌, ℕ, ℤ, pos, negsuc, Bool, List, map, fold}
 use Rattle.std.specs.Prelude.{replicate, codes, count_by, nat_lt, nat_le, if◌then◌else◌, Option, Some, None}
-use Rattle.std.specs.Prelude.{Ok, Err, option_map}
+use Rattle.std.specs.Prelude.{Ok, Err}
 use Rattle.std.specs.Int.RustNames.{bit_or}
 use Rattle.std.specs.List.{list_all}
 use Rattle.std.specs.Map.{keys_of}
 use Rattle.std.specs.Option.{option_and_then}
 use Rattle.toml.specs.Data.{Data, Members, get_member, as_integer, as_str, as_table}
-use Rattle.bitflags.specs.Sets.{find_name}
 use Rattle.arm2_effect.specs.declared.modes.Mode.{Mode}
 use Rattle.arm2_effect.specs.declared.modes.Mode.TheVariants.{Svc}
 use Rattle.arm2_effect.specs.declared.modes.Reg.{Reg}
@@ -16,11 +15,13 @@ use Rattle.ioc.specs.declared.lines.Lines.{Lines}
 use Rattle.memc.specs.Memory.{shift_of_size}
 use Rattle.memc.specs.declared.spots.PageSize.{PageSize}
 use Rattle.memc.specs.declared.spots.PageSize.TheVariants.{K4, K8, K16, K32}
-use Rattle.toml_reading.specs.Documents.{IsAnswer, are_distinct, list_at, number_at, number_in, number_or}
+use Rattle.toml_reading.specs.Documents.{IsAnswer, are_distinct, in_space, list_at, number_at, number_in}
+use Rattle.toml_reading.specs.Documents.{number_or}
 use Rattle.toml_reading.specs.Documents.{of_keys, tables_at}
 use Rattle.toml_reading.specs.Readings.{Reading, all, and_then, both, optional, required, seen}
+use Rattle.ioc.specs.LineNames.{line_named}
 use Rattle.machine_file.specs.MachineFaults.{machine_faults}
-use Rattle.machine_file.specs.Names.{event_keys, file_keys, line_names, map_keys, name_of, named_mode}
+use Rattle.machine_file.specs.Names.{event_keys, file_keys, map_keys, name_of, named_mode}
 use Rattle.machine_file.specs.Names.{named_registers, register_keys}
 use Rattle.machine_file.specs.Stated.{Controller, Processor, Schedule, Stated}
 use Rattle.machine_file.specs.declared.events.Event.{Event}
@@ -82,13 +83,8 @@ flags_in ms = optional (set_flags (codes "IF")) (get_member (codes "flags") ms) 
 
 -- ## The processor
 
--- a multiple of 4 from 0 to 3FFFFFC
-abbrev pub in_space : ℤ → Read ℕ
-in_space (pos n) = if n % 4 == 0 && nat_lt n (2 ^ 26) then Ok n else Err OutOfRange
-in_space (negsuc n) = Err OutOfRange
-
 abbrev pub pc_at : Data → Read ℕ
-pc_at d = required machine_faults (as_integer d) in_space
+pc_at d = required machine_faults (as_integer d) (in_space machine_faults)
 
 abbrev pub pc_in : Members → Read ℕ
 pc_in ms = required machine_faults (get_member (codes "pc") ms) pc_at
@@ -192,11 +188,8 @@ controller_in ms = seen controller_of (both machine_faults (rom_in ms) (pages_in
 abbrev pub union : List Lines → Lines
 union lines = fold (λ (a b : Lines). record { 0 = bit_or a.0 b.0 }) (record { 0 = 0 }) lines
 
-abbrev pub named_line : List ℕ → Option Lines
-named_line name = option_map (λ bits. record { 0 = bits }) (find_name line_names name)
-
 abbrev pub line_at : Data → Read Lines
-line_at d = required machine_faults (option_and_then named_line (as_str d)) (λ l. Ok l)
+line_at d = required machine_faults (option_and_then line_named (as_str d)) (λ l. Ok l)
 
 abbrev pub lines_at : Data → Read (Option Lines)
 lines_at d = seen (λ ls. Some (union ls)) (list_at machine_faults line_at d)

@@ -1,6 +1,6 @@
 -- What a machine file states, key by key. Source: our own format of machine files, over the
 -- documents of TOML.
-use Rattle.std.specs.Prelude.{◌≡◌, ◌<◌, ◌-◌, ◌^◌, ◌%◌, ℕ, ℤ, pos, true, List, [], codes, replicate, Option}
+use Rattle.std.specs.Prelude.{◌≡◌, ◌-◌, ◌^◌, ℕ, pos, true, List, [], codes, replicate, Option}
 use Rattle.std.specs.Prelude.{Some, None, IsSomeAnd}
 use Rattle.std.specs.List.{AllZip, list_all}
 use Rattle.std.specs.Map.{keys_of}
@@ -12,8 +12,9 @@ use Rattle.memc.specs.Memory.{shift_of_size}
 use Rattle.memc.specs.declared.spots.PageSize.{PageSize}
 use Rattle.memc.specs.declared.spots.PageSize.TheVariants.{K4, K8, K16, K32}
 use Rattle.toml_reading.specs.Documents.{are_distinct, has_only_keys}
-use Rattle.toml_reading.specs.Lowest.{AtKey, AtKeyOr, IsListOf, IsNumber, IsTable}
-use Rattle.machine_file.specs.MachineFile.{are_single, is_letter, is_mappable, is_single, named_line}
+use Rattle.toml_reading.specs.Lowest.{AtKey, AtKeyOr, IsInSpace, IsListOf, IsNumber, IsTable}
+use Rattle.machine_file.specs.MachineFile.{are_single, is_letter, is_mappable, is_single}
+use Rattle.ioc.specs.LineNames.{line_named}
 use Rattle.machine_file.specs.MachineFile.{set_flags, union}
 use Rattle.machine_file.specs.Names.{event_keys, file_keys, map_keys, name_of, named_mode, named_registers}
 use Rattle.machine_file.specs.Names.{register_keys}
@@ -28,12 +29,9 @@ use Rattle.machine_file.specs.declared.pages.MappedPage.{MappedPage}
 abbrev pub IsWord : Data → ℕ → Type 0
 IsWord d n = IsNumber (2 ^ 32 - 1) d n
 
--- an address of the program: a multiple of 4 from 0 to 3FFFFFC
-abbrev pub IsInSpace : ℤ → ℕ → Type 0
-IsInSpace z n = (z ≡ pos n) × (n % 4 ≡ 0) × (n < 2 ^ 26)
-
+-- an address of the program
 abbrev pub IsAddress : Data → ℕ → Type 0
-IsAddress d n = IsSomeAnd (as_integer d) (λ z. IsInSpace z n)
+IsAddress d n = IsSomeAnd (as_integer d) (λ z. (z ≡ pos n) × IsInSpace n)
 
 -- the size of a page in KB
 abbrev pub kilobytes : PageSize → ℕ
@@ -58,7 +56,7 @@ AreFlags d flags =
 
 -- names of lines, which are active
 abbrev pub AreLines : Data → Lines → Type 0
-AreLines d lines = (all : List Lines) × IsListOf (IsNamed named_line) d all × (lines ≡ union all)
+AreLines d lines = (all : List Lines) × IsListOf (IsNamed line_named) d all × (lines ≡ union all)
 
 -- ## Tables
 

@@ -1,5 +1,4 @@
--- The words and names of machine files, and the keys of their tables (our own format; the lines'
--- names and bits are those of IOC's lines).
+-- The words and names of machine files, and the keys of their tables (our own format).
 use Rattle.std.specs.Prelude.{ℕ, List, [], ◌∷◌, map, codes, Option, Some, None, if◌then◌else◌}
 use Rattle.std.specs.Str.{bytes_eq}
 use Rattle.arm2_effect.specs.declared.modes.Mode.{Mode}
@@ -69,11 +68,3 @@ named_mode w = if bytes_eq w (codes "user") then Some User else (if bytes_eq w (
     else
     (if bytes_eq w (codes "irq") then Some Irq
     else (if bytes_eq w (codes "svc") then Some Svc else None)))
-
--- the names of the interrupt lines, each with its bit
-abbrev pub line_names : List (List ℕ × ℕ)
-line_names =
-    (codes "A0", 0x1) ∷ (codes "A1", 0x2) ∷ (codes "A2", 0x4) ∷ (codes "IL0", 0x100) ∷ (codes "B1", 0x200)
-    ∷ (codes "B2", 0x400) ∷ (codes "B3", 0x800) ∷ (codes "B4", 0x1000) ∷ (codes "B5", 0x2000)
-    ∷ (codes "B6", 0x4000) ∷ (codes "B7", 0x8000) ∷ (codes "F0", 0x10000) ∷ (codes "F1", 0x20000)
-    ∷ (codes "F2", 0x40000) ∷ (codes "F3", 0x80000) ∷ (codes "F4", 0x100000) ∷ (codes "F5", 0x200000) ∷ []

@@ -4,7 +4,8 @@ ghost use Rattle.toml.specs.View.{table_view, view};
 ghost use Rattle.toml_reading.specs.Documents.{number_at, number_or};
 ghost use Rattle.machine_file.specs.MachineFaults.{machine_faults};
 ghost use Rattle.machine_file.specs.MachineFile.{counts_in, event_at, event_in, events_in, line_at, lines_at};
-ghost use Rattle.machine_file.specs.MachineFile.{lines_in, named_line, once, port_at, port_in, schedule_in};
+ghost use Rattle.machine_file.specs.MachineFile.{lines_in, once, port_at, port_in, schedule_in};
+ghost use Rattle.ioc.specs.LineNames.{line_named};
 ghost use Rattle.machine_file.specs.MachineFile.{union};
 
 use crate::machine_faults::{MachineFileFault, Read};
@@ -34,7 +35,7 @@ pub struct Event {
 }
 
 fn line_named(name: &str) -> Option<Lines>
-    ensures { result ≡ named_line name.now }
+    ensures { result ≡ line_named name.now }
 {
     Lines::from_name(name)
 }

@@ -1,6 +1,8 @@
 ghost use Rattle.std.specs.Prelude.{◌≡◌, IfOk};
 ghost use Rattle.toml.specs.View.{table_view, view};
-ghost use Rattle.machine_file.specs.MachineFile.{in_space, mode_at, mode_in, pc_at, pc_in, processor_in};
+ghost use Rattle.toml_reading.specs.Documents.{in_space};
+ghost use Rattle.machine_file.specs.MachineFaults.{machine_faults};
+ghost use Rattle.machine_file.specs.MachineFile.{mode_at, mode_in, pc_at, pc_in, processor_in};
 ghost use Rattle.machine_file.specs.Names.{named_mode};
 
 use crate::flags::{PsrFlags, stated_flags};
@@ -10,7 +12,7 @@ use arm2_effect::Mode;
 use std::alloc::{AllocError, Global};
 use std::marker::Model;
 use toml::{Table, Value};
-use toml_reading::{pair, value_at};
+use toml_reading::{in_space, pair, value_at};
 
 /// The address in R15, in bytes.
 #[derive(Clone, Copy)]
@@ -19,13 +21,14 @@ pub(crate) struct StartAddress {
 }
 
 impl Model for StartAddress {
-    ghost use Rattle.std.specs.Prelude.{◌≤◌, ℕ};
+    ghost use Rattle.std.specs.Prelude.{ℕ};
+    ghost use Rattle.toml_reading.specs.Lowest.{IsInSpace};
 
     ghost Value = { ℕ };
 
     ghost view = { λ a. a.address };
 
-    ghost invariant = { λ a. a.address ≤ 0x3FFFFFC };
+    ghost invariant = { λ a. IsInSpace a.address };
 
     ghost inverse = { λ n. record { address = n } };
 }
@@ -47,18 +50,12 @@ impl Model for Processor {
     ghost view = { λ p. record { pc = p.pc; mode = p.mode; flags = p.flags; registers = p.registers } };
 }
 
-fn in_space(number: i64) -> Read<StartAddress>
-    ensures { result ≡ in_space number }
+fn start_address(number: i64) -> Read<StartAddress>
+    ensures { result ≡ in_space machine_faults number }
 {
-    match u32::try_from(number) {
-        Ok(n) => {
-            if n % 4 == 0 && n < 1 << 26 {
-                Ok(StartAddress { address: n })
-            } else {
-                Err(MachineFileFault::OutOfRange)
-            }
-        }
-        Err(_) => Err(MachineFileFault::OutOfRange),
+    match in_space(number) {
+        Ok(address) => Ok(StartAddress { address }),
+        Err(fault) => Err(fault),
     }
 }
 
@@ -66,7 +63,7 @@ fn pc_of(value: &Value) -> Read<StartAddress>
     ensures { result ≡ pc_at (view value.now) }
 {
     match value.as_integer() {
-        Some(number) => in_space(number),
+        Some(number) => start_address(number),
         None => Err(MachineFileFault::WrongKind),
     }
 }

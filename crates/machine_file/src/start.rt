@@ -1,7 +1,7 @@
 ghost use Rattle.std.specs.Prelude.{◌≡◌, ◌≤◌, ◌<◌, IfOk, length, map};
 ghost use Rattle.std.specs.List.{range_with_len};
 ghost use Rattle.arm2_decode.specs.Allowed.{bit_of};
-ghost use Rattle.arm2_effect.specs.Modes.{mode_number, reg_number};
+ghost use Rattle.arm2_effect.specs.Modes.{reg_number};
 ghost use Rattle.memc.specs.Memory.{IsStart, shift_of_size};
 ghost use Rattle.machine_file.specs.Started.{IsController, IsResetMap, IsStarted, psr_number, r15_in};
 ghost use Rattle.machine_file.specs.StartWork.{AreMapped, CanMap, IsSameRest, IsUnmapped, with_words};
@@ -11,7 +11,7 @@ use crate::machine_files::MachineFile;
 use crate::pages::{Controller, MappedPage};
 use crate::processor::Processor;
 use crate::registers::REGISTERS;
-use arm2_effect::{Mode, Reg};
+use arm2_effect::{Reg, r15_of};
 use arm2_exec::{Machine, MachineFault};
 use bus_ticks::Profile;
 use memc::Memc;
@@ -36,23 +36,11 @@ fn psr_number(flags: PsrFlags) -> u32
         + bit(flags.fiq_masked)
 }
 
-fn mode_number(mode: Mode) -> u32
-    ensures number { result ≡ mode_number mode }
-    ensures bound { result < 4 }
-{
-    match mode {
-        Mode::User => 0,
-        Mode::Fiq => 1,
-        Mode::Irq => 2,
-        Mode::Svc => 3,
-    }
-}
-
 fn r15(processor: &Processor) -> u32
     ensures { result ≡ r15_in processor.now }
 {
     let psr = psr_number(processor.flags);
-    psr * 0x400_0000 + processor.pc.address + mode_number(processor.mode)
+    r15_of(psr, processor.pc.address, processor.mode)
 }
 
 // Puts words into the first registers.

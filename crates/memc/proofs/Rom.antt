@@ -10,7 +10,7 @@ use Rattle.std.proofs.lemmas.List.{drop_all}
 use Rattle.memc.specs.Memory.{Words, rom_word, with_word, with_words, last_word}
 
 -- the test of the map's search
-is_at-eqb : (a b : ℕ) → is_at (nat_cmp a) b ≡ eqb b a
+pub is_at-eqb : (a b : ℕ) → is_at (nat_cmp a) b ≡ eqb b a
 is_at-eqb a b = grind (arith, nat_tests)
 
 cond-unwrap_or : (b : Bool) (x : ℕ) (o : Option ℕ) → unwrap_or (cond b (Some x) o) 0 ≡ cond b x (unwrap_or o 0)

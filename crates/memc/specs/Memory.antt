@@ -13,6 +13,7 @@ use Rattle.memc.specs.declared.spots.PageSize.{PageSize}
 use Rattle.memc.specs.declared.spots.PageSize.TheVariants.{K4, K8, K16, K32}
 use Rattle.memc.specs.declared.spots.Spot.{Spot}
 use Rattle.memc.specs.declared.spots.Spot.TheVariants.{Ram, Rom, Io, Vidc, Control, Translator, Ignored}
+use Rattle.bus_ticks.specs.declared.space.TheConstants.{IO_START, ROM_START}
 use Rattle.memc.specs.declared.spots.Refused.{Refused}
 use Rattle.memc.specs.declared.spots.Refused.TheVariants.{NoPage, Protected, UnsupportedWrite}
 use Rattle.memc.specs.Paged.{Paged, page_at, place_of, mapped, unmapped, IsFresh}
@@ -74,9 +75,9 @@ written_at shift address =
 abbrev pub located : Memory → ℕ → Bool → Bool → Result Spot Refused
 located m address user store =
     if nat_lt address 0x2000000 then logical_at m address user store
-    else (if nat_lt address 0x3000000 then physical_at (128 * 2 ^ m.shift) (address - 0x2000000) user
-    else (if user && (store || nat_lt address 0x3400000) then Err Protected
-    else (if nat_lt address 0x3400000 then Ok (Io address)
+    else (if nat_lt address IO_START then physical_at (128 * 2 ^ m.shift) (address - 0x2000000) user
+    else (if user && (store || nat_lt address ROM_START) then Err Protected
+    else (if nat_lt address ROM_START then Ok (Io address)
     else (if store then written_at m.shift address else Ok (Rom address)))))
 
 -- what is true of every spot that an access reaches: a word of RAM is fitted, and the translator has pages of

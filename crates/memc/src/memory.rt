@@ -7,17 +7,13 @@ ghost use Rattle.memc.specs.Memory.{control_of, allowed};
 
 use crate::pages::{Entry, Pages};
 use crate::spots::{MapFault, MemcFault, PageSize, Refused, Spot};
-use bus_ticks::RomTimes;
+use bus_ticks::{IO_START, ROM_START, RomTimes};
 use std::alloc::Global;
 use std::collections::BTreeMap;
 use std::marker::Model;
 
-/// Where physical RAM, the devices, ROM and, for stores, the DMA and control range and the translator begin.
+/// Where physical RAM and, for stores, the DMA and control range and the translator begin.
 const PHYSICAL_RAM: u32 = 0x200_0000;
-
-const DEVICES: u32 = 0x300_0000;
-
-const ROM: u32 = 0x340_0000;
 
 const DMA_AND_CONTROL: u32 = 0x360_0000;
 
@@ -103,13 +99,13 @@ impl Memc {
         if address < PHYSICAL_RAM {
             return self.logical(address, user, store);
         }
-        if address < DEVICES {
+        if address < IO_START {
             return physical(address - PHYSICAL_RAM, limit, user);
         }
-        if user && (store || address < ROM) {
+        if user && (store || address < ROM_START) {
             return Err(Refused::Protected);
         }
-        if address < ROM {
+        if address < ROM_START {
             return Ok(Spot::Io(address));
         }
         if store {

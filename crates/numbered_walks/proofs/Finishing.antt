@@ -1,8 +1,7 @@
 -- The numbers at the end of the pass meet the rows and give the greatest bound.
-use Rattle.std.proofs.Common.{◌≡◌, ℕ, ◌+◌, ◌^◌, ◌<◌, ◌≤◌, Bool, true, false, cond, not, ◌&&◌, eqb, List, [], ◌∷◌, ◌++◌, ◌⊎◌, ⊎_elim, inl, inr, length, slice_index, Option, Some, None, All, Contains, sum_by, refl, sym, ap, ◌∙◌, subst, arith}
+use Rattle.std.proofs.Common.{◌≡◌, ℕ, ◌+◌, ◌^◌, ◌<◌, ◌≤◌, Bool, true, false, cond, not, ◌&&◌, eqb, List, [], ◌∷◌, ◌++◌, ◌⊎◌, ⊎_elim, inl, inr, length, get_or, slice_index, Option, Some, None, All, Contains, sum_by, refl, sym, ap, ◌∙◌, subst, arith}
 use Rattle.std.specs.List.{find}
 use Rattle.std.specs.Option.{IfSome}
-use Rattle.std.proofs.lemmas.List.Sums.{sum_by-cons}
 use Rattle.std.proofs.lemmas.List.{get_or_default}
 use Rattle.std.proofs.lemmas.Bool.{false≢true, cases_Bool, cases_lt, both_ways, eqb-true, eqb-false, eq-eqb, ne_eqb}
 use Rattle.std.proofs.lemmas.List.Elements.{All-contains}
@@ -19,6 +18,7 @@ use Rattle.numbered_walks.specs.Tables.{IsPassed, AllEntered, potentials_of, sta
 use Rattle.numbered_walks.proofs.Members.{IsReachable, member_header, member_last, header_in, reachable}
 use Rattle.numbered_walks.proofs.Nesting.{same_header}
 use Rattle.numbered_walks.proofs.Reaching as R
+use Rattle.numbered_walks.proofs.Reaching.{sum_zero}
 use Rattle.numbered_walks.proofs.Passing.{reached, header_there}
 
 pub header_find : (tree : List Span) (e : NumberedEdge) → is_header_in tree e.to ≡ true → find (λ i. ends_at_header i e) tree ≡ None → ⊥
@@ -31,10 +31,6 @@ header_find (i ∷ tree) e is none =
           let rest : is_header_in tree e.to ≡ true = subst (λ (b : Bool). cond b true (is_header_in tree e.to) ≡ true) apart is in
           header_find tree e rest found
     ] refl none
-
-sum_zero : {X : Type 0} (xs : List X) → sum_by (λ x. 0) xs ≡ 0
-sum_zero [] = refl
-sum_zero (x ∷ xs) = omega (arith, sum_by-cons (λ y. 0) x xs, sum_zero xs)
 
 module _ (exit : ℕ) (edges : List NumberedEdge) (tree : List Span) (c : Tables) (order : IsOrdered exit edges tree) (pass : IsPassed edges tree (length tree) (exit + 1) c) (closes : c.bound ≡ distance_of c exit) where
   abbrev pub Fits : NumberedEdge → Option ℕ → Type 0
@@ -211,8 +207,12 @@ none_passed edges tree c distances rounds = record {
   round_attained = λ n small. absurd (omega arith);
 }
 
+-- the tables with this bound
+abbrev pub bounded : ℕ → Tables → Tables
+bounded b c = record { bound = b; distances = c.distances; arrivals = c.arrivals; rounds = c.rounds }
+
 -- the bound is no part of what the pass finds
-pub with_bound : (edges : List NumberedEdge) (tree : List Span) (k q b : ℕ) (c : Tables) → IsPassed edges tree k q c → IsPassed edges tree k q (record { bound = b; distances = c.distances; arrivals = c.arrivals; rounds = c.rounds })
+pub with_bound : (edges : List NumberedEdge) (tree : List Span) (k q b : ℕ) (c : Tables) → IsPassed edges tree k q c → IsPassed edges tree k q (bounded b c)
 with_bound edges tree k q b c pass = record {
   closed = pass.closed;
   later_distance = pass.later_distance;
@@ -223,4 +223,15 @@ with_bound edges tree k q b c pass = record {
   round_zero = pass.round_zero;
   attained = pass.attained;
   round_attained = pass.round_attained;
+}
+
+-- what the pass found, bounded by what stands at Exit
+pub record IsClosed (exit : ℕ) (edges : List NumberedEdge) (tree : List Span) (c : Tables) : Type 0 where
+  pub passed : IsPassed edges tree (length tree) (exit + 1) c
+  pub closes : c.bound ≡ distance_of c exit
+
+pub closed_at_exit : (exit : ℕ) (edges : List NumberedEdge) (tree : List Span) (c : Tables) (b : ℕ) → b ≡ get_or c.distances.items exit b → length c.distances.items ≡ exit + 1 → IsPassed edges tree (length tree) (exit + 1) c → IsClosed exit edges tree (bounded b c)
+closed_at_exit exit edges tree c b at whole pass = record {
+  passed = with_bound edges tree (length tree) (exit + 1) b c pass;
+  closes = at ∙ get_or_default c.distances.items exit b 0 (omega (arith, whole));
 }

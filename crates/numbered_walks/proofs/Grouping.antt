@@ -6,6 +6,8 @@ use Rattle.std.proofs.lemmas.List.{get_or-set_same, get_or-set_other, get_or_def
 use Rattle.std.proofs.Math.ListN.{length-set}
 use Rattle.std.proofs.lemmas.List.Elements.{Contains-push, Contains-push_cases, Contains-append_left, Contains-get_or}
 use Rattle.numbered_walks.specs.declared.span.NumberedEdge.{NumberedEdge}
+use Rattle.numbered_walks.specs.declared.span.Span.{Span}
+use Rattle.numbered_walks.specs.Ordered.{IsOrdered}
 use Rattle.numbered_walks.specs.Index.{AreGrouped, edge_at, edges_of, is_up}
 
 -- what a group has to hold
@@ -72,6 +74,16 @@ edge_of edges group k (n, below, at) =
 
 pub edge_at-in : (edges : List NumberedEdge) (k : ℕ) → k < length edges → Contains edges (edge_at edges k)
 edge_at-in edges k inside = Contains-get_or edges k (record { from = 0; to = 0; cost = 0 }) inside
+
+-- an edge of the list leaves a number before that of Exit
+pub from_low : (exit : ℕ) (edges : List NumberedEdge) (spans : List Span) → IsOrdered exit edges spans → (k : ℕ) → k < length edges → (edge_at edges k).from ≤ exit
+from_low exit edges spans order k inside = omega (arith, (order.places (edge_at edges k) (edge_at-in edges k inside)).0)
+
+-- a group has places of the list alone
+pub group_known : (edges : List NumberedEdge) (up : Bool) (groups : List (Vec ℕ Global)) (p : ℕ) (d : Vec ℕ Global) → p < length groups → AreGrouped edges (length edges) up groups → (group : List ℕ) → group ≡ (get_or groups p d).items → All (λ k. k < length edges) group
+group_known edges up groups p d small all group is = λ n e inside.
+    let k = get_or group n e in
+    ((all p d small k).0 (subst (λ (l : List ℕ). Contains l k) is (Contains-get_or group n e inside))).0
 
 numbered : (edges : List NumberedEdge) (e : NumberedEdge) (at : Contains edges e) → edge_at edges at.0 ≡ e
 numbered edges e at = get_or_default edges at.0 (record { from = 0; to = 0; cost = 0 }) e at.1 ∙ at.2

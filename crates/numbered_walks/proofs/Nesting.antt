@@ -8,15 +8,11 @@ use Rattle.numbered_walks.specs.declared.span.NumberedEdge.{NumberedEdge}
 use Rattle.numbered_walks.specs.declared.span.Span.{Span}
 use Rattle.numbered_walks.specs.Ordered.{IsOrdered, HoldsAll, Leads, is_in}
 use Rattle.numbered_walks.proofs.Members.{IsReachable, header_in, header_reached}
-use Rattle.numbered_walks.proofs.Reaching.{Structure, InTree, below, holds_in, turns_in}
+use Rattle.numbered_walks.proofs.Reaching.{sum_zero, Structure, InTree, below, holds_in, turns_in}
 use Rattle.walks.proofs.SumLe.{sum_by-same_all, sum_by-le_contains}
 
-AllPairs-tail : {X : Type 0} (R : X → X → Type 0) (x : X) (xs : List X) → AllPairs R (x ∷ xs) → AllPairs R xs
+pub AllPairs-tail : {X : Type 0} (R : X → X → Type 0) (x : X) (xs : List X) → AllPairs R (x ∷ xs) → AllPairs R xs
 AllPairs-tail R x xs pairs a b d lt inside = pairs (suc a) (suc b) d (omega arith) (omega arith)
-
-sum_zero : {X : Type 0} (xs : List X) → sum_by (λ x. 0) xs ≡ 0
-sum_zero [] = refl
-sum_zero (x ∷ xs) = omega (arith, sum_by-cons (λ y. 0) x xs, sum_zero xs)
 
 abbrev Differ : List Span → Type 0
 Differ tree = AllPairs (λ i j. i.header ≢ j.header) tree

@@ -1,11 +1,11 @@
 -- The steps of the pass over the places.
-use Rattle.std.proofs.Common.{◌≡◌, ◌≢◌, ℕ, suc, ◌+◌, ◌^◌, ◌<◌, ◌≤◌, max, Bool, true, false, cond, not, ◌&&◌, List, [], ◌∷◌, ◌++◌, ◌⊎◌, ⊎_elim, inl, inr, length, length-append, get_or, slice_index, Contains, sum_by, refl, sym, ap, ◌∙◌, subst, arith}
+use Rattle.std.proofs.Common.{◌≡◌, ◌≢◌, ℕ, ◌+◌, ◌^◌, ◌<◌, ◌≤◌, max, Bool, true, false, cond, not, ◌&&◌, List, [], ◌∷◌, ◌++◌, ◌⊎◌, ⊎_elim, inl, inr, length, length-append, get_or, slice_index, Contains, sum_by, refl, sym, ap, ◌∙◌, subst, arith}
 use Rattle.std.proofs.Common.{◌↔◌, take}
 use Rattle.std.proofs.lemmas.List.{get_or_append_left, get_or_default, take_more, map-append}
 use Rattle.std.specs.List.{filter}
 use Rattle.std.proofs.lemmas.Bool.{false≢true, cases_lt, cases_eq, and_parts}
 use Rattle.std.proofs.lemmas.List.Sums.{sum_by-cons}
-use Rattle.std.proofs.lemmas.List.Elements.{All-push, All-weaker, All-contains, Contains-get_or}
+use Rattle.std.proofs.lemmas.List.Elements.{All-push, All-weaker, All-contains, Contains-get_or, Contains-push}
 use Rattle.numbered_walks.specs.declared.span.NumberedEdge.{NumberedEdge}
 use Rattle.numbered_walks.specs.declared.span.Span.{Span}
 use Rattle.numbered_walks.specs.declared.tables.Tables.{Tables}
@@ -19,10 +19,6 @@ use Rattle.numbered_walks.specs.Tables.{AllEntered}
 use Rattle.numbered_walks.specs.Index.{edge_at, edges_of}
 use Rattle.numbered_walks.proofs.Members.{is_member, member_header, member_last}
 use Rattle.numbered_walks.proofs.Nesting.{same_header}
-
-Contains-last : {X : Type 0} (xs : List X) (x : X) → Contains (xs ++ x ∷ []) x
-Contains-last [] x = (0, omega arith, refl)
-Contains-last (y ∷ xs) x = let rest = Contains-last xs x in (suc rest.0, omega (arith, rest.1), rest.2)
 
 Contains-front : {X : Type 0} (xs : List X) (y x : X) → Contains xs x → Contains (xs ++ y ∷ []) x
 Contains-front xs y x at = (at.0, omega (arith, at.1, length-append xs (y ∷ [])), get_or_append_left xs (y ∷ []) x at.0 at.1 ∙ at.2)
@@ -51,9 +47,9 @@ heaviest_more tree c xs e n m h fits is = record {
       (All-weaker (λ x. (needed tree c x ≤ n) × (needed tree c x < 2 ^ 63)) (λ x. (needed tree c x ≤ m) × (needed tree c x < 2 ^ 63)) (λ x both. (omega (arith, both.0), both.1)) xs h.most)
       (omega arith, fits);
   attained = ⊎_elim
-      (λ none. inr (e, Contains-last xs e, omega (arith, none.0)))
+      (λ none. inr (e, Contains-push xs e, omega (arith, none.0)))
       (λ by. ⊎_elim
-      (λ more. inr (e, Contains-last xs e, omega arith))
+      (λ more. inr (e, Contains-push xs e, omega arith))
       (λ less. inr (by.0, Contains-front xs e by.0 by.1, omega (arith, by.2)))
       (cases_lt n (needed tree c e)))
       h.attained;

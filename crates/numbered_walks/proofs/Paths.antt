@@ -2,7 +2,6 @@
 use Rattle.std.proofs.Common.{◌≡◌, ℕ, ◌+◌, ◌*◌, ◌<◌, Bool, true, false, cond, not, eqb, ◌&&◌, List, [], ◌∷◌, ◌++◌, ⊎_elim, Option, Some, None, Contains, slice_index, sum_by, refl, sym, ap, ◌∙◌, subst, arith}
 use Rattle.std.proofs.lemmas.Bool.{cases_Bool, both_ways, and_from, and_parts, eqb-true, eqb-false, ne_eqb}
 use Rattle.std.proofs.lemmas.List.Elements.{All-nil}
-use Rattle.std.proofs.lemmas.List.Sums.{sum_by-cons}
 use Rattle.walks.specs.Segments.{repeated}
 use Rattle.walks.proofs.SumLe.{sum_by-same_all}
 use Rattle.numbered_walks.specs.declared.span.NumberedEdge.{NumberedEdge}
@@ -18,11 +17,8 @@ use Rattle.numbered_walks.proofs.Members.{is_member, member_header}
 use Rattle.numbered_walks.proofs.Nesting.{structure}
 use Rattle.numbered_walks.proofs.Passing.{header_there}
 use Rattle.numbered_walks.proofs.Reaching as R
+use Rattle.numbered_walks.proofs.Reaching.{sum_zero}
 use Rattle.numbered_walks.proofs.WalkOf as W
-
-sum_zero : {X : Type 0} (xs : List X) → sum_by (λ x. 0) xs ≡ 0
-sum_zero [] = refl
-sum_zero (x ∷ xs) = omega (arith, sum_by-cons (λ y. 0) x xs, sum_zero xs)
 
 module _ (exit : ℕ) (edges : List NumberedEdge) (spans : List Span) (c : Tables) (order : IsOrdered exit edges spans) (found : AreFound exit edges spans c) where
   abbrev bound_of : Span → ℕ

@@ -51,7 +51,7 @@ round_pick true false b s leave apart = rw (leave refl refl) refl
 round_pick true true false s leave apart = refl
 round_pick true true true s leave apart = absurd (true≢false (apart refl))
 
-sum_zero : {X : Type 0} (xs : List X) → sum_by (λ x. 0) xs ≡ 0
+pub sum_zero : {X : Type 0} (xs : List X) → sum_by (λ x. 0) xs ≡ 0
 sum_zero [] = refl
 sum_zero (x ∷ xs) = omega (arith, sum_by-cons (λ y. 0) x xs, sum_zero xs)
 

@@ -6,7 +6,7 @@ use Rattle.std.specs.List.{filter}
 use Rattle.numbered_walks.specs.declared.span.NumberedEdge.{NumberedEdge}
 use Rattle.numbered_walks.specs.declared.span.Span.{Span}
 use Rattle.numbered_walks.specs.declared.index.Index.{Index}
-use Rattle.numbered_walks.specs.Ordered.{is_in}
+use Rattle.numbered_walks.specs.Ordered.{IsOrdered, is_in}
 
 abbrev pub edge_at : List NumberedEdge → ℕ → NumberedEdge
 edge_at edges k = slice_index_or edges k (record { from = 0; to = 0; cost = 0 })
@@ -51,3 +51,9 @@ pub record IsIndex (exit : ℕ) (edges : List NumberedEdge) (spans : List Span) 
   pub all_entering : length index.entering.items ≡ exit + 1
   pub all_turning : length index.turning.items ≡ exit + 1
   pub all_headers : length index.headers.items ≡ exit + 1
+
+-- edges and spans in order, with their index: what each search for a greatest walk is handed
+pub record IsNumberedGraph (exit : ℕ) (edges : List NumberedEdge) (spans : List Span)
+    (index : Index) : Type 0 where
+  pub ordered : IsOrdered exit edges spans
+  pub indexed : IsIndex exit edges spans index

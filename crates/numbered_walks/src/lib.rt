@@ -3,19 +3,21 @@
 #![tactic(auto)]
 
 mod fault;
-mod find;
+mod graph;
 mod groups;
 mod holders;
 mod index;
 mod pass;
+mod potentials;
 mod row;
 mod span;
 mod tables;
 mod trace;
 
 pub use fault::WalkFault;
-pub use find::find_tables;
+pub use graph::NumberedGraph;
 pub use index::Index;
+pub use potentials::find_tables;
 pub use span::{NumberedEdge, Span};
 pub use tables::Tables;
 pub use trace::{entering_edge, turning_edge};

@@ -1,8 +1,9 @@
 ghost use Rattle.std.specs.Prelude.{◌≡◌, ◌^◌, ◌<◌, ◌≤◌, MatchOption, All, length};
 ghost use Rattle.numbered_walks.specs.Ordered.{is_in};
-ghost use Rattle.numbered_walks.specs.Index.{AreHolders, edge_at, edges_of};
+ghost use Rattle.numbered_walks.specs.Index.{IsNumberedGraph, edges_of};
 ghost use Rattle.numbered_walks.specs.Tables.{IsHeaviest, IsNotFit, needed, stay_of};
 
+use crate::graph::NumberedGraph;
 use crate::span::{NumberedEdge, Span};
 use crate::tables::{Tables, arrival, distance, round};
 
@@ -41,36 +42,29 @@ fn needed_with(spans: &[Span], tables: &Tables, edge: &NumberedEdge) -> Option<u
 
 /// What the edge's row asks for, in ticks, by the spans that hold its beginning alone; `None` from 2^64 on.
 pub(crate) fn needed_in(
-    spans: &[Span],
-    holders: &[Vec<Span>],
+    graph: NumberedGraph<'_>,
     tables: &Tables,
     edge: &NumberedEdge,
 ) -> Option<u64>
-    requires known { edge.now.from < length holders.now }
-    requires held { AreHolders spans.now holders.now }
-    ensures { MatchOption result (2 ^ 64 ≤ needed spans.now tables.now edge.now)
-        (λ n. n ≡ needed spans.now tables.now edge.now) }
+    requires graph { IsNumberedGraph graph.exit graph.edges.now graph.spans.now graph.index.now }
+    requires known { edge.now.from ≤ graph.exit }
+    ensures { MatchOption result (2 ^ 64 ≤ needed graph.entry.spans.now tables.now edge.now)
+        (λ n. n ≡ needed graph.entry.spans.now tables.now edge.now) }
 {
-    needed_with(&holders[edge.from], tables, edge)
+    needed_with(&graph.index.holders[edge.from], tables, edge)
 }
 
 /// The most that one of the group's edges needs, in ticks, if each needs less than 2^63.
-pub(crate) fn heaviest(
-    spans: &[Span],
-    holders: &[Vec<Span>],
-    tables: &Tables,
-    edges: &[NumberedEdge],
-    group: &[usize],
-) -> Option<u64>
-    requires known { All
-        (λ k. (k < length edges.now) × ((edge_at edges.now k).from < length holders.now)) group.now }
-    requires held { AreHolders spans.now holders.now }
-    ensures { MatchOption result (IsNotFit spans.now tables.now (edges_of edges.now group.now))
-        (IsHeaviest spans.now tables.now (edges_of edges.now group.now)) }
+pub(crate) fn heaviest(graph: NumberedGraph<'_>, tables: &Tables, group: &[usize]) -> Option<u64>
+    requires graph { IsNumberedGraph graph.exit graph.edges.now graph.spans.now graph.index.now }
+    requires known { All (λ k. k < length graph.edges.now) group.now }
+    ensures { MatchOption result
+        (IsNotFit graph.entry.spans.now tables.now (edges_of graph.entry.edges.now group.now))
+        (IsHeaviest graph.entry.spans.now tables.now (edges_of graph.entry.edges.now group.now)) }
 {
     let mut best = 0u64;
     for number in group {
-        let needed = needed_in(spans, holders, tables, &edges[*number])?;
+        let needed = needed_in(graph, tables, &graph.edges[*number])?;
         if needed >= 1 << 63 {
             return None;
         }

@@ -1,5 +1,5 @@
 -- What is read of a document, against what it states and the faults that it has.
-use Rattle.std.proofs.Common.{◌≡◌, ◌⊎◌, ◌↔◌, ◌≤◌, ℕ, Option, Some, None, IsSomeAnd, inl, inr, false, le_of_eq, true, ◌&&◌, cond, eqb, [], Ok, Err, refl, sym, ap, subst, ◌∙◌}
+use Rattle.std.proofs.Common.{◌≡◌, ◌⊎◌, ◌↔◌, ◌≤◌, ℕ, Option, Some, None, IsSomeAnd, inl, inr, false, le_of_eq, true, ◌&&◌, get_or, [], ◌∷◌, Ok, Err, refl, sym, ap, subst, ◌∙◌}
 use Rattle.std.specs.Prelude.{codes}
 use Rattle.std.specs.Map.{keys_of}
 use Rattle.std.specs.Cmp.Derive.{both_true}
@@ -12,7 +12,7 @@ use Rattle.toml_reading.specs.Lists.{IsListUpTo, ListUpToFault}
 use Rattle.toml_reading.specs.Lowest.{AtKey, AtKeyOr, IsLowest}
 use Rattle.toml_reading.specs.Readings.{and_then}
 use Rattle.toml_reading.proofs.Following.{stated_or_faulty, tables_up_to_judged, test_judged, then_judged, widened_judged}
-use Rattle.toml_reading.proofs.LowestLemmas.{Judges, both_judged, judged_as, judged_fault, judged_value, optional_judged}
+use Rattle.toml_reading.proofs.LowestLemmas.{Judges, both_judged, judged_as, judged_fault, judged_value, one_by_rank, optional_judged}
 use Rattle.toml_reading.proofs.LowestParts.{keys_judged}
 use Rattle.toml_reading.proofs.TwiceLemmas.{keys_not_distinct}
 use Rattle.statement.specs.StatementRules.{AccessFault, AddressFault, HasAccess, HasFault, HasParts, HasTarget, HasTwo, IsAddress, IsAt, IsSingle, IsNamed, LoopFault, PartsFault, RequiredFault, States, StatesAccess, StatesLoop, StatesTarget, TargetFault, NameFault}
@@ -26,15 +26,11 @@ use Rattle.statement.proofs.TableLemmas.{access_judged, loop_judged, not_true, s
 
 -- ## Faults differ in their numbers
 
-fault_numbered : ℕ → StatementFault
-fault_numbered n =
-    cond
-    (eqb n 1)
-    Memory
-    (cond (eqb n 2) NotToml (cond (eqb n 3) UnknownKey (cond (eqb n 4) WrongKind (cond (eqb n 5) UnknownLabel (cond (eqb n 6) OutOfRange Twice)))))
+abbrev fault_at : ℕ → StatementFault
+fault_at n =
+    get_or (Memory ∷ Memory ∷ NotToml ∷ UnknownKey ∷ WrongKind ∷ UnknownLabel ∷ OutOfRange ∷ Twice ∷ []) n Memory
 
-numbered_back : (f : StatementFault) → fault_numbered (number_of f) ≡ f
-unfolding fault_numbered
+numbered_back : (f : StatementFault) → fault_at (number_of f) ≡ f
 numbered_back Memory = refl
 numbered_back NotToml = refl
 numbered_back UnknownKey = refl
@@ -42,9 +38,6 @@ numbered_back WrongKind = refl
 numbered_back UnknownLabel = refl
 numbered_back OutOfRange = refl
 numbered_back Twice = refl
-
-one_number : (f g : StatementFault) → number_of f ≡ number_of g → f ≡ g
-one_number f g e = sym (numbered_back f) ∙ ap fault_numbered e ∙ numbered_back g
 
 leave_judged :
     (ms : Members)
@@ -308,7 +301,7 @@ module _ (names : Names) where
       statement_faults
       (States names ms)
       (HasFault names ms)
-      one_number
+      (one_by_rank statement_faults fault_at numbered_back)
       (statement_of names ms)
       (document_judged ms)
       f

@@ -7,10 +7,11 @@ use Rattle.std.proofs.lemmas.Bool.{and_parts, eqb-true, false≢true, le-leb, le
 use Rattle.std.proofs.lemmas.List.{nil_from_length}
 use Rattle.std.proofs.lemmas.Option.{none-some}
 use Rattle.toml.specs.Data.{Data, Members, as_integer, get_member}
+use Rattle.bus_ticks.specs.declared.profile.Class.{Class}
 use Rattle.toml_reading.specs.Documents.{are_distinct, items_at, listed_up_to, number_in}
 use Rattle.toml_reading.specs.Lists.{StandsTwice}
 use Rattle.toml_reading.specs.Lowest.{AtKey, IsNumber, IsOutside, NumberFault}
-use Rattle.toml_reading.specs.Readings.{and_then, both, required}
+use Rattle.toml_reading.specs.Readings.{Reading, and_then, both, required}
 use Rattle.toml_reading.proofs.Following.{few_judged, stated_or_faulty, test_judged, then_judged, widened_judged}
 use Rattle.toml_reading.proofs.LowestLemmas.{Judges, both_judged, judged_as, required_judged, seen_judged}
 use Rattle.toml_reading.proofs.LowestParts.{any_none, number_in_judged, table_judged}
@@ -468,13 +469,20 @@ module _ (names : Names) where
       (kind_in ms)
       (kind_judged ms)
 
+  abbrev target_parts : Members → Reading StatementFault (ℕ × Target)
+  target_parts ms =
+      both
+      statement_faults
+      (address_in names (codes "at") ms)
+      (and_then (kind_in ms) (directed names (get_member (codes "to") ms)))
+
   target_keys_judged :
       (ms : Members)
       → Judges
       statement_faults
       (HasTarget names ms)
       (TargetKeysFault names ms)
-      (both statement_faults (address_in names (codes "at") ms) (and_then (kind_in ms) (directed names (get_member (codes "to") ms))))
+      (target_parts ms)
   target_keys_judged ms =
       judged_as
       statement_faults
@@ -491,23 +499,19 @@ module _ (names : Names) where
         λ h. (h.address, (t.1.kind, h.kind, (refl, h.destinations))),
       ))
       (λ f. (λ y. y, λ y. y))
-      (both statement_faults (address_in names (codes "at") ms) (and_then (kind_in ms) (directed names (get_member (codes "to") ms))))
+      (target_parts ms)
       (both_judged statement_faults _ _ _ _ _ _ (address_in_judged names (codes "at") ms) (direction_judged ms))
 
   pub target_judged :
       (d : Data)
       → Judges statement_faults (StatesTarget names d) (TargetFault names d) (target_at names d)
   target_judged d =
-      table_judged
-      statement_faults
-      target_keys
-      (HasTarget names)
-      (TargetKeysFault names)
-      (λ ms. both statement_faults (address_in names (codes "at") ms) (and_then (kind_in ms) (directed names (get_member (codes "to") ms))))
-      target_keys_judged
-      d
+      table_judged statement_faults target_keys (HasTarget names) (TargetKeysFault names) target_parts target_keys_judged d
 
   -- ## Accesses
+
+  abbrev access_parts : Members → Reading StatementFault (ℕ × Class)
+  access_parts ms = both statement_faults (address_in names (codes "at") ms) (class_in ms)
 
   access_keys_judged :
       (ms : Members)
@@ -515,7 +519,7 @@ module _ (names : Names) where
       statement_faults
       (HasAccess names ms)
       (AccessKeysFault names ms)
-      (both statement_faults (address_in names (codes "at") ms) (class_in ms))
+      (access_parts ms)
   access_keys_judged ms =
       judged_as
       statement_faults
@@ -525,18 +529,11 @@ module _ (names : Names) where
       (AccessKeysFault names ms)
       (λ a. (λ h. record { address = h.0; class = h.1 }, λ h. (h.address, h.class)))
       (λ f. (λ y. y, λ y. y))
-      (both statement_faults (address_in names (codes "at") ms) (class_in ms))
+      (access_parts ms)
       (both_judged statement_faults _ _ _ _ _ _ (address_in_judged names (codes "at") ms) (class_judged ms))
 
   pub access_judged :
       (d : Data)
       → Judges statement_faults (StatesAccess names d) (AccessFault names d) (access_at names d)
   access_judged d =
-      table_judged
-      statement_faults
-      access_keys
-      (HasAccess names)
-      (AccessKeysFault names)
-      (λ ms. both statement_faults (address_in names (codes "at") ms) (class_in ms))
-      access_keys_judged
-      d
+      table_judged statement_faults access_keys (HasAccess names) (AccessKeysFault names) access_parts access_keys_judged d

@@ -1,6 +1,6 @@
 -- What a document states of a handler and which faults it has, key by key. Source: our own
 -- statement format, over the documents of TOML.
-use Rattle.std.specs.Prelude.{◌≡◌, ◌≢◌, ◌<◌, ◌≤◌, ◌%◌, ◌^◌, ◌⊎◌, ℕ, pos, true, List, [], codes, Option, Some}
+use Rattle.std.specs.Prelude.{◌≡◌, ◌≢◌, ◌≤◌, ◌⊎◌, ℕ, pos, true, List, [], codes, Option, Some}
 use Rattle.std.specs.Prelude.{None, IsSomeAnd, MatchOption}
 use Rattle.std.specs.Map.{keys_of}
 use Rattle.std.specs.Option.{option_and_then}
@@ -9,7 +9,8 @@ use Rattle.bus_ticks.specs.declared.profile.Class.{Class}
 use Rattle.bus_ticks.specs.declared.profile.Class.TheVariants.{Any}
 use Rattle.toml_reading.specs.Documents.{are_distinct, has_only_keys, items_at}
 use Rattle.toml_reading.specs.Lists.{IsListUpTo, ListUpToFault, StandsTwice}
-use Rattle.toml_reading.specs.Lowest.{AtKey, AtKeyOr, IsNumber, IsTable, KeysFault, NumberFault, TableFault}
+use Rattle.toml_reading.specs.Lowest.{AtKey, AtKeyOr, IsInSpace, IsNoAddress, IsNumber, IsTable, KeysFault}
+use Rattle.toml_reading.specs.Lowest.{NumberFault, TableFault}
 use Rattle.statement.specs.Stated.{Stated, Target}
 use Rattle.statement.specs.Statement.{Names, access_keys, loop_keys, named_class, named_kind, statement_keys}
 use Rattle.statement.specs.Statement.{target_keys}
@@ -23,10 +24,6 @@ use Rattle.statement.specs.declared.stated.TargetKind.TheVariants.{Jump, Call, R
 
 -- ## Values
 
--- a multiple of 4 from 0 to 3FFFFFC
-abbrev pub IsInSpace : ℕ → Type 0
-IsInSpace a = (a % 4 ≡ 0) × (a < 2 ^ 26)
-
 -- an integer is an address itself, and a text names a label at one
 abbrev pub IsAddress : Names → Data → ℕ → Type 0
 IsAddress names (integer z) a = (z ≡ pos a) × IsInSpace a
@@ -35,7 +32,7 @@ IsAddress names _ a = ⊥
 
 -- an integer or a label's address out of range, a text that names no label, or another type
 abbrev pub AddressFault : Names → Data → StatementFault → Type 0
-AddressFault names (integer z) fault = ((a : ℕ) → z ≡ pos a → ¬ IsInSpace a) × (fault ≡ OutOfRange)
+AddressFault names (integer z) fault = IsNoAddress z × (fault ≡ OutOfRange)
 AddressFault names (string name) fault =
     MatchOption (names name) (fault ≡ UnknownLabel) (λ a. (¬ IsInSpace a) × (fault ≡ OutOfRange))
 AddressFault names _ fault = fault ≡ WrongKind

@@ -1,7 +1,8 @@
 -- Numbers that do not come twice.
-use Rattle.std.proofs.Common.{◌≡◌, ℕ, ◌+◌, ◌<◌, length, get_or, take, drop, Bool, true, false, not, ◌&&◌, ◌||◌, cond, List, [], ◌∷◌, ◌++◌, Option, is_some, append_assoc, append-nil, nat_eq, eqb, inl, inr, refl, sym, ap, ◌∙◌}
+use Rattle.std.proofs.Common.{◌≡◌, ℕ, ◌+◌, ◌<◌, length, get_or, take, drop, Bool, true, false, not, cond, List, [], ◌∷◌, ◌++◌, Option, is_some, append_assoc, append-nil, nat_eq, eqb, inl, inr, refl, sym, ap, ◌∙◌}
 use Rattle.std.specs.List.{list_any}
 use Rattle.std.specs.Map.{keys_of, lookup}
+use Rattle.std.proofs.Math.Bool.{and-false, or-true}
 use Rattle.std.proofs.lemmas.Bool.{cases_Bool, and_parts, eqb-true, eq-eqb, false≢true}
 use Rattle.std.proofs.lemmas.List.{drop_more, map-append, take-append-drop, take_more}
 use Rattle.indexmap.specs.IndexMap.{insert_entry}
@@ -20,22 +21,14 @@ eqb-sym x y = elim (cases_Bool (eqb x y)) [
 -- the number stands after the list
 has_last : (xs ys : List ℕ) (x y : ℕ) → eqb y x ≡ true → list_any (nat_eq y) (xs ++ x ∷ ys) ≡ true
 has_last [] ys x y same = rw same refl
-has_last (z ∷ xs) ys x y same = rw (has_last xs ys x y same) (or_true (eqb y z))
-  where
-    or_true : (b : Bool) → (b || true) ≡ true
-    or_true true = refl
-    or_true false = refl
-
-and_false : (b : Bool) → (b && false) ≡ false
-and_false true = refl
-and_false false = refl
+has_last (z ∷ xs) ys x y same = rw (has_last xs ys x y same) (or-true (eqb y z))
 
 -- a list in which a number comes twice
 pub repeats : (xs ys : List ℕ) (x : ℕ) → list_any (nat_eq x) xs ≡ true → are_distinct (xs ++ x ∷ ys) ≡ false
 repeats [] ys x h = absurd (false≢true h)
 repeats (y ∷ xs) ys x h = elim (cases_Bool (eqb x y)) [
   | inl same ↦ rw (has_last xs ys x y (eqb-sym y x ∙ same)) refl
-  | inr other ↦ rw (repeats xs ys x (rw other at h)) (and_false (not (list_any (nat_eq y) (xs ++ x ∷ ys))))
+  | inr other ↦ rw (repeats xs ys x (rw other at h)) (and-false (not (list_any (nat_eq y) (xs ++ x ∷ ys))))
 ]
 
 no_last : (xs : List ℕ) (x y : ℕ) → eqb x y ≡ false → list_any (nat_eq y) xs ≡ false → list_any (nat_eq y) (xs ++ x ∷ []) ≡ false

@@ -6,3 +6,4 @@ pub mod LowestLemmas
 pub mod LowestParts
 pub mod Following
 pub mod TwiceLemmas
+pub mod AddressLemmas

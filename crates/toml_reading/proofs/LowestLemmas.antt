@@ -1,5 +1,5 @@
 -- Readings, each against what is stated and the faults that are there.
-use Rattle.std.proofs.Common.{◌≡◌, ◌≤◌, ◌⊎◌, ◌↔◌, Bool, true, false, cond, leb, Option, Some, None, Ok, Err, IsSomeAnd, MatchOption, inl, inr, refl, sym, ap, ◌∙◌, arith, le_of_eq, le_antisymm}
+use Rattle.std.proofs.Common.{◌≡◌, ℕ, ◌≤◌, ◌⊎◌, ◌↔◌, Bool, true, false, cond, leb, Option, Some, None, Ok, Err, IsSomeAnd, MatchOption, inl, inr, refl, sym, ap, ◌∙◌, arith, le_of_eq, le_antisymm}
 use Rattle.std.proofs.lemmas.Bool.{leb-true, leb-false, true≢false, false≢true}
 use Rattle.toml_reading.specs.Lowest.{IsLowest, IsOnly}
 use Rattle.toml_reading.specs.Readings.{Faults, Reading, and_then, both, checked, lower, optional, required, seen}
@@ -11,6 +11,11 @@ Told fs S H (Err g) = ((a : _) → ¬ S a) × IsLowest fs H g
 
 pub record Judges {F A : Type 0} (fs : Faults F) (S : A → Type 0) (H : F → Type 0) (r : Reading F A) : Type 0 where
   pub told : Told fs S H r
+
+-- no two faults have one rank, where each is known by its rank
+pub one_by_rank : {F : Type 0} (fs : Faults F) (at : ℕ → F) → ((f : F) → at (fs.rank f) ≡ f) → (f g : F)
+    → fs.rank f ≡ fs.rank g → f ≡ g
+one_by_rank fs at back f g e = sym (back f) ∙ ap at e ∙ back g
 
 -- ## What a reading gives
 

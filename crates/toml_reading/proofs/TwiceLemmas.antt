@@ -1,7 +1,8 @@
 -- Values of a list that stand twice, and the numbers that are read of them.
-use Rattle.std.proofs.Common.{◌≡◌, ℕ, ◌↔◌, ◌≤◌, Bool, true, false, not, ◌&&◌, ◌||◌, eqb, nat_eq, List, [], ◌∷◌, length, Option, Some, None, Any, IsSomeAnd, MatchOption, inl, inr, refl, sym, ap, subst, ◌∙◌}
+use Rattle.std.proofs.Common.{◌≡◌, ℕ, ◌↔◌, ◌≤◌, true, false, not, eqb, nat_eq, List, [], ◌∷◌, length, Option, Some, None, Any, IsSomeAnd, MatchOption, inl, inr, refl, sym, ap, subst, ◌∙◌}
 use Rattle.std.specs.List.{AllZip, list_any}
 use Rattle.std.specs.Map.{keys_of}
+use Rattle.std.proofs.Math.Bool.{and-false, or-true}
 use Rattle.std.proofs.lemmas.Bool.{cases_Bool, eq-eqb, eqb-true, false≢true, true≢false}
 use Rattle.toml.specs.Data.{Data}
 use Rattle.toml_reading.specs.Documents.{are_distinct, items_at}
@@ -9,14 +10,6 @@ use Rattle.toml_reading.specs.Lists.{IsListUpTo, StandsTwice}
 use Rattle.toml_reading.proofs.LowestParts.{any_cases, any_first, any_later, any_none}
 
 module _ (Is : Data → ℕ → Type 0) (one : (d : Data) (n m : ℕ) → Is d n → Is d m → n ≡ m) where
-  or_true : (b : Bool) → (b || true) ≡ true
-  or_true true = refl
-  or_true false = refl
-
-  and_false : (b : Bool) → (b && false) ≡ false
-  and_false true = refl
-  and_false false = refl
-
   found :
       (ds : List Data) (ns : List ℕ) (k : ℕ)
       → AllZip Is ds ns
@@ -40,7 +33,7 @@ module _ (Is : Data → ℕ → Type 0) (one : (d : Data) (n m : ℕ) → Is d n
   listed (d ∷ ds) [] k z h = absurd z
   listed (d ∷ ds) (n ∷ ns) k z h = elim (any_cases (λ e. Is e k) d ds h) [
     | inl here ↦ rw (eq-eqb k n (one d k n here z.0)) refl
-    | inr later ↦ rw (listed ds ns k z.1 later) (or_true (eqb k n))
+    | inr later ↦ rw (listed ds ns k z.1 later) (or-true (eqb k n))
   ]
 
   repeated : (ds : List Data) (ns : List ℕ) → AllZip Is ds ns → StandsTwice Is ds → are_distinct ns ≡ false
@@ -50,7 +43,7 @@ module _ (Is : Data → ℕ → Type 0) (one : (d : Data) (n m : ℕ) → Is d n
   repeated (d ∷ ds) (n ∷ ns) z (inl h) =
       rw (listed ds ns n z.1 (subst (λ (m : ℕ). Any (λ e. Is e m) ds) (one d h.0 n h.1 z.0) h.2)) refl
   repeated (d ∷ ds) (n ∷ ns) z (inr h) =
-      rw (repeated ds ns z.1 h) (and_false (not (list_any (nat_eq n) ns)))
+      rw (repeated ds ns z.1 h) (and-false (not (list_any (nat_eq n) ns)))
 
   twice : (ds : List Data) (ns : List ℕ) → AllZip Is ds ns → are_distinct ns ≡ false → StandsTwice Is ds
   twice [] [] z h = absurd (true≢false h)

@@ -38,7 +38,7 @@ number_or faults key limit missing ms = optional missing (get_member key ms) (nu
 
 -- ## Addresses
 
--- the address of a word: a multiple of 4 from 0 to 3FFFFFC
+-- the address of a word
 abbrev pub in_space : {F : Type 0} → Faults F → ℤ → Reading F ℕ
 in_space faults (pos n) = if n % 4 == 0 && nat_lt n (2 ^ 26) then Ok n else Err faults.out_of_range
 in_space faults (negsuc n) = Err faults.out_of_range

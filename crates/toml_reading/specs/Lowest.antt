@@ -1,6 +1,7 @@
 -- What a document of TOML states and which faults it has, by its keys, numbers, lists and tables; the
 -- lowest fault is the one that is answered.
-use Rattle.std.specs.Prelude.{◌≡◌, ◌≤◌, ◌<◌, ◌⊎◌, ℕ, ℤ, pos, negsuc, true, false, List, [], Any, filter_map}
+use Rattle.std.specs.Prelude.{◌≡◌, ◌≤◌, ◌<◌, ◌%◌, ◌^◌, ◌⊎◌, ℕ, ℤ, pos, negsuc, true, false, List, []}
+use Rattle.std.specs.Prelude.{Any, filter_map}
 use Rattle.std.specs.Prelude.{Option, Some, None, IsSomeAnd, MatchOption, unwrap_or}
 use Rattle.std.specs.List.{AllZip}
 use Rattle.std.specs.Option.{option_and_then}
@@ -56,6 +57,15 @@ NumberFault faults limit d fault =
     (as_integer d)
     (fault ≡ faults.wrong_kind)
     (λ z. IsOutside limit z × (fault ≡ faults.out_of_range))
+
+-- ## Addresses
+
+-- the address of a word: a multiple of 4 from 0 to 3FFFFFC
+abbrev pub IsInSpace : ℕ → Type 0
+IsInSpace a = (a % 4 ≡ 0) × (a < 2 ^ 26)
+
+abbrev pub IsNoAddress : ℤ → Type 0
+IsNoAddress z = (a : ℕ) → z ≡ pos a → ¬ IsInSpace a
 
 -- ## Lists
 

@@ -1,6 +1,7 @@
 ghost use Rattle.std.specs.Prelude.{◌≡◌, ◌≤◌, IfOk};
 ghost use Rattle.toml.specs.View.{table_view, view};
 ghost use Rattle.toml_reading.specs.Documents.{in_space, number_at, number_in, number_or};
+ghost use Rattle.toml_reading.specs.Lowest.{IsInSpace};
 ghost use Rattle.toml_reading.specs.Readings.{up_to};
 
 use crate::keys::value_at;
@@ -61,7 +62,7 @@ pub fn optional_number<F: Fault>(
 /// The address of a word, where the number is one.
 pub fn in_space<F: Fault>(number: i64) -> Reading<u32, F>
     ensures value { result ≡ in_space F.faults number }
-    ensures range { IfOk result (λ address. address ≤ 0x3FFFFFC) }
+    ensures range { IfOk result IsInSpace }
 {
     match u32::try_from(number) {
         Ok(n) => {

@@ -1,14 +1,16 @@
 -- Words and their lines are ASCII.
-use Rattle.std.proofs.Common.{◌≡◌, ◌∙◌, ℕ, zero, suc, ◌/◌, ◌%◌, ◌<◌, ◌≤◌, Bool, true, ◌&&◌, nat_lt, List, []}
-use Rattle.std.proofs.Common.{◌∷◌, ◌++◌, length, inl, inr, refl, sym, ap, arith}
+use Rattle.std.proofs.Common.{◌≡◌, ◌∙◌, ℕ, zero, suc, ◌<◌, ◌≤◌, Bool, true, ◌&&◌, nat_lt, List, []}
+use Rattle.std.proofs.Common.{◌∷◌, length, inl, inr, refl, sym, ap, arith}
 use Rattle.std.specs.Prelude.{slice_index}
 use Rattle.std.specs.List.{list_all}
 use Rattle.std.specs.Str.{IsUtf8}
 use Rattle.std.proofs.lemmas.Bool.{and_parts, cases_Bool, false≢true}
 use Rattle.std.proofs.lemmas.Bool.Decides.{nat_tests}
 use Rattle.std.proofs.lemmas.Str.{IsUtf8-from_ascii}
+use Rattle.asm_text.specs.Hex.{hex8, hex_digit}
 use Rattle.asm_text.specs.Shown.{is_shown, is_upper}
-use Rattle.assembler.specs.Shown.{hex_char, hex_chars, hex_line}
+use Rattle.asm_text.proofs.HexLaws.{all_digits}
+use Rattle.assembler.specs.Shown.{hex_line}
 use Rattle.assembler.specs.ShownLines.{IsShown}
 use Rattle.assembler.proofs.ByteLaws.{spelling_shown}
 
@@ -25,25 +27,16 @@ all_ascii (b ∷ bs) h =
     let k = and_parts (is_shown b) (list_all is_shown bs) h in
     rw (shown_ascii b k.0, all_ascii bs k.1) refl
 
-char_ascii : (n : ℕ) → is_ascii (hex_char (n % 16)) ≡ true
+digit_ascii : (d : ℕ) → d < 16 → is_ascii (hex_digit d) ≡ true
 unfolding is_ascii
-char_ascii n = grind (arith, nat_tests)
+digit_ascii d lt = grind (arith, nat_tests)
 
-all_push : (xs : List ℕ) (x : ℕ) → list_all is_ascii xs ≡ true → is_ascii x ≡ true
-    → list_all is_ascii (xs ++ x ∷ []) ≡ true
-all_push [] x h k = rw k refl
-all_push (y ∷ xs) x h k =
-    let a = and_parts (is_ascii y) (list_all is_ascii xs) h in
-    rw (a.0, all_push xs x a.1 k) refl
-
-hex_ascii : (k n : ℕ) → list_all is_ascii (hex_chars k n) ≡ true
-hex_ascii zero n = refl
-hex_ascii (suc k) n =
-    all_push (hex_chars k (n / 16)) (hex_char (n % 16)) (hex_ascii k (n / 16)) (char_ascii n)
+hex_ascii : (n : ℕ) → list_all is_ascii (hex8 n) ≡ true
+hex_ascii n = all_digits is_ascii 8 n digit_ascii
 
 line_ascii : (word : ℕ) → list_all is_ascii (hex_line word) ≡ true
 unfolding is_ascii
-line_ascii word = hex_ascii 8 word
+line_ascii word = hex_ascii word
 
 -- of a spelling, or else of a DCD line
 shown_all : (word at : ℕ) (line : List ℕ) → IsShown word at line → length line ≤ 64
@@ -72,8 +65,8 @@ pub ascii_utf8 : (text : List ℕ) → list_all (λ b. nat_lt b 128) text ≡ tr
 unfolding is_ascii
 ascii_utf8 text all = IsUtf8-from_ascii text (index_ascii text all)
 
-pub digits_utf8 : (n : ℕ) → IsUtf8 (hex_chars 8 n)
-digits_utf8 n = IsUtf8-from_ascii (hex_chars 8 n) (index_ascii (hex_chars 8 n) (hex_ascii 8 n))
+pub digits_utf8 : (n : ℕ) → IsUtf8 (hex8 n)
+digits_utf8 n = IsUtf8-from_ascii (hex8 n) (index_ascii (hex8 n) (hex_ascii n))
 
 pub shown_utf8 : (word at : ℕ) (line : List ℕ) → IsShown word at line → length line ≤ 64 → IsUtf8 line
 shown_utf8 word at line shown short =

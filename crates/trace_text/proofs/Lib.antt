@@ -1,4 +1,3 @@
 mod TextLaws
-mod HexLaws
 mod RunLaws
 pub mod AsciiLaws

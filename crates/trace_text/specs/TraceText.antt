@@ -1,5 +1,5 @@
 -- What a machine shows as text.
-use Rattle.std.specs.Prelude.{◌≡◌, ℕ, ◌+◌, ◌-◌, List, [], ◌∷◌, ◌++◌, codes, decimal, length, replicate}
+use Rattle.std.specs.Prelude.{◌≡◌, ℕ, ◌+◌, List, [], ◌∷◌, ◌++◌, codes, decimal}
 use Rattle.std.specs.Prelude.{Option, Some, None}
 use Rattle.arm2_effect.specs.declared.done.Kind.{Kind}
 use Rattle.arm2_effect.specs.declared.done.Kind.TheVariants.{Plain, Taken, Stopped}
@@ -17,12 +17,9 @@ use Rattle.arm2_exec.specs.declared.machine.Stepped.{Stepped}
 use Rattle.arm2_exec.specs.Run.{Runs, why_stopped}
 use Rattle.arm2_exec.specs.State.{State}
 use Rattle.arm2_exec.specs.Step.{Step, fetched, interrupt_due, with_lines}
-use Rattle.assembler.specs.ShownLines.{IsShown, hex}
+use Rattle.asm_text.specs.Hex.{hex, hex8}
+use Rattle.assembler.specs.ShownLines.{IsShown}
 use Rattle.trace_text.specs.declared.trace.Traced.{Traced}
-
--- eight upper-case hexadecimal digits, with zeros in front
-abbrev pub hex8 : ℕ → List ℕ
-hex8 n = replicate (8 - length (hex n)) 48 ++ hex n
 
 -- a text of a kind stands after the old one
 abbrev pub Adds : (Is : List ℕ → Type 0) → (old new : List ℕ) → Type 0

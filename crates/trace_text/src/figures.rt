@@ -1,9 +1,10 @@
-ghost use Rattle.std.specs.Prelude.{◌≡◌, ◌++◌, ◌<◌, MatchResult, length, string_bytes};
-ghost use Rattle.assembler.specs.Shown.{hex_char, hex_chars};
-ghost use Rattle.trace_text.specs.TraceText.{hex8, stop_text, ticks_text, why_name};
+ghost use Rattle.std.specs.Prelude.{◌≡◌, ◌++◌, MatchResult, length, string_bytes};
+ghost use Rattle.asm_text.specs.Hex.{hex8};
+ghost use Rattle.trace_text.specs.TraceText.{stop_text, ticks_text, why_name};
 
 use arm2_exec::Why;
 use arrayvec::ArrayString;
+use asm_text::hex8;
 use std::alloc::AllocError;
 
 /// Adds a line of processor ticks, and of the ticks that passed with those of bursts, in decimal.
@@ -39,43 +40,12 @@ pub fn write_stop(out: &mut String, why: Why, address: u32) -> Result<(), AllocE
     out.push_str(line.as_str())
 }
 
-fn hex_digit(n: u32) -> u8
-    requires { n < 16 }
-    ensures { result ≡ hex_char n }
-{
-    let n = n as u8;
-    if n < 10 { b'0' + n } else { b'A' - 10 + n }
-}
-
-fn hex_digits(word: u32) -> [u8; 8]
-    ensures { result ≡ hex_chars 8 word }
-{
-    let n1 = word / 16;
-    let n2 = n1 / 16;
-    let n3 = n2 / 16;
-    let n4 = n3 / 16;
-    let n5 = n4 / 16;
-    let n6 = n5 / 16;
-    let n7 = n6 / 16;
-    [
-        hex_digit(n7 % 16),
-        hex_digit(n6 % 16),
-        hex_digit(n5 % 16),
-        hex_digit(n4 % 16),
-        hex_digit(n3 % 16),
-        hex_digit(n2 % 16),
-        hex_digit(n1 % 16),
-        hex_digit(word % 16),
-    ]
-}
-
 /// A word in eight upper-case hexadecimal digits.
-#[tactic(auto, using(crate::proofs::HexLaws::hex_eight))]
 pub fn hex_word(word: u32) -> ArrayString<8>
     ensures text { result.bytes ≡ hex8 word }
     ensures len { length result.bytes ≡ 8 }
 {
-    let Ok(text) = ArrayString::from_byte_string(&hex_digits(word)) else {
+    let Ok(text) = ArrayString::from_byte_string(&hex8(word)) else {
         unreachable!()
     };
     text

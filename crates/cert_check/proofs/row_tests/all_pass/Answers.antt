@@ -9,7 +9,7 @@ use Rattle.cert_check.proofs.row_tests.all_pass.Goals as goal
 
 pub returns-then-not-edge_passes : goal.returns-then-not-edge_passes
 returns-then-not-edge_passes c =
-    let edges = c.args.graph.now.edges in
+    let edges = c.args.handler.graph.now.edges in
     let n = c.loop-number.number in
     let lt : n < length edges = omega (arith, c.loop-number-test.true, ap length c.edges-number-end.ensures.value) in (
       λ yes. absurd (false≢true yes),
@@ -18,12 +18,12 @@ returns-then-not-edge_passes c =
 
 pub loop-number-preserved : goal.loop-number-preserved
 loop-number-preserved c =
-    one_more (λ (k : ℕ). EdgePasses c.args.tree.now c.args.cert.now c.args.test (step_at c.args.graph.now.edges k)) c.loop-number.number c.loop-number.invariant (c.edge_passes.ensures.0 c.if-not-edge_passes.false)
+    one_more (λ (k : ℕ). EdgePasses c.args.handler.tree.now c.args.cert.now c.args.test (step_at c.args.handler.graph.now.edges k)) c.loop-number.number c.loop-number.invariant (c.edge_passes.ensures.0 c.if-not-edge_passes.false)
 
 pub returns : goal.returns
 returns c =
-    let edges = c.args.graph.now.edges in
+    let edges = c.args.handler.graph.now.edges in
     let le : length edges ≤ c.loop-number.number = omega (arith, c.loop-number-test.false, ap length c.edges-number-end.ensures.value) in (
-      λ yes. every_edge edges (EdgePasses c.args.tree.now c.args.cert.now c.args.test) c.loop-number.number le c.loop-number.invariant,
+      λ yes. every_edge edges (EdgePasses c.args.handler.tree.now c.args.cert.now c.args.test) c.loop-number.number le c.loop-number.invariant,
       λ all. refl,
     )

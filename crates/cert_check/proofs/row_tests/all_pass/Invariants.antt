@@ -4,4 +4,4 @@ use Rattle.cert_check.specs.Weighing.{EdgePasses}
 use Rattle.cert_check.proofs.row_tests.all_pass.Given as goal
 
 abbrev pub invariant-loop-number : goal.invariant-loop-number
-invariant-loop-number l = (k : ℕ) → k < l.number → EdgePasses l.tree l.cert l.test (step_at l.graph.edges k)
+invariant-loop-number l = (k : ℕ) → k < l.number → EdgePasses l.handler.tree.now l.cert l.test (step_at l.handler.graph.now.edges k)

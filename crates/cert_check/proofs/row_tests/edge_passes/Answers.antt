@@ -5,12 +5,12 @@ use Rattle.cert_check.proofs.row_tests.edge_passes.Goals as goal
 pub passes-requires : goal.passes-requires
 passes-requires c =
     rw (c.spans.ensures, c.edges.ensures)
-    (can_weigh c.args.graph.now c.args.tree.now c.places-exit.ensures.well_formed c.requires.tree c.args.cert.now c.args.tables.now c.requires.tables c.args.number c.requires.inside c.args.index.now c.requires.indexed)
+    (can_weigh c.args.handler.graph.now c.args.handler.tree.now c.places-exit.ensures.well_formed c.requires.tree c.args.cert.now c.args.tables.now c.requires.tables c.args.number c.requires.inside c.args.handler.index.now c.requires.indexed)
 
 pub returns : goal.returns
 returns c =
-    let flow = c.args.graph.now in
-    let tree = c.args.tree.now in
+    let flow = c.args.handler.graph.now in
+    let tree = c.args.handler.tree.now in
     let tables = c.args.tables.now in
     let exit = ap length c.places-exit.ensures.value in (
       λ yes. passes_up flow tree c.places-exit.ensures.well_formed c.requires.tree c.args.cert.now tables c.requires.tables c.args.number c.requires.inside c.args.test

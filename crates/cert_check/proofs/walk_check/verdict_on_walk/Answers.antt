@@ -1,5 +1,7 @@
 use Rattle.std.proofs.Common.{◌∙◌, ◌<◌, ◌^◌, ap, arith, inl, inr, length, refl, sym}
-use Rattle.cert_check.proofs.WalkVerdict.{finished, other_cost, over_bound, refused_whole, same_cost, unfinished, within_bounds}
+use Rattle.cert_check.specs.declared.verdict.Verdict.TheVariants.{No, Yes}
+use Rattle.cert_check.specs.declared.verdict.Objection.TheVariants.{WalkCost}
+use Rattle.cert_check.proofs.WalkVerdict.{cost_left, finished, other_cost, over_bound, refused_whole, same_cost, unfinished}
 use Rattle.cert_check.proofs.walk_check.verdict_on_walk.Goals as goal
 
 pub returns-then-not-followed : goal.returns-then-not-followed
@@ -26,25 +28,13 @@ returns-then-walker c =
 pub returns-then-walker-from : goal.returns-then-walker-from
 returns-then-walker-from c =
     let done = c.if-walker-exit.false ∙ ap length c.places-exit.ensures.value in
-    let taken = c.if-not-followed.ensures in
     let fits : c.args.cert.now.bound < 2 ^ 64 = omega arith in
-    let well = c.places-exit.ensures.well_formed in inr (
-      (taken.walk, finished c.args.graph.now c.args.tree.now c.args.index.now well c.requires.tree c.requires.indexed c.args.walker.now c.requires.fresh c.args.cert.now c.follow_lines-followed.new.walker taken done),
-      inr (
-        within_bounds c.args.graph.now c.args.tree.now c.args.index.now well c.requires.tree c.requires.indexed c.args.walker.now c.requires.fresh c.args.cert.now c.follow_lines-followed.new.walker taken done c.if-walker.false,
-        inl (refl, other_cost c.args.graph.now c.args.tree.now c.args.index.now well c.requires.tree c.requires.indexed c.args.walker.now c.requires.fresh c.args.cert.now c.follow_lines-followed.new.walker taken done fits (λ is. c.if-walker-from.true (is ∙ sym c.from.ensures))),
-      ),
-    )
+    cost_left c.args.graph.now c.args.tree.now c.args.index.now c.places-exit.ensures.well_formed c.requires.tree c.requires.indexed c.args.walker.now c.requires.fresh c.args.cert.now c.follow_lines-followed.new.walker c.if-not-followed.ensures done (No WalkCost) c.if-walker.false
+    (inl (refl, other_cost c.args.graph.now c.args.tree.now c.args.index.now c.places-exit.ensures.well_formed c.requires.tree c.requires.indexed c.args.walker.now c.requires.fresh c.args.cert.now c.follow_lines-followed.new.walker c.if-not-followed.ensures done fits (λ is. c.if-walker-from.true (is ∙ sym c.from.ensures))))
 
 pub returns : goal.returns
 returns c =
     let done = c.if-walker-exit.false ∙ ap length c.places-exit.ensures.value in
-    let taken = c.if-not-followed.ensures in
     let fits : c.args.cert.now.bound < 2 ^ 64 = omega arith in
-    let well = c.places-exit.ensures.well_formed in inr (
-      (taken.walk, finished c.args.graph.now c.args.tree.now c.args.index.now well c.requires.tree c.requires.indexed c.args.walker.now c.requires.fresh c.args.cert.now c.follow_lines-followed.new.walker taken done),
-      inr (
-        within_bounds c.args.graph.now c.args.tree.now c.args.index.now well c.requires.tree c.requires.indexed c.args.walker.now c.requires.fresh c.args.cert.now c.follow_lines-followed.new.walker taken done c.if-walker.false,
-        inr (same_cost c.args.graph.now c.args.tree.now c.args.index.now well c.requires.tree c.requires.indexed c.args.walker.now c.requires.fresh c.args.cert.now c.follow_lines-followed.new.walker taken done fits (c.if-walker-from.false ∙ c.from.ensures), refl),
-      ),
-    )
+    cost_left c.args.graph.now c.args.tree.now c.args.index.now c.places-exit.ensures.well_formed c.requires.tree c.requires.indexed c.args.walker.now c.requires.fresh c.args.cert.now c.follow_lines-followed.new.walker c.if-not-followed.ensures done Yes c.if-walker.false
+    (inr (same_cost c.args.graph.now c.args.tree.now c.args.index.now c.places-exit.ensures.well_formed c.requires.tree c.requires.indexed c.args.walker.now c.requires.fresh c.args.cert.now c.follow_lines-followed.new.walker c.if-not-followed.ensures done fits (c.if-walker-from.false ∙ c.from.ensures), refl))

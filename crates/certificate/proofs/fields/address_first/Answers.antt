@@ -1,5 +1,6 @@
 use Rattle.std.proofs.Common.{◌∙◌, sym, subst}
-use Rattle.certificate.specs.Words.{Lacks, hex}
+use Rattle.asm_text.specs.Hex.{hex}
+use Rattle.certificate.specs.Words.{Lacks}
 use Rattle.certificate.proofs.CutLaws.{Lacks-middle, one_cut}
 use Rattle.certificate.proofs.FieldLaws.{hex-blank, from_none}
 use Rattle.certificate.proofs.fields.address_first.Goals as goal

@@ -1,6 +1,6 @@
 use Rattle.std.proofs.Common.{◌≡◌, ◌∙◌, ◌<◌, ◌^◌, ◌∷◌, ◌++◌, [], ℕ, List, All, map, sym, ap, subst}
 use Rattle.std.proofs.lemmas.List.Elements.{All-push}
-use Rattle.certificate.specs.Words.{hex}
+use Rattle.asm_text.specs.Hex.{hex}
 use Rattle.certificate.proofs.CallLaws.{Ahead, calls_result, last_word, marked_end, next_fits, next_word}
 use Rattle.certificate.proofs.FieldLaws.{from_none, hex-slash}
 use Rattle.certificate.proofs.NumberLaws.{hex_is_one}

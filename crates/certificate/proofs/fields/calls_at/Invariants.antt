@@ -1,5 +1,6 @@
 use Rattle.std.proofs.Common.{◌≡◌, ◌<◌, ◌^◌, ◌++◌, ℕ, List, All, length, map}
-use Rattle.certificate.specs.Words.{AreCalls, hex, list_words}
+use Rattle.asm_text.specs.Hex.{hex}
+use Rattle.certificate.specs.Words.{AreCalls, list_words}
 use Rattle.certificate.proofs.CallLaws.{Ahead}
 use Rattle.certificate.proofs.JoinLaws.{marked}
 use Rattle.certificate.proofs.fields.calls_at.Given as goal

@@ -1,6 +1,7 @@
 use Rattle.std.proofs.Common.{◌≡◌, ◌∙◌, ◌++◌, ◌∷◌, ℕ, List, codes, ap, sym, subst, drop}
 use Rattle.std.specs.Fmt.{decimal}
-use Rattle.certificate.specs.Words.{Lacks, hex, list_words}
+use Rattle.asm_text.specs.Hex.{hex}
+use Rattle.certificate.specs.Words.{Lacks, list_words}
 use Rattle.certificate.proofs.CutLaws.{Lacks-middle, one_cut}
 use Rattle.certificate.proofs.FieldLaws.{decimal_first, from_none, hex_first, list-blank}
 use Rattle.certificate.proofs.line_reading.instance_at.Goals as goal

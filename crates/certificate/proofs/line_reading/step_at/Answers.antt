@@ -1,6 +1,7 @@
 use Rattle.std.proofs.Common.{◌≡◌, ◌∙◌, ◌++◌, ◌∷◌, ℕ, List, codes, ap, sym, drop, arith}
 use Rattle.std.specs.Fmt.{decimal}
-use Rattle.certificate.specs.Words.{hex, label_words, to_words}
+use Rattle.asm_text.specs.Hex.{hex}
+use Rattle.certificate.specs.Words.{label_words, to_words}
 use Rattle.certificate.proofs.FieldLaws.{from_none, hex_first, label_first, to_first}
 use Rattle.certificate.proofs.NumberLaws.{decimal_is_one}
 use Rattle.certificate.proofs.line_reading.step_at.Goals as goal

@@ -1,5 +1,5 @@
 use Rattle.std.proofs.Common.{◌≡◌, ◌<◌, ◌^◌, suc, take}
-use Rattle.certificate.specs.Words.{hex}
+use Rattle.asm_text.specs.Hex.{hex}
 use Rattle.certificate.proofs.numbers.hex_at.Given as goal
 
 abbrev pub invariant-loop-byte : goal.invariant-loop-byte

@@ -6,43 +6,27 @@ use Rattle.certificate.specs.Drafts.{Takes, lines_of, reached_of}
 use Rattle.certificate.specs.Faults.{Follow}
 use Rattle.certificate.specs.Lines.{cert_lines, said_by}
 use Rattle.certificate.specs.Words.{text_of}
-use Rattle.certificate.proofs.ReadLaws.{cut_off, front_grows, no_other}
+use Rattle.certificate.proofs.ReadLaws.{front_grows, no_other, stops_at}
 use Rattle.certificate.proofs.reading.read_lines.Goals as goal
 
 pub returns-in_default-line_of-clause-bad_line : goal.returns-in_default-line_of-clause-bad_line
 returns-in_default-line_of-clause-bad_line c = λ n same.
     let inv = c.loop-words.invariant in
     let number : c.loop-words.number ≡ n = cc in
-    record {
-      lines = lines_of c.loop-words.draft;
-      to = reached_of c.loop-words.draft;
-      follow = record { fit = inv.fit; reached = inv.reached };
-      going = inv.going;
-      words = c.in-Some.words.now;
-      rest = c.in-Some.after.now;
-      text_is = cut_off c.args.text.now (lines_of c.loop-words.draft) c.loop-words.rest.now c.in-Some.words.now c.in-Some.after.now inv.text_is c.in-Some.ensures.0;
-      within = c.in-Some.ensures.1;
-      counted = sym number ∙ inv.counted;
-      misfit = λ l fits e. absurd (c.in_default-line_of.ensures l fits e);
-    }
+    stops_at c.args.text.now n (lines_of c.loop-words.draft) (reached_of c.loop-words.draft) c.loop-words.rest.now
+    c.in-Some.words.now c.in-Some.after.now (record { fit = inv.fit; reached = inv.reached }) inv.going inv.text_is
+    c.in-Some.ensures.0 c.in-Some.ensures.1 (sym number ∙ inv.counted)
+    (λ l fits e. absurd (c.in_default-line_of.ensures l fits e))
 
 pub returns-then-not-branch-clause-bad_line : goal.returns-then-not-branch-clause-bad_line
 returns-then-not-branch-clause-bad_line c = λ n same.
     let inv = c.loop-words.invariant in
     let number : c.loop-words.number ≡ n = cc in
     let refused : Takes c.loop-words.draft c.take.new.self c.in-Some-line_of.line false = subst (Takes c.loop-words.draft c.take.new.self c.in-Some-line_of.line) {y = false} c.if-not-branch.true c.in_ok-take.ensures.taken in
-    record {
-      lines = lines_of c.loop-words.draft;
-      to = reached_of c.loop-words.draft;
-      follow = record { fit = inv.fit; reached = inv.reached };
-      going = inv.going;
-      words = c.in-Some.words.now;
-      rest = c.in-Some.after.now;
-      text_is = cut_off c.args.text.now (lines_of c.loop-words.draft) c.loop-words.rest.now c.in-Some.words.now c.in-Some.after.now inv.text_is c.in-Some.ensures.0;
-      within = c.in-Some.ensures.1;
-      counted = sym number ∙ inv.counted;
-      misfit = no_other (reached_of c.loop-words.draft) c.in-Some.words.now c.in-Some-line_of.line c.in-Some-line_of.ensures.0 c.in-Some-line_of.ensures.1 refused;
-    }
+    stops_at c.args.text.now n (lines_of c.loop-words.draft) (reached_of c.loop-words.draft) c.loop-words.rest.now
+    c.in-Some.words.now c.in-Some.after.now (record { fit = inv.fit; reached = inv.reached }) inv.going inv.text_is
+    c.in-Some.ensures.0 c.in-Some.ensures.1 (sym number ∙ inv.counted)
+    (no_other (reached_of c.loop-words.draft) c.in-Some.words.now c.in-Some-line_of.line c.in-Some-line_of.ensures.0 c.in-Some-line_of.ensures.1 refused)
 
 pub returns-then-not-is_empty-clause-trailing : goal.returns-then-not-is_empty-clause-trailing
 returns-then-not-is_empty-clause-trailing c = λ _.

@@ -1,5 +1,6 @@
 use Rattle.std.proofs.Common.{rules, ◌≡◌, ◌∙◌, ◌++◌, ◌∷◌, ◌≤◌, ℕ, List, flat_map, ap, length, take, get_or, sym, append_assoc, string_bytes, arith}
-use Rattle.certificate.specs.Words.{hex, list_words}
+use Rattle.asm_text.specs.Hex.{hex}
+use Rattle.certificate.specs.Words.{list_words}
 use Rattle.certificate.proofs.NumberLaws.{behind_first}
 use Rattle.certificate.proofs.WriteLaws.{listed}
 use Rattle.certificate.proofs.writing.put_calls.Goals as goal

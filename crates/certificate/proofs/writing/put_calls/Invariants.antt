@@ -1,5 +1,5 @@
 use Rattle.std.proofs.Common.{◌≡◌, ◌∷◌, ◌++◌, take, flat_map, string_bytes}
-use Rattle.certificate.specs.Words.{hex}
+use Rattle.asm_text.specs.Hex.{hex}
 use Rattle.certificate.proofs.writing.put_calls.Given as goal
 
 abbrev pub invariant-loop-call : goal.invariant-loop-call

@@ -1,6 +1,6 @@
 use Rattle.std.proofs.Common.{◌≡◌, ◌∙◌, ◌++◌, ℕ, List, refl, ap, append_assoc}
 use Rattle.std.specs.Prelude.{codes}
-use Rattle.trace_text.specs.TraceText.{hex8}
+use Rattle.asm_text.specs.Hex.{hex8}
 use Rattle.debugger.proofs.rows.put_line_row.Goals as goal
 
 pub returns-clause-row : goal.returns-clause-row

@@ -5,11 +5,11 @@ use Rattle.flow_graph.specs.declared.places.Place.{Place}
 use Rattle.flow_graph.specs.declared.places.Place.TheVariants.{At}
 use Rattle.statement.specs.Stated.{IsLoop}
 use Rattle.loop_bounds.specs.declared.extents.Extent.{Extent}
-use Rattle.loop_bounds.specs.declared.find.Found.{Found}
+use Rattle.loop_bounds.specs.declared.loop_instances.Found.{Found}
 use Rattle.loop_bounds.specs.Instance.{Instance, IsInstance}
 use Rattle.loop_bounds.specs.Extents.{AreExtentsOf, HaveCrossing, IsFoundAmong, found_instance}
 use Rattle.loop_bounds.proofs.CrossFacts.{crossing, no_crossing, none_cross, some_apart}
-use Rattle.loop_bounds.proofs.GroundLemmas.{by_key_once, found_reached, found_stated}
+use Rattle.loop_bounds.proofs.InPlaces.{by_key_once, found_reached, found_stated}
 use Rattle.loop_bounds.proofs.crossing.cross_with.Goals as goal
 
 pub extents-requires-clause-listed : goal.extents-requires-clause-listed

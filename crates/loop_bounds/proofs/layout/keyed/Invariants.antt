@@ -3,4 +3,4 @@ use Rattle.loop_bounds.specs.Layout.{AreKeyed, key_in}
 use Rattle.loop_bounds.proofs.layout.keyed.Given as goal
 
 abbrev pub invariant-loop-position : goal.invariant-loop-position
-invariant-loop-position l = AreKeyed (key_in (slice_index l.ranks) l.extents) l.position l.keyed.items
+invariant-loop-position l = AreKeyed (key_in (slice_index l.nesting.ranks.items) l.extents) l.position l.keyed.items

@@ -19,5 +19,5 @@ returns c =
     let ended : c.loop-position.position-index ≡ length c.deref-position-items.result.now = omega arith in
     let all = subst (AreSeconds c.deref-position-items.result.now c.loop-position.order.items) ended c.loop-position.invariant in
     rw c.in_ok-push-2.ensures.items
-    (laid_out (key_in (slice_index c.args.ranks.now) c.args.extents.now) c.args.exit c.in_ok-keyed.keyed.items c.sort_unstable.new.self.items c.loop-position.order.items c.in_ok-keyed.ensures c.sort_unstable.ensures.permutation c.sort_unstable.ensures.sorted
+    (laid_out (key_in (slice_index c.args.nesting.now.ranks.items) c.args.extents.now) c.args.exit c.in_ok-keyed.keyed.items c.sort_unstable.new.self.items c.loop-position.order.items c.in_ok-keyed.ensures c.sort_unstable.ensures.permutation c.sort_unstable.ensures.sorted
     (subst (λ (xs : List (Vec ℕ Global × ℕ)). AreSeconds xs c.loop-position.order.items (length xs)) items all))

@@ -1,7 +1,7 @@
 use Rattle.std.proofs.Common.{◌≡◌, ◌<◌, ℕ, length, subst, ap, ◌∙◌, rules, arith}
 use Rattle.std.proofs.lemmas.List.Sorted.{answers_always}
 use Rattle.std.proofs.lemmas.List.{get_or_default}
-use Rattle.loop_bounds.specs.declared.find.Found.{Found}
+use Rattle.loop_bounds.specs.declared.loop_instances.Found.{Found}
 use Rattle.numbered_walks.specs.declared.span.Span.{Span}
 use Rattle.loop_bounds.specs.Extents.{extent_at}
 use Rattle.loop_bounds.specs.Layout.{AreSpans, IsShown}

@@ -4,56 +4,49 @@ use Rattle.loop_bounds.proofs.WholeTree.{edges_inside, ends_inside, extents_some
 use Rattle.loop_bounds.proofs.tree.laid_out.Goals as goal
 
 pub spans-requires-clause-some : goal.spans-requires-clause-some
-spans-requires-clause-some c = rw c.deref-6.ensures.value (extents_some c.args.graph.now c.requires.ground.0 c.args.ground.now c.requires.ground.1)
+spans-requires-clause-some c = rw c.deref-3.ensures.value (extents_some c.args.graph.now c.requires.positions.0 c.args.positions.now c.requires.positions.1)
 
 pub spans-requires-clause-inside : goal.spans-requires-clause-inside
 spans-requires-clause-inside c =
-    let laid : IsLaidOut (key_in (slice_index c.args.nesting.now.ranks.items) c.args.ground.now.extents.items) (length c.args.graph.now.places) c.in_ok-order.order.items = rw (c.deref.ensures.value, c.deref-4.ensures.value, c.places-places.ensures.value) at c.in_ok-order.ensures in
-    let numbered : AreNumbers c.in_ok-order.order.items c.in_ok-numbers.numbers.items (length c.in_ok-order.order.items) = rw c.deref-5.ensures.value at c.in_ok-numbers.ensures in
-    rw (c.deref-6.ensures.value, c.deref-8.ensures.value) (ends_inside c.args.graph.now c.requires.ground.0 c.args.ground.now c.places-places.ensures.well_formed c.requires.ground.1 c.in_ok-numbers.numbers.items (numbered.whole ∙ laid.whole))
+    let laid : IsLaidOut (key_in (slice_index c.args.nesting.now.ranks.items) c.args.positions.now.extents.items) (length c.args.graph.now.places) c.in_ok-order.order.items = rw (c.deref.ensures.value, c.places-places.ensures.value) at c.in_ok-order.ensures in
+    let numbered : AreNumbers c.in_ok-order.order.items c.in_ok-numbers.numbers.items (length c.in_ok-order.order.items) = rw c.deref-2.ensures.value at c.in_ok-numbers.ensures in
+    rw (c.deref-3.ensures.value, c.deref-5.ensures.value) (ends_inside c.args.graph.now c.requires.positions.0 c.args.positions.now c.places-places.ensures.well_formed c.requires.positions.1 c.in_ok-numbers.numbers.items (numbered.whole ∙ laid.whole))
 
 pub spans-requires-clause-headers : goal.spans-requires-clause-headers
 spans-requires-clause-headers c =
-    let laid : IsLaidOut (key_in (slice_index c.args.nesting.now.ranks.items) c.args.ground.now.extents.items) (length c.args.graph.now.places) c.in_ok-order.order.items = rw (c.deref.ensures.value, c.deref-4.ensures.value, c.places-places.ensures.value) at c.in_ok-order.ensures in
-    let numbered : AreNumbers c.in_ok-order.order.items c.in_ok-numbers.numbers.items (length c.in_ok-order.order.items) = rw c.deref-5.ensures.value at c.in_ok-numbers.ensures in
-    rw (c.deref-6.ensures.value, c.deref-8.ensures.value) (headers_inside c.args.graph.now c.requires.ground.0 c.args.ground.now c.places-places.ensures.well_formed c.requires.ground.1 c.in_ok-numbers.numbers.items (numbered.whole ∙ laid.whole))
+    let laid : IsLaidOut (key_in (slice_index c.args.nesting.now.ranks.items) c.args.positions.now.extents.items) (length c.args.graph.now.places) c.in_ok-order.order.items = rw (c.deref.ensures.value, c.places-places.ensures.value) at c.in_ok-order.ensures in
+    let numbered : AreNumbers c.in_ok-order.order.items c.in_ok-numbers.numbers.items (length c.in_ok-order.order.items) = rw c.deref-2.ensures.value at c.in_ok-numbers.ensures in
+    rw (c.deref-3.ensures.value, c.deref-5.ensures.value) (headers_inside c.args.graph.now c.requires.positions.0 c.args.positions.now c.places-places.ensures.well_formed c.requires.positions.1 c.in_ok-numbers.numbers.items (numbered.whole ∙ laid.whole))
 
 pub spans-requires-clause-named : goal.spans-requires-clause-named
 spans-requires-clause-named c =
-    let laid : IsLaidOut (key_in (slice_index c.args.nesting.now.ranks.items) c.args.ground.now.extents.items) (length c.args.graph.now.places) c.in_ok-order.order.items = rw (c.deref.ensures.value, c.deref-4.ensures.value, c.places-places.ensures.value) at c.in_ok-order.ensures in
-    let numbered : AreNumbers c.in_ok-order.order.items c.in_ok-numbers.numbers.items (length c.in_ok-order.order.items) = rw c.deref-5.ensures.value at c.in_ok-numbers.ensures in
-    rw (c.deref-6.ensures.value, c.deref-7.ensures.value) (instances_named c.args.graph.now c.requires.ground.0 c.args.ground.now c.places-places.ensures.well_formed c.requires.ground.1 c.in_ok-numbers.numbers.items (numbered.whole ∙ laid.whole))
+    let laid : IsLaidOut (key_in (slice_index c.args.nesting.now.ranks.items) c.args.positions.now.extents.items) (length c.args.graph.now.places) c.in_ok-order.order.items = rw (c.deref.ensures.value, c.places-places.ensures.value) at c.in_ok-order.ensures in
+    let numbered : AreNumbers c.in_ok-order.order.items c.in_ok-numbers.numbers.items (length c.in_ok-order.order.items) = rw c.deref-2.ensures.value at c.in_ok-numbers.ensures in
+    rw (c.deref-3.ensures.value, c.deref-4.ensures.value) (instances_named c.args.graph.now c.requires.positions.0 c.args.positions.now c.places-places.ensures.well_formed c.requires.positions.1 c.in_ok-numbers.numbers.items (numbered.whole ∙ laid.whole))
 
 pub in_closing_order-requires : goal.in_closing_order-requires
 in_closing_order-requires c =
-    let laid : IsLaidOut (key_in (slice_index c.args.nesting.now.ranks.items) c.args.ground.now.extents.items) (length c.args.graph.now.places) c.in_ok-order.order.items = rw (c.deref.ensures.value, c.deref-4.ensures.value, c.places-places.ensures.value) at c.in_ok-order.ensures in
-    let numbered : AreNumbers c.in_ok-order.order.items c.in_ok-numbers.numbers.items (length c.in_ok-order.order.items) = rw c.deref-5.ensures.value at c.in_ok-numbers.ensures in
-    let shown : AreShown c.in_ok-numbers.numbers.items c.args.ground.now.found.items c.args.ground.now.extents.items c.in_ok-closing.closing.items = rw (c.deref-6.ensures.value, c.deref-7.ensures.value, c.deref-8.ensures.value) at c.in_ok-closing.ensures in
-    rw (c.deref-9.ensures.value, c.deref-10.ensures.value) (pairs_named c.in_ok-numbers.numbers.items c.args.ground.now.found.items c.args.ground.now.extents.items c.in_ok-closing.closing.items shown
-    (instances_named c.args.graph.now c.requires.ground.0 c.args.ground.now c.places-places.ensures.well_formed c.requires.ground.1 c.in_ok-numbers.numbers.items (numbered.whole ∙ laid.whole)))
+    let laid : IsLaidOut (key_in (slice_index c.args.nesting.now.ranks.items) c.args.positions.now.extents.items) (length c.args.graph.now.places) c.in_ok-order.order.items = rw (c.deref.ensures.value, c.places-places.ensures.value) at c.in_ok-order.ensures in
+    let numbered : AreNumbers c.in_ok-order.order.items c.in_ok-numbers.numbers.items (length c.in_ok-order.order.items) = rw c.deref-2.ensures.value at c.in_ok-numbers.ensures in
+    let shown : AreShown c.in_ok-numbers.numbers.items c.args.positions.now.found.items c.args.positions.now.extents.items c.in_ok-closing.closing.items = rw (c.deref-3.ensures.value, c.deref-4.ensures.value, c.deref-5.ensures.value) at c.in_ok-closing.ensures in
+    rw (c.deref-6.ensures.value, c.deref-7.ensures.value) (pairs_named c.in_ok-numbers.numbers.items c.args.positions.now.found.items c.args.positions.now.extents.items c.in_ok-closing.closing.items shown
+    (instances_named c.args.graph.now c.requires.positions.0 c.args.positions.now c.places-places.ensures.well_formed c.requires.positions.1 c.in_ok-numbers.numbers.items (numbered.whole ∙ laid.whole)))
 
 pub renumbered-requires : goal.renumbered-requires
 renumbered-requires c =
-    let laid : IsLaidOut (key_in (slice_index c.args.nesting.now.ranks.items) c.args.ground.now.extents.items) (length c.args.graph.now.places) c.in_ok-order.order.items = rw (c.deref.ensures.value, c.deref-4.ensures.value, c.places-places.ensures.value) at c.in_ok-order.ensures in
-    let numbered : AreNumbers c.in_ok-order.order.items c.in_ok-numbers.numbers.items (length c.in_ok-order.order.items) = rw c.deref-5.ensures.value at c.in_ok-numbers.ensures in
-    rw (c.deref-13.ensures.value, c.deref-14.ensures.value) (edges_inside c.args.graph.now c.requires.ground.0 c.args.ground.now c.places-places.ensures.well_formed c.requires.ground.1 c.in_ok-numbers.numbers.items (numbered.whole ∙ laid.whole))
+    let laid : IsLaidOut (key_in (slice_index c.args.nesting.now.ranks.items) c.args.positions.now.extents.items) (length c.args.graph.now.places) c.in_ok-order.order.items = rw (c.deref.ensures.value, c.places-places.ensures.value) at c.in_ok-order.ensures in
+    let numbered : AreNumbers c.in_ok-order.order.items c.in_ok-numbers.numbers.items (length c.in_ok-order.order.items) = rw c.deref-2.ensures.value at c.in_ok-numbers.ensures in
+    rw (c.deref-10.ensures.value, c.deref-11.ensures.value) (edges_inside c.args.graph.now c.requires.positions.0 c.args.positions.now c.places-places.ensures.well_formed c.requires.positions.1 c.in_ok-numbers.numbers.items (numbered.whole ∙ laid.whole))
 
-pub returns-clause-tree : goal.returns-clause-tree
-returns-clause-tree c =
-    let laid : IsLaidOut (key_in (slice_index c.args.nesting.now.ranks.items) c.args.ground.now.extents.items) (length c.args.graph.now.places) c.in_ok-order.order.items = rw (c.deref.ensures.value, c.deref-4.ensures.value, c.places-places.ensures.value) at c.in_ok-order.ensures in
-    let numbered : AreNumbers c.in_ok-order.order.items c.in_ok-numbers.numbers.items (length c.in_ok-order.order.items) = rw c.deref-5.ensures.value at c.in_ok-numbers.ensures in
-    let shown : AreShown c.in_ok-numbers.numbers.items c.args.ground.now.found.items c.args.ground.now.extents.items c.in_ok-closing.closing.items = rw (c.deref-6.ensures.value, c.deref-7.ensures.value, c.deref-8.ensures.value) at c.in_ok-closing.ensures in
-    let parted : AreParted c.args.ground.now.found.items c.in_ok-closing.closing.items c.in_ok-instances.instances.items c.in_ok-instances.spans.items (length c.in_ok-closing.closing.items) = rw (c.deref-9.ensures.value, c.deref-10.ensures.value) at c.in_ok-instances.ensures in
-    let placed : ArePlaced c.args.graph.now.places c.args.ground.now.listed.items c.in_ok-order.order.items c.in_ok-indexes.field-0.items = rw (c.places-places.ensures.value, c.deref-11.ensures.value, c.deref-12.ensures.value) at c.in_ok-indexes.ensures in
-    let moves : AreMoved c.in_ok-numbers.numbers.items c.args.ground.now.edges.items c.in_ok-renumbered.field-0.items (length c.args.ground.now.edges.items) = rw (c.deref-13.ensures.value, c.deref-14.ensures.value) at c.in_ok-renumbered.ensures in
-    whole_tree c.args.graph.now c.requires.ground.0 c.args.ground.now c.places-places.ensures.well_formed c.requires.ground.1 c.args.nesting.now c.requires.nesting c.in_ok-order.order.items c.in_ok-numbers.numbers.items laid numbered c.in_ok-closing.closing.items shown c.in_ok-instances.instances.items c.in_ok-instances.spans.items parted c.in_ok-indexes.field-0.items placed c.in_ok-renumbered.field-0.items moves
-
-pub returns-clause-instances : goal.returns-clause-instances
-returns-clause-instances c =
-    let laid : IsLaidOut (key_in (slice_index c.args.nesting.now.ranks.items) c.args.ground.now.extents.items) (length c.args.graph.now.places) c.in_ok-order.order.items = rw (c.deref.ensures.value, c.deref-4.ensures.value, c.places-places.ensures.value) at c.in_ok-order.ensures in
-    let numbered : AreNumbers c.in_ok-order.order.items c.in_ok-numbers.numbers.items (length c.in_ok-order.order.items) = rw c.deref-5.ensures.value at c.in_ok-numbers.ensures in
-    let shown : AreShown c.in_ok-numbers.numbers.items c.args.ground.now.found.items c.args.ground.now.extents.items c.in_ok-closing.closing.items = rw (c.deref-6.ensures.value, c.deref-7.ensures.value, c.deref-8.ensures.value) at c.in_ok-closing.ensures in
-    let parted : AreParted c.args.ground.now.found.items c.in_ok-closing.closing.items c.in_ok-instances.instances.items c.in_ok-instances.spans.items (length c.in_ok-closing.closing.items) = rw (c.deref-9.ensures.value, c.deref-10.ensures.value) at c.in_ok-instances.ensures in
-    let placed : ArePlaced c.args.graph.now.places c.args.ground.now.listed.items c.in_ok-order.order.items c.in_ok-indexes.field-0.items = rw (c.places-places.ensures.value, c.deref-11.ensures.value, c.deref-12.ensures.value) at c.in_ok-indexes.ensures in
-    let moves : AreMoved c.in_ok-numbers.numbers.items c.args.ground.now.edges.items c.in_ok-renumbered.field-0.items (length c.args.ground.now.edges.items) = rw (c.deref-13.ensures.value, c.deref-14.ensures.value) at c.in_ok-renumbered.ensures in
-    tree_instances c.args.graph.now c.requires.ground.0 c.args.ground.now c.places-places.ensures.well_formed c.requires.ground.1 c.args.nesting.now c.requires.nesting c.in_ok-order.order.items c.in_ok-numbers.numbers.items laid numbered c.in_ok-closing.closing.items shown c.in_ok-instances.instances.items c.in_ok-instances.spans.items parted c.in_ok-indexes.field-0.items placed c.in_ok-renumbered.field-0.items moves
+pub returns : goal.returns
+returns c =
+    let laid : IsLaidOut (key_in (slice_index c.args.nesting.now.ranks.items) c.args.positions.now.extents.items) (length c.args.graph.now.places) c.in_ok-order.order.items = rw (c.deref.ensures.value, c.places-places.ensures.value) at c.in_ok-order.ensures in
+    let numbered : AreNumbers c.in_ok-order.order.items c.in_ok-numbers.numbers.items (length c.in_ok-order.order.items) = rw c.deref-2.ensures.value at c.in_ok-numbers.ensures in
+    let shown : AreShown c.in_ok-numbers.numbers.items c.args.positions.now.found.items c.args.positions.now.extents.items c.in_ok-closing.closing.items = rw (c.deref-3.ensures.value, c.deref-4.ensures.value, c.deref-5.ensures.value) at c.in_ok-closing.ensures in
+    let parted : AreParted c.args.positions.now.found.items c.in_ok-closing.closing.items c.in_ok-instances.instances.items c.in_ok-instances.spans.items (length c.in_ok-closing.closing.items) = rw (c.deref-6.ensures.value, c.deref-7.ensures.value) at c.in_ok-instances.ensures in
+    let placed : ArePlaced c.args.graph.now.places c.args.positions.now.listed.items c.in_ok-order.order.items c.in_ok-indexes.field-0.items = rw (c.places-places.ensures.value, c.deref-8.ensures.value, c.deref-9.ensures.value) at c.in_ok-indexes.ensures in
+    let moves : AreMoved c.in_ok-numbers.numbers.items c.args.positions.now.edges.items c.in_ok-renumbered.field-0.items (length c.args.positions.now.edges.items) = rw (c.deref-10.ensures.value, c.deref-11.ensures.value) at c.in_ok-renumbered.ensures in
+    record {
+      tree = whole_tree c.args.graph.now c.requires.positions.0 c.args.positions.now c.places-places.ensures.well_formed c.requires.positions.1 c.args.nesting.now c.requires.nesting c.in_ok-order.order.items c.in_ok-numbers.numbers.items laid numbered c.in_ok-closing.closing.items shown c.in_ok-instances.instances.items c.in_ok-instances.spans.items parted c.in_ok-indexes.field-0.items placed c.in_ok-renumbered.field-0.items moves;
+      instances = tree_instances c.args.graph.now c.requires.positions.0 c.args.positions.now c.places-places.ensures.well_formed c.requires.positions.1 c.args.nesting.now c.requires.nesting c.in_ok-order.order.items c.in_ok-numbers.numbers.items laid numbered c.in_ok-closing.closing.items shown c.in_ok-instances.instances.items c.in_ok-instances.spans.items parted c.in_ok-indexes.field-0.items placed c.in_ok-renumbered.field-0.items moves;
+    }

@@ -1,7 +1,7 @@
 use Rattle.std.proofs.Common.{List, length, subst, sym}
 use Rattle.std.proofs.lemmas.Result.{err_from_is_err_and}
 use Rattle.statement.specs.declared.stated.Loop.{Loop}
-use Rattle.loop_bounds.specs.Ground.{IsNesting, IsNestingFault}
+use Rattle.loop_bounds.specs.InPositions.{IsNesting, IsNestingFault}
 use Rattle.loop_bounds.specs.Instance.{IsInstance}
 use Rattle.loop_bounds.specs.Nest.{Applies, IsNestFault}
 use Rattle.loop_bounds.proofs.NestLemmas.{allowed, of_nesting}
@@ -9,20 +9,20 @@ use Rattle.loop_bounds.proofs.PlaceFacts.{sound}
 use Rattle.loop_bounds.proofs.tree.nest.Goals as goal
 
 pub nest_extents-requires : goal.nest_extents-requires
-nest_extents-requires c = rw (c.places-places.ensures.value, c.deref-4.ensures.value, c.deref-3.ensures.value) (sound c.args.graph.now c.loops-loops.result.now c.in_ok-ground.ground c.places-places.ensures.well_formed c.in_ok-ground.ensures)
+nest_extents-requires c = rw (c.places-places.ensures.value, c.deref-4.ensures.value, c.deref-3.ensures.value) (sound c.args.graph.now c.loops-loops.result.now c.in_ok-positions.positions c.places-places.ensures.well_formed c.in_ok-positions.ensures)
 
 pub returns-in_err-nesting-clause-fault : goal.returns-in_err-nesting-clause-fault
 returns-in_err-nesting-clause-fault c =
-    let ground = c.in_ok-ground.ground in
-    let fault : IsNestingFault (length c.args.graph.now.places) ground.edges.items ground.entry ground.extents.items c.in_err-nesting.field-0.0 = rw (c.places-places.ensures.value, c.deref-4.ensures.value, c.deref-3.ensures.value) at c.in_err-nesting.ensures.fault in
+    let positions = c.in_ok-positions.positions in
+    let fault : IsNestingFault (length c.args.graph.now.places) positions.edges.items positions.entry positions.extents.items c.in_err-nesting.field-0.0 = rw (c.places-places.ensures.value, c.deref-4.ensures.value, c.deref-3.ensures.value) at c.in_err-nesting.ensures.fault in
     let p = err_from_is_err_and c.from_residual-in_err-nesting.result c.from_residual-in_err-nesting.ensures.1 in
     rw (p.1, p.2)
     (subst (λ (loops : List Loop). IsNestFault c.args.graph.now loops c.in_err-nesting.field-0.0) c.loops-loops.ensures.value
-    (of_nesting c.args.graph.now c.loops-loops.result.now ground c.places-places.ensures.well_formed c.in_ok-ground.ensures (c.in_ok-shares_header.ensures.apart c.if-branch.false) c.in_err-nesting.field-0.0 fault))
+    (of_nesting c.args.graph.now c.loops-loops.result.now positions c.places-places.ensures.well_formed c.in_ok-positions.ensures (c.in_ok-shares_header.ensures.apart c.if-branch.false) c.in_err-nesting.field-0.0 fault))
 
 pub returns-clause-instances : goal.returns-clause-instances
 returns-clause-instances c = λ i.
-    let found = c.in_ok-ground.ensures.found_are i in
+    let found = c.in_ok-positions.ensures.found_are i in
     let made = c.in_ok-laid_out.ensures.instances i in (
       (λ has. subst (λ (loops : List Loop). IsInstance c.args.graph.now loops i) c.loops-loops.ensures.value (found.0 (made.0 has))),
       (λ is. made.1 (found.1 (subst (λ (loops : List Loop). IsInstance c.args.graph.now loops i) (sym c.loops-loops.ensures.value) is))),
@@ -30,7 +30,7 @@ returns-clause-instances c = λ i.
 
 pub returns-clause-allowed : goal.returns-clause-allowed
 returns-clause-allowed c = λ fault other applies.
-    let ground = c.in_ok-ground.ground in
-    let nesting : IsNesting (length c.args.graph.now.places) ground.edges.items ground.entry ground.extents.items c.in_ok-nesting.nesting = rw (c.places-places.ensures.value, c.deref-4.ensures.value, c.deref-3.ensures.value) at c.in_ok-nesting.ensures.nesting in
-    allowed c.args.graph.now c.loops-loops.result.now ground c.places-places.ensures.well_formed c.in_ok-ground.ensures (c.in_ok-shares_header.ensures.apart c.if-branch.false) c.in_ok-nesting.nesting nesting fault other
+    let positions = c.in_ok-positions.positions in
+    let nesting : IsNesting (length c.args.graph.now.places) positions.edges.items positions.entry positions.extents.items c.in_ok-nesting.nesting = rw (c.places-places.ensures.value, c.deref-4.ensures.value, c.deref-3.ensures.value) at c.in_ok-nesting.ensures.nesting in
+    allowed c.args.graph.now c.loops-loops.result.now positions c.places-places.ensures.well_formed c.in_ok-positions.ensures (c.in_ok-shares_header.ensures.apart c.if-branch.false) c.in_ok-nesting.nesting nesting fault other
     (subst (λ (loops : List Loop). Applies c.args.graph.now loops fault) (sym c.loops-loops.ensures.value) applies)

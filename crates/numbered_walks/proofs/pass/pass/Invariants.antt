@@ -2,5 +2,5 @@ use Rattle.std.proofs.Common.{ℕ, ◌+◌, ◌<◌, ◌≤◌, length}
 use Rattle.numbered_walks.specs.Tables.{IsPassed, HasRoom, nth}
 use Rattle.numbered_walks.proofs.pass.pass.Given as goal
 
-abbrev pub invariant-loop-done : goal.invariant-loop-done
-invariant-loop-done l = IsPassed l.edges l.spans l.done l.placed l.tables × HasRoom (l.exit + 1) l.tables × (l.placed ≤ l.exit + 1) × ((n : ℕ) → l.done ≤ n → n < length l.spans → l.placed ≤ (nth l.spans n).last + 1)
+abbrev pub invariant-loop-closed : goal.invariant-loop-closed
+invariant-loop-closed l = IsPassed l.graph.edges.now l.graph.spans.now l.closed l.placed l.tables × HasRoom (l.graph.exit + 1) l.tables × (l.placed ≤ l.graph.exit + 1) × ((n : ℕ) → l.closed ≤ n → n < length l.graph.spans.now → l.placed ≤ (nth l.graph.spans.now n).last + 1)

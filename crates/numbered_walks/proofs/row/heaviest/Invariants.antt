@@ -4,4 +4,4 @@ use Rattle.numbered_walks.specs.Tables.{IsHeaviest}
 use Rattle.numbered_walks.proofs.row.heaviest.Given as goal
 
 abbrev pub invariant-loop-number : goal.invariant-loop-number
-invariant-loop-number l = IsHeaviest l.spans l.tables (edges_of l.edges (take l.number-index l.group)) l.best
+invariant-loop-number l = IsHeaviest l.graph.spans.now l.tables (edges_of l.graph.edges.now (take l.number-index l.group)) l.best

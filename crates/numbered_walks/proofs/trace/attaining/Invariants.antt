@@ -4,4 +4,4 @@ use Rattle.numbered_walks.specs.Tables.{needed}
 use Rattle.numbered_walks.proofs.trace.attaining.Given as goal
 
 abbrev pub invariant-loop-k : goal.invariant-loop-k
-invariant-loop-k l = All (λ k. needed l.spans l.tables (edge_at l.edges k) ≢ l.number) (take l.k-index l.group)
+invariant-loop-k l = All (λ k. needed l.graph.spans.now l.tables (edge_at l.graph.edges.now k) ≢ l.number) (take l.k-index l.group)

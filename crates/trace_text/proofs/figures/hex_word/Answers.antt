@@ -6,5 +6,5 @@ use Rattle.trace_text.proofs.figures.hex_word.Goals as goal
 
 pub unreachable-requires : goal.unreachable-requires
 unreachable-requires c =
-    let text = subst IsUtf8 (sym c.hex_digits.ensures) (digits_utf8 c.args.word) in
+    let text = subst IsUtf8 (sym c.hex8.ensures) (digits_utf8 c.args.word) in
     false≢true (c.in_default.ensures.variant.1 text)

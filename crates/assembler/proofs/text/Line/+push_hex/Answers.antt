@@ -1,19 +1,18 @@
 use Rattle.std.proofs.Common.{◌/◌, ◌%◌, ◌∙◌, ◌<◌, ◌^◌, ℕ, List, [], ◌∷◌, ◌++◌, ap, sym, length, length-append, append_assoc, arith, rules}
-use Rattle.assembler.specs.Shown.{hex_char}
-use Rattle.assembler.specs.ShownLines.{hex}
-use Rattle.assembler.proofs.HexLaws.{hex_step}
+use Rattle.asm_text.specs.Hex.{hex, hex_digit}
+use Rattle.asm_text.proofs.HexLaws.{hex_step}
 use Rattle.assembler.proofs.text.Line.+push_hex.Goals as goal
 
 pub push_hex-requires : goal.push_hex-requires
 push_hex-requires t c =
     let below : c.args.n < 2 ^ 64 = search rules in
-    let longer = ap length (hex_step c.args.n c.if-n-lt16.false below) ∙ length-append (hex (c.args.n / 16)) (hex_char (c.args.n % 16) ∷ []) in
+    let longer = ap length (hex_step c.args.n c.if-n-lt16.false below) ∙ length-append (hex (c.args.n / 16)) (hex_digit (c.args.n % 16) ∷ []) in
     (omega (arith, c.decreases), omega (arith, longer, c.requires))
 
 pub put-requires-2 : goal.put-requires-2
 put-requires-2 t c =
     let below : c.args.n < 2 ^ 64 = search rules in
-    let longer = ap length (hex_step c.args.n c.if-n-lt16.false below) ∙ length-append (hex (c.args.n / 16)) (hex_char (c.args.n % 16) ∷ []) in
+    let longer = ap length (hex_step c.args.n c.if-n-lt16.false below) ∙ length-append (hex (c.args.n / 16)) (hex_digit (c.args.n % 16) ∷ []) in
     omega (arith, longer, c.requires, ap length c.push_hex.ensures ∙ length-append c.args.self.now (hex (c.args.n / 16)))
 
 pub returns : goal.returns
@@ -21,6 +20,6 @@ returns t c =
     let below : c.args.n < 2 ^ 64 = search rules in
     let last = ap (λ (d : ℕ). d ∷ []) c.hex_digit-2.ensures in
     c.put-2.ensures ∙ ap (λ (l : List ℕ). c.push_hex.new.self ++ l) last
-    ∙ ap (λ (l : List ℕ). l ++ hex_char (c.args.n % 16) ∷ []) c.push_hex.ensures
-    ∙ append_assoc c.args.self.now (hex (c.args.n / 16)) (hex_char (c.args.n % 16) ∷ [])
+    ∙ ap (λ (l : List ℕ). l ++ hex_digit (c.args.n % 16) ∷ []) c.push_hex.ensures
+    ∙ append_assoc c.args.self.now (hex (c.args.n / 16)) (hex_digit (c.args.n % 16) ∷ [])
     ∙ ap (λ (l : List ℕ). c.args.self.now ++ l) (sym (hex_step c.args.n c.if-n-lt16.false below))

@@ -1,8 +1,6 @@
 use Rattle.std.proofs.Common.{◌<◌, List, ℕ, inr, refl, ap, subst, arith}
-use Rattle.arm2_exec.specs.State.{State}
-use Rattle.debugger.specs.SessionState.{SessionState}
 use Rattle.debugger.specs.Watching.{Watches, inputs_of}
-use Rattle.debugger.proofs.WatchLaws.{first_of_watch, still}
+use Rattle.debugger.proofs.WatchLaws.{first_of_watch, session_on, still}
 use Rattle.debugger.proofs.session.Session.run.Goals as goal
 
 pub returns-then-ran-eq0-clause-err : goal.returns-then-ran-eq0-clause-err
@@ -21,15 +19,7 @@ returns-then-ran-eq0-clause-unchanged c =
     let stopped =
     still c.as_slice-breaks.result.now s.machine s.next c.args.steps ran.ensures.0 ran.result
     ran.new.machine (omega (arith, c.requires)) ran.ensures.1 c.if-ran-eq0.true in
-    let with_machine : State → SessionState =
-    λ m. record {
-      machine = m;
-      breaks = s.breaks.items;
-      next = s.next;
-      ticks = s.ticks;
-      elapsed = s.elapsed;
-    } in
-    rw (← c.self.view_is) (ap with_machine stopped.0)
+    rw (← c.self.view_is) (ap (session_on s.breaks.items s.next s.ticks s.elapsed) stopped.0)
 
 pub returns-clause-ok : goal.returns-clause-ok
 returns-clause-ok c =

@@ -28,15 +28,15 @@ returns-then-len-ge-MOST_WORDS c =
     let free : is_some (word_of words c.args.address) ≡ false = ap is_some (sym (lookup-word_of words c.args.address)) ∙ sym c.contains_key.ensures ∙ c.if-contains_key.false in
     let many : 65536 ≤ length words = omega (arith, c.len.ensures.len, c.if-len-ge-MOST_WORDS.true) in
     let full : nat_le 65536 (length words) ≡ true = grind (arith, nat_tests) in
-    rw (← c.self.view_is) (sym (by_tests words c.args.address c.args.word _ _ _ _ (sym c.can_hold.ensures ∙ c.if-not-can_hold.false) free full refl))
+    rw (← c.self.view_is) (sym (by_tests words c.args.address c.args.word _ _ _ _ (sym c.may_hold.ensures ∙ c.if-not-may_hold.false) free full refl))
 
-pub returns-then-runs_with-gt-MOST_RUNS : goal.returns-then-runs_with-gt-MOST_RUNS
-returns-then-runs_with-gt-MOST_RUNS c =
+pub returns-then-runs_with-gt-MOST_SEGMENTS : goal.returns-then-runs_with-gt-MOST_SEGMENTS
+returns-then-runs_with-gt-MOST_SEGMENTS c =
     let words = c.self.inside.words.entries in
     let free : is_some (word_of words c.args.address) ≡ false = ap is_some (sym (lookup-word_of words c.args.address)) ∙ sym c.contains_key.ensures ∙ c.if-contains_key.false in
     let counted : c.runs_with.result ≡ runs_of (with_word words c.args.address c.args.word) = rw c.self.view_is c.runs_with.ensures in
-    let long : nat_lt 16 (runs_of (with_word words c.args.address c.args.word)) ≡ true = lt-ltb 16 _ (omega (arith, counted, c.if-runs_with-gt-MOST_RUNS.true)) in
-    rw (← c.self.view_is) (sym (by_tests words c.args.address c.args.word _ _ _ _ (sym c.can_hold.ensures ∙ c.if-not-can_hold.false) free refl long ∙ fault_long (nat_le 65536 (length words))))
+    let long : nat_lt 16 (runs_of (with_word words c.args.address c.args.word)) ≡ true = lt-ltb 16 _ (omega (arith, counted, c.if-runs_with-gt-MOST_SEGMENTS.true)) in
+    rw (← c.self.view_is) (sym (by_tests words c.args.address c.args.word _ _ _ _ (sym c.may_hold.ensures ∙ c.if-not-may_hold.false) free refl long ∙ fault_long (nat_le 65536 (length words))))
 
 pub returns : goal.returns
 returns c =
@@ -45,5 +45,5 @@ returns c =
     let few : length words < 65536 = omega (arith, c.len.ensures.len, c.if-len-ge-MOST_WORDS.false) in
     let full : nat_le 65536 (length words) ≡ false = grind (arith, nat_tests) in
     let counted : c.runs_with.result ≡ runs_of (with_word words c.args.address c.args.word) = rw c.self.view_is c.runs_with.ensures in
-    let long : nat_lt 16 (runs_of (with_word words c.args.address c.args.word)) ≡ false = le-ltb 16 _ (omega (arith, counted, c.if-runs_with-gt-MOST_RUNS.false)) in
-    rw (← c.self.view_is) (sym (by_tests words c.args.address c.args.word _ _ _ _ (sym c.can_hold.ensures ∙ c.if-not-can_hold.false) free full long))
+    let long : nat_lt 16 (runs_of (with_word words c.args.address c.args.word)) ≡ false = le-ltb 16 _ (omega (arith, counted, c.if-runs_with-gt-MOST_SEGMENTS.false)) in
+    rw (← c.self.view_is) (sym (by_tests words c.args.address c.args.word _ _ _ _ (sym c.may_hold.ensures ∙ c.if-not-may_hold.false) free full long))

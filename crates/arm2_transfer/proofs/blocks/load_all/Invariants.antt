@@ -1,6 +1,0 @@
-use Rattle.std.proofs.Common.{◌≡◌, drop}
-use Rattle.arm2_transfer.specs.Block.{all_loaded}
-use Rattle.arm2_transfer.proofs.blocks.load_all.Given as goal
-
-abbrev pub invariant-loop-one : goal.invariant-loop-one
-invariant-loop-one l = all_loaded l.psr l.mode l.r15 l.bus l.port (drop l.one-index l.moves) l.registers ≡ all_loaded l.psr l.mode l.r15 l.bus l.port l.moves l.fn.registers

@@ -1,0 +1,34 @@
+ghost use Rattle.std.specs.Prelude.{◌≡◌, ◌<◌};
+ghost use Rattle.asm_text.specs.Hex.{hex8, hex_digit};
+
+/// The upper-case hexadecimal digit of a number below 16.
+pub fn hex_digit(n: u32) -> u8
+    requires { n < 16 }
+    ensures { result ≡ hex_digit n }
+{
+    let n = n as u8;
+    if n < 10 { b'0' + n } else { b'A' - 10 + n }
+}
+
+/// A word in eight upper-case hexadecimal digits, the highest first.
+pub fn hex8(word: u32) -> [u8; 8]
+    ensures { result ≡ hex8 word }
+{
+    let n1 = word / 16;
+    let n2 = n1 / 16;
+    let n3 = n2 / 16;
+    let n4 = n3 / 16;
+    let n5 = n4 / 16;
+    let n6 = n5 / 16;
+    let n7 = n6 / 16;
+    [
+        hex_digit(n7 % 16),
+        hex_digit(n6 % 16),
+        hex_digit(n5 % 16),
+        hex_digit(n4 % 16),
+        hex_digit(n3 % 16),
+        hex_digit(n2 % 16),
+        hex_digit(n1 % 16),
+        hex_digit(word % 16),
+    ]
+}

@@ -1,0 +1,191 @@
+ghost use Rattle.std.specs.Prelude.{◌≡◌, ◌++◌, ◌∷◌, ◌≤◌, [], None, Some, Ok, IfSome, IsNone, MatchOption};
+ghost use Rattle.std.specs.Prelude.{length, map, true};
+ghost use Rattle.std.specs.List.{list_all};
+ghost use Rattle.asm_text.specs.Pieces.{piece_of, pieces, without_gap};
+ghost use Rattle.asm_text.specs.Shown.{is_shown, is_shown_text, is_upper, parsed_shown, shown_in};
+ghost use Rattle.asm_text.specs.Shown.{shown_result, upper_pieces};
+ghost use Rattle.asm_text.specs.Statements.{behind_word, line_of, operands_of, or_bad};
+ghost use Rattle.asm_text.specs.Statements.{statement_of, with_word};
+ghost use Rattle.asm_text.specs.Words.{spelled_word_of};
+ghost use Rattle.asm_text.specs.Said.{said};
+ghost use Rattle.asm_text.specs.declared.printed_lines.Shown.{Shown};
+
+use crate::statement::{plain, refer};
+use crate::syntax::{Code, Reference, Statement, Use, Value};
+use crate::token::{Token, next};
+use crate::word::{Word, read_word};
+use std::marker::Model;
+
+/// A word that a line says: one of numbers and registers, or one with a number as its target.
+#[derive(Clone, Copy)]
+pub enum Shown {
+    Code(Code),
+    Refer(Reference, u32),
+}
+
+/// At most 64 items, in place.
+#[derive(Drop)]
+pub struct Few<T: Copy> {
+    count: usize,
+    items: [T; 64],
+}
+
+impl<T: Copy> Model for Few<T> {
+    ghost use Rattle.std.specs.Prelude.{List, take, ◌≤◌};
+
+    ghost Value = { List T };
+
+    ghost view = { λ f. take f.count f.items };
+
+    ghost invariant = { λ f. f.count ≤ 64 };
+}
+
+impl<T: Copy> Few<T> {
+    /// None. The filler stands where no item does, and is never seen.
+    pub(crate) fn new(filler: T) -> Self
+        ensures { result ≡ [] }
+    {
+        Few {
+            count: 0,
+            items: [filler; 64],
+        }
+    }
+
+    /// None where it is full.
+    pub(crate) fn push(&mut self, item: T) -> Option<()>
+        ensures pushed { IfSome result (λ _. self.new ≡ self.old ++ item ∷ []) }
+        ensures full { IsNone result → (self.new ≡ self.old) × (length self.old ≡ 64) }
+    {
+        if self.count >= 64 {
+            return None;
+        }
+        self.items[self.count] = item;
+        self.count += 1;
+        Some(())
+    }
+
+    pub(crate) fn as_slice(&self) -> &[T]
+        ensures { result.now ≡ self.now }
+    {
+        &self.items[..self.count]
+    }
+}
+
+// The tokens of a short text, without memory.
+fn few_tokens<'a>(text: &'a [u8]) -> Option<Few<Token<'a>>>
+    requires { length text.now ≤ 64 }
+    ensures { MatchOption result ⊥ (λ few. map piece_of few ≡ pieces text.now) }
+{
+    let mut few = Few::new(Token::Comma);
+    let mut rest = text;
+    while let Some((token, after)) = next(rest) {
+        few.push(token)?;
+        rest = after;
+    }
+    Some(few)
+}
+
+fn are_shown_bytes(text: &[u8]) -> bool
+    ensures { result ≡ list_all is_shown text.now }
+{
+    text.iter().all(|b| *b >= b' ' && *b <= b'~' && *b != b';')
+}
+
+fn is_upper(text: &[u8]) -> bool
+    ensures { result ≡ is_upper text.now }
+{
+    text.iter().all(|b| !b.is_ascii_lowercase())
+}
+
+fn is_shown_line(text: &[u8]) -> bool
+    ensures { result ≡ is_shown_text text.now }
+{
+    are_shown_bytes(text) && is_upper(text) && text.len() <= 64
+}
+
+fn shown_statement(statement: &Statement<'_>) -> Option<Shown>
+    ensures { result ≡ shown_in (said statement.now) }
+{
+    match statement {
+        Statement::Code(code) => Some(Shown::Code(*code)),
+        Statement::Refer(reference, Value::Number(n)) => Some(Shown::Refer(*reference, *n)),
+        _ => None,
+    }
+}
+
+#[tactic(auto, using(crate::proofs::ShownLaws::lists_hidden, crate::proofs::ShownLaws::orgs_hidden))]
+fn operands(word: Word, tokens: &[Token<'_>]) -> Option<Shown>
+    ensures { result ≡ shown_result (or_bad (operands_of word (map piece_of tokens.now))) }
+{
+    match word {
+        Word::Plain(head, cond, suffix) => {
+            let statement = plain(head, cond, suffix, tokens)?;
+            shown_statement(&statement)
+        }
+        Word::Branch(link, cond) => {
+            let statement = refer(cond, Use::Branch(link), tokens)?;
+            shown_statement(&statement)
+        }
+        Word::Org | Word::Dcd => None,
+    }
+}
+
+fn behind_word(word: Word, tokens: &[Token<'_>]) -> Option<Shown>
+    ensures { result ≡ shown_result (behind_word word (map piece_of tokens.now)) }
+{
+    match tokens {
+        [Token::Gap, rest @ ..] => operands(word, rest),
+        _ => None,
+    }
+}
+
+// What a word in upper case says with what stands after it.
+#[tactic(auto, using(crate::proofs::ShownLaws::upper_spelled))]
+fn word_statement(text: &[u8], behind: &[Token<'_>]) -> Option<Shown>
+    requires { is_upper text.now ≡ true }
+    ensures { result ≡ shown_result (with_word (spelled_word_of text.now) (map piece_of behind.now)) }
+{
+    match read_word(text) {
+        Some(word) => behind_word(word, behind),
+        None => None,
+    }
+}
+
+// What tokens say, where no letter is in lower case.
+#[tactic(auto, using(crate::proofs::ShownLaws::upper_run))]
+fn statement(tokens: &[Token<'_>]) -> Option<Shown>
+    requires { upper_pieces (map piece_of tokens.now) ≡ true }
+    ensures { result ≡ shown_result (statement_of (map piece_of tokens.now)) }
+{
+    match tokens {
+        [Token::Run(text), rest @ ..] => word_statement(text, rest),
+        _ => None,
+    }
+}
+
+// Blanks may stand in front.
+fn blank_statement(tokens: &[Token<'_>]) -> Option<Shown>
+    requires { upper_pieces (map piece_of tokens.now) ≡ true }
+    ensures { result ≡ shown_result (statement_of (without_gap (map piece_of tokens.now))) }
+{
+    match tokens {
+        [Token::Gap, rest @ ..] => statement(rest),
+        _ => statement(tokens),
+    }
+}
+
+/// Reads a line after its blank, without memory, where it may be shown (in upper case, without a comment, of
+/// at most 64 bytes) and says an instruction without a label. Every such line is read.
+#[tactic(auto, using(crate::proofs::ShownLaws::upper_shown, crate::proofs::ShownLaws::short_shown, crate::proofs::ShownLaws::line_shown, crate::proofs::ShownLaws::shown_from))]
+pub fn read_shown(text: &[u8]) -> Option<Shown>
+    ensures found { IfSome result (λ s. line_of (32 ∷ text.now) ≡ Ok (parsed_shown s)) }
+    ensures shown { IfSome result (λ s. is_shown_text text.now ≡ true) }
+    ensures only { (s : Shown) → is_shown_text text.now ≡ true → line_of (32 ∷ text.now) ≡ Ok (parsed_shown s)
+        → result ≡ Some s }
+{
+    if !is_shown_line(text) {
+        return None;
+    }
+    let few = few_tokens(text)?;
+    blank_statement(few.as_slice())
+}

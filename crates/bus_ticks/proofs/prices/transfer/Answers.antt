@@ -1,0 +1,14 @@
+use Rattle.std.proofs.Common.{◌≡◌, ◌≤◌, ◌*◌, ℕ, suc, ◌+◌, refl, arith}
+use Rattle.bus_ticks.specs.Prices.{block_price}
+use Rattle.bus_ticks.proofs.prices.transfer.Goals as goal
+
+-- src/prices.rt:126:5
+pub loop-i-preserved : goal.loop-i-preserved
+unfolding block_price
+loop-i-preserved c =
+    let next : c.loop-i.i + 1 ≡ suc c.loop-i.i = omega arith in
+    let ticks = c.loop-i.invariant.0 in
+    let price = c.word_ticks-ticks.ensures.price in
+    let small = c.word_ticks-ticks.ensures.small in
+    let most = c.loop-i.invariant.1 in
+    (rw (next, ticks, price, c.word_address.ensures.address) refl, omega (arith, most, small))

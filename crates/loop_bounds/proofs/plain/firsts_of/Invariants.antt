@@ -1,5 +1,0 @@
-use Rattle.loop_bounds.specs.Layout.{AreFirsts}
-use Rattle.loop_bounds.proofs.plain.firsts_of.Given as goal
-
-abbrev pub invariant-loop-node : goal.invariant-loop-node
-invariant-loop-node l = AreFirsts l.edges l.firsts.items l.node-counter

@@ -1,5 +1,0 @@
-use Rattle.loop_bounds.specs.Layout.{AreHeights}
-use Rattle.loop_bounds.proofs.plain.heights.Given as goal
-
-abbrev pub invariant-loop-k : goal.invariant-loop-k
-invariant-loop-k l = AreHeights l.order l.heights.items l.nodes l.k

@@ -1,6 +1,0 @@
-use Rattle.std.proofs.Common.{ℕ, ◌^◌, ◌<◌}
-use Rattle.numbered_walks.specs.Tables.{total_of}
-use Rattle.numbered_walks.proofs.find.totals_fit.Given as goal
-
-abbrev pub invariant-loop-place : goal.invariant-loop-place
-invariant-loop-place l = (p : ℕ) → p < l.place → total_of l.spans l.tables p < 2 ^ 63
