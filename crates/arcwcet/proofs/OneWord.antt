@@ -14,7 +14,7 @@ use Rattle.arm2_decode.specs.Table.{IsUnallocated, Means}
 use Rattle.arm2_decode.proofs.Unique.{never_both, one_instr}
 use Rattle.arm2_effect.specs.Operations.{data_immediate_effect, jumped, operation_effect, placed}
 use Rattle.arm2_effect.specs.Modes.{r15_in}
-use Rattle.arm2_effect.specs.declared.done.Kind.TheVariants.{Plain}
+use Rattle.arm2_effect.specs.declared.step_end.Kind.TheVariants.{Plain}
 use Rattle.arm2_effect.specs.declared.exceptions.Vector.{Vector}
 use Rattle.arm2_transfer.specs.Moved.{Moved}
 use Rattle.arm2_exec.specs.State.{State}

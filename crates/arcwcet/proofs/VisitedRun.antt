@@ -8,7 +8,7 @@ use Rattle.memc.specs.Memory.{Memory, control_of}
 use Rattle.ioc.specs.Interrupts as ioc
 use Rattle.ioc.specs.declared.timers.Timers.{Timers}
 use Rattle.vidc.specs.Video as vidc
-use Rattle.arm2_effect.specs.declared.done.Kind.TheVariants.{Plain, Taken}
+use Rattle.arm2_effect.specs.declared.step_end.Kind.TheVariants.{Plain, Taken}
 use Rattle.arm2_effect.specs.declared.exceptions.Vector.TheVariants.{Fiq, Irq}
 use Rattle.arm2_effect.specs.Exceptions.{taken}
 use Rattle.arm2_effect.specs.Modes.{r15_in}

@@ -2,7 +2,7 @@
 use Rattle.std.specs.Prelude.{◌≡◌, ◌≢◌, ◌↔◌, ◌++◌, ℕ, Bool, true, false, IsTrue, List, [], Option, Some, None}
 use Rattle.std.specs.Prelude.{Ok, Err}
 use Rattle.bus_ticks.specs.declared.profile.Profile.{Profile}
-use Rattle.arm2_effect.specs.declared.done.Why.{Why}
+use Rattle.arm2_effect.specs.declared.step_end.Why.{Why}
 use Rattle.arm2_effect.specs.Modes.{r15_in}
 use Rattle.arm2_effect.specs.ProgramCounter.{address_of}
 use Rattle.arm2_exec.specs.Run.{Runs}

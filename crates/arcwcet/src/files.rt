@@ -20,7 +20,7 @@ pub trait Store {
     /// The file's bytes, of which there are at most 16,777,216.
     fn read(&mut self, alloc: Global, name: &str) -> Result<Vec<u8>, StoreFault>
         ensures gives { read_gives self.old name.now (bytes_read result) self.new }
-        ensures limit { IfOk result (λ v. vec_len v ≤ LIMIT) };
+        ensures limit { IfOk result (λ v. vec_len v ≤ 16777216) };
 
     /// What a write of bytes to a name may give, and the store after it; the default says nothing.
     ghost write_gives: { Self → List ℕ → List ℕ → Result (Unit {0}) StoreFault → Self → Type 0 } = { λ _ _ _ _ _. Unit {0} };

@@ -4,10 +4,10 @@ use Rattle.std.specs.Prelude.{◌≡◌, ℕ, ◌*◌, ◌/◌, Bool, true, fals
 use Rattle.bus_ticks.specs.declared.profile.Profile.{Profile}
 use Rattle.bus_ticks.specs.declared.profile.RomTimes.{RomTimes}
 use Rattle.bus_ticks.specs.Prices.{n_price, s_price, word_price}
-use Rattle.arm2_effect.specs.declared.done.Kind.{Kind}
-use Rattle.arm2_effect.specs.declared.done.Kind.TheVariants.{Plain, Stopped, Taken}
-use Rattle.arm2_effect.specs.declared.done.Why.{Why}
-use Rattle.arm2_effect.specs.declared.done.Done.{Done}
+use Rattle.arm2_effect.specs.declared.step_end.Kind.{Kind}
+use Rattle.arm2_effect.specs.declared.step_end.Kind.TheVariants.{Plain, Stopped, Taken}
+use Rattle.arm2_effect.specs.declared.step_end.Why.{Why}
+use Rattle.arm2_effect.specs.declared.step_end.Done.{Done}
 use Rattle.arm2_effect.specs.Modes.{r15_in, with_r15}
 use Rattle.arm2_effect.specs.ProgramCounter.{address_of, ahead_of, r15_ahead}
 

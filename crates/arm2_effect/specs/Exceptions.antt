@@ -5,7 +5,7 @@ use Rattle.arm2_effect.specs.declared.exceptions.Vector.{Vector}
 use Rattle.arm2_effect.specs.declared.exceptions.Vector.TheVariants.{Undefined, Swi, PrefetchAbort, DataAbort}
 use Rattle.arm2_effect.specs.declared.exceptions.Vector.TheVariants.{AddressException, Irq, Fiq}
 use Rattle.arm2_effect.specs.declared.exceptions.Entry.{Entry}
-use Rattle.arm2_effect.specs.declared.done.Kind.TheVariants.{Taken}
+use Rattle.arm2_effect.specs.declared.step_end.Kind.TheVariants.{Taken}
 use Rattle.arm2_effect.specs.Modes.{r15_in, with_r15, with_register}
 use Rattle.arm2_effect.specs.ProgramCounter.{psr_of, address_of, r15_of, r15_ahead}
 use Rattle.arm2_effect.specs.Effects.{Effect, onward}

@@ -5,7 +5,7 @@ ghost use Rattle.arm2_effect.specs.Operations.{data_register_shift_effect, enter
 ghost use Rattle.arm2_effect.specs.Operations.{next_r15, placed};
 ghost use Rattle.arm2_effect.specs.ProgramCounter.{psr_with};
 
-use crate::done::{Done, Kind};
+use crate::step_end::{Done, Kind};
 use crate::modes::Reg;
 use crate::outcomes::{Outcome, flags_after, outcome_of};
 use crate::prices::Prices;

@@ -2,7 +2,7 @@ ghost use Rattle.std.specs.Prelude.{◌≡◌, ◌<◌, ◌%◌, ◌^◌, false}
 ghost use Rattle.arm2_effect.specs.Effects.{IsEffect, is_stopped, skipped};
 ghost use Rattle.arm2_effect.specs.Exceptions.{entry_at, masked, taken};
 
-use crate::done::{Done, Kind};
+use crate::step_end::{Done, Kind};
 use crate::modes::{Mode, Reg};
 use crate::prices::Prices;
 use crate::program_counter::{address_of, advanced, psr_of, r15_of};

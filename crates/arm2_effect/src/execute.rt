@@ -6,7 +6,7 @@ ghost use Rattle.arm2_effect.specs.Effects.{IsEffect, is_stopped};
 ghost use Rattle.arm2_effect.specs.Operations.{branch_effect, cycles_of, is_transfer};
 ghost use Rattle.arm2_effect.specs.Operations.{multiply_effect, operation_effect, product_of};
 
-use crate::done::{Done, Kind};
+use crate::step_end::{Done, Kind};
 use crate::exceptions::Vector;
 use crate::modes::Reg;
 use crate::outcomes::Outcome;
@@ -22,16 +22,6 @@ fn cycles(multiplier: u32) -> u32
     ensures few { result ≤ 16 }
 {
     multiply_cycles(multiplier)
-}
-
-/// Whether an operation is a load or a store, which reaches past the registers.
-pub fn is_transfer(operation: &Operation) -> bool
-    ensures { result ≡ is_transfer operation.now }
-{
-    matches!(
-        operation,
-        Operation::Block(_) | Operation::SingleImmediate(_) | Operation::SingleRegister(_)
-    )
 }
 
 impl Registers {

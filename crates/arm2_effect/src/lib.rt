@@ -6,7 +6,6 @@
 #![tactic(auto)]
 
 mod data;
-mod done;
 mod exceptions;
 mod execute;
 mod modes;
@@ -15,10 +14,9 @@ mod outcomes;
 mod prices;
 mod program_counter;
 mod registers;
+mod step_end;
 
-pub use done::{Done, Kind, Why};
 pub use exceptions::Vector;
-pub use execute::is_transfer;
 pub use modes::{Mode, Reg};
 pub use prices::Prices;
 pub use program_counter::{
@@ -26,3 +24,4 @@ pub use program_counter::{
     restored,
 };
 pub use registers::Registers;
+pub use step_end::{Done, Kind, Why};

@@ -6,10 +6,10 @@ use Rattle.arm2_decode.specs.Table.{Means, IsUnallocated}
 use Rattle.arm2_decode.specs.declared.instr.Instr.{Instr}
 use Rattle.arm2_decode.specs.declared.instr.Unallocated.{Unallocated}
 use Rattle.arm2_decode.proofs.Unique.{one_instr, never_both, one_unallocated}
-use Rattle.arm2_effect.specs.declared.done.Done.{Done}
-use Rattle.arm2_effect.specs.declared.done.Kind.{Kind}
-use Rattle.arm2_effect.specs.declared.done.Kind.TheVariants.{Plain, Taken, Stopped}
-use Rattle.arm2_effect.specs.declared.done.Why.{Why}
+use Rattle.arm2_effect.specs.declared.step_end.Done.{Done}
+use Rattle.arm2_effect.specs.declared.step_end.Kind.{Kind}
+use Rattle.arm2_effect.specs.declared.step_end.Kind.TheVariants.{Plain, Taken, Stopped}
+use Rattle.arm2_effect.specs.declared.step_end.Why.{Why}
 use Rattle.arm2_effect.specs.declared.exceptions.Vector.{Vector}
 use Rattle.arm2_effect.specs.declared.exceptions.Vector.TheVariants as vector
 use Rattle.arm2_effect.specs.Effects.{is_stopped}

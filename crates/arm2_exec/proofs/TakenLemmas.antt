@@ -14,10 +14,10 @@ use Rattle.memc.specs.Memory.{located}
 use Rattle.memc.specs.declared.spots.Spot.{Spot}
 use Rattle.arm2_effect.specs.declared.exceptions.Vector.{Vector}
 use Rattle.arm2_effect.specs.declared.exceptions.Vector.TheVariants as vector
-use Rattle.arm2_effect.specs.declared.done.Kind.{Kind}
-use Rattle.arm2_effect.specs.declared.done.Kind.TheVariants.{Plain, Taken}
-use Rattle.arm2_effect.specs.declared.done.Why.{Why}
-use Rattle.arm2_effect.specs.declared.done.Why.TheVariants as why
+use Rattle.arm2_effect.specs.declared.step_end.Kind.{Kind}
+use Rattle.arm2_effect.specs.declared.step_end.Kind.TheVariants.{Plain, Taken}
+use Rattle.arm2_effect.specs.declared.step_end.Why.{Why}
+use Rattle.arm2_effect.specs.declared.step_end.Why.TheVariants as why
 use Rattle.arm2_effect.specs.Modes.{r15_in, reg_number, slot_of}
 use Rattle.arm2_effect.specs.ProgramCounter.{flags_of, mode_of}
 use Rattle.arm2_effect.specs.Effects.{Effect, is_stopped, skipped, stopped}

@@ -4,7 +4,7 @@ use Rattle.bus_ticks.specs.declared.profile.Profile.{Profile}
 use Rattle.bus_ticks.specs.declared.profile.RomTimes.{RomTimes}
 use Rattle.arm2_effect.specs.declared.exceptions.Vector.{Vector}
 use Rattle.arm2_effect.specs.declared.exceptions.Vector.TheVariants as vector
-use Rattle.arm2_effect.specs.declared.done.Done.{Done}
+use Rattle.arm2_effect.specs.declared.step_end.Done.{Done}
 use Rattle.arm2_effect.specs.Effects.{Effect, IsEffect}
 use Rattle.arm2_effect.specs.Exceptions.{taken}
 use Rattle.arm2_effect.specs.Modes.{r15_in}

@@ -1,8 +1,8 @@
 -- A run: steps, one input each, up to the first that is stopped.
 use Rattle.std.specs.Prelude.{◌≡◌, ℕ, ◌+◌, ◌*◌, List, [], ◌∷◌, Option, Some, None}
-use Rattle.arm2_effect.specs.declared.done.Kind.{Kind}
-use Rattle.arm2_effect.specs.declared.done.Kind.TheVariants.{Plain, Taken, Stopped}
-use Rattle.arm2_effect.specs.declared.done.Why.{Why}
+use Rattle.arm2_effect.specs.declared.step_end.Kind.{Kind}
+use Rattle.arm2_effect.specs.declared.step_end.Kind.TheVariants.{Plain, Taken, Stopped}
+use Rattle.arm2_effect.specs.declared.step_end.Why.{Why}
 use Rattle.arm2_exec.specs.declared.machine.Input.{Input}
 use Rattle.arm2_exec.specs.declared.machine.Ran.{Ran}
 use Rattle.arm2_exec.specs.declared.machine.Stepped.{Stepped}

@@ -14,7 +14,7 @@ use Rattle.ioc.specs.Interrupts as ioc
 use Rattle.vidc.specs.Video as vidc
 use Rattle.arm2_effect.specs.declared.exceptions.Vector.{Vector}
 use Rattle.arm2_effect.specs.declared.exceptions.Vector.TheVariants as vector
-use Rattle.arm2_effect.specs.declared.done.Why.TheVariants as why
+use Rattle.arm2_effect.specs.declared.step_end.Why.TheVariants as why
 use Rattle.arm2_effect.specs.Modes.{r15_in}
 use Rattle.arm2_effect.specs.ProgramCounter.{address_of, flags_of, is_fiq_masked, is_irq_masked, mode_of}
 use Rattle.arm2_effect.specs.Effects.{is_stopped, skipped, stopped, ticks_of}

@@ -3,7 +3,7 @@ use Rattle.std.specs.Prelude.{ℕ, List, Option}
 use Rattle.bus_ticks.specs.declared.profile.Profile.{Profile}
 use Rattle.bus_ticks.specs.declared.profile.RomTimes.{RomTimes}
 use Rattle.arm2_effect.specs.declared.exceptions.Vector.{Vector}
-use Rattle.arm2_effect.specs.declared.done.Done.{Done}
+use Rattle.arm2_effect.specs.declared.step_end.Done.{Done}
 use Rattle.arm2_transfer.specs.declared.bus.Bus.{Bus}
 use Rattle.arm2_transfer.specs.Moved.{Moved, IsMoved}
 use Rattle.arm2_exec.specs.Step.{ObeysFetched, Works}

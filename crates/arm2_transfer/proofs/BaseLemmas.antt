@@ -12,7 +12,7 @@ use Rattle.arm2_decode.specs.declared.instr.Block.{Block}
 use Rattle.arm2_decode.specs.declared.names.Register.{Register}
 use Rattle.arm2_decode.specs.Allowed.{block_clash}
 use Rattle.arm2_decode.specs.Names.{register_number}
-use Rattle.arm2_effect.specs.declared.done.Kind.TheVariants.{Plain}
+use Rattle.arm2_effect.specs.declared.step_end.Kind.TheVariants.{Plain}
 use Rattle.arm2_effect.specs.declared.exceptions.Vector.{Vector}
 use Rattle.arm2_effect.specs.declared.exceptions.Vector.TheVariants as vector
 use Rattle.arm2_effect.specs.declared.modes.Mode.{Mode}

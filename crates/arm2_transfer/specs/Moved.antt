@@ -4,9 +4,9 @@ use Rattle.std.specs.Prelude.{◌≡◌, ℕ, zero, suc, ◌==◌, Bool, true, f
 use Rattle.bus_ticks.specs.declared.profile.Profile.{Profile}
 use Rattle.bus_ticks.specs.declared.profile.RomTimes.{RomTimes}
 use Rattle.bus_ticks.specs.Prices.{word_address}
-use Rattle.arm2_effect.specs.declared.done.Kind.{Kind}
-use Rattle.arm2_effect.specs.declared.done.Why.TheVariants.{UnsupportedWrite}
-use Rattle.arm2_effect.specs.declared.done.Done.{Done}
+use Rattle.arm2_effect.specs.declared.step_end.Kind.{Kind}
+use Rattle.arm2_effect.specs.declared.step_end.Why.TheVariants.{UnsupportedWrite}
+use Rattle.arm2_effect.specs.declared.step_end.Done.{Done}
 use Rattle.arm2_effect.specs.declared.exceptions.Vector.TheVariants as vector
 use Rattle.arm2_effect.specs.Effects.{Access, FetchN, Word, Internal, ticks_of, Effect, straight, refill}
 use Rattle.arm2_effect.specs.Effects.{stopped}

@@ -8,7 +8,7 @@ use Rattle.arm2_decode.specs.declared.instr.SingleImmediate.{SingleImmediate}
 use Rattle.arm2_decode.specs.declared.instr.SingleRegister.{SingleRegister}
 use Rattle.arm2_decode.specs.declared.names.Register.{Register}
 use Rattle.arm2_effect.specs.declared.modes.Mode.{Mode}
-use Rattle.arm2_effect.specs.declared.done.Kind.TheVariants.{Plain}
+use Rattle.arm2_effect.specs.declared.step_end.Kind.TheVariants.{Plain}
 use Rattle.arm2_effect.specs.Modes.{r15_in}
 use Rattle.arm2_effect.specs.Operands.{first_of, shifted_by_amount}
 use Rattle.arm2_decode.specs.Names.{is_pc}

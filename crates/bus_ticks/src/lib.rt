@@ -4,11 +4,13 @@
 //! address, on whether it follows the access before it, and on the fifteen numbers of a [`Profile`].
 #![tactic(auto)]
 
+mod law;
 mod prices;
 mod profile;
 mod space;
 mod worst;
 
+pub use law::memory_map;
 pub use prices::{class_of, fetch_n, fetch_s, transfer};
 pub use profile::{Class, NumbersFault, Profile, RomTimes};
 pub use space::{IO_START, ROM_START, SPACE_END, word_address};

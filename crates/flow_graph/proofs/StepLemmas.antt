@@ -11,8 +11,8 @@ use Rattle.walks.specs.Walk.{cost_of}
 use Rattle.arm2_decode.specs.Table.{Means}
 use Rattle.arm2_decode.specs.declared.instr.Instr.{Instr}
 use Rattle.arm2_decode.specs.declared.instr.Unallocated.{Unallocated}
-use Rattle.arm2_effect.specs.declared.done.Kind.TheVariants as ended
-use Rattle.arm2_effect.specs.declared.done.Why.TheVariants as why
+use Rattle.arm2_effect.specs.declared.step_end.Kind.TheVariants as ended
+use Rattle.arm2_effect.specs.declared.step_end.Why.TheVariants as why
 use Rattle.arm2_effect.specs.declared.exceptions.Vector.{Vector}
 use Rattle.arm2_effect.specs.Effects.{is_stopped, skipped, stopped, ticks_of}
 use Rattle.arm2_effect.specs.Exceptions.{taken}

@@ -12,7 +12,7 @@ use Rattle.arm2_decode.specs.declared.names.Cond.{Cond}
 use Rattle.arm2_effect.specs.Effects.{Access, Word}
 use Rattle.arm2_effect.specs.Modes.{r15_in}
 use Rattle.arm2_effect.specs.ProgramCounter.{flags_of}
-use Rattle.arm2_effect.specs.declared.done.Kind.TheVariants as ended
+use Rattle.arm2_effect.specs.declared.step_end.Kind.TheVariants as ended
 use Rattle.arm2_exec.specs.Run.{Runs}
 use Rattle.arm2_exec.specs.State.{State}
 use Rattle.arm2_exec.specs.Step.{Step, address_in, fetched}

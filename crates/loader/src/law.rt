@@ -3,6 +3,7 @@ ghost use Rattle.loader.specs.Image.{Words};
 ghost use Rattle.loader.specs.ImageBytes.{Segment, image_bytes, image_read};
 ghost use Rattle.loader.specs.Spelling.{AreImage, BeginImage, PassImage, Spell};
 
+use crate::places::{MOST_SEGMENTS, MOST_WORDS};
 use crate::reading::ReadFault;
 
 /// States that [`read_image`](crate::read_image) takes the bytes of every list of segments that
@@ -32,4 +33,10 @@ pub fn trailing_bytes_follow_an_image()
     ensures follow { (bytes : List ℕ) → All (λ b. b < 256) bytes
         → image_read bytes ≡ Err ReadFault.TrailingBytes → PassImage bytes }
     ensures trailing { (bytes : List ℕ) → PassImage bytes → image_read bytes ≡ Err ReadFault.TrailingBytes }
+{}
+
+/// States how large an image may be: 65536 words (256 KB) in 16 segments. It does nothing.
+pub fn image_limits()
+    ensures words { MOST_WORDS ≡ 65536 }
+    ensures segments { MOST_SEGMENTS ≡ 16 }
 {}

@@ -12,7 +12,7 @@ mod writing;
 pub use image::{Image, ImageFault};
 pub use labels::{LabelFault, Labels};
 pub use law::{
-    images_are_read, other_faults_begin_no_image, trailing_bytes_follow_an_image,
+    image_limits, images_are_read, other_faults_begin_no_image, trailing_bytes_follow_an_image,
     truncated_begins_an_image,
 };
 pub use loading::{LoadFault, load};

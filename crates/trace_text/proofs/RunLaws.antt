@@ -2,9 +2,9 @@
 use Rattle.std.proofs.Common.{◌≡◌, ◌∙◌, ℕ, ◌+◌, ◌*◌, List, [], ◌∷◌, ◌++◌, Option, None, Result, Ok, Err}
 use Rattle.std.proofs.Common.{OnErr, refl, sym, ap, append_assoc, drop, subst, take}
 use Rattle.std.proofs.lemmas.List.{append-nil, take-append-drop}
-use Rattle.arm2_effect.specs.declared.done.Kind.{Kind}
-use Rattle.arm2_effect.specs.declared.done.Kind.TheVariants.{Stopped}
-use Rattle.arm2_effect.specs.declared.done.Why.{Why}
+use Rattle.arm2_effect.specs.declared.step_end.Kind.{Kind}
+use Rattle.arm2_effect.specs.declared.step_end.Kind.TheVariants.{Stopped}
+use Rattle.arm2_effect.specs.declared.step_end.Why.{Why}
 use Rattle.arm2_exec.specs.declared.machine.Input.{Input}
 use Rattle.arm2_exec.specs.declared.machine.Ran.{Ran}
 use Rattle.arm2_exec.specs.State.{State}

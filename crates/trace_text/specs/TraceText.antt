@@ -1,10 +1,10 @@
 -- What a machine shows as text.
 use Rattle.std.specs.Prelude.{◌≡◌, ℕ, ◌+◌, List, [], ◌∷◌, ◌++◌, codes, decimal}
 use Rattle.std.specs.Prelude.{Option, Some, None}
-use Rattle.arm2_effect.specs.declared.done.Kind.{Kind}
-use Rattle.arm2_effect.specs.declared.done.Kind.TheVariants.{Plain, Taken, Stopped}
-use Rattle.arm2_effect.specs.declared.done.Why.{Why}
-use Rattle.arm2_effect.specs.declared.done.Why.TheVariants.{Unallocated, UnsupportedWrite}
+use Rattle.arm2_effect.specs.declared.step_end.Kind.{Kind}
+use Rattle.arm2_effect.specs.declared.step_end.Kind.TheVariants.{Plain, Taken, Stopped}
+use Rattle.arm2_effect.specs.declared.step_end.Why.{Why}
+use Rattle.arm2_effect.specs.declared.step_end.Why.TheVariants.{Unallocated, UnsupportedWrite}
 use Rattle.arm2_effect.specs.declared.exceptions.Vector.{Vector}
 use Rattle.arm2_effect.specs.declared.exceptions.Vector.TheVariants.{Undefined, Swi, PrefetchAbort, DataAbort}
 use Rattle.arm2_effect.specs.declared.exceptions.Vector.TheVariants.{AddressException, Irq, Fiq}
