@@ -4,8 +4,8 @@ ghost use Rattle.flow_graph.specs.declared.places.Place.TheVariants.{At};
 ghost use Rattle.loop_bounds.specs.Keys.{AreByKey};
 ghost use Rattle.loop_bounds.specs.Extents.{AreExtents, AreExtentsOf, IsExtentOf, IsWithin, found_instance};
 
-use crate::keys::point;
 use crate::loop_instances::Found;
+use crate::numbering::point;
 use flow_graph::Place;
 use std::alloc::{AllocError, Global};
 use std::cmp::Reverse;

@@ -7,10 +7,9 @@ ghost use Rattle.loop_bounds.specs.Layout.{AreNumbers, IsLaidOut, ArePlaced, Are
 ghost use Rattle.loop_bounds.specs.Layout.{IsShown, AreShown, AreKeyed, key_in};
 ghost use Rattle.loop_bounds.specs.Keys.{IsListed};
 
-use crate::chains::extended;
 use crate::extents::Extent;
 use crate::loop_instances::Found;
-use crate::nesting::Nesting;
+use crate::nesting::{Nesting, extended};
 use crate::numbering::index_of;
 use crate::parents::innermost;
 use flow_graph::Place;

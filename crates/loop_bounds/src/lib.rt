@@ -3,12 +3,10 @@
 //! are refused.
 #![tactic(auto)]
 
-mod chains;
 mod crossing;
 mod extents;
 mod fault;
 mod handler_positions;
-mod keys;
 mod layout;
 mod loop_instances;
 mod nested;

@@ -1,13 +1,76 @@
-ghost use Rattle.std.specs.Prelude.{◌≡◌, ℕ, ◌<◌, ◌≤◌, ◌⊎◌, Contains, IfOk, length, slice_index};
+ghost use Rattle.std.specs.Prelude.{◌≡◌, ◌≤◌, ◌++◌, [], ◌∷◌, IfOk, length, slice_index, ℕ, ◌<◌, ◌⊎◌};
+ghost use Rattle.std.specs.Prelude.{Contains};
+ghost use Rattle.std.specs.Ordering.{nat_cmp};
+ghost use Rattle.std.specs.Cmp.Lexicographic.{slice_cmp};
 ghost use Rattle.std.specs.List.Sorted.{IsSorted, IsStrictlySortedBy};
+ghost use Rattle.loop_bounds.specs.Keys.{IsListed, IsPoint, by_key};
 ghost use Rattle.flow_graph.specs.Places.{place_cmp, place_at};
-ghost use Rattle.loop_bounds.specs.Keys.{IsListed, by_key};
 ghost use Rattle.loop_bounds.specs.Tree.{IsNumbered, NumbersEdge};
 
-use crate::keys::compare;
-use flow_graph::{Edge, Graph, Place};
+use flow_graph::{Calls, Edge, Graph, Place};
 use numbered_walks::NumberedEdge;
 use std::alloc::{AllocError, Global};
+use std::cmp::Ordering;
+
+// The call's address at the index, or after the last call the address of the instruction.
+fn address_at(calls: &[u32], index: usize, address: u32) -> u32
+    requires { index ≤ length calls.now }
+    ensures { result ≡ slice_index (calls.now ++ address ∷ []) index }
+{
+    if index < calls.len() {
+        calls[index]
+    } else {
+        address
+    }
+}
+
+// How the calls and then the address compare with others.
+fn compare_keys(calls: &[u32], address: u32, others: &[u32], other: u32) -> Ordering
+    ensures { result ≡ slice_cmp nat_cmp (calls.now ++ address ∷ []) (others.now ++ other ∷ []) }
+{
+    let common = calls.len().min(others.len());
+    let next = address_at(calls, common, address).cmp(&address_at(others, common, other));
+    calls[..common]
+        .cmp(&others[..common])
+        .then(next)
+        .then(calls.len().cmp(&others.len()))
+}
+
+/// How the keys of two places compare.
+pub(crate) fn compare(left: &Place, right: &Place) -> Ordering
+    ensures { result ≡ by_key left.now right.now }
+{
+    match left {
+        Place::At(calls, address) => match right {
+            Place::At(others, other) => {
+                compare_keys(calls.as_slice(), *address, others.as_slice(), *other)
+            }
+            Place::Exit => Ordering::Greater,
+        },
+        Place::Exit => match right {
+            Place::At(..) => Ordering::Less,
+            Place::Exit => Ordering::Equal,
+        },
+    }
+}
+
+/// The places, ascending by key.
+pub(crate) fn listed(alloc: Global, places: &[Place]) -> Result<Vec<Place>, AllocError>
+    ensures { IfOk result (λ listed. IsListed places.now listed.items) }
+{
+    let mut listed = Vec::from_slice(alloc, places)?;
+    listed.sort_unstable_by(|left, right| compare(left, right));
+    Ok(listed)
+}
+
+/// How many of the places have keys that stand before the calls and then the address.
+pub(crate) fn point(listed: &[Place], calls: Calls, address: u32) -> usize
+    requires { IsSorted by_key listed.now }
+    ensures { IsPoint listed.now (calls ++ address ∷ []) result }
+{
+    let bound = Place::At(calls, address);
+    listed.partition_point(|place| compare(place, &bound).is_lt())
+}
 
 /// The position of a place among the graph's places.
 pub(crate) fn index_of(places: &[Place], place: &Place) -> usize

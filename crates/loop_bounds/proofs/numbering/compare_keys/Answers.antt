@@ -1,7 +1,7 @@
 use Rattle.std.proofs.Common.{◌≡◌, ◌⊎◌, length, arith, sym, inl, inr, ⊎_elim}
 use Rattle.std.proofs.lemmas.Bool.{cases_lt}
 use Rattle.loop_bounds.proofs.KeyLemmas.{compared}
-use Rattle.loop_bounds.proofs.keys.compare_keys.Goals as goal
+use Rattle.loop_bounds.proofs.numbering.compare_keys.Goals as goal
 
 pub returns : goal.returns
 returns c =

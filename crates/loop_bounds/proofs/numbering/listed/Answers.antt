@@ -5,7 +5,7 @@ use Rattle.std.proofs.lemmas.List.Sorted.{answers_always}
 use Rattle.flow_graph.specs.declared.places.Place.{Place}
 use Rattle.loop_bounds.specs.Keys.{by_key}
 use Rattle.loop_bounds.proofs.KeyLemmas.{by_key_ranks}
-use Rattle.loop_bounds.proofs.keys.listed.Goals as goal
+use Rattle.loop_bounds.proofs.numbering.listed.Goals as goal
 
 pub returns : goal.returns
 returns c = record {

@@ -3,7 +3,7 @@ use Rattle.loop_bounds.specs.Extents.{parent_at, extent_at}
 use Rattle.loop_bounds.specs.Layout.{chain_above, headers_in, items_of}
 use Rattle.loop_bounds.proofs.ExtentLemmas.{first_of}
 use Rattle.loop_bounds.proofs.ChainLemmas.{IsLow, chain_depth, chain_here, chains_more, deep_place, items_append, items_length, low_more, shallow}
-use Rattle.loop_bounds.proofs.chains.chains.Goals as goal
+use Rattle.loop_bounds.proofs.nesting.chains.Goals as goal
 
 pub loop-k-preserved : goal.loop-k-preserved
 loop-k-preserved c =

@@ -1,7 +1,7 @@
 use Rattle.std.proofs.Common.{◌≡◌, slice_index, length}
 use Rattle.loop_bounds.specs.Layout.{AreChains, items_of}
 use Rattle.loop_bounds.proofs.ChainLemmas.{IsLow}
-use Rattle.loop_bounds.proofs.chains.chains.Given as goal
+use Rattle.loop_bounds.proofs.nesting.chains.Given as goal
 
 abbrev pub invariant-loop-k : goal.invariant-loop-k
 invariant-loop-k l = record {

@@ -5,7 +5,7 @@ use Rattle.flow_graph.specs.declared.places.Place.{Place}
 use Rattle.flow_graph.specs.declared.places.Place.TheVariants.{At}
 use Rattle.loop_bounds.specs.Keys.{by_key}
 use Rattle.loop_bounds.proofs.KeyLemmas.{parted, point_from}
-use Rattle.loop_bounds.proofs.keys.point.Goals as goal
+use Rattle.loop_bounds.proofs.numbering.point.Goals as goal
 
 pub returns : goal.returns
 returns c =
