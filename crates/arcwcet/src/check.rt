@@ -48,21 +48,29 @@ fn is_yes(verdict: Verdict) -> bool
     }
 }
 
+/// The bytes of a source, a statement and a certificate.
+#[derive(Clone, Copy)]
+struct CheckInputs<'a> {
+    source: &'a [u8],
+    statement: &'a [u8],
+    cert: &'a [u8],
+}
+
 fn verdict_of(
     alloc: Global,
-    source: &[u8],
-    statement: &[u8],
-    cert: &[u8],
+    inputs: CheckInputs<'_>,
     profile: &Profile,
 ) -> Result<Verdict, ReportFault>
-    ensures judged { IfOk result (IsJudged source.now statement.now cert.now profile.now) }
+    ensures judged { IfOk result
+        (IsJudged inputs.entry.source.now inputs.entry.statement.now inputs.entry.cert.now profile.now) }
     ensures fault { IfErr result
-        (λ e. (e ≢ ReportFault.Device) × IsCheckRefused source.now statement.now cert.now profile.now e) }
-    ensures only { IsCheckable source.now statement.now cert.now profile.now
-        → IfErr result (λ e. e ≡ ReportFault.Memory) }
+        (λ e. (e ≢ ReportFault.Device) × IsCheckRefused inputs.entry.source.now inputs.entry.statement.now
+        inputs.entry.cert.now profile.now e) }
+    ensures only { IsCheckable inputs.entry.source.now inputs.entry.statement.now inputs.entry.cert.now
+        profile.now → IfErr result (λ e. e ≡ ReportFault.Memory) }
 {
-    let handler = read_handler(alloc, source, statement, profile)?;
-    verdict_on(alloc, &handler, cert)
+    let handler = read_handler(alloc, inputs.source, inputs.statement, profile)?;
+    verdict_on(alloc, &handler, inputs.cert)
 }
 
 // The same, by a handler that was read.
@@ -103,20 +111,24 @@ pub fn check_report<O: Output>(
         result) out.old out.new result }
 {
     let profile = profile_of(alloc, profile)?;
-    priced_check(alloc, source, statement, cert, &profile, out)
+    let inputs = CheckInputs {
+        source,
+        statement,
+        cert,
+    };
+    priced_check(alloc, inputs, &profile, out)
 }
 
 fn priced_check<O: Output>(
     alloc: Global,
-    source: &[u8],
-    statement: &[u8],
-    cert: &[u8],
+    inputs: CheckInputs<'_>,
     profile: &Profile,
     out: &mut O,
 ) -> Result<bool, ReportFault>
-    ensures { Checks O.taken O.failures source.now statement.now cert.now profile.now out.old out.new result }
+    ensures { Checks O.taken O.failures inputs.entry.source.now inputs.entry.statement.now
+        inputs.entry.cert.now profile.now out.old out.new result }
 {
-    let verdict = verdict_of(alloc, source, statement, cert, profile)?;
+    let verdict = verdict_of(alloc, inputs, profile)?;
     match write_whole(out, line_of(verdict)) {
         Ok(()) => Ok(is_yes(verdict)),
         Err(_) => Err(ReportFault::Device),

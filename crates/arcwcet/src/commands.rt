@@ -13,7 +13,7 @@ use crate::machine::{Front, Registers, Steps, machine_report};
 use crate::output::{Output, write_whole};
 use crate::status::{answer_status, line_status, report_status, store_status};
 use crate::visits::visits_report;
-use command_line::{Names, Request, request};
+use command_line::{AsmNames, CheckNames, Names, Request, VisitsNames, request};
 use std::alloc::Global;
 use std::io::Read;
 
@@ -30,24 +30,13 @@ fn obey<S: Store, I: Read, O: Output, E: Output>(
     ensures silent { result ≡ 0 → err.new ≡ err.old }
 {
     match asked {
-        Request::Asm { source, image } => run_asm(alloc, source, image, store, out, err),
+        Request::Asm(names) => run_asm(alloc, names, store, out, err),
         Request::Run(names) => run_machine::<Registers, S, O, E>(alloc, names, store, out, err),
         Request::Trace(names) => run_machine::<Steps, S, O, E>(alloc, names, store, out, err),
         Request::Debug(names) => run_debug(alloc, names, store, input, out, err),
         Request::Bound(names) => run_bound(alloc, names, store, out, err),
-        Request::Check { names, cert } => run_check(alloc, names, cert, store, out, err),
-        Request::Visits {
-            names,
-            fiq_statement,
-            visits,
-        } => {
-            let asked = VisitsNames {
-                names,
-                fiq_statement,
-                visits,
-            };
-            run_visits(alloc, asked, store, out, err)
-        }
+        Request::Check(names) => run_check(alloc, names, store, out, err),
+        Request::Visits(names) => run_visits(alloc, names, store, out, err),
     }
 }
 
@@ -91,17 +80,16 @@ pub fn program<S: Store, I: Read, O: Output, E: Output>(
 /// `asm`: reads the source, writes the image's file, and prints its size.
 fn run_asm<S: Store, O: Output, E: Output>(
     alloc: Global,
-    source: &str,
-    image: &str,
+    names: AsmNames<'_>,
     store: &mut S,
     out: &mut O,
     err: &mut E,
 ) -> u8
-    ensures ran { RunsAsm S.read_gives S.write_gives O.taken O.failures source.now image.now store.old
-        store.new out.old out.new result }
+    ensures ran { RunsAsm S.read_gives S.write_gives O.taken O.failures names.entry.source.now
+        names.entry.image.now store.old store.new out.old out.new result }
     ensures silent { result ≡ 0 → err.new ≡ err.old }
 {
-    let source = match store.read(alloc, source) {
+    let source = match store.read(alloc, names.source) {
         Ok(source) => source,
         Err(fault) => return store_status(fault, err),
     };
@@ -109,7 +97,7 @@ fn run_asm<S: Store, O: Output, E: Output>(
         Ok(written) => written,
         Err(fault) => return report_status(fault, err),
     };
-    if let Err(fault) = store.write(image, &written.bytes) {
+    if let Err(fault) = store.write(names.image, &written.bytes) {
         return store_status(fault, err);
     }
     match write_whole(out, written.line.as_bytes()) {
@@ -200,18 +188,18 @@ fn run_bound<S: Store, O: Output, E: Output>(
 /// `check`: reads the files and prints the verdict.
 fn run_check<S: Store, O: Output, E: Output>(
     alloc: Global,
-    names: Names<'_>,
-    cert: &str,
+    names: CheckNames<'_>,
     store: &mut S,
     out: &mut O,
     err: &mut E,
 ) -> u8
     ensures ran { RunsCheck S.read_gives O.taken O.failures
-        (option_map (λ n. n.now) names.entry.profile)
-        names.entry.first.now names.entry.second.now cert.now store.old store.new out.old out.new result }
+        (option_map (λ n. n.now) names.entry.handler.profile)
+        names.entry.handler.first.now names.entry.handler.second.now names.entry.cert.now store.old store.new
+        out.old out.new result }
     ensures silent { result ≡ 0 → err.new ≡ err.old }
 {
-    let files = match read_three_files(alloc, names, cert, store) {
+    let files = match read_three_files(alloc, names.handler, names.cert, store) {
         Ok(files) => files,
         Err(fault) => return store_status(fault, err),
     };
@@ -227,29 +215,21 @@ fn run_check<S: Store, O: Output, E: Output>(
     answer_status(answer, err)
 }
 
-/// The names of the files of `visits`, and the number of visits.
-#[derive(Clone, Copy)]
-struct VisitsNames<'a> {
-    names: Names<'a>,
-    fiq_statement: &'a str,
-    visits: u32,
-}
-
 /// `visits`: reads the files and prints the report.
 fn run_visits<S: Store, O: Output, E: Output>(
     alloc: Global,
-    asked: VisitsNames<'_>,
+    names: VisitsNames<'_>,
     store: &mut S,
     out: &mut O,
     err: &mut E,
 ) -> u8
     ensures ran { RunsVisits S.read_gives O.taken O.failures
-        (option_map (λ n. n.now) asked.entry.names.profile) asked.entry.names.first.now
-        asked.entry.names.second.now asked.entry.fiq_statement.now asked.entry.visits store.old store.new
+        (option_map (λ n. n.now) names.entry.handler.profile) names.entry.handler.first.now
+        names.entry.handler.second.now names.entry.fiq_statement.now names.entry.visits store.old store.new
         out.old out.new result }
     ensures silent { result ≡ 0 → err.new ≡ err.old }
 {
-    let files = match read_three_files(alloc, asked.names, asked.fiq_statement, store) {
+    let files = match read_three_files(alloc, names.handler, names.fiq_statement, store) {
         Ok(files) => files,
         Err(fault) => return store_status(fault, err),
     };
@@ -259,7 +239,7 @@ fn run_visits<S: Store, O: Output, E: Output>(
         &handler.first,
         &handler.second,
         &files.third,
-        asked.visits,
+        names.visits,
         handler.profile(),
         out,
     ) {

@@ -12,23 +12,32 @@ use bus_ticks::Profile;
 use debugger::converse;
 use std::alloc::Global;
 
+/// The bytes of a source, a machine file and a session's commands.
+#[derive(Clone, Copy)]
+struct SessionInputs<'a> {
+    source: &'a [u8],
+    machine: &'a [u8],
+    commands: &'a [u8],
+}
+
 // What the session prints.
 fn session_text(
     alloc: Global,
-    source: &[u8],
-    machine: &[u8],
-    commands: &[u8],
+    inputs: SessionInputs<'_>,
     profile: Profile,
 ) -> Result<Vec<u8>, ReportFault>
     ensures session { IfOk result
-        (λ text. IsDebugReport source.now machine.now commands.now profile text.items) }
+        (λ text. IsDebugReport inputs.entry.source.now inputs.entry.machine.now inputs.entry.commands.now
+        profile text.items) }
     ensures fault { IfErr result
-        (λ e. (e ≢ ReportFault.Device) × IsRunRefused source.now machine.now profile e) }
-    ensures only { IsRunnable source.now machine.now profile → IfErr result (λ e. e ≡ ReportFault.Memory) }
+        (λ e. (e ≢ ReportFault.Device)
+        × IsRunRefused inputs.entry.source.now inputs.entry.machine.now profile e) }
+    ensures only { IsRunnable inputs.entry.source.now inputs.entry.machine.now profile
+        → IfErr result (λ e. e ≡ ReportFault.Memory) }
 {
-    let placed = place(alloc, source, machine, profile)?;
+    let placed = place(alloc, inputs.source, inputs.machine, profile)?;
     let port = placed.file.port();
-    let text = converse(alloc, placed.machine, port, commands)?;
+    let text = converse(alloc, placed.machine, port, inputs.commands)?;
     Ok(text)
 }
 
@@ -54,23 +63,27 @@ pub fn debug_report<O: Output>(
         (IsRunRefused source.now machine.now p) out.old out.new result) out.old out.new result }
 {
     let profile = profile_of(alloc, profile)?;
-    priced_session(alloc, source, machine, commands, profile, out)
+    let inputs = SessionInputs {
+        source,
+        machine,
+        commands,
+    };
+    priced_session(alloc, inputs, profile, out)
 }
 
 fn priced_session<O: Output>(
     alloc: Global,
-    source: &[u8],
-    machine: &[u8],
-    commands: &[u8],
+    inputs: SessionInputs<'_>,
     profile: Profile,
     out: &mut O,
 ) -> Result<(), ReportFault>
     ensures { Answers O.taken O.failures
-        (λ _ text. IsDebugReport source.now machine.now commands.now profile text)
-        (IsRunnable source.now machine.now profile)
-        (IsRunRefused source.now machine.now profile) out.old out.new result }
+        (λ _ text. IsDebugReport inputs.entry.source.now inputs.entry.machine.now inputs.entry.commands.now
+        profile text)
+        (IsRunnable inputs.entry.source.now inputs.entry.machine.now profile)
+        (IsRunRefused inputs.entry.source.now inputs.entry.machine.now profile) out.old out.new result }
 {
-    let text = session_text(alloc, source, machine, commands, profile)?;
+    let text = session_text(alloc, inputs, profile)?;
     match write_whole(out, &text) {
         Ok(()) => Ok(()),
         Err(_) => Err(ReportFault::Device),

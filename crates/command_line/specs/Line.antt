@@ -103,13 +103,13 @@ names_of n =
     record { profile = option_map (λ s. s.now) n.profile; first = n.first.now; second = n.second.now }
 
 abbrev pub asked_of : Request → Asked
-asked_of (request.Asm source image) = asm source.now image.now
+asked_of (request.Asm names) = asm names.source.now names.image.now
 asked_of (request.Run names) = run (names_of names)
 asked_of (request.Trace names) = trace (names_of names)
 asked_of (request.Debug names) = debug (names_of names)
 asked_of (request.Bound names) = bound (names_of names)
-asked_of (request.Check names cert) = check (names_of names) cert.now
-asked_of (request.Visits names fiq_statement k) = visits (names_of names) fiq_statement.now k
+asked_of (request.Check names) = check (names_of names.handler) names.cert.now
+asked_of (request.Visits names) = visits (names_of names.handler) names.fiq_statement.now names.visits
 
 abbrev pub asm_of : Option Text → Option Text → Option Asked
 asm_of (Some source) (Some image) = Some (asm source image)

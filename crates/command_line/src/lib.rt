@@ -4,5 +4,5 @@
 mod line;
 mod words;
 
-pub use line::{LineFault, Names, Request};
+pub use line::{AsmNames, CheckNames, LineFault, Names, Request, VisitsNames};
 pub use words::request;

@@ -8,14 +8,34 @@ pub struct Names<'a> {
     pub second: &'a str,
 }
 
+/// The names of a source's file, and of the image's to write.
+#[derive(Clone, Copy)]
+pub struct AsmNames<'a> {
+    pub source: &'a str,
+    pub image: &'a str,
+}
+
+/// The names of a handler's files, its source first, and of a certificate's.
+#[derive(Clone, Copy)]
+pub struct CheckNames<'a> {
+    pub handler: Names<'a>,
+    pub cert: &'a str,
+}
+
+/// The names of an interrupt handler's files, its source first, and of the statement on FIQ's handler, and how
+/// often FIQ interrupts it at most.
+#[derive(Clone, Copy)]
+pub struct VisitsNames<'a> {
+    pub handler: Names<'a>,
+    pub fiq_statement: &'a str,
+    pub visits: u32,
+}
+
 /// What a line of words asks for, with the names of its files.
 #[derive(Clone, Copy)]
 pub enum Request<'a> {
     /// The image of a source.
-    Asm {
-        source: &'a str,
-        image: &'a str,
-    },
+    Asm(AsmNames<'a>),
     /// The registers and the ticks of a run of a source's image, by a machine file.
     Run(Names<'a>),
     /// The lines of its steps.
@@ -25,16 +45,9 @@ pub enum Request<'a> {
     /// The longest run time of the handler in a source, under a statement.
     Bound(Names<'a>),
     /// The verdict on a certificate of that.
-    Check {
-        names: Names<'a>,
-        cert: &'a str,
-    },
-    /// The longest run time of that handler with up to so many visits of FIQ's, and FIQ's statement.
-    Visits {
-        names: Names<'a>,
-        fiq_statement: &'a str,
-        visits: u32,
-    },
+    Check(CheckNames<'a>),
+    /// The longest run time of that handler with up to so many visits of FIQ's.
+    Visits(VisitsNames<'a>),
 }
 
 /// Why a line of words asks for nothing.

@@ -10,7 +10,7 @@ ghost use Rattle.command_line.specs.Line.{names_in, names_of, priced_command, pr
 ghost use Rattle.command_line.specs.Line.{asked_visits, run_command, trace_command, visits_command};
 ghost use Rattle.command_line.specs.Line.{visits_rule, wanted};
 
-use crate::line::{LineFault, Names, Request};
+use crate::line::{AsmNames, CheckNames, LineFault, Names, Request, VisitsNames};
 use clap::error::ErrorKind;
 use clap::{Arg, ArgMatches, Command, Error, value_parser};
 use std::alloc::{AllocError, Global};
@@ -166,30 +166,30 @@ fn asm_in<'a>(values: &ArgMatches<'a>) -> Option<Request<'a>>
 {
     let source = values.get_str("source")?;
     let image = values.get_str("image")?;
-    Some(Request::Asm { source, image })
+    Some(Request::Asm(AsmNames { source, image }))
 }
 
 /// What `check` is asked with.
 fn check_in<'a>(values: &ArgMatches<'a>) -> Option<Request<'a>>
     ensures { option_map asked_of result ≡ asked_check (rows_of (found_of values.now)) }
 {
-    let names = names_in(values, "statement")?;
+    let handler = names_in(values, "statement")?;
     let cert = values.get_str("cert")?;
-    Some(Request::Check { names, cert })
+    Some(Request::Check(CheckNames { handler, cert }))
 }
 
 /// What `visits` is asked with.
 fn visits_in<'a>(values: &ArgMatches<'a>) -> Option<Request<'a>>
     ensures { option_map asked_of result ≡ asked_visits (rows_of (found_of values.now)) }
 {
-    let names = names_in(values, "statement")?;
+    let handler = names_in(values, "statement")?;
     let fiq_statement = values.get_str("fiq_statement")?;
     let visits = values.get_one::<u32>("visits")?;
-    Some(Request::Visits {
-        names,
+    Some(Request::Visits(VisitsNames {
+        handler,
         fiq_statement,
         visits,
-    })
+    }))
 }
 
 /// What the matches ask for.

@@ -11,7 +11,7 @@ returns-in-Ok g c =
         is_text = record { verdict = c.in_ok-verdict.verdict; judged = judged; answer_is = c.is_yes.ensures; line_is = c.line_of.ensures };
         printed = c.in-Ok.ensures.ok;
       };
-      accepted = checkable c.args.source.now c.args.statement.now c.args.cert.now c.args.profile.now c.in_ok-verdict.verdict judged;
+      accepted = checkable c.args.inputs.source.now c.args.inputs.statement.now c.args.inputs.cert.now c.args.profile.now c.in_ok-verdict.verdict judged;
       only = λ able. tt;
       fault = tt;
       quiet = tt;
@@ -27,7 +27,7 @@ returns-in-Err g c = record {
   quiet = λ other. absurd (other refl);
   device = λ e. record {
     text = c.line_of.result.now;
-    is_text = of_some c.args.source.now c.args.statement.now c.args.cert.now c.args.profile.now c.in_ok-verdict.verdict c.line_of.result.now c.in_ok-verdict.ensures.judged c.line_of.ensures;
+    is_text = of_some c.args.inputs.source.now c.args.inputs.statement.now c.args.inputs.cert.now c.args.profile.now c.in_ok-verdict.verdict c.line_of.result.now c.in_ok-verdict.ensures.judged c.line_of.ensures;
     taken = c.in-Err.ensures.front;
     failed = c.in-Err.ensures.failed;
   };

@@ -8,12 +8,12 @@ pub returns-in_err-handler-clause-only : goal.returns-in_err-handler-clause-only
 returns-in_err-handler-clause-only c = λ able.
     let e = c.in_err-handler.field-0.0 in
     refused_as c.from_residual.result e (λ e. e ≡ Memory) c.from_residual.ensures.1
-    (checkable_refusal c.args.source.now c.args.statement.now c.args.cert.now c.args.profile.now e c.in_err-handler.ensures.fault able)
+    (checkable_refusal c.args.inputs.source.now c.args.inputs.statement.now c.args.inputs.cert.now c.args.profile.now e c.in_err-handler.ensures.fault able)
 
 pub returns : goal.returns
 returns c =
-    let source = c.args.source.now in
-    let statement = c.args.statement.now in
+    let source = c.args.inputs.source.now in
+    let statement = c.args.inputs.statement.now in
     let profile = c.args.profile.now in
     let loops = c.in_ok-handler.ensures.loops in
     record {

@@ -6,11 +6,11 @@ use Rattle.arcwcet.proofs.commands.run_visits.Goals as goal
 pub returns-in-Ok-visits_report-clause-ran : goal.returns-in-Ok-visits_report-clause-ran
 returns-in-Ok-visits_report-clause-ran g c =
     let reads = g.S.Store.read_gives in
-    let names = c.args.asked.names in
-    let third = c.args.asked.fiq_statement.now in
+    let names = c.args.names.handler in
+    let third = c.args.names.fiq_statement.now in
     let profile = option_map (λ n. n.now) names.profile in
     let file = option_map (λ f. f.now) c.profile.result in
-    visits_done reads g.O.Output.taken g.O.Output.failures profile names.first.now names.second.now third c.args.asked.visits file c.deref.result.now c.deref-2.result.now c.deref-3.result.now
+    visits_done reads g.O.Output.taken g.O.Output.failures profile names.first.now names.second.now third c.args.names.visits file c.deref.result.now c.deref-2.result.now c.deref-3.result.now
     c.args.store.now c.read_three_files.new.store c.args.out.now c.visits_report.new.out
     (subst (λ (files : Texts). ReadsAll reads c.args.store.now (in_front profile (names.first.now ∷ names.second.now ∷ third ∷ [])) files c.read_three_files.new.store)
     (λ i. in_front (sym c.profile.ensures i) (sym c.deref.ensures.value i ∷ sym c.deref-2.ensures.value i ∷ sym c.deref-3.ensures.value i ∷ []))
@@ -20,11 +20,11 @@ returns-in-Ok-visits_report-clause-ran g c =
 pub returns-clause-ran : goal.returns-clause-ran
 returns-clause-ran g c =
     let reads = g.S.Store.read_gives in
-    let names = c.args.asked.names in
-    let third = c.args.asked.fiq_statement.now in
+    let names = c.args.names.handler in
+    let third = c.args.names.fiq_statement.now in
     let profile = option_map (λ n. n.now) names.profile in
     let file = option_map (λ f. f.now) c.profile.result in
-    visits_refused reads g.O.Output.taken g.O.Output.failures profile names.first.now names.second.now third c.args.asked.visits file c.deref.result.now c.deref-2.result.now c.deref-3.result.now
+    visits_refused reads g.O.Output.taken g.O.Output.failures profile names.first.now names.second.now third c.args.names.visits file c.deref.result.now c.deref-2.result.now c.deref-3.result.now
     c.args.store.now c.read_three_files.new.store c.args.out.now c.visits_report.new.out
     (subst (λ (files : Texts). ReadsAll reads c.args.store.now (in_front profile (names.first.now ∷ names.second.now ∷ third ∷ [])) files c.read_three_files.new.store)
     (λ i. in_front (sym c.profile.ensures i) (sym c.deref.ensures.value i ∷ sym c.deref-2.ensures.value i ∷ sym c.deref-3.ensures.value i ∷ []))

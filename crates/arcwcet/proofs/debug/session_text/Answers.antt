@@ -16,5 +16,5 @@ returns-clause-session c =
       file = placed.file;
       state = placed.machine;
       placed = c.in_ok-placed.ensures.placed;
-      converses = subst (λ (port : ℕ). Converses (begun placed.machine port) (lines_of c.args.commands.now) c.in_ok-text.text.items) c.port-port.ensures c.in_ok-text.ensures.ok;
+      converses = subst (λ (port : ℕ). Converses (begun placed.machine port) (lines_of c.args.inputs.commands.now) c.in_ok-text.text.items) c.port-port.ensures c.in_ok-text.ensures.ok;
     }

@@ -13,7 +13,7 @@ returns c =
     let fiq = Some c.in_ok-fiq_statement.fiq_statement.now in
     let visits = Some c.in_ok-visits.visits in
     let read = visits_read (one_text f (codes "visits")) visits c.in_ok-visits.ensures.none c.in_ok-visits.ensures.value in
-    ap (λ n. visits_of n fiq visits) c.in_ok-names.ensures
+    ap (λ n. visits_of n fiq visits) c.in_ok-handler.ensures
     ∙ ap (λ s. visits_of (names_in (codes "statement") (rows_of f)) s visits) (c.in_ok-fiq_statement.ensures ∙ first_value-rows f (codes "fiq_statement"))
     ∙ ap (visits_of (names_in (codes "statement") (rows_of f)) (first_of (codes "fiq_statement") (rows_of f)))
     (read ∙ ap (option_and_then visits_in) (one_text-rows f (codes "visits")))
@@ -23,7 +23,7 @@ returns-in_err-fiq_statement c =
     let f = found_of c.args.values.now in
     let visits = option_and_then visits_in (one_of (codes "visits") (rows_of f)) in
     ap (option_map asked_of) c.from_residual-in_err-fiq_statement.ensures
-    ∙ ap (λ n. visits_of n None visits) c.in_ok-names.ensures
+    ∙ ap (λ n. visits_of n None visits) c.in_ok-handler.ensures
     ∙ ap (λ s. visits_of (names_in (codes "statement") (rows_of f)) s visits) (c.in_err-fiq_statement.ensures ∙ first_value-rows f (codes "fiq_statement"))
 
 pub returns-in_err-visits : goal.returns-in_err-visits
@@ -32,7 +32,7 @@ returns-in_err-visits c =
     let fiq = Some c.in_ok-fiq_statement.fiq_statement.now in
     let read = visits_read (one_text f (codes "visits")) None c.in_err-visits.ensures.none c.in_err-visits.ensures.value in
     ap (option_map asked_of) c.from_residual-in_err-visits.ensures
-    ∙ ap (λ n. visits_of n fiq None) c.in_ok-names.ensures
+    ∙ ap (λ n. visits_of n fiq None) c.in_ok-handler.ensures
     ∙ ap (λ s. visits_of (names_in (codes "statement") (rows_of f)) s None) (c.in_ok-fiq_statement.ensures ∙ first_value-rows f (codes "fiq_statement"))
     ∙ ap (visits_of (names_in (codes "statement") (rows_of f)) (first_of (codes "fiq_statement") (rows_of f)))
     (read ∙ ap (option_and_then visits_in) (one_text-rows f (codes "visits")))
