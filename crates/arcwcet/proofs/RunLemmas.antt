@@ -6,14 +6,14 @@ use Rattle.arcwcet.specs.Answers.{Answers, FailsWithin, OfSome}
 use Rattle.arcwcet.specs.Bound.{Reports}
 use Rattle.arcwcet.specs.Check.{Checks, IsAnswer, IsCheckRefused, IsCheckable}
 use Rattle.arcwcet.specs.Debug.{IsDebugReport}
-use Rattle.arcwcet.specs.Files.{FailsToRead, ReadsAll, Reading, Texts, in_front}
+use Rattle.arcwcet.specs.Files.{FailsToRead, ReadsAll, Reading, Texts, in_front, Writing}
 use Rattle.command_line.specs.Line.{Asked, asm, run, trace, debug, bound, check, visits}
 use Rattle.arcwcet.specs.Machine.{Front, IsMachineReport, IsRunRefused, IsRunnable, ShowsRegisters, ShowsSteps}
 use Rattle.arcwcet.specs.Priced.{ByProfile, HasNoProfile, Priced, PricedFault}
 use Rattle.arcwcet.specs.Assembly.{IsSourceRefused}
 use Rattle.arcwcet.specs.Report.{IsAccepted, IsRefused, IsReport}
 use Rattle.arcwcet.specs.Run.{HasNoReport, HasNoRun, HasNoVerdict, HasNoVisitsReport, HasHeard, HasPrinted, IsAnswerOf, IsReportOf, IsRunOf, IsSessionOf, IsVisitsReportOf, OfThree, OfTwo}
-use Rattle.arcwcet.specs.Run.{Runs, RunsAsked, RunsAsm, RunsBound, RunsCheck, RunsDebug, RunsMachine, RunsVisits, Writing, answer_status, report_status, store_status}
+use Rattle.arcwcet.specs.Run.{Runs, RunsAsked, RunsAsm, RunsBound, RunsCheck, RunsDebug, RunsMachine, RunsVisits, answer_status, report_status, store_status}
 use Rattle.arcwcet.specs.VisitsReport.{AreAccepted, AreRefused, IsVisitsReport, ReportsVisits}
 use Rattle.arcwcet.specs.declared.fault.ReportFault.{ReportFault}
 use Rattle.arcwcet.specs.declared.fault.ReportFault.TheVariants.{Memory, Source, Image, Statement, Graph, Loops, Walk, MachineFile, Load, Cert, Device}

@@ -1,4 +1,4 @@
--- Reading of files from a store, one after another.
+-- Reading files from a store, one after another, and writing one.
 use Rattle.std.specs.Prelude.{◌≡◌, ◌⊎◌, ℕ, List, [], ◌∷◌, Option, Some, None, Result, Ok, Err}
 use Rattle.arcwcet.specs.declared.fault.StoreFault.{StoreFault}
 
@@ -14,6 +14,10 @@ in_front (Some file) others = file ∷ others
 -- how a store is read: what it was, a name, what the read gives, and the store after it
 abbrev pub Reading : Type 0 → Type 1
 Reading S = S → List ℕ → Result (List ℕ) StoreFault → S → Type 0
+
+-- how a store is written: what it was, a name, bytes, what the write gives, and the store after it
+abbrev pub Writing : Type 0 → Type 1
+Writing S = S → List ℕ → List ℕ → Result (Unit {0}) StoreFault → S → Type 0
 
 module _ {S : Type 0} (reads : Reading S) where
   -- the files of these names were read, one after another

@@ -6,7 +6,7 @@ use Rattle.arcwcet.specs.Answers.{FailsWithin, OfSome, Prints}
 use Rattle.arcwcet.specs.Assembly.{IsSourceRefused, IsWritten}
 use Rattle.arcwcet.specs.Check.{IsAnswer, IsCheckRefused}
 use Rattle.arcwcet.specs.Debug.{IsDebugReport}
-use Rattle.arcwcet.specs.Files.{FailsToRead, ReadsAll, Reading, Texts, in_front}
+use Rattle.arcwcet.specs.Files.{FailsToRead, ReadsAll, Reading, Texts, Writing, in_front}
 use Rattle.command_line.specs.Line.{Asked, asm, run, trace, debug, bound, check, visits}
 use Rattle.arcwcet.specs.Machine.{Front, IsMachineReport, IsRunRefused, ShowsRegisters, ShowsSteps}
 use Rattle.arcwcet.specs.Output.{TakesFront, FailsSince}
@@ -188,10 +188,6 @@ RunsMachine Shows reads taken failures profile source machine old new before aft
 abbrev pub IsRefusedSource : Texts → ReportFault → Type 0
 IsRefusedSource (source ∷ []) fault = IsSourceRefused source fault
 IsRefusedSource files fault = ⊥
-
--- how a store is written: what it was, a name, bytes, what the write gives, and the store after it
-abbrev pub Writing : Type 0 → Type 1
-Writing S = S → List ℕ → List ℕ → Result (Unit {0}) StoreFault → S → Type 0
 
 -- the source was read, its image written, with that result, and the report is this
 pub record HasWritten {S : Type 0} (reads : Reading S) (writes : Writing S) (source image : List ℕ)

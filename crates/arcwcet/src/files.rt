@@ -1,7 +1,7 @@
 ghost use Rattle.std.specs.Prelude.{◌≡◌, ◌≤◌, ◌+◌, ℕ, List, [], ◌∷◌, length, vec_len, option_map};
 ghost use Rattle.std.specs.Prelude.{Result, IfErr, IfOk, IfSome, IsErrOf, OnErr, OnOk};
 ghost use Rattle.std.specs.Io.KnownBytes.{Consumes, IsAtEnd};
-ghost use Rattle.arcwcet.specs.Files.{FailsToRead, ReadsAll, in_front};
+ghost use Rattle.arcwcet.specs.Files.{FailsToRead, Reading, ReadsAll, Writing, in_front};
 ghost use Rattle.arcwcet.specs.Store.{bytes_read};
 ghost use Rattle.arcwcet.specs.declared.fault.StoreFault.{StoreFault};
 
@@ -15,7 +15,7 @@ use std::rt::Files;
 /// Where the program's files lie.
 pub trait Store {
     /// What a read of a name may give, and the store after it; the default says nothing.
-    ghost read_gives: { Self → List ℕ → Result (List ℕ) StoreFault → Self → Type 0 } = { λ _ _ _ _. Unit {0} };
+    ghost read_gives: { Reading Self } = { λ _ _ _ _. Unit {0} };
 
     /// The file's bytes, of which there are at most 16,777,216.
     fn read(&mut self, alloc: Global, name: &str) -> Result<Vec<u8>, StoreFault>
@@ -23,7 +23,7 @@ pub trait Store {
         ensures limit { IfOk result (λ v. vec_len v ≤ 16777216) };
 
     /// What a write of bytes to a name may give, and the store after it; the default says nothing.
-    ghost write_gives: { Self → List ℕ → List ℕ → Result (Unit {0}) StoreFault → Self → Type 0 } = { λ _ _ _ _ _. Unit {0} };
+    ghost write_gives: { Writing Self } = { λ _ _ _ _ _. Unit {0} };
 
     /// Makes the bytes the file's. The only refusal is `Device`.
     fn write(&mut self, name: &str, bytes: &[u8]) -> Result<(), StoreFault>
