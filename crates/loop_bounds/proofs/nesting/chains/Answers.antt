@@ -20,8 +20,8 @@ loop-k-preserved c =
       low = low_more extents k c.loop-k.invariant.low (omega (arith, ap length is, chain_depth rank (take (k + 1) extents) (first_of extents k)));
     })
 
-pub returns-then-len-gt-NESTING-clause-fault : goal.returns-then-len-gt-NESTING-clause-fault
-returns-then-len-gt-NESTING-clause-fault c =
+pub returns-then-len-gt-MOST_INSTANCES-clause-fault : goal.returns-then-len-gt-MOST_INSTANCES-clause-fault
+returns-then-len-gt-MOST_INSTANCES-clause-fault c =
     let extents = c.args.extents.now in
     let k : ℕ = c.loop-k.k in
     let rank = slice_index c.args.ranks.now in
