@@ -4,12 +4,14 @@
 //! address, on whether it follows the access before it, and on the fifteen numbers of a [`Profile`].
 #![tactic(auto)]
 
+mod dearest;
 mod law;
 mod prices;
 mod profile;
 mod space;
 mod worst;
 
+pub use dearest::{dearest_device, dearest_rom_times};
 pub use law::memory_map;
 pub use prices::{class_of, fetch_n, fetch_s, transfer};
 pub use profile::{Class, NumbersFault, Profile, RomTimes};

@@ -9,7 +9,7 @@ use crate::prices::{class_of, ram_following};
 use crate::profile::{Class, Profile};
 use crate::space::SPACE_END;
 
-fn greatest_of(a: u32, b: u32, c: u32, d: u32) -> u32
+pub fn greatest_of(a: u32, b: u32, c: u32, d: u32) -> u32
     ensures { result ≡ greatest a b c d }
 {
     a.max(b).max(c.max(d))

@@ -1,0 +1,65 @@
+//! Which time fields and which addresses make an access cost the most.
+
+ghost use Rattle.std.specs.Prelude.{◌≡◌, ◌+◌, ◌<◌, ◌≤◌, ◌*◌, ◌/◌, ◌%◌, Bool, ℕ};
+ghost use Rattle.bus_ticks.specs.Prices.{class_at, n_price, s_price};
+ghost use Rattle.bus_ticks.specs.Worst.{worst_n_price, worst_s_price};
+ghost use Rattle.bus_ticks.specs.Dearest.{AreDearest, IsDearestBlock, IsDearestOf};
+
+use crate::profile::{Class, Profile, RomTimes};
+use crate::space::IO_START;
+use crate::worst::greatest_of;
+
+// Which of the four is the greatest, from 0: the first of those that are.
+fn dearest_of(a: u32, b: u32, c: u32, d: u32) -> u32
+    ensures { IsDearestOf a b c d result }
+{
+    let top = greatest_of(a, b, c, d);
+    if a == top {
+        0
+    } else if b == top {
+        1
+    } else if c == top {
+        2
+    } else {
+        3
+    }
+}
+
+/// The time fields of ROM at which each access to it costs the most: in both halves the lowest field, from
+/// 0 to 3, whose price is the greatest.
+pub fn dearest_rom_times(profile: &Profile) -> RomTimes
+    ensures dearest { AreDearest profile.now result }
+    ensures low { IsDearestOf profile.now.rom_0 profile.now.rom_1 profile.now.rom_2 profile.now.rom_3 result.low }
+    ensures high { result.high ≡ result.low }
+    ensures fetch_n { (x : ℕ) → n_price profile.now result x ≡ worst_n_price profile.now x }
+    ensures fetch_s { (x : ℕ) → s_price profile.now result x ≡ worst_s_price profile.now x }
+{
+    let field = dearest_of(profile.rom_0, profile.rom_1, profile.rom_2, profile.rom_3);
+    RomTimes {
+        low: field,
+        high: field,
+    }
+}
+
+/// Where the dearest device stands, in bytes: the lowest of 3000000, 3080000, 3100000 and 3180000 at which a
+/// transfer of 1 to 16 words costs the most, by any time fields of ROM.
+pub fn dearest_device(profile: &Profile) -> u32
+    ensures page { result % 0x80000 ≡ 0 }
+    ensures from { 0x3000000 ≤ result }
+    ensures below { result < 0x3200000 }
+    ensures class { class_at result ≡ Class.Io }
+    ensures lowest { IsDearestOf profile.now.slow profile.now.medium profile.now.fast profile.now.synchronous
+        (result / 0x80000 % 4) }
+    ensures block { (words : ℕ) → words ≤ 16 → (store : Bool) → (rom : RomTimes)
+        → IsDearestBlock profile.now Class.Io words store (record { address = result; rom = rom }) }
+    ensures any { (words : ℕ) → words ≤ 16 → (store : Bool) → (rom : RomTimes)
+        → IsDearestBlock profile.now Class.Any words store (record { address = result; rom = rom }) }
+{
+    let field = dearest_of(
+        profile.slow,
+        profile.medium,
+        profile.fast,
+        profile.synchronous,
+    );
+    IO_START + 0x80000 * field
+}
