@@ -10,6 +10,7 @@ use Rattle.bus_ticks.specs.declared.profile.Class.TheVariants.{Ram, Rom, Io, Any
 use Rattle.bus_ticks.specs.Ranges.{greatest}
 use Rattle.bus_ticks.specs.Prices.{class_at, by_class, choice, rom_price, io_price, word_price, word_address, block_price}
 use Rattle.bus_ticks.specs.Worst.{Access, IsBlockOf, IsGreatest, transfer_price, worst_rom, worst_io, worst_block}
+use Rattle.bus_ticks.specs.Dearest.{AreDearest, IsDearestBlock}
 
 -- one of four is at most the greatest
 pub choice_le : (i a b c d : ℕ) → choice i a b c d ≤ greatest a b c d
@@ -129,17 +130,16 @@ ram_above p store k b h =
     above_sum p.n p.s (p.quad - p.s) k (suc k - 1) ((b.address / 4 + k) / 4 - b.address / 4 / 4) ((suc k + 2) / 4) _
     (ram_block p b.rom store b.address k (p.quad - p.s) (split_quad p) h.each) (omega arith) (omega arith)
 
-from_12 : (k : ℕ) → suc k ≤ 16 → (i : ℕ) → i < suc k → class_at (word_address 12 i) ≡ Ram
-from_12 k few i h = class_ram (word_address 12 i) (omega arith)
-
-ram_reached : (p : Profile) (store : Bool) (k : ℕ) (rom : RomTimes) → suc k ≤ 16 → block_price p rom store 12 (suc k) ≡ worst_block p Ram (suc k) store
-ram_reached p store k rom few =
-    same_sum p.n p.s (p.quad - p.s) k (suc k - 1) ((12 / 4 + k) / 4 - 12 / 4 / 4) ((suc k + 2) / 4) _
-    (ram_block p rom store 12 k (p.quad - p.s) (split_quad p) (from_12 k few)) (omega arith) (omega arith)
-
--- the price of a Rom word, in the dearest field
-rom_top : Profile → Bool → ℕ
-rom_top p store = cond store p.control (worst_rom p)
+-- from 12 on, words 1, 5, 9 and 13 stand at multiples of 16
+pub ram_block_at : (p : Profile) (base k : ℕ) (store : Bool) (rom : RomTimes) → base % 16 ≡ 0 → base + 12 + 4 * suc k ≤ 0x3000000 → IsDearestBlock p Ram (suc k) store (record { address = base + 12; rom = rom })
+ram_block_at p base k store rom whole room =
+    let each : (i : ℕ) → i < suc k → class_at (word_address (base + 12) i) ≡ Ram = λ i h. class_ram (word_address (base + 12) i) (omega arith) in
+    record {
+      of_class = record { below = omega arith; each = each };
+      price =
+        same_sum p.n p.s (p.quad - p.s) k (suc k - 1) (((base + 12) / 4 + k) / 4 - (base + 12) / 4 / 4) ((suc k + 2) / 4) _
+        (ram_block p rom store (base + 12) k (p.quad - p.s) (split_quad p) each) (omega arith) (omega arith);
+    }
 
 rom_word_le : (p : Profile) (rom : RomTimes) (store first : Bool) (x : ℕ) → class_at x ≡ Rom → word_price p rom store first x ≤ cond store p.control (worst_rom p)
 rom_word_le p rom true first x e = omega (arith, word_at p rom true first x Rom e)
@@ -153,57 +153,82 @@ rom_above : (p : Profile) (store : Bool) (k : ℕ) (b : Access) → IsBlockOf Ro
 rom_above p store k b h =
     omega (arith, block_le p b.rom store b.address (cond store p.control (worst_rom p)) k (λ i l first. rom_word_le p b.rom store first (word_address b.address i) (h.each i l)), rom_fold p store k)
 
-from_rom : (k : ℕ) → k ≤ 16 → (i : ℕ) → i < k → class_at (word_address 0x3400000 i) ≡ Rom
-from_rom k few i h = class_rom (word_address 0x3400000 i) (omega arith)
-
 pub rom_same : (p : Profile) (i : ℕ) (h : i < 4) (x : ℕ) → rom_price p (times i h) x ≡ choice i p.rom_0 p.rom_1 p.rom_2 p.rom_3
 rom_same p i h x = ap (λ f. choice f p.rom_0 p.rom_1 p.rom_2 p.rom_3) (cond_same (ltb x 0x3800000) i)
 
-rom_word_is : (p : Profile) (i : ℕ) (h : i < 4) (store first : Bool) (x : ℕ) → choice i p.rom_0 p.rom_1 p.rom_2 p.rom_3 ≡ worst_rom p → class_at x ≡ Rom → word_price p (times i h) store first x ≡ cond store p.control (worst_rom p)
-rom_word_is p i h true first x best e = word_at p (times i h) true first x Rom e
-rom_word_is p i h false first x best e = word_at p (times i h) false first x Rom e ∙ rom_same p i h x ∙ best
+-- the dearest field in both halves
+pub times_dearest : (p : Profile) (i : ℕ) (h : i < 4) → choice i p.rom_0 p.rom_1 p.rom_2 p.rom_3 ≡ worst_rom p → AreDearest p (times i h)
+times_dearest p i h best x = rom_same p i h x ∙ best
 
-rom_reached : (p : Profile) (store : Bool) (k : ℕ) (i : ℕ) (h : i < 4) → choice i p.rom_0 p.rom_1 p.rom_2 p.rom_3 ≡ worst_rom p → k ≤ 16 → block_price p (times i h) store 0x3400000 k ≡ worst_block p Rom k store
-rom_reached p store k i h best few =
-    block_is p (times i h) store 0x3400000 (cond store p.control (worst_rom p)) k (λ j l first. rom_word_is p i h store first (word_address 0x3400000 j) best (from_rom k few j l)) ∙ rom_fold p store k
+pub dearest_times : (p : Profile) → (rom : RomTimes) × AreDearest p rom
+dearest_times p =
+    let best = choice_reached p.rom_0 p.rom_1 p.rom_2 p.rom_3 in
+    (times best.0 best.1, times_dearest p best.0 best.1 best.2)
+
+pub rom_load : (p : Profile) (k : ℕ) (b : Access) → AreDearest p b.rom → IsBlockOf Rom k b → IsDearestBlock p Rom k false b
+rom_load p k b best h = record {
+  of_class = h;
+  price = block_is p b.rom false b.address (worst_rom p) k (λ i l first. word_at p b.rom false first (word_address b.address i) Rom (h.each i l) ∙ best (word_address b.address i));
+}
+
+pub rom_store : (p : Profile) (k : ℕ) (b : Access) → IsBlockOf Rom k b → IsDearestBlock p Rom k true b
+rom_store p k b h = record {
+  of_class = h;
+  price = block_is p b.rom true b.address p.control k (λ i l first. word_at p b.rom true first (word_address b.address i) Rom (h.each i l));
+}
+
+rom_block : (p : Profile) (store : Bool) (k : ℕ) (b : Access) → AreDearest p b.rom → IsBlockOf Rom k b → IsDearestBlock p Rom k store b
+rom_block p true k b best h = rom_store p k b h
+rom_block p false k b best h = rom_load p k b best h
 
 io_above : (p : Profile) (store : Bool) (k : ℕ) (b : Access) → transfer_price p k store b ≤ k * worst_io p
 io_above p store k b = block_le p b.rom store b.address (worst_io p) k (λ i l first. word_le p b.rom store first (word_address b.address i))
 
-from_io : (f k : ℕ) → f < 4 → k ≤ 16 → (i : ℕ) → i < k → (class_at (word_address (0x3000000 + f * 0x80000) i) ≡ Io) × (word_address (0x3000000 + f * 0x80000) i / 0x80000 % 4 ≡ f)
-from_io f k g few i h = (class_io (word_address (0x3000000 + f * 0x80000) i) (omega arith) (omega arith), omega arith)
+from_io : (f k : ℕ) → f < 4 → k ≤ 16 → (i : ℕ) → i < k → (class_at (word_address (0x3000000 + 0x80000 * f) i) ≡ Io) × (word_address (0x3000000 + 0x80000 * f) i / 0x80000 % 4 ≡ f)
+from_io f k g few i h = (class_io (word_address (0x3000000 + 0x80000 * f) i) (omega arith) (omega arith), omega arith)
 
 io_word_is : (p : Profile) (rom : RomTimes) (store first : Bool) (x f : ℕ) → class_at x ≡ Io → x / 0x80000 % 4 ≡ f → choice f p.slow p.medium p.fast p.synchronous ≡ worst_io p → word_price p rom store first x ≡ worst_io p
 io_word_is p rom store first x f e g best = word_at p rom store first x Io e ∙ ap (λ f. choice f p.slow p.medium p.fast p.synchronous) g ∙ best
 
-io_reached : (p : Profile) (store : Bool) (k : ℕ) (rom : RomTimes) (f : ℕ) → f < 4 → choice f p.slow p.medium p.fast p.synchronous ≡ worst_io p → k ≤ 16 → block_price p rom store (0x3000000 + f * 0x80000) k ≡ k * worst_io p
-io_reached p store k rom f g best few =
-    block_is p rom store (0x3000000 + f * 0x80000) (worst_io p) k
-    (λ i l first. io_word_is p rom store first (word_address (0x3000000 + f * 0x80000) i) f (from_io f k g few i l).0 (from_io f k g few i l).1 best)
+-- a block at the start of the dearest page of devices
+pub io_block : (p : Profile) (f : ℕ) → f < 4 → choice f p.slow p.medium p.fast p.synchronous ≡ worst_io p → (k : ℕ) → k ≤ 16 → (store : Bool) (rom : RomTimes) → IsDearestBlock p Io k store (record { address = 0x3000000 + 0x80000 * f; rom = rom })
+io_block p f g best k few store rom = record {
+  of_class = record { below = omega arith; each = λ i l. (from_io f k g few i l).0 };
+  price =
+    block_is p rom store (0x3000000 + 0x80000 * f) (worst_io p) k
+    (λ i l first. io_word_is p rom store first (word_address (0x3000000 + 0x80000 * f) i) f (from_io f k g few i l).0 (from_io f k g few i l).1 best);
+}
+
+pub any_block : (p : Profile) (k : ℕ) (store : Bool) (b : Access) → IsDearestBlock p Io k store b → IsDearestBlock p Any k store b
+any_block p k store b io = record { of_class = record { below = io.of_class.below; each = λ i l. tt }; price = io.price }
+
+-- some block of each class costs the most
+dearest_io : (p : Profile) (k : ℕ) (store : Bool) → k ≤ 16 → (b : Access) × IsDearestBlock p Io k store b
+dearest_io p k store few =
+    let best = choice_reached p.slow p.medium p.fast p.synchronous in
+    (record { address = 0x3000000 + 0x80000 * best.0; rom = times 0 (omega arith) }, io_block p best.0 best.1 best.2 k few store (times 0 (omega arith)))
+
+dearest_block : (p : Profile) (class : Class) (k : ℕ) (store : Bool) → suc k ≤ 16 → (b : Access) × IsDearestBlock p class (suc k) store b
+dearest_block p Ram k store few = (record { address = 12; rom = times 0 (omega arith) }, ram_block_at p 0 k store (times 0 (omega arith)) refl (omega arith))
+dearest_block p Rom k store few =
+    let best = dearest_times p in
+    (record { address = 0x3400000; rom = best.0 },
+     rom_block p store (suc k) (record { address = 0x3400000; rom = best.0 }) best.1 (record { below = omega arith; each = λ i l. class_rom (word_address 0x3400000 i) (omega arith) }))
+dearest_block p Io k store few = dearest_io p (suc k) store few
+dearest_block p Any k store few =
+    let best = dearest_io p (suc k) store few in
+    (best.0, any_block p (suc k) store best.0 best.1)
+
+above : (p : Profile) (class : Class) (k : ℕ) (store : Bool) (b : Access) → IsBlockOf class (suc k) b → transfer_price p (suc k) store b ≤ worst_block p class (suc k) store
+above p Ram k store b h = ram_above p store k b h
+above p Rom k store b h = rom_above p store (suc k) b h
+above p Io k store b h = io_above p store (suc k) b
+above p Any k store b h = io_above p store (suc k) b
 
 pub worst_block_greatest : (p : Profile) (class : Class) (k : ℕ) (store : Bool) → suc k ≤ 16 → IsGreatest (IsBlockOf class (suc k)) (transfer_price p (suc k) store) (worst_block p class (suc k) store)
-worst_block_greatest p Ram k store few = record {
-  none_above = ram_above p store k;
-  reached = (record { address = 12; rom = times 0 (omega arith) }, record { below = omega arith; each = from_12 k few }, ram_reached p store k (times 0 (omega arith)) few);
-}
-worst_block_greatest p Rom k store few =
-    let best = choice_reached p.rom_0 p.rom_1 p.rom_2 p.rom_3 in
-    record {
-      none_above = rom_above p store (suc k);
-      reached = (record { address = 0x3400000; rom = times best.0 best.1 }, record { below = omega arith; each = from_rom (suc k) few }, rom_reached p store (suc k) best.0 best.1 best.2 few);
-    }
-worst_block_greatest p Io k store few =
-    let best = choice_reached p.slow p.medium p.fast p.synchronous in
-    record {
-      none_above = λ b h. io_above p store (suc k) b;
-      reached = (record { address = 0x3000000 + best.0 * 0x80000; rom = times 0 (omega arith) }, record { below = omega (arith, best.1); each = λ i l. (from_io best.0 (suc k) best.1 few i l).0 }, io_reached p store (suc k) (times 0 (omega arith)) best.0 best.1 best.2 few);
-    }
-worst_block_greatest p Any k store few =
-    let best = choice_reached p.slow p.medium p.fast p.synchronous in
-    record {
-      none_above = λ b h. io_above p store (suc k) b;
-      reached = (record { address = 0x3000000 + best.0 * 0x80000; rom = times 0 (omega arith) }, record { below = omega (arith, best.1); each = λ i l. tt }, io_reached p store (suc k) (times 0 (omega arith)) best.0 best.1 best.2 few);
-    }
+worst_block_greatest p class k store few =
+    let best = dearest_block p class k store few in
+    record { none_above = above p class k store; reached = (best.0, best.1.of_class, best.1.price) }
 
 -- the same, as a call has it
 pub worst_transfer_greatest : (p : Profile) (class : Class) (words : ℕ) (store : Bool) (top : ℕ) → 1 ≤ words → words ≤ 16 → top ≡ worst_block p class words store → IsGreatest (IsBlockOf class words) (transfer_price p words store) top
