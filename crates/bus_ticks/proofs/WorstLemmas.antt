@@ -137,8 +137,8 @@ ram_block_at p base k store rom whole room =
     record {
       of_class = record { below = omega arith; each = each };
       price =
-        same_sum p.n p.s (p.quad - p.s) k (suc k - 1) (((base + 12) / 4 + k) / 4 - (base + 12) / 4 / 4) ((suc k + 2) / 4) _
-        (ram_block p rom store (base + 12) k (p.quad - p.s) (split_quad p) each) (omega arith) (omega arith);
+          same_sum p.n p.s (p.quad - p.s) k (suc k - 1) (((base + 12) / 4 + k) / 4 - (base + 12) / 4 / 4) ((suc k + 2) / 4) _
+          (ram_block p rom store (base + 12) k (p.quad - p.s) (split_quad p) each) (omega arith) (omega arith);
     }
 
 rom_word_le : (p : Profile) (rom : RomTimes) (store first : Bool) (x : ℕ) → class_at x ≡ Rom → word_price p rom store first x ≤ cond store p.control (worst_rom p)
@@ -195,8 +195,8 @@ pub io_block : (p : Profile) (f : ℕ) → f < 4 → choice f p.slow p.medium p.
 io_block p f g best k few store rom = record {
   of_class = record { below = omega arith; each = λ i l. (from_io f k g few i l).0 };
   price =
-    block_is p rom store (0x3000000 + 0x80000 * f) (worst_io p) k
-    (λ i l first. io_word_is p rom store first (word_address (0x3000000 + 0x80000 * f) i) f (from_io f k g few i l).0 (from_io f k g few i l).1 best);
+      block_is p rom store (0x3000000 + 0x80000 * f) (worst_io p) k
+      (λ i l first. io_word_is p rom store first (word_address (0x3000000 + 0x80000 * f) i) f (from_io f k g few i l).0 (from_io f k g few i l).1 best);
 }
 
 pub any_block : (p : Profile) (k : ℕ) (store : Bool) (b : Access) → IsDearestBlock p Io k store b → IsDearestBlock p Any k store b
@@ -211,9 +211,10 @@ dearest_io p k store few =
 dearest_block : (p : Profile) (class : Class) (k : ℕ) (store : Bool) → suc k ≤ 16 → (b : Access) × IsDearestBlock p class (suc k) store b
 dearest_block p Ram k store few = (record { address = 12; rom = times 0 (omega arith) }, ram_block_at p 0 k store (times 0 (omega arith)) refl (omega arith))
 dearest_block p Rom k store few =
-    let best = dearest_times p in
-    (record { address = 0x3400000; rom = best.0 },
-     rom_block p store (suc k) (record { address = 0x3400000; rom = best.0 }) best.1 (record { below = omega arith; each = λ i l. class_rom (word_address 0x3400000 i) (omega arith) }))
+    let best = dearest_times p in (
+      record { address = 0x3400000; rom = best.0 },
+      rom_block p store (suc k) (record { address = 0x3400000; rom = best.0 }) best.1 (record { below = omega arith; each = λ i l. class_rom (word_address 0x3400000 i) (omega arith) }),
+    )
 dearest_block p Io k store few = dearest_io p (suc k) store few
 dearest_block p Any k store few =
     let best = dearest_io p (suc k) store few in

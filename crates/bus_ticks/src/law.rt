@@ -1,5 +1,8 @@
-ghost use Rattle.std.specs.Prelude.{◌≡◌};
+ghost use Rattle.std.specs.Prelude.{◌≡◌, ℕ, false, true};
+ghost use Rattle.bus_ticks.specs.Worst.{Access, IsBlockOf};
+ghost use Rattle.bus_ticks.specs.Dearest.{AreDearest, IsDearestBlock};
 
+use crate::profile::{Class, Profile};
 use crate::space::{IO_START, ROM_START, SPACE_END};
 
 /// States where the kinds of memory stand: RAM up to 2FFFFFF, I/O from 3000000 to 33FFFFF, ROM from 3400000 to
@@ -8,4 +11,14 @@ pub fn memory_map()
     ensures io { IO_START ≡ 0x3000000 }
     ensures rom { ROM_START ≡ 0x3400000 }
     ensures end { SPACE_END ≡ 0x4000000 }
+{}
+
+/// States that where a transfer starts in ROM does not change what it costs, if all its words are in ROM: at
+/// the dearest time fields each load costs the most, and each store, which goes to a control register, by any
+/// time fields. It does nothing.
+pub fn rom_blocks_cost_the_worst()
+    ensures load { (profile : Profile) → (words : ℕ) → (block : Access) → AreDearest profile block.rom
+        → IsBlockOf Class.Rom words block → IsDearestBlock profile Class.Rom words false block }
+    ensures store { (profile : Profile) → (words : ℕ) → (block : Access)
+        → IsBlockOf Class.Rom words block → IsDearestBlock profile Class.Rom words true block }
 {}

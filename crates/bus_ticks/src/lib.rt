@@ -11,8 +11,8 @@ mod profile;
 mod space;
 mod worst;
 
-pub use dearest::{dearest_device, dearest_rom_times};
-pub use law::memory_map;
+pub use dearest::{dearest_device, dearest_leave, dearest_ram_start, dearest_rom_times};
+pub use law::{memory_map, rom_blocks_cost_the_worst};
 pub use prices::{class_of, fetch_n, fetch_s, transfer};
 pub use profile::{Class, NumbersFault, Profile, RomTimes};
 pub use space::{IO_START, ROM_START, SPACE_END, word_address};
