@@ -14,7 +14,8 @@ by_class_rises Io ram rom top io h = omega arith
 by_class_rises Any ram rom top io h = omega arith
 
 -- a price that differs in Rom alone
-dearest : (p : Profile) (x ram io top : ℕ) → top ≡ by_class (class_at x) ram (worst_rom p) io → IsGreatest IsAnyTimes (λ rom. by_class (class_at x) ram (rom_price p rom x) io) top
+dearest : (p : Profile) (x ram io top : ℕ) → top ≡ by_class (class_at x) ram (worst_rom p) io
+    → IsGreatest IsAnyTimes (λ rom. by_class (class_at x) ram (rom_price p rom x) io) top
 dearest p x ram io top e =
     let best = dearest_times p in
     rw e (record {
@@ -22,8 +23,10 @@ dearest p x ram io top e =
       reached = (best.0, tt, ap (λ r. by_class (class_at x) ram r io) (best.1 x));
     })
 
-pub n_greatest : (p : Profile) (x top : ℕ) → top ≡ worst_n_price p x → IsGreatest IsAnyTimes (λ rom. n_price p rom x) top
+pub n_greatest : (p : Profile) (x top : ℕ) → top ≡ worst_n_price p x
+    → IsGreatest IsAnyTimes (λ rom. n_price p rom x) top
 n_greatest p x top e = dearest p x p.n p.unfitted top e
 
-pub s_greatest : (p : Profile) (x top : ℕ) → top ≡ worst_s_price p x → IsGreatest IsAnyTimes (λ rom. s_price p rom x) top
+pub s_greatest : (p : Profile) (x top : ℕ) → top ≡ worst_s_price p x
+    → IsGreatest IsAnyTimes (λ rom. s_price p rom x) top
 s_greatest p x top e = dearest p x (cond (eqb (x % 16) 0) p.quad p.s) p.unfitted top e

@@ -1,5 +1,6 @@
 -- Bounds on the prices of blocks, and blocks that have them.
-use Rattle.std.proofs.Common.{ℕ, zero, suc, ◌+◌, ◌-◌, ◌*◌, ◌/◌, ◌%◌, ◌≤◌, ◌<◌, ◌≡◌, Bool, true, false, refl, ap, ◌∙◌, inl, inr, arith, eqb, ltb, cond, max}
+use Rattle.std.proofs.Common.{ℕ, zero, suc, ◌+◌, ◌-◌, ◌*◌, ◌/◌, ◌%◌, ◌≤◌, ◌<◌, ◌≡◌, Bool, true, false, refl}
+use Rattle.std.proofs.Common.{ap, ◌∙◌, inl, inr, arith, eqb, ltb, cond, max}
 use Rattle.std.proofs.lemmas.Bool.Decides.{nat_tests, eqb_tells}
 use Rattle.std.proofs.lemmas.Bool.{cases_lt}
 use Rattle.std.proofs.lemmas.Nat.{mul-le}
@@ -8,8 +9,10 @@ use Rattle.bus_ticks.specs.declared.profile.RomTimes.{RomTimes}
 use Rattle.bus_ticks.specs.declared.profile.Class.{Class}
 use Rattle.bus_ticks.specs.declared.profile.Class.TheVariants.{Ram, Rom, Io, Any}
 use Rattle.bus_ticks.specs.Ranges.{greatest}
-use Rattle.bus_ticks.specs.Prices.{class_at, by_class, choice, rom_price, io_price, word_price, word_address, block_price}
-use Rattle.bus_ticks.specs.Worst.{Access, IsBlockOf, IsGreatest, transfer_price, worst_rom, worst_io, worst_block}
+use Rattle.bus_ticks.specs.Prices.{class_at, by_class, choice, rom_price, io_price, word_price, word_address}
+use Rattle.bus_ticks.specs.Prices.{block_price}
+use Rattle.bus_ticks.specs.Worst.{Access, IsBlockOf, IsGreatest, transfer_price, worst_rom, worst_io}
+use Rattle.bus_ticks.specs.Worst.{worst_block}
 use Rattle.bus_ticks.specs.Dearest.{AreDearest, IsDearestBlock}
 
 -- one of four is at most the greatest
@@ -17,7 +20,7 @@ pub choice_le : (i a b c d : ℕ) → choice i a b c d ≤ greatest a b c d
 choice_le i a b c d = grind (arith, nat_tests)
 
 -- some of four is the greatest
-pub choice_reached : (a b c d : ℕ) → (i : ℕ) × (i < 4) × (choice i a b c d ≡ greatest a b c d)
+choice_reached : (a b c d : ℕ) → (i : ℕ) × (i < 4) × (choice i a b c d ≡ greatest a b c d)
 choice_reached a b c d =
     elim (cases_lt (max a b) (max c d)) [
       | inl low ↦ elim (cases_lt c d) [ inl h ↦ (3, omega arith, omega arith) | inr h ↦ (2, omega arith, omega arith) ]
@@ -30,7 +33,8 @@ rom_le p rom x = choice_le (cond (ltb x 0x3800000) rom.low rom.high) p.rom_0 p.r
 pub io_le : (p : Profile) (x : ℕ) → io_price p x ≤ worst_io p
 io_le p x = choice_le (x / 0x80000 % 4) p.slow p.medium p.fast p.synchronous
 
-by_class_le : (c : Class) (ram rom io top : ℕ) → ram ≤ top → rom ≤ top → io ≤ top → by_class c ram rom io ≤ top
+by_class_le : (c : Class) (ram rom io top : ℕ) → ram ≤ top → rom ≤ top → io ≤ top
+    → by_class c ram rom io ≤ top
 by_class_le Ram ram rom io top x y z = x
 by_class_le Rom ram rom io top x y z = y
 by_class_le Io ram rom io top x y z = z
@@ -45,42 +49,54 @@ cond_same true x = refl
 cond_same false x = refl
 
 -- no word costs more than the dearest device access
-pub word_le : (p : Profile) (rom : RomTimes) (store first : Bool) (x : ℕ) → word_price p rom store first x ≤ worst_io p
+pub word_le : (p : Profile) (rom : RomTimes) (store first : Bool) (x : ℕ)
+    → word_price p rom store first x ≤ worst_io p
 word_le p rom store first x =
     by_class_le (class_at x) _ _ _ _
     (cond_le first _ _ _ p.n_below (cond_le (eqb (x % 16) 0) _ _ _ (omega (arith, p.n_below, p.quad_second)) (omega (arith, p.n_below, p.quad_second, p.s_first))))
     (cond_le store _ _ _ p.control_below (omega (arith, rom_le p rom x, p.rom_below)))
     (io_le p x)
 
-word_small : (p : Profile) (rom : RomTimes) (store first : Bool) (x : ℕ) → word_price p rom store first x ≤ 255
+word_small : (p : Profile) (rom : RomTimes) (store first : Bool) (x : ℕ)
+    → word_price p rom store first x ≤ 255
 word_small p rom store first x =
     omega (arith, word_le p rom store first x, p.slow_price, p.medium_price, p.fast_price, p.synchronous_price)
 
 -- a block costs at most its number of words times what each costs at most
-pub block_le : (p : Profile) (rom : RomTimes) (store : Bool) (a top k : ℕ) → ((i : ℕ) → i < k → (first : Bool) → word_price p rom store first (word_address a i) ≤ top) → block_price p rom store a k ≤ k * top
+pub block_le : (p : Profile) (rom : RomTimes) (store : Bool) (a top k : ℕ)
+    → ((i : ℕ) → i < k → (first : Bool) → word_price p rom store first (word_address a i) ≤ top)
+    → block_price p rom store a k ≤ k * top
 unfolding block_price
 block_le p rom store a top zero each = omega arith
 block_le p rom store a top (suc k) each =
     omega (arith, block_le p rom store a top k (λ i h first. each i (omega arith) first), each k (omega arith) (eqb k 0))
 
-pub block_is : (p : Profile) (rom : RomTimes) (store : Bool) (a top k : ℕ) → ((i : ℕ) → i < k → (first : Bool) → word_price p rom store first (word_address a i) ≡ top) → block_price p rom store a k ≡ k * top
+pub block_is : (p : Profile) (rom : RomTimes) (store : Bool) (a top k : ℕ)
+    → ((i : ℕ) → i < k → (first : Bool) → word_price p rom store first (word_address a i) ≡ top)
+    → block_price p rom store a k ≡ k * top
 unfolding block_price
 block_is p rom store a top zero each = omega arith
 block_is p rom store a top (suc k) each =
     omega (arith, block_is p rom store a top k (λ i h first. each i (omega arith) first), each k (omega arith) (eqb k 0))
 
 -- the price of a word, by its class
-pub word_at : (p : Profile) (rom : RomTimes) (store first : Bool) (x : ℕ) (c : Class) → class_at x ≡ c → word_price p rom store first x ≡ by_class c (cond first p.n (cond (eqb (x % 16) 0) p.quad p.s)) (cond store p.control (rom_price p rom x)) (io_price p x)
+pub word_at : (p : Profile) (rom : RomTimes) (store first : Bool) (x : ℕ) (c : Class) → class_at x ≡ c
+    → word_price p rom store first x ≡ by_class c (cond first p.n (cond (eqb (x % 16) 0) p.quad p.s))
+    (cond store p.control (rom_price p rom x)) (io_price p x)
 word_at p rom store first x c e = ap (λ c. by_class c (cond first p.n (cond (eqb (x % 16) 0) p.quad p.s)) (cond store p.control (rom_price p rom x)) (io_price p x)) e
 
-quad_step : (n k s m d before word : ℕ) → before ≡ n + k * s + m * d → word ≡ s + d → before + word ≡ n + suc k * s + suc m * d
+quad_step : (n k s m d before word : ℕ) → before ≡ n + k * s + m * d → word ≡ s + d
+    → before + word ≡ n + suc k * s + suc m * d
 quad_step n k s m d before word e f = omega arith
 
-plain_step : (n k s m d before word : ℕ) → before ≡ n + k * s + m * d → word ≡ s → before + word ≡ n + suc k * s + m * d
+plain_step : (n k s m d before word : ℕ) → before ≡ n + k * s + m * d → word ≡ s
+    → before + word ≡ n + suc k * s + m * d
 plain_step n k s m d before word e f = omega arith
 
 -- a block in Ram: n for the first word, s for each other, and what quad has more at each multiple of 16
-pub ram_block : (p : Profile) (rom : RomTimes) (store : Bool) (a k d : ℕ) → p.quad ≡ p.s + d → ((i : ℕ) → i < suc k → class_at (word_address a i) ≡ Ram) → block_price p rom store a (suc k) ≡ p.n + k * p.s + ((a / 4 + k) / 4 - a / 4 / 4) * d
+pub ram_block : (p : Profile) (rom : RomTimes) (store : Bool) (a k d : ℕ) → p.quad ≡ p.s + d
+    → ((i : ℕ) → i < suc k → class_at (word_address a i) ≡ Ram)
+    → block_price p rom store a (suc k) ≡ p.n + k * p.s + ((a / 4 + k) / 4 - a / 4 / 4) * d
 unfolding block_price
 ram_block p rom store a zero d e each =
     let none : (a / 4 + 0) / 4 - a / 4 / 4 ≡ 0 = omega arith in
@@ -125,13 +141,16 @@ above_sum n s d k k' m m' x e f g =
 split_quad : (p : Profile) → p.quad ≡ p.s + (p.quad - p.s)
 split_quad p = omega (arith, p.s_first)
 
-ram_above : (p : Profile) (store : Bool) (k : ℕ) (b : Access) → IsBlockOf Ram (suc k) b → transfer_price p (suc k) store b ≤ worst_block p Ram (suc k) store
+ram_above : (p : Profile) (store : Bool) (k : ℕ) (b : Access) → IsBlockOf Ram (suc k) b
+    → transfer_price p (suc k) store b ≤ worst_block p Ram (suc k) store
 ram_above p store k b h =
     above_sum p.n p.s (p.quad - p.s) k (suc k - 1) ((b.address / 4 + k) / 4 - b.address / 4 / 4) ((suc k + 2) / 4) _
     (ram_block p b.rom store b.address k (p.quad - p.s) (split_quad p) h.each) (omega arith) (omega arith)
 
 -- from 12 on, words 1, 5, 9 and 13 stand at multiples of 16
-pub ram_block_at : (p : Profile) (base k : ℕ) (store : Bool) (rom : RomTimes) → base % 16 ≡ 0 → base + 12 + 4 * suc k ≤ 0x3000000 → IsDearestBlock p Ram (suc k) store (record { address = base + 12; rom = rom })
+pub ram_block_at : (p : Profile) (base k : ℕ) (store : Bool) (rom : RomTimes) → base % 16 ≡ 0
+    → base + 12 + 4 * suc k ≤ 0x3000000
+    → IsDearestBlock p Ram (suc k) store (record { address = base + 12; rom = rom })
 ram_block_at p base k store rom whole room =
     let each : (i : ℕ) → i < suc k → class_at (word_address (base + 12) i) ≡ Ram = λ i h. class_ram (word_address (base + 12) i) (omega arith) in
     record {
@@ -141,23 +160,28 @@ ram_block_at p base k store rom whole room =
           (ram_block p rom store (base + 12) k (p.quad - p.s) (split_quad p) each) (omega arith) (omega arith);
     }
 
-rom_word_le : (p : Profile) (rom : RomTimes) (store first : Bool) (x : ℕ) → class_at x ≡ Rom → word_price p rom store first x ≤ cond store p.control (worst_rom p)
+rom_word_le : (p : Profile) (rom : RomTimes) (store first : Bool) (x : ℕ) → class_at x ≡ Rom
+    → word_price p rom store first x ≤ cond store p.control (worst_rom p)
 rom_word_le p rom true first x e = omega (arith, word_at p rom true first x Rom e)
 rom_word_le p rom false first x e = omega (arith, word_at p rom false first x Rom e, rom_le p rom x)
 
-rom_fold : (p : Profile) (store : Bool) (k : ℕ) → k * cond store p.control (worst_rom p) ≡ worst_block p Rom k store
+rom_fold : (p : Profile) (store : Bool) (k : ℕ)
+    → k * cond store p.control (worst_rom p) ≡ worst_block p Rom k store
 rom_fold p true k = refl
 rom_fold p false k = refl
 
-rom_above : (p : Profile) (store : Bool) (k : ℕ) (b : Access) → IsBlockOf Rom k b → transfer_price p k store b ≤ worst_block p Rom k store
+rom_above : (p : Profile) (store : Bool) (k : ℕ) (b : Access) → IsBlockOf Rom k b
+    → transfer_price p k store b ≤ worst_block p Rom k store
 rom_above p store k b h =
     omega (arith, block_le p b.rom store b.address (cond store p.control (worst_rom p)) k (λ i l first. rom_word_le p b.rom store first (word_address b.address i) (h.each i l)), rom_fold p store k)
 
-pub rom_same : (p : Profile) (i : ℕ) (h : i < 4) (x : ℕ) → rom_price p (times i h) x ≡ choice i p.rom_0 p.rom_1 p.rom_2 p.rom_3
+rom_same : (p : Profile) (i : ℕ) (h : i < 4) (x : ℕ)
+    → rom_price p (times i h) x ≡ choice i p.rom_0 p.rom_1 p.rom_2 p.rom_3
 rom_same p i h x = ap (λ f. choice f p.rom_0 p.rom_1 p.rom_2 p.rom_3) (cond_same (ltb x 0x3800000) i)
 
 -- the dearest field in both halves
-pub times_dearest : (p : Profile) (i : ℕ) (h : i < 4) → choice i p.rom_0 p.rom_1 p.rom_2 p.rom_3 ≡ worst_rom p → AreDearest p (times i h)
+times_dearest : (p : Profile) (i : ℕ) (h : i < 4) → choice i p.rom_0 p.rom_1 p.rom_2 p.rom_3 ≡ worst_rom p
+    → AreDearest p (times i h)
 times_dearest p i h best x = rom_same p i h x ∙ best
 
 pub dearest_times : (p : Profile) → (rom : RomTimes) × AreDearest p rom
@@ -165,7 +189,8 @@ dearest_times p =
     let best = choice_reached p.rom_0 p.rom_1 p.rom_2 p.rom_3 in
     (times best.0 best.1, times_dearest p best.0 best.1 best.2)
 
-pub rom_load : (p : Profile) (k : ℕ) (b : Access) → AreDearest p b.rom → IsBlockOf Rom k b → IsDearestBlock p Rom k false b
+pub rom_load : (p : Profile) (k : ℕ) (b : Access) → AreDearest p b.rom → IsBlockOf Rom k b
+    → IsDearestBlock p Rom k false b
 rom_load p k b best h = record {
   of_class = h;
   price = block_is p b.rom false b.address (worst_rom p) k (λ i l first. word_at p b.rom false first (word_address b.address i) Rom (h.each i l) ∙ best (word_address b.address i));
@@ -177,21 +202,27 @@ rom_store p k b h = record {
   price = block_is p b.rom true b.address p.control k (λ i l first. word_at p b.rom true first (word_address b.address i) Rom (h.each i l));
 }
 
-rom_block : (p : Profile) (store : Bool) (k : ℕ) (b : Access) → AreDearest p b.rom → IsBlockOf Rom k b → IsDearestBlock p Rom k store b
+rom_block : (p : Profile) (store : Bool) (k : ℕ) (b : Access) → AreDearest p b.rom → IsBlockOf Rom k b
+    → IsDearestBlock p Rom k store b
 rom_block p true k b best h = rom_store p k b h
 rom_block p false k b best h = rom_load p k b best h
 
 io_above : (p : Profile) (store : Bool) (k : ℕ) (b : Access) → transfer_price p k store b ≤ k * worst_io p
 io_above p store k b = block_le p b.rom store b.address (worst_io p) k (λ i l first. word_le p b.rom store first (word_address b.address i))
 
-from_io : (f k : ℕ) → f < 4 → k ≤ 16 → (i : ℕ) → i < k → (class_at (word_address (0x3000000 + 0x80000 * f) i) ≡ Io) × (word_address (0x3000000 + 0x80000 * f) i / 0x80000 % 4 ≡ f)
+from_io : (f k : ℕ) → f < 4 → k ≤ 16 → (i : ℕ) → i < k
+    → (class_at (word_address (0x3000000 + 0x80000 * f) i) ≡ Io) × (word_address (0x3000000 + 0x80000 * f) i / 0x80000 % 4 ≡ f)
 from_io f k g few i h = (class_io (word_address (0x3000000 + 0x80000 * f) i) (omega arith) (omega arith), omega arith)
 
-io_word_is : (p : Profile) (rom : RomTimes) (store first : Bool) (x f : ℕ) → class_at x ≡ Io → x / 0x80000 % 4 ≡ f → choice f p.slow p.medium p.fast p.synchronous ≡ worst_io p → word_price p rom store first x ≡ worst_io p
+io_word_is : (p : Profile) (rom : RomTimes) (store first : Bool) (x f : ℕ) → class_at x ≡ Io
+    → x / 0x80000 % 4 ≡ f → choice f p.slow p.medium p.fast p.synchronous ≡ worst_io p
+    → word_price p rom store first x ≡ worst_io p
 io_word_is p rom store first x f e g best = word_at p rom store first x Io e ∙ ap (λ f. choice f p.slow p.medium p.fast p.synchronous) g ∙ best
 
 -- a block at the start of the dearest page of devices
-pub io_block : (p : Profile) (f : ℕ) → f < 4 → choice f p.slow p.medium p.fast p.synchronous ≡ worst_io p → (k : ℕ) → k ≤ 16 → (store : Bool) (rom : RomTimes) → IsDearestBlock p Io k store (record { address = 0x3000000 + 0x80000 * f; rom = rom })
+pub io_block : (p : Profile) (f : ℕ) → f < 4 → choice f p.slow p.medium p.fast p.synchronous ≡ worst_io p
+    → (k : ℕ) → k ≤ 16 → (store : Bool) (rom : RomTimes)
+    → IsDearestBlock p Io k store (record { address = 0x3000000 + 0x80000 * f; rom = rom })
 io_block p f g best k few store rom = record {
   of_class = record { below = omega arith; each = λ i l. (from_io f k g few i l).0 };
   price =
@@ -199,7 +230,8 @@ io_block p f g best k few store rom = record {
       (λ i l first. io_word_is p rom store first (word_address (0x3000000 + 0x80000 * f) i) f (from_io f k g few i l).0 (from_io f k g few i l).1 best);
 }
 
-pub any_block : (p : Profile) (k : ℕ) (store : Bool) (b : Access) → IsDearestBlock p Io k store b → IsDearestBlock p Any k store b
+pub any_block : (p : Profile) (k : ℕ) (store : Bool) (b : Access) → IsDearestBlock p Io k store b
+    → IsDearestBlock p Any k store b
 any_block p k store b io = record { of_class = record { below = io.of_class.below; each = λ i l. tt }; price = io.price }
 
 -- some block of each class costs the most
@@ -208,7 +240,8 @@ dearest_io p k store few =
     let best = choice_reached p.slow p.medium p.fast p.synchronous in
     (record { address = 0x3000000 + 0x80000 * best.0; rom = times 0 (omega arith) }, io_block p best.0 best.1 best.2 k few store (times 0 (omega arith)))
 
-dearest_block : (p : Profile) (class : Class) (k : ℕ) (store : Bool) → suc k ≤ 16 → (b : Access) × IsDearestBlock p class (suc k) store b
+dearest_block : (p : Profile) (class : Class) (k : ℕ) (store : Bool) → suc k ≤ 16
+    → (b : Access) × IsDearestBlock p class (suc k) store b
 dearest_block p Ram k store few = (record { address = 12; rom = times 0 (omega arith) }, ram_block_at p 0 k store (times 0 (omega arith)) refl (omega arith))
 dearest_block p Rom k store few =
     let best = dearest_times p in (
@@ -220,24 +253,30 @@ dearest_block p Any k store few =
     let best = dearest_io p (suc k) store few in
     (best.0, any_block p (suc k) store best.0 best.1)
 
-above : (p : Profile) (class : Class) (k : ℕ) (store : Bool) (b : Access) → IsBlockOf class (suc k) b → transfer_price p (suc k) store b ≤ worst_block p class (suc k) store
+above : (p : Profile) (class : Class) (k : ℕ) (store : Bool) (b : Access) → IsBlockOf class (suc k) b
+    → transfer_price p (suc k) store b ≤ worst_block p class (suc k) store
 above p Ram k store b h = ram_above p store k b h
 above p Rom k store b h = rom_above p store (suc k) b h
 above p Io k store b h = io_above p store (suc k) b
 above p Any k store b h = io_above p store (suc k) b
 
-pub worst_block_greatest : (p : Profile) (class : Class) (k : ℕ) (store : Bool) → suc k ≤ 16 → IsGreatest (IsBlockOf class (suc k)) (transfer_price p (suc k) store) (worst_block p class (suc k) store)
+pub worst_block_greatest : (p : Profile) (class : Class) (k : ℕ) (store : Bool) → suc k ≤ 16
+    → IsGreatest (IsBlockOf class (suc k)) (transfer_price p (suc k) store)
+    (worst_block p class (suc k) store)
 worst_block_greatest p class k store few =
     let best = dearest_block p class k store few in
     record { none_above = above p class k store; reached = (best.0, best.1.of_class, best.1.price) }
 
 -- the same, as a call has it
-pub worst_transfer_greatest : (p : Profile) (class : Class) (words : ℕ) (store : Bool) (top : ℕ) → 1 ≤ words → words ≤ 16 → top ≡ worst_block p class words store → IsGreatest (IsBlockOf class words) (transfer_price p words store) top
+pub worst_transfer_greatest : (p : Profile) (class : Class) (words : ℕ) (store : Bool) (top : ℕ) → 1 ≤ words
+    → words ≤ 16 → top ≡ worst_block p class words store → IsGreatest (IsBlockOf class words)
+    (transfer_price p words store) top
 worst_transfer_greatest p class zero store top some few e = absurd (omega arith)
 worst_transfer_greatest p class (suc k) store top some few e = rw e (worst_block_greatest p class k store few)
 
 -- and no word of it costs more than 255 ticks
-pub worst_block_small : (p : Profile) (class : Class) (words : ℕ) (store : Bool) (top : ℕ) → 1 ≤ words → words ≤ 16 → top ≡ worst_block p class words store → top ≤ 255 * words
+pub worst_block_small : (p : Profile) (class : Class) (words : ℕ) (store : Bool) (top : ℕ) → 1 ≤ words
+    → words ≤ 16 → top ≡ worst_block p class words store → top ≤ 255 * words
 worst_block_small p class words store top some few e =
     let best = (worst_transfer_greatest p class words store top some few e).reached in
     let each : (i : ℕ) → i < words → (first : Bool) → word_price p best.0.rom store first (word_address best.0.address i) ≤ 255 = λ i h first. word_small p best.0.rom store first (word_address best.0.address i) in

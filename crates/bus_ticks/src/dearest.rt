@@ -9,6 +9,9 @@ use crate::profile::{Class, Profile, RomTimes};
 use crate::space::{IO_START, ROM_START, SPACE_END};
 use crate::worst::{greatest_of, worst_leave_ticks, worst_rom_ticks};
 
+// The last word before a multiple of 16, in bytes after the one before: the word that follows costs quad.
+const BEFORE_QUAD: u32 = 12;
+
 // Which of the four is the greatest, from 0: the first of those that are.
 fn dearest_of(a: u32, b: u32, c: u32, d: u32) -> u32
     ensures { IsDearestOf a b c d result }
@@ -29,7 +32,8 @@ fn dearest_of(a: u32, b: u32, c: u32, d: u32) -> u32
 /// 0 to 3, whose price is the greatest.
 pub fn dearest_rom_times(profile: &Profile) -> RomTimes
     ensures dearest { AreDearest profile.now result }
-    ensures low { IsDearestOf profile.now.rom_0 profile.now.rom_1 profile.now.rom_2 profile.now.rom_3 result.low }
+    ensures low { IsDearestOf profile.now.rom_0 profile.now.rom_1 profile.now.rom_2 profile.now.rom_3
+        result.low }
     ensures high { result.high ≡ result.low }
     ensures fetch_n { (x : ℕ) → n_price profile.now result x ≡ worst_n_price profile.now x }
     ensures fetch_s { (x : ℕ) → s_price profile.now result x ≡ worst_s_price profile.now x }
@@ -73,7 +77,7 @@ pub fn dearest_ram_start() -> u32
         → base + result + 4 * words ≤ IO_START → (store : Bool) → (rom : RomTimes)
         → IsDearestBlock profile Class.Ram words store (record { address = base + result; rom = rom }) }
 {
-    12
+    BEFORE_QUAD
 }
 
 // In RAM, by which is dearer: to follow in RAM at a multiple of 16, or to run on into the devices.
@@ -83,7 +87,7 @@ fn dearest_leave_to_ram(profile: &Profile) -> u32
     if profile.quad < profile.unfitted {
         IO_START - 4
     } else {
-        12
+        BEFORE_QUAD
     }
 }
 

@@ -12,7 +12,7 @@ mod space;
 mod worst;
 
 pub use dearest::{dearest_device, dearest_leave, dearest_ram_start, dearest_rom_times};
-pub use law::{memory_map, rom_blocks_cost_the_worst};
+pub use law::{fetches_cost_the_worst, memory_map, rom_blocks_cost_the_worst};
 pub use prices::{class_of, fetch_n, fetch_s, transfer};
 pub use profile::{Class, NumbersFault, Profile, RomTimes};
 pub use space::{IO_START, ROM_START, SPACE_END, word_address};
