@@ -23,8 +23,14 @@ choice_le i a b c d = grind (arith, nat_tests)
 choice_reached : (a b c d : ℕ) → (i : ℕ) × (i < 4) × (choice i a b c d ≡ greatest a b c d)
 choice_reached a b c d =
     elim (cases_lt (max a b) (max c d)) [
-      | inl low ↦ elim (cases_lt c d) [ inl h ↦ (3, omega arith, omega arith) | inr h ↦ (2, omega arith, omega arith) ]
-      | inr high ↦ elim (cases_lt a b) [ inl h ↦ (1, omega arith, omega arith) | inr h ↦ (0, omega arith, omega arith) ]
+      | inl low ↦ elim (cases_lt c d) [
+        | inl h ↦ (3, omega arith, omega arith)
+        | inr h ↦ (2, omega arith, omega arith)
+      ]
+      | inr high ↦ elim (cases_lt a b) [
+        | inl h ↦ (1, omega arith, omega arith)
+        | inr h ↦ (0, omega arith, omega arith)
+      ]
     ]
 
 pub rom_le : (p : Profile) (rom : RomTimes) (x : ℕ) → rom_price p rom x ≤ worst_rom p
@@ -104,16 +110,21 @@ ram_block p rom store a zero d e each =
 ram_block p rom store a (suc k) d e each =
     let before = ram_block p rom store a k d e (λ i h. each i (omega arith)) in
     let later : eqb (suc k) 0 ≡ false = grind (arith, nat_tests) in
-    let word : word_price p rom store (eqb (suc k) 0) (word_address a (suc k)) ≡ cond (eqb (word_address a (suc k) % 16) 0) p.quad p.s =
-    word_at p rom store (eqb (suc k) 0) (word_address a (suc k)) Ram (each (suc k) (omega arith)) ∙ ap (λ b. cond b p.n (cond (eqb (word_address a (suc k) % 16) 0) p.quad p.s)) later in
-    elim (eqb_tells (word_address a (suc k) % 16) 0) [
+    let x = word_address a (suc k) in
+    let follows : ℕ = cond (eqb (x % 16) 0) p.quad p.s in
+    let word : word_price p rom store (eqb (suc k) 0) x ≡ follows =
+    word_at p rom store (eqb (suc k) 0) x Ram (each (suc k) (omega arith))
+    ∙ ap (λ b. cond b p.n follows) later in
+    elim (eqb_tells (x % 16) 0) [
       | inl at_quad ↦
           let more : (a / 4 + suc k) / 4 - a / 4 / 4 ≡ suc ((a / 4 + k) / 4 - a / 4 / 4) = omega (arith, at_quad.1) in
-          let here : word_price p rom store (eqb (suc k) 0) (word_address a (suc k)) ≡ p.s + d = word ∙ ap (λ b. cond b p.quad p.s) at_quad.0 ∙ e in
+          let here : word_price p rom store (eqb (suc k) 0) x ≡ p.s + d =
+          word ∙ ap (λ b. cond b p.quad p.s) at_quad.0 ∙ e in
           rw more (quad_step p.n k p.s ((a / 4 + k) / 4 - a / 4 / 4) d _ _ before here)
       | inr apart ↦
           let same : (a / 4 + suc k) / 4 - a / 4 / 4 ≡ (a / 4 + k) / 4 - a / 4 / 4 = omega (arith, apart.1) in
-          let here : word_price p rom store (eqb (suc k) 0) (word_address a (suc k)) ≡ p.s = word ∙ ap (λ b. cond b p.quad p.s) apart.0 in
+          let here : word_price p rom store (eqb (suc k) 0) x ≡ p.s =
+          word ∙ ap (λ b. cond b p.quad p.s) apart.0 in
           rw same (plain_step p.n k p.s ((a / 4 + k) / 4 - a / 4 / 4) d _ _ before here)
     ]
 
@@ -144,7 +155,8 @@ split_quad p = omega (arith, p.s_first)
 ram_above : (p : Profile) (store : Bool) (k : ℕ) (b : Access) → IsBlockOf Ram (suc k) b
     → transfer_price p (suc k) store b ≤ worst_block p Ram (suc k) store
 ram_above p store k b h =
-    above_sum p.n p.s (p.quad - p.s) k (suc k - 1) ((b.address / 4 + k) / 4 - b.address / 4 / 4) ((suc k + 2) / 4) _
+    let first = b.address / 4 in
+    above_sum p.n p.s (p.quad - p.s) k (suc k - 1) ((first + k) / 4 - first / 4) ((suc k + 2) / 4) _
     (ram_block p b.rom store b.address k (p.quad - p.s) (split_quad p) h.each) (omega arith) (omega arith)
 
 -- from 12 on, words 1, 5, 9 and 13 stand at multiples of 16
@@ -152,11 +164,13 @@ pub ram_block_at : (p : Profile) (base k : ℕ) (store : Bool) (rom : RomTimes) 
     → base + 12 + 4 * suc k ≤ 0x3000000
     → IsDearestBlock p Ram (suc k) store (record { address = base + 12; rom = rom })
 ram_block_at p base k store rom whole room =
-    let each : (i : ℕ) → i < suc k → class_at (word_address (base + 12) i) ≡ Ram = λ i h. class_ram (word_address (base + 12) i) (omega arith) in
+    let each : (i : ℕ) → i < suc k → class_at (word_address (base + 12) i) ≡ Ram =
+    λ i h. class_ram (word_address (base + 12) i) (omega arith) in
+    let first = (base + 12) / 4 in
     record {
       of_class = record { below = omega arith; each = each };
       price =
-          same_sum p.n p.s (p.quad - p.s) k (suc k - 1) (((base + 12) / 4 + k) / 4 - (base + 12) / 4 / 4) ((suc k + 2) / 4) _
+          same_sum p.n p.s (p.quad - p.s) k (suc k - 1) ((first + k) / 4 - first / 4) ((suc k + 2) / 4) _
           (ram_block p rom store (base + 12) k (p.quad - p.s) (split_quad p) each) (omega arith) (omega arith);
     }
 
@@ -173,7 +187,10 @@ rom_fold p false k = refl
 rom_above : (p : Profile) (store : Bool) (k : ℕ) (b : Access) → IsBlockOf Rom k b
     → transfer_price p k store b ≤ worst_block p Rom k store
 rom_above p store k b h =
-    omega (arith, block_le p b.rom store b.address (cond store p.control (worst_rom p)) k (λ i l first. rom_word_le p b.rom store first (word_address b.address i) (h.each i l)), rom_fold p store k)
+    let top : ℕ = cond store p.control (worst_rom p) in
+    let each : (i : ℕ) → i < k → (first : Bool) → word_price p b.rom store first (word_address b.address i) ≤ top =
+    λ i l first. rom_word_le p b.rom store first (word_address b.address i) (h.each i l) in
+    omega (arith, block_le p b.rom store b.address top k each, rom_fold p store k)
 
 rom_same : (p : Profile) (i : ℕ) (h : i < 4) (x : ℕ)
     → rom_price p (times i h) x ≡ choice i p.rom_0 p.rom_1 p.rom_2 p.rom_3
@@ -191,15 +208,21 @@ dearest_times p =
 
 pub rom_load : (p : Profile) (k : ℕ) (b : Access) → AreDearest p b.rom → IsBlockOf Rom k b
     → IsDearestBlock p Rom k false b
-rom_load p k b best h = record {
-  of_class = h;
-  price = block_is p b.rom false b.address (worst_rom p) k (λ i l first. word_at p b.rom false first (word_address b.address i) Rom (h.each i l) ∙ best (word_address b.address i));
-}
+rom_load p k b best h =
+    let x = λ (i : ℕ). word_address b.address i in
+    record {
+      of_class = h;
+      price =
+          block_is p b.rom false b.address (worst_rom p) k
+          (λ i l first. word_at p b.rom false first (x i) Rom (h.each i l) ∙ best (x i));
+    }
 
 pub rom_store : (p : Profile) (k : ℕ) (b : Access) → IsBlockOf Rom k b → IsDearestBlock p Rom k true b
 rom_store p k b h = record {
   of_class = h;
-  price = block_is p b.rom true b.address p.control k (λ i l first. word_at p b.rom true first (word_address b.address i) Rom (h.each i l));
+  price =
+      block_is p b.rom true b.address p.control k
+      (λ i l first. word_at p b.rom true first (word_address b.address i) Rom (h.each i l));
 }
 
 rom_block : (p : Profile) (store : Bool) (k : ℕ) (b : Access) → AreDearest p b.rom → IsBlockOf Rom k b
@@ -208,46 +231,64 @@ rom_block p true k b best h = rom_store p k b h
 rom_block p false k b best h = rom_load p k b best h
 
 io_above : (p : Profile) (store : Bool) (k : ℕ) (b : Access) → transfer_price p k store b ≤ k * worst_io p
-io_above p store k b = block_le p b.rom store b.address (worst_io p) k (λ i l first. word_le p b.rom store first (word_address b.address i))
+io_above p store k b =
+    block_le p b.rom store b.address (worst_io p) k
+    (λ i l first. word_le p b.rom store first (word_address b.address i))
+
+-- the start of the devices of a speed
+abbrev page : ℕ → ℕ
+page f = 0x3000000 + 0x80000 * f
 
 from_io : (f k : ℕ) → f < 4 → k ≤ 16 → (i : ℕ) → i < k
-    → (class_at (word_address (0x3000000 + 0x80000 * f) i) ≡ Io) × (word_address (0x3000000 + 0x80000 * f) i / 0x80000 % 4 ≡ f)
-from_io f k g few i h = (class_io (word_address (0x3000000 + 0x80000 * f) i) (omega arith) (omega arith), omega arith)
+    → (class_at (word_address (page f) i) ≡ Io) × (word_address (page f) i / 0x80000 % 4 ≡ f)
+from_io f k g few i h = (class_io (word_address (page f) i) (omega arith) (omega arith), omega arith)
 
 io_word_is : (p : Profile) (rom : RomTimes) (store first : Bool) (x f : ℕ) → class_at x ≡ Io
     → x / 0x80000 % 4 ≡ f → choice f p.slow p.medium p.fast p.synchronous ≡ worst_io p
     → word_price p rom store first x ≡ worst_io p
-io_word_is p rom store first x f e g best = word_at p rom store first x Io e ∙ ap (λ f. choice f p.slow p.medium p.fast p.synchronous) g ∙ best
+io_word_is p rom store first x f e g best =
+    word_at p rom store first x Io e ∙ ap (λ f. choice f p.slow p.medium p.fast p.synchronous) g ∙ best
 
--- a block at the start of the dearest page of devices
+-- a block at the start of the dearest devices
 pub io_block : (p : Profile) (f : ℕ) → f < 4 → choice f p.slow p.medium p.fast p.synchronous ≡ worst_io p
     → (k : ℕ) → k ≤ 16 → (store : Bool) (rom : RomTimes)
     → IsDearestBlock p Io k store (record { address = 0x3000000 + 0x80000 * f; rom = rom })
-io_block p f g best k few store rom = record {
-  of_class = record { below = omega arith; each = λ i l. (from_io f k g few i l).0 };
-  price =
-      block_is p rom store (0x3000000 + 0x80000 * f) (worst_io p) k
-      (λ i l first. io_word_is p rom store first (word_address (0x3000000 + 0x80000 * f) i) f (from_io f k g few i l).0 (from_io f k g few i l).1 best);
-}
+io_block p f g best k few store rom =
+    let at = from_io f k g few in
+    record {
+      of_class = record { below = omega arith; each = λ i l. (at i l).0 };
+      price =
+          block_is p rom store (page f) (worst_io p) k
+          (λ i l first. io_word_is p rom store first (word_address (page f) i) f (at i l).0 (at i l).1 best);
+    }
 
 pub any_block : (p : Profile) (k : ℕ) (store : Bool) (b : Access) → IsDearestBlock p Io k store b
     → IsDearestBlock p Any k store b
-any_block p k store b io = record { of_class = record { below = io.of_class.below; each = λ i l. tt }; price = io.price }
+any_block p k store b io = record {
+  of_class = record { below = io.of_class.below; each = λ i l. tt };
+  price = io.price;
+}
+
+-- some time fields
+abbrev some_times : RomTimes
+some_times = times 0 (omega arith)
 
 -- some block of each class costs the most
 dearest_io : (p : Profile) (k : ℕ) (store : Bool) → k ≤ 16 → (b : Access) × IsDearestBlock p Io k store b
 dearest_io p k store few =
     let best = choice_reached p.slow p.medium p.fast p.synchronous in
-    (record { address = 0x3000000 + 0x80000 * best.0; rom = times 0 (omega arith) }, io_block p best.0 best.1 best.2 k few store (times 0 (omega arith)))
+    (record { address = page best.0; rom = some_times }, io_block p best.0 best.1 best.2 k few store some_times)
 
 dearest_block : (p : Profile) (class : Class) (k : ℕ) (store : Bool) → suc k ≤ 16
     → (b : Access) × IsDearestBlock p class (suc k) store b
-dearest_block p Ram k store few = (record { address = 12; rom = times 0 (omega arith) }, ram_block_at p 0 k store (times 0 (omega arith)) refl (omega arith))
+dearest_block p Ram k store few =
+    (record { address = 12; rom = some_times }, ram_block_at p 0 k store some_times refl (omega arith))
 dearest_block p Rom k store few =
-    let best = dearest_times p in (
-      record { address = 0x3400000; rom = best.0 },
-      rom_block p store (suc k) (record { address = 0x3400000; rom = best.0 }) best.1 (record { below = omega arith; each = λ i l. class_rom (word_address 0x3400000 i) (omega arith) }),
-    )
+    let best = dearest_times p in
+    let start : Access = record { address = 0x3400000; rom = best.0 } in
+    let of_class : IsBlockOf Rom (suc k) start =
+    record { below = omega arith; each = λ i l. class_rom (word_address 0x3400000 i) (omega arith) } in
+    (start, rom_block p store (suc k) start best.1 of_class)
 dearest_block p Io k store few = dearest_io p (suc k) store few
 dearest_block p Any k store few =
     let best = dearest_io p (suc k) store few in
@@ -279,5 +320,7 @@ pub worst_block_small : (p : Profile) (class : Class) (words : ℕ) (store : Boo
     → words ≤ 16 → top ≡ worst_block p class words store → top ≤ 255 * words
 worst_block_small p class words store top some few e =
     let best = (worst_transfer_greatest p class words store top some few e).reached in
-    let each : (i : ℕ) → i < words → (first : Bool) → word_price p best.0.rom store first (word_address best.0.address i) ≤ 255 = λ i h first. word_small p best.0.rom store first (word_address best.0.address i) in
-    omega (arith, best.2, block_le p best.0.rom store best.0.address 255 words each)
+    let b = best.0 in
+    let each : (i : ℕ) → i < words → (first : Bool) → word_price p b.rom store first (word_address b.address i) ≤ 255 =
+    λ i h first. word_small p b.rom store first (word_address b.address i) in
+    omega (arith, best.2, block_le p b.rom store b.address 255 words each)

@@ -68,8 +68,9 @@ pub fn dearest_device(profile: &Profile) -> u32
     IO_START + 0x80000 * field
 }
 
-/// How many bytes after a multiple of 16 a transfer of 1 to 16 words starts that costs the most in RAM, by any
-/// profile and time fields of ROM: its second word, and each fourth from there, stands at a multiple of 16.
+/// How many bytes after a multiple of 16 a transfer that costs the most in RAM starts, whatever its length,
+/// the profile and the time fields of ROM: its second word, and each fourth from there, stands at a multiple
+/// of 16.
 pub fn dearest_ram_start() -> u32
     ensures whole { result % 4 ≡ 0 }
     ensures below { result < 16 }

@@ -14,8 +14,8 @@ pub fn memory_map()
     ensures end { SPACE_END ≡ 0x4000000 }
 {}
 
-/// States that at the dearest time fields of ROM each fetch costs the most that it can at its address, whether
-/// or not it follows the access before it. It does nothing.
+/// States that at the dearest time fields of ROM each fetch costs the most that it can at its address, both
+/// one that follows the access before it and one that does not. It does nothing.
 pub fn fetches_cost_the_worst()
     ensures n { (profile : Profile) → (rom : RomTimes) → AreDearest profile rom → (x : ℕ)
         → n_price profile rom x ≡ worst_n_price profile x }
