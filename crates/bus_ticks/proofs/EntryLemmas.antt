@@ -7,7 +7,7 @@ use Rattle.bus_ticks.specs.declared.profile.Class.TheVariants.{Ram, Rom, Io, Any
 use Rattle.bus_ticks.specs.Prices.{s_price}
 use Rattle.bus_ticks.specs.Worst.{Access, IsGreatest, IsTargetOf, fiq_entry, fiq_entry_price, worst_rom}
 use Rattle.bus_ticks.proofs.LeaveLemmas.{class_tells, s_at, s_ram_le}
-use Rattle.bus_ticks.proofs.WorstLemmas.{dearest_times, rom_le, times}
+use Rattle.bus_ticks.proofs.WorstLemmas.{dearest_times, rom_le}
 
 -- the greatest price of a fetch that follows the one before it
 abbrev dearest : Profile → ℕ
@@ -33,14 +33,16 @@ reached p =
     let best = dearest_times p in
     elim (cases_lt p.quad (max (worst_rom p) p.unfitted)) [
       | inl dear ↦ elim (cases_lt (worst_rom p) p.unfitted) [
-        | inl h ↦ at p (record { address = 0x2FFFFF8; rom = times 0 (omega arith) }) _ (omega arith) (omega arith)
-        | inr h ↦ at p (record { address = 0x33FFFF8; rom = best.0 }) _ (omega arith) (omega (arith, best.1 0x3400000))
+        | inl h ↦ at p (record { address = 0x2FFFFF8; rom = best.0 }) _ (omega arith) (omega arith)
+        | inr h ↦
+            at p (record { address = 0x33FFFF8; rom = best.0 }) _ (omega arith)
+            (omega (arith, best.1 0x3400000))
       ]
-      | inr cheap ↦ at p (record { address = 8; rom = times 0 (omega arith) }) _ (omega arith) (omega arith)
+      | inr cheap ↦ at p (record { address = 8; rom = best.0 }) _ (omega arith) (omega arith)
     ]
 
-pub fiq_entry_greatest : (p : Profile) (top : ℕ) → top ≡ fiq_entry p → IsGreatest (IsTargetOf Any)
-    (fiq_entry_price p) top
+pub fiq_entry_greatest : (p : Profile) (top : ℕ) → top ≡ fiq_entry p
+    → IsGreatest (IsTargetOf Any) (fiq_entry_price p) top
 fiq_entry_greatest p top e =
     rw e (record {
       none_above = λ t h. omega (arith, following_le p t.rom ((t.address + 8) % 0x4000000));

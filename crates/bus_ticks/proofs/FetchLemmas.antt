@@ -19,7 +19,8 @@ dearest : (p : Profile) (x ram io top : ℕ) → top ≡ by_class (class_at x) r
 dearest p x ram io top e =
     let best = dearest_times p in
     rw e (record {
-      none_above = λ rom any. by_class_rises (class_at x) ram (rom_price p rom x) (worst_rom p) io (rom_le p rom x);
+      none_above =
+          λ rom any. by_class_rises (class_at x) ram (rom_price p rom x) (worst_rom p) io (rom_le p rom x);
       reached = (best.0, tt, ap (λ r. by_class (class_at x) ram r io) (best.1 x));
     })
 

@@ -59,7 +59,9 @@ pub word_le : (p : Profile) (rom : RomTimes) (store first : Bool) (x : ℕ)
     → word_price p rom store first x ≤ worst_io p
 word_le p rom store first x =
     by_class_le (class_at x) _ _ _ _
-    (cond_le first _ _ _ p.n_below (cond_le (eqb (x % 16) 0) _ _ _ (omega (arith, p.n_below, p.quad_second)) (omega (arith, p.n_below, p.quad_second, p.s_first))))
+    (cond_le first _ _ _ p.n_below (cond_le (eqb (x % 16) 0) _ _ _
+    (omega (arith, p.n_below, p.quad_second))
+    (omega (arith, p.n_below, p.quad_second, p.s_first))))
     (cond_le store _ _ _ p.control_below (omega (arith, rom_le p rom x, p.rom_below)))
     (io_le p x)
 
@@ -75,7 +77,8 @@ pub block_le : (p : Profile) (rom : RomTimes) (store : Bool) (a top k : ℕ)
 unfolding block_price
 block_le p rom store a top zero each = omega arith
 block_le p rom store a top (suc k) each =
-    omega (arith, block_le p rom store a top k (λ i h first. each i (omega arith) first), each k (omega arith) (eqb k 0))
+    let before = block_le p rom store a top k (λ i h first. each i (omega arith) first) in
+    omega (arith, before, each k (omega arith) (eqb k 0))
 
 pub block_is : (p : Profile) (rom : RomTimes) (store : Bool) (a top k : ℕ)
     → ((i : ℕ) → i < k → (first : Bool) → word_price p rom store first (word_address a i) ≡ top)
@@ -83,13 +86,16 @@ pub block_is : (p : Profile) (rom : RomTimes) (store : Bool) (a top k : ℕ)
 unfolding block_price
 block_is p rom store a top zero each = omega arith
 block_is p rom store a top (suc k) each =
-    omega (arith, block_is p rom store a top k (λ i h first. each i (omega arith) first), each k (omega arith) (eqb k 0))
+    let before = block_is p rom store a top k (λ i h first. each i (omega arith) first) in
+    omega (arith, before, each k (omega arith) (eqb k 0))
 
 -- the price of a word, by its class
 pub word_at : (p : Profile) (rom : RomTimes) (store first : Bool) (x : ℕ) (c : Class) → class_at x ≡ c
     → word_price p rom store first x ≡ by_class c (cond first p.n (cond (eqb (x % 16) 0) p.quad p.s))
     (cond store p.control (rom_price p rom x)) (io_price p x)
-word_at p rom store first x c e = ap (λ c. by_class c (cond first p.n (cond (eqb (x % 16) 0) p.quad p.s)) (cond store p.control (rom_price p rom x)) (io_price p x)) e
+word_at p rom store first x c e =
+    let ram : ℕ = cond first p.n (cond (eqb (x % 16) 0) p.quad p.s) in
+    ap (λ c. by_class c ram (cond store p.control (rom_price p rom x)) (io_price p x)) e
 
 quad_step : (n k s m d before word : ℕ) → before ≡ n + k * s + m * d → word ≡ s + d
     → before + word ≡ n + suc k * s + suc m * d
@@ -117,7 +123,8 @@ ram_block p rom store a (suc k) d e each =
     ∙ ap (λ b. cond b p.n follows) later in
     elim (eqb_tells (x % 16) 0) [
       | inl at_quad ↦
-          let more : (a / 4 + suc k) / 4 - a / 4 / 4 ≡ suc ((a / 4 + k) / 4 - a / 4 / 4) = omega (arith, at_quad.1) in
+          let more : (a / 4 + suc k) / 4 - a / 4 / 4 ≡ suc ((a / 4 + k) / 4 - a / 4 / 4) =
+          omega (arith, at_quad.1) in
           let here : word_price p rom store (eqb (suc k) 0) x ≡ p.s + d =
           word ∙ ap (λ b. cond b p.quad p.s) at_quad.0 ∙ e in
           rw more (quad_step p.n k p.s ((a / 4 + k) / 4 - a / 4 / 4) d _ _ before here)
@@ -138,7 +145,7 @@ pub class_rom : (x : ℕ) → 0x3400000 ≤ x → class_at x ≡ Rom
 class_rom x l = grind (arith, nat_tests)
 
 -- the same field in both halves
-abbrev pub times : (i : ℕ) → i < 4 → RomTimes
+abbrev times : (i : ℕ) → i < 4 → RomTimes
 times i h = record { low = i; high = i; low_in_range = h; high_in_range = h }
 
 same_sum : (n s d k k' m m' x : ℕ) → x ≡ n + k * s + m * d → k' ≡ k → m' ≡ m → x ≡ n + k' * s + m' * d
@@ -188,7 +195,8 @@ rom_above : (p : Profile) (store : Bool) (k : ℕ) (b : Access) → IsBlockOf Ro
     → transfer_price p k store b ≤ worst_block p Rom k store
 rom_above p store k b h =
     let top : ℕ = cond store p.control (worst_rom p) in
-    let each : (i : ℕ) → i < k → (first : Bool) → word_price p b.rom store first (word_address b.address i) ≤ top =
+    let each : (i : ℕ) → i < k → (first : Bool)
+    → word_price p b.rom store first (word_address b.address i) ≤ top =
     λ i l first. rom_word_le p b.rom store first (word_address b.address i) (h.each i l) in
     omega (arith, block_le p b.rom store b.address top k each, rom_fold p store k)
 
@@ -277,7 +285,8 @@ some_times = times 0 (omega arith)
 dearest_io : (p : Profile) (k : ℕ) (store : Bool) → k ≤ 16 → (b : Access) × IsDearestBlock p Io k store b
 dearest_io p k store few =
     let best = choice_reached p.slow p.medium p.fast p.synchronous in
-    (record { address = page best.0; rom = some_times }, io_block p best.0 best.1 best.2 k few store some_times)
+    let block : Access = record { address = page best.0; rom = some_times } in
+    (block, io_block p best.0 best.1 best.2 k few store some_times)
 
 dearest_block : (p : Profile) (class : Class) (k : ℕ) (store : Bool) → suc k ≤ 16
     → (b : Access) × IsDearestBlock p class (suc k) store b
@@ -302,16 +311,15 @@ above p Io k store b h = io_above p store (suc k) b
 above p Any k store b h = io_above p store (suc k) b
 
 pub worst_block_greatest : (p : Profile) (class : Class) (k : ℕ) (store : Bool) → suc k ≤ 16
-    → IsGreatest (IsBlockOf class (suc k)) (transfer_price p (suc k) store)
-    (worst_block p class (suc k) store)
+    → IsGreatest (IsBlockOf class (suc k)) (transfer_price p (suc k) store) (worst_block p class (suc k) store)
 worst_block_greatest p class k store few =
     let best = dearest_block p class k store few in
     record { none_above = above p class k store; reached = (best.0, best.1.of_class, best.1.price) }
 
 -- the same, as a call has it
 pub worst_transfer_greatest : (p : Profile) (class : Class) (words : ℕ) (store : Bool) (top : ℕ) → 1 ≤ words
-    → words ≤ 16 → top ≡ worst_block p class words store → IsGreatest (IsBlockOf class words)
-    (transfer_price p words store) top
+    → words ≤ 16 → top ≡ worst_block p class words store
+    → IsGreatest (IsBlockOf class words) (transfer_price p words store) top
 worst_transfer_greatest p class zero store top some few e = absurd (omega arith)
 worst_transfer_greatest p class (suc k) store top some few e = rw e (worst_block_greatest p class k store few)
 
@@ -321,6 +329,7 @@ pub worst_block_small : (p : Profile) (class : Class) (words : ℕ) (store : Boo
 worst_block_small p class words store top some few e =
     let best = (worst_transfer_greatest p class words store top some few e).reached in
     let b = best.0 in
-    let each : (i : ℕ) → i < words → (first : Bool) → word_price p b.rom store first (word_address b.address i) ≤ 255 =
+    let each : (i : ℕ) → i < words → (first : Bool)
+    → word_price p b.rom store first (word_address b.address i) ≤ 255 =
     λ i h first. word_small p b.rom store first (word_address b.address i) in
     omega (arith, best.2, block_le p b.rom store b.address 255 words each)

@@ -9,5 +9,5 @@ returns-clause-block c =
 pub returns-clause-any : goal.returns-clause-any
 returns-clause-any c words few store rom =
     let field = c.dearest_of-field in
-    let io = io_block c.args.profile.now field.result field.ensures.few field.ensures.dearest words few store rom in
-    any_block c.args.profile.now words store _ io
+    any_block c.args.profile.now words store _
+    (io_block c.args.profile.now field.result field.ensures.few field.ensures.dearest words few store rom)
