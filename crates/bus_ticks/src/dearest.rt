@@ -9,7 +9,8 @@ use crate::profile::{Class, Profile, RomTimes};
 use crate::space::{IO_START, ROM_START, SPACE_END};
 use crate::worst::{greatest_of, worst_leave_ticks, worst_rom_ticks};
 
-// The last word before a multiple of 16, in bytes after the one before: the word that follows costs quad.
+// Where the last word before a multiple of 16 stands, in bytes after the multiple before it: the word that
+// follows costs quad.
 const BEFORE_QUAD: u32 = 12;
 
 // Which of the four is the greatest, from 0: the first of those that are.
