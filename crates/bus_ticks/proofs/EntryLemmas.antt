@@ -1,5 +1,5 @@
 -- Bounds on the price of taking FIQ, and interrupted addresses that have them.
-use Rattle.std.proofs.Common.{ℕ, ◌+◌, ◌%◌, ◌≤◌, ◌<◌, ◌≡◌, refl, inl, inr, arith, eqb, max}
+use Rattle.std.proofs.Common.{ℕ, ◌+◌, ◌%◌, ◌≤◌, ◌<◌, ◌≡◌, inl, inr, arith, eqb, max}
 use Rattle.std.proofs.lemmas.Bool.{cases_lt}
 use Rattle.bus_ticks.specs.declared.profile.Profile.{Profile}
 use Rattle.bus_ticks.specs.declared.profile.RomTimes.{RomTimes}
@@ -7,7 +7,7 @@ use Rattle.bus_ticks.specs.declared.profile.Class.TheVariants.{Ram, Rom, Io, Any
 use Rattle.bus_ticks.specs.Prices.{s_price}
 use Rattle.bus_ticks.specs.Worst.{Access, IsGreatest, IsTargetOf, fiq_entry, fiq_entry_price, worst_rom}
 use Rattle.bus_ticks.proofs.LeaveLemmas.{class_tells, s_at, s_ram_le}
-use Rattle.bus_ticks.proofs.WorstLemmas.{choice_reached, rom_le, times}
+use Rattle.bus_ticks.proofs.WorstLemmas.{dearest_times, rom_le}
 
 -- the greatest price of a fetch that follows the one before it
 abbrev dearest : Profile → ℕ
@@ -30,16 +30,19 @@ at p t top below e = (t, record { below = below; is_of = tt }, e)
 
 reached : (p : Profile) → Reaches p (fiq_entry p)
 reached p =
-    let best = choice_reached p.rom_0 p.rom_1 p.rom_2 p.rom_3 in
+    let best = dearest_times p in
     elim (cases_lt p.quad (max (worst_rom p) p.unfitted)) [
       | inl dear ↦ elim (cases_lt (worst_rom p) p.unfitted) [
-        | inl h ↦ at p (record { address = 0x2FFFFF8; rom = times 0 (omega arith) }) _ (omega arith) (omega arith)
-        | inr h ↦ at p (record { address = 0x33FFFF8; rom = times best.0 best.1 }) _ (omega arith) (omega (arith, best.2))
+        | inl h ↦ at p (record { address = 0x2FFFFF8; rom = best.0 }) _ (omega arith) (omega arith)
+        | inr h ↦
+            at p (record { address = 0x33FFFF8; rom = best.0 }) _ (omega arith)
+            (omega (arith, best.1 0x3400000))
       ]
-      | inr cheap ↦ at p (record { address = 8; rom = times 0 (omega arith) }) _ (omega arith) (omega arith)
+      | inr cheap ↦ at p (record { address = 8; rom = best.0 }) _ (omega arith) (omega arith)
     ]
 
-pub fiq_entry_greatest : (p : Profile) (top : ℕ) → top ≡ fiq_entry p → IsGreatest (IsTargetOf Any) (fiq_entry_price p) top
+pub fiq_entry_greatest : (p : Profile) (top : ℕ) → top ≡ fiq_entry p
+    → IsGreatest (IsTargetOf Any) (fiq_entry_price p) top
 fiq_entry_greatest p top e =
     rw e (record {
       none_above = λ t h. omega (arith, following_le p t.rom ((t.address + 8) % 0x4000000));

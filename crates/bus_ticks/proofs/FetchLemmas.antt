@@ -1,11 +1,11 @@
 -- A fetch with Rom at its dearest field is the dearest one.
-use Rattle.std.proofs.Common.{ℕ, ◌%◌, ◌≤◌, ◌≡◌, ap, ◌∙◌, arith, eqb, cond}
+use Rattle.std.proofs.Common.{ℕ, ◌%◌, ◌≤◌, ◌≡◌, ap, arith, eqb, cond}
 use Rattle.bus_ticks.specs.declared.profile.Profile.{Profile}
 use Rattle.bus_ticks.specs.declared.profile.Class.{Class}
 use Rattle.bus_ticks.specs.declared.profile.Class.TheVariants.{Ram, Rom, Io, Any}
 use Rattle.bus_ticks.specs.Prices.{class_at, by_class, rom_price, n_price, s_price}
 use Rattle.bus_ticks.specs.Worst.{IsAnyTimes, IsGreatest, worst_rom, worst_n_price, worst_s_price}
-use Rattle.bus_ticks.proofs.WorstLemmas.{choice_reached, rom_le, rom_same, times}
+use Rattle.bus_ticks.proofs.WorstLemmas.{dearest_times, rom_le}
 
 by_class_rises : (c : Class) (ram rom top io : ℕ) → rom ≤ top → by_class c ram rom io ≤ by_class c ram top io
 by_class_rises Ram ram rom top io h = omega arith
@@ -14,16 +14,20 @@ by_class_rises Io ram rom top io h = omega arith
 by_class_rises Any ram rom top io h = omega arith
 
 -- a price that differs in Rom alone
-dearest : (p : Profile) (x ram io top : ℕ) → top ≡ by_class (class_at x) ram (worst_rom p) io → IsGreatest IsAnyTimes (λ rom. by_class (class_at x) ram (rom_price p rom x) io) top
+dearest : (p : Profile) (x ram io top : ℕ) → top ≡ by_class (class_at x) ram (worst_rom p) io
+    → IsGreatest IsAnyTimes (λ rom. by_class (class_at x) ram (rom_price p rom x) io) top
 dearest p x ram io top e =
-    let best = choice_reached p.rom_0 p.rom_1 p.rom_2 p.rom_3 in
+    let best = dearest_times p in
     rw e (record {
-      none_above = λ rom any. by_class_rises (class_at x) ram (rom_price p rom x) (worst_rom p) io (rom_le p rom x);
-      reached = (times best.0 best.1, tt, ap (λ r. by_class (class_at x) ram r io) (rom_same p best.0 best.1 x ∙ best.2));
+      none_above =
+          λ rom any. by_class_rises (class_at x) ram (rom_price p rom x) (worst_rom p) io (rom_le p rom x);
+      reached = (best.0, tt, ap (λ r. by_class (class_at x) ram r io) (best.1 x));
     })
 
-pub n_greatest : (p : Profile) (x top : ℕ) → top ≡ worst_n_price p x → IsGreatest IsAnyTimes (λ rom. n_price p rom x) top
+pub n_greatest : (p : Profile) (x top : ℕ) → top ≡ worst_n_price p x
+    → IsGreatest IsAnyTimes (λ rom. n_price p rom x) top
 n_greatest p x top e = dearest p x p.n p.unfitted top e
 
-pub s_greatest : (p : Profile) (x top : ℕ) → top ≡ worst_s_price p x → IsGreatest IsAnyTimes (λ rom. s_price p rom x) top
+pub s_greatest : (p : Profile) (x top : ℕ) → top ≡ worst_s_price p x
+    → IsGreatest IsAnyTimes (λ rom. s_price p rom x) top
 s_greatest p x top e = dearest p x (cond (eqb (x % 16) 0) p.quad p.s) p.unfitted top e

@@ -2,3 +2,4 @@ pub mod Numbers
 pub mod Ranges
 pub mod Prices
 pub mod Worst
+pub mod Dearest

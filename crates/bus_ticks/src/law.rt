@@ -1,5 +1,9 @@
-ghost use Rattle.std.specs.Prelude.{◌≡◌};
+ghost use Rattle.std.specs.Prelude.{◌≡◌, ℕ, false, true};
+ghost use Rattle.bus_ticks.specs.Prices.{n_price, s_price};
+ghost use Rattle.bus_ticks.specs.Worst.{Access, IsBlockOf, worst_n_price, worst_s_price};
+ghost use Rattle.bus_ticks.specs.Dearest.{AreDearest, IsDearestBlock};
 
+use crate::profile::{Class, Profile, RomTimes};
 use crate::space::{IO_START, ROM_START, SPACE_END};
 
 /// States where the kinds of memory stand: RAM up to 2FFFFFF, I/O from 3000000 to 33FFFFF, ROM from 3400000 to
@@ -8,4 +12,23 @@ pub fn memory_map()
     ensures io { IO_START ≡ 0x3000000 }
     ensures rom { ROM_START ≡ 0x3400000 }
     ensures end { SPACE_END ≡ 0x4000000 }
+{}
+
+/// States that at the dearest time fields of ROM each fetch costs the most that it can at its address, both
+/// one that follows the access before it and one that does not. It does nothing.
+pub fn fetches_cost_the_worst()
+    ensures n { (profile : Profile) → (rom : RomTimes) → AreDearest profile rom → (x : ℕ)
+        → n_price profile rom x ≡ worst_n_price profile x }
+    ensures s { (profile : Profile) → (rom : RomTimes) → AreDearest profile rom → (x : ℕ)
+        → s_price profile rom x ≡ worst_s_price profile x }
+{}
+
+/// States that where a transfer starts in ROM does not change what it costs, if all its words are in ROM: at
+/// the dearest time fields each load costs the most, and each store, which goes to a control register, by any
+/// time fields. It does nothing.
+pub fn rom_blocks_cost_the_worst()
+    ensures load { (profile : Profile) → (words : ℕ) → (block : Access) → AreDearest profile block.rom
+        → IsBlockOf Class.Rom words block → IsDearestBlock profile Class.Rom words false block }
+    ensures store { (profile : Profile) → (words : ℕ) → (block : Access)
+        → IsBlockOf Class.Rom words block → IsDearestBlock profile Class.Rom words true block }
 {}

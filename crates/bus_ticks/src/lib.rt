@@ -4,13 +4,15 @@
 //! address, on whether it follows the access before it, and on the fifteen numbers of a [`Profile`].
 #![tactic(auto)]
 
+mod dearest;
 mod law;
 mod prices;
 mod profile;
 mod space;
 mod worst;
 
-pub use law::memory_map;
+pub use dearest::{dearest_device, dearest_leave, dearest_ram_start, dearest_rom_times};
+pub use law::{fetches_cost_the_worst, memory_map, rom_blocks_cost_the_worst};
 pub use prices::{class_of, fetch_n, fetch_s, transfer};
 pub use profile::{Class, NumbersFault, Profile, RomTimes};
 pub use space::{IO_START, ROM_START, SPACE_END, word_address};

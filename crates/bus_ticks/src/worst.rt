@@ -9,13 +9,13 @@ use crate::prices::{class_of, ram_following};
 use crate::profile::{Class, Profile};
 use crate::space::SPACE_END;
 
-fn greatest_of(a: u32, b: u32, c: u32, d: u32) -> u32
+pub fn greatest_of(a: u32, b: u32, c: u32, d: u32) -> u32
     ensures { result ≡ greatest a b c d }
 {
     a.max(b).max(c.max(d))
 }
 
-fn worst_rom_ticks(profile: &Profile) -> u32
+pub fn worst_rom_ticks(profile: &Profile) -> u32
     ensures { result ≡ worst_rom profile.now }
 {
     greatest_of(profile.rom_0, profile.rom_1, profile.rom_2, profile.rom_3)
@@ -110,7 +110,7 @@ pub fn worst_transfer(profile: &Profile, class: Class, words: u32, store: bool) 
 }
 
 // The greatest price as a number.
-fn worst_leave_ticks(profile: &Profile, class: Class) -> u32
+pub fn worst_leave_ticks(profile: &Profile, class: Class) -> u32
     ensures { result ≡ worst_leave_of profile.now class }
 {
     let worst_rom = worst_rom_ticks(profile);

@@ -1,4 +1,4 @@
-use Rattle.std.proofs.Common.{◌≡◌, ◌≤◌, ◌*◌, ℕ, suc, ◌+◌, refl, arith}
+use Rattle.std.proofs.Common.{◌≡◌, suc, ◌+◌, refl, arith}
 use Rattle.bus_ticks.specs.Prices.{block_price}
 use Rattle.bus_ticks.proofs.prices.transfer.Goals as goal
 
