@@ -22,8 +22,8 @@ pub struct CheckNames<'a> {
     pub cert: &'a str,
 }
 
-/// The names of an interrupt handler's files, its source first, and of the statement on FIQ's handler, and how
-/// often FIQ interrupts it at most.
+/// The names of an interrupt handler's files, its source first, and of the statement on FIQ's handler, and
+/// how often FIQ interrupts it at most.
 #[derive(Clone, Copy)]
 pub struct VisitsNames<'a> {
     pub handler: Names<'a>,
