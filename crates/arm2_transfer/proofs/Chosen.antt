@@ -4,7 +4,6 @@ use Rattle.std.proofs.lemmas.Bool.Decides.{nat_tests}
 use Rattle.memc.specs.Memory.{located}
 use Rattle.memc.specs.declared.spots.Spot.{Spot}
 use Rattle.arm2_decode.specs.declared.instr.Block.{Block}
-use Rattle.arm2_decode.specs.declared.names.Register.{Register}
 use Rattle.arm2_effect.specs.declared.modes.Mode.{Mode}
 use Rattle.arm2_effect.specs.Modes.{r15_in}
 use Rattle.arm2_effect.specs.ProgramCounter.{mode_of}
@@ -36,16 +35,14 @@ single_at-moves x base port address user mode r found spot regs bus program_coun
     ap (λ (b : Bool). if b then single_by x base port (or_trouble (located bus.memc (address_for x base) (has_user_rights x (mode_of (r15_in regs))) (not x.load))) regs bus else out_of_space regs bus) test
     ∙ ap (λ (v : Result Spot Trouble). single_by x base port v regs bus) all
 
-pub block_at-moves : (x : Block) (span : Span) (port : ℕ) (user : Bool) (mode : Mode) (r : ℕ) (registers : List Register) (verdict : Result (List Move) Trouble) (moves : List Move) (regs : List ℕ) (bus : Bus) →
-    r ≡ r15_in regs → mode ≡ mode_of r → user ≡ is_user mode → registers ≡ registers_in x.list → span.lowest < 2 ^ 26 →
-    verdict ≡ verdict_of (words_from bus.memc user (not x.load) span.lowest 0 registers) → verdict ≡ Ok moves →
+pub block_at-moves : (x : Block) (span : Span) (port : ℕ) (user : Bool) (mode : Mode) (r : ℕ) (moves : List Move) (regs : List ℕ) (bus : Bus) →
+    r ≡ r15_in regs → mode ≡ mode_of r → user ≡ is_user mode → span.lowest < 2 ^ 26 →
+    verdict_of (words_from bus.memc user (not x.load) span.lowest 0 (registers_in x.list)) ≡ Ok moves →
     block_at x span port regs bus ≡ block_carried_out x span port moves regs bus
 unfolding block_at block_by
-block_at-moves x span port user mode r registers verdict moves regs bus program_counter in_mode rights listed below is ok =
-    let at : verdict_of (words_from bus.memc user (not x.load) span.lowest 0 (registers_in x.list)) ≡ Ok moves
-    = ap (λ (rs : List Register). verdict_of (words_from bus.memc user (not x.load) span.lowest 0 rs)) (sym listed) ∙ sym is ∙ ok in
+block_at-moves x span port user mode r moves regs bus program_counter in_mode rights below is =
     let same : is_user (mode_of (r15_in regs)) ≡ user = ap (λ (n : ℕ). is_user (mode_of n)) (sym program_counter) ∙ ap (λ (m : Mode). is_user m) (sym in_mode) ∙ sym rights in
     let all : verdict_of (words_from bus.memc (is_user (mode_of (r15_in regs))) (not x.load) span.lowest 0 (registers_in x.list)) ≡ Ok moves
-    = ap (λ (u : Bool). verdict_of (words_from bus.memc u (not x.load) span.lowest 0 (registers_in x.list))) same ∙ at in
+    = ap (λ (u : Bool). verdict_of (words_from bus.memc u (not x.load) span.lowest 0 (registers_in x.list))) same ∙ is in
     ap (λ (b : Bool). if b then block_by x span port (verdict_of (words_from bus.memc (is_user (mode_of (r15_in regs))) (not x.load) span.lowest 0 (registers_in x.list))) regs bus else out_of_space regs bus) (in_space span.lowest below)
     ∙ ap (λ (v : Result (List Move) Trouble). block_by x span port v regs bus) all
