@@ -72,6 +72,7 @@ some_listed rn list clash fits = by_count (count_ones list) refl
     by_base : (b : Bool) → ◌≡◌ {A = ℕ} (if b then 7 else 8) 0 → ⊥
     by_base true e = omega (arith, e)
     by_base false e = omega (arith, e)
+
     by_count : (n : ℕ) → count_ones list ≡ n → 1 ≤ length (registers_in list)
     by_count zero none = absurd (by_base (rn == 15) (ap (block_clash rn) (sym (zero_from_ones list none)) ∙ clash))
     by_count (suc n) some = omega (arith, some, words_are list fits)
