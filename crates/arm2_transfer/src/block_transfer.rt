@@ -181,30 +181,6 @@ fn store(
     }
 }
 
-#[tactic(auto, unfolding(crate::specs::Block::block_carried_out))]
-fn load_or_store(
-    registers: &mut Registers,
-    bus: &mut Bus,
-    inputs: Inputs,
-    block: PlacedBlock,
-    moves: &[Move],
-) -> Done
-    requires fit { AllFit bus.old.memc.shift moves.now }
-    requires below { block.span.lowest < 2 ^ 26 }
-    requires some { 1 ≤ block.span.words }
-    requires few { block.span.words ≤ 16 }
-    ensures moved { IsMoved inputs.prices.profile inputs.prices.rom result registers.new bus.new
-        (block_carried_out block.transfer block.span inputs.port moves.now registers.old bus.old) }
-    ensures bound { result.ticks < 2 ^ 16 }
-    ensures goes_on { is_stopped result.kind ≡ false }
-{
-    if block.transfer.load {
-        load(registers, bus, inputs, block, moves)
-    } else {
-        store(registers, bus, inputs.prices, block, moves)
-    }
-}
-
 #[tactic(auto, unfolding(crate::specs::Block::block_at, crate::specs::Block::block_by))]
 fn block_at(registers: &mut Registers, bus: &mut Bus, inputs: Inputs, block: PlacedBlock) -> Done
     requires some { 1 ≤ block.span.words }
@@ -222,7 +198,8 @@ fn block_at(registers: &mut Registers, bus: &mut Bus, inputs: Inputs, block: Pla
     let user = is_user(mode_of(registers.get(Reg::R15)));
     match locate_block(&bus.memc, list, lowest, user, !block.transfer.load) {
         Err(trouble) => refuse(registers, bus, inputs.prices, trouble),
-        Ok(moves) => load_or_store(registers, bus, inputs, block, moves.as_slice()),
+        Ok(moves) if block.transfer.load => load(registers, bus, inputs, block, moves.as_slice()),
+        Ok(moves) => store(registers, bus, inputs.prices, block, moves.as_slice()),
     }
 }
 
