@@ -1,6 +1,6 @@
 -- The verdict over the words of a block, on the way.
-use Rattle.std.proofs.Common.{◌≡◌, ℕ, ◌+◌, ◌<◌, ◌≤◌, Bool, true, false, ◌||◌, if◌then◌else◌, List, [], ◌∷◌, ◌++◌, length, drop, get_or, Result, Ok, Err, refl, sym, arith, ◌∙◌, ap, append_assoc}
-use Rattle.std.proofs.lemmas.List.{at_drop_more, length_push}
+use Rattle.std.proofs.Common.{◌≡◌, ℕ, ◌+◌, ◌<◌, Bool, true, false, ◌||◌, if◌then◌else◌, List, [], ◌∷◌, ◌++◌, length, drop, filter, cond, get_or, Result, Ok, Err, refl, sym, ◌∙◌, ap, append_assoc}
+use Rattle.std.proofs.lemmas.List.{at_drop_more}
 use Rattle.std.proofs.lemmas.List.Elements.{All-push}
 use Rattle.std.specs.List.{list_any}
 use Rattle.arm2_decode.specs.declared.names.Register.{Register}
@@ -12,7 +12,7 @@ use Rattle.arm2_transfer.specs.declared.words.Move.{Move}
 use Rattle.arm2_transfer.specs.declared.words.Trouble.{Trouble}
 use Rattle.arm2_transfer.specs.declared.words.Trouble.TheVariants as trouble
 use Rattle.bus_ticks.specs.Prices.{word_address}
-use Rattle.arm2_transfer.specs.Words.{Word, words_from, is_abort, is_unsupported, moves_of, or_trouble, AllFit}
+use Rattle.arm2_transfer.specs.Words.{Word, is_listed, words_from, is_abort, is_unsupported, moves_of, or_trouble, AllFit}
 
 -- the verdict where some words before these were moves, or were unsupported
 abbrev pub verdict_after : Bool → List Move → List Word → Result (List Move) Trouble
@@ -51,42 +51,43 @@ after-unsupported unsupported moves register (Err Protected) words e = cc
 after-unsupported true moves register (Err UnsupportedWrite) words e = refl
 after-unsupported false moves register (Err UnsupportedWrite) words e = refl
 
--- the words from number i on
-abbrev pub words_on : Memory → (user store : Bool) → (lowest : ℕ) → List Register → ℕ → List Word
-words_on m user store lowest registers i = words_from m user store lowest i (drop i registers)
+-- the words of the registers of a list among some, from word number n on
+abbrev pub words_among : Memory → (user store : Bool) → (lowest list n : ℕ) → List Register → List Word
+words_among m user store lowest list n registers = words_from m user store lowest n (filter (is_listed list) registers)
 
-words_on-more : (m : Memory) (user store : Bool) (lowest : ℕ) (registers : List Register) (i : ℕ) (d : Register) → i < length registers →
-    words_on m user store lowest registers i ≡ (get_or registers i d, located m (word_address lowest i) user store) ∷ words_on m user store lowest registers (i + 1)
-words_on-more m user store lowest registers i d h = at_drop_more (words_from m user store lowest i) registers i d h
+-- one register on
+among-more : (m : Memory) (user store : Bool) (lowest list n : ℕ) (registers : List Register) (i : ℕ) (d : Register) (b : Bool) → i < length registers → is_listed list (get_or registers i d) ≡ b →
+    words_among m user store lowest list n (drop i registers)
+    ≡ words_from m user store lowest n (cond b (get_or registers i d ∷ filter (is_listed list) (drop (i + 1) registers)) (filter (is_listed list) (drop (i + 1) registers)))
+among-more m user store lowest list n registers i d b h listed =
+    at_drop_more (words_among m user store lowest list n) registers i d h
+    ∙ ap (λ (b : Bool). words_from m user store lowest n (cond b (get_or registers i d ∷ filter (is_listed list) (drop (i + 1) registers)) (filter (is_listed list) (drop (i + 1) registers)))) listed
 
-pub verdict-ok : (m : Memory) (user store unsupported : Bool) (lowest at : ℕ) (registers : List Register) (i : ℕ) (d : Register) (moves new : List Move) (spot : Spot) →
-    i < length registers → at ≡ word_address lowest i → or_trouble (located m at user store) ≡ Ok spot → new ≡ moves ++ record { register = get_or registers i d; spot = spot } ∷ [] →
-    verdict_after unsupported new (words_on m user store lowest registers (i + 1)) ≡ verdict_after unsupported moves (words_on m user store lowest registers i)
-verdict-ok m user store unsupported lowest at registers i d moves new spot h here ok pushed =
-    let found : or_trouble (located m (word_address lowest i) user store) ≡ Ok spot = ap (λ (x : ℕ). or_trouble (located m x user store)) (sym here) ∙ ok in
-    ap (λ (all : List Move). verdict_after unsupported all (words_on m user store lowest registers (i + 1))) pushed
-    ∙ after-ok unsupported moves (get_or registers i d) spot (located m (word_address lowest i) user store) (words_on m user store lowest registers (i + 1)) found
-    ∙ ap (λ (words : List Word). verdict_after unsupported moves words) (sym (words_on-more m user store lowest registers i d h))
+pub verdict-ok : (m : Memory) (user store unsupported : Bool) (lowest at list n : ℕ) (registers : List Register) (i : ℕ) (d : Register) (moves new : List Move) (spot : Spot) →
+    i < length registers → is_listed list (get_or registers i d) ≡ true → at ≡ word_address lowest n → or_trouble (located m at user store) ≡ Ok spot → new ≡ moves ++ record { register = get_or registers i d; spot = spot } ∷ [] →
+    verdict_after unsupported new (words_among m user store lowest list (n + 1) (drop (i + 1) registers)) ≡ verdict_after unsupported moves (words_among m user store lowest list n (drop i registers))
+verdict-ok m user store unsupported lowest at list n registers i d moves new spot h listed here ok pushed =
+    let found : or_trouble (located m (word_address lowest n) user store) ≡ Ok spot = ap (λ (x : ℕ). or_trouble (located m x user store)) (sym here) ∙ ok in
+    ap (λ (all : List Move). verdict_after unsupported all (words_among m user store lowest list (n + 1) (drop (i + 1) registers))) pushed
+    ∙ after-ok unsupported moves (get_or registers i d) spot (located m (word_address lowest n) user store) (words_among m user store lowest list (n + 1) (drop (i + 1) registers)) found
+    ∙ ap (λ (words : List Word). verdict_after unsupported moves words) (sym (among-more m user store lowest list n registers i d true h listed))
 
-pub verdict-abort : (m : Memory) (user store unsupported : Bool) (lowest at : ℕ) (registers : List Register) (i : ℕ) (d : Register) (moves : List Move) →
-    i < length registers → at ≡ word_address lowest i → or_trouble (located m at user store) ≡ Err trouble.DataAbort →
-    Err trouble.DataAbort ≡ verdict_after unsupported moves (words_on m user store lowest registers i)
-verdict-abort m user store unsupported lowest at registers i d moves h here err =
-    let found : or_trouble (located m (word_address lowest i) user store) ≡ Err trouble.DataAbort = ap (λ (x : ℕ). or_trouble (located m x user store)) (sym here) ∙ err in
-    after-abort unsupported moves (get_or registers i d) (located m (word_address lowest i) user store) (words_on m user store lowest registers (i + 1)) found
-    ∙ ap (λ (words : List Word). verdict_after unsupported moves words) (sym (words_on-more m user store lowest registers i d h))
+pub verdict-abort : (m : Memory) (user store unsupported : Bool) (lowest at list n : ℕ) (registers : List Register) (i : ℕ) (d : Register) (moves : List Move) →
+    i < length registers → is_listed list (get_or registers i d) ≡ true → at ≡ word_address lowest n → or_trouble (located m at user store) ≡ Err trouble.DataAbort →
+    Err trouble.DataAbort ≡ verdict_after unsupported moves (words_among m user store lowest list n (drop i registers))
+verdict-abort m user store unsupported lowest at list n registers i d moves h listed here err =
+    let found : or_trouble (located m (word_address lowest n) user store) ≡ Err trouble.DataAbort = ap (λ (x : ℕ). or_trouble (located m x user store)) (sym here) ∙ err in
+    after-abort unsupported moves (get_or registers i d) (located m (word_address lowest n) user store) (words_among m user store lowest list (n + 1) (drop (i + 1) registers)) found
+    ∙ ap (λ (words : List Word). verdict_after unsupported moves words) (sym (among-more m user store lowest list n registers i d true h listed))
 
-pub verdict-unsupported : (m : Memory) (user store unsupported : Bool) (lowest at : ℕ) (registers : List Register) (i : ℕ) (d : Register) (moves : List Move) →
-    i < length registers → at ≡ word_address lowest i → or_trouble (located m at user store) ≡ Err trouble.UnsupportedWrite →
-    verdict_after true moves (words_on m user store lowest registers (i + 1)) ≡ verdict_after unsupported moves (words_on m user store lowest registers i)
-verdict-unsupported m user store unsupported lowest at registers i d moves h here err =
-    let found : or_trouble (located m (word_address lowest i) user store) ≡ Err trouble.UnsupportedWrite = ap (λ (x : ℕ). or_trouble (located m x user store)) (sym here) ∙ err in
-    after-unsupported unsupported moves (get_or registers i d) (located m (word_address lowest i) user store) (words_on m user store lowest registers (i + 1)) found
-    ∙ ap (λ (words : List Word). verdict_after unsupported moves words) (sym (words_on-more m user store lowest registers i d h))
+pub verdict-unsupported : (m : Memory) (user store unsupported : Bool) (lowest at list n : ℕ) (registers : List Register) (i : ℕ) (d : Register) (moves : List Move) →
+    i < length registers → is_listed list (get_or registers i d) ≡ true → at ≡ word_address lowest n → or_trouble (located m at user store) ≡ Err trouble.UnsupportedWrite →
+    verdict_after true moves (words_among m user store lowest list (n + 1) (drop (i + 1) registers)) ≡ verdict_after unsupported moves (words_among m user store lowest list n (drop i registers))
+verdict-unsupported m user store unsupported lowest at list n registers i d moves h listed here err =
+    let found : or_trouble (located m (word_address lowest n) user store) ≡ Err trouble.UnsupportedWrite = ap (λ (x : ℕ). or_trouble (located m x user store)) (sym here) ∙ err in
+    after-unsupported unsupported moves (get_or registers i d) (located m (word_address lowest n) user store) (words_among m user store lowest list (n + 1) (drop (i + 1) registers)) found
+    ∙ ap (λ (words : List Word). verdict_after unsupported moves words) (sym (among-more m user store lowest list n registers i d true h listed))
 
 pub fit_push : (shift : ℕ) (moves new : List Move) (register : Register) (spot : Spot) → Fits shift spot → AllFit shift moves → new ≡ moves ++ record { register = register; spot = spot } ∷ [] → AllFit shift new
 fit_push shift moves new register spot fits all pushed =
     rw pushed (All-push (λ (move : Move). Fits shift move.spot) moves (record { register = register; spot = spot }) all fits)
-
-pub few_push : (n : ℕ) (moves new : List Move) (move : Move) → length moves ≤ n → new ≡ moves ++ move ∷ [] → length new ≤ n + 1
-few_push n moves new move few pushed = omega (arith, few, ap (λ (all : List Move). length all) pushed, length_push moves move)

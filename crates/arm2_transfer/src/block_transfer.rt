@@ -1,7 +1,7 @@
-ghost use Rattle.std.specs.Prelude.{◌≡◌, true, false, ◌<◌, ◌≤◌, ◌^◌, length};
+ghost use Rattle.std.specs.Prelude.{◌≡◌, true, false, ◌<◌, ◌≤◌, ◌^◌};
 ghost use Rattle.arm2_effect.specs.Effects.{is_stopped};
 ghost use Rattle.arm2_effect.specs.Modes.{r15_in, register_in};
-ghost use Rattle.arm2_transfer.specs.Words.{AllFit, registers_in};
+ghost use Rattle.arm2_transfer.specs.Words.{AllFit};
 ghost use Rattle.arm2_transfer.specs.Moved.{ChangesNothing, IsMoved};
 ghost use Rattle.arm2_effect.specs.ProgramCounter.{mode_of};
 ghost use Rattle.arm2_transfer.specs.Registers.{with_base};
@@ -14,7 +14,7 @@ use crate::inputs::Inputs;
 use crate::moved::{Accesses, load_ticks, refuse, store_ticks};
 use crate::registers::{Loading, enter, give, is_user, moved_by, pass, write_base};
 use crate::span::Span;
-use crate::words::{Move, is_listed, locate_block, registers_in};
+use crate::words::{Move, count, is_listed, locate_block};
 use arm2_decode::{Block, Register};
 use arm2_effect::{Done, Kind, Mode, Prices, Reg, Registers, Vector, address_of, mode_of};
 
@@ -181,56 +181,25 @@ fn store(
     }
 }
 
-#[tactic(auto, unfolding(crate::specs::Block::block_carried_out))]
-fn load_or_store(
-    registers: &mut Registers,
-    bus: &mut Bus,
-    inputs: Inputs,
-    block: PlacedBlock,
-    moves: &[Move],
-) -> Done
-    requires fit { AllFit bus.old.memc.shift moves.now }
-    requires below { block.span.lowest < 2 ^ 26 }
-    requires some { 1 ≤ block.span.words }
-    requires few { block.span.words ≤ 16 }
-    ensures moved { IsMoved inputs.prices.profile inputs.prices.rom result registers.new bus.new
-        (block_carried_out block.transfer block.span inputs.port moves.now registers.old bus.old) }
-    ensures bound { result.ticks < 2 ^ 16 }
-    ensures goes_on { is_stopped result.kind ≡ false }
-{
-    if block.transfer.load {
-        load(registers, bus, inputs, block, moves)
-    } else {
-        store(registers, bus, inputs.prices, block, moves)
-    }
-}
-
 #[tactic(auto, unfolding(crate::specs::Block::block_at, crate::specs::Block::block_by))]
-fn block_at(
-    registers: &mut Registers,
-    bus: &mut Bus,
-    inputs: Inputs,
-    block: PlacedBlock,
-    listed: &[Register],
-) -> Done
-    requires registers { listed.now ≡ registers_in block.transfer.list }
+fn block_at(registers: &mut Registers, bus: &mut Bus, inputs: Inputs, block: PlacedBlock) -> Done
     requires some { 1 ≤ block.span.words }
     requires few { block.span.words ≤ 16 }
-    requires listed_few { length listed.now ≤ 16 }
     ensures moved { IsMoved inputs.prices.profile inputs.prices.rom result registers.new bus.new
         (block_at block.transfer block.span inputs.port registers.old bus.old) }
     ensures bound { result.ticks < 2 ^ 16 }
     ensures stopped { is_stopped result.kind ≡ true
         → ChangesNothing result registers.old registers.new bus.old bus.new }
 {
-    let lowest = block.span.lowest;
+    let (list, lowest) = (block.transfer.list, block.span.lowest);
     if lowest >= 0x400_0000 {
         return registers.take(inputs.prices, Vector::AddressException);
     }
     let user = is_user(mode_of(registers.get(Reg::R15)));
-    match locate_block(&bus.memc, listed, lowest, user, !block.transfer.load) {
+    match locate_block(&bus.memc, list, lowest, user, !block.transfer.load) {
         Err(trouble) => refuse(registers, bus, inputs.prices, trouble),
-        Ok(moves) => load_or_store(registers, bus, inputs, block, moves.as_slice()),
+        Ok(moves) if block.transfer.load => load(registers, bus, inputs, block, moves.as_slice()),
+        Ok(moves) => store(registers, bus, inputs.prices, block, moves.as_slice()),
     }
 }
 
@@ -248,13 +217,11 @@ pub(crate) fn block(
     ensures stopped { is_stopped result.kind ≡ true
         → ChangesNothing result registers.old registers.new bus.old bus.new }
 {
-    let listed = registers_in(transfer.list);
     let base = registers.read(mode_of(registers.get(Reg::R15)), transfer.rn);
-    let listed = listed.as_slice();
-    let span = span_of(transfer, base, listed.len() as u32);
+    let span = span_of(transfer, base, count(transfer.list));
     let block = PlacedBlock {
         transfer: *transfer,
         span,
     };
-    block_at(registers, bus, inputs, block, listed)
+    block_at(registers, bus, inputs, block)
 }

@@ -9,7 +9,6 @@
 
 mod block_transfer;
 mod bus;
-mod few;
 mod inputs;
 mod law;
 mod moved;

@@ -3,7 +3,7 @@ ghost use Rattle.memc.specs.Memory.{Fits};
 ghost use Rattle.arm2_effect.specs.Effects.{is_stopped};
 ghost use Rattle.arm2_transfer.specs.Moved.{ChangesNothing, IsMoved};
 ghost use Rattle.arm2_transfer.specs.Single.{address_for, single_loaded, single_loads, single_stores};
-ghost use Rattle.arm2_transfer.specs.Single.{single_carried_out, single_at, single_moved, of_immediate};
+ghost use Rattle.arm2_transfer.specs.Single.{single_at, single_moved, of_immediate};
 ghost use Rattle.arm2_transfer.specs.Single.{of_register};
 
 use crate::bus::{Bus, make, put_single, see};
@@ -104,28 +104,6 @@ fn store(
     }
 }
 
-#[tactic(auto, unfolding(crate::specs::Single::single_carried_out))]
-fn load_or_store(
-    registers: &mut Registers,
-    bus: &mut Bus,
-    inputs: Inputs,
-    single: PlacedSingle,
-    spot: Spot,
-) -> Done
-    requires fits { Fits bus.old.memc.shift spot }
-    requires below { address_for single.transfer single.base < 2 ^ 26 }
-    ensures moved { IsMoved inputs.prices.profile inputs.prices.rom result registers.new bus.new
-        (single_carried_out single.transfer single.base inputs.port spot registers.old bus.old) }
-    ensures bound { result.ticks < 2 ^ 16 }
-    ensures goes_on { is_stopped result.kind ≡ false }
-{
-    if single.transfer.load {
-        load(registers, bus, inputs, single, spot)
-    } else {
-        store(registers, bus, inputs.prices, single, spot)
-    }
-}
-
 #[tactic(auto, unfolding(crate::specs::Single::single_at, crate::specs::Single::single_by))]
 fn single_at(registers: &mut Registers, bus: &mut Bus, inputs: Inputs, single: PlacedSingle) -> Done
     ensures moved { IsMoved inputs.prices.profile inputs.prices.rom result registers.new bus.new
@@ -142,7 +120,8 @@ fn single_at(registers: &mut Registers, bus: &mut Bus, inputs: Inputs, single: P
     let user = transfer.has_user_rights(mode_of(registers.get(Reg::R15)));
     match locate_word(&bus.memc, address, user, !transfer.load) {
         Err(trouble) => refuse(registers, bus, inputs.prices, trouble),
-        Ok(spot) => load_or_store(registers, bus, inputs, single, spot),
+        Ok(spot) if transfer.load => load(registers, bus, inputs, single, spot),
+        Ok(spot) => store(registers, bus, inputs.prices, single, spot),
     }
 }
 

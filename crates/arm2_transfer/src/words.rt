@@ -1,10 +1,10 @@
-ghost use Rattle.std.specs.Prelude.{◌≡◌, ◌<◌, ◌≤◌, ◌^◌, length, IfOk};
+ghost use Rattle.std.specs.Prelude.{◌≡◌, ◌<◌, ◌≤◌, ◌^◌, length, Ok, Err, IfOk, MatchResult};
 ghost use Rattle.memc.specs.Memory.{Fits, located};
 ghost use Rattle.arm2_transfer.specs.Words.{all_registers, is_listed, registers_in, or_trouble, words_from};
 ghost use Rattle.arm2_transfer.specs.Words.{verdict_of, AllFit};
 
-use crate::few::Few;
 use arm2_decode::Register;
+use arrayvec::ArrayVec;
 use bus_ticks::word_address;
 use memc::{Memc, Refused, Spot};
 
@@ -24,6 +24,16 @@ pub struct Move {
     pub spot: Spot,
 }
 
+impl Default for Move {
+    // The first register and the first word of the RAM. It only fills places that hold no move.
+    fn default() -> Self {
+        Move {
+            register: Register::R0,
+            spot: Spot::Ram(0),
+        }
+    }
+}
+
 #[tactic(auto, unfolding(crate::specs::Words::all_registers))]
 fn all_registers() -> [Register; 16]
     ensures { result ≡ all_registers }
@@ -41,18 +51,14 @@ pub(crate) fn is_listed(list: u32, register: Register) -> bool
     (list >> register.number()) % 2 == 1
 }
 
-/// The registers of a list, the lowest first.
-pub(crate) fn registers_in(list: u32) -> Few<Register>
-    ensures registers { result ≡ registers_in list }
-    ensures few { length result ≤ 16 }
+/// How many registers a list has.
+#[tactic(auto, using(crate::proofs::Listed::words_are, crate::proofs::Listed::few_ones))]
+pub(crate) fn count(list: u32) -> u32
+    requires { list < 2 ^ 16 }
+    ensures count { result ≡ length (registers_in list) }
+    ensures few { result ≤ 16 }
 {
-    let mut listed = Few::new(Register::R0);
-    for register in all_registers() {
-        if is_listed(list, register) {
-            listed.push(register);
-        }
-    }
-    listed
+    list.count_ones()
 }
 
 /// Where the one word of a transfer goes or comes from.
@@ -73,33 +79,33 @@ pub(crate) fn locate_word(
     }
 }
 
-/// Where the words of some registers go or come from, from the lowest address on.
+/// Where the words of a list's registers go or come from: the lowest register at the lowest address.
 pub(crate) fn locate_block(
     memc: &Memc,
-    registers: &[Register],
+    list: u32,
     lowest: u32,
     user: bool,
     store: bool,
-) -> Result<Few<Move>, Trouble>
-    requires few { length registers.now ≤ 16 }
-    requires below { lowest < 2 ^ 26 }
-    ensures verdict { result ≡ verdict_of (words_from memc.now user store lowest 0 registers.now) }
-    ensures fitted { IfOk result (AllFit memc.now.shift) }
+) -> Result<ArrayVec<Move, 16>, Trouble>
+    requires { lowest < 2 ^ 26 }
+    ensures verdict { MatchResult result
+        (λ moves. verdict_of (words_from memc.now user store lowest 0 (registers_in list)) ≡ Ok moves.items)
+        (λ trouble. verdict_of (words_from memc.now user store lowest 0 (registers_in list)) ≡ Err trouble) }
+    ensures fitted { IfOk result (λ moves. AllFit memc.now.shift moves.items) }
 {
-    let mut moves = Few::new(Move {
-        register: Register::R0,
-        spot: Spot::Ram(0),
-    });
+    let mut moves = ArrayVec::new();
     let mut unsupported = false;
-    for (word, register) in registers.iter().enumerate() {
-        match locate_word(memc, word_address(lowest, word as u32), user, store) {
-            Ok(spot) => moves.push(Move {
-                register: *register,
-                spot,
-            }),
+    let mut word = 0;
+    for register in all_registers() {
+        if !is_listed(list, register) {
+            continue;
+        }
+        match locate_word(memc, word_address(lowest, word), user, store) {
+            Ok(spot) => moves.push(Move { register, spot }),
             Err(Trouble::UnsupportedWrite) => unsupported = true,
             Err(Trouble::DataAbort) => return Err(Trouble::DataAbort),
         }
+        word += 1;
     }
     if unsupported {
         return Err(Trouble::UnsupportedWrite);

@@ -14,7 +14,7 @@ use crate::statement::{plain, refer};
 use crate::syntax::{Code, Reference, Statement, Use, Value};
 use crate::token::{Token, next};
 use crate::word::{Word, read_word};
-use std::marker::Model;
+use arrayvec::ArrayVec;
 
 /// A word that a line says: one of numbers and registers, or one with a number as its target.
 #[derive(Clone, Copy)]
@@ -23,66 +23,18 @@ pub enum Shown {
     Refer(Reference, u32),
 }
 
-/// At most 64 items, in place.
-#[derive(Drop)]
-pub struct Few<T: Copy> {
-    count: usize,
-    items: [T; 64],
-}
-
-impl<T: Copy> Model for Few<T> {
-    ghost use Rattle.std.specs.Prelude.{List, take, ◌≤◌};
-
-    ghost Value = { List T };
-
-    ghost view = { λ f. take f.count f.items };
-
-    ghost invariant = { λ f. f.count ≤ 64 };
-}
-
-impl<T: Copy> Few<T> {
-    /// None. The filler stands where no item does, and is never seen.
-    pub(crate) fn new(filler: T) -> Self
-        ensures { result ≡ [] }
-    {
-        Few {
-            count: 0,
-            items: [filler; 64],
-        }
-    }
-
-    /// None where it is full.
-    pub(crate) fn push(&mut self, item: T) -> Option<()>
-        ensures pushed { IfSome result (λ _. self.new ≡ self.old ++ item ∷ []) }
-        ensures full { IsNone result → (self.new ≡ self.old) × (length self.old ≡ 64) }
-    {
-        if self.count >= 64 {
-            return None;
-        }
-        self.items[self.count] = item;
-        self.count += 1;
-        Some(())
-    }
-
-    pub(crate) fn as_slice(&self) -> &[T]
-        ensures { result.now ≡ self.now }
-    {
-        &self.items[..self.count]
-    }
-}
-
 // The tokens of a short text, without memory.
-fn few_tokens<'a>(text: &'a [u8]) -> Option<Few<Token<'a>>>
+fn few_tokens(text: &[u8]) -> ArrayVec<Token<'_>, 64>
     requires { length text.now ≤ 64 }
-    ensures { MatchOption result ⊥ (λ few. map piece_of few ≡ pieces text.now) }
+    ensures { map piece_of result.items ≡ pieces text.now }
 {
-    let mut few = Few::new(Token::Comma);
+    let mut few = ArrayVec::new();
     let mut rest = text;
     while let Some((token, after)) = next(rest) {
-        few.push(token)?;
+        few.push(token);
         rest = after;
     }
-    Some(few)
+    few
 }
 
 fn are_shown_bytes(text: &[u8]) -> bool
@@ -176,7 +128,7 @@ fn blank_statement(tokens: &[Token<'_>]) -> Option<Shown>
 
 /// Reads a line after its blank, without memory, where it may be shown (in upper case, without a comment, of
 /// at most 64 bytes) and says an instruction without a label. Every such line is read.
-#[tactic(auto, using(crate::proofs::ShownLaws::upper_shown, crate::proofs::ShownLaws::short_shown, crate::proofs::ShownLaws::line_shown, crate::proofs::ShownLaws::shown_from))]
+#[tactic(auto, using(crate::proofs::ShownLaws::upper_shown, crate::proofs::ShownLaws::short_shown))]
 pub fn read_shown(text: &[u8]) -> Option<Shown>
     ensures found { IfSome result (λ s. line_of (32 ∷ text.now) ≡ Ok (parsed_shown s)) }
     ensures shown { IfSome result (λ s. is_shown_text text.now ≡ true) }
@@ -186,6 +138,6 @@ pub fn read_shown(text: &[u8]) -> Option<Shown>
     if !is_shown_line(text) {
         return None;
     }
-    let few = few_tokens(text)?;
+    let few = few_tokens(text);
     blank_statement(few.as_slice())
 }

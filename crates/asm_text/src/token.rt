@@ -34,7 +34,7 @@ pub enum Mark {
 }
 
 /// A piece of a line.
-#[derive(Clone, Copy)]
+#[derive(Clone, Copy, Default)]
 pub enum Token<'a> {
     /// Letters, digits and `_`, as many as stand side by side.
     Run(&'a [u8]),
@@ -43,6 +43,7 @@ pub enum Token<'a> {
     /// Any other byte.
     Sign(Mark),
     /// Blanks between two pieces, neither of them a comma.
+    #[default]
     Gap,
 }
 

@@ -45,7 +45,8 @@ use Rattle.flow_graph.specs.declared.kinds.Work.{Work}
 use Rattle.flow_graph.specs.declared.kinds.Work.TheVariants as work
 use Rattle.flow_graph.proofs.StepRegisters.{IsWordAddress, address_ahead, address_jumped, address_put, address_restored, base_stays, goes, loaded_stays, long_with, passed_goes, word_address_ahead, word_address_of}
 use Rattle.flow_graph.proofs.StepTicks.{Costs, branch_costs, call_costs, delayed_costs, jump_costs, load_block, load_costs, store_block, store_costs, straight_costs}
-use Rattle.flow_graph.proofs.StepWords.{AllMoveOther, all_stay, pc_listed, verdict_others, words_are}
+use Rattle.arm2_transfer.proofs.Listed.{words_are}
+use Rattle.flow_graph.proofs.StepWords.{AllMoveOther, all_stay, pc_listed, verdict_others}
 
 cycles_few : (left m number : ℕ) → cycles_from left m number ≤ m + left
 unfolding cycles_from

@@ -1,10 +1,7 @@
--- The words of a block: as many as its list has bits, and R15 stays where the list has none for it.
-use Rattle.std.proofs.Common.{◌≡◌, ℕ, zero, suc, ◌+◌, ◌/◌, ◌%◌, ◌^◌, ◌<◌, ◌==◌, Bool, true, false, cond, List, [], ◌∷◌, length, filter, count_ones, Result, Ok, Err, refl, sym, ap, subst, ◌∙◌, arith}
-use Rattle.std.proofs.Math.Nat.{div-div-eq-div-mul, pow-suc}
+-- The words of a block: R15 stays where the list has none for it.
+use Rattle.std.proofs.Common.{◌≡◌, ℕ, zero, suc, ◌+◌, ◌/◌, ◌%◌, ◌^◌, ◌<◌, ◌==◌, Bool, true, false, cond, List, [], ◌∷◌, filter, Result, Ok, Err, refl, sym, ap, subst, ◌∙◌, arith}
 use Rattle.std.proofs.lemmas.Bool.{false≢true}
-use Rattle.std.proofs.lemmas.Nat.{ones_le_self}
 use Rattle.std.proofs.lemmas.Bool.Decides.{nat_tests}
-use lib.Count.{ones_step}
 use Rattle.arm2_decode.specs.Names.{is_pc, register_number}
 use Rattle.arm2_decode.specs.declared.names.Register.{Register}
 use Rattle.arm2_decode.specs.declared.names.Register.TheVariants.{R0, R1, R2, R3, R4, R5, R6, R7, R8, R9, R10, R11, R12, R13, R14, R15}
@@ -26,60 +23,6 @@ use Rattle.arm2_transfer.specs.Words.{Word, all_registers, is_abort, is_listed, 
 use Rattle.std.specs.List.{list_any}
 use Rattle.flow_graph.specs.Kinds.{lists_pc}
 use Rattle.flow_graph.proofs.StepRegisters.{loaded_stays}
-
--- ## As many words as bits
-
--- registers whose numbers count up from n
-abbrev Counted : ℕ → List Register → Type 0
-Counted n [] = Unit {0}
-Counted n (r ∷ rest) = (register_number r ≡ n) × Counted (suc n) rest
-
--- one more where a test holds
-kept_one : (b : Bool) (x : Register) (xs : List Register) (n : ℕ) → length (cond b (x ∷ xs) xs) + n ≡ cond b 1 0 + (length xs + n)
-kept_one true x xs n = omega arith
-kept_one false x xs n = omega arith
-
-low_bit : (n : ℕ) → n < 2 → ◌≡◌ {A = ℕ} (cond (n == 1) 1 0) n
-low_bit zero h = refl
-low_bit (suc zero) h = refl
-low_bit (suc (suc n)) h = absurd (omega arith)
-
-halved : (list n : ℕ) → list / 2 ^ n / 2 ≡ list / 2 ^ suc n
-halved list n = div-div-eq-div-mul list (2 ^ n) 2 ∙ ap (λ m. list / m) (sym (pow-suc 2 n))
-
-bits_kept : (list n : ℕ) (rs : List Register) → Counted n rs → length (filter (is_listed list) rs) + count_ones (list / 2 ^ (n + length rs)) ≡ count_ones (list / 2 ^ n)
-bits_kept list n [] h =
-    let e : n + 0 ≡ n = omega arith in
-    let same : 0 + count_ones (list / 2 ^ (n + 0)) ≡ count_ones (list / 2 ^ (n + 0)) = omega arith in
-    same ∙ ap (λ m. count_ones (list / 2 ^ m)) e
-bits_kept list n (r ∷ rest) h =
-    let rest_kept = bits_kept list (suc n) rest h.1 in
-    let e : n + suc (length rest) ≡ suc n + length rest = omega arith in
-    let bit : cond (is_listed list r) 1 0 ≡ list / 2 ^ n % 2 = ap (λ m. cond (list / 2 ^ m % 2 == 1) 1 0) h.0 ∙ low_bit (list / 2 ^ n % 2) (omega arith) in
-    kept_one (is_listed list r) r (filter (is_listed list) rest) (count_ones (list / 2 ^ (n + suc (length rest))))
-    ∙ ap (λ m. cond (is_listed list r) 1 0 + (length (filter (is_listed list) rest) + count_ones (list / 2 ^ m))) e
-    ∙ ap (λ m. cond (is_listed list r) 1 0 + m) rest_kept
-    ∙ ap (λ m. m + count_ones (list / 2 ^ suc n)) bit
-    ∙ ap (λ m. list / 2 ^ n % 2 + count_ones m) (sym (halved list n))
-    ∙ sym (ones_step (list / 2 ^ n))
-
-all_counted : Counted 0 all_registers
-unfolding all_registers
-all_counted = (refl, (refl, (refl, (refl, (refl, (refl, (refl, (refl, (refl, (refl, (refl, (refl, (refl, (refl, (refl, (refl, tt))))))))))))))))
-
-sixteen : length all_registers ≡ 16
-unfolding all_registers
-sixteen = refl
-
-pub words_are : (list : ℕ) → list < 2 ^ 16 → length (registers_in list) ≡ count_ones list
-words_are list fits =
-    let whole = bits_kept list 0 all_registers all_counted in
-    let none : list / 2 ^ 16 ≡ 0 = omega arith in
-    let past : count_ones (list / 2 ^ (0 + length all_registers)) ≡ count_ones 0 = ap (λ n. count_ones (list / 2 ^ (0 + n))) sixteen ∙ ap count_ones none in
-    let first : list / 2 ^ 0 ≡ list = omega arith in
-    omega (arith, whole, past, ones_le_self 0, ap count_ones first)
-
--- ## R15
 
 pub pc_listed : (list : ℕ) → list < 2 ^ 16 → lists_pc list ≡ is_listed list R15
 pc_listed list fits = grind (arith, nat_tests)

@@ -1,10 +1,15 @@
-use Rattle.std.proofs.Common.{List, Ok, sym, ◌∙◌, ap}
-use Rattle.arm2_transfer.specs.declared.words.Move.{Move}
+use Rattle.std.proofs.Common.{Ok, ◌∙◌, ap, sym}
 use Rattle.arm2_transfer.proofs.Chosen.{block_at-moves}
 use Rattle.arm2_transfer.proofs.block_transfer.block_at.Goals as goal
 
 pub returns-in-Ok-clause-moved : goal.returns-in-Ok-clause-moved
 returns-in-Ok-clause-moved c =
     rw
-    (block_at-moves c.args.block.transfer c.args.block.span c.args.inputs.port c.is_user-user.result c.mode_of.result c.get.result c.args.listed.now c.locate_block.result c.as_slice.result.now c.args.registers.now c.args.bus.now c.get.ensures.word c.mode_of.ensures c.is_user-user.ensures c.requires.registers c.if-lowest-ge67108864.false c.locate_block.ensures.verdict (c.in-Ok.is ∙ ap (λ (moves : List Move). Ok moves) (sym c.as_slice.ensures)))
-    c.load_or_store.ensures.moved
+    (block_at-moves c.args.block.transfer c.args.block.span c.args.inputs.port c.is_user-user.result _ c.mode_of.result c.get.result c.as_slice.result.now c.args.registers.now c.args.bus.now c.get.ensures.word c.mode_of.ensures c.is_user-user.ensures c.if-lowest-ge67108864.false c.if-block.true (c.in-Ok.ensures.verdict ∙ ap Ok (sym c.as_slice.ensures.value)))
+    c.load.ensures.moved
+
+pub returns-in-Ok-2-clause-moved : goal.returns-in-Ok-2-clause-moved
+returns-in-Ok-2-clause-moved c =
+    rw
+    (block_at-moves c.args.block.transfer c.args.block.span c.args.inputs.port c.is_user-user.result _ c.mode_of.result c.get.result c.as_slice-in-Ok-2.result.now c.args.registers.now c.args.bus.now c.get.ensures.word c.mode_of.ensures c.is_user-user.ensures c.if-lowest-ge67108864.false c.if-block.false (c.in-Ok.ensures.verdict ∙ ap Ok (sym c.as_slice-in-Ok-2.ensures.value)))
+    c.store.ensures.moved

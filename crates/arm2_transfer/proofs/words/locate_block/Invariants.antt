@@ -1,11 +1,12 @@
 use Rattle.std.proofs.Common.{◌≡◌, ◌≤◌, length, drop}
-use Rattle.arm2_transfer.specs.Words.{words_from, verdict_of, AllFit}
-use Rattle.arm2_transfer.proofs.Verdict.{verdict_after}
+use Rattle.arm2_transfer.specs.Words.{registers_in, words_from, verdict_of, AllFit}
+use Rattle.arm2_transfer.proofs.Verdict.{verdict_after, words_among}
 use Rattle.arm2_transfer.proofs.words.locate_block.Given as goal
 
-abbrev pub invariant-loop-word : goal.invariant-loop-word
-invariant-loop-word l = record {
-  few : length l.moves ≤ l.word;
-  fit : AllFit l.memc.shift l.moves;
-  rest : verdict_after l.unsupported l.moves (words_from l.memc l.user l.store l.lowest l.word (drop l.word l.registers)) ≡ verdict_of (words_from l.memc l.user l.store l.lowest 0 l.registers);
+abbrev pub invariant-loop-register : goal.invariant-loop-register
+invariant-loop-register l = record {
+  few : length l.moves.items ≤ l.word;
+  word : l.word ≤ l.register-index;
+  fit : AllFit l.memc.shift l.moves.items;
+  rest : verdict_after l.unsupported l.moves.items (words_among l.memc l.user l.store l.lowest l.list l.word (drop l.register-index l.register-items)) ≡ verdict_of (words_from l.memc l.user l.store l.lowest 0 (registers_in l.list));
 }

@@ -26,8 +26,8 @@ pub returns-clause-found : goal.returns-clause-found
 returns-clause-found c =
     let may : is_shown_text c.args.text.now ≡ true = search rules in
     all_found c.blank_statement.result c.args.text.now may
-    (c.blank_statement.ensures ∙ ap (λ (ts : List Token). said_by (map piece_of ts)) c.as_slice.ensures ∙ ap said_by c.in_ok-few.ensures)
+    (c.blank_statement.ensures ∙ ap (λ (ts : List Token). said_by (map piece_of ts)) c.as_slice.ensures.value ∙ ap said_by c.few_tokens-few.ensures)
 
 pub returns-clause-only : goal.returns-clause-only
 returns-clause-only c s h e =
-    c.blank_statement.ensures ∙ ap (λ (ts : List Token). said_by (map piece_of ts)) c.as_slice.ensures ∙ ap said_by c.in_ok-few.ensures ∙ shown_from c.args.text.now s h e
+    c.blank_statement.ensures ∙ ap (λ (ts : List Token). said_by (map piece_of ts)) c.as_slice.ensures.value ∙ ap said_by c.few_tokens-few.ensures ∙ shown_from c.args.text.now s h e
