@@ -22,8 +22,8 @@ use Rattle.machine_file.specs.declared.machine_faults.MachineFileFault.TheVarian
 
 -- ## What the keys take
 
--- a number from 0 to a limit, an address of the program, that of a word in RAM or in ROM, a page's size in KB,
--- the name of a mode, letters of flags, or a list of names of lines
+-- a number from 0 to a limit, an address of the program, that of a word in RAM or in ROM, a page's size in
+-- KB, the name of a mode, letters of flags, or a list of names of lines
 pub data Takes : Type 0 where
   UpTo : ℕ → Takes
   Address : Takes

@@ -3,8 +3,8 @@ ghost use Rattle.std.specs.Map.{keys_of};
 ghost use Rattle.toml.specs.View.{table_view, view};
 ghost use Rattle.loader.specs.Image.{may_hold};
 ghost use Rattle.toml_reading.specs.Documents.{are_distinct};
-ghost use Rattle.machine_file.specs.MachineFile.{once, place_at, place_in, place_of, put_word_at, put_word_in};
-ghost use Rattle.machine_file.specs.MachineFile.{words_in};
+ghost use Rattle.machine_file.specs.MachineFile.{once, place_at, place_in, place_of, put_word_at};
+ghost use Rattle.machine_file.specs.MachineFile.{put_word_in, words_in};
 
 use crate::machine_faults::{MachineFileFault, Read};
 use loader::may_hold;
