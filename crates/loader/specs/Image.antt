@@ -7,7 +7,7 @@ use Rattle.loader.specs.declared.places.TheConstants.{MOST_SEGMENTS, MOST_WORDS}
 use Rattle.loader.specs.declared.image.ImageFault.{ImageFault}
 use Rattle.loader.specs.declared.image.ImageFault.TheVariants.{OutOfRange, TooLong}
 
--- addresses and their words, the addresses ascending
+-- addresses and their words; those of an image ascend
 abbrev pub Words : Type 0
 Words = List (ℕ × ℕ)
 

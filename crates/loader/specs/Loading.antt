@@ -1,6 +1,6 @@
--- What memory holds once an image is loaded. Source: our own: each word goes where a privileged load of its
--- address reads, and the words go in the order of their addresses, so that of two that lead to one place the
--- higher one's stays.
+-- What memory holds once words are put into it. Source: our own: each word goes where a privileged load of
+-- its address reads, and the words go in the order of their list, so that of two that lead to one place the
+-- later one stays. An image's words go in the order of their addresses.
 use Rattle.std.specs.Prelude.{ℕ, suc, ◌/◌, Bool, true, false, ◌||◌, List, [], ◌∷◌, Result, Ok, Err}
 use Rattle.arm2_exec.specs.State.{State}
 use Rattle.loader.specs.Image.{Words}
@@ -56,8 +56,8 @@ loaded words m =
     }
 
 -- the same in a machine, whose registers and devices stay
-abbrev pub with_image : Words → State → State
-with_image words s = record s { bus = record s.bus { memc = loaded words s.bus.memc } }
+abbrev pub put_words : Words → State → State
+put_words words s = record s { bus = record s.bus { memc = loaded words s.bus.memc } }
 
 -- the words that go to RAM alone
 abbrev pub with_ram : Words → Memory → Memory

@@ -15,7 +15,7 @@ pub use law::{
     image_limits, images_are_read, other_faults_begin_no_image, trailing_bytes_follow_an_image,
     truncated_begins_an_image,
 };
-pub use loading::{LoadFault, load};
+pub use loading::{LoadFault, load, put_words};
 pub use places::{MOST_SEGMENTS, MOST_WORDS, lies_in_memory, may_hold};
 pub use reading::{MAGIC, ReadFault, read_image};
 pub use writing::write_image;

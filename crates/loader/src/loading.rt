@@ -1,5 +1,5 @@
 ghost use Rattle.std.specs.Prelude.{◌≡◌, ◌⊎◌, ◌<◌, ◌^◌, false, true, All, IfOk, IfErr, OnOk, OnErr};
-ghost use Rattle.loader.specs.Loading.{lacks_page, loaded, put_at, rom_words, spot_of, with_image, with_ram};
+ghost use Rattle.loader.specs.Loading.{lacks_page, loaded, put_at, put_words, rom_words, spot_of, with_ram};
 
 use crate::image::Image;
 use arm2_exec::Machine;
@@ -7,7 +7,7 @@ use memc::{Memc, MemcFault, Spot};
 use std::alloc::{AllocError, AllocFailed, Global};
 use thiserror::Error;
 
-/// Why an image is not loaded.
+/// Why words are not put into memory.
 #[derive(Clone, Copy, Debug, PartialEq, Eq, Drop, Error)]
 pub enum LoadFault {
     /// An allocation failed.
@@ -92,40 +92,64 @@ fn store_words(memc: &mut Memc, words: &[(u32, u32)])
     }
 }
 
-// Puts the words of an image into memory.
-fn load_words(alloc: Global, memc: &mut Memc, image: &Image) -> Result<(), LoadFault>
-    ensures ok { OnOk result (memc.new ≡ loaded image.now memc.old) }
-    ensures fits { OnOk result (lacks_page memc.old image.now ≡ false) }
+// Puts words into memory, in their order.
+fn load_words(alloc: Global, memc: &mut Memc, words: &[(u32, u32)]) -> Result<(), LoadFault>
+    requires below { All (λ e. e.0 < 2 ^ 26) words.now }
+    ensures ok { OnOk result (memc.new ≡ loaded words.now memc.old) }
+    ensures fits { OnOk result (lacks_page memc.old words.now ≡ false) }
     ensures fault { IfErr result
         (λ fault. (fault ≡ LoadFault.Memory)
-        ⊎ ((fault ≡ LoadFault.NoPage) × (lacks_page memc.old image.now ≡ true))) }
+        ⊎ ((fault ≡ LoadFault.NoPage) × (lacks_page memc.old words.now ≡ true))) }
     ensures same { OnErr result (memc.new ≡ memc.old) }
 {
-    image.whole();
-    let words = image.listed(alloc)?;
-    let rom = rom_words(alloc, memc, &words)?;
+    let rom = rom_words(alloc, memc, words)?;
     memc.add_rom(alloc, &rom)?;
-    store_words(memc, &words);
+    store_words(memc, words);
     Ok(())
 }
 
-/// Puts the words of an image into a machine's memory: each where a privileged load of its address reads, and
-/// in the order of their addresses, so that of two that lead to one place the higher one's stays.
+/// Puts words into a machine's memory by their addresses, which are below 2^26: each where a privileged load
+/// of its address reads, and in the order of the list, so that of two that lead to one place the later one
+/// stays.
 ///
 /// All other words, the page map, the control fields, the registers and the devices stay. It takes time
-/// linear in the words of the image and of ROM.
+/// linear in the words of the list and of ROM.
 ///
 /// # Errors
 ///
 /// `NoPage`: a word's address leads to no RAM or ROM of the machine. `Memory`: an allocation failed. After
 /// either the machine is as it was.
+pub fn put_words(
+    alloc: Global,
+    machine: &mut Machine,
+    words: &[(u32, u32)],
+) -> Result<(), LoadFault>
+    requires below { All (λ e. e.0 < 2 ^ 26) words.now }
+    ensures ok { OnOk result (machine.new ≡ put_words words.now machine.old) }
+    ensures fits { OnOk result (lacks_page machine.old.bus.memc words.now ≡ false) }
+    ensures fault { IfErr result
+        (λ fault. (fault ≡ LoadFault.Memory)
+        ⊎ ((fault ≡ LoadFault.NoPage) × (lacks_page machine.old.bus.memc words.now ≡ true))) }
+    ensures same { OnErr result (machine.new ≡ machine.old) }
+{
+    load_words(alloc, machine.memc_mut(), words)
+}
+
+/// Puts the words of an image into a machine's memory, as [`put_words`] does, in the order of their
+/// addresses, so that of two that lead to one place the higher one's stays.
+///
+/// # Errors
+///
+/// Those of [`put_words`]; after either the machine is as it was.
 pub fn load(alloc: Global, machine: &mut Machine, image: &Image) -> Result<(), LoadFault>
-    ensures ok { OnOk result (machine.new ≡ with_image image.now machine.old) }
+    ensures ok { OnOk result (machine.new ≡ put_words image.now machine.old) }
     ensures fits { OnOk result (lacks_page machine.old.bus.memc image.now ≡ false) }
     ensures fault { IfErr result
         (λ fault. (fault ≡ LoadFault.Memory)
         ⊎ ((fault ≡ LoadFault.NoPage) × (lacks_page machine.old.bus.memc image.now ≡ true))) }
     ensures same { OnErr result (machine.new ≡ machine.old) }
 {
-    load_words(alloc, machine.memc_mut(), image)
+    image.whole();
+    let words = image.listed(alloc)?;
+    put_words(alloc, machine, &words)
 }

@@ -4,7 +4,7 @@ use Rattle.std.proofs.lemmas.Bool.{true≢false}
 use Rattle.toml.specs.Data.{Data, Members, as_table, get_member}
 use Rattle.toml_reading.specs.Lowest.{AtKey, entries_at}
 use Rattle.toml_reading.proofs.LowestParts.{some_weaker}
-use Rattle.machine_file.specs.MachineFaultRules.{AreNoTables, HasMachineFault, HasOtherKey, HasOtherKind, HasOtherNumber, HasWrongKind, IsLetterTwice, IsNoTable, IsOtherKind, IsOtherNumber, IsPageTwice, IsStepTwice, IsUnmappable, LacksKey, OfSomeTable, Row, Shape, Takes, event_shape, file_shape, map_shape, register_shape}
+use Rattle.machine_file.specs.MachineFaultRules.{AreNoTables, HasMachineFault, HasOtherKey, HasOtherKind, HasOtherNumber, HasWrongKind, IsLetterTwice, IsNoTable, IsOtherKind, IsOtherNumber, IsPageTwice, IsStepTwice, IsUnmappable, IsWordTwice, LacksKey, OfSomeTable, Row, Shape, Takes, event_shape, file_shape, map_shape, register_shape, word_shape}
 use Rattle.machine_file.specs.declared.machine_faults.MachineFileFault.{MachineFileFault}
 use Rattle.machine_file.specs.declared.machine_faults.MachineFileFault.TheVariants.{UnknownKey, WrongKind, OutOfRange, Twice}
 
@@ -24,7 +24,7 @@ module _ {X : Type 0} where
   some_sum P Q R f None h = absurd h
   some_sum P Q R f (Some x) h = f x h
 
-  some_fact : (P : X → Type 0) (C : Type 0) → ((x : X) → P x → C) → (o : Option X) → IsSomeAnd o P → C
+  pub some_fact : (P : X → Type 0) (C : Type 0) → ((x : X) → P x → C) → (o : Option X) → IsSomeAnd o P → C
   some_fact P C f None h = absurd h
   some_fact P C f (Some x) h = f x h
 
@@ -41,8 +41,10 @@ module _ (P Q : Shape → Members → Type 0) (f : (s : Shape) (t : Members) →
       inr (inl (some_weaker (In (P register_shape)) (In (Q register_shape)) (in_map register_shape) (get_member (codes "registers") ms) h))
   table_map (inr (inr (inl h))) =
       inr (inr (inl (any_map (In (P map_shape)) (In (Q map_shape)) (in_map map_shape) (entries_at (codes "map") ms) h)))
-  table_map (inr (inr (inr h))) =
-      inr (inr (inr (any_map (In (P event_shape)) (In (Q event_shape)) (in_map event_shape) (entries_at (codes "event") ms) h)))
+  table_map (inr (inr (inr (inl h)))) =
+      inr (inr (inr (inl (any_map (In (P event_shape)) (In (Q event_shape)) (in_map event_shape) (entries_at (codes "event") ms) h))))
+  table_map (inr (inr (inr (inr h)))) =
+      inr (inr (inr (inr (any_map (In (P word_shape)) (In (Q word_shape)) (in_map word_shape) (entries_at (codes "word") ms) h))))
 
 module _ (P Q R : Shape → Members → Type 0) (f : (s : Shape) (t : Members) → P s t → Q s t ⊎ R s t)
     (ms : Members) where
@@ -61,10 +63,15 @@ module _ (P Q R : Shape → Members → Type 0) (f : (s : Shape) (t : Members) �
         | inl q ↦ inl (inr (inr (inl q)))
         | inr r ↦ inr (inr (inr (inl r)))
       ]
-  table_sum (inr (inr (inr h))) =
+  table_sum (inr (inr (inr (inl h)))) =
       elim (any_sum (In (P event_shape)) (In (Q event_shape)) (In (R event_shape)) (in_sum event_shape) (entries_at (codes "event") ms) h) [
-        | inl q ↦ inl (inr (inr (inr q)))
-        | inr r ↦ inr (inr (inr (inr r)))
+        | inl q ↦ inl (inr (inr (inr (inl q))))
+        | inr r ↦ inr (inr (inr (inr (inl r))))
+      ]
+  table_sum (inr (inr (inr (inr h)))) =
+      elim (any_sum (In (P word_shape)) (In (Q word_shape)) (In (R word_shape)) (in_sum word_shape) (entries_at (codes "word") ms) h) [
+        | inl q ↦ inl (inr (inr (inr (inr q))))
+        | inr r ↦ inr (inr (inr (inr (inr r))))
       ]
 
 module _ (P : Shape → Members → Type 0) (C : Type 0) (f : (s : Shape) (t : Members) → P s t → C)
@@ -77,7 +84,8 @@ module _ (P : Shape → Members → Type 0) (C : Type 0) (f : (s : Shape) (t : M
   table_fact (inr (inl h)) =
       some_fact (In (P register_shape)) C (in_fact register_shape) (get_member (codes "registers") ms) h
   table_fact (inr (inr (inl h))) = in_fact map_shape h.1 h.4
-  table_fact (inr (inr (inr h))) = in_fact event_shape h.1 h.4
+  table_fact (inr (inr (inr (inl h)))) = in_fact event_shape h.1 h.4
+  table_fact (inr (inr (inr (inr h)))) = in_fact word_shape h.1 h.4
 
 -- ## The faults of one table
 
@@ -152,10 +160,13 @@ module _ (f : MachineFileFault) where
 module _ (ms : Members) (f : MachineFileFault) where
   abbrev pub NoTables : Type 0
   NoTables =
-      AtKey (codes "registers") ms IsNoTable ⊎ AtKey (codes "map") ms AreNoTables ⊎ AtKey (codes "event") ms AreNoTables
+      AtKey (codes "registers") ms IsNoTable
+      ⊎ AtKey (codes "map") ms AreNoTables
+      ⊎ AtKey (codes "event") ms AreNoTables
+      ⊎ AtKey (codes "word") ms AreNoTables
 
   abbrev pub Repeated : Type 0
-  Repeated = IsLetterTwice ms ⊎ IsPageTwice ms ⊎ IsStepTwice ms
+  Repeated = IsLetterTwice ms ⊎ IsPageTwice ms ⊎ IsStepTwice ms ⊎ IsWordTwice ms
 
   abbrev pub TablesFault : Type 0
   TablesFault =

@@ -8,9 +8,9 @@ use Rattle.toml_reading.specs.Lowest.{AtKey, AtKeyOr, IsNoAddress, ListFault, Nu
 use Rattle.machine_file.specs.MachineFaults.{machine_faults}
 use Rattle.machine_file.specs.MachineFile.{is_letter, is_single}
 use Rattle.ioc.specs.LineNames.{line_named}
-use Rattle.machine_file.specs.MachineFaultRules.{IsPageTwice, IsStepTwice, IsUnmappable}
+use Rattle.machine_file.specs.MachineFaultRules.{IsNoPlace, IsPageTwice, IsStepTwice, IsUnmappable, IsWordTwice}
 use Rattle.machine_file.specs.MachineRules.{kilobytes}
-use Rattle.machine_file.specs.Names.{event_keys, file_keys, map_keys, name_of, named_mode, named_registers, register_keys}
+use Rattle.machine_file.specs.Names.{event_keys, file_keys, map_keys, name_of, named_mode, named_registers, register_keys, word_keys}
 use Rattle.machine_file.specs.declared.machine_faults.MachineFileFault.{MachineFileFault}
 use Rattle.machine_file.specs.declared.machine_faults.MachineFileFault.TheVariants.{UnknownKey, WrongKind, OutOfRange, Twice}
 
@@ -76,6 +76,19 @@ EventFault d fault =
     d
     fault
 
+abbrev pub PlaceFault : Data → MachineFileFault → Type 0
+PlaceFault d fault =
+    MatchOption (as_integer d) (fault ≡ WrongKind) (λ z. IsNoPlace z × (fault ≡ OutOfRange))
+
+abbrev pub PutWordFault : Data → MachineFileFault → Type 0
+PutWordFault d fault =
+    TableFault
+    machine_faults
+    word_keys
+    (λ ms f. AtKeyOr (codes "at") ms (f ≡ WrongKind) (λ e. PlaceFault e f) ⊎ AtKeyOr (codes "value") ms (f ≡ WrongKind) (λ e. WordFault e f))
+    d
+    fault
+
 -- those of the values of its keys
 abbrev pub ValueFault : Members → MachineFileFault → Type 0
 ValueFault ms fault =
@@ -90,6 +103,7 @@ ValueFault ms fault =
     ⊎ AtKey (codes "steps") ms (λ d. UpToFault 65536 d fault)
     ⊎ AtKey (codes "port") ms (λ d. WordFault d fault)
     ⊎ AtKey (codes "event") ms (λ d. ListFault machine_faults EventFault d fault)
+    ⊎ AtKey (codes "word") ms (λ d. ListFault machine_faults PutWordFault d fault)
 
 abbrev pub HasKeyFault : Members → MachineFileFault → Type 0
 HasKeyFault ms fault =
@@ -98,3 +112,4 @@ HasKeyFault ms fault =
     ⊎ (IsUnmappable ms × (fault ≡ OutOfRange))
     ⊎ (IsPageTwice ms × (fault ≡ Twice))
     ⊎ (IsStepTwice ms × (fault ≡ Twice))
+    ⊎ (IsWordTwice ms × (fault ≡ Twice))

@@ -11,7 +11,7 @@ use Rattle.toml_reading.specs.Lowest.{AtKey, AtKeyOr, IsLowest, IsNoAddress, IsO
 use Rattle.toml_reading.proofs.LowestLemmas.{Judges, judged_as, judged_fault, judged_value}
 use Rattle.toml_reading.proofs.LowestParts.{any_cases, any_first, any_later, any_none, any_one_of}
 use Rattle.machine_file.specs.MachineFaults.{machine_faults}
-use Rattle.machine_file.specs.MachineFaultRules.{HasMachineFault, IsNoTable, Takes, UpTo, Address, Size, ModeName, FlagLetters, LineNames, Word, event_shape, file_shape, map_shape, may_have, needs, register_shape}
+use Rattle.machine_file.specs.MachineFaultRules.{HasMachineFault, IsNoPlace, IsNoTable, Takes, UpTo, Address, Place, Size, ModeName, FlagLetters, LineNames, Word, event_shape, file_shape, map_shape, may_have, needs, register_shape, word_shape}
 use Rattle.machine_file.specs.MachineFile.{is_letter, is_single, machine_in}
 use Rattle.ioc.specs.LineNames.{line_named}
 use Rattle.machine_file.specs.MachineRules.{StatesMachine, kilobytes}
@@ -20,7 +20,7 @@ use Rattle.machine_file.specs.Stated.{Stated}
 use Rattle.machine_file.specs.declared.machine_faults.MachineFileFault.{MachineFileFault}
 use Rattle.machine_file.specs.declared.machine_faults.MachineFileFault.TheVariants.{WrongKind, OutOfRange, Twice}
 use Rattle.machine_file.proofs.FaultTableLemmas.{In, KindFault, RowFault, ShapeFault, TablesFault, any_map, from_machine_fault, to_machine_fault}
-use Rattle.machine_file.proofs.KeyFaults.{AddressFault, EventFault, FlagsFault, HasKeyFault, LinesFault, NameFault, PageFault, RegistersFault, SizeFault, UpToFault, WordFault}
+use Rattle.machine_file.proofs.KeyFaults.{AddressFault, EventFault, FlagsFault, HasKeyFault, LinesFault, NameFault, PageFault, PlaceFault, PutWordFault, RegistersFault, SizeFault, UpToFault, WordFault}
 use Rattle.machine_file.proofs.MachineRuleLemmas.{machine_judged}
 use Rattle.machine_file.proofs.MachineValueLemmas.{one_rank}
 
@@ -78,6 +78,9 @@ module _ (f : MachineFileFault) where
 
   address_kind : (d : Data) → AddressFault d f ↔ KindFault f Address d
   address_kind d = number_parts IsNoAddress (as_integer d)
+
+  place_kind : (d : Data) → PlaceFault d f ↔ KindFault f Place d
+  place_kind d = number_parts IsNoPlace (as_integer d)
 
   size_kind : (d : Data) → SizeFault d f ↔ KindFault f Size d
   size_kind d = number_parts (λ z. (size : PageSize) → z ≡ pos (kilobytes size) → ⊥) (as_integer d)
@@ -218,11 +221,21 @@ module _ (f : MachineFileFault) where
       (any_one_of (RowFault f t) event_shape.rows)))
       (as_table d)
 
+  put_word_parts : (d : Data) → PutWordFault d f ↔ (IsNoTable d × W) ⊎ In (ShapeFault f word_shape) d
+  put_word_parts d =
+      table_parts
+      _
+      (ShapeFault f word_shape)
+      (λ t. either same (along
+      (either (needs_row t (codes "at") Place (λ e. PlaceFault e f) place_kind) (ended (word_needed t (codes "value"))))
+      (any_one_of (RowFault f t) word_shape.rows)))
+      (as_table d)
+
 -- ## The file
 
-gathered : {K PC MO FL LO HI SI ST PO R M E NR NM NE V U LT PT SP T : Type 0}
-    → K ⊎ ((PC ⊎ (MO ⊎ ((FL ⊎ (LT × T)) ⊎ (((NR × V) ⊎ R) ⊎ (LO ⊎ (HI ⊎ (SI ⊎ (((NM × V) ⊎ M) ⊎ (ST ⊎ (PO ⊎ ((NE × V) ⊎ E))))))))))) ⊎ (U ⊎ ((PT × T) ⊎ (SP × T))))
-    → ((K ⊎ (PC ⊎ (MO ⊎ (FL ⊎ (LO ⊎ (HI ⊎ (SI ⊎ (ST ⊎ (PO ⊎ ⊥))))))))) ⊎ (R ⊎ (M ⊎ E))) ⊎ (((NR ⊎ (NM ⊎ NE)) × V) ⊎ (U ⊎ ((LT ⊎ (PT ⊎ SP)) × T)))
+gathered : {K PC MO FL LO HI SI ST PO R M E W NR NM NE NW V U LT PT SP WT T : Type 0}
+    → K ⊎ ((PC ⊎ (MO ⊎ ((FL ⊎ (LT × T)) ⊎ (((NR × V) ⊎ R) ⊎ (LO ⊎ (HI ⊎ (SI ⊎ (((NM × V) ⊎ M) ⊎ (ST ⊎ (PO ⊎ (((NE × V) ⊎ E) ⊎ ((NW × V) ⊎ W)))))))))))) ⊎ (U ⊎ ((PT × T) ⊎ ((SP × T) ⊎ (WT × T)))))
+    → ((K ⊎ (PC ⊎ (MO ⊎ (FL ⊎ (LO ⊎ (HI ⊎ (SI ⊎ (ST ⊎ (PO ⊎ ⊥))))))))) ⊎ (R ⊎ (M ⊎ (E ⊎ W)))) ⊎ (((NR ⊎ (NM ⊎ (NE ⊎ NW))) × V) ⊎ (U ⊎ ((LT ⊎ (PT ⊎ (SP ⊎ WT))) × T)))
 gathered (inl x) = inl (inl (inl x))
 gathered (inr (inl (inl x))) = inl (inl (inr (inl x)))
 gathered (inr (inl (inr (inl x)))) = inl (inl (inr (inr (inl x))))
@@ -240,52 +253,65 @@ gathered (inr (inl (inr (inr (inr (inr (inr (inr (inr (inr (inl x))))))))))) =
     inl (inl (inr (inr (inr (inr (inr (inr (inr (inl x)))))))))
 gathered (inr (inl (inr (inr (inr (inr (inr (inr (inr (inr (inr (inl x)))))))))))) =
     inl (inl (inr (inr (inr (inr (inr (inr (inr (inr (inl x))))))))))
-gathered (inr (inl (inr (inr (inr (inr (inr (inr (inr (inr (inr (inr (inl x))))))))))))) =
-    inr (inl (inr (inr x.0), x.1))
-gathered (inr (inl (inr (inr (inr (inr (inr (inr (inr (inr (inr (inr (inr x))))))))))))) =
-    inl (inr (inr (inr x)))
+gathered (inr (inl (inr (inr (inr (inr (inr (inr (inr (inr (inr (inr (inl (inl x)))))))))))))) =
+    inr (inl (inr (inr (inl x.0)), x.1))
+gathered (inr (inl (inr (inr (inr (inr (inr (inr (inr (inr (inr (inr (inl (inr x)))))))))))))) =
+    inl (inr (inr (inr (inl x))))
+gathered (inr (inl (inr (inr (inr (inr (inr (inr (inr (inr (inr (inr (inr (inl x)))))))))))))) =
+    inr (inl (inr (inr (inr x.0)), x.1))
+gathered (inr (inl (inr (inr (inr (inr (inr (inr (inr (inr (inr (inr (inr (inr x)))))))))))))) =
+    inl (inr (inr (inr (inr x))))
 gathered (inr (inr (inl x))) = inr (inr (inl x))
 gathered (inr (inr (inr (inl x)))) = inr (inr (inr (inr (inl x.0), x.1)))
-gathered (inr (inr (inr (inr x)))) = inr (inr (inr (inr (inr x.0), x.1)))
+gathered (inr (inr (inr (inr (inl x))))) = inr (inr (inr (inr (inr (inl x.0)), x.1)))
+gathered (inr (inr (inr (inr (inr x))))) = inr (inr (inr (inr (inr (inr x.0)), x.1)))
 
-scattered : {K PC MO FL LO HI SI ST PO R M E NR NM NE V U LT PT SP T : Type 0}
-    → ((K ⊎ (PC ⊎ (MO ⊎ (FL ⊎ (LO ⊎ (HI ⊎ (SI ⊎ (ST ⊎ (PO ⊎ ⊥))))))))) ⊎ (R ⊎ (M ⊎ E))) ⊎ (((NR ⊎ (NM ⊎ NE)) × V) ⊎ (U ⊎ ((LT ⊎ (PT ⊎ SP)) × T)))
-    → K ⊎ ((PC ⊎ (MO ⊎ ((FL ⊎ (LT × T)) ⊎ (((NR × V) ⊎ R) ⊎ (LO ⊎ (HI ⊎ (SI ⊎ (((NM × V) ⊎ M) ⊎ (ST ⊎ (PO ⊎ ((NE × V) ⊎ E))))))))))) ⊎ (U ⊎ ((PT × T) ⊎ (SP × T))))
+scattered : {K PC MO FL LO HI SI ST PO R M E W NR NM NE NW V U LT PT SP WT T : Type 0}
+    → ((K ⊎ (PC ⊎ (MO ⊎ (FL ⊎ (LO ⊎ (HI ⊎ (SI ⊎ (ST ⊎ (PO ⊎ ⊥))))))))) ⊎ (R ⊎ (M ⊎ (E ⊎ W)))) ⊎ (((NR ⊎ (NM ⊎ (NE ⊎ NW))) × V) ⊎ (U ⊎ ((LT ⊎ (PT ⊎ (SP ⊎ WT))) × T)))
+    → K ⊎ ((PC ⊎ (MO ⊎ ((FL ⊎ (LT × T)) ⊎ (((NR × V) ⊎ R) ⊎ (LO ⊎ (HI ⊎ (SI ⊎ (((NM × V) ⊎ M) ⊎ (ST ⊎ (PO ⊎ (((NE × V) ⊎ E) ⊎ ((NW × V) ⊎ W)))))))))))) ⊎ (U ⊎ ((PT × T) ⊎ ((SP × T) ⊎ (WT × T)))))
 scattered (inl (inl (inl x))) = inl x
 scattered (inl (inl (inr (inl x)))) = inr (inl (inl x))
 scattered (inl (inl (inr (inr (inl x))))) = inr (inl (inr (inl x)))
 scattered (inl (inl (inr (inr (inr (inl x)))))) = inr (inl (inr (inr (inl (inl x)))))
-scattered (inl (inr (inl x))) = inr (inl (inr (inr (inr (inl (inr x))))))
 scattered (inl (inl (inr (inr (inr (inr (inl x))))))) = inr (inl (inr (inr (inr (inr (inl x))))))
 scattered (inl (inl (inr (inr (inr (inr (inr (inl x)))))))) = inr (inl (inr (inr (inr (inr (inr (inl x)))))))
 scattered (inl (inl (inr (inr (inr (inr (inr (inr (inl x))))))))) =
     inr (inl (inr (inr (inr (inr (inr (inr (inl x))))))))
-scattered (inl (inr (inr (inl x)))) = inr (inl (inr (inr (inr (inr (inr (inr (inr (inl (inr x))))))))))
 scattered (inl (inl (inr (inr (inr (inr (inr (inr (inr (inl x)))))))))) =
     inr (inl (inr (inr (inr (inr (inr (inr (inr (inr (inl x))))))))))
 scattered (inl (inl (inr (inr (inr (inr (inr (inr (inr (inr (inl x))))))))))) =
     inr (inl (inr (inr (inr (inr (inr (inr (inr (inr (inr (inl x)))))))))))
-scattered (inl (inr (inr (inr x)))) =
-    inr (inl (inr (inr (inr (inr (inr (inr (inr (inr (inr (inr (inr x))))))))))))
+scattered (inl (inr (inl x))) = inr (inl (inr (inr (inr (inl (inr x))))))
+scattered (inl (inr (inr (inl x)))) = inr (inl (inr (inr (inr (inr (inr (inr (inr (inl (inr x))))))))))
+scattered (inl (inr (inr (inr (inl x))))) =
+    inr (inl (inr (inr (inr (inr (inr (inr (inr (inr (inr (inr (inl (inr x)))))))))))))
+scattered (inl (inr (inr (inr (inr x))))) =
+    inr (inl (inr (inr (inr (inr (inr (inr (inr (inr (inr (inr (inr (inr x)))))))))))))
 scattered (inr (inr (inl x))) = inr (inr (inl x))
 scattered (inl (inl (inr (inr (inr (inr (inr (inr (inr (inr (inr x))))))))))) = absurd x
 scattered (inr (inl x)) = elim x.0 [
   | inl y ↦ inr (inl (inr (inr (inr (inl (inl (y, x.1)))))))
   | inr z ↦ elim z [
     | inl y ↦ inr (inl (inr (inr (inr (inr (inr (inr (inr (inl (inl (y, x.1)))))))))))
-    | inr y ↦ inr (inl (inr (inr (inr (inr (inr (inr (inr (inr (inr (inr (inl (y, x.1)))))))))))))
+    | inr w ↦ elim w [
+      | inl y ↦ inr (inl (inr (inr (inr (inr (inr (inr (inr (inr (inr (inr (inl (inl (y, x.1))))))))))))))
+      | inr y ↦ inr (inl (inr (inr (inr (inr (inr (inr (inr (inr (inr (inr (inr (inl (y, x.1))))))))))))))
+    ]
   ]
 ]
 scattered (inr (inr (inr x))) = elim x.0 [
   | inl y ↦ inr (inl (inr (inr (inl (inr (y, x.1))))))
   | inr z ↦ elim z [
     | inl y ↦ inr (inr (inr (inl (y, x.1))))
-    | inr y ↦ inr (inr (inr (inr (y, x.1))))
+    | inr w ↦ elim w [
+      | inl y ↦ inr (inr (inr (inr (inl (y, x.1)))))
+      | inr y ↦ inr (inr (inr (inr (inr (y, x.1)))))
+    ]
   ]
 ]
 
-regrouped : {K PC MO FL LO HI SI ST PO R M E NR NM NE V U LT PT SP T : Type 0}
-    → K ⊎ ((PC ⊎ (MO ⊎ ((FL ⊎ (LT × T)) ⊎ (((NR × V) ⊎ R) ⊎ (LO ⊎ (HI ⊎ (SI ⊎ (((NM × V) ⊎ M) ⊎ (ST ⊎ (PO ⊎ ((NE × V) ⊎ E))))))))))) ⊎ (U ⊎ ((PT × T) ⊎ (SP × T)))) ↔ ((K ⊎ (PC ⊎ (MO ⊎ (FL ⊎ (LO ⊎ (HI ⊎ (SI ⊎ (ST ⊎ (PO ⊎ ⊥))))))))) ⊎ (R ⊎ (M ⊎ E))) ⊎ (((NR ⊎ (NM ⊎ NE)) × V) ⊎ (U ⊎ ((LT ⊎ (PT ⊎ SP)) × T)))
+regrouped : {K PC MO FL LO HI SI ST PO R M E W NR NM NE NW V U LT PT SP WT T : Type 0}
+    → K ⊎ ((PC ⊎ (MO ⊎ ((FL ⊎ (LT × T)) ⊎ (((NR × V) ⊎ R) ⊎ (LO ⊎ (HI ⊎ (SI ⊎ (((NM × V) ⊎ M) ⊎ (ST ⊎ (PO ⊎ (((NE × V) ⊎ E) ⊎ ((NW × V) ⊎ W)))))))))))) ⊎ (U ⊎ ((PT × T) ⊎ ((SP × T) ⊎ (WT × T))))) ↔ ((K ⊎ (PC ⊎ (MO ⊎ (FL ⊎ (LO ⊎ (HI ⊎ (SI ⊎ (ST ⊎ (PO ⊎ ⊥))))))))) ⊎ (R ⊎ (M ⊎ (E ⊎ W)))) ⊎ (((NR ⊎ (NM ⊎ (NE ⊎ NW))) × V) ⊎ (U ⊎ ((LT ⊎ (PT ⊎ (SP ⊎ WT))) × T)))
 regrouped = (λ h. gathered h, λ h. scattered h)
 
 module _ (ms : Members) (f : MachineFileFault) where
@@ -303,7 +329,8 @@ module _ (ms : Members) (f : MachineFileFault) where
       (either (list_parts f (λ d. PageFault d f) IsNoTable (In (ShapeFault f map_shape)) (page_parts f) (get_member (codes "map") ms))
       (either (may_row f ms (codes "steps") (UpTo 65536) (λ d. UpToFault 65536 d f) (up_to_kind f 65536))
       (either (may_row f ms (codes "port") Word (λ d. WordFault d f) (up_to_kind f (2 ^ 32 - 1)))
-      (list_parts f (λ d. EventFault d f) IsNoTable (In (ShapeFault f event_shape)) (event_parts f) (get_member (codes "event") ms))))))))))))
+      (either (list_parts f (λ d. EventFault d f) IsNoTable (In (ShapeFault f event_shape)) (event_parts f) (get_member (codes "event") ms))
+      (list_parts f (λ d. PutWordFault d f) IsNoTable (In (ShapeFault f word_shape)) (put_word_parts f) (get_member (codes "word") ms)))))))))))))
       same))
       (along regrouped (either (either (either same (any_one_of (RowFault f ms) file_shape.rows)) same) same))
 

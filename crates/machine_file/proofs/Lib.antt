@@ -4,6 +4,7 @@ mod ProfileRuleLemmas
 mod PriceTableLemmas
 mod KeyFaults
 mod MachineValueLemmas
+mod PutWordLemmas
 mod MachineRuleLemmas
 mod FaultTableLemmas
 mod KeyTableLemmas

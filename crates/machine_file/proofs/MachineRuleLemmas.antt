@@ -15,7 +15,7 @@ use Rattle.toml_reading.specs.Readings.{both, seen}
 use Rattle.toml_reading.proofs.LowestLemmas.{Judges, and_then_judged, joint, judged_as, judged_one, one_test, optional_judged, required_judged, seen_judged, two_tests}
 use Rattle.toml_reading.proofs.LowestParts.{entries_state, keys_judged, number_or_judged, number_read, numbers_read, some_weaker, tables_judged}
 use Rattle.machine_file.specs.MachineFaults.{machine_faults, number_of}
-use Rattle.machine_file.specs.MachineFile.{are_single, controller_in, controller_of, event_at, events_in, flags_at, flags_in, is_mappable, machine_in, mapped, mode_at, mode_in, once, page_at, pages_in, pc_at, pc_in, processor_in, processor_of, registers_at, registers_in, schedule_in, schedule_of, set_flags, size_at, size_in, stated_of}
+use Rattle.machine_file.specs.MachineFile.{Read, are_single, controller_in, controller_of, event_at, events_in, flags_at, flags_in, is_mappable, machine_in, mapped, mode_at, mode_in, once, page_at, pages_in, pc_at, pc_in, processor_in, processor_of, registers_at, registers_in, schedule_in, schedule_of, set_flags, size_at, size_in, stated_of, words_in}
 use Rattle.machine_file.specs.MachineFaultRules.{IsPageTwice, IsStepTwice, IsUnmappable, are_below, page_numbers}
 use Rattle.machine_file.specs.MachineRules.{AreFlags, AreRegisters, IsAddress, IsEvent, IsNamed, IsPage, IsSize, IsWord, StatesController, StatesMachine, StatesProcessor, StatesSchedule}
 use Rattle.machine_file.specs.Names.{file_keys, map_keys, named_mode}
@@ -27,6 +27,7 @@ use Rattle.machine_file.specs.declared.machine_faults.MachineFileFault.TheVarian
 use Rattle.machine_file.specs.declared.pages.MappedPage.{MappedPage}
 use Rattle.machine_file.proofs.MachineValueLemmas.{address_judged, event_judged, event_low, flags_judged, named_judged, page_judged, page_low, registers_judged, size_judged, size_low, list_low, some_low}
 use Rattle.machine_file.proofs.KeyFaults.{AddressFault, EventFault, FlagsFault, HasKeyFault, NameFault, PageFault, RegistersFault, SizeFault, UpToFault, WordFault}
+use Rattle.machine_file.proofs.PutWordLemmas.{WordTwiceFault, WordsFault, WordsStates, words_judged}
 
 -- ## The processor
 
@@ -406,13 +407,23 @@ module _ (ms : Members) where
 
 abbrev FileStates : Members → Stated → Type 0
 FileStates ms s =
-    ProcessorStates ms s.processor × (ControllerStates ms s.controller × ScheduleStates ms s.schedule)
+    ProcessorStates ms s.processor
+    × (ControllerStates ms s.controller × (ScheduleStates ms s.schedule × WordsStates ms s.words))
 
 abbrev FileFault : Members → MachineFileFault → Type 0
-FileFault ms f = ProcessorFault ms f ⊎ (ControllerFault ms f ⊎ ScheduleFault ms f)
+FileFault ms f =
+    ProcessorFault ms f
+    ⊎ (ControllerFault ms f ⊎ (ScheduleFault ms f ⊎ (WordsFault ms f ⊎ WordTwiceFault ms f)))
+
+abbrev parts_in : Members → Read (Processor × (Controller × (Schedule × List (ℕ × ℕ))))
+parts_in ms =
+    both
+    machine_faults
+    (processor_in ms)
+    (both machine_faults (controller_in ms) (both machine_faults (schedule_in ms) (words_in ms)))
 
 file_judged : (ms : Members)
-    → Judges machine_faults (FileStates ms) (FileFault ms) (seen stated_of (both machine_faults (processor_in ms) (both machine_faults (controller_in ms) (schedule_in ms))))
+    → Judges machine_faults (FileStates ms) (FileFault ms) (seen stated_of (parts_in ms))
 file_judged ms =
     seen_judged
     machine_faults
@@ -421,9 +432,9 @@ file_judged ms =
     (FileFault ms)
     stated_of
     (λ p s. s)
-    (λ s t. ((s.processor, (s.controller, s.schedule)), t, refl))
+    (λ s t. ((s.processor, (s.controller, (s.schedule, s.words))), t, refl))
     _
-    (joint (processor_judged ms) (joint (controller_judged ms) (schedule_judged ms)))
+    (joint (processor_judged ms) (joint (controller_judged ms) (joint (schedule_judged ms) (words_judged ms))))
 
 to_machine : (ms : Members) (s : Stated) → (has_only_keys file_keys ms ≡ true) × FileStates ms s
     → StatesMachine ms s
@@ -439,7 +450,14 @@ to_machine ms s h = record {
     pages_once = h.1.1.0.1.2;
   };
   schedule =
-      record { steps = h.1.1.1.0.0; port = h.1.1.1.0.1; events = h.1.1.1.1.0; steps_once = h.1.1.1.1.1 };
+      record {
+        steps = h.1.1.1.0.0.0;
+        port = h.1.1.1.0.0.1;
+        events = h.1.1.1.0.1.0;
+        steps_once = h.1.1.1.0.1.1;
+      };
+  words = h.1.1.1.1.0;
+  words_once = h.1.1.1.1.1;
 }
 
 from_processor : (ms : Members) (p : Processor) → StatesProcessor ms p → ProcessorStates ms p
@@ -455,13 +473,13 @@ from_machine : (ms : Members) (s : Stated) → StatesMachine ms s
     → (has_only_keys file_keys ms ≡ true) × FileStates ms s
 from_machine ms s m = (
   m.known,
-  (from_processor ms s.processor m.processor, (from_controller ms s.controller m.controller, from_schedule ms s.schedule m.schedule)),
+  (from_processor ms s.processor m.processor, (from_controller ms s.controller m.controller, (from_schedule ms s.schedule m.schedule, (m.words, m.words_once)))),
 )
 
 -- the faults in the order of the readings, and by whether one value alone shows them
-to_faults : {K P M F R L H S A T O E U W V : Type 0}
-    → K ⊎ (((P ⊎ (M ⊎ F)) ⊎ R) ⊎ (((L ⊎ H) ⊎ ((S ⊎ A) ⊎ (U ⊎ W))) ⊎ ((T ⊎ O) ⊎ (E ⊎ V))))
-    → K ⊎ ((P ⊎ (M ⊎ (F ⊎ (R ⊎ (L ⊎ (H ⊎ (S ⊎ (A ⊎ (T ⊎ (O ⊎ E)))))))))) ⊎ (U ⊎ (W ⊎ V)))
+to_faults : {K P M F R L H S A T O E D U W V X : Type 0}
+    → K ⊎ (((P ⊎ (M ⊎ F)) ⊎ R) ⊎ (((L ⊎ H) ⊎ ((S ⊎ A) ⊎ (U ⊎ W))) ⊎ (((T ⊎ O) ⊎ (E ⊎ V)) ⊎ (D ⊎ X))))
+    → K ⊎ ((P ⊎ (M ⊎ (F ⊎ (R ⊎ (L ⊎ (H ⊎ (S ⊎ (A ⊎ (T ⊎ (O ⊎ (E ⊎ D))))))))))) ⊎ (U ⊎ (W ⊎ (V ⊎ X))))
 to_faults (inl x) = inl x
 to_faults (inr (inl (inl (inl x)))) = inr (inl (inl x))
 to_faults (inr (inl (inl (inr (inl x))))) = inr (inl (inr (inl x)))
@@ -473,16 +491,20 @@ to_faults (inr (inr (inl (inr (inl (inl x)))))) = inr (inl (inr (inr (inr (inr (
 to_faults (inr (inr (inl (inr (inl (inr x)))))) = inr (inl (inr (inr (inr (inr (inr (inr (inr (inl x)))))))))
 to_faults (inr (inr (inl (inr (inr (inl x)))))) = inr (inr (inl x))
 to_faults (inr (inr (inl (inr (inr (inr x)))))) = inr (inr (inr (inl x)))
-to_faults (inr (inr (inr (inl (inl x))))) = inr (inl (inr (inr (inr (inr (inr (inr (inr (inr (inl x))))))))))
-to_faults (inr (inr (inr (inl (inr x))))) =
+to_faults (inr (inr (inr (inl (inl (inl x)))))) =
+    inr (inl (inr (inr (inr (inr (inr (inr (inr (inr (inl x))))))))))
+to_faults (inr (inr (inr (inl (inl (inr x)))))) =
     inr (inl (inr (inr (inr (inr (inr (inr (inr (inr (inr (inl x)))))))))))
+to_faults (inr (inr (inr (inl (inr (inl x)))))) =
+    inr (inl (inr (inr (inr (inr (inr (inr (inr (inr (inr (inr (inl x))))))))))))
+to_faults (inr (inr (inr (inl (inr (inr x)))))) = inr (inr (inr (inr (inl x))))
 to_faults (inr (inr (inr (inr (inl x))))) =
-    inr (inl (inr (inr (inr (inr (inr (inr (inr (inr (inr (inr x)))))))))))
-to_faults (inr (inr (inr (inr (inr x))))) = inr (inr (inr (inr x)))
+    inr (inl (inr (inr (inr (inr (inr (inr (inr (inr (inr (inr (inr x))))))))))))
+to_faults (inr (inr (inr (inr (inr x))))) = inr (inr (inr (inr (inr x))))
 
-from_faults : {K P M F R L H S A T O E U W V : Type 0}
-    → K ⊎ ((P ⊎ (M ⊎ (F ⊎ (R ⊎ (L ⊎ (H ⊎ (S ⊎ (A ⊎ (T ⊎ (O ⊎ E)))))))))) ⊎ (U ⊎ (W ⊎ V)))
-    → K ⊎ (((P ⊎ (M ⊎ F)) ⊎ R) ⊎ (((L ⊎ H) ⊎ ((S ⊎ A) ⊎ (U ⊎ W))) ⊎ ((T ⊎ O) ⊎ (E ⊎ V))))
+from_faults : {K P M F R L H S A T O E D U W V X : Type 0}
+    → K ⊎ ((P ⊎ (M ⊎ (F ⊎ (R ⊎ (L ⊎ (H ⊎ (S ⊎ (A ⊎ (T ⊎ (O ⊎ (E ⊎ D))))))))))) ⊎ (U ⊎ (W ⊎ (V ⊎ X))))
+    → K ⊎ (((P ⊎ (M ⊎ F)) ⊎ R) ⊎ (((L ⊎ H) ⊎ ((S ⊎ A) ⊎ (U ⊎ W))) ⊎ (((T ⊎ O) ⊎ (E ⊎ V)) ⊎ (D ⊎ X))))
 from_faults (inl x) = inl x
 from_faults (inr (inl (inl x))) = inr (inl (inl (inl x)))
 from_faults (inr (inl (inr (inl x)))) = inr (inl (inl (inr (inl x))))
@@ -494,14 +516,17 @@ from_faults (inr (inl (inr (inr (inr (inr (inr (inr (inl x))))))))) = inr (inr (
 from_faults (inr (inl (inr (inr (inr (inr (inr (inr (inr (inl x)))))))))) =
     inr (inr (inl (inr (inl (inr x)))))
 from_faults (inr (inl (inr (inr (inr (inr (inr (inr (inr (inr (inl x))))))))))) =
-    inr (inr (inr (inl (inl x))))
+    inr (inr (inr (inl (inl (inl x)))))
 from_faults (inr (inl (inr (inr (inr (inr (inr (inr (inr (inr (inr (inl x)))))))))))) =
-    inr (inr (inr (inl (inr x))))
-from_faults (inr (inl (inr (inr (inr (inr (inr (inr (inr (inr (inr (inr x)))))))))))) =
+    inr (inr (inr (inl (inl (inr x)))))
+from_faults (inr (inl (inr (inr (inr (inr (inr (inr (inr (inr (inr (inr (inl x))))))))))))) =
+    inr (inr (inr (inl (inr (inl x)))))
+from_faults (inr (inl (inr (inr (inr (inr (inr (inr (inr (inr (inr (inr (inr x))))))))))))) =
     inr (inr (inr (inr (inl x))))
 from_faults (inr (inr (inl x))) = inr (inr (inl (inr (inr (inl x)))))
 from_faults (inr (inr (inr (inl x)))) = inr (inr (inl (inr (inr (inr x)))))
-from_faults (inr (inr (inr (inr x)))) = inr (inr (inr (inr (inr x))))
+from_faults (inr (inr (inr (inr (inl x))))) = inr (inr (inr (inl (inr (inr x)))))
+from_faults (inr (inr (inr (inr (inr x))))) = inr (inr (inr (inr (inr x))))
 
 pub machine_judged : (ms : Members)
     → Judges machine_faults (StatesMachine ms) (HasKeyFault ms) (machine_in ms)
@@ -515,4 +540,4 @@ machine_judged ms =
     (λ s. (to_machine ms s, from_machine ms s))
     (λ f. (λ h. to_faults h, λ h. from_faults h))
     (machine_in ms)
-    (keys_judged machine_faults file_keys FileStates FileFault (λ t. seen stated_of (both machine_faults (processor_in t) (both machine_faults (controller_in t) (schedule_in t)))) file_judged ms)
+    (keys_judged machine_faults file_keys FileStates FileFault (λ t. seen stated_of (parts_in t)) file_judged ms)

@@ -39,7 +39,7 @@ at_rank Twice = refl
 pub one_rank : (f g : MachineFileFault) → number_of f ≡ number_of g → f ≡ g
 one_rank = one_by_rank machine_faults fault_at at_rank
 
-is_fault : (f g : MachineFileFault) → f ≡ g → number_of g ≤ number_of f
+pub is_fault : (f g : MachineFileFault) → f ≡ g → number_of g ≤ number_of f
 is_fault f g e = le_of_eq (ap number_of (sym e))
 
 -- ## Addresses
@@ -133,7 +133,7 @@ module _ {A : Type 0} where
       → Judges machine_faults (IsNamed named d) (NameFault named d) (required machine_faults (option_and_then named (as_str d)) (λ a. Ok a))
   named_judged named d = record { told = named_told (option_and_then named (as_str d)) }
 
-same_test : (b : Bool) → b ≡ false ↔ (b ≡ false)
+pub same_test : (b : Bool) → b ≡ false ↔ (b ≡ false)
 same_test b = (λ e. e, λ e. e)
 
 letters_judged : (text : List ℕ)
@@ -224,13 +224,13 @@ registers_judged d =
     d
 
 module _ (ms : Members) where
-  abbrev Word : List ℕ → ℕ → Type 0
+  abbrev pub Word : List ℕ → ℕ → Type 0
   Word key n = AtKey key ms (λ e. IsWord e n)
 
-  abbrev NeedsWord : List ℕ → MachineFileFault → Type 0
+  abbrev pub NeedsWord : List ℕ → MachineFileFault → Type 0
   NeedsWord key f = AtKeyOr key ms (f ≡ WrongKind) (λ e. WordFault e f)
 
-  word : (key : List ℕ) → Judges machine_faults (Word key) (NeedsWord key) (word_in key ms)
+  pub word : (key : List ℕ) → Judges machine_faults (Word key) (NeedsWord key) (word_in key ms)
   word key = number_in_judged machine_faults (2 ^ 32 - 1) key ms
 
 abbrev PageStates : Members → MappedPage → Type 0
@@ -369,11 +369,11 @@ event_judged d =
 
 -- ## Ranks of the faults of pages and events
 
-abbrev IsLow : MachineFileFault → Type 0
+abbrev pub IsLow : MachineFileFault → Type 0
 IsLow f = number_of f ≤ 5
 
 module _ (f : MachineFileFault) where
-  low_at : (g : MachineFileFault) → number_of g ≤ 5 → f ≡ g → IsLow f
+  pub low_at : (g : MachineFileFault) → number_of g ≤ 5 → f ≡ g → IsLow f
   low_at g low e = let r : number_of f ≡ number_of g = ap number_of e in omega (arith, r, low)
 
   pub some_low : {X : Type 0} (P : X → Type 0) → ((x : X) → P x → IsLow f) → (o : Option X) → IsSomeAnd o P
@@ -381,7 +381,7 @@ module _ (f : MachineFileFault) where
   some_low P each None h = absurd h
   some_low P each (Some x) h = each x h
 
-  match_low : {X : Type 0} (P : X → Type 0) → ((x : X) → P x → IsLow f) → (o : Option X)
+  pub match_low : {X : Type 0} (P : X → Type 0) → ((x : X) → P x → IsLow f) → (o : Option X)
       → MatchOption o (f ≡ WrongKind) P → IsLow f
   match_low P each None h = low_at WrongKind (omega arith) h
   match_low P each (Some x) h = each x h
@@ -402,11 +402,11 @@ module _ (f : MachineFileFault) where
   keys_low keys H each ms (inl e) = low_at UnknownKey (omega arith) e.1
   keys_low keys H each ms (inr h) = each ms h
 
-  table_low : (keys : List (List ℕ)) (H : Members → MachineFileFault → Type 0)
+  pub table_low : (keys : List (List ℕ)) (H : Members → MachineFileFault → Type 0)
       → ((ms : Members) → H ms f → IsLow f) → (d : Data) → TableFault machine_faults keys H d f → IsLow f
   table_low keys H each d h = match_low _ (keys_low keys H each) (as_table d) h
 
-  needs_low : (key : List ℕ) (ms : Members) → NeedsWord ms key f → IsLow f
+  pub needs_low : (key : List ℕ) (ms : Members) → NeedsWord ms key f → IsLow f
   needs_low key ms h = match_low _ (λ d x. up_to_low (2 ^ 32 - 1) d x) (get_member key ms) h
 
   page_faults_low : (ms : Members) → PageFaults ms f → IsLow f

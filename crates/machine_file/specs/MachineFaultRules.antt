@@ -1,10 +1,11 @@
 -- Which faults a machine file has, over all its tables. Source: our own format of machine files, over the
 -- documents of TOML, and our own memory map.
-use Rattle.std.specs.Prelude.{◌≡◌, ◌≢◌, ◌⊎◌, ◌-◌, ◌^◌, ⊤, ℕ, pos, Bool, true, false, List, [], ◌∷◌, codes}
-use Rattle.std.specs.Prelude.{map, Any, nat_lt, None, IsSomeAnd, MatchOption}
+use Rattle.std.specs.Prelude.{◌≡◌, ◌≢◌, ◌⊎◌, ◌-◌, ◌^◌, ⊤, ℕ, ℤ, pos, Bool, true, false, List, [], ◌∷◌, codes}
+use Rattle.std.specs.Prelude.{map, Any, nat_lt, None, IsSomeAnd, IsTrue, MatchOption}
 use Rattle.std.specs.List.{list_all}
 use Rattle.std.specs.Option.{option_and_then}
 use Rattle.toml.specs.Data.{Data, Members, as_integer, as_str, as_table, get_member}
+use Rattle.loader.specs.Image.{may_hold}
 use Rattle.memc.specs.Memory.{shift_of_size}
 use Rattle.memc.specs.declared.spots.PageSize.{PageSize}
 use Rattle.memc.specs.declared.spots.PageSize.TheVariants.{K4}
@@ -14,18 +15,19 @@ use Rattle.machine_file.specs.MachineFile.{is_letter, is_single}
 use Rattle.ioc.specs.LineNames.{line_named}
 use Rattle.machine_file.specs.MachineRules.{IsSize, kilobytes}
 use Rattle.machine_file.specs.Names.{event_keys, file_keys, map_keys, name_of, named_mode, named_registers}
-use Rattle.machine_file.specs.Names.{register_keys}
+use Rattle.machine_file.specs.Names.{register_keys, word_keys}
 use Rattle.machine_file.specs.declared.machine_faults.MachineFileFault.{MachineFileFault}
 use Rattle.machine_file.specs.declared.machine_faults.MachineFileFault.TheVariants.{UnknownKey, WrongKind}
 use Rattle.machine_file.specs.declared.machine_faults.MachineFileFault.TheVariants.{OutOfRange, Twice}
 
 -- ## What the keys take
 
--- a number from 0 to a limit, an address of the program, a page's size in KB, the name of a mode, letters of
--- flags, or a list of names of lines
+-- a number from 0 to a limit, an address of the program, that of a word in RAM or in ROM, a page's size in
+-- KB, the name of a mode, letters of flags, or a list of names of lines
 pub data Takes : Type 0 where
   UpTo : ℕ → Takes
   Address : Takes
+  Place : Takes
   Size : Takes
   ModeName : Takes
   FlagLetters : Takes
@@ -85,15 +87,20 @@ event_shape = record {
       ∷ [];
 }
 
+abbrev pub word_shape : Shape
+word_shape =
+    record { keys = word_keys; rows = needs (codes "at") Place ∷ needs (codes "value") Word ∷ [] }
+
 -- ## The tables of a file
 
--- that holds of a table of the file: of its own, of `registers`, or of one in `map` or in `event`
+-- that holds of a table of the file: of its own, of `registers`, or of one in `map`, `event` or `word`
 abbrev pub OfSomeTable : (Shape → Members → Type 0) → Members → Type 0
 OfSomeTable P ms =
     P file_shape ms
     ⊎ AtKey (codes "registers") ms (λ d. IsSomeAnd (as_table d) (P register_shape))
     ⊎ Any (λ d. IsSomeAnd (as_table d) (P map_shape)) (entries_at (codes "map") ms)
     ⊎ Any (λ d. IsSomeAnd (as_table d) (P event_shape)) (entries_at (codes "event") ms)
+    ⊎ Any (λ d. IsSomeAnd (as_table d) (P word_shape)) (entries_at (codes "word") ms)
 
 -- ## A key that its table may not have
 
@@ -110,6 +117,7 @@ LacksKey shape ms = Any (λ row. (row.required ≡ true) × (get_member row.key 
 abbrev pub IsOtherKind : Takes → Data → Type 0
 IsOtherKind (UpTo limit) d = as_integer d ≡ None
 IsOtherKind Address d = as_integer d ≡ None
+IsOtherKind Place d = as_integer d ≡ None
 IsOtherKind Size d = as_integer d ≡ None
 IsOtherKind ModeName d = option_and_then named_mode (as_str d) ≡ None
 IsOtherKind FlagLetters d = MatchOption (as_str d) ⊤ (λ text. list_all is_letter text ≡ false)
@@ -132,12 +140,18 @@ HasWrongKind ms =
     ⊎ AtKey (codes "registers") ms IsNoTable
     ⊎ AtKey (codes "map") ms AreNoTables
     ⊎ AtKey (codes "event") ms AreNoTables
+    ⊎ AtKey (codes "word") ms AreNoTables
 
 -- ## A number that its key does not take, or a page that cannot be mapped
+
+-- no multiple of 4, negative, past 3FFFFFC, or in I/O
+abbrev pub IsNoPlace : ℤ → Type 0
+IsNoPlace z = (n : ℕ) → z ≡ pos n → ¬ IsTrue (may_hold n)
 
 abbrev pub IsOtherNumber : Takes → Data → Type 0
 IsOtherNumber (UpTo limit) d = IsSomeAnd (as_integer d) (IsOutside limit)
 IsOtherNumber Address d = IsSomeAnd (as_integer d) IsNoAddress
+IsOtherNumber Place d = IsSomeAnd (as_integer d) IsNoPlace
 IsOtherNumber Size d = IsSomeAnd (as_integer d) (λ z. (size : PageSize) → z ≢ pos (kilobytes size))
 IsOtherNumber _ d = ⊥
 
@@ -176,6 +190,10 @@ IsPageTwice ms =
 abbrev pub IsStepTwice : Members → Type 0
 IsStepTwice ms = are_distinct (numbers_at (codes "step") (entries_at (codes "event") ms)) ≡ false
 
+-- the address of a word
+abbrev pub IsWordTwice : Members → Type 0
+IsWordTwice ms = are_distinct (numbers_at (codes "at") (entries_at (codes "word") ms)) ≡ false
+
 -- ## The faults
 
 abbrev pub HasMachineFault : Members → MachineFileFault → Type 0
@@ -183,4 +201,4 @@ HasMachineFault ms fault =
     (OfSomeTable HasOtherKey ms × (fault ≡ UnknownKey))
     ⊎ (HasWrongKind ms × (fault ≡ WrongKind))
     ⊎ ((OfSomeTable HasOtherNumber ms ⊎ IsUnmappable ms) × (fault ≡ OutOfRange))
-    ⊎ ((IsLetterTwice ms ⊎ IsPageTwice ms ⊎ IsStepTwice ms) × (fault ≡ Twice))
+    ⊎ ((IsLetterTwice ms ⊎ IsPageTwice ms ⊎ IsStepTwice ms ⊎ IsWordTwice ms) × (fault ≡ Twice))

@@ -12,6 +12,7 @@ use Rattle.arm2_effect.specs.declared.modes.Mode.{Mode}
 use Rattle.arm2_effect.specs.declared.modes.Mode.TheVariants.{Svc}
 use Rattle.arm2_effect.specs.declared.modes.Reg.{Reg}
 use Rattle.ioc.specs.declared.lines.Lines.{Lines}
+use Rattle.loader.specs.Image.{may_hold}
 use Rattle.memc.specs.Memory.{shift_of_size}
 use Rattle.memc.specs.declared.spots.PageSize.{PageSize}
 use Rattle.memc.specs.declared.spots.PageSize.TheVariants.{K4, K8, K16, K32}
@@ -22,7 +23,7 @@ use Rattle.toml_reading.specs.Readings.{Reading, all, and_then, both, optional, 
 use Rattle.ioc.specs.LineNames.{line_named}
 use Rattle.machine_file.specs.MachineFaults.{machine_faults}
 use Rattle.machine_file.specs.Names.{event_keys, file_keys, map_keys, name_of, named_mode}
-use Rattle.machine_file.specs.Names.{named_registers, register_keys}
+use Rattle.machine_file.specs.Names.{named_registers, register_keys, word_keys}
 use Rattle.machine_file.specs.Stated.{Controller, Processor, Schedule, Stated}
 use Rattle.machine_file.specs.declared.events.Event.{Event}
 use Rattle.machine_file.specs.declared.flags.PsrFlags.{PsrFlags}
@@ -221,9 +222,9 @@ event_in ms =
 abbrev pub event_at : Data → Read (ℕ × Event)
 event_at d = required machine_faults (as_table d) event_in
 
--- one event at most for a step
-abbrev pub once : List (ℕ × Event) → Read (List (ℕ × Event))
-once events = if are_distinct (keys_of events) then Ok events else Err Twice
+-- one at most for each number: one event for a step, one word for an address
+abbrev pub once : {A : Type 0} → List (ℕ × A) → Read (List (ℕ × A))
+once entries = if are_distinct (keys_of entries) then Ok entries else Err Twice
 
 abbrev pub events_in : Members → Read (List (ℕ × Event))
 events_in ms = and_then (tables_at machine_faults event_at (get_member (codes "event") ms)) once
@@ -239,10 +240,34 @@ schedule_of p = record { steps = p.0.0; port = p.0.1; events = p.1 }
 abbrev pub schedule_in : Members → Read Schedule
 schedule_in ms = seen schedule_of (both machine_faults (counts_in ms) (events_in ms))
 
+-- ## Words put into memory
+
+-- the address of a word in RAM or in ROM
+abbrev pub place_of : ℤ → Read ℕ
+place_of (pos n) = if may_hold n then Ok n else Err OutOfRange
+place_of (negsuc n) = Err OutOfRange
+
+abbrev pub place_at : Data → Read ℕ
+place_at d = required machine_faults (as_integer d) place_of
+
+abbrev pub place_in : Members → Read ℕ
+place_in ms = required machine_faults (get_member (codes "at") ms) place_at
+
+-- a word, by its address
+abbrev pub put_word_in : Members → Read (ℕ × ℕ)
+put_word_in ms =
+    of_keys machine_faults word_keys ms (both machine_faults (place_in ms) (word_in (codes "value") ms))
+
+abbrev pub put_word_at : Data → Read (ℕ × ℕ)
+put_word_at d = required machine_faults (as_table d) put_word_in
+
+abbrev pub words_in : Members → Read (List (ℕ × ℕ))
+words_in ms = and_then (tables_at machine_faults put_word_at (get_member (codes "word") ms)) once
+
 -- ## The file
 
-abbrev pub stated_of : Processor × (Controller × Schedule) → Stated
-stated_of p = record { processor = p.0; controller = p.1.0; schedule = p.1.1 }
+abbrev pub stated_of : Processor × (Controller × (Schedule × List (ℕ × ℕ))) → Stated
+stated_of p = record { processor = p.0; controller = p.1.0; schedule = p.1.1.0; words = p.1.1.1 }
 
 abbrev pub machine_in : Members → Read Stated
 machine_in ms =
@@ -251,7 +276,8 @@ machine_in ms =
     file_keys
     ms
     (seen stated_of
-    (both machine_faults (processor_in ms) (both machine_faults (controller_in ms) (schedule_in ms))))
+    (both machine_faults (processor_in ms)
+    (both machine_faults (controller_in ms) (both machine_faults (schedule_in ms) (words_in ms)))))
 
 -- the answer to a text, but for lack of memory
 abbrev pub IsMachineFile : List ℕ → Read Stated → Type 0

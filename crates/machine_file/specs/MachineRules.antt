@@ -1,13 +1,14 @@
 -- What a machine file states, key by key. Source: our own format of machine files, over the
 -- documents of TOML.
 use Rattle.std.specs.Prelude.{◌≡◌, ◌-◌, ◌^◌, ℕ, pos, true, List, [], codes, replicate, Option}
-use Rattle.std.specs.Prelude.{Some, None, IsSomeAnd}
+use Rattle.std.specs.Prelude.{Some, None, IsSomeAnd, IsTrue}
 use Rattle.std.specs.List.{AllZip, list_all}
 use Rattle.std.specs.Map.{keys_of}
 use Rattle.std.specs.Option.{option_and_then}
 use Rattle.toml.specs.Data.{Data, Members, as_integer, as_str}
 use Rattle.arm2_effect.specs.declared.modes.Mode.TheVariants.{Svc}
 use Rattle.ioc.specs.declared.lines.Lines.{Lines}
+use Rattle.loader.specs.Image.{may_hold}
 use Rattle.memc.specs.Memory.{shift_of_size}
 use Rattle.memc.specs.declared.spots.PageSize.{PageSize}
 use Rattle.memc.specs.declared.spots.PageSize.TheVariants.{K4, K8, K16, K32}
@@ -17,7 +18,7 @@ use Rattle.machine_file.specs.MachineFile.{are_single, is_letter, is_mappable, i
 use Rattle.ioc.specs.LineNames.{line_named}
 use Rattle.machine_file.specs.MachineFile.{set_flags, union}
 use Rattle.machine_file.specs.Names.{event_keys, file_keys, map_keys, name_of, named_mode, named_registers}
-use Rattle.machine_file.specs.Names.{register_keys}
+use Rattle.machine_file.specs.Names.{register_keys, word_keys}
 use Rattle.machine_file.specs.Stated.{Controller, Processor, Schedule, Stated}
 use Rattle.machine_file.specs.declared.events.Event.{Event}
 use Rattle.machine_file.specs.declared.flags.PsrFlags.{PsrFlags}
@@ -32,6 +33,10 @@ IsWord d n = IsNumber (2 ^ 32 - 1) d n
 -- an address of the program
 abbrev pub IsAddress : Data → ℕ → Type 0
 IsAddress d n = IsSomeAnd (as_integer d) (λ z. (z ≡ pos n) × IsInSpace n)
+
+-- the address of a word in RAM or in ROM
+abbrev pub IsPlace : Data → ℕ → Type 0
+IsPlace d n = IsSomeAnd (as_integer d) (λ z. (z ≡ pos n) × IsTrue (may_hold n))
 
 -- the size of a page in KB
 abbrev pub kilobytes : PageSize → ℕ
@@ -91,6 +96,14 @@ IsEvent d event =
     × AtKeyOr (codes "port") ms (event.1.port ≡ None) (λ e. IsSomeAnd event.1.port (IsWord e)))
     d
 
+-- a word that is put into memory, by its address; both keys are required
+abbrev pub IsPutWord : Data → ℕ × ℕ → Type 0
+IsPutWord d word =
+    IsTable
+    word_keys
+    (λ ms. AtKey (codes "at") ms (λ e. IsPlace e word.0) × AtKey (codes "value") ms (λ e. IsWord e word.1))
+    d
+
 -- ## What the file states
 
 -- only `pc` is required; where another key is missing, what stands here beside it holds
@@ -117,8 +130,11 @@ pub record StatesSchedule (ms : Members) (s : Schedule) : Type 0 where
   pub events : AtKeyOr (codes "event") ms (s.events ≡ []) (λ d. IsListOf IsEvent d s.events)
   pub steps_once : are_distinct (keys_of s.events) ≡ true
 
+-- no two words stand at one address
 pub record StatesMachine (ms : Members) (stated : Stated) : Type 0 where
   pub known : has_only_keys file_keys ms ≡ true
   pub processor : StatesProcessor ms stated.processor
   pub controller : StatesController ms stated.controller
   pub schedule : StatesSchedule ms stated.schedule
+  pub words : AtKeyOr (codes "word") ms (stated.words ≡ []) (λ d. IsListOf IsPutWord d stated.words)
+  pub words_once : are_distinct (keys_of stated.words) ≡ true

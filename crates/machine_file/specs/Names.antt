@@ -50,7 +50,7 @@ abbrev pub file_keys : List (List ℕ)
 file_keys =
     codes "pc" ∷ codes "pages" ∷ codes "mode" ∷ codes "flags" ∷ codes "low_rom" ∷ codes "high_rom"
     ∷ codes "steps" ∷ codes "port" ∷ codes "registers"
-    ∷ codes "map" ∷ codes "event" ∷ []
+    ∷ codes "map" ∷ codes "event" ∷ codes "word" ∷ []
 
 abbrev pub register_keys : List (List ℕ)
 register_keys = map name_of named_registers
@@ -60,6 +60,9 @@ map_keys = codes "logical" ∷ codes "physical" ∷ codes "level" ∷ []
 
 abbrev pub event_keys : List (List ℕ)
 event_keys = codes "step" ∷ codes "bursts" ∷ codes "lines" ∷ codes "port" ∷ []
+
+abbrev pub word_keys : List (List ℕ)
+word_keys = codes "at" ∷ codes "value" ∷ []
 
 -- ## Words
 

@@ -14,6 +14,7 @@ mod profile_faults;
 mod profiles;
 mod registers;
 mod start;
+mod words;
 
 pub use events::Event;
 pub use flags::PsrFlags;

@@ -27,7 +27,8 @@ pub enum MachineFileFault {
     /// A number is none of those that its key takes.
     #[error("OutOfRange")]
     OutOfRange,
-    /// A logical or a physical page in two maps, a step in two events, or a flag twice.
+    /// A logical or a physical page in two maps, a step in two events, an address in two words, or a flag
+    /// twice.
     #[error("Twice")]
     Twice,
 }

@@ -1,15 +1,17 @@
-ghost use Rattle.std.specs.Prelude.{◌≡◌, ◌≢◌, ◌≤◌, Err, IfOk, length, true};
+ghost use Rattle.std.specs.Prelude.{◌≡◌, ◌≢◌, ◌≤◌, ◌<◌, ◌^◌, All, Err, IfOk, IsTrue, length, true};
+ghost use Rattle.loader.specs.Image.{may_hold};
 ghost use Rattle.toml.specs.View.{table_view};
 ghost use Rattle.toml_reading.specs.Readings.{both, seen};
 ghost use Rattle.machine_file.specs.MachineFaults.{machine_faults};
 ghost use Rattle.machine_file.specs.MachineFile.{IsMachineFile, controller_in, machine_in, processor_in};
-ghost use Rattle.machine_file.specs.MachineFile.{schedule_in, stated_of};
+ghost use Rattle.machine_file.specs.MachineFile.{schedule_in, stated_of, words_in};
 
 use crate::events::{Event, Schedule, read_schedule};
 use crate::flags::PsrFlags;
 use crate::machine_faults::{MachineFileFault, Read};
 use crate::pages::{Controller, MappedPage, read_controller};
 use crate::processor::{Processor, read_processor};
+use crate::words::{PutWords, read_words};
 use arm2_effect::Mode;
 use indexmap::IndexMap;
 use memc::PageSize;
@@ -31,14 +33,17 @@ const FILE_KEYS: &[&str] = &[
     "registers",
     "map",
     "event",
+    "word",
 ];
 
-/// The state from which a machine starts, and what comes from outside in its steps.
+/// The state from which a machine starts, the words that are put into its memory after the image, and what
+/// comes from outside in its steps.
 #[derive(Drop)]
 pub struct MachineFile {
     pub(crate) processor: Processor,
     pub(crate) controller: Controller,
     pub(crate) schedule: Schedule,
+    pub(crate) words: PutWords,
 }
 
 impl Model for MachineFile {
@@ -47,7 +52,7 @@ impl Model for MachineFile {
     ghost Value = { Stated };
 
     ghost view = { λ f. record
-        { processor = f.processor; controller = f.controller; schedule = f.schedule } };
+        { processor = f.processor; controller = f.controller; schedule = f.schedule; words = f.words } };
 }
 
 impl MachineFile {
@@ -130,25 +135,49 @@ impl MachineFile {
     {
         &self.schedule.events
     }
+
+    /// The words that are put into memory after the image, each with its address in front, in the order of
+    /// the text: no two at one address, none in I/O.
+    pub fn words(&self) -> &[(u32, u32)]
+        ensures words { result.now ≡ self.now.words }
+        ensures places { All (λ e. IsTrue (may_hold e.0)) result.now }
+        ensures below { All (λ e. e.0 < 2 ^ 26) result.now }
+    {
+        &self.words.words
+    }
 }
 
-type Parts = (Processor, (Controller, Schedule));
+type Given = (Schedule, PutWords);
 
-// The memory controller, and what comes from outside.
-fn surroundings(alloc: Global, table: &Table) -> Result<Read<(Controller, Schedule)>, AllocError>
+type Parts = (Processor, (Controller, Given));
+
+// What comes from outside, and the words that are put into memory.
+fn given(alloc: Global, table: &Table) -> Result<Read<Given>, AllocError>
     ensures { IfOk result
         (λ parts. parts
-        ≡ both machine_faults (controller_in (table_view table.now)) (schedule_in (table_view table.now))) }
+        ≡ both machine_faults (schedule_in (table_view table.now)) (words_in (table_view table.now))) }
+{
+    let schedule = read_schedule(alloc, table)?;
+    Ok(pair(schedule, read_words(alloc, table)?))
+}
+
+// The memory controller, and what is given to the machine.
+fn surroundings(alloc: Global, table: &Table) -> Result<Read<(Controller, Given)>, AllocError>
+    ensures { IfOk result
+        (λ parts. parts
+        ≡ both machine_faults (controller_in (table_view table.now))
+        (both machine_faults (schedule_in (table_view table.now)) (words_in (table_view table.now)))) }
 {
     let controller = read_controller(alloc, table)?;
-    Ok(pair(controller, read_schedule(alloc, table)?))
+    Ok(pair(controller, given(alloc, table)?))
 }
 
 fn parts(alloc: Global, table: &Table) -> Result<Read<Parts>, AllocError>
     ensures { IfOk result
         (λ parts. parts
         ≡ both machine_faults (processor_in (table_view table.now))
-        (both machine_faults (controller_in (table_view table.now)) (schedule_in (table_view table.now)))) }
+        (both machine_faults (controller_in (table_view table.now))
+        (both machine_faults (schedule_in (table_view table.now)) (words_in (table_view table.now))))) }
 {
     let processor = read_processor(alloc, table)?;
     Ok(pair(processor, surroundings(alloc, table)?))
@@ -158,10 +187,11 @@ fn stated(parts: Read<Parts>) -> Read<MachineFile>
     ensures { result ≡ seen stated_of parts }
 {
     match parts {
-        Ok((processor, (controller, schedule))) => Ok(MachineFile {
+        Ok((processor, (controller, (schedule, words)))) => Ok(MachineFile {
             processor,
             controller,
             schedule,
+            words,
         }),
         Err(fault) => Err(fault),
     }

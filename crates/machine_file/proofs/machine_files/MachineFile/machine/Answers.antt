@@ -7,7 +7,7 @@ use Rattle.machine_file.proofs.machine_files.MachineFile.machine.Goals as goal
 
 pub returns : goal.returns
 returns c =
-    let file : Stated = record { processor = c.self.inside.processor; controller = c.self.inside.controller; schedule = c.self.inside.schedule } in
+    let file : Stated = record { processor = c.self.inside.processor; controller = c.self.inside.controller; schedule = c.self.inside.schedule; words = c.self.inside.words } in
     let same : file ≡ c.args.self.now = c.self.view_is in
     subst
     (λ f. IsStarted f c.args.profile (record { regs = c.set.new.self.regs; bus = record { memc = c.set_controller.new.memc; ioc = c.set.new.self.bus.ioc; vidc = c.set.new.self.bus.vidc }; profile = c.set.new.self.profile }))

@@ -1,0 +1,179 @@
+-- What is read of the words that are put into memory, against what they state and their faults.
+use Rattle.std.proofs.Common.{◌≡◌, ℕ, ℤ, pos, negsuc, ◌≤◌, ◌⊎◌, ◌↔◌, true, false, List, [], ◌∷◌, codes, Ok, inl, inr, refl, sym, ap, subst, ◌∙◌, arith, All}
+use Rattle.std.specs.Prelude.{IsTrue}
+use Rattle.std.specs.List.{AllZip}
+use Rattle.std.specs.Map.{keys_of}
+use Rattle.std.proofs.lemmas.List.Elements.{All-cons}
+use Rattle.toml.specs.Data.{Data, Members, as_integer, as_table, get_member}
+use Rattle.loader.specs.Image.{may_hold}
+use Rattle.toml_reading.specs.Documents.{are_distinct, tables_at}
+use Rattle.toml_reading.specs.Lowest.{AtKey, AtKeyOr, IsListOf, ListFault, entries_at, numbers_at}
+use Rattle.toml_reading.specs.Readings.{both}
+use Rattle.toml_reading.proofs.Following.{test_judged}
+use Rattle.toml_reading.proofs.LowestLemmas.{Judges, and_then_judged, joint, judged_as, judged_value, one_test, required_judged}
+use Rattle.toml_reading.proofs.LowestParts.{entries_state, not_whole, number_read, numbers_read, some_weaker, table_judged, tables_judged, whole_same}
+use Rattle.machine_file.specs.MachineFaults.{machine_faults, number_of}
+use Rattle.machine_file.specs.MachineFile.{once, place_at, place_in, place_of, put_word_at, word_in, words_in}
+use Rattle.machine_file.specs.MachineFaultRules.{IsNoPlace, IsWordTwice}
+use Rattle.machine_file.specs.MachineRules.{IsPlace, IsPutWord}
+use Rattle.machine_file.specs.Names.{word_keys}
+use Rattle.machine_file.specs.declared.machine_faults.MachineFileFault.{MachineFileFault}
+use Rattle.machine_file.specs.declared.machine_faults.MachineFileFault.TheVariants.{WrongKind, OutOfRange, Twice}
+use Rattle.machine_file.proofs.MachineValueLemmas.{IsLow, NeedsWord, Word, is_fault, list_low, low_at, match_low, needs_low, some_low, table_low, word}
+use Rattle.machine_file.proofs.FaultTableLemmas.{some_fact}
+use Rattle.machine_file.proofs.KeyFaults.{PlaceFault, PutWordFault}
+
+-- ## Addresses
+
+abbrev Place : ℤ → ℕ → Type 0
+Place z a = (z ≡ pos a) × IsTrue (may_hold a)
+
+abbrev NoPlace : ℤ → MachineFileFault → Type 0
+NoPlace z f = IsNoPlace z × (f ≡ OutOfRange)
+
+place_told : (z : ℤ) → Judges machine_faults (Place z) (NoPlace z) (place_of z)
+place_told (pos n) =
+    judged_as
+    machine_faults
+    (λ a. IsTrue (may_hold n) × (a ≡ n))
+    (Place (pos n))
+    (λ f. (¬ IsTrue (may_hold n)) × (f ≡ OutOfRange))
+    (NoPlace (pos n))
+    (λ a. (
+      λ s. (ap (λ (m : ℕ). pos m) (sym s.1), subst (λ (m : ℕ). IsTrue (may_hold m)) (sym s.1) s.0),
+      λ s. (subst (λ (m : ℕ). IsTrue (may_hold m)) (sym (whole_same n a s.0)) s.1, sym (whole_same n a s.0)),
+    ))
+    (λ f. (λ h. (λ a e i. h.0 (subst (λ (m : ℕ). IsTrue (may_hold m)) (sym (whole_same n a e)) i), h.1), λ h. (h.0 n refl, h.1)))
+    (place_of (pos n))
+    (test_judged machine_faults (IsTrue (may_hold n)) n OutOfRange (may_hold n) (λ e. e, λ e. e))
+place_told (negsuc n) = record {
+  told = (
+    λ a s. not_whole n a s.0,
+    record { has = (λ a e i. not_whole n a e, refl); least = λ o e. is_fault o OutOfRange e.1 },
+  );
+}
+
+place_judged : (d : Data) → Judges machine_faults (IsPlace d) (PlaceFault d) (place_at d)
+place_judged d = required_judged machine_faults Place NoPlace place_of place_told (as_integer d)
+
+-- ## One word
+
+module _ (ms : Members) where
+  abbrev PutAt : ℕ → Type 0
+  PutAt a = AtKey (codes "at") ms (λ e. IsPlace e a)
+
+  abbrev NeedsPlace : MachineFileFault → Type 0
+  NeedsPlace f = AtKeyOr (codes "at") ms (f ≡ WrongKind) (λ e. PlaceFault e f)
+
+  place_in_judged : Judges machine_faults PutAt NeedsPlace (place_in ms)
+  place_in_judged =
+      required_judged machine_faults IsPlace PlaceFault place_at place_judged (get_member (codes "at") ms)
+
+abbrev PutWordStates : Members → ℕ × ℕ → Type 0
+PutWordStates ms w = PutAt ms w.0 × Word ms (codes "value") w.1
+
+abbrev PutWordFaults : Members → MachineFileFault → Type 0
+PutWordFaults ms f = NeedsPlace ms f ⊎ NeedsWord ms (codes "value") f
+
+put_word_judged : (d : Data) → Judges machine_faults (IsPutWord d) (PutWordFault d) (put_word_at d)
+put_word_judged d =
+    table_judged
+    machine_faults
+    word_keys
+    PutWordStates
+    PutWordFaults
+    (λ ms. both machine_faults (place_in ms) (word_in (codes "value") ms))
+    (λ ms. joint (place_in_judged ms) (word ms (codes "value")))
+    d
+
+module _ (f : MachineFileFault) where
+  place_low : (d : Data) → PlaceFault d f → IsLow f
+  place_low d h = match_low f _ (λ z x. low_at f OutOfRange (omega arith) x.1) (as_integer d) h
+
+  put_word_faults_low : (ms : Members) → PutWordFaults ms f → IsLow f
+  put_word_faults_low ms (inl h) = match_low f _ place_low (get_member (codes "at") ms) h
+  put_word_faults_low ms (inr h) = needs_low f (codes "value") ms h
+
+  put_word_low : (d : Data) → PutWordFault d f → IsLow f
+  put_word_low d h = table_low f word_keys PutWordFaults put_word_faults_low d h
+
+-- ## All words
+
+module _ (ms : Members) where
+  abbrev WordsListed : List (ℕ × ℕ) → Type 0
+  WordsListed words = AtKeyOr (codes "word") ms (words ≡ []) (λ d. IsListOf IsPutWord d words)
+
+  abbrev pub WordsFault : MachineFileFault → Type 0
+  WordsFault f = AtKey (codes "word") ms (λ d. ListFault machine_faults PutWordFault d f)
+
+  abbrev pub WordTwiceFault : MachineFileFault → Type 0
+  WordTwiceFault f = IsWordTwice ms × (f ≡ Twice)
+
+  listed_judged :
+      Judges machine_faults WordsListed WordsFault (tables_at machine_faults put_word_at (get_member (codes "word") ms))
+  listed_judged = tables_judged machine_faults IsPutWord PutWordFault put_word_at put_word_judged (codes "word") ms
+
+  word_addresses : (words : List (ℕ × ℕ)) → WordsListed words
+      → numbers_at (codes "at") (entries_at (codes "word") ms) ≡ keys_of words
+  word_addresses words s =
+      numbers_read
+      IsPutWord
+      (codes "at")
+      (λ (e : ℕ × ℕ). e.0)
+      (λ d e h. number_read e.0 e.0 (codes "at") d (some_weaker _ _ (λ t x. some_weaker _ _ (λ v p. some_weaker _ _ (λ z q. (q.0, omega arith)) (as_integer v) p) (get_member (codes "at") t) x.1.0) (as_table d) h))
+      (entries_at (codes "word") ms)
+      words
+      (entries_state IsPutWord (codes "word") ms words s)
+
+  once_iff : (words : List (ℕ × ℕ)) → WordsListed words → are_distinct (keys_of words) ≡ false ↔ IsWordTwice ms
+  once_iff words s = (
+    λ e. ap are_distinct (word_addresses words s) ∙ e,
+    λ e. ap are_distinct (sym (word_addresses words s)) ∙ e,
+  )
+
+  words_higher : (x y : MachineFileFault) → WordsFault x → WordTwiceFault y → number_of x ≤ number_of y
+  words_higher x y h late =
+      let low = some_low x _ (list_low x PutWordFault (put_word_low x)) (get_member (codes "word") ms) h in
+      let r : number_of y ≡ 6 = ap number_of late.1 in
+      omega (arith, low, r)
+
+  abbrev pub WordsStates : List (ℕ × ℕ) → Type 0
+  WordsStates words = WordsListed words × (are_distinct (keys_of words) ≡ true)
+
+  abbrev Once : List (ℕ × ℕ) → List (ℕ × ℕ) → Type 0
+  Once a b = (b ≡ a) × (are_distinct (keys_of a) ≡ true)
+
+  pub words_judged : Judges machine_faults WordsStates (λ f. WordsFault f ⊎ WordTwiceFault f) (words_in ms)
+  words_judged =
+      judged_as
+      machine_faults
+      (λ b. (c : List (ℕ × ℕ)) × WordsListed c × Once c b)
+      WordsStates
+      (λ f. WordsFault f ⊎ WordTwiceFault f)
+      (λ f. WordsFault f ⊎ WordTwiceFault f)
+      (λ b. (λ t. subst WordsStates (sym t.2.0) (t.1, t.2.1), λ w. (b, w.0, (refl, w.1))))
+      (λ f. (λ h. h, λ h. h))
+      (words_in ms)
+      (and_then_judged machine_faults WordsListed WordsFault WordTwiceFault Once once (λ a s. one_test machine_faults a (are_distinct (keys_of a)) (IsWordTwice ms) (once_iff a s) Twice) words_higher _ listed_judged)
+
+-- ## Where the words stand
+
+place_held : (d : Data) (word : ℕ × ℕ) → IsPutWord d word → IsTrue (may_hold word.0)
+place_held d word h =
+    some_fact _ _ (λ t x. some_fact _ _ (λ v p. some_fact _ _ (λ z q. q.1) (as_integer v) p) (get_member (codes "at") t) x.1.0) (as_table d) h
+
+all_held : (ds : List Data) (words : List (ℕ × ℕ)) → AllZip IsPutWord ds words → All (λ e. IsTrue (may_hold e.0)) words
+all_held [] [] h = λ k d lt. absurd (omega (arith, lt))
+all_held [] (w ∷ ws) h = absurd h
+all_held (d ∷ ds) [] h = λ k d lt. absurd (omega (arith, lt))
+all_held (d ∷ ds) (w ∷ ws) h =
+    All-cons (λ e. IsTrue (may_hold e.0)) w ws (place_held d w h.0) (all_held ds ws h.1)
+
+pub words_held : (ms : Members) (words : List (ℕ × ℕ))
+    → tables_at machine_faults put_word_at (get_member (codes "word") ms) ≡ Ok words
+    → All (λ e. IsTrue (may_hold e.0)) words
+words_held ms words is =
+    all_held
+    (entries_at (codes "word") ms)
+    words
+    (entries_state IsPutWord (codes "word") ms words ((judged_value machine_faults (WordsListed ms) (WordsFault ms) _ (listed_judged ms) words).0 is))

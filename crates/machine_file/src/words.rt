@@ -1,0 +1,119 @@
+ghost use Rattle.std.specs.Prelude.{◌≡◌, All, IfOk, IsTrue};
+ghost use Rattle.std.specs.Map.{keys_of};
+ghost use Rattle.toml.specs.View.{table_view, view};
+ghost use Rattle.loader.specs.Image.{may_hold};
+ghost use Rattle.toml_reading.specs.Documents.{are_distinct};
+ghost use Rattle.machine_file.specs.MachineFile.{once, place_at, place_in, place_of, put_word_at};
+ghost use Rattle.machine_file.specs.MachineFile.{put_word_in, words_in};
+
+use crate::machine_faults::{MachineFileFault, Read};
+use loader::may_hold;
+use std::alloc::{AllocError, Global};
+use std::marker::Model;
+use toml::{Table, Value};
+use toml_reading::{
+    Entry, are_all_distinct, check, only_keys, pair, required_number, tables, value_at,
+};
+
+/// The keys of the table of a word that is put into memory.
+const WORD_KEYS: &[&str] = &["at", "value"];
+
+fn place_numbered(number: i64) -> Read<u32>
+    ensures { result ≡ place_of number }
+{
+    match u32::try_from(number) {
+        Ok(address) => {
+            if may_hold(address) {
+                Ok(address)
+            } else {
+                Err(MachineFileFault::OutOfRange)
+            }
+        }
+        Err(_) => Err(MachineFileFault::OutOfRange),
+    }
+}
+
+fn place_value(value: &Value) -> Read<u32>
+    ensures { result ≡ place_at (view value.now) }
+{
+    match value.as_integer() {
+        Some(number) => place_numbered(number),
+        None => Err(MachineFileFault::WrongKind),
+    }
+}
+
+fn place(table: &Table) -> Read<u32>
+    ensures { result ≡ place_in (table_view table.now) }
+{
+    match value_at(table, "at") {
+        Some(value) => place_value(value),
+        None => Err(MachineFileFault::WrongKind),
+    }
+}
+
+fn put_word(table: &Table) -> Read<(u32, u32)>
+    ensures { result ≡ put_word_in (table_view table.now) }
+{
+    let word = pair(place(table), required_number(table, "value", u32::MAX));
+    check(
+        only_keys(WORD_KEYS, table),
+        MachineFileFault::UnknownKey,
+        word,
+    )
+}
+
+impl Entry<(), MachineFileFault> for (u32, u32) {
+    ghost reads = { λ _. put_word_at };
+
+    fn read(_alloc: Global, _context: &(), value: &Value) -> Result<Read<(u32, u32)>, AllocError> {
+        match value.as_table() {
+            Some(table) => Ok(put_word(table)),
+            None => Ok(Err(MachineFileFault::WrongKind)),
+        }
+    }
+}
+
+/// Words by their addresses, none of them in I/O.
+#[derive(Drop)]
+pub(crate) struct PutWords {
+    pub(crate) words: Vec<(u32, u32)>,
+}
+
+impl Model for PutWords {
+    ghost use Rattle.std.specs.Prelude.{ℕ, List, All, IsTrue};
+    ghost use Rattle.loader.specs.Image.{may_hold};
+
+    ghost Value = { List (ℕ × ℕ) };
+
+    ghost view = { λ w. w.words.items };
+
+    ghost invariant = { λ w. All (λ e. IsTrue (may_hold e.0)) w.words.items };
+}
+
+// Whether no address stands in the list twice.
+fn have_own_addresses(alloc: Global, words: &[(u32, u32)]) -> Result<bool, AllocError>
+    ensures { IfOk result (λ test. test ≡ are_distinct (keys_of words.now)) }
+{
+    let addresses: Vec<u32> = words.iter().map(|word| word.0).collect(alloc)?;
+    are_all_distinct(alloc, &addresses)
+}
+
+fn each_once(alloc: Global, words: Vec<(u32, u32)>) -> Result<Read<PutWords>, AllocError>
+    requires { All (λ e. IsTrue (may_hold e.0)) words.items }
+    ensures { IfOk result (λ reading. reading ≡ once words.items) }
+{
+    if !have_own_addresses(alloc, &words)? {
+        return Ok(Err(MachineFileFault::Twice));
+    }
+    Ok(Ok(PutWords { words }))
+}
+
+/// The words that the file's table states.
+pub(crate) fn read_words(alloc: Global, table: &Table) -> Result<Read<PutWords>, AllocError>
+    ensures { IfOk result (λ reading. reading ≡ words_in (table_view table.now)) }
+{
+    match tables(alloc, &(), value_at(table, "word"))? {
+        Ok(words) => each_once(alloc, words),
+        Err(fault) => Ok(Err(fault)),
+    }
+}
