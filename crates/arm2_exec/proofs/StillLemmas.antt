@@ -22,13 +22,13 @@ use Rattle.arm2_transfer.specs.declared.bus.Bus.{Bus}
 use Rattle.arm2_transfer.specs.declared.single_fields.Single.{Single}
 use Rattle.arm2_transfer.specs.declared.span.Span.{Span}
 use Rattle.arm2_transfer.specs.declared.words.Move.{Move}
-use Rattle.arm2_transfer.specs.declared.words.Trouble.{Trouble}
-use Rattle.arm2_transfer.specs.declared.words.Trouble.TheVariants as trouble
-use Rattle.arm2_transfer.specs.Moved.{Moved, on_bus, troubled}
+use Rattle.arm2_transfer.specs.declared.words.TransferFault.{TransferFault}
+use Rattle.arm2_transfer.specs.declared.words.TransferFault.TheVariants as fault
+use Rattle.arm2_transfer.specs.Moved.{Moved, on_bus, faulted}
 use Rattle.arm2_transfer.specs.Operations.{operation_moved}
 use Rattle.arm2_transfer.specs.Single.{address_for, has_user_rights, of_immediate, of_register, single_loads, single_stores, single_carried_out, single_by, single_at}
 use Rattle.arm2_transfer.specs.Block.{block_loads, block_stores, block_carried_out, block_by, block_at, block_moved}
-use Rattle.arm2_transfer.specs.Words.{or_trouble}
+use Rattle.arm2_transfer.specs.Words.{or_fault}
 use Rattle.arm2_exec.specs.Step.{Obeys, ObeysFetched, Works, fetched}
 
 -- ## What the registers alone do
@@ -84,33 +84,33 @@ module _ (regs : List ℕ) (bus : Bus) where
   unfolding stopped
   stopped_still w = λ stops. (refl, refl)
 
-  troubled_still : (t : Trouble) → IsStill (troubled t regs bus)
-  troubled_still trouble.DataAbort = taken_still vector.DataAbort
-  troubled_still trouble.UnsupportedWrite = stopped_still why.UnsupportedWrite
+  faulted_still : (t : TransferFault) → IsStill (faulted t regs bus)
+  faulted_still fault.DataAbort = taken_still vector.DataAbort
+  faulted_still fault.UnsupportedWrite = stopped_still why.UnsupportedWrite
 
   single_carried_still : (x : Single) (base port : ℕ) (spot : Spot) → IsStill (single_carried_out x base port spot regs bus)
   unfolding single_carried_out single_loads single_stores
   single_carried_still x base port spot = one_of x.load _ _ (λ stops. absurd (false≢true stops)) (λ stops. absurd (false≢true stops))
 
-  single_by_still : (x : Single) (base port : ℕ) (found : Result Spot Trouble) → IsStill (single_by x base port found regs bus)
+  single_by_still : (x : Single) (base port : ℕ) (found : Result Spot TransferFault) → IsStill (single_by x base port found regs bus)
   unfolding single_by
-  single_by_still x base port (Err t) = troubled_still t
+  single_by_still x base port (Err t) = faulted_still t
   single_by_still x base port (Ok spot) = single_carried_still x base port spot
 
   single_still : (x : Single) (base port : ℕ) → IsStill (single_at x base port regs bus)
   unfolding single_at
   single_still x base port =
       one_of (nat_lt (address_for x base) (2 ^ 26)) _ _
-      (single_by_still x base port (or_trouble (located bus.memc (address_for x base) (has_user_rights x (mode_of (r15_in regs))) (not x.load))))
+      (single_by_still x base port (or_fault (located bus.memc (address_for x base) (has_user_rights x (mode_of (r15_in regs))) (not x.load))))
       (taken_still vector.AddressException)
 
   block_carried_still : (x : Block) (span : Span) (port : ℕ) (moves : List Move) → IsStill (block_carried_out x span port moves regs bus)
   unfolding block_carried_out block_loads block_stores
   block_carried_still x span port moves = one_of x.load _ _ (λ stops. absurd (false≢true stops)) (λ stops. absurd (false≢true stops))
 
-  block_by_still : (x : Block) (span : Span) (port : ℕ) (found : Result (List Move) Trouble) → IsStill (block_by x span port found regs bus)
+  block_by_still : (x : Block) (span : Span) (port : ℕ) (found : Result (List Move) TransferFault) → IsStill (block_by x span port found regs bus)
   unfolding block_by
-  block_by_still x span port (Err t) = troubled_still t
+  block_by_still x span port (Err t) = faulted_still t
   block_by_still x span port (Ok moves) = block_carried_still x span port moves
 
   block_still : (x : Block) (port : ℕ) → IsStill (block_moved x port regs bus)

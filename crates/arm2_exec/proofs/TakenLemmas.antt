@@ -27,13 +27,13 @@ use Rattle.arm2_transfer.specs.declared.bus.Bus.{Bus}
 use Rattle.arm2_transfer.specs.declared.single_fields.Single.{Single}
 use Rattle.arm2_transfer.specs.declared.span.Span.{Span}
 use Rattle.arm2_transfer.specs.declared.words.Move.{Move}
-use Rattle.arm2_transfer.specs.declared.words.Trouble.{Trouble}
-use Rattle.arm2_transfer.specs.declared.words.Trouble.TheVariants as trouble
-use Rattle.arm2_transfer.specs.Moved.{Moved, on_bus, troubled}
+use Rattle.arm2_transfer.specs.declared.words.TransferFault.{TransferFault}
+use Rattle.arm2_transfer.specs.declared.words.TransferFault.TheVariants as fault
+use Rattle.arm2_transfer.specs.Moved.{Moved, on_bus, faulted}
 use Rattle.arm2_transfer.specs.Operations.{operation_moved}
 use Rattle.arm2_transfer.specs.Single.{address_for, has_user_rights, of_immediate, of_register, single_loads, single_stores, single_carried_out, single_by, single_at}
 use Rattle.arm2_transfer.specs.Block.{block_loads, block_stores, block_carried_out, block_by, block_at, block_moved}
-use Rattle.arm2_transfer.specs.Words.{or_trouble}
+use Rattle.arm2_transfer.specs.Words.{or_fault}
 use Rattle.arm2_transfer.proofs.Slots.{slot_of_r15}
 use Rattle.arm2_exec.specs.declared.machine.Input.{Input}
 use Rattle.arm2_exec.specs.declared.machine.Stepped.{Stepped}
@@ -98,33 +98,33 @@ module _ (regs : List ℕ) (bus : Bus) (v : Vector) where
 
   -- ### Transfers
 
-  troubled_takes : (t : Trouble) → IsTaken (troubled t regs bus)
-  troubled_takes trouble.DataAbort = takes vector.DataAbort
-  troubled_takes trouble.UnsupportedWrite = stops why.UnsupportedWrite
+  faulted_takes : (t : TransferFault) → IsTaken (faulted t regs bus)
+  faulted_takes fault.DataAbort = takes vector.DataAbort
+  faulted_takes fault.UnsupportedWrite = stops why.UnsupportedWrite
 
   single_carried_takes : (x : Single) (base port : ℕ) (spot : Spot) → IsTaken (single_carried_out x base port spot regs bus)
   unfolding single_carried_out single_loads single_stores
   single_carried_takes x base port spot = one_of x.load _ _ (λ kind. absurd (cc kind)) (λ kind. absurd (cc kind))
 
-  single_by_takes : (x : Single) (base port : ℕ) (found : Result Spot Trouble) → IsTaken (single_by x base port found regs bus)
+  single_by_takes : (x : Single) (base port : ℕ) (found : Result Spot TransferFault) → IsTaken (single_by x base port found regs bus)
   unfolding single_by
-  single_by_takes x base port (Err t) = troubled_takes t
+  single_by_takes x base port (Err t) = faulted_takes t
   single_by_takes x base port (Ok spot) = single_carried_takes x base port spot
 
   single_takes : (x : Single) (base port : ℕ) → IsTaken (single_at x base port regs bus)
   unfolding single_at
   single_takes x base port =
       one_of (nat_lt (address_for x base) (2 ^ 26)) _ _
-      (single_by_takes x base port (or_trouble (located bus.memc (address_for x base) (has_user_rights x (mode_of (r15_in regs))) (not x.load))))
+      (single_by_takes x base port (or_fault (located bus.memc (address_for x base) (has_user_rights x (mode_of (r15_in regs))) (not x.load))))
       (takes vector.AddressException)
 
   block_carried_takes : (x : Block) (span : Span) (port : ℕ) (moves : List Move) → IsTaken (block_carried_out x span port moves regs bus)
   unfolding block_carried_out block_loads block_stores
   block_carried_takes x span port moves = one_of x.load _ _ (λ kind. absurd (cc kind)) (λ kind. absurd (cc kind))
 
-  block_by_takes : (x : Block) (span : Span) (port : ℕ) (found : Result (List Move) Trouble) → IsTaken (block_by x span port found regs bus)
+  block_by_takes : (x : Block) (span : Span) (port : ℕ) (found : Result (List Move) TransferFault) → IsTaken (block_by x span port found regs bus)
   unfolding block_by
-  block_by_takes x span port (Err t) = troubled_takes t
+  block_by_takes x span port (Err t) = faulted_takes t
   block_by_takes x span port (Ok moves) = block_carried_takes x span port moves
 
   block_takes : (x : Block) (port : ℕ) → IsTaken (block_moved x port regs bus)

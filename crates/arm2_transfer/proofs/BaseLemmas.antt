@@ -24,15 +24,15 @@ use Rattle.arm2_transfer.specs.declared.bus.Bus.{Bus}
 use Rattle.arm2_transfer.specs.declared.single_fields.Single.{Single}
 use Rattle.arm2_transfer.specs.declared.span.Span.{Span}
 use Rattle.arm2_transfer.specs.declared.words.Move.{Move}
-use Rattle.arm2_transfer.specs.declared.words.Trouble.{Trouble}
-use Rattle.arm2_transfer.specs.declared.words.Trouble.TheVariants as trouble
+use Rattle.arm2_transfer.specs.declared.words.TransferFault.{TransferFault}
+use Rattle.arm2_transfer.specs.declared.words.TransferFault.TheVariants as fault
 use Rattle.arm2_transfer.specs.Bases.{address_at, base_at, base_moved, BlockBase, Gives, is_base, is_own_base, IsSpot, IsWordSpot, loads_base, lowest_at, mode_at, PutsWords, SingleBase, words_in}
 use Rattle.arm2_transfer.specs.Block.{all_loaded, all_put, block_at, block_by, block_carried_out, block_loads, block_moved, block_put, block_stores, mode_for, span_of}
 use Rattle.arm2_transfer.specs.Bus.{made_of, put, put_single, seen}
-use Rattle.arm2_transfer.specs.Moved.{on_bus, out_of_space, troubled}
+use Rattle.arm2_transfer.specs.Moved.{on_bus, out_of_space, faulted}
 use Rattle.arm2_transfer.specs.Registers.{given, is_user, moved_by, passed, with_base, with_loaded}
 use Rattle.arm2_transfer.specs.Single.{base_after, has_user_rights, single_at, single_by, single_carried_out, single_loaded, single_loads, single_moved, single_stores, writes_base}
-use Rattle.arm2_transfer.specs.Words.{Word, is_abort, is_listed, is_unsupported, or_trouble, moves_of, registers_in, verdict_of, words_from}
+use Rattle.arm2_transfer.specs.Words.{Word, is_abort, is_listed, is_unsupported, or_fault, moves_of, registers_in, verdict_of, words_from}
 use Rattle.arm2_transfer.proofs.Slots.{AtMostOne, base_slot, based_kept, based_long, based_written, given_apart, given_here, loaded_apart, loaded_here, loaded_long, one_listed, other_stands, passed_base, passed_long, place, same_stands, stands_at}
 
 -- ## Where the words of a block are
@@ -44,7 +44,7 @@ abbrev any_unsupported : List Word → Bool
 any_unsupported words = list_any (λ (word : Word). is_unsupported word.1) words
 
 verdict_parts : (aborts stops : Bool) (all moves : List Move)
-    → cond aborts (Err trouble.DataAbort) (cond stops (Err trouble.UnsupportedWrite) (Ok all)) ≡ Ok moves
+    → cond aborts (Err fault.DataAbort) (cond stops (Err fault.UnsupportedWrite) (Ok all)) ≡ Ok moves
     → (aborts ≡ false) × (stops ≡ false) × (all ≡ moves)
 verdict_parts true stops all moves is = absurd cc
 verdict_parts false true all moves is = absurd cc
@@ -240,10 +240,10 @@ not_taken : (v : Vector) (regs : List ℕ) (bus : Bus) → (on_bus bus (taken v 
 unfolding taken
 not_taken v regs bus is = cc
 
-not_troubled : (t : Trouble) (regs : List ℕ) (bus : Bus) → (troubled t regs bus).kind ≡ Plain → ⊥
+not_faulted : (t : TransferFault) (regs : List ℕ) (bus : Bus) → (faulted t regs bus).kind ≡ Plain → ⊥
 unfolding stopped
-not_troubled trouble.DataAbort regs bus is = not_taken vector.DataAbort regs bus is
-not_troubled trouble.UnsupportedWrite regs bus is = cc
+not_faulted fault.DataAbort regs bus is = not_taken vector.DataAbort regs bus is
+not_faulted fault.UnsupportedWrite regs bus is = cc
 
 -- ## A block
 
@@ -315,14 +315,14 @@ module _ (x : Block) (port : ℕ) (regs : List ℕ) (bus : Bus) where
     unfolding block_carried_out
     block_carried_base = cond_both x.load _ _ (BlockBase x port regs bus) block_loads_base block_stores_base
 
-  block_base_by : (within : Bool) (found : Result (List Move) Trouble)
+  block_base_by : (within : Bool) (found : Result (List Move) TransferFault)
       → place (mode_at regs) x.rn < 26 → 26 < length regs
       → verdict_of (words_on x regs bus 0 (registers_in x.list)) ≡ found
       → (cond within (block_by x span port found regs bus) (out_of_space regs bus)).kind ≡ Plain
       → BlockBase x port regs bus (cond within (block_by x span port found regs bus) (out_of_space regs bus))
   unfolding block_by
   block_base_by false found low long is plain = absurd (not_taken vector.AddressException regs bus plain)
-  block_base_by true (Err t) low long is plain = absurd (not_troubled t regs bus plain)
+  block_base_by true (Err t) low long is plain = absurd (not_faulted t regs bus plain)
   block_base_by true (Ok moves) low long is plain =
       block_carried_base moves low long (all_placed x regs bus moves is)
 
@@ -335,7 +335,7 @@ module _ (x : Block) (port : ℕ) (regs : List ℕ) (bus : Bus) where
 
 -- ## A single transfer
 
-met_located : (found : Result Spot Refused) (spot : Spot) → or_trouble found ≡ Ok spot → found ≡ Ok spot
+met_located : (found : Result Spot Refused) (spot : Spot) → or_fault found ≡ Ok spot → found ≡ Ok spot
 met_located (Ok other) spot is = cc
 met_located (Err NoPage) spot is = absurd cc
 met_located (Err Protected) spot is = absurd cc
@@ -414,14 +414,14 @@ module _ (x : Single) (port : ℕ) (regs : List ℕ) (bus : Bus) (not_15 : regis
     single_carried_base =
         cond_both x.load _ _ (SingleBase x port regs bus) single_loads_base single_stores_base
 
-  single_base_by : (within : Bool) (found : Result Spot Trouble)
-      → or_trouble (located bus.memc (address_at x regs) (has_user_rights x (mode_at regs)) (not x.load)) ≡ found
+  single_base_by : (within : Bool) (found : Result Spot TransferFault)
+      → or_fault (located bus.memc (address_at x regs) (has_user_rights x (mode_at regs)) (not x.load)) ≡ found
       → (cond within (single_by x base port found regs bus) (out_of_space regs bus)).kind ≡ Plain
       → SingleBase x port regs bus
       (cond within (single_by x base port found regs bus) (out_of_space regs bus))
   unfolding single_by
   single_base_by false found is plain = absurd (not_taken vector.AddressException regs bus plain)
-  single_base_by true (Err t) is plain = absurd (not_troubled t regs bus plain)
+  single_base_by true (Err t) is plain = absurd (not_faulted t regs bus plain)
   single_base_by true (Ok spot) is plain = single_carried_base spot (met_located _ spot is)
 
   single_base_at : (single_at x base port regs bus).kind ≡ Plain

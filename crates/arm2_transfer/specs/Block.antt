@@ -11,12 +11,12 @@ use Rattle.arm2_effect.specs.Modes.{r15_in, register_in}
 use Rattle.arm2_effect.specs.ProgramCounter.{address_of, mode_of}
 use Rattle.arm2_transfer.specs.declared.bus.Bus.{Bus}
 use Rattle.arm2_transfer.specs.declared.words.Move.{Move}
-use Rattle.arm2_transfer.specs.declared.words.Trouble.{Trouble}
+use Rattle.arm2_transfer.specs.declared.words.TransferFault.{TransferFault}
 use Rattle.arm2_transfer.specs.declared.span.Span.{Span}
 use Rattle.arm2_transfer.specs.Bus.{put, seen}
 use Rattle.arm2_transfer.specs.Words.{is_listed, registers_in, words_from, verdict_of}
 use Rattle.arm2_transfer.specs.Registers.{is_user, moved_by, given, with_loaded, with_base, passed}
-use Rattle.arm2_transfer.specs.Moved.{Moved, out_of_space, troubled, load_accesses, store_accesses}
+use Rattle.arm2_transfer.specs.Moved.{Moved, out_of_space, faulted, load_accesses, store_accesses}
 
 -- the lowest address of IA, IB, DA and DB, of 32 bits and without its two low bits
 abbrev pub lowest_of : Block → (base k : ℕ) → ℕ
@@ -86,8 +86,8 @@ block_carried_out x span port moves regs bus =
     if x.load then block_loads x span port moves regs bus else block_stores x span moves regs bus
 
 -- a transfer by what the memory controller says of its words
-unfoldable pub block_by : Block → Span → (port : ℕ) → Result (List Move) Trouble → List ℕ → Bus → Moved
-block_by x span port (Err trouble) regs bus = troubled trouble regs bus
+unfoldable pub block_by : Block → Span → (port : ℕ) → Result (List Move) TransferFault → List ℕ → Bus → Moved
+block_by x span port (Err fault) regs bus = faulted fault regs bus
 block_by x span port (Ok moves) regs bus = block_carried_out x span port moves regs bus
 
 -- a transfer by where it lies: a lowest address of 2 ^ 26 or more is an exception

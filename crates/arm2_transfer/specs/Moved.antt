@@ -13,8 +13,8 @@ use Rattle.arm2_effect.specs.Effects.{stopped}
 use Rattle.arm2_effect.specs.Exceptions.{taken}
 use Rattle.arm2_effect.specs.ProgramCounter.{ahead_of}
 use Rattle.arm2_transfer.specs.declared.bus.Bus.{Bus}
-use Rattle.arm2_transfer.specs.declared.words.Trouble.{Trouble}
-use Rattle.arm2_transfer.specs.declared.words.Trouble.TheVariants as trouble
+use Rattle.arm2_transfer.specs.declared.words.TransferFault.{TransferFault}
+use Rattle.arm2_transfer.specs.declared.words.TransferFault.TheVariants as fault
 
 -- how a step ends, its accesses, and the registers and the bus after it
 pub record Moved : Type 0 where
@@ -40,9 +40,9 @@ on_bus bus e = record { kind = e.kind; accesses = e.accesses; regs = e.regs; bus
 abbrev pub out_of_space : List ℕ → Bus → Moved
 out_of_space regs bus = on_bus bus (taken vector.AddressException regs)
 
-abbrev pub troubled : Trouble → List ℕ → Bus → Moved
-troubled trouble.DataAbort regs bus = on_bus bus (taken vector.DataAbort regs)
-troubled trouble.UnsupportedWrite regs bus = on_bus bus (stopped UnsupportedWrite regs)
+abbrev pub faulted : TransferFault → List ℕ → Bus → Moved
+faulted fault.DataAbort regs bus = on_bus bus (taken vector.DataAbort regs)
+faulted fault.UnsupportedWrite regs bus = on_bus bus (stopped UnsupportedWrite regs)
 
 -- the first k words from an address on
 unfoldable pub words_at : (store : Bool) → (address k : ℕ) → List Access

@@ -14,12 +14,12 @@ use Rattle.arm2_effect.specs.Operands.{first_of, shifted_by_amount}
 use Rattle.arm2_decode.specs.Names.{is_pc}
 use Rattle.arm2_effect.specs.ProgramCounter.{address_of, mode_of}
 use Rattle.arm2_transfer.specs.declared.bus.Bus.{Bus}
-use Rattle.arm2_transfer.specs.declared.words.Trouble.{Trouble}
+use Rattle.arm2_transfer.specs.declared.words.TransferFault.{TransferFault}
 use Rattle.arm2_transfer.specs.declared.single_fields.Single.{Single}
 use Rattle.arm2_transfer.specs.Bus.{seen, made_of, put_single}
-use Rattle.arm2_transfer.specs.Words.{or_trouble}
+use Rattle.arm2_transfer.specs.Words.{or_fault}
 use Rattle.arm2_transfer.specs.Registers.{is_user, moved_by, given, with_loaded, with_base, passed}
-use Rattle.arm2_transfer.specs.Moved.{Moved, out_of_space, troubled, load_accesses, store_accesses}
+use Rattle.arm2_transfer.specs.Moved.{Moved, out_of_space, faulted, load_accesses, store_accesses}
 
 -- the address, of 32 bits: the base, moved before the access where P is set
 abbrev pub address_for : Single → (base : ℕ) → ℕ
@@ -76,8 +76,8 @@ single_carried_out x base port spot regs bus =
     if x.load then single_loads x base port spot regs bus else single_stores x base spot regs bus
 
 -- a transfer by what the memory controller says of its word
-unfoldable pub single_by : Single → (base port : ℕ) → Result Spot Trouble → List ℕ → Bus → Moved
-single_by x base port (Err trouble) regs bus = troubled trouble regs bus
+unfoldable pub single_by : Single → (base port : ℕ) → Result Spot TransferFault → List ℕ → Bus → Moved
+single_by x base port (Err fault) regs bus = faulted fault regs bus
 single_by x base port (Ok spot) regs bus = single_carried_out x base port spot regs bus
 
 -- a transfer by its base: an address of 2 ^ 26 or more is an exception
@@ -85,7 +85,7 @@ unfoldable pub single_at : Single → (base port : ℕ) → List ℕ → Bus →
 single_at x base port regs bus =
     if nat_lt (address_for x base) (2 ^ 26) then
     single_by x base port
-    (or_trouble
+    (or_fault
     (located bus.memc (address_for x base) (has_user_rights x (mode_of (r15_in regs)))
     (not x.load))) regs bus
     else out_of_space regs bus

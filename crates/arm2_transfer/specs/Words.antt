@@ -15,8 +15,8 @@ use Rattle.memc.specs.declared.spots.Spot.{Spot}
 use Rattle.memc.specs.declared.spots.Refused.{Refused}
 use Rattle.memc.specs.declared.spots.Refused.TheVariants.{NoPage, Protected, UnsupportedWrite}
 use Rattle.arm2_transfer.specs.declared.words.Move.{Move}
-use Rattle.arm2_transfer.specs.declared.words.Trouble.{Trouble}
-use Rattle.arm2_transfer.specs.declared.words.Trouble.TheVariants as trouble
+use Rattle.arm2_transfer.specs.declared.words.TransferFault.{TransferFault}
+use Rattle.arm2_transfer.specs.declared.words.TransferFault.TheVariants as fault
 
 unfoldable pub all_registers : List Register
 all_registers = R0 ∷ R1 ∷ R2 ∷ R3 ∷ R4 ∷ R5 ∷ R6 ∷ R7 ∷ R8 ∷ R9 ∷ R10 ∷ R11 ∷ R12 ∷ R13 ∷ R14 ∷ R15 ∷ []
@@ -59,18 +59,18 @@ moves_of ((register, Ok spot) ∷ rest) = record { register = register; spot = s
 moves_of ((register, Err why) ∷ rest) = moves_of rest
 
 -- all words together: any abort, or else any unsupported write, or else where each goes
-abbrev pub verdict_of : List Word → Result (List Move) Trouble
+abbrev pub verdict_of : List Word → Result (List Move) TransferFault
 verdict_of words =
-    if list_any (λ (word : Word). is_abort word.1) words then Err trouble.DataAbort
-    else (if list_any (λ (word : Word). is_unsupported word.1) words then Err trouble.UnsupportedWrite
+    if list_any (λ (word : Word). is_abort word.1) words then Err fault.DataAbort
+    else (if list_any (λ (word : Word). is_unsupported word.1) words then Err fault.UnsupportedWrite
     else Ok (moves_of words))
 
 -- the one word of a single transfer
-abbrev pub or_trouble : Result Spot Refused → Result Spot Trouble
-or_trouble (Ok spot) = Ok spot
-or_trouble (Err NoPage) = Err trouble.DataAbort
-or_trouble (Err Protected) = Err trouble.DataAbort
-or_trouble (Err UnsupportedWrite) = Err trouble.UnsupportedWrite
+abbrev pub or_fault : Result Spot Refused → Result Spot TransferFault
+or_fault (Ok spot) = Ok spot
+or_fault (Err NoPage) = Err fault.DataAbort
+or_fault (Err Protected) = Err fault.DataAbort
+or_fault (Err UnsupportedWrite) = Err fault.UnsupportedWrite
 
 -- each move goes to a spot of a memory with pages of 2 ^ shift bytes
 abbrev pub AllFit : ℕ → List Move → Type 0

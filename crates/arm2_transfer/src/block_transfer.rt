@@ -197,7 +197,7 @@ fn block_at(registers: &mut Registers, bus: &mut Bus, inputs: Inputs, block: Pla
     }
     let user = is_user(mode_of(registers.get(Reg::R15)));
     match locate_block(&bus.memc, list, lowest, user, !block.transfer.load) {
-        Err(trouble) => refuse(registers, bus, inputs.prices, trouble),
+        Err(fault) => refuse(registers, bus, inputs.prices, fault),
         Ok(moves) if block.transfer.load => load(registers, bus, inputs, block, moves.as_slice()),
         Ok(moves) => store(registers, bus, inputs.prices, block, moves.as_slice()),
     }

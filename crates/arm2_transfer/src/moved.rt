@@ -2,25 +2,30 @@ ghost use Rattle.std.specs.Prelude.{◌≡◌, true, ◌<◌, ◌≤◌, ◌^◌
 ghost use Rattle.bus_ticks.specs.Prices.{n_price};
 ghost use Rattle.arm2_effect.specs.Effects.{is_stopped, ticks_of};
 ghost use Rattle.arm2_effect.specs.ProgramCounter.{ahead_of};
-ghost use Rattle.arm2_transfer.specs.Moved.{ChangesNothing, IsMoved, troubled, load_accesses, store_accesses};
+ghost use Rattle.arm2_transfer.specs.Moved.{ChangesNothing, IsMoved, faulted, load_accesses, store_accesses};
 
 use crate::bus::Bus;
-use crate::words::Trouble;
+use crate::words::TransferFault;
 use arm2_effect::{Done, Prices, Registers, Vector, Why, ahead};
 use bus_ticks::{fetch_n, transfer};
 
 /// What comes of a transfer none of whose words is moved.
 #[tactic(auto, unfolding(arm2_effect::specs::Effects::stopped))]
-pub(crate) fn refuse(registers: &mut Registers, bus: &Bus, prices: Prices, trouble: Trouble) -> Done
+pub(crate) fn refuse(
+    registers: &mut Registers,
+    bus: &Bus,
+    prices: Prices,
+    fault: TransferFault,
+) -> Done
     ensures moved { IsMoved prices.profile prices.rom result registers.new bus.now
-        (troubled trouble registers.old bus.now) }
+        (faulted fault registers.old bus.now) }
     ensures bound { result.ticks < 2 ^ 16 }
     ensures stopped { is_stopped result.kind ≡ true
         → ChangesNothing result registers.old registers.new bus.now bus.now }
 {
-    match trouble {
-        Trouble::DataAbort => registers.take(prices, Vector::DataAbort),
-        Trouble::UnsupportedWrite => Done::stopped(Why::UnsupportedWrite),
+    match fault {
+        TransferFault::DataAbort => registers.take(prices, Vector::DataAbort),
+        TransferFault::UnsupportedWrite => Done::stopped(Why::UnsupportedWrite),
     }
 }
 

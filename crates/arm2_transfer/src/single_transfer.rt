@@ -119,7 +119,7 @@ fn single_at(registers: &mut Registers, bus: &mut Bus, inputs: Inputs, single: P
     }
     let user = transfer.has_user_rights(mode_of(registers.get(Reg::R15)));
     match locate_word(&bus.memc, address, user, !transfer.load) {
-        Err(trouble) => refuse(registers, bus, inputs.prices, trouble),
+        Err(fault) => refuse(registers, bus, inputs.prices, fault),
         Ok(spot) if transfer.load => load(registers, bus, inputs, single, spot),
         Ok(spot) => store(registers, bus, inputs.prices, single, spot),
     }

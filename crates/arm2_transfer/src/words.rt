@@ -1,6 +1,6 @@
 ghost use Rattle.std.specs.Prelude.{◌≡◌, ◌<◌, ◌≤◌, ◌^◌, length, Ok, Err, IfOk, MatchResult};
 ghost use Rattle.memc.specs.Memory.{Fits, located};
-ghost use Rattle.arm2_transfer.specs.Words.{all_registers, is_listed, registers_in, or_trouble, words_from};
+ghost use Rattle.arm2_transfer.specs.Words.{all_registers, is_listed, registers_in, or_fault, words_from};
 ghost use Rattle.arm2_transfer.specs.Words.{verdict_of, AllFit};
 
 use arm2_decode::Register;
@@ -10,7 +10,7 @@ use memc::{Memc, Refused, Spot};
 
 /// Why no word of a transfer is moved.
 #[derive(Clone, Copy)]
-pub enum Trouble {
+pub enum TransferFault {
     /// The program has no right to some word.
     DataAbort,
     /// Some store asks for what this machine does not do.
@@ -67,15 +67,15 @@ pub(crate) fn locate_word(
     address: u32,
     user: bool,
     store: bool,
-) -> Result<Spot, Trouble>
+) -> Result<Spot, TransferFault>
     requires { address < 2 ^ 26 }
-    ensures met { result ≡ or_trouble (located memc.now address user store) }
+    ensures met { result ≡ or_fault (located memc.now address user store) }
     ensures fitted { IfOk result (Fits memc.now.shift) }
 {
     match memc.locate(address, user, store) {
         Ok(spot) => Ok(spot),
-        Err(Refused::NoPage | Refused::Protected) => Err(Trouble::DataAbort),
-        Err(Refused::UnsupportedWrite) => Err(Trouble::UnsupportedWrite),
+        Err(Refused::NoPage | Refused::Protected) => Err(TransferFault::DataAbort),
+        Err(Refused::UnsupportedWrite) => Err(TransferFault::UnsupportedWrite),
     }
 }
 
@@ -86,11 +86,11 @@ pub(crate) fn locate_block(
     lowest: u32,
     user: bool,
     store: bool,
-) -> Result<ArrayVec<Move, 16>, Trouble>
+) -> Result<ArrayVec<Move, 16>, TransferFault>
     requires { lowest < 2 ^ 26 }
     ensures verdict { MatchResult result
         (λ moves. verdict_of (words_from memc.now user store lowest 0 (registers_in list)) ≡ Ok moves.items)
-        (λ trouble. verdict_of (words_from memc.now user store lowest 0 (registers_in list)) ≡ Err trouble) }
+        (λ fault. verdict_of (words_from memc.now user store lowest 0 (registers_in list)) ≡ Err fault) }
     ensures fitted { IfOk result (λ moves. AllFit memc.now.shift moves.items) }
 {
     let mut moves = ArrayVec::new();
@@ -102,13 +102,13 @@ pub(crate) fn locate_block(
         }
         match locate_word(memc, word_address(lowest, word), user, store) {
             Ok(spot) => moves.push(Move { register, spot }),
-            Err(Trouble::UnsupportedWrite) => unsupported = true,
-            Err(Trouble::DataAbort) => return Err(Trouble::DataAbort),
+            Err(TransferFault::UnsupportedWrite) => unsupported = true,
+            Err(TransferFault::DataAbort) => return Err(TransferFault::DataAbort),
         }
         word += 1;
     }
     if unsupported {
-        return Err(Trouble::UnsupportedWrite);
+        return Err(TransferFault::UnsupportedWrite);
     }
     Ok(moves)
 }

@@ -28,10 +28,10 @@ use Rattle.arm2_transfer.specs.declared.bus.Bus.{Bus}
 use Rattle.arm2_transfer.specs.declared.single_fields.Single.{Single}
 use Rattle.arm2_transfer.specs.declared.span.Span.{Span}
 use Rattle.arm2_transfer.specs.declared.words.Move.{Move}
-use Rattle.arm2_transfer.specs.declared.words.Trouble.{Trouble}
-use Rattle.arm2_transfer.specs.declared.words.Trouble.TheVariants as trouble
+use Rattle.arm2_transfer.specs.declared.words.TransferFault.{TransferFault}
+use Rattle.arm2_transfer.specs.declared.words.TransferFault.TheVariants as fault
 use Rattle.arm2_transfer.specs.Block.{block_at, block_by, block_carried_out, block_loads, block_moved, block_stores, mode_for, span_of}
-use Rattle.arm2_transfer.specs.Moved.{Moved, on_bus, troubled}
+use Rattle.arm2_transfer.specs.Moved.{Moved, on_bus, faulted}
 use Rattle.arm2_transfer.specs.Operations.{operation_moved}
 use Rattle.arm2_transfer.specs.Registers.{is_user, moved_by, passed, with_base}
 use Rattle.arm2_transfer.specs.Single.{address_for, base_after, of_immediate, of_register, single_at, single_by, single_carried_out, single_loaded, single_loads, single_stores, writes_base}
@@ -175,10 +175,10 @@ module _ (p : Profile) (rom : RomTimes) (class : Class) (regs : List ℕ) (long 
   unfolding taken
   taken_costs k w vector bus in_class plain = absurd (cc)
 
-  troubled_costs : (k : Kind) (w : Work) (why : Trouble) (bus : Bus) → MovedCosts k w (troubled why regs bus)
+  faulted_costs : (k : Kind) (w : Work) (why : TransferFault) (bus : Bus) → MovedCosts k w (faulted why regs bus)
   unfolding taken stopped
-  troubled_costs k w trouble.DataAbort bus in_class plain = absurd (cc)
-  troubled_costs k w trouble.UnsupportedWrite bus in_class plain = absurd (cc)
+  faulted_costs k w fault.DataAbort bus in_class plain = absurd (cc)
+  faulted_costs k w fault.UnsupportedWrite bus in_class plain = absurd (cc)
 
   -- ## Single transfers
 
@@ -207,10 +207,10 @@ module _ (p : Profile) (rom : RomTimes) (class : Class) (regs : List ℕ) (long 
   either_costs true to_pc words m n h g = h
   either_costs false to_pc words m n h g = g
 
-  single_by_costs : (x : Single) (base port : ℕ) (found : Result Spot Trouble) (bus : Bus) → (writes_base x ≡ true → is_pc x.rn ≡ false) → address_for x base < 2 ^ 26 →
+  single_by_costs : (x : Single) (base port : ℕ) (found : Result Spot TransferFault) (bus : Bus) → (writes_base x ≡ true → is_pc x.rn ≡ false) → address_for x base < 2 ^ 26 →
       MovedCosts (writer_if (x.load && is_pc x.rd)) (transfer x.load 1) (single_by x base port found regs bus)
   unfolding single_by single_carried_out
-  single_by_costs x base port (Err why) bus other below = troubled_costs _ _ why bus
+  single_by_costs x base port (Err why) bus other below = faulted_costs _ _ why bus
   single_by_costs x base port (Ok spot) bus other below =
       either_costs x.load (is_pc x.rd) 1 (single_loads x base port spot regs bus) (single_stores x base spot regs bus)
       (single_loads_cost x base port spot bus other below)
@@ -250,11 +250,11 @@ module _ (p : Profile) (rom : RomTimes) (class : Class) (regs : List ℕ) (long 
       (passed_goes (with_base x.write_back (mode_of (r15_in regs)) x.rn span.base regs) (based_long x.write_back x.rn span.base)
       ∙ ap (λ r. ahead_of (address_of r) 4) (base_stays x.write_back (mode_of (r15_in regs)) x.rn span.base regs (λ w. other)))
 
-  block_by_costs : (x : Block) (span : Span) (port : ℕ) (verdict : Result (List Move) Trouble) (bus : Bus) → is_pc x.rn ≡ false → span.lowest < 2 ^ 26 → 1 ≤ span.words → span.words ≤ 16 →
+  block_by_costs : (x : Block) (span : Span) (port : ℕ) (verdict : Result (List Move) TransferFault) (bus : Bus) → is_pc x.rn ≡ false → span.lowest < 2 ^ 26 → 1 ≤ span.words → span.words ≤ 16 →
       ((moves : List Move) → verdict ≡ Ok moves → is_listed x.list R15 ≡ false → AllMoveOther moves) →
       MovedCosts (writer_if (x.load && is_listed x.list R15)) (transfer x.load span.words) (block_by x span port verdict regs bus)
   unfolding block_by block_carried_out
-  block_by_costs x span port (Err why) bus other below some few others = troubled_costs _ _ why bus
+  block_by_costs x span port (Err why) bus other below some few others = faulted_costs _ _ why bus
   block_by_costs x span port (Ok moves) bus other below some few others =
       either_costs x.load (is_listed x.list R15) span.words (block_loads x span port moves regs bus) (block_stores x span moves regs bus)
       (block_loads_cost x span port moves bus other below some few (others moves refl))

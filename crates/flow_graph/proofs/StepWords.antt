@@ -14,8 +14,8 @@ use Rattle.arm2_effect.specs.declared.modes.Mode.{Mode}
 use Rattle.arm2_effect.specs.Modes.{r15_in}
 use Rattle.arm2_transfer.specs.declared.bus.Bus.{Bus}
 use Rattle.arm2_transfer.specs.declared.words.Move.{Move}
-use Rattle.arm2_transfer.specs.declared.words.Trouble.{Trouble}
-use Rattle.arm2_transfer.specs.declared.words.Trouble.TheVariants as trouble
+use Rattle.arm2_transfer.specs.declared.words.TransferFault.{TransferFault}
+use Rattle.arm2_transfer.specs.declared.words.TransferFault.TheVariants as fault
 use Rattle.arm2_transfer.specs.Block.{all_loaded}
 use Rattle.arm2_transfer.specs.Bus.{seen}
 use Rattle.arm2_transfer.specs.Registers.{with_loaded}
@@ -71,7 +71,7 @@ moves_others m user store lowest i (r ∷ rest) h = by_place (moves_others m use
     by_place more (Ok spot) = (h.0, more)
     by_place more (Err why) = more
 
-by_verdict : (aborts unsupported : Bool) (all moves : List Move) → ◌≡◌ {A = Result (List Move) Trouble} (cond aborts (Err trouble.DataAbort) (cond unsupported (Err trouble.UnsupportedWrite) (Ok all))) (Ok moves) → all ≡ moves
+by_verdict : (aborts unsupported : Bool) (all moves : List Move) → ◌≡◌ {A = Result (List Move) TransferFault} (cond aborts (Err fault.DataAbort) (cond unsupported (Err fault.UnsupportedWrite) (Ok all))) (Ok moves) → all ≡ moves
 by_verdict true unsupported all moves e = absurd (cc)
 by_verdict false true all moves e = absurd (cc)
 by_verdict false false all moves e = cc

@@ -1,7 +1,7 @@
 use Rattle.std.proofs.Common.{◌≡◌, ◌<◌, ◌∙◌, true, length, get_or, sym, ap, Err, arith, rules}
 use Rattle.arm2_decode.specs.declared.names.Register.TheVariants.{R0}
 use Rattle.arm2_transfer.specs.Words.{is_listed}
-use Rattle.arm2_transfer.specs.declared.words.Trouble.{Trouble}
+use Rattle.arm2_transfer.specs.declared.words.TransferFault.{TransferFault}
 use Rattle.arm2_transfer.proofs.Verdict.{verdict-ok, verdict-abort, verdict-unsupported, fit_push}
 use Rattle.arm2_transfer.proofs.words.locate_block.Goals as goal
 use Rattle.arm2_transfer.proofs.words.locate_block.Goals.{in-Ok, in-Err-UnsupportedWrite}
@@ -12,7 +12,7 @@ returns-in-Err-DataAbort-clause-verdict c =
     let all = c.all_registers-register-items.result in
     let listed : is_listed c.args.list (get_or all l.register-index R0) ≡ true = search rules in
     let inside : l.register-index < length all = search rules in
-    sym (verdict-abort c.args.memc.now c.args.user c.args.store l.unsupported c.args.lowest c.word_address.result c.args.list l.word all l.register-index R0 l.moves.items inside listed c.word_address.ensures.address (sym c.locate_word.ensures.met ∙ c.in-Err-DataAbort.is ∙ ap (λ (t : Trouble). Err t) c.in-Err-DataAbort.field-0-is)
+    sym (verdict-abort c.args.memc.now c.args.user c.args.store l.unsupported c.args.lowest c.word_address.result c.args.list l.word all l.register-index R0 l.moves.items inside listed c.word_address.ensures.address (sym c.locate_word.ensures.met ∙ c.in-Err-DataAbort.is ∙ ap (λ (t : TransferFault). Err t) c.in-Err-DataAbort.field-0-is)
     ∙ l.invariant.rest)
 
 pub loop-register-preserved : goal.loop-register-preserved
@@ -35,7 +35,7 @@ loop-register-preserved c =
         word = omega (arith, l.invariant.word);
         fit = l.invariant.fit;
         rest =
-            verdict-unsupported c.args.memc.now c.args.user c.args.store l.unsupported c.args.lowest c.word_address.result c.args.list l.word all l.register-index R0 l.moves.items inside listed c.word_address.ensures.address (sym c.locate_word.ensures.met ∙ w.in-Err-UnsupportedWrite.is ∙ ap (λ (t : Trouble). Err t) w.in-Err-UnsupportedWrite.field-0-is)
+            verdict-unsupported c.args.memc.now c.args.user c.args.store l.unsupported c.args.lowest c.word_address.result c.args.list l.word all l.register-index R0 l.moves.items inside listed c.word_address.ensures.address (sym c.locate_word.ensures.met ∙ w.in-Err-UnsupportedWrite.is ∙ ap (λ (t : TransferFault). Err t) w.in-Err-UnsupportedWrite.field-0-is)
             ∙ l.invariant.rest;
       })
     ]
