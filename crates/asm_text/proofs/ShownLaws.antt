@@ -9,8 +9,8 @@ use Rattle.asm_text.specs.Pieces.{Piece, Run, Comma, Sign, Gap, gap_before, is_b
 use Rattle.asm_text.specs.Said.{Target, Number, Label, Said, Codes, Refers, Orgs, Lists}
 use Rattle.asm_text.specs.declared.printed_lines.Shown.{Shown}
 use Rattle.asm_text.specs.declared.printed_lines.Shown.TheVariants as shown
-use Rattle.asm_text.specs.declared.statement.Wrong.{Wrong}
-use Rattle.asm_text.specs.declared.statement.Wrong.TheVariants.{UnknownWord}
+use Rattle.asm_text.specs.declared.statement.TextFault.{TextFault}
+use Rattle.asm_text.specs.declared.statement.TextFault.TheVariants.{UnknownWord}
 use Rattle.asm_text.specs.Lines.{starts_run}
 use Rattle.asm_text.specs.Shown.{is_shown, is_shown_text, is_upper, parsed_shown, shown_in, shown_result, shown_said, upper_pieces}
 use Rattle.asm_text.specs.Statements.{Parsed, body_len, body_says, is_text, line_of, or_bad, parsed, statement_of, with_label}
@@ -133,13 +133,13 @@ upper_text (b ∷ bs) h =
 pub upper_run : (r : List ℕ) (ps : List Piece) → upper_pieces (Run r ∷ ps) ≡ true → is_upper r ≡ true
 upper_run r ps h = (and_parts (is_upper r) (upper_pieces ps) h).0
 
-abbrev line_by : Option Shown → Result Parsed Wrong
+abbrev line_by : Option Shown → Result Parsed TextFault
 line_by None = Err UnknownWord
 line_by (Some s) = Ok (parsed_shown s)
 
-abbrev shown_by : Result Parsed Wrong → Option Shown
+abbrev shown_by : Result Parsed TextFault → Option Shown
 shown_by (Ok p) = option_and_then shown_in p.said
-shown_by (Err wrong) = None
+shown_by (Err fault) = None
 
 shown_again : (s : Shown) → shown_in (shown_said s) ≡ Some s
 shown_again (shown.Code c) = refl
@@ -147,19 +147,19 @@ shown_again (shown.Refer r n) = refl
 
 -- what a line says alone is its statement
 
-said_alone : (r : Result Said Wrong) (s : Shown) → shown_result r ≡ Some s → with_label None r ≡ Ok (parsed_shown s)
+said_alone : (r : Result Said TextFault) (s : Shown) → shown_result r ≡ Some s → with_label None r ≡ Ok (parsed_shown s)
 said_alone (Ok (Codes c)) s h = ap line_by h
 said_alone (Ok (Refers r (Number n))) s h = ap line_by h
 said_alone (Ok (Refers r (Label d))) s h = absurd cc
 said_alone (Ok (Orgs n)) s h = absurd cc
 said_alone (Ok (Lists vs)) s h = absurd cc
-said_alone (Err wrong) s h = absurd cc
+said_alone (Err fault) s h = absurd cc
 
-label_free : (r : Result Said Wrong) → shown_by (with_label None r) ≡ shown_result r
+label_free : (r : Result Said TextFault) → shown_by (with_label None r) ≡ shown_result r
 label_free (Ok s) = refl
-label_free (Err wrong) = refl
+label_free (Err fault) = refl
 
-alone_said : (r : Result Said Wrong) (s : Shown) → with_label None r ≡ Ok (parsed_shown s) → shown_result r ≡ Some s
+alone_said : (r : Result Said TextFault) (s : Shown) → with_label None r ≡ Ok (parsed_shown s) → shown_result r ≡ Some s
 alone_said r s h = sym (label_free r) ∙ ap shown_by h ∙ shown_again s
 
 -- the same of a line's pieces after a blank

@@ -26,8 +26,8 @@ use Rattle.asm_text.specs.declared.syntax.Action.TheVariants as action
 use Rattle.asm_text.specs.declared.syntax.Use.{Use}
 use Rattle.asm_text.specs.declared.syntax.Use.TheVariants as use_of
 use Rattle.asm_text.specs.declared.statement.Expects.TheVariants as expects
-use Rattle.asm_text.specs.declared.statement.Wrong.{Wrong}
-use Rattle.asm_text.specs.declared.statement.Wrong.TheVariants.{NotText, UnknownWord}
+use Rattle.asm_text.specs.declared.statement.TextFault.{TextFault}
+use Rattle.asm_text.specs.declared.statement.TextFault.TheVariants.{NotText, UnknownWord}
 use Rattle.asm_text.proofs.PieceLaws.{first_passes, pieces_again, pieces_spaced, pieces_written, prefix_all, prefix_stop}
 use Rattle.asm_text.proofs.WordLaws.{chosen, spelled_again, spelled_is}
 use Rattle.asm_text.proofs.SpelledNames.{and_then_is, front_register_comma, map_is, number_whole, register_comma_front, whole_number}
@@ -179,12 +179,12 @@ statement_again x ps h = rw (h.spelled, spelled_again h.name h.word h.word-is, o
 abbrev PartsOf : List Piece → Parsed → Type 0
 PartsOf ps p = SpellsParts p.label p.said ps
 
-ok_is : (a b : Parsed) → ◌≡◌ {A = Result Parsed Wrong} (Ok a) (Ok b) → a ≡ b
+ok_is : (a b : Parsed) → ◌≡◌ {A = Result Parsed TextFault} (Ok a) (Ok b) → a ≡ b
 ok_is a b e = cc
 
-with_label_is : (l : Option (List ℕ)) (r : Result Said Wrong) (p : Parsed) → with_label l r ≡ Ok p → (x : Said) × (r ≡ Ok x) × (record { label = l; said = Some x } ≡ p)
+with_label_is : (l : Option (List ℕ)) (r : Result Said TextFault) (p : Parsed) → with_label l r ≡ Ok p → (x : Said) × (r ≡ Ok x) × (record { label = l; said = Some x } ≡ p)
 with_label_is l (Ok x) p e = (x, refl, ok_is (record { label = l; said = Some x }) p e)
-with_label_is l (Err wrong) p e = absurd cc
+with_label_is l (Err fault) p e = absurd cc
 
 label_is : (l : List ℕ) (ps : List Piece) (p : Parsed) → is_label l ≡ true → behind_label l ps ≡ Ok p → PartsOf (Run l ∷ ps) p
 label_is l [] p is e = subst (PartsOf (Run l ∷ [])) (ok_is (record { label = Some l; said = None }) p e) (refl, is)

@@ -6,7 +6,7 @@ use Rattle.std.specs.List.{list_all}
 use Rattle.asm_text.specs.Pieces.{Piece, Run}
 use Rattle.asm_text.specs.Said.{Number, Said, Codes, Refers}
 use Rattle.asm_text.specs.Statements.{Parsed}
-use Rattle.asm_text.specs.declared.statement.Wrong.{Wrong}
+use Rattle.asm_text.specs.declared.statement.TextFault.{TextFault}
 use Rattle.asm_text.specs.declared.printed_lines.Shown.{Shown}
 use Rattle.asm_text.specs.declared.printed_lines.Shown.TheVariants as shown
 
@@ -35,9 +35,9 @@ shown_in (Codes c) = Some (shown.Code c)
 shown_in (Refers r (Number n)) = Some (shown.Refer r n)
 shown_in _ = None
 
-abbrev pub shown_result : Result Said Wrong → Option Shown
+abbrev pub shown_result : Result Said TextFault → Option Shown
 shown_result (Ok s) = shown_in s
-shown_result (Err wrong) = None
+shown_result (Err fault) = None
 
 -- no run has a letter in lower case
 abbrev pub upper_pieces : List Piece → Bool

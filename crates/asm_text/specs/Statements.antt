@@ -24,8 +24,8 @@ use Rattle.asm_text.specs.declared.syntax.Use.{Use}
 use Rattle.asm_text.specs.declared.syntax.Use.TheVariants as use_of
 use Rattle.asm_text.specs.declared.statement.Expects.{Expects}
 use Rattle.asm_text.specs.declared.statement.Expects.TheVariants.{Start, Hex, Behind}
-use Rattle.asm_text.specs.declared.statement.Wrong.{Wrong}
-use Rattle.asm_text.specs.declared.statement.Wrong.TheVariants.{NotText, UnknownWord, BadOperand}
+use Rattle.asm_text.specs.declared.statement.TextFault.{TextFault}
+use Rattle.asm_text.specs.declared.statement.TextFault.TheVariants.{NotText, UnknownWord, BadOperand}
 
 -- a letter or `_`, then letters, digits, `_`, at most 32
 abbrev pub is_label : List ℕ → Bool
@@ -126,20 +126,20 @@ operands_of Dcd ps = dcd_said ps
 
 -- ---- statements
 
-abbrev pub or_bad : Option Said → Result Said Wrong
+abbrev pub or_bad : Option Said → Result Said TextFault
 or_bad None = Err BadOperand
 or_bad (Some s) = Ok s
 
 -- a blank and operands after a word
-abbrev pub behind_word : Word → List Piece → Result Said Wrong
+abbrev pub behind_word : Word → List Piece → Result Said TextFault
 behind_word w (Gap ∷ ps) = or_bad (operands_of w ps)
 behind_word w _ = Err BadOperand
 
-abbrev pub with_word : Option Word → List Piece → Result Said Wrong
+abbrev pub with_word : Option Word → List Piece → Result Said TextFault
 with_word None ps = Err UnknownWord
 with_word (Some w) ps = behind_word w ps
 
-abbrev pub statement_of : List Piece → Result Said Wrong
+abbrev pub statement_of : List Piece → Result Said TextFault
 statement_of (Run w ∷ ps) = with_word (spelled_word_of w) ps
 statement_of _ = Err UnknownWord
 
@@ -150,17 +150,17 @@ pub record Parsed : Type 0 where
   pub label : Option (List ℕ)
   pub said : Option Said
 
-abbrev pub with_label : Option (List ℕ) → Result Said Wrong → Result Parsed Wrong
+abbrev pub with_label : Option (List ℕ) → Result Said TextFault → Result Parsed TextFault
 with_label label (Ok s) = Ok (record { label = label; said = Some s })
-with_label label (Err wrong) = Err wrong
+with_label label (Err fault) = Err fault
 
-abbrev pub behind_label : List ℕ → List Piece → Result Parsed Wrong
+abbrev pub behind_label : List ℕ → List Piece → Result Parsed TextFault
 behind_label l [] = Ok (record { label = Some l; said = None })
 behind_label l (Gap ∷ ps) = with_label (Some l) (statement_of ps)
 behind_label l _ = Err UnknownWord
 
 -- [label] [blank word [operands]]
-abbrev pub parsed : List Piece → Result Parsed Wrong
+abbrev pub parsed : List Piece → Result Parsed TextFault
 parsed [] = Ok (record { label = None; said = None })
 parsed (Gap ∷ ps) = with_label None (statement_of ps)
 parsed (Run l ∷ ps) = if is_label l then behind_label l ps else Err UnknownWord
@@ -198,9 +198,9 @@ abbrev pub word_ends : List ℕ → Bool
 word_ends text = begins_blank_or_ends (past is_name (past is_blank (past is_name text)))
 
 -- what a line without its comment says
-abbrev pub body_says : List ℕ → Result Parsed Wrong
+abbrev pub body_says : List ℕ → Result Parsed TextFault
 body_says text = if word_ends text then parsed (pieces text) else Err UnknownWord
 
 -- what a line says
-abbrev pub line_of : List ℕ → Result Parsed Wrong
+abbrev pub line_of : List ℕ → Result Parsed TextFault
 line_of line = if is_text_line line then body_says (body line) else Err NotText

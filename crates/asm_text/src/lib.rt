@@ -39,7 +39,7 @@ pub use lines::{Line, first_line, read_line};
 pub use names::{Head, Suffix, cond_letters, opcode_letters};
 pub use number::{read_hex, read_number};
 pub use printed_lines::{Shown, read_shown};
-pub use statement::Wrong;
+pub use statement::TextFault;
 pub use syntax::{
     Action, Address, Amount, BlockTransfer, Code, Data, Distance, Operand, Product, Reference,
     Shifting, Statement, Transfer, Use, Value,

@@ -7,7 +7,7 @@ ghost use Rattle.asm_text.specs.Statements.{is_comment_text, is_text, is_text_li
 ghost use Rattle.asm_text.specs.Statements.{parsed};
 ghost use Rattle.asm_text.specs.Source.{feed_len, line_view, lines_of, no_return};
 
-use crate::statement::{Wrong, is_label, read_statement};
+use crate::statement::{TextFault, is_label, read_statement};
 use crate::syntax::Statement;
 use crate::token::{Token, tokens, word_ends};
 use std::alloc::Global;
@@ -58,11 +58,16 @@ fn is_text_line(text: &[u8]) -> bool
     are_text_bytes(body) && are_comment_bytes(comment)
 }
 
-fn behind_label<'a>(alloc: Global, label: &'a [u8], tokens: &[Token<'a>]) -> Result<Line<'a>, Wrong>
+fn behind_label<'a>(
+    alloc: Global,
+    label: &'a [u8],
+    tokens: &[Token<'a>],
+) -> Result<Line<'a>, TextFault>
     ensures ok { IfOk result
         (λ line. behind_label label.now (map piece_of tokens.now) ≡ Ok (line_view line)) }
     ensures err { IfErr result
-        (λ wrong. (wrong ≡ Wrong.Memory) ⊎ (behind_label label.now (map piece_of tokens.now) ≡ Err wrong)) }
+        (λ fault. (fault ≡ TextFault.Memory)
+        ⊎ (behind_label label.now (map piece_of tokens.now) ≡ Err fault)) }
 {
     match tokens {
         [] => Ok(Line {
@@ -76,14 +81,14 @@ fn behind_label<'a>(alloc: Global, label: &'a [u8], tokens: &[Token<'a>]) -> Res
                 statement: Some(statement),
             })
         }
-        _ => Err(Wrong::UnknownWord),
+        _ => Err(TextFault::UnknownWord),
     }
 }
 
-fn parse<'a>(alloc: Global, tokens: &[Token<'a>]) -> Result<Line<'a>, Wrong>
+fn parse<'a>(alloc: Global, tokens: &[Token<'a>]) -> Result<Line<'a>, TextFault>
     ensures ok { IfOk result (λ line. parsed (map piece_of tokens.now) ≡ Ok (line_view line)) }
     ensures err { IfErr result
-        (λ wrong. (wrong ≡ Wrong.Memory) ⊎ (parsed (map piece_of tokens.now) ≡ Err wrong)) }
+        (λ fault. (fault ≡ TextFault.Memory) ⊎ (parsed (map piece_of tokens.now) ≡ Err fault)) }
 {
     match tokens {
         [] => Ok(Line {
@@ -101,10 +106,10 @@ fn parse<'a>(alloc: Global, tokens: &[Token<'a>]) -> Result<Line<'a>, Wrong>
             if is_label(label) {
                 behind_label(alloc, label, rest)
             } else {
-                Err(Wrong::UnknownWord)
+                Err(TextFault::UnknownWord)
             }
         }
-        _ => Err(Wrong::UnknownWord),
+        _ => Err(TextFault::UnknownWord),
     }
 }
 
@@ -115,16 +120,16 @@ fn parse<'a>(alloc: Global, tokens: &[Token<'a>]) -> Result<Line<'a>, Wrong>
 /// `NotText`: a byte other than 20 to 7E and a tab, or after a `;` 80 to FF. `UnknownWord`: the first column
 /// holds neither a blank nor a label, or the text after it is no word that ends at a blank or with the line.
 /// `BadOperand`: what stands after the word does not belong to it. `Memory`: an allocation failed.
-pub fn read_line<'a>(alloc: Global, text: &'a [u8]) -> Result<Line<'a>, Wrong>
+pub fn read_line<'a>(alloc: Global, text: &'a [u8]) -> Result<Line<'a>, TextFault>
     ensures ok { IfOk result (λ line. line_of text.now ≡ Ok (line_view line)) }
-    ensures err { IfErr result (λ wrong. (wrong ≡ Wrong.Memory) ⊎ (line_of text.now ≡ Err wrong)) }
+    ensures err { IfErr result (λ fault. (fault ≡ TextFault.Memory) ⊎ (line_of text.now ≡ Err fault)) }
 {
     if !is_text_line(text) {
-        return Err(Wrong::NotText);
+        return Err(TextFault::NotText);
     }
     let body = &text[..body_len(text)];
     if !word_ends(body) {
-        return Err(Wrong::UnknownWord);
+        return Err(TextFault::UnknownWord);
     }
     let tokens = tokens(alloc, body)?;
     parse(alloc, &tokens)

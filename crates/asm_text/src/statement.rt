@@ -25,7 +25,7 @@ use std::alloc::{AllocError, Global};
 
 /// Why a line says nothing.
 #[derive(Clone, Copy, Debug, PartialEq, Eq)]
-pub enum Wrong {
+pub enum TextFault {
     /// An allocation failed.
     Memory,
     /// A byte that no source has.
@@ -36,14 +36,14 @@ pub enum Wrong {
     BadOperand,
 }
 
-impl From<AllocError> for Wrong {
+impl From<AllocError> for TextFault {
     ghost use Rattle.std.specs.Prelude.{◌≡◌};
-    ghost use Rattle.asm_text.specs.declared.statement.Wrong.TheVariants.{Memory};
+    ghost use Rattle.asm_text.specs.declared.statement.TextFault.TheVariants.{Memory};
 
-    ghost from_gives = { λ _ wrong. wrong ≡ Memory };
+    ghost from_gives = { λ _ fault. fault ≡ Memory };
 
-    fn from(_refused: AllocError) -> Wrong {
-        Wrong::Memory
+    fn from(_refused: AllocError) -> TextFault {
+        TextFault::Memory
     }
 }
 
@@ -325,17 +325,21 @@ fn operands<'a>(
     }
 }
 
-fn behind_word<'a>(alloc: Global, word: Word, tokens: &[Token<'a>]) -> Result<Statement<'a>, Wrong>
+fn behind_word<'a>(
+    alloc: Global,
+    word: Word,
+    tokens: &[Token<'a>],
+) -> Result<Statement<'a>, TextFault>
     ensures ok { IfOk result (λ s. behind_word word (map piece_of tokens.now) ≡ Ok (said s)) }
     ensures err { IfErr result
-        (λ wrong. (wrong ≡ Wrong.Memory) ⊎ (behind_word word (map piece_of tokens.now) ≡ Err wrong)) }
+        (λ fault. (fault ≡ TextFault.Memory) ⊎ (behind_word word (map piece_of tokens.now) ≡ Err fault)) }
 {
     match tokens {
         [Token::Gap, rest @ ..] => match operands(alloc, word, rest)? {
             Some(statement) => Ok(statement),
-            None => Err(Wrong::BadOperand),
+            None => Err(TextFault::BadOperand),
         },
-        _ => Err(Wrong::BadOperand),
+        _ => Err(TextFault::BadOperand),
     }
 }
 
@@ -343,16 +347,16 @@ fn behind_word<'a>(alloc: Global, word: Word, tokens: &[Token<'a>]) -> Result<St
 pub(crate) fn read_statement<'a>(
     alloc: Global,
     tokens: &[Token<'a>],
-) -> Result<Statement<'a>, Wrong>
+) -> Result<Statement<'a>, TextFault>
     ensures ok { IfOk result (λ s. statement_of (map piece_of tokens.now) ≡ Ok (said s)) }
     ensures err { IfErr result
-        (λ wrong. (wrong ≡ Wrong.Memory) ⊎ (statement_of (map piece_of tokens.now) ≡ Err wrong)) }
+        (λ fault. (fault ≡ TextFault.Memory) ⊎ (statement_of (map piece_of tokens.now) ≡ Err fault)) }
 {
     match tokens {
         [Token::Run(text), rest @ ..] => match spelled_word(alloc, text)? {
             Some(word) => behind_word(alloc, word, rest),
-            None => Err(Wrong::UnknownWord),
+            None => Err(TextFault::UnknownWord),
         },
-        _ => Err(Wrong::UnknownWord),
+        _ => Err(TextFault::UnknownWord),
     }
 }

@@ -10,7 +10,7 @@ use Rattle.asm_text.specs.Pieces.{Piece}
 use Rattle.asm_text.specs.Said.{Said, Codes, Refers, Orgs, Lists}
 use Rattle.asm_text.specs.declared.word.Word.{Word}
 use Rattle.asm_text.specs.declared.word.Word.TheVariants.{Plain, Branch, Org, Dcd}
-use Rattle.asm_text.specs.declared.statement.Wrong.{Wrong}
+use Rattle.asm_text.specs.declared.statement.TextFault.{TextFault}
 use Rattle.assembler.specs.Assembles.{AreWords, IsAssembly, Laid, Once, labels_of, laid, places}
 use Rattle.assembler.specs.Sweeps.{Names, State, assembled, assembled_on, assembled_with, at_first, filled, no_names, swept}
 use Rattle.assembler.specs.declared.fault.Fault.{Fault}
@@ -119,7 +119,7 @@ all_read reads [] (p ∷ ps) h = absurd h
 all_read reads (line ∷ lines) [] h = absurd h
 all_read reads (line ∷ lines) (p ∷ ps) h = (reads line p h.0, all_read reads lines ps h.1)
 
-same_parsed : (p q : Parsed) → ◌≡◌ {A = Result Parsed Wrong} (Ok p) (Ok q) → p ≡ q
+same_parsed : (p q : Parsed) → ◌≡◌ {A = Result Parsed TextFault} (Ok p) (Ok q) → p ≡ q
 same_parsed p q e = cc
 
 same_lines : (lines : List (List ℕ)) (ps qs : List Parsed) → AllZip (λ line p. line_of line ≡ Ok p) lines ps → AllZip (λ line p. line_of line ≡ Ok p) lines qs → ps ≡ qs

@@ -5,7 +5,7 @@ use Rattle.std.specs.Prelude.{is_some, if◌then◌else◌}
 use Rattle.std.specs.List.{AllByRecursion, AllZip, Contains}
 use Rattle.std.specs.Str.{bytes_eq}
 use Rattle.asm_text.specs.Statements.{Parsed, line_of}
-use Rattle.asm_text.specs.declared.statement.Wrong.{Wrong}
+use Rattle.asm_text.specs.declared.statement.TextFault.{TextFault}
 use Rattle.assembler.specs.Assembles.{AreFree, Laid, Once, address_behind, is_open, label_at, labels_of, laid_from, segments, word_count}
 use Rattle.assembler.specs.Sweeps.{Item, Names, Pending, State, label_fault, labelled, line_step, swept, swept_on, with_name}
 use Rattle.assembler.specs.declared.fault.Fault.{Fault}
@@ -137,7 +137,7 @@ swept_on_is : (k : ℕ) (r : Result State Fault) (on : State → Result State (F
 swept_on_is k (Ok u) on t e = (u, refl, e)
 swept_on_is k (Err fault) on t e = absurd cc
 
-pub step_is : (s : State) (k : ℕ) (r : Result Parsed Wrong) (u : State) → line_step s k r ≡ Ok u → (p : Parsed) × (r ≡ Ok p) × Step s k p.label p.said u
+pub step_is : (s : State) (k : ℕ) (r : Result Parsed TextFault) (u : State) → line_step s k r ≡ Ok u → (p : Parsed) × (r ≡ Ok p) × Step s k p.label p.said u
 step_is s k (Ok p) u e = (p, refl, said_is s k p.label p.said u e)
 step_is s k (Err w) u e = absurd cc
 

@@ -10,7 +10,7 @@ use Rattle.loader.specs.Image.{may_hold}
 use Rattle.asm_text.specs.Said.{Said, Codes, Refers, Orgs, Lists}
 use Rattle.asm_text.specs.Spelling.{Spells}
 use Rattle.asm_text.specs.Statements.{Parsed, line_of}
-use Rattle.asm_text.specs.declared.statement.Wrong.{Wrong}
+use Rattle.asm_text.specs.declared.statement.TextFault.{TextFault}
 use Rattle.assembler.specs.Assembles.{Laid, Once, address_behind, is_open, label_at, labels_of, laid, places_from, segments, word_count}
 use Rattle.assembler.specs.Refusals.{ArePassed, HasFault, IsLowest, IsUnreadable, IsWrong, address_of_next, asked}
 use Rattle.assembler.specs.Sweeps.{Names, State, at_first, label_fault, labelled, line_step, said_step, swept, swept_on}
@@ -25,7 +25,7 @@ use Rattle.assembler.proofs.AssembleSweep.{NamesOf, label_names, no_labels, step
 use Rattle.assembler.proofs.RefuseFront.{Front, ItemsOf, address_more, count_laid, counts, exact_said, items_more, laid_more, labels_more, open_behind, open_more, said_least, taken_by, taken_more}
 use Rattle.assembler.proofs.RefuseLeast.{IsLeast, either, failed, is_least, least_is, least_no, least_same, no_least}
 use Rattle.assembler.proofs.RefusePlaces.{Fine, fine}
-use Rattle.assembler.proofs.RefuseText.{wrong_in}
+use Rattle.assembler.proofs.RefuseText.{fault_in_reading}
 
 -- ---- lists
 
@@ -179,27 +179,27 @@ Reads = (line : List ℕ) → (p : Parsed) → Spells p line → line_of line �
 spelled_some : (line : List ℕ) (p : Parsed) → Spells p line → NotEmpty p.said
 spelled_some line p s = parts_some p.label p.said s.pieces s.spelled
 
-one_meaning : (p q : Parsed) (r : Result Parsed Wrong) → r ≡ Ok p → r ≡ Ok q → p ≡ q
-one_meaning p q r e k = let same : ◌≡◌ {A = Result Parsed Wrong} (Ok p) (Ok q) = sym e ∙ k in cc
+one_meaning : (p q : Parsed) (r : Result Parsed TextFault) → r ≡ Ok p → r ≡ Ok q → p ≡ q
+one_meaning p q r e k = let same : ◌≡◌ {A = Result Parsed TextFault} (Ok p) (Ok q) = sym e ∙ k in cc
 
-no_meaning : (p : Parsed) (w : Wrong) (r : Result Parsed Wrong) → r ≡ Err w → r ≡ Ok p → ⊥
-no_meaning p w r e k = let same : ◌≡◌ {A = Result Parsed Wrong} (Err w) (Ok p) = sym e ∙ k in cc
+no_meaning : (p : Parsed) (w : TextFault) (r : Result Parsed TextFault) → r ≡ Err w → r ≡ Ok p → ⊥
+no_meaning p w r e k = let same : ◌≡◌ {A = Result Parsed TextFault} (Err w) (Ok p) = sym e ∙ k in cc
 
 -- what the lemmas of a line's text say
 pub record Texts : Type 0 where
   pub spells : (line : List ℕ) → (p : Parsed) → line_of line ≡ Ok p → Spells p line
   pub reads : (line : List ℕ) → (p : Parsed) → Spells p line → line_of line ≡ Ok p
-  pub least : (line : List ℕ) → IsLeast (IsUnreadable line) (wrong_in (line_of line))
+  pub least : (line : List ℕ) → IsLeast (IsUnreadable line) (fault_in_reading (line_of line))
 
 pub line_least : Texts → (s : State) (k : ℕ) (before : List Parsed) (line : List ℕ) → Front s k before
     → IsLeast (HasFault before line) (failed (line_step s k (line_of line)))
 unfolding IsLeast
 line_least texts s k before line h = go (line_of line) refl (texts.least line)
   where
-    go : (r : Result Parsed Wrong) → line_of line ≡ r → IsLeast (IsUnreadable line) (wrong_in r)
+    go : (r : Result Parsed TextFault) → line_of line ≡ r → IsLeast (IsUnreadable line) (fault_in_reading r)
         → IsLeast (HasFault before line) (failed (line_step s k r))
     go (Err w) is least =
-        least_same (IsUnreadable line) (HasFault before line) (wrong_in (Err w)) (λ f u. inl u)
+        least_same (IsUnreadable line) (HasFault before line) (fault_in_reading (Err w)) (λ f u. inl u)
         (λ f e. elim e [
           | inl u ↦ u
           | inr x ↦

@@ -14,14 +14,14 @@ use Rattle.asm_text.specs.Spelling.{Spells}
 use Rattle.asm_text.specs.Statements.{Parsed, begins_blank_or_ends, behind_label, behind_word, body, body_len, is_comment_text, is_label, is_text, is_text_line, line_of, operands_of, or_bad, parsed, past, statement_of, with_label, with_word, word_ends}
 use Rattle.asm_text.specs.Words.{IsSpelling, spelled_word_of, word_of}
 use Rattle.asm_text.specs.declared.word.Word.{Word}
-use Rattle.asm_text.specs.declared.statement.Wrong.{Wrong}
-use Rattle.asm_text.specs.declared.statement.Wrong.TheVariants as wrong
+use Rattle.asm_text.specs.declared.statement.TextFault.{TextFault}
+use Rattle.asm_text.specs.declared.statement.TextFault.TheVariants as text_fault
 use Rattle.asm_text.proofs.PieceLaws.{first_name, first_no_run, first_passes, pieces-blanks, pieces-gap, pieces-run, pieces_spaced, pieces_written, prefix_all}
 use Rattle.asm_text.proofs.WordEnds.{blank_no_name, blanks_no_name, gap_no_name, name_no_gap, past_front, blanks_alone}
 use Rattle.asm_text.proofs.WordLaws.{spelled_again, spelled_is}
 use Rattle.assembler.specs.Faults.{number}
 use Rattle.assembler.specs.Refusals.{BeginsLine, BeginsStatement, HasStrayByte, IsUnreadable}
-use Rattle.assembler.specs.Sweeps.{wrong_fault}
+use Rattle.assembler.specs.Sweeps.{line_fault}
 use Rattle.assembler.specs.declared.fault.Fault.{Fault}
 use Rattle.assembler.specs.declared.fault.Fault.TheVariants.{NotText, UnknownWord, BadOperand}
 use Rattle.assembler.proofs.AssembleBasics.{false_true}
@@ -347,17 +347,17 @@ pieces_begin (Sign m ∷ ps) text w spaced ends h = absurd h
 
 -- ---- which of the two it is
 
-Sorted : {A : Type 0} → Result A Wrong → Type 0 → Type 0
+Sorted : {A : Type 0} → Result A TextFault → Type 0 → Type 0
 Sorted {A} r Begins =
-    ((((a : A) × (r ≡ Ok a)) ⊎ (r ≡ Err wrong.BadOperand)) × Begins)
-    ⊎ ((r ≡ Err wrong.UnknownWord) × (Begins → ⊥))
+    ((((a : A) × (r ≡ Ok a)) ⊎ (r ≡ Err text_fault.BadOperand)) × Begins)
+    ⊎ ((r ≡ Err text_fault.UnknownWord) × (Begins → ⊥))
 
-or_bad_either : (o : Option Said) → ((x : Said) × (or_bad o ≡ Ok x)) ⊎ (or_bad o ≡ Err wrong.BadOperand)
+or_bad_either : (o : Option Said) → ((x : Said) × (or_bad o ≡ Ok x)) ⊎ (or_bad o ≡ Err text_fault.BadOperand)
 or_bad_either None = inr refl
 or_bad_either (Some x) = inl (x, refl)
 
 behind_either : (w : Word) (ps : List Piece)
-    → ((x : Said) × (behind_word w ps ≡ Ok x)) ⊎ (behind_word w ps ≡ Err wrong.BadOperand)
+    → ((x : Said) × (behind_word w ps ≡ Ok x)) ⊎ (behind_word w ps ≡ Err text_fault.BadOperand)
 behind_either w [] = inr refl
 behind_either w (Gap ∷ ps) = or_bad_either (operands_of w ps)
 behind_either w (Run r ∷ ps) = inr refl
@@ -378,7 +378,7 @@ statement_sorted (Comma ∷ ps) = inr (refl, λ h. h)
 statement_sorted (Sign m ∷ ps) = inr (refl, λ h. h)
 statement_sorted (Gap ∷ ps) = inr (refl, λ h. h)
 
-label_sorted : (label : Option (List ℕ)) (r : Result Said Wrong) (Begins Others : Type 0)
+label_sorted : (label : Option (List ℕ)) (r : Result Said TextFault) (Begins Others : Type 0)
     → (Begins → Others) → (Others → Begins) → Sorted r Begins → Sorted (with_label label r) Others
 unfolding Sorted
 label_sorted label r Begins Others there again h =
@@ -418,7 +418,7 @@ parsed_sorted (Gap ∷ ps) =
 parsed_sorted (Run label ∷ ps) =
     elim (cases_Bool (is_label label)) [
       | inl e ↦
-          subst (λ b. Sorted (if b then behind_label label ps else Err wrong.UnknownWord)
+          subst (λ b. Sorted (if b then behind_label label ps else Err text_fault.UnknownWord)
           (PiecesBegin (Run label ∷ ps))) (sym e) (run_sorted label ps e)
       | inr e ↦ inr (rw e refl, no_label label ps e)
     ]
@@ -427,9 +427,9 @@ parsed_sorted (Sign m ∷ ps) = inr (refl, λ h. h)
 
 -- ---- the lowest
 
-abbrev pub wrong_in : Result Parsed Wrong → Option Fault
-wrong_in (Ok p) = None
-wrong_in (Err w) = Some (wrong_fault w)
+abbrev pub fault_in_reading : Result Parsed TextFault → Option Fault
+fault_in_reading (Ok p) = None
+fault_in_reading (Err w) = Some (line_fault w)
 
 from_two : (line : List ℕ) (f : Fault) → IsUnreadable line f → 2 ≤ number f
 from_two line NotText h = omega arith
@@ -457,22 +457,22 @@ none_unreadable line p text begins spelled UnknownWord h = h begins
 none_unreadable line p text begins spelled BadOperand h = h p spelled
 none_unreadable line p text begins spelled _ h = h
 
-ok_err : (p : Parsed) (w : Wrong) (r : Result Parsed Wrong) → r ≡ Ok p → r ≡ Err w → ⊥
-ok_err p w r e k = let same : ◌≡◌ {A = Result Parsed Wrong} (Ok p) (Err w) = sym e ∙ k in cc
+ok_err : (p : Parsed) (w : TextFault) (r : Result Parsed TextFault) → r ≡ Ok p → r ≡ Err w → ⊥
+ok_err p w r e k = let same : ◌≡◌ {A = Result Parsed TextFault} (Ok p) (Err w) = sym e ∙ k in cc
 
 pub read_least : ((line : List ℕ) (p : Parsed) → line_of line ≡ Ok p → Spells p line)
     → ((line : List ℕ) (p : Parsed) → Spells p line → line_of line ≡ Ok p)
-    → (line : List ℕ) → IsLeast (IsUnreadable line) (wrong_in (line_of line))
+    → (line : List ℕ) → IsLeast (IsUnreadable line) (fault_in_reading (line_of line))
 unfolding IsLeast Sorted
 read_least spells reads line =
     elim (cases_Bool (is_text_line line)) [
       | inr odd ↦
-          let is : line_of line ≡ Err wrong.NotText = rw odd refl in
-          known (Err wrong.NotText) is (record { holds = text_stray line odd; lowest = from_two line })
+          let is : line_of line ≡ Err text_fault.NotText = rw odd refl in
+          known (Err text_fault.NotText) is (record { holds = text_stray line odd; lowest = from_two line })
       | inl text ↦ elim (cases_Bool (word_ends (body line))) [
         | inr ragged ↦
-            let is : line_of line ≡ Err wrong.UnknownWord = rw (text, ragged) refl in
-            known (Err wrong.UnknownWord) is
+            let is : line_of line ≡ Err text_fault.UnknownWord = rw (text, ragged) refl in
+            known (Err text_fault.UnknownWord) is
             (record {
               holds =
                   λ b. false_true (sym ragged ∙ begins_end (body line) b);
@@ -482,7 +482,7 @@ read_least spells reads line =
             let so : line_of line ≡ parsed (pieces (body line)) = rw (text, ends) refl in
             elim (parsed_sorted (pieces (body line))) [
               | inr k ↦
-                  known (Err wrong.UnknownWord) (so ∙ k.0)
+                  known (Err text_fault.UnknownWord) (so ∙ k.0)
                   (record { holds = λ b. k.1 (begins_pieces (body line) b); lowest = from_three line text })
               | inl k ↦
                   let begins =
@@ -493,10 +493,10 @@ read_least spells reads line =
                         known (Ok x.0) (so ∙ x.1)
                         (none_unreadable line x.0 text begins (spells line x.0 (so ∙ x.1)))
                     | inr e ↦
-                        known (Err wrong.BadOperand) (so ∙ e)
+                        known (Err text_fault.BadOperand) (so ∙ e)
                         (record {
                           holds =
-                              λ p s. ok_err p wrong.BadOperand (line_of line) (reads line p s) (so ∙ e);
+                              λ p s. ok_err p text_fault.BadOperand (line_of line) (reads line p s) (so ∙ e);
                           lowest =
                               from_four line text begins;
                         })
@@ -505,6 +505,6 @@ read_least spells reads line =
       ]
     ]
   where
-    known : (r : Result Parsed Wrong) → line_of line ≡ r → IsLeast (IsUnreadable line) (wrong_in r)
-        → IsLeast (IsUnreadable line) (wrong_in (line_of line))
-    known r is h = subst (λ q. IsLeast (IsUnreadable line) (wrong_in q)) (sym is) h
+    known : (r : Result Parsed TextFault) → line_of line ≡ r → IsLeast (IsUnreadable line) (fault_in_reading r)
+        → IsLeast (IsUnreadable line) (fault_in_reading (line_of line))
+    known r is h = subst (λ q. IsLeast (IsUnreadable line) (fault_in_reading q)) (sym is) h

@@ -24,7 +24,7 @@ use Rattle.asm_text.specs.declared.syntax.Action.TheVariants as action
 use Rattle.asm_text.specs.declared.syntax.Address.{Address}
 use Rattle.asm_text.specs.declared.syntax.Use.{Use}
 use Rattle.asm_text.specs.declared.syntax.Use.TheVariants as use_of
-use Rattle.asm_text.specs.declared.statement.Wrong.{Wrong}
+use Rattle.asm_text.specs.declared.statement.TextFault.{TextFault}
 use Rattle.asm_text.specs.declared.token.Mark.TheVariants.{OpenBracket}
 use Rattle.asm_text.specs.declared.word.Word.{Word}
 use Rattle.asm_text.specs.declared.word.Word.TheVariants as word
@@ -64,22 +64,22 @@ abbrev plain_option : Option Said → Bool
 plain_option None = true
 plain_option (Some s) = plainly s
 
-abbrev pub plain_result : Result Said Wrong → Bool
+abbrev pub plain_result : Result Said TextFault → Bool
 plain_result (Ok s) = plainly s
 plain_result (Err w) = true
 
-abbrev plain_of : Result Parsed Wrong → Bool
+abbrev plain_of : Result Parsed TextFault → Bool
 plain_of (Ok p) = plain_option p.said
 plain_of (Err w) = true
 
-abbrev heard : List Piece → Result Parsed Wrong
+abbrev heard : List Piece → Result Parsed TextFault
 heard ps = parsed (gap_before ps)
 
 -- what the text says after a blank
 abbrev Plain : List ℕ → Type 0
 Plain text = plain_of (heard (pieces text)) ≡ true
 
-label_plain : (r : Result Said Wrong) → plain_result r ≡ true → plain_of (with_label None r) ≡ true
+label_plain : (r : Result Said TextFault) → plain_result r ≡ true → plain_of (with_label None r) ≡ true
 label_plain (Ok s) h = h
 label_plain (Err w) h = refl
 

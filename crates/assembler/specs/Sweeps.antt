@@ -8,8 +8,8 @@ use Rattle.loader.specs.declared.places.TheConstants.{MOST_SEGMENTS, MOST_WORDS}
 use Rattle.loader.specs.declared.image.ImageFault.{ImageFault}
 use Rattle.loader.specs.declared.image.ImageFault.TheVariants as image_fault
 use Rattle.asm_text.specs.declared.syntax.Reference.{Reference}
-use Rattle.asm_text.specs.declared.statement.Wrong.{Wrong}
-use Rattle.asm_text.specs.declared.statement.Wrong.TheVariants as wrong
+use Rattle.asm_text.specs.declared.statement.TextFault.{TextFault}
+use Rattle.asm_text.specs.declared.statement.TextFault.TheVariants as text_fault
 use Rattle.asm_text.specs.Said.{Target, Number, Label, Said, Codes, Refers, Orgs, Lists}
 use Rattle.asm_text.specs.Statements.{Parsed, line_of}
 use Rattle.asm_text.specs.Source.{lines_of}
@@ -164,15 +164,15 @@ said_step s k label (Some (Refers r t)) = pending_step s k label (target_pending
 said_step s k label (Some (Orgs n)) = org_step s label n
 said_step s k label (Some (Lists vs)) = list_step s k label vs
 
-abbrev pub wrong_fault : Wrong → Fault
-wrong_fault wrong.UnknownWord = UnknownWord
-wrong_fault wrong.BadOperand = BadOperand
-wrong_fault _ = NotText
+abbrev pub line_fault : TextFault → Fault
+line_fault text_fault.UnknownWord = UnknownWord
+line_fault text_fault.BadOperand = BadOperand
+line_fault _ = NotText
 
 -- after the line of a number, or its lowest fault
-abbrev pub line_step : State → ℕ → Result Parsed Wrong → Result State Fault
+abbrev pub line_step : State → ℕ → Result Parsed TextFault → Result State Fault
 line_step s k (Ok p) = said_step s k p.label p.said
-line_step s k (Err w) = Err (wrong_fault w)
+line_step s k (Err w) = Err (line_fault w)
 
 abbrev pub swept_on : ℕ → Result State Fault → (State → Result State (Fault × ℕ)) → Result State (Fault × ℕ)
 swept_on k (Ok s) on = on s

@@ -8,7 +8,7 @@ ghost use Rattle.asm_text.specs.Statements.{line_of};
 ghost use Rattle.assembler.specs.Sweeps.{all_placed, at_first, closed_state, is_17th, label_fault};
 ghost use Rattle.assembler.specs.Sweeps.{labelled, line_step, list_step, moved, org_fault, open_has};
 ghost use Rattle.assembler.specs.Sweeps.{org_step, overlaps, pending_step, place_fault, placed, said_step};
-ghost use Rattle.assembler.specs.Sweeps.{target_pending, value_pending, word_pending, wrong_fault};
+ghost use Rattle.assembler.specs.Sweeps.{target_pending, value_pending, word_pending, line_fault};
 ghost use Rattle.assembler.specs.Codes.{encoded};
 ghost use Rattle.assembler.specs.Views.{Faulted, item_of, name_of, pending_of, result_pending, span_of};
 ghost use Rattle.assembler.specs.Views.{state_of};
@@ -17,7 +17,7 @@ use crate::encoded::encoded;
 use crate::fault::{AsmFault, Fault, lower, lowest};
 use crate::item::{Item, Pending};
 use crate::reference::{refer, use_fault};
-use asm_text::{Code, Line, Reference, Statement, Value, Wrong, read_line};
+use asm_text::{Code, Line, Reference, Statement, TextFault, Value, read_line};
 use loader::{Labels, MOST_SEGMENTS, MOST_WORDS, lies_in_memory, may_hold};
 use std::alloc::Global;
 
@@ -64,12 +64,12 @@ fn code_pending<'a>(code: Code, at: u32) -> Result<Pending<'a>, Fault>
     }
 }
 
-fn wrong(fault: Wrong) -> Fault
-    ensures { result ≡ wrong_fault fault }
+fn line_fault(fault: TextFault) -> Fault
+    ensures { result ≡ line_fault fault }
 {
     match fault {
-        Wrong::UnknownWord => Fault::UnknownWord,
-        Wrong::BadOperand => Fault::BadOperand,
+        TextFault::UnknownWord => Fault::UnknownWord,
+        TextFault::BadOperand => Fault::BadOperand,
         _ => Fault::NotText,
     }
 }
@@ -376,8 +376,8 @@ impl<'a> Sweep<'a> {
     {
         match read_line(alloc, text) {
             Ok(parsed) => self.parsed_line(alloc, line, &parsed),
-            Err(Wrong::Memory) => Err(AsmFault::Memory),
-            Err(fault) => Err(AsmFault::Line(wrong(fault), line)),
+            Err(TextFault::Memory) => Err(AsmFault::Memory),
+            Err(fault) => Err(AsmFault::Line(line_fault(fault), line)),
         }
     }
 }
