@@ -286,6 +286,16 @@ pub record IsLowestBar (word why : ℕ) : Type 0 where
   pub barred : IsBarred word why
   pub lowest : (other : ℕ) → IsBarred word other → why ≤ other
 
+-- why is the number of why the word is unallocated
+pub record IsWhy (word why : ℕ) : Type 0 where
+  pub least : why ≡ why_of word
+  pub some : 1 ≤ why
+
+-- the result is the word's operation, under any condition, or why it has none
+abbrev pub Reads : ℕ → Result Operation ℕ → Type 0
+Reads word result =
+    MatchResult result (λ o. IsOfRow (row_of o) word (bits 31 28 word ∷ operands o)) (IsWhy word)
+
 -- the result is the word's instruction, or why it has none
 abbrev pub Decodes : ℕ → Result Instr Unallocated → Type 0
 Decodes word result = MatchResult result (Means word) (IsUnallocated word)
