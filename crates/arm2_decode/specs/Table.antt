@@ -1,7 +1,7 @@
 -- The table of instruction words (VL86C010 data sheet, instruction formats). Which words are undefined
 -- and which unallocated is our own choice.
-use Rattle.std.specs.Prelude.{ℕ, ◌+◌, ◌*◌, ◌^◌, ◌≤◌, ◌≡◌, Bool, true, not, ◌&&◌, ◌==◌, if◌then◌else◌, List, []}
-use Rattle.std.specs.Prelude.{◌∷◌, map}
+use Rattle.std.specs.Prelude.{ℕ, ◌+◌, ◌*◌, ◌^◌, ◌≤◌, ◌≡◌, Bool, true, not, ◌&&◌, ◌==◌, if◌then◌else◌, List}
+use Rattle.std.specs.Prelude.{[], ◌∷◌, map}
 use Rattle.std.specs.Prelude.{bit_and}
 use Rattle.std.specs.Prelude.{Contains, MatchResult, Result}
 use Rattle.arm2_decode.specs.declared.instr.Instr.{Instr}
