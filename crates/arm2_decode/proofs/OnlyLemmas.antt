@@ -1,5 +1,5 @@
 -- A word means one instruction at most, and an instruction has one word.
-use Rattle.std.proofs.Common.{ℕ, ◌+◌, ◌*◌, ◌^◌, ◌<◌, ◌≡◌, refl, ap, sym, subst, ◌∙◌, arith, List, [], ◌∷◌, map, Result, Ok, Err}
+use Rattle.std.proofs.Common.{ℕ, ◌^◌, ◌<◌, ◌≡◌, refl, ap, sym, subst, ◌∙◌, arith, List, [], ◌∷◌, map, Result, Ok, Err}
 use Rattle.std.specs.Prelude.{slice_index, slice_index_or}
 use Rattle.std.specs.Int.Bits.{bit_and}
 use Rattle.arm2_decode.specs.declared.instr.Instr.{Instr}

@@ -3,11 +3,9 @@ use Rattle.std.proofs.Common.{ℕ, ◌≡◌, ◌≢◌, true, false, not, ◌&&
 use Rattle.std.proofs.lemmas.Bool.Decides.{eqb_tells}
 use Rattle.std.specs.Int.Bits.{bit_and}
 use Rattle.std.proofs.lemmas.Bool.{eq-eqb}
-use Rattle.arm2_decode.specs.declared.names.Cond.{Cond}
-use Rattle.arm2_decode.specs.Names.{cond_number}
 use Rattle.arm2_decode.specs.Bits.{bits}
 use Rattle.arm2_decode.specs.Allowed.{block_clash, data_clash, data_shift_clash, multiply_clash, single_clash, single_register_clash}
-use Rattle.arm2_decode.specs.Table.{multiply_row, data_register_row, data_register_shift_row, data_immediate_row, single_immediate_row, single_register_row, block_row, branch_row, swi_row, undefined_transfer_row, coprocessor_transfer_row, coprocessor_row, IsOfRow, why_from, why_of, bars, stray_bar, IsUnallocated}
+use Rattle.arm2_decode.specs.Table.{multiply_row, data_register_row, data_register_shift_row, data_immediate_row, single_immediate_row, single_register_row, block_row, branch_row, swi_row, undefined_transfer_row, coprocessor_transfer_row, coprocessor_row, IsOfRow, why_from, why_of, bars, stray_bar, IsWhy}
 use Rattle.arm2_decode.proofs.FieldLemmas.{mask_kind, mask_wide, mask_multiply, mask_four, mask_seven_four}
 use Rattle.arm2_decode.proofs.PatternLemmas.{agrees, within, bars_of, first_met, eqb_apart, why_among, why_of_row}
 
@@ -156,53 +154,53 @@ stray_why w h met =
     let here : eqb (bit_and w 0x0E000090) 0x00000090 ≡ true = eq-eqb _ _ h in
     why_among (record { mask = 0x0E000090; fixed = 0x00000090; places = [] }) w h bars ∙ rw (here, met) refl
 
-pub stray_barred : (w : ℕ) (c : Cond) → bits 27 25 w ≡ 0 → bits 7 7 w ≡ 1 → bits 4 4 w ≡ 1 → (bits 27 22 w ≡ 0 → bits 7 4 w ≢ 9) → cond_number c ≡ bits 31 28 w → IsUnallocated w (record { cond = c; why = 2 })
-stray_barred w c kind seven four other ec =
-    record { cond = ec; why = sym (stray_why w (omega (arith, mask_seven_four w, kind, seven, four)) (not_both (bits 27 22 w) (bits 7 4 w) other)); some = omega arith }
+pub stray_barred : (w : ℕ) → bits 27 25 w ≡ 0 → bits 7 7 w ≡ 1 → bits 4 4 w ≡ 1 → (bits 27 22 w ≡ 0 → bits 7 4 w ≢ 9) → IsWhy w 2
+stray_barred w kind seven four other =
+    record { least = sym (stray_why w (omega (arith, mask_seven_four w, kind, seven, four)) (not_both (bits 27 22 w) (bits 7 4 w) other)); some = omega arith }
 
 -- the answer for a word of a row that meets a bar
-barred : (w : ℕ) (c : Cond) (n m : ℕ) → cond_number c ≡ bits 31 28 w → n ≡ m → n ≢ 0 → why_of w ≡ m → IsUnallocated w (record { cond = c; why = n })
-barred w c n m ec e some whole = record { cond = ec; why = e ∙ sym whole; some = omega (arith, some) }
+barred : (w n m : ℕ) → n ≡ m → n ≢ 0 → why_of w ≡ m → IsWhy w n
+barred w n m e some whole = record { least = e ∙ sym whole; some = omega (arith, some) }
 
-pub multiply_barred : (w : ℕ) (c : Cond) (n accumulate rd rn rs rm : ℕ) → bits 27 22 w ≡ 0 → bits 7 4 w ≡ 9 → cond_number c ≡ bits 31 28 w → accumulate ≡ bits 21 21 w → rd ≡ bits 19 16 w → rn ≡ bits 15 12 w → rs ≡ bits 11 8 w → rm ≡ bits 3 0 w → n ≡ multiply_clash accumulate rd rn rs rm → n ≢ 0 → IsUnallocated w (record { cond = c; why = n })
-multiply_barred w c n accumulate rd rn rs rm kind second at_cond at_accumulate at_rd at_rn at_rs at_rm e some =
-    barred w c n (multiply_clash accumulate rd rn rs rm) at_cond e some (multiply_why w (multiply_fixed w kind second) ∙ cc)
+pub multiply_barred : (w n accumulate rd rn rs rm : ℕ) → bits 27 22 w ≡ 0 → bits 7 4 w ≡ 9 → accumulate ≡ bits 21 21 w → rd ≡ bits 19 16 w → rn ≡ bits 15 12 w → rs ≡ bits 11 8 w → rm ≡ bits 3 0 w → n ≡ multiply_clash accumulate rd rn rs rm → n ≢ 0 → IsWhy w n
+multiply_barred w n accumulate rd rn rs rm kind second at_accumulate at_rd at_rn at_rs at_rm e some =
+    barred w n (multiply_clash accumulate rd rn rs rm) e some (multiply_why w (multiply_fixed w kind second) ∙ cc)
 
 pub ruleset multiply_words = (multiply_fits, multiply_barred)
 
-pub data_register_barred : (w : ℕ) (c : Cond) (n opcode sets_flags : ℕ) → bits 27 25 w ≡ 0 → bits 4 4 w ≡ 0 → cond_number c ≡ bits 31 28 w → opcode ≡ bits 24 21 w → sets_flags ≡ bits 20 20 w → n ≡ data_clash opcode sets_flags → n ≢ 0 → IsUnallocated w (record { cond = c; why = n })
-data_register_barred w c n opcode sets_flags kind second at_cond at_opcode at_sets_flags e some =
-    barred w c n (data_clash opcode sets_flags) at_cond e some (data_register_why w (data_register_fixed w kind second) ∙ cc)
+pub data_register_barred : (w n opcode sets_flags : ℕ) → bits 27 25 w ≡ 0 → bits 4 4 w ≡ 0 → opcode ≡ bits 24 21 w → sets_flags ≡ bits 20 20 w → n ≡ data_clash opcode sets_flags → n ≢ 0 → IsWhy w n
+data_register_barred w n opcode sets_flags kind second at_opcode at_sets_flags e some =
+    barred w n (data_clash opcode sets_flags) e some (data_register_why w (data_register_fixed w kind second) ∙ cc)
 
 pub ruleset data_register_words = (data_register_fits, data_register_barred)
 
-pub data_register_shift_barred : (w : ℕ) (c : Cond) (n opcode sets_flags rs : ℕ) → bits 27 25 w ≡ 0 → bits 7 7 w ≡ 0 → bits 4 4 w ≡ 1 → cond_number c ≡ bits 31 28 w → opcode ≡ bits 24 21 w → sets_flags ≡ bits 20 20 w → rs ≡ bits 11 8 w → n ≡ data_shift_clash opcode sets_flags rs → n ≢ 0 → IsUnallocated w (record { cond = c; why = n })
-data_register_shift_barred w c n opcode sets_flags rs kind second third at_cond at_opcode at_sets_flags at_rs e some =
-    barred w c n (data_shift_clash opcode sets_flags rs) at_cond e some (data_register_shift_why w (data_register_shift_fixed w kind second third) ∙ cc)
+pub data_register_shift_barred : (w n opcode sets_flags rs : ℕ) → bits 27 25 w ≡ 0 → bits 7 7 w ≡ 0 → bits 4 4 w ≡ 1 → opcode ≡ bits 24 21 w → sets_flags ≡ bits 20 20 w → rs ≡ bits 11 8 w → n ≡ data_shift_clash opcode sets_flags rs → n ≢ 0 → IsWhy w n
+data_register_shift_barred w n opcode sets_flags rs kind second third at_opcode at_sets_flags at_rs e some =
+    barred w n (data_shift_clash opcode sets_flags rs) e some (data_register_shift_why w (data_register_shift_fixed w kind second third) ∙ cc)
 
 pub ruleset data_register_shift_words = (data_register_shift_fits, data_register_shift_barred)
 
-pub data_immediate_barred : (w : ℕ) (c : Cond) (n opcode sets_flags : ℕ) → bits 27 25 w ≡ 1 → cond_number c ≡ bits 31 28 w → opcode ≡ bits 24 21 w → sets_flags ≡ bits 20 20 w → n ≡ data_clash opcode sets_flags → n ≢ 0 → IsUnallocated w (record { cond = c; why = n })
-data_immediate_barred w c n opcode sets_flags kind at_cond at_opcode at_sets_flags e some =
-    barred w c n (data_clash opcode sets_flags) at_cond e some (data_immediate_why w (data_immediate_fixed w kind) ∙ cc)
+pub data_immediate_barred : (w n opcode sets_flags : ℕ) → bits 27 25 w ≡ 1 → opcode ≡ bits 24 21 w → sets_flags ≡ bits 20 20 w → n ≡ data_clash opcode sets_flags → n ≢ 0 → IsWhy w n
+data_immediate_barred w n opcode sets_flags kind at_opcode at_sets_flags e some =
+    barred w n (data_clash opcode sets_flags) e some (data_immediate_why w (data_immediate_fixed w kind) ∙ cc)
 
 pub ruleset data_immediate_words = (data_immediate_fits, data_immediate_barred)
 
-pub single_immediate_barred : (w : ℕ) (c : Cond) (n before byte write_back load rn rd : ℕ) → bits 27 25 w ≡ 2 → cond_number c ≡ bits 31 28 w → before ≡ bits 24 24 w → byte ≡ bits 22 22 w → write_back ≡ bits 21 21 w → load ≡ bits 20 20 w → rn ≡ bits 19 16 w → rd ≡ bits 15 12 w → n ≡ single_clash before byte write_back load rn rd → n ≢ 0 → IsUnallocated w (record { cond = c; why = n })
-single_immediate_barred w c n before byte write_back load rn rd kind at_cond at_before at_byte at_write_back at_load at_rn at_rd e some =
-    barred w c n (single_clash before byte write_back load rn rd) at_cond e some (single_immediate_why w (single_immediate_fixed w kind) ∙ cc)
+pub single_immediate_barred : (w n before byte write_back load rn rd : ℕ) → bits 27 25 w ≡ 2 → before ≡ bits 24 24 w → byte ≡ bits 22 22 w → write_back ≡ bits 21 21 w → load ≡ bits 20 20 w → rn ≡ bits 19 16 w → rd ≡ bits 15 12 w → n ≡ single_clash before byte write_back load rn rd → n ≢ 0 → IsWhy w n
+single_immediate_barred w n before byte write_back load rn rd kind at_before at_byte at_write_back at_load at_rn at_rd e some =
+    barred w n (single_clash before byte write_back load rn rd) e some (single_immediate_why w (single_immediate_fixed w kind) ∙ cc)
 
 pub ruleset single_immediate_words = (single_immediate_fits, single_immediate_barred)
 
-pub single_register_barred : (w : ℕ) (c : Cond) (n before byte write_back load rn rd rm : ℕ) → bits 27 25 w ≡ 3 → bits 4 4 w ≡ 0 → cond_number c ≡ bits 31 28 w → before ≡ bits 24 24 w → byte ≡ bits 22 22 w → write_back ≡ bits 21 21 w → load ≡ bits 20 20 w → rn ≡ bits 19 16 w → rd ≡ bits 15 12 w → rm ≡ bits 3 0 w → n ≡ single_register_clash before byte write_back load rn rd rm → n ≢ 0 → IsUnallocated w (record { cond = c; why = n })
-single_register_barred w c n before byte write_back load rn rd rm kind second at_cond at_before at_byte at_write_back at_load at_rn at_rd at_rm e some =
-    barred w c n (single_register_clash before byte write_back load rn rd rm) at_cond e some (single_register_why w (single_register_fixed w kind second) ∙ cc)
+pub single_register_barred : (w n before byte write_back load rn rd rm : ℕ) → bits 27 25 w ≡ 3 → bits 4 4 w ≡ 0 → before ≡ bits 24 24 w → byte ≡ bits 22 22 w → write_back ≡ bits 21 21 w → load ≡ bits 20 20 w → rn ≡ bits 19 16 w → rd ≡ bits 15 12 w → rm ≡ bits 3 0 w → n ≡ single_register_clash before byte write_back load rn rd rm → n ≢ 0 → IsWhy w n
+single_register_barred w n before byte write_back load rn rd rm kind second at_before at_byte at_write_back at_load at_rn at_rd at_rm e some =
+    barred w n (single_register_clash before byte write_back load rn rd rm) e some (single_register_why w (single_register_fixed w kind second) ∙ cc)
 
 pub ruleset single_register_words = (single_register_fits, single_register_barred)
 
-pub block_barred : (w : ℕ) (c : Cond) (n rn list : ℕ) → bits 27 25 w ≡ 4 → cond_number c ≡ bits 31 28 w → rn ≡ bits 19 16 w → list ≡ bits 15 0 w → n ≡ block_clash rn list → n ≢ 0 → IsUnallocated w (record { cond = c; why = n })
-block_barred w c n rn list kind at_cond at_rn at_list e some =
-    barred w c n (block_clash rn list) at_cond e some (block_why w (block_fixed w kind) ∙ cc)
+pub block_barred : (w n rn list : ℕ) → bits 27 25 w ≡ 4 → rn ≡ bits 19 16 w → list ≡ bits 15 0 w → n ≡ block_clash rn list → n ≢ 0 → IsWhy w n
+block_barred w n rn list kind at_rn at_list e some =
+    barred w n (block_clash rn list) e some (block_why w (block_fixed w kind) ∙ cc)
 
 pub ruleset block_words = (block_fits, block_barred)
 

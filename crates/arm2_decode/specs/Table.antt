@@ -1,7 +1,7 @@
 -- The table of instruction words (VL86C010 data sheet, instruction formats). Which words are undefined
 -- and which unallocated is our own choice.
-use Rattle.std.specs.Prelude.{ℕ, ◌+◌, ◌*◌, ◌^◌, ◌≤◌, ◌≡◌, Bool, true, not, ◌&&◌, ◌==◌, if◌then◌else◌, List, []}
-use Rattle.std.specs.Prelude.{◌∷◌, map}
+use Rattle.std.specs.Prelude.{ℕ, ◌+◌, ◌*◌, ◌^◌, ◌≤◌, ◌≡◌, Bool, true, not, ◌&&◌, ◌==◌, if◌then◌else◌, List}
+use Rattle.std.specs.Prelude.{[], ◌∷◌, map}
 use Rattle.std.specs.Prelude.{bit_and}
 use Rattle.std.specs.Prelude.{Contains, MatchResult, Result}
 use Rattle.arm2_decode.specs.declared.instr.Instr.{Instr}
@@ -285,6 +285,16 @@ pub record IsBarred (word why : ℕ) : Type 0 where
 pub record IsLowestBar (word why : ℕ) : Type 0 where
   pub barred : IsBarred word why
   pub lowest : (other : ℕ) → IsBarred word other → why ≤ other
+
+-- why is the number of why the word is unallocated
+pub record IsWhy (word why : ℕ) : Type 0 where
+  pub least : why ≡ why_of word
+  pub some : 1 ≤ why
+
+-- the result is the word's operation, under any condition, or why it has none
+abbrev pub Reads : ℕ → Result Operation ℕ → Type 0
+Reads word result =
+    MatchResult result (λ o. IsOfRow (row_of o) word (bits 31 28 word ∷ operands o)) (IsWhy word)
 
 -- the result is the word's instruction, or why it has none
 abbrev pub Decodes : ℕ → Result Instr Unallocated → Type 0

@@ -2,7 +2,7 @@ ghost use Rattle.std.specs.Prelude.{◌≡◌, ◌≢◌, IfOk, IfErr};
 ghost use Rattle.arm2_decode.specs.Allowed.{bit_of};
 ghost use Rattle.arm2_decode.specs.Bits.{bits};
 ghost use Rattle.arm2_decode.specs.declared.instr.Instr.{Instr};
-ghost use Rattle.arm2_decode.specs.Table.{Decodes, IsLowestBar, IsUnallocated, Means};
+ghost use Rattle.arm2_decode.specs.Table.{Decodes, IsLowestBar, IsUnallocated, Means, Reads};
 
 use crate::clashes::{
     SingleFields, block_clash, data_clash, data_shift_clash, multiply_clash, single_clash,
@@ -17,12 +17,11 @@ use crate::instr::{
 use crate::names::{Cond, Opcode, Register, Shift};
 
 #[tactic(auto, using(crate::proofs::RowLemmas::multiply_words))]
-fn multiply(word: u32) -> Result<Instr, Unallocated>
+fn multiply(word: u32) -> Result<Operation, u32>
     requires first { bits 27 22 word ≡ 0 }
     requires second { bits 7 4 word ≡ 9 }
-    ensures { Decodes word result }
+    ensures { Reads word result }
 {
-    let cond = Cond::of(Field::<31, 28>::get(word));
     let accumulate = Field::<21, 21>::is_set(word);
     let rd = Field::<19, 16>::get(word);
     let rn = Field::<15, 12>::get(word);
@@ -30,7 +29,7 @@ fn multiply(word: u32) -> Result<Instr, Unallocated>
     let rm = Field::<3, 0>::get(word);
     let why = multiply_clash(accumulate, rd, rn, rs, rm);
     if why != 0 {
-        return Err(Unallocated { cond, why });
+        return Err(why);
     }
     let fields = Multiply {
         accumulate,
@@ -40,24 +39,20 @@ fn multiply(word: u32) -> Result<Instr, Unallocated>
         rs: Register::of(rs),
         rm: Register::of(rm),
     };
-    Ok(Instr {
-        cond,
-        operation: Operation::Multiply(fields),
-    })
+    Ok(Operation::Multiply(fields))
 }
 
 #[tactic(auto, using(crate::proofs::RowLemmas::data_register_words))]
-fn data_register(word: u32) -> Result<Instr, Unallocated>
+fn data_register(word: u32) -> Result<Operation, u32>
     requires first { bits 27 25 word ≡ 0 }
     requires second { bits 4 4 word ≡ 0 }
-    ensures { Decodes word result }
+    ensures { Reads word result }
 {
-    let cond = Cond::of(Field::<31, 28>::get(word));
     let opcode = Field::<24, 21>::get(word);
     let sets_flags = Field::<20, 20>::is_set(word);
     let why = data_clash(opcode, sets_flags);
     if why != 0 {
-        return Err(Unallocated { cond, why });
+        return Err(why);
     }
     let fields = DataRegister {
         opcode: Opcode::of(opcode),
@@ -68,26 +63,22 @@ fn data_register(word: u32) -> Result<Instr, Unallocated>
         shift: Shift::of(Field::<6, 5>::get(word)),
         rm: Register::of(Field::<3, 0>::get(word)),
     };
-    Ok(Instr {
-        cond,
-        operation: Operation::DataRegister(fields),
-    })
+    Ok(Operation::DataRegister(fields))
 }
 
 #[tactic(auto, using(crate::proofs::RowLemmas::data_register_shift_words))]
-fn data_register_shift(word: u32) -> Result<Instr, Unallocated>
+fn data_register_shift(word: u32) -> Result<Operation, u32>
     requires first { bits 27 25 word ≡ 0 }
     requires second { bits 7 7 word ≡ 0 }
     requires third { bits 4 4 word ≡ 1 }
-    ensures { Decodes word result }
+    ensures { Reads word result }
 {
-    let cond = Cond::of(Field::<31, 28>::get(word));
     let opcode = Field::<24, 21>::get(word);
     let sets_flags = Field::<20, 20>::is_set(word);
     let rs = Field::<11, 8>::get(word);
     let why = data_shift_clash(opcode, sets_flags, rs);
     if why != 0 {
-        return Err(Unallocated { cond, why });
+        return Err(why);
     }
     let fields = DataRegisterShift {
         opcode: Opcode::of(opcode),
@@ -98,23 +89,19 @@ fn data_register_shift(word: u32) -> Result<Instr, Unallocated>
         shift: Shift::of(Field::<6, 5>::get(word)),
         rm: Register::of(Field::<3, 0>::get(word)),
     };
-    Ok(Instr {
-        cond,
-        operation: Operation::DataRegisterShift(fields),
-    })
+    Ok(Operation::DataRegisterShift(fields))
 }
 
 #[tactic(auto, using(crate::proofs::RowLemmas::data_immediate_words))]
-fn data_immediate(word: u32) -> Result<Instr, Unallocated>
+fn data_immediate(word: u32) -> Result<Operation, u32>
     requires { bits 27 25 word ≡ 1 }
-    ensures { Decodes word result }
+    ensures { Reads word result }
 {
-    let cond = Cond::of(Field::<31, 28>::get(word));
     let opcode = Field::<24, 21>::get(word);
     let sets_flags = Field::<20, 20>::is_set(word);
     let why = data_clash(opcode, sets_flags);
     if why != 0 {
-        return Err(Unallocated { cond, why });
+        return Err(why);
     }
     let fields = DataImmediate {
         opcode: Opcode::of(opcode),
@@ -124,10 +111,7 @@ fn data_immediate(word: u32) -> Result<Instr, Unallocated>
         rotation: Field::<11, 8>::get(word),
         value: Field::<7, 0>::get(word),
     };
-    Ok(Instr {
-        cond,
-        operation: Operation::DataImmediate(fields),
-    })
+    Ok(Operation::DataImmediate(fields))
 }
 
 fn single_fields(word: u32) -> SingleFields
@@ -149,15 +133,14 @@ fn single_fields(word: u32) -> SingleFields
 }
 
 #[tactic(auto, using(crate::proofs::RowLemmas::single_immediate_words))]
-fn single_immediate(word: u32) -> Result<Instr, Unallocated>
+fn single_immediate(word: u32) -> Result<Operation, u32>
     requires { bits 27 25 word ≡ 2 }
-    ensures { Decodes word result }
+    ensures { Reads word result }
 {
-    let cond = Cond::of(Field::<31, 28>::get(word));
     let single = single_fields(word);
     let why = single_clash(single);
     if why != 0 {
-        return Err(Unallocated { cond, why });
+        return Err(why);
     }
     let fields = SingleImmediate {
         before: single.before,
@@ -169,24 +152,20 @@ fn single_immediate(word: u32) -> Result<Instr, Unallocated>
         rd: Register::of(single.rd),
         offset: Field::<11, 0>::get(word),
     };
-    Ok(Instr {
-        cond,
-        operation: Operation::SingleImmediate(fields),
-    })
+    Ok(Operation::SingleImmediate(fields))
 }
 
 #[tactic(auto, using(crate::proofs::RowLemmas::single_register_words))]
-fn single_register(word: u32) -> Result<Instr, Unallocated>
+fn single_register(word: u32) -> Result<Operation, u32>
     requires first { bits 27 25 word ≡ 3 }
     requires second { bits 4 4 word ≡ 0 }
-    ensures { Decodes word result }
+    ensures { Reads word result }
 {
-    let cond = Cond::of(Field::<31, 28>::get(word));
     let single = single_fields(word);
     let rm = Field::<3, 0>::get(word);
     let why = single_register_clash(single, rm);
     if why != 0 {
-        return Err(Unallocated { cond, why });
+        return Err(why);
     }
     let fields = SingleRegister {
         before: single.before,
@@ -200,23 +179,19 @@ fn single_register(word: u32) -> Result<Instr, Unallocated>
         shift: Shift::of(Field::<6, 5>::get(word)),
         rm: Register::of(rm),
     };
-    Ok(Instr {
-        cond,
-        operation: Operation::SingleRegister(fields),
-    })
+    Ok(Operation::SingleRegister(fields))
 }
 
 #[tactic(auto, using(crate::proofs::RowLemmas::block_words))]
-fn block(word: u32) -> Result<Instr, Unallocated>
+fn block(word: u32) -> Result<Operation, u32>
     requires { bits 27 25 word ≡ 4 }
-    ensures { Decodes word result }
+    ensures { Reads word result }
 {
-    let cond = Cond::of(Field::<31, 28>::get(word));
     let rn = Field::<19, 16>::get(word);
     let list = Field::<15, 0>::get(word);
     let why = block_clash(rn, list);
     if why != 0 {
-        return Err(Unallocated { cond, why });
+        return Err(why);
     }
     let fields = Block {
         before: Field::<24, 24>::is_set(word),
@@ -227,109 +202,83 @@ fn block(word: u32) -> Result<Instr, Unallocated>
         rn: Register::of(rn),
         list,
     };
-    Ok(Instr {
-        cond,
-        operation: Operation::Block(fields),
-    })
+    Ok(Operation::Block(fields))
 }
 
 #[tactic(auto, using(crate::proofs::RowLemmas::branch_words))]
-fn branch(word: u32) -> Result<Instr, Unallocated>
+fn branch(word: u32) -> Result<Operation, u32>
     requires { bits 27 25 word ≡ 5 }
-    ensures { Decodes word result }
+    ensures { Reads word result }
 {
-    let cond = Cond::of(Field::<31, 28>::get(word));
     let fields = Branch {
         link: Field::<24, 24>::is_set(word),
         offset: Field::<23, 0>::get(word),
     };
-    Ok(Instr {
-        cond,
-        operation: Operation::Branch(fields),
-    })
+    Ok(Operation::Branch(fields))
 }
 
 #[tactic(auto, using(crate::proofs::RowLemmas::swi_words))]
-fn swi(word: u32) -> Result<Instr, Unallocated>
+fn swi(word: u32) -> Result<Operation, u32>
     requires { bits 27 24 word ≡ 15 }
-    ensures { Decodes word result }
+    ensures { Reads word result }
 {
-    let cond = Cond::of(Field::<31, 28>::get(word));
     let fields = Swi {
         comment: Field::<23, 0>::get(word),
     };
-    Ok(Instr {
-        cond,
-        operation: Operation::Swi(fields),
-    })
+    Ok(Operation::Swi(fields))
 }
 
 #[tactic(auto, using(crate::proofs::RowLemmas::undefined_transfer_words))]
-fn undefined_transfer(word: u32) -> Result<Instr, Unallocated>
+fn undefined_transfer(word: u32) -> Result<Operation, u32>
     requires first { bits 27 25 word ≡ 3 }
     requires second { bits 4 4 word ≡ 1 }
-    ensures { Decodes word result }
+    ensures { Reads word result }
 {
-    let cond = Cond::of(Field::<31, 28>::get(word));
     let fields = UndefinedTransfer {
         high: Field::<24, 5>::get(word),
         low: Field::<3, 0>::get(word),
     };
-    Ok(Instr {
-        cond,
-        operation: Operation::UndefinedTransfer(fields),
-    })
+    Ok(Operation::UndefinedTransfer(fields))
 }
 
 #[tactic(auto, using(crate::proofs::RowLemmas::coprocessor_transfer_words))]
-fn coprocessor_transfer(word: u32) -> Result<Instr, Unallocated>
+fn coprocessor_transfer(word: u32) -> Result<Operation, u32>
     requires { bits 27 25 word ≡ 6 }
-    ensures { Decodes word result }
+    ensures { Reads word result }
 {
-    let cond = Cond::of(Field::<31, 28>::get(word));
     let fields = CoprocessorTransfer {
         bits: Field::<24, 0>::get(word),
     };
-    Ok(Instr {
-        cond,
-        operation: Operation::CoprocessorTransfer(fields),
-    })
+    Ok(Operation::CoprocessorTransfer(fields))
 }
 
 #[tactic(auto, using(crate::proofs::RowLemmas::coprocessor_words))]
-fn coprocessor(word: u32) -> Result<Instr, Unallocated>
+fn coprocessor(word: u32) -> Result<Operation, u32>
     requires { bits 27 24 word ≡ 14 }
-    ensures { Decodes word result }
+    ensures { Reads word result }
 {
-    let cond = Cond::of(Field::<31, 28>::get(word));
     let fields = Coprocessor {
         bits: Field::<23, 0>::get(word),
     };
-    Ok(Instr {
-        cond,
-        operation: Operation::Coprocessor(fields),
-    })
+    Ok(Operation::Coprocessor(fields))
 }
 
 // A word with bits 7 and 4 set among the data words that is no multiply.
 #[tactic(auto, using(crate::proofs::RowLemmas::stray_barred))]
-fn stray(word: u32) -> Result<Instr, Unallocated>
+fn stray(word: u32) -> Result<Operation, u32>
     requires kind { bits 27 25 word ≡ 0 }
     requires seven { bits 7 7 word ≡ 1 }
     requires four { bits 4 4 word ≡ 1 }
     requires other { bits 27 22 word ≡ 0 → bits 7 4 word ≢ 9 }
-    ensures { Decodes word result }
+    ensures { Reads word result }
 {
-    Err(Unallocated {
-        cond: Cond::of(Field::<31, 28>::get(word)),
-        why: Unallocated::NO_MULTIPLY,
-    })
+    Err(Unallocated::NO_MULTIPLY)
 }
 
 // A word of kind 0.
-fn data_or_multiply(word: u32) -> Result<Instr, Unallocated>
+fn data_or_multiply(word: u32) -> Result<Operation, u32>
     requires { bits 27 25 word ≡ 0 }
-    ensures { Decodes word result }
+    ensures { Reads word result }
 {
     if Field::<4, 4>::get(word) == 0 {
         data_register(word)
@@ -342,9 +291,9 @@ fn data_or_multiply(word: u32) -> Result<Instr, Unallocated>
     }
 }
 
-// The instruction of a word, or why there is none.
-fn instr_of(word: u32) -> Result<Instr, Unallocated>
-    ensures { Decodes word result }
+// The operation of a word, or why there is none.
+fn operation_of(word: u32) -> Result<Operation, u32>
+    ensures { Reads word result }
 {
     match Field::<27, 25>::get(word) {
         0 => data_or_multiply(word),
@@ -357,6 +306,17 @@ fn instr_of(word: u32) -> Result<Instr, Unallocated>
         6 => coprocessor_transfer(word),
         _ if Field::<24, 24>::get(word) == 0 => coprocessor(word),
         _ => swi(word),
+    }
+}
+
+// The instruction of a word, or why there is none.
+fn instr_of(word: u32) -> Result<Instr, Unallocated>
+    ensures { Decodes word result }
+{
+    let cond = Cond::of(Field::<31, 28>::get(word));
+    match operation_of(word) {
+        Ok(operation) => Ok(Instr { cond, operation }),
+        Err(why) => Err(Unallocated { cond, why }),
     }
 }
 
