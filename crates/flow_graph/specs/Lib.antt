@@ -7,6 +7,7 @@ pub mod Edges
 pub mod Graph
 pub mod Search
 pub mod StepLaw
+pub mod Free
 pub use Rattle.walks.specs.Walk
 pub use Rattle.bus_ticks.specs.Prices
 pub use Rattle.bus_ticks.specs.Worst

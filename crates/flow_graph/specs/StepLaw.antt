@@ -8,6 +8,7 @@ use Rattle.bus_ticks.specs.Worst.{IsOf}
 use Rattle.loader.specs.Image.{Words, word_of}
 use Rattle.walks.specs.Walk.{cost_of}
 use Rattle.arm2_decode.specs.Conditions.{condition_holds}
+use Rattle.arm2_decode.specs.declared.flags.Flags.{Flags}
 use Rattle.arm2_decode.specs.declared.names.Cond.{Cond}
 use Rattle.arm2_effect.specs.Effects.{Access, Word}
 use Rattle.arm2_effect.specs.Modes.{r15_in}
@@ -37,9 +38,13 @@ use Rattle.statement.specs.Stated.{Stated, class_of}
 abbrev pub holds_in : List ℕ → Cond → Bool
 holds_in regs c = condition_holds c (flags_of (r15_in regs))
 
--- a word is done where its condition holds, and else passed over
+-- a word is done where its condition holds by the flags, and else passed over
+abbrev pub label_by : Flags → Cond → Label
+label_by flags c = if condition_holds c flags then Do else Skip
+
+-- the same by the flags in R15
 abbrev pub label_in : List ℕ → Cond → Label
-label_in regs c = if holds_in regs c then Do else Skip
+label_in regs c = label_by (flags_of (r15_in regs)) c
 
 -- an address is that of the place; Exit stands for each address of the leave class
 abbrev pub IsPlaceOf : Stated → ℕ → Place → Type 0

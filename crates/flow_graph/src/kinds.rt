@@ -46,7 +46,8 @@ fn kind_if(writes: bool) -> Kind
     if writes { Kind::Writer } else { Kind::Plain }
 }
 
-fn data_processing(opcode: Opcode, rd: Register) -> Kind
+/// What data processing does to the flow of control.
+pub fn data_processing(opcode: Opcode, rd: Register) -> Kind
     ensures { result ≡ data_kind opcode rd }
 {
     kind_if(rd.is_pc() && !opcode.is_compare())

@@ -1,0 +1,86 @@
+-- Free edges: those for which a state is made whose one step takes the edge at exactly its price. The rule
+-- is our own: it leaves out instructions that leave too little choice of where they transfer or jump to.
+use Rattle.std.specs.Prelude.{◌≡◌, ℕ, Bool, true, false, not, ◌&&◌, ◌||◌, ◌==◌, nat_le, nat_lt, IsTrue, List}
+use Rattle.std.specs.Prelude.{Some, ◌⊎◌}
+use Rattle.bus_ticks.specs.declared.space.TheConstants.{IO_START}
+use Rattle.loader.specs.Image.{Words, word_of}
+use Rattle.arm2_decode.specs.Names.{is_pc}
+use Rattle.arm2_decode.specs.Table.{Means}
+use Rattle.arm2_decode.specs.declared.instr.DataImmediate.{DataImmediate}
+use Rattle.arm2_decode.specs.declared.instr.DataRegister.{DataRegister}
+use Rattle.arm2_decode.specs.declared.instr.Instr.{Instr}
+use Rattle.arm2_decode.specs.declared.instr.Operation.{Operation}
+use Rattle.arm2_decode.specs.declared.instr.Operation.TheVariants as operation
+use Rattle.arm2_decode.specs.declared.instr.SingleImmediate.{SingleImmediate}
+use Rattle.arm2_decode.specs.declared.names.Opcode.{Opcode}
+use Rattle.arm2_decode.specs.declared.names.Opcode.TheVariants as opcode
+use Rattle.arm2_decode.specs.declared.names.Register.{Register}
+use Rattle.arm2_decode.specs.declared.names.Shift.{Shift}
+use Rattle.arm2_decode.specs.declared.names.Shift.TheVariants as shift
+use Rattle.flow_graph.specs.Kinds.{data_kind, is_writer}
+use Rattle.flow_graph.specs.declared.edges.Edge.{Edge}
+use Rattle.flow_graph.specs.declared.edges.Label.TheVariants.{Skip}
+use Rattle.flow_graph.specs.declared.places.Place.TheVariants.{At}
+
+-- ## Operations
+
+abbrev pub is_mov : Opcode → Bool
+is_mov opcode.Mov = true
+is_mov _ = false
+
+abbrev pub is_add_or_sub : Opcode → Bool
+is_add_or_sub opcode.Add = true
+is_add_or_sub opcode.Sub = true
+is_add_or_sub _ = false
+
+abbrev pub is_lsl : Shift → Bool
+is_lsl shift.Lsl = true
+is_lsl _ = false
+
+-- data processing that writes R15
+abbrev pub writes_pc : Opcode → Register → Bool
+writes_pc o rd = is_writer (data_kind o rd)
+
+-- MOV of a register other than R15, not shifted (LSL #0)
+abbrev pub copies_a_register : DataRegister → Bool
+copies_a_register x = is_mov x.opcode && not (is_pc x.rm) && is_lsl x.shift && (x.amount == 0)
+
+-- ADD or SUB of an immediate to or from a register other than R15
+abbrev pub adds_an_immediate : DataImmediate → Bool
+adds_an_immediate x = is_add_or_sub x.opcode && not (is_pc x.rn)
+
+-- a single transfer asks for User rights: W is set although P is not
+abbrev pub asks_for_user : SingleImmediate → Bool
+asks_for_user x = x.write_back && not x.before
+
+-- not free are: data processing that writes R15, but for these two; and single transfers whose base is R15,
+-- that ask for User rights, or whose offset is in a register. Traps count as free, but no edge does one
+abbrev pub is_free_operation : Operation → Bool
+is_free_operation (operation.DataRegister x) = not (writes_pc x.opcode x.rd) || copies_a_register x
+is_free_operation (operation.DataRegisterShift x) = not (writes_pc x.opcode x.rd)
+is_free_operation (operation.DataImmediate x) = not (writes_pc x.opcode x.rd) || adds_an_immediate x
+is_free_operation (operation.SingleImmediate x) = not (is_pc x.rn) && not (asks_for_user x)
+is_free_operation (operation.SingleRegister x) = false
+is_free_operation _ = true
+
+-- ## Edges
+
+-- from 2400000 to 2FFFFFF, where no RAM is fitted with pages of 32 KB
+abbrev pub lacks_ram : ℕ → Bool
+lacks_ram address = nat_le 0x2400000 address && nat_lt address IO_START
+
+-- the word is an instruction whose operation is free
+abbrev pub IsFreeWord : ℕ → Type 0
+IsFreeWord word = (i : Instr) × Means word i × IsTrue (is_free_operation i.operation)
+
+-- the image has such a word at the address
+abbrev pub HasFreeWord : Words → ℕ → Type 0
+HasFreeWord words address = (word : ℕ) × (word_of words address ≡ Some word) × IsFreeWord word
+
+-- the edge leaves an address outside of that range, and passes over the word there, or does it and it is free
+pub record IsFree (words : Words) (e : Edge) : Type 0 where
+  pub calls : List ℕ
+  pub address : ℕ
+  pub from : e.from ≡ At calls address
+  pub fitted : lacks_ram address ≡ false
+  pub step : (e.label ≡ Skip) ⊎ HasFreeWord words address

@@ -1,0 +1,100 @@
+ghost use Rattle.std.specs.Prelude.{◌≡◌, ◌↔◌, IsTrue};
+ghost use Rattle.flow_graph.specs.Free.{HasFreeWord, IsFree, IsFreeWord, adds_an_immediate};
+ghost use Rattle.flow_graph.specs.Free.{asks_for_user, copies_a_register, is_free_operation, lacks_ram};
+ghost use Rattle.flow_graph.specs.Free.{writes_pc};
+
+use crate::edges::{Edge, Label};
+use crate::kinds::{data_processing, is_r15_writer};
+use crate::places::Place;
+use arm2_decode::{
+    DataImmediate, DataRegister, Opcode, Operation, Register, Shift, SingleImmediate, decode,
+};
+use bus_ticks::IO_START;
+use loader::Image;
+
+// Where physical RAM ends with pages of 32 KB.
+const LARGEST_RAM_END: u32 = 0x240_0000;
+
+fn lacks_ram(address: u32) -> bool
+    ensures { result ≡ lacks_ram address }
+{
+    LARGEST_RAM_END <= address && address < IO_START
+}
+
+fn writes_pc(opcode: Opcode, rd: Register) -> bool
+    ensures { result ≡ writes_pc opcode rd }
+{
+    is_r15_writer(data_processing(opcode, rd))
+}
+
+fn copies_a_register(x: &DataRegister) -> bool
+    ensures { result ≡ copies_a_register x.now }
+{
+    x.opcode == Opcode::Mov && !x.rm.is_pc() && x.shift == Shift::Lsl && x.amount == 0
+}
+
+fn adds_an_immediate(x: &DataImmediate) -> bool
+    ensures { result ≡ adds_an_immediate x.now }
+{
+    matches!(x.opcode, Opcode::Add | Opcode::Sub) && !x.rn.is_pc()
+}
+
+fn asks_for_user(x: &SingleImmediate) -> bool
+    ensures { result ≡ asks_for_user x.now }
+{
+    x.write_back && !x.before
+}
+
+fn is_free_operation(operation: &Operation) -> bool
+    ensures { result ≡ is_free_operation operation.now }
+{
+    match operation {
+        Operation::DataRegister(x) => !writes_pc(x.opcode, x.rd) || copies_a_register(x),
+        Operation::DataRegisterShift(x) => !writes_pc(x.opcode, x.rd),
+        Operation::DataImmediate(x) => !writes_pc(x.opcode, x.rd) || adds_an_immediate(x),
+        Operation::SingleImmediate(x) => !x.rn.is_pc() && !asks_for_user(x),
+        Operation::SingleRegister(_) => false,
+        _ => true,
+    }
+}
+
+fn is_free_word(word: u32) -> bool
+    ensures { IsTrue result ↔ IsFreeWord word }
+{
+    match decode(word) {
+        Ok(instr) => is_free_operation(&instr.operation),
+        Err(_) => false,
+    }
+}
+
+// Whether the image has a word there that can be done freely.
+fn has_free_word(image: &Image, address: u32) -> bool
+    ensures { IsTrue result ↔ HasFreeWord image.now address }
+{
+    match image.word_at(address) {
+        Some(word) => is_free_word(word),
+        None => false,
+    }
+}
+
+/// Whether the edge is free: for each such edge a state of the machine is made whose one step takes it at
+/// exactly its price.
+///
+/// It leaves an address outside of 2400000 to 2FFFFFF, and passes over the word there, or does an
+/// instruction other than these: a single transfer whose base is R15, whose offset is in a register or
+/// which asks for User rights; and data processing that writes R15, but for MOV of a register, not shifted,
+/// and ADD and SUB of an immediate, where that register is not R15.
+pub fn is_free(image: &Image, edge: &Edge) -> bool
+    ensures { IsTrue result ↔ IsFree image.now edge.now }
+{
+    let Place::At(_, address) = edge.from else {
+        return false;
+    };
+    if lacks_ram(address) {
+        return false;
+    }
+    if edge.label == Label::Skip {
+        return true;
+    }
+    has_free_word(image, address)
+}
