@@ -27,7 +27,8 @@ pub record Schedule : Type 0 where
   pub port : ℕ
   pub events : List (ℕ × Event)
 
--- .. and the words that are put into memory after the image, by their addresses, in the text's order
+-- all of these, and the words that are put into memory after the image's, by their addresses, in the text's
+-- order
 pub record Stated : Type 0 where
   pub processor : Processor
   pub controller : Controller

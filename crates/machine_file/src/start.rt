@@ -93,7 +93,8 @@ fn set_controller(memc: &mut Memc, controller: &Controller)
 
 impl MachineFile {
     /// The machine in the stated state, with the prices of a profile: as it is after a reset, but for the
-    /// registers, the page size, the ROM time fields and, where pages are mapped, the page map.
+    /// registers, the page size, the ROM time fields and, where pages are mapped, the page map. The file's
+    /// words are not put into its memory.
     ///
     /// `Memory`: an allocation failed.
     pub fn machine(&self, alloc: Global, profile: Profile) -> Result<Machine, MachineFault>

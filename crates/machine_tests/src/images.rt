@@ -1,6 +1,8 @@
 use arm2_exec::Machine;
 use bus_ticks::Profile;
-use loader::{Image, ImageFault, LabelFault, Labels, LoadFault, ReadFault, load, read_image};
+use loader::{
+    Image, ImageFault, LabelFault, Labels, LoadFault, ReadFault, load, put_words, read_image,
+};
 use memc::{Memc, PageSize, Spot};
 use std::alloc::Global;
 use std::test::Fail;
@@ -80,6 +82,24 @@ fn word(memc: &Memc, address: u32) -> Option<u32> {
         Ok(Spot::Rom(address)) => Some(memc.load(Spot::Rom(address))),
         _ => None,
     }
+}
+
+// 8000 and 2008000 are one place: the later word of the list stays.
+#[test]
+fn words_in_the_order_of_the_list(rt: HostRuntime) -> Result<(), Fail> {
+    let mut machine = Machine::new(rt.alloc(), PageSize::K4, Profile::one())?;
+    put_words(
+        rt.alloc(),
+        &mut machine,
+        &[(0x200_8000, 1), (0x8000, 2), (0x380_0000, 3)],
+    )?;
+    assert!(rt;
+        [
+            word(machine.memc(), 0x200_8000),
+            word(machine.memc(), 0x380_0000)
+        ] == [Some(2), Some(3)]
+    );
+    Ok(())
 }
 
 // By default the logical pages from 80000 on lie nowhere: then no word is loaded.

@@ -3,7 +3,9 @@ use arm2_exec::Input;
 use bitflags::Flags;
 use bus_ticks::{Profile, RomTimes};
 use ioc::Lines;
-use machine_file::{Event, MappedPage, PsrFlags, read_machine, read_profile};
+use machine_file::{
+    Event, MachineFileFault, MappedPage, PsrFlags, read_machine, read_profile,
+};
 use memc::{Memc, PageSize, Refused, Spot};
 use std::alloc::Global;
 use std::test::Fail;
@@ -91,6 +93,43 @@ fn inputs(rt: HostRuntime) -> Result<(), Fail> {
     };
     assert!(rt; inputs.as_slice() == [before, at_event, after, after].as_slice());
     Ok(())
+}
+
+#[test]
+fn put_words(rt: HostRuntime) -> Result<(), Fail> {
+    let file = read_machine(
+        rt.alloc(),
+        b"pc = 0\n[[word]]\nat = 0x3FFFFFC\nvalue = 0xFFFFFFFF\n[[word]]\nvalue = 1\nat = 0x2FFFFFC",
+    )?;
+    assert!(rt; file.words() == [(0x3FF_FFFC, 0xFFFF_FFFF), (0x2FF_FFFC, 1)].as_slice());
+    Ok(())
+}
+
+const REFUSED: &[(&[u8], MachineFileFault)] = &[
+    (
+        b"pc = 2\n[[word]]\nat = 0\nvalue = 0\nlabel = \"a\"",
+        MachineFileFault::UnknownKey,
+    ),
+    (
+        b"pc = 0\n[[word]]\nat = 2",
+        MachineFileFault::WrongKind,
+    ),
+    (
+        b"pc = 0\n[[word]]\nat = 0x3000000\nvalue = 0",
+        MachineFileFault::OutOfRange,
+    ),
+    (
+        b"pc = 0\n[[word]]\nat = 4\nvalue = 0\n[[word]]\nat = 0x4\nvalue = 1",
+        MachineFileFault::Twice,
+    ),
+];
+
+#[test]
+fn put_words_refused(rt: HostRuntime) {
+    for (text, fault) in REFUSED {
+        let refused = read_machine(rt.alloc(), *text).err();
+        assert!(rt; refused == Some(*fault));
+    }
 }
 
 // What a file's machine has in R15, R0, R8 of FIQ mode and R14 of SVC mode, its ROM times, and where two
