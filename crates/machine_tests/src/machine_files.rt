@@ -3,9 +3,7 @@ use arm2_exec::Input;
 use bitflags::Flags;
 use bus_ticks::{Profile, RomTimes};
 use ioc::Lines;
-use machine_file::{
-    Event, MachineFileFault, MappedPage, PsrFlags, read_machine, read_profile,
-};
+use machine_file::{Event, MachineFileFault, MappedPage, PsrFlags, read_machine, read_profile};
 use memc::{Memc, PageSize, Refused, Spot};
 use std::alloc::Global;
 use std::test::Fail;
@@ -110,10 +108,7 @@ const REFUSED: &[(&[u8], MachineFileFault)] = &[
         b"pc = 2\n[[word]]\nat = 0\nvalue = 0\nlabel = \"a\"",
         MachineFileFault::UnknownKey,
     ),
-    (
-        b"pc = 0\n[[word]]\nat = 2",
-        MachineFileFault::WrongKind,
-    ),
+    (b"pc = 0\n[[word]]\nat = 2", MachineFileFault::WrongKind),
     (
         b"pc = 0\n[[word]]\nat = 0x3000000\nvalue = 0",
         MachineFileFault::OutOfRange,

@@ -1,2 +1,1 @@
-; Of the source there is the first word alone.
-         LDR    R0,[R1]
+; No word: the machine file puts both into ROM.
