@@ -1,5 +1,7 @@
--- Free edges: those for which a state is made whose one step takes the edge at exactly its price. The rule
--- is our own: it leaves out instructions that leave too little choice of where they transfer or jump to.
+-- Free edges: those of which a machine's state and input are asked whose one step takes the edge at exactly its
+-- price (no call gives them yet). The rule is our own, and coarse: whole kinds of instructions are not free of
+-- which some have too little choice of the address to which they transfer or jump, and no edge is from where no
+-- RAM is fitted.
 use Rattle.std.specs.Prelude.{◌≡◌, ℕ, Bool, true, false, not, ◌&&◌, ◌||◌, ◌==◌, nat_le, nat_lt, IsTrue, List}
 use Rattle.std.specs.Prelude.{Some, ◌⊎◌}
 use Rattle.bus_ticks.specs.declared.space.TheConstants.{IO_START}
@@ -53,8 +55,9 @@ adds_an_immediate x = is_add_or_sub x.opcode && not (is_pc x.rn)
 abbrev pub asks_for_user : SingleImmediate → Bool
 asks_for_user x = x.write_back && not x.before
 
--- not free are: data processing that writes R15, but for these two; and single transfers whose base is R15,
--- that ask for User rights, or whose offset is in a register. Traps count as free, but no edge does one
+-- not free are: data processing that writes R15, other than MOV of a register and ADD or SUB of an immediate as
+-- above; and single transfers whose base is R15, that ask for User rights, or whose offset is in a register. A
+-- trap counts as free, but no `do` edge leaves one
 abbrev pub is_free_operation : Operation → Bool
 is_free_operation (operation.DataRegister x) = not (writes_pc x.opcode x.rd) || copies_a_register x
 is_free_operation (operation.DataRegisterShift x) = not (writes_pc x.opcode x.rd)
@@ -65,9 +68,9 @@ is_free_operation _ = true
 
 -- ## Edges
 
--- from 2400000 to 2FFFFFF, where no RAM is fitted with pages of 32 KB
-abbrev pub lacks_ram : ℕ → Bool
-lacks_ram address = nat_le 0x2400000 address && nat_lt address IO_START
+-- from 2400000 to 2FFFFFF, where no RAM is fitted even with the largest pages, of 32 KB
+abbrev pub is_past_ram : ℕ → Bool
+is_past_ram address = nat_le 0x2400000 address && nat_lt address IO_START
 
 -- the word is an instruction whose operation is free
 abbrev pub IsFreeWord : ℕ → Type 0
@@ -77,10 +80,11 @@ IsFreeWord word = (i : Instr) × Means word i × IsTrue (is_free_operation i.ope
 abbrev pub HasFreeWord : Words → ℕ → Type 0
 HasFreeWord words address = (word : ℕ) × (word_of words address ≡ Some word) × IsFreeWord word
 
--- the edge leaves an address outside of that range, and passes over the word there, or does it and it is free
+-- of an edge of the graph: it leaves an address outside of that range, and it passes over the word there, or
+-- does it, and then the word is free
 pub record IsFree (words : Words) (e : Edge) : Type 0 where
   pub calls : List ℕ
   pub address : ℕ
   pub from : e.from ≡ At calls address
-  pub fitted : lacks_ram address ≡ false
-  pub step : (e.label ≡ Skip) ⊎ HasFreeWord words address
+  pub not_past_ram : is_past_ram address ≡ false
+  pub skipped_or_free : (e.label ≡ Skip) ⊎ HasFreeWord words address

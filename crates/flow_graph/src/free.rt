@@ -1,6 +1,6 @@
 ghost use Rattle.std.specs.Prelude.{◌≡◌, ◌↔◌, IsTrue};
 ghost use Rattle.flow_graph.specs.Free.{HasFreeWord, IsFree, IsFreeWord, adds_an_immediate};
-ghost use Rattle.flow_graph.specs.Free.{asks_for_user, copies_a_register, is_free_operation, lacks_ram};
+ghost use Rattle.flow_graph.specs.Free.{asks_for_user, copies_a_register, is_free_operation, is_past_ram};
 ghost use Rattle.flow_graph.specs.Free.{writes_pc};
 
 use crate::edges::{Edge, Label};
@@ -15,8 +15,8 @@ use loader::Image;
 // Where physical RAM ends with pages of 32 KB.
 const LARGEST_RAM_END: u32 = 0x240_0000;
 
-fn lacks_ram(address: u32) -> bool
-    ensures { result ≡ lacks_ram address }
+fn is_past_ram(address: u32) -> bool
+    ensures { result ≡ is_past_ram address }
 {
     LARGEST_RAM_END <= address && address < IO_START
 }
@@ -77,20 +77,20 @@ fn has_free_word(image: &Image, address: u32) -> bool
     }
 }
 
-/// Whether the edge is free: for each such edge a state of the machine is made whose one step takes it at
-/// exactly its price.
+/// Whether the edge is free.
 ///
-/// It leaves an address outside of 2400000 to 2FFFFFF, and passes over the word there, or does an
-/// instruction other than these: a single transfer whose base is R15, whose offset is in a register or
-/// which asks for User rights; and data processing that writes R15, but for MOV of a register, not shifted,
-/// and ADD and SUB of an immediate, where that register is not R15.
+/// It leaves an address outside of 2400000 to 2FFFFFF, and passes over the word there, or does an instruction
+/// other than these: a single transfer whose base is R15, whose offset is in a register or which asks for User
+/// rights; and data processing that writes R15, but for MOV of a register, not shifted, and ADD and SUB of an
+/// immediate, where that register is not R15. No law says yet that a machine's state pays the price of each
+/// free edge.
 pub fn is_free(image: &Image, edge: &Edge) -> bool
     ensures { IsTrue result ↔ IsFree image.now edge.now }
 {
     let Place::At(_, address) = edge.from else {
         return false;
     };
-    if lacks_ram(address) {
+    if is_past_ram(address) {
         return false;
     }
     if edge.label == Label::Skip {
