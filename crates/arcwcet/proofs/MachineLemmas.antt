@@ -9,7 +9,7 @@ use Rattle.toml.specs.Data.{Members}
 use Rattle.toml_reading.proofs.Unique.{one_answer}
 use Rattle.arm2_exec.specs.State.{State}
 use Rattle.loader.specs.Image.{Words}
-use Rattle.loader.specs.Loading.{is_refused, lacks_page, spot_of}
+use Rattle.loader.specs.Loading.{is_refused, lacks_page, put_words, spot_of}
 use Rattle.loader.specs.declared.loading.LoadFault.{LoadFault}
 use Rattle.loader.specs.declared.loading.LoadFault.TheVariants as load_fault
 use Rattle.memc.specs.Memory.{Memory, shift_of_size}
@@ -25,7 +25,7 @@ use Rattle.machine_file.specs.declared.machine_faults.MachineFileFault.{MachineF
 use Rattle.machine_file.specs.declared.machine_faults.MachineFileFault.TheVariants as machine_fault
 use Rattle.machine_file.specs.declared.pages.MappedPage.{MappedPage}
 use Rattle.arcwcet.specs.Faults.{of_load, of_machine_file}
-use Rattle.arcwcet.specs.Machine.{Front, IsFileRefused, IsMachineReport, IsRunRefused, IsRunnable, IsStated}
+use Rattle.arcwcet.specs.Machine.{Front, IsFileRefused, IsMachineReport, IsRunRefused, IsRunnable, IsStated, LacksPage}
 use Rattle.arcwcet.specs.Source.{IsSourceFault, Said, source_of}
 use Rattle.statement.specs.Statement.{Names}
 use Rattle.arcwcet.specs.declared.fault.ReportFault.{ReportFault}
@@ -64,6 +64,19 @@ lacks_plain : (m : Memory) (words : Words) → lacks_page m words ≡ lacks_page
 lacks_plain m [] = refl
 lacks_plain m (e ∷ rest) = ap (λ (b : Bool). is_refused (spot_of m e.0) || b) (lacks_plain m rest)
 
+-- words that are put into memory do not change where a load goes
+pub lacks_after : (start after : State) (put words : Words) → after ≡ put_words put start → lacks_page after.bus.memc words ≡ lacks_page start.bus.memc words
+lacks_after start after put words is =
+    ap (λ (s : State). lacks_page s.bus.memc words) is ∙ lacks_plain (put_words put start).bus.memc words ∙ sym (lacks_plain start.bus.memc words)
+
+-- a word of the file lacks its page, where those of the image were put
+pub file_lacks : (start after : State) (words own : Words) (file : Stated) → after ≡ put_words words start → own ≡ file.words → (f : LoadFault)
+    → (f ≡ load_fault.Memory) ⊎ ((f ≡ load_fault.NoPage) × (lacks_page after.bus.memc own ≡ true))
+    → (f ≡ load_fault.Memory) ⊎ ((f ≡ load_fault.NoPage) × LacksPage start words file)
+file_lacks start after words own file is same f (inl h) = inl h
+file_lacks start after words own file is same f (inr h) =
+    inr (h.0, inr (ap (lacks_page start.bus.memc) (sym same) ∙ sym (lacks_after start after words own is) ∙ h.1))
+
 same_memory : (file : Controller) (c d : Memory) (words : Words) → IsController file c → IsController file d → lacks_page c words ≡ lacks_page d words
 same_memory file c d words h k =
     let lengths : length c.paged.pages ≡ length d.paged.pages = same_count file.size (length c.paged.pages) (length d.paged.pages) h.count k.count in
@@ -100,9 +113,16 @@ module _ (source machine : List ℕ) (profile : Profile) where
       let p = a.placed in
       let same = one_stated r.words p.words r.file a.file r.stated p.stated in
       let started : IsStarted a.file profile r.start = subst (λ (s : Stated). IsStarted s profile r.start) same.same_file r.started in
-      let lacks : lacks_page r.start.bus.memc p.words ≡ true = ap (lacks_page r.start.bus.memc) (sym same.same_words) ∙ r.lacks in
-      let both : true ≡ false = sym lacks ∙ same_memory a.file.controller r.start.bus.memc p.start.bus.memc p.words started.memory p.started.memory ∙ p.fits in
-      absurd (cc both)
+      absurd (elim r.lacks [
+        | inl image ↦
+            let lacks : lacks_page r.start.bus.memc p.words ≡ true = ap (lacks_page r.start.bus.memc) (sym same.same_words) ∙ image in
+            let both : true ≡ false = sym lacks ∙ same_memory a.file.controller r.start.bus.memc p.start.bus.memc p.words started.memory p.started.memory ∙ p.fits in
+            cc both
+        | inr own ↦
+            let lacks : lacks_page r.start.bus.memc a.file.words ≡ true = ap (λ (s : Stated). lacks_page r.start.bus.memc s.words) (sym same.same_file) ∙ own in
+            let both : true ≡ false = sym lacks ∙ same_memory a.file.controller r.start.bus.memc p.start.bus.memc a.file.words started.memory p.started.memory ∙ p.file_fits in
+            cc both
+      ])
   runnable_refusals (Statement f) a r = absurd r
   runnable_refusals (Graph f) a r = absurd r
   runnable_refusals (Loops f) a r = absurd r
@@ -146,7 +166,7 @@ module _ (source machine : List ℕ) (profile : Profile) where
     file_refuses machine_fault.Twice h = (λ e. cc e, unread machine_fault.Twice (λ e. cc e) (h (λ e. cc e)))
 
     module _ (file : Stated) (read : IsMachineFile machine (Ok file)) (start : State) (started : IsStarted file profile start) where
-      pub load_refuses : (f : LoadFault) → (f ≡ load_fault.Memory) ⊎ ((f ≡ load_fault.NoPage) × (lacks_page start.bus.memc words ≡ true)) → Refused (of_load f)
+      pub load_refuses : (f : LoadFault) → (f ≡ load_fault.Memory) ⊎ ((f ≡ load_fault.NoPage) × LacksPage start words file) → Refused (of_load f)
       load_refuses load_fault.Memory h = (λ e. cc e, tt)
       load_refuses load_fault.NoPage (inl h) = absurd (cc h)
       load_refuses load_fault.NoPage (inr h) = (

@@ -1,6 +1,6 @@
 -- What the reports of a machine's run print.
-use Rattle.std.specs.Prelude.{◌≡◌, ◌≢◌, ◌↔◌, ◌++◌, ℕ, Bool, true, false, IsTrue, List, [], Option, Some, None}
-use Rattle.std.specs.Prelude.{Ok, Err}
+use Rattle.std.specs.Prelude.{◌≡◌, ◌≢◌, ◌↔◌, ◌⊎◌, ◌++◌, ℕ, Bool, true, false, IsTrue, List, [], Option}
+use Rattle.std.specs.Prelude.{Some, None, Ok, Err}
 use Rattle.bus_ticks.specs.declared.profile.Profile.{Profile}
 use Rattle.arm2_effect.specs.declared.step_end.Why.{Why}
 use Rattle.arm2_effect.specs.Modes.{r15_in}
@@ -10,7 +10,7 @@ use Rattle.arm2_exec.specs.State.{State}
 use Rattle.arm2_exec.specs.declared.machine.Input.{Input}
 use Rattle.arm2_exec.specs.declared.machine.Ran.{Ran}
 use Rattle.loader.specs.Image.{Words}
-use Rattle.loader.specs.Loading.{lacks_page, with_image}
+use Rattle.loader.specs.Loading.{lacks_page, put_words}
 use Rattle.loader.specs.declared.loading.LoadFault.{LoadFault}
 use Rattle.loader.specs.declared.loading.LoadFault.TheVariants.{NoPage}
 use Rattle.statement.specs.Statement.{Names}
@@ -34,6 +34,7 @@ pub record IsStated (source machine : List ℕ) (words : Words) (file : Stated) 
   pub file_is : IsMachineFile machine (Ok file)
 
 -- the machine before its first step: the file's start, on whose map each word has its place, with the words
+-- of the image and then those of the file
 pub record IsPlaced (source machine : List ℕ) (profile : Profile) (file : Stated)
     (state : State) : Type 0 where
   pub words : Words
@@ -41,7 +42,8 @@ pub record IsPlaced (source machine : List ℕ) (profile : Profile) (file : Stat
   pub stated : IsStated source machine words file
   pub started : IsStarted file profile start
   pub fits : lacks_page start.bus.memc words ≡ false
-  pub loaded : state ≡ with_image words start
+  pub file_fits : lacks_page start.bus.memc file.words ≡ false
+  pub loaded : state ≡ put_words file.words (put_words words start)
 
 -- the same, and the inputs of its steps
 pub record IsLoaded (source machine : List ℕ) (profile : Profile) (state : State)
@@ -100,7 +102,11 @@ pub record IsFileRefused (source machine : List ℕ) (fault : MachineFileFault) 
   pub not_memory : fault ≢ machine_fault.Memory
   pub file_is : IsMachineFile machine (Err fault)
 
--- a word of the image has no place in the machine
+-- a word of the image, or one of the file, has no place in the machine
+abbrev pub LacksPage : State → Words → Stated → Type 0
+LacksPage start words file =
+    (lacks_page start.bus.memc words ≡ true) ⊎ (lacks_page start.bus.memc file.words ≡ true)
+
 pub record IsLoadRefused (source machine : List ℕ) (profile : Profile) (fault : LoadFault) : Type 0 where
   pub words : Words
   pub file : Stated
@@ -108,7 +114,7 @@ pub record IsLoadRefused (source machine : List ℕ) (profile : Profile) (fault 
   pub stated : IsStated source machine words file
   pub started : IsStarted file profile start
   pub fault_is : fault ≡ NoPage
-  pub lacks : lacks_page start.bus.memc words ≡ true
+  pub lacks : LacksPage start words file
 
 -- when each refusal is answered: the first in the order of the work. A growth is refused, and an output
 -- fails, whatever the texts

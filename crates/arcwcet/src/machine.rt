@@ -1,12 +1,14 @@
-ghost use Rattle.std.specs.Prelude.{◌≡◌, ◌≢◌, ◌++◌, List, ℕ, Ok, IfErr, IfOk, OnOk, option_map, string_bytes};
+ghost use Rattle.std.specs.Prelude.{◌≡◌, ◌≢◌, ◌⊎◌, ◌++◌, List, ℕ, Ok, IfErr, IfOk, OnOk, false, option_map};
+ghost use Rattle.std.specs.Prelude.{string_bytes};
 ghost use Rattle.std.specs.Io.KnownBytes.{Appends};
 ghost use Rattle.bus_ticks.specs.declared.profile.Profile.{Profile};
 ghost use Rattle.arm2_exec.specs.Run.{Runs};
 ghost use Rattle.loader.specs.Labels.{address_of};
+ghost use Rattle.loader.specs.Loading.{lacks_page, put_words};
 ghost use Rattle.trace_text.specs.TraceText.{Adds};
 ghost use Rattle.arcwcet.specs.Answers.{Answers};
 ghost use Rattle.arcwcet.specs.Machine.{Front, IsMachineReport, IsPlaced, IsRunRefused, IsRunnable};
-ghost use Rattle.arcwcet.specs.Machine.{IsStated, ShowsRegisters, ShowsSteps, end_text};
+ghost use Rattle.arcwcet.specs.Machine.{IsStated, LacksPage, ShowsRegisters, ShowsSteps, end_text};
 ghost use Rattle.arcwcet.specs.Output.{FailsSince, TakesFront};
 ghost use Rattle.arcwcet.specs.Priced.{Priced};
 ghost use Rattle.arcwcet.specs.Source.{source_of};
@@ -18,12 +20,12 @@ use arm2_effect::address_of;
 use arm2_exec::{Input, Machine, Ran, Reg};
 use assembler::Assembly;
 use bus_ticks::Profile;
-use loader::{Image, load};
+use loader::{Image, LoadFault, load, put_words};
 use machine_file::{MachineFile, read_machine};
 use std::alloc::{AllocError, Global};
 use trace_text::{write_registers, write_run, write_stop, write_ticks};
 
-/// A machine with its image, before its first step, and the file that states it.
+/// A machine with all its words, before its first step, and the file that states it.
 #[derive(Drop)]
 pub(crate) struct Placed {
     pub(crate) file: MachineFile,
@@ -63,7 +65,25 @@ fn place_image(
     Ok(Placed { file, machine })
 }
 
-// The file's machine with the image.
+// Puts the words of the image into the machine, and then those of the file.
+fn put_all(
+    alloc: Global,
+    machine: &mut Machine,
+    image: &Image,
+    file: &MachineFile,
+) -> Result<(), LoadFault>
+    ensures ok { OnOk result (machine.new ≡ put_words file.now.words (put_words image.now machine.old)) }
+    ensures fits { OnOk result (lacks_page machine.old.bus.memc image.now ≡ false) }
+    ensures file_fits { OnOk result (lacks_page machine.old.bus.memc file.now.words ≡ false) }
+    ensures fault { IfErr result
+        (λ fault. (fault ≡ LoadFault.Memory)
+        ⊎ ((fault ≡ LoadFault.NoPage) × LacksPage machine.old image.now file.now)) }
+{
+    load(alloc, machine, image)?;
+    put_words(alloc, machine, file.words())
+}
+
+// The file's machine with the words of the image and of the file.
 fn loaded(
     alloc: Global,
     image: &Image,
@@ -76,7 +96,7 @@ fn loaded(
         → IfErr result (λ e. (e ≢ ReportFault.Device) × IsRunRefused source machine profile e) }
 {
     let mut machine = file.machine(alloc, profile)?;
-    load(alloc, &mut machine, image)?;
+    put_all(alloc, &mut machine, image, file)?;
     Ok(machine)
 }
 
@@ -161,7 +181,7 @@ fn report_of<F: Front>(
     placed_report::<F>(alloc, &mut placed)
 }
 
-// The report of a machine that has its image.
+// The report of a machine that has all its words.
 fn placed_report<F: Front>(alloc: Global, placed: &mut Placed) -> Result<Shown, ReportFault>
     ensures shown { (source machine : List ℕ) (profile : Profile)
         → IsPlaced source machine profile placed.old.file placed.old.machine
@@ -227,10 +247,11 @@ pub(crate) fn machine_report<F: Front, O: Output>(
     priced::<F, O>(alloc, source, machine, profile, out)
 }
 
-/// Runs the machine of a source and a machine file ([`read_machine`](machine_file::read_machine)) for the
-/// file's steps, 65,536 at most, by a cycle profile's file or the first profile. Writes the registers of the
-/// mode that it ends in, where it stopped (if it did), and the ticks of the processor and those that passed,
-/// bursts and all. `false`: it stopped before its steps were done.
+/// Runs the machine of a source and a machine file ([`read_machine`](machine_file::read_machine)), with the
+/// source's words and then the file's put into its memory, for the file's steps, 65,536 at most, by a cycle
+/// profile's file or the first profile. Writes the registers of the mode that it ends in, where it stopped
+/// (if it did), and the ticks of the processor and those that passed, bursts and all. `false`: it stopped
+/// before its steps were done.
 ///
 /// # Errors
 ///
