@@ -1,6 +1,6 @@
 -- What the reports of a machine's run print.
-use Rattle.std.specs.Prelude.{◌≡◌, ◌≢◌, ◌↔◌, ◌⊎◌, ◌++◌, ℕ, Bool, true, false, IsTrue, List, [], Option, Some, None}
-use Rattle.std.specs.Prelude.{Ok, Err}
+use Rattle.std.specs.Prelude.{◌≡◌, ◌≢◌, ◌↔◌, ◌⊎◌, ◌++◌, ℕ, Bool, true, false, IsTrue, List, [], Option}
+use Rattle.std.specs.Prelude.{Some, None, Ok, Err}
 use Rattle.bus_ticks.specs.declared.profile.Profile.{Profile}
 use Rattle.arm2_effect.specs.declared.step_end.Why.{Why}
 use Rattle.arm2_effect.specs.Modes.{r15_in}
@@ -33,8 +33,8 @@ pub record IsStated (source machine : List ℕ) (words : Words) (file : Stated) 
   pub source_is : source_of source ≡ Ok (words, names)
   pub file_is : IsMachineFile machine (Ok file)
 
--- the machine before its first step: the file's start, on whose map each word has its place, with the words of
--- the image and then those of the file
+-- the machine before its first step: the one that the file states, in which no word of the image or of the
+-- file lacks a page, with the words of the image put in, and then those of the file
 pub record IsPlaced (source machine : List ℕ) (profile : Profile) (file : Stated)
     (state : State) : Type 0 where
   pub words : Words

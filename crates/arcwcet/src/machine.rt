@@ -249,9 +249,9 @@ pub(crate) fn machine_report<F: Front, O: Output>(
 
 /// Runs the machine of a source and a machine file ([`read_machine`](machine_file::read_machine)), with the
 /// source's words and then the file's put into its memory, for the file's steps, 65,536 at most, by a cycle
-/// profile's file or the first profile. Writes the registers of the mode that it ends in, where it stopped (if
-/// it did), and the ticks of the processor and those that passed, bursts and all. `false`: it stopped before
-/// its steps were done.
+/// profile's file or the first profile. Writes the registers of the mode that it ends in, where it stopped
+/// (if it did), and the ticks of the processor and those that passed, bursts and all. `false`: it stopped
+/// before its steps were done.
 ///
 /// # Errors
 ///

@@ -8,7 +8,7 @@ returns-in_err-put_all-clause-fault c = λ source machine is.
     let f = c.in_err-put_all.field-0.0 in
     refused_as c.from_residual-in_err-put_all.result (of_load f) (Refused source machine c.args.profile) c.from_residual-in_err-put_all.ensures.1
     (load_refuses source machine c.args.profile c.args.image.now is.names is.source_is c.args.file.now is.file_is
-    c.in_ok-machine.machine c.in_ok-machine.ensures f c.in_err-put_all.ensures)
+    c.in_ok-machine.machine c.in_ok-machine.ensures f c.in_err-put_all.ensures.fault)
 
 pub returns-clause-loaded : goal.returns-clause-loaded
 returns-clause-loaded c = λ source machine is.
