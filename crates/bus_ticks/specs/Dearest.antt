@@ -9,22 +9,24 @@ use Rattle.bus_ticks.specs.Ranges.{greatest}
 use Rattle.bus_ticks.specs.Worst.{Access, IsOf, IsBlockOf, transfer_price, leave_price}
 use Rattle.bus_ticks.specs.Worst.{worst_rom, worst_block, worst_leave_of}
 
--- the first of four numbers, counted from 0, that is as great as each of them
+-- i is the place, counted from 0, of the first of four numbers that is the greatest
 pub record IsDearestOf (a b c d : ℕ) (i : ℕ) : Type 0 where
   pub few : i < 4
   pub dearest : choice i a b c d ≡ greatest a b c d
   pub lowest : (j : ℕ) → j < i → choice j a b c d < greatest a b c d
 
--- time fields at which each access to Rom costs the most
+-- time fields at which each fetch and each load of Rom costs the most
 abbrev pub AreDearest : Profile → RomTimes → Type 0
 AreDearest p rom = (x : ℕ) → rom_price p rom x ≡ worst_rom p
 
 -- all words are of the class, and no transfer of as many of the class costs more
-pub record IsDearestBlock (p : Profile) (class : Class) (words : ℕ) (store : Bool) (b : Access) : Type 0 where
+pub record IsDearestBlock (p : Profile) (class : Class) (words : ℕ) (store : Bool)
+    (b : Access) : Type 0 where
   pub of_class : IsBlockOf class words b
   pub price : transfer_price p words store b ≡ worst_block p class words store
 
--- a multiple of 4 in the class: at the dearest time fields, no jump into the class costs more than one to it
+-- a multiple of 4 in the class: with Rom's time fields at their dearest, no jump into the class costs more
+-- than one to it
 pub record IsDearestLeave (p : Profile) (class : Class) (address : ℕ) : Type 0 where
   pub whole : address % 4 ≡ 0
   pub below : address < SPACE_END

@@ -1,7 +1,7 @@
--- Free edges: those of which a machine's state and input are asked whose one step takes the edge at exactly its
--- price (no call gives them yet). The rule is our own, and coarse: whole kinds of instructions are not free of
--- which some have too little choice of the address to which they transfer or jump, and no edge is from where no
--- RAM is fitted.
+-- Free edges: those of which a machine's state and input are asked whose one step takes the edge at exactly
+-- its price (no call gives them yet). The rule is our own, and coarse: whole kinds of instructions are not
+-- free of which some have too little choice of the address to which they transfer or jump, and no edge is
+-- from where no RAM is fitted.
 use Rattle.std.specs.Prelude.{◌≡◌, ℕ, Bool, true, false, not, ◌&&◌, ◌||◌, ◌==◌, nat_le, nat_lt, IsTrue, List}
 use Rattle.std.specs.Prelude.{Some, ◌⊎◌}
 use Rattle.bus_ticks.specs.declared.space.TheConstants.{IO_START}
@@ -55,9 +55,9 @@ adds_an_immediate x = is_add_or_sub x.opcode && not (is_pc x.rn)
 abbrev pub asks_for_user : SingleImmediate → Bool
 asks_for_user x = x.write_back && not x.before
 
--- not free are: data processing that writes R15, other than MOV of a register and ADD or SUB of an immediate as
--- above; and single transfers whose base is R15, that ask for User rights, or whose offset is in a register. A
--- trap counts as free, but no `do` edge leaves one
+-- not free are: data processing that writes R15, other than MOV of a register and ADD or SUB of an immediate
+-- as above; and single transfers whose base is R15, that ask for User rights, or whose offset is in a
+-- register. A trap counts as free, but no `do` edge leaves one
 abbrev pub is_free_operation : Operation → Bool
 is_free_operation (operation.DataRegister x) = not (writes_pc x.opcode x.rd) || copies_a_register x
 is_free_operation (operation.DataRegisterShift x) = not (writes_pc x.opcode x.rd)

@@ -4,7 +4,7 @@ use Rattle.std.proofs.lemmas.Bool.{true≢false}
 use Rattle.toml.specs.Data.{Data, Members, as_table, get_member}
 use Rattle.toml_reading.specs.Lowest.{AtKey, entries_at}
 use Rattle.toml_reading.proofs.LowestParts.{some_weaker}
-use Rattle.machine_file.specs.MachineFaultRules.{AreNoTables, HasMachineFault, HasOtherKey, HasOtherKind, HasOtherNumber, HasWrongKind, IsLetterTwice, IsNoTable, IsOtherKind, IsOtherNumber, IsPageTwice, IsStepTwice, IsUnmappable, IsWordTwice, LacksKey, OfSomeTable, Row, Shape, Takes, event_shape, file_shape, map_shape, register_shape, word_shape}
+use Rattle.machine_file.specs.MachineFaultRules.{AreNoTables, HasMachineFault, HasOtherKey, HasOtherKind, HasOtherNumber, HasWrongKind, IsLetterTwice, IsNoTable, IsOtherKind, IsOtherNumber, IsPageTwice, IsStepTwice, IsUnmappable, IsWordTwice, LacksKey, OfSomeTable, Row, Shape, Takes, event_shape, file_shape, map_shape, register_shape, put_word_shape}
 use Rattle.machine_file.specs.declared.machine_faults.MachineFileFault.{MachineFileFault}
 use Rattle.machine_file.specs.declared.machine_faults.MachineFileFault.TheVariants.{UnknownKey, WrongKind, OutOfRange, Twice}
 
@@ -44,7 +44,7 @@ module _ (P Q : Shape → Members → Type 0) (f : (s : Shape) (t : Members) →
   table_map (inr (inr (inr (inl h)))) =
       inr (inr (inr (inl (any_map (In (P event_shape)) (In (Q event_shape)) (in_map event_shape) (entries_at (codes "event") ms) h))))
   table_map (inr (inr (inr (inr h)))) =
-      inr (inr (inr (inr (any_map (In (P word_shape)) (In (Q word_shape)) (in_map word_shape) (entries_at (codes "word") ms) h))))
+      inr (inr (inr (inr (any_map (In (P put_word_shape)) (In (Q put_word_shape)) (in_map put_word_shape) (entries_at (codes "word") ms) h))))
 
 module _ (P Q R : Shape → Members → Type 0) (f : (s : Shape) (t : Members) → P s t → Q s t ⊎ R s t)
     (ms : Members) where
@@ -69,7 +69,7 @@ module _ (P Q R : Shape → Members → Type 0) (f : (s : Shape) (t : Members) �
         | inr r ↦ inr (inr (inr (inr (inl r))))
       ]
   table_sum (inr (inr (inr (inr h)))) =
-      elim (any_sum (In (P word_shape)) (In (Q word_shape)) (In (R word_shape)) (in_sum word_shape) (entries_at (codes "word") ms) h) [
+      elim (any_sum (In (P put_word_shape)) (In (Q put_word_shape)) (In (R put_word_shape)) (in_sum put_word_shape) (entries_at (codes "word") ms) h) [
         | inl q ↦ inl (inr (inr (inr (inr q))))
         | inr r ↦ inr (inr (inr (inr (inr r))))
       ]
@@ -85,7 +85,7 @@ module _ (P : Shape → Members → Type 0) (C : Type 0) (f : (s : Shape) (t : M
       some_fact (In (P register_shape)) C (in_fact register_shape) (get_member (codes "registers") ms) h
   table_fact (inr (inr (inl h))) = in_fact map_shape h.1 h.4
   table_fact (inr (inr (inr (inl h)))) = in_fact event_shape h.1 h.4
-  table_fact (inr (inr (inr (inr h)))) = in_fact word_shape h.1 h.4
+  table_fact (inr (inr (inr (inr h)))) = in_fact put_word_shape h.1 h.4
 
 -- ## The faults of one table
 

@@ -8,7 +8,7 @@ use Rattle.toml_reading.specs.Lowest.{AtKey, AtKeyOr, IsNoAddress, ListFault, Nu
 use Rattle.machine_file.specs.MachineFaults.{machine_faults}
 use Rattle.machine_file.specs.MachineFile.{is_letter, is_single}
 use Rattle.ioc.specs.LineNames.{line_named}
-use Rattle.machine_file.specs.MachineFaultRules.{IsNoPlace, IsPageTwice, IsStepTwice, IsUnmappable, IsWordTwice}
+use Rattle.machine_file.specs.MachineFaultRules.{IsNoWordAddress, IsPageTwice, IsStepTwice, IsUnmappable, IsWordTwice}
 use Rattle.machine_file.specs.MachineRules.{kilobytes}
 use Rattle.machine_file.specs.Names.{event_keys, file_keys, map_keys, name_of, named_mode, named_registers, register_keys, word_keys}
 use Rattle.machine_file.specs.declared.machine_faults.MachineFileFault.{MachineFileFault}
@@ -76,16 +76,16 @@ EventFault d fault =
     d
     fault
 
-abbrev pub PlaceFault : Data → MachineFileFault → Type 0
-PlaceFault d fault =
-    MatchOption (as_integer d) (fault ≡ WrongKind) (λ z. IsNoPlace z × (fault ≡ OutOfRange))
+abbrev pub WordAddressFault : Data → MachineFileFault → Type 0
+WordAddressFault d fault =
+    MatchOption (as_integer d) (fault ≡ WrongKind) (λ z. IsNoWordAddress z × (fault ≡ OutOfRange))
 
 abbrev pub PutWordFault : Data → MachineFileFault → Type 0
 PutWordFault d fault =
     TableFault
     machine_faults
     word_keys
-    (λ ms f. AtKeyOr (codes "at") ms (f ≡ WrongKind) (λ e. PlaceFault e f) ⊎ AtKeyOr (codes "value") ms (f ≡ WrongKind) (λ e. WordFault e f))
+    (λ ms f. AtKeyOr (codes "at") ms (f ≡ WrongKind) (λ e. WordAddressFault e f) ⊎ AtKeyOr (codes "value") ms (f ≡ WrongKind) (λ e. WordFault e f))
     d
     fault
 

@@ -15,7 +15,7 @@ use Rattle.toml_reading.specs.Readings.{both, seen}
 use Rattle.toml_reading.proofs.LowestLemmas.{Judges, and_then_judged, joint, judged_as, judged_one, one_test, optional_judged, required_judged, seen_judged, two_tests}
 use Rattle.toml_reading.proofs.LowestParts.{entries_state, keys_judged, number_or_judged, number_read, numbers_read, some_weaker, tables_judged}
 use Rattle.machine_file.specs.MachineFaults.{machine_faults, number_of}
-use Rattle.machine_file.specs.MachineFile.{Read, are_single, controller_in, controller_of, event_at, events_in, flags_at, flags_in, is_mappable, machine_in, mapped, mode_at, mode_in, once, page_at, pages_in, pc_at, pc_in, processor_in, processor_of, registers_at, registers_in, schedule_in, schedule_of, set_flags, size_at, size_in, stated_of, words_in}
+use Rattle.machine_file.specs.MachineFile.{Read, are_single, controller_in, controller_of, event_at, events_in, flags_at, flags_in, is_mappable, machine_in, mapped, mode_at, mode_in, once, page_at, pages_in, pc_at, pc_in, processor_in, processor_of, registers_at, registers_in, schedule_in, schedule_of, set_flags, size_at, size_in, stated_of, put_words_in}
 use Rattle.machine_file.specs.MachineFaultRules.{IsPageTwice, IsStepTwice, IsUnmappable, are_below, page_numbers}
 use Rattle.machine_file.specs.MachineRules.{AreFlags, AreRegisters, IsAddress, IsEvent, IsNamed, IsPage, IsSize, IsWord, StatesController, StatesMachine, StatesProcessor, StatesSchedule}
 use Rattle.machine_file.specs.Names.{file_keys, map_keys, named_mode}
@@ -420,7 +420,7 @@ parts_in ms =
     both
     machine_faults
     (processor_in ms)
-    (both machine_faults (controller_in ms) (both machine_faults (schedule_in ms) (words_in ms)))
+    (both machine_faults (controller_in ms) (both machine_faults (schedule_in ms) (put_words_in ms)))
 
 file_judged : (ms : Members)
     → Judges machine_faults (FileStates ms) (FileFault ms) (seen stated_of (parts_in ms))

@@ -13,67 +13,67 @@ use Rattle.toml_reading.proofs.Following.{test_judged}
 use Rattle.toml_reading.proofs.LowestLemmas.{Judges, and_then_judged, joint, judged_as, judged_value, one_test, required_judged}
 use Rattle.toml_reading.proofs.LowestParts.{entries_state, not_whole, number_read, numbers_read, some_weaker, table_judged, tables_judged, whole_same}
 use Rattle.machine_file.specs.MachineFaults.{machine_faults, number_of}
-use Rattle.machine_file.specs.MachineFile.{once, place_at, place_in, place_of, put_word_at, word_in, words_in}
-use Rattle.machine_file.specs.MachineFaultRules.{IsNoPlace, IsWordTwice}
-use Rattle.machine_file.specs.MachineRules.{IsPlace, IsPutWord}
+use Rattle.machine_file.specs.MachineFile.{once, word_address_at, word_address_in, word_address_of, put_word_at, word_in, put_words_in}
+use Rattle.machine_file.specs.MachineFaultRules.{IsNoWordAddress, IsWordTwice}
+use Rattle.machine_file.specs.MachineRules.{IsWordAddress, IsPutWord}
 use Rattle.machine_file.specs.Names.{word_keys}
 use Rattle.machine_file.specs.declared.machine_faults.MachineFileFault.{MachineFileFault}
 use Rattle.machine_file.specs.declared.machine_faults.MachineFileFault.TheVariants.{WrongKind, OutOfRange, Twice}
 use Rattle.machine_file.proofs.MachineValueLemmas.{IsLow, NeedsWord, Word, is_fault, list_low, low_at, match_low, needs_low, some_low, table_low, word}
 use Rattle.machine_file.proofs.FaultTableLemmas.{some_fact}
-use Rattle.machine_file.proofs.KeyFaults.{PlaceFault, PutWordFault}
+use Rattle.machine_file.proofs.KeyFaults.{WordAddressFault, PutWordFault}
 
 -- ## Addresses
 
-abbrev Place : ℤ → ℕ → Type 0
-Place z a = (z ≡ pos a) × IsTrue (may_hold a)
+abbrev WordAddress : ℤ → ℕ → Type 0
+WordAddress z a = (z ≡ pos a) × IsTrue (may_hold a)
 
-abbrev NoPlace : ℤ → MachineFileFault → Type 0
-NoPlace z f = IsNoPlace z × (f ≡ OutOfRange)
+abbrev NoWordAddress : ℤ → MachineFileFault → Type 0
+NoWordAddress z f = IsNoWordAddress z × (f ≡ OutOfRange)
 
-place_told : (z : ℤ) → Judges machine_faults (Place z) (NoPlace z) (place_of z)
-place_told (pos n) =
+word_address_told : (z : ℤ) → Judges machine_faults (WordAddress z) (NoWordAddress z) (word_address_of z)
+word_address_told (pos n) =
     judged_as
     machine_faults
     (λ a. IsTrue (may_hold n) × (a ≡ n))
-    (Place (pos n))
+    (WordAddress (pos n))
     (λ f. (¬ IsTrue (may_hold n)) × (f ≡ OutOfRange))
-    (NoPlace (pos n))
+    (NoWordAddress (pos n))
     (λ a. (
       λ s. (ap (λ (m : ℕ). pos m) (sym s.1), subst (λ (m : ℕ). IsTrue (may_hold m)) (sym s.1) s.0),
       λ s. (subst (λ (m : ℕ). IsTrue (may_hold m)) (sym (whole_same n a s.0)) s.1, sym (whole_same n a s.0)),
     ))
     (λ f. (λ h. (λ a e i. h.0 (subst (λ (m : ℕ). IsTrue (may_hold m)) (sym (whole_same n a e)) i), h.1), λ h. (h.0 n refl, h.1)))
-    (place_of (pos n))
+    (word_address_of (pos n))
     (test_judged machine_faults (IsTrue (may_hold n)) n OutOfRange (may_hold n) (λ e. e, λ e. e))
-place_told (negsuc n) = record {
+word_address_told (negsuc n) = record {
   told = (
     λ a s. not_whole n a s.0,
     record { has = (λ a e i. not_whole n a e, refl); least = λ o e. is_fault o OutOfRange e.1 },
   );
 }
 
-place_judged : (d : Data) → Judges machine_faults (IsPlace d) (PlaceFault d) (place_at d)
-place_judged d = required_judged machine_faults Place NoPlace place_of place_told (as_integer d)
+word_address_judged : (d : Data) → Judges machine_faults (IsWordAddress d) (WordAddressFault d) (word_address_at d)
+word_address_judged d = required_judged machine_faults WordAddress NoWordAddress word_address_of word_address_told (as_integer d)
 
 -- ## One word
 
 module _ (ms : Members) where
   abbrev PutAt : ℕ → Type 0
-  PutAt a = AtKey (codes "at") ms (λ e. IsPlace e a)
+  PutAt a = AtKey (codes "at") ms (λ e. IsWordAddress e a)
 
-  abbrev NeedsPlace : MachineFileFault → Type 0
-  NeedsPlace f = AtKeyOr (codes "at") ms (f ≡ WrongKind) (λ e. PlaceFault e f)
+  abbrev NeedsWordAddress : MachineFileFault → Type 0
+  NeedsWordAddress f = AtKeyOr (codes "at") ms (f ≡ WrongKind) (λ e. WordAddressFault e f)
 
-  place_in_judged : Judges machine_faults PutAt NeedsPlace (place_in ms)
-  place_in_judged =
-      required_judged machine_faults IsPlace PlaceFault place_at place_judged (get_member (codes "at") ms)
+  word_address_in_judged : Judges machine_faults PutAt NeedsWordAddress (word_address_in ms)
+  word_address_in_judged =
+      required_judged machine_faults IsWordAddress WordAddressFault word_address_at word_address_judged (get_member (codes "at") ms)
 
 abbrev PutWordStates : Members → ℕ × ℕ → Type 0
 PutWordStates ms w = PutAt ms w.0 × Word ms (codes "value") w.1
 
 abbrev PutWordFaults : Members → MachineFileFault → Type 0
-PutWordFaults ms f = NeedsPlace ms f ⊎ NeedsWord ms (codes "value") f
+PutWordFaults ms f = NeedsWordAddress ms f ⊎ NeedsWord ms (codes "value") f
 
 put_word_judged : (d : Data) → Judges machine_faults (IsPutWord d) (PutWordFault d) (put_word_at d)
 put_word_judged d =
@@ -82,16 +82,16 @@ put_word_judged d =
     word_keys
     PutWordStates
     PutWordFaults
-    (λ ms. both machine_faults (place_in ms) (word_in (codes "value") ms))
-    (λ ms. joint (place_in_judged ms) (word ms (codes "value")))
+    (λ ms. both machine_faults (word_address_in ms) (word_in (codes "value") ms))
+    (λ ms. joint (word_address_in_judged ms) (word ms (codes "value")))
     d
 
 module _ (f : MachineFileFault) where
-  place_low : (d : Data) → PlaceFault d f → IsLow f
-  place_low d h = match_low f _ (λ z x. low_at f OutOfRange (omega arith) x.1) (as_integer d) h
+  word_address_low : (d : Data) → WordAddressFault d f → IsLow f
+  word_address_low d h = match_low f _ (λ z x. low_at f OutOfRange (omega arith) x.1) (as_integer d) h
 
   put_word_faults_low : (ms : Members) → PutWordFaults ms f → IsLow f
-  put_word_faults_low ms (inl h) = match_low f _ place_low (get_member (codes "at") ms) h
+  put_word_faults_low ms (inl h) = match_low f _ word_address_low (get_member (codes "at") ms) h
   put_word_faults_low ms (inr h) = needs_low f (codes "value") ms h
 
   put_word_low : (d : Data) → PutWordFault d f → IsLow f
@@ -143,7 +143,7 @@ module _ (ms : Members) where
   abbrev Once : List (ℕ × ℕ) → List (ℕ × ℕ) → Type 0
   Once a b = (b ≡ a) × (are_distinct (keys_of a) ≡ true)
 
-  pub words_judged : Judges machine_faults WordsStates (λ f. WordsFault f ⊎ WordTwiceFault f) (words_in ms)
+  pub words_judged : Judges machine_faults WordsStates (λ f. WordsFault f ⊎ WordTwiceFault f) (put_words_in ms)
   words_judged =
       judged_as
       machine_faults
@@ -153,13 +153,13 @@ module _ (ms : Members) where
       (λ f. WordsFault f ⊎ WordTwiceFault f)
       (λ b. (λ t. subst WordsStates (sym t.2.0) (t.1, t.2.1), λ w. (b, w.0, (refl, w.1))))
       (λ f. (λ h. h, λ h. h))
-      (words_in ms)
+      (put_words_in ms)
       (and_then_judged machine_faults WordsListed WordsFault WordTwiceFault Once once (λ a s. one_test machine_faults a (are_distinct (keys_of a)) (IsWordTwice ms) (once_iff a s) Twice) words_higher _ listed_judged)
 
 -- ## Where the words stand
 
-place_held : (d : Data) (word : ℕ × ℕ) → IsPutWord d word → IsTrue (may_hold word.0)
-place_held d word h =
+word_address_held : (d : Data) (word : ℕ × ℕ) → IsPutWord d word → IsTrue (may_hold word.0)
+word_address_held d word h =
     some_fact _ _ (λ t x. some_fact _ _ (λ v p. some_fact _ _ (λ z q. q.1) (as_integer v) p) (get_member (codes "at") t) x.1.0) (as_table d) h
 
 all_held : (ds : List Data) (words : List (ℕ × ℕ)) → AllZip IsPutWord ds words → All (λ e. IsTrue (may_hold e.0)) words
@@ -167,7 +167,7 @@ all_held [] [] h = λ k d lt. absurd (omega (arith, lt))
 all_held [] (w ∷ ws) h = absurd h
 all_held (d ∷ ds) [] h = λ k d lt. absurd (omega (arith, lt))
 all_held (d ∷ ds) (w ∷ ws) h =
-    All-cons (λ e. IsTrue (may_hold e.0)) w ws (place_held d w h.0) (all_held ds ws h.1)
+    All-cons (λ e. IsTrue (may_hold e.0)) w ws (word_address_held d w h.0) (all_held ds ws h.1)
 
 pub words_held : (ms : Members) (words : List (ℕ × ℕ))
     → tables_at machine_faults put_word_at (get_member (codes "word") ms) ≡ Ok words

@@ -27,7 +27,7 @@ use Rattle.machine_file.specs.declared.machine_faults.MachineFileFault.TheVarian
 pub data Takes : Type 0 where
   UpTo : ℕ → Takes
   Address : Takes
-  Place : Takes
+  WordAddress : Takes
   Size : Takes
   ModeName : Takes
   FlagLetters : Takes
@@ -87,9 +87,9 @@ event_shape = record {
       ∷ [];
 }
 
-abbrev pub word_shape : Shape
-word_shape =
-    record { keys = word_keys; rows = needs (codes "at") Place ∷ needs (codes "value") Word ∷ [] }
+abbrev pub put_word_shape : Shape
+put_word_shape =
+    record { keys = word_keys; rows = needs (codes "at") WordAddress ∷ needs (codes "value") Word ∷ [] }
 
 -- ## The tables of a file
 
@@ -100,7 +100,7 @@ OfSomeTable P ms =
     ⊎ AtKey (codes "registers") ms (λ d. IsSomeAnd (as_table d) (P register_shape))
     ⊎ Any (λ d. IsSomeAnd (as_table d) (P map_shape)) (entries_at (codes "map") ms)
     ⊎ Any (λ d. IsSomeAnd (as_table d) (P event_shape)) (entries_at (codes "event") ms)
-    ⊎ Any (λ d. IsSomeAnd (as_table d) (P word_shape)) (entries_at (codes "word") ms)
+    ⊎ Any (λ d. IsSomeAnd (as_table d) (P put_word_shape)) (entries_at (codes "word") ms)
 
 -- ## A key that its table may not have
 
@@ -117,7 +117,7 @@ LacksKey shape ms = Any (λ row. (row.required ≡ true) × (get_member row.key 
 abbrev pub IsOtherKind : Takes → Data → Type 0
 IsOtherKind (UpTo limit) d = as_integer d ≡ None
 IsOtherKind Address d = as_integer d ≡ None
-IsOtherKind Place d = as_integer d ≡ None
+IsOtherKind WordAddress d = as_integer d ≡ None
 IsOtherKind Size d = as_integer d ≡ None
 IsOtherKind ModeName d = option_and_then named_mode (as_str d) ≡ None
 IsOtherKind FlagLetters d = MatchOption (as_str d) ⊤ (λ text. list_all is_letter text ≡ false)
@@ -145,13 +145,13 @@ HasWrongKind ms =
 -- ## A number that its key does not take, or a page that cannot be mapped
 
 -- no multiple of 4, negative, past 3FFFFFC, or in I/O
-abbrev pub IsNoPlace : ℤ → Type 0
-IsNoPlace z = (n : ℕ) → z ≡ pos n → ¬ IsTrue (may_hold n)
+abbrev pub IsNoWordAddress : ℤ → Type 0
+IsNoWordAddress z = (n : ℕ) → z ≡ pos n → ¬ IsTrue (may_hold n)
 
 abbrev pub IsOtherNumber : Takes → Data → Type 0
 IsOtherNumber (UpTo limit) d = IsSomeAnd (as_integer d) (IsOutside limit)
 IsOtherNumber Address d = IsSomeAnd (as_integer d) IsNoAddress
-IsOtherNumber Place d = IsSomeAnd (as_integer d) IsNoPlace
+IsOtherNumber WordAddress d = IsSomeAnd (as_integer d) IsNoWordAddress
 IsOtherNumber Size d = IsSomeAnd (as_integer d) (λ z. (size : PageSize) → z ≢ pos (kilobytes size))
 IsOtherNumber _ d = ⊥
 
@@ -190,7 +190,7 @@ IsPageTwice ms =
 abbrev pub IsStepTwice : Members → Type 0
 IsStepTwice ms = are_distinct (numbers_at (codes "step") (entries_at (codes "event") ms)) ≡ false
 
--- the address of a word
+-- the address of a word that is put into memory
 abbrev pub IsWordTwice : Members → Type 0
 IsWordTwice ms = are_distinct (numbers_at (codes "at") (entries_at (codes "word") ms)) ≡ false
 

@@ -243,26 +243,31 @@ schedule_in ms = seen schedule_of (both machine_faults (counts_in ms) (events_in
 -- ## Words put into memory
 
 -- the address of a word in RAM or in ROM
-abbrev pub place_of : ℤ → Read ℕ
-place_of (pos n) = if may_hold n then Ok n else Err OutOfRange
-place_of (negsuc n) = Err OutOfRange
+abbrev pub word_address_of : ℤ → Read ℕ
+word_address_of (pos n) = if may_hold n then Ok n else Err OutOfRange
+word_address_of (negsuc n) = Err OutOfRange
 
-abbrev pub place_at : Data → Read ℕ
-place_at d = required machine_faults (as_integer d) place_of
+abbrev pub word_address_at : Data → Read ℕ
+word_address_at d = required machine_faults (as_integer d) word_address_of
 
-abbrev pub place_in : Members → Read ℕ
-place_in ms = required machine_faults (get_member (codes "at") ms) place_at
+abbrev pub word_address_in : Members → Read ℕ
+word_address_in ms = required machine_faults (get_member (codes "at") ms) word_address_at
 
 -- a word, by its address
 abbrev pub put_word_in : Members → Read (ℕ × ℕ)
 put_word_in ms =
-    of_keys machine_faults word_keys ms (both machine_faults (place_in ms) (word_in (codes "value") ms))
+    of_keys
+    machine_faults
+    word_keys
+    ms
+    (both machine_faults (word_address_in ms) (word_in (codes "value") ms))
 
 abbrev pub put_word_at : Data → Read (ℕ × ℕ)
 put_word_at d = required machine_faults (as_table d) put_word_in
 
-abbrev pub words_in : Members → Read (List (ℕ × ℕ))
-words_in ms = and_then (tables_at machine_faults put_word_at (get_member (codes "word") ms)) once
+-- in the text's order, no two at one address
+abbrev pub put_words_in : Members → Read (List (ℕ × ℕ))
+put_words_in ms = and_then (tables_at machine_faults put_word_at (get_member (codes "word") ms)) once
 
 -- ## The file
 
@@ -277,7 +282,7 @@ machine_in ms =
     ms
     (seen stated_of
     (both machine_faults (processor_in ms)
-    (both machine_faults (controller_in ms) (both machine_faults (schedule_in ms) (words_in ms)))))
+    (both machine_faults (controller_in ms) (both machine_faults (schedule_in ms) (put_words_in ms)))))
 
 -- the answer to a text, but for lack of memory
 abbrev pub IsMachineFile : List ℕ → Read Stated → Type 0

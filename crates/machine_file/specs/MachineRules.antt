@@ -35,8 +35,8 @@ abbrev pub IsAddress : Data → ℕ → Type 0
 IsAddress d n = IsSomeAnd (as_integer d) (λ z. (z ≡ pos n) × IsInSpace n)
 
 -- the address of a word in RAM or in ROM
-abbrev pub IsPlace : Data → ℕ → Type 0
-IsPlace d n = IsSomeAnd (as_integer d) (λ z. (z ≡ pos n) × IsTrue (may_hold n))
+abbrev pub IsWordAddress : Data → ℕ → Type 0
+IsWordAddress d n = IsSomeAnd (as_integer d) (λ z. (z ≡ pos n) × IsTrue (may_hold n))
 
 -- the size of a page in KB
 abbrev pub kilobytes : PageSize → ℕ
@@ -101,7 +101,9 @@ abbrev pub IsPutWord : Data → ℕ × ℕ → Type 0
 IsPutWord d word =
     IsTable
     word_keys
-    (λ ms. AtKey (codes "at") ms (λ e. IsPlace e word.0) × AtKey (codes "value") ms (λ e. IsWord e word.1))
+    (λ ms.
+    AtKey (codes "at") ms (λ e. IsWordAddress e word.0)
+    × AtKey (codes "value") ms (λ e. IsWord e word.1))
     d
 
 -- ## What the file states

@@ -1,4 +1,4 @@
--- The words and names of machine files, and the keys of their tables (our own format).
+-- The names in machine files, and the keys of their tables (our own format).
 use Rattle.std.specs.Prelude.{ℕ, List, [], ◌∷◌, map, codes, Option, Some, None, if◌then◌else◌}
 use Rattle.std.specs.Str.{bytes_eq}
 use Rattle.arm2_effect.specs.declared.modes.Mode.{Mode}
@@ -64,7 +64,7 @@ event_keys = codes "step" ∷ codes "bursts" ∷ codes "lines" ∷ codes "port" 
 abbrev pub word_keys : List (List ℕ)
 word_keys = codes "at" ∷ codes "value" ∷ []
 
--- ## Words
+-- ## Names of modes
 
 abbrev pub named_mode : List ℕ → Option Mode
 named_mode w = if bytes_eq w (codes "user") then Some User else (if bytes_eq w (codes "fiq") then Some Fiq

@@ -4,7 +4,7 @@ ghost use Rattle.toml.specs.View.{table_view};
 ghost use Rattle.toml_reading.specs.Readings.{both, seen};
 ghost use Rattle.machine_file.specs.MachineFaults.{machine_faults};
 ghost use Rattle.machine_file.specs.MachineFile.{IsMachineFile, controller_in, machine_in, processor_in};
-ghost use Rattle.machine_file.specs.MachineFile.{schedule_in, stated_of, words_in};
+ghost use Rattle.machine_file.specs.MachineFile.{schedule_in, stated_of, put_words_in};
 
 use crate::events::{Event, Schedule, read_schedule};
 use crate::flags::PsrFlags;
@@ -140,7 +140,7 @@ impl MachineFile {
     /// the text: no two at one address, none in I/O.
     pub fn words(&self) -> &[(u32, u32)]
         ensures words { result.now ≡ self.now.words }
-        ensures places { All (λ e. IsTrue (may_hold e.0)) result.now }
+        ensures addresses { All (λ e. IsTrue (may_hold e.0)) result.now }
         ensures below { All (λ e. e.0 < 2 ^ 26) result.now }
     {
         &self.words.words
@@ -155,7 +155,7 @@ type Parts = (Processor, (Controller, Given));
 fn given(alloc: Global, table: &Table) -> Result<Read<Given>, AllocError>
     ensures { IfOk result
         (λ parts. parts
-        ≡ both machine_faults (schedule_in (table_view table.now)) (words_in (table_view table.now))) }
+        ≡ both machine_faults (schedule_in (table_view table.now)) (put_words_in (table_view table.now))) }
 {
     let schedule = read_schedule(alloc, table)?;
     Ok(pair(schedule, read_words(alloc, table)?))
@@ -166,7 +166,7 @@ fn surroundings(alloc: Global, table: &Table) -> Result<Read<(Controller, Given)
     ensures { IfOk result
         (λ parts. parts
         ≡ both machine_faults (controller_in (table_view table.now))
-        (both machine_faults (schedule_in (table_view table.now)) (words_in (table_view table.now)))) }
+        (both machine_faults (schedule_in (table_view table.now)) (put_words_in (table_view table.now)))) }
 {
     let controller = read_controller(alloc, table)?;
     Ok(pair(controller, given(alloc, table)?))
@@ -177,7 +177,7 @@ fn parts(alloc: Global, table: &Table) -> Result<Read<Parts>, AllocError>
         (λ parts. parts
         ≡ both machine_faults (processor_in (table_view table.now))
         (both machine_faults (controller_in (table_view table.now))
-        (both machine_faults (schedule_in (table_view table.now)) (words_in (table_view table.now))))) }
+        (both machine_faults (schedule_in (table_view table.now)) (put_words_in (table_view table.now))))) }
 {
     let processor = read_processor(alloc, table)?;
     Ok(pair(processor, surroundings(alloc, table)?))

@@ -3,8 +3,9 @@ ghost use Rattle.std.specs.Map.{keys_of};
 ghost use Rattle.toml.specs.View.{table_view, view};
 ghost use Rattle.loader.specs.Image.{may_hold};
 ghost use Rattle.toml_reading.specs.Documents.{are_distinct};
-ghost use Rattle.machine_file.specs.MachineFile.{once, place_at, place_in, place_of, put_word_at};
-ghost use Rattle.machine_file.specs.MachineFile.{put_word_in, words_in};
+ghost use Rattle.machine_file.specs.MachineFile.{once, put_word_at, word_address_at, word_address_in};
+ghost use Rattle.machine_file.specs.MachineFile.{word_address_of};
+ghost use Rattle.machine_file.specs.MachineFile.{put_word_in, put_words_in};
 
 use crate::machine_faults::{MachineFileFault, Read};
 use loader::may_hold;
@@ -18,8 +19,8 @@ use toml_reading::{
 /// The keys of the table of a word that is put into memory.
 const WORD_KEYS: &[&str] = &["at", "value"];
 
-fn place_numbered(number: i64) -> Read<u32>
-    ensures { result ≡ place_of number }
+fn word_address_numbered(number: i64) -> Read<u32>
+    ensures { result ≡ word_address_of number }
 {
     match u32::try_from(number) {
         Ok(address) => {
@@ -33,20 +34,20 @@ fn place_numbered(number: i64) -> Read<u32>
     }
 }
 
-fn place_value(value: &Value) -> Read<u32>
-    ensures { result ≡ place_at (view value.now) }
+fn word_address_value(value: &Value) -> Read<u32>
+    ensures { result ≡ word_address_at (view value.now) }
 {
     match value.as_integer() {
-        Some(number) => place_numbered(number),
+        Some(number) => word_address_numbered(number),
         None => Err(MachineFileFault::WrongKind),
     }
 }
 
-fn place(table: &Table) -> Read<u32>
-    ensures { result ≡ place_in (table_view table.now) }
+fn word_address(table: &Table) -> Read<u32>
+    ensures { result ≡ word_address_in (table_view table.now) }
 {
     match value_at(table, "at") {
-        Some(value) => place_value(value),
+        Some(value) => word_address_value(value),
         None => Err(MachineFileFault::WrongKind),
     }
 }
@@ -54,7 +55,10 @@ fn place(table: &Table) -> Read<u32>
 fn put_word(table: &Table) -> Read<(u32, u32)>
     ensures { result ≡ put_word_in (table_view table.now) }
 {
-    let word = pair(place(table), required_number(table, "value", u32::MAX));
+    let word = pair(
+        word_address(table),
+        required_number(table, "value", u32::MAX),
+    );
     check(
         only_keys(WORD_KEYS, table),
         MachineFileFault::UnknownKey,
@@ -110,7 +114,7 @@ fn each_once(alloc: Global, words: Vec<(u32, u32)>) -> Result<Read<PutWords>, Al
 
 /// The words that the file's table states.
 pub(crate) fn read_words(alloc: Global, table: &Table) -> Result<Read<PutWords>, AllocError>
-    ensures { IfOk result (λ reading. reading ≡ words_in (table_view table.now)) }
+    ensures { IfOk result (λ reading. reading ≡ put_words_in (table_view table.now)) }
 {
     match tables(alloc, &(), value_at(table, "word"))? {
         Ok(words) => each_once(alloc, words),
