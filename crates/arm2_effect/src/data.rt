@@ -5,7 +5,6 @@ ghost use Rattle.arm2_effect.specs.Operations.{data_register_shift_effect, enter
 ghost use Rattle.arm2_effect.specs.Operations.{next_r15, placed};
 ghost use Rattle.arm2_effect.specs.ProgramCounter.{psr_with};
 
-use crate::step_end::{Done, Kind};
 use crate::modes::Reg;
 use crate::outcomes::{Outcome, flags_after, outcome_of};
 use crate::prices::Prices;
@@ -13,6 +12,7 @@ use crate::program_counter::{
     address_of, ahead, flags_of, jumped, mode_of, psr_of, r15_of, restored,
 };
 use crate::registers::Registers;
+use crate::step_end::{Done, Kind};
 use arm2_decode::{DataImmediate, DataRegister, DataRegisterShift, Flags, Opcode, Register};
 
 // The fields of a data processing word that say where its outcome goes.

@@ -2,11 +2,11 @@ ghost use Rattle.std.specs.Prelude.{◌≡◌, ◌<◌, ◌%◌, ◌^◌, false}
 ghost use Rattle.arm2_effect.specs.Effects.{IsEffect, is_stopped, skipped};
 ghost use Rattle.arm2_effect.specs.Exceptions.{entry_at, masked, taken};
 
-use crate::step_end::{Done, Kind};
 use crate::modes::{Mode, Reg};
 use crate::prices::Prices;
 use crate::program_counter::{address_of, advanced, psr_of, r15_of};
 use crate::registers::Registers;
+use crate::step_end::{Done, Kind};
 use arm2_decode::Register;
 
 /// An exception that is taken by a step.

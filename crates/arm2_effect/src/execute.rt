@@ -6,13 +6,13 @@ ghost use Rattle.arm2_effect.specs.Effects.{IsEffect, is_stopped};
 ghost use Rattle.arm2_effect.specs.Operations.{branch_effect, cycles_of, is_transfer};
 ghost use Rattle.arm2_effect.specs.Operations.{multiply_effect, operation_effect, product_of};
 
-use crate::step_end::{Done, Kind};
 use crate::exceptions::Vector;
 use crate::modes::Reg;
 use crate::outcomes::Outcome;
 use crate::prices::Prices;
 use crate::program_counter::{address_of, advanced, ahead, flags_of, mode_of, psr_of, r15_of};
 use crate::registers::Registers;
+use crate::step_end::{Done, Kind};
 use arm2_decode::{Branch, Cond, Multiply, Operation, Register, holds};
 use shifter::multiply_cycles;
 
