@@ -266,12 +266,7 @@ impl Memc {
         ensures shift { result ≡ self.now.shift }
         ensures bounds { (12 ≤ result) × (result ≤ 15) }
     {
-        match &self.sized {
-            Sized::K4(_) => 12,
-            Sized::K8(_) => 13,
-            Sized::K16(_) => 14,
-            Sized::K32(_) => 15,
-        }
+        each_size!(&self.sized, pages, pages.shift())
     }
 
     fn limit(&self) -> u32

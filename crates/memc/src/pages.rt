@@ -1,4 +1,4 @@
-ghost use Rattle.std.specs.Prelude.{◌≡◌, ◌*◌, ◌/◌, ◌^◌, ◌<◌, slice_index, slice_set, IfOk, IfSome};
+ghost use Rattle.std.specs.Prelude.{◌≡◌, ◌*◌, ◌/◌, ◌^◌, ◌<◌, ◌≤◌, slice_index, slice_set, IfOk, IfSome};
 ghost use Rattle.memc.specs.Paged.{Paged, IsShift, page_at, mapped, unmapped, IsFresh, IsWhole, place_of};
 
 use std::alloc::{AllocError, Global};
@@ -50,6 +50,15 @@ impl<const SHIFT: u32> Pages<SHIFT> {
         }
         let words = vec![in alloc; 0; 1usize << (SHIFT + 5)]?;
         Ok(Pages { words, table, held })
+    }
+
+    /// A page is 2^shift bytes.
+    pub fn shift(&self) -> u32
+        ensures shift { result ≡ SHIFT }
+        ensures bounds { (12 ≤ result) × (result ≤ 15) }
+    {
+        let _words = &self.words;
+        SHIFT
     }
 
     /// The bytes of the fitted RAM.

@@ -1,4 +1,5 @@
-ghost use Rattle.std.specs.Prelude.{◌≡◌};
+ghost use Rattle.std.specs.Prelude.{◌≡◌, ◌≤◌};
+ghost use Rattle.memc.specs.Memory.{shift_of_size};
 
 use std::alloc::{AllocError, AllocFailed};
 use thiserror::Error;
@@ -14,6 +15,21 @@ pub enum PageSize {
     K16,
     /// 32 KB
     K32,
+}
+
+impl PageSize {
+    /// The number of bits of a place in a page: a page is 2^shift bytes.
+    pub fn shift(self) -> u32
+        ensures shift { result ≡ shift_of_size self }
+        ensures bounds { (12 ≤ result) × (result ≤ 15) }
+    {
+        match self {
+            PageSize::K4 => 12,
+            PageSize::K8 => 13,
+            PageSize::K16 => 14,
+            PageSize::K32 => 15,
+        }
+    }
 }
 
 /// What answers an access.
