@@ -101,17 +101,6 @@ impl Entry<(), MachineFileFault> for MappedPage {
     }
 }
 
-fn shift_of(size: PageSize) -> u32
-    ensures { result ≡ shift_of_size size }
-{
-    match size {
-        PageSize::K4 => 12,
-        PageSize::K8 => 13,
-        PageSize::K16 => 14,
-        PageSize::K32 => 15,
-    }
-}
-
 fn is_mappable(shift: u32, page: MappedPage) -> bool
     requires { shift ≤ 15 }
     ensures { result ≡ is_mappable shift page }
@@ -122,7 +111,7 @@ fn is_mappable(shift: u32, page: MappedPage) -> bool
 fn are_mappable(size: PageSize, pages: &[MappedPage]) -> bool
     ensures { result ≡ list_all (is_mappable (shift_of_size size)) pages.now }
 {
-    let shift = shift_of(size);
+    let shift = size.shift();
     pages.iter().all(|page| is_mappable(shift, *page))
 }
 
