@@ -12,7 +12,7 @@ use Rattle.asm_text.specs.Registers.{register_comma_first}
 use Rattle.asm_text.specs.Words.{IsSpelling, spelled_word_of}
 use Rattle.asm_text.specs.Said.{Target, Number, Label, Said, Codes, Refers, Orgs, Lists}
 use Rattle.asm_text.specs.Operands.{address_of, block_of, data_of, is_byte, is_user, product_of}
-use Rattle.asm_text.specs.Statements.{Parsed, action_of, behind_label, behind_word, body, body_len, body_says, code_said, is_comment_text, is_label, is_text, is_text_line, line_of, only_number, only_target, operands_of, or_bad, parsed, plain_said, refers, single_said, single_with, statement_of, values_in, with_label, with_word, word_ends}
+use Rattle.asm_text.specs.Statements.{Parsed, action_of, after_label, after_word, body, body_len, body_says, code_said, is_comment_text, is_label, is_text, is_text_line, line_of, only_number, only_target, operands_of, or_bad, parsed, plain_said, refers, single_said, single_with, statement_of, values_in, with_label, with_word, word_ends}
 use Rattle.asm_text.specs.SpelledOperands.{IsRegister}
 use Rattle.asm_text.specs.Spelling.{IsComment, Spells, SpellsAction, SpellsOperands, SpellsParts, SpellsSaid, SpellsTarget, SpellsUse}
 use Rattle.asm_text.specs.declared.token.Mark.TheVariants.{OpenBracket}
@@ -157,15 +157,15 @@ or_bad_is : (o : Option Said) (x : Said) → or_bad o ≡ Ok x → o ≡ Some x
 or_bad_is None x e = absurd cc
 or_bad_is (Some y) x e = cc
 
-behind_is : (w : List ℕ) (v : Word) (ps : List Piece) (x : Said) → IsSpelling w v → behind_word v ps ≡ Ok x → SpellsSaid x (Run w ∷ ps)
-behind_is w v (Gap ∷ ps) x is e =
+after_word_is : (w : List ℕ) (v : Word) (ps : List Piece) (x : Said) → IsSpelling w v → after_word v ps ≡ Ok x → SpellsSaid x (Run w ∷ ps)
+after_word_is w v (Gap ∷ ps) x is e =
     record { name = w; word = v; rest = ps; spelled = refl; word-is = is; operands = operands_is v ps x (or_bad_is (operands_of v ps) x e) }
-behind_is w v (Sign m ∷ ps) x is e = absurd cc
-behind_is w v _ x is e = absurd cc
+after_word_is w v (Sign m ∷ ps) x is e = absurd cc
+after_word_is w v _ x is e = absurd cc
 
 with_word_is : (o : Option Word) (w : List ℕ) (ps : List Piece) (x : Said) → spelled_word_of w ≡ o → with_word o ps ≡ Ok x → SpellsSaid x (Run w ∷ ps)
 with_word_is None w ps x is e = absurd cc
-with_word_is (Some v) w ps x is e = behind_is w v ps x (spelled_is w v is) e
+with_word_is (Some v) w ps x is e = after_word_is w v ps x (spelled_is w v is) e
 
 statement_is : (ps : List Piece) (x : Said) → statement_of ps ≡ Ok x → SpellsSaid x ps
 statement_is (Run w ∷ ps) x e = with_word_is (spelled_word_of w) w ps x refl e
@@ -186,7 +186,7 @@ with_label_is : (l : Option (List ℕ)) (r : Result Said TextFault) (p : Parsed)
 with_label_is l (Ok x) p e = (x, refl, ok_is (record { label = l; said = Some x }) p e)
 with_label_is l (Err fault) p e = absurd cc
 
-label_is : (l : List ℕ) (ps : List Piece) (p : Parsed) → is_label l ≡ true → behind_label l ps ≡ Ok p → PartsOf (Run l ∷ ps) p
+label_is : (l : List ℕ) (ps : List Piece) (p : Parsed) → is_label l ≡ true → after_label l ps ≡ Ok p → PartsOf (Run l ∷ ps) p
 label_is l [] p is e = subst (PartsOf (Run l ∷ [])) (ok_is (record { label = Some l; said = None }) p e) (refl, is)
 label_is l (Gap ∷ ps) p is e =
     let k = with_label_is (Some l) (statement_of ps) p e in
@@ -199,7 +199,7 @@ parts_is (Gap ∷ ps) p e =
     let k = with_label_is None (statement_of ps) p e in
     subst (PartsOf (Gap ∷ ps)) k.2 (ps, refl, statement_is ps k.0 k.1)
 parts_is (Run l ∷ ps) p e =
-    elim (chosen (is_label l) (behind_label l ps) (Err UnknownWord) (Ok p) e) [
+    elim (chosen (is_label l) (after_label l ps) (Err UnknownWord) (Ok p) e) [
       | inl h ↦ label_is l ps p h.0 h.1
       | inr h ↦ let k = h.1 in absurd cc
     ]
@@ -277,6 +277,6 @@ pub line_again : (line : List ℕ) (p : Parsed) → Spells p line → line_of li
 line_again line p h =
     let len : body_len line ≡ length h.body = ap body_len h.parts ∙ front_len h.body h.comment h.no_semicolon h.comment-is in
     let front : body line ≡ h.body = ap (λ n. take n line) len ∙ ap (take (length h.body)) h.parts ∙ take_front h.body h.comment in
-    let behind : drop (body_len line) line ≡ h.comment = ap (λ n. drop n line) len ∙ ap (drop (length h.body)) h.parts ∙ drop_front h.body h.comment in
+    let after : drop (body_len line) line ≡ h.comment = ap (λ n. drop n line) len ∙ ap (drop (length h.body)) h.parts ∙ drop_front h.body h.comment in
     let said : parsed (pieces h.body) ≡ Ok p = ap parsed (pieces_again h.pieces h.body h.written h.spaced) ∙ parts_again p.label p.said h.pieces h.spelled in
-    rw (front, behind, h.text, comment_text h.comment h.comment-is) (body_said h.body p said)
+    rw (front, after, h.text, comment_text h.comment h.comment-is) (body_said h.body p said)

@@ -11,7 +11,7 @@ use Rattle.arm2_decode.specs.Names.{register_number}
 use Rattle.asm_text.specs.Pieces.{Piece, Run, Comma, Sign}
 use Rattle.asm_text.specs.Numbers.{hex_first, number_by, run_number, with_rest}
 use Rattle.asm_text.specs.Registers.{register_first, register_of}
-use Rattle.asm_text.specs.Operands.{behind_step, block, block_based, block_of, braced, caret_of, list_behind, list_by, run_bits, with_bits}
+use Rattle.asm_text.specs.Operands.{after_step, block, block_based, block_of, braced, caret_of, list_from, list_by, run_bits, with_bits}
 use Rattle.asm_text.specs.Statements.{is_label, only_target, run_target, target_by, values_in, with_value}
 use Rattle.asm_text.specs.Said.{Target, Number, Label}
 use Rattle.asm_text.specs.SpelledOperands.{IsDigits, IsRegister, Listed, SpellsBlock, SpellsNumber, SpellsRun, all_bits, bits_of, marked}
@@ -56,7 +56,7 @@ unfolding Ended Runs To
 Left place.Start list f ps = Runs list f ps
 Left (place.First a) list f ps = ((qs : List Piece) × (ps ≡ Sign Minus ∷ qs) × To list a f qs) ⊎ Ended (bit_or list (bits_of (a, a))) f ps
 Left (place.To a) list f ps = To list a f ps
-Left place.Behind list f ps = Ended list f ps
+Left place.After list f ps = Ended list f ps
 
 run_added : (list : ℕ) (run : Register × Register) (f : ℕ × List Piece) (a qs : List Piece) → SpellsRun run a → Ended (bit_or list (bits_of run)) f qs → Runs list f (a ++ qs)
 unfolding Ended Runs
@@ -92,8 +92,8 @@ on_with : (ℕ → Place → Option (ℕ × List Piece)) → List Piece → Step
 on_with on ps s = list_by on ps (Some s)
 
 ended_is : (list : ℕ) (p : Piece) (ps : List Piece) (f : ℕ × List Piece)
-    → ((m : ℕ) → list_behind m place.Start ps ≡ Some f → Runs m f ps)
-    → list_by (λ more next. list_behind more next ps) ps (behind_step list p) ≡ Some f → Ended list f (p ∷ ps)
+    → ((m : ℕ) → list_from m place.Start ps ≡ Some f → Runs m f ps)
+    → list_by (λ more next. list_from more next ps) ps (after_step list p) ≡ Some f → Ended list f (p ∷ ps)
 unfolding Ended Runs
 ended_is list Comma ps f start e = inr (ps, refl, start list e)
 ended_is list (Sign CloseBrace) ps f start e = let same = some_is (list, ps) f e in inl (ap (λ (g : ℕ × List Piece). Sign CloseBrace ∷ g.1) same, sym (ap (λ (g : ℕ × List Piece). g.0) same))
@@ -101,24 +101,24 @@ ended_is list _ ps f start e = absurd (none-some f e)
 
 -- after a register that is alone
 alone_is : (list : ℕ) (a : Register) (p : Piece) (ps : List Piece) (f : ℕ × List Piece)
-    → ((m : ℕ) → list_behind m place.Start ps ≡ Some f → Runs m f ps)
-    → list_by (λ more next. list_behind more next ps) ps (option_and_then (λ more. behind_step more p) (with_bits list (run_bits a a))) ≡ Some f → Ended (bit_or list (bits_of (a, a))) f (p ∷ ps)
+    → ((m : ℕ) → list_from m place.Start ps ≡ Some f → Runs m f ps)
+    → list_by (λ more next. list_from more next ps) ps (option_and_then (λ more. after_step more p) (with_bits list (run_bits a a))) ≡ Some f → Ended (bit_or list (bits_of (a, a))) f (p ∷ ps)
 alone_is list a p ps f start e =
-    let s = by_is (λ more next. list_behind more next ps) ps (option_and_then (λ more. behind_step more p) (with_bits list (run_bits a a))) f e in
-    let m = and_then_is (λ more. behind_step more p) (with_bits list (run_bits a a)) s.0 s.1 in
+    let s = by_is (λ more next. list_from more next ps) ps (option_and_then (λ more. after_step more p) (with_bits list (run_bits a a))) f e in
+    let m = and_then_is (λ more. after_step more p) (with_bits list (run_bits a a)) s.0 s.1 in
     let b = map_is (bit_or list) (run_bits a a) m.0 m.1 in
     let k = bits_is a a b.0 b.1 in
-    let on = λ (more : ℕ) (next : Place). list_behind more next ps in
-    let there : list_by on ps (behind_step m.0 p) ≡ Some f = ap (list_by on ps) m.2 ∙ s.2 in
+    let on = λ (more : ℕ) (next : Place). list_from more next ps in
+    let there : list_by on ps (after_step m.0 p) ≡ Some f = ap (list_by on ps) m.2 ∙ s.2 in
     subst (λ n. Ended n f (p ∷ ps)) (sym b.2 ∙ ap (bit_or list) k.1) (ended_is m.0 p ps f start there)
 
-left_is : (ps : List Piece) (at : Place) (list : ℕ) (f : ℕ × List Piece) → list_behind list at ps ≡ Some f → Left at list f ps
+left_is : (ps : List Piece) (at : Place) (list : ℕ) (f : ℕ × List Piece) → list_from list at ps ≡ Some f → Left at list f ps
 unfolding Left To Ended Runs
 left_is [] at list f e = absurd (none-some f e)
 left_is (Run t ∷ ps) place.Start list f e =
-    let s = by_is (λ more next. list_behind more next ps) ps (option_map (λ r. step.Goes list (place.First r)) (register_of t)) f e in
+    let s = by_is (λ more next. list_from more next ps) ps (option_map (λ r. step.Goes list (place.First r)) (register_of t)) f e in
     let r = map_is (λ r. step.Goes list (place.First r)) (register_of t) s.0 s.1 in
-    let there : list_behind list (place.First r.0) ps ≡ Some f = ap (λ q. list_by (λ more next. list_behind more next ps) ps (Some q)) r.2 ∙ s.2 in
+    let there : list_from list (place.First r.0) ps ≡ Some f = ap (λ q. list_by (λ more next. list_from more next ps) ps (Some q)) r.2 ∙ s.2 in
     elim (left_is ps (place.First r.0) list f there) [
       | inl k ↦
           let to = k.2 in
@@ -130,15 +130,15 @@ left_is (p ∷ ps) place.Start list f e = absurd (none-some f e)
 left_is (Sign Minus ∷ ps) (place.First a) list f e = inl (ps, refl, left_is ps (place.To a) list f e)
 left_is (p ∷ ps) (place.First a) list f e = inr (alone_is list a p ps f (λ m. left_is ps place.Start m f) e)
 left_is (Run t ∷ ps) (place.To a) list f e =
-    let s = by_is (λ more next. list_behind more next ps) ps (option_and_then (λ last. option_map (λ more. step.Goes more place.Behind) (with_bits list (run_bits a last))) (register_of t)) f e in
-    let r = and_then_is (λ last. option_map (λ more. step.Goes more place.Behind) (with_bits list (run_bits a last))) (register_of t) s.0 s.1 in
-    let m = map_is (λ more. step.Goes more place.Behind) (with_bits list (run_bits a r.0)) s.0 r.2 in
+    let s = by_is (λ more next. list_from more next ps) ps (option_and_then (λ last. option_map (λ more. step.Goes more place.After) (with_bits list (run_bits a last))) (register_of t)) f e in
+    let r = and_then_is (λ last. option_map (λ more. step.Goes more place.After) (with_bits list (run_bits a last))) (register_of t) s.0 s.1 in
+    let m = map_is (λ more. step.Goes more place.After) (with_bits list (run_bits a r.0)) s.0 r.2 in
     let b = map_is (bit_or list) (run_bits a r.0) m.0 m.1 in
     let k = bits_is a r.0 b.0 b.1 in
-    let there : list_behind m.0 place.Behind ps ≡ Some f = ap (λ q. list_by (λ more next. list_behind more next ps) ps (Some q)) m.2 ∙ s.2 in
-    (t, r.0, ps, refl, register_is t r.0 r.1, k.0, subst (λ n. Ended n f ps) (sym b.2 ∙ ap (bit_or list) k.1) (left_is ps place.Behind m.0 f there))
+    let there : list_from m.0 place.After ps ≡ Some f = ap (λ q. list_by (λ more next. list_from more next ps) ps (Some q)) m.2 ∙ s.2 in
+    (t, r.0, ps, refl, register_is t r.0 r.1, k.0, subst (λ n. Ended n f ps) (sym b.2 ∙ ap (bit_or list) k.1) (left_is ps place.After m.0 f there))
 left_is (p ∷ ps) (place.To a) list f e = absurd (none-some f e)
-left_is (p ∷ ps) place.Behind list f e = ended_is list p ps f (λ m. left_is ps place.Start m f) e
+left_is (p ∷ ps) place.After list f e = ended_is list p ps f (λ m. left_is ps place.Start m f) e
 
 -- ---- and back
 
@@ -147,7 +147,7 @@ ends : Bool → Piece
 ends false = Comma
 ends true = Sign CloseBrace
 
-run_again : (list : ℕ) (run : Register × Register) (last : Bool) (a rest : List Piece) → SpellsRun run a → list_behind list place.Start (a ++ (ends last ∷ rest)) ≡ list_behind (bit_or list (bits_of run)) place.Behind (ends last ∷ rest)
+run_again : (list : ℕ) (run : Register × Register) (last : Bool) (a rest : List Piece) → SpellsRun run a → list_from list place.Start (a ++ (ends last ∷ rest)) ≡ list_from (bit_or list (bits_of run)) place.After (ends last ∷ rest)
 unfolding ends
 run_again list run last a rest h =
     elim h [
@@ -155,17 +155,17 @@ run_again list run last a rest h =
       | inr k ↦ rw (k.2, register_again k.0 run.0 k.3, register_again k.1 run.1 k.4, bits_again run.0 run.1 k.5) refl
     ]
   where
-    single : (t : List ℕ) (l : Bool) → IsRegister t run.0 → run.1 ≡ run.0 → list_behind list place.Start (Run t ∷ ends l ∷ rest) ≡ list_behind (bit_or list (bits_of run)) place.Behind (ends l ∷ rest)
+    single : (t : List ℕ) (l : Bool) → IsRegister t run.0 → run.1 ≡ run.0 → list_from list place.Start (Run t ∷ ends l ∷ rest) ≡ list_from (bit_or list (bits_of run)) place.After (ends l ∷ rest)
     single t true r same = rw (register_again t run.0 r, bits_again run.0 run.0 (omega arith), same) refl
     single t false r same = rw (register_again t run.0 r, bits_again run.0 run.0 (omega arith), same) refl
 
-list_again : (runs : List (Register × Register)) (a rest : List Piece) (list : ℕ) → Listed SpellsRun runs a → list_behind list place.Start (a ++ (Sign CloseBrace ∷ rest)) ≡ Some (fold bit_or list (map bits_of runs), rest)
+list_again : (runs : List (Register × Register)) (a rest : List Piece) (list : ℕ) → Listed SpellsRun runs a → list_from list place.Start (a ++ (Sign CloseBrace ∷ rest)) ≡ Some (fold bit_or list (map bits_of runs), rest)
 unfolding ends
 list_again [] a rest list h = absurd h
 list_again (run ∷ []) a rest list h = run_again list run true a rest h
 list_again (run ∷ next ∷ runs) a rest list h =
     let back : a ++ (Sign CloseBrace ∷ rest) ≡ h.0 ++ (Comma ∷ (h.1 ++ (Sign CloseBrace ∷ rest))) = rw h.2 (append_assoc h.0 (Comma ∷ h.1) (Sign CloseBrace ∷ rest)) in
-    ap (list_behind list place.Start) back ∙ run_again list run false h.0 (h.1 ++ (Sign CloseBrace ∷ rest)) h.3
+    ap (list_from list place.Start) back ∙ run_again list run false h.0 (h.1 ++ (Sign CloseBrace ∷ rest)) h.3
     ∙ list_again (next ∷ runs) h.1 rest (bit_or list (bits_of run)) h.4
 
 -- ---- blocks
@@ -183,7 +183,7 @@ caret_again false = refl
 braced_is : (load : Bool) (s : Suffix) (t : List ℕ) (n : Register) (w : Bool) (ps : List Piece) (x : BlockTransfer) → IsRegister t n → braced load s n w ps ≡ Some x → SpellsBlock load s x (Run t ∷ (marked w Bang ++ ps))
 unfolding Left Runs
 braced_is load s t n w (Comma ∷ Sign OpenBrace ∷ ps) x r e =
-    let f = and_then_is (λ f. option_map (block load s n w f.0) (caret_of f.1)) (list_behind 0 place.Start ps) x e in
+    let f = and_then_is (λ f. option_map (block load s n w f.0) (caret_of f.1)) (list_from 0 place.Start ps) x e in
     let c = map_is (block load s n w f.0.0) (caret_of f.0.1) x f.2 in
     let k = left_is ps place.Start 0 f.0 f.1 in
     let tail : ps ≡ k.1 ++ (Sign CloseBrace ∷ marked c.0 Caret) = k.2 ∙ ap (λ (qs : List Piece). k.1 ++ (Sign CloseBrace ∷ qs)) (caret_is f.0.1 c.0 c.1) in
@@ -287,7 +287,7 @@ Values : Expects → List Target → List Piece → Type 0
 unfolding Rest
 Values expects.Start vs ps = Listed SpellsTarget vs ps
 Values expects.Hex vs ps = (d : List ℕ) × (n : ℕ) × (more : List Target) × (qs : List Piece) × (ps ≡ Run d ∷ qs) × IsDigits 16 d n × (vs ≡ Number n ∷ more) × Rest more qs
-Values expects.Behind vs ps = Rest vs ps
+Values expects.After vs ps = Rest vs ps
 
 value_added : (t : Target) (vs : List Target) (a qs : List Piece) → SpellsTarget t a → Rest vs qs → Listed SpellsTarget (t ∷ vs) (a ++ qs)
 unfolding Rest
@@ -299,14 +299,14 @@ value_added t vs a qs h rest =
 
 values_is : (ps : List Piece) (at : Expects) (vs : List Target) → values_in at ps ≡ Some vs → Values at vs ps
 unfolding Values Rest
-values_is [] expects.Behind vs e = inl (refl, sym (some_is [] vs e))
+values_is [] expects.After vs e = inl (refl, sym (some_is [] vs e))
 values_is [] at vs e = absurd (none-some vs e)
 values_is (Run d ∷ ps) expects.Start vs e =
-    let k = and_then_is (λ f. option_map (with_value f.0) (values_in f.1 ps)) (option_map (λ v. (Some v, expects.Behind)) (run_target d)) vs e in
-    let v = map_is (λ v. (Some v, expects.Behind)) (run_target d) k.0 k.1 in
-    let there : option_map (with_value (Some v.0)) (values_in expects.Behind ps) ≡ Some vs = ap (λ (f : Option Target × Expects). option_map (with_value f.0) (values_in f.1 ps)) v.2 ∙ k.2 in
-    let m = map_is (with_value (Some v.0)) (values_in expects.Behind ps) vs there in
-    subst (λ (ws : List Target). Listed SpellsTarget ws (Run d ∷ ps)) m.2 (value_added v.0 m.0 (Run d ∷ []) ps (run_target_is d v.0 v.1) (values_is ps expects.Behind m.0 m.1))
+    let k = and_then_is (λ f. option_map (with_value f.0) (values_in f.1 ps)) (option_map (λ v. (Some v, expects.After)) (run_target d)) vs e in
+    let v = map_is (λ v. (Some v, expects.After)) (run_target d) k.0 k.1 in
+    let there : option_map (with_value (Some v.0)) (values_in expects.After ps) ≡ Some vs = ap (λ (f : Option Target × Expects). option_map (with_value f.0) (values_in f.1 ps)) v.2 ∙ k.2 in
+    let m = map_is (with_value (Some v.0)) (values_in expects.After ps) vs there in
+    subst (λ (ws : List Target). Listed SpellsTarget ws (Run d ∷ ps)) m.2 (value_added v.0 m.0 (Run d ∷ []) ps (run_target_is d v.0 v.1) (values_is ps expects.After m.0 m.1))
 values_is (Sign Ampersand ∷ ps) expects.Start vs e =
     let m = map_is (with_value None) (values_in expects.Hex ps) vs e in
     let h = values_is ps expects.Hex m.0 m.1 in
@@ -314,27 +314,27 @@ values_is (Sign Ampersand ∷ ps) expects.Start vs e =
     subst (λ (rs : List Piece). Listed SpellsTarget vs (Sign Ampersand ∷ rs)) (sym h.4) (subst (λ (ws : List Target). Listed SpellsTarget ws (Sign Ampersand ∷ Run h.0 ∷ h.3)) (sym h.6 ∙ m.2) front)
 values_is (p ∷ ps) expects.Start vs e = absurd (none-some vs e)
 values_is (Run d ∷ ps) expects.Hex vs e =
-    let k = and_then_is (λ f. option_map (with_value f.0) (values_in f.1 ps)) (option_map (λ n. (Some (Number n), expects.Behind)) (number_by 16 d)) vs e in
-    let n = map_is (λ n. (Some (Number n), expects.Behind)) (number_by 16 d) k.0 k.1 in
-    let there : option_map (with_value (Some (Number n.0))) (values_in expects.Behind ps) ≡ Some vs = ap (λ (f : Option Target × Expects). option_map (with_value f.0) (values_in f.1 ps)) n.2 ∙ k.2 in
-    let m = map_is (with_value (Some (Number n.0))) (values_in expects.Behind ps) vs there in
-    (d, n.0, m.0, ps, refl, digits_is 16 d n.0 n.1, sym m.2, values_is ps expects.Behind m.0 m.1)
+    let k = and_then_is (λ f. option_map (with_value f.0) (values_in f.1 ps)) (option_map (λ n. (Some (Number n), expects.After)) (number_by 16 d)) vs e in
+    let n = map_is (λ n. (Some (Number n), expects.After)) (number_by 16 d) k.0 k.1 in
+    let there : option_map (with_value (Some (Number n.0))) (values_in expects.After ps) ≡ Some vs = ap (λ (f : Option Target × Expects). option_map (with_value f.0) (values_in f.1 ps)) n.2 ∙ k.2 in
+    let m = map_is (with_value (Some (Number n.0))) (values_in expects.After ps) vs there in
+    (d, n.0, m.0, ps, refl, digits_is 16 d n.0 n.1, sym m.2, values_is ps expects.After m.0 m.1)
 values_is (p ∷ ps) expects.Hex vs e = absurd (none-some vs e)
-values_is (Comma ∷ ps) expects.Behind vs e =
+values_is (Comma ∷ ps) expects.After vs e =
     let m = map_is (with_value None) (values_in expects.Start ps) vs e in
     inr (ps, refl, subst (λ (ws : List Target). Listed SpellsTarget ws ps) m.2 (values_is ps expects.Start m.0 m.1))
-values_is (p ∷ ps) expects.Behind vs e = absurd (none-some vs e)
+values_is (p ∷ ps) expects.After vs e = absurd (none-some vs e)
 
 pub dcd_is : (ps : List Piece) (vs : List Target) → values_in expects.Start ps ≡ Some vs → Listed SpellsTarget vs ps
 unfolding Values
 dcd_is ps vs e = values_is ps expects.Start vs e
 
 -- a value in front of what reads on
-value_front : (t : Target) (a qs : List Piece) → SpellsTarget t a → values_in expects.Start (a ++ qs) ≡ option_map (λ (vs : List Target). t ∷ vs) (values_in expects.Behind qs)
+value_front : (t : Target) (a qs : List Piece) → SpellsTarget t a → values_in expects.Start (a ++ qs) ≡ option_map (λ (vs : List Target). t ∷ vs) (values_in expects.After qs)
 value_front (Number n) a qs h =
     elim h [
       | inl k ↦ rw (k.1, number_again k.0 n k.2) refl
-      | inr k ↦ rw (k.1, digits_again 16 k.0 n k.2) (hex_more n (values_in expects.Behind qs))
+      | inr k ↦ rw (k.1, digits_again 16 k.0 n k.2) (hex_more n (values_in expects.After qs))
     ]
   where
     hex_more : (n : ℕ) (o : Option (List Target)) → option_map (with_value None) (option_map (with_value (Some (Number n))) o) ≡ option_map (λ (vs : List Target). Number n ∷ vs) o

@@ -11,7 +11,7 @@ use Rattle.asm_text.specs.Lines.{starts_gap}
 use Rattle.arm2_decode.specs.Names.{is_compare}
 use Rattle.asm_text.specs.Numbers.{number_first}
 use Rattle.asm_text.specs.Registers.{is_rrx, register_comma_first, register_first, register_of, shift_of}
-use Rattle.asm_text.specs.Operands.{compare_of, compare_rd, data_behind, data_of, factors_of, is_move, is_s, move_of, operand_of, product_of, shift_by, shift_first, shift_words, shifting_first, sum_of, three_of, all_read}
+use Rattle.asm_text.specs.Operands.{compare_of, compare_rd, data_with, data_of, factors_of, is_move, is_s, move_of, operand_of, product_of, shift_by, shift_first, shift_words, shifting_first, sum_of, three_of, all_read}
 use Rattle.asm_text.specs.SpelledOperands.{SpellsCompare, SpellsData, SpellsMove, SpellsOperand, SpellsProduct, SpellsShift, SpellsShifting, SpellsSum, SpellsThree}
 use Rattle.asm_text.specs.declared.token.Mark.TheVariants.{Hash}
 use Rattle.asm_text.specs.declared.names.Suffix.{Suffix}
@@ -71,7 +71,7 @@ front_shift (shifting.Amount (amount.By s n)) a rest h none = rw (h.2, shift_aga
 front_shift (shifting.Amount amount.Rrx) a rest h none = rw h.1 (rrx_first h.0 rest (rrx_again h.0 h.2) none)
 front_shift (shifting.Register s r) a rest h none = rw (h.2, shift_again h.0 s h.3, register_again h.1 r h.4) refl
 
--- ---- what stands behind a register
+-- ---- what stands after a register
 
 abbrev pub FrontShifting : List Piece → Shifting × List Piece → Type 0
 FrontShifting ps f = (a : List Piece) × (ps ≡ a ++ f.1) × SpellsShifting f.0 a
@@ -151,7 +151,7 @@ three_is op s ps f x first e =
 
 pub data_is : (op : Opcode) (s : Suffix) (ps : List Piece) (x : Data) → data_of op s ps ≡ Some x → SpellsData op s x ps
 data_is op s ps x e =
-    let k = and_then_is (λ f. data_behind op s f.0 f.1) (register_comma_first ps) x e in
+    let k = and_then_is (λ f. data_with op s f.0 f.1) (register_comma_first ps) x e in
     elim (chosen (is_compare op) (compare_of op s k.0.0 k.0.1) _ (Some x) k.2) [
       | inl h ↦ inl (h.0, compare_is op s ps k.0 x k.1 h.1)
       | inr h ↦ elim (chosen (is_move op) (move_of op s k.0.0 k.0.1) (three_of op s k.0.0 k.0.1) (Some x) h.1) [

@@ -55,21 +55,21 @@ past_blanks (b ∷ bs) h =
 
 -- a word and a gap
 word_first : (name : List ℕ) (ps : List Piece) (text : List ℕ) → Written (Run name ∷ Gap ∷ ps) text → begins_blank_or_ends (past is_name text) ≡ true
-word_first name ps text (behind, is, some, names, (gap, rest, gap_is, more, blanks, w)) =
-    let ends : begins_blank_or_ends behind ≡ true = rw gap_is (gap_ends gap rest more blanks) in
-    let stops : first_passes is_name behind ≡ false = rw gap_is (gap_no_name gap rest more blanks) in
-    rw (is, past_front is_name name behind names stops) ends
+word_first name ps text (after, is, some, names, (gap, rest, gap_is, more, blanks, w)) =
+    let ends : begins_blank_or_ends after ≡ true = rw gap_is (gap_ends gap rest more blanks) in
+    let stops : first_passes is_name after ≡ false = rw gap_is (gap_no_name gap rest more blanks) in
+    rw (is, past_front is_name name after names stops) ends
 
-abbrev WordBehind : List ℕ → Type 0
-WordBehind text = begins_blank_or_ends (past is_name (past is_blank text)) ≡ true
+abbrev WordAfter : List ℕ → Type 0
+WordAfter text = begins_blank_or_ends (past is_name (past is_blank text)) ≡ true
 
 -- a gap, a word and a gap
-gap_first : (name : List ℕ) (ps : List Piece) (text : List ℕ) → Written (Gap ∷ Run name ∷ Gap ∷ ps) text → (first_passes is_name text ≡ false) × WordBehind text
-gap_first name ps text (gap, behind, is, some, blanks, w) =
-    let stops : first_passes is_blank behind ≡ false = rw w.1 (name_no_gap name w.0 w.2 w.3) in
-    (rw is (gap_no_name gap behind some blanks), rw (is, past_front is_blank gap behind blanks stops) (word_first name ps behind w))
+gap_first : (name : List ℕ) (ps : List Piece) (text : List ℕ) → Written (Gap ∷ Run name ∷ Gap ∷ ps) text → (first_passes is_name text ≡ false) × WordAfter text
+gap_first name ps text (gap, after, is, some, blanks, w) =
+    let stops : first_passes is_blank after ≡ false = rw w.1 (name_no_gap name w.0 w.2 w.3) in
+    (rw is (gap_no_name gap after some blanks), rw (is, past_front is_blank gap after blanks stops) (word_first name ps after w))
 
-pub blanks_alone : (text : List ℕ) → IsBlanks text → WordBehind text
+pub blanks_alone : (text : List ℕ) → IsBlanks text → WordAfter text
 blanks_alone text h = rw (past_blanks text h) refl
 
 pub parts_end : (label : Option (List ℕ)) (x : Option Said) (ps : List Piece) (text : List ℕ) → Written ps text → SpellsParts label x ps → word_ends text ≡ true
@@ -80,9 +80,9 @@ parts_end None (Some x) ps text w (rest, is, said) =
     let front = gap_first said.name said.rest text (rw (is, said.spelled) at w) in
     rw (past_none is_name text front.0) front.1
 parts_end (Some name) None ps text w (is, label) =
-    let (behind, text_is, some, names, blanks) = rw is at w in
-    rw (text_is, past_front is_name name behind names (blanks_no_name behind blanks)) (blanks_alone behind blanks)
+    let (after, text_is, some, names, blanks) = rw is at w in
+    rw (text_is, past_front is_name name after names (blanks_no_name after blanks)) (blanks_alone after blanks)
 parts_end (Some name) (Some x) ps text w (rest, is, label, said) =
-    let (behind, text_is, some, names, more) = rw (is, said.spelled) at w in
-    let front = gap_first said.name said.rest behind more in
-    rw (text_is, past_front is_name name behind names front.0) front.1
+    let (after, text_is, some, names, more) = rw (is, said.spelled) at w in
+    let front = gap_first said.name said.rest after more in
+    rw (text_is, past_front is_name name after names front.0) front.1

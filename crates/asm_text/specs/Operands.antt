@@ -18,7 +18,7 @@ use Rattle.asm_text.specs.declared.token.Mark.TheVariants.{CloseBrace}
 use Rattle.asm_text.specs.declared.names.Suffix.{Suffix}
 use Rattle.asm_text.specs.declared.names.Suffix.TheVariants.{S, P, B, T, Bt, Ia, Ib, Db, Fd, Ed, Fa, Ea}
 use Rattle.asm_text.specs.declared.list.Place.{Place}
-use Rattle.asm_text.specs.declared.list.Place.TheVariants.{Start, First, To, Behind}
+use Rattle.asm_text.specs.declared.list.Place.TheVariants.{Start, First, To, After}
 use Rattle.asm_text.specs.declared.list.Step.{Step}
 use Rattle.asm_text.specs.declared.list.Step.TheVariants.{Goes, Ends}
 use Rattle.asm_text.specs.declared.syntax.Amount.TheVariants as amount
@@ -44,11 +44,11 @@ all_read (Some f) = alone f.0 f.1
 
 -- ---- shifts: LSL #3, LSL R2, RRX
 
-abbrev pub amount_behind : Shift → List Piece → Option (Shifting × List Piece)
-amount_behind s ps = option_map (λ f. (shifting.Amount (amount.By s f.0), f.1)) (number_first ps)
+abbrev pub amount_first : Shift → List Piece → Option (Shifting × List Piece)
+amount_first s ps = option_map (λ f. (shifting.Amount (amount.By s f.0), f.1)) (number_first ps)
 
 abbrev pub shift_by : Shift → List Piece → Option (Shifting × List Piece)
-shift_by s (Sign Hash ∷ ps) = amount_behind s ps
+shift_by s (Sign Hash ∷ ps) = amount_first s ps
 shift_by s (Run r ∷ ps) = option_map (λ m. (shifting.Register s m, ps)) (register_of r)
 shift_by s _ = None
 
@@ -108,13 +108,13 @@ three_of op s d ps =
     (operand_of f.1))
     (register_comma_first ps)
 
-abbrev pub data_behind : Opcode → Suffix → Register → List Piece → Option Data
-data_behind op s r ps =
+abbrev pub data_with : Opcode → Suffix → Register → List Piece → Option Data
+data_with op s r ps =
     if is_compare op then compare_of op s r ps
     else (if is_move op then move_of op s r ps else three_of op s r ps)
 
 abbrev pub data_of : Opcode → Suffix → List Piece → Option Data
-data_of op s ps = option_and_then (λ f. data_behind op s f.0 f.1) (register_comma_first ps)
+data_of op s ps = option_and_then (λ f. data_with op s f.0 f.1) (register_comma_first ps)
 
 -- ---- multiplies
 
@@ -227,15 +227,15 @@ abbrev pub with_bits : ℕ → Option ℕ → Option ℕ
 with_bits list bits = option_map (bit_or list) bits
 
 -- after a run of registers: a comma, or } at the end
-abbrev pub behind_step : ℕ → Piece → Option Step
-behind_step list Comma = Some (Goes list Start)
-behind_step list (Sign CloseBrace) = Some (Ends list)
-behind_step list _ = None
+abbrev pub after_step : ℕ → Piece → Option Step
+after_step list Comma = Some (Goes list Start)
+after_step list (Sign CloseBrace) = Some (Ends list)
+after_step list _ = None
 
 -- after a register: - and the last of its run, or it is alone
 abbrev pub first_step : ℕ → Register → Piece → Option Step
 first_step list a (Sign Minus) = Some (Goes list (To a))
-first_step list a p = option_and_then (λ more. behind_step more p) (with_bits list (run_bits a a))
+first_step list a p = option_and_then (λ more. after_step more p) (with_bits list (run_bits a a))
 
 abbrev pub start_step : ℕ → Piece → Option Step
 start_step list (Run a) = option_map (λ r. Goes list (First r)) (register_of a)
@@ -243,7 +243,7 @@ start_step list _ = None
 
 abbrev pub to_step : ℕ → Register → Piece → Option Step
 to_step list a (Run b) =
-    option_and_then (λ last. option_map (λ more. Goes more Behind) (with_bits list (run_bits a last)))
+    option_and_then (λ last. option_map (λ more. Goes more After) (with_bits list (run_bits a last)))
     (register_of b)
 to_step list a _ = None
 
@@ -252,7 +252,7 @@ abbrev pub list_step : ℕ → Place → Piece → Option Step
 list_step list Start p = start_step list p
 list_step list (First a) p = first_step list a p
 list_step list (To a) p = to_step list a p
-list_step list Behind p = behind_step list p
+list_step list After p = after_step list p
 
 abbrev pub list_of : Step → ℕ
 list_of (Goes list place) = list
@@ -265,9 +265,9 @@ list_by on ps (Some (Goes list place)) = on list place
 list_by on ps (Some (Ends list)) = Some (list, ps)
 
 -- after {: registers and runs with commas between them, and }; what stands after that
-abbrev pub list_behind : ℕ → Place → List Piece → Option (ℕ × List Piece)
-list_behind list place [] = None
-list_behind list place (p ∷ ps) = list_by (λ more next. list_behind more next ps) ps (list_step list place p)
+abbrev pub list_from : ℕ → Place → List Piece → Option (ℕ × List Piece)
+list_from list place [] = None
+list_from list place (p ∷ ps) = list_by (λ more next. list_from more next ps) ps (list_step list place p)
 
 -- nothing, or ^
 abbrev pub caret_of : List Piece → Option Bool
@@ -310,7 +310,7 @@ block load s n w list user =
 -- after Rn and its mark: a comma, the list and its end
 abbrev pub braced : Bool → Suffix → Register → Bool → List Piece → Option BlockTransfer
 braced load s n w (Comma ∷ Sign OpenBrace ∷ ps) =
-    option_and_then (λ f. option_map (block load s n w f.0) (caret_of f.1)) (list_behind 0 Start ps)
+    option_and_then (λ f. option_map (block load s n w f.0) (caret_of f.1)) (list_from 0 Start ps)
 braced load s n w _ = None
 
 abbrev pub block_based : Bool → Suffix → Register → List Piece → Option BlockTransfer

@@ -77,5 +77,5 @@ pieces [] = []
 pieces (b ∷ bs) = byte_before b (pieces bs)
 
 -- what is read from the front of some tokens, and the pieces of those after it
-abbrev pub behind : {A : Type 0} → A × Bor (List Token) → A × List Piece
-behind f = (f.0, map piece_of f.1.now)
+abbrev pub in_pieces : {A : Type 0} → A × Bor (List Token) → A × List Piece
+in_pieces f = (f.0, map piece_of f.1.now)

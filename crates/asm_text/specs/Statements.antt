@@ -23,7 +23,7 @@ use Rattle.asm_text.specs.declared.syntax.Action.TheVariants as action
 use Rattle.asm_text.specs.declared.syntax.Use.{Use}
 use Rattle.asm_text.specs.declared.syntax.Use.TheVariants as use_of
 use Rattle.asm_text.specs.declared.statement.Expects.{Expects}
-use Rattle.asm_text.specs.declared.statement.Expects.TheVariants.{Start, Hex, Behind}
+use Rattle.asm_text.specs.declared.statement.Expects.TheVariants.{Start, Hex, After}
 use Rattle.asm_text.specs.declared.statement.TextFault.{TextFault}
 use Rattle.asm_text.specs.declared.statement.TextFault.TheVariants.{NotText, UnknownWord, BadOperand}
 
@@ -95,10 +95,10 @@ org_said ps = option_map Orgs (only_number ps)
 
 -- what a piece adds to a list of values, and what comes next
 abbrev pub value_step : Expects → Piece → Option (Option Target × Expects)
-value_step Start (Run d) = option_map (λ v. (Some v, Behind)) (run_target d)
+value_step Start (Run d) = option_map (λ v. (Some v, After)) (run_target d)
 value_step Start (Sign Ampersand) = Some (None, Hex)
-value_step Hex (Run d) = option_map (λ n. (Some (Number n), Behind)) (number_by 16 d)
-value_step Behind Comma = Some (None, Start)
+value_step Hex (Run d) = option_map (λ n. (Some (Number n), After)) (number_by 16 d)
+value_step After Comma = Some (None, Start)
 value_step _ _ = None
 
 abbrev pub with_value : Option Target → List Target → List Target
@@ -106,7 +106,7 @@ with_value None vs = vs
 with_value (Some v) vs = v ∷ vs
 
 abbrev pub no_values : Expects → Option (List Target)
-no_values Behind = Some []
+no_values After = Some []
 no_values _ = None
 
 -- values with commas between them
@@ -131,13 +131,13 @@ or_bad None = Err BadOperand
 or_bad (Some s) = Ok s
 
 -- a blank and operands after a word
-abbrev pub behind_word : Word → List Piece → Result Said TextFault
-behind_word w (Gap ∷ ps) = or_bad (operands_of w ps)
-behind_word w _ = Err BadOperand
+abbrev pub after_word : Word → List Piece → Result Said TextFault
+after_word w (Gap ∷ ps) = or_bad (operands_of w ps)
+after_word w _ = Err BadOperand
 
 abbrev pub with_word : Option Word → List Piece → Result Said TextFault
 with_word None ps = Err UnknownWord
-with_word (Some w) ps = behind_word w ps
+with_word (Some w) ps = after_word w ps
 
 abbrev pub statement_of : List Piece → Result Said TextFault
 statement_of (Run w ∷ ps) = with_word (spelled_word_of w) ps
@@ -154,16 +154,16 @@ abbrev pub with_label : Option (List ℕ) → Result Said TextFault → Result P
 with_label label (Ok s) = Ok (record { label = label; said = Some s })
 with_label label (Err fault) = Err fault
 
-abbrev pub behind_label : List ℕ → List Piece → Result Parsed TextFault
-behind_label l [] = Ok (record { label = Some l; said = None })
-behind_label l (Gap ∷ ps) = with_label (Some l) (statement_of ps)
-behind_label l _ = Err UnknownWord
+abbrev pub after_label : List ℕ → List Piece → Result Parsed TextFault
+after_label l [] = Ok (record { label = Some l; said = None })
+after_label l (Gap ∷ ps) = with_label (Some l) (statement_of ps)
+after_label l _ = Err UnknownWord
 
 -- [label] [blank word [operands]]
 abbrev pub parsed : List Piece → Result Parsed TextFault
 parsed [] = Ok (record { label = None; said = None })
 parsed (Gap ∷ ps) = with_label None (statement_of ps)
-parsed (Run l ∷ ps) = if is_label l then behind_label l ps else Err UnknownWord
+parsed (Run l ∷ ps) = if is_label l then after_label l ps else Err UnknownWord
 parsed _ = Err UnknownWord
 
 -- 20 to 7E, and a tab

@@ -1,5 +1,5 @@
 ghost use Rattle.std.specs.Prelude.{◌≡◌, map, option_map};
-ghost use Rattle.asm_text.specs.Pieces.{behind, piece_of};
+ghost use Rattle.asm_text.specs.Pieces.{in_pieces, piece_of};
 ghost use Rattle.asm_text.specs.Operands.{address_of, after_of, bang_of, based, before_of};
 ghost use Rattle.asm_text.specs.Operands.{address, closed_of, plain_of};
 ghost use Rattle.asm_text.specs.Operands.{signed_offset};
@@ -17,7 +17,7 @@ use arm2_decode::Register;
 type Offset = (bool, Distance);
 
 fn register_offset<'a, 'b>(up: bool, tokens: &'a [Token<'b>]) -> Option<(Offset, &'a [Token<'b>])>
-    ensures { option_map behind result ≡ register_offset up (map piece_of tokens.now) }
+    ensures { option_map in_pieces result ≡ register_offset up (map piece_of tokens.now) }
 {
     let (m, rest) = first_register(tokens)?;
     let (shifting, rest) = first_shifting(rest)?;
@@ -31,7 +31,7 @@ fn register_offset<'a, 'b>(up: bool, tokens: &'a [Token<'b>]) -> Option<(Offset,
 }
 
 fn signed_offset<'a, 'b>(up: bool, tokens: &'a [Token<'b>]) -> Option<(Offset, &'a [Token<'b>])>
-    ensures { option_map behind result ≡ signed_offset up (map piece_of tokens.now) }
+    ensures { option_map in_pieces result ≡ signed_offset up (map piece_of tokens.now) }
 {
     let (n, rest) = first_number(tokens)?;
     let distance = Distance::Number(n);
@@ -39,7 +39,7 @@ fn signed_offset<'a, 'b>(up: bool, tokens: &'a [Token<'b>]) -> Option<(Offset, &
 }
 
 fn number_offset<'a, 'b>(tokens: &'a [Token<'b>]) -> Option<(Offset, &'a [Token<'b>])>
-    ensures { option_map behind result ≡ number_offset (map piece_of tokens.now) }
+    ensures { option_map in_pieces result ≡ number_offset (map piece_of tokens.now) }
 {
     match tokens {
         [Token::Sign(Mark::Minus), rest @ ..] => signed_offset(false, rest),
@@ -48,7 +48,7 @@ fn number_offset<'a, 'b>(tokens: &'a [Token<'b>]) -> Option<(Offset, &'a [Token<
 }
 
 fn first_offset<'a, 'b>(tokens: &'a [Token<'b>]) -> Option<(Offset, &'a [Token<'b>])>
-    ensures { option_map behind result ≡ offset_first (map piece_of tokens.now) }
+    ensures { option_map in_pieces result ≡ offset_first (map piece_of tokens.now) }
 {
     match tokens {
         [Token::Sign(Mark::Hash), rest @ ..] => number_offset(rest),

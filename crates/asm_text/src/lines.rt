@@ -2,7 +2,7 @@ ghost use Rattle.std.specs.Prelude.{◌≡◌, ◌∷◌, [], ◌<◌, ◌≤◌
 ghost use Rattle.std.specs.Prelude.{length, map};
 ghost use Rattle.std.specs.List.{list_all};
 ghost use Rattle.asm_text.specs.Pieces.{piece_of};
-ghost use Rattle.asm_text.specs.Statements.{behind_label, body_len};
+ghost use Rattle.asm_text.specs.Statements.{after_label, body_len};
 ghost use Rattle.asm_text.specs.Statements.{is_comment_text, is_text, is_text_line, line_of};
 ghost use Rattle.asm_text.specs.Statements.{parsed};
 ghost use Rattle.asm_text.specs.Source.{feed_len, line_view, lines_of, no_return};
@@ -58,16 +58,16 @@ fn is_text_line(text: &[u8]) -> bool
     are_text_bytes(body) && are_comment_bytes(comment)
 }
 
-fn behind_label<'a>(
+fn after_label<'a>(
     alloc: Global,
     label: &'a [u8],
     tokens: &[Token<'a>],
 ) -> Result<Line<'a>, TextFault>
     ensures ok { IfOk result
-        (λ line. behind_label label.now (map piece_of tokens.now) ≡ Ok (line_view line)) }
+        (λ line. after_label label.now (map piece_of tokens.now) ≡ Ok (line_view line)) }
     ensures err { IfErr result
         (λ fault. (fault ≡ TextFault.Memory)
-        ⊎ (behind_label label.now (map piece_of tokens.now) ≡ Err fault)) }
+        ⊎ (after_label label.now (map piece_of tokens.now) ≡ Err fault)) }
 {
     match tokens {
         [] => Ok(Line {
@@ -104,7 +104,7 @@ fn parse<'a>(alloc: Global, tokens: &[Token<'a>]) -> Result<Line<'a>, TextFault>
         }
         [Token::Run(label), rest @ ..] => {
             if is_label(label) {
-                behind_label(alloc, label, rest)
+                after_label(alloc, label, rest)
             } else {
                 Err(TextFault::UnknownWord)
             }
@@ -143,7 +143,7 @@ fn line_len(text: &[u8]) -> usize
     text.iter().take_while(|b| **b != b'\n').count()
 }
 
-fn behind(text: &[u8], start: usize) -> &[u8]
+fn after(text: &[u8], start: usize) -> &[u8]
     requires { start ≤ length text.now }
     ensures { result.now ≡ drop start text.now }
 {
@@ -176,7 +176,7 @@ pub fn first_line(source: &[u8]) -> Option<(&[u8], &[u8])>
     }
     let len = line_len(source);
     if len == source.len() {
-        return Some((source, behind(source, len)));
+        return Some((source, after(source, len)));
     }
-    Some((without_return(&source[..len]), behind(source, len + 1)))
+    Some((without_return(&source[..len]), after(source, len + 1)))
 }

@@ -1,7 +1,7 @@
 ghost use Rattle.std.specs.Prelude.{◌≡◌, ◌<◌, ◌≤◌, ◌^◌, IfSome, length, map, option_map};
-ghost use Rattle.asm_text.specs.Pieces.{behind, piece_of};
-ghost use Rattle.asm_text.specs.Operands.{behind_step, block_before, block_based, block_of, block_up};
-ghost use Rattle.asm_text.specs.Operands.{braced, caret_of, first_step, list_behind, list_of};
+ghost use Rattle.asm_text.specs.Pieces.{in_pieces, piece_of};
+ghost use Rattle.asm_text.specs.Operands.{after_step, block_before, block_based, block_of, block_up};
+ghost use Rattle.asm_text.specs.Operands.{braced, caret_of, first_step, list_from, list_of};
 ghost use Rattle.asm_text.specs.Operands.{list_step, run_bits, with_bits};
 ghost use Rattle.asm_text.specs.declared.list.Place.TheVariants.{Start};
 
@@ -35,7 +35,7 @@ pub enum Place {
     /// After the mark of a run from a register.
     To(Register),
     /// After a run.
-    Behind,
+    After,
 }
 
 /// What a piece does in a list of registers.
@@ -57,9 +57,9 @@ fn with_run(list: u32, first: Register, last: Register) -> Option<u32>
     Some(list | bits)
 }
 
-fn step_behind(list: u32, token: Token<'_>) -> Option<Step>
+fn after_step(list: u32, token: Token<'_>) -> Option<Step>
     requires { list < 2 ^ 16 }
-    ensures value { result ≡ behind_step list (piece_of token.entry) }
+    ensures value { result ≡ after_step list (piece_of token.entry) }
     ensures fits { IfSome result (λ step. list_of step < 2 ^ 16) }
 {
     match token {
@@ -69,7 +69,7 @@ fn step_behind(list: u32, token: Token<'_>) -> Option<Step>
     }
 }
 
-fn step_first(list: u32, first: Register, token: Token<'_>) -> Option<Step>
+fn first_step(list: u32, first: Register, token: Token<'_>) -> Option<Step>
     requires { list < 2 ^ 16 }
     ensures value { result ≡ first_step list first (piece_of token.entry) }
     ensures fits { IfSome result (λ step. list_of step < 2 ^ 16) }
@@ -78,7 +78,7 @@ fn step_first(list: u32, first: Register, token: Token<'_>) -> Option<Step>
         Token::Sign(Mark::Minus) => Some(Step::Goes(list, Place::To(first))),
         _ => {
             let more = with_run(list, first, first)?;
-            step_behind(more, token)
+            after_step(more, token)
         }
     }
 }
@@ -96,23 +96,23 @@ fn next_step(list: u32, place: Place, token: Token<'_>) -> Option<Step>
             }
             _ => None,
         },
-        Place::First(first) => step_first(list, first, token),
+        Place::First(first) => first_step(list, first, token),
         Place::To(first) => match token {
             Token::Run(name) => {
                 let last = named_register(name)?;
                 let more = with_run(list, first, last)?;
-                Some(Step::Goes(more, Place::Behind))
+                Some(Step::Goes(more, Place::After))
             }
             _ => None,
         },
-        Place::Behind => step_behind(list, token),
+        Place::After => after_step(list, token),
     }
 }
 
 // The registers of a list after its brace, and the tokens after it.
 #[tactic(auto, using(crate::proofs::ListLaws::list_turn))]
 fn first_list<'a, 'b>(tokens: &'a [Token<'b>]) -> Option<(u32, &'a [Token<'b>])>
-    ensures value { option_map behind result ≡ list_behind 0 Start (map piece_of tokens.now) }
+    ensures value { option_map in_pieces result ≡ list_from 0 Start (map piece_of tokens.now) }
     ensures fits { IfSome result (λ f. f.0 < 2 ^ 16) }
 {
     let mut list = 0;

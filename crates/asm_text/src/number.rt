@@ -1,5 +1,5 @@
 ghost use Rattle.std.specs.Prelude.{◌≡◌, ◌^◌, ◌≤◌, ◌⊎◌, map, option_map};
-ghost use Rattle.asm_text.specs.Pieces.{behind, piece_of};
+ghost use Rattle.asm_text.specs.Pieces.{in_pieces, piece_of};
 ghost use Rattle.asm_text.specs.Numbers.{capped, digits_of, hex_first, number_by, number_first, run_number};
 
 use crate::token::{Mark, Token};
@@ -55,7 +55,7 @@ pub fn read_hex(text: &[u8]) -> Option<u32>
 
 /// The hexadecimal number that some tokens begin with, and those after it.
 pub(crate) fn first_hex<'a, 'b>(tokens: &'a [Token<'b>]) -> Option<(u32, &'a [Token<'b>])>
-    ensures { option_map behind result ≡ hex_first (map piece_of tokens.now) }
+    ensures { option_map in_pieces result ≡ hex_first (map piece_of tokens.now) }
 {
     match tokens {
         [Token::Run(text), rest @ ..] => {
@@ -68,7 +68,7 @@ pub(crate) fn first_hex<'a, 'b>(tokens: &'a [Token<'b>]) -> Option<(u32, &'a [To
 
 /// The number that some tokens begin with, and those after it.
 pub(crate) fn first_number<'a, 'b>(tokens: &'a [Token<'b>]) -> Option<(u32, &'a [Token<'b>])>
-    ensures { option_map behind result ≡ number_first (map piece_of tokens.now) }
+    ensures { option_map in_pieces result ≡ number_first (map piece_of tokens.now) }
 {
     match tokens {
         [Token::Run(text), rest @ ..] => {

@@ -1,6 +1,6 @@
 ghost use Rattle.std.specs.Prelude.{◌≡◌, map, option_map};
-ghost use Rattle.asm_text.specs.Pieces.{behind, piece_of};
-ghost use Rattle.asm_text.specs.Operands.{amount_behind, compare_of, data_behind, data_of, factors_of};
+ghost use Rattle.asm_text.specs.Pieces.{in_pieces, piece_of};
+ghost use Rattle.asm_text.specs.Operands.{amount_first, compare_of, data_of, data_with, factors_of};
 ghost use Rattle.asm_text.specs.Operands.{is_move, is_s, compare_rd, move_of, operand_of};
 ghost use Rattle.asm_text.specs.Operands.{product_of, shift_by, shift_first, shift_words, shifting_first};
 ghost use Rattle.asm_text.specs.Operands.{sum_of, three_of, all_read};
@@ -19,7 +19,7 @@ fn first_amount<'a, 'b>(
     shift: Shift,
     tokens: &'a [Token<'b>],
 ) -> Option<(Shifting, &'a [Token<'b>])>
-    ensures { option_map behind result ≡ amount_behind shift (map piece_of tokens.now) }
+    ensures { option_map in_pieces result ≡ amount_first shift (map piece_of tokens.now) }
 {
     let (n, rest) = first_number(tokens)?;
     Some((Shifting::Amount(Amount::By(shift, n)), rest))
@@ -29,7 +29,7 @@ fn first_shift_by<'a, 'b>(
     shift: Shift,
     tokens: &'a [Token<'b>],
 ) -> Option<(Shifting, &'a [Token<'b>])>
-    ensures { option_map behind result ≡ shift_by shift (map piece_of tokens.now) }
+    ensures { option_map in_pieces result ≡ shift_by shift (map piece_of tokens.now) }
 {
     match tokens {
         [Token::Sign(Mark::Hash), rest @ ..] => first_amount(shift, rest),
@@ -45,7 +45,7 @@ fn first_shift_words<'a, 'b>(
     name: &[u8],
     tokens: &'a [Token<'b>],
 ) -> Option<(Shifting, &'a [Token<'b>])>
-    ensures { option_map behind result ≡ shift_words name.now (map piece_of tokens.now) }
+    ensures { option_map in_pieces result ≡ shift_words name.now (map piece_of tokens.now) }
 {
     match tokens {
         [Token::Gap, rest @ ..] => {
@@ -63,7 +63,7 @@ fn first_shift_words<'a, 'b>(
 }
 
 fn first_shift<'a, 'b>(tokens: &'a [Token<'b>]) -> Option<(Shifting, &'a [Token<'b>])>
-    ensures { option_map behind result ≡ shift_first (map piece_of tokens.now) }
+    ensures { option_map in_pieces result ≡ shift_first (map piece_of tokens.now) }
 {
     match tokens {
         [Token::Run(name), rest @ ..] => first_shift_words(name, rest),
@@ -73,7 +73,7 @@ fn first_shift<'a, 'b>(tokens: &'a [Token<'b>]) -> Option<(Shifting, &'a [Token<
 
 /// How a register is shifted that stands in front of some tokens, and the tokens after the shift.
 pub(crate) fn first_shifting<'a, 'b>(tokens: &'a [Token<'b>]) -> Option<(Shifting, &'a [Token<'b>])>
-    ensures { option_map behind result ≡ shifting_first (map piece_of tokens.now) }
+    ensures { option_map in_pieces result ≡ shifting_first (map piece_of tokens.now) }
 {
     match tokens {
         [Token::Comma, rest @ ..] => first_shift(rest),
@@ -176,7 +176,7 @@ fn three(opcode: Opcode, suffix: Suffix, rd: Register, tokens: &[Token<'_>]) -> 
 }
 
 fn data_with(opcode: Opcode, suffix: Suffix, r: Register, tokens: &[Token<'_>]) -> Option<Data>
-    ensures { result ≡ data_behind opcode suffix r (map piece_of tokens.now) }
+    ensures { result ≡ data_with opcode suffix r (map piece_of tokens.now) }
 {
     if opcode.is_compare() {
         compare(opcode, suffix, r, tokens)

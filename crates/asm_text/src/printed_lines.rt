@@ -4,7 +4,7 @@ ghost use Rattle.std.specs.List.{list_all};
 ghost use Rattle.asm_text.specs.Pieces.{piece_of, pieces, without_gap};
 ghost use Rattle.asm_text.specs.Shown.{is_shown, is_shown_text, is_upper, parsed_shown, shown_in};
 ghost use Rattle.asm_text.specs.Shown.{shown_result, upper_pieces};
-ghost use Rattle.asm_text.specs.Statements.{behind_word, line_of, operands_of, or_bad};
+ghost use Rattle.asm_text.specs.Statements.{after_word, line_of, operands_of, or_bad};
 ghost use Rattle.asm_text.specs.Statements.{statement_of, with_word};
 ghost use Rattle.asm_text.specs.Words.{spelled_word_of};
 ghost use Rattle.asm_text.specs.Said.{said};
@@ -82,8 +82,8 @@ fn operands(word: Word, tokens: &[Token<'_>]) -> Option<Shown>
     }
 }
 
-fn behind_word(word: Word, tokens: &[Token<'_>]) -> Option<Shown>
-    ensures { result ≡ shown_result (behind_word word (map piece_of tokens.now)) }
+fn after_word(word: Word, tokens: &[Token<'_>]) -> Option<Shown>
+    ensures { result ≡ shown_result (after_word word (map piece_of tokens.now)) }
 {
     match tokens {
         [Token::Gap, rest @ ..] => operands(word, rest),
@@ -93,12 +93,12 @@ fn behind_word(word: Word, tokens: &[Token<'_>]) -> Option<Shown>
 
 // What a word in upper case says with what stands after it.
 #[tactic(auto, using(crate::proofs::ShownLaws::upper_spelled))]
-fn word_statement(text: &[u8], behind: &[Token<'_>]) -> Option<Shown>
+fn word_statement(text: &[u8], rest: &[Token<'_>]) -> Option<Shown>
     requires { is_upper text.now ≡ true }
-    ensures { result ≡ shown_result (with_word (spelled_word_of text.now) (map piece_of behind.now)) }
+    ensures { result ≡ shown_result (with_word (spelled_word_of text.now) (map piece_of rest.now)) }
 {
     match read_word(text) {
-        Some(word) => behind_word(word, behind),
+        Some(word) => after_word(word, rest),
         None => None,
     }
 }

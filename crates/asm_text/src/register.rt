@@ -1,5 +1,5 @@
 ghost use Rattle.std.specs.Prelude.{◌≡◌, map, option_map};
-ghost use Rattle.asm_text.specs.Pieces.{behind, piece_of};
+ghost use Rattle.asm_text.specs.Pieces.{in_pieces, piece_of};
 ghost use Rattle.asm_text.specs.Registers.{is_rrx, register_comma_first, register_first, register_of};
 ghost use Rattle.asm_text.specs.Registers.{shift_of};
 
@@ -86,7 +86,7 @@ pub(crate) fn names_rrx(text: &[u8]) -> bool
 
 /// The register that some tokens begin with, and those after it.
 pub(crate) fn first_register<'a, 'b>(tokens: &'a [Token<'b>]) -> Option<(Register, &'a [Token<'b>])>
-    ensures { option_map behind result ≡ register_first (map piece_of tokens.now) }
+    ensures { option_map in_pieces result ≡ register_first (map piece_of tokens.now) }
 {
     match tokens {
         [Token::Run(text), rest @ ..] => {
@@ -101,7 +101,7 @@ pub(crate) fn first_register<'a, 'b>(tokens: &'a [Token<'b>]) -> Option<(Registe
 pub(crate) fn first_register_comma<'a, 'b>(
     tokens: &'a [Token<'b>],
 ) -> Option<(Register, &'a [Token<'b>])>
-    ensures { option_map behind result ≡ register_comma_first (map piece_of tokens.now) }
+    ensures { option_map in_pieces result ≡ register_comma_first (map piece_of tokens.now) }
 {
     match tokens {
         [Token::Run(text), Token::Comma, rest @ ..] => {

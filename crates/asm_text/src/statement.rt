@@ -4,7 +4,7 @@ ghost use Rattle.asm_text.specs.Pieces.{is_name, piece_of};
 ghost use Rattle.asm_text.specs.Operands.{alone, is_byte, is_user};
 ghost use Rattle.asm_text.specs.Said.{said, target_of};
 ghost use Rattle.asm_text.specs.Statements.{action_of, adr_said, code_said, dcd_said, org_said, refers};
-ghost use Rattle.asm_text.specs.Statements.{behind_word, operands_of};
+ghost use Rattle.asm_text.specs.Statements.{after_word, operands_of};
 ghost use Rattle.asm_text.specs.Statements.{only_number, only_target};
 ghost use Rattle.asm_text.specs.Statements.{is_label, plain_said, run_target};
 ghost use Rattle.asm_text.specs.Statements.{target_first, with_value, single_said, single_with, statement_of};
@@ -55,7 +55,7 @@ pub enum Expects {
     /// The digits after `&`.
     Hex,
     /// A comma, or the end.
-    Behind,
+    After,
 }
 
 fn letters(text: &[u8]) -> bool
@@ -252,7 +252,7 @@ fn next_value<'a>(expects: Expects, token: Token<'a>) -> Option<(Option<Value<'a
         Expects::Start => match token {
             Token::Run(text) => {
                 let value = run_target(text)?;
-                Some((Some(value), Expects::Behind))
+                Some((Some(value), Expects::After))
             }
             Token::Sign(Mark::Ampersand) => Some((None, Expects::Hex)),
             _ => None,
@@ -260,11 +260,11 @@ fn next_value<'a>(expects: Expects, token: Token<'a>) -> Option<(Option<Value<'a
         Expects::Hex => match token {
             Token::Run(text) => {
                 let n = read_hex(text)?;
-                Some((Some(Value::Number(n)), Expects::Behind))
+                Some((Some(Value::Number(n)), Expects::After))
             }
             _ => None,
         },
-        Expects::Behind => match token {
+        Expects::After => match token {
             Token::Comma => Some((None, Expects::Start)),
             _ => None,
         },
@@ -296,7 +296,7 @@ fn values<'a>(alloc: Global, tokens: &[Token<'a>]) -> Result<Option<Vec<Value<'a
         expects = next;
     }
     match expects {
-        Expects::Behind => Ok(Some(values)),
+        Expects::After => Ok(Some(values)),
         _ => Ok(None),
     }
 }
@@ -325,14 +325,14 @@ fn operands<'a>(
     }
 }
 
-fn behind_word<'a>(
+fn after_word<'a>(
     alloc: Global,
     word: Word,
     tokens: &[Token<'a>],
 ) -> Result<Statement<'a>, TextFault>
-    ensures ok { IfOk result (λ s. behind_word word (map piece_of tokens.now) ≡ Ok (said s)) }
+    ensures ok { IfOk result (λ s. after_word word (map piece_of tokens.now) ≡ Ok (said s)) }
     ensures err { IfErr result
-        (λ fault. (fault ≡ TextFault.Memory) ⊎ (behind_word word (map piece_of tokens.now) ≡ Err fault)) }
+        (λ fault. (fault ≡ TextFault.Memory) ⊎ (after_word word (map piece_of tokens.now) ≡ Err fault)) }
 {
     match tokens {
         [Token::Gap, rest @ ..] => match operands(alloc, word, rest)? {
@@ -354,7 +354,7 @@ pub(crate) fn read_statement<'a>(
 {
     match tokens {
         [Token::Run(text), rest @ ..] => match spelled_word(alloc, text)? {
-            Some(word) => behind_word(alloc, word, rest),
+            Some(word) => after_word(alloc, word, rest),
             None => Err(TextFault::UnknownWord),
         },
         _ => Err(TextFault::UnknownWord),

@@ -11,8 +11,8 @@ returns-then-len-source c =
     let source = c.args.source.now in
     let n = c.line_len-len.result in
     let some : 0 < length source = grind (arith, nat_tests) in (
-      rw c.behind.ensures (line_last source n c.line_len-len.ensures.len c.if-len-source.true some),
-      rw c.behind.ensures (omega (arith, length-drop n source, c.if-len-source.true, some)),
+      rw c.after.ensures (line_last source n c.line_len-len.ensures.len c.if-len-source.true some),
+      rw c.after.ensures (omega (arith, length-drop n source, c.if-len-source.true, some)),
     )
 
 pub returns : goal.returns
@@ -20,6 +20,6 @@ returns c =
     let source = c.args.source.now in
     let n = c.line_len-len.result in
     let less : n < length source = omega (arith, c.line_len-len.ensures.within, c.if-len-source.false) in (
-      rw (c.without_return.ensures, c.behind-2.ensures) (line_more source n c.line_len-len.ensures.len less),
-      rw c.behind-2.ensures (omega (arith, length-drop (n + 1) source, less)),
+      rw (c.without_return.ensures, c.after-2.ensures) (line_more source n c.line_len-len.ensures.len less),
+      rw c.after-2.ensures (omega (arith, length-drop (n + 1) source, less)),
     )
