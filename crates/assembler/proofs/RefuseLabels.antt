@@ -81,23 +81,23 @@ abbrev ValueFault : List (List ℕ × ℕ) → List Target → Fault → Type 0
 ValueFault labels values f =
     (name : List ℕ) × (f ≡ LabelMissing) × Contains values (Label name) × IsMissing labels name
 
-behind_number : (labels : List (List ℕ × ℕ)) (n : ℕ) (vs : List Target) (f : Fault)
+past_number : (labels : List (List ℕ × ℕ)) (n : ℕ) (vs : List Target) (f : Fault)
     → ValueFault labels (Number n ∷ vs) f → ValueFault labels vs f
-behind_number labels n vs f (name, is, (zero, lt, same), gone) = absurd (other n name same)
+past_number labels n vs f (name, is, (zero, lt, same), gone) = absurd (other n name same)
   where
     other : (m : ℕ) (l : List ℕ) → ◌≡◌ {A = Target} (Number m) (Label l) → ⊥
     other m l e = cc
-behind_number labels n vs f (name, is, (suc k, lt, same), gone) =
+past_number labels n vs f (name, is, (suc k, lt, same), gone) =
     (name, is, (k, omega (arith, lt), same), gone)
 
-behind_label : (labels : List (List ℕ × ℕ)) (l : List ℕ) (at : ℕ) (vs : List Target) (f : Fault)
+past_label : (labels : List (List ℕ × ℕ)) (l : List ℕ) (at : ℕ) (vs : List Target) (f : Fault)
     → Contains labels (l, at) → ValueFault labels (Label l ∷ vs) f → ValueFault labels vs f
-behind_label labels l at vs f there (name, is, (zero, lt, same), gone) =
+past_label labels l at vs f there (name, is, (zero, lt, same), gone) =
     absurd (gone at (subst (λ n. Contains labels (n, at)) (same_label l name same) there))
   where
     same_label : (x y : List ℕ) → ◌≡◌ {A = Target} (Label x) (Label y) → x ≡ y
     same_label x y e = cc
-behind_label labels l at vs f there (name, is, (suc k, lt, same), gone) =
+past_label labels l at vs f there (name, is, (suc k, lt, same), gone) =
     (name, is, (k, omega (arith, lt), same), gone)
 
 later : (labels : List (List ℕ × ℕ)) (v : Target) (vs : List Target) (f : Fault) → ValueFault labels vs f
@@ -111,7 +111,7 @@ values_least names labels at [] known = λ f e. let c = e.2 in omega (arith, c.1
 values_least names labels at (Number n ∷ vs) known =
     least_same (ValueFault labels vs) (ValueFault labels (Number n ∷ vs))
     (late names (at + 4) (map value_pending vs)) (later labels (Number n) vs)
-    (behind_number labels n vs)
+    (past_number labels n vs)
     (values_least names labels (at + 4) vs known)
 values_least names labels at (Label l ∷ vs) known =
     go (names l) refl (values_least names labels (at + 4) vs known)
@@ -127,7 +127,7 @@ values_least names labels at (Label l ∷ vs) known =
     go (Some a) is rest =
         least_same (ValueFault labels vs) (ValueFault labels (Label l ∷ vs))
         (late names (at + 4) (map value_pending vs)) (later labels (Label l) vs)
-        (λ f. behind_label labels l a vs f ((known l a).0 is)) rest
+        (λ f. past_label labels l a vs f ((known l a).0 is)) rest
 
 -- ---- a line
 

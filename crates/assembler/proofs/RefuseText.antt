@@ -11,7 +11,7 @@ use Rattle.asm_text.specs.Names.{head_of}
 use Rattle.asm_text.specs.Pieces.{Piece, Run, Comma, Sign, Gap, gap_before, is_blank, is_name, pieces}
 use Rattle.asm_text.specs.Said.{Said}
 use Rattle.asm_text.specs.Spelling.{Spells}
-use Rattle.asm_text.specs.Statements.{Parsed, begins_blank_or_ends, behind_label, behind_word, body, body_len, is_comment_text, is_label, is_text, is_text_line, line_of, operands_of, or_bad, parsed, past, statement_of, with_label, with_word, word_ends}
+use Rattle.asm_text.specs.Statements.{Parsed, begins_blank_or_ends, after_label, after_word, body, body_len, is_comment_text, is_label, is_text, is_text_line, line_of, operands_of, or_bad, parsed, past, statement_of, with_label, with_word, word_ends}
 use Rattle.asm_text.specs.Words.{IsSpelling, spelled_word_of, word_of}
 use Rattle.asm_text.specs.declared.word.Word.{Word}
 use Rattle.asm_text.specs.declared.statement.TextFault.{TextFault}
@@ -357,7 +357,7 @@ or_bad_either None = inr refl
 or_bad_either (Some x) = inl (x, refl)
 
 behind_either : (w : Word) (ps : List Piece)
-    → ((x : Said) × (behind_word w ps ≡ Ok x)) ⊎ (behind_word w ps ≡ Err text_fault.BadOperand)
+    → ((x : Said) × (after_word w ps ≡ Ok x)) ⊎ (after_word w ps ≡ Err text_fault.BadOperand)
 behind_either w [] = inr refl
 behind_either w (Gap ∷ ps) = or_bad_either (operands_of w ps)
 behind_either w (Run r ∷ ps) = inr refl
@@ -391,7 +391,7 @@ label_sorted label r Begins Others there again h =
     ]
 
 run_sorted : (label : List ℕ) (ps : List Piece) → is_label label ≡ true
-    → Sorted (behind_label label ps) (PiecesBegin (Run label ∷ ps))
+    → Sorted (after_label label ps) (PiecesBegin (Run label ∷ ps))
 unfolding Sorted PiecesBegin
 run_sorted label [] is = inl (inl (record { label = Some label; said = None }, refl), is)
 run_sorted label (Gap ∷ ps) is =
@@ -418,7 +418,7 @@ parsed_sorted (Gap ∷ ps) =
 parsed_sorted (Run label ∷ ps) =
     elim (cases_Bool (is_label label)) [
       | inl e ↦
-          subst (λ b. Sorted (if b then behind_label label ps else Err text_fault.UnknownWord)
+          subst (λ b. Sorted (if b then after_label label ps else Err text_fault.UnknownWord)
           (PiecesBegin (Run label ∷ ps))) (sym e) (run_sorted label ps e)
       | inr e ↦ inr (rw e refl, no_label label ps e)
     ]

@@ -39,7 +39,7 @@ use Rattle.asm_text.specs.Shown.{is_upper}
 use Rattle.arm2_decode.specs.declared.instr.Instr.{Instr}
 use Rattle.asm_text.specs.declared.printed_lines.Shown.TheVariants as shown
 use Rattle.asm_text.specs.Shown.{is_shown_text}
-use Rattle.asm_text.specs.Statements.{Parsed, action_of, behind_word, line_of, only_target, operands_of, or_bad, parsed, single_said, single_with, with_label, with_word}
+use Rattle.asm_text.specs.Statements.{Parsed, action_of, after_word, line_of, only_target, operands_of, or_bad, parsed, single_said, single_with, with_label, with_word}
 use Rattle.assembler.specs.declared.fault.Fault.{Fault}
 use Rattle.assembler.specs.Codes.{encoded, refer}
 use Rattle.assembler.specs.Shown.{Gives, Says}
@@ -87,12 +87,12 @@ bad_plain : (o : Option Said) → plain_option o ≡ true → plain_result (or_b
 bad_plain None h = refl
 bad_plain (Some s) h = h
 
-behind_plain : (w : Word) (ps : List Piece) → ((qs : List Piece) → plain_option (operands_of w qs) ≡ true) → plain_result (behind_word w ps) ≡ true
-behind_plain w [] h = refl
-behind_plain w (Gap ∷ ps) h = bad_plain (operands_of w ps) (h ps)
-behind_plain w (Run r ∷ ps) h = refl
-behind_plain w (Comma ∷ ps) h = refl
-behind_plain w (Sign m ∷ ps) h = refl
+after_word_plain : (w : Word) (ps : List Piece) → ((qs : List Piece) → plain_option (operands_of w qs) ≡ true) → plain_result (after_word w ps) ≡ true
+after_word_plain w [] h = refl
+after_word_plain w (Gap ∷ ps) h = bad_plain (operands_of w ps) (h ps)
+after_word_plain w (Run r ∷ ps) h = refl
+after_word_plain w (Comma ∷ ps) h = refl
+after_word_plain w (Sign m ∷ ps) h = refl
 
 code_plain : (c : Cond) (o : Option Action) → plain_option (option_map (λ a. Codes (record { cond = c; action = a })) o) ≡ true
 code_plain c None = refl
@@ -236,7 +236,7 @@ suffix_lettered suffix.Fa = refl
 suffix_lettered suffix.Ea = refl
 
 -- the statement of a word and what stands after its blank
-word_said : (w rest : List ℕ) (is : Word) → Lettered w → 0 < length w → word_of w ≡ Some is → heard (pieces (w ++ 32 ∷ rest)) ≡ with_label None (behind_word is (gap_before (pieces rest)))
+word_said : (w rest : List ℕ) (is : Word) → Lettered w → 0 < length w → word_of w ≡ Some is → heard (pieces (w ++ 32 ∷ rest)) ≡ with_label None (after_word is (gap_before (pieces rest)))
 word_said w rest is letters some spelled =
     ap heard (pieces-run w (32 ∷ rest) (letters_named w letters) some (first_no_run (32 ∷ rest) refl) ∙ ap (λ (ps : List Piece). Run w ∷ ps) (blank_pieces rest))
     ∙ ap (λ (o : Option Word). with_label None (with_word o (gap_before (pieces rest)))) (upper_spelled w (letters_upper w letters) ∙ spelled)
@@ -249,7 +249,7 @@ word_split a b d rest =
     ∙ sym (append_assoc a (b ++ d) (32 ∷ rest) ∙ ap (λ (l : List ℕ). a ++ l) (append_assoc b d (32 ∷ rest)))
 
 plain_said_by : (h : Head) (c : Cond) (s : Suffix) (rest : List ℕ) → may_have h s ≡ true
-    → heard (pieces (word_text (head_name h) c (suffix_name s) ++ rest)) ≡ with_label None (behind_word (word.Plain h c s) (gap_before (pieces rest)))
+    → heard (pieces (word_text (head_name h) c (suffix_name s) ++ rest)) ≡ with_label None (after_word (word.Plain h c s) (gap_before (pieces rest)))
 plain_said_by h c s rest may =
     let text = head_name h ++ (cond_text c ++ suffix_name s) in
     let letters = all_both is_letter (head_name h) (cond_text c ++ suffix_name s) (head_lettered h).0 (all_both is_letter (cond_text c) (suffix_name s) (cond_lettered c) (suffix_lettered s)) in
@@ -257,7 +257,7 @@ plain_said_by h c s rest may =
     ∙ word_said text rest (word.Plain h c s) letters (omega (arith, (head_lettered h).1, length-append (head_name h) (cond_text c ++ suffix_name s))) (word_again text (word.Plain h c s) (cond_text c, cond_is c, may, refl))
 
 coded_line : (h : Head) (c : Cond) (s : Suffix) (rest : List ℕ) → may_have h s ≡ true → is_coded h ≡ true → Plain (word_text (head_name h) c (suffix_name s) ++ rest)
-coded_line h c s rest may k = ap plain_of (plain_said_by h c s rest may) ∙ label_plain (behind_word (word.Plain h c s) (gap_before (pieces rest))) (behind_plain (word.Plain h c s) (gap_before (pieces rest)) (λ ps. coded_plain h c s ps k))
+coded_line h c s rest may k = ap plain_of (plain_said_by h c s rest may) ∙ label_plain (after_word (word.Plain h c s) (gap_before (pieces rest))) (after_word_plain (word.Plain h c s) (gap_before (pieces rest)) (λ ps. coded_plain h c s ps k))
 
 flagged_line : (h : Head) (c : Cond) (s : Bool) (rest : List ℕ) → may_have h suffix.S ≡ true → may_have h suffix.Bare ≡ true → is_coded h ≡ true → Plain (word_text (head_name h) c (flags_text s) ++ rest)
 flagged_line h c true rest may bare k = coded_line h c suffix.S rest may k
@@ -328,7 +328,7 @@ single_line : (load : Bool) (c : Cond) (s : Suffix) (d : Register) (more : List 
     → Plain (word_text (head_name (head.Single load)) c (suffix_name s) ++ (register_text d ++ (codes ",[" ++ more)))
 single_line load c s d more may =
     let said = plain_said_by (head.Single load) c s (register_text d ++ (codes ",[" ++ more)) may in
-    ap plain_of (said ∙ ap (λ (ps : List Piece). with_label None (behind_word (word.Plain (head.Single load) c s) (gap_before ps))) (bracketed d more))
+    ap plain_of (said ∙ ap (λ (ps : List Piece). with_label None (after_word (word.Plain (head.Single load) c s) (gap_before ps))) (bracketed d more))
     ∙ label_plain _ (bad_plain (single_said c load s (Run (register_text d) ∷ Comma ∷ Sign OpenBracket ∷ pieces more)) (single_by c load s (pieces more) (register_of (register_text d))))
 
 loaded_line : (load byte user : Bool) (c : Cond) (d : Register) (more : List ℕ) → Plain (word_text (load_name load) c (transfer_suffix byte user) ++ (register_text d ++ (codes ",[" ++ more)))
@@ -371,7 +371,7 @@ branch_line link c rest =
     let is = word_again text (word.Branch link c) (cond_text c, cond_is c, ap (λ (l : List ℕ). branch_name link ++ l) (append-nil (cond_text c))) in
     ap plain_of (ap (λ (l : List ℕ). heard (pieces l)) (word_split (branch_name link) (cond_text c) [] rest)
     ∙ word_said text rest (word.Branch link c) letters (omega (arith, (branch_lettered link).1, length-append (branch_name link) (cond_text c ++ []))) is)
-    ∙ label_plain (behind_word (word.Branch link c) (gap_before (pieces rest))) (behind_plain (word.Branch link c) (gap_before (pieces rest)) (λ ps. branch_plain c link (only_target ps)))
+    ∙ label_plain (after_word (word.Branch link c) (gap_before (pieces rest))) (after_word_plain (word.Branch link c) (gap_before (pieces rest)) (λ ps. branch_plain c link (only_target ps)))
 
 multiplied : (b : Bool) (xs ys : List ℕ) → Plain xs → Plain ys → Plain (cond b xs ys)
 multiplied true xs ys h k = h
