@@ -1,15 +1,18 @@
 -- What is read of addresses, against what they state and their faults.
-use Rattle.std.proofs.Common.{◌≡◌, ℕ, ◌%◌, ◌^◌, ◌↔◌, ℤ, pos, negsuc, true, ◌&&◌, eqb, ltb, refl, sym, ap, subst, le_of_eq}
+use Rattle.std.proofs.Common.{◌≡◌, ℕ, ◌%◌, ◌^◌, ◌↔◌, ℤ, pos, negsuc, Bool, true, if◌then◌else◌, Ok, Err, ◌&&◌, eqb, ltb, refl, sym, ap, subst, le_of_eq}
 use Rattle.std.specs.Cmp.Derive.{both_true}
 use Rattle.std.proofs.lemmas.Bool.{and_parts, eq-eqb, eqb-true, lt-ltb, ltb-true}
 use Rattle.toml_reading.specs.Documents.{in_space}
 use Rattle.toml_reading.specs.Lowest.{IsInSpace, IsNoAddress}
-use Rattle.toml_reading.specs.Readings.{Faults}
+use Rattle.toml_reading.specs.Readings.{Faults, Reading}
 use Rattle.toml_reading.proofs.Following.{test_judged}
 use Rattle.toml_reading.proofs.LowestLemmas.{Judges, judged_as}
 use Rattle.toml_reading.proofs.LowestParts.{not_whole, whole_same}
 
-is_in_space : (n : ℕ) → (eqb (n % 4) 0 && ltb n (2 ^ 26)) ≡ true ↔ IsInSpace n
+abbrev is_word_address : ℕ → Bool
+is_word_address n = eqb (n % 4) 0 && ltb n (2 ^ 26)
+
+is_in_space : (n : ℕ) → is_word_address n ≡ true ↔ IsInSpace n
 is_in_space n = (
   λ e. let parts = and_parts (eqb (n % 4) 0) (ltb n (2 ^ 26)) e in (eqb-true (n % 4) 0 parts.0, ltb-true n (2 ^ 26) parts.1),
   λ h. both_true (eq-eqb (n % 4) 0 h.0) (lt-ltb n (2 ^ 26) h.1),
@@ -29,8 +32,44 @@ module _ {F : Type 0} (fs : Faults F) where
       (IsInSpace n)
       n
       fs.out_of_range
-      (eqb (n % 4) 0 && ltb n (2 ^ 26))
+      (is_word_address n)
       (is_in_space n)
+
+  -- a number that is read where a test of it holds, and is out of range else
+  module _
+      (Holds : ℕ → Type 0)
+      (test : ℕ → Bool)
+      (same : (n : ℕ) → test n ≡ true ↔ Holds n)
+      (read : ℤ → Reading F ℕ)
+      (whole : (n : ℕ) → read (pos n) ≡ (if test n then Ok n else Err fs.out_of_range))
+      (negative : (n : ℕ) → read (negsuc n) ≡ Err fs.out_of_range) where
+    abbrev Held : ℤ → ℕ → Type 0
+    Held z a = (z ≡ pos a) × Holds a
+
+    abbrev Refused : ℤ → F → Type 0
+    Refused z f = ((a : ℕ) → z ≡ pos a → ¬ Holds a) × (f ≡ fs.out_of_range)
+
+    pub tested_judged : (z : ℤ) → Judges fs (Held z) (Refused z) (read z)
+    tested_judged (pos n) =
+        rw (whole n) (judged_as
+        fs
+        (λ a. Holds n × (a ≡ n))
+        (Held (pos n))
+        (λ f. (¬ Holds n) × (f ≡ fs.out_of_range))
+        (Refused (pos n))
+        (λ a. (
+          λ s. (ap (λ (m : ℕ). pos m) (sym s.1), subst Holds (sym s.1) s.0),
+          λ s. (subst Holds (sym (whole_same n a s.0)) s.1, sym (whole_same n a s.0)),
+        ))
+        (λ f. (λ h. (λ a e i. h.0 (subst Holds (sym (whole_same n a e)) i), h.1), λ h. (h.0 n refl, h.1)))
+        (if test n then Ok n else Err fs.out_of_range)
+        (test_judged fs (Holds n) n fs.out_of_range (test n) (same n)))
+    tested_judged (negsuc n) = rw (negative n) (record {
+      told = (
+        λ a s. not_whole n a s.0,
+        record { has = (λ a e i. not_whole n a e, refl); least = λ o e. le_of_eq (ap fs.rank (sym e.1)) },
+      );
+    })
 
   pub integer_judged :
       (z : ℤ)
@@ -39,23 +78,4 @@ module _ {F : Type 0} (fs : Faults F) where
       (λ a. (z ≡ pos a) × IsInSpace a)
       (λ f. IsNoAddress z × (f ≡ fs.out_of_range))
       (in_space fs z)
-  integer_judged (pos n) =
-      judged_as
-      fs
-      (λ a. IsInSpace n × (a ≡ n))
-      (λ a. (pos n ≡ pos a) × IsInSpace a)
-      (λ f. (¬ IsInSpace n) × (f ≡ fs.out_of_range))
-      (λ f. IsNoAddress (pos n) × (f ≡ fs.out_of_range))
-      (λ a. (
-        λ s. (ap (λ (m : ℕ). pos m) (sym s.1), subst IsInSpace (sym s.1) s.0),
-        λ s. (subst IsInSpace (sym (whole_same n a s.0)) s.1, sym (whole_same n a s.0)),
-      ))
-      (λ f. (λ h. (λ a e i. h.0 (subst IsInSpace (sym (whole_same n a e)) i), h.1), λ h. (h.0 n refl, h.1)))
-      (in_space fs (pos n))
-      (natural_judged n)
-  integer_judged (negsuc n) = record {
-    told = (
-      λ a s. not_whole n a s.0,
-      record { has = (λ a e i. not_whole n a e, refl); least = λ o e. le_of_eq (ap fs.rank (sym e.1)) },
-    );
-  }
+  integer_judged = tested_judged IsInSpace is_word_address is_in_space (in_space fs) (λ n. refl) (λ n. refl)
