@@ -5,7 +5,6 @@ use Rattle.arm2_effect.specs.declared.step_end.Why.{Why}
 use Rattle.std.proofs.lemmas.Bool.{cases_lt}
 use Rattle.std.proofs.lemmas.List.{ext_get_or}
 use Rattle.bus_ticks.specs.declared.profile.Profile.{Profile}
-use Rattle.toml.specs.Data.{Members}
 use Rattle.toml_reading.proofs.Unique.{one_answer}
 use Rattle.arm2_exec.specs.State.{State}
 use Rattle.loader.specs.Image.{Words}

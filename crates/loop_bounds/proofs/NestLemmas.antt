@@ -7,7 +7,7 @@ use Rattle.std.proofs.lemmas.List.{get_or_default, length-map, get_or-map}
 use Rattle.std.proofs.lemmas.List.Edits.{length-remove, get_or-remove_below, get_or-remove_above}
 use Rattle.std.proofs.lemmas.List.Elements.{All-filter, Contains-get_or, Contains-append_right, filter_passes}
 use Rattle.std.proofs.lemmas.List.Sums.{length-filter}
-use Rattle.std.proofs.lemmas.List.Kept.{AllPairs-cons, AllPairs-filter}
+use Rattle.std.proofs.lemmas.List.Kept.{AllPairs-filter}
 use Rattle.flow_graph.specs.declared.places.Place.TheVariants.{At}
 use Rattle.statement.specs.declared.stated.Loop.{Loop}
 use Rattle.flow_graph.specs.Flow.{Flow, IsWellFormed}
@@ -26,7 +26,6 @@ use Rattle.loop_bounds.proofs.ExtentLemmas.{nested}
 use Rattle.loop_bounds.proofs.ExtentOf.{no_instance}
 use Rattle.loop_bounds.proofs.NestingLemmas.{no_plain_cycle}
 use Rattle.loop_bounds.proofs.PlaceFacts.{apart, at_extent, bounded, crossing, entered_right, extent_for, instance_is, member, mid_entry, no_crossing, no_mid_entry, numbers, unbounded, within, within_exit}
-use Rattle.numbered_walks.proofs.Nesting.{AllPairs-tail}
 
 -- ## Lists without doubles
 

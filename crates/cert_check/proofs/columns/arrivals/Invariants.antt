@@ -1,5 +1,0 @@
-use Rattle.cert_check.specs.Columns.{IsColumn, by_number, arrival_in}
-use Rattle.cert_check.proofs.columns.arrivals.Given as goal
-
-abbrev pub invariant-loop-number : goal.invariant-loop-number
-invariant-loop-number l = IsColumn (by_number l.graph l.tree (arrival_in l.rows)) l.number l.column.items
