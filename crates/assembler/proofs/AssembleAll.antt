@@ -8,7 +8,7 @@ use Rattle.std.proofs.lemmas.List.{length-append}
 use Rattle.std.proofs.lemmas.Slice.Eq.{bytes_eq-Decides}
 use Rattle.loader.specs.Image.{may_hold}
 use Rattle.asm_text.specs.Statements.{Parsed, line_of}
-use Rattle.assembler.specs.Assembles.{AreFree, AreWords, Laid, Once, address_behind, label_at, labels_of, laid_from, places, places_from, segments, word_count}
+use Rattle.assembler.specs.Assembles.{AreFree, AreWords, Laid, Once, address_after, label_at, labels_of, laid_from, places, places_from, segments, word_count}
 use Rattle.assembler.specs.Sweeps.{Names, State, label_fault, labelled, swept, with_name}
 use Rattle.assembler.proofs.AssembleSteps.{Step, said_is, segments_in}
 use Rattle.assembler.proofs.AssembleBack.{Apart, Exact, In}
@@ -60,10 +60,10 @@ still_none name at old other free differs =
       | inr e ↦ rw e free
     ]
 
-free_behind : (s : State) (label : Option (List ℕ)) (labels : List (List ℕ × ℕ)) → AllByRecursion (λ e. s.names e.0 ≡ None) (label_at s.at label ++ labels) → Once (map (λ e. e.0) (label_at s.at label ++ labels))
+free_after : (s : State) (label : Option (List ℕ)) (labels : List (List ℕ × ℕ)) → AllByRecursion (λ e. s.names e.0 ≡ None) (label_at s.at label ++ labels) → Once (map (λ e. e.0) (label_at s.at label ++ labels))
     → AllByRecursion (λ e. (labelled s label).names e.0 ≡ None) labels × Once (map (λ e. e.0) labels)
-free_behind s None labels h once = (h, once)
-free_behind s (Some name) labels h once =
+free_after s None labels h once = (h, once)
+free_after s (Some name) labels h once =
     (all_both (λ e. s.names e.0 ≡ None) (λ e. name ≢ e.0) (λ e. with_name name s.at s.names e.0 ≡ None) labels (λ e free differs. still_none name s.at s.names e.0 free differs) h.1 (names_all (λ other. name ≢ other) labels once.0), once.1)
 
 -- ---- all lines
@@ -84,16 +84,16 @@ line_ready : (s : State) (taken : List ℕ) (names : Names) (p : Parsed) (rest :
     → CanSweep s taken names (record { at = s.at; label = p.label; said = p.said } ∷ rest) (ws ∷ words) → Ready s p.label p.said names ws taken
 line_ready s taken names p rest ws words some h =
     let here = places_from s.at (word_count p.said) in
-    let behind = flat_map places rest in
+    let there = flat_map places rest in
     record {
       exact = h.exact;
       fresh = free_label s p.label (labels_of rest) h.fresh;
       some = some;
       coded = h.coded.0;
-      held = (all_parts (λ a. may_hold a ≡ true) here behind h.held).0;
-      apart = (apart_parts taken here behind h.apart).0;
+      held = (all_parts (λ a. may_hold a ≡ true) here there h.held).0;
+      apart = (apart_parts taken here there h.apart).0;
       free = h.free.0;
-      few = omega (arith, h.few, length-append here behind, count_places s.at (word_count p.said));
+      few = omega (arith, h.few, length-append here there, count_places s.at (word_count p.said));
       few_segments = omega (arith, h.few_segments);
     }
 
@@ -102,22 +102,22 @@ rest_ready : (s t : State) (k : ℕ) (taken : List ℕ) (names : Names) (p : Par
     → CanSweep t (taken ++ places_from s.at (word_count p.said)) names rest words
 rest_ready s t k taken names p rest ws words h step exact =
     let here = places_from s.at (word_count p.said) in
-    let behind = flat_map places rest in
-    let labels = free_behind s p.label (labels_of rest) h.fresh h.once in
+    let there = flat_map places rest in
+    let labels = free_after s p.label (labels_of rest) h.fresh h.once in
     let m = step.moves in
     let small : segments_in s ≤ 16 = omega (arith, h.few_segments) in
     let after = m.segments small in
-    let parts = once_parts here behind h.once_there in
+    let parts = once_parts here there h.once_there in
     record {
       exact = exact;
       fresh = subst (λ (n : Names). AllByRecursion (λ e. n e.0 ≡ None) (labels_of rest)) (sym step.names) labels.0;
       once = labels.1;
       coded = h.coded.1;
-      held = (all_parts (λ a. may_hold a ≡ true) here behind h.held).1;
-      apart = apart_both taken here behind (apart_parts taken here behind h.apart).1 parts.1;
+      held = (all_parts (λ a. may_hold a ≡ true) here there h.held).1;
+      apart = apart_both taken here there (apart_parts taken here there h.apart).1 parts.1;
       once_there = parts.0;
       free = h.free.1;
-      few = omega (arith, h.few, length-append here behind, length-append taken here);
+      few = omega (arith, h.few, length-append here there, length-append taken here);
       few_segments = subst (λ (b : Bool). segments_in t + segments b rest ≤ 16) (sym m.opened) (omega (arith, h.few_segments, after.0));
     }
 
@@ -129,7 +129,7 @@ swept_ok [] (p ∷ said) s k taken names words read some h = absurd read
 swept_ok (line ∷ lines) [] s k taken names words read some h = absurd read
 swept_ok (line ∷ lines) (p ∷ said) s k taken names [] read some h = absurd h.coded
 swept_ok (line ∷ lines) (p ∷ said) s k taken names (ws ∷ words) read some h =
-    let rest = laid_from (address_behind s.at p.said) said in
+    let rest = laid_from (address_after s.at p.said) said in
     let one = said_ok s k p.label p.said names ws taken (line_ready s taken names p rest ws words some.0 h) in
     let step = said_is s k p.label p.said one.0 one.1 in
     let here = places_from s.at (word_count p.said) in

@@ -34,7 +34,7 @@ unfolding In
 not_in [] a h k = k
 not_in (x ∷ xs) a h k = elim k [ inl e ↦ h.0 e | inr m ↦ not_in xs a h.1 m ]
 
--- ---- what a state holds: no more than the places behind it
+-- ---- what a state holds: no more than the places after it
 
 unfoldable pub StartEven : Option ℕ → ℕ → Type 0
 StartEven None at = Unit {0}

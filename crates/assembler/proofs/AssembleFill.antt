@@ -67,7 +67,7 @@ still_free (f ∷ rest) at w x e = go (nat_lt at f.0) refl (still_free rest at w
           | inr h ↦ let below = deeper h.1 in (rw h.0 below.0, below.1)
         ]
 
--- ---- items put one behind the other
+-- ---- items put one after the other
 
 unfoldable pub put_words : Words → Words → Words
 put_words image words = fold (λ i e. with_word i e.0 e.1) image words

@@ -7,7 +7,7 @@ use Rattle.std.specs.Prelude.{flat_map, if◌then◌else◌, nat_le, nat_lt}
 use Rattle.loader.specs.Image.{Words, may_hold, put_fault, runs_of, with_word, word_of}
 use Rattle.asm_text.specs.Said.{Said, Codes, Refers, Orgs, Lists}
 use Rattle.asm_text.specs.Statements.{Parsed}
-use Rattle.assembler.specs.Assembles.{Laid, Once, address_behind, is_open, laid_from, places, places_from, segments, word_count}
+use Rattle.assembler.specs.Assembles.{Laid, Once, address_after, is_open, laid_from, places, places_from, segments, word_count}
 use Rattle.assembler.proofs.AssembleAll.{apart_both, once_parts}
 use Rattle.assembler.proofs.AssembleBack.{Apart, In, may_four, in_first, in_last}
 use Rattle.assembler.proofs.AssembleBasics.{all_parts, count_places, false_true, one_more}
@@ -74,9 +74,9 @@ unfolding Apart In
 one_apart at [] h = tt
 one_apart at (x ∷ xs) h = (λ m. elim m [ inl e ↦ h.0 e | inr n ↦ n ], one_apart at xs h.1)
 
-stands_behind : (taken : List ℕ) (at n : ℕ) → Stands taken at (suc n) → Stands (taken ++ at ∷ []) (at + 4) n
+stands_after : (taken : List ℕ) (at n : ℕ) → Stands taken at (suc n) → Stands (taken ++ at ∷ []) (at + 4) n
 unfolding Apart
-stands_behind taken at n h = record {
+stands_after taken at n h = record {
   held = h.held.1;
   apart = apart_both taken (at ∷ []) (places_from (at + 4) n) h.apart.1
       (one_apart at (places_from (at + 4) n) h.once.0);
@@ -94,7 +94,7 @@ put_weaker image taken a b le h =
     h.runs in
     record { ascends = h.ascends; absent = h.absent; count = h.count; runs = omega (arith, le, runs) }
 
--- ---- a line's words, behind others or first of a segment
+-- ---- a line's words, after others or first of a segment
 
 unfoldable pub JoinsIf : Bool → Words → ℕ → Type 0
 JoinsIf b image at = b ≡ true → Joins image at
@@ -102,7 +102,7 @@ JoinsIf b image at = b ≡ true → Joins image at
 suc_zero : (n : ℕ) → (suc n == 0) ≡ false
 suc_zero n = grind (arith, nat_tests)
 
--- ---- one word behind the other
+-- ---- one word after the other
 
 -- any words may be put at the addresses, one after the other
 unfoldable pub Fits : Words → List ℕ → Type 0
@@ -136,7 +136,7 @@ fits_on (suc n) at image taken most rest le h j s on = λ w.
       may_put image at w s.held.0 none (omega (arith, h.count, s.few)) (omega (arith, few, le)),
       fits_on n (at + 4) (with_word image at w) (taken ++ at ∷ []) most rest le
           (put_more image taken at w most h four free most few) (joins_next image at w none)
-          (stands_behind taken at n s)
+          (stands_after taken at n s)
           (goes_on (taken ++ places_from at (suc n))
           ((taken ++ at ∷ []) ++ places_from (at + 4) n) most true (at + 4 * suc n)
           (at + 4 + 4 * n) rest
@@ -169,21 +169,21 @@ fits_line (suc n) at false image taken most rest le h j s on = λ w.
     let bound : most + 1 ≤ 16 = rw (suc_zero n) at le in
     let few : runs_of (with_word image at w) ≤ most + 1 =
     omega (arith, runs_more image at w four h.ascends none, h.runs) in
-    let behind : GoesOn (taken ++ places_from at (suc n)) (most + 1) true (at + 4 * suc n) rest =
+    let there : GoesOn (taken ++ places_from at (suc n)) (most + 1) true (at + 4 * suc n) rest =
     rw (suc_zero n) at on in (
       may_put image at w s.held.0 none (omega (arith, h.count, s.few)) (omega (arith, few, bound)),
       fits_on n (at + 4) (with_word image at w) (taken ++ at ∷ []) (most + 1) rest bound
           (put_more image taken at w most h four free (most + 1) few) (joins_next image at w none)
-          (stands_behind taken at n s)
+          (stands_after taken at n s)
           (goes_on (taken ++ places_from at (suc n)) ((taken ++ at ∷ []) ++ places_from (at + 4) n)
           (most + 1) true (at + 4 * suc n) (at + 4 + 4 * n) rest
-          (sym (append_assoc taken (at ∷ []) (places_from (at + 4) n))) (omega arith) behind),
+          (sym (append_assoc taken (at ∷ []) (places_from (at + 4) n))) (omega arith) there),
     )
 
 -- after an ORG no word is after another
 opened : (said : Option Said) (begun : Bool) (at : ℕ) (image : Words)
     → JoinsIf (begun || not (word_count said == 0)) image (at + 4 * word_count said)
-    → JoinsIf (is_open begun said) image (address_behind at said)
+    → JoinsIf (is_open begun said) image (address_after at said)
 unfolding JoinsIf
 opened (Some (Orgs n)) begun at image j = λ e. false_true e
 opened (Some (Codes c)) begun at image j = j
@@ -214,12 +214,12 @@ unfolding Fits GoesOn Apart
 fits [] at begun image taken most h = tt
 fits (p ∷ said) at begun image taken most h =
     let n = word_count p.said in
-    let lines = laid_from (address_behind at p.said) said in
+    let lines = laid_from (address_after at p.said) said in
     let here = places_from at n in
-    let behind = flat_map places lines in
-    let held = all_parts (λ b. may_hold b ≡ true) here behind h.held in
-    let apart = all_parts (λ b. In taken b → ⊥) here behind h.apart in
-    let parts = once_parts here behind h.once in
+    let there = flat_map places lines in
+    let held = all_parts (λ b. may_hold b ≡ true) here there h.held in
+    let apart = all_parts (λ b. In taken b → ⊥) here there h.apart in
+    let parts = once_parts here there h.once in
     let s : Stands taken at n =
     record {
       held =
@@ -227,19 +227,19 @@ fits (p ∷ said) at begun image taken most h =
       apart =
           apart.0;
       once =
-          once_first here behind h.once;
+          once_first here there h.once;
       few =
-          omega (arith, h.few, length-append here behind, count_places at n);
+          omega (arith, h.few, length-append here there, count_places at n);
     } in
     let now = most + (if begun || n == 0 then 0 else 1) in
-    fits_line n at begun image taken most behind (omega (arith, h.few_segments)) h.put h.joins s
-    (λ next put joins. fits said (address_behind at p.said) (is_open begun p.said) next (taken ++ here) now
+    fits_line n at begun image taken most there (omega (arith, h.few_segments)) h.put h.joins s
+    (λ next put joins. fits said (address_after at p.said) (is_open begun p.said) next (taken ++ here) now
     (record {
       put = put;
       joins = opened p.said begun at next joins;
       held = held.1;
-      apart = apart_both taken here behind apart.1 parts.1;
+      apart = apart_both taken here there apart.1 parts.1;
       once = parts.0;
-      few = omega (arith, h.few, length-append here behind, length-append taken here);
+      few = omega (arith, h.few, length-append here there, length-append taken here);
       few_segments = omega (arith, h.few_segments);
     }))

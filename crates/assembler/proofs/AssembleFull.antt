@@ -5,7 +5,7 @@ use Rattle.std.specs.List.{AllZip}
 use Rattle.loader.specs.Image.{Words, with_word}
 use Rattle.asm_text.specs.Said.{Target, Number, Label, Said, Codes, Refers, Orgs, Lists}
 use Rattle.asm_text.specs.Statements.{Parsed}
-use Rattle.assembler.specs.Assembles.{AreWords, IsTarget, address_behind, laid_from, places, places_from, word_count, words_at, words_from}
+use Rattle.assembler.specs.Assembles.{AreWords, IsTarget, address_after, laid_from, places, places_from, word_count, words_at, words_from}
 use Rattle.assembler.specs.Codes.{encoded, refer}
 use Rattle.assembler.specs.Sweeps.{Item, Names, Pending, filled, value_pending}
 use Rattle.assembler.proofs.AssembleSteps.{Pends, items_at}
@@ -60,11 +60,11 @@ filled_ok names (p ∷ said) at [] words image n a h = absurd n
 filled_ok names (p ∷ said) at (x ∷ new) [] image n a h = absurd a
 filled_ok names (p ∷ said) at (x ∷ new) (ws ∷ words) image n a h =
     let m = n.0 in
-    let lines = laid_from (address_behind at p.said) said in
-    let behind = flat_map places lines in
+    let lines = laid_from (address_after at p.said) said in
+    let there = flat_map places lines in
     let count : word_count p.said ≡ length m.1 = sym m.4 in
-    let fit : Fits image (places_from at (length m.1) ++ behind) = subst (λ c. Fits image (places_from at c ++ behind)) count h in
-    let one = filled_line names m.0 at m.1 ws image (flat new) behind (resolved_are names p.said at m.1 ws m.3 a.0) fit in
-    let more = filled_ok names said (address_behind at p.said) new words (put_words image (words_from at ws)) n.1 a.1 one.1 in
+    let fit : Fits image (places_from at (length m.1) ++ there) = subst (λ c. Fits image (places_from at c ++ there)) count h in
+    let one = filled_line names m.0 at m.1 ws image (flat new) there (resolved_are names p.said at m.1 ws m.3 a.0) fit in
+    let more = filled_ok names said (address_after at p.said) new words (put_words image (words_from at ws)) n.1 a.1 one.1 in
     ap (λ (is : List Item). filled names image (is ++ flat new)) m.2 ∙ one.0 ∙ more
     ∙ ap (λ (i : Words). Ok i) (sym (fold_append image (words_from at ws) (words_at lines words)))

@@ -7,7 +7,7 @@ use Rattle.std.proofs.lemmas.Bool.{and_parts, cases_Bool, not-false}
 use Rattle.std.proofs.lemmas.Bool.Decides.{nat_tests}
 use Rattle.loader.specs.Image.{lies_in_memory, may_hold}
 use Rattle.asm_text.specs.Said.{Target, Number, Label, Said, Codes, Refers, Orgs, Lists}
-use Rattle.assembler.specs.Assembles.{IsFree, address_behind, is_open, places_from, word_count}
+use Rattle.assembler.specs.Assembles.{IsFree, address_after, is_open, places_from, word_count}
 use Rattle.assembler.specs.Codes.{encoded, refer, use_fault}
 use Rattle.assembler.specs.Faults.{lower}
 use Rattle.assembler.specs.Sweeps.{Pending, Fixed, Waits, Item, State, all_placed, around_fault, closed_with, is_17th, label_fault, labelled, moved, open_has, org_fault, overlaps, pending_step, pending_unless, place_fault, placed, said_step, unless, value_pending, word_pending}
@@ -36,7 +36,7 @@ lower_none None b e = (refl, e)
 lower_none (Some a) None e = absurd cc
 lower_none (Some a) (Some b) e = elim (chosen _ (Some b) (Some a) None e) [ inl h ↦ let k = h.1 in absurd cc | inr h ↦ let k = h.1 in absurd cc ]
 
--- ---- words put one behind the other
+-- ---- words put one after the other
 
 unfoldable pub put_all : State → ℕ → List Pending → State
 put_all s k [] = s
@@ -238,7 +238,7 @@ pub record Moves (s : State) (k : ℕ) (said : Option Said) (t : State) : Type 0
   pub items : t.items ≡ s.items ++ items_at k s.at new
   pub pends : Pends said s.at new
   pub count : length new ≡ word_count said
-  pub at : t.at ≡ address_behind s.at said
+  pub at : t.at ≡ address_after s.at said
   pub covers : (taken : List ℕ) → Covers s taken → Covers t (taken ++ places_from s.at (word_count said))
   pub free : (taken : List ℕ) → Covers s taken → IsFree taken said
   pub opened : is_some t.start ≡ is_open (is_some s.start) said
@@ -268,7 +268,7 @@ stays s k = record {
 }
 
 -- a line with words
-words_moves : (s : State) (said : Option Said) (k : ℕ) (ps : List Pending) → Pends said s.at ps → length ps ≡ word_count said → address_behind s.at said ≡ s.at + 4 * word_count said
+words_moves : (s : State) (said : Option Said) (k : ℕ) (ps : List Pending) → Pends said s.at ps → length ps ≡ word_count said → address_after s.at said ≡ s.at + 4 * word_count said
     → ((taken : List ℕ) → IsFree taken said) → is_open (is_some s.start) said ≡ (is_some s.start || not (word_count said == 0)) → is_17th s ≡ false → Moves s k said (put_all s k ps)
 words_moves s said k ps pends count at free opens room = record {
   new = ps;
@@ -297,7 +297,7 @@ org_moves s k n e = record {
   segments = λ few. (moved_segments s n ∙ none_more (is_some s.start) (segments_in s), omega (arith, moved_segments s n));
 }
 
--- ---- behind a label
+-- ---- after a label
 
 relabel : (s : State) (name : List ℕ) (k : ℕ) (said : Option Said) (t : State) → Moves (labelled s (Some name)) k said t → Moves s k said t
 unfolding InSegments StartBelow segments_in
@@ -341,7 +341,7 @@ pub record Step (s : State) (k : ℕ) (label : Option (List ℕ)) (said : Option
   pub fresh : label_fault s label ≡ None
 
 words_step : (s : State) (label : Option (List ℕ)) (said : Option Said) (k : ℕ) (ps : List Pending) (t : State) → Pends said s.at ps → length ps ≡ word_count said
-    → address_behind s.at said ≡ s.at + 4 * word_count said
+    → address_after s.at said ≡ s.at + 4 * word_count said
     → ((taken : List ℕ) → IsFree taken said) → ((b : Bool) → is_open b said ≡ (b || not (word_count said == 0))) → unless (around_fault s label (word_count said)) (put_all (labelled s label) k ps) ≡ Ok t → Step s k label said t
 words_step s label said k ps t pends count at free opens e =
     let u = labelled s label in
@@ -350,7 +350,7 @@ words_step s label said k ps t pends count at free opens e =
     let here = labelled_at s label in
     let moves : Moves u k said (put_all u k ps) =
     words_moves u said k ps (subst (λ (a : ℕ). Pends said a ps) (sym here) pends) count
-    (subst (λ (a : ℕ). address_behind a said ≡ a + 4 * word_count said) (sym here) at) free (opens (is_some u.start)) (labelled_17th s label ∙ place_room s (word_count said) faults.1) in
+    (subst (λ (a : ℕ). address_after a said ≡ a + 4 * word_count said) (sym here) at) free (opens (is_some u.start)) (labelled_17th s label ∙ place_room s (word_count said) faults.1) in
     subst (Step s k label said) done.1 (record { moves = moves_of s label k said (put_all u k ps) moves; names = put_names u k ps; fresh = faults.0 })
 
 -- ---- what a statement waits for

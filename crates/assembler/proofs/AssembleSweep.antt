@@ -6,7 +6,7 @@ use Rattle.std.specs.List.{AllByRecursion, AllZip, Contains}
 use Rattle.std.specs.Str.{bytes_eq}
 use Rattle.asm_text.specs.Statements.{Parsed, line_of}
 use Rattle.asm_text.specs.declared.statement.TextFault.{TextFault}
-use Rattle.assembler.specs.Assembles.{AreFree, Laid, Once, address_behind, is_open, label_at, labels_of, laid_from, segments, word_count}
+use Rattle.assembler.specs.Assembles.{AreFree, Laid, Once, address_after, is_open, label_at, labels_of, laid_from, segments, word_count}
 use Rattle.assembler.specs.Sweeps.{Item, Names, Pending, State, label_fault, labelled, line_step, swept, swept_on, with_name}
 use Rattle.assembler.specs.declared.fault.Fault.{Fault}
 use Rattle.assembler.specs.declared.fault.Fault.TheVariants.{LabelTwice}
@@ -114,22 +114,22 @@ one_line : (s u t : State) (k : ℕ) (line : List ℕ) (lines : List (List ℕ))
 unfolding flat NewItems
 one_line s u t k line lines p read step rest =
     let m = step.moves in
-    let behind : laid_from u.at rest.said ≡ laid_from (address_behind s.at p.said) rest.said = ap (λ (a : ℕ). laid_from a rest.said) m.at in
+    let same_lines : laid_from u.at rest.said ≡ laid_from (address_after s.at p.said) rest.said = ap (λ (a : ℕ). laid_from a rest.said) m.at in
     record {
       said = p ∷ rest.said;
       read = (read, rest.read);
       new = items_at k s.at m.new ∷ rest.new;
-      pending = ((k, m.new, refl, m.pends, m.count), subst (λ (ls : List Laid). AllZip NewItems ls rest.new) behind rest.pending);
+      pending = ((k, m.new, refl, m.pends, m.count), subst (λ (ls : List Laid). AllZip NewItems ls rest.new) same_lines rest.pending);
       items = rest.items ∙ ap (λ (is : List Item). is ++ flat rest.new) m.items ∙ append_assoc s.items (items_at k s.at m.new) (flat rest.new);
-      names = label_names s p.label t.names (labels_of (laid_from (address_behind s.at p.said) rest.said)) step.fresh
-          (subst (λ (old : Names). NamesOf old t.names (labels_of (laid_from (address_behind s.at p.said) rest.said))) step.names
-          (subst (λ (ls : List Laid). NamesOf u.names t.names (labels_of ls)) behind rest.names));
-      free = λ taken h. (m.free taken h, subst (AreFree _) behind (rest.free _ (m.covers taken h)));
+      names = label_names s p.label t.names (labels_of (laid_from (address_after s.at p.said) rest.said)) step.fresh
+          (subst (λ (old : Names). NamesOf old t.names (labels_of (laid_from (address_after s.at p.said) rest.said))) step.names
+          (subst (λ (ls : List Laid). NamesOf u.names t.names (labels_of ls)) same_lines rest.names));
+      free = λ taken h. (m.free taken h, subst (AreFree _) same_lines (rest.free _ (m.covers taken h)));
       few = λ small.
           let more = m.segments small in
-          let after : segments_in u + segments (is_open (is_some s.start) p.said) (laid_from (address_behind s.at p.said) rest.said) ≤ 16 =
-          subst (λ (b : Bool). segments_in u + segments b (laid_from (address_behind s.at p.said) rest.said) ≤ 16) m.opened
-          (subst (λ (ls : List Laid). segments_in u + segments (is_some u.start) ls ≤ 16) behind (rest.few more.1)) in
+          let after : segments_in u + segments (is_open (is_some s.start) p.said) (laid_from (address_after s.at p.said) rest.said) ≤ 16 =
+          subst (λ (b : Bool). segments_in u + segments b (laid_from (address_after s.at p.said) rest.said) ≤ 16) m.opened
+          (subst (λ (ls : List Laid). segments_in u + segments (is_some u.start) ls ≤ 16) same_lines (rest.few more.1)) in
           omega (arith, after, more.0);
     }
 

@@ -8,10 +8,10 @@ use Rattle.std.proofs.lemmas.List.{append-nil, length-append}
 use Rattle.loader.specs.Image.{may_hold}
 use Rattle.asm_text.specs.Said.{Number, Label, Said, Codes, Refers, Orgs, Lists}
 use Rattle.asm_text.specs.Statements.{Parsed}
-use Rattle.assembler.specs.Assembles.{Laid, Once, address_behind, is_open, label_at, labels_of, laid, laid_from, places, places_from, segments, word_count}
+use Rattle.assembler.specs.Assembles.{Laid, Once, address_after, is_open, label_at, labels_of, laid, laid_from, places, places_from, segments, word_count}
 use Rattle.assembler.specs.Codes.{encoded, refer, use_fault}
 use Rattle.assembler.specs.Faults.{lower}
-use Rattle.assembler.specs.Refusals.{AreTooLong, Clashes, HasCodeFault, IsMisplaced, IsRepeated, IsWrong, address_behind_all, address_of_next, asked}
+use Rattle.assembler.specs.Refusals.{AreTooLong, Clashes, HasCodeFault, IsMisplaced, IsRepeated, IsWrong, address_after_all, address_of_next, asked}
 use Rattle.assembler.specs.Sweeps.{Waits, Item, Pending, State, all_placed, around_fault, is_17th, label_fault, labelled, moved, org_fault, pending_step, pending_unless, place_fault, placed, said_step, unless, value_pending, word_pending}
 use Rattle.assembler.specs.declared.fault.Fault.{Fault}
 use Rattle.assembler.specs.declared.fault.Fault.TheVariants.{LabelTwice, OutOfRange, TooLong}
@@ -32,33 +32,33 @@ flat_more {B = B} f (y ∷ xs) x =
 
 pub laid_more : (at : ℕ) (ps : List Parsed) (p : Parsed)
     → laid_from at (ps ++ p ∷ [])
-    ≡ laid_from at ps ++ record { at = address_behind_all at ps; label = p.label; said = p.said } ∷ []
+    ≡ laid_from at ps ++ record { at = address_after_all at ps; label = p.label; said = p.said } ∷ []
 laid_more at [] p = refl
 laid_more at (q ∷ ps) p =
     ap (λ (ls : List Laid). record { at = at; label = q.label; said = q.said } ∷ ls)
-    (laid_more (address_behind at q.said) ps p)
+    (laid_more (address_after at q.said) ps p)
 
 pub address_more : (at : ℕ) (ps : List Parsed) (p : Parsed)
-    → address_behind_all at (ps ++ p ∷ []) ≡ address_behind (address_behind_all at ps) p.said
+    → address_after_all at (ps ++ p ∷ []) ≡ address_after (address_after_all at ps) p.said
 address_more at [] p = refl
-address_more at (q ∷ ps) p = address_more (address_behind at q.said) ps p
+address_more at (q ∷ ps) p = address_more (address_after at q.said) ps p
 
 pub count_laid : (at : ℕ) (ps : List Parsed) → length (laid_from at ps) ≡ length ps
 count_laid at [] = refl
-count_laid at (p ∷ ps) = ap suc (count_laid (address_behind at p.said) ps)
+count_laid at (p ∷ ps) = ap suc (count_laid (address_after at p.said) ps)
 
-abbrev pub open_behind : Bool → List Laid → Bool
-open_behind b [] = b
-open_behind b (l ∷ ls) = open_behind (is_open b l.said) ls
+abbrev pub open_after : Bool → List Laid → Bool
+open_after b [] = b
+open_after b (l ∷ ls) = open_after (is_open b l.said) ls
 
 pub open_more : (b : Bool) (ls : List Laid) (l : Laid)
-    → open_behind b (ls ++ l ∷ []) ≡ is_open (open_behind b ls) l.said
+    → open_after b (ls ++ l ∷ []) ≡ is_open (open_after b ls) l.said
 open_more b [] l = refl
 open_more b (x ∷ ls) l = open_more (is_open b x.said) ls l
 
 segments_more : (b : Bool) (ls : List Laid) (l : Laid)
     → segments b (ls ++ l ∷ [])
-    ≡ segments b ls + (if open_behind b ls || word_count l.said == 0 then 0 else 1)
+    ≡ segments b ls + (if open_after b ls || word_count l.said == 0 then 0 else 1)
 segments_more b [] l = omega arith
 segments_more b (x ∷ ls) l = omega (arith, segments_more (is_open b x.said) ls l)
 
@@ -84,7 +84,7 @@ labels_more before p =
 segments_next : (before : List Parsed) (p : Parsed)
     → segments false (laid (before ++ p ∷ []))
     ≡ segments false (laid before)
-    + (if open_behind false (laid before) || word_count p.said == 0 then 0 else 1)
+    + (if open_after false (laid before) || word_count p.said == 0 then 0 else 1)
 segments_next before p =
     ap (segments false) (laid_more 32768 before p)
     ∙ segments_more false (laid before)
@@ -133,7 +133,7 @@ pub record Front (s : State) (k : ℕ) (before : List Parsed) : Type 0 where
       → (s.names name ≡ Some a) ↔ Contains (labels_of (laid before)) (name, a)
   pub covers : Covers s (taken_by before)
   pub exact : Exact s (taken_by before)
-  pub opened : is_some s.start ≡ open_behind false (laid before)
+  pub opened : is_some s.start ≡ open_after false (laid before)
   pub segment_count : segments_in s ≡ segments false (laid before)
   pub few_segments : segments false (laid before) ≤ 16
   pub held : AllByRecursion (λ a. may_hold a ≡ true) (taken_by before)

@@ -244,35 +244,35 @@ filled_all names labels k (line ∷ lines) items image known h f a =
     (more.0, ap (filled names image) h.2 ∙ one.same ∙ more.1)
 
 pub filled_stops : (names : Names) (labels : List (List ℕ × ℕ)) (k : ℕ) (front : List Laid) (line : Laid)
-    (behind : List Laid) (items : List Item) (image : Words) (fault : Fault) → Known names labels
-    → ItemsOf k (front ++ (line ∷ behind)) items → Fits image (flat_map places (front ++ (line ∷ behind)))
+    (after : List Laid) (items : List Item) (image : Words) (fault : Fault) → Known names labels
+    → ItemsOf k (front ++ (line ∷ after)) items → Fits image (flat_map places (front ++ (line ∷ after)))
     → AreFaultless labels front → IsLowest (HasLabelFault labels line.at line.said) fault
     → filled names image items ≡ Err (fault, k + length front)
 unfolding ItemsOf
-filled_stops names labels k [] line behind items image fault known h f a low =
+filled_stops names labels k [] line after items image fault known h f a low =
     let least = late_least names labels line.at line.said h.0 known h.3 in
     let some = least_is (HasLabelFault labels line.at line.said) (late names line.at h.0) fault least low in
     let zero_more : k ≡ k + 0 = omega arith in
     ap (filled names image) h.2
-    ∙ fill_stop names k line.at h.0 image h.1 (flat_map places behind) fault
-    (line_fits image line h.0 (flat_map places behind) h.4 f) some ∙ ap (λ n. Err (fault, n)) zero_more
-filled_stops names labels k (l ∷ front) line behind items image fault known h f a low =
-    let rest = front ++ (line ∷ behind) in
+    ∙ fill_stop names k line.at h.0 image h.1 (flat_map places after) fault
+    (line_fits image line h.0 (flat_map places after) h.4 f) some ∙ ap (λ n. Err (fault, n)) zero_more
+filled_stops names labels k (l ∷ front) line after items image fault known h f a low =
+    let rest = front ++ (line ∷ after) in
     let least = late_least names labels l.at l.said h.0 known h.3 in
     let none = least_no (HasLabelFault labels l.at l.said) (late names l.at h.0) least a.0 in
     let one =
     fill_all names k l.at h.0 image h.1 (flat_map places rest)
     (line_fits image l h.0 (flat_map places rest) h.4 f) none in
     let more =
-    filled_stops names labels (k + 1) front line behind h.1 one.next fault known h.5 one.fits a.1 low in
+    filled_stops names labels (k + 1) front line after h.1 one.next fault known h.5 one.fits a.1 low in
     let same : k + 1 + length front ≡ k + suc (length front) = omega arith in
     ap (filled names image) h.2 ∙ one.same ∙ more ∙ ap (λ n. Err (fault, n)) same
 
 pub record LabelStops (labels : List (List ℕ × ℕ)) (lines : List Laid) : Type 0 where
   pub front : List Laid
   pub line : Laid
-  pub behind : List Laid
-  pub parts : lines ≡ front ++ (line ∷ behind)
+  pub after : List Laid
+  pub parts : lines ≡ front ++ (line ∷ after)
   pub none : AreFaultless labels front
   pub fault : Fault
   pub fault-is : IsLowest (HasLabelFault labels line.at line.said) fault
@@ -289,7 +289,7 @@ known_or_stop names labels k (line ∷ lines) items known h =
       | inr f ↦ inr (record {
         front = [];
         line = line;
-        behind = lines;
+        after = lines;
         parts = refl;
         none = tt;
         fault = f.0;
@@ -302,7 +302,7 @@ known_or_stop names labels k (line ∷ lines) items known h =
             | inr stop ↦ inr (record {
               front = line ∷ stop.front;
               line = stop.line;
-              behind = stop.behind;
+              after = stop.after;
               parts = ap (λ (ls : List Laid). line ∷ ls) stop.parts;
               none = (clean, stop.none);
               fault = stop.fault;

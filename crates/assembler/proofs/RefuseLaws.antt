@@ -70,8 +70,8 @@ names_known s k said h = h.named
 at_once : Texts → (source : List ℕ) (fault : Fault) (n : ℕ) → IsRefusedAtOnce source fault n
     → assembled source ≡ Err (fault, n)
 at_once texts source fault n r =
-    let p = passed_on texts at_first 1 [] r.front r.said (r.line ∷ r.behind) front_first r.passed in
-    let stop = stops_swept texts p.state p.next r.said r.line r.behind fault p.front r.fault-is in
+    let p = passed_on texts at_first 1 [] r.front r.said (r.line ∷ r.after) front_first r.passed in
+    let stop = stops_swept texts p.state p.next r.said r.line r.after fault p.front r.fault-is in
     let number : p.next ≡ n = omega (arith, p.next-is, r.number-is) in
     let sweep : swept at_first 1 (lines_of source) ≡ Err (fault, n) =
     ap (swept at_first 1) r.parts ∙ p.same ∙ stop ∙ ap (λ m. Err (fault, m)) number in
@@ -85,7 +85,7 @@ for_labels texts source fault n r =
     let items = subst (λ ls. ItemsOf 1 ls s.state.items) r.parts s.front.items in
     let stop =
     filled_stops s.state.names
-    (labels_of (laid r.said)) 1 r.front r.line r.behind s.state.items [] fault
+    (labels_of (laid r.said)) 1 r.front r.line r.after s.state.items [] fault
     (names_known s.state s.number r.said s.front)
     items (subst (λ ls. Fits [] (flat_map places ls)) r.parts all) r.none r.fault-is in
     let number : 1 + length r.front ≡ n = omega (arith, r.number-is) in
@@ -124,7 +124,7 @@ refused_is texts source fault n e =
           let r : IsRefusedAtOnce source stop.fault m = record {
             front = stop.front;
             line = stop.line;
-            behind = stop.behind;
+            after = stop.after;
             parts = stop.parts;
             number-is = refl;
             said = stop.said;
@@ -145,7 +145,7 @@ refused_is texts source fault n e =
                   passed = all.1;
                   front = stop.front;
                   line = stop.line;
-                  behind = stop.behind;
+                  after = stop.after;
                   parts = stop.parts;
                   number-is = refl;
                   none = stop.none;

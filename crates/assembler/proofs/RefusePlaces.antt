@@ -133,9 +133,9 @@ wider (s ∷ closed) from to a low high h =
     or_right true c e = refl
     or_right false c e = e
 
-not_behind : (o : Option ℕ) (at a : ℕ) → at ≤ a → open_has o at a ≡ true → ⊥
-not_behind None at a le h = false_true h
-not_behind (Some from) at a le h =
+not_after : (o : Option ℕ) (at a : ℕ) → at ≤ a → open_has o at a ≡ true → ⊥
+not_after None at a le h = false_true h
+not_after (Some from) at a le h =
     let k = (and_parts (nat_le from a) (nat_lt a at) h).1 in let lt : a < at =
     grind (arith, nat_tests, k) in omega (arith, lt, le)
 
@@ -162,7 +162,7 @@ bad_outside s taken n exact covers (a, there, why) =
                   w.high in
                   false_true
                   (sym k.1 ∙ wider s.closed s.at (s.at + 4 * n) a w.low (omega (arith, high)) held)
-              | inr held ↦ absurd (not_behind s.start s.at a w.low held)
+              | inr held ↦ absurd (not_after s.start s.at a w.low held)
             ]
           ]
     ]

@@ -11,7 +11,7 @@ use Rattle.asm_text.specs.Said.{Said, Codes, Refers, Orgs, Lists}
 use Rattle.asm_text.specs.Spelling.{Spells}
 use Rattle.asm_text.specs.Statements.{Parsed, line_of}
 use Rattle.asm_text.specs.declared.statement.TextFault.{TextFault}
-use Rattle.assembler.specs.Assembles.{Laid, Once, address_behind, is_open, label_at, labels_of, laid, places_from, segments, word_count}
+use Rattle.assembler.specs.Assembles.{Laid, Once, address_after, is_open, label_at, labels_of, laid, places_from, segments, word_count}
 use Rattle.assembler.specs.Refusals.{ArePassed, HasFault, IsLowest, IsUnreadable, IsWrong, address_of_next, asked}
 use Rattle.assembler.specs.Sweeps.{Names, State, at_first, label_fault, labelled, line_step, said_step, swept, swept_on}
 use Rattle.assembler.specs.declared.fault.Fault.{Fault}
@@ -22,7 +22,7 @@ use Rattle.assembler.proofs.AssembleLaws.{first_covers, first_exact, first_segme
 use Rattle.assembler.proofs.AssembleReady.{NotEmpty}
 use Rattle.assembler.proofs.AssembleSteps.{Covers, Pends, items_at, said_is, segments_in}
 use Rattle.assembler.proofs.AssembleSweep.{NamesOf, label_names, no_labels, step_is}
-use Rattle.assembler.proofs.RefuseFront.{Front, ItemsOf, address_more, count_laid, counts, exact_said, items_more, laid_more, labels_more, open_behind, open_more, said_least, taken_by, taken_more}
+use Rattle.assembler.proofs.RefuseFront.{Front, ItemsOf, address_more, count_laid, counts, exact_said, items_more, laid_more, labels_more, open_after, open_more, said_least, taken_by, taken_more}
 use Rattle.assembler.proofs.RefuseLeast.{IsLeast, either, failed, is_least, least_is, least_no, least_same, no_least}
 use Rattle.assembler.proofs.RefusePlaces.{Fine, fine}
 use Rattle.assembler.proofs.RefuseText.{fault_in_reading}
@@ -130,7 +130,7 @@ front_next s k before p t h some e =
     (omega (arith, h.number, count_laid 32768 before)) pends m.count in
     record {
       number = omega (arith, h.number, length-append before (p ∷ []));
-      at = m.at ∙ ap (λ a. address_behind a p.said) h.at ∙ sym (address_more 32768 before p);
+      at = m.at ∙ ap (λ a. address_after a p.said) h.at ∙ sym (address_more 32768 before p);
       named = subst
           (λ (names : Names). (name : List ℕ) → (a : ℕ)
           → (names name ≡ Some a) ↔ Contains (labels_of (laid (before ++ p ∷ []))) (name, a))
@@ -138,7 +138,7 @@ front_next s k before p t h some e =
       covers = subst (Covers t) now (m.covers taken h.covers);
       exact = subst (Exact t) now exact;
       opened = m.opened ∙ ap (λ b. is_open b p.said) h.opened
-          ∙ sym (ap (open_behind false) (laid_more 32768 before p) ∙ open_more false (laid before) line);
+          ∙ sym (ap (open_after false) (laid_more 32768 before p) ∙ open_more false (laid before) line);
       segment_count = same_segments;
       few_segments = subst (λ g. g ≤ 16) same_segments segs.1;
       held = subst (AllByRecursion (λ a. may_hold a ≡ true)) (sym (taken_more before p))
@@ -280,8 +280,8 @@ passed_on texts s k before (line ∷ lines) (p ∷ said) rest h a =
 pub record Stops (before : List Parsed) (lines : List (List ℕ)) : Type 0 where
   pub front : List (List ℕ)
   pub line : List ℕ
-  pub behind : List (List ℕ)
-  pub parts : lines ≡ front ++ (line ∷ behind)
+  pub after : List (List ℕ)
+  pub parts : lines ≡ front ++ (line ∷ after)
   pub said : List Parsed
   pub passed : ArePassed before front said
   pub fault : Fault
@@ -297,7 +297,7 @@ pass_or_stop texts s k before (line ∷ lines) h =
       | inr f ↦ inr (record {
         front = [];
         line = line;
-        behind = lines;
+        after = lines;
         parts = refl;
         said = [];
         passed = tt;
@@ -319,7 +319,7 @@ pass_or_stop texts s k before (line ∷ lines) h =
             | inr stop ↦ inr (record {
               front = line ∷ stop.front;
               line = stop.line;
-              behind = stop.behind;
+              after = stop.after;
               parts = ap (λ (ls : List (List ℕ)). line ∷ ls) stop.parts;
               said = p ∷ stop.said;
               passed = (spelled, clean, stop.passed);
@@ -333,11 +333,11 @@ pass_or_stop texts s k before (line ∷ lines) h =
 
 -- what the first sweep gives for a line that stops it
 pub stops_swept : Texts
-    → (s : State) (k : ℕ) (before : List Parsed) (line : List ℕ) (behind : List (List ℕ)) (fault : Fault)
+    → (s : State) (k : ℕ) (before : List Parsed) (line : List ℕ) (after : List (List ℕ)) (fault : Fault)
     → Front s k before → IsLowest (HasFault before line) fault
-    → swept s k (line ∷ behind) ≡ Err (fault, k)
+    → swept s k (line ∷ after) ≡ Err (fault, k)
 unfolding swept
-stops_swept texts s k before line behind fault h low =
+stops_swept texts s k before line after fault h low =
     let is = stopped (line_step s k (line_of line)) fault
     (least_is (HasFault before line) (failed (line_step s k (line_of line))) fault
     (line_least texts s k before line h) low) in

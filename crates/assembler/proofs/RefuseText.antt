@@ -186,46 +186,46 @@ statement_pieces text b =
     ap pieces b.parts ∙ pieces-gap b.blanks (b.name ++ b.rest) b.blank b.some
     ∙ ap gap_before (pieces-run b.name b.rest b.letters (word_some b.name b.word b.word-is) stops)
 
-label_pieces : (label behind : List ℕ) → is_label label ≡ true → first_passes is_name behind ≡ false
-    → pieces (label ++ behind) ≡ Run label ∷ pieces behind
-label_pieces label behind h stops =
+label_pieces : (label after : List ℕ) → is_label label ≡ true → first_passes is_name after ≡ false
+    → pieces (label ++ after) ≡ Run label ∷ pieces after
+label_pieces label after h stops =
     let k = label_letters label h in
-    pieces-run label behind k.0 k.1 (first_no_run behind (first_same behind stops))
+    pieces-run label after k.0 k.1 (first_no_run after (first_same after stops))
 
 begins_pieces : (text : List ℕ) → BeginsLine text → PiecesBegin (pieces text)
 unfolding PiecesBegin StartsWord
 begins_pieces text h =
     elim h.label-is [
       | inl none ↦
-          let is : pieces text ≡ pieces h.behind =
-          ap pieces (h.parts ∙ ap (λ (l : List ℕ). l ++ h.behind) none) in
+          let is : pieces text ≡ pieces h.after =
+          ap pieces (h.parts ∙ ap (λ (l : List ℕ). l ++ h.after) none) in
           elim h.statement [
-            | inl blanks ↦ subst PiecesBegin (sym (is ∙ pieces-blanks h.behind blanks)) tt
+            | inl blanks ↦ subst PiecesBegin (sym (is ∙ pieces-blanks h.after blanks)) tt
             | inr b ↦
-                subst PiecesBegin (sym (is ∙ statement_pieces h.behind b))
+                subst PiecesBegin (sym (is ∙ statement_pieces h.after b))
                 (b.word, spelled_again b.name b.word b.word-is)
           ]
       | inr label ↦ elim h.statement [
         | inl blanks ↦
-            let is = ap pieces h.parts ∙ label_pieces h.label h.behind label (blanks_no_name h.behind blanks)
-            ∙ ap (λ (ps : List Piece). Run h.label ∷ ps) (pieces-blanks h.behind blanks) in
+            let is = ap pieces h.parts ∙ label_pieces h.label h.after label (blanks_no_name h.after blanks)
+            ∙ ap (λ (ps : List Piece). Run h.label ∷ ps) (pieces-blanks h.after blanks) in
             subst PiecesBegin (sym is) label
         | inr b ↦
             let stops =
             subst (λ t. first_passes is_name t ≡ false) (sym b.parts)
             (gap_no_name b.blanks (b.name ++ b.rest) b.some b.blank) in
-            let is = ap pieces h.parts ∙ label_pieces h.label h.behind label stops
-            ∙ ap (λ (ps : List Piece). Run h.label ∷ ps) (statement_pieces h.behind b) in
+            let is = ap pieces h.parts ∙ label_pieces h.label h.after label stops
+            ∙ ap (λ (ps : List Piece). Run h.label ∷ ps) (statement_pieces h.after b) in
             subst PiecesBegin (sym is) (label, (b.word, spelled_again b.name b.word b.word-is))
       ]
     ]
 
 -- ---- a line that begins well has a word that ends, or none
 
-abbrev WordBehind : List ℕ → Type 0
-WordBehind text = begins_blank_or_ends (past is_name (past is_blank text)) ≡ true
+abbrev WordAfter : List ℕ → Type 0
+WordAfter text = begins_blank_or_ends (past is_name (past is_blank text)) ≡ true
 
-statement_ends : (text : List ℕ) → BeginsStatement text → WordBehind text
+statement_ends : (text : List ℕ) → BeginsStatement text → WordAfter text
 statement_ends text b =
     let stops = name_no_gap b.name b.rest (word_some b.name b.word b.word-is) b.letters in
     let first : past is_blank text ≡ b.name ++ b.rest =
@@ -234,9 +234,9 @@ statement_ends text b =
     past_front is_name b.name b.rest b.letters (ends_no_name b.rest b.ends) in
     ap begins_blank_or_ends (ap (past is_name) first ∙ second) ∙ b.ends
 
-behind_ends : (text : List ℕ) → IsBlanks text ⊎ BeginsStatement text
-    → (first_passes is_name text ≡ false) × WordBehind text
-behind_ends text h =
+after_label_ends : (text : List ℕ) → IsBlanks text ⊎ BeginsStatement text
+    → (first_passes is_name text ≡ false) × WordAfter text
+after_label_ends text h =
     elim h [
       | inl blanks ↦ (blanks_no_name text blanks, blanks_alone text blanks)
       | inr b ↦ (
@@ -250,9 +250,9 @@ begins_end : (text : List ℕ) → BeginsLine text → word_ends text ≡ true
 begins_end text h =
     let letters : list_all is_name h.label ≡ true =
     elim h.label-is [ inl e ↦ rw e refl | inr e ↦ (label_letters h.label e).0 ] in
-    let k = behind_ends h.behind h.statement in
-    let first : past is_name text ≡ h.behind =
-    ap (past is_name) h.parts ∙ past_front is_name h.label h.behind letters k.0 in
+    let k = after_label_ends h.after h.statement in
+    let first : past is_name text ≡ h.after =
+    ap (past is_name) h.parts ∙ past_front is_name h.label h.after letters k.0 in
     ap (λ (t : List ℕ). begins_blank_or_ends (past is_name (past is_blank t))) first ∙ k.1
 
 -- ---- and pieces that begin well are those of such a line
@@ -271,15 +271,15 @@ written_no_name (Sign m ∷ ps) text (b, rest, is, not-blank, not-name, not-comm
 written_no_name (Gap ∷ ps) text (gap, rest, is, some, blanks, w) e = rw is (gap_no_name gap rest some blanks)
 
 statement_from : (ps : List Piece) (text : List ℕ) → Written (Gap ∷ ps) text → WellSpaced ps → StartsWord ps
-    → WordBehind text → BeginsStatement text
+    → WordAfter text → BeginsStatement text
 unfolding StartsWord
-statement_from (Run name ∷ ps) text (gap, behind, is, some, blanks, (rest, more, letter, letters, w)) spaced
+statement_from (Run name ∷ ps) text (gap, after, is, some, blanks, (rest, more, letter, letters, w)) spaced
     (word, spelled) ends =
     let stops =
     subst (λ t. first_passes is_blank t ≡ false) (sym more) (name_no_gap name rest letter letters) in
-    let first : past is_blank text ≡ behind =
-    ap (past is_blank) is ∙ past_front is_blank gap behind blanks stops in
-    let second : past is_name behind ≡ rest =
+    let first : past is_blank text ≡ after =
+    ap (past is_blank) is ∙ past_front is_blank gap after blanks stops in
+    let second : past is_name after ≡ rest =
     ap (past is_name) more
     ∙ past_front is_name name rest letters (written_no_name ps rest w spaced.0) in
     record {
@@ -303,41 +303,41 @@ pieces_begin : (ps : List Piece) (text : List ℕ) → Written ps text → WellS
     → PiecesBegin ps → BeginsLine text
 unfolding PiecesBegin
 pieces_begin [] text w spaced ends h =
-    record { label = []; behind = text; parts = refl; label-is = inl refl; statement = inl w }
+    record { label = []; after = text; parts = refl; label-is = inl refl; statement = inl w }
 pieces_begin (Gap ∷ ps) text w spaced ends h =
-    let (gap, behind, is, some, blanks, more) = w in
-    let stops = subst (λ t. first_passes is_name t ≡ false) (sym is) (gap_no_name gap behind some blanks) in
+    let (gap, after, is, some, blanks, more) = w in
+    let stops = subst (λ t. first_passes is_name t ≡ false) (sym is) (gap_no_name gap after some blanks) in
     let none : past is_name text ≡ text = past_front is_name [] text refl stops in
-    let word : WordBehind text =
+    let word : WordAfter text =
     ap (λ (t : List ℕ). begins_blank_or_ends (past is_name (past is_blank t))) (sym none) ∙ ends in
     record {
       label =
           [];
-      behind =
+      after =
           text;
       parts =
           refl;
       label-is = inl refl;
       statement = inr (statement_from ps text w spaced.1 h word);
     }
-pieces_begin (Run label ∷ []) text (behind, is, some, letters, blanks) spaced ends h =
-    record { label = label; behind = behind; parts = is; label-is = inr h; statement = inl blanks }
-pieces_begin (Run label ∷ Gap ∷ ps) text (behind, is, some, letters, w) spaced ends h =
+pieces_begin (Run label ∷ []) text (after, is, some, letters, blanks) spaced ends h =
+    record { label = label; after = after; parts = is; label-is = inr h; statement = inl blanks }
+pieces_begin (Run label ∷ Gap ∷ ps) text (after, is, some, letters, w) spaced ends h =
     let (gap, rest, more, one, blanks, v) = w in
     let stops = subst (λ t. first_passes is_name t ≡ false) (sym more) (gap_no_name gap rest one blanks) in
-    let front : past is_name text ≡ behind =
-    ap (past is_name) is ∙ past_front is_name label behind letters stops in
-    let word : WordBehind behind =
+    let front : past is_name text ≡ after =
+    ap (past is_name) is ∙ past_front is_name label after letters stops in
+    let word : WordAfter after =
     ap (λ (t : List ℕ). begins_blank_or_ends (past is_name (past is_blank t))) (sym front) ∙ ends in
     record {
       label =
           label;
-      behind =
-          behind;
+      after =
+          after;
       parts =
           is;
       label-is = inr h.0;
-      statement = inr (statement_from ps behind w spaced.1.1 h.1 word);
+      statement = inr (statement_from ps after w spaced.1.1 h.1 word);
     }
 pieces_begin (Run label ∷ Run other ∷ ps) text w spaced ends h = absurd h
 pieces_begin (Run label ∷ Comma ∷ ps) text w spaced ends h = absurd h
@@ -356,19 +356,19 @@ or_bad_either : (o : Option Said) → ((x : Said) × (or_bad o ≡ Ok x)) ⊎ (o
 or_bad_either None = inr refl
 or_bad_either (Some x) = inl (x, refl)
 
-behind_either : (w : Word) (ps : List Piece)
+after_word_either : (w : Word) (ps : List Piece)
     → ((x : Said) × (after_word w ps ≡ Ok x)) ⊎ (after_word w ps ≡ Err text_fault.BadOperand)
-behind_either w [] = inr refl
-behind_either w (Gap ∷ ps) = or_bad_either (operands_of w ps)
-behind_either w (Run r ∷ ps) = inr refl
-behind_either w (Comma ∷ ps) = inr refl
-behind_either w (Sign m ∷ ps) = inr refl
+after_word_either w [] = inr refl
+after_word_either w (Gap ∷ ps) = or_bad_either (operands_of w ps)
+after_word_either w (Run r ∷ ps) = inr refl
+after_word_either w (Comma ∷ ps) = inr refl
+after_word_either w (Sign m ∷ ps) = inr refl
 
 word_sorted : (o : Option Word) (name : List ℕ) (ps : List Piece) → spelled_word_of name ≡ o
     → Sorted (with_word o ps) (StartsWord (Run name ∷ ps))
 unfolding Sorted StartsWord
 word_sorted None name ps is = inr (refl, λ h. none-some h.0 (sym is ∙ h.1))
-word_sorted (Some w) name ps is = inl (behind_either w ps, (w, is))
+word_sorted (Some w) name ps is = inl (after_word_either w ps, (w, is))
 
 statement_sorted : (ps : List Piece) → Sorted (statement_of ps) (StartsWord ps)
 unfolding Sorted StartsWord

@@ -27,15 +27,15 @@ word_count (Some (Lists values)) = length values
 word_count _ = 0
 
 -- the address of an ORG, or that after the line's words
-abbrev pub address_behind : ℕ → Option Said → ℕ
-address_behind at (Some (Orgs n)) = n
-address_behind at said = at + 4 * word_count said
+abbrev pub address_after : ℕ → Option Said → ℕ
+address_after at (Some (Orgs n)) = n
+address_after at said = at + 4 * word_count said
 
 -- lines one after the other, from an address on
 abbrev pub laid_from : ℕ → List Parsed → List Laid
 laid_from at [] = []
 laid_from at (p ∷ ps) =
-    record { at = at; label = p.label; said = p.said } ∷ laid_from (address_behind at p.said) ps
+    record { at = at; label = p.label; said = p.said } ∷ laid_from (address_after at p.said) ps
 
 -- so many addresses of words, side by side
 abbrev pub places_from : ℕ → ℕ → List ℕ

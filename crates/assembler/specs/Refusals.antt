@@ -12,7 +12,7 @@ use Rattle.asm_text.specs.Said.{Number, Label, Said, Codes, Refers, Orgs, Lists}
 use Rattle.asm_text.specs.Source.{lines_of}
 use Rattle.asm_text.specs.Spelling.{Spells}
 use Rattle.asm_text.specs.Statements.{Parsed, begins_blank_or_ends, body, is_comment_text, is_label, is_text}
-use Rattle.assembler.specs.Assembles.{Laid, address_behind, labels_of, laid, places, places_from, segments}
+use Rattle.assembler.specs.Assembles.{Laid, address_after, labels_of, laid, places, places_from, segments}
 use Rattle.assembler.specs.Assembles.{word_count}
 use Rattle.assembler.specs.Codes.{encoded, refer, use_fault}
 use Rattle.assembler.specs.Faults.{number}
@@ -44,10 +44,10 @@ pub record BeginsStatement (text : List ℕ) : Type 0 where
 -- a label or nothing; after it blanks alone, or blanks and a word
 pub record BeginsLine (text : List ℕ) : Type 0 where
   pub label : List ℕ
-  pub behind : List ℕ
-  pub parts : text ≡ label ++ behind
+  pub after : List ℕ
+  pub parts : text ≡ label ++ after
   pub label-is : (label ≡ []) ⊎ (is_label label ≡ true)
-  pub statement : IsBlanks behind ⊎ BeginsStatement behind
+  pub statement : IsBlanks after ⊎ BeginsStatement after
 
 -- why a line cannot be read: it has such a byte; what begins in its first column is no label, or what comes
 -- next is no word; or it means nothing
@@ -60,13 +60,13 @@ IsUnreadable line _ = ⊥
 -- ---- a line that can be read, after others
 
 -- the address after lines
-abbrev pub address_behind_all : ℕ → List Parsed → ℕ
-address_behind_all at [] = at
-address_behind_all at (p ∷ ps) = address_behind_all (address_behind at p.said) ps
+abbrev pub address_after_all : ℕ → List Parsed → ℕ
+address_after_all at [] = at
+address_after_all at (p ∷ ps) = address_after_all (address_after at p.said) ps
 
 -- the address of a line after others
 abbrev pub address_of_next : List Parsed → ℕ
-address_of_next before = address_behind_all 32768 before
+address_of_next before = address_after_all 32768 before
 
 -- its word has no code, whatever address a label has
 abbrev pub HasCodeFault : ℕ → Option Said → Fault → Type 0
@@ -148,8 +148,8 @@ ArePassed before _ _ = ⊥
 pub record IsRefusedAtOnce (source : List ℕ) (fault : Fault) (line_number : ℕ) : Type 0 where
   pub front : List (List ℕ)
   pub line : List ℕ
-  pub behind : List (List ℕ)
-  pub parts : lines_of source ≡ front ++ (line ∷ behind)
+  pub after : List (List ℕ)
+  pub parts : lines_of source ≡ front ++ (line ∷ after)
   pub number-is : line_number ≡ length front + 1
   pub said : List Parsed
   pub passed : ArePassed [] front said
@@ -161,8 +161,8 @@ pub record IsRefusedForLabels (source : List ℕ) (fault : Fault) (line_number :
   pub passed : ArePassed [] (lines_of source) said
   pub front : List Laid
   pub line : Laid
-  pub behind : List Laid
-  pub parts : laid said ≡ front ++ (line ∷ behind)
+  pub after : List Laid
+  pub parts : laid said ≡ front ++ (line ∷ after)
   pub number-is : line_number ≡ length front + 1
   pub none : AllByRecursion (IsFaultless (labels_of (laid said))) front
   pub fault-is : IsLowest (HasLabelFault (labels_of (laid said)) line.at line.said) fault

@@ -366,7 +366,7 @@ impl Line {
         if !holds(list, n) {
             return;
         }
-        if is_behind(list, n) {
+        if follows(list, n) {
             self.push_last(list, n);
         } else {
             self.push_first(list, n);
@@ -443,7 +443,7 @@ fn has_no_offset(x: SingleImmediate) -> bool
     x.offset == 0 && x.up && (x.before && !x.write_back)
 }
 
-fn is_behind(list: u32, n: u32) -> bool
+fn follows(list: u32, n: u32) -> bool
     requires { n < 16 }
     ensures { result ≡ follows list n }
 {
