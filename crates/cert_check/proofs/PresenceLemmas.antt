@@ -1,5 +1,5 @@
 -- Which rows there are, by lists of places that ascend.
-use Rattle.std.proofs.Common.{◌≡◌, ◌∙◌, ℕ, ◌+◌, ◌<◌, ◌≤◌, Bool, true, false, List, [], ◌∷◌, length, get_or, map, Contains, Result, Ok, Err, ⊎_elim, refl, sym, ap, subst, arith}
+use Rattle.std.proofs.Common.{◌≡◌, ◌∙◌, ℕ, ◌<◌, ◌≤◌, Bool, true, false, List, [], ◌∷◌, length, get_or, map, Contains, Result, Ok, Err, ⊎_elim, refl, sym, ap, subst, arith}
 use Rattle.std.specs.Prelude.{IsTrue, ◌↔◌}
 use Rattle.std.specs.Bool.{MatchBool}
 use Rattle.std.specs.List.{AllWithin, HoldsAt}
@@ -10,7 +10,6 @@ use Rattle.std.proofs.lemmas.Bool.{cases_lt, false≢true}
 use Rattle.std.proofs.lemmas.Cmp.{tied_itself}
 use Rattle.std.proofs.lemmas.List.Elements.{All-contains, All-from_all_within, All-get_or, Contains-get_or}
 use Rattle.std.proofs.lemmas.List.Sorted.{Contains-permutation, IsPermutation-sym, searchable_from_sorted}
-use Rattle.std.proofs.lemmas.Map.Keys.{Less-from_sorted}
 use Rattle.flow_graph.specs.declared.places.Place.{Place}
 use Rattle.flow_graph.specs.declared.places.Place.TheVariants.{Exit}
 use Rattle.flow_graph.specs.Flow.{Flow}
@@ -26,7 +25,6 @@ use Rattle.certificate.specs.declared.cert.Cert.{Cert}
 use Rattle.cert_check.specs.declared.presence.Listing.{Listing}
 use Rattle.cert_check.specs.Presence.{IsListing, Lists}
 use Rattle.cert_check.specs.Verdict.{HasAll, HasNoMore, IsFull}
-use Rattle.cert_check.proofs.FindLemmas.{not_less}
 
 -- ## Places that ascend
 

@@ -19,7 +19,7 @@ use Rattle.flow_graph.specs.Flow.{Flow, HasEdge, IsWellFormed, edge_shape}
 use Rattle.numbered_walks.specs.declared.span.NumberedEdge.{NumberedEdge}
 use Rattle.numbered_walks.specs.declared.span.Span.{Span}
 use Rattle.numbered_walks.specs.Index.{edge_at, edges_of}
-use Rattle.numbered_walks.specs.Ordered.{HoldsAll, is_in, number_shape}
+use Rattle.numbered_walks.specs.Ordered.{is_in, number_shape}
 use Rattle.numbered_walks.specs.Ordered as O
 use Rattle.numbered_walks.proofs.Members.{header_in}
 use Rattle.loop_bounds.specs.Instance.{is_header, is_member, place_loops}

@@ -54,66 +54,6 @@ fn place_of(graph: &Graph, tree: &LoopTree, number: usize) -> Place
     graph.places()[tree.order()[number]]
 }
 
-fn distances(
-    alloc: Global,
-    graph: &Graph,
-    tree: &LoopTree,
-    rows: &[PlaceRow],
-) -> Result<Vec<u64>, AllocError>
-    requires tree { IsTree graph.now tree.now }
-    requires ascending { IsStrictlySortedBy place_cmp (map place_of_row rows.now) }
-    ensures { IfOk result
-        (λ column. IsColumn (by_number graph.now tree.now (distance_in rows.now))
-        (length graph.now.places) column.items) }
-{
-    let size = graph.places().len();
-    let mut column = Vec::with_capacity(alloc, size)?;
-    for number in 0..size {
-        column.push(distance_at(rows, &place_of(graph, tree, number)))?;
-    }
-    Ok(column)
-}
-
-fn arrivals(
-    alloc: Global,
-    graph: &Graph,
-    tree: &LoopTree,
-    rows: &[InstanceRow],
-) -> Result<Vec<u64>, AllocError>
-    requires tree { IsTree graph.now tree.now }
-    requires ascending { IsStrictlySortedBy place_cmp (map header_of_row rows.now) }
-    ensures { IfOk result
-        (λ column. IsColumn (by_number graph.now tree.now (arrival_in rows.now))
-        (length graph.now.places) column.items) }
-{
-    let size = graph.places().len();
-    let mut column = Vec::with_capacity(alloc, size)?;
-    for number in 0..size {
-        column.push(arrival_at(rows, &place_of(graph, tree, number)))?;
-    }
-    Ok(column)
-}
-
-fn rounds(
-    alloc: Global,
-    graph: &Graph,
-    tree: &LoopTree,
-    rows: &[InstanceRow],
-) -> Result<Vec<u64>, AllocError>
-    requires tree { IsTree graph.now tree.now }
-    requires ascending { IsStrictlySortedBy place_cmp (map header_of_row rows.now) }
-    ensures { IfOk result
-        (λ column. IsColumn (by_number graph.now tree.now (round_in rows.now))
-        (length graph.now.places) column.items) }
-{
-    let size = graph.places().len();
-    let mut column = Vec::with_capacity(alloc, size)?;
-    for number in 0..size {
-        column.push(round_at(rows, &place_of(graph, tree, number)))?;
-    }
-    Ok(column)
-}
-
 /// The numbers that the certificate states, by the numbers of the tree's order.
 pub(crate) fn tables_of(
     alloc: Global,
@@ -125,10 +65,20 @@ pub(crate) fn tables_of(
     requires ascending { Ascends cert.now }
     ensures { IfOk result (AreTablesOf graph.now tree.now cert.now) }
 {
+    let size = graph.places().len();
+    let mut distances = Vec::with_capacity(alloc, size)?;
+    let mut arrivals = Vec::with_capacity(alloc, size)?;
+    let mut rounds = Vec::with_capacity(alloc, size)?;
+    for number in 0..size {
+        let place = place_of(graph, tree, number);
+        distances.push(distance_at(cert.places.items(), &place))?;
+        arrivals.push(arrival_at(cert.instances.items(), &place))?;
+        rounds.push(round_at(cert.instances.items(), &place))?;
+    }
     Ok(Tables {
         bound: cert.bound,
-        distances: distances(alloc, graph, tree, cert.places.items())?,
-        arrivals: arrivals(alloc, graph, tree, cert.instances.items())?,
-        rounds: rounds(alloc, graph, tree, cert.instances.items())?,
+        distances,
+        arrivals,
+        rounds,
     })
 }
