@@ -23,25 +23,15 @@ fn distance_at(rows: &[PlaceRow], place: &Place) -> u64
     }
 }
 
-// The arrival that is stated for the instance with the header, and 0 without a row.
-fn arrival_at(rows: &[InstanceRow], header: &Place) -> u64
+// The arrival and the round that are stated for the instance with the header, and 0 without a row.
+fn arrival_and_round(rows: &[InstanceRow], header: &Place) -> (u64, u64)
     requires ascending { IsStrictlySortedBy place_cmp (map header_of_row rows.now) }
-    ensures { result ≡ arrival_in rows.now header.now }
+    ensures arrival { result.0 ≡ arrival_in rows.now header.now }
+    ensures round { result.1 ≡ round_in rows.now header.now }
 {
     match instance_row(rows, header) {
-        Some(row) => row.arrival,
-        None => 0,
-    }
-}
-
-// The round that is stated for the instance with the header, and 0 without a row.
-fn round_at(rows: &[InstanceRow], header: &Place) -> u64
-    requires ascending { IsStrictlySortedBy place_cmp (map header_of_row rows.now) }
-    ensures { result ≡ round_in rows.now header.now }
-{
-    match instance_row(rows, header) {
-        Some(row) => row.round,
-        None => 0,
+        Some(row) => (row.arrival, row.round),
+        None => (0, 0),
     }
 }
 
@@ -72,8 +62,9 @@ pub(crate) fn tables_of(
     for number in 0..size {
         let place = place_of(graph, tree, number);
         distances.push(distance_at(cert.places.items(), &place))?;
-        arrivals.push(arrival_at(cert.instances.items(), &place))?;
-        rounds.push(round_at(cert.instances.items(), &place))?;
+        let (arrival, round) = arrival_and_round(cert.instances.items(), &place);
+        arrivals.push(arrival)?;
+        rounds.push(round)?;
     }
     Ok(Tables {
         bound: cert.bound,

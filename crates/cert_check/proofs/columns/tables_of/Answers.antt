@@ -10,16 +10,16 @@ loop-number-preserved c =
     let by = by_number c.args.graph.now c.args.tree.now in
     let place = c.place_of-place.ensures in
     let distance = c.distance_at.ensures ∙ ap₂ distance_in c.items.ensures place in
-    let arrival = c.arrival_at.ensures ∙ ap₂ arrival_in c.items-in-loop-number.ensures place in
-    let round = c.round_at.ensures ∙ ap₂ round_in c.items-in-loop-number-2.ensures place in
+    let arrival = c.arrival_and_round-arrival.ensures.arrival ∙ ap₂ arrival_in c.items-in-loop-number.ensures place in
+    let round = c.arrival_and_round-arrival.ensures.round ∙ ap₂ round_in c.items-in-loop-number.ensures place in
     record {
       distances =
           rw c.in_ok-push.ensures.items
           (column_more (by (distance_in c.args.cert.now.places)) l.number l.distances.items c.distance_at.result distance l.invariant.distances);
       arrivals =
           rw c.in_ok-push-2.ensures.items
-          (column_more (by (arrival_in c.args.cert.now.instances)) l.number l.arrivals.items c.arrival_at.result arrival l.invariant.arrivals);
+          (column_more (by (arrival_in c.args.cert.now.instances)) l.number l.arrivals.items c.arrival_and_round-arrival.result.0 arrival l.invariant.arrivals);
       rounds =
           rw c.in_ok-push-3.ensures.items
-          (column_more (by (round_in c.args.cert.now.instances)) l.number l.rounds.items c.round_at.result round l.invariant.rounds);
+          (column_more (by (round_in c.args.cert.now.instances)) l.number l.rounds.items c.arrival_and_round-arrival.result.1 round l.invariant.rounds);
     }
