@@ -12,3 +12,4 @@ mod CutLemmas
 mod FrontLemmas
 mod TrailLemmas
 mod LoadLemmas
+mod PageLemmas
