@@ -13,3 +13,4 @@ mod FrontLemmas
 mod TrailLemmas
 mod LoadLemmas
 mod PageLemmas
+pub mod PlanLemmas

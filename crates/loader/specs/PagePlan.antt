@@ -1,8 +1,9 @@
 -- A plan of pages for an image: on which physical page of 32 KB each logical page with words of it lies.
 -- Source: our own. Pages are numbered by address: 0 to 1023 are logical, and page 1024 + p, from 2000000 on, is
 -- the physical page p.
-use Rattle.std.specs.Prelude.{◌≡◌, ◌≢◌, ◌<◌, ◌≤◌, ◌↔◌, ◌+◌, ◌/◌, ◌^◌, ℕ, IsSome, List, length, map, All}
-use Rattle.std.specs.List.{Contains}
+use Rattle.std.specs.Prelude.{◌≡◌, ◌≢◌, ◌<◌, ◌≤◌, ◌↔◌, ◌+◌, ◌/◌, ◌^◌, ℕ, Bool, IsSome, List, length, map}
+use Rattle.std.specs.Prelude.{All, nat_eq, nat_lt, not}
+use Rattle.std.specs.List.{Contains, list_any}
 use Rattle.std.specs.List.Sorted.{IsStrictlySortedBy}
 use Rattle.std.specs.Ordering.{nat_cmp}
 use Rattle.loader.specs.Image.{Words, word_of}
@@ -21,6 +22,16 @@ pub record AreHeld (words : Words) (pages : List ℕ) : Type 0 where
   pub ascend : Ascend pages
   pub held : (page : ℕ) → Contains pages page ↔ HasWordOn words page
   pub few : length pages ≤ 40
+
+-- a page is logical; a physical one is not among pages, and so no word names it by its own address
+abbrev pub is_logical : ℕ → Bool
+is_logical page = nat_lt page 1024
+
+abbrev pub is_unnamed : List ℕ → ℕ → Bool
+is_unnamed pages physical = not (list_any (nat_eq (1024 + physical)) pages)
+
+abbrev pub placed : ℕ × ℕ → PlacedPage
+placed p = record { logical = p.0; physical = p.1 }
 
 -- a physical page that no word names by its own address
 pub record IsFree (words : Words) (physical : ℕ) : Type 0 where

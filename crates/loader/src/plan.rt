@@ -1,8 +1,8 @@
 //! On which physical pages the words of an image lie.
 
-ghost use Rattle.std.specs.Prelude.{◌≡◌, ◌+◌, IfOk, not, nat_eq};
-ghost use Rattle.std.specs.List.{filter, list_any, range_with_len};
-ghost use Rattle.loader.specs.PagePlan.{IsPagePlan};
+ghost use Rattle.std.specs.Prelude.{◌≡◌, IfOk, map, nat_eq};
+ghost use Rattle.std.specs.List.{filter, list_any, range_with_len, zip};
+ghost use Rattle.loader.specs.PagePlan.{Ascend, IsPagePlan, is_logical, is_unnamed, placed};
 
 use crate::image::Image;
 use std::alloc::{AllocError, Global};
@@ -28,13 +28,33 @@ pub struct PagePlan {
     pub spare: u32,
 }
 
-// The physical pages, of 128, that are not among pages of all addresses, which ascend.
+// Whether a page is one of pages that ascend.
+fn is_held(held: &[u32], page: u32) -> bool
+    requires { Ascend held.now }
+    ensures { result ≡ list_any (nat_eq page) held.now }
+{
+    held.binary_search(&page).is_ok()
+}
+
+// The physical pages that no word names by its own address, of pages with words, which ascend.
 fn free_pages(alloc: Global, held: &[u32]) -> Result<Vec<u32>, AllocError>
-    ensures { IfOk result (λ free.
-        free.items ≡ filter (λ p. not (list_any (nat_eq (1024 + p)) held.now)) (range_with_len 0 128)) }
+    requires { Ascend held.now }
+    ensures { IfOk result (λ free. free.items ≡ filter (is_unnamed held.now) (range_with_len 0 128)) }
 {
     (0..PHYSICAL_PAGES)
-        .filter(|page| held.binary_search(&(LOGICAL_PAGES + page)).is_err())
+        .filter(|page| !is_held(held, LOGICAL_PAGES + *page))
+        .collect(alloc)
+}
+
+// The logical pages of pages with words, in turn on free physical pages.
+fn placed_pages(alloc: Global, held: &[u32], free: &[u32]) -> Result<Vec<PlacedPage>, AllocError>
+    ensures { IfOk result (λ pages. pages.items ≡ map placed (zip (filter is_logical held.now) free.now)) }
+{
+    held.iter()
+        .copied()
+        .filter(|page| *page < LOGICAL_PAGES)
+        .zip(free.iter().copied())
+        .map(|(logical, physical)| PlacedPage { logical, physical })
         .collect(alloc)
 }
 
@@ -48,15 +68,7 @@ pub fn page_plan(alloc: Global, image: &Image) -> Result<PagePlan, AllocError>
 {
     let held = image.held_pages(alloc)?;
     let free = free_pages(alloc, &held)?;
-    let pages: Vec<PlacedPage> = held
-        .iter()
-        .filter(|page| **page < LOGICAL_PAGES)
-        .zip(free.iter())
-        .map(|(logical, physical)| PlacedPage {
-            logical: *logical,
-            physical: *physical,
-        })
-        .collect(alloc)?;
+    let pages = placed_pages(alloc, &held, &free)?;
     let spare = free[pages.len()];
     Ok(PagePlan { pages, spare })
 }
