@@ -14,3 +14,4 @@ mod TrailLemmas
 mod LoadLemmas
 mod PageLemmas
 pub mod PlanLemmas
+pub mod MemoryLemmas

@@ -1,6 +1,8 @@
 ghost use Rattle.std.specs.Prelude.{◌≡◌, ◌≢◌, ◌<◌, ◌++◌, ℕ, List, Ok, Err, All};
 ghost use Rattle.loader.specs.Image.{Words};
 ghost use Rattle.loader.specs.ImageBytes.{Segment, image_bytes, image_read};
+ghost use Rattle.loader.specs.Loading.{GivesWord, loaded, spot_of};
+ghost use Rattle.memc.specs.Memory.{Memory};
 ghost use Rattle.loader.specs.Spelling.{AreImage, BeginImage, PassImage, Spell};
 
 use crate::places::{MOST_SEGMENTS, MOST_WORDS};
@@ -39,4 +41,9 @@ pub fn trailing_bytes_follow_an_image()
 pub fn image_limits()
     ensures words { MOST_WORDS ≡ 65536 }
     ensures segments { MOST_SEGMENTS ≡ 16 }
+{}
+
+/// States. It does nothing.
+pub fn planned_words_are_loaded()
+    ensures { (words : Words) → (m : Memory) → (a : ℕ) → spot_of (loaded words m) a ≡ spot_of m a }
 {}
