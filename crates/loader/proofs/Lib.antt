@@ -15,3 +15,4 @@ mod LoadLemmas
 mod PageLemmas
 pub mod PlanLemmas
 pub mod MemoryLemmas
+pub mod PlannedLemmas

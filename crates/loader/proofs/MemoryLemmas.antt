@@ -56,11 +56,11 @@ rom_entry (Ok (Translator address)) word rest = refl
 rom_entry (Ok (Ignored address)) word rest = refl
 rom_entry (Err refused) word rest = refl
 
-ram_entries : (m : Memory) (words : Words) → ram_words m words ≡ entries (λ a. ram_number (spot_of m a)) words
+pub ram_entries : (m : Memory) (words : Words) → ram_words m words ≡ entries (λ a. ram_number (spot_of m a)) words
 ram_entries m [] = refl
 ram_entries m (e ∷ rest) = ram_entry (spot_of m e.0) e.1 (ram_words m rest) ∙ ap (λ (es : List (ℕ × ℕ)). entry (ram_number (spot_of m e.0)) e.1 es) (ram_entries m rest)
 
-rom_entries : (m : Memory) (words : Words) → rom_words m words ≡ entries (λ a. rom_number (spot_of m a)) words
+pub rom_entries : (m : Memory) (words : Words) → rom_words m words ≡ entries (λ a. rom_number (spot_of m a)) words
 rom_entries m [] = refl
 rom_entries m (e ∷ rest) = rom_entry (spot_of m e.0) e.1 (rom_words m rest) ∙ ap (λ (es : List (ℕ × ℕ)). entry (rom_number (spot_of m e.0)) e.1 es) (rom_entries m rest)
 
@@ -131,7 +131,7 @@ same_whole s words m w = record {
 
 -- ## One word
 
-ram_gives : (words : Words) (m : Memory) (a w place : ℕ) → length m.paged.words ≡ 2 ^ 20 → place < 2 ^ 22 → spot_of m a ≡ Ok (Ram place) → last_word (ram_words m words) (place / 4) (word_at m (Ram place)) ≡ w → GivesWord (loaded words m) a w
+pub ram_gives : (words : Words) (m : Memory) (a w place : ℕ) → length m.paged.words ≡ 2 ^ 20 → place < 2 ^ 22 → spot_of m a ≡ Ok (Ram place) → last_word (ram_words m words) (place / 4) (word_at m (Ram place)) ≡ w → GivesWord (loaded words m) a w
 ram_gives words m a w place long lt at is = record {
   spot = Ram place;
   leads = same_spot words m a ∙ at;
@@ -140,7 +140,7 @@ ram_gives words m a w place long lt at is = record {
       ∙ is;
 }
 
-rom_gives : (words : Words) (m : Memory) (a w : ℕ) → a % 4 ≡ 0 → spot_of m a ≡ Ok (Rom a) → last_word (rom_words m words) a (rom_word m.rom a) ≡ w → GivesWord (loaded words m) a w
+pub rom_gives : (words : Words) (m : Memory) (a w : ℕ) → a % 4 ≡ 0 → spot_of m a ≡ Ok (Rom a) → last_word (rom_words m words) a (rom_word m.rom a) ≡ w → GivesWord (loaded words m) a w
 rom_gives words m a w four at is =
     let here : a / 4 * 4 ≡ a = omega (arith, four) in
     record {
