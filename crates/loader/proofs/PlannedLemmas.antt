@@ -300,3 +300,86 @@ image_given image words pages spare m a w whole plan mapped of c fits =
     let h : IsPlanned image pages spare m = record { whole = whole; plan = plan; mapped = mapped } in
     let is : word_of image a ≡ Some w = All-contains (λ (e : ℕ × ℕ). word_of image e.0 ≡ Some e.1) words (a, w) of c in
     given_by image words pages spare m a w h of is c (found image pages spare m a h (ap is_some is) fits)
+
+-- ## Words beside the image
+
+same_ok : (s t : Spot) → (let r : Result Spot Refused = Ok s in r) ≡ Ok t → s ≡ t
+same_ok s t e = cc
+
+no_ok : (s : Spot) (r : Refused) → (let o : Result Spot Refused = Err r in o) ≡ Ok s → ⊥
+no_ok s r e = cc
+
+gives_at : (m : Memory) (a w : ℕ) (spot : Spot) → GivesWord m a w → spot_of m a ≡ Ok spot → word_at m spot ≡ w
+gives_at m a w spot g at = subst (λ (s : Spot). word_at m s ≡ w) (same_ok g.spot spot (sym g.leads ∙ at)) g.gives
+
+-- an address that gives a word leads somewhere
+given_fits : (m : Memory) (a w : ℕ) → m.shift ≡ 15 → GivesWord m a w → IsFitted a
+given_fits m a w size g = elim (cases_lt a 0x2400000) [
+  | inl below ↦ inl below
+  | inr past ↦ elim (cases_lt a 0x3000000) [ inl io ↦ absurd (no_ok g.spot NoPage (sym (spot_unfitted m a size past io) ∙ g.leads)) | inr high ↦ inr high ]
+]
+
+-- a word of RAM beside the image is on the spare page
+beside_high : (m : Memory) (spare b k : ℕ) → IsBeside spare b → Where m b k → IsHigh b k × ((offset : ℕ) × (offset < 2 ^ 15) × (b ≡ 0x2000000 + 2 ^ 15 * spare + offset))
+beside_high m spare b k beside at = high_by beside.1 at
+  where
+    high_by : ((offset : ℕ) × (offset < 2 ^ 15) × (b ≡ 0x2000000 + 2 ^ 15 * spare + offset)) ⊎ ((0x3400000 ≤ b) × (b < 0x4000000)) → Where m b k
+        → IsHigh b k × ((offset : ℕ) × (offset < 2 ^ 15) × (b ≡ 0x2000000 + 2 ^ 15 * spare + offset))
+    high_by (inl s) (inl x) = (let is = s.2 in let low = x.low in absurd (omega (arith, is, low)))
+    high_by (inl s) (inr y) = (y, s)
+    high_by (inr r) (inl x) = (let rom = r.0 in let low = x.low in absurd (omega (arith, rom, low)))
+    high_by (inr r) (inr y) = (let rom = r.0 in let below = y.below in absurd (omega (arith, rom, below)))
+
+apart_ram : (image beside : Words) (pages : List PlacedPage) (spare : ℕ) (m : Memory) (a w k : ℕ) → IsPlanned image pages spare m → IsSome (word_of image a) → Where m a k → All (λ e. IsBeside spare e.0 × (e.0 ≢ a)) beside
+    → AreSame (ram_of m) k w beside
+apart_ram image beside pages spare m a w k h some here all = recursion_from_All (λ (e : ℕ × ℕ). ram_of m e.0 ≡ Some k → e.1 ≡ w) beside (λ i d lt at.
+  let e = get_or beside i d in
+  let p = beside_high m spare e.0 k (all i d lt).0 (ram_where m e.0 k h.mapped.size at) in
+  absurd (off_spare image pages spare m h a e.0 k p.1.0 some here p.0 p.1.1 p.1.2))
+
+apart_rom : (beside : Words) (spare : ℕ) (m : Memory) (a w : ℕ) → m.shift ≡ 15 → All (λ e. IsBeside spare e.0 × (e.0 ≢ a)) beside → AreSame (rom_of m) a w beside
+apart_rom beside spare m a w size all = recursion_from_All (λ (e : ℕ × ℕ). rom_of m e.0 ≡ Some a → e.1 ≡ w) beside (λ i d lt at. absurd ((all i d lt).1 (rom_where m (get_or beside i d).0 a size at)))
+
+stays_by : (image beside : Words) (pages : List PlacedPage) (spare : ℕ) (m : Memory) (a w : ℕ) → IsPlanned image pages spare m → IsSome (word_of image a) → GivesWord m a w → All (λ e. IsBeside spare e.0 × (e.0 ≢ a)) beside
+    → InRam m a ⊎ InRom m a → GivesWord (loaded beside m) a w
+stays_by image beside pages spare m a w h some g all (inl r) =
+    keep_ram beside m a w r.place h.mapped.whole r.below r.at (apart_ram image beside pages spare m a w (r.place / 4) h some r.here all) (gives_at m a w (Ram r.place) g r.at)
+stays_by image beside pages spare m a w h some g all (inr r) =
+    let here : a / 4 * 4 ≡ a = (let four = r.four in omega (arith, four)) in
+    keep_rom beside m a w r.four r.at (apart_rom beside spare m a w h.mapped.size all) (ap (λ (b : ℕ). rom_word m.rom b) (sym here) ∙ gives_at m a w (Rom a) g r.at)
+
+pub image_stays : (image beside : Words) (pages : List PlacedPage) (spare : ℕ) (m : Memory) (a w : ℕ) → AreWhole image → IsPagePlan image pages spare → IsMapped pages m → IsSome (word_of image a) → GivesWord m a w
+    → All (λ e. IsBeside spare e.0 × (e.0 ≢ a)) beside → GivesWord (loaded beside m) a w
+image_stays image beside pages spare m a w whole plan mapped some g all =
+    let h : IsPlanned image pages spare m = record { whole = whole; plan = plan; mapped = mapped } in
+    stays_by image beside pages spare m a w h some g all (found image pages spare m a h some (given_fits m a w mapped.size g))
+
+-- the words beside the image that go to the place of one of them are this one
+alone_ram : (beside : Words) (spare : ℕ) (m : Memory) (a w : ℕ) → m.shift ≡ 15 → a % 4 ≡ 0 → 0x2000000 ≤ a → All (λ e. IsBeside spare e.0 × (e.0 ≡ a → e.1 ≡ w)) beside
+    → AreSame (ram_of m) ((a - 0x2000000) / 4 * 4 / 4) w beside
+alone_ram beside spare m a w size four high all = recursion_from_All (λ (e : ℕ × ℕ). ram_of m e.0 ≡ Some ((a - 0x2000000) / 4 * 4 / 4) → e.1 ≡ w) beside (λ i d lt at.
+  let e = get_or beside i d in
+  let p = (beside_high m spare e.0 ((a - 0x2000000) / 4 * 4 / 4) (all i d lt).0 (ram_where m e.0 ((a - 0x2000000) / 4 * 4 / 4) size at)).0 in
+  let e4 = (all i d lt).0.0 in
+  let up = p.high in
+  let is = p.is in
+  (all i d lt).1 (omega (arith, four, high, e4, up, is)))
+
+alone_rom : (beside : Words) (spare : ℕ) (m : Memory) (a w : ℕ) → m.shift ≡ 15 → All (λ e. IsBeside spare e.0 × (e.0 ≡ a → e.1 ≡ w)) beside → AreSame (rom_of m) a w beside
+alone_rom beside spare m a w size all = recursion_from_All (λ (e : ℕ × ℕ). rom_of m e.0 ≡ Some a → e.1 ≡ w) beside (λ i d lt at. (all i d lt).1 (rom_where m (get_or beside i d).0 a size at))
+
+pub beside_given : (beside : Words) (pages : List PlacedPage) (spare : ℕ) (m : Memory) (a w : ℕ) → IsMapped pages m → spare < 128 → All (λ e. IsBeside spare e.0 × (e.0 ≡ a → e.1 ≡ w)) beside → Contains beside (a, w)
+    → GivesWord (loaded beside m) a w
+beside_given beside pages spare m a w mapped fits all c = given_beside here.1
+  where
+    here : IsBeside spare a
+    here = (All-contains (λ (e : ℕ × ℕ). IsBeside spare e.0 × (e.0 ≡ a → e.1 ≡ w)) beside (a, w) all c).0
+
+    given_beside : ((offset : ℕ) × (offset < 2 ^ 15) × (a ≡ 0x2000000 + 2 ^ 15 * spare + offset)) ⊎ ((0x3400000 ≤ a) × (a < 0x4000000)) → GivesWord (loaded beside m) a w
+    given_beside (inl s) =
+        let lt = s.1 in
+        let is = s.2 in
+        let high : 0x2000000 ≤ a = omega (arith, is) in
+        let below : a < 0x2400000 = omega (arith, is, lt, fits) in
+        give_ram beside m a w ((a - 0x2000000) / 4 * 4) mapped.whole (omega (arith, below)) (spot_fitted m a mapped.size high below) (alone_ram beside spare m a w mapped.size here.0 high all) c
+    given_beside (inr r) = give_rom beside m a w here.0 (spot_rom m a r.0) (alone_rom beside spare m a w mapped.size all) c
