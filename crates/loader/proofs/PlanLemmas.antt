@@ -8,7 +8,7 @@ use Rattle.std.specs.declared.cmp.Ordering.TheVariants.{Less}
 use Rattle.std.proofs.lemmas.Bool.{cases_lt}
 use Rattle.std.proofs.lemmas.Bool.Decides.{nat_tests}
 use Rattle.std.proofs.lemmas.Cmp.{nat_eq_equiv}
-use Rattle.std.proofs.lemmas.List.{get_or_default}
+use Rattle.std.proofs.lemmas.List.{get_or-map, get_or_default, length-map}
 use Rattle.std.proofs.lemmas.List.Elements.{All-cons, All-contains, All-contains_itself, All-filter, All-from_get_or, All-from_recursion, All-get_or, All-head, All-nil, All-tail, Contains-get_or, filter_passes}
 use Rattle.std.proofs.lemmas.List.Filters.{length-filter_both}
 use Rattle.std.proofs.lemmas.List.FromFn.{length-range_with_len}
@@ -236,3 +236,15 @@ plan_is words held free pages n spare are frees on is last =
     let place : n ≡ length (filter is_logical held) = is ∙ ap length on ∙ long in
     let here : spare ≡ get_or free (length (filter is_logical held)) 0 = last ∙ get_or_default free n spare 0 (omega (arith, is, within)) ∙ ap (λ (k : ℕ). get_or free k 0) place in
     subst (λ (s : ℕ). IsPagePlan words pages s) (sym here) (subst (λ (ps : List PlacedPage). IsPagePlan words ps (get_or free (length (filter is_logical held)) 0)) (sym on) (plan_at words held free are frees))
+
+-- ## What users of a plan want
+
+pub logical_below : (words : Words) (pages : List PlacedPage) (spare : ℕ) → IsPagePlan words pages spare → All (λ (p : PlacedPage). p.logical < 1024) pages
+logical_below words pages spare plan = λ i d lt.
+    let at = get_or-map (λ (p : PlacedPage). p.logical) pages i d d.logical lt in
+    let names = map (λ (p : PlacedPage). p.logical) pages in
+    let within : i < length names = (let long = length-map pages (λ (p : PlacedPage). p.logical) in omega (arith, lt, long)) in
+    ((plan.logical (get_or pages i d).logical).0 (subst (λ (x : ℕ). Contains names x) at (Contains-get_or names i d.logical within))).0
+
+pub physical_below : (words : Words) (pages : List PlacedPage) (spare : ℕ) → IsPagePlan words pages spare → All (λ (p : PlacedPage). p.physical < 128) pages
+physical_below words pages spare plan = λ i d lt. (plan.free i d lt).below

@@ -1,15 +1,15 @@
 -- What loads give where an image's words are put into memory whose pages lie as a plan says.
-use Rattle.std.proofs.Common.{◌≡◌, ◌≢◌, ◌∙◌, ℕ, ◌+◌, ◌-◌, ◌*◌, ◌/◌, ◌%◌, ◌^◌, ◌<◌, ◌≤◌, ◌⊎◌, inl, inr, Bool, true, false, cond, List, length, map, get_or, Option, Some, None, Result, Ok, Err, refl, sym, ap, subst, arith}
-use Rattle.std.specs.Prelude.{IsSome, IsTrue, is_some, nat_le, All}
+use Rattle.std.proofs.Common.{◌≡◌, ◌≢◌, ◌∙◌, ℕ, ◌+◌, ◌-◌, ◌*◌, ◌/◌, ◌%◌, ◌^◌, ◌<◌, ◌≤◌, ◌⊎◌, inl, inr, Bool, true, false, cond, List, map, get_or, Option, Some, None, Result, Ok, Err, refl, sym, ap, subst, arith}
+use Rattle.std.specs.Prelude.{IsSome, is_some, nat_le, All}
 use Rattle.std.specs.List.{Contains}
 use Rattle.std.proofs.lemmas.Bool.{cases_lt, le-ltb, lt-ltb}
 use Rattle.std.proofs.lemmas.Bool.Decides.{nat_tests}
 use Rattle.std.proofs.lemmas.List.Elements.{All-contains, All-map, recursion_from_All}
 use Rattle.std.proofs.lemmas.Option.{same_Some}
-use Rattle.loader.specs.Image.{Words, may_hold, word_of}
+use Rattle.loader.specs.Image.{Words, word_of}
 use Rattle.loader.specs.Inside.{AreWhole}
-use Rattle.loader.specs.Loading.{GivesWord, loaded, ram_words, rom_words, spot_of}
-use Rattle.loader.specs.PagePlan.{HasWordOn, IsFree, IsPagePlan}
+use Rattle.loader.specs.Loading.{GivesWord, loaded, spot_of}
+use Rattle.loader.specs.PagePlan.{IsFree, IsPagePlan}
 use Rattle.loader.specs.Planned.{AreOf, IsBeside, IsFitted, IsMapped}
 use Rattle.loader.specs.declared.plan.PlacedPage.{PlacedPage}
 use Rattle.loader.proofs.MemoryLemmas.{AreSame, last_kept, last_there, ram_entries, ram_gives, ram_number, rom_entries, rom_gives, rom_number, same_whole}
@@ -235,16 +235,16 @@ keep_rom words m a w four at same is =
 
 same_ram : (image words : Words) (pages : List PlacedPage) (spare : ℕ) (m : Memory) (a w k : ℕ) → IsPlanned image pages spare m → AreOf image words → word_of image a ≡ Some w → Where m a k → AreSame (ram_of m) k w words
 same_ram image words pages spare m a w k h of is here = recursion_from_All (λ (e : ℕ × ℕ). ram_of m e.0 ≡ Some k → e.1 ≡ w) words (λ i d lt at.
-  let e = get_or words i d in
-  let own : word_of image e.0 ≡ Some e.1 = of i d lt in
-  let same = same_place image pages spare m h e.0 a k (ap is_some own) (ap is_some is) (ram_where m e.0 k h.mapped.size at) here in
-  same_Some e.1 w (sym own ∙ ap (word_of image) same ∙ is))
+    let e = get_or words i d in
+    let own : word_of image e.0 ≡ Some e.1 = of i d lt in
+    let same = same_place image pages spare m h e.0 a k (ap is_some own) (ap is_some is) (ram_where m e.0 k h.mapped.size at) here in
+    same_Some e.1 w (sym own ∙ ap (word_of image) same ∙ is))
 
 same_rom : (image words : Words) (m : Memory) (a w : ℕ) → m.shift ≡ 15 → AreOf image words → word_of image a ≡ Some w → AreSame (rom_of m) a w words
 same_rom image words m a w size of is = recursion_from_All (λ (e : ℕ × ℕ). rom_of m e.0 ≡ Some a → e.1 ≡ w) words (λ i d lt at.
-  let e = get_or words i d in
-  let own : word_of image e.0 ≡ Some e.1 = of i d lt in
-  same_Some e.1 w (sym own ∙ ap (word_of image) (rom_where m e.0 a size at) ∙ is))
+    let e = get_or words i d in
+    let own : word_of image e.0 ≡ Some e.1 = of i d lt in
+    same_Some e.1 w (sym own ∙ ap (word_of image) (rom_where m e.0 a size at) ∙ is))
 
 -- where a word of the image is found, by the kind of its address
 record InRam (m : Memory) (a : ℕ) : Type 0 where
@@ -333,9 +333,9 @@ beside_high m spare b k beside at = high_by beside.1 at
 apart_ram : (image beside : Words) (pages : List PlacedPage) (spare : ℕ) (m : Memory) (a w k : ℕ) → IsPlanned image pages spare m → IsSome (word_of image a) → Where m a k → All (λ e. IsBeside spare e.0 × (e.0 ≢ a)) beside
     → AreSame (ram_of m) k w beside
 apart_ram image beside pages spare m a w k h some here all = recursion_from_All (λ (e : ℕ × ℕ). ram_of m e.0 ≡ Some k → e.1 ≡ w) beside (λ i d lt at.
-  let e = get_or beside i d in
-  let p = beside_high m spare e.0 k (all i d lt).0 (ram_where m e.0 k h.mapped.size at) in
-  absurd (off_spare image pages spare m h a e.0 k p.1.0 some here p.0 p.1.1 p.1.2))
+    let e = get_or beside i d in
+    let p = beside_high m spare e.0 k (all i d lt).0 (ram_where m e.0 k h.mapped.size at) in
+    absurd (off_spare image pages spare m h a e.0 k p.1.0 some here p.0 p.1.1 p.1.2))
 
 apart_rom : (beside : Words) (spare : ℕ) (m : Memory) (a w : ℕ) → m.shift ≡ 15 → All (λ e. IsBeside spare e.0 × (e.0 ≢ a)) beside → AreSame (rom_of m) a w beside
 apart_rom beside spare m a w size all = recursion_from_All (λ (e : ℕ × ℕ). rom_of m e.0 ≡ Some a → e.1 ≡ w) beside (λ i d lt at. absurd ((all i d lt).1 (rom_where m (get_or beside i d).0 a size at)))
@@ -358,12 +358,12 @@ image_stays image beside pages spare m a w whole plan mapped some g all =
 alone_ram : (beside : Words) (spare : ℕ) (m : Memory) (a w : ℕ) → m.shift ≡ 15 → a % 4 ≡ 0 → 0x2000000 ≤ a → All (λ e. IsBeside spare e.0 × (e.0 ≡ a → e.1 ≡ w)) beside
     → AreSame (ram_of m) ((a - 0x2000000) / 4 * 4 / 4) w beside
 alone_ram beside spare m a w size four high all = recursion_from_All (λ (e : ℕ × ℕ). ram_of m e.0 ≡ Some ((a - 0x2000000) / 4 * 4 / 4) → e.1 ≡ w) beside (λ i d lt at.
-  let e = get_or beside i d in
-  let p = (beside_high m spare e.0 ((a - 0x2000000) / 4 * 4 / 4) (all i d lt).0 (ram_where m e.0 ((a - 0x2000000) / 4 * 4 / 4) size at)).0 in
-  let e4 = (all i d lt).0.0 in
-  let up = p.high in
-  let is = p.is in
-  (all i d lt).1 (omega (arith, four, high, e4, up, is)))
+    let e = get_or beside i d in
+    let p = (beside_high m spare e.0 ((a - 0x2000000) / 4 * 4 / 4) (all i d lt).0 (ram_where m e.0 ((a - 0x2000000) / 4 * 4 / 4) size at)).0 in
+    let e4 = (all i d lt).0.0 in
+    let up = p.high in
+    let is = p.is in
+    (all i d lt).1 (omega (arith, four, high, e4, up, is)))
 
 alone_rom : (beside : Words) (spare : ℕ) (m : Memory) (a w : ℕ) → m.shift ≡ 15 → All (λ e. IsBeside spare e.0 × (e.0 ≡ a → e.1 ≡ w)) beside → AreSame (rom_of m) a w beside
 alone_rom beside spare m a w size all = recursion_from_All (λ (e : ℕ × ℕ). rom_of m e.0 ≡ Some a → e.1 ≡ w) beside (λ i d lt at. (all i d lt).1 (rom_where m (get_or beside i d).0 a size at))
