@@ -12,3 +12,7 @@ mod CutLemmas
 mod FrontLemmas
 mod TrailLemmas
 mod LoadLemmas
+mod PageLemmas
+pub mod PlanLemmas
+pub mod MemoryLemmas
+pub mod PlannedLemmas

@@ -4,4 +4,6 @@ pub mod Labels
 pub mod ImageBytes
 pub mod Spelling
 pub mod Writing
+pub mod PagePlan
+pub mod Planned
 pub mod Loading
