@@ -16,3 +16,7 @@ pub mod StepOperations
 pub mod StepEdges
 pub mod StepLemmas
 pub mod NameLemmas
+pub mod TightTicks
+pub mod TightState
+pub mod TightData
+pub mod TightStep

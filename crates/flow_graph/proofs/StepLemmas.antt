@@ -53,10 +53,10 @@ use Rattle.flow_graph.proofs.WorkLemmas.{action_fits}
 
 -- ## What a plain step tells
 
-record TellsPlain (s : State) (m : Moved) (told : Stepped) : Type 0 where
-  kind : m.kind ≡ ended.Plain
-  ticks : told.ticks ≡ ticks_in s m
-  to : told.to ≡ address_in m.regs
+pub record TellsPlain (s : State) (m : Moved) (told : Stepped) : Type 0 where
+  pub kind : m.kind ≡ ended.Plain
+  pub ticks : told.ticks ≡ ticks_in s m
+  pub to : told.to ≡ address_in m.regs
 
 -- the answer of a step, by whether it stopped
 abbrev answer_by : Bool → State → Moved → Stepped
@@ -74,7 +74,7 @@ plain_by false s m told e is plain = record {
   to = ap (λ (t : Stepped). t.to) is;
 }
 
-tells_plain : (s : State) (m : Moved) (told : Stepped) → told ≡ answer_of s m → told.kind ≡ ended.Plain → TellsPlain s m told
+pub tells_plain : (s : State) (m : Moved) (told : Stepped) → told ≡ answer_of s m → told.kind ≡ ended.Plain → TellsPlain s m told
 unfolding answer_of
 tells_plain s m told is plain = plain_by (is_stopped m.kind) s m told refl is plain
 
