@@ -19,4 +19,6 @@ pub mod NameLemmas
 pub mod TightTicks
 pub mod TightState
 pub mod TightData
+pub mod TightWords
+pub mod TightTransfers
 pub mod TightStep
