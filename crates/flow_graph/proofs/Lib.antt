@@ -21,4 +21,5 @@ pub mod TightState
 pub mod TightData
 pub mod TightWords
 pub mod TightTransfers
+pub mod TightOperations
 pub mod TightStep

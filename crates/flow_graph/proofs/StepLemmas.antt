@@ -59,7 +59,7 @@ pub record TellsPlain (s : State) (m : Moved) (told : Stepped) : Type 0 where
   pub to : told.to ≡ address_in m.regs
 
 -- the answer of a step, by whether it stopped
-abbrev answer_by : Bool → State → Moved → Stepped
+abbrev pub answer_by : Bool → State → Moved → Stepped
 answer_by stops s m =
     cond stops (record { kind = m.kind; ticks = 0; from = address_in s.regs; to = address_in s.regs }) (record { kind = m.kind; ticks = ticks_in s m; from = address_in s.regs; to = address_in m.regs })
 
