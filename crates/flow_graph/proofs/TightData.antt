@@ -1,5 +1,5 @@
 -- Data processing, multiplies and branches, where they cost the most.
-use Rattle.std.proofs.Common.{◌≡◌, ℕ, ◌+◌, ◌*◌, ◌^◌, ◌<◌, ◌==◌, ◌&&◌, not, Bool, true, false, cond, List, length, refl, sym, ap, subst, ◌∙◌, arith}
+use Rattle.std.proofs.Common.{◌≡◌, ℕ, ◌+◌, ◌*◌, ◌<◌, ◌&&◌, not, Bool, true, false, cond, List, length, refl, sym, subst}
 use Rattle.std.proofs.lemmas.Bool.{false≢true}
 use Rattle.bus_ticks.specs.Dearest.{AreDearest}
 use Rattle.bus_ticks.specs.declared.profile.Class.{Class}
@@ -13,7 +13,7 @@ use Rattle.arm2_decode.specs.declared.instr.Multiply.{Multiply}
 use Rattle.arm2_decode.specs.declared.names.Opcode.{Opcode}
 use Rattle.arm2_decode.specs.declared.names.Register.{Register}
 use Rattle.arm2_effect.specs.declared.step_end.Kind.TheVariants as ended
-use Rattle.arm2_effect.specs.Effects.{Effect, onward, skipped, straight}
+use Rattle.arm2_effect.specs.Effects.{Effect, onward, skipped}
 use Rattle.arm2_effect.specs.Modes.{r15_in, register_in}
 use Rattle.arm2_effect.specs.Operations.{branch_effect, compared, cycles_of, delayed, entered, jumped, multiply_effect, placed, product_of}
 use Rattle.arm2_effect.specs.Outcomes.{outcome_of}

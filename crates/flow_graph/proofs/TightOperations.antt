@@ -1,5 +1,5 @@
 -- Any instruction for which a machine in SVC mode is set.
-use Rattle.std.proofs.Common.{◌≡◌, ℕ, ◌+◌, ◌*◌, ◌/◌, ◌%◌, ◌^◌, ◌<◌, ◌==◌, ◌&&◌, ◌||◌, not, Bool, true, false, cond, List, length, Result, Ok, Err, count_ones, refl, sym, ap, subst, ◌∙◌, arith}
+use Rattle.std.proofs.Common.{◌≡◌, ℕ, ◌<◌, ◌==◌, ◌&&◌, ◌||◌, not, Bool, true, false, List, length, Ok, count_ones, refl, sym, ap, subst, ◌∙◌, arith}
 use Rattle.std.specs.Prelude.{Contains}
 use Rattle.std.proofs.lemmas.Bool.{and_parts, cond-false, false≢true}
 use Rattle.bus_ticks.specs.Dearest.{AreDearest}
@@ -33,7 +33,7 @@ use Rattle.arm2_exec.specs.State.{State}
 use Rattle.arm2_exec.specs.Step.{with_lines}
 use Rattle.arm2_exec.specs.declared.machine.Input.{Input}
 use Rattle.flow_graph.specs.Edges.{landings}
-use Rattle.flow_graph.specs.Free.{asks_for_user, writes_pc}
+use Rattle.flow_graph.specs.Free.{asks_for_user}
 use Rattle.flow_graph.specs.Kinds.{data_kind, kind_of, lists_pc, transfer, work_of, writer_if}
 use Rattle.flow_graph.specs.TightWork.{IsDearestTarget, IsSetFor, TransfersDearest}
 use Rattle.flow_graph.specs.declared.kinds.Kind.{Kind}

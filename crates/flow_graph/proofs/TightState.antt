@@ -1,16 +1,14 @@
 -- What the registers hold of a machine that stands at a word, with both interrupts masked.
-use Rattle.std.proofs.Common.{◌≡◌, ℕ, ◌+◌, ◌*◌, ◌/◌, ◌%◌, ◌^◌, ◌<◌, ◌==◌, ◌&&◌, not, Bool, true, false, cond, Option, None, Some, refl, sym, ap, ◌∙◌, arith}
+use Rattle.std.proofs.Common.{◌≡◌, ℕ, ◌/◌, ◌%◌, ◌^◌, ◌<◌, ◌==◌, ◌&&◌, not, Bool, true, false, cond, None, Some, refl, ap, ◌∙◌, arith}
 use Rattle.arm2_decode.specs.Allowed.{bit_of}
 use Rattle.arm2_decode.specs.declared.flags.Flags.{Flags}
 use Rattle.bus_ticks.specs.declared.profile.Profile.{Profile}
-use Rattle.arm2_effect.specs.declared.exceptions.Vector.{Vector}
 use Rattle.arm2_effect.specs.declared.exceptions.Vector.TheVariants as vector
-use Rattle.arm2_effect.specs.declared.modes.Mode.{Mode}
 use Rattle.arm2_effect.specs.declared.modes.Mode.TheVariants.{Svc}
 use Rattle.arm2_effect.specs.Modes.{mode_named, r15_in}
 use Rattle.arm2_effect.specs.ProgramCounter.{address_of, flags_of, is_fiq_masked, is_irq_masked, mode_of, psr_with, r15_of}
 use Rattle.arm2_exec.specs.State.{State}
-use Rattle.arm2_exec.specs.Step.{address_in, interrupt_due, interrupt_of, with_lines}
+use Rattle.arm2_exec.specs.Step.{address_in, interrupt_due, with_lines}
 use Rattle.flow_graph.specs.TightWork.{StandsAt, masked}
 use Rattle.flow_graph.proofs.StepRegisters.{IsWordAddress, address_put}
 

@@ -1,5 +1,5 @@
 -- A machine that is set for an edge takes it at exactly its price.
-use Rattle.std.proofs.Common.{◌≡◌, ℕ, ◌+◌, ◌*◌, ◌^◌, ◌<◌, ◌⊎◌, inl, inr, Bool, true, false, cond, List, [], ◌∷◌, ◌++◌, length, Option, Some, None, nat_lt, refl, sym, ap, subst, ◌∙◌, arith}
+use Rattle.std.proofs.Common.{◌≡◌, ℕ, ◌+◌, ◌*◌, ◌<◌, inl, inr, Bool, true, false, cond, List, [], ◌∷◌, ◌++◌, length, Option, nat_lt, refl, sym, ap, subst, ◌∙◌, arith}
 use Rattle.std.specs.Prelude.{Contains}
 use Rattle.std.proofs.lemmas.Bool.{cond-false, cond-true}
 use Rattle.bus_ticks.specs.Dearest.{AreDearest}
@@ -21,11 +21,10 @@ use Rattle.arm2_transfer.specs.Moved.{Moved, on_bus}
 use Rattle.arm2_transfer.specs.Operations.{operation_moved}
 use Rattle.arm2_transfer.specs.Registers.{is_user}
 use Rattle.arm2_exec.specs.State.{State}
-use Rattle.arm2_exec.specs.Step.{Obeys, ObeysFetched, Works, address_in, answer_of, instruction_moved, interrupt_due, state_after, unallocated_moved, with_lines}
+use Rattle.arm2_exec.specs.Step.{Obeys, ObeysFetched, Works, address_in, answer_of, interrupt_due, state_after, with_lines}
 use Rattle.arm2_exec.specs.declared.machine.Input.{Input}
-use Rattle.arm2_exec.specs.declared.machine.Stepped.{Stepped}
-use Rattle.flow_graph.specs.Edges.{HasAction, arrival_ticks, branch_target, do_edge, do_ticks, jump_ticks, landings, passing_ticks, places_at, skip_edge, word_edges}
-use Rattle.flow_graph.specs.Kinds.{IsAction, instr_action, is_writer, kind_of, work_of}
+use Rattle.flow_graph.specs.Edges.{HasAction, arrival_ticks, branch_target, do_edge, do_ticks, jump_ticks, landings, passing_ticks, skip_edge, word_edges}
+use Rattle.flow_graph.specs.Kinds.{IsAction, instr_action, is_writer, kind_of}
 use Rattle.flow_graph.specs.StepLaw.{IsPlaceOf, TransfersIn, label_by, label_in}
 use Rattle.flow_graph.specs.Tight.{IsTight}
 use Rattle.flow_graph.specs.TightWork.{IsDearestTarget, IsSetFor, IsSetForEdge, TightLaw}
@@ -35,7 +34,6 @@ use Rattle.flow_graph.specs.declared.edges.Label.TheVariants.{Skip, Do}
 use Rattle.flow_graph.specs.declared.kinds.Action.{Action}
 use Rattle.flow_graph.specs.declared.kinds.Kind.{Kind}
 use Rattle.flow_graph.specs.declared.kinds.Kind.TheVariants as kind
-use Rattle.flow_graph.specs.declared.kinds.Work.TheVariants as work
 use Rattle.flow_graph.specs.declared.places.Place.{Place}
 use Rattle.flow_graph.specs.declared.places.Place.TheVariants.{At}
 use Rattle.statement.specs.Stated.{Stated, class_of}
@@ -45,7 +43,7 @@ use Rattle.flow_graph.proofs.StepEdges.{Which, only_one, which_edge}
 use Rattle.flow_graph.proofs.StepLemmas.{TellsPlain, answer_by, tells_plain}
 use Rattle.flow_graph.proofs.StepOperations.{operation_costs, skipped_costs}
 use Rattle.flow_graph.proofs.StepTicks.{Reaches, jump_price}
-use Rattle.flow_graph.proofs.TightData.{MovedPays, skipped_pays}
+use Rattle.flow_graph.proofs.TightData.{skipped_pays}
 use Rattle.flow_graph.proofs.TightOperations.{operation_set}
 use Rattle.flow_graph.proofs.TightState.{at_address, flags_are, in_svc, no_interrupt}
 use Rattle.flow_graph.proofs.TightTicks.{n_worst, s_worst, transfers_in}

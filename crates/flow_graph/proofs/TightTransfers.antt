@@ -1,5 +1,5 @@
 -- Loads and stores, where they cost the most.
-use Rattle.std.proofs.Common.{◌≡◌, ℕ, zero, suc, ◌+◌, ◌-◌, ◌*◌, ◌%◌, ◌^◌, ◌<◌, ◌==◌, ◌&&◌, not, nat_lt, Bool, true, false, cond, List, [], ◌∷◌, ◌++◌, length, Result, Ok, Err, refl, sym, ap, subst, ◌∙◌, arith}
+use Rattle.std.proofs.Common.{◌≡◌, ℕ, ◌+◌, ◌-◌, ◌^◌, ◌<◌, ◌&&◌, not, nat_lt, Bool, true, false, cond, List, [], ◌∷◌, length, Ok, refl, sym, ap, subst, ◌∙◌, arith}
 use Rattle.std.proofs.lemmas.Bool.{cond-true, false≢true, lt-ltb}
 use Rattle.std.proofs.lemmas.List.{length-append}
 use Rattle.bus_ticks.specs.Dearest.{AreDearest, IsDearestBlock}
@@ -12,7 +12,6 @@ use Rattle.arm2_decode.specs.declared.instr.Block.{Block}
 use Rattle.arm2_decode.specs.declared.names.Register.TheVariants.{R15}
 use Rattle.memc.specs.Memory.{located}
 use Rattle.memc.specs.declared.spots.Spot.{Spot}
-use Rattle.arm2_effect.specs.declared.step_end.Kind.TheVariants as ended
 use Rattle.arm2_effect.specs.Modes.{r15_in}
 use Rattle.arm2_effect.specs.ProgramCounter.{address_of, mode_of, r15_ahead}
 use Rattle.arm2_transfer.specs.declared.bus.Bus.{Bus}
@@ -24,7 +23,7 @@ use Rattle.arm2_transfer.specs.Bus.{made_of, seen}
 use Rattle.arm2_transfer.specs.Moved.{Moved}
 use Rattle.arm2_transfer.specs.Registers.{is_user, moved_by, passed, with_base}
 use Rattle.arm2_transfer.specs.Single.{address_for, base_after, has_user_rights, single_at, single_by, single_carried_out, single_loaded, single_loads, single_stores, writes_base}
-use Rattle.arm2_transfer.specs.Words.{is_listed, moves_of, or_fault, registers_in, verdict_of, words_from}
+use Rattle.arm2_transfer.specs.Words.{is_listed, moves_of, or_fault, registers_in, verdict_of}
 use Rattle.flow_graph.specs.Kinds.{is_writer, transfer, writer_if}
 use Rattle.flow_graph.specs.TightWork.{IsDearestTarget}
 use Rattle.flow_graph.specs.declared.kinds.Kind.TheVariants as kind
