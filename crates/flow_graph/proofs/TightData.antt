@@ -1,5 +1,6 @@
 -- Data processing, multiplies and branches, where they cost the most.
-use Rattle.std.proofs.Common.{◌≡◌, ℕ, ◌+◌, ◌*◌, ◌<◌, ◌&&◌, not, Bool, true, false, cond, List, length, refl, sym, subst}
+use Rattle.std.proofs.Common.{◌≡◌, ℕ, ◌+◌, ◌*◌, ◌<◌, ◌&&◌, not, Bool, true, false, cond, List, length, refl}
+use Rattle.std.proofs.Common.{sym, subst}
 use Rattle.std.proofs.lemmas.Bool.{false≢true}
 use Rattle.bus_ticks.specs.Dearest.{AreDearest}
 use Rattle.bus_ticks.specs.declared.profile.Class.{Class}
@@ -15,7 +16,8 @@ use Rattle.arm2_decode.specs.declared.names.Register.{Register}
 use Rattle.arm2_effect.specs.declared.step_end.Kind.TheVariants as ended
 use Rattle.arm2_effect.specs.Effects.{Effect, onward, skipped}
 use Rattle.arm2_effect.specs.Modes.{r15_in, register_in}
-use Rattle.arm2_effect.specs.Operations.{branch_effect, compared, cycles_of, delayed, entered, jumped, multiply_effect, placed, product_of}
+use Rattle.arm2_effect.specs.Operations.{branch_effect, compared, cycles_of, delayed, entered, jumped}
+use Rattle.arm2_effect.specs.Operations.{multiply_effect, placed, product_of}
 use Rattle.arm2_effect.specs.Outcomes.{outcome_of}
 use Rattle.arm2_effect.specs.ProgramCounter.{address_of, ahead_of, mode_of}
 use Rattle.arm2_transfer.specs.declared.bus.Bus.{Bus}
@@ -39,7 +41,8 @@ branch_jumps : (p : Profile) (rom : RomTimes) (class : Class) (a : ℕ) (link : 
 branch_jumps p rom class a true offset t = refl
 branch_jumps p rom class a false offset t = refl
 
-no_writer : (link : Bool) (offset : ℕ) → is_writer (cond link (kind.Call offset) (kind.Branch offset)) ≡ true → ⊥
+no_writer : (link : Bool) (offset : ℕ) → is_writer (cond link (kind.Call offset) (kind.Branch offset)) ≡ true
+    → ⊥
 no_writer true offset e = false≢true e
 no_writer false offset e = false≢true e
 
@@ -64,7 +67,8 @@ module _ (st : Stated) (p : Profile) (rom : RomTimes) (class : Class) (dear : Ar
 
     -- ## Data processing
 
-    entered_pays : (sets_flags : Bool) (rd : Register) (out : _) → EffectPays kind.Plain (work.Internal 0) (entered sets_flags rd out regs)
+    entered_pays : (sets_flags : Bool) (rd : Register) (out : _)
+        → EffectPays kind.Plain (work.Internal 0) (entered sets_flags rd out regs)
     unfolding entered
     entered_pays sets_flags rd out = record {
       plain = refl;
@@ -80,7 +84,9 @@ module _ (st : Stated) (p : Profile) (rom : RomTimes) (class : Class) (dear : Ar
       lands = λ w. absurd (false≢true w);
     }
 
-    jumped_pays : (sets_flags : Bool) (o : Opcode) (x : ℕ) (y : _) (f : Flags) → IsDearestTarget st p to (address_of (outcome_of o x y f).value) → EffectPays kind.Writer (work.Internal 0) (jumped sets_flags (outcome_of o x y f) regs)
+    jumped_pays : (sets_flags : Bool) (o : Opcode) (x : ℕ) (y : _) (f : Flags)
+        → IsDearestTarget st p to (address_of (outcome_of o x y f).value)
+        → EffectPays kind.Writer (work.Internal 0) (jumped sets_flags (outcome_of o x y f) regs)
     unfolding jumped
     jumped_pays sets_flags o x y f target =
         let a : ℕ = address_of (r15_in regs) in
@@ -92,28 +98,34 @@ module _ (st : Stated) (p : Profile) (rom : RomTimes) (class : Class) (dear : Ar
           lands = λ w. subst (IsDearestTarget st p to) there target;
         }
 
-    placed_by : (compares to_pc : Bool) (T : Type 0) (c j e : Effect) → EffectPays kind.Plain (work.Internal 0) c → (T → EffectPays kind.Writer (work.Internal 0) j) → EffectPays kind.Plain (work.Internal 0) e →
-        (is_writer (writer_if (to_pc && not compares)) ≡ true → T) → EffectPays (writer_if (to_pc && not compares)) (work.Internal 0) (cond compares c (cond to_pc j e))
+    placed_by : (compares to_pc : Bool) (T : Type 0) (c j e : Effect)
+        → EffectPays kind.Plain (work.Internal 0) c → (T → EffectPays kind.Writer (work.Internal 0) j)
+        → EffectPays kind.Plain (work.Internal 0) e
+        → (is_writer (writer_if (to_pc && not compares)) ≡ true → T) → EffectPays (writer_if (to_pc && not compares)) (work.Internal 0) (cond compares c (cond to_pc j e))
     placed_by true true T c j e hc hj he target = hc
     placed_by true false T c j e hc hj he target = hc
     placed_by false true T c j e hc hj he target = hj (target refl)
     placed_by false false T c j e hc hj he target = he
 
-    pub placed_pays : (o : Opcode) (sets_flags : Bool) (rd : Register) (x : ℕ) (y : _) (f : Flags) → (writes_pc o rd ≡ true → IsDearestTarget st p to (address_of (outcome_of o x y f).value)) →
-        EffectPays (data_kind o rd) (work.Internal 0) (placed o sets_flags rd (outcome_of o x y f) regs)
+    pub placed_pays : (o : Opcode) (sets_flags : Bool) (rd : Register) (x : ℕ) (y : _) (f : Flags)
+        → (writes_pc o rd ≡ true → IsDearestTarget st p to (address_of (outcome_of o x y f).value))
+        → EffectPays (data_kind o rd) (work.Internal 0) (placed o sets_flags rd (outcome_of o x y f) regs)
     unfolding placed
     placed_pays o sets_flags rd x y f target =
         placed_by (is_compare o) (is_pc rd) (IsDearestTarget st p to (address_of (outcome_of o x y f).value)) _ _ _
         (compared_pays rd (outcome_of o x y f)) (jumped_pays sets_flags o x y f) (entered_pays sets_flags rd (outcome_of o x y f)) target
 
-    pub delayed_moves : (cycles most : ℕ) (k : Kind) (e : Effect) → cycles ≡ most → EffectPays k (work.Internal 0) e → EffectPays k (work.Internal most) (delayed cycles e)
+    pub delayed_moves : (cycles most : ℕ) (k : Kind) (e : Effect) → cycles ≡ most
+        → EffectPays k (work.Internal 0) e → EffectPays k (work.Internal most) (delayed cycles e)
     delayed_moves cycles most k e all h = record {
       plain = h.plain;
       pays = delayed_pays p rom class (address_of (r15_in regs)) dear cycles most k e.accesses _ all h.pays;
       lands = h.lands;
     }
 
-    pub multiply_pays : (x : Multiply) → cycles_of (register_in (mode_of (r15_in regs)) (register_number x.rs) regs) ≡ 16 → EffectPays kind.Plain (work.Internal 16) (multiply_effect x regs)
+    pub multiply_pays : (x : Multiply)
+        → cycles_of (register_in (mode_of (r15_in regs)) (register_number x.rs) regs) ≡ 16
+        → EffectPays kind.Plain (work.Internal 16) (multiply_effect x regs)
     unfolding multiply_effect
     multiply_pays x all =
         delayed_moves (cycles_of (register_in (mode_of (r15_in regs)) (register_number x.rs) regs)) 16 kind.Plain (entered x.sets_flags x.rd (product_of x regs) regs) all
@@ -121,7 +133,8 @@ module _ (st : Stated) (p : Profile) (rom : RomTimes) (class : Class) (dear : Ar
 
     -- ## Branches
 
-    pub branch_pays : (x : Branch) → EffectPays (cond x.link (kind.Call x.offset) (kind.Branch x.offset)) (work.Internal 0) (branch_effect x regs)
+    pub branch_pays : (x : Branch)
+        → EffectPays (cond x.link (kind.Call x.offset) (kind.Branch x.offset)) (work.Internal 0) (branch_effect x regs)
     unfolding branch_effect
     branch_pays x =
         let a : ℕ = address_of (r15_in regs) in

@@ -1,5 +1,6 @@
 -- Any instruction for which a machine in SVC mode is set.
-use Rattle.std.proofs.Common.{◌≡◌, ℕ, ◌<◌, ◌==◌, ◌&&◌, ◌||◌, not, Bool, true, false, List, length, Ok, count_ones, refl, sym, ap, subst, ◌∙◌, arith}
+use Rattle.std.proofs.Common.{◌≡◌, ℕ, ◌<◌, ◌==◌, ◌&&◌, ◌||◌, not, Bool, true, false, List, length, Ok}
+use Rattle.std.proofs.Common.{count_ones, refl, sym, ap, subst, ◌∙◌, arith}
 use Rattle.std.specs.Prelude.{Contains}
 use Rattle.std.proofs.lemmas.Bool.{and_parts, cond-false, false≢true}
 use Rattle.bus_ticks.specs.Dearest.{AreDearest}
@@ -18,7 +19,8 @@ use Rattle.arm2_effect.specs.declared.modes.Mode.{Mode}
 use Rattle.arm2_effect.specs.declared.modes.Mode.TheVariants.{Svc}
 use Rattle.arm2_effect.specs.Modes.{r15_in, register_in}
 use Rattle.arm2_effect.specs.Operands.{first_of}
-use Rattle.arm2_effect.specs.Operations.{cycles_of, data_immediate_effect, data_register_effect, data_register_shift_effect, operation_effect}
+use Rattle.arm2_effect.specs.Operations.{cycles_of, data_immediate_effect, data_register_effect}
+use Rattle.arm2_effect.specs.Operations.{data_register_shift_effect, operation_effect}
 use Rattle.arm2_effect.specs.ProgramCounter.{address_of, mode_of}
 use Rattle.arm2_transfer.specs.declared.span.Span.{Span}
 use Rattle.arm2_transfer.specs.Block.{block_moved, lowest_of, span_of}
@@ -53,7 +55,9 @@ byte_by false last h e = refl
 byte_by true true h e = absurd (cc)
 byte_by true false h e = absurd (cc)
 
-no_byte : (before byte write_back load : Bool) (rn rd : Register) → single_clash (bit_of before) (bit_of byte) (bit_of write_back) (bit_of load) (register_number rn) (register_number rd) ≡ 0 → is_pc rd ≡ true → byte ≡ false
+no_byte : (before byte write_back load : Bool) (rn rd : Register)
+    → single_clash (bit_of before) (bit_of byte) (bit_of write_back) (bit_of load) (register_number rn) (register_number rd) ≡ 0
+    → is_pc rd ≡ true → byte ≡ false
 no_byte before byte write_back load rn rd h last =
     let no_base = refused_else (is_bad_base (bit_of before) (bit_of write_back) (register_number rn)) 5 _ h in
     let no_load = refused_else (is_bad_load (bit_of before) (bit_of write_back) (bit_of load) (register_number rn) (register_number rd)) 8 _ no_base in
@@ -91,7 +95,9 @@ module _ (st : Stated) (profile : Profile) (address : ℕ) (to : Place) (s : Sta
   abbrev BlockPays : Block → Bool → ℕ → Type 0
   BlockPays x last words = OperationPays (writer_if (x.load && last)) (transfer x.load words) (block_moved x i.port s.regs (with_lines i.lines.0 s.bus))
 
-  block_set : (x : Block) → BlockSet x (mode_of (r15_in s.regs)) (is_listed x.list R15) (length (registers_in x.list)) → BlockPays x (is_listed x.list R15) (length (registers_in x.list))
+  block_set : (x : Block)
+      → BlockSet x (mode_of (r15_in s.regs)) (is_listed x.list R15) (length (registers_in x.list))
+      → BlockPays x (is_listed x.list R15) (length (registers_in x.list))
   unfolding block_moved
   block_set x h =
       let span : Span = span_of x (register_in (mode_of (r15_in s.regs)) (register_number x.rn) s.regs) (length (registers_in x.list)) in
@@ -99,14 +105,16 @@ module _ (st : Stated) (profile : Profile) (address : ℕ) (to : Place) (s : Sta
       (λ j less. ap (λ m. located s.bus.memc (word_address span.lowest j) (is_user m) (not x.load)) svc ∙ h.transfer.spots j less)
       h.transfer.block h.target
 
-  block_done : (x : Block) → BlockSet x Svc (lists_pc x.list) (count_ones x.list) → BlockPays x (lists_pc x.list) (count_ones x.list)
+  block_done : (x : Block) → BlockSet x Svc (lists_pc x.list) (count_ones x.list)
+      → BlockPays x (lists_pc x.list) (count_ones x.list)
   block_done x =
       subst (λ n. BlockSet x Svc (lists_pc x.list) n → BlockPays x (lists_pc x.list) n) (words_are x.list x.list_fits)
       (subst (λ b. BlockSet x Svc b (length (registers_in x.list)) → BlockPays x b (length (registers_in x.list))) (sym (pc_listed x.list x.list_fits))
       (subst (λ m. BlockSet x m (is_listed x.list R15) (length (registers_in x.list)) → BlockPays x (is_listed x.list R15) (length (registers_in x.list))) svc (block_set x)))
 
   -- no place is where a trap leads
-  pub operation_set : (o : Operation) (calls : List ℕ) (a : ℕ) → Contains (landings st calls a (kind_of o)) to → IsSetFor st profile address to s i o
+  pub operation_set : (o : Operation) (calls : List ℕ) (a : ℕ) → Contains (landings st calls a (kind_of o)) to
+      → IsSetFor st profile address to s i o
       → OperationPays (kind_of o) (work_of o) (operation_moved o i.port s.regs (with_lines i.lines.0 s.bus))
   unfolding operation_effect data_register_effect data_register_shift_effect data_immediate_effect
   operation_set (operation.Multiply x) calls a lands h =

@@ -1,5 +1,6 @@
 -- A machine that is set for an edge takes it at exactly its price.
-use Rattle.std.proofs.Common.{◌≡◌, ℕ, ◌+◌, ◌*◌, ◌<◌, inl, inr, Bool, true, false, cond, List, [], ◌∷◌, ◌++◌, length, Option, nat_lt, refl, sym, ap, subst, ◌∙◌, arith}
+use Rattle.std.proofs.Common.{◌≡◌, ℕ, ◌+◌, ◌*◌, ◌<◌, inl, inr, Bool, true, false, cond, List, [], ◌∷◌, ◌++◌}
+use Rattle.std.proofs.Common.{length, Option, nat_lt, refl, sym, ap, subst, ◌∙◌, arith}
 use Rattle.std.specs.Prelude.{Contains}
 use Rattle.std.proofs.lemmas.Bool.{cond-false, cond-true}
 use Rattle.bus_ticks.specs.Dearest.{AreDearest}
@@ -21,9 +22,11 @@ use Rattle.arm2_transfer.specs.Moved.{Moved, on_bus}
 use Rattle.arm2_transfer.specs.Operations.{operation_moved}
 use Rattle.arm2_transfer.specs.Registers.{is_user}
 use Rattle.arm2_exec.specs.State.{State}
-use Rattle.arm2_exec.specs.Step.{Obeys, ObeysFetched, Works, address_in, answer_of, interrupt_due, state_after, with_lines}
+use Rattle.arm2_exec.specs.Step.{Obeys, ObeysFetched, Works, address_in, answer_of, interrupt_due}
+use Rattle.arm2_exec.specs.Step.{state_after, with_lines}
 use Rattle.arm2_exec.specs.declared.machine.Input.{Input}
-use Rattle.flow_graph.specs.Edges.{HasAction, arrival_ticks, branch_target, do_edge, do_ticks, jump_ticks, landings, passing_ticks, skip_edge, word_edges}
+use Rattle.flow_graph.specs.Edges.{HasAction, arrival_ticks, branch_target, do_edge, do_ticks, jump_ticks}
+use Rattle.flow_graph.specs.Edges.{landings, passing_ticks, skip_edge, word_edges}
 use Rattle.flow_graph.specs.Kinds.{IsAction, instr_action, is_writer, kind_of}
 use Rattle.flow_graph.specs.StepLaw.{IsPlaceOf, TransfersIn, label_by, label_in}
 use Rattle.flow_graph.specs.Tight.{IsTight}
@@ -61,12 +64,15 @@ module _ (st : Stated) (p : Profile) (rom : RomTimes) (class : Class) (dear : Ar
     stands_for : IsPlaceOf st t to
     price : jump_price p rom class a k t ≡ arrival_ticks st.leave p k to
 
-  jump_at : (inside : List ℕ) (x t : ℕ) → t ≡ x → n_price p rom t + s_price p rom (ahead_of t 4) ≡ jump_ticks st.leave p (At inside x)
+  jump_at : (inside : List ℕ) (x t : ℕ) → t ≡ x
+      → n_price p rom t + s_price p rom (ahead_of t 4) ≡ jump_ticks st.leave p (At inside x)
   jump_at inside x t e =
       ap (λ y. n_price p rom y + s_price p rom (ahead_of y 4)) e
       ∙ omega (arith, n_worst p rom class a dear x, s_worst p rom class a dear (ahead_of x 4))
 
-  arrives_exactly : (k : Kind) (t : ℕ) (to : Place) → Reaches p rom class a k t → (is_writer k ≡ true → IsDearestTarget st p to t) → Contains (landings st calls a k) to → Arrives k t to
+  arrives_exactly : (k : Kind) (t : ℕ) (to : Place) → Reaches p rom class a k t
+      → (is_writer k ≡ true → IsDearestTarget st p to t) → Contains (landings st calls a k) to
+      → Arrives k t to
   arrives_exactly kind.Plain t to e target lands = subst (Arrives kind.Plain t) (only_one _ to lands) (record { stands_for = sym e; price = refl })
   arrives_exactly (kind.Branch offset) t to e target lands =
       subst (Arrives (kind.Branch offset) t) (only_one _ to lands)
@@ -122,14 +128,16 @@ module _ (words : Words) (st : Stated) (profile : Profile) (e : Edge) (s : State
   label : e.label ≡ label_in s.regs h.action.cond
   label = sym h.label ∙ ap (λ f. label_by f h.action.cond) (sym (flags_are profile h.word h.address h.flags s h.stands))
 
-  works : (m : Moved) → Obeys h.word i.port s.regs (with_lines i.lines.0 s.bus) m → Works (interrupt_due (with_lines i.lines.0 s.bus) (r15_in s.regs)) i.port s.regs (with_lines i.lines.0 s.bus) m
+  works : (m : Moved) → Obeys h.word i.port s.regs (with_lines i.lines.0 s.bus) m
+      → Works (interrupt_due (with_lines i.lines.0 s.bus) (r15_in s.regs)) i.port s.regs (with_lines i.lines.0 s.bus) m
   works m obeys =
       let bus = with_lines i.lines.0 s.bus in
       subst (λ (due : Option Vector). Works due i.port s.regs bus m) (sym (no_interrupt profile h.word h.address h.flags s h.stands i.lines.0))
       (subst (λ (word : Option ℕ). ObeysFetched word i.port s.regs bus m) (sym h.stands.fetches) obeys)
 
   -- a step that does this has the edge's price
-  tight : (m : Moved) → Obeys h.word i.port s.regs (with_lines i.lines.0 s.bus) m → m.kind ≡ ended.Plain → TransfersIn (class_of st (address_in s.regs)) m.accesses
+  tight : (m : Moved) → Obeys h.word i.port s.regs (with_lines i.lines.0 s.bus) m → m.kind ≡ ended.Plain
+      → TransfersIn (class_of st (address_in s.regs)) m.accesses
       → IsPlaceOf st (address_in m.regs) e.to → ticks_of profile s.bus.memc.control.rom_times m.accesses ≡ e.cost → IsTight words st profile e s i
   tight m obeys plain transfers to cost =
       let tells : TellsPlain s m (answer_of s m) = tells_plain s m (answer_of s m) refl (told_kind s m ∙ plain) in
@@ -156,7 +164,8 @@ module _ (words : Words) (st : Stated) (profile : Profile) (e : Edge) (s : State
 
   -- ## The word is passed over
 
-  obeys_skipped : condition_holds h.action.cond (flags_of (r15_in s.regs)) ≡ false → IsAction h.word h.action → Obeys h.word i.port s.regs (with_lines i.lines.0 s.bus) (on_bus (with_lines i.lines.0 s.bus) (skipped s.regs))
+  obeys_skipped : condition_holds h.action.cond (flags_of (r15_in s.regs)) ≡ false → IsAction h.word h.action
+      → Obeys h.word i.port s.regs (with_lines i.lines.0 s.bus) (on_bus (with_lines i.lines.0 s.bus) (skipped s.regs))
   obeys_skipped fails (inl (x, means, is)) =
       inl (x, means, sym (cond-false _ _ _ (ap (λ (a : Action). condition_holds a.cond (flags_of (r15_in s.regs))) (sym is) ∙ fails)))
   obeys_skipped fails (inr (u, none, is)) =
@@ -184,7 +193,8 @@ module _ (words : Words) (st : Stated) (profile : Profile) (e : Edge) (s : State
     action_is : h.action ≡ instr_action x
     action_is = one_action h.word h.action (instr_action x) h.is (inl (x, means, refl))
 
-    tight_done : (to : Place) → Contains (landings st h.calls (address_in s.regs) h.action.kind) to → do_edge st profile h.calls (address_in s.regs) h.action to ≡ e → IsTight words st profile e s i
+    tight_done : (to : Place) → Contains (landings st h.calls (address_in s.regs) h.action.kind) to
+        → do_edge st profile h.calls (address_in s.regs) h.action to ≡ e → IsTight words st profile e s i
     tight_done to among is =
         let rom : RomTimes = s.bus.memc.control.rom_times in
         let a : ℕ = address_in s.regs in
@@ -209,7 +219,8 @@ module _ (words : Words) (st : Stated) (profile : Profile) (e : Edge) (s : State
         ∙ ap (λ (d : Edge). d.cost) is in
         tight m obeys done.plain in_class there.stands_for (omega (arith, done.pays.exact, there.price, cost))
 
-  tight_do : (to : Place) → Contains (landings st h.calls (address_in s.regs) h.action.kind) to → do_edge st profile h.calls (address_in s.regs) h.action to ≡ e → IsTight words st profile e s i
+  tight_do : (to : Place) → Contains (landings st h.calls (address_in s.regs) h.action.kind) to
+      → do_edge st profile h.calls (address_in s.regs) h.action to ≡ e → IsTight words st profile e s i
   tight_do to among is = elim h.skipped_or_set [
     | inl skip ↦ absurd (not_both e.label skip (sym (ap (λ (d : Edge). d.label) is)))
     | inr (x, means, set) ↦ tight_done x means set to among is

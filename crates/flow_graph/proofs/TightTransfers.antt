@@ -1,5 +1,6 @@
 -- Loads and stores, where they cost the most.
-use Rattle.std.proofs.Common.{◌≡◌, ℕ, ◌+◌, ◌-◌, ◌^◌, ◌<◌, ◌&&◌, not, nat_lt, Bool, true, false, cond, List, [], ◌∷◌, length, Ok, refl, sym, ap, subst, ◌∙◌, arith}
+use Rattle.std.proofs.Common.{◌≡◌, ℕ, ◌+◌, ◌-◌, ◌^◌, ◌<◌, ◌&&◌, not, nat_lt, Bool, true, false, cond, List}
+use Rattle.std.proofs.Common.{[], ◌∷◌, length, Ok, refl, sym, ap, subst, ◌∙◌, arith}
 use Rattle.std.proofs.lemmas.Bool.{cond-true, false≢true, lt-ltb}
 use Rattle.std.proofs.lemmas.List.{length-append}
 use Rattle.bus_ticks.specs.Dearest.{AreDearest, IsDearestBlock}
@@ -18,11 +19,14 @@ use Rattle.arm2_transfer.specs.declared.bus.Bus.{Bus}
 use Rattle.arm2_transfer.specs.declared.single_fields.Single.{Single}
 use Rattle.arm2_transfer.specs.declared.span.Span.{Span}
 use Rattle.arm2_transfer.specs.declared.words.Move.{Move}
-use Rattle.arm2_transfer.specs.Block.{all_loaded, block_at, block_by, block_carried_out, block_loads, block_stores, mode_for}
+use Rattle.arm2_transfer.specs.Block.{all_loaded, block_at, block_by, block_carried_out, block_loads}
+use Rattle.arm2_transfer.specs.Block.{block_stores, mode_for}
 use Rattle.arm2_transfer.specs.Bus.{made_of, seen}
 use Rattle.arm2_transfer.specs.Moved.{Moved}
 use Rattle.arm2_transfer.specs.Registers.{is_user, moved_by, passed, with_base}
-use Rattle.arm2_transfer.specs.Single.{address_for, base_after, has_user_rights, single_at, single_by, single_carried_out, single_loaded, single_loads, single_stores, writes_base}
+use Rattle.arm2_transfer.specs.Single.{address_for, base_after, has_user_rights, single_at, single_by}
+use Rattle.arm2_transfer.specs.Single.{single_carried_out, single_loaded, single_loads, single_stores}
+use Rattle.arm2_transfer.specs.Single.{writes_base}
 use Rattle.arm2_transfer.specs.Words.{is_listed, moves_of, or_fault, registers_in, verdict_of}
 use Rattle.flow_graph.specs.Kinds.{is_writer, transfer, writer_if}
 use Rattle.flow_graph.specs.TightWork.{IsDearestTarget}
@@ -33,7 +37,8 @@ use Rattle.statement.specs.Stated.{Stated}
 use Rattle.flow_graph.proofs.StepRegisters.{loaded_goes, long_based, long_r15}
 use Rattle.flow_graph.proofs.TightData.{MovedPays}
 use Rattle.flow_graph.proofs.TightTicks.{load_pays, store_pays}
-use Rattle.flow_graph.proofs.TightWords.{last_is_r15, last_loaded, others_in, verdict_found, words_found, words_to}
+use Rattle.flow_graph.proofs.TightWords.{last_is_r15, last_loaded, others_in, verdict_found, words_found}
+use Rattle.flow_graph.proofs.TightWords.{words_to}
 
 -- what writes R15 is a writer
 writer_told : (b : Bool) → is_writer (writer_if b) ≡ true → b ≡ true
@@ -56,8 +61,9 @@ module _ (st : Stated) (p : Profile) (rom : RomTimes) (class : Class) (dear : Ar
 
   -- ## Single transfers
 
-  single_is : (x : Single) (base : ℕ) (spot : Spot) → address_for x base < 2 ^ 26 → located bus.memc (address_for x base) (has_user_rights x (mode_of (r15_in regs))) (not x.load) ≡ Ok spot →
-      single_at x base port regs bus ≡ single_carried_out x base port spot regs bus
+  single_is : (x : Single) (base : ℕ) (spot : Spot) → address_for x base < 2 ^ 26
+      → located bus.memc (address_for x base) (has_user_rights x (mode_of (r15_in regs))) (not x.load) ≡ Ok spot
+      → single_at x base port regs bus ≡ single_carried_out x base port spot regs bus
   unfolding single_at single_by
   single_is x base spot below found =
       cond-true (nat_lt (address_for x base) (2 ^ 26)) _ _ (lt-ltb (address_for x base) (2 ^ 26) below)
@@ -88,8 +94,9 @@ module _ (st : Stated) (p : Profile) (rom : RomTimes) (class : Class) (dear : Ar
     lands = λ w. absurd (false≢true w);
   }
 
-  pub single_pays : (x : Single) (base : ℕ) (spot : Spot) → located bus.memc (address_for x base) (has_user_rights x (mode_of (r15_in regs))) (not x.load) ≡ Ok spot →
-      IsDear 1 (address_for x base) (not x.load) →
+  pub single_pays : (x : Single) (base : ℕ) (spot : Spot)
+      → located bus.memc (address_for x base) (has_user_rights x (mode_of (r15_in regs))) (not x.load) ≡ Ok spot
+      → IsDear 1 (address_for x base) (not x.load) →
       ((x.load && is_pc x.rd) ≡ true → IsDearestTarget st p to (address_of (made_of x.byte (address_for x base) (seen bus port spot)))) →
       MovedPays st p rom class dear to regs long (writer_if (x.load && is_pc x.rd)) (transfer x.load 1) (single_at x base port regs bus)
   unfolding single_carried_out
@@ -105,8 +112,9 @@ module _ (st : Stated) (p : Profile) (rom : RomTimes) (class : Class) (dear : Ar
     moves : List Move
     moves = moves_of (words_to spot 0 (registers_in x.list))
 
-    block_is : span.lowest < 2 ^ 26 → ((j : ℕ) → j < length (registers_in x.list) → located bus.memc (word_address span.lowest j) (is_user (mode_of (r15_in regs))) (not x.load) ≡ Ok (spot j)) →
-        block_at x span port regs bus ≡ block_carried_out x span port moves regs bus
+    block_is : span.lowest < 2 ^ 26
+        → ((j : ℕ) → j < length (registers_in x.list) → located bus.memc (word_address span.lowest j) (is_user (mode_of (r15_in regs))) (not x.load) ≡ Ok (spot j))
+        → block_at x span port regs bus ≡ block_carried_out x span port moves regs bus
     unfolding block_at block_by moves
     block_is below found =
         cond-true (nat_lt span.lowest (2 ^ 26)) _ _ (lt-ltb span.lowest (2 ^ 26) below)
@@ -126,8 +134,9 @@ module _ (st : Stated) (p : Profile) (rom : RomTimes) (class : Class) (dear : Ar
         ∙ last_loaded x.user (mode_for x (mode_of (r15_in regs))) (r15_in regs) bus port spot 0 (others_in x.list) new enough
         ∙ ap (λ n. address_of (seen bus port (spot n))) before
 
-    block_loads_pays : IsDear span.words span.lowest false → (is_listed x.list R15 ≡ true → IsDearestTarget st p to (address_of (seen bus port (spot (length (registers_in x.list) - 1))))) →
-        MovedPays st p rom class dear to regs long (writer_if (is_listed x.list R15)) (work.Load span.words) (block_loads x span port moves regs bus)
+    block_loads_pays : IsDear span.words span.lowest false
+        → (is_listed x.list R15 ≡ true → IsDearestTarget st p to (address_of (seen bus port (spot (length (registers_in x.list) - 1)))))
+        → MovedPays st p rom class dear to regs long (writer_if (is_listed x.list R15)) (work.Load span.words) (block_loads x span port moves regs bus)
     unfolding block_loads
     block_loads_pays block target = record {
       plain = refl;
@@ -149,8 +158,8 @@ module _ (st : Stated) (p : Profile) (rom : RomTimes) (class : Class) (dear : Ar
       lands = λ w. absurd (false≢true w);
     }
 
-    pub block_pays : ((j : ℕ) → j < length (registers_in x.list) → located bus.memc (word_address span.lowest j) (is_user (mode_of (r15_in regs))) (not x.load) ≡ Ok (spot j)) →
-        IsDear span.words span.lowest (not x.load) →
+    pub block_pays : ((j : ℕ) → j < length (registers_in x.list) → located bus.memc (word_address span.lowest j) (is_user (mode_of (r15_in regs))) (not x.load) ≡ Ok (spot j))
+        → IsDear span.words span.lowest (not x.load) →
         ((x.load && is_listed x.list R15) ≡ true → IsDearestTarget st p to (address_of (seen bus port (spot (length (registers_in x.list) - 1))))) →
         MovedPays st p rom class dear to regs long (writer_if (x.load && is_listed x.list R15)) (transfer x.load span.words) (block_at x span port regs bus)
     unfolding block_carried_out

@@ -1,5 +1,6 @@
 -- The words of a transfer that the memory controller locates: what is loaded into R15 from the last of them.
-use Rattle.std.proofs.Common.{◌≡◌, ℕ, suc, ◌+◌, ◌*◌, ◌/◌, ◌%◌, ◌^◌, ◌<◌, Bool, true, false, List, [], ◌∷◌, ◌++◌, length, filter, Ok, refl, ap, ◌∙◌, arith}
+use Rattle.std.proofs.Common.{◌≡◌, ℕ, suc, ◌+◌, ◌*◌, ◌/◌, ◌%◌, ◌^◌, ◌<◌, Bool, true, false, List, [], ◌∷◌}
+use Rattle.std.proofs.Common.{◌++◌, length, filter, Ok, refl, ap, ◌∙◌, arith}
 use Rattle.std.specs.Prelude.{bit_or}
 use Rattle.std.specs.Int.Bits.{or_self}
 use Rattle.std.specs.List.{list_any}
@@ -7,7 +8,8 @@ use Rattle.std.proofs.lemmas.Bool.{cond-false, cond-true}
 use Rattle.std.proofs.lemmas.List.Elements.{filter-append}
 use Rattle.std.proofs.lemmas.Nat.{or_mod}
 use Rattle.arm2_decode.specs.declared.names.Register.{Register}
-use Rattle.arm2_decode.specs.declared.names.Register.TheVariants.{R0, R1, R2, R3, R4, R5, R6, R7, R8, R9, R10, R11, R12, R13, R14, R15}
+use Rattle.arm2_decode.specs.declared.names.Register.TheVariants.{R0, R1, R2, R3, R4, R5, R6, R7, R8, R9, R10}
+use Rattle.arm2_decode.specs.declared.names.Register.TheVariants.{R11, R12, R13, R14, R15}
 use Rattle.memc.specs.Memory.{Memory, located}
 use Rattle.memc.specs.declared.spots.Spot.{Spot}
 use Rattle.bus_ticks.specs.Prices.{word_address}
@@ -18,7 +20,8 @@ use Rattle.arm2_transfer.specs.declared.bus.Bus.{Bus}
 use Rattle.arm2_transfer.specs.Block.{all_loaded}
 use Rattle.arm2_transfer.specs.Bus.{made_of, seen, turned}
 use Rattle.arm2_transfer.specs.Registers.{with_loaded}
-use Rattle.arm2_transfer.specs.Words.{Word, all_registers, is_abort, is_listed, is_unsupported, moves_of, registers_in, verdict_of, words_from}
+use Rattle.arm2_transfer.specs.Words.{Word, all_registers, is_abort, is_listed, is_unsupported, moves_of}
+use Rattle.arm2_transfer.specs.Words.{registers_in, verdict_of, words_from}
 use Rattle.flow_graph.proofs.StepRegisters.{loaded_goes, long_loaded}
 
 -- ## The one word of a single transfer
@@ -37,7 +40,8 @@ turned_none word =
     (ap (λ n. n % 2 ^ 32) parts ∙ or_mod word (word % 2 ^ 32) 32 ∙ ap (bit_or (word % 2 ^ 32)) twice ∙ or_self (word % 2 ^ 32))
 
 -- a whole word from a multiple of 4
-pub made_whole : (byte : Bool) (x word : ℕ) → byte ≡ false → x % 4 ≡ 0 → address_of (made_of byte x word) ≡ address_of word
+pub made_whole : (byte : Bool) (x word : ℕ) → byte ≡ false → x % 4 ≡ 0
+    → address_of (made_of byte x word) ≡ address_of word
 made_whole byte x word whole at =
     ap address_of (cond-false byte _ _ whole)
     ∙ ap (λ lane. address_of (turned lane word)) at
@@ -57,15 +61,18 @@ words_found m user store lowest i spot (r ∷ rest) found =
     ap (λ at. (r, at) ∷ words_from m user store lowest (i + 1) rest) (found i (omega arith))
     ∙ ap (λ ws. (r, Ok (spot i)) ∷ ws) (words_found m user store lowest (i + 1) spot rest (λ j h. found j (omega (arith, h))))
 
-no_abort : (spot : ℕ → Spot) (i : ℕ) (rs : List Register) → list_any (λ (word : Word). is_abort word.1) (words_to spot i rs) ≡ false
+no_abort : (spot : ℕ → Spot) (i : ℕ) (rs : List Register)
+    → list_any (λ (word : Word). is_abort word.1) (words_to spot i rs) ≡ false
 no_abort spot i [] = refl
 no_abort spot i (r ∷ rest) = no_abort spot (i + 1) rest
 
-no_unsupported : (spot : ℕ → Spot) (i : ℕ) (rs : List Register) → list_any (λ (word : Word). is_unsupported word.1) (words_to spot i rs) ≡ false
+no_unsupported : (spot : ℕ → Spot) (i : ℕ) (rs : List Register)
+    → list_any (λ (word : Word). is_unsupported word.1) (words_to spot i rs) ≡ false
 no_unsupported spot i [] = refl
 no_unsupported spot i (r ∷ rest) = no_unsupported spot (i + 1) rest
 
-pub verdict_found : (spot : ℕ → Spot) (i : ℕ) (rs : List Register) → verdict_of (words_to spot i rs) ≡ Ok (moves_of (words_to spot i rs))
+pub verdict_found : (spot : ℕ → Spot) (i : ℕ) (rs : List Register)
+    → verdict_of (words_to spot i rs) ≡ Ok (moves_of (words_to spot i rs))
 verdict_found spot i rs = cond-false _ _ _ (no_abort spot i rs) ∙ cond-false _ _ _ (no_unsupported spot i rs)
 
 -- ## R15, the last register of its list
