@@ -18,6 +18,7 @@ pub mod StepLemmas
 pub mod NameLemmas
 pub mod TightTicks
 pub mod TightState
+pub mod TightSetting
 pub mod TightData
 pub mod TightWords
 pub mod TightTransfers

@@ -47,7 +47,7 @@ use Rattle.flow_graph.proofs.StepLemmas.{TellsPlain, answer_by, tells_plain}
 use Rattle.flow_graph.proofs.StepOperations.{operation_costs, skipped_costs}
 use Rattle.flow_graph.proofs.StepTicks.{Reaches, jump_price}
 use Rattle.flow_graph.proofs.TightData.{skipped_pays}
-use Rattle.flow_graph.proofs.TightOperations.{operation_set}
+use Rattle.flow_graph.proofs.TightOperations.{operation_set, setting}
 use Rattle.flow_graph.proofs.TightState.{at_address, flags_are, in_svc, no_interrupt}
 use Rattle.flow_graph.proofs.TightTicks.{n_worst, s_worst, transfers_in}
 use Rattle.flow_graph.proofs.WorkLemmas.{action_fits}
@@ -178,7 +178,7 @@ module _ (words : Words) (st : Stated) (profile : Profile) (e : Edge) (s : State
       let bus = with_lines i.lines.0 s.bus in
       let skip : e.label ≡ Skip = sym (ap (λ (x : Edge). x.label) is) in
       let fails : condition_holds h.action.cond (flags_of (r15_in s.regs)) ≡ false = skips _ (sym label ∙ skip) in
-      let done = skipped_pays st profile rom class h.stands.dearest e.to s.regs long bus in
+      let done = skipped_pays (setting st profile (address_in s.regs) e.to s i h.stands.dearest long) in
       let in_class = transfers_in class _ done.pays.in_class in
       let goes = (skipped_costs profile rom class s.regs long bus in_class done.plain).reaches in
       let cost : passing_ticks profile (address_in s.regs) ≡ e.cost = ap (λ (x : Edge). x.cost) is in
@@ -208,7 +208,7 @@ module _ (words : Words) (st : Stated) (profile : Profile) (e : Edge) (s : State
         subst (λ (b : Action). Contains (landings st h.calls a b.kind) e.to) action_is
         (subst (λ (q : Place). Contains (landings st h.calls a h.action.kind) q) to_is among) in
         let set_here : IsSetFor st profile a e.to s i x.operation = subst (λ n. IsSetFor st profile n e.to s i x.operation) (sym at) set in
-        let done = operation_set st profile a e.to s i h.stands.dearest svc long x.operation h.calls a lands set_here in
+        let done = operation_set st profile a e.to s i h.stands.dearest long svc x.operation h.calls a lands set_here in
         let in_class = transfers_in class _ done.pays.in_class in
         let fits = action_fits h.word (instr_action x) (inl (x, means, refl)) in
         let goes = (operation_costs profile rom class s.regs long x.operation i.port bus fits in_class done.plain).reaches in
