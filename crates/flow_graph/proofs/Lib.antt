@@ -23,4 +23,5 @@ pub mod TightData
 pub mod TightWords
 pub mod TightTransfers
 pub mod TightOperations
+pub mod TightArrivals
 pub mod TightStep
