@@ -1,5 +1,5 @@
 -- Data processing, multiplies and branches, where they cost the most.
-use Rattle.std.proofs.Common.{◌≡◌, ℕ, ◌+◌, ◌*◌, ◌&&◌, not, Bool, true, false, cond, refl, sym, ap, subst}
+use Rattle.std.proofs.Common.{◌≡◌, ℕ, ◌+◌, ◌*◌, ◌&&◌, not, Bool, true, false, cond, refl, sym, subst}
 use Rattle.std.proofs.lemmas.Bool.{false≢true}
 use Rattle.bus_ticks.specs.declared.profile.Class.{Class}
 use Rattle.bus_ticks.specs.declared.profile.Profile.{Profile}
@@ -93,9 +93,9 @@ module _ (c : Setting) where
       → EffectPays c kind.Writer (work.Internal 0) (jumped sets_flags (outcome_of o x y f) c.regs)
   unfolding jumped
   jumped_pays sets_flags o x y f target =
-      jumps kind.Writer (address_of (outcome_of o x y f).value) (jumped sets_flags (outcome_of o x y f) c.regs)
-      refl refl
-      (jumped_goes c.profile c.rom c.class c.regs c.long sets_flags (outcome_of o x y f))
+      let out = outcome_of o x y f in
+      jumps kind.Writer (address_of out.value) (jumped sets_flags out c.regs) refl refl
+      (jumped_goes c.profile c.rom c.class c.regs c.long sets_flags out)
       refl (λ w. target)
 
   placed_by : (compares to_pc : Bool) (T : Type 0) (x j e : Effect)

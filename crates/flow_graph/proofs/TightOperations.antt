@@ -1,31 +1,29 @@
 -- Any instruction for which a machine in SVC mode is set.
-use Rattle.std.proofs.Common.{◌≡◌, ℕ, ◌<◌, ◌==◌, ◌&&◌, ◌||◌, not, Bool, true, false, List, length, Ok}
+use Rattle.std.proofs.Common.{◌≡◌, ℕ, ◌<◌, ◌==◌, ◌&&◌, ◌||◌, not, Bool, true, false, List, length}
 use Rattle.std.proofs.Common.{count_ones, refl, sym, ap, subst, ◌∙◌, arith}
 use Rattle.std.specs.Prelude.{Contains}
 use Rattle.std.proofs.lemmas.Bool.{and_parts, cond-false, false≢true}
 use Rattle.bus_ticks.specs.Dearest.{AreDearest}
 use Rattle.bus_ticks.specs.declared.profile.Profile.{Profile}
 use Rattle.bus_ticks.specs.Prices.{word_address}
-use Rattle.arm2_decode.specs.Allowed.{bit_of, is_bad_base, is_bad_byte, is_bad_load, single_clash}
+use Rattle.arm2_decode.specs.Allowed.{bit_of, is_bad_base, is_bad_byte, is_bad_load}
 use Rattle.arm2_decode.specs.Names.{is_pc, register_number}
 use Rattle.arm2_decode.specs.declared.instr.Block.{Block}
 use Rattle.arm2_decode.specs.declared.instr.Operation.{Operation}
 use Rattle.arm2_decode.specs.declared.instr.Operation.TheVariants as operation
 use Rattle.arm2_decode.specs.declared.instr.SingleImmediate.{SingleImmediate}
-use Rattle.arm2_decode.specs.declared.names.Register.{Register}
 use Rattle.arm2_decode.specs.declared.names.Register.TheVariants.{R15}
 use Rattle.memc.specs.Memory.{located}
 use Rattle.arm2_effect.specs.declared.modes.Mode.{Mode}
 use Rattle.arm2_effect.specs.declared.modes.Mode.TheVariants.{Svc}
-use Rattle.arm2_effect.specs.Modes.{r15_in, register_in}
+use Rattle.arm2_effect.specs.Modes.{register_in}
 use Rattle.arm2_effect.specs.Operands.{first_of}
 use Rattle.arm2_effect.specs.Operations.{cycles_of, data_immediate_effect, data_register_effect}
 use Rattle.arm2_effect.specs.Operations.{data_register_shift_effect, operation_effect}
-use Rattle.arm2_effect.specs.ProgramCounter.{address_of, mode_of}
+use Rattle.arm2_effect.specs.ProgramCounter.{address_of}
 use Rattle.arm2_transfer.specs.declared.span.Span.{Span}
 use Rattle.arm2_transfer.specs.Block.{block_moved, lowest_of, span_of}
 use Rattle.arm2_transfer.specs.Bus.{made_of, seen}
-use Rattle.arm2_transfer.specs.Moved.{Moved}
 use Rattle.arm2_transfer.specs.Operations.{operation_moved}
 use Rattle.arm2_transfer.specs.Registers.{is_user}
 use Rattle.arm2_transfer.specs.Single.{address_for, has_user_rights, of_immediate, single_at}
@@ -38,8 +36,6 @@ use Rattle.flow_graph.specs.Edges.{landings}
 use Rattle.flow_graph.specs.Free.{asks_for_user}
 use Rattle.flow_graph.specs.Kinds.{data_kind, kind_of, lists_pc, transfer, work_of, writer_if}
 use Rattle.flow_graph.specs.TightWork.{IsDearestTarget, IsSetFor, TransfersDearest}
-use Rattle.flow_graph.specs.declared.kinds.Kind.{Kind}
-use Rattle.flow_graph.specs.declared.kinds.Work.{Work}
 use Rattle.flow_graph.specs.declared.places.Place.{Place}
 use Rattle.statement.specs.Stated.{Stated, class_of}
 use Rattle.flow_graph.proofs.SortedLemmas.{no_member}
@@ -62,7 +58,8 @@ no_byte x last =
     let load = is_bad_load (bit_of x.before) (bit_of x.write_back) (bit_of x.load) (register_number x.rn)
     (register_number x.rd) in
     let no_load = refused_else load 8 _ (refused_else base 5 _ x.allocated) in
-    byte_by x.byte (is_pc x.rd) (refused_not (is_bad_byte (bit_of x.byte) (register_number x.rd)) 9 _ no_load) last
+    let byte = is_bad_byte (bit_of x.byte) (register_number x.rd) in
+    byte_by x.byte (is_pc x.rd) (refused_not byte 9 _ no_load) last
 
 module _ (st : Stated) (profile : Profile) (address : ℕ) (to : Place) (s : State) (i : Input)
     (dear : AreDearest profile s.bus.memc.control.rom_times) (long : 26 < length s.regs) where
@@ -106,13 +103,14 @@ module _ (st : Stated) (profile : Profile) (address : ℕ) (to : Place) (s : Sta
         ∙ ap (λ n. located s.bus.memc n false (not x.load)) (sym at)
         ∙ h.transfer.spots 0 (omega arith) in
         let seen_word : ℕ = seen (with_lines i.lines.0 s.bus) i.port (h.spot 0) in
-        let whole : is_pc x.rd ≡ true → address_of seen_word ≡ address_of (made_of x.byte (lowest_at x) seen_word) =
+        let made : ℕ = made_of x.byte (lowest_at x) seen_word in
+        let whole : is_pc x.rd ≡ true → address_of seen_word ≡ address_of made =
         λ last. sym (made_whole x.byte (lowest_at x) seen_word (no_byte x last) h.transfer.whole) in
         subst
         (λ b. MovedPays setting (writer_if (x.load && is_pc x.rd)) (transfer x.load 1)
         (single_at (of_immediate x) b i.port s.regs (with_lines i.lines.0 s.bus))) (sym base_is)
         (single_pays setting (of_immediate x) (base_of x) (h.spot 0) found h.transfer.block
-        (λ w. subst (IsDearestTarget st profile to) (whole ((and_parts x.load (is_pc x.rd) w).1)) (h.target w)))
+        (λ w. subst (IsDearestTarget st profile to) (whole (and_parts x.load (is_pc x.rd) w).1) (h.target w)))
 
     -- ## Blocks: what one asks for and pays, by its base's mode, its test for R15 and its number of words
 
@@ -152,8 +150,9 @@ module _ (st : Stated) (profile : Profile) (address : ℕ) (to : Place) (s : Sta
         (subst (λ m. BlockSet x m last all → BlockDone x last all) svc (block_set x)))
 
     -- a trap leads to no place
-    pub operation_set : (o : Operation) (calls : List ℕ) (a : ℕ) → Contains (landings st calls a (kind_of o)) to
-        → IsSetFor st profile address to s i o → OperationPays o
+    pub operation_set : (o : Operation) (calls : List ℕ) (a : ℕ)
+        → Contains (landings st calls a (kind_of o)) to → IsSetFor st profile address to s i o
+        → OperationPays o
     unfolding operation_effect data_register_effect data_register_shift_effect data_immediate_effect
     operation_set (operation.Multiply x) calls a lands h =
         multiply_pays setting x (ap (λ m. cycles_of (register_in m (register_number x.rs) s.regs)) svc ∙ h)

@@ -1,6 +1,6 @@
 -- What a step must do to take an edge at its price.
 use Rattle.std.proofs.Common.{◌≡◌, ℕ, ◌<◌, Bool, true, List, length}
-use Rattle.bus_ticks.specs.Dearest.{AreDearest, IsDearestBlock}
+use Rattle.bus_ticks.specs.Dearest.{AreDearest}
 use Rattle.bus_ticks.specs.declared.profile.Class.{Class}
 use Rattle.bus_ticks.specs.declared.profile.Profile.{Profile}
 use Rattle.bus_ticks.specs.declared.profile.RomTimes.{RomTimes}
@@ -17,7 +17,7 @@ use Rattle.flow_graph.specs.declared.kinds.Kind.{Kind}
 use Rattle.flow_graph.specs.declared.kinds.Work.{Work}
 use Rattle.flow_graph.specs.declared.places.Place.{Place}
 use Rattle.statement.specs.Stated.{Stated}
-use Rattle.flow_graph.proofs.TightTicks.{Pays}
+use Rattle.flow_graph.proofs.TightTicks.{AreDear, Pays}
 
 -- the prices, the class of the words and the place where the edge leads; the machine before the step
 pub record Setting : Type 0 where
@@ -43,10 +43,8 @@ module _ (c : Setting) where
   abbrev pub IsTarget : ℕ → Type 0
   IsTarget word = IsDearestTarget c.st c.profile c.to (address_of word)
 
-  -- words from an address on are of the class and cost the most
   abbrev pub IsDear : (words lowest : ℕ) → Bool → Type 0
-  IsDear words lowest store =
-      IsDearestBlock c.profile c.class words store (record { address = lowest; rom = c.rom })
+  IsDear = AreDear c.profile c.rom c.class
 
   -- accesses pay that start there
   abbrev pub PaysFrom : Kind → Work → List Access → ℕ → Type 0

@@ -75,7 +75,8 @@ none_due fiq irq true false f i = absurd (cc)
 
 -- ## The machine
 
-module _ (profile : Profile) (word address : ℕ) (flags : Flags) (s : State) (stands : StandsAt profile word address flags s) where
+module _ (profile : Profile) (word address : ℕ) (flags : Flags) (s : State)
+    (stands : StandsAt profile word address flags s) where
   is_word : IsWordAddress address
   is_word = (stands.below, stands.whole)
 

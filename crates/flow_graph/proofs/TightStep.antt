@@ -1,15 +1,12 @@
 -- A machine that is set for an edge takes it at exactly its price.
-use Rattle.std.proofs.Common.{◌≡◌, ℕ, ◌+◌, ◌*◌, ◌<◌, inl, inr, Bool, true, false, cond, List, [], ◌∷◌, ◌++◌}
-use Rattle.std.proofs.Common.{Some, length, Option, nat_lt, refl, sym, ap, subst, ◌∙◌, arith}
+use Rattle.std.proofs.Common.{◌≡◌, ℕ, ◌+◌, ◌*◌, ◌<◌, inl, inr, Bool, true, false, cond}
+use Rattle.std.proofs.Common.{Some, length, Option, refl, sym, ap, subst, ◌∙◌, arith}
 use Rattle.std.specs.Prelude.{Contains}
 use Rattle.std.proofs.lemmas.Bool.{cond-false, cond-true}
-use Rattle.bus_ticks.specs.Dearest.{AreDearest}
 use Rattle.bus_ticks.specs.declared.profile.Class.{Class}
 use Rattle.bus_ticks.specs.declared.profile.Profile.{Profile}
 use Rattle.bus_ticks.specs.declared.profile.RomTimes.{RomTimes}
-use Rattle.bus_ticks.specs.Prices.{n_price, s_price}
 use Rattle.loader.specs.Image.{Words, word_of}
-use Rattle.arm2_decode.specs.Conditions.{condition_holds}
 use Rattle.arm2_decode.specs.Table.{Means}
 use Rattle.arm2_decode.specs.declared.instr.Instr.{Instr}
 use Rattle.arm2_effect.specs.declared.exceptions.Vector.{Vector}
@@ -17,7 +14,7 @@ use Rattle.arm2_effect.specs.declared.modes.Mode.TheVariants.{Svc}
 use Rattle.arm2_effect.specs.declared.step_end.Kind.TheVariants as ended
 use Rattle.arm2_effect.specs.Effects.{is_stopped, skipped, ticks_of}
 use Rattle.arm2_effect.specs.Modes.{r15_in}
-use Rattle.arm2_effect.specs.ProgramCounter.{ahead_of, flags_of, mode_of}
+use Rattle.arm2_effect.specs.ProgramCounter.{mode_of}
 use Rattle.arm2_transfer.specs.declared.bus.Bus.{Bus}
 use Rattle.arm2_transfer.specs.Moved.{Moved, on_bus}
 use Rattle.arm2_transfer.specs.Operations.{operation_moved}
@@ -26,32 +23,29 @@ use Rattle.arm2_exec.specs.State.{State}
 use Rattle.arm2_exec.specs.Step.{Obeys, ObeysFetched, Works, address_in, answer_of, interrupt_due}
 use Rattle.arm2_exec.specs.Step.{state_after, with_lines}
 use Rattle.arm2_exec.specs.declared.machine.Input.{Input}
-use Rattle.flow_graph.specs.Edges.{HasAction, arrival_ticks, branch_target, do_edge, do_ticks, jump_ticks}
+use Rattle.flow_graph.specs.Edges.{HasAction, do_edge, do_ticks}
 use Rattle.flow_graph.specs.Edges.{landings, passing_ticks, skip_edge, word_edges}
-use Rattle.flow_graph.specs.Kinds.{IsAction, instr_action, unallocated_action, is_writer, kind_of}
+use Rattle.flow_graph.specs.Kinds.{IsAction, instr_action, unallocated_action, kind_of}
 use Rattle.flow_graph.specs.StepLaw.{IsPlaceOf, TransfersIn, holds_in, label_by, label_in}
 use Rattle.flow_graph.specs.Tight.{IsTight}
-use Rattle.flow_graph.specs.TightWork.{IsDearestTarget, IsSetFor, IsSetForEdge, TightLaw}
+use Rattle.flow_graph.specs.TightWork.{IsSetFor, IsSetForEdge, TightLaw}
 use Rattle.flow_graph.specs.declared.edges.Edge.{Edge}
 use Rattle.flow_graph.specs.declared.edges.Label.{Label}
 use Rattle.flow_graph.specs.declared.edges.Label.TheVariants.{Skip, Do}
 use Rattle.flow_graph.specs.declared.kinds.Action.{Action}
 use Rattle.flow_graph.specs.declared.kinds.Kind.{Kind}
-use Rattle.flow_graph.specs.declared.kinds.Kind.TheVariants as kind
 use Rattle.flow_graph.specs.declared.places.Place.{Place}
 use Rattle.flow_graph.specs.declared.places.Place.TheVariants.{At}
 use Rattle.statement.specs.Stated.{Stated, class_of}
 use Rattle.flow_graph.proofs.EdgeLemmas.{among_edges, one_action}
-use Rattle.flow_graph.proofs.SortedLemmas.{no_member}
-use Rattle.flow_graph.proofs.StepEdges.{Which, only_one, which_edge}
+use Rattle.flow_graph.proofs.StepEdges.{Which, which_edge}
 use Rattle.flow_graph.proofs.StepLemmas.{TellsPlain, answer_by, tells_plain}
 use Rattle.flow_graph.proofs.StepOperations.{operation_costs, skipped_costs}
-use Rattle.flow_graph.proofs.StepTicks.{Reaches, jump_price}
 use Rattle.flow_graph.proofs.TightArrivals.{arrives_exactly}
 use Rattle.flow_graph.proofs.TightData.{skipped_pays}
 use Rattle.flow_graph.proofs.TightOperations.{operation_set, setting}
 use Rattle.flow_graph.proofs.TightState.{at_address, flags_are, in_svc, no_interrupt}
-use Rattle.flow_graph.proofs.TightTicks.{n_worst, s_worst, transfers_in}
+use Rattle.flow_graph.proofs.TightTicks.{transfers_in}
 use Rattle.flow_graph.proofs.WorkLemmas.{action_fits}
 
 -- ## What the step tells
@@ -157,7 +151,7 @@ module _ (words : Words) (st : Stated) (profile : Profile) (e : Edge) (s : State
         exact = ticks ∙ cost;
       }
 
-  -- by which the word of another spelling of the action is done or passed over
+  -- an action that is the same holds alike
   same_test : (b : Bool) (x : Action) → h.action ≡ x → holds_in s.regs h.action.cond ≡ b
       → holds_in s.regs x.cond ≡ b
   same_test b x is holds = ap (λ (y : Action). holds_in s.regs y.cond) (sym is) ∙ holds
@@ -212,8 +206,8 @@ module _ (words : Words) (st : Stated) (profile : Profile) (e : Edge) (s : State
         let fits = action_fits h.word (instr_action x) (inl (x, means, refl)) in
         let costs = operation_costs profile rom class s.regs long x.operation i.port bus fits in
         let goes = (costs in_class done.plain).reaches in
-        let there =
-        arrives_exactly st profile rom class dear h.calls a k (address_in moved.regs) e.to goes done.lands lands in
+        let t : ℕ = address_in moved.regs in
+        let there = arrives_exactly st profile rom class dear h.calls a k t e.to goes done.lands lands in
         tight moved (obeys_done holds) done.plain in_class there.stands_for
         (omega (arith, done.pays.exact, there.price, cost))
 

@@ -53,7 +53,8 @@ module _ (c : Setting) where
   long_after : (writes : Bool) (rn : Register) (base : ℕ)
       → 26 < length (with_base writes (mode c) rn base (passed c.regs))
   long_after writes rn base =
-      long_based writes (mode c) rn base (passed c.regs) (long_r15 c.regs (r15_ahead (r15_in c.regs) 4) c.long)
+      let on = long_r15 c.regs (r15_ahead (r15_in c.regs) 4) c.long in
+      long_based writes (mode c) rn base (passed c.regs) on
 
   -- ## Single transfers
 
