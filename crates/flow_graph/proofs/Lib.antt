@@ -16,3 +16,12 @@ pub mod StepOperations
 pub mod StepEdges
 pub mod StepLemmas
 pub mod NameLemmas
+pub mod TightTicks
+pub mod TightState
+pub mod TightSetting
+pub mod TightData
+pub mod TightWords
+pub mod TightTransfers
+pub mod TightOperations
+pub mod TightArrivals
+pub mod TightStep

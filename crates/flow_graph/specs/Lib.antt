@@ -8,6 +8,8 @@ pub mod Graph
 pub mod Search
 pub mod StepLaw
 pub mod Free
+pub mod Tight
+pub mod TightWork
 pub use Rattle.walks.specs.Walk
 pub use Rattle.bus_ticks.specs.Prices
 pub use Rattle.bus_ticks.specs.Worst

@@ -1,0 +1,24 @@
+-- A machine whose one step takes an edge at exactly its price (our own cycle profile). That there is one for
+-- each free edge makes the prices of the graph real: none of them is more than some step costs.
+use Rattle.std.specs.Prelude.{◌≡◌, false}
+use Rattle.bus_ticks.specs.declared.profile.Profile.{Profile}
+use Rattle.loader.specs.Image.{Words}
+use Rattle.arm2_effect.specs.Modes.{r15_in}
+use Rattle.arm2_effect.specs.ProgramCounter.{mode_of}
+use Rattle.arm2_transfer.specs.Registers.{is_user}
+use Rattle.arm2_exec.specs.State.{State}
+use Rattle.arm2_exec.specs.declared.machine.Input.{Input}
+use Rattle.arm2_exec.specs.declared.machine.Stepped.{Stepped}
+use Rattle.flow_graph.specs.StepLaw.{IsEdgeOf}
+use Rattle.flow_graph.specs.declared.edges.Edge.{Edge}
+use Rattle.statement.specs.Stated.{Stated}
+
+-- In a privileged mode, the one step executes the image's word at the edge's place, moves only words of the
+-- classes stated for it, has the edge's label, leads to its target, and costs what the edge does.
+pub record IsTight (words : Words) (st : Stated) (profile : Profile) (e : Edge) (s : State)
+    (i : Input) : Type 0 where
+  pub privileged : is_user (mode_of (r15_in s.regs)) ≡ false
+  pub told : Stepped
+  pub after : State
+  pub takes : IsEdgeOf words st profile s i told after e
+  pub exact : told.ticks ≡ e.cost
