@@ -1,5 +1,5 @@
 -- What is read of the words that are put into memory, against what they state and their faults.
-use Rattle.std.proofs.Common.{◌≡◌, ℕ, ℤ, pos, negsuc, ◌≤◌, ◌⊎◌, ◌↔◌, true, false, List, [], ◌∷◌, codes, Ok, inl, inr, refl, sym, ap, subst, ◌∙◌, arith, All}
+use Rattle.std.proofs.Common.{◌≡◌, ℕ, ℤ, pos, ◌≤◌, ◌⊎◌, ◌↔◌, true, false, List, [], ◌∷◌, codes, Ok, inl, inr, refl, sym, ap, subst, ◌∙◌, arith, All}
 use Rattle.std.specs.Prelude.{IsTrue}
 use Rattle.std.specs.List.{AllZip}
 use Rattle.std.specs.Map.{keys_of}
@@ -9,9 +9,9 @@ use Rattle.loader.specs.Image.{may_hold}
 use Rattle.toml_reading.specs.Documents.{are_distinct, tables_at}
 use Rattle.toml_reading.specs.Lowest.{AtKey, AtKeyOr, IsListOf, ListFault, entries_at, numbers_at}
 use Rattle.toml_reading.specs.Readings.{both}
-use Rattle.toml_reading.proofs.Following.{test_judged}
+use Rattle.toml_reading.proofs.AddressLemmas.{tested_judged}
 use Rattle.toml_reading.proofs.LowestLemmas.{Judges, and_then_judged, joint, judged_as, judged_value, one_test, required_judged}
-use Rattle.toml_reading.proofs.LowestParts.{entries_state, not_whole, number_read, numbers_read, some_weaker, table_judged, tables_judged, whole_same}
+use Rattle.toml_reading.proofs.LowestParts.{entries_state, number_read, numbers_read, some_weaker, table_judged, tables_judged}
 use Rattle.machine_file.specs.MachineFaults.{machine_faults, number_of}
 use Rattle.machine_file.specs.MachineFile.{once, word_address_at, word_address_in, word_address_of, put_word_at, word_in, put_words_in}
 use Rattle.machine_file.specs.MachineFaultRules.{IsNoWordAddress, IsWordTwice}
@@ -19,7 +19,7 @@ use Rattle.machine_file.specs.MachineRules.{IsWordAddress, IsPutWord}
 use Rattle.machine_file.specs.Names.{word_keys}
 use Rattle.machine_file.specs.declared.machine_faults.MachineFileFault.{MachineFileFault}
 use Rattle.machine_file.specs.declared.machine_faults.MachineFileFault.TheVariants.{WrongKind, OutOfRange, Twice}
-use Rattle.machine_file.proofs.MachineValueLemmas.{IsLow, NeedsWord, Word, is_fault, list_low, low_at, match_low, needs_low, some_low, table_low, word}
+use Rattle.machine_file.proofs.MachineValueLemmas.{IsLow, NeedsWord, Word, list_low, low_at, match_low, needs_low, some_low, table_low, word}
 use Rattle.machine_file.proofs.FaultTableLemmas.{some_fact}
 use Rattle.machine_file.proofs.KeyFaults.{WordAddressFault, PutWordFault}
 
@@ -32,26 +32,15 @@ abbrev NoWordAddress : ℤ → MachineFileFault → Type 0
 NoWordAddress z f = IsNoWordAddress z × (f ≡ OutOfRange)
 
 word_address_told : (z : ℤ) → Judges machine_faults (WordAddress z) (NoWordAddress z) (word_address_of z)
-word_address_told (pos n) =
-    judged_as
+word_address_told =
+    tested_judged
     machine_faults
-    (λ a. IsTrue (may_hold n) × (a ≡ n))
-    (WordAddress (pos n))
-    (λ f. (¬ IsTrue (may_hold n)) × (f ≡ OutOfRange))
-    (NoWordAddress (pos n))
-    (λ a. (
-      λ s. (ap (λ (m : ℕ). pos m) (sym s.1), subst (λ (m : ℕ). IsTrue (may_hold m)) (sym s.1) s.0),
-      λ s. (subst (λ (m : ℕ). IsTrue (may_hold m)) (sym (whole_same n a s.0)) s.1, sym (whole_same n a s.0)),
-    ))
-    (λ f. (λ h. (λ a e i. h.0 (subst (λ (m : ℕ). IsTrue (may_hold m)) (sym (whole_same n a e)) i), h.1), λ h. (h.0 n refl, h.1)))
-    (word_address_of (pos n))
-    (test_judged machine_faults (IsTrue (may_hold n)) n OutOfRange (may_hold n) (λ e. e, λ e. e))
-word_address_told (negsuc n) = record {
-  told = (
-    λ a s. not_whole n a s.0,
-    record { has = (λ a e i. not_whole n a e, refl); least = λ o e. is_fault o OutOfRange e.1 },
-  );
-}
+    (λ a. IsTrue (may_hold a))
+    may_hold
+    (λ n. (λ e. e, λ e. e))
+    word_address_of
+    (λ n. refl)
+    (λ n. refl)
 
 word_address_judged : (d : Data) → Judges machine_faults (IsWordAddress d) (WordAddressFault d) (word_address_at d)
 word_address_judged d = required_judged machine_faults WordAddress NoWordAddress word_address_of word_address_told (as_integer d)
