@@ -16,3 +16,5 @@ pub mod StepOperations
 pub mod StepEdges
 pub mod StepLemmas
 pub mod NameLemmas
+mod SettingLemmas
+mod SettingSets

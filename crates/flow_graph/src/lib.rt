@@ -14,6 +14,7 @@ mod law;
 mod places;
 mod pushing;
 mod search;
+mod setting;
 mod strays;
 mod ticks;
 
