@@ -16,5 +16,12 @@ pub mod StepOperations
 pub mod StepEdges
 pub mod StepLemmas
 pub mod NameLemmas
+pub mod TightTicks
+pub mod TightState
+pub mod TightData
+pub mod TightWords
+pub mod TightTransfers
+pub mod TightOperations
+pub mod TightStep
 mod SettingLemmas
 mod SettingSets

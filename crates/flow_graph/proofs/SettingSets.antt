@@ -42,7 +42,7 @@ use Rattle.arm2_transfer.specs.Words.{registers_in}
 use Rattle.arm2_exec.specs.State.{State}
 use Rattle.arm2_exec.specs.Step.{with_lines}
 use Rattle.arm2_exec.specs.declared.machine.Input.{Input}
-use Rattle.flow_graph.specs.Free.{adds_an_immediate, copies_a_register, is_add_or_sub, is_free_operation, is_lsl, is_mov, writes_pc}
+use Rattle.flow_graph.specs.Free.{adds_an_immediate, asks_for_user, copies_a_register, is_add_or_sub, is_free_operation, is_lsl, is_mov, writes_pc}
 use Rattle.flow_graph.specs.Kinds.{lists_pc}
 use Rattle.flow_graph.specs.Setting.{HasSetting, IsData, IsDataOf, IsMemory, IsPort, IsSource, MayStart, Sets, of_register, rotated, transfer_setting, with_source}
 use Rattle.flow_graph.specs.TightWork.{IsDearestTarget, IsSetFor, TransfersDearest}
@@ -162,15 +162,15 @@ module _ (aim : Aim) (words lowest : ℕ) (base : Held) (some : 1 ≤ words) whe
   other false last h = h
   other true last h = other_of aim.class last h
 
-pub single_sets : (aim : Aim) (x : SingleImmediate) (lowest base : ℕ) → is_pc x.rn ≡ false → MayStart aim x.load 1 lowest → address_for (of_immediate x) base ≡ lowest
+pub single_sets : (aim : Aim) (x : SingleImmediate) (lowest base : ℕ) → is_pc x.rn ≡ false → asks_for_user x ≡ false → MayStart aim x.load 1 lowest → address_for (of_immediate x) base ≡ lowest
     → Sets aim (operation.SingleImmediate x) (transfer_setting aim (record { register = x.rn; word = base }) (x.load && is_pc x.rd) (word_address lowest 0))
-single_sets aim x lowest base rn may at =
+single_sets aim x lowest base rn user may at =
     let held : Held = record { register = x.rn; word = base } in
     record {
       register_other = other aim 1 lowest held (omega arith) (x.load && is_pc x.rd) (word_address lowest 0) rn;
       word_apart = apart aim 1 lowest held (omega arith) x.load (is_pc x.rd) may;
       set = λ st to s i class_is target has.
-          (rn,
+          (rn, user,
           subst (λ r. TransfersDearest st aim.profile aim.address to s i x.load (is_pc x.rd) 1 (address_for (of_immediate x) r))
           (sym (has_base aim s i held (word_address lowest 0) (x.load && is_pc x.rd) has))
           (subst (TransfersDearest st aim.profile aim.address to s i x.load (is_pc x.rd) 1) (sym at)
@@ -183,7 +183,7 @@ pub single_sets_at : (aim : Aim) (x : SingleImmediate) (lowest base : ℕ) → I
 single_sets_at aim x lowest base free may at =
     let first : word_address lowest 0 ≡ lowest = omega (arith, next_word lowest 0 may.whole (omega (arith, may.below))) in
     subst (λ n. Sets aim (operation.SingleImmediate x) (transfer_setting aim (record { register = x.rn; word = base }) (x.load && is_pc x.rd) n)) first
-    (single_sets aim x lowest base (not_true (is_pc x.rn) (both _ _ free).0) may at)
+    (single_sets aim x lowest base (not_true (is_pc x.rn) (both _ _ free).0) (not_true (asks_for_user x) (both _ _ free).1) may at)
 
 pub some_words : (x : Block) → 1 ≤ count_ones x.list
 some_words x =

@@ -64,7 +64,7 @@ cond_contains false xs e h = h
 contains_cond : (b : Bool) (xs : List Edge) (e : Edge) → b ≡ false → Contains xs e → Contains (cond b [] xs) e
 contains_cond b xs e off h = subst (λ t. Contains (cond t [] xs) e) (sym off) h
 
-only_one : (x e : Edge) → Contains (x ∷ []) e → x ≡ e
+pub only_one : {X : Type 0} (x e : X) → Contains (x ∷ []) e → x ≡ e
 only_one x e h = by_place (cons_cases x [] e h)
   where
     by_place : (x ≡ e) ⊎ Contains [] e → x ≡ e

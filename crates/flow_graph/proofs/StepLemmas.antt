@@ -53,13 +53,13 @@ use Rattle.flow_graph.proofs.WorkLemmas.{action_fits}
 
 -- ## What a plain step tells
 
-record TellsPlain (s : State) (m : Moved) (told : Stepped) : Type 0 where
-  kind : m.kind ≡ ended.Plain
-  ticks : told.ticks ≡ ticks_in s m
-  to : told.to ≡ address_in m.regs
+pub record TellsPlain (s : State) (m : Moved) (told : Stepped) : Type 0 where
+  pub kind : m.kind ≡ ended.Plain
+  pub ticks : told.ticks ≡ ticks_in s m
+  pub to : told.to ≡ address_in m.regs
 
 -- the answer of a step, by whether it stopped
-abbrev answer_by : Bool → State → Moved → Stepped
+abbrev pub answer_by : Bool → State → Moved → Stepped
 answer_by stops s m =
     cond stops (record { kind = m.kind; ticks = 0; from = address_in s.regs; to = address_in s.regs }) (record { kind = m.kind; ticks = ticks_in s m; from = address_in s.regs; to = address_in m.regs })
 
@@ -74,7 +74,7 @@ plain_by false s m told e is plain = record {
   to = ap (λ (t : Stepped). t.to) is;
 }
 
-tells_plain : (s : State) (m : Moved) (told : Stepped) → told ≡ answer_of s m → told.kind ≡ ended.Plain → TellsPlain s m told
+pub tells_plain : (s : State) (m : Moved) (told : Stepped) → told ≡ answer_of s m → told.kind ≡ ended.Plain → TellsPlain s m told
 unfolding answer_of
 tells_plain s m told is plain = plain_by (is_stopped m.kind) s m told refl is plain
 

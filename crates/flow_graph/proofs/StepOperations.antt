@@ -43,7 +43,7 @@ use Rattle.flow_graph.specs.declared.kinds.Kind.{Kind}
 use Rattle.flow_graph.specs.declared.kinds.Kind.TheVariants as kind
 use Rattle.flow_graph.specs.declared.kinds.Work.{Work}
 use Rattle.flow_graph.specs.declared.kinds.Work.TheVariants as work
-use Rattle.flow_graph.proofs.StepRegisters.{IsWordAddress, address_ahead, address_jumped, address_put, address_restored, base_stays, goes, loaded_stays, long_with, passed_goes, word_address_ahead, word_address_of}
+use Rattle.flow_graph.proofs.StepRegisters.{IsWordAddress, address_ahead, address_jumped, address_put, address_restored, base_stays, goes, loaded_stays, long_based, long_with, passed_goes, word_address_ahead, word_address_of}
 use Rattle.flow_graph.proofs.StepTicks.{Costs, branch_costs, call_costs, delayed_costs, jump_costs, load_block, load_costs, store_block, store_costs, straight_costs}
 use Rattle.arm2_transfer.proofs.Listed.{words_are}
 use Rattle.flow_graph.proofs.StepWords.{AllMoveOther, all_stay, pc_listed, verdict_others}
@@ -59,11 +59,11 @@ cycles_few (suc left) m number = by_test (cycles_few left (m + 1) number) (ltb n
 
 -- ## What the words of the table rule out
 
-refused_not : (b : Bool) (m n : ℕ) → ◌≡◌ {A = ℕ} (cond b (suc m) n) 0 → b ≡ false
+pub refused_not : (b : Bool) (m n : ℕ) → ◌≡◌ {A = ℕ} (cond b (suc m) n) 0 → b ≡ false
 refused_not true m n e = absurd (omega (arith, e))
 refused_not false m n e = refl
 
-refused_else : (b : Bool) (m n : ℕ) → ◌≡◌ {A = ℕ} (cond b (suc m) n) 0 → n ≡ 0
+pub refused_else : (b : Bool) (m n : ℕ) → ◌≡◌ {A = ℕ} (cond b (suc m) n) 0 → n ≡ 0
 refused_else true m n e = absurd (omega (arith, e))
 refused_else false m n e = e
 
@@ -115,13 +115,18 @@ module _ (p : Profile) (rom : RomTimes) (class : Class) (regs : List ℕ) (long 
       (address_restored (r15_in regs) out.value (ahead_of (address_of (r15_in regs)) 4) (word_address_ahead (r15_in regs) 1))
       (next_address (psr_with (effect.flags_after out) (psr_of (r15_in regs)))))
 
+  pub jumped_goes : (sets_flags : Bool) (out : _) → address_of (r15_in (jumped sets_flags out regs).regs) ≡ address_of out.value
+  unfolding jumped
+  jumped_goes sets_flags out =
+      either_goes sets_flags (restored_of (r15_in regs) out.value (address_of out.value)) (jumped_of (r15_in regs) out.value) (address_of out.value)
+      (address_restored (r15_in regs) out.value (address_of out.value) (word_address_of out.value))
+      (address_jumped (r15_in regs) out.value)
+
   jumped_costs : (sets_flags : Bool) (out : _) → EffectCosts kind.Writer (work.Internal 0) (jumped sets_flags out regs)
   unfolding jumped
   jumped_costs sets_flags out =
       subst (Costs p rom class (address_of (r15_in regs)) kind.Writer (work.Internal 0) (onward (address_of (r15_in regs)) (address_of out.value)))
-      (sym (either_goes sets_flags (restored_of (r15_in regs) out.value (address_of out.value)) (jumped_of (r15_in regs) out.value) (address_of out.value)
-      (address_restored (r15_in regs) out.value (address_of out.value) (word_address_of out.value))
-      (address_jumped (r15_in regs) out.value)))
+      (sym (jumped_goes sets_flags out))
       (jump_costs p rom class (address_of (r15_in regs)) (address_of out.value))
 
   placed_by : (compares to_pc : Bool) (c j e : Effect) → EffectCosts kind.Plain (work.Internal 0) c → EffectCosts kind.Writer (work.Internal 0) j → EffectCosts kind.Plain (work.Internal 0) e →
@@ -150,6 +155,14 @@ module _ (p : Profile) (rom : RomTimes) (class : Class) (regs : List ℕ) (long 
   linked true = long_with (mode_of (r15_in regs)) 14 (r15_ahead (r15_in regs) 4) regs long
   linked false = long
 
+  pub branch_lands : (x : Branch) → address_of (r15_in (branch_effect x regs).regs) ≡ ahead_of (address_of (r15_in regs)) (8 + 4 * x.offset)
+  unfolding branch_effect
+  branch_lands x =
+      let t : ℕ = ahead_of (address_of (r15_in regs)) (8 + 4 * x.offset) in
+      let is_word : IsWordAddress t = (omega arith, omega arith) in
+      goes (cond x.link (with_register (mode_of (r15_in regs)) 14 (r15_ahead (r15_in regs) 4) regs) regs) (r15_of (psr_of (r15_in regs)) t (mode_of (r15_in regs))) t
+      (linked x.link) (address_put (psr_of (r15_in regs)) t (mode_of (r15_in regs)) is_word)
+
   branch_by : (link : Bool) (offset t : ℕ) → t ≡ branch_target (address_of (r15_in regs)) offset →
       Costs p rom class (address_of (r15_in regs)) (cond link (kind.Call offset) (kind.Branch offset)) (work.Internal 0) (onward (address_of (r15_in regs)) t) t
   branch_by true offset t e = call_costs p rom class (address_of (r15_in regs)) offset t e
@@ -160,9 +173,8 @@ module _ (p : Profile) (rom : RomTimes) (class : Class) (regs : List ℕ) (long 
   branch_goes x =
       let t : ℕ = ahead_of (address_of (r15_in regs)) (8 + 4 * x.offset) in
       let same : t ≡ branch_target (address_of (r15_in regs)) x.offset = ap (λ n. n % 2 ^ 26) (let e : address_of (r15_in regs) + (8 + 4 * x.offset) ≡ address_of (r15_in regs) + 8 + 4 * x.offset = omega arith in e) in
-      let is_word : IsWordAddress t = (omega arith, omega arith) in
       subst (Costs p rom class (address_of (r15_in regs)) (cond x.link (kind.Call x.offset) (kind.Branch x.offset)) (work.Internal 0) (onward (address_of (r15_in regs)) t))
-      (sym (goes (cond x.link (with_register (mode_of (r15_in regs)) 14 (r15_ahead (r15_in regs) 4) regs) regs) (r15_of (psr_of (r15_in regs)) t (mode_of (r15_in regs))) t (linked x.link) (address_put (psr_of (r15_in regs)) t (mode_of (r15_in regs)) is_word)))
+      (sym (branch_lands x))
       (branch_by x.link x.offset t same)
 
   -- ## What ends in another way
@@ -237,17 +249,13 @@ module _ (p : Profile) (rom : RomTimes) (class : Class) (regs : List ℕ) (long 
       ∙ base_stays x.write_back (mode_of (r15_in regs)) x.rn span.base (passed regs) (λ w. other))
       ∙ passed_goes regs long)
 
-  based_long : (write_back : Bool) (rn : Register) (base : ℕ) → 26 < length (with_base write_back (mode_of (r15_in regs)) rn base regs)
-  based_long true rn base = long_with (mode_of (r15_in regs)) (register_number rn) base regs long
-  based_long false rn base = long
-
   block_stores_cost : (x : Block) (span : Span) (moves : List Move) (bus : Bus) → is_pc x.rn ≡ false → span.lowest < 2 ^ 26 → 1 ≤ span.words → span.words ≤ 16 →
       MovedCosts kind.Plain (work.Store span.words) (block_stores x span moves regs bus)
   unfolding block_stores
   block_stores_cost x span moves bus other below some few in_class plain =
       store_costs p rom class (address_of (r15_in regs)) span.lowest span.words _ some few
       (store_block class rom (address_of (r15_in regs)) span.lowest span.words below in_class)
-      (passed_goes (with_base x.write_back (mode_of (r15_in regs)) x.rn span.base regs) (based_long x.write_back x.rn span.base)
+      (passed_goes (with_base x.write_back (mode_of (r15_in regs)) x.rn span.base regs) (long_based x.write_back (mode_of (r15_in regs)) x.rn span.base regs long)
       ∙ ap (λ r. ahead_of (address_of r) 4) (base_stays x.write_back (mode_of (r15_in regs)) x.rn span.base regs (λ w. other)))
 
   block_by_costs : (x : Block) (span : Span) (port : ℕ) (verdict : Result (List Move) TransferFault) (bus : Bus) → is_pc x.rn ≡ false → span.lowest < 2 ^ 26 → 1 ≤ span.words → span.words ≤ 16 →

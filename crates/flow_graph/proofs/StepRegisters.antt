@@ -77,6 +77,33 @@ loaded_stays psr mode r register word regs other =
     ap (λ (b : Bool). r15_in (cond b (with_r15 (loaded_r15 psr r word) regs) (with_register mode (register_number register) word regs))) other
     ∙ r15_stays mode register word regs other
 
+-- a loaded word in R15
+address_loaded : (psr : Bool) (r word : ℕ) → address_of (loaded_r15 psr r word) ≡ address_of word
+address_loaded true r word = address_restored r word (address_of word) (word_address_of word)
+address_loaded false r word = address_jumped r word
+
+pub loaded_goes : (psr : Bool) (mode : Mode) (r : ℕ) (register : Register) (word : ℕ) (regs : List ℕ) → 26 < length regs → is_pc register ≡ true → address_of (r15_in (with_loaded psr mode r register word regs)) ≡ address_of word
+loaded_goes psr mode r register word regs long last =
+    ap (λ (b : Bool). address_of (r15_in (cond b (with_r15 (loaded_r15 psr r word) regs) (with_register mode (register_number register) word regs)))) last
+    ∙ goes regs (loaded_r15 psr r word) (address_of word) long (address_loaded psr r word)
+
+long_cond : (b : Bool) (xs ys : List ℕ) → 26 < length xs → 26 < length ys → 26 < length (cond b xs ys)
+long_cond true xs ys h k = h
+long_cond false xs ys h k = k
+
+pub long_r15 : (regs : List ℕ) (value : ℕ) → 26 < length regs → 26 < length (with_r15 value regs)
+long_r15 regs value long = omega (arith, length-set regs 26 value, long)
+
+pub long_based : (write_back : Bool) (mode : Mode) (rn : Register) (base : ℕ) (regs : List ℕ) → 26 < length regs → 26 < length (with_base write_back mode rn base regs)
+long_based write_back mode rn base regs long =
+    long_cond write_back (with_register mode (register_number rn) base regs) regs (long_with mode (register_number rn) base regs long) long
+
+pub long_loaded : (psr : Bool) (mode : Mode) (r : ℕ) (register : Register) (word : ℕ) (regs : List ℕ) → 26 < length regs → 26 < length (with_loaded psr mode r register word regs)
+long_loaded psr mode r register word regs long =
+    long_cond (is_pc register) (with_r15 (loaded_r15 psr r word) regs) (with_register mode (register_number register) word regs)
+    (long_r15 regs (loaded_r15 psr r word) long)
+    (long_with mode (register_number register) word regs long)
+
 -- R15 one instruction on
 pub passed_goes : (regs : List ℕ) → 26 < length regs → address_of (r15_in (passed regs)) ≡ ahead_of (address_of (r15_in regs)) 4
 passed_goes regs long = goes regs (r15_ahead (r15_in regs) 4) (ahead_of (address_of (r15_in regs)) 4) long (address_ahead (r15_in regs))

@@ -1,20 +1,22 @@
--- How a machine is set so that its one step pays an edge's price: what the clauses of private functions cite.
--- Sources as for Dearest.antt in bus_ticks, and the VL86C010 data sheet for what each instruction does.
-use Rattle.std.specs.Prelude.{◌≡◌, ◌<◌, ◌%◌, ◌-◌, ◌^◌, ℕ, Bool, false, not, ◌&&◌, IsTrue, count_ones, length}
-use Rattle.std.specs.Prelude.{Option, Some, None, Ok}
+-- How a machine is set so that its one step pays an edge's price. Sources as for Dearest.antt in bus_ticks,
+-- and the VL86C010 data sheet for what each instruction does.
+use Rattle.std.specs.Prelude.{◌≡◌, ◌⊎◌, ◌<◌, ◌%◌, ◌-◌, ◌^◌, ℕ, Bool, false, not, ◌&&◌, IsTrue, count_ones, length}
+use Rattle.std.specs.Prelude.{List, Some, Ok}
 use Rattle.bus_ticks.specs.declared.profile.Class.{Class}
 use Rattle.bus_ticks.specs.declared.profile.Profile.{Profile}
 use Rattle.bus_ticks.specs.declared.profile.RomTimes.{RomTimes}
 use Rattle.bus_ticks.specs.Dearest.{AreDearest, IsDearestBlock}
 use Rattle.bus_ticks.specs.Prices.{word_address}
 use Rattle.bus_ticks.specs.Worst.{leave_price}
+use Rattle.loader.specs.Image.{Words, word_of}
 use Rattle.memc.specs.Memory.{Memory, located}
 use Rattle.memc.specs.declared.spots.Spot.{Spot}
 use Rattle.arm2_decode.specs.Names.{is_pc, register_number}
+use Rattle.arm2_decode.specs.Table.{Means}
 use Rattle.arm2_decode.specs.declared.flags.Flags.{Flags}
+use Rattle.arm2_decode.specs.declared.instr.Instr.{Instr}
 use Rattle.arm2_decode.specs.declared.instr.Operation.{Operation}
 use Rattle.arm2_decode.specs.declared.instr.Operation.TheVariants as operation
-use Rattle.arm2_decode.specs.declared.names.Register.{Register}
 use Rattle.arm2_effect.specs.declared.modes.Mode.TheVariants.{Svc}
 use Rattle.arm2_effect.specs.Modes.{r15_in, register_in}
 use Rattle.arm2_effect.specs.Operands.{first_of, rotated_byte, shifted_by_amount}
@@ -27,11 +29,16 @@ use Rattle.arm2_transfer.specs.Single.{address_for, of_immediate}
 use Rattle.arm2_exec.specs.State.{State}
 use Rattle.arm2_exec.specs.Step.{fetched, with_lines}
 use Rattle.arm2_exec.specs.declared.machine.Input.{Input}
-use Rattle.flow_graph.specs.Edges.{jump_ticks}
-use Rattle.flow_graph.specs.Free.{writes_pc}
-use Rattle.flow_graph.specs.Kinds.{lists_pc}
-use Rattle.flow_graph.specs.StepLaw.{IsPlaceOf}
+use Rattle.flow_graph.specs.Edges.{IsEdge, jump_ticks}
+use Rattle.flow_graph.specs.Free.{asks_for_user, writes_pc}
+use Rattle.flow_graph.specs.Kinds.{IsAction, lists_pc}
+use Rattle.flow_graph.specs.StepLaw.{IsPlaceOf, label_by}
+use Rattle.flow_graph.specs.Tight.{IsTight}
+use Rattle.flow_graph.specs.declared.edges.Edge.{Edge}
+use Rattle.flow_graph.specs.declared.edges.Label.TheVariants.{Skip}
+use Rattle.flow_graph.specs.declared.kinds.Action.{Action}
 use Rattle.flow_graph.specs.declared.places.Place.{Place}
+use Rattle.flow_graph.specs.declared.places.Place.TheVariants.{At}
 use Rattle.statement.specs.Stated.{Stated, class_of}
 
 -- F and I set, the lowest two bits of the PSR
@@ -93,7 +100,7 @@ module _ (st : Stated) (profile : Profile) (address : ℕ) (to : Place) (s : Sta
       (outcome_of x.opcode (first_of 8 x.rn s.regs) (rotated_byte x.value x.rotation s.regs)
       (flags_of (r15_in s.regs))).value
   IsSetFor (operation.SingleImmediate x) =
-      (is_pc x.rn ≡ false)
+      (is_pc x.rn ≡ false) × (asks_for_user x ≡ false)
       × TransfersDearest x.load (is_pc x.rd) 1
       (address_for (of_immediate x) (register_in Svc (register_number x.rn) s.regs))
   IsSetFor (operation.SingleRegister x) = ⊥
@@ -101,3 +108,27 @@ module _ (st : Stated) (profile : Profile) (address : ℕ) (to : Place) (s : Sta
       TransfersDearest x.load (lists_pc x.list) (count_ones x.list)
       (lowest_of x (register_in Svc (register_number x.rn) s.regs) (count_ones x.list))
   IsSetFor _ = Unit {0}
+
+module _ (words : Words) (st : Stated) (profile : Profile) where
+  -- the machine stands at the edge's place; by its flags the word there is passed over or done as the edge is
+  -- labelled, and where it is done, the machine is set for it
+  pub record IsSetForEdge (e : Edge) (s : State) (i : Input) : Type 0 where
+    pub calls : List ℕ
+    pub address : ℕ
+    pub word : ℕ
+    pub action : Action
+    pub flags : Flags
+    pub is_edge : IsEdge words st profile e
+    pub from : e.from ≡ At calls address
+    pub has : word_of words address ≡ Some word
+    pub is : IsAction word action
+    pub label : label_by flags action.cond ≡ e.label
+    pub stands : StandsAt profile word address flags s
+    pub skipped_or_set : (e.label ≡ Skip)
+        ⊎ ((x : Instr) × Means word x × IsSetFor st profile address e.to s i x.operation)
+
+-- A machine that is set for an edge takes it at exactly its price.
+abbrev pub TightLaw : Type 0
+TightLaw =
+    (words : Words) (st : Stated) (profile : Profile) (e : Edge) (s : State) (i : Input) →
+    IsSetForEdge words st profile e s i → IsTight words st profile e s i

@@ -1,4 +1,5 @@
 ghost use Rattle.flow_graph.specs.StepLaw.{RunLaw, StepCost, StepLaw};
+ghost use Rattle.flow_graph.specs.TightWork.{TightLaw};
 
 /// What the machine's steps cost against the edges of the flow graph: a law over the definitions that
 /// [`build`](crate::build) and the machine's step keep.
@@ -11,4 +12,11 @@ pub fn step_law()
 /// bursts.
 pub fn run_law()
     ensures { RunLaw }
+{}
+
+/// A machine that is set for an edge takes it at exactly its price: it stands at the word in SVC mode with both
+/// interrupts masked and ROM's time fields at their dearest, and where the word is done, its registers and
+/// memory are such that what the word does costs the most, and leads to the edge's target.
+pub fn tight_law()
+    ensures { TightLaw }
 {}

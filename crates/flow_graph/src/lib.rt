@@ -25,7 +25,7 @@ pub use faults::BuildFault;
 pub use flags::flags_for;
 pub use flow::Graph;
 pub use free::is_free;
-pub use law::{run_law, step_law};
+pub use law::{run_law, step_law, tight_law};
 pub use places::{Place, order_of_places};
 pub use search::MOST_PLACES;
 pub use statement::{Loop, Statement, StatementFault, Target, TargetKind, read_statement};
