@@ -12,3 +12,5 @@ mod CutLemmas
 mod FrontLemmas
 mod TrailLemmas
 mod LoadLemmas
+mod PageLemmas
+pub mod PlanLemmas

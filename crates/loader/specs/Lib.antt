@@ -4,4 +4,5 @@ pub mod Labels
 pub mod ImageBytes
 pub mod Spelling
 pub mod Writing
+pub mod PagePlan
 pub mod Loading

@@ -1,7 +1,8 @@
-ghost use Rattle.std.specs.Prelude.{◌≡◌, ◌≤◌, ◌⊎◌, [], IsTrue, IsSome, IfOk, OnOk, OnErr, IfErr, length, map};
+ghost use Rattle.std.specs.Prelude.{◌≡◌, ◌≤◌, ◌⊎◌, ◌/◌, ◌^◌, [], IsTrue, IsSome, IfOk, OnOk, OnErr, IfErr, length, map};
 ghost use Rattle.std.specs.List.{slice_get};
 ghost use Rattle.loader.specs.ImageBytes.{segments_of};
 ghost use Rattle.loader.specs.Inside.{AreWhole};
+ghost use Rattle.loader.specs.PagePlan.{AreHeld};
 ghost use Rattle.loader.specs.Image.{may_hold, put_fault, runs_of, with_word, word_of};
 
 use crate::places::{MOST_SEGMENTS, MOST_WORDS, may_hold};
@@ -9,6 +10,9 @@ use std::alloc::{AllocError, AllocFailed, Global};
 use std::collections::BTreeMap;
 use std::marker::Model;
 use thiserror::Error;
+
+/// Bytes of a page of 32 KB.
+const PAGE_BYTES: u32 = 32_768;
 
 /// Why an image does not take a word.
 #[derive(Clone, Copy, Debug, PartialEq, Eq, Drop, Error)]
@@ -122,6 +126,26 @@ impl Image {
             .iter()
             .map(|(address, word)| (*address, *word))
             .collect(alloc)
+    }
+
+    // The page of 32 KB of each word, by number.
+    fn pages(&self, alloc: Global) -> Result<Vec<u32>, AllocError>
+        ensures { IfOk result (λ pages. pages.items ≡ map (λ a. a / 2 ^ 15) (map (λ e. e.0) self.now)) }
+    {
+        self.words
+            .keys()
+            .map(|address| address / PAGE_BYTES)
+            .collect(alloc)
+    }
+
+    // The pages of 32 KB on which words lie, by number.
+    pub(crate) fn held_pages(&self, alloc: Global) -> Result<Vec<u32>, AllocError>
+        ensures { IfOk result (λ pages. AreHeld self.now pages.items) }
+    {
+        self.whole();
+        let mut pages = self.pages(alloc)?;
+        pages.dedup();
+        Ok(pages)
     }
 
     // The number of runs with one more word, which joins the runs beside it.

@@ -6,6 +6,7 @@ mod labels;
 mod law;
 mod loading;
 mod places;
+mod plan;
 mod reading;
 mod writing;
 
@@ -17,5 +18,6 @@ pub use law::{
 };
 pub use loading::{LoadFault, load, put_words};
 pub use places::{MOST_SEGMENTS, MOST_WORDS, lies_in_memory, may_hold};
+pub use plan::{PagePlan, PlacedPage, page_plan};
 pub use reading::{MAGIC, ReadFault, read_image};
 pub use writing::write_image;

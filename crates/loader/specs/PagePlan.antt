@@ -1,0 +1,47 @@
+-- A plan of pages for an image: on which physical page of 32 KB each logical page with words of it lies.
+-- Source: our own. Pages are numbered by address: 0 to 1023 are logical, and page 1024 + p, from 2000000 on, is
+-- the physical page p.
+use Rattle.std.specs.Prelude.{◌≡◌, ◌≢◌, ◌<◌, ◌≤◌, ◌↔◌, ◌+◌, ◌/◌, ◌^◌, ℕ, Bool, IsSome, List, length, map}
+use Rattle.std.specs.Prelude.{All, nat_eq, nat_lt, not}
+use Rattle.std.specs.List.{Contains, list_any}
+use Rattle.std.specs.List.Sorted.{IsStrictlySortedBy}
+use Rattle.std.specs.Ordering.{nat_cmp}
+use Rattle.loader.specs.Image.{Words, word_of}
+use Rattle.loader.specs.declared.plan.PlacedPage.{PlacedPage}
+
+-- a word lies on the page
+abbrev pub HasWordOn : Words → ℕ → Type 0
+HasWordOn words page = (address : ℕ) × IsSome (word_of words address) × (address / 2 ^ 15 ≡ page)
+
+-- numbers that ascend, no two of them equal
+abbrev pub Ascend : List ℕ → Type 0
+Ascend numbers = IsStrictlySortedBy nat_cmp numbers
+
+-- the pages on which words lie; an image has at most 40
+pub record AreHeld (words : Words) (pages : List ℕ) : Type 0 where
+  pub ascend : Ascend pages
+  pub held : (page : ℕ) → Contains pages page ↔ HasWordOn words page
+  pub few : length pages ≤ 40
+
+-- a page is logical; a physical one is not among pages, and so no word names it by its own address
+abbrev pub is_logical : ℕ → Bool
+is_logical page = nat_lt page 1024
+
+abbrev pub is_unnamed : List ℕ → ℕ → Bool
+is_unnamed pages physical = not (list_any (nat_eq (1024 + physical)) pages)
+
+abbrev pub placed : ℕ × ℕ → PlacedPage
+placed p = record { logical = p.0; physical = p.1 }
+
+-- a physical page that no word names by its own address
+pub record IsFree (words : Words) (physical : ℕ) : Type 0 where
+  pub below : physical < 128
+  pub unnamed : HasWordOn words (1024 + physical) → ⊥
+
+pub record IsPagePlan (words : Words) (pages : List PlacedPage) (spare : ℕ) : Type 0 where
+  pub logical : (page : ℕ) → Contains (map (λ p. p.logical) pages) page ↔ ((page < 1024) × HasWordOn words page)
+  pub logical_ascend : Ascend (map (λ p. p.logical) pages)
+  pub physical_ascend : Ascend (map (λ p. p.physical) pages)
+  pub free : All (λ p. IsFree words p.physical) pages
+  pub spare_free : IsFree words spare
+  pub spare_apart : All (λ p. p.physical ≢ spare) pages
