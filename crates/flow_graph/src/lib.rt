@@ -17,6 +17,7 @@ mod search;
 mod setting;
 mod strays;
 mod ticks;
+mod tight;
 
 pub use building::build;
 pub use call_list::{Calls, DEPTH};

@@ -62,7 +62,7 @@ pub(crate) struct Setting {
     pub(crate) word: Option<(u32, u32)>,
 }
 
-const NOTHING: Setting = Setting {
+pub(crate) const NOTHING: Setting = Setting {
     register: None,
     port: 0,
     word: None,

@@ -8,7 +8,6 @@ mod PutWordLemmas
 mod MachineRuleLemmas
 mod FaultTableLemmas
 mod KeyTableLemmas
-mod TableOfLemmas
 pub mod InputLemmas
 pub mod PageLemmas
 pub mod StartLemmas

@@ -16,7 +16,6 @@ mod profiles;
 mod registers;
 mod start;
 mod words;
-mod writing;
 
 pub use events::Event;
 pub use flags::PsrFlags;

@@ -1,0 +1,191 @@
+//! A machine whose one step takes an edge at exactly its price.
+
+ghost use Rattle.std.specs.Prelude.{◌≡◌, ◌<◌, IfOk, IfSome, IsNone, map};
+ghost use Rattle.arm2_decode.specs.Names.{is_pc, register_number};
+ghost use Rattle.arm2_effect.specs.Modes.{slot_of};
+ghost use Rattle.arm2_effect.specs.declared.modes.Mode.TheVariants.{Svc};
+ghost use Rattle.machine_file.specs.Parts.{stated_by};
+ghost use Rattle.flow_graph.specs.Edges.{IsEdge};
+ghost use Rattle.flow_graph.specs.Free.{IsFree, IsFreeWord};
+ghost use Rattle.flow_graph.specs.TightFile.{HasWordAt, IsSettingOf, IsStand, file_of, listed, masked_flags};
+ghost use Rattle.flow_graph.specs.TightFile.{open_page, registers_with};
+ghost use Rattle.flow_graph.specs.TightWork.{IsDearestTarget};
+ghost use Rattle.bus_ticks.specs.declared.profile.Profile.{Profile};
+ghost use Rattle.statement.specs.Stated.{class_of};
+
+use crate::edges::{Edge, Label};
+use crate::flags::flags_for;
+use crate::free::is_free;
+use crate::kinds::action_of;
+use crate::places::Place;
+use crate::setting::{Aim, Held, NOTHING, Setting, setting_for};
+use arm2_decode::{Flags, Register, decode};
+use arm2_effect::Mode;
+use bus_ticks::{Class, Profile, RomTimes, dearest_leave};
+use loader::{Image, PagePlan};
+use machine_file::{
+    ControllerParts, MachineParts, MappedPage, ProcessorParts, PsrFlags, ScheduleParts,
+};
+use memc::PageSize;
+use statement::Statement;
+use std::alloc::{AllocError, Global};
+
+/// How a machine stands before its step.
+#[derive(Clone, Copy)]
+pub(crate) struct Stand {
+    /// The word's address, in bytes.
+    pub(crate) address: u32,
+    pub(crate) flags: Flags,
+    pub(crate) setting: Setting,
+}
+
+// An address at the place to which a jump costs the most.
+fn target(profile: &Profile, leave: Class, to: &Place) -> u32
+{
+    match to {
+        Place::At(_, address) => *address,
+        Place::Exit => dearest_leave(profile, leave),
+    }
+}
+
+// What the word needs besides where it stands: nothing where it is passed over.
+fn setting_at(aim: &Aim, word: u32, label: Label) -> Setting
+    requires free { label ≡ Label.Do → IsFreeWord word }
+    requires spare { aim.now.spare < 128 }
+    ensures { IsSettingOf aim.now word label result }
+{
+    if label == Label::Skip {
+        return NOTHING;
+    }
+    match decode(word) {
+        Ok(instr) => setting_for(aim, &instr.operation),
+        Err(_) => unreachable!(),
+    }
+}
+
+// How a machine stands that takes the edge at its price; none where the edge is not free.
+fn stand_for(
+    image: &Image,
+    statement: &Statement,
+    profile: &Profile,
+    edge: &Edge,
+    spare: u32,
+) -> Option<Stand>
+    requires is_edge { IsEdge image.now statement.now profile.now edge.now }
+    requires lands { HasWordAt image.now edge.now.to }
+    requires spare { spare < 128 }
+    ensures stands { IfSome result (IsStand image.now statement.now profile.now edge.now spare) }
+    ensures free { IfSome result (λ _. IsFree image.now edge.now) }
+    ensures none { IsNone result → IsFree image.now edge.now → ⊥ }
+{
+    if !is_free(image, edge) {
+        return None;
+    }
+    let Place::At(_, address) = edge.from else {
+        return None;
+    };
+    let word = image.word_at(address)?;
+    let flags = flags_for(action_of(word).cond, edge.label)?;
+    let aim = Aim {
+        profile: *profile,
+        class: statement.class_at(address),
+        address,
+        target: target(profile, statement.leave(), &edge.to),
+        spare,
+    };
+    Some(Stand {
+        address,
+        flags,
+        setting: setting_at(&aim, word, edge.label),
+    })
+}
+
+// Where a register of SVC mode stands among the 26 of a machine file.
+fn slot(register: Register) -> usize
+    requires { is_pc register ≡ false }
+    ensures slot { result ≡ slot_of Svc (register_number register) }
+    ensures below { result < 26 }
+{
+    let number = register.number() as usize;
+    if number < 13 { number } else { number + 11 }
+}
+
+fn registers_with(held: Option<Held>) -> [u32; 26]
+    requires { IfSome held (λ h. is_pc h.register ≡ false) }
+    ensures { result ≡ registers_with held }
+{
+    let mut registers = [0; 26];
+    if let Some(held) = held {
+        registers[slot(held.register)] = held.word;
+    }
+    registers
+}
+
+fn masked_flags(flags: Flags) -> PsrFlags
+    ensures { result ≡ masked_flags flags }
+{
+    PsrFlags {
+        negative: flags.negative,
+        zero: flags.zero,
+        carry: flags.carry,
+        overflow: flags.overflow,
+        irq_masked: true,
+        fiq_masked: true,
+    }
+}
+
+fn open_pages(alloc: Global, plan: &PagePlan) -> Result<Vec<MappedPage>, AllocError>
+    ensures { IfOk result (λ pages. pages.items ≡ map open_page plan.now.pages.items) }
+{
+    plan.pages
+        .iter()
+        .map(|page| MappedPage {
+            logical: page.logical,
+            physical: page.physical,
+            level: 0,
+        })
+        .collect(alloc)
+}
+
+fn listed(alloc: Global, word: Option<(u32, u32)>) -> Result<Vec<(u32, u32)>, AllocError>
+    ensures { IfOk result (λ words. words.items ≡ listed word) }
+{
+    let mut words = Vec::new(alloc);
+    if let Some(word) = word {
+        words.push(word)?;
+    }
+    Ok(words)
+}
+
+// One step of the machine that stands so.
+fn parts(
+    alloc: Global,
+    stand: &Stand,
+    plan: &PagePlan,
+    rom: RomTimes,
+) -> Result<MachineParts, AllocError>
+    requires { IfSome stand.now.setting.register (λ h. is_pc h.register ≡ false) }
+    ensures { IfOk result (λ parts. stated_by parts ≡ file_of stand.now plan.now.pages.items rom) }
+{
+    let pages = open_pages(alloc, plan)?;
+    let words = listed(alloc, stand.setting.word)?;
+    Ok(MachineParts {
+        processor: ProcessorParts {
+            pc: stand.address,
+            mode: Mode::Svc,
+            flags: masked_flags(stand.flags),
+            registers: registers_with(stand.setting.register),
+        },
+        controller: ControllerParts {
+            size: PageSize::K32,
+            low_rom: rom.low,
+            high_rom: rom.high,
+            pages,
+        },
+        schedule: ScheduleParts {
+            steps: 1,
+            port: stand.setting.port,
+        },
+        words,
+    })
+}
