@@ -14,3 +14,5 @@ mod TrailLemmas
 mod LoadLemmas
 mod PageLemmas
 pub mod PlanLemmas
+pub mod MemoryLemmas
+pub mod PlannedLemmas

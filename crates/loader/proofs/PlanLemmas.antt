@@ -1,6 +1,6 @@
 -- A plan of pages: logical pages in turn on the lowest free physical ones, of which there are enough.
 use Rattle.std.proofs.Common.{◌≡◌, ◌≢◌, ◌∙◌, ◌↔◌, ℕ, zero, suc, ◌+◌, ◌<◌, ◌≤◌, inl, inr, Bool, true, false, cond, List, [], ◌∷◌, length, take, map, get_or, Result, Ok, Err, refl, sym, ap, subst, arith}
-use Rattle.std.specs.Prelude.{is_ok, nat_eq, nat_lt, not, All}
+use Rattle.std.specs.Prelude.{is_ok, nat_eq, not, All}
 use Rattle.std.specs.List.{AllByRecursion, Contains, IsDistinct, filter, list_any, range_with_len, zip}
 use Rattle.std.specs.List.Sorted.{IsBinarySearchResult, IsStrictlySortedBy}
 use Rattle.std.specs.Ordering.{nat_cmp}
@@ -38,10 +38,10 @@ searched_any xs x (Ok i) up found =
 searched_any xs x (Err i) up found =
     let f = searched xs x (Err i) found (λ a b le lt. non_decreasing_from_sorted xs up a b 0 le lt) in
     let other : All (λ (y : ℕ). y ≢ x) xs =
-        All-from_get_or (λ (y : ℕ). y ≢ x) xs 0 (λ k lt. elim (cases_lt k i) [
-          | inl low ↦ (λ same. (let h = f.1 k low in omega (arith, h, same)))
-          | inr high ↦ (λ same. (let h = f.2 k high lt in omega (arith, h, same)))
-        ]) in
+    All-from_get_or (λ (y : ℕ). y ≢ x) xs 0 (λ k lt. elim (cases_lt k i) [
+      | inl low ↦ (λ same. (let h = f.1 k low in omega (arith, h, same)))
+      | inr high ↦ (λ same. (let h = f.2 k high lt in omega (arith, h, same)))
+    ]) in
     sym (never (list_any (nat_eq x) xs) (λ h. All-contains (λ (y : ℕ). y ≢ x) xs x other (Contains-from_any same_number x xs h) refl))
 
 -- ## Numbers that ascend
@@ -175,8 +175,8 @@ contains_kept test xs x pass c = kept_at test xs c.0 x pass c.1 c.2
 logical_where : (words : Words) (held : List ℕ) → AreHeld words held → (page : ℕ) → Contains (filter is_logical held) page ↔ ((page < 1024) × HasWordOn words page)
 logical_where words held are page = (
   (λ c.
-    let low : is_logical page ≡ true = All-contains (λ (y : ℕ). is_logical y ≡ true) (filter is_logical held) page (filter_passes is_logical held) c in
-    (grind (arith, nat_tests, low), (are.held page).0 (All-contains (Contains held) (filter is_logical held) page (All-filter is_logical (Contains held) held (All-contains_itself held)) c))),
+      let low : is_logical page ≡ true = All-contains (λ (y : ℕ). is_logical y ≡ true) (filter is_logical held) page (filter_passes is_logical held) c in
+      (grind (arith, nat_tests, low), (are.held page).0 (All-contains (Contains held) (filter is_logical held) page (All-filter is_logical (Contains held) held (All-contains_itself held)) c))),
   (λ h. let low = h.0 in contains_kept is_logical held page (grind (arith, nat_tests, low)) ((are.held page).1 h.1)),
 )
 

@@ -5,4 +5,5 @@ pub mod ImageBytes
 pub mod Spelling
 pub mod Writing
 pub mod PagePlan
+pub mod Planned
 pub mod Loading

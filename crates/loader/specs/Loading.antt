@@ -1,10 +1,10 @@
 -- What memory holds once words are put into it. Source: our own: each word goes where a privileged load of
 -- its address reads, and the words go in the order of their list, so that of two that lead to one place the
 -- later one stays. An image's words go in the order of their addresses.
-use Rattle.std.specs.Prelude.{ℕ, suc, ◌/◌, Bool, true, false, ◌||◌, List, [], ◌∷◌, Result, Ok, Err}
+use Rattle.std.specs.Prelude.{◌≡◌, ℕ, suc, ◌/◌, Bool, true, false, ◌||◌, List, [], ◌∷◌, Result, Ok, Err}
 use Rattle.arm2_exec.specs.State.{State}
 use Rattle.loader.specs.Image.{Words}
-use Rattle.memc.specs.Memory.{Memory, last_word, located, stored, with_words}
+use Rattle.memc.specs.Memory.{Memory, last_word, located, stored, with_words, word_at}
 use Rattle.memc.specs.declared.spots.Refused.{Refused}
 use Rattle.memc.specs.declared.spots.Spot.{Spot}
 use Rattle.memc.specs.declared.spots.Spot.TheVariants.{Ram, Rom}
@@ -68,3 +68,9 @@ with_ram words m =
 abbrev pub put_at : Result Spot Refused → ℕ → Memory → Memory
 put_at (Ok (Ram place)) word m = stored (Ram place) word m
 put_at _ word m = m
+
+-- a privileged load of the address gives the word
+pub record GivesWord (m : Memory) (address word : ℕ) : Type 0 where
+  pub spot : Spot
+  pub leads : spot_of m address ≡ Ok spot
+  pub gives : word_at m spot ≡ word

@@ -1,7 +1,14 @@
-ghost use Rattle.std.specs.Prelude.{◌≡◌, ◌≢◌, ◌<◌, ◌++◌, ℕ, List, Ok, Err, All};
-ghost use Rattle.loader.specs.Image.{Words};
+ghost use Rattle.std.specs.Prelude.{◌≡◌, ◌≢◌, ◌<◌, ◌++◌, ℕ, List, Ok, Err, All, IsSome};
+ghost use Rattle.std.specs.List.{Contains};
+ghost use Rattle.loader.specs.Image.{Words, word_of};
 ghost use Rattle.loader.specs.ImageBytes.{Segment, image_bytes, image_read};
+ghost use Rattle.loader.specs.Inside.{AreWhole};
+ghost use Rattle.loader.specs.Loading.{GivesWord, loaded};
+ghost use Rattle.loader.specs.PagePlan.{IsPagePlan};
+ghost use Rattle.loader.specs.Planned.{AreOf, IsBeside, IsFitted, IsMapped};
 ghost use Rattle.loader.specs.Spelling.{AreImage, BeginImage, PassImage, Spell};
+ghost use Rattle.loader.specs.declared.plan.PlacedPage.{PlacedPage};
+ghost use Rattle.memc.specs.Memory.{Memory};
 
 use crate::places::{MOST_SEGMENTS, MOST_WORDS};
 use crate::reading::ReadFault;
@@ -39,4 +46,20 @@ pub fn trailing_bytes_follow_an_image()
 pub fn image_limits()
     ensures words { MOST_WORDS ≡ 65536 }
     ensures segments { MOST_SEGMENTS ≡ 16 }
+{}
+
+/// States what privileged loads give after words of an image are put into memory whose logical pages lie as
+/// a plan says, and after that words on the plan's spare page or in ROM. It does nothing.
+pub fn planned_words_are_loaded()
+    ensures mapped { (pages : List PlacedPage) → (m : Memory) → (words : Words) → IsMapped pages m
+        → IsMapped pages (loaded words m) }
+    ensures image { (image words : Words) → (pages : List PlacedPage) → (spare : ℕ) → (m : Memory) → (a w : ℕ)
+        → AreWhole image → IsPagePlan image pages spare → IsMapped pages m → AreOf image words
+        → Contains words (a, w) → IsFitted a → GivesWord (loaded words m) a w }
+    ensures stays { (image beside : Words) → (pages : List PlacedPage) → (spare : ℕ) → (m : Memory) → (a w : ℕ)
+        → AreWhole image → IsPagePlan image pages spare → IsMapped pages m → IsSome (word_of image a)
+        → GivesWord m a w → All (λ e. IsBeside spare e.0 × (e.0 ≢ a)) beside → GivesWord (loaded beside m) a w }
+    ensures beside { (beside : Words) → (pages : List PlacedPage) → (spare : ℕ) → (m : Memory) → (a w : ℕ)
+        → IsMapped pages m → spare < 128 → All (λ e. IsBeside spare e.0 × (e.0 ≡ a → e.1 ≡ w)) beside
+        → Contains beside (a, w) → GivesWord (loaded beside m) a w }
 {}

@@ -1,4 +1,4 @@
-use Rattle.std.proofs.Common.{◌≡◌, ◌∙◌, ℕ, List, arith, ap, filter, length, sym}
+use Rattle.std.proofs.Common.{◌≡◌, ◌∙◌, ℕ, List, arith, ap, filter}
 use Rattle.std.specs.List.{range_with_len}
 use Rattle.loader.specs.PagePlan.{is_unnamed}
 use Rattle.loader.proofs.PlanLemmas.{pages_on, plan_is, spare_within}

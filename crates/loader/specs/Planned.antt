@@ -1,0 +1,28 @@
+-- Memory whose logical pages lie as a plan says, and the words that are put there. Source: our own.
+use Rattle.std.specs.Prelude.{◌≡◌, ◌<◌, ◌≤◌, ◌⊎◌, ◌+◌, ◌*◌, ◌%◌, ◌^◌, ℕ, Some, List, All}
+use Rattle.bus_ticks.specs.declared.space.TheConstants.{IO_START, ROM_START, SPACE_END}
+use Rattle.loader.specs.Image.{Words, word_of}
+use Rattle.loader.specs.declared.plan.PlacedPage.{PlacedPage}
+use Rattle.memc.specs.Memory.{Memory}
+use Rattle.memc.specs.Paged.{IsWhole, page_at}
+
+-- pages of 32 KB, and each logical page of the plan on its physical page, at level 0
+pub record IsMapped (pages : List PlacedPage) (m : Memory) : Type 0 where
+  pub size : m.shift ≡ 15
+  pub whole : IsWhole 15 m.paged
+  pub placed : All (λ p. page_at m.paged p.logical ≡ Some (record { physical = p.physical; level = 0 })) pages
+
+-- words of an image, in any order and each as often as one likes
+abbrev pub AreOf : Words → Words → Type 0
+AreOf image words = All (λ e. word_of image e.0 ≡ Some e.1) words
+
+-- with 128 pages of 32 KB, physical RAM ends at 2400000, and to I/O there is nothing
+abbrev pub IsFitted : ℕ → Type 0
+IsFitted address = (address < 0x2400000) ⊎ (IO_START ≤ address)
+
+-- a word that stands beside an image's: on a physical page, named by its own address, or in ROM
+abbrev pub IsBeside : ℕ → ℕ → Type 0
+IsBeside spare address =
+    (address % 4 ≡ 0)
+    × (((offset : ℕ) × (offset < 2 ^ 15) × (address ≡ 0x2000000 + 2 ^ 15 * spare + offset))
+    ⊎ ((ROM_START ≤ address) × (address < SPACE_END)))
