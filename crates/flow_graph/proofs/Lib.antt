@@ -18,10 +18,12 @@ pub mod StepLemmas
 pub mod NameLemmas
 pub mod TightTicks
 pub mod TightState
+pub mod TightSetting
 pub mod TightData
 pub mod TightWords
 pub mod TightTransfers
 pub mod TightOperations
+pub mod TightArrivals
 pub mod TightStep
 mod SettingLemmas
 mod SettingSets

@@ -1,16 +1,16 @@
 -- What the registers hold of a machine that stands at a word, with both interrupts masked.
-use Rattle.std.proofs.Common.{◌≡◌, ℕ, ◌+◌, ◌*◌, ◌/◌, ◌%◌, ◌^◌, ◌<◌, ◌==◌, ◌&&◌, not, Bool, true, false, cond, Option, None, Some, refl, sym, ap, ◌∙◌, arith}
+use Rattle.std.proofs.Common.{◌≡◌, ℕ, ◌/◌, ◌%◌, ◌^◌, ◌<◌, ◌==◌, ◌&&◌, not, Bool, true, false, cond, None}
+use Rattle.std.proofs.Common.{Some, refl, ap, ◌∙◌, arith}
 use Rattle.arm2_decode.specs.Allowed.{bit_of}
 use Rattle.arm2_decode.specs.declared.flags.Flags.{Flags}
 use Rattle.bus_ticks.specs.declared.profile.Profile.{Profile}
-use Rattle.arm2_effect.specs.declared.exceptions.Vector.{Vector}
 use Rattle.arm2_effect.specs.declared.exceptions.Vector.TheVariants as vector
-use Rattle.arm2_effect.specs.declared.modes.Mode.{Mode}
 use Rattle.arm2_effect.specs.declared.modes.Mode.TheVariants.{Svc}
 use Rattle.arm2_effect.specs.Modes.{mode_named, r15_in}
-use Rattle.arm2_effect.specs.ProgramCounter.{address_of, flags_of, is_fiq_masked, is_irq_masked, mode_of, psr_with, r15_of}
+use Rattle.arm2_effect.specs.ProgramCounter.{address_of, flags_of, is_fiq_masked, is_irq_masked, mode_of}
+use Rattle.arm2_effect.specs.ProgramCounter.{psr_with, r15_of}
 use Rattle.arm2_exec.specs.State.{State}
-use Rattle.arm2_exec.specs.Step.{address_in, interrupt_due, interrupt_of, with_lines}
+use Rattle.arm2_exec.specs.Step.{address_in, interrupt_due, with_lines}
 use Rattle.flow_graph.specs.TightWork.{StandsAt, masked}
 use Rattle.flow_graph.proofs.StepRegisters.{IsWordAddress, address_put}
 
@@ -36,7 +36,8 @@ bit_read false = refl
 bit_is : (n : ℕ) (b : Bool) → n ≡ bit_of b → (n == 1) ≡ b
 bit_is n b e = ap (λ m. m == 1) e ∙ bit_read b
 
-same_flags : (f g : Flags) → f.negative ≡ g.negative → f.zero ≡ g.zero → f.carry ≡ g.carry → f.overflow ≡ g.overflow → f ≡ g
+same_flags : (f g : Flags) → f.negative ≡ g.negative → f.zero ≡ g.zero → f.carry ≡ g.carry
+    → f.overflow ≡ g.overflow → f ≡ g
 same_flags f g n z c v = λ i. record { negative = n i; zero = z i; carry = c i; overflow = v i }
 
 flags_put : (f : Flags) (address : ℕ) → IsWordAddress address → flags_of (r15_at f address) ≡ f
@@ -74,7 +75,8 @@ none_due fiq irq true false f i = absurd (cc)
 
 -- ## The machine
 
-module _ (profile : Profile) (word address : ℕ) (flags : Flags) (s : State) (stands : StandsAt profile word address flags s) where
+module _ (profile : Profile) (word address : ℕ) (flags : Flags) (s : State)
+    (stands : StandsAt profile word address flags s) where
   is_word : IsWordAddress address
   is_word = (stands.below, stands.whole)
 

@@ -1,5 +1,6 @@
 -- What the accesses of a step cost, where each of them costs the most.
-use Rattle.std.proofs.Common.{◌≡◌, ℕ, zero, suc, ◌+◌, ◌*◌, ◌^◌, ◌<◌, ◌==◌, if◌then◌else◌, Bool, true, false, List, [], ◌∷◌, ◌++◌, ap, subst, sym, ◌∙◌, arith}
+use Rattle.std.proofs.Common.{◌≡◌, ℕ, zero, suc, ◌+◌, ◌*◌, ◌<◌, ◌==◌, if◌then◌else◌, Bool, true, false, List}
+use Rattle.std.proofs.Common.{[], ◌∷◌, ◌++◌, ap, arith}
 use Rattle.std.specs.Prelude.{All}
 use Rattle.std.proofs.lemmas.List.Elements.{All-append, All-contains, All-from_recursion, All-nil, All-push}
 use Rattle.bus_ticks.specs.Dearest.{AreDearest, IsDearestBlock}
@@ -7,10 +8,12 @@ use Rattle.bus_ticks.specs.declared.profile.Class.{Class}
 use Rattle.bus_ticks.specs.declared.profile.Profile.{Profile}
 use Rattle.bus_ticks.specs.declared.profile.RomTimes.{RomTimes}
 use Rattle.bus_ticks.specs.Prices.{block_price, by_class, class_at, n_price, ram_price, s_price, word_address}
-use Rattle.bus_ticks.specs.Worst.{IsOf, IsBlockOf, worst_block, worst_n_price, worst_s_price}
-use Rattle.arm2_effect.specs.Effects.{Access, FetchN, FetchS, Internal, Word, straight, refill, onward, ticks_of}
+use Rattle.bus_ticks.specs.Worst.{IsOf, worst_block, worst_n_price, worst_s_price}
+use Rattle.arm2_effect.specs.Effects.{Access, FetchN, FetchS, Internal, Word, straight, refill, onward}
+use Rattle.arm2_effect.specs.Effects.{ticks_of}
 use Rattle.arm2_effect.specs.ProgramCounter.{ahead_of}
-use Rattle.arm2_transfer.proofs.Ticks.{load_ticks-jumps, load_ticks-passes, ticks_of-append, ticks_of-words_at}
+use Rattle.arm2_transfer.proofs.Ticks.{load_ticks-jumps, load_ticks-passes, ticks_of-append}
+use Rattle.arm2_transfer.proofs.Ticks.{ticks_of-words_at}
 use Rattle.arm2_transfer.specs.Moved.{load_accesses, store_accesses, words_at}
 use Rattle.flow_graph.specs.Edges.{fetch_ticks, passing_ticks, work_ticks}
 use Rattle.flow_graph.specs.Kinds.{writer_if}
@@ -30,8 +33,10 @@ IsIn class (FetchS x) = Unit {0}
 IsIn class (Word store first x) = IsOf class x
 IsIn class (Internal cycles) = Unit {0}
 
-pub transfers_in : (class : Class) (accesses : List Access) → All (IsIn class) accesses → TransfersIn class accesses
-transfers_in class accesses all store first x there = All-contains (IsIn class) accesses (Word store first x) all there
+pub transfers_in : (class : Class) (accesses : List Access) → All (IsIn class) accesses
+    → TransfersIn class accesses
+transfers_in class accesses all store first x there =
+    All-contains (IsIn class) accesses (Word store first x) all there
 
 straight_in : (class : Class) (a : ℕ) → All (IsIn class) (straight a)
 straight_in class a = All-from_recursion (IsIn class) (straight a) (tt, tt)
@@ -39,7 +44,8 @@ straight_in class a = All-from_recursion (IsIn class) (straight a) (tt, tt)
 refill_in : (class : Class) (t : ℕ) → All (IsIn class) (refill t)
 refill_in class t = All-from_recursion (IsIn class) (refill t) (tt, (tt, tt))
 
-words_in : (class : Class) (store : Bool) (x k : ℕ) → ((i : ℕ) → i < k → IsOf class (word_address x i)) → All (IsIn class) (words_at store x k)
+words_in : (class : Class) (store : Bool) (x k : ℕ) → ((i : ℕ) → i < k → IsOf class (word_address x i))
+    → All (IsIn class) (words_at store x k)
 unfolding words_at
 words_in class store x zero each = All-nil (IsIn class)
 words_in class store x (suc k) each =
@@ -47,10 +53,12 @@ words_in class store x (suc k) each =
     (words_in class store x k (λ i h. each i (omega arith)))
     (each k (omega arith))
 
-load_in : (class : Class) (a x k : ℕ) (jumps : Bool) (t : ℕ) → ((i : ℕ) → i < k → IsOf class (word_address x i)) → All (IsIn class) (load_accesses a x k jumps t)
+load_in : (class : Class) (a x k : ℕ) (jumps : Bool) (t : ℕ)
+    → ((i : ℕ) → i < k → IsOf class (word_address x i)) → All (IsIn class) (load_accesses a x k jumps t)
 load_in class a x k jumps t each =
     All-append (IsIn class) (straight a ++ words_at false x k) _
-    (All-append (IsIn class) (straight a) (words_at false x k) (straight_in class a) (words_in class false x k each))
+    (All-append (IsIn class) (straight a) (words_at false x k) (straight_in class a)
+    (words_in class false x k each))
     (after jumps)
   where
     after : (b : Bool) → All (IsIn class) (Internal 1 ∷ (if b then refill t else []))
@@ -59,6 +67,11 @@ load_in class a x k jumps t each =
 
 -- ## The greatest prices
 
+-- so many words from an address on are of the class and cost the most
+abbrev pub AreDear : Profile → RomTimes → Class → (words lowest : ℕ) → Bool → Type 0
+AreDear p rom class words lowest store =
+    IsDearestBlock p class words store (record { address = lowest; rom = rom })
+
 module _ (p : Profile) (rom : RomTimes) (class : Class) (a : ℕ) (dear : AreDearest p rom) where
   pub n_worst : (x : ℕ) → n_price p rom x ≡ worst_n_price p x
   n_worst x = ap (λ r. by_class (class_at x) p.n r p.unfitted) (dear x)
@@ -66,33 +79,43 @@ module _ (p : Profile) (rom : RomTimes) (class : Class) (a : ℕ) (dear : AreDea
   pub s_worst : (x : ℕ) → s_price p rom x ≡ worst_s_price p x
   s_worst x = ap (λ r. by_class (class_at x) (ram_price p x) r p.unfitted) (dear x)
 
-  -- accesses of a step that ends at t: their words are of the class, and they cost what the kind and the work do
+  -- accesses of a step that ends at t: their words are of the class, and they cost what the kind and the work
+  -- do
   pub record Pays (k : Kind) (w : Work) (accesses : List Access) (t : ℕ) : Type 0 where
     pub in_class : All (IsIn class) accesses
-    pub exact : ticks_of p rom accesses ≡ fetch_ticks p a w + work_ticks p class w + jump_price p rom class a k t
+    pub exact : ticks_of p rom accesses
+        ≡ fetch_ticks p a w + work_ticks p class w + jump_price p rom class a k t
 
   pub straight_pays : (t : ℕ) → Pays kind.Plain (work.Internal 0) (straight a) t
   straight_pays t = record { in_class = straight_in class a; exact = omega (arith, s_worst (ahead_of a 8)) }
 
   -- the kinds that jump
-  pub onward_pays : (k : Kind) (t : ℕ) → jump_price p rom class a k t ≡ n_price p rom t + s_price p rom (ahead_of t 4) → Pays k (work.Internal 0) (onward a t) t
+  pub onward_pays : (k : Kind) (t : ℕ)
+      → jump_price p rom class a k t ≡ n_price p rom t + s_price p rom (ahead_of t 4)
+      → Pays k (work.Internal 0) (onward a t) t
   onward_pays k t jumps = record {
     in_class = All-append (IsIn class) (straight a) (refill t) (straight_in class a) (refill_in class t);
     exact = omega (arith, s_worst (ahead_of a 8), jumps);
   }
 
   -- internal cycles before
-  pub delayed_pays : (cycles most : ℕ) (k : Kind) (accesses : List Access) (t : ℕ) → cycles ≡ most → Pays k (work.Internal 0) accesses t → Pays k (work.Internal most) (Internal cycles ∷ accesses) t
+  pub delayed_pays : (cycles most : ℕ) (k : Kind) (accesses : List Access) (t : ℕ) → cycles ≡ most
+      → Pays k (work.Internal 0) accesses t → Pays k (work.Internal most) (Internal cycles ∷ accesses) t
   delayed_pays cycles most k accesses t all h = record {
-    in_class = All-append (IsIn class) (Internal cycles ∷ []) accesses (All-from_recursion (IsIn class) (Internal cycles ∷ []) (tt, tt)) h.in_class;
+    in_class =
+        All-append (IsIn class) (Internal cycles ∷ []) accesses
+        (All-from_recursion (IsIn class) (Internal cycles ∷ []) (tt, tt))
+        h.in_class;
     exact =
         let both = ticks_of-append p rom (Internal cycles ∷ []) accesses in
         let product : cycles * p.internal ≡ most * p.internal = ap (λ n. n * p.internal) all in
-        let rest : ticks_of p rom accesses ≡ passing_ticks p a + 0 * p.internal + jump_price p rom class a k t = h.exact in
+        let rest : ticks_of p rom accesses
+        ≡ passing_ticks p a + 0 * p.internal + jump_price p rom class a k t = h.exact in
         omega (arith, both, product, rest);
   }
 
-  pub load_pays : (x k : ℕ) (jumps : Bool) (t : ℕ) → IsDearestBlock p class k false (record { address = x; rom = rom }) → Pays (writer_if jumps) (work.Load k) (load_accesses a x k jumps t) t
+  pub load_pays : (x k : ℕ) (jumps : Bool) (t : ℕ) → AreDear p rom class k x false
+      → Pays (writer_if jumps) (work.Load k) (load_accesses a x k jumps t) t
   load_pays x k true t block = record {
     in_class = load_in class a x k true t block.of_class.each;
     exact =
@@ -106,7 +129,8 @@ module _ (p : Profile) (rom : RomTimes) (class : Class) (a : ℕ) (dear : AreDea
         omega (arith, load_ticks-passes p rom a x k t, s_worst (ahead_of a 8), price);
   }
 
-  pub store_pays : (x k t : ℕ) → IsDearestBlock p class k true (record { address = x; rom = rom }) → Pays kind.Plain (work.Store k) (store_accesses a x k) t
+  pub store_pays : (x k t : ℕ) → AreDear p rom class k x true
+      → Pays kind.Plain (work.Store k) (store_accesses a x k) t
   store_pays x k t block = record {
     in_class =
         All-append (IsIn class) (FetchN (ahead_of a 8) ∷ []) (words_at true x k)
