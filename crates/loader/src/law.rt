@@ -48,8 +48,10 @@ pub fn image_limits()
     ensures segments { MOST_SEGMENTS ≡ 16 }
 {}
 
-/// States what privileged loads give after words of an image are put into memory whose logical pages lie as
-/// a plan says, and after that words on the plan's spare page or in ROM. It does nothing.
+/// States what privileged loads give of words that are put into memory whose logical pages lie as an image's
+/// plan says: each word of the image that is put, in whatever order, unless it is past RAM, from 2400000 to
+/// 2FFFFFF; and after that also each word that is put on the plan's spare page, by its own address, or in ROM
+/// at another address. The pages stay where they lie. It does nothing.
 pub fn planned_words_are_loaded()
     ensures mapped { (pages : List PlacedPage) → (m : Memory) → (words : Words) → IsMapped pages m
         → IsMapped pages (loaded words m) }
