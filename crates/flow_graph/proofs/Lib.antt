@@ -27,3 +27,4 @@ pub mod TightArrivals
 pub mod TightStep
 mod SettingLemmas
 mod SettingSets
+mod TightStand

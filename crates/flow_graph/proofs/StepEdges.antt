@@ -41,7 +41,7 @@ always_holds _ f h = refl
 
 -- ## Lists
 
-contains_map : {X Y : Type 0} (f : X → Y) (xs : List X) (y : Y) → Contains (map f xs) y → (x : X) × Contains xs x × (f x ≡ y)
+pub contains_map : {X Y : Type 0} (f : X → Y) (xs : List X) (y : Y) → Contains (map f xs) y → (x : X) × Contains xs x × (f x ≡ y)
 contains_map f [] y h = absurd (no_member y h)
 contains_map f (x ∷ xs) y h = by_place (λ more. contains_map f xs y more) (cons_cases (f x) (map f xs) y h)
   where

@@ -1,7 +1,7 @@
 -- The machine file of a machine that takes an edge at its price: what the clauses of private functions cite.
 -- Our own choice among such machines: SVC mode, pages of 32 KB, both interrupts masked, one register and at
 -- most one word in memory besides the image's.
-use Rattle.std.specs.Prelude.{◌≡◌, ◌<◌, ◌⊎◌, ℕ, true, false, [], ◌∷◌, replicate, slice_set, map, List, Option}
+use Rattle.std.specs.Prelude.{◌≡◌, ◌<◌, ◌⊎◌, ℕ, true, false, [], ◌∷◌, replicate, slice_set, map, List, Option, Contains}
 use Rattle.std.specs.Prelude.{Some, None, IfSome}
 use Rattle.bus_ticks.specs.declared.profile.Profile.{Profile}
 use Rattle.bus_ticks.specs.declared.profile.RomTimes.{RomTimes}
@@ -14,13 +14,19 @@ use Rattle.arm2_effect.specs.declared.modes.Mode.TheVariants.{Svc}
 use Rattle.arm2_effect.specs.Modes.{slot_of}
 use Rattle.loader.specs.Image.{Words, word_of}
 use Rattle.loader.specs.declared.plan.PlacedPage.{PlacedPage}
+use Rattle.loader.specs.Loading.{put_words}
+use Rattle.loader.specs.Planned.{AreOf}
+use Rattle.arm2_exec.specs.State.{State}
+use Rattle.arm2_exec.specs.declared.machine.Input.{Input}
 use Rattle.machine_file.specs.Stated as file
+use Rattle.machine_file.specs.Started.{IsStarted}
 use Rattle.machine_file.specs.declared.flags.PsrFlags.{PsrFlags}
 use Rattle.machine_file.specs.declared.pages.MappedPage.{MappedPage}
 use Rattle.flow_graph.specs.Edges.{IsEdge}
 use Rattle.flow_graph.specs.Kinds.{IsAction}
 use Rattle.flow_graph.specs.Setting.{IsData, Sets}
 use Rattle.flow_graph.specs.StepLaw.{label_by}
+use Rattle.flow_graph.specs.Tight.{IsTight}
 use Rattle.flow_graph.specs.TightWork.{IsDearestTarget}
 use Rattle.flow_graph.specs.declared.edges.Edge.{Edge}
 use Rattle.flow_graph.specs.declared.edges.Label.{Label}
@@ -109,3 +115,20 @@ file_of stand pages rom =
       schedule = record { steps = 1; port = stand.setting.port; events = [] };
       words = listed stand.setting.word;
     }
+
+-- ## What such a file is for
+
+-- the image's word at the place is among the words
+abbrev pub HasPlaceWord : Words → Place → Words → Type 0
+HasPlaceWord words place some =
+    (calls : List ℕ) (address word : ℕ) → place ≡ At calls address → word_of words address ≡ Some word
+    → Contains some (address, word)
+
+-- Into the machine that the file states words of the image are put, in whatever order, that at the edge's place
+-- among them, and then those of the file: it takes the edge at its price in the file's one step.
+pub record IsTightFile (words : Words) (st : Stated) (profile : Profile) (e : Edge) (f : file.Stated) : Type 0 where
+  pub one_step : f.schedule.steps ≡ 1
+  pub no_events : f.schedule.events ≡ []
+  pub tight : (some : Words) (start : State) (i : Input) → AreOf words some → HasPlaceWord words e.from some
+      → IsStarted f profile start → i.port ≡ f.schedule.port
+      → IsTight words st profile e (put_words f.words (put_words some start)) i

@@ -1,17 +1,16 @@
 //! A machine whose one step takes an edge at exactly its price.
 
-ghost use Rattle.std.specs.Prelude.{◌≡◌, ◌<◌, IfOk, IfSome, IsNone, map};
+ghost use Rattle.std.specs.Prelude.{◌≡◌, ◌⊎◌, ◌<◌, Err, IfErr, IfOk, IfSome, IsNone, OnOk, false, map};
 ghost use Rattle.arm2_decode.specs.Names.{is_pc, register_number};
 ghost use Rattle.arm2_effect.specs.Modes.{slot_of};
 ghost use Rattle.arm2_effect.specs.declared.modes.Mode.TheVariants.{Svc};
-ghost use Rattle.machine_file.specs.Parts.{stated_by};
+ghost use Rattle.machine_file.specs.Parts.{IsInRange, StandsOnce, stated_by};
 ghost use Rattle.flow_graph.specs.Edges.{IsEdge};
 ghost use Rattle.flow_graph.specs.Free.{IsFree, IsFreeWord};
-ghost use Rattle.flow_graph.specs.TightFile.{HasWordAt, IsSettingOf, IsStand, file_of, listed, masked_flags};
+ghost use Rattle.flow_graph.specs.TightFile.{HasWordAt, IsSettingOf, IsStand, IsTightFile, file_of, listed, masked_flags};
 ghost use Rattle.flow_graph.specs.TightFile.{open_page, registers_with};
 ghost use Rattle.flow_graph.specs.TightWork.{IsDearestTarget};
-ghost use Rattle.bus_ticks.specs.declared.profile.Profile.{Profile};
-ghost use Rattle.statement.specs.Stated.{class_of};
+ghost use Rattle.statement.specs.Stated.{Stated};
 
 use crate::edges::{Edge, Label};
 use crate::flags::flags_for;
@@ -21,14 +20,38 @@ use crate::places::Place;
 use crate::setting::{Aim, Held, NOTHING, Setting, setting_for};
 use arm2_decode::{Flags, Register, decode};
 use arm2_effect::Mode;
-use bus_ticks::{Class, Profile, RomTimes, dearest_leave};
-use loader::{Image, PagePlan};
+use bus_ticks::{Class, Profile, RomTimes, dearest_leave, dearest_rom_times};
+use loader::{Image, PagePlan, page_plan};
 use machine_file::{
-    ControllerParts, MachineParts, MappedPage, ProcessorParts, PsrFlags, ScheduleParts,
+    ControllerParts, MachineFile, MachineFileFault, MachineParts, MappedPage, ProcessorParts,
+    PsrFlags, ScheduleParts,
 };
 use memc::PageSize;
 use statement::Statement;
 use std::alloc::{AllocError, Global};
+use thiserror::Error;
+
+/// Why no machine is given.
+#[derive(Clone, Copy, Debug, PartialEq, Eq, Drop, Error)]
+pub enum TightFault {
+    /// An allocation failed.
+    #[error("Memory")]
+    Memory,
+    /// The edge is not free ([`is_free`]).
+    #[error("NotFree")]
+    NotFree,
+}
+
+impl From<AllocError> for TightFault {
+    ghost use Rattle.std.specs.Prelude.{◌≡◌};
+    ghost use Rattle.flow_graph.specs.declared.tight.TightFault.TheVariants.{Memory};
+
+    ghost from_gives = { λ _ fault. fault ≡ Memory };
+
+    fn from(_refused: AllocError) -> TightFault {
+        TightFault::Memory
+    }
+}
 
 /// How a machine stands before its step.
 #[derive(Clone, Copy)]
@@ -39,18 +62,24 @@ pub(crate) struct Stand {
     pub(crate) setting: Setting,
 }
 
-// An address at the place to which a jump costs the most.
-fn target(profile: &Profile, leave: Class, to: &Place) -> u32
+// An address that the place stands for, to which a jump costs the most.
+fn target(image: &Image, profile: &Profile, leave: Class, to: &Place) -> Option<u32>
+    ensures leads { IfSome result
+        (λ t. (st : Stated) → leave ≡ st.leave → IsDearestTarget st profile.now to.now t) }
+    ensures none { IsNone result → HasWordAt image.now to.now → ⊥ }
 {
     match to {
-        Place::At(_, address) => *address,
-        Place::Exit => dearest_leave(profile, leave),
+        Place::At(_, address) => {
+            let _word = image.word_at(*address)?;
+            Some(*address)
+        }
+        Place::Exit => Some(dearest_leave(profile, leave)),
     }
 }
 
 // What the word needs besides where it stands: nothing where it is passed over.
 fn setting_at(aim: &Aim, word: u32, label: Label) -> Setting
-    requires free { label ≡ Label.Do → IsFreeWord word }
+    requires free { (label ≡ Label.Skip) ⊎ IsFreeWord word }
     requires spare { aim.now.spare < 128 }
     ensures { IsSettingOf aim.now word label result }
 {
@@ -90,7 +119,7 @@ fn stand_for(
         profile: *profile,
         class: statement.class_at(address),
         address,
-        target: target(profile, statement.leave(), &edge.to),
+        target: target(image, profile, statement.leave(), &edge.to)?,
         spare,
     };
     Some(Stand {
@@ -188,4 +217,46 @@ fn parts(
         },
         words,
     })
+}
+
+// The machine file with one step from there.
+fn file(
+    alloc: Global,
+    stand: &Stand,
+    plan: &PagePlan,
+    rom: RomTimes,
+) -> Result<MachineFile, TightFault>
+    requires register { IfSome stand.now.setting.register (λ h. is_pc h.register ≡ false) }
+    requires in_range { IsInRange (file_of stand.now plan.now.pages.items rom) }
+    requires once { StandsOnce (file_of stand.now plan.now.pages.items rom) }
+    ensures file { IfOk result (λ f. f ≡ file_of stand.now plan.now.pages.items rom) }
+    ensures fault { IfErr result (λ fault. fault ≡ TightFault.Memory) }
+{
+    let parts = parts(alloc, stand, plan, rom)?;
+    match MachineFile::of_parts(alloc, parts) {
+        Ok(file) => Ok(file),
+        Err(MachineFileFault::Memory) => Err(TightFault::Memory),
+        Err(_) => unreachable!(),
+    }
+}
+
+// The same, of an edge of a graph.
+fn edge_file(
+    alloc: Global,
+    image: &Image,
+    statement: &Statement,
+    profile: &Profile,
+    edge: &Edge,
+) -> Result<MachineFile, TightFault>
+    requires is_edge { IsEdge image.now statement.now profile.now edge.now }
+    requires lands { HasWordAt image.now edge.now.to }
+    ensures tight { IfOk result (IsTightFile image.now statement.now profile.now edge.now) }
+    ensures not_free { (result ≡ Err TightFault.NotFree) → IsFree image.now edge.now → ⊥ }
+    ensures free { OnOk result (IsFree image.now edge.now) }
+{
+    let plan = page_plan(alloc, image)?;
+    let Some(stand) = stand_for(image, statement, profile, edge, plan.spare) else {
+        return Err(TightFault::NotFree);
+    };
+    file(alloc, &stand, &plan, dearest_rom_times(profile))
 }
