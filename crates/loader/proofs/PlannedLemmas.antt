@@ -141,7 +141,7 @@ record IsOnPlan (image : Words) (m : Memory) (spare logical : ℕ) : Type 0 wher
   on : page_at m.paged logical ≡ Some (record { physical = physical; level = 0 })
 
 each_on_plan : (image : Words) (pages : List PlacedPage) (spare : ℕ) (m : Memory) → IsPlanned image pages spare m → All (λ (p : PlacedPage). IsOnPlan image m spare p.logical) pages
-each_on_plan image pages spare m h = λ i d lt. record { physical = (get_or pages i d).physical; free = h.plan.free i d lt; apart = h.plan.spare_apart i d lt; on = h.mapped.placed i d lt }
+each_on_plan image pages spare m h = λ i d lt. record { physical = (get_or pages i d).physical; free = h.plan.free i d lt; apart = (let below = h.plan.spare_above i d lt in λ same. omega (arith, below, same)); on = h.mapped.placed i d lt }
 
 on_plan : (image : Words) (pages : List PlacedPage) (spare : ℕ) (m : Memory) → IsPlanned image pages spare m → (a : ℕ) → IsSome (word_of image a) → a < 0x2000000 → IsOnPlan image m spare (a / 2 ^ 15)
 on_plan image pages spare m h a some low =

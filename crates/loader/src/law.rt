@@ -55,12 +55,13 @@ pub fn image_limits()
 pub fn planned_words_are_loaded()
     ensures mapped { (pages : List PlacedPage) → (m : Memory) → (words : Words) → IsMapped pages m
         → IsMapped pages (loaded words m) }
-    ensures image { (image words : Words) → (pages : List PlacedPage) → (spare : ℕ) → (m : Memory) → (a w : ℕ)
-        → AreWhole image → IsPagePlan image pages spare → IsMapped pages m → AreOf image words
-        → Contains words (a, w) → IsFitted a → GivesWord (loaded words m) a w }
-    ensures stays { (image beside : Words) → (pages : List PlacedPage) → (spare : ℕ) → (m : Memory) → (a w : ℕ)
-        → AreWhole image → IsPagePlan image pages spare → IsMapped pages m → IsSome (word_of image a)
-        → GivesWord m a w → All (λ e. IsBeside spare e.0 × (e.0 ≢ a)) beside → GivesWord (loaded beside m) a w }
+    ensures image { (image words : Words) → (pages : List PlacedPage) → (spare : ℕ) → (m : Memory)
+        → (a w : ℕ) → AreWhole image → IsPagePlan image pages spare → IsMapped pages m
+        → AreOf image words → Contains words (a, w) → IsFitted a → GivesWord (loaded words m) a w }
+    ensures stays { (image beside : Words) → (pages : List PlacedPage) → (spare : ℕ) → (m : Memory)
+        → (a w : ℕ) → AreWhole image → IsPagePlan image pages spare → IsMapped pages m
+        → IsSome (word_of image a) → GivesWord m a w
+        → All (λ e. IsBeside spare e.0 × (e.0 ≢ a)) beside → GivesWord (loaded beside m) a w }
     ensures beside { (beside : Words) → (pages : List PlacedPage) → (spare : ℕ) → (m : Memory) → (a w : ℕ)
         → IsMapped pages m → spare < 128 → All (λ e. IsBeside spare e.0 × (e.0 ≡ a → e.1 ≡ w)) beside
         → Contains beside (a, w) → GivesWord (loaded beside m) a w }
