@@ -1,14 +1,14 @@
 -- What loads give where an image's words are put into memory whose pages lie as a plan says.
-use Rattle.std.proofs.Common.{◌≡◌, ◌≢◌, ◌∙◌, ℕ, ◌+◌, ◌-◌, ◌*◌, ◌/◌, ◌%◌, ◌^◌, ◌<◌, ◌≤◌, ◌⊎◌, inl, inr, Bool, true, false, cond, List, map, get_or, Option, Some, None, Result, Ok, Err, refl, sym, ap, subst, arith}
-use Rattle.std.specs.Prelude.{IsSome, is_some, nat_le, All}
-use Rattle.std.specs.List.{Contains}
+use Rattle.std.proofs.Common.{◌∷◌, [], ◌↔◌, ◌≡◌, ◌≢◌, ◌∙◌, ℕ, ◌+◌, ◌-◌, ◌*◌, ◌/◌, ◌%◌, ◌^◌, ◌<◌, ◌≤◌, ◌⊎◌, inl, inr, Bool, true, false, cond, List, map, get_or, Option, Some, None, Result, Ok, Err, refl, sym, ap, subst, arith}
+use Rattle.std.specs.Prelude.{◌||◌, IsSome, is_some, nat_le, All}
+use Rattle.std.specs.List.{AllByRecursion, Contains}
 use Rattle.std.proofs.lemmas.Bool.{cases_lt, le-ltb, lt-ltb}
 use Rattle.std.proofs.lemmas.Bool.Decides.{nat_tests}
-use Rattle.std.proofs.lemmas.List.Elements.{All-contains, All-map, recursion_from_All}
+use Rattle.std.proofs.lemmas.List.Elements.{All-contains, All-from_recursion, All-map, recursion_from_All}
 use Rattle.std.proofs.lemmas.Option.{same_Some}
 use Rattle.loader.specs.Image.{Words, word_of}
 use Rattle.loader.specs.Inside.{AreWhole}
-use Rattle.loader.specs.Loading.{GivesWord, loaded, spot_of}
+use Rattle.loader.specs.Loading.{GivesWord, is_refused, lacks_page, loaded, spot_of}
 use Rattle.loader.specs.PagePlan.{IsFree, IsPagePlan}
 use Rattle.loader.specs.Planned.{AreOf, IsBeside, IsFitted, IsMapped}
 use Rattle.loader.specs.declared.plan.PlacedPage.{PlacedPage}
@@ -383,3 +383,42 @@ beside_given beside pages spare m a w mapped fits all c = given_beside here.1
         let below : a < 0x2400000 = omega (arith, is, lt, fits) in
         give_ram beside m a w ((a - 0x2000000) / 4 * 4) mapped.whole (omega (arith, below)) (spot_fitted m a mapped.size high below) (alone_ram beside spare m a w mapped.size here.0 high all) c
     given_beside (inr r) = give_rom beside m a w here.0 (spot_rom m a r.0) (alone_rom beside spare m a w mapped.size all) c
+
+-- ## Which words lead to a place at all
+
+neither : (b c : Bool) → (b || c) ≡ false → (b ≡ false) × (c ≡ false)
+neither true c e = absurd (cc)
+neither false c e = (refl, e)
+
+found_fits : (m : Memory) (a : ℕ) → m.shift ≡ 15 → is_refused (spot_of m a) ≡ false → IsFitted a
+found_fits m a size e = elim (cases_lt a 0x2400000) [
+  | inl below ↦ inl below
+  | inr past ↦ elim (cases_lt a 0x3000000) [ inl io ↦ (let refused = ap is_refused (spot_unfitted m a size past io) in absurd (cc)) | inr high ↦ inr high ]
+]
+
+all_found : (m : Memory) (words : Words) → m.shift ≡ 15 → lacks_page m words ≡ false → AllByRecursion (λ e. IsFitted e.0) words
+all_found m [] size e = tt
+all_found m (x ∷ rest) size e =
+    let p = neither (is_refused (spot_of m x.0)) (lacks_page m rest) e in
+    (found_fits m x.0 size p.0, all_found m rest size p.1)
+
+found_by : (m : Memory) (a : ℕ) → InRam m a ⊎ InRom m a → is_refused (spot_of m a) ≡ false
+found_by m a (inl r) = ap is_refused r.at
+found_by m a (inr r) = ap is_refused r.at
+
+none_lacks : (image : Words) (pages : List PlacedPage) (spare : ℕ) (m : Memory) (words : Words) → IsPlanned image pages spare m → AllByRecursion (λ e. word_of image e.0 ≡ Some e.1) words → AllByRecursion (λ e. IsFitted e.0) words
+    → lacks_page m words ≡ false
+none_lacks image pages spare m [] h of fits = refl
+none_lacks image pages spare m (x ∷ rest) h of fits =
+    let here = found_by m x.0 (found image pages spare m x.0 h (ap is_some of.0) fits.0) in
+    rw (here, none_lacks image pages spare m rest h of.1 fits.1) refl
+
+pub image_fits : (image words : Words) (pages : List PlacedPage) (spare : ℕ) (m : Memory) → AreWhole image → IsPagePlan image pages spare → IsMapped pages m → AreOf image words
+    → (lacks_page m words ≡ false) ↔ All (λ e. IsFitted e.0) words
+image_fits image words pages spare m whole plan mapped of =
+    let h : IsPlanned image pages spare m = record { whole = whole; plan = plan; mapped = mapped } in (
+      (λ e. All-from_recursion (λ (x : ℕ × ℕ). IsFitted x.0) words (all_found m words mapped.size e)),
+      (λ fits.
+        none_lacks image pages spare m words h (recursion_from_All (λ (x : ℕ × ℕ). word_of image x.0 ≡ Some x.1) words of)
+        (recursion_from_All (λ (x : ℕ × ℕ). IsFitted x.0) words fits)),
+    )
