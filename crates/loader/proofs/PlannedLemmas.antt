@@ -419,6 +419,6 @@ image_fits image words pages spare m whole plan mapped of =
     let h : IsPlanned image pages spare m = record { whole = whole; plan = plan; mapped = mapped } in (
       (λ e. All-from_recursion (λ (x : ℕ × ℕ). IsFitted x.0) words (all_found m words mapped.size e)),
       (λ fits.
-        none_lacks image pages spare m words h (recursion_from_All (λ (x : ℕ × ℕ). word_of image x.0 ≡ Some x.1) words of)
-        (recursion_from_All (λ (x : ℕ × ℕ). IsFitted x.0) words fits)),
+          none_lacks image pages spare m words h (recursion_from_All (λ (x : ℕ × ℕ). word_of image x.0 ≡ Some x.1) words of)
+          (recursion_from_All (λ (x : ℕ × ℕ). IsFitted x.0) words fits)),
     )
