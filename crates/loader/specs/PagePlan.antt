@@ -39,8 +39,8 @@ pub record IsFree (words : Words) (physical : ℕ) : Type 0 where
   pub below : physical < 128
   pub unnamed : HasWordOn words (1024 + physical) → ⊥
 
--- The logical pages are those with words, and ascend. Their physical pages and then the spare one are the lowest
--- that no word names, and ascend.
+-- The logical pages are those with words, and ascend. Their physical pages, and then the spare one, are the
+-- lowest that no word names, and ascend.
 pub record IsPagePlan (words : Words) (pages : List PlacedPage) (spare : ℕ) : Type 0 where
   pub logical : (page : ℕ)
       → Contains (map (λ p. p.logical) pages) page ↔ ((page < 1024) × HasWordOn words page)
