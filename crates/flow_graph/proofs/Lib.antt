@@ -28,3 +28,4 @@ pub mod TightStep
 mod SettingLemmas
 mod SettingSets
 mod TightStand
+mod TightPages

@@ -1,19 +1,15 @@
 -- What memory holds after words are put into it.
-use Rattle.std.proofs.Common.{◌≡◌, ◌≢◌, ◌∙◌, ℕ, zero, suc, ◌+◌, ◌-◌, ◌*◌, ◌/◌, ◌%◌, ◌^◌, ◌<◌, ◌≤◌, ◌⊎◌, inl, inr, Bool, true, false, cond, eqb, List, [], ◌∷◌, length, get_or, Option, Some, None, Result, Ok, Err, refl, sym, ap, subst, arith}
-use Rattle.std.specs.Prelude.{IsSome, is_some, nat_le, nat_lt, All}
-use Rattle.std.specs.List.{AllByRecursion, Contains}
+use Rattle.std.proofs.Common.{◌≡◌, ◌∙◌, ℕ, zero, suc, ◌+◌, ◌*◌, ◌/◌, ◌%◌, ◌^◌, ◌<◌, inl, inr, Bool, false, cond, eqb, List, [], ◌∷◌, length, get_or, Option, Some, None, Result, Ok, Err, refl, ap, arith}
+use Rattle.std.specs.List.{AllByRecursion}
 use Rattle.std.proofs.lemmas.Bool.{cases_eq, cases_lt, eq-eqb, le-ltb, lt-ltb, ne_eqb}
-use Rattle.std.proofs.lemmas.Bool.Decides.{nat_tests}
-use Rattle.std.proofs.lemmas.List.Elements.{All-contains, recursion_from_All}
 use Rattle.std.proofs.lemmas.Option.{same_Some}
-use Rattle.loader.specs.Image.{Words, word_of}
+use Rattle.loader.specs.Image.{Words}
 use Rattle.loader.specs.Loading.{GivesWord, loaded, ram_before, ram_words, rom_before, rom_words, spot_of, with_places}
 use Rattle.memc.proofs.Rom.{rom_word-with_words}
-use Rattle.memc.specs.Memory.{Memory, last_word, located, on_page, physical_at, rom_word, word_at}
+use Rattle.memc.specs.Memory.{Memory, last_word, on_page, rom_word, word_at}
 use Rattle.memc.specs.Paged.{IsWhole, page_at, place_of}
 use Rattle.memc.specs.declared.pages.Entry.{Entry}
 use Rattle.memc.specs.declared.spots.Refused.{Refused}
-use Rattle.memc.specs.declared.spots.Refused.TheVariants.{NoPage}
 use Rattle.memc.specs.declared.spots.Spot.{Spot}
 use Rattle.memc.specs.declared.spots.Spot.TheVariants.{Ram, Rom, Io, Vidc, Control, Translator, Ignored}
 
