@@ -83,12 +83,10 @@ fn setting_at(aim: &Aim, word: u32, label: Label) -> Setting
     requires spare { aim.now.spare < 128 }
     ensures { IsSettingOf aim.now word label result }
 {
-    if label == Label::Skip {
-        return NOTHING;
-    }
-    match decode(word) {
-        Ok(instr) => setting_for(aim, &instr.operation),
-        Err(_) => unreachable!(),
+    match (label, decode(word)) {
+        (Label::Skip, _) => NOTHING,
+        (Label::Do, Ok(instr)) => setting_for(aim, &instr.operation),
+        (Label::Do, Err(_)) => unreachable!(),
     }
 }
 
