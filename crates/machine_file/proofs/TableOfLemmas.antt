@@ -1,11 +1,12 @@
 -- What stands in a table that is built row by row.
-use Rattle.std.proofs.Common.{◌≡◌, ℕ, zero, suc, ◌+◌, ◌≤◌, ◌<◌, ◌&&◌, ◌↔◌, not, add-one, IsTrue, Bool, true, false, List, [], ◌∷◌, ◌++◌, length, map, fold, take, get_or, Option, Some, None, Ordering, Less, Equal, Greater, String, Global, string_bytes, nat_cmp, is_eq, refl, sym, ap, ◌∙◌, subst, arith}
+use Rattle.std.proofs.Common.{◌≡◌, ℕ, zero, suc, ◌+◌, ◌≤◌, ◌<◌, ◌&&◌, ◌↔◌, not, IsTrue, Bool, true, false, List, [], ◌∷◌, ◌++◌, length, map, fold, take, get_or, Option, Some, None, Ordering, Less, Equal, Greater, String, Global, Bor, string_bytes, nat_cmp, is_eq, refl, sym, ap, ◌∙◌, subst, arith}
 use Rattle.std.specs.BTreeMap.{insert_entry}
 use Rattle.std.specs.Cmp.Lexicographic.{slice_cmp}
 use Rattle.std.specs.List.{AllByRecursion, list_all, zip}
 use Rattle.std.specs.Ordering.{match_ordering}
 use Rattle.std.specs.String.{string_cmp}
 use Rattle.std.proofs.lemmas.Bool.{and_parts, false≢true}
+use Rattle.std.proofs.lemmas.List.{get_or-map, length-map}
 use Rattle.std.proofs.lemmas.Cmp.{alike_right, nat_list_cmp_total, tied_itself}
 use Rattle.toml.specs.Data.{Data, Members, depth, get_member, member, members_depth, no_members, same_key, table}
 use Rattle.toml.specs.View.{members_view, view}
@@ -220,12 +221,28 @@ rows_next_suc (k ∷ l ∷ ks) (w ∷ ws) zero ms a b = refl
 rows_next_suc (k ∷ ks) (w ∷ ws) (suc i) ms a b =
     rows_next_suc ks ws i (with_optional ms (register_row (k, w)).0 (register_row (k, w)).1) (omega arith) (omega arith)
 
--- the same of the code's words and names
-pub rows_next : (ks : List (List ℕ)) (ws : List ℕ) (i : ℕ) (k : List ℕ) (w : ℕ) (ms : Members)
-    → i < length ks → i < length ws → k ≡ get_or ks i [] → w ≡ get_or ws i 0
-    → with_rows ms (map register_row (zip ks (take (i + 1) ws))) ≡ with_optional (with_rows ms (map register_row (zip ks (take i ws)))) k (unless_zero w)
-rows_next ks ws i k w ms a b here there =
-    rw (here, there, add-one) (rows_next_suc ks ws i ms a b)
+pub no_rows : (ks : List (List ℕ)) (ms : Members) → ms ≡ with_rows ms (map register_row (zip {X = ℕ} ks []))
+no_rows [] ms = refl
+no_rows (k ∷ ks) ms = refl
+
+-- one more of the code's names and words
+pub rows_next : (names : List (Bor (List ℕ))) (ws : List ℕ) (d : Bor (List ℕ)) (i : ℕ) (start m n : Members)
+    → length ws ≤ length names → i < length ws
+    → m ≡ with_rows start (map register_row (zip (map (λ x. x.now) names) (take i ws)))
+    → n ≡ with_optional m (get_or names i d).now (unless_zero (get_or ws i 0))
+    → n ≡ with_rows start (map register_row (zip (map (λ x. x.now) names) (take (i + 1) ws)))
+rows_next names ws d i start m n known lt before set =
+    let ks : List (List ℕ) = map (λ x. x.now) names in
+    let count : length ks ≡ length names = length-map names (λ x. x.now) in
+    let near : i < length names = omega arith in
+    let within : i < length ks = omega (arith, count, near) in
+    let key : get_or ks i [] ≡ (get_or names i d).now = get_or-map (λ x. x.now) names i d [] near in
+    let next : i + 1 ≡ suc i = omega arith in
+    set
+    ∙ ap (λ k. with_optional m k (unless_zero (get_or ws i 0))) (sym key)
+    ∙ ap (λ t. with_optional t (get_or ks i []) (unless_zero (get_or ws i 0))) before
+    ∙ sym (rows_next_suc ks ws i start within lt)
+    ∙ ap (λ (k : ℕ). with_rows start (map register_row (zip ks (take k ws)))) (sym next)
 
 -- ## Values that are left out
 

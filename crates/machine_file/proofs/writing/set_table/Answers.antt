@@ -1,4 +1,4 @@
-use Rattle.std.proofs.Common.{◌≡◌, Some, search, rules, absurd, cc, false, true}
+use Rattle.std.proofs.Common.{◌≡◌, Some, rules}
 use Rattle.toml.specs.Data.{table}
 use Rattle.toml.specs.View.{table_view, view}
 use Rattle.machine_file.specs.Written.{tabled}
