@@ -9,6 +9,7 @@ mod MachineRuleLemmas
 mod FaultTableLemmas
 mod KeyTableLemmas
 mod TableOfLemmas
+mod WrittenLemmas
 pub mod InputLemmas
 pub mod PageLemmas
 pub mod StartLemmas

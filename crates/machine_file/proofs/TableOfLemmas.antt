@@ -138,6 +138,11 @@ all_missing (r ∷ rows) = (refl, all_missing rows)
 pub found_in_table : (rows : List Row) → all_differ (row_keys rows) ≡ true → Found (table_of rows) rows
 found_in_table rows h = found_rows rows no_members h (all_missing rows)
 
+-- and no other key has one
+pub missing_in_table : (k : List ℕ) (rows : List Row) → list_all (differ k) (row_keys rows) ≡ true
+    → get_member k (table_of rows) ≡ None
+missing_in_table k rows h = kept k rows no_members h
+
 -- ## Keys
 
 known_at : (o : Ordering) (keys : List (List ℕ)) (k l : List ℕ) (d e : Data) (ms : Members)

@@ -27,3 +27,4 @@ pub use pages::MappedPage;
 pub use parts::{ControllerParts, MachineParts, ProcessorParts, ScheduleParts};
 pub use profile_faults::ProfileFileFault;
 pub use profiles::read_profile;
+pub use writing::write_machine;

@@ -1,11 +1,17 @@
-ghost use Rattle.std.specs.Prelude.{◌≡◌, ◌++◌, ◌≤◌, [], IfOk, codes, length, map, string_bytes};
-ghost use Rattle.std.specs.List.{zip};
+ghost use Rattle.std.specs.Prelude.{◌≡◌, ◌++◌, ◌≤◌, ◌<◌, ◌^◌, All, IsTrue, true, false, [], IfOk, codes, length, map, string_bytes};
+ghost use Rattle.std.specs.List.{list_all, zip};
+ghost use Rattle.std.specs.Map.{keys_of};
+ghost use Rattle.loader.specs.Image.{may_hold};
+ghost use Rattle.memc.specs.Memory.{shift_of_size};
+ghost use Rattle.toml_reading.specs.Documents.{are_distinct};
+ghost use Rattle.toml_reading.specs.Lowest.{IsInSpace};
 ghost use Rattle.toml.specs.Data.{string};
 ghost use Rattle.toml.specs.Text.{IsDocumentText};
 ghost use Rattle.toml.specs.View.{table_view, view};
-ghost use Rattle.machine_file.specs.MachineFile.{IsMachineFile};
+ghost use Rattle.machine_file.specs.MachineFile.{IsMachineFile, are_single, is_mappable};
 ghost use Rattle.machine_file.specs.MachineRules.{kilobytes};
-ghost use Rattle.machine_file.specs.Written.{document_of, letter_if, letters_of, listed, mode_name, number};
+ghost use Rattle.machine_file.specs.Parts.{IsInRange, StandsOnce};
+ghost use Rattle.machine_file.specs.Written.{AreWords, document_of, letter_if, letters_of, listed, mode_name, number};
 ghost use Rattle.machine_file.specs.Written.{page_data, processor_rows, controller_rows, register_row};
 ghost use Rattle.machine_file.specs.Written.{register_table, schedule_rows, tabled, unless_zero, with_key};
 ghost use Rattle.machine_file.specs.Written.{with_optional, with_rows, word_data, word_list_rows};
@@ -13,9 +19,10 @@ ghost use Rattle.machine_file.specs.Written.{with_optional, with_rows, word_data
 use crate::events::Schedule;
 use crate::flags::PsrFlags;
 use crate::machine_files::MachineFile;
-use crate::pages::{Controller, MappedPage};
-use crate::processor::Processor;
-use crate::registers::NAMES;
+use crate::pages::{Controller, MappedPage, Pages, RomFields};
+use crate::processor::{Processor, StartAddress};
+use crate::registers::{Bank, NAMES};
+use crate::words::PutWords;
 use arm2_effect::Mode;
 use memc::PageSize;
 use std::alloc::{AllocError, Global};
@@ -239,7 +246,8 @@ fn set_schedule(alloc: Global, table: &mut Table, schedule: &Schedule) -> Result
 }
 
 fn word_value(alloc: Global, word: (u32, u32)) -> Result<Value, AllocError>
-    ensures { IfOk result (λ value. view value ≡ word_data word) }
+    ensures value { IfOk result (λ value. view value ≡ word_data word) }
+    ensures bound { word.1 < 2 ^ 32 }
 {
     let mut table = Table::new(alloc);
     set_number(alloc, &mut table, "at", word.0)?;
@@ -248,7 +256,8 @@ fn word_value(alloc: Global, word: (u32, u32)) -> Result<Value, AllocError>
 }
 
 fn word_values(alloc: Global, words: &[(u32, u32)]) -> Result<Vec<Value>, AllocError>
-    ensures { IfOk result (λ values. map view values.items ≡ map word_data words.now) }
+    ensures values { IfOk result (λ values. map view values.items ≡ map word_data words.now) }
+    ensures bound { IfOk result (λ _. All (λ w. w.1 < 2 ^ 32) words.now) }
 {
     let mut values = Vec::new(alloc);
     for word in words {
@@ -262,9 +271,10 @@ fn set_put_words(
     table: &mut Table,
     words: &[(u32, u32)],
 ) -> Result<(), AllocError>
-    ensures { IfOk result
+    ensures rows { IfOk result
         (λ _. table_view table.new
         ≡ with_rows (table_view table.old) (word_list_rows words.now)) }
+    ensures bound { IfOk result (λ _. All (λ w. w.1 < 2 ^ 32) words.now) }
 {
     let values = word_values(alloc, words)?;
     set_list(alloc, table, "word", values)
@@ -273,7 +283,8 @@ fn set_put_words(
 // ## The file
 
 fn document(alloc: Global, file: &MachineFile) -> Result<Table, AllocError>
-    ensures { IfOk result (λ table. table_view table ≡ document_of file.now) }
+    ensures document { IfOk result (λ table. table_view table ≡ document_of file.now) }
+    ensures bound { IfOk result (λ _. All (λ w. w.1 < 2 ^ 32) file.now.words) }
 {
     let mut table = Table::new(alloc);
     set_processor(alloc, &mut table, &file.processor)?;
@@ -281,4 +292,82 @@ fn document(alloc: Global, file: &MachineFile) -> Result<Table, AllocError>
     set_schedule(alloc, &mut table, &file.schedule)?;
     set_put_words(alloc, &mut table, &file.words.words)?;
     Ok(table)
+}
+
+// ## The rules that every machine file keeps
+
+fn is_in_space(start: &StartAddress)
+    ensures { IsInSpace start.now }
+{
+    let _address = start.address;
+}
+
+fn are_fields(rom: &RomFields)
+    ensures low { rom.now.0 ≤ 3 }
+    ensures high { rom.now.1 ≤ 3 }
+{
+    let _low = rom.low;
+}
+
+fn are_pages(pages: &Pages)
+    ensures mappable { list_all (is_mappable (shift_of_size pages.now.0)) pages.now.1 ≡ true }
+    ensures once { are_single pages.now.1 ≡ true }
+{
+    let _size = pages.size;
+}
+
+fn are_steps(schedule: &Schedule)
+    ensures steps { schedule.now.steps ≤ 65536 }
+    ensures port { schedule.now.port < 2 ^ 32 }
+{
+    let _steps = schedule.steps;
+    let _port = schedule.port;
+}
+
+fn are_put_words(words: &PutWords)
+    ensures held { All (λ w. IsTrue (may_hold w.0)) words.now }
+    ensures once { are_distinct (keys_of words.now) ≡ true }
+{
+    let _words = &words.words;
+}
+
+fn are_words(words: &[u32])
+    ensures { All (λ w. w < 2 ^ 32) words.now }
+{
+}
+
+fn is_bank(bank: &Bank)
+    ensures count { length bank.now ≡ 26 }
+    ensures words { All (λ w. w < 2 ^ 32) bank.now }
+{
+    are_words(&bank.words);
+}
+
+fn keeps_rules(file: &MachineFile)
+    ensures in_range { IsInRange file.now }
+    ensures once { StandsOnce file.now }
+    ensures words { AreWords file.now }
+{
+    is_in_space(&file.processor.pc);
+    is_bank(&file.processor.registers);
+    are_fields(&file.controller.rom);
+    are_pages(&file.controller.pages);
+    are_steps(&file.schedule);
+    are_put_words(&file.words);
+}
+
+/// The text of a machine file without events, which reads back as the same file. An error says that an
+/// allocation failed.
+pub fn write_machine(alloc: Global, file: &MachineFile) -> Result<String, AllocError>
+    requires { file.now.schedule.events ≡ [] }
+    ensures text { IfOk result
+        (λ text. IsDocumentText false (document_of file.now) (string_bytes text)) }
+    ensures reads_back { IfOk result (λ text. IsMachineFile (string_bytes text) (Ok file.now)) }
+{
+    keeps_rules(file);
+    let table = document(alloc, file)?;
+    match toml::table_to_string(alloc, &table) {
+        Ok(text) => Ok(text),
+        Err(_) => Err(AllocError),
+    }
 }
