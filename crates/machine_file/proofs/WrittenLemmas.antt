@@ -19,9 +19,9 @@ use Rattle.toml_reading.specs.Lowest.{AtKey, AtKeyOr, IsListOf, IsNumber}
 use Rattle.machine_file.specs.MachineFile.{IsMachineFile, has, is_letter, is_mappable, is_single, machine_in, set_flags}
 use Rattle.machine_file.specs.MachineRules.{AreFlags, AreRegisters, IsAddress, IsEvent, IsNamed, IsPage, IsPutWord, IsSize, IsWord, IsWordAddress, StatesMachine}
 use Rattle.machine_file.specs.Names.{file_keys, map_keys, name_of, named_mode, named_registers, register_keys, word_keys}
-use Rattle.machine_file.specs.Parts.{IsInRange, StandsOnce}
+use Rattle.machine_file.specs.Parts.{AreWords, IsInRange, StandsOnce}
 use Rattle.machine_file.specs.Stated.{Stated}
-use Rattle.machine_file.specs.Written.{AreWords, Row, controller_rows, document_of, file_rows, letters_of, listed, mode_name, number, page_data, page_rows, register_row, register_table, schedule_rows, table_of, tabled, unless_zero, word_data, word_list_rows, word_rows}
+use Rattle.machine_file.specs.Written.{Row, controller_rows, document_of, file_rows, letters_of, listed, mode_name, number, page_data, page_rows, register_row, register_table, schedule_rows, table_of, tabled, unless_zero, word_data, word_list_rows, word_rows}
 use Rattle.machine_file.specs.declared.flags.PsrFlags.{PsrFlags}
 use Rattle.machine_file.specs.declared.pages.MappedPage.{MappedPage}
 use Rattle.machine_file.proofs.KeyTableLemmas.{machine_stated}

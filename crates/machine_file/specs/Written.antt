@@ -1,6 +1,6 @@
 -- The document that states a machine. Source: our own format of machine files, over the documents of TOML.
 use Rattle.std.specs.Prelude.{◌==◌, ◌++◌, ℕ, pos, Bool, List, [], ◌∷◌, map, fold, codes, if◌then◌else◌}
-use Rattle.std.specs.Prelude.{◌≡◌, ◌^◌, ◌<◌, All, length, Option, Some, None}
+use Rattle.std.specs.Prelude.{Option, Some, None}
 use Rattle.std.specs.Cmp.Lexicographic.{slice_cmp}
 use Rattle.std.specs.List.{zip}
 use Rattle.std.specs.Ordering.{match_ordering, nat_cmp}
@@ -131,9 +131,3 @@ file_rows s =
 -- the document of a machine file without events
 abbrev pub document_of : Stated → Members
 document_of s = table_of (file_rows s)
-
--- what every machine file has: 26 registers, and words of 32 bits
-pub record AreWords (s : Stated) : Type 0 where
-  pub count : length s.processor.registers ≡ 26
-  pub registers : All (λ w. w < 2 ^ 32) s.processor.registers
-  pub port : s.schedule.port < 2 ^ 32

@@ -1,101 +1,27 @@
-ghost use Rattle.std.specs.Prelude.{◌≡◌, ◌++◌, ◌≤◌, ◌<◌, ◌^◌, All, IsTrue, true, false, [], IfOk, codes, length, map, string_bytes};
-ghost use Rattle.std.specs.List.{list_all, zip};
-ghost use Rattle.std.specs.Map.{keys_of};
-ghost use Rattle.loader.specs.Image.{may_hold};
-ghost use Rattle.memc.specs.Memory.{shift_of_size};
-ghost use Rattle.toml_reading.specs.Documents.{are_distinct};
-ghost use Rattle.toml_reading.specs.Lowest.{IsInSpace};
+ghost use Rattle.std.specs.Prelude.{◌≡◌, ◌++◌, ◌≤◌, ◌<◌, ◌^◌, All, Ok, false, [], IfOk, codes, length, map};
+ghost use Rattle.std.specs.Prelude.{string_bytes};
+ghost use Rattle.std.specs.List.{zip};
 ghost use Rattle.toml.specs.Data.{string};
 ghost use Rattle.toml.specs.Text.{IsDocumentText};
 ghost use Rattle.toml.specs.View.{table_view, view};
-ghost use Rattle.machine_file.specs.MachineFile.{IsMachineFile, are_single, is_mappable};
+ghost use Rattle.machine_file.specs.MachineFile.{IsMachineFile};
 ghost use Rattle.machine_file.specs.MachineRules.{kilobytes};
-ghost use Rattle.machine_file.specs.Parts.{IsInRange, StandsOnce};
-ghost use Rattle.machine_file.specs.Written.{AreWords, document_of, letter_if, letters_of, listed, mode_name, number};
-ghost use Rattle.machine_file.specs.Written.{page_data, processor_rows, controller_rows, register_row};
-ghost use Rattle.machine_file.specs.Written.{register_table, schedule_rows, tabled, unless_zero, with_key};
-ghost use Rattle.machine_file.specs.Written.{with_optional, with_rows, word_data, word_list_rows};
+ghost use Rattle.machine_file.specs.Written.{controller_rows, document_of, letter_if, letters_of, mode_name};
+ghost use Rattle.machine_file.specs.Written.{page_data, processor_rows, register_row, register_table};
+ghost use Rattle.machine_file.specs.Written.{schedule_rows, with_key, with_rows, word_data, word_list_rows};
 
 use crate::events::Schedule;
 use crate::flags::PsrFlags;
+use crate::keys::{set, set_list, set_nonzero, set_number, set_table, set_text};
 use crate::machine_files::MachineFile;
-use crate::pages::{Controller, MappedPage, Pages, RomFields};
-use crate::processor::{Processor, StartAddress};
-use crate::registers::{Bank, NAMES};
-use crate::words::PutWords;
+use crate::pages::{Controller, MappedPage};
+use crate::processor::Processor;
+use crate::registers::NAMES;
+use crate::rules::keeps_rules;
 use arm2_effect::Mode;
 use memc::PageSize;
 use std::alloc::{AllocError, Global};
 use toml::{Table, Value};
-
-fn set(alloc: Global, table: &mut Table, key: &str, value: Value) -> Result<(), AllocError>
-    ensures { IfOk result
-        (λ _. table_view table.new ≡ with_key key.now (view value) (table_view table.old)) }
-{
-    let key = String::from_str(alloc, key)?;
-    table.insert(key, value)?;
-    Ok(())
-}
-
-fn set_number(alloc: Global, table: &mut Table, key: &str, value: u32) -> Result<(), AllocError>
-    ensures { IfOk result
-        (λ _. table_view table.new ≡ with_key key.now (number value) (table_view table.old)) }
-{
-    set(alloc, table, key, Value::from(value))
-}
-
-fn set_text(alloc: Global, table: &mut Table, key: &str, text: &str) -> Result<(), AllocError>
-    ensures { IfOk result
-        (λ _. table_view table.new ≡ with_key key.now (string text.now) (table_view table.old)) }
-{
-    set(alloc, table, key, Value::string(alloc, text)?)
-}
-
-// Sets a list, but for an empty one.
-fn set_list(
-    alloc: Global,
-    table: &mut Table,
-    key: &str,
-    values: Vec<Value>,
-) -> Result<(), AllocError>
-    ensures { IfOk result
-        (λ _. table_view table.new
-        ≡ with_optional (table_view table.old) key.now (listed (map view values.items))) }
-{
-    if values.is_empty() {
-        return Ok(());
-    }
-    set(alloc, table, key, Value::from(values))
-}
-
-// Sets a table, but for an empty one.
-fn set_table(alloc: Global, table: &mut Table, key: &str, inner: Table) -> Result<(), AllocError>
-    ensures { IfOk result
-        (λ _. table_view table.new
-        ≡ with_optional (table_view table.old) key.now (tabled (table_view inner))) }
-{
-    if inner.is_empty() {
-        return Ok(());
-    }
-    set(alloc, table, key, Value::from(inner))
-}
-
-// Sets a number, but for 0.
-fn set_nonzero(
-    alloc: Global,
-    table: &mut Table,
-    key: &str,
-    value: u32,
-) -> Result<(), AllocError>
-    ensures { IfOk result
-        (λ _. table_view table.new
-        ≡ with_optional (table_view table.old) key.now (unless_zero value)) }
-{
-    if value == 0 {
-        return Ok(());
-    }
-    set_number(alloc, table, key, value)
-}
 
 // ## The processor
 
@@ -169,11 +95,7 @@ fn register_table(alloc: Global, words: &[u32]) -> Result<Table, AllocError>
     Ok(table)
 }
 
-fn set_processor(
-    alloc: Global,
-    table: &mut Table,
-    processor: &Processor,
-) -> Result<(), AllocError>
+fn set_processor(alloc: Global, table: &mut Table, processor: &Processor) -> Result<(), AllocError>
     ensures { IfOk result
         (λ _. table_view table.new
         ≡ with_rows (table_view table.old) (processor_rows processor.now)) }
@@ -266,11 +188,7 @@ fn word_values(alloc: Global, words: &[(u32, u32)]) -> Result<Vec<Value>, AllocE
     Ok(values)
 }
 
-fn set_put_words(
-    alloc: Global,
-    table: &mut Table,
-    words: &[(u32, u32)],
-) -> Result<(), AllocError>
+fn set_put_words(alloc: Global, table: &mut Table, words: &[(u32, u32)]) -> Result<(), AllocError>
     ensures rows { IfOk result
         (λ _. table_view table.new
         ≡ with_rows (table_view table.old) (word_list_rows words.now)) }
@@ -294,70 +212,9 @@ fn document(alloc: Global, file: &MachineFile) -> Result<Table, AllocError>
     Ok(table)
 }
 
-// ## The rules that every machine file keeps
-
-fn is_in_space(start: &StartAddress)
-    ensures { IsInSpace start.now }
-{
-    let _address = start.address;
-}
-
-fn are_fields(rom: &RomFields)
-    ensures low { rom.now.0 ≤ 3 }
-    ensures high { rom.now.1 ≤ 3 }
-{
-    let _low = rom.low;
-}
-
-fn are_pages(pages: &Pages)
-    ensures mappable { list_all (is_mappable (shift_of_size pages.now.0)) pages.now.1 ≡ true }
-    ensures once { are_single pages.now.1 ≡ true }
-{
-    let _size = pages.size;
-}
-
-fn are_steps(schedule: &Schedule)
-    ensures steps { schedule.now.steps ≤ 65536 }
-    ensures port { schedule.now.port < 2 ^ 32 }
-{
-    let _steps = schedule.steps;
-    let _port = schedule.port;
-}
-
-fn are_put_words(words: &PutWords)
-    ensures held { All (λ w. IsTrue (may_hold w.0)) words.now }
-    ensures once { are_distinct (keys_of words.now) ≡ true }
-{
-    let _words = &words.words;
-}
-
-fn are_words(words: &[u32])
-    ensures { All (λ w. w < 2 ^ 32) words.now }
-{
-}
-
-fn is_bank(bank: &Bank)
-    ensures count { length bank.now ≡ 26 }
-    ensures words { All (λ w. w < 2 ^ 32) bank.now }
-{
-    are_words(&bank.words);
-}
-
-fn keeps_rules(file: &MachineFile)
-    ensures in_range { IsInRange file.now }
-    ensures once { StandsOnce file.now }
-    ensures words { AreWords file.now }
-{
-    is_in_space(&file.processor.pc);
-    is_bank(&file.processor.registers);
-    are_fields(&file.controller.rom);
-    are_pages(&file.controller.pages);
-    are_steps(&file.schedule);
-    are_put_words(&file.words);
-}
-
-/// The text of a machine file without events, which reads back as the same file. An error says that an
-/// allocation failed.
+/// The text of a machine file without events, which [`read_machine`](crate::machine_files::read_machine)
+/// reads back as the same file. It has all keys but those of registers that are 0, and of empty lists. An
+/// error says that an allocation failed.
 pub fn write_machine(alloc: Global, file: &MachineFile) -> Result<String, AllocError>
     requires { file.now.schedule.events ≡ [] }
     ensures text { IfOk result

@@ -2,7 +2,7 @@ use Rattle.std.proofs.Common.{ap, ◌∙◌}
 use Rattle.toml.specs.View.{table_view, view}
 use Rattle.machine_file.specs.Written.{with_key}
 use Rattle.machine_file.proofs.TableOfLemmas.{view_insert}
-use Rattle.machine_file.proofs.writing.set.Goals as goal
+use Rattle.machine_file.proofs.keys.set.Goals as goal
 
 pub returns : goal.returns
 returns c =

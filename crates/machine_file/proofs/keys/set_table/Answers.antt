@@ -3,7 +3,7 @@ use Rattle.toml.specs.Data.{table}
 use Rattle.toml.specs.View.{table_view, view}
 use Rattle.machine_file.specs.Written.{tabled}
 use Rattle.machine_file.proofs.TableOfLemmas.{tabled_full}
-use Rattle.machine_file.proofs.writing.set_table.Goals as goal
+use Rattle.machine_file.proofs.keys.set_table.Goals as goal
 
 pub returns : goal.returns
 returns c =
