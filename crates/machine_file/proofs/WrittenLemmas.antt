@@ -1,10 +1,10 @@
 -- What is read of the document of a machine file.
-use Rattle.std.proofs.Common.{◌≡◌, ℕ, zero, suc, ◌+◌, ◌-◌, ◌^◌, ◌≤◌, ◌<◌, ◌&&◌, ◌++◌, not, eqb, ltb, pos, Bool, true, false, cond, List, [], ◌∷◌, length, map, get_or, replicate, codes, All, Option, Some, None, Ok, inl, inr, refl, sym, ap, ◌∙◌, subst, arith}
+use Rattle.std.proofs.Common.{◌≡◌, ℕ, suc, ◌+◌, ◌-◌, ◌^◌, ◌≤◌, ◌<◌, ◌&&◌, ◌++◌, not, eqb, ltb, Bool, true, false, List, [], ◌∷◌, length, map, replicate, codes, All, Some, Ok, inl, inr, refl, sym, ap, ◌∙◌, subst, arith}
 use Rattle.std.specs.Prelude.{IsTrue}
 use Rattle.std.specs.List.{AllByRecursion, AllZip, list_all, zip}
 use Rattle.std.specs.Str.{IsUtf8}
 use Rattle.std.proofs.lemmas.Bool.{and_parts, cases_Bool, eqb-true, ltb-true}
-use Rattle.toml.specs.Data.{Data, Members, array, as_table, depth, get_member, items_depth, member, members_depth, no_members, string, table}
+use Rattle.toml.specs.Data.{Data, Members, depth, get_member, items_depth, member, members_depth, no_members, string, table}
 use Rattle.toml.specs.Parse.{parse_document}
 use Rattle.toml.specs.View.{items_of}
 use Rattle.arm2_effect.specs.declared.modes.Mode.{Mode}

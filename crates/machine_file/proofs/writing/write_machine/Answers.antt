@@ -1,4 +1,4 @@
-use Rattle.std.proofs.Common.{◌≡◌, ◌≤◌, Some, string_bytes, rules, subst}
+use Rattle.std.proofs.Common.{◌≡◌, ◌≤◌, Some, string_bytes, subst}
 use Rattle.std.proofs.lemmas.Str.{IsUtf8-string_bytes}
 use Rattle.toml.specs.Data.{members_depth}
 use Rattle.toml.specs.Parse.{parse_document}
