@@ -8,6 +8,7 @@ pub mod MachineFile
 pub mod MachineRules
 pub mod MachineFaultRules
 pub mod Parts
+pub mod Written
 pub mod Inputs
 pub mod Started
 pub mod StartWork

@@ -1,5 +1,5 @@
 -- Which machine file is built from parts. Source: our own format of machine files.
-use Rattle.std.specs.Prelude.{◌≡◌, ◌≤◌, true, [], All, IsTrue, Ok, Err}
+use Rattle.std.specs.Prelude.{◌≡◌, ◌≤◌, ◌<◌, ◌^◌, true, [], All, IsTrue, Ok, Err, length}
 use Rattle.std.specs.List.{list_all}
 use Rattle.std.specs.Map.{keys_of}
 use Rattle.loader.specs.Image.{may_hold}
@@ -52,3 +52,9 @@ pub record IsBuilt (s : Stated) (answer : Read Stated) : Type 0 where
   pub file : IsInRange s → StandsOnce s → answer ≡ Ok s
   pub out_of_range : ¬ IsInRange s → answer ≡ Err OutOfRange
   pub twice : IsInRange s → ¬ StandsOnce s → answer ≡ Err Twice
+
+-- what every machine file has: 26 registers, and words of 32 bits
+pub record AreWords (s : Stated) : Type 0 where
+  pub count : length s.processor.registers ≡ 26
+  pub registers : All (λ w. w < 2 ^ 32) s.processor.registers
+  pub port : s.schedule.port < 2 ^ 32

@@ -1,10 +1,11 @@
 //! Machine files and cycle profile files: the state from which a machine starts with its inputs, and the
-//! prices of its accesses, read from TOML.
+//! prices of its accesses, read from TOML. A machine file is also built from its parts, and written.
 #![tactic(auto)]
 
 mod events;
 mod flags;
 mod inputs;
+mod keys;
 mod law;
 mod machine_faults;
 mod machine_files;
@@ -14,8 +15,10 @@ mod processor;
 mod profile_faults;
 mod profiles;
 mod registers;
+mod rules;
 mod start;
 mod words;
+mod writing;
 
 pub use events::Event;
 pub use flags::PsrFlags;
@@ -26,3 +29,4 @@ pub use pages::MappedPage;
 pub use parts::{ControllerParts, MachineParts, ProcessorParts, ScheduleParts};
 pub use profile_faults::ProfileFileFault;
 pub use profiles::read_profile;
+pub use writing::write_machine;
