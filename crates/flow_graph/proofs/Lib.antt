@@ -29,3 +29,4 @@ mod SettingLemmas
 mod SettingSets
 mod TightStand
 mod TightPages
+mod TightMade

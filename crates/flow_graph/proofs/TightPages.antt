@@ -1,8 +1,8 @@
 -- A planned image's pages, as a machine file maps them.
-use Rattle.std.proofs.Common.{◌≡◌, ℕ, ◌+◌, ◌*◌, ◌/◌, ◌^◌, ◌<◌, ◌≤◌, ◌==◌, ◌&&◌, ◌⊎◌, inl, inr, Bool, true, false, cond, not, Option, Some, None, List, [], ◌∷◌, length, map, refl, sym, ap, subst, ◌∙◌, arith}
+use Rattle.std.proofs.Common.{◌≡◌, ℕ, ◌+◌, ◌*◌, ◌/◌, ◌^◌, ◌<◌, ◌≤◌, ◌==◌, ◌&&◌, ◌||◌, ◌⊎◌, inl, inr, Bool, true, false, cond, not, Option, Some, None, List, [], ◌∷◌, length, map, refl, sym, ap, subst, ◌∙◌, arith}
 use Rattle.std.specs.Prelude.{All, Contains, nat_eq}
 use Rattle.std.specs.List.{list_all, list_any}
-use Rattle.std.proofs.lemmas.Bool.{cases_lt, eqb-false, eqb-refl, eqb-true, lt-ltb, ne_eqb}
+use Rattle.std.proofs.lemmas.Bool.{cases_lt, eqb-false, eq-eqb, eqb-true, lt-ltb, ne_eqb}
 use Rattle.std.proofs.lemmas.List.Elements.{All-contains, All-contains_itself, All-from_recursion, All-tail, All-weaker}
 use Rattle.std.proofs.lemmas.Option.{same_Some}
 use Rattle.loader.specs.Image.{Words}
@@ -25,24 +25,18 @@ use Rattle.flow_graph.proofs.StepEdges.{map_contains}
 
 -- ## Numbers that ascend
 
+or_false : (b c : Bool) → (b || c) ≡ false → c ≡ false
+or_false true c h = absurd (cc)
+or_false false c h = h
+
 not_any : (x : ℕ) (xs : List ℕ) (y : ℕ) → list_any (nat_eq x) xs ≡ false → Contains xs y → x ≡ y → ⊥
 not_any x [] y none h e = no_member y h
-not_any x (z ∷ zs) y none h e = by_test (x == z) (list_any (nat_eq x) zs) refl none (cons_cases z zs y h)
+not_any x (z ∷ zs) y none h e = by_test (λ more. not_any x zs y (or_false (x == z) (list_any (nat_eq x) zs) none) more e) (x == z) (list_any (nat_eq x) zs) refl none (cons_cases z zs y h)
   where
-    by_test : (b rest : Bool) → (x == z) ≡ b → (b || rest) ≡ false → (z ≡ y) ⊎ Contains zs y → ⊥
-    by_test true rest is either at = cc
-    by_test false rest is either (inl same) = absurd (ne_of is (e ∙ sym same))
-    by_test false rest is either (inr more) = not_any x zs y (rest_none none) more e
-
-    ne_of : (x == z) ≡ false → x ≡ z → ⊥
-    ne_of is same = eqb-false x z is same
-
-    rest_none : list_any (nat_eq x) (z ∷ zs) ≡ false → list_any (nat_eq x) zs ≡ false
-    rest_none h = or_false (x == z) (list_any (nat_eq x) zs) h
-
-    or_false : (b c : Bool) → (b || c) ≡ false → c ≡ false
-    or_false true c h = absurd (cc)
-    or_false false c h = h
+    by_test : (Contains zs y → ⊥) → (b rest : Bool) → (x == z) ≡ b → (b || rest) ≡ false → (z ≡ y) ⊎ Contains zs y → ⊥
+    by_test later true rest is either at = cc
+    by_test later false rest is either (inl same) = eqb-false x z is (e ∙ sym same)
+    by_test later false rest is either (inr more) = later more
 
 pub distinct : (xs : List ℕ) → Ascend xs → are_distinct xs ≡ true
 distinct [] h = refl
@@ -51,37 +45,39 @@ distinct (x ∷ xs) h = rw (first_apart x xs h, distinct xs (rest_ascend x xs h)
 -- pages of one number are one page
 pub one_page : (number : PlacedPage → ℕ) (pages : List PlacedPage) → Ascend (map number pages) → (p q : PlacedPage) → Contains pages p → Contains pages q → number p ≡ number q → p ≡ q
 one_page number [] h p q hp hq e = absurd (no_member p hp)
-one_page number (x ∷ xs) h p q hp hq e = by_place (cons_cases x xs p hp) (cons_cases x xs q hq)
+one_page number (x ∷ xs) h p q hp hq e = by_place (λ a b. one_page number xs (rest_ascend (number x) (map number xs) h) p q a b e) (cons_cases x xs p hp) (cons_cases x xs q hq)
   where
     apart : (y : PlacedPage) → Contains xs y → number x ≡ number y → ⊥
     apart y more same = not_any (number x) (map number xs) (number y) (first_apart (number x) (map number xs) h) (map_contains number xs y more) same
 
-    by_place : (x ≡ p) ⊎ Contains xs p → (x ≡ q) ⊎ Contains xs q → p ≡ q
-    by_place (inl a) (inl b) = sym a ∙ b
-    by_place (inl a) (inr b) = absurd (apart q b (ap number a ∙ e))
-    by_place (inr a) (inl b) = absurd (apart p a (ap number b ∙ sym e))
-    by_place (inr a) (inr b) = one_page number xs (rest_ascend (number x) (map number xs) h) p q a b e
+    by_place : (Contains xs p → Contains xs q → p ≡ q) → (x ≡ p) ⊎ Contains xs p → (x ≡ q) ⊎ Contains xs q → p ≡ q
+    by_place later (inl a) (inl b) = sym a ∙ b
+    by_place later (inl a) (inr b) = absurd (apart q b (ap number a ∙ e))
+    by_place later (inr a) (inl b) = absurd (apart p a (ap number b ∙ sym e))
+    by_place later (inr a) (inr b) = later a b
 
 -- ## The map of a file
 
 pub stated_page : (pages : List PlacedPage) (l : ℕ) (e : Entry) → stated_at (map open_page pages) l ≡ Some e → (p : PlacedPage) × Contains pages p × (p.logical ≡ l) × (e ≡ record { physical = p.physical; level = 0 })
 stated_page [] l e h = absurd (cc)
-stated_page (p ∷ ps) l e h = by_test (p.logical == l) refl h
+stated_page (p ∷ ps) l e h = by_test (stated_page ps l e) (p.logical == l) refl h
   where
-    by_test : (b : Bool) → (p.logical == l) ≡ b → cond b (Some (record { physical = p.physical; level = 0 })) (stated_at (map open_page ps) l) ≡ Some e
+    by_test : (stated_at (map open_page ps) l ≡ Some e → (q : PlacedPage) × Contains ps q × (q.logical ≡ l) × (e ≡ record { physical = q.physical; level = 0 }))
+        → (b : Bool) → (p.logical == l) ≡ b → cond b (Some (record { physical = p.physical; level = 0 })) (stated_at (map open_page ps) l) ≡ Some e
         → (q : PlacedPage) × Contains (p ∷ ps) q × (q.logical ≡ l) × (e ≡ record { physical = q.physical; level = 0 })
-    by_test true is at = (p, here p ps, eqb-true p.logical l is, sym (same_Some _ _ at))
-    by_test false is at = (let w = stated_page ps l e at in (w.0, there p ps w.0 w.1, w.2, w.3))
+    by_test later true is at = (p, here p ps, eqb-true p.logical l is, sym (same_Some _ _ at))
+    by_test later false is at = (let w = later at in (w.0, there p ps w.0 w.1, w.2, w.3))
 
 pub page_stated : (pages : List PlacedPage) → Ascend (map (λ p. p.logical) pages) → (p : PlacedPage) → Contains pages p → stated_at (map open_page pages) p.logical ≡ Some (record { physical = p.physical; level = 0 })
 page_stated [] h p c = absurd (no_member p c)
-page_stated (q ∷ ps) h p c = by_place (cons_cases q ps p c)
+page_stated (q ∷ ps) h p c = by_place (page_stated ps (rest_ascend q.logical (map (λ x. x.logical) ps) h) p) (cons_cases q ps p c)
   where
-    by_place : (q ≡ p) ⊎ Contains ps p → cond (q.logical == p.logical) (Some (record { physical = q.physical; level = 0 })) (stated_at (map open_page ps) p.logical) ≡ Some (record { physical = p.physical; level = 0 })
-    by_place (inl same) = rw (ap (λ (x : PlacedPage). x.logical) same, eqb-refl p.logical) (ap (λ (x : PlacedPage). Some (record { physical = x.physical; level = 0 })) same)
-    by_place (inr more) =
+    by_place : (Contains ps p → stated_at (map open_page ps) p.logical ≡ Some (record { physical = p.physical; level = 0 }))
+        → (q ≡ p) ⊎ Contains ps p → cond (q.logical == p.logical) (Some (record { physical = q.physical; level = 0 })) (stated_at (map open_page ps) p.logical) ≡ Some (record { physical = p.physical; level = 0 })
+    by_place later (inl same) = rw (ap (λ (x : PlacedPage). x.logical) same, eq-eqb p.logical p.logical refl) (ap (λ (x : PlacedPage). Some (record { physical = x.physical; level = 0 })) same)
+    by_place later (inr more) =
         let apart = not_any q.logical (map (λ x. x.logical) ps) p.logical (first_apart q.logical (map (λ x. x.logical) ps) h) (map_contains (λ x. x.logical) ps p more) in
-        rw (ne_eqb q.logical p.logical apart) (page_stated ps (rest_ascend q.logical (map (λ x. x.logical) ps) h) p more)
+        rw (ne_eqb q.logical p.logical apart) (later more)
 
 physical_is : (e : Entry) (physical level : ℕ) → e ≡ record { physical = physical; level = level } → e.physical ≡ physical
 physical_is e physical level h = ap (λ (x : Entry). x.physical) h
