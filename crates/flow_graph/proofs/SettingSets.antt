@@ -169,12 +169,14 @@ single_sets aim x lowest base rn user may at =
     record {
       register_other = other aim 1 lowest held (omega arith) (x.load && is_pc x.rd) (word_address lowest 0) rn;
       word_apart = apart aim 1 lowest held (omega arith) x.load (is_pc x.rd) may;
-      set = λ st to s i class_is target has.
-          (rn, user,
-          subst (λ r. TransfersDearest st aim.profile aim.address to s i x.load (is_pc x.rd) 1 (address_for (of_immediate x) r))
-          (sym (has_base aim s i held (word_address lowest 0) (x.load && is_pc x.rd) has))
-          (subst (TransfersDearest st aim.profile aim.address to s i x.load (is_pc x.rd) 1) (sym at)
-          (transfers aim st to s i class_is target x.load (is_pc x.rd) 1 lowest held (omega arith) may has)));
+      set = λ st to s i class_is target has. (
+        rn,
+        user,
+        subst (λ r. TransfersDearest st aim.profile aim.address to s i x.load (is_pc x.rd) 1 (address_for (of_immediate x) r))
+            (sym (has_base aim s i held (word_address lowest 0) (x.load && is_pc x.rd) has))
+            (subst (TransfersDearest st aim.profile aim.address to s i x.load (is_pc x.rd) 1) (sym at)
+            (transfers aim st to s i class_is target x.load (is_pc x.rd) 1 lowest held (omega arith) may has)),
+      );
     }
 
 -- the word of a single transfer stands at its address

@@ -1,22 +1,24 @@
 -- The machine of an edge's file takes the edge at its price.
-use Rattle.std.proofs.Common.{◌≡◌, ℕ, ◌+◌, ◌*◌, ◌-◌, ◌/◌, ◌%◌, ◌^◌, ◌<◌, ◌≤◌, ◌==◌, ◌&&◌, ◌⊎◌, inl, inr, Bool, true, false, cond, not, nat_lt, Option, Some, None, Result, Ok, Err, List, [], ◌∷◌, ◌++◌, length, map, IsTrue, replicate, refl, sym, ap, subst, ◌∙◌, arith}
-use Rattle.std.specs.Prelude.{All, Contains, IfSome, IsSome, is_some, slice_index, slice_set, nat_le}
+use Rattle.std.proofs.Common.{◌≡◌, ℕ, ◌+◌, ◌*◌, ◌-◌, ◌/◌, ◌%◌, ◌^◌, ◌<◌, ◌≤◌, ◌==◌, ◌&&◌, ◌⊎◌, inl, inr, Bool, true, false, cond, not, nat_lt, Option, Some, None, Result, Ok, Err, List, [], ◌∷◌, ◌++◌, length, map, get_or, IsTrue, replicate, refl, sym, ap, subst, ◌∙◌, arith}
+use Rattle.std.specs.Prelude.{All, Contains, IfErr, IfSome, IsSome, is_some, slice_index, slice_set, nat_le}
 use Rattle.std.proofs.lemmas.Bool.{cases_lt, eq-eqb, eqb-false, le-leb, lt-ltb}
 use Rattle.std.proofs.lemmas.List.{get_or-set_same, get_or_append_left, get_or_push, length-append, length-replicate, length-set}
 use Rattle.std.proofs.lemmas.List.Elements.{All-from_recursion, recursion_from_All}
+use Rattle.std.proofs.lemmas.Option.{same_Some}
 use Rattle.bus_ticks.specs.declared.profile.Profile.{Profile}
 use Rattle.bus_ticks.specs.declared.profile.RomTimes.{RomTimes}
 use Rattle.bus_ticks.specs.Dearest.{AreDearest}
 use Rattle.bus_ticks.specs.Prices.{rom_price}
 use Rattle.loader.specs.Image.{Words, may_hold, word_of}
 use Rattle.loader.specs.Inside.{AreWhole}
-use Rattle.loader.specs.Loading.{GivesWord, loaded, put_words, spot_of}
+use Rattle.loader.specs.Loading.{GivesWord, lacks_page, loaded, put_words, spot_of}
 use Rattle.loader.specs.PagePlan.{HasWordOn, IsPagePlan}
 use Rattle.loader.specs.Planned.{AreOf, IsBeside, IsFitted, IsMapped}
 use Rattle.loader.specs.declared.plan.PlacedPage.{PlacedPage}
+use Rattle.loader.proofs.MemoryLemmas.{same_spot}
 use Rattle.loader.proofs.PlaceLemmas.{may_within}
-use Rattle.loader.proofs.PlannedLemmas.{InRam, InRom, IsPlanned, beside_given, found, gives_at, image_given, image_stays, mapped_stays, parts}
-use Rattle.memc.specs.Memory.{Memory, control_of, located, word_at}
+use Rattle.loader.proofs.PlannedLemmas.{InRam, InRom, IsPlanned, beside_given, found, gives_at, image_fits, image_given, image_stays, mapped_stays, parts}
+use Rattle.memc.specs.Memory.{Memory as Memc, control_of, located, word_at}
 use Rattle.memc.specs.declared.spots.Spot.{Spot}
 use Rattle.memc.specs.declared.spots.Spot.TheVariants.{Ram, Rom}
 use Rattle.arm2_decode.specs.Names.{is_pc, register_number}
@@ -35,11 +37,15 @@ use Rattle.toml_reading.specs.Documents.{are_distinct}
 use Rattle.machine_file.specs.Parts.{IsInRange, StandsOnce}
 use Rattle.machine_file.specs.Started.{IsStarted, psr_number}
 use Rattle.machine_file.specs.Started as started
+use Rattle.flow_graph.specs.Edges.{AreEdgesOf, IsEdge}
+use Rattle.flow_graph.specs.Flow.{Flow, HasEdge, IsWellFormed}
+use Rattle.flow_graph.specs.Graph.{IsFlowGraph}
+use Rattle.flow_graph.specs.Places.{place_at}
 use Rattle.flow_graph.specs.Free.{IsFree, is_past_ram}
 use Rattle.flow_graph.specs.Setting.{HasSetting, IsData, Sets}
 use Rattle.flow_graph.specs.StepLaw.{label_by}
 use Rattle.flow_graph.specs.Tight.{IsTight}
-use Rattle.flow_graph.specs.TightFile.{HasPlaceWord, IsSettingOf, IsStand, IsTightFile, file_of, listed, masked_flags, open_page, registers_with}
+use Rattle.flow_graph.specs.TightFile.{CanPlace, HasPlaceWord, HasWordAt, IsEntryOf, IsPlaceWord, IsPlaced, IsSettingOf, IsStand, IsTightFile, file_of, listed, masked_flags, open_page, registers_with}
 use Rattle.flow_graph.specs.TightWork.{IsSetFor, IsSetForEdge, StandsAt, masked}
 use Rattle.flow_graph.specs.declared.edges.Edge.{Edge}
 use Rattle.flow_graph.specs.declared.edges.Label.TheVariants.{Skip}
@@ -47,8 +53,12 @@ use Rattle.flow_graph.specs.declared.places.Place.{Place}
 use Rattle.flow_graph.specs.declared.places.Place.TheVariants.{At, Exit}
 use Rattle.flow_graph.specs.declared.setting.Held.{Held}
 use Rattle.flow_graph.specs.declared.tight.Stand.{Stand}
+use Rattle.flow_graph.specs.declared.tight.TightFault.{TightFault}
+use Rattle.flow_graph.specs.declared.tight.TightFault.TheVariants.{Memory, NotFree}
 use Rattle.statement.specs.Stated.{Stated, class_of}
-use Rattle.flow_graph.proofs.SortedLemmas.{here}
+use Rattle.std.proofs.lemmas.List.{get_or_read}
+use Rattle.flow_graph.proofs.FlowLemmas.{has_edge_is_edge, part_of}
+use Rattle.flow_graph.proofs.SortedLemmas.{here, no_member}
 use Rattle.flow_graph.proofs.StepRegisters.{address_put}
 use Rattle.flow_graph.proofs.TightPages.{all_mappable, all_single, is_mapped}
 use Rattle.flow_graph.proofs.TightStep as step
@@ -111,7 +121,7 @@ apart_of words pages spare a at plan some has = by_place has.1
     by_place (inr rom) = ((has.0, inr (rom.0, omega (arith, rom.1))), rom.2)
 
 -- a fetch takes the word that a load takes, in RAM or in ROM
-fetched_word : (m : Memory) (a w : ℕ) (r : Result Spot _) → GivesWord m a w → spot_of m a ≡ r → InRam m a ⊎ InRom m a → fetched_at m r ≡ Some w
+fetched_word : (m : Memc) (a w : ℕ) (r : Result Spot _) → GivesWord m a w → spot_of m a ≡ r → InRam m a ⊎ InRom m a → fetched_at m r ≡ Some w
 fetched_word m a w r gives is (inl ram) = subst (λ x. fetched_at m x ≡ Some w) (sym ram.at ∙ is) (ap Some (gives_at m a w (Ram ram.place) gives ram.at))
 fetched_word m a w r gives is (inr rom) = subst (λ x. fetched_at m x ≡ Some w) (sym rom.at ∙ is) (ap Some (gives_at m a w (Rom a) gives rom.at))
 
@@ -140,7 +150,7 @@ module _ (words : Words) (st : Stated) (profile : Profile) (e : Edge) (spare : �
     abbrev s : State
     s = put_words (listed stand.setting.word) (put_words some start)
 
-    abbrev m : Memory
+    abbrev m : Memc
     m = loaded (listed stand.setting.word) (loaded some start.bus.memc)
 
     mapped : IsMapped pages start.bus.memc
@@ -241,8 +251,45 @@ module _ (words : Words) (st : Stated) (profile : Profile) (e : Edge) (spare : �
       ];
     })
 
+  image_has_places : (some : Words) (start : State) → AreOf words some → IsStarted (file_of stand pages rom) profile start → All (λ x. IsFitted x.0) some → lacks_page start.bus.memc some ≡ false
+  image_has_places some start of begun fit =
+      (image_fits words some pages spare start.bus.memc whole plan (is_mapped words pages spare rom.low rom.high plan start.bus.memc begun.memory) of).1 fit
+
+  words_have_places : (some : Words) (start : State) → IsStarted (file_of stand pages rom) profile start → lacks_page (put_words some start).bus.memc (listed stand.setting.word) ≡ false
+  words_have_places some start begun = by_word stand.setting.word besides
+    where
+      m : Memc
+      m = loaded some start.bus.memc
+
+      mapped_m : IsMapped pages m
+      mapped_m = mapped_stays pages start.bus.memc some (is_mapped words pages spare rom.low rom.high plan start.bus.memc begun.memory)
+
+      led : (x : ℕ × ℕ) → IsBeside spare x.0 → (s : Spot) × (spot_of m x.0 ≡ Ok s)
+      led x beside =
+          let g : GivesWord (loaded (x ∷ []) m) x.0 x.1 =
+          beside_given (x ∷ []) pages spare m x.0 x.1 mapped_m plan.spare_free.below
+          (All-from_recursion (λ y. IsBeside spare y.0 × (y.0 ≡ x.0 → y.1 ≡ x.1)) (x ∷ []) ((beside, λ same. refl), tt)) (here x []) in
+          (g.spot, sym (same_spot (x ∷ []) m x.0) ∙ g.leads)
+
+      by_word : (o : Option (ℕ × ℕ)) → All (λ x. IsBeside spare x.0 × (x.0 ≡ stand.address → ⊥)) (listed o) → lacks_page m (listed o) ≡ false
+      by_word None all = refl
+      by_word (Some x) all =
+          let l = led x ((recursion_from_All (λ y. IsBeside spare y.0 × (y.0 ≡ stand.address → ⊥)) (x ∷ []) all).0.0) in
+          rw (l.1) refl
+
   pub is_tight_file : IsTightFile words st profile e (file_of stand pages rom)
-  is_tight_file = record { one_step = refl; no_events = refl; tight = λ some start i of has_place begun port. is_tight some start i of has_place begun port }
+  is_tight_file = record {
+    pages = pages;
+    spare = spare;
+    plan = plan;
+    size = refl;
+    pages_are = refl;
+    one_step = refl;
+    no_events = refl;
+    image_fits = image_has_places;
+    words_fit = words_have_places;
+    tight = λ some start i of has_place begun port. is_tight some start i of has_place begun port;
+  }
 
 -- ## What the file meets
 
@@ -275,3 +322,62 @@ stands_once words pages spare stand rom plan = record { pages_once = all_single 
     by_word : (o : Option (ℕ × ℕ)) → are_distinct (keys_of (listed o)) ≡ true
     by_word None = refl
     by_word (Some x) = refl
+
+-- ## The machine with the word at the edge's place
+
+one_word : (words : Words) (x : ℕ × ℕ) → word_of words x.0 ≡ Some x.1 → AreOf words (x ∷ [])
+one_word words x has = All-from_recursion (λ y. word_of words y.0 ≡ Some y.1) (x ∷ []) (has, tt)
+
+same_pair : (words : Words) (from : Place) (x : ℕ × ℕ) → IsPlaceWord words from x → HasPlaceWord words from (x ∷ [])
+same_pair words from x h calls address word at has =
+    let here_at : x.0 ≡ address = ap address_of_place (sym h.is ∙ at) in
+    let same : x.1 ≡ word = same_Some _ _ (sym h.has ∙ ap (word_of words) here_at ∙ has) in
+    subst (Contains (x ∷ [])) (ap (λ a. (a, x.1)) here_at ∙ ap (λ w. (address, w)) same) (here x [])
+
+free_fits : (words : Words) (e : Edge) (x : ℕ × ℕ) → IsPlaceWord words e.from x → IsFree words e → IsFitted x.0
+free_fits words e x h free = fitted x.0 (subst (λ n. is_past_ram n ≡ false) (ap address_of_place (sym free.from ∙ h.is)) free.not_past_ram)
+
+pub can_place : (words : Words) (st : Stated) (profile : Profile) (e : Edge) (f : _) (x : ℕ × ℕ) → IsTightFile words st profile e f → IsPlaceWord words e.from x → IsFree words e → CanPlace profile f x
+can_place words st profile e f x file h free = record {
+  below = h.below;
+  fits = λ start begun. file.image_fits (x ∷ []) start (one_word words x h.has) begun (All-from_recursion (λ y. IsFitted y.0) (x ∷ []) (free_fits words e x h free, tt));
+  all_fit = λ start begun. file.words_fit (x ∷ []) start begun;
+}
+
+pub placed_takes : (words : Words) (st : Stated) (profile : Profile) (e : Edge) (f : _) (x : ℕ × ℕ) (s : State) (i : Input) → IsTightFile words st profile e f → IsPlaceWord words e.from x → IsPlaced profile f x s → i.port ≡ f.schedule.port
+    → IsTight words st profile e s i
+placed_takes words st profile e f x s i file h placed port =
+    subst (λ m. IsTight words st profile e m i) (sym placed.is)
+    (file.tight (x ∷ []) placed.start i (one_word words x h.has) (same_pair words e.from x h) placed.begun port)
+
+-- an edge's place has a word
+pub edge_entry : (words : Words) (st : Stated) (profile : Profile) (e : Edge) → IsEdge words st profile e → IsEntryOf words e.from
+edge_entry words st profile e is = by_place e.from is.0 is.1 is.2
+  where
+    by_place : (p : Place) (edges : List Edge) → AreEdgesOf words st profile p edges → Contains edges e → IsEntryOf words p
+    by_place (At calls address) edges are among = (are.1.word, are.1.stands)
+    by_place Exit edges are among = absurd (no_member e (subst (λ es. Contains es e) are among))
+
+-- and so has the place to which it leads, unless that is Exit
+pub edge_lands : (words : Words) (st : Stated) (profile : Profile) (flow : Flow) → IsFlowGraph words st profile flow → IsWellFormed flow → (e : Edge) → HasEdge flow e → HasWordAt words e.to
+edge_lands words st profile flow g form e has = by_place e.to (form.ends e has)
+  where
+    edges_entry : (address : ℕ) (calls : List ℕ) (edges : List Edge) → AreEdgesOf words st profile (At calls address) edges → HasWordAt words (At calls address)
+    edges_entry address calls edges are = (are.1.word, are.1.stands)
+
+    of_place : (p : Place) → (v : ℕ) × (v < length flow.places) × (place_at flow.places v ≡ p) → HasWordAt words p
+    of_place Exit w = tt
+    of_place (At calls address) w =
+        edges_entry address calls (get_or g.parts w.0 []) (subst (λ q. AreEdgesOf words st profile q (get_or g.parts w.0 [])) w.2 (part_of words st profile flow g w.0 w.1))
+
+    by_place : (p : Place) → (p ≡ Exit) ⊎ Contains flow.places p → HasWordAt words p
+    by_place p (inl exit) = subst (HasWordAt words) (sym exit) tt
+    by_place p (inr among) = of_place p (among.0, among.1, sym (get_or_read flow.places among.0 p among.1 (sym among.2) Exit))
+
+-- ## An edge by its number
+
+pub no_not_free : {T : Type 0} (r : Result T TightFault) → IfErr r (λ f. f ≡ Memory) → r ≡ Err NotFree → ⊥
+no_not_free r is e = never (subst (λ x. IfErr x (λ f. f ≡ Memory)) e is)
+  where
+    never : NotFree ≡ Memory → ⊥
+    never same = cc

@@ -174,5 +174,9 @@ numbers_kept number mapped same (q ∷ ps) = rw (same q, numbers_kept number map
 
 pub all_single : (image : Words) (pages : List PlacedPage) (spare : ℕ) → IsPagePlan image pages spare → are_single (map open_page pages) ≡ true
 all_single image pages spare plan =
-    rw (numbers_kept (λ q. q.logical) (λ q. q.logical) (λ q. refl) pages, numbers_kept (λ q. q.physical) (λ q. q.physical) (λ q. refl) pages,
-    distinct (map (λ q. q.logical) pages) plan.logical_ascend, distinct (map (λ q. q.physical) pages) plan.physical_ascend) refl
+    rw (
+      numbers_kept (λ q. q.logical) (λ q. q.logical) (λ q. refl) pages,
+      numbers_kept (λ q. q.physical) (λ q. q.physical) (λ q. refl) pages,
+      distinct (map (λ q. q.logical) pages) plan.logical_ascend,
+      distinct (map (λ q. q.physical) pages) plan.physical_ascend,
+    ) refl

@@ -151,16 +151,8 @@ some_flags words st profile e calls address word action is from has is_action =
 
 -- ## Settings
 
-pub nothing_set : (aim : Aim) (word : ℕ) (label : Label) → label ≡ Skip → IsSettingOf aim word label (record { register = None; port = 0; word = None })
-nothing_set aim word label skip = record { register_other = tt; word_apart = tt; skipped_or_set = inl skip }
-
 pub set_by : (aim : Aim) (word : ℕ) (label : Label) (x : Instr) (setting : Setting) → Means word x → Sets aim x.operation setting → IsSettingOf aim word label setting
 set_by aim word label x setting means sets = record { register_other = sets.register_other; word_apart = sets.word_apart; skipped_or_set = inr (x, means, sets) }
-
--- a free word's operation is free
-pub free_word : (word : ℕ) (label : Label) (x : Instr) → (label ≡ Skip) ⊎ IsFreeWord word → (label ≡ Skip → ⊥) → Means word x → IsTrue (is_free_operation x.operation)
-free_word word label x (inl skip) no means = absurd (no skip)
-free_word word label x (inr free) no means = subst (λ (i : Instr). IsTrue (is_free_operation i.operation)) (one_instr word free.0 x free.1 means) free.2
 
 -- the word at a free edge's place is free, unless it is passed over
 pub word_free : (words : Words) (e : Edge) (calls : List ℕ) (address word : ℕ) → IsFree words e → e.from ≡ At calls address → word_of words address ≡ Some word → (e.label ≡ Skip) ⊎ IsFreeWord word

@@ -1,7 +1,7 @@
 -- The machine file of a machine that takes an edge at its price: what the clauses of private functions cite.
 -- Our own choice among such machines: SVC mode, pages of 32 KB, both interrupts masked, one register and at
 -- most one word in memory besides the image's.
-use Rattle.std.specs.Prelude.{◌≡◌, ◌<◌, ◌⊎◌, ℕ, true, false, [], ◌∷◌, replicate, slice_set, map, List, Option, Contains}
+use Rattle.std.specs.Prelude.{◌≡◌, ◌<◌, ◌^◌, ◌⊎◌, ℕ, true, false, [], ◌∷◌, replicate, slice_set, map, All, List, Option, Contains}
 use Rattle.std.specs.Prelude.{Some, None, IfSome}
 use Rattle.bus_ticks.specs.declared.profile.Profile.{Profile}
 use Rattle.bus_ticks.specs.declared.profile.RomTimes.{RomTimes}
@@ -14,8 +14,9 @@ use Rattle.arm2_effect.specs.declared.modes.Mode.TheVariants.{Svc}
 use Rattle.arm2_effect.specs.Modes.{slot_of}
 use Rattle.loader.specs.Image.{Words, word_of}
 use Rattle.loader.specs.declared.plan.PlacedPage.{PlacedPage}
-use Rattle.loader.specs.Loading.{put_words}
-use Rattle.loader.specs.Planned.{AreOf}
+use Rattle.loader.specs.Loading.{lacks_page, put_words}
+use Rattle.loader.specs.Planned.{AreOf, IsFitted}
+use Rattle.loader.specs.PagePlan.{IsPagePlan}
 use Rattle.arm2_exec.specs.State.{State}
 use Rattle.arm2_exec.specs.declared.machine.Input.{Input}
 use Rattle.machine_file.specs.Stated as file
@@ -38,6 +39,7 @@ use Rattle.flow_graph.specs.declared.setting.Aim.{Aim}
 use Rattle.flow_graph.specs.declared.setting.Held.{Held}
 use Rattle.flow_graph.specs.declared.setting.Setting.{Setting}
 use Rattle.flow_graph.specs.declared.tight.Stand.{Stand}
+use Rattle.flow_graph.specs.declared.tight.Tight.{Tight}
 use Rattle.statement.specs.Stated.{Stated, class_of}
 
 -- ## What a word needs
@@ -124,11 +126,52 @@ HasPlaceWord words place some =
     (calls : List ℕ) (address word : ℕ) → place ≡ At calls address → word_of words address ≡ Some word
     → Contains some (address, word)
 
--- Into the machine that the file states words of the image are put, in whatever order, that at the edge's place
--- among them, and then those of the file: it takes the edge at its price in the file's one step.
+-- Of the file: its pages are those of a plan for the image. Into the machine that it states words of the image are
+-- put, in whatever order, that at the edge's place among them, and then those of the file; each has a place, but
+-- those of the image where no RAM is fitted. In the file's one step the machine takes the edge at its price.
 pub record IsTightFile (words : Words) (st : Stated) (profile : Profile) (e : Edge) (f : file.Stated) : Type 0 where
+  pub pages : List PlacedPage
+  pub spare : ℕ
+  pub plan : IsPagePlan words pages spare
+  pub size : f.controller.size ≡ K32
+  pub pages_are : f.controller.pages ≡ map open_page pages
   pub one_step : f.schedule.steps ≡ 1
   pub no_events : f.schedule.events ≡ []
+  pub image_fits : (some : Words) (start : State) → AreOf words some → IsStarted f profile start
+      → All (λ x. IsFitted x.0) some → lacks_page start.bus.memc some ≡ false
+  pub words_fit : (some : Words) (start : State) → IsStarted f profile start
+      → lacks_page (put_words some start).bus.memc f.words ≡ false
   pub tight : (some : Words) (start : State) (i : Input) → AreOf words some → HasPlaceWord words e.from some
       → IsStarted f profile start → i.port ≡ f.schedule.port
       → IsTight words st profile e (put_words f.words (put_words some start)) i
+
+-- such a file, and a machine and an input that take the edge
+pub record IsTightAt (words : Words) (st : Stated) (profile : Profile) (e : Edge) (t : Tight) : Type 0 where
+  pub takes : IsTight words st profile e t.machine t.input
+  pub file : IsTightFile words st profile e t.file
+
+-- ## Where its words go
+
+-- the place is one of a word of the image, which is that one
+abbrev pub IsEntryOf : Words → Place → Type 0
+IsEntryOf words (At calls address) = (word : ℕ) × (word_of words address ≡ Some word)
+IsEntryOf words Exit = ⊥
+
+pub record IsPlaceWord (words : Words) (place : Place) (e : ℕ × ℕ) : Type 0 where
+  pub calls : List ℕ
+  pub is : place ≡ At calls e.0
+  pub has : word_of words e.0 ≡ Some e.1
+  pub below : e.0 < 2 ^ 26
+
+-- in the file's machine there is a place for the word, and for those of the file
+pub record CanPlace (profile : Profile) (f : file.Stated) (word : ℕ × ℕ) : Type 0 where
+  pub below : word.0 < 2 ^ 26
+  pub fits : (start : State) → IsStarted f profile start → lacks_page start.bus.memc (word ∷ []) ≡ false
+  pub all_fit : (start : State) → IsStarted f profile start
+      → lacks_page (put_words (word ∷ []) start).bus.memc f.words ≡ false
+
+-- the file's machine with the word, and then with those of the file
+pub record IsPlaced (profile : Profile) (f : file.Stated) (word : ℕ × ℕ) (s : State) : Type 0 where
+  pub start : State
+  pub begun : IsStarted f profile start
+  pub is : s ≡ put_words f.words (put_words (word ∷ []) start)

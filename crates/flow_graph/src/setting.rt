@@ -14,9 +14,7 @@ use crate::kinds::lists_pc;
 use arm2_decode::{
     Block, DataImmediate, DataRegister, Multiply, Opcode, Operation, Register, SingleImmediate,
 };
-use bus_ticks::{
-    Class, Profile, ROM_START, dearest_device, dearest_ram_start, word_address,
-};
+use bus_ticks::{Class, Profile, ROM_START, dearest_device, dearest_ram_start, word_address};
 use shifter::rotate_imm;
 
 /// Where physical RAM begins, and how long a page is, in bytes.

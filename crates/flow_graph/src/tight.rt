@@ -1,27 +1,35 @@
 //! A machine whose one step takes an edge at exactly its price.
 
-ghost use Rattle.std.specs.Prelude.{◌≡◌, ◌⊎◌, ◌<◌, Err, IfErr, IfOk, IfSome, IsNone, OnOk, false, map};
+ghost use Rattle.std.specs.Prelude.{◌≡◌, ◌⊎◌, ◌<◌, Err, IfErr, IfOk, IfSome, IsNone, OnOk, All, Some, [], ◌∷◌, ◌↔◌, ◌^◌, false, length, map, slice_index_or};
+ghost use Rattle.loader.specs.Loading.{lacks_page, put_words};
+ghost use Rattle.flow_graph.specs.Graph.{IsFlowGraph};
+ghost use Rattle.flow_graph.specs.declared.edges.Edge.{Edge};
 ghost use Rattle.arm2_decode.specs.Names.{is_pc, register_number};
 ghost use Rattle.arm2_effect.specs.Modes.{slot_of};
 ghost use Rattle.arm2_effect.specs.declared.modes.Mode.TheVariants.{Svc};
 ghost use Rattle.machine_file.specs.Parts.{IsInRange, StandsOnce, stated_by};
 ghost use Rattle.flow_graph.specs.Edges.{IsEdge};
 ghost use Rattle.flow_graph.specs.Free.{IsFree, IsFreeWord};
-ghost use Rattle.flow_graph.specs.TightFile.{HasWordAt, IsSettingOf, IsStand, IsTightFile, file_of, listed, masked_flags};
+ghost use Rattle.flow_graph.specs.TightFile.{CanPlace, HasWordAt, IsEntryOf, IsPlaceWord, IsPlaced};
+ghost use Rattle.flow_graph.specs.TightFile.{IsSettingOf, IsStand, IsTightAt, IsTightFile, file_of, listed, masked_flags};
 ghost use Rattle.flow_graph.specs.TightFile.{open_page, registers_with};
 ghost use Rattle.flow_graph.specs.TightWork.{IsDearestTarget};
 ghost use Rattle.statement.specs.Stated.{Stated};
 
 use crate::edges::{Edge, Label};
 use crate::flags::flags_for;
+use crate::flow::Graph;
 use crate::free::is_free;
 use crate::kinds::action_of;
 use crate::places::Place;
 use crate::setting::{Aim, Held, NOTHING, Setting, setting_for};
 use arm2_decode::{Flags, Register, decode};
 use arm2_effect::Mode;
+use arm2_exec::{Input, Machine, MachineFault};
+use bitflags::Flags as _;
 use bus_ticks::{Class, Profile, RomTimes, dearest_leave, dearest_rom_times};
-use loader::{Image, PagePlan, page_plan};
+use ioc::Lines;
+use loader::{Image, LoadFault, PagePlan, page_plan, put_words};
 use machine_file::{
     ControllerParts, MachineFile, MachineFileFault, MachineParts, MappedPage, ProcessorParts,
     PsrFlags, ScheduleParts,
@@ -40,6 +48,17 @@ pub enum TightFault {
     /// The edge is not free ([`is_free`]).
     #[error("NotFree")]
     NotFree,
+}
+
+impl From<MachineFault> for TightFault {
+    ghost use Rattle.std.specs.Prelude.{◌≡◌};
+    ghost use Rattle.flow_graph.specs.declared.tight.TightFault.TheVariants.{Memory};
+
+    ghost from_gives = { λ _ fault. fault ≡ Memory };
+
+    fn from(_refused: MachineFault) -> TightFault {
+        TightFault::Memory
+    }
 }
 
 impl From<AllocError> for TightFault {
@@ -238,7 +257,7 @@ fn file(
     }
 }
 
-// The same, of an edge of a graph.
+// The same, of a free edge of a graph.
 fn edge_file(
     alloc: Global,
     image: &Image,
@@ -248,13 +267,145 @@ fn edge_file(
 ) -> Result<MachineFile, TightFault>
     requires is_edge { IsEdge image.now statement.now profile.now edge.now }
     requires lands { HasWordAt image.now edge.now.to }
+    requires free { IsFree image.now edge.now }
     ensures tight { IfOk result (IsTightFile image.now statement.now profile.now edge.now) }
-    ensures not_free { (result ≡ Err TightFault.NotFree) → IsFree image.now edge.now → ⊥ }
-    ensures free { OnOk result (IsFree image.now edge.now) }
+    ensures fault { IfErr result (λ fault. fault ≡ TightFault.Memory) }
 {
     let plan = page_plan(alloc, image)?;
-    let Some(stand) = stand_for(image, statement, profile, edge, plan.spare) else {
-        return Err(TightFault::NotFree);
+    match stand_for(image, statement, profile, edge, plan.spare) {
+        Some(stand) => file(alloc, &stand, &plan, dearest_rom_times(profile)),
+        None => unreachable!(),
+    }
+}
+
+// Puts words that all have a place.
+fn put(alloc: Global, machine: &mut Machine, words: &[(u32, u32)]) -> Result<(), TightFault>
+    requires below { All (λ e. e.0 < 2 ^ 26) words.now }
+    requires fit { lacks_page machine.old.bus.memc words.now ≡ false }
+    ensures put { OnOk result (machine.new ≡ put_words words.now machine.old) }
+    ensures fault { IfErr result (λ fault. fault ≡ TightFault.Memory) }
+{
+    match put_words(alloc, machine, words) {
+        Ok(()) => Ok(()),
+        Err(LoadFault::Memory) => Err(TightFault::Memory),
+        Err(LoadFault::NoPage) => unreachable!(),
+    }
+}
+
+/// A machine whose one step takes an edge at exactly its price.
+#[derive(Drop)]
+pub struct Tight {
+    /// The machine before the step. Of the image it has the word at the edge's place, and then the file's words.
+    pub machine: Machine,
+    pub input: Input,
+    /// The machine file that states it, with one step. Its pages, of 32 KB, hold each word of the image below
+    /// 2000000, and no word of the image from 2000000 on lies on them.
+    pub file: MachineFile,
+}
+
+// Puts one word into a machine, and then others.
+fn put_in_turn(
+    alloc: Global,
+    machine: &mut Machine,
+    word: (u32, u32),
+    words: &[(u32, u32)],
+) -> Result<(), TightFault>
+    requires below { word.0 < 2 ^ 26 }
+    requires fits { lacks_page machine.old.bus.memc (word ∷ []) ≡ false }
+    requires all_below { All (λ e. e.0 < 2 ^ 26) words.now }
+    requires all_fit { lacks_page (put_words (word ∷ []) machine.old).bus.memc words.now ≡ false }
+    ensures put { OnOk result (machine.new ≡ put_words words.now (put_words (word ∷ []) machine.old)) }
+    ensures fault { IfErr result (λ fault. fault ≡ TightFault.Memory) }
+{
+    put(alloc, machine, &[word])?;
+    put(alloc, machine, words)
+}
+
+// The machine of a file with a word of the image, and then those of the file.
+fn placed(
+    alloc: Global,
+    profile: &Profile,
+    file: &MachineFile,
+    word: (u32, u32),
+) -> Result<Machine, TightFault>
+    requires { CanPlace profile.now file.now word }
+    ensures placed { IfOk result (λ m. IsPlaced profile.now file.now word m) }
+    ensures fault { IfErr result (λ fault. fault ≡ TightFault.Memory) }
+{
+    let mut machine = file.machine(alloc, *profile)?;
+    put_in_turn(alloc, &mut machine, word, file.words())?;
+    Ok(machine)
+}
+
+// The image's word at a place, with its address in front.
+fn place_word(image: &Image, place: &Place) -> Option<(u32, u32)>
+    ensures word { IfSome result (λ e. IsPlaceWord image.now place.now e) }
+    ensures none { IsNone result → IsEntryOf image.now place.now → ⊥ }
+{
+    match place {
+        Place::At(_, address) => {
+            let word = image.word_at(*address)?;
+            Some((*address, word))
+        }
+        Place::Exit => None,
+    }
+}
+
+// A machine that takes a free edge of a graph.
+fn tight_edge(
+    alloc: Global,
+    image: &Image,
+    statement: &Statement,
+    profile: &Profile,
+    edge: &Edge,
+) -> Result<Tight, TightFault>
+    requires is_edge { IsEdge image.now statement.now profile.now edge.now }
+    requires lands { HasWordAt image.now edge.now.to }
+    requires free { IsFree image.now edge.now }
+    ensures tight { IfOk result (λ t. IsTightAt image.now statement.now profile.now edge.now t) }
+    ensures fault { IfErr result (λ fault. fault ≡ TightFault.Memory) }
+{
+    let Some(word) = place_word(image, &edge.from) else {
+        unreachable!();
     };
-    file(alloc, &stand, &plan, dearest_rom_times(profile))
+    let file = edge_file(alloc, image, statement, profile, edge)?;
+    let machine = placed(alloc, profile, &file, word)?;
+    let input = Input {
+        bursts: 0,
+        lines: Lines::empty(),
+        port: file.port(),
+    };
+    Ok(Tight {
+        machine,
+        input,
+        file,
+    })
+}
+
+/// A machine and an input whose one step takes the edge of that number, in the graph's order from 0, at exactly
+/// its price: in SVC mode it executes the image's word at the edge's place, moves only words of the stated
+/// classes, has the edge's label and leads to its target.
+///
+/// # Errors
+///
+/// `NotFree`: the edge is not free ([`is_free`]); of no other edge. `Memory` only where an allocation failed.
+pub fn tight_state(
+    alloc: Global,
+    image: &Image,
+    statement: &Statement,
+    graph: &Graph,
+    edge: usize,
+) -> Result<Tight, TightFault>
+    requires edge { edge < length graph.now.edges }
+    requires graph { IsFlowGraph image.now statement.now graph.now.profile graph.now }
+    ensures tight { (e : Edge) → e ≡ slice_index_or graph.now.edges edge e
+        → IfOk result (λ t. IsTightAt image.now statement.now graph.now.profile e t) }
+    ensures not_free { (e : Edge) → e ≡ slice_index_or graph.now.edges edge e
+        → (result ≡ Err TightFault.NotFree) ↔ (IsFree image.now e → ⊥) }
+{
+    let edge = &graph.edges[edge];
+    if !is_free(image, edge) {
+        return Err(TightFault::NotFree);
+    }
+    tight_edge(alloc, image, statement, &graph.profile, edge)
 }

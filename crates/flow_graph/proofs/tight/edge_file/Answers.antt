@@ -17,8 +17,5 @@ returns-clause-tight c =
     IfOk-weaker c.file.result (λ f. f ≡ _) (IsTightFile c.args.image.now c.args.statement.now c.args.profile.now c.args.edge.now)
     (λ f is. subst (IsTightFile c.args.image.now c.args.statement.now c.args.profile.now c.args.edge.now) (sym is)
     (is_tight_file c.args.image.now c.args.statement.now c.args.profile.now c.args.edge.now c.in_ok-plan.plan.spare c.in_ok-plan.plan.pages.items c.in-Some.stand c.dearest_rom_times.result
-    c.in-Some.ensures.stands c.in_ok-plan.ensures.whole c.in_ok-plan.ensures.plan c.dearest_rom_times.ensures.dearest c.in-Some.ensures.free))
+    c.in-Some.ensures.stands c.in_ok-plan.ensures.whole c.in_ok-plan.ensures.plan c.dearest_rom_times.ensures.dearest c.requires.free))
     c.file.ensures.file
-
-pub returns-clause-free : goal.returns-clause-free
-returns-clause-free c = IfOk-weaker c.file.result (λ f. f ≡ _) (λ f. _) (λ f is. c.in-Some.ensures.free) c.file.ensures.file

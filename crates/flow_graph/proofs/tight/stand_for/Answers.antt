@@ -5,7 +5,7 @@ use Rattle.flow_graph.proofs.tight.stand_for.Goals as goal
 pub returns-in_err-flags-clause-none : goal.returns-in_err-flags-clause-none
 returns-in_err-flags-clause-none c none free =
     let f =
-        some_flags c.args.image.now c.args.statement.now c.args.profile.now c.args.edge.now _ c.in-At.address c.in_ok-word.word c.action_of.result c.requires.is_edge c.in-At.is (sym c.in_ok-word.ensures.value) c.action_of.ensures.value in
+    some_flags c.args.image.now c.args.statement.now c.args.profile.now c.args.edge.now _ c.in-At.address c.in_ok-word.word c.action_of.result c.requires.is_edge c.in-At.is (sym c.in_ok-word.ensures.value) c.action_of.ensures.value in
     absurd (c.in_err-flags.ensures.none (search rules) f.0 f.1)
 
 pub setting_at-requires-clause-free : goal.setting_at-requires-clause-free
