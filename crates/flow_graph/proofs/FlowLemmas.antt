@@ -27,7 +27,7 @@ module _ (words : Words) (st : Stated) (profile : Profile) (flow : Flow) (g : Is
   -- ## Edges
 
   -- the edges of the place of a number
-  part_of : (v : ℕ) → v < length flow.places → AreEdgesOf words st profile (place_at flow.places v) (get_or g.parts v [])
+  pub part_of : (v : ℕ) → v < length flow.places → AreEdgesOf words st profile (place_at flow.places v) (get_or g.parts v [])
   part_of v lt = zip_at (AreEdgesOf words st profile) flow.places g.parts v Exit [] g.parts_are lt
 
   same_length : length flow.places ≡ length g.parts

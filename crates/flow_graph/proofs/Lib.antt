@@ -25,3 +25,8 @@ pub mod TightTransfers
 pub mod TightOperations
 pub mod TightArrivals
 pub mod TightStep
+mod SettingLemmas
+mod SettingSets
+mod TightStand
+mod TightPages
+mod TightMade

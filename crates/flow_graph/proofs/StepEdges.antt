@@ -41,7 +41,7 @@ always_holds _ f h = refl
 
 -- ## Lists
 
-contains_map : {X Y : Type 0} (f : X → Y) (xs : List X) (y : Y) → Contains (map f xs) y → (x : X) × Contains xs x × (f x ≡ y)
+pub contains_map : {X Y : Type 0} (f : X → Y) (xs : List X) (y : Y) → Contains (map f xs) y → (x : X) × Contains xs x × (f x ≡ y)
 contains_map f [] y h = absurd (no_member y h)
 contains_map f (x ∷ xs) y h = by_place (λ more. contains_map f xs y more) (cons_cases (f x) (map f xs) y h)
   where
@@ -49,7 +49,7 @@ contains_map f (x ∷ xs) y h = by_place (λ more. contains_map f xs y more) (co
     by_place rest (inl e) = (x, here x xs, e)
     by_place rest (inr more) = let w = rest more in (w.0, there x xs w.0 w.1, w.2)
 
-map_contains : {X Y : Type 0} (f : X → Y) (xs : List X) (x : X) → Contains xs x → Contains (map f xs) (f x)
+pub map_contains : {X Y : Type 0} (f : X → Y) (xs : List X) (x : X) → Contains xs x → Contains (map f xs) (f x)
 map_contains f [] x h = absurd (no_member x h)
 map_contains f (z ∷ xs) x h = by_place (λ more. map_contains f xs x more) (cons_cases z xs x h)
   where

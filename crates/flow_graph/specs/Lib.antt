@@ -10,6 +10,8 @@ pub mod StepLaw
 pub mod Free
 pub mod Tight
 pub mod TightWork
+pub mod Setting
+pub mod TightFile
 pub use Rattle.walks.specs.Walk
 pub use Rattle.bus_ticks.specs.Prices
 pub use Rattle.bus_ticks.specs.Worst

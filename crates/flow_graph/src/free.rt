@@ -21,7 +21,7 @@ fn is_past_ram(address: u32) -> bool
     LARGEST_RAM_END <= address && address < IO_START
 }
 
-fn writes_pc(opcode: Opcode, rd: Register) -> bool
+pub(crate) fn writes_pc(opcode: Opcode, rd: Register) -> bool
     ensures { result ≡ writes_pc opcode rd }
 {
     is_r15_writer(data_processing(opcode, rd))

@@ -14,8 +14,10 @@ mod law;
 mod places;
 mod pushing;
 mod search;
+mod setting;
 mod strays;
 mod ticks;
+mod tight;
 
 pub use building::build;
 pub use call_list::{Calls, DEPTH};
@@ -28,3 +30,4 @@ pub use law::{run_law, step_law, tight_law};
 pub use places::{Place, order_of_places};
 pub use search::MOST_PLACES;
 pub use statement::{Loop, Statement, StatementFault, Target, TargetKind, read_statement};
+pub use tight::{Tight, TightFault, tight_state};

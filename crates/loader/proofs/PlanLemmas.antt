@@ -8,15 +8,16 @@ use Rattle.std.specs.declared.cmp.Ordering.TheVariants.{Less}
 use Rattle.std.proofs.lemmas.Bool.{cases_lt}
 use Rattle.std.proofs.lemmas.Bool.Decides.{nat_tests}
 use Rattle.std.proofs.lemmas.Cmp.{nat_eq_equiv}
-use Rattle.std.proofs.lemmas.List.{get_or-map, get_or_default, length-map}
-use Rattle.std.proofs.lemmas.List.Elements.{All-cons, All-contains, All-contains_itself, All-filter, All-from_get_or, All-from_recursion, All-get_or, All-head, All-nil, All-tail, Contains-get_or, filter_passes}
+use Rattle.std.proofs.lemmas.List.{get_or-map, get_or-take, get_or_default, length-map, length-take}
+use Rattle.std.proofs.lemmas.List.Elements.{All-cons, All-contains, All-contains_itself, All-filter, All-from_get_or, All-from_recursion, All-get_or, All-head, All-map, All-nil, All-tail, Contains-get_or, filter_passes}
 use Rattle.std.proofs.lemmas.List.Filters.{length-filter_both}
-use Rattle.std.proofs.lemmas.List.FromFn.{length-range_with_len}
+use Rattle.std.proofs.lemmas.List.FromFn.{get_or-range_with_len, length-range_with_len}
 use Rattle.std.proofs.lemmas.List.Kept.{IsStrictlySortedBy-filter}
 use Rattle.std.proofs.lemmas.List.Sorted.{searched}
 use Rattle.std.proofs.lemmas.List.Sums.{count_by-le-length, length-filter}
 use Rattle.std.proofs.lemmas.Map.Keys.{below_from_sorted, non_decreasing_from_sorted}
 use Rattle.std.proofs.lemmas.Map.Made.{length-le_from_is_member}
+use Rattle.std.proofs.lemmas.Map.Steps.{length-le_from_distinct_below}
 use Rattle.std.proofs.lemmas.Map.Views.{Contains-from_any, list_any-from_Contains}
 use Rattle.loader.specs.Image.{Words}
 use Rattle.loader.specs.PagePlan.{AreHeld, Ascend, HasWordOn, IsFree, IsPagePlan, is_logical, is_unnamed, placed}
@@ -147,12 +148,23 @@ on_free words (l ∷ ls) [] all = All-nil (λ (p : PlacedPage). IsFree words p.p
 on_free words (l ∷ ls) (f ∷ fs) all =
     All-cons (λ (p : PlacedPage). IsFree words p.physical) (placed (l, f)) (map placed (zip ls fs)) (All-head (IsFree words) f fs all) (on_free words ls fs (All-tail (IsFree words) f fs all))
 
-spare_other : (ls fs : List ℕ) → Ascend fs → length ls < length fs → All (λ (p : PlacedPage). p.physical ≢ get_or fs (length ls) 0) (map placed (zip ls fs))
-spare_other [] fs up lt = All-nil (λ (p : PlacedPage). p.physical ≢ get_or fs 0 0)
-spare_other (l ∷ ls) [] up lt = absurd (omega (arith, lt))
-spare_other (l ∷ ls) (f ∷ fs) up lt =
+spare_over : (ls fs : List ℕ) → Ascend fs → length ls < length fs → All (λ (p : PlacedPage). p.physical < get_or fs (length ls) 0) (map placed (zip ls fs))
+spare_over [] fs up lt = All-nil (λ (p : PlacedPage). p.physical < get_or fs 0 0)
+spare_over (l ∷ ls) [] up lt = absurd (omega (arith, lt))
+spare_over (l ∷ ls) (f ∷ fs) up lt =
     let below = below_from_sorted (f ∷ fs) 0 (suc (length ls)) 0 up (omega arith) lt in
-    All-cons (λ (p : PlacedPage). p.physical ≢ get_or fs (length ls) 0) (placed (l, f)) (map placed (zip ls fs)) (λ same. omega (arith, below, same)) (spare_other ls fs (rest_ascend f fs up) (omega (arith, lt)))
+    All-cons (λ (p : PlacedPage). p.physical < get_or fs (length ls) 0) (placed (l, f)) (map placed (zip ls fs)) below (spare_over ls fs (rest_ascend f fs up) (omega (arith, lt)))
+
+-- what is below the n-th of numbers that ascend is one of those before it
+in_front : (xs : List ℕ) (n x : ℕ) → Ascend xs → n < length xs → Contains xs x → x < get_or xs n 0 → Contains (take n xs) x
+in_front xs n x up lt c below = elim (cases_lt c.0 n) [
+  | inl before ↦ (let long = length-take n xs in (c.0, omega (arith, long, before, lt), get_or-take n xs c.0 x before ∙ c.2))
+  | inr after ↦
+      let le = non_decreasing_from_sorted xs up n c.0 x after c.1 in
+      let same = get_or_default xs n x 0 lt in
+      let is = c.2 in
+      absurd (omega (arith, le, same, is, below))
+]
 
 -- ## The plan
 
@@ -192,6 +204,14 @@ all_free words held are = λ k d lt.
     (All-filter (is_unnamed held) (λ (p : ℕ). p < 128) (range_with_len 0 128) (All-from_recursion (λ (p : ℕ). p < 128) (range_with_len 0 128) (range_below 0 128 128 (omega arith))) k d lt)
     (filter_passes (is_unnamed held) (range_with_len 0 128) k d lt)
 
+free_listed : (words : Words) (held : List ℕ) (p : ℕ) → AreHeld words held → IsFree words p → Contains (filter (is_unnamed held) (range_with_len 0 128)) p
+free_listed words held p are open_page =
+    let none = never (list_any (nat_eq (1024 + p)) held) (λ h. open_page.unnamed ((are.held (1024 + p)).0 (Contains-from_any same_number (1024 + p) held h))) in
+    let long = length-range_with_len 0 128 in
+    let below = open_page.below in
+    let here : 0 + p ≡ p = omega arith in
+    contains_kept (is_unnamed held) (range_with_len 0 128) p (ap not none) (p, omega (arith, long, below), get_or-range_with_len 0 128 p p below ∙ here)
+
 abbrev pub pages_on : List ℕ → List ℕ → List PlacedPage
 pages_on held free = map placed (zip (filter is_logical held) free)
 
@@ -225,7 +245,8 @@ plan_at words held free are frees =
       physical_ascend = subst (λ (ns : List ℕ). Ascend ns) (sym (physicals lows free)) (front_ascends (length lows) free up);
       free = on_free words lows free all;
       spare_free = All-get_or (IsFree words) free (length lows) 0 lt all;
-      spare_apart = spare_other lows free up lt;
+      spare_above = spare_over lows free up lt;
+      lowest = λ p open_page below. subst (λ (ps : List ℕ). Contains ps p) (sym (physicals lows free)) (in_front free (length lows) p up lt (subst (λ (fs : List ℕ). Contains fs p) (sym frees) (free_listed words held p are open_page)) below);
     }
 
 pub plan_is : (words : Words) (held free : List ℕ) (pages : List PlacedPage) (n spare : ℕ) → AreHeld words held → free ≡ filter (is_unnamed held) (range_with_len 0 128) → pages ≡ pages_on held free
@@ -248,3 +269,11 @@ logical_below words pages spare plan = λ i d lt.
 
 pub physical_below : (words : Words) (pages : List PlacedPage) (spare : ℕ) → IsPagePlan words pages spare → All (λ (p : PlacedPage). p.physical < 128) pages
 physical_below words pages spare plan = λ i d lt. (plan.free i d lt).below
+
+pub few_pages : (words : Words) (pages : List PlacedPage) (spare : ℕ) → IsPagePlan words pages spare → length pages ≤ 128
+few_pages words pages spare plan =
+    let places = map (λ (p : PlacedPage). p.physical) pages in
+    let all = All-map (λ (x : ℕ). x < 128) (λ (p : PlacedPage). p.physical) pages (physical_below words pages spare plan) in
+    let most = length-le_from_distinct_below places 128 (distinct places plan.physical_ascend) (λ q h. All-contains (λ (x : ℕ). x < 128) places q all (Contains-from_any same_number q places h)) in
+    let long = length-map pages (λ (p : PlacedPage). p.physical) in
+    omega (arith, most, long)

@@ -1,14 +1,14 @@
 -- What loads give where an image's words are put into memory whose pages lie as a plan says.
-use Rattle.std.proofs.Common.{◌≡◌, ◌≢◌, ◌∙◌, ℕ, ◌+◌, ◌-◌, ◌*◌, ◌/◌, ◌%◌, ◌^◌, ◌<◌, ◌≤◌, ◌⊎◌, inl, inr, Bool, true, false, cond, List, map, get_or, Option, Some, None, Result, Ok, Err, refl, sym, ap, subst, arith}
-use Rattle.std.specs.Prelude.{IsSome, is_some, nat_le, All}
-use Rattle.std.specs.List.{Contains}
+use Rattle.std.proofs.Common.{◌∷◌, [], ◌↔◌, ◌≡◌, ◌≢◌, ◌∙◌, ℕ, ◌+◌, ◌-◌, ◌*◌, ◌/◌, ◌%◌, ◌^◌, ◌<◌, ◌≤◌, ◌⊎◌, inl, inr, Bool, true, false, cond, List, map, get_or, Option, Some, None, Result, Ok, Err, refl, sym, ap, subst, arith}
+use Rattle.std.specs.Prelude.{◌||◌, IsSome, is_some, nat_le, All}
+use Rattle.std.specs.List.{AllByRecursion, Contains}
 use Rattle.std.proofs.lemmas.Bool.{cases_lt, le-ltb, lt-ltb}
 use Rattle.std.proofs.lemmas.Bool.Decides.{nat_tests}
-use Rattle.std.proofs.lemmas.List.Elements.{All-contains, All-map, recursion_from_All}
+use Rattle.std.proofs.lemmas.List.Elements.{All-contains, All-from_recursion, All-map, recursion_from_All}
 use Rattle.std.proofs.lemmas.Option.{same_Some}
 use Rattle.loader.specs.Image.{Words, word_of}
 use Rattle.loader.specs.Inside.{AreWhole}
-use Rattle.loader.specs.Loading.{GivesWord, loaded, spot_of}
+use Rattle.loader.specs.Loading.{GivesWord, is_refused, lacks_page, loaded, spot_of}
 use Rattle.loader.specs.PagePlan.{IsFree, IsPagePlan}
 use Rattle.loader.specs.Planned.{AreOf, IsBeside, IsFitted, IsMapped}
 use Rattle.loader.specs.declared.plan.PlacedPage.{PlacedPage}
@@ -128,10 +128,10 @@ mapped_stays pages m words h = record { size = h.size; whole = same_whole 15 wor
 
 -- ## Words of the image, each at a place of its own
 
-record IsPlanned (image : Words) (pages : List PlacedPage) (spare : ℕ) (m : Memory) : Type 0 where
-  whole : AreWhole image
-  plan : IsPagePlan image pages spare
-  mapped : IsMapped pages m
+pub record IsPlanned (image : Words) (pages : List PlacedPage) (spare : ℕ) (m : Memory) : Type 0 where
+  pub whole : AreWhole image
+  pub plan : IsPagePlan image pages spare
+  pub mapped : IsMapped pages m
 
 -- a logical page of the plan
 record IsOnPlan (image : Words) (m : Memory) (spare logical : ℕ) : Type 0 where
@@ -141,14 +141,14 @@ record IsOnPlan (image : Words) (m : Memory) (spare logical : ℕ) : Type 0 wher
   on : page_at m.paged logical ≡ Some (record { physical = physical; level = 0 })
 
 each_on_plan : (image : Words) (pages : List PlacedPage) (spare : ℕ) (m : Memory) → IsPlanned image pages spare m → All (λ (p : PlacedPage). IsOnPlan image m spare p.logical) pages
-each_on_plan image pages spare m h = λ i d lt. record { physical = (get_or pages i d).physical; free = h.plan.free i d lt; apart = h.plan.spare_apart i d lt; on = h.mapped.placed i d lt }
+each_on_plan image pages spare m h = λ i d lt. record { physical = (get_or pages i d).physical; free = h.plan.free i d lt; apart = (let below = h.plan.spare_above i d lt in λ same. omega (arith, below, same)); on = h.mapped.placed i d lt }
 
 on_plan : (image : Words) (pages : List PlacedPage) (spare : ℕ) (m : Memory) → IsPlanned image pages spare m → (a : ℕ) → IsSome (word_of image a) → a < 0x2000000 → IsOnPlan image m spare (a / 2 ^ 15)
 on_plan image pages spare m h a some low =
     All-contains (IsOnPlan image m spare) (map (λ p. p.logical) pages) (a / 2 ^ 15) (All-map (IsOnPlan image m spare) (λ (p : PlacedPage). p.logical) pages (each_on_plan image pages spare m h))
     ((h.plan.logical (a / 2 ^ 15)).1 (omega (arith, low), (a, some, refl)))
 
-parts : (image : Words) (a : ℕ) → AreWhole image → IsSome (word_of image a) → (a % 4 ≡ 0) × (a < 0x4000000) × ((a < 0x3000000) ⊎ (0x3400000 ≤ a))
+pub parts : (image : Words) (a : ℕ) → AreWhole image → IsSome (word_of image a) → (a % 4 ≡ 0) × (a < 0x4000000) × ((a < 0x3000000) ⊎ (0x3400000 ≤ a))
 parts image a whole some = may_parts a (held image a whole.may_stand some)
 
 planned_physical : (image : Words) (pages : List PlacedPage) (spare : ℕ) (m : Memory) (h : IsPlanned image pages spare m) (a k : ℕ) (some : IsSome (word_of image a)) (x : IsLow m a k)
@@ -247,15 +247,15 @@ same_rom image words m a w size of is = recursion_from_All (λ (e : ℕ × ℕ).
     same_Some e.1 w (sym own ∙ ap (word_of image) (rom_where m e.0 a size at) ∙ is))
 
 -- where a word of the image is found, by the kind of its address
-record InRam (m : Memory) (a : ℕ) : Type 0 where
-  place : ℕ
+pub record InRam (m : Memory) (a : ℕ) : Type 0 where
+  pub place : ℕ
   below : place < 2 ^ 22
-  at : spot_of m a ≡ Ok (Ram place)
+  pub at : spot_of m a ≡ Ok (Ram place)
   here : Where m a (place / 4)
 
-record InRom (m : Memory) (a : ℕ) : Type 0 where
+pub record InRom (m : Memory) (a : ℕ) : Type 0 where
   four : a % 4 ≡ 0
-  at : spot_of m a ≡ Ok (Rom a)
+  pub at : spot_of m a ≡ Ok (Rom a)
 
 in_low : (image : Words) (pages : List PlacedPage) (spare : ℕ) (m : Memory) (a : ℕ) → IsPlanned image pages spare m → IsSome (word_of image a) → a < 0x2000000 → InRam m a
 in_low image pages spare m a h some low =
@@ -278,7 +278,7 @@ in_high m a size high below = record {
 }
 
 -- a word of the image that a load finds at all
-found : (image : Words) (pages : List PlacedPage) (spare : ℕ) (m : Memory) (a : ℕ) → IsPlanned image pages spare m → IsSome (word_of image a) → IsFitted a → InRam m a ⊎ InRom m a
+pub found : (image : Words) (pages : List PlacedPage) (spare : ℕ) (m : Memory) (a : ℕ) → IsPlanned image pages spare m → IsSome (word_of image a) → IsFitted a → InRam m a ⊎ InRom m a
 found image pages spare m a h some fits = elim (cases_lt a 0x2000000) [
   | inl low ↦ inl (in_low image pages spare m a h some low)
   | inr high ↦ elim fits [
@@ -309,7 +309,7 @@ same_ok s t e = cc
 no_ok : (s : Spot) (r : Refused) → (let o : Result Spot Refused = Err r in o) ≡ Ok s → ⊥
 no_ok s r e = cc
 
-gives_at : (m : Memory) (a w : ℕ) (spot : Spot) → GivesWord m a w → spot_of m a ≡ Ok spot → word_at m spot ≡ w
+pub gives_at : (m : Memory) (a w : ℕ) (spot : Spot) → GivesWord m a w → spot_of m a ≡ Ok spot → word_at m spot ≡ w
 gives_at m a w spot g at = subst (λ (s : Spot). word_at m s ≡ w) (same_ok g.spot spot (sym g.leads ∙ at)) g.gives
 
 -- an address that gives a word leads somewhere
@@ -383,3 +383,42 @@ beside_given beside pages spare m a w mapped fits all c = given_beside here.1
         let below : a < 0x2400000 = omega (arith, is, lt, fits) in
         give_ram beside m a w ((a - 0x2000000) / 4 * 4) mapped.whole (omega (arith, below)) (spot_fitted m a mapped.size high below) (alone_ram beside spare m a w mapped.size here.0 high all) c
     given_beside (inr r) = give_rom beside m a w here.0 (spot_rom m a r.0) (alone_rom beside spare m a w mapped.size all) c
+
+-- ## Which words lead to a place at all
+
+neither : (b c : Bool) → (b || c) ≡ false → (b ≡ false) × (c ≡ false)
+neither true c e = absurd (cc)
+neither false c e = (refl, e)
+
+found_fits : (m : Memory) (a : ℕ) → m.shift ≡ 15 → is_refused (spot_of m a) ≡ false → IsFitted a
+found_fits m a size e = elim (cases_lt a 0x2400000) [
+  | inl below ↦ inl below
+  | inr past ↦ elim (cases_lt a 0x3000000) [ inl io ↦ (let refused = ap is_refused (spot_unfitted m a size past io) in absurd (cc)) | inr high ↦ inr high ]
+]
+
+all_found : (m : Memory) (words : Words) → m.shift ≡ 15 → lacks_page m words ≡ false → AllByRecursion (λ e. IsFitted e.0) words
+all_found m [] size e = tt
+all_found m (x ∷ rest) size e =
+    let p = neither (is_refused (spot_of m x.0)) (lacks_page m rest) e in
+    (found_fits m x.0 size p.0, all_found m rest size p.1)
+
+found_by : (m : Memory) (a : ℕ) → InRam m a ⊎ InRom m a → is_refused (spot_of m a) ≡ false
+found_by m a (inl r) = ap is_refused r.at
+found_by m a (inr r) = ap is_refused r.at
+
+none_lacks : (image : Words) (pages : List PlacedPage) (spare : ℕ) (m : Memory) (words : Words) → IsPlanned image pages spare m → AllByRecursion (λ e. word_of image e.0 ≡ Some e.1) words → AllByRecursion (λ e. IsFitted e.0) words
+    → lacks_page m words ≡ false
+none_lacks image pages spare m [] h of fits = refl
+none_lacks image pages spare m (x ∷ rest) h of fits =
+    let here = found_by m x.0 (found image pages spare m x.0 h (ap is_some of.0) fits.0) in
+    rw (here, none_lacks image pages spare m rest h of.1 fits.1) refl
+
+pub image_fits : (image words : Words) (pages : List PlacedPage) (spare : ℕ) (m : Memory) → AreWhole image → IsPagePlan image pages spare → IsMapped pages m → AreOf image words
+    → (lacks_page m words ≡ false) ↔ All (λ e. IsFitted e.0) words
+image_fits image words pages spare m whole plan mapped of =
+    let h : IsPlanned image pages spare m = record { whole = whole; plan = plan; mapped = mapped } in (
+      (λ e. All-from_recursion (λ (x : ℕ × ℕ). IsFitted x.0) words (all_found m words mapped.size e)),
+      (λ fits.
+          none_lacks image pages spare m words h (recursion_from_All (λ (x : ℕ × ℕ). word_of image x.0 ≡ Some x.1) words of)
+          (recursion_from_All (λ (x : ℕ × ℕ). IsFitted x.0) words fits)),
+    )

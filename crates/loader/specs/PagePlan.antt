@@ -1,7 +1,7 @@
 -- A plan of pages for an image: on which physical page of 32 KB each logical page with words of it lies.
--- Source: our own. Pages are numbered by address: 0 to 1023 are logical, and page 1024 + p, from 2000000 on, is
--- the physical page p.
-use Rattle.std.specs.Prelude.{◌≡◌, ◌≢◌, ◌<◌, ◌≤◌, ◌↔◌, ◌+◌, ◌/◌, ◌^◌, ℕ, Bool, IsSome, List, length, map}
+-- Source: our own. Pages are numbered by their addresses, of 32,768 bytes each: the pages 0 to 1023 are
+-- logical, and the page 1024 + p, which begins at 2000000 + 32768 * p, is the physical page p.
+use Rattle.std.specs.Prelude.{◌≡◌, ◌<◌, ◌≤◌, ◌↔◌, ◌+◌, ◌/◌, ◌^◌, ℕ, Bool, IsSome, List, length, map}
 use Rattle.std.specs.Prelude.{All, nat_eq, nat_lt, not}
 use Rattle.std.specs.List.{Contains, list_any}
 use Rattle.std.specs.List.Sorted.{IsStrictlySortedBy}
@@ -17,7 +17,8 @@ HasWordOn words page = (address : ℕ) × IsSome (word_of words address) × (add
 abbrev pub Ascend : List ℕ → Type 0
 Ascend numbers = IsStrictlySortedBy nat_cmp numbers
 
--- the pages on which words lie; an image has at most 40
+-- The pages on which words lie. There are at most 40 of them: 65,536 words fill 8 pages, and each of 16 runs
+-- begins and ends on one more.
 pub record AreHeld (words : Words) (pages : List ℕ) : Type 0 where
   pub ascend : Ascend pages
   pub held : (page : ℕ) → Contains pages page ↔ HasWordOn words page
@@ -38,10 +39,14 @@ pub record IsFree (words : Words) (physical : ℕ) : Type 0 where
   pub below : physical < 128
   pub unnamed : HasWordOn words (1024 + physical) → ⊥
 
+-- The logical pages are those with words, and ascend. Their physical pages, and then the spare one, are the
+-- lowest that no word names, and ascend.
 pub record IsPagePlan (words : Words) (pages : List PlacedPage) (spare : ℕ) : Type 0 where
-  pub logical : (page : ℕ) → Contains (map (λ p. p.logical) pages) page ↔ ((page < 1024) × HasWordOn words page)
+  pub logical : (page : ℕ)
+      → Contains (map (λ p. p.logical) pages) page ↔ ((page < 1024) × HasWordOn words page)
   pub logical_ascend : Ascend (map (λ p. p.logical) pages)
   pub physical_ascend : Ascend (map (λ p. p.physical) pages)
   pub free : All (λ p. IsFree words p.physical) pages
   pub spare_free : IsFree words spare
-  pub spare_apart : All (λ p. p.physical ≢ spare) pages
+  pub spare_above : All (λ p. p.physical < spare) pages
+  pub lowest : (p : ℕ) → IsFree words p → p < spare → Contains (map (λ q. q.physical) pages) p

@@ -12,15 +12,15 @@ pub record IsMapped (pages : List PlacedPage) (m : Memory) : Type 0 where
   pub whole : IsWhole 15 m.paged
   pub placed : All (λ p. page_at m.paged p.logical ≡ Some (record { physical = p.physical; level = 0 })) pages
 
--- words of an image, in any order and each as often as one likes
+-- words of an image, in any order, each as often as one likes
 abbrev pub AreOf : Words → Words → Type 0
 AreOf image words = All (λ e. word_of image e.0 ≡ Some e.1) words
 
--- with 128 pages of 32 KB, physical RAM ends at 2400000, and to I/O there is nothing
+-- not past RAM, which with 128 pages of 32 KB ends at 2400000, and before I/O
 abbrev pub IsFitted : ℕ → Type 0
 IsFitted address = (address < 0x2400000) ⊎ (IO_START ≤ address)
 
--- a word that stands beside an image's: on a physical page, named by its own address, or in ROM
+-- where a word may stand beside an image's: on the spare page, by its own address, or in ROM
 abbrev pub IsBeside : ℕ → ℕ → Type 0
 IsBeside spare address =
     (address % 4 ≡ 0)

@@ -1,4 +1,5 @@
-ghost use Rattle.std.specs.Prelude.{◌≡◌, ◌≤◌, ◌⊎◌, ◌/◌, ◌^◌, [], IsTrue, IsSome, IfOk, OnOk, OnErr, IfErr, length, map};
+ghost use Rattle.std.specs.Prelude.{◌≡◌, ◌≤◌, ◌⊎◌, ◌/◌, ◌^◌, [], IsTrue, IsSome, IfOk, OnOk, OnErr, IfErr};
+ghost use Rattle.std.specs.Prelude.{length, map};
 ghost use Rattle.std.specs.List.{slice_get};
 ghost use Rattle.loader.specs.ImageBytes.{segments_of};
 ghost use Rattle.loader.specs.Inside.{AreWhole};

@@ -1,9 +1,9 @@
-ghost use Rattle.std.specs.Prelude.{◌≡◌, ◌≢◌, ◌<◌, ◌++◌, ℕ, List, Ok, Err, All, IsSome};
+ghost use Rattle.std.specs.Prelude.{◌≡◌, ◌≢◌, ◌<◌, ◌++◌, ◌↔◌, ℕ, false, List, Ok, Err, All, IsSome};
 ghost use Rattle.std.specs.List.{Contains};
 ghost use Rattle.loader.specs.Image.{Words, word_of};
 ghost use Rattle.loader.specs.ImageBytes.{Segment, image_bytes, image_read};
 ghost use Rattle.loader.specs.Inside.{AreWhole};
-ghost use Rattle.loader.specs.Loading.{GivesWord, loaded};
+ghost use Rattle.loader.specs.Loading.{GivesWord, lacks_page, loaded};
 ghost use Rattle.loader.specs.PagePlan.{IsPagePlan};
 ghost use Rattle.loader.specs.Planned.{AreOf, IsBeside, IsFitted, IsMapped};
 ghost use Rattle.loader.specs.Spelling.{AreImage, BeginImage, PassImage, Spell};
@@ -51,16 +51,21 @@ pub fn image_limits()
 /// States what privileged loads give of words that are put into memory whose logical pages lie as an image's
 /// plan says: each word of the image that is put, in whatever order, unless it is past RAM, from 2400000 to
 /// 2FFFFFF; and after that also each word that is put on the plan's spare page, by its own address, or in ROM
-/// at another address. The pages stay where they lie. It does nothing.
+/// at another address. The pages stay where they lie, and words of the image are refused only where one is
+/// past RAM. It does nothing.
 pub fn planned_words_are_loaded()
     ensures mapped { (pages : List PlacedPage) → (m : Memory) → (words : Words) → IsMapped pages m
         → IsMapped pages (loaded words m) }
-    ensures image { (image words : Words) → (pages : List PlacedPage) → (spare : ℕ) → (m : Memory) → (a w : ℕ)
+    ensures image { (image words : Words) → (pages : List PlacedPage) → (spare : ℕ) → (m : Memory)
+        → (a w : ℕ) → AreWhole image → IsPagePlan image pages spare → IsMapped pages m
+        → AreOf image words → Contains words (a, w) → IsFitted a → GivesWord (loaded words m) a w }
+    ensures fits { (image words : Words) → (pages : List PlacedPage) → (spare : ℕ) → (m : Memory)
         → AreWhole image → IsPagePlan image pages spare → IsMapped pages m → AreOf image words
-        → Contains words (a, w) → IsFitted a → GivesWord (loaded words m) a w }
-    ensures stays { (image beside : Words) → (pages : List PlacedPage) → (spare : ℕ) → (m : Memory) → (a w : ℕ)
-        → AreWhole image → IsPagePlan image pages spare → IsMapped pages m → IsSome (word_of image a)
-        → GivesWord m a w → All (λ e. IsBeside spare e.0 × (e.0 ≢ a)) beside → GivesWord (loaded beside m) a w }
+        → (lacks_page m words ≡ false) ↔ All (λ e. IsFitted e.0) words }
+    ensures stays { (image beside : Words) → (pages : List PlacedPage) → (spare : ℕ) → (m : Memory)
+        → (a w : ℕ) → AreWhole image → IsPagePlan image pages spare → IsMapped pages m
+        → IsSome (word_of image a) → GivesWord m a w
+        → All (λ e. IsBeside spare e.0 × (e.0 ≢ a)) beside → GivesWord (loaded beside m) a w }
     ensures beside { (beside : Words) → (pages : List PlacedPage) → (spare : ℕ) → (m : Memory) → (a w : ℕ)
         → IsMapped pages m → spare < 128 → All (λ e. IsBeside spare e.0 × (e.0 ≡ a → e.1 ≡ w)) beside
         → Contains beside (a, w) → GivesWord (loaded beside m) a w }

@@ -13,8 +13,8 @@ mod writing;
 pub use image::{Image, ImageFault};
 pub use labels::{LabelFault, Labels};
 pub use law::{
-    image_limits, images_are_read, other_faults_begin_no_image, trailing_bytes_follow_an_image,
-    truncated_begins_an_image,
+    image_limits, images_are_read, other_faults_begin_no_image, planned_words_are_loaded,
+    trailing_bytes_follow_an_image, truncated_begins_an_image,
 };
 pub use loading::{LoadFault, load, put_words};
 pub use places::{MOST_SEGMENTS, MOST_WORDS, lies_in_memory, may_hold};

@@ -2,6 +2,7 @@
 
 ghost use Rattle.std.specs.Prelude.{◌≡◌, IfOk, map, nat_eq};
 ghost use Rattle.std.specs.List.{filter, list_any, range_with_len, zip};
+ghost use Rattle.loader.specs.Inside.{AreWhole};
 ghost use Rattle.loader.specs.PagePlan.{Ascend, IsPagePlan, is_logical, is_unnamed, placed};
 
 use crate::image::Image;
@@ -64,8 +65,10 @@ fn placed_pages(alloc: Global, held: &[u32], free: &[u32]) -> Result<Vec<PlacedP
 /// that no word of the image from 2000000 to 23FFFFF lies on. An image has words on at most 40 pages, so that
 /// there are enough. It takes time linear in the image's words.
 pub fn page_plan(alloc: Global, image: &Image) -> Result<PagePlan, AllocError>
-    ensures { IfOk result (λ plan. IsPagePlan image.now plan.pages.items plan.spare) }
+    ensures plan { IfOk result (λ plan. IsPagePlan image.now plan.pages.items plan.spare) }
+    ensures whole { AreWhole image.now }
 {
+    image.whole();
     let held = image.held_pages(alloc)?;
     let free = free_pages(alloc, &held)?;
     let pages = placed_pages(alloc, &held, &free)?;

@@ -8,6 +8,8 @@ mod PutWordLemmas
 mod MachineRuleLemmas
 mod FaultTableLemmas
 mod KeyTableLemmas
+mod TableOfLemmas
+mod WrittenLemmas
 pub mod InputLemmas
 pub mod PageLemmas
 pub mod StartLemmas

@@ -7,6 +7,8 @@ pub mod Stated
 pub mod MachineFile
 pub mod MachineRules
 pub mod MachineFaultRules
+pub mod Parts
+pub mod Written
 pub mod Inputs
 pub mod Started
 pub mod StartWork

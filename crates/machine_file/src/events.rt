@@ -167,11 +167,14 @@ pub(crate) struct Schedule {
 }
 
 impl Model for Schedule {
+    ghost use Rattle.std.specs.Prelude.{◌≤◌};
     ghost use Rattle.machine_file.specs.Stated.{Schedule};
 
     ghost Value = { Schedule };
 
     ghost view = { λ s. record { steps = s.steps; port = s.port; events = s.events.entries } };
+
+    ghost invariant = { λ s. s.steps ≤ 65536 };
 }
 
 fn counts(table: &Table) -> Read<(u32, u32)>

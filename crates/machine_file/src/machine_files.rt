@@ -1,6 +1,8 @@
 ghost use Rattle.std.specs.Prelude.{◌≡◌, ◌≢◌, ◌≤◌, ◌<◌, ◌^◌, All, Err, IfOk, IsTrue, length, true};
+ghost use Rattle.std.specs.Map.{keys_of};
 ghost use Rattle.loader.specs.Image.{may_hold};
 ghost use Rattle.toml.specs.View.{table_view};
+ghost use Rattle.toml_reading.specs.Documents.{are_distinct};
 ghost use Rattle.toml_reading.specs.Readings.{both, seen};
 ghost use Rattle.machine_file.specs.MachineFaults.{machine_faults};
 ghost use Rattle.machine_file.specs.MachineFile.{IsMachineFile, controller_in, machine_in, processor_in};
@@ -142,6 +144,7 @@ impl MachineFile {
         ensures words { result.now ≡ self.now.words }
         ensures addresses { All (λ e. IsTrue (may_hold e.0)) result.now }
         ensures below { All (λ e. e.0 < 2 ^ 26) result.now }
+        ensures once { are_distinct (keys_of result.now) ≡ true }
     {
         &self.words.words
     }

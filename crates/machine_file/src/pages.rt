@@ -108,7 +108,7 @@ fn is_mappable(shift: u32, page: MappedPage) -> bool
     page.logical < 1 << (25 - shift) && page.physical < 128 && page.level < 4
 }
 
-fn are_mappable(size: PageSize, pages: &[MappedPage]) -> bool
+pub(crate) fn are_mappable(size: PageSize, pages: &[MappedPage]) -> bool
     ensures { result ≡ list_all (is_mappable (shift_of_size size)) pages.now }
 {
     let shift = size.shift();
@@ -131,7 +131,7 @@ fn have_own_physical(alloc: Global, pages: &[MappedPage]) -> Result<bool, AllocE
     are_all_distinct(alloc, &numbers)
 }
 
-fn are_single(alloc: Global, pages: &[MappedPage]) -> Result<bool, AllocError>
+pub(crate) fn are_single(alloc: Global, pages: &[MappedPage]) -> Result<bool, AllocError>
     ensures { IfOk result (λ test. test ≡ are_single pages.now) }
 {
     let logical = have_own_logical(alloc, pages)?;

@@ -42,7 +42,7 @@ pub(crate) const REGISTERS: [Reg; 26] = [
 ];
 
 /// Their names, in the same order.
-const NAMES: [&str; 26] = [
+pub(crate) const NAMES: [&str; 26] = [
     "r0", "r1", "r2", "r3", "r4", "r5", "r6", "r7", "r8", "r9", "r10", "r11", "r12", "r13", "r14",
     "r8_fiq", "r9_fiq", "r10_fiq", "r11_fiq", "r12_fiq", "r13_fiq", "r14_fiq", "r13_irq",
     "r14_irq", "r13_svc", "r14_svc",

@@ -77,25 +77,28 @@ impl Entry<(), MachineFileFault> for (u32, u32) {
     }
 }
 
-/// Words by their addresses, none of them in I/O.
+/// Words by their addresses, none of them in I/O and no two at one.
 #[derive(Drop)]
 pub(crate) struct PutWords {
     pub(crate) words: Vec<(u32, u32)>,
 }
 
 impl Model for PutWords {
-    ghost use Rattle.std.specs.Prelude.{ℕ, List, All, IsTrue};
+    ghost use Rattle.std.specs.Prelude.{◌≡◌, true, ℕ, List, All, IsTrue};
+    ghost use Rattle.std.specs.Map.{keys_of};
     ghost use Rattle.loader.specs.Image.{may_hold};
+    ghost use Rattle.toml_reading.specs.Documents.{are_distinct};
 
     ghost Value = { List (ℕ × ℕ) };
 
     ghost view = { λ w. w.words.items };
 
-    ghost invariant = { λ w. All (λ e. IsTrue (may_hold e.0)) w.words.items };
+    ghost invariant = { λ w. (All (λ e. IsTrue (may_hold e.0)) w.words.items)
+        × (are_distinct (keys_of w.words.items) ≡ true) };
 }
 
 // Whether no address stands in the list twice.
-fn have_own_addresses(alloc: Global, words: &[(u32, u32)]) -> Result<bool, AllocError>
+pub(crate) fn have_own_addresses(alloc: Global, words: &[(u32, u32)]) -> Result<bool, AllocError>
     ensures { IfOk result (λ test. test ≡ are_distinct (keys_of words.now)) }
 {
     let addresses: Vec<u32> = words.iter().map(|word| word.0).collect(alloc)?;

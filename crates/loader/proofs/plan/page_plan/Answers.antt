@@ -18,8 +18,8 @@ index-spare-requires c =
     let within = spare_within c.in_ok-held.held.items c.in_ok-free.free.items c.in_ok-pages.pages.items c.in_ok-held.ensures.few free pages in
     omega (arith, within, c.in_ok-pages.pages.ok, c.in_ok-free.free.ok)
 
-pub returns : goal.returns
-returns c =
+pub returns-clause-plan : goal.returns-clause-plan
+returns-clause-plan c =
     let pages = are_placed _ _ _ _ _ c.in_ok-pages.ensures c.deref-2.ensures.value c.deref-3.ensures.value in
     let free = are_free _ _ _ c.in_ok-free.ensures c.deref.ensures.value in
     plan_is _ _ _ _ c.len.result c.index-spare.result.now c.in_ok-held.ensures free pages (c.len.ensures ∙ c.in_ok-pages.pages.ok.0) c.index-spare.ensures

@@ -1,0 +1,383 @@
+-- The machine of an edge's file takes the edge at its price.
+use Rattle.std.proofs.Common.{◌≡◌, ℕ, ◌+◌, ◌*◌, ◌-◌, ◌/◌, ◌%◌, ◌^◌, ◌<◌, ◌≤◌, ◌==◌, ◌&&◌, ◌⊎◌, inl, inr, Bool, true, false, cond, not, nat_lt, Option, Some, None, Result, Ok, Err, List, [], ◌∷◌, ◌++◌, length, map, get_or, IsTrue, replicate, refl, sym, ap, subst, ◌∙◌, arith}
+use Rattle.std.specs.Prelude.{All, Contains, IfErr, IfSome, IsSome, is_some, slice_index, slice_set, nat_le}
+use Rattle.std.proofs.lemmas.Bool.{cases_lt, eq-eqb, eqb-false, le-leb, lt-ltb}
+use Rattle.std.proofs.lemmas.List.{get_or-set_same, get_or_append_left, get_or_push, length-append, length-replicate, length-set}
+use Rattle.std.proofs.lemmas.List.Elements.{All-from_recursion, recursion_from_All}
+use Rattle.std.proofs.lemmas.Option.{same_Some}
+use Rattle.bus_ticks.specs.declared.profile.Profile.{Profile}
+use Rattle.bus_ticks.specs.declared.profile.RomTimes.{RomTimes}
+use Rattle.bus_ticks.specs.Dearest.{AreDearest}
+use Rattle.bus_ticks.specs.Prices.{rom_price}
+use Rattle.loader.specs.Image.{Words, may_hold, word_of}
+use Rattle.loader.specs.Inside.{AreWhole}
+use Rattle.loader.specs.Loading.{GivesWord, lacks_page, loaded, put_words, spot_of}
+use Rattle.loader.specs.PagePlan.{HasWordOn, IsPagePlan}
+use Rattle.loader.specs.Planned.{AreOf, IsBeside, IsFitted, IsMapped}
+use Rattle.loader.specs.declared.plan.PlacedPage.{PlacedPage}
+use Rattle.loader.proofs.MemoryLemmas.{same_spot}
+use Rattle.loader.proofs.PlaceLemmas.{may_within}
+use Rattle.loader.proofs.PlannedLemmas.{InRam, InRom, IsPlanned, beside_given, found, gives_at, image_fits, image_given, image_stays, mapped_stays, parts}
+use Rattle.memc.specs.Memory.{Memory as Memc, control_of, located, word_at}
+use Rattle.memc.specs.declared.spots.Spot.{Spot}
+use Rattle.memc.specs.declared.spots.Spot.TheVariants.{Ram, Rom}
+use Rattle.arm2_decode.specs.Names.{is_pc, register_number}
+use Rattle.arm2_decode.specs.declared.flags.Flags.{Flags}
+use Rattle.arm2_decode.specs.declared.names.Register.{Register}
+use Rattle.arm2_effect.specs.declared.modes.Mode.TheVariants.{Svc}
+use Rattle.arm2_effect.specs.Modes.{mode_named, r15_in, register_in, slot_of}
+use Rattle.arm2_effect.specs.ProgramCounter.{address_of, mode_of, psr_with, r15_of}
+use Rattle.arm2_transfer.specs.Registers.{is_user}
+use Rattle.arm2_transfer.proofs.Slots.{below_15, slot_below}
+use Rattle.arm2_exec.specs.State.{State}
+use Rattle.arm2_exec.specs.Step.{fetched, fetched_at}
+use Rattle.arm2_exec.specs.declared.machine.Input.{Input}
+use Rattle.std.specs.Map.{keys_of}
+use Rattle.toml_reading.specs.Documents.{are_distinct}
+use Rattle.machine_file.specs.Parts.{IsInRange, StandsOnce}
+use Rattle.machine_file.specs.Started.{IsStarted, psr_number}
+use Rattle.machine_file.specs.Started as started
+use Rattle.flow_graph.specs.Edges.{AreEdgesOf, IsEdge}
+use Rattle.flow_graph.specs.Flow.{Flow, HasEdge, IsWellFormed}
+use Rattle.flow_graph.specs.Graph.{IsFlowGraph}
+use Rattle.flow_graph.specs.Places.{place_at}
+use Rattle.flow_graph.specs.Free.{IsFree, is_past_ram}
+use Rattle.flow_graph.specs.Setting.{HasSetting, IsData, Sets}
+use Rattle.flow_graph.specs.StepLaw.{label_by}
+use Rattle.flow_graph.specs.Tight.{IsTight}
+use Rattle.flow_graph.specs.TightFile.{CanPlace, HasPlaceWord, HasWordAt, IsEntryOf, IsPlaceWord, IsPlaced, IsSettingOf, IsStand, IsTightFile, file_of, listed, masked_flags, open_page, registers_with}
+use Rattle.flow_graph.specs.TightWork.{IsSetFor, IsSetForEdge, StandsAt, masked}
+use Rattle.flow_graph.specs.declared.edges.Edge.{Edge}
+use Rattle.flow_graph.specs.declared.edges.Label.TheVariants.{Skip}
+use Rattle.flow_graph.specs.declared.places.Place.{Place}
+use Rattle.flow_graph.specs.declared.places.Place.TheVariants.{At, Exit}
+use Rattle.flow_graph.specs.declared.setting.Held.{Held}
+use Rattle.flow_graph.specs.declared.tight.Stand.{Stand}
+use Rattle.flow_graph.specs.declared.tight.TightFault.{TightFault}
+use Rattle.flow_graph.specs.declared.tight.TightFault.TheVariants.{Memory, NotFree}
+use Rattle.statement.specs.Stated.{Stated, class_of}
+use Rattle.std.proofs.lemmas.List.{get_or_read}
+use Rattle.flow_graph.proofs.FlowLemmas.{has_edge_is_edge, part_of}
+use Rattle.flow_graph.proofs.SortedLemmas.{here, no_member}
+use Rattle.flow_graph.proofs.StepRegisters.{address_put}
+use Rattle.flow_graph.proofs.TightPages.{all_mappable, all_single, is_mapped}
+use Rattle.flow_graph.proofs.TightStep as step
+
+-- ## Registers
+
+length_with : (o : Option Held) → length (registers_with o) ≡ 26
+length_with None = length-replicate {A = ℕ} 26 0
+length_with (Some held) = length-set (replicate 26 0) (slot_of Svc (register_number held.register)) held.word ∙ length-replicate {A = ℕ} 26 0
+
+with_last : (o : Option Held) (r : ℕ) → length (registers_with o ++ r ∷ []) ≡ 27
+with_last o r = length-append (registers_with o) (r ∷ []) ∙ ap (λ n. n + 1) (length_with o)
+
+last_is : (o : Option Held) (r : ℕ) → r15_in (registers_with o ++ r ∷ []) ≡ r
+last_is o r = get_or_push (registers_with o) r 0 26 (length_with o)
+
+-- the held register has its word
+held_is : (held : Held) (r : ℕ) → is_pc held.register ≡ false → register_in Svc (register_number held.register) (registers_with (Some held) ++ r ∷ []) ≡ held.word
+held_is held r other =
+    let n : ℕ = slot_of Svc (register_number held.register) in
+    let below : n < 26 = slot_below Svc (register_number held.register) (below_15 held.register (eqb-false (register_number held.register) 15 other)) in
+    get_or_append_left (registers_with (Some held)) (r ∷ []) 0 n (let long = length_with (Some held) in omega (arith, below, long))
+    ∙ get_or-set_same (replicate 26 0) n held.word 0 (let long : length {A = ℕ} (replicate 26 0) ≡ 26 = length-replicate {A = ℕ} 26 0 in omega (arith, below, long))
+
+psr_is : (f : Flags) → psr_number (masked_flags f) ≡ psr_with f masked
+psr_is f = omega arith
+
+abbrev address_of_place : Place → ℕ
+address_of_place (At calls address) = address
+address_of_place Exit = 0
+
+-- the mode of such a R15
+svc_of : (psr a : ℕ) → a % 4 ≡ 0 → mode_of (r15_of psr a Svc) ≡ Svc
+svc_of psr a whole = ap mode_named (let e : (psr * 2 ^ 26 + a + 3) % 4 ≡ 3 = omega (arith, whole) in e)
+
+-- ## Memory
+
+-- below where no RAM is fitted, or past it
+pub fitted : (a : ℕ) → is_past_ram a ≡ false → IsFitted a
+fitted a h = elim (cases_lt a 0x2400000) [
+  | inl below ↦ inl below
+  | inr past ↦ elim (cases_lt a 0x3000000) [
+    | inl io ↦ absurd (both_true (sym (rw (le-leb 0x2400000 a past, lt-ltb a 0x3000000 io) refl) ∙ h))
+    | inr high ↦ inr high
+  ]
+]
+  where
+    both_true : true ≡ false → ⊥
+    both_true e = cc
+
+-- a word in memory besides the image's is on the spare page or in ROM, and not the one that is executed
+apart_of : (words : Words) (pages : List PlacedPage) (spare a at : ℕ) → IsPagePlan words pages spare → IsSome (word_of words a) → IsData spare a at → IsBeside spare at × (at ≡ a → ⊥)
+apart_of words pages spare a at plan some has = by_place has.1
+  where
+    by_place : ((0x2000000 + spare * 0x8000 ≤ at) × (at < 0x2000000 + spare * 0x8000 + 0x8000)) ⊎ ((0x3400000 ≤ at) × (at < 2 ^ 26) × (at ≡ a → ⊥)) → IsBeside spare at × (at ≡ a → ⊥)
+    by_place (inl ram) = (
+      (has.0, inl (at - (0x2000000 + spare * 0x8000), omega (arith, ram.0, ram.1), omega (arith, ram.0))),
+      λ e. plan.spare_free.unnamed (a, some, omega (arith, e, ram.0, ram.1)),
+    )
+    by_place (inr rom) = ((has.0, inr (rom.0, omega (arith, rom.1))), rom.2)
+
+-- a fetch takes the word that a load takes, in RAM or in ROM
+fetched_word : (m : Memc) (a w : ℕ) (r : Result Spot _) → GivesWord m a w → spot_of m a ≡ r → InRam m a ⊎ InRom m a → fetched_at m r ≡ Some w
+fetched_word m a w r gives is (inl ram) = subst (λ x. fetched_at m x ≡ Some w) (sym ram.at ∙ is) (ap Some (gives_at m a w (Ram ram.place) gives ram.at))
+fetched_word m a w r gives is (inr rom) = subst (λ x. fetched_at m x ≡ Some w) (sym rom.at ∙ is) (ap Some (gives_at m a w (Rom a) gives rom.at))
+
+-- ## The machine
+
+module _ (words : Words) (st : Stated) (profile : Profile) (e : Edge) (spare : ℕ) (pages : List PlacedPage) (stand : Stand) (rom : RomTimes)
+    (h : IsStand words st profile e spare stand) (whole : AreWhole words) (plan : IsPagePlan words pages spare) (dear : AreDearest profile rom) (free : IsFree words e) where
+  some_word : IsSome (word_of words stand.address)
+  some_word = ap is_some h.has
+
+  place : (stand.address % 4 ≡ 0) × (stand.address < 0x4000000) × ((stand.address < 0x3000000) ⊎ (0x3400000 ≤ stand.address))
+  place = parts words stand.address whole some_word
+
+  fits : IsFitted stand.address
+  fits = fitted stand.address (subst (λ n. is_past_ram n ≡ false) (ap address_of_place (sym free.from ∙ h.from)) free.not_past_ram)
+
+  besides : All (λ x. IsBeside spare x.0 × (x.0 ≡ stand.address → ⊥)) (listed stand.setting.word)
+  besides = by_word stand.setting.word h.setting.word_apart
+    where
+      by_word : (o : Option (ℕ × ℕ)) → IfSome o (λ x. IsData spare stand.address x.0) → All (λ x. IsBeside spare x.0 × (x.0 ≡ stand.address → ⊥)) (listed o)
+      by_word None has = All-from_recursion (λ x. IsBeside spare x.0 × (x.0 ≡ stand.address → ⊥)) [] tt
+      by_word (Some x) has = All-from_recursion (λ y. IsBeside spare y.0 × (y.0 ≡ stand.address → ⊥)) (x ∷ []) (apart_of words pages spare stand.address x.0 plan some_word has, tt)
+
+  module _ (some : Words) (start : State) (i : Input) (of : AreOf words some) (has_place : HasPlaceWord words e.from some)
+      (begun : IsStarted (file_of stand pages rom) profile start) (port : i.port ≡ stand.setting.port) where
+    abbrev s : State
+    s = put_words (listed stand.setting.word) (put_words some start)
+
+    abbrev m : Memc
+    m = loaded (listed stand.setting.word) (loaded some start.bus.memc)
+
+    mapped : IsMapped pages start.bus.memc
+    mapped = is_mapped words pages spare rom.low rom.high plan start.bus.memc begun.memory
+
+    mapped_then : IsMapped pages (loaded some start.bus.memc)
+    mapped_then = mapped_stays pages start.bus.memc some mapped
+
+    mapped_last : IsMapped pages m
+    mapped_last = mapped_stays pages (loaded some start.bus.memc) (listed stand.setting.word) mapped_then
+
+    gives : GivesWord m stand.address h.word
+    gives =
+        image_stays words (listed stand.setting.word) pages spare (loaded some start.bus.memc) stand.address h.word whole plan mapped_then some_word
+        (image_given words some pages spare start.bus.memc stand.address h.word whole plan mapped of (has_place h.calls stand.address h.word h.from h.has) fits) besides
+
+    r15_is : r15_in s.regs ≡ r15_of (psr_with stand.flags masked) stand.address Svc
+    r15_is = ap r15_in begun.registers ∙ last_is stand.setting.register _ ∙ ap (λ n. r15_of n stand.address Svc) (psr_is stand.flags)
+
+    svc : mode_of (r15_in s.regs) ≡ Svc
+    svc = ap mode_of r15_is ∙ svc_of (psr_with stand.flags masked) stand.address place.0
+
+    at : address_of (r15_in s.regs) ≡ stand.address
+    at = ap address_of r15_is ∙ address_put (psr_with stand.flags masked) stand.address Svc (place.1, place.0)
+
+    fetches : fetched m (r15_in s.regs) ≡ Some h.word
+    fetches =
+        fetched_word m stand.address h.word _ gives
+        (ap (λ n. located m n false false) (sym at) ∙ ap (λ b. located m (address_of (r15_in s.regs)) b false) (sym (ap is_user svc)))
+        (found words pages spare m stand.address (record { whole = whole; plan = plan; mapped = mapped_last }) some_word fits)
+
+    dearest : AreDearest profile m.control.rom_times
+    dearest = by_fields (start.bus.memc.control.rom_times) (ap (λ c. c.rom_times.low) begun.memory.control ∙ low_is) (ap (λ c. c.rom_times.high) begun.memory.control ∙ high_is)
+      where
+        low_is : (rom.low * 2 ^ 4 + rom.high * 2 ^ 6) / 2 ^ 4 % 2 ^ 2 ≡ rom.low
+        low_is = let small = rom.low_in_range in omega (arith, small)
+
+        high_is : (rom.low * 2 ^ 4 + rom.high * 2 ^ 6) / 2 ^ 6 % 2 ^ 2 ≡ rom.high
+        high_is = let small = rom.low_in_range in let small_too = rom.high_in_range in omega (arith, small, small_too)
+
+        rom_same : (r : RomTimes) → r.low ≡ rom.low → r.high ≡ rom.high → (x : ℕ) → rom_price profile r x ≡ rom_price profile rom x
+        rom_same r low high x = rw (low, high) refl
+
+        by_fields : (r : RomTimes) → r.low ≡ rom.low → r.high ≡ rom.high → AreDearest profile r
+        by_fields r low high x = rom_same r low high x ∙ dear x
+
+    stands : StandsAt profile h.word stand.address stand.flags s
+    stands = record {
+      registers = ap length begun.registers ∙ with_last stand.setting.register _;
+      whole = place.0;
+      below = place.1;
+      r15 = r15_is;
+      prices = begun.prices;
+      dearest = dearest;
+      fetches = fetches;
+    }
+
+    setting : HasSetting profile stand.setting s i
+    setting = record {
+      mode = svc;
+      shift = mapped_last.size;
+      dearest = dearest;
+      register = by_register stand.setting.register h.setting.register_other begun.registers;
+      port = port;
+      word = by_word stand.setting.word besides;
+    }
+      where
+        by_register : (o : Option Held) → IfSome o (λ held. is_pc held.register ≡ false) → s.regs ≡ registers_with o ++ started.r15_in (file_of stand pages rom).processor ∷ [] → IfSome o (λ held. register_in Svc (register_number held.register) s.regs ≡ held.word)
+        by_register None other is = tt
+        by_register (Some held) other is = ap (register_in Svc (register_number held.register)) is ∙ held_is held (started.r15_in (file_of stand pages rom).processor) other
+
+        by_word : (o : Option (ℕ × ℕ)) → All (λ x. IsBeside spare x.0 × (x.0 ≡ stand.address → ⊥)) (listed o)
+            → IfSome o (λ x. (spot : Spot) → located (loaded (listed o) (loaded some start.bus.memc)) x.0 false false ≡ Ok spot → word_at (loaded (listed o) (loaded some start.bus.memc)) spot ≡ x.1)
+        by_word None all = tt
+        by_word (Some x) all = λ spot at_spot.
+            gives_at (loaded (x ∷ []) (loaded some start.bus.memc)) x.0 x.1 spot
+            (beside_given (x ∷ []) pages spare (loaded some start.bus.memc) x.0 x.1 mapped_then plan.spare_free.below
+            (All-from_recursion (λ y. IsBeside spare y.0 × (y.0 ≡ x.0 → y.1 ≡ x.1)) (x ∷ []) (((recursion_from_All (λ y. IsBeside spare y.0 × (y.0 ≡ stand.address → ⊥)) (x ∷ []) all).0.0, λ same. refl), tt))
+            (here x [])) at_spot
+
+    -- the machine is set for the edge
+    is_tight : IsTight words st profile e s i
+    is_tight = step.law words st profile e s i (record {
+      calls = h.calls;
+      address = stand.address;
+      word = h.word;
+      action = h.action;
+      flags = stand.flags;
+      is_edge = h.is_edge;
+      from = h.from;
+      has = h.has;
+      is = h.is;
+      label = h.label;
+      stands = stands;
+      skipped_or_set = elim h.setting.skipped_or_set [
+        | inl skip ↦ inl skip
+        | inr (x, means, sets) ↦ inr (x, means, sets.set st e.to s i refl h.leads setting)
+      ];
+    })
+
+  image_has_places : (some : Words) (start : State) → AreOf words some → IsStarted (file_of stand pages rom) profile start → All (λ x. IsFitted x.0) some → lacks_page start.bus.memc some ≡ false
+  image_has_places some start of begun fit =
+      (image_fits words some pages spare start.bus.memc whole plan (is_mapped words pages spare rom.low rom.high plan start.bus.memc begun.memory) of).1 fit
+
+  words_have_places : (some : Words) (start : State) → IsStarted (file_of stand pages rom) profile start → lacks_page (put_words some start).bus.memc (listed stand.setting.word) ≡ false
+  words_have_places some start begun = by_word stand.setting.word besides
+    where
+      m : Memc
+      m = loaded some start.bus.memc
+
+      mapped_m : IsMapped pages m
+      mapped_m = mapped_stays pages start.bus.memc some (is_mapped words pages spare rom.low rom.high plan start.bus.memc begun.memory)
+
+      led : (x : ℕ × ℕ) → IsBeside spare x.0 → (s : Spot) × (spot_of m x.0 ≡ Ok s)
+      led x beside =
+          let g : GivesWord (loaded (x ∷ []) m) x.0 x.1 =
+          beside_given (x ∷ []) pages spare m x.0 x.1 mapped_m plan.spare_free.below
+          (All-from_recursion (λ y. IsBeside spare y.0 × (y.0 ≡ x.0 → y.1 ≡ x.1)) (x ∷ []) ((beside, λ same. refl), tt)) (here x []) in
+          (g.spot, sym (same_spot (x ∷ []) m x.0) ∙ g.leads)
+
+      by_word : (o : Option (ℕ × ℕ)) → All (λ x. IsBeside spare x.0 × (x.0 ≡ stand.address → ⊥)) (listed o) → lacks_page m (listed o) ≡ false
+      by_word None all = refl
+      by_word (Some x) all =
+          let l = led x ((recursion_from_All (λ y. IsBeside spare y.0 × (y.0 ≡ stand.address → ⊥)) (x ∷ []) all).0.0) in
+          rw (l.1) refl
+
+  pub is_tight_file : IsTightFile words st profile e (file_of stand pages rom)
+  is_tight_file = record {
+    pages = pages;
+    spare = spare;
+    plan = plan;
+    size = refl;
+    pages_are = refl;
+    one_step = refl;
+    no_events = refl;
+    image_fits = image_has_places;
+    words_fit = words_have_places;
+    tight = λ some start i of has_place begun port. is_tight some start i of has_place begun port;
+  }
+
+-- ## What the file meets
+
+pub in_range : (words : Words) (st : Stated) (profile : Profile) (e : Edge) (spare : ℕ) (pages : List PlacedPage) (stand : Stand) (rom : RomTimes) → IsStand words st profile e spare stand → AreWhole words → IsPagePlan words pages spare
+    → IsInRange (file_of stand pages rom)
+in_range words st profile e spare pages stand rom h whole plan =
+    let at = parts words stand.address whole (ap is_some h.has) in
+    record {
+      pc = (at.0, at.1);
+      low_rom = let small = rom.low_in_range in omega (arith, small);
+      high_rom = let small = rom.high_in_range in omega (arith, small);
+      mappable = all_mappable words pages spare plan;
+      steps = omega arith;
+      held = by_word stand.setting.word h.setting.word_apart;
+    }
+  where
+    may_be : (a : ℕ) → IsData spare stand.address a → spare < 128 → IsTrue (may_hold a)
+    may_be a has below = elim has.1 [
+      | inl ram ↦ may_within 0 0x3000000 a refl has.0 (omega arith) (omega (arith, ram.1, below))
+      | inr rom_at ↦ may_within 0x3400000 0x4000000 a refl has.0 rom_at.0 (omega (arith, rom_at.1, has.0))
+    ]
+
+    by_word : (o : Option (ℕ × ℕ)) → IfSome o (λ x. IsData spare stand.address x.0) → All (λ x. IsTrue (may_hold x.0)) (listed o)
+    by_word None has = All-from_recursion (λ y. IsTrue (may_hold y.0)) [] tt
+    by_word (Some x) has = All-from_recursion (λ y. IsTrue (may_hold y.0)) (x ∷ []) (may_be x.0 has plan.spare_free.below, tt)
+
+pub stands_once : (words : Words) (pages : List PlacedPage) (spare : ℕ) (stand : Stand) (rom : RomTimes) → IsPagePlan words pages spare → StandsOnce (file_of stand pages rom)
+stands_once words pages spare stand rom plan = record { pages_once = all_single words pages spare plan; words_once = by_word stand.setting.word }
+  where
+    by_word : (o : Option (ℕ × ℕ)) → are_distinct (keys_of (listed o)) ≡ true
+    by_word None = refl
+    by_word (Some x) = refl
+
+-- ## The machine with the word at the edge's place
+
+one_word : (words : Words) (x : ℕ × ℕ) → word_of words x.0 ≡ Some x.1 → AreOf words (x ∷ [])
+one_word words x has = All-from_recursion (λ y. word_of words y.0 ≡ Some y.1) (x ∷ []) (has, tt)
+
+same_pair : (words : Words) (from : Place) (x : ℕ × ℕ) → IsPlaceWord words from x → HasPlaceWord words from (x ∷ [])
+same_pair words from x h calls address word at has =
+    let here_at : x.0 ≡ address = ap address_of_place (sym h.is ∙ at) in
+    let same : x.1 ≡ word = same_Some _ _ (sym h.has ∙ ap (word_of words) here_at ∙ has) in
+    subst (Contains (x ∷ [])) (ap (λ a. (a, x.1)) here_at ∙ ap (λ w. (address, w)) same) (here x [])
+
+free_fits : (words : Words) (e : Edge) (x : ℕ × ℕ) → IsPlaceWord words e.from x → IsFree words e → IsFitted x.0
+free_fits words e x h free = fitted x.0 (subst (λ n. is_past_ram n ≡ false) (ap address_of_place (sym free.from ∙ h.is)) free.not_past_ram)
+
+pub can_place : (words : Words) (st : Stated) (profile : Profile) (e : Edge) (f : _) (x : ℕ × ℕ) → IsTightFile words st profile e f → IsPlaceWord words e.from x → IsFree words e → CanPlace profile f x
+can_place words st profile e f x file h free = record {
+  below = h.below;
+  fits = λ start begun. file.image_fits (x ∷ []) start (one_word words x h.has) begun (All-from_recursion (λ y. IsFitted y.0) (x ∷ []) (free_fits words e x h free, tt));
+  all_fit = λ start begun. file.words_fit (x ∷ []) start begun;
+}
+
+pub placed_takes : (words : Words) (st : Stated) (profile : Profile) (e : Edge) (f : _) (x : ℕ × ℕ) (s : State) (i : Input) → IsTightFile words st profile e f → IsPlaceWord words e.from x → IsPlaced profile f x s → i.port ≡ f.schedule.port
+    → IsTight words st profile e s i
+placed_takes words st profile e f x s i file h placed port =
+    subst (λ m. IsTight words st profile e m i) (sym placed.is)
+    (file.tight (x ∷ []) placed.start i (one_word words x h.has) (same_pair words e.from x h) placed.begun port)
+
+-- an edge's place has a word
+pub edge_entry : (words : Words) (st : Stated) (profile : Profile) (e : Edge) → IsEdge words st profile e → IsEntryOf words e.from
+edge_entry words st profile e is = by_place e.from is.0 is.1 is.2
+  where
+    by_place : (p : Place) (edges : List Edge) → AreEdgesOf words st profile p edges → Contains edges e → IsEntryOf words p
+    by_place (At calls address) edges are among = (are.1.word, are.1.stands)
+    by_place Exit edges are among = absurd (no_member e (subst (λ es. Contains es e) are among))
+
+-- and so has the place to which it leads, unless that is Exit
+pub edge_lands : (words : Words) (st : Stated) (profile : Profile) (flow : Flow) → IsFlowGraph words st profile flow → IsWellFormed flow → (e : Edge) → HasEdge flow e → HasWordAt words e.to
+edge_lands words st profile flow g form e has = by_place e.to (form.ends e has)
+  where
+    edges_entry : (address : ℕ) (calls : List ℕ) (edges : List Edge) → AreEdgesOf words st profile (At calls address) edges → HasWordAt words (At calls address)
+    edges_entry address calls edges are = (are.1.word, are.1.stands)
+
+    of_place : (p : Place) → (v : ℕ) × (v < length flow.places) × (place_at flow.places v ≡ p) → HasWordAt words p
+    of_place Exit w = tt
+    of_place (At calls address) w =
+        edges_entry address calls (get_or g.parts w.0 []) (subst (λ q. AreEdgesOf words st profile q (get_or g.parts w.0 [])) w.2 (part_of words st profile flow g w.0 w.1))
+
+    by_place : (p : Place) → (p ≡ Exit) ⊎ Contains flow.places p → HasWordAt words p
+    by_place p (inl exit) = subst (HasWordAt words) (sym exit) tt
+    by_place p (inr among) = of_place p (among.0, among.1, sym (get_or_read flow.places among.0 p among.1 (sym among.2) Exit))
+
+-- ## An edge by its number
+
+pub no_not_free : {T : Type 0} (r : Result T TightFault) → IfErr r (λ f. f ≡ Memory) → r ≡ Err NotFree → ⊥
+no_not_free r is e = never (subst (λ x. IfErr x (λ f. f ≡ Memory)) e is)
+  where
+    never : NotFree ≡ Memory → ⊥
+    never same = cc

@@ -1,0 +1,169 @@
+-- How a machine stands for an edge.
+use Rattle.std.proofs.Common.{◌≡◌, ℕ, ◌+◌, ◌*◌, ◌%◌, ◌^◌, ◌<◌, ◌≤◌, ◌⊎◌, inl, inr, Bool, true, false, cond, Option, Some, None, List, [], ◌∷◌, IsTrue, refl, sym, ap, subst, ◌∙◌, arith}
+use Rattle.std.specs.Prelude.{Contains}
+use Rattle.std.proofs.lemmas.Bool.{false≢true}
+use Rattle.std.proofs.lemmas.Option.{same_Some}
+use Rattle.std.proofs.lemmas.List.Elements.{Contains-append_cases}
+use Rattle.bus_ticks.specs.declared.profile.Class.{Class}
+use Rattle.bus_ticks.specs.declared.profile.Class.TheVariants.{Any}
+use Rattle.bus_ticks.specs.declared.profile.Profile.{Profile}
+use Rattle.bus_ticks.specs.Dearest.{IsDearestLeave}
+use Rattle.loader.specs.Image.{Words, may_hold, word_of}
+use Rattle.loader.proofs.PlaceLemmas.{may_parts}
+use Rattle.arm2_decode.specs.Conditions.{condition_holds}
+use Rattle.arm2_decode.specs.Table.{Means, IsUnallocated}
+use Rattle.arm2_decode.specs.declared.flags.Flags.{Flags}
+use Rattle.arm2_decode.specs.declared.instr.Instr.{Instr}
+use Rattle.arm2_decode.specs.declared.names.Cond.{Cond}
+use Rattle.arm2_decode.specs.declared.names.Cond.TheVariants as condition
+use Rattle.arm2_decode.proofs.Unique.{one_instr}
+use Rattle.arm2_effect.specs.ProgramCounter.{ahead_of}
+use Rattle.flow_graph.specs.Edges.{AreEdgesOf, HasAction, IsEdge, do_edge, do_edges, landing_edges, landings}
+use Rattle.flow_graph.specs.Edges.{skip_edge, skip_edges, word_edges}
+use Rattle.flow_graph.specs.Free.{HasFreeWord, IsFree, IsFreeWord, is_free_operation}
+use Rattle.flow_graph.specs.Kinds.{IsAction, is_always, is_never}
+use Rattle.flow_graph.specs.Setting.{Sets}
+use Rattle.flow_graph.specs.StepLaw.{label_by}
+use Rattle.flow_graph.specs.TightFile.{HasWordAt, IsSettingOf, IsStand}
+use Rattle.flow_graph.specs.TightWork.{IsDearestTarget}
+use Rattle.flow_graph.specs.declared.edges.Edge.{Edge}
+use Rattle.flow_graph.specs.declared.edges.Label.{Label}
+use Rattle.flow_graph.specs.declared.edges.Label.TheVariants.{Skip, Do}
+use Rattle.flow_graph.specs.declared.kinds.Action.{Action}
+use Rattle.flow_graph.specs.declared.places.Place.{Place}
+use Rattle.flow_graph.specs.declared.places.Place.TheVariants.{At, Exit}
+use Rattle.flow_graph.specs.declared.setting.Aim.{Aim}
+use Rattle.flow_graph.specs.declared.setting.Setting.{Setting}
+use Rattle.statement.specs.Stated.{Stated}
+use Rattle.flow_graph.proofs.EdgeLemmas.{one_action}
+use Rattle.flow_graph.proofs.SortedLemmas.{no_member}
+use Rattle.flow_graph.proofs.StepEdges.{contains_map, only_one}
+use Rattle.flow_graph.proofs.TightTicks.{n_worst, s_worst}
+
+-- ## Targets
+
+pub at_target : (st : Stated) (profile : Profile) (calls : List ℕ) (a : ℕ) → IsTrue (may_hold a) → IsDearestTarget st profile (At calls a) a
+at_target st profile calls a may =
+    let parts = may_parts a may in
+    record {
+      whole = parts.0;
+      below = parts.1;
+      stands_for = refl;
+      price = λ rom dear. rw (n_worst profile rom Any 0 dear a, s_worst profile rom Any 0 dear (ahead_of a 4)) refl;
+    }
+
+pub exit_target : (st : Stated) (profile : Profile) (leave : Class) (t : ℕ) → leave ≡ st.leave → IsDearestLeave profile leave t → IsDearestTarget st profile Exit t
+exit_target st profile leave t e h = subst (λ c. IsDearestLeave profile c t → IsDearestTarget st profile Exit t) (sym e) (λ x. record { whole = x.whole; below = x.below; stands_for = x.is_of; price = x.price }) h
+
+-- ## The edge's word
+
+abbrev place_address : Place → ℕ
+place_address (At calls address) = address
+place_address Exit = 0
+
+-- the action of the word at the edge's place, and the edge among those of the place
+pub record EdgeWord (words : Words) (st : Stated) (profile : Profile) (e : Edge) (calls : List ℕ) (address : ℕ) : Type 0 where
+  pub action : Action
+  pub has : HasAction words address action
+  pub among : Contains (word_edges st profile calls address action) e
+
+pub edge_word : (words : Words) (st : Stated) (profile : Profile) (e : Edge) (calls : List ℕ) (address : ℕ) → IsEdge words st profile e → e.from ≡ At calls address → EdgeWord words st profile e calls address
+edge_word words st profile e calls address is from =
+    let here : AreEdgesOf words st profile (At calls address) is.0 = subst (λ p. AreEdgesOf words st profile p is.0) from is.1 in
+    record { action = here.0; has = here.1; among = subst (λ es. Contains es e) here.2 is.2 }
+
+-- some flags pass a condition over unless it always holds, and fulfil it unless it never does
+abbrev flags : Bool → Bool → Bool → Bool → Flags
+flags n z c v = record { negative = n; zero = z; carry = c; overflow = v }
+
+abbrev none_set : Flags
+none_set = flags false false false false
+
+abbrev all_set : Flags
+all_set = flags true true true true
+
+abbrev n_and_c : Flags
+n_and_c = flags true false true false
+
+pub passes_over : (c : Cond) → is_always c ≡ false → (f : Flags) × (label_by f c ≡ Skip)
+passes_over condition.Eq h = (none_set, refl)
+passes_over condition.Ne h = (all_set, refl)
+passes_over condition.Cs h = (none_set, refl)
+passes_over condition.Cc h = (all_set, refl)
+passes_over condition.Mi h = (none_set, refl)
+passes_over condition.Pl h = (all_set, refl)
+passes_over condition.Vs h = (none_set, refl)
+passes_over condition.Vc h = (all_set, refl)
+passes_over condition.Hi h = (none_set, refl)
+passes_over condition.Ls h = (n_and_c, refl)
+passes_over condition.Ge h = (n_and_c, refl)
+passes_over condition.Lt h = (none_set, refl)
+passes_over condition.Gt h = (all_set, refl)
+passes_over condition.Le h = (none_set, refl)
+passes_over condition.Al h = absurd (cc)
+passes_over condition.Nv h = (none_set, refl)
+
+pub fulfils : (c : Cond) → is_never c ≡ false → (f : Flags) × (label_by f c ≡ Do)
+fulfils condition.Eq h = (all_set, refl)
+fulfils condition.Ne h = (none_set, refl)
+fulfils condition.Cs h = (all_set, refl)
+fulfils condition.Cc h = (none_set, refl)
+fulfils condition.Mi h = (all_set, refl)
+fulfils condition.Pl h = (none_set, refl)
+fulfils condition.Vs h = (all_set, refl)
+fulfils condition.Vc h = (none_set, refl)
+fulfils condition.Hi h = (n_and_c, refl)
+fulfils condition.Ls h = (none_set, refl)
+fulfils condition.Ge h = (none_set, refl)
+fulfils condition.Lt h = (n_and_c, refl)
+fulfils condition.Gt h = (none_set, refl)
+fulfils condition.Le h = (all_set, refl)
+fulfils condition.Al h = (none_set, refl)
+fulfils condition.Nv h = absurd (cc)
+
+-- what stands behind a test
+behind_test : (b : Bool) (xs : List Edge) (e : Edge) → Contains (cond b [] xs) e → (b ≡ false) × Contains xs e
+behind_test true xs e h = absurd (no_member e h)
+behind_test false xs e h = (refl, h)
+
+-- the edge's label comes from some flags
+label_flags : (words : Words) (st : Stated) (profile : Profile) (e : Edge) (calls : List ℕ) (address : ℕ) (a : Action) → Contains (word_edges st profile calls address a) e → (f : Flags) × (label_by f a.cond ≡ e.label)
+label_flags words st profile e calls address a among = by_part (Contains-append_cases (skip_edges profile calls address a) (do_edges st profile calls address a) e among)
+  where
+    by_part : Contains (skip_edges profile calls address a) e ⊎ Contains (do_edges st profile calls address a) e → (f : Flags) × (label_by f a.cond ≡ e.label)
+    by_part (inl skip) =
+        let test = behind_test (is_always a.cond) (skip_edge profile calls address ∷ []) e skip in
+        let f = passes_over a.cond test.0 in
+        (f.0, f.1 ∙ ap (λ (x : Edge). x.label) (only_one (skip_edge profile calls address) e test.1))
+    by_part (inr done) =
+        let test = behind_test (is_never a.cond) (landing_edges st profile calls address a) e done in
+        let f = fulfils a.cond test.0 in
+        let to = contains_map (do_edge st profile calls address a) (landings st calls address a.kind) e test.1 in
+        (f.0, f.1 ∙ ap (λ (x : Edge). x.label) to.2)
+
+pub some_flags : (words : Words) (st : Stated) (profile : Profile) (e : Edge) (calls : List ℕ) (address word : ℕ) (action : Action) → IsEdge words st profile e → e.from ≡ At calls address → word_of words address ≡ Some word → IsAction word action
+    → (f : Flags) × (label_by f action.cond ≡ e.label)
+some_flags words st profile e calls address word action is from has is_action =
+    let w = edge_word words st profile e calls address is from in
+    let same : w.has.word ≡ word = same_Some _ _ (sym w.has.stands ∙ has) in
+    let one : w.action ≡ action = one_action word w.action action (subst (λ n. IsAction n w.action) same w.has.is) is_action in
+    subst (λ (a : Action). (f : Flags) × (label_by f a.cond ≡ e.label)) one (label_flags words st profile e calls address w.action w.among)
+
+-- ## Settings
+
+pub set_by : (aim : Aim) (word : ℕ) (label : Label) (x : Instr) (setting : Setting) → Means word x → Sets aim x.operation setting → IsSettingOf aim word label setting
+set_by aim word label x setting means sets = record { register_other = sets.register_other; word_apart = sets.word_apart; skipped_or_set = inr (x, means, sets) }
+
+-- the word at a free edge's place is free, unless it is passed over
+pub word_free : (words : Words) (e : Edge) (calls : List ℕ) (address word : ℕ) → IsFree words e → e.from ≡ At calls address → word_of words address ≡ Some word → (e.label ≡ Skip) ⊎ IsFreeWord word
+word_free words e calls address word free from has = by_label free.skipped_or_free
+  where
+    same_address : free.address ≡ address
+    same_address = at_same (sym free.from ∙ from)
+      where
+        at_same : At free.calls free.address ≡ At calls address → free.address ≡ address
+        at_same h = ap place_address h
+
+    by_label : (e.label ≡ Skip) ⊎ HasFreeWord words free.address → (e.label ≡ Skip) ⊎ IsFreeWord word
+    by_label (inl skip) = inl skip
+    by_label (inr w) = inr (subst IsFreeWord (same_Some _ _ (sym w.1 ∙ ap (word_of words) same_address ∙ has)) w.2)

@@ -1,0 +1,177 @@
+-- The machine file of a machine that takes an edge at its price: what the clauses of private functions cite.
+-- Our own choice among such machines: SVC mode, pages of 32 KB, both interrupts masked, one register and at
+-- most one word in memory besides the image's.
+use Rattle.std.specs.Prelude.{◌≡◌, ◌<◌, ◌^◌, ◌⊎◌, ℕ, true, false, [], ◌∷◌, replicate, slice_set, map, All, List, Option, Contains}
+use Rattle.std.specs.Prelude.{Some, None, IfSome}
+use Rattle.bus_ticks.specs.declared.profile.Profile.{Profile}
+use Rattle.bus_ticks.specs.declared.profile.RomTimes.{RomTimes}
+use Rattle.memc.specs.declared.spots.PageSize.TheVariants.{K32}
+use Rattle.arm2_decode.specs.Names.{is_pc, register_number}
+use Rattle.arm2_decode.specs.Table.{Means}
+use Rattle.arm2_decode.specs.declared.flags.Flags.{Flags}
+use Rattle.arm2_decode.specs.declared.instr.Instr.{Instr}
+use Rattle.arm2_effect.specs.declared.modes.Mode.TheVariants.{Svc}
+use Rattle.arm2_effect.specs.Modes.{slot_of}
+use Rattle.loader.specs.Image.{Words, word_of}
+use Rattle.loader.specs.declared.plan.PlacedPage.{PlacedPage}
+use Rattle.loader.specs.Loading.{lacks_page, put_words}
+use Rattle.loader.specs.Planned.{AreOf, IsFitted}
+use Rattle.loader.specs.PagePlan.{IsPagePlan}
+use Rattle.arm2_exec.specs.State.{State}
+use Rattle.arm2_exec.specs.declared.machine.Input.{Input}
+use Rattle.machine_file.specs.Stated as file
+use Rattle.machine_file.specs.Started.{IsStarted}
+use Rattle.machine_file.specs.declared.flags.PsrFlags.{PsrFlags}
+use Rattle.machine_file.specs.declared.pages.MappedPage.{MappedPage}
+use Rattle.flow_graph.specs.Edges.{IsEdge}
+use Rattle.flow_graph.specs.Kinds.{IsAction}
+use Rattle.flow_graph.specs.Setting.{IsData, Sets}
+use Rattle.flow_graph.specs.StepLaw.{label_by}
+use Rattle.flow_graph.specs.Tight.{IsTight}
+use Rattle.flow_graph.specs.TightWork.{IsDearestTarget}
+use Rattle.flow_graph.specs.declared.edges.Edge.{Edge}
+use Rattle.flow_graph.specs.declared.edges.Label.{Label}
+use Rattle.flow_graph.specs.declared.edges.Label.TheVariants.{Skip}
+use Rattle.flow_graph.specs.declared.kinds.Action.{Action}
+use Rattle.flow_graph.specs.declared.places.Place.{Place}
+use Rattle.flow_graph.specs.declared.places.Place.TheVariants.{At, Exit}
+use Rattle.flow_graph.specs.declared.setting.Aim.{Aim}
+use Rattle.flow_graph.specs.declared.setting.Held.{Held}
+use Rattle.flow_graph.specs.declared.setting.Setting.{Setting}
+use Rattle.flow_graph.specs.declared.tight.Stand.{Stand}
+use Rattle.flow_graph.specs.declared.tight.Tight.{Tight}
+use Rattle.statement.specs.Stated.{Stated, class_of}
+
+-- ## What a word needs
+
+-- the register is not R15, the word in memory stands apart, and a word that is done has all that it needs
+pub record IsSettingOf (aim : Aim) (word : ℕ) (label : Label) (setting : Setting) : Type 0 where
+  pub register_other : IfSome setting.register (λ held. is_pc held.register ≡ false)
+  pub word_apart : IfSome setting.word (λ e. IsData aim.spare aim.address e.0)
+  pub skipped_or_set : (label ≡ Skip) ⊎ ((x : Instr) × Means word x × Sets aim x.operation setting)
+
+-- the image has a word at a place, but for Exit
+abbrev pub HasWordAt : Words → Place → Type 0
+HasWordAt words (At calls address) = (word : ℕ) × (word_of words address ≡ Some word)
+HasWordAt words Exit = Unit {0}
+
+module _ (words : Words) (st : Stated) (profile : Profile) (e : Edge) where
+  -- at the edge's place, with flags by its label, and with a setting to lead to its target
+  pub record IsStand (spare : ℕ) (stand : Stand) : Type 0 where
+    pub calls : List ℕ
+    pub word : ℕ
+    pub action : Action
+    pub target : ℕ
+    pub is_edge : IsEdge words st profile e
+    pub from : e.from ≡ At calls stand.address
+    pub has : word_of words stand.address ≡ Some word
+    pub is : IsAction word action
+    pub label : label_by stand.flags action.cond ≡ e.label
+    pub leads : IsDearestTarget st profile e.to target
+    pub setting : IsSettingOf
+        (record {
+          profile = profile;
+          class = class_of st stand.address;
+          address = stand.address;
+          target = target;
+          spare = spare;
+        }) word e.label stand.setting
+
+-- ## The file
+
+-- the register's word in its place among the 26, by SVC mode, and 0 elsewhere
+abbrev pub registers_with : Option Held → List ℕ
+registers_with None = replicate 26 0
+registers_with (Some held) = slice_set (replicate 26 0) (slot_of Svc (register_number held.register)) held.word
+
+abbrev pub masked_flags : Flags → PsrFlags
+masked_flags f =
+    record {
+      negative = f.negative;
+      zero = f.zero;
+      carry = f.carry;
+      overflow = f.overflow;
+      irq_masked = true;
+      fiq_masked = true;
+    }
+
+abbrev pub open_page : PlacedPage → MappedPage
+open_page p = record { logical = p.logical; physical = p.physical; level = 0 }
+
+abbrev pub listed : Option (ℕ × ℕ) → Words
+listed None = []
+listed (Some e) = e ∷ []
+
+-- one step from there
+abbrev pub file_of : Stand → List PlacedPage → RomTimes → file.Stated
+file_of stand pages rom =
+    record {
+      processor =
+          record {
+            pc = stand.address;
+            mode = Svc;
+            flags = masked_flags stand.flags;
+            registers = registers_with stand.setting.register;
+          };
+      controller = record { size = K32; low_rom = rom.low; high_rom = rom.high; pages = map open_page pages };
+      schedule = record { steps = 1; port = stand.setting.port; events = [] };
+      words = listed stand.setting.word;
+    }
+
+-- ## What such a file is for
+
+-- the image's word at the place is among the words
+abbrev pub HasPlaceWord : Words → Place → Words → Type 0
+HasPlaceWord words place some =
+    (calls : List ℕ) (address word : ℕ) → place ≡ At calls address → word_of words address ≡ Some word
+    → Contains some (address, word)
+
+-- Of the file: its pages are those of a plan for the image. Into the machine that it states words of the image are
+-- put, in whatever order, that at the edge's place among them, and then those of the file; each has a place, but
+-- those of the image where no RAM is fitted. In the file's one step the machine takes the edge at its price.
+pub record IsTightFile (words : Words) (st : Stated) (profile : Profile) (e : Edge) (f : file.Stated) : Type 0 where
+  pub pages : List PlacedPage
+  pub spare : ℕ
+  pub plan : IsPagePlan words pages spare
+  pub size : f.controller.size ≡ K32
+  pub pages_are : f.controller.pages ≡ map open_page pages
+  pub one_step : f.schedule.steps ≡ 1
+  pub no_events : f.schedule.events ≡ []
+  pub image_fits : (some : Words) (start : State) → AreOf words some → IsStarted f profile start
+      → All (λ x. IsFitted x.0) some → lacks_page start.bus.memc some ≡ false
+  pub words_fit : (some : Words) (start : State) → IsStarted f profile start
+      → lacks_page (put_words some start).bus.memc f.words ≡ false
+  pub tight : (some : Words) (start : State) (i : Input) → AreOf words some → HasPlaceWord words e.from some
+      → IsStarted f profile start → i.port ≡ f.schedule.port
+      → IsTight words st profile e (put_words f.words (put_words some start)) i
+
+-- such a file, and a machine and an input that take the edge
+pub record IsTightAt (words : Words) (st : Stated) (profile : Profile) (e : Edge) (t : Tight) : Type 0 where
+  pub takes : IsTight words st profile e t.machine t.input
+  pub file : IsTightFile words st profile e t.file
+
+-- ## Where its words go
+
+-- the place is one of a word of the image, which is that one
+abbrev pub IsEntryOf : Words → Place → Type 0
+IsEntryOf words (At calls address) = (word : ℕ) × (word_of words address ≡ Some word)
+IsEntryOf words Exit = ⊥
+
+pub record IsPlaceWord (words : Words) (place : Place) (e : ℕ × ℕ) : Type 0 where
+  pub calls : List ℕ
+  pub is : place ≡ At calls e.0
+  pub has : word_of words e.0 ≡ Some e.1
+  pub below : e.0 < 2 ^ 26
+
+-- in the file's machine there is a place for the word, and for those of the file
+pub record CanPlace (profile : Profile) (f : file.Stated) (word : ℕ × ℕ) : Type 0 where
+  pub below : word.0 < 2 ^ 26
+  pub fits : (start : State) → IsStarted f profile start → lacks_page start.bus.memc (word ∷ []) ≡ false
+  pub all_fit : (start : State) → IsStarted f profile start
+      → lacks_page (put_words (word ∷ []) start).bus.memc f.words ≡ false
+
+-- the file's machine with the word, and then with those of the file
+pub record IsPlaced (profile : Profile) (f : file.Stated) (word : ℕ × ℕ) (s : State) : Type 0 where
+  pub start : State
+  pub begun : IsStarted f profile start
+  pub is : s ≡ put_words f.words (put_words (word ∷ []) start)

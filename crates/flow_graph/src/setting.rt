@@ -1,0 +1,237 @@
+//! How a machine is set so that one word costs the most that it can, and leads where its edge does.
+
+ghost use Rattle.std.specs.Prelude.{◌≡◌, ◌≤◌, ◌<◌, ◌%◌, Bool, IsTrue, true};
+ghost use Rattle.arm2_decode.specs.declared.flags.Flags.{Flags};
+ghost use Rattle.arm2_decode.specs.declared.instr.Operation.{Operation};
+ghost use Rattle.arm2_effect.specs.Outcomes.{outcome_of};
+ghost use Rattle.arm2_transfer.specs.Block.{lowest_of};
+ghost use Rattle.arm2_transfer.specs.Single.{address_for, of_immediate};
+ghost use Rattle.flow_graph.specs.Free.{adds_an_immediate, is_free_operation};
+ghost use Rattle.flow_graph.specs.Setting.{MayStart, Sets, of_register, rotated, transfer_setting};
+
+use crate::free::writes_pc;
+use crate::kinds::lists_pc;
+use arm2_decode::{
+    Block, DataImmediate, DataRegister, Multiply, Opcode, Operation, Register, SingleImmediate,
+};
+use bus_ticks::{Class, Profile, ROM_START, dearest_device, dearest_ram_start, word_address};
+use shifter::rotate_imm;
+
+/// Where physical RAM begins, and how long a page is, in bytes.
+pub(crate) const PHYSICAL_RAM: u32 = 0x200_0000;
+
+pub(crate) const PAGE: u32 = 0x8000;
+
+// Where the words of a load from ROM stand, in bytes: at ROM's end, or before that where the load itself
+// stands there.
+const ROM_DATA: u32 = 0x3FF_FF00;
+
+const OTHER_ROM_DATA: u32 = 0x3FF_FE00;
+
+/// What a word is asked: to cost the most, and to lead to an address.
+#[derive(Clone, Copy)]
+pub(crate) struct Aim {
+    pub(crate) profile: Profile,
+    /// The class that is stated for the words that it transfers.
+    pub(crate) class: Class,
+    /// Where it stands, in bytes.
+    pub(crate) address: u32,
+    /// Where it is to lead, in bytes.
+    pub(crate) target: u32,
+    /// A physical page of 32 KB that has no words, by number.
+    pub(crate) spare: u32,
+}
+
+/// A register and the word in it.
+#[derive(Clone, Copy)]
+pub(crate) struct Held {
+    pub(crate) register: Register,
+    pub(crate) word: u32,
+}
+
+/// What a machine has besides the word that it executes.
+#[derive(Clone, Copy)]
+pub(crate) struct Setting {
+    /// The one register other than R15 that matters, if one does.
+    pub(crate) register: Option<Held>,
+    /// The word that a load among the devices gives.
+    pub(crate) port: u32,
+    /// A word in memory, with its address in front, if one matters.
+    pub(crate) word: Option<(u32, u32)>,
+}
+
+pub(crate) const NOTHING: Setting = Setting {
+    register: None,
+    port: 0,
+    word: None,
+};
+
+fn of_register(held: Held) -> Setting
+    ensures { result ≡ of_register held }
+{
+    Setting {
+        register: Some(held),
+        ..NOTHING
+    }
+}
+
+// The address of the dearest transfer's first word.
+fn start(aim: &Aim, load: bool, words: u32) -> u32
+    requires some { 1 ≤ words }
+    requires few { words ≤ 16 }
+    requires spare { aim.now.spare < 128 }
+    ensures { MayStart aim.now load words result }
+{
+    match aim.class {
+        Class::Ram => PHYSICAL_RAM + aim.spare * PAGE + dearest_ram_start(),
+        Class::Io => dearest_device(&aim.profile),
+        Class::Any => dearest_device(&aim.profile),
+        Class::Rom if !load => ROM_START,
+        Class::Rom if aim.address < ROM_DATA => ROM_DATA,
+        Class::Rom => OTHER_ROM_DATA,
+    }
+}
+
+// The base by which the transfer's word stands at the address.
+fn base_of_single(x: &SingleImmediate, address: u32) -> u32
+    ensures { address_for (of_immediate x.now) result ≡ address }
+{
+    if !x.before {
+        address
+    } else if x.up {
+        address.wrapping_sub(x.offset)
+    } else {
+        address.wrapping_add(x.offset)
+    }
+}
+
+// The base by which the block's lowest word stands at the address.
+fn base_of_block(x: &Block, address: u32, words: u32) -> u32
+    requires whole { address % 4 ≡ 0 }
+    requires some { 1 ≤ words }
+    requires few { words ≤ 16 }
+    ensures { lowest_of x.now result words ≡ address }
+{
+    match (x.up, x.before) {
+        (true, false) => address,
+        (true, true) => address.wrapping_sub(4),
+        (false, false) => address.wrapping_add(4 * words - 4),
+        (false, true) => address.wrapping_add(4 * words),
+    }
+}
+
+// A transfer from its base; where it loads R15, its last word is the target.
+fn transfer_setting(aim: &Aim, base: Held, loads_pc: bool, last: u32) -> Setting
+    ensures { result ≡ transfer_setting aim.now base loads_pc last }
+{
+    let found = of_register(base);
+    if !loads_pc {
+        return found;
+    }
+    match aim.class {
+        Class::Io | Class::Any => Setting {
+            port: aim.target,
+            ..found
+        },
+        Class::Ram | Class::Rom => Setting {
+            word: Some((last, aim.target)),
+            ..found
+        },
+    }
+}
+
+fn of_single(aim: &Aim, x: &SingleImmediate) -> Setting
+    requires free { IsTrue (is_free_operation (Operation.SingleImmediate x.now)) }
+    requires spare { aim.now.spare < 128 }
+    ensures { Sets aim.now (Operation.SingleImmediate x.now) result }
+{
+    let first = start(aim, x.load, 1);
+    let base = Held {
+        register: x.rn,
+        word: base_of_single(x, first),
+    };
+    transfer_setting(aim, base, x.load & x.rd.is_pc(), first)
+}
+
+fn of_block(aim: &Aim, x: &Block) -> Setting
+    requires spare { aim.now.spare < 128 }
+    ensures { Sets aim.now (Operation.Block x.now) result }
+{
+    let words = x.list.count_ones();
+    let first = start(aim, x.load, words);
+    let base = Held {
+        register: x.rn,
+        word: base_of_block(x, first, words),
+    };
+    let last = word_address(first, words - 1);
+    transfer_setting(aim, base, x.load & lists_pc(x.list), last)
+}
+
+// MOV of a register that holds the target.
+fn of_copy(aim: &Aim, x: &DataRegister) -> Setting
+    requires { IsTrue (is_free_operation (Operation.DataRegister x.now)) }
+    ensures { Sets aim.now (Operation.DataRegister x.now) result }
+{
+    if !writes_pc(x.opcode, x.rd) {
+        return NOTHING;
+    }
+    of_register(Held {
+        register: x.rm,
+        word: aim.target,
+    })
+}
+
+// The word in Rn by which the sum or the difference is the target.
+fn addend(x: &DataImmediate, target: u32) -> u32
+    requires { adds_an_immediate x.now ≡ true }
+    ensures { (flags : Flags) → (carry : Bool)
+        → (outcome_of x.now.opcode result (rotated x.now carry) flags).value ≡ target }
+{
+    let operand = rotate_imm(x.value, x.rotation, false).value;
+    if x.opcode == Opcode::Add {
+        target.wrapping_sub(operand)
+    } else {
+        target.wrapping_add(operand)
+    }
+}
+
+// ADD or SUB of an immediate that gives the target.
+fn of_sum(aim: &Aim, x: &DataImmediate) -> Setting
+    requires { IsTrue (is_free_operation (Operation.DataImmediate x.now)) }
+    ensures { Sets aim.now (Operation.DataImmediate x.now) result }
+{
+    if !writes_pc(x.opcode, x.rd) {
+        return NOTHING;
+    }
+    of_register(Held {
+        register: x.rn,
+        word: addend(x, aim.target),
+    })
+}
+
+// A multiply by a number that takes the most cycles.
+fn of_multiply(aim: &Aim, x: &Multiply) -> Setting
+    ensures { Sets aim.now (Operation.Multiply x.now) result }
+{
+    of_register(Held {
+        register: x.rs,
+        word: u32::MAX,
+    })
+}
+
+/// What a machine has so that the operation costs the most that it can at its address, and leads to the
+/// target where it writes R15.
+pub(crate) fn setting_for(aim: &Aim, operation: &Operation) -> Setting
+    requires free { IsTrue (is_free_operation operation.now) }
+    requires spare { aim.now.spare < 128 }
+    ensures { Sets aim.now operation.now result }
+{
+    match operation {
+        Operation::Multiply(x) => of_multiply(aim, x),
+        Operation::DataRegister(x) => of_copy(aim, x),
+        Operation::DataImmediate(x) => of_sum(aim, x),
+        Operation::SingleImmediate(x) => of_single(aim, x),
+        Operation::Block(x) => of_block(aim, x),
+        _ => NOTHING,
+    }
+}

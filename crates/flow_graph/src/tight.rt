@@ -1,0 +1,411 @@
+//! A machine whose one step takes an edge at exactly its price.
+
+ghost use Rattle.std.specs.Prelude.{◌≡◌, ◌⊎◌, ◌<◌, Err, IfErr, IfOk, IfSome, IsNone, OnOk, All, Some, [], ◌∷◌, ◌↔◌, ◌^◌, false, length, map, slice_index_or};
+ghost use Rattle.loader.specs.Loading.{lacks_page, put_words};
+ghost use Rattle.flow_graph.specs.Graph.{IsFlowGraph};
+ghost use Rattle.flow_graph.specs.declared.edges.Edge.{Edge};
+ghost use Rattle.arm2_decode.specs.Names.{is_pc, register_number};
+ghost use Rattle.arm2_effect.specs.Modes.{slot_of};
+ghost use Rattle.arm2_effect.specs.declared.modes.Mode.TheVariants.{Svc};
+ghost use Rattle.machine_file.specs.Parts.{IsInRange, StandsOnce, stated_by};
+ghost use Rattle.flow_graph.specs.Edges.{IsEdge};
+ghost use Rattle.flow_graph.specs.Free.{IsFree, IsFreeWord};
+ghost use Rattle.flow_graph.specs.TightFile.{CanPlace, HasWordAt, IsEntryOf, IsPlaceWord, IsPlaced};
+ghost use Rattle.flow_graph.specs.TightFile.{IsSettingOf, IsStand, IsTightAt, IsTightFile, file_of, listed, masked_flags};
+ghost use Rattle.flow_graph.specs.TightFile.{open_page, registers_with};
+ghost use Rattle.flow_graph.specs.TightWork.{IsDearestTarget};
+ghost use Rattle.statement.specs.Stated.{Stated};
+
+use crate::edges::{Edge, Label};
+use crate::flags::flags_for;
+use crate::flow::Graph;
+use crate::free::is_free;
+use crate::kinds::action_of;
+use crate::places::Place;
+use crate::setting::{Aim, Held, NOTHING, Setting, setting_for};
+use arm2_decode::{Flags, Register, decode};
+use arm2_effect::Mode;
+use arm2_exec::{Input, Machine, MachineFault};
+use bitflags::Flags as _;
+use bus_ticks::{Class, Profile, RomTimes, dearest_leave, dearest_rom_times};
+use ioc::Lines;
+use loader::{Image, LoadFault, PagePlan, page_plan, put_words};
+use machine_file::{
+    ControllerParts, MachineFile, MachineFileFault, MachineParts, MappedPage, ProcessorParts,
+    PsrFlags, ScheduleParts,
+};
+use memc::PageSize;
+use statement::Statement;
+use std::alloc::{AllocError, Global};
+use thiserror::Error;
+
+/// Why no machine is given.
+#[derive(Clone, Copy, Debug, PartialEq, Eq, Drop, Error)]
+pub enum TightFault {
+    /// An allocation failed.
+    #[error("Memory")]
+    Memory,
+    /// The edge is not free ([`is_free`]).
+    #[error("NotFree")]
+    NotFree,
+}
+
+impl From<MachineFault> for TightFault {
+    ghost use Rattle.std.specs.Prelude.{◌≡◌};
+    ghost use Rattle.flow_graph.specs.declared.tight.TightFault.TheVariants.{Memory};
+
+    ghost from_gives = { λ _ fault. fault ≡ Memory };
+
+    fn from(_refused: MachineFault) -> TightFault {
+        TightFault::Memory
+    }
+}
+
+impl From<AllocError> for TightFault {
+    ghost use Rattle.std.specs.Prelude.{◌≡◌};
+    ghost use Rattle.flow_graph.specs.declared.tight.TightFault.TheVariants.{Memory};
+
+    ghost from_gives = { λ _ fault. fault ≡ Memory };
+
+    fn from(_refused: AllocError) -> TightFault {
+        TightFault::Memory
+    }
+}
+
+/// How a machine stands before its step.
+#[derive(Clone, Copy)]
+pub(crate) struct Stand {
+    /// The word's address, in bytes.
+    pub(crate) address: u32,
+    pub(crate) flags: Flags,
+    pub(crate) setting: Setting,
+}
+
+// An address that the place stands for, to which a jump costs the most.
+fn target(image: &Image, profile: &Profile, leave: Class, to: &Place) -> Option<u32>
+    ensures leads { IfSome result
+        (λ t. (st : Stated) → leave ≡ st.leave → IsDearestTarget st profile.now to.now t) }
+    ensures none { IsNone result → HasWordAt image.now to.now → ⊥ }
+{
+    match to {
+        Place::At(_, address) => {
+            let _word = image.word_at(*address)?;
+            Some(*address)
+        }
+        Place::Exit => Some(dearest_leave(profile, leave)),
+    }
+}
+
+// What the word needs besides where it stands: nothing where it is passed over.
+fn setting_at(aim: &Aim, word: u32, label: Label) -> Setting
+    requires free { (label ≡ Label.Skip) ⊎ IsFreeWord word }
+    requires spare { aim.now.spare < 128 }
+    ensures { IsSettingOf aim.now word label result }
+{
+    match (label, decode(word)) {
+        (Label::Skip, _) => NOTHING,
+        (Label::Do, Ok(instr)) => setting_for(aim, &instr.operation),
+        (Label::Do, Err(_)) => unreachable!(),
+    }
+}
+
+// How a machine stands that takes the edge at its price; none where the edge is not free.
+fn stand_for(
+    image: &Image,
+    statement: &Statement,
+    profile: &Profile,
+    edge: &Edge,
+    spare: u32,
+) -> Option<Stand>
+    requires is_edge { IsEdge image.now statement.now profile.now edge.now }
+    requires lands { HasWordAt image.now edge.now.to }
+    requires spare { spare < 128 }
+    ensures stands { IfSome result (IsStand image.now statement.now profile.now edge.now spare) }
+    ensures free { IfSome result (λ _. IsFree image.now edge.now) }
+    ensures none { IsNone result → IsFree image.now edge.now → ⊥ }
+{
+    if !is_free(image, edge) {
+        return None;
+    }
+    let Place::At(_, address) = edge.from else {
+        return None;
+    };
+    let word = image.word_at(address)?;
+    let flags = flags_for(action_of(word).cond, edge.label)?;
+    let aim = Aim {
+        profile: *profile,
+        class: statement.class_at(address),
+        address,
+        target: target(image, profile, statement.leave(), &edge.to)?,
+        spare,
+    };
+    Some(Stand {
+        address,
+        flags,
+        setting: setting_at(&aim, word, edge.label),
+    })
+}
+
+// Where a register of SVC mode stands among the 26 of a machine file.
+fn slot(register: Register) -> usize
+    requires { is_pc register ≡ false }
+    ensures slot { result ≡ slot_of Svc (register_number register) }
+    ensures below { result < 26 }
+{
+    let number = register.number() as usize;
+    if number < 13 { number } else { number + 11 }
+}
+
+fn registers_with(held: Option<Held>) -> [u32; 26]
+    requires { IfSome held (λ h. is_pc h.register ≡ false) }
+    ensures { result ≡ registers_with held }
+{
+    let mut registers = [0; 26];
+    if let Some(held) = held {
+        registers[slot(held.register)] = held.word;
+    }
+    registers
+}
+
+fn masked_flags(flags: Flags) -> PsrFlags
+    ensures { result ≡ masked_flags flags }
+{
+    PsrFlags {
+        negative: flags.negative,
+        zero: flags.zero,
+        carry: flags.carry,
+        overflow: flags.overflow,
+        irq_masked: true,
+        fiq_masked: true,
+    }
+}
+
+fn open_pages(alloc: Global, plan: &PagePlan) -> Result<Vec<MappedPage>, AllocError>
+    ensures { IfOk result (λ pages. pages.items ≡ map open_page plan.now.pages.items) }
+{
+    plan.pages
+        .iter()
+        .map(|page| MappedPage {
+            logical: page.logical,
+            physical: page.physical,
+            level: 0,
+        })
+        .collect(alloc)
+}
+
+fn listed(alloc: Global, word: Option<(u32, u32)>) -> Result<Vec<(u32, u32)>, AllocError>
+    ensures { IfOk result (λ words. words.items ≡ listed word) }
+{
+    let mut words = Vec::new(alloc);
+    if let Some(word) = word {
+        words.push(word)?;
+    }
+    Ok(words)
+}
+
+// One step of the machine that stands so.
+fn parts(
+    alloc: Global,
+    stand: &Stand,
+    plan: &PagePlan,
+    rom: RomTimes,
+) -> Result<MachineParts, AllocError>
+    requires { IfSome stand.now.setting.register (λ h. is_pc h.register ≡ false) }
+    ensures { IfOk result (λ parts. stated_by parts ≡ file_of stand.now plan.now.pages.items rom) }
+{
+    let pages = open_pages(alloc, plan)?;
+    let words = listed(alloc, stand.setting.word)?;
+    Ok(MachineParts {
+        processor: ProcessorParts {
+            pc: stand.address,
+            mode: Mode::Svc,
+            flags: masked_flags(stand.flags),
+            registers: registers_with(stand.setting.register),
+        },
+        controller: ControllerParts {
+            size: PageSize::K32,
+            low_rom: rom.low,
+            high_rom: rom.high,
+            pages,
+        },
+        schedule: ScheduleParts {
+            steps: 1,
+            port: stand.setting.port,
+        },
+        words,
+    })
+}
+
+// The machine file with one step from there.
+fn file(
+    alloc: Global,
+    stand: &Stand,
+    plan: &PagePlan,
+    rom: RomTimes,
+) -> Result<MachineFile, TightFault>
+    requires register { IfSome stand.now.setting.register (λ h. is_pc h.register ≡ false) }
+    requires in_range { IsInRange (file_of stand.now plan.now.pages.items rom) }
+    requires once { StandsOnce (file_of stand.now plan.now.pages.items rom) }
+    ensures file { IfOk result (λ f. f ≡ file_of stand.now plan.now.pages.items rom) }
+    ensures fault { IfErr result (λ fault. fault ≡ TightFault.Memory) }
+{
+    let parts = parts(alloc, stand, plan, rom)?;
+    match MachineFile::of_parts(alloc, parts) {
+        Ok(file) => Ok(file),
+        Err(MachineFileFault::Memory) => Err(TightFault::Memory),
+        Err(_) => unreachable!(),
+    }
+}
+
+// The same, of a free edge of a graph.
+fn edge_file(
+    alloc: Global,
+    image: &Image,
+    statement: &Statement,
+    profile: &Profile,
+    edge: &Edge,
+) -> Result<MachineFile, TightFault>
+    requires is_edge { IsEdge image.now statement.now profile.now edge.now }
+    requires lands { HasWordAt image.now edge.now.to }
+    requires free { IsFree image.now edge.now }
+    ensures tight { IfOk result (IsTightFile image.now statement.now profile.now edge.now) }
+    ensures fault { IfErr result (λ fault. fault ≡ TightFault.Memory) }
+{
+    let plan = page_plan(alloc, image)?;
+    match stand_for(image, statement, profile, edge, plan.spare) {
+        Some(stand) => file(alloc, &stand, &plan, dearest_rom_times(profile)),
+        None => unreachable!(),
+    }
+}
+
+// Puts words that all have a place.
+fn put(alloc: Global, machine: &mut Machine, words: &[(u32, u32)]) -> Result<(), TightFault>
+    requires below { All (λ e. e.0 < 2 ^ 26) words.now }
+    requires fit { lacks_page machine.old.bus.memc words.now ≡ false }
+    ensures put { OnOk result (machine.new ≡ put_words words.now machine.old) }
+    ensures fault { IfErr result (λ fault. fault ≡ TightFault.Memory) }
+{
+    match put_words(alloc, machine, words) {
+        Ok(()) => Ok(()),
+        Err(LoadFault::Memory) => Err(TightFault::Memory),
+        Err(LoadFault::NoPage) => unreachable!(),
+    }
+}
+
+/// A machine whose one step takes an edge at exactly its price.
+#[derive(Drop)]
+pub struct Tight {
+    /// The machine before the step. Of the image it has the word at the edge's place, and then the file's words.
+    pub machine: Machine,
+    pub input: Input,
+    /// The machine file that states it, with one step. Its pages, of 32 KB, hold each word of the image below
+    /// 2000000, and no word of the image from 2000000 on lies on them.
+    pub file: MachineFile,
+}
+
+// Puts one word into a machine, and then others.
+fn put_in_turn(
+    alloc: Global,
+    machine: &mut Machine,
+    word: (u32, u32),
+    words: &[(u32, u32)],
+) -> Result<(), TightFault>
+    requires below { word.0 < 2 ^ 26 }
+    requires fits { lacks_page machine.old.bus.memc (word ∷ []) ≡ false }
+    requires all_below { All (λ e. e.0 < 2 ^ 26) words.now }
+    requires all_fit { lacks_page (put_words (word ∷ []) machine.old).bus.memc words.now ≡ false }
+    ensures put { OnOk result (machine.new ≡ put_words words.now (put_words (word ∷ []) machine.old)) }
+    ensures fault { IfErr result (λ fault. fault ≡ TightFault.Memory) }
+{
+    put(alloc, machine, &[word])?;
+    put(alloc, machine, words)
+}
+
+// The machine of a file with a word of the image, and then those of the file.
+fn placed(
+    alloc: Global,
+    profile: &Profile,
+    file: &MachineFile,
+    word: (u32, u32),
+) -> Result<Machine, TightFault>
+    requires { CanPlace profile.now file.now word }
+    ensures placed { IfOk result (λ m. IsPlaced profile.now file.now word m) }
+    ensures fault { IfErr result (λ fault. fault ≡ TightFault.Memory) }
+{
+    let mut machine = file.machine(alloc, *profile)?;
+    put_in_turn(alloc, &mut machine, word, file.words())?;
+    Ok(machine)
+}
+
+// The image's word at a place, with its address in front.
+fn place_word(image: &Image, place: &Place) -> Option<(u32, u32)>
+    ensures word { IfSome result (λ e. IsPlaceWord image.now place.now e) }
+    ensures none { IsNone result → IsEntryOf image.now place.now → ⊥ }
+{
+    match place {
+        Place::At(_, address) => {
+            let word = image.word_at(*address)?;
+            Some((*address, word))
+        }
+        Place::Exit => None,
+    }
+}
+
+// A machine that takes a free edge of a graph.
+fn tight_edge(
+    alloc: Global,
+    image: &Image,
+    statement: &Statement,
+    profile: &Profile,
+    edge: &Edge,
+) -> Result<Tight, TightFault>
+    requires is_edge { IsEdge image.now statement.now profile.now edge.now }
+    requires lands { HasWordAt image.now edge.now.to }
+    requires free { IsFree image.now edge.now }
+    ensures tight { IfOk result (λ t. IsTightAt image.now statement.now profile.now edge.now t) }
+    ensures fault { IfErr result (λ fault. fault ≡ TightFault.Memory) }
+{
+    let Some(word) = place_word(image, &edge.from) else {
+        unreachable!();
+    };
+    let file = edge_file(alloc, image, statement, profile, edge)?;
+    let machine = placed(alloc, profile, &file, word)?;
+    let input = Input {
+        bursts: 0,
+        lines: Lines::empty(),
+        port: file.port(),
+    };
+    Ok(Tight {
+        machine,
+        input,
+        file,
+    })
+}
+
+/// A machine and an input whose one step takes the edge of that number, in the graph's order from 0, at exactly
+/// its price: in SVC mode it executes the image's word at the edge's place, moves only words of the stated
+/// classes, has the edge's label and leads to its target.
+///
+/// # Errors
+///
+/// `NotFree`: the edge is not free ([`is_free`]); of no other edge. `Memory` only where an allocation failed.
+pub fn tight_state(
+    alloc: Global,
+    image: &Image,
+    statement: &Statement,
+    graph: &Graph,
+    edge: usize,
+) -> Result<Tight, TightFault>
+    requires edge { edge < length graph.now.edges }
+    requires graph { IsFlowGraph image.now statement.now graph.now.profile graph.now }
+    ensures tight { (e : Edge) → e ≡ slice_index_or graph.now.edges edge e
+        → IfOk result (λ t. IsTightAt image.now statement.now graph.now.profile e t) }
+    ensures not_free { (e : Edge) → e ≡ slice_index_or graph.now.edges edge e
+        → (result ≡ Err TightFault.NotFree) ↔ (IsFree image.now e → ⊥) }
+{
+    let edge = &graph.edges[edge];
+    if !is_free(image, edge) {
+        return Err(TightFault::NotFree);
+    }
+    tight_edge(alloc, image, statement, &graph.profile, edge)
+}

@@ -1,0 +1,60 @@
+-- Which machine file is built from parts. Source: our own format of machine files.
+use Rattle.std.specs.Prelude.{◌≡◌, ◌≤◌, ◌<◌, ◌^◌, true, [], All, IsTrue, Ok, Err, length}
+use Rattle.std.specs.List.{list_all}
+use Rattle.std.specs.Map.{keys_of}
+use Rattle.loader.specs.Image.{may_hold}
+use Rattle.memc.specs.Memory.{shift_of_size}
+use Rattle.toml_reading.specs.Documents.{are_distinct}
+use Rattle.toml_reading.specs.Lowest.{IsInSpace}
+use Rattle.machine_file.specs.MachineFile.{Read, are_single, is_mappable}
+use Rattle.machine_file.specs.Stated.{Stated}
+use Rattle.machine_file.specs.declared.parts.MachineParts.{MachineParts}
+use Rattle.machine_file.specs.declared.machine_faults.MachineFileFault.TheVariants.{OutOfRange, Twice}
+
+-- what the parts state; there are no events
+abbrev pub stated_by : MachineParts → Stated
+stated_by p =
+    record {
+      processor =
+          record {
+            pc = p.processor.pc;
+            mode = p.processor.mode;
+            flags = p.processor.flags;
+            registers = p.processor.registers;
+          };
+      controller =
+          record {
+            size = p.controller.size;
+            low_rom = p.controller.low_rom;
+            high_rom = p.controller.high_rom;
+            pages = p.controller.pages.items;
+          };
+      schedule = record { steps = p.schedule.steps; port = p.schedule.port; events = [] };
+      words = p.words.items;
+    }
+
+-- each number is one that its key takes, and MEMC can map each page
+pub record IsInRange (s : Stated) : Type 0 where
+  pub pc : IsInSpace s.processor.pc
+  pub low_rom : s.controller.low_rom ≤ 3
+  pub high_rom : s.controller.high_rom ≤ 3
+  pub mappable : list_all (is_mappable (shift_of_size s.controller.size)) s.controller.pages ≡ true
+  pub steps : s.schedule.steps ≤ 65536
+  pub held : All (λ w. IsTrue (may_hold w.0)) s.words
+
+-- no page and no word stands twice
+pub record StandsOnce (s : Stated) : Type 0 where
+  pub pages_once : are_single s.controller.pages ≡ true
+  pub words_once : are_distinct (keys_of s.words) ≡ true
+
+-- the answer to what parts state, but for lack of memory
+pub record IsBuilt (s : Stated) (answer : Read Stated) : Type 0 where
+  pub file : IsInRange s → StandsOnce s → answer ≡ Ok s
+  pub out_of_range : ¬ IsInRange s → answer ≡ Err OutOfRange
+  pub twice : IsInRange s → ¬ StandsOnce s → answer ≡ Err Twice
+
+-- what every machine file has: 26 registers, and words of 32 bits
+pub record AreWords (s : Stated) : Type 0 where
+  pub count : length s.processor.registers ≡ 26
+  pub registers : All (λ w. w < 2 ^ 32) s.processor.registers
+  pub port : s.schedule.port < 2 ^ 32

@@ -1,0 +1,133 @@
+-- The document that states a machine. Source: our own format of machine files, over the documents of TOML.
+use Rattle.std.specs.Prelude.{◌==◌, ◌++◌, ℕ, pos, Bool, List, [], ◌∷◌, map, fold, codes, if◌then◌else◌}
+use Rattle.std.specs.Prelude.{Option, Some, None}
+use Rattle.std.specs.Cmp.Lexicographic.{slice_cmp}
+use Rattle.std.specs.List.{zip}
+use Rattle.std.specs.Ordering.{match_ordering, nat_cmp}
+use Rattle.toml.specs.Data.{Data, Members, array, integer, member, no_members, string, table}
+use Rattle.toml.specs.View.{items_of}
+use Rattle.arm2_effect.specs.declared.modes.Mode.{Mode}
+use Rattle.arm2_effect.specs.declared.modes.Mode.TheVariants.{User, Fiq, Irq, Svc}
+use Rattle.machine_file.specs.MachineRules.{kilobytes}
+use Rattle.machine_file.specs.Names.{register_keys}
+use Rattle.machine_file.specs.Stated.{Controller, Processor, Schedule, Stated}
+use Rattle.machine_file.specs.declared.flags.PsrFlags.{PsrFlags}
+use Rattle.machine_file.specs.declared.pages.MappedPage.{MappedPage}
+
+-- ## Tables
+
+-- the table with a value at a key; its keys ascend
+unfoldable pub with_key : List ℕ → Data → Members → Members
+with_key k d no_members = member k d no_members
+with_key k d (member l e ms) =
+    match_ordering
+    (slice_cmp nat_cmp k l)
+    (member k d (member l e ms))
+    (member l d ms)
+    (member l e (with_key k d ms))
+
+-- a key, and its value where the table has one
+abbrev pub Row : Type 0
+Row = List ℕ × Option Data
+
+abbrev pub with_optional : Members → List ℕ → Option Data → Members
+with_optional ms key None = ms
+with_optional ms key (Some d) = with_key key d ms
+
+abbrev pub with_rows : Members → List Row → Members
+with_rows ms rows = fold (λ t row. with_optional t row.0 row.1) ms rows
+
+abbrev pub table_of : List Row → Members
+table_of rows = with_rows no_members rows
+
+-- ## Values
+
+abbrev pub number : ℕ → Data
+number n = integer (pos n)
+
+abbrev pub unless_zero : ℕ → Option Data
+unless_zero n = if n == 0 then None else Some (number n)
+
+-- a list, left out where it is empty
+abbrev pub listed : List Data → Option Data
+listed [] = None
+listed (d ∷ ds) = Some (array (items_of (d ∷ ds)))
+
+-- a table, left out where it is empty
+abbrev pub tabled : Members → Option Data
+tabled no_members = None
+tabled (member k d ms) = Some (table (member k d ms))
+
+abbrev pub mode_name : Mode → List ℕ
+mode_name User = codes "user"
+mode_name Fiq = codes "fiq"
+mode_name Irq = codes "irq"
+mode_name Svc = codes "svc"
+
+abbrev pub letter_if : Bool → List ℕ → List ℕ
+letter_if set letter = if set then letter else []
+
+-- the letters of the flags that are set
+abbrev pub letters_of : PsrFlags → List ℕ
+letters_of f =
+    letter_if f.negative (codes "N") ++ letter_if f.zero (codes "Z") ++ letter_if f.carry (codes "C")
+    ++ letter_if f.overflow (codes "V") ++ letter_if f.irq_masked (codes "I")
+    ++ letter_if f.fiq_masked (codes "F")
+
+-- ## The tables in the file
+
+-- the registers that are not 0
+abbrev pub register_row : List ℕ × ℕ → Row
+register_row e = (e.0, unless_zero e.1)
+
+abbrev pub register_table : List ℕ → Members
+register_table words = table_of (map register_row (zip register_keys words))
+
+abbrev pub page_rows : MappedPage → List Row
+page_rows p =
+    (codes "logical", Some (number p.logical))
+    ∷ (codes "physical", Some (number p.physical))
+    ∷ (codes "level", Some (number p.level))
+    ∷ []
+
+abbrev pub page_data : MappedPage → Data
+page_data p = table (table_of (page_rows p))
+
+abbrev pub word_rows : ℕ × ℕ → List Row
+word_rows w = (codes "at", Some (number w.0)) ∷ (codes "value", Some (number w.1)) ∷ []
+
+abbrev pub word_data : ℕ × ℕ → Data
+word_data w = table (table_of (word_rows w))
+
+-- ## The file
+
+abbrev pub processor_rows : Processor → List Row
+processor_rows p =
+    (codes "pc", Some (number p.pc))
+    ∷ (codes "mode", Some (string (mode_name p.mode)))
+    ∷ (codes "flags", Some (string (letters_of p.flags)))
+    ∷ (codes "registers", tabled (register_table p.registers))
+    ∷ []
+
+abbrev pub controller_rows : Controller → List Row
+controller_rows c =
+    (codes "pages", Some (number (kilobytes c.size)))
+    ∷ (codes "low_rom", Some (number c.low_rom))
+    ∷ (codes "high_rom", Some (number c.high_rom))
+    ∷ (codes "map", listed (map page_data c.pages))
+    ∷ []
+
+abbrev pub schedule_rows : Schedule → List Row
+schedule_rows s = (codes "steps", Some (number s.steps)) ∷ (codes "port", Some (number s.port)) ∷ []
+
+abbrev pub word_list_rows : List (ℕ × ℕ) → List Row
+word_list_rows words = (codes "word", listed (map word_data words)) ∷ []
+
+abbrev pub file_rows : Stated → List Row
+file_rows s =
+    processor_rows s.processor ++ controller_rows s.controller ++ schedule_rows s.schedule
+    ++ word_list_rows s.words
+
+-- the document of a machine file without events
+abbrev pub document_of : Stated → Members
+document_of s = table_of (file_rows s)
