@@ -1,7 +1,7 @@
--- Free edges: those of which a machine's state and input are asked whose one step takes the edge at exactly
--- its price (no call gives them yet). The rule is our own, and coarse: whole kinds of instructions are not
--- free of which some have too little choice of the address to which they transfer or jump, and no edge is
--- from where no RAM is fitted.
+-- Free edges: those of which there are a machine and an input whose one step takes the edge at exactly its
+-- price (`tight_state` gives them). The rule is our own, and coarse: whole kinds of instructions are not free
+-- of which some have too little choice of the address to which they transfer or jump, and no edge is from
+-- where no RAM is fitted.
 use Rattle.std.specs.Prelude.{◌≡◌, ℕ, Bool, true, false, not, ◌&&◌, ◌||◌, ◌==◌, nat_le, nat_lt, IsTrue, List}
 use Rattle.std.specs.Prelude.{Some, ◌⊎◌}
 use Rattle.bus_ticks.specs.declared.space.TheConstants.{IO_START}

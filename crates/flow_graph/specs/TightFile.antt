@@ -1,7 +1,8 @@
 -- The machine file of a machine that takes an edge at its price: what the clauses of private functions cite.
 -- Our own choice among such machines: SVC mode, pages of 32 KB, both interrupts masked, one register and at
 -- most one word in memory besides the image's.
-use Rattle.std.specs.Prelude.{◌≡◌, ◌<◌, ◌^◌, ◌⊎◌, ℕ, true, false, [], ◌∷◌, replicate, slice_set, map, All, List, Option, Contains}
+use Rattle.std.specs.Prelude.{◌≡◌, ◌<◌, ◌^◌, ◌⊎◌, ℕ, true, false, [], ◌∷◌, replicate, slice_set, map, All}
+use Rattle.std.specs.Prelude.{List, Option, Contains}
 use Rattle.std.specs.Prelude.{Some, None, IfSome}
 use Rattle.bus_ticks.specs.declared.profile.Profile.{Profile}
 use Rattle.bus_ticks.specs.declared.profile.RomTimes.{RomTimes}
@@ -82,7 +83,8 @@ module _ (words : Words) (st : Stated) (profile : Profile) (e : Edge) where
 -- the register's word in its place among the 26, by SVC mode, and 0 elsewhere
 abbrev pub registers_with : Option Held → List ℕ
 registers_with None = replicate 26 0
-registers_with (Some held) = slice_set (replicate 26 0) (slot_of Svc (register_number held.register)) held.word
+registers_with (Some held) =
+    slice_set (replicate 26 0) (slot_of Svc (register_number held.register)) held.word
 
 abbrev pub masked_flags : Flags → PsrFlags
 masked_flags f =
@@ -126,10 +128,12 @@ HasPlaceWord words place some =
     (calls : List ℕ) (address word : ℕ) → place ≡ At calls address → word_of words address ≡ Some word
     → Contains some (address, word)
 
--- Of the file: its pages are those of a plan for the image. Into the machine that it states words of the image are
--- put, in whatever order, that at the edge's place among them, and then those of the file; each has a place, but
--- those of the image where no RAM is fitted. In the file's one step the machine takes the edge at its price.
-pub record IsTightFile (words : Words) (st : Stated) (profile : Profile) (e : Edge) (f : file.Stated) : Type 0 where
+-- Of the file: its pages are those of a plan for the image. Into the machine that it states words of the
+-- image are put, in whatever order, that at the edge's place among them, and then those of the file; each has
+-- a place, but those of the image where no RAM is fitted. In the file's one step the machine takes the edge
+-- at its price.
+pub record IsTightFile (words : Words) (st : Stated) (profile : Profile) (e : Edge)
+    (f : file.Stated) : Type 0 where
   pub pages : List PlacedPage
   pub spare : ℕ
   pub plan : IsPagePlan words pages spare

@@ -1,6 +1,7 @@
 //! A machine whose one step takes an edge at exactly its price.
 
-ghost use Rattle.std.specs.Prelude.{◌≡◌, ◌⊎◌, ◌<◌, Err, IfErr, IfOk, IfSome, IsNone, OnOk, All, Some, [], ◌∷◌, ◌↔◌, ◌^◌, false, length, map, slice_index_or};
+ghost use Rattle.std.specs.Prelude.{◌≡◌, ◌⊎◌, ◌<◌, Err, IfErr, IfOk, IfSome, IsNone, OnOk, All};
+ghost use Rattle.std.specs.Prelude.{Some, [], ◌∷◌, ◌↔◌, ◌^◌, false, length, map, slice_index_or};
 ghost use Rattle.loader.specs.Loading.{lacks_page, put_words};
 ghost use Rattle.flow_graph.specs.Graph.{IsFlowGraph};
 ghost use Rattle.flow_graph.specs.declared.edges.Edge.{Edge};
@@ -11,7 +12,8 @@ ghost use Rattle.machine_file.specs.Parts.{IsInRange, StandsOnce, stated_by};
 ghost use Rattle.flow_graph.specs.Edges.{IsEdge};
 ghost use Rattle.flow_graph.specs.Free.{IsFree, IsFreeWord};
 ghost use Rattle.flow_graph.specs.TightFile.{CanPlace, HasWordAt, IsEntryOf, IsPlaceWord, IsPlaced};
-ghost use Rattle.flow_graph.specs.TightFile.{IsSettingOf, IsStand, IsTightAt, IsTightFile, file_of, listed, masked_flags};
+ghost use Rattle.flow_graph.specs.TightFile.{IsSettingOf, IsStand, IsTightAt, IsTightFile};
+ghost use Rattle.flow_graph.specs.TightFile.{file_of, listed, masked_flags};
 ghost use Rattle.flow_graph.specs.TightFile.{open_page, registers_with};
 ghost use Rattle.flow_graph.specs.TightWork.{IsDearestTarget};
 ghost use Rattle.statement.specs.Stated.{Stated};
@@ -295,7 +297,8 @@ fn put(alloc: Global, machine: &mut Machine, words: &[(u32, u32)]) -> Result<(),
 /// A machine whose one step takes an edge at exactly its price.
 #[derive(Drop)]
 pub struct Tight {
-    /// The machine before the step. Of the image it has the word at the edge's place, and then the file's words.
+    /// The machine before the step. Of the image it has the word at the edge's place, and then the file's
+    /// words.
     pub machine: Machine,
     pub input: Input,
     /// The machine file that states it, with one step. Its pages, of 32 KB, hold each word of the image below
@@ -382,9 +385,9 @@ fn tight_edge(
     })
 }
 
-/// A machine and an input whose one step takes the edge of that number, in the graph's order from 0, at exactly
-/// its price: in SVC mode it executes the image's word at the edge's place, moves only words of the stated
-/// classes, has the edge's label and leads to its target.
+/// A machine and an input whose one step takes an edge at exactly its price: in SVC mode it executes the
+/// image's word at the edge's place, moves only words of the stated classes, has the edge's label and leads to
+/// its target. The edge is that of the number, from 0, in the order of the graph's edges.
 ///
 /// # Errors
 ///
