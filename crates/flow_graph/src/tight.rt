@@ -386,8 +386,8 @@ fn tight_edge(
 }
 
 /// A machine and an input whose one step takes an edge at exactly its price: in SVC mode it executes the
-/// image's word at the edge's place, moves only words of the stated classes, has the edge's label and leads to
-/// its target. The edge is that of the number, from 0, in the order of the graph's edges.
+/// image's word at the edge's place, moves only words of the stated classes, has the edge's label and leads
+/// to its target. The edge is that of the number, from 0, in the order of the graph's edges.
 ///
 /// # Errors
 ///
