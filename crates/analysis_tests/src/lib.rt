@@ -14,3 +14,5 @@ mod prices_and_chips;
 mod statements;
 #[cfg(test)]
 mod texts;
+#[cfg(test)]
+mod tight;
