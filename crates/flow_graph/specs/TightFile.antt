@@ -149,11 +149,6 @@ pub record IsTightFile (words : Words) (st : Stated) (profile : Profile) (e : Ed
       → IsStarted f profile start → i.port ≡ f.schedule.port
       → IsTight words st profile e (put_words f.words (put_words some start)) i
 
--- such a file, and a machine and an input that take the edge
-pub record IsTightAt (words : Words) (st : Stated) (profile : Profile) (e : Edge) (t : Tight) : Type 0 where
-  pub takes : IsTight words st profile e t.machine t.input
-  pub file : IsTightFile words st profile e t.file
-
 -- ## Where its words go
 
 -- the place is one of a word of the image, which is that one
@@ -179,3 +174,13 @@ pub record IsPlaced (profile : Profile) (f : file.Stated) (word : ℕ × ℕ) (s
   pub start : State
   pub begun : IsStarted f profile start
   pub is : s ≡ put_words f.words (put_words (word ∷ []) start)
+
+-- ## What is given
+
+-- such a file, and a machine and an input that take the edge; the machine is the file's, with one word and then
+-- with those of the file
+pub record IsTightAt (words : Words) (st : Stated) (profile : Profile) (e : Edge) (t : Tight) : Type 0 where
+  pub takes : IsTight words st profile e t.machine t.input
+  pub file : IsTightFile words st profile e t.file
+  pub word : ℕ × ℕ
+  pub made : IsPlaced profile t.file word t.machine

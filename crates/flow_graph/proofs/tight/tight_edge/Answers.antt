@@ -15,4 +15,6 @@ returns-clause-tight c = record {
   takes =
       placed_takes c.args.image.now c.args.statement.now c.args.profile.now c.args.edge.now c.in_ok-file.file c.in-Some.word c.in_ok-machine.machine _ c.in_ok-file.ensures.tight c.in-Some.ensures.word c.in_ok-machine.ensures.placed c.port.ensures;
   file = c.in_ok-file.ensures.tight;
+  word = c.in-Some.word;
+  made = c.in_ok-machine.ensures.placed;
 }
