@@ -20,4 +20,6 @@ mod loading;
 #[cfg(test)]
 mod outputs;
 #[cfg(test)]
+mod tight;
+#[cfg(test)]
 mod writers;

@@ -1,5 +1,5 @@
 -- What is known of a source and a statement up to their tree of loops, and what their refusals say.
-use Rattle.std.proofs.Common.{◌≡◌, ◌≢◌, ◌∙◌, ℕ, List, Result, Ok, Err, refl, sym, ap, subst}
+use Rattle.std.proofs.Common.{◌≡◌, ◌≢◌, ◌∙◌, ◌⊎◌, ℕ, List, Result, Ok, Err, refl, sym, ap, subst, inl, inr}
 use Rattle.std.specs.Prelude.{IfErr}
 use Rattle.std.specs.Result.{IsErrAnd}
 use Rattle.bus_ticks.specs.declared.profile.Profile.{Profile}
@@ -19,7 +19,7 @@ use Rattle.loop_bounds.specs.Nest.{Applies, IsNestFault}
 use Rattle.loop_bounds.specs.declared.fault.NestFault.{NestFault}
 use Rattle.loop_bounds.specs.declared.fault.NestFault.TheVariants as nest_fault
 use Rattle.arcwcet.specs.Faults.{of_graph, of_loops, of_statement}
-use Rattle.arcwcet.specs.Report.{HasGraph, HasLoops, IsGraphRefused, IsHandlerRefused, IsStatementRefused}
+use Rattle.arcwcet.specs.Report.{AreLoopsRefused, HasGraph, HasLoops, IsGraphRefused, IsHandlerRefused, IsStatementRefused}
 use Rattle.arcwcet.specs.Source.{IsSourceFault, Said, source_of}
 use Rattle.arcwcet.specs.declared.fault.ReportFault.{ReportFault}
 use Rattle.arcwcet.specs.declared.fault.ReportFault.TheVariants.{Memory, Source, Image, Statement, Graph, Loops, Walk, MachineFile, Load, Cert, Device}
@@ -62,37 +62,46 @@ applies flow loops nest_fault.NestedTooDeep h = h.4
 
 -- ## Refusals of a source and a statement that have a graph and loops
 
--- such a pair is refused up to the loops for lack of memory alone
-pub handler_refusals : (source statement : List ℕ) (profile : Profile) (st : Stated) (flow : Flow) (e : ReportFault) → HasLoops source statement profile st flow → IsHandlerRefused source statement profile e
-    → e ≡ Memory
-handler_refusals source statement profile st flow Memory a r = refl
-handler_refusals source statement profile st flow Device a r = absurd r
-handler_refusals source statement profile st flow (Walk f) a r = absurd r
-handler_refusals source statement profile st flow (Cert f) a r = absurd r
-handler_refusals source statement profile st flow (MachineFile f) a r = absurd r
-handler_refusals source statement profile st flow (Load f) a r = absurd r
-handler_refusals source statement profile st flow (report_fault.Profile f) a r = absurd r
-handler_refusals source statement profile st flow report_fault.NotFiqEntry a r = absurd r
-handler_refusals source statement profile st flow (Source f) a r =
-    let g = a.graph in
-    absurd (never_both (g.words, g.names) (Source f) (source_of source) g.source_is r)
-handler_refusals source statement profile st flow (Image f) a r =
-    let g = a.graph in
-    absurd (never_both (g.words, g.names) (Image f) (source_of source) g.source_is r)
-handler_refusals source statement profile st flow (Statement f) a r =
-    let said : (a.graph.words, a.graph.names) ≡ (r.words, r.names) = one_ok (a.graph.words, a.graph.names) (r.words, r.names) (source_of source) a.graph.source_is r.source_is in
-    let both : Ok st ≡ Err f = same_statement statement a.graph.names r.names (Ok st) (Err f) (ap (λ (s : Said). s.1) said) a.graph.statement_is r.statement_is in
+-- a pair that has a graph is refused up to the loops for lack of memory, or for its loops
+pub graph_refusals : (source statement : List ℕ) (profile : Profile) (st : Stated) (flow : Flow) (e : ReportFault) → HasGraph source statement profile st flow → IsHandlerRefused source statement profile e
+    → (e ≡ Memory) ⊎ ((f : NestFault) × (e ≡ Loops f))
+graph_refusals source statement profile st flow Memory g r = inl refl
+graph_refusals source statement profile st flow Device g r = absurd r
+graph_refusals source statement profile st flow (Walk f) g r = absurd r
+graph_refusals source statement profile st flow (Cert f) g r = absurd r
+graph_refusals source statement profile st flow (MachineFile f) g r = absurd r
+graph_refusals source statement profile st flow (Load f) g r = absurd r
+graph_refusals source statement profile st flow (report_fault.Profile f) g r = absurd r
+graph_refusals source statement profile st flow report_fault.NotFiqEntry g r = absurd r
+graph_refusals source statement profile st flow report_fault.NoSuchEdge g r = absurd r
+graph_refusals source statement profile st flow (report_fault.NotFree at) g r = absurd r
+graph_refusals source statement profile st flow (Loops f) g r = inr (f, refl)
+graph_refusals source statement profile st flow (Source f) g r = absurd (never_both (g.words, g.names) (Source f) (source_of source) g.source_is r)
+graph_refusals source statement profile st flow (Image f) g r = absurd (never_both (g.words, g.names) (Image f) (source_of source) g.source_is r)
+graph_refusals source statement profile st flow (Statement f) g r =
+    let said : (g.words, g.names) ≡ (r.words, r.names) = one_ok (g.words, g.names) (r.words, r.names) (source_of source) g.source_is r.source_is in
+    let both : Ok st ≡ Err f = same_statement statement g.names r.names (Ok st) (Err f) (ap (λ (s : Said). s.1) said) g.statement_is r.statement_is in
     absurd (cc both)
-handler_refusals source statement profile st flow (Graph f) a r =
-    let g = a.graph in
+graph_refusals source statement profile st flow (Graph f) g r =
     let said : (r.words, r.names) ≡ (g.words, g.names) = one_ok (r.words, r.names) (g.words, g.names) (source_of source) r.source_is g.source_is in
     let words : r.words ≡ g.words = ap (λ (s : Said). s.0) said in
     let ok : Ok r.stated ≡ Ok st = same_statement statement r.names g.names (Ok r.stated) (Ok st) (ap (λ (s : Said). s.1) said) r.statement_is g.statement_is in
     let stated : r.stated ≡ st = cc ok in
     absurd (g.no_fault f r.not_memory (subst (λ (s : Stated). IsBuildFault g.words s profile f) stated (subst (λ (w : Words). IsBuildFault w r.stated profile f) words r.holds)))
-handler_refusals source statement profile st flow (Loops f) a r =
-    let same = one_graph source statement profile r.stated st r.flow flow r.graph a.graph in
-    absurd (a.no_fault f r.not_memory (subst (λ (s : Stated). Applies flow s.loops f) same.same_stated (subst (λ (w : Flow). Applies w r.stated.loops f) same.same_flow (applies r.flow r.stated.loops f r.holds))))
+
+-- such a pair is refused up to the loops for lack of memory alone
+pub handler_refusals : (source statement : List ℕ) (profile : Profile) (st : Stated) (flow : Flow) (e : ReportFault) → HasLoops source statement profile st flow → IsHandlerRefused source statement profile e
+    → e ≡ Memory
+handler_refusals source statement profile st flow e a r =
+    elim (graph_refusals source statement profile st flow e a.graph r) [
+      | inl memory ↦ memory
+      | inr loops ↦ absurd (loops_hold loops.0 (subst (IsHandlerRefused source statement profile) loops.1 r))
+    ]
+  where
+    loops_hold : (f : NestFault) → AreLoopsRefused source statement profile f → ⊥
+    loops_hold f r =
+        let same = one_graph source statement profile r.stated st r.flow flow r.graph a.graph in
+        a.no_fault f r.not_memory (subst (λ (s : Stated). Applies flow s.loops f) same.same_stated (subst (λ (w : Flow). Applies w r.stated.loops f) same.same_flow (applies r.flow r.stated.loops f r.holds)))
 
 -- what holds of a fault holds of an answer that is that fault
 pub refused_with : {T E : Type 0} (r : Result T E) (e : E) (P : E → Type 0) → IsErrAnd r (λ x. x ≡ e) → P e → IfErr r P
@@ -158,3 +167,5 @@ source_refusal source statement profile (Cert f) h = absurd h
 source_refusal source statement profile Device h = absurd h
 source_refusal source statement profile (report_fault.Profile f) h = absurd h
 source_refusal source statement profile report_fault.NotFiqEntry h = absurd h
+source_refusal source statement profile report_fault.NoSuchEdge h = absurd h
+source_refusal source statement profile (report_fault.NotFree a) h = absurd h

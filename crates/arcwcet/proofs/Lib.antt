@@ -1,5 +1,6 @@
 pub mod AnswerLemmas
 pub mod CheckLemmas
+pub mod CommentLemmas
 pub mod FileLemmas
 pub mod Fronts
 pub mod HandlerLemmas
@@ -9,6 +10,7 @@ pub mod OneWord
 pub mod ReportLemmas
 pub mod RunLemmas
 pub mod SourceLemmas
+pub mod TightLemmas
 pub mod VisitLemmas
 pub mod VisitsReportLemmas
 pub mod VisitedRun

@@ -129,6 +129,8 @@ module _ (source machine : List ℕ) (profile : Profile) where
   runnable_refusals (Cert f) a r = absurd r
   runnable_refusals (report_fault.Profile f) a r = absurd r
   runnable_refusals report_fault.NotFiqEntry a r = absurd r
+  runnable_refusals report_fault.NoSuchEdge a r = absurd r
+  runnable_refusals (report_fault.NotFree at) a r = absurd r
 
   -- .. for lack of memory alone where the output has not failed
   pub runnable_memory : (e : ReportFault) → (e ≢ Device) × IsRunRefused source machine profile e → IsRunnable source machine profile → e ≡ OfMemory
@@ -151,6 +153,8 @@ module _ (source machine : List ℕ) (profile : Profile) where
   source_refuses Device h = absurd h
   source_refuses (report_fault.Profile f) h = absurd h
   source_refuses report_fault.NotFiqEntry h = absurd h
+  source_refuses report_fault.NoSuchEdge h = absurd h
+  source_refuses (report_fault.NotFree a) h = absurd h
 
   module _ (words : Words) (names : Names) (said : source_of source ≡ Ok (words, names)) where
     unread : (f : MachineFileFault) → f ≢ machine_fault.Memory → IsMachineFile machine (Err f) → IsFileRefused source machine f

@@ -3,17 +3,16 @@ use Rattle.std.proofs.Common.{◌≡◌, ◌≢◌, ◌∙◌, ◌≤◌, ℕ, B
 use Rattle.std.specs.Io.KnownBytes.{Consumes, IsAtEnd}
 use Rattle.bus_ticks.specs.declared.profile.Profile.{Profile}
 use Rattle.arcwcet.specs.Answers.{Answers, FailsWithin, OfSome}
-use Rattle.arcwcet.specs.Bound.{Reports}
 use Rattle.arcwcet.specs.Check.{Checks, IsAnswer, IsCheckRefused, IsCheckable}
 use Rattle.arcwcet.specs.Debug.{IsDebugReport}
 use Rattle.arcwcet.specs.Files.{FailsToRead, ReadsAll, Reading, Texts, in_front, Writing}
-use Rattle.command_line.specs.Line.{Asked, asm, run, trace, debug, bound, check, visits}
+use Rattle.command_line.specs.Line.{Asked, asm, run, trace, debug, bound, tight, check, visits}
 use Rattle.arcwcet.specs.Machine.{Front, IsMachineReport, IsRunRefused, IsRunnable, ShowsRegisters, ShowsSteps}
 use Rattle.arcwcet.specs.Priced.{ByProfile, HasNoProfile, Priced, PricedFault}
 use Rattle.arcwcet.specs.Assembly.{IsSourceRefused}
-use Rattle.arcwcet.specs.Report.{IsAccepted, IsRefused, IsReport}
-use Rattle.arcwcet.specs.Run.{HasNoReport, HasNoRun, HasNoVerdict, HasNoVisitsReport, HasHeard, HasPrinted, IsAnswerOf, IsReportOf, IsRunOf, IsSessionOf, IsVisitsReportOf, OfThree, OfTwo}
-use Rattle.arcwcet.specs.Run.{Runs, RunsAsked, RunsAsm, RunsBound, RunsCheck, RunsDebug, RunsMachine, RunsVisits, answer_status, report_status, store_status}
+use Rattle.arcwcet.specs.Report.{IsRefused, IsReport}
+use Rattle.arcwcet.specs.Run.{HasNoReport, HasNoRun, HasNoTightReportOf, HasNoVerdict, HasNoVisitsReport, HasHeard, HasPrinted, IsAnswerOf, IsReportOf, IsRunOf, IsSessionOf, IsTightReportOf, IsVisitsReportOf, OfThree, OfTwo}
+use Rattle.arcwcet.specs.Run.{Runs, RunsAsked, RunsAsm, RunsCheck, RunsDebug, RunsMachine, RunsVisits, answer_status, report_status, store_status}
 use Rattle.arcwcet.specs.VisitsReport.{AreAccepted, AreRefused, IsVisitsReport, ReportsVisits}
 use Rattle.arcwcet.specs.declared.fault.ReportFault.{ReportFault}
 use Rattle.arcwcet.specs.declared.fault.ReportFault.TheVariants.{Memory, Source, Image, Statement, Graph, Loops, Walk, MachineFile, Load, Cert, Device}
@@ -36,6 +35,8 @@ told (MachineFile f) = of_other (λ e. cc e) (λ e. cc e) refl
 told (Load f) = of_other (λ e. cc e) (λ e. cc e) refl
 told (report_fault.Profile f) = of_other (λ e. cc e) (λ e. cc e) refl
 told report_fault.NotFiqEntry = of_other (λ e. cc e) (λ e. cc e) refl
+told report_fault.NoSuchEdge = of_other (λ e. cc e) (λ e. cc e) refl
+told (report_fault.NotFree a) = of_other (λ e. cc e) (λ e. cc e) refl
 told (Statement f) = of_other (λ e. cc e) (λ e. cc e) refl
 told (Graph f) = of_other (λ e. cc e) (λ e. cc e) refl
 told (Loops f) = of_other (λ e. cc e) (λ e. cc e) refl
@@ -246,25 +247,31 @@ module _ {S O : Type 0} (reads : Reading S) (taken : O → Option (List ℕ)) (f
       (λ x text b. of_two (λ f s m. ByProfile f (λ p. IsMachineReport Shows s m p x text)) file one two b)
       (λ fault k. of_two (λ f s m. PricedFault f (λ p e. IsRunRefused s m p e) fault) file one two k)
 
-  bound_text : {T : Type 0} (x : T) (text : List ℕ) → ByProfile file (λ p. IsReport one two p text) → IsReportOf true (in_front file (one ∷ two ∷ [])) text
-  bound_text x text b = of_two (λ f s t. ByProfile f (λ p. IsReport s t p text)) file one two b
+  module _ (Is : List ℕ → List ℕ → Profile → List ℕ → Type 0) (IsFine : List ℕ → List ℕ → Profile → Type 0) (IsFault : List ℕ → List ℕ → Profile → ReportFault → Type 0) where
+    abbrev Reported : {T : Type 0} → Result T ReportFault → Type 0
+    Reported {T} result = Priced {T = T} file (λ p. Answers {T = T} taken failures (λ _ text. Is one two p text) (IsFine one two p) (IsFault one two p) before after result) before after result
 
-  bound_fault : (fault : ReportFault) → PricedFault file (λ p e. IsRefused one two p e) fault → HasNoReport (in_front file (one ∷ two ∷ [])) fault
-  bound_fault fault k = of_two (λ f s t. PricedFault f (λ p e. IsRefused s t p e) fault) file one two k
+    report_text : {T : Type 0} (x : T) (text : List ℕ) → ByProfile file (λ p. Is one two p text) → IsReportOf Is true (in_front file (one ∷ two ∷ [])) text
+    report_text x text b = of_two (λ f s t. ByProfile f (λ p. Is s t p text)) file one two b
 
-  pub bound_done : {T : Type 0} (x : T) → Priced file (λ p. Reports taken failures one two p before after (Ok x)) before after (Ok x) → RunsBound reads taken failures profile source second old new before after 0
-  bound_done {T} x h =
-      let names = in_front profile (source ∷ second ∷ []) in
-      let files = in_front file (one ∷ two ∷ []) in
-      done reads taken failures IsReportOf HasNoReport names old new before after files read
-      (priced_printed {T = T} reads taken failures IsReportOf HasNoReport names old new before after files read
-      file (λ p y text. IsReport one two p text) (λ p. IsAccepted one two p) (λ p. IsRefused one two p) (λ y. true) bound_text bound_fault x h)
+    report_fault_of : (fault : ReportFault) → PricedFault file (λ p e. IsFault one two p e) fault → HasNoReport IsFault (in_front file (one ∷ two ∷ [])) fault
+    report_fault_of fault k = of_two (λ f s t. PricedFault f (λ p e. IsFault s t p e) fault) file one two k
 
-  pub bound_refused : {T : Type 0} (fault : ReportFault) → Priced {T = T} file (λ p. Reports {T = T} taken failures one two p before after (Err fault)) before after (Err fault)
-      → (status : ℕ) → status ≡ report_status fault → RunsBound reads taken failures profile source second old new before after status
-  bound_refused {T} =
-      priced_refused {T = T} reads taken failures IsReportOf HasNoReport (in_front profile (source ∷ second ∷ [])) old new before after (in_front file (one ∷ two ∷ [])) read
-      file (λ p y text. IsReport one two p text) (λ p. IsAccepted one two p) (λ p. IsRefused one two p) (λ y. true) bound_text bound_fault
+    abbrev RunsReport : ℕ → Type 0
+    RunsReport status = Runs reads taken failures (IsReportOf Is) (HasNoReport IsFault) (in_front profile (source ∷ second ∷ [])) old new before after status
+
+    pub report_done : {T : Type 0} (x : T) → Reported (Ok x) → RunsReport 0
+    report_done {T} x h =
+        let names = in_front profile (source ∷ second ∷ []) in
+        let files = in_front file (one ∷ two ∷ []) in
+        done reads taken failures (IsReportOf Is) (HasNoReport IsFault) names old new before after files read
+        (priced_printed {T = T} reads taken failures (IsReportOf Is) (HasNoReport IsFault) names old new before after files read
+        file (λ p y text. Is one two p text) (λ p. IsFine one two p) (λ p. IsFault one two p) (λ y. true) report_text report_fault_of x h)
+
+    pub report_refused : {T : Type 0} (fault : ReportFault) → Reported {T = T} (Err fault) → (status : ℕ) → status ≡ report_status fault → RunsReport status
+    report_refused {T} =
+        priced_refused {T = T} reads taken failures (IsReportOf Is) (HasNoReport IsFault) (in_front profile (source ∷ second ∷ [])) old new before after (in_front file (one ∷ two ∷ [])) read
+        file (λ p y text. Is one two p text) (λ p. IsFine one two p) (λ p. IsFault one two p) (λ y. true) report_text report_fault_of
 
 pub check_ran : {S O : Type 0} (reads : Reading S) (taken : O → Option (List ℕ)) (failures : O → ℕ) (profile : Option (List ℕ)) (source statement cert : List ℕ) (file : Option (List ℕ)) (one two three : List ℕ)
     (old new : S) (before after : O) → ReadsAll reads old (in_front profile (source ∷ statement ∷ cert ∷ [])) (in_front file (one ∷ two ∷ three ∷ [])) new
@@ -375,6 +382,7 @@ module _ {S I O : Type 0} (reads : Reading S) (writes : Writing S) (remaining : 
   starved_asked (debug n) = inr (inr (inr (refl, refl, refl)), refl)
   starved_asked (run n) = (starved_run (IsRunOf ShowsRegisters) HasNoRun (in_front n.profile (n.first ∷ n.second ∷ [])), refl)
   starved_asked (trace n) = (starved_run (IsRunOf ShowsSteps) HasNoRun (in_front n.profile (n.first ∷ n.second ∷ [])), refl)
-  starved_asked (bound n) = (starved_run IsReportOf HasNoReport (in_front n.profile (n.first ∷ n.second ∷ [])), refl)
+  starved_asked (bound n) = (starved_run (IsReportOf IsReport) (HasNoReport IsRefused) (in_front n.profile (n.first ∷ n.second ∷ [])), refl)
+  starved_asked (tight n edge) = (starved_run (IsReportOf (IsTightReportOf edge)) (HasNoReport (HasNoTightReportOf edge)) (in_front n.profile (n.first ∷ n.second ∷ [])), refl)
   starved_asked (check n cert) = (starved_run IsAnswerOf HasNoVerdict (in_front n.profile (n.first ∷ n.second ∷ cert ∷ [])), refl)
   starved_asked (visits n fiq k) = (starved_run (IsVisitsReportOf k) (HasNoVisitsReport k) (in_front n.profile (n.first ∷ n.second ∷ fiq ∷ [])), refl)

@@ -54,6 +54,8 @@ module _ (source fiq : List ℕ) (profile : Profile) where
   pub fiq_refusal : (e : ReportFault) → (EntersElsewhere source fiq → ⊥) → (e ≢ Device) × IsRefused source fiq profile e → (e ≢ Device) × IsFiqRefused source fiq profile e
   fiq_refusal Memory right r = (λ e. cc e, tt)
   fiq_refusal NotFiqEntry right r = absurd r.1
+  fiq_refusal report_fault.NoSuchEdge right r = absurd r.1
+  fiq_refusal (report_fault.NotFree at) right r = absurd r.1
   fiq_refusal Device right r = absurd (r.0 refl)
   fiq_refusal (Source f) right r = (λ e. cc e, (r.1, right))
   fiq_refusal (Image f) right r = (λ e. cc e, (r.1, right))
@@ -149,6 +151,8 @@ module _ (source irq fiq : List ℕ) (profile : Profile) where
   fiq_refusals : (e : ReportFault) → HaveReports source irq fiq profile → IsFiqRefused source fiq profile e → (e ≡ Memory) ⊎ (e ≡ Device)
   fiq_refusals Memory both r = inl refl
   fiq_refusals NotFiqEntry both r = absurd (other_entry both r)
+  fiq_refusals report_fault.NoSuchEdge both r = absurd r.0
+  fiq_refusals (report_fault.NotFree at) both r = absurd r.0
   fiq_refusals Device both r = inr refl
   fiq_refusals (Source f) both r = accepted_refusals source fiq profile (Source f) both.fiq_is.accepted r.0
   fiq_refusals (Image f) both r = accepted_refusals source fiq profile (Image f) both.fiq_is.accepted r.0

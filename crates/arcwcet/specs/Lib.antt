@@ -14,6 +14,8 @@ pub mod Report
 pub mod Run
 pub mod Source
 pub mod Store
+pub mod TightReport
+pub mod TightText
 pub mod Visits
 pub mod VisitsReport
 pub use Rattle.command_line.specs.Line

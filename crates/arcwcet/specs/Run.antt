@@ -7,12 +7,14 @@ use Rattle.arcwcet.specs.Assembly.{IsSourceRefused, IsWritten}
 use Rattle.arcwcet.specs.Check.{IsAnswer, IsCheckRefused}
 use Rattle.arcwcet.specs.Debug.{IsDebugReport}
 use Rattle.arcwcet.specs.Files.{FailsToRead, ReadsAll, Reading, Texts, Writing, in_front}
-use Rattle.command_line.specs.Line.{Asked, asm, run, trace, debug, bound, check, visits}
+use Rattle.command_line.specs.Line.{Asked, asm, run, trace, debug, bound, tight, check, visits}
 use Rattle.arcwcet.specs.Machine.{Front, IsMachineReport, IsRunRefused, ShowsRegisters, ShowsSteps}
 use Rattle.arcwcet.specs.Output.{TakesFront, FailsSince}
 use Rattle.arcwcet.specs.Priced.{ByProfile, PricedFault}
 use Rattle.arcwcet.specs.Report.{IsRefused, IsReport}
+use Rattle.arcwcet.specs.TightReport.{IsTightRefused, IsTightReport}
 use Rattle.arcwcet.specs.VisitsReport.{AreRefused, IsVisitsReport}
+use Rattle.bus_ticks.specs.declared.profile.Profile.{Profile}
 use Rattle.arcwcet.specs.declared.fault.ReportFault.{ReportFault}
 use Rattle.arcwcet.specs.declared.fault.ReportFault.TheVariants as report_fault
 use Rattle.arcwcet.specs.declared.fault.StoreFault.{StoreFault}
@@ -110,20 +112,34 @@ OfThree Is files = ⊥
 
 -- ## `bound SOURCE STATEMENT`
 
--- the report of a source and a statement by the profile, at 0 alone
-abbrev pub IsReportOf : Bool → Texts → List ℕ → Type 0
-IsReportOf true files text =
-    OfTwo (λ file source statement. ByProfile file (λ p. IsReport source statement p text)) files
-IsReportOf false files text = ⊥
+-- such a text of a source and a statement by the profile, at 0 alone
+abbrev pub IsReportOf : (List ℕ → List ℕ → Profile → List ℕ → Type 0) → Bool → Texts → List ℕ → Type 0
+IsReportOf Is true files text =
+    OfTwo (λ file source statement. ByProfile file (λ p. Is source statement p text)) files
+IsReportOf Is false files text = ⊥
 
-abbrev pub HasNoReport : Texts → ReportFault → Type 0
-HasNoReport files fault =
-    OfTwo (λ file source statement. PricedFault file (λ p f. IsRefused source statement p f) fault) files
+abbrev pub HasNoReport : (List ℕ → List ℕ → Profile → ReportFault → Type 0) → Texts → ReportFault → Type 0
+HasNoReport IsFault files fault =
+    OfTwo (λ file source statement. PricedFault file (λ p f. IsFault source statement p f) fault) files
 
 abbrev pub RunsBound : {S O : Type 0} → Reading S → (O → Option (List ℕ)) → (O → ℕ) → Option (List ℕ) → List ℕ
     → List ℕ → S → S → O → O → ℕ → Type 0
 RunsBound reads taken failures profile source statement old new before after status =
-    Runs reads taken failures IsReportOf HasNoReport
+    Runs reads taken failures (IsReportOf IsReport) (HasNoReport IsRefused)
+    (in_front profile (source ∷ statement ∷ [])) old new before after status
+
+-- ## `bound --tight N SOURCE STATEMENT`
+
+abbrev pub IsTightReportOf : (n : ℕ) → List ℕ → List ℕ → Profile → List ℕ → Type 0
+IsTightReportOf n source statement p text = IsTightReport source statement n p text
+
+abbrev pub HasNoTightReportOf : (n : ℕ) → List ℕ → List ℕ → Profile → ReportFault → Type 0
+HasNoTightReportOf n source statement p fault = IsTightRefused source statement n p fault
+
+abbrev pub RunsTight : {S O : Type 0} → Reading S → (O → Option (List ℕ)) → (O → ℕ) → Option (List ℕ) → List ℕ
+    → List ℕ → ℕ → S → S → O → O → ℕ → Type 0
+RunsTight reads taken failures profile source statement n old new before after status =
+    Runs reads taken failures (IsReportOf (IsTightReportOf n)) (HasNoReport (HasNoTightReportOf n))
     (in_front profile (source ∷ statement ∷ [])) old new before after status
 
 -- ## `check SOURCE STATEMENT CERT`
@@ -308,6 +324,10 @@ RunsAsked reads writes remaining taken failures (debug n) old new heard_old hear
     after status
 RunsAsked reads writes remaining taken failures (bound n) old new heard_old heard_new before after status =
     RunsBound reads taken failures n.profile n.first n.second old new before after status
+    × (heard_new ≡ heard_old)
+RunsAsked reads writes remaining taken failures
+    (tight n edge) old new heard_old heard_new before after status =
+    RunsTight reads taken failures n.profile n.first n.second edge old new before after status
     × (heard_new ≡ heard_old)
 RunsAsked reads writes remaining taken failures
     (check n cert) old new heard_old heard_new before after status =

@@ -1,7 +1,7 @@
 ghost use Rattle.std.specs.Prelude.{◌≡◌, ◌≢◌, ◌⊎◌, None, Some, option_map};
 ghost use Rattle.command_line.specs.Line.{Asked, asked_in, asked_of};
 ghost use Rattle.arcwcet.specs.Run.{RunsAsked, RunsAsm, RunsBound, RunsCheck, RunsDebug, RunsMachine};
-ghost use Rattle.arcwcet.specs.Run.{RunsVisits};
+ghost use Rattle.arcwcet.specs.Run.{RunsTight, RunsVisits};
 
 use crate::assembly::image_written;
 use crate::bound::bound_report;
@@ -12,8 +12,9 @@ use crate::files::{Store, read_limited, read_three_files, read_two_files};
 use crate::machine::{Front, Registers, Steps, machine_report};
 use crate::output::{Output, write_whole};
 use crate::status::{answer_status, line_status, report_status, store_status};
+use crate::tight::tight_report;
 use crate::visits::visits_report;
-use command_line::{AsmNames, CheckNames, Names, Request, VisitsNames, request};
+use command_line::{AsmNames, CheckNames, Names, Request, TightNames, VisitsNames, request};
 use std::alloc::Global;
 use std::io::Read;
 
@@ -35,6 +36,7 @@ fn obey<S: Store, I: Read, O: Output, E: Output>(
         Request::Trace(names) => run_machine::<Steps, S, O, E>(alloc, names, store, out, err),
         Request::Debug(names) => run_debug(alloc, names, store, input, out, err),
         Request::Bound(names) => run_bound(alloc, names, store, out, err),
+        Request::Tight(names) => run_tight(alloc, names, store, out, err),
         Request::Check(names) => run_check(alloc, names, store, out, err),
         Request::Visits(names) => run_visits(alloc, names, store, out, err),
     }
@@ -180,6 +182,36 @@ fn run_bound<S: Store, O: Output, E: Output>(
         Err(fault) => return store_status(fault, err),
     };
     match bound_report(alloc, &files.first, &files.second, files.profile(), out) {
+        Ok(()) => 0,
+        Err(fault) => report_status(fault, err),
+    }
+}
+
+/// `bound --tight N`: reads the files and prints the report of the edge.
+fn run_tight<S: Store, O: Output, E: Output>(
+    alloc: Global,
+    names: TightNames<'_>,
+    store: &mut S,
+    out: &mut O,
+    err: &mut E,
+) -> u8
+    ensures ran { RunsTight S.read_gives O.taken O.failures
+        (option_map (λ n. n.now) names.entry.handler.profile) names.entry.handler.first.now
+        names.entry.handler.second.now names.entry.edge store.old store.new out.old out.new result }
+    ensures silent { result ≡ 0 → err.new ≡ err.old }
+{
+    let files = match read_two_files(alloc, names.handler, store) {
+        Ok(files) => files,
+        Err(fault) => return store_status(fault, err),
+    };
+    match tight_report(
+        alloc,
+        &files.first,
+        &files.second,
+        names.edge,
+        files.profile(),
+        out,
+    ) {
         Ok(()) => 0,
         Err(fault) => report_status(fault, err),
     }

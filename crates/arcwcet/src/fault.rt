@@ -68,6 +68,12 @@ pub enum ReportFault {
     /// The statement of FIQ's handler has another entry than FIQ's vector, 1C.
     #[error("NotFiqEntry")]
     NotFiqEntry,
+    /// The flow graph has no edge of the number.
+    #[error("NoSuchEdge")]
+    NoSuchEdge,
+    /// The edge is not free; it leaves the address, in bytes.
+    #[error("NotFree at {0:X}")]
+    NotFree(u32),
 }
 
 impl From<AllocError> for ReportFault {

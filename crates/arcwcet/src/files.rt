@@ -52,9 +52,25 @@ impl<R: Files> Store for HostStore<'_, R> {
     }
 
     fn write(&mut self, name: &str, bytes: &[u8]) -> Result<(), StoreFault> {
-        match fs::write(self.rt, name, bytes) {
+        let Ok(mut file) = fs::create(self.rt, name) else {
+            return Err(StoreFault::Device);
+        };
+        match file.write_all(bytes) {
             Ok(()) => Ok(()),
-            Err(_) => Err(StoreFault::Device),
+            Err(_) => {
+                remove_part(self.rt, name);
+                Err(StoreFault::Device)
+            }
+        }
+    }
+}
+
+// Removes a file of which only a part was written, but nothing that is no file, as a device. If it cannot be
+// removed, the part stays: the failure to write is what is answered.
+fn remove_part<R: Files>(rt: &R, name: &str) {
+    if let Ok(metadata) = fs::symlink_metadata(rt, name) {
+        if metadata.is_file() {
+            let _ = fs::remove_file(rt, name);
         }
     }
 }

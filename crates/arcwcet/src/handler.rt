@@ -1,10 +1,13 @@
-ghost use Rattle.std.specs.Prelude.{◌≡◌, List, ℕ, Ok, IfErr, IfOk, option_map};
+ghost use Rattle.std.specs.Prelude.{◌≡◌, ◌≢◌, List, ℕ, Ok, IfErr, IfOk, option_map};
 ghost use Rattle.loader.specs.Labels.{address_of};
 ghost use Rattle.flow_graph.specs.Flow.{IsWellFormed};
+ghost use Rattle.flow_graph.specs.Graph.{IsBuildFault, IsFlowGraph};
+ghost use Rattle.flow_graph.specs.declared.faults.BuildFault.{BuildFault};
 ghost use Rattle.statement.specs.Statement.{IsStatement};
 ghost use Rattle.arcwcet.specs.Priced.{HasNoProfile, IsProfile};
 ghost use Rattle.arcwcet.specs.Report.{HasLoops, IsHandlerRefused, IsTreeOf};
 ghost use Rattle.arcwcet.specs.Source.{IsSourceFault, source_of};
+ghost use Rattle.arcwcet.specs.TightReport.{IsTightRefused};
 
 use crate::fault::ReportFault;
 use assembler::{Assembly, assemble};
@@ -42,6 +45,36 @@ pub(crate) fn read_source(alloc: Global, source: &[u8]) -> Result<Assembly, Repo
     }
     let assembly = assemble(alloc, source)?;
     Ok(assembly)
+}
+
+/// A handler's statement and its flow graph.
+#[derive(Drop)]
+pub(crate) struct StatedGraph {
+    pub(crate) statement: Statement,
+    pub(crate) graph: Graph,
+}
+
+/// The flow graph of a statement, of a source that was read.
+pub(crate) fn read_graph(
+    alloc: Global,
+    said: &Assembly,
+    text: &[u8],
+    profile: &Profile,
+) -> Result<StatedGraph, ReportFault>
+    ensures statement { IfOk result
+        (λ g. IsStatement text.now (address_of said.now.labels) (Ok g.statement)) }
+    ensures graph { IfOk result (λ g. IsFlowGraph said.now.image g.statement profile.now g.graph) }
+    ensures allowed { IfOk result
+        (λ g. (fault : BuildFault) → fault ≢ BuildFault.Memory
+        → IsBuildFault said.now.image g.statement profile.now fault → ⊥) }
+    ensures fault { (source : List ℕ) (number : ℕ)
+        → source_of source ≡ Ok (said.now.image, address_of said.now.labels)
+        → IfErr result (λ fault. (fault ≢ ReportFault.Device)
+        × IsTightRefused source text.now number profile.now fault) }
+{
+    let statement = read_statement(alloc, text, &said.labels)?;
+    let graph = build(alloc, &said.image, &statement, profile)?;
+    Ok(StatedGraph { statement, graph })
 }
 
 /// A handler's statement, its flow graph and the tree of its loops.

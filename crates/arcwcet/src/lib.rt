@@ -14,6 +14,7 @@ mod law;
 mod machine;
 mod output;
 mod status;
+mod tight;
 mod visits;
 
 pub use assembly::asm_report;
@@ -27,4 +28,5 @@ pub use law::{certificates_are_accepted, some_run_has_visits, some_run_keeps};
 pub use machine::{run_report, trace_report};
 pub use machine_file::{MachineFile, read_machine, read_profile};
 pub use output::{MemoryOutput, Output, OutputFault, StreamOutput, write_whole};
+pub use tight::tight_report;
 pub use visits::visits_report;

@@ -3,28 +3,47 @@
 
 use arcwcet::{HostStore, StreamOutput, program};
 use std::process::ExitCode;
+use std::rt::Env;
 use std::{env, io};
 
-/// The status for words that cannot be read.
-const USAGE: u8 = 2;
+/// Why there are no words.
+#[derive(Clone, Copy)]
+enum WordsFault {
+    Memory,
+    NotText,
+}
 
-/// The status for lack of memory.
-const MEMORY: u8 = 3;
+impl WordsFault {
+    fn text(self) -> &'static str {
+        match self {
+            WordsFault::Memory => "refused: Memory",
+            WordsFault::NotText => "error: a word of the command line is not UTF-8",
+        }
+    }
+
+    fn status(self) -> u8 {
+        match self {
+            WordsFault::Memory => 3,
+            WordsFault::NotText => 2,
+        }
+    }
+}
+
+fn words_of<R: Env + AllocGlobal>(rt: &R) -> Result<Vec<String>, WordsFault> {
+    match env::args(rt) {
+        Ok(words) => words.collect(rt.alloc()).map_err(|_| WordsFault::Memory),
+        Err(error) if error.kind() == io::ErrorKind::OutOfMemory => Err(WordsFault::Memory),
+        Err(_) => Err(WordsFault::NotText),
+    }
+}
 
 fn main(rt: HostRuntime) -> ExitCode {
     let alloc = rt.alloc();
-    let words: Vec<String> = match env::args(&rt) {
-        Ok(words) => match words.collect(alloc) {
-            Ok(words) => words,
-            Err(_) => return ExitCode::from(MEMORY),
-        },
-        Err(error) => {
-            let status = if error.kind() == io::ErrorKind::OutOfMemory {
-                MEMORY
-            } else {
-                USAGE
-            };
-            return ExitCode::from(status);
+    let words = match words_of(&rt) {
+        Ok(words) => words,
+        Err(fault) => {
+            let _ = eprintln!(rt; "{}", fault.text());
+            return ExitCode::from(fault.status());
         }
     };
     let mut store = HostStore::new(&rt);

@@ -60,7 +60,8 @@ word_first name ps text (after, is, some, names, (gap, rest, gap_is, more, blank
     let stops : first_passes is_name after ≡ false = rw gap_is (gap_no_name gap rest more blanks) in
     rw (is, past_front is_name name after names stops) ends
 
-abbrev WordAfter : List ℕ → Type 0
+-- after blanks and a name stands a blank or nothing
+abbrev pub WordAfter : List ℕ → Type 0
 WordAfter text = begins_blank_or_ends (past is_name (past is_blank text)) ≡ true
 
 -- a gap, a word and a gap

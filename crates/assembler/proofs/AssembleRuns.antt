@@ -4,7 +4,7 @@ use Rattle.std.proofs.lemmas.Bool.{cases_Bool}
 use Rattle.std.specs.Prelude.{nat_lt}
 use Rattle.std.proofs.lemmas.Bool.Decides.{nat_tests}
 use Rattle.asm_text.proofs.WordLaws.{chosen}
-use Rattle.loader.specs.Image.{Words, begins, runs_behind, runs_of, with_word, word_of}
+use Rattle.loader.specs.Image.{Words, begins, runs_after, runs_of, with_word, word_of}
 
 -- ascending multiples of 4
 
@@ -61,7 +61,7 @@ begins_far : (b a c : ℕ) → b % 4 ≡ 0 → c % 4 ≡ 0 → b < c → c < a �
 begins_far b a c p q x y = let d : (a == b + 4) ≡ false = no_eq a (b + 4) (λ same. omega (arith, p, q, x, y, same)) in rw d refl
 
 pub runs_step : (b : ℕ) (image : Words) (at w : ℕ) → b % 4 ≡ 0 → at % 4 ≡ 0 → AscendsFrom b image → b < at → word_of image at ≡ None
-    → runs_behind (Some b) (with_word image at w) ≤ runs_behind (Some b) image + begins (Some b) at
+    → runs_after (Some b) (with_word image at w) ≤ runs_after (Some b) image + begins (Some b) at
 unfolding AscendsFrom
 runs_step b [] at w p q h lt none = omega arith
 runs_step b (e ∷ rest) at w p q h lt none =
@@ -98,7 +98,7 @@ ascends_later b (e ∷ rest) h = (h.1, h.2)
 
 -- a word right after another begins no run
 runs_join : (o : Option ℕ) (image : Words) (p v w : ℕ) → (p + 4) % 4 ≡ 0 → Ascending image → word_of image (p + 4) ≡ None → word_of image p ≡ Some v
-    → runs_behind o (with_word image (p + 4) w) ≤ runs_behind o image
+    → runs_after o (with_word image (p + 4) w) ≤ runs_after o image
 unfolding Ascending AscendsFrom
 runs_join o [] p v w q h none there = let g = there in absurd cc
 runs_join o (e ∷ rest) p v w q h none there =

@@ -17,7 +17,7 @@ use Rattle.asm_text.specs.declared.word.Word.{Word}
 use Rattle.asm_text.specs.declared.statement.TextFault.{TextFault}
 use Rattle.asm_text.specs.declared.statement.TextFault.TheVariants as text_fault
 use Rattle.asm_text.proofs.PieceLaws.{first_name, first_no_run, first_passes, pieces-blanks, pieces-gap, pieces-run, pieces_spaced, pieces_written, prefix_all}
-use Rattle.asm_text.proofs.WordEnds.{blank_no_name, blanks_no_name, gap_no_name, name_no_gap, past_front, blanks_alone}
+use Rattle.asm_text.proofs.WordEnds.{WordAfter, blank_no_name, blanks_no_name, gap_no_name, name_no_gap, past_front, blanks_alone}
 use Rattle.asm_text.proofs.WordLaws.{spelled_again, spelled_is}
 use Rattle.assembler.specs.Faults.{number}
 use Rattle.assembler.specs.Refusals.{BeginsLine, BeginsStatement, HasStrayByte, IsUnreadable}
@@ -221,9 +221,6 @@ begins_pieces text h =
     ]
 
 -- ---- a line that begins well has a word that ends, or none
-
-abbrev WordAfter : List ℕ → Type 0
-WordAfter text = begins_blank_or_ends (past is_name (past is_blank text)) ≡ true
 
 statement_ends : (text : List ℕ) → BeginsStatement text → WordAfter text
 statement_ends text b =

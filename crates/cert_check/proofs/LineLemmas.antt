@@ -97,8 +97,8 @@ module _ (flow : Flow) (tree : Tree) (named : (e : Edge) → HasEdge flow e → 
   repeat_agrees k is good (CertItem-F.Step t) r s h = absurd (cc h)
   repeat_agrees k is good (CertItem-F.Repeat m body) r s h =
       let count : m ≡ k = cc in
-      let behind : (cert_walk_lines body.items ++ w.End ∷ []) ++ r ≡ (walk_lines is ++ w.End ∷ []) ++ s = cc in
-      let inner = row body.items is good (w.End ∷ r) (w.End ∷ s) tt tt (sym (append_assoc (cert_walk_lines body.items) (w.End ∷ []) r) ∙ behind ∙ append_assoc (walk_lines is) (w.End ∷ []) s) in
+      let after : (cert_walk_lines body.items ++ w.End ∷ []) ++ r ≡ (walk_lines is ++ w.End ∷ []) ++ s = cc in
+      let inner = row body.items is good (w.End ∷ r) (w.End ∷ s) tt tt (sym (append_assoc (cert_walk_lines body.items) (w.End ∷ []) r) ∙ after ∙ append_assoc (walk_lines is) (w.End ∷ []) s) in
       let ends : w.End ∷ r ≡ w.End ∷ s = inner.0 in
       let rest : r ≡ s = cc in
       (rest, subst (λ n. Follows flow tree (λ p. option_map (follow_turns n) (followed flow body.items p)) (turned k (open_items is))) (sym count) (followed_turns flow tree k (followed flow body.items) (open_items is) inner.1))

@@ -90,11 +90,11 @@ pairwise_itself : (x : ℕ) (xs : List ℕ) → pairwise x xs x xs ≡ true
 pairwise_itself x [] = eq-eqb x x refl
 pairwise_itself x (a ∷ xs) = and_from (eqb x x) (pairwise a xs a xs) (eq-eqb x x refl) (pairwise_itself a xs)
 
-abbrev behind_first : Profile → List ℕ
-behind_first p = p.s ∷ p.quad ∷ p.rom_0 ∷ p.rom_1 ∷ p.rom_2 ∷ p.rom_3 ∷ p.slow ∷ p.medium ∷ p.fast ∷ p.synchronous ∷ p.control ∷ p.unfitted ∷ p.internal ∷ p.burst ∷ []
+abbrev after_first : Profile → List ℕ
+after_first p = p.s ∷ p.quad ∷ p.rom_0 ∷ p.rom_1 ∷ p.rom_2 ∷ p.rom_3 ∷ p.slow ∷ p.medium ∷ p.fast ∷ p.synchronous ∷ p.control ∷ p.unfitted ∷ p.internal ∷ p.burst ∷ []
 
-pub told_profile : (p q r : Profile) (b : Bool) → b ≡ pairwise p.n (behind_first p) r.n (behind_first r) → r ≡ q → IsTrue b ↔ (p ≡ q)
+pub told_profile : (p q r : Profile) (b : Bool) → b ≡ pairwise p.n (after_first p) r.n (after_first r) → r ≡ q → IsTrue b ↔ (p ≡ q)
 told_profile p q r b is read = (
-  λ yes. one_profile p r (pairwise_equal p.n (behind_first p) r.n (behind_first r) (sym is ∙ yes)) ∙ read,
-  λ same. is ∙ ap (λ (t : Profile). pairwise p.n (behind_first p) t.n (behind_first t)) (read ∙ sym same) ∙ pairwise_itself p.n (behind_first p),
+  λ yes. one_profile p r (pairwise_equal p.n (after_first p) r.n (after_first r) (sym is ∙ yes)) ∙ read,
+  λ same. is ∙ ap (λ (t : Profile). pairwise p.n (after_first p) t.n (after_first t)) (read ∙ sym same) ∙ pairwise_itself p.n (after_first p),
 )

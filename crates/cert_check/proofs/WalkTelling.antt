@@ -86,8 +86,8 @@ module _ {E : Type 0} (inside turns : E → Bool) (w : List E) where
         (omega (arith, most_in_it inner, c, tail-le-most inside turns w), omega (arith, tail_in inner, c))
 
   -- a walk that lies inside, after another
-  pub whole_behind : (u : List E) → whole inside turns u ≡ true → (most inside turns (w ++ u) ≡ max (most inside turns w) (tail inside turns w + count inside turns u)) × (tail inside turns (w ++ u) ≡ tail inside turns w + count inside turns u)
-  whole_behind u all =
+  pub whole_after : (u : List E) → whole inside turns u ≡ true → (most inside turns (w ++ u) ≡ max (most inside turns w) (tail inside turns w + count inside turns u)) × (tail inside turns (w ++ u) ≡ tail inside turns w + count inside turns u)
+  whole_after u all =
       let first : head inside turns u ≡ count inside turns u = J.head_whole inside turns u all in
       let own : most inside turns u ≡ count inside turns u = J.most_whole inside turns u all in
       let joins : tail inside turns (w ++ u) ≡ cond (whole inside turns u) (tail inside turns w + count inside turns u) (tail inside turns u) = J.tail-append inside turns w u in (
@@ -296,13 +296,13 @@ module _ (exit : ℕ) (edges : List NumberedEdge) (spans : List Span) (order : I
     holds_header s s_in is = subst (λ (p : ℕ). is_in s p ≡ true) is (header_in exit edges spans order s s_in)
 
     joined_once : (s : Span) → Contains spans s → is_in s n ≡ true → (most_in s (w ++ v) ≡ max (most_in s w) (turns_at_end s w + count (is_inside s) (ends_at_header s) v)) × (turns_at_end s (w ++ v) ≡ turns_at_end s w + count (is_inside s) (ends_at_header s) v)
-    joined_once s s_in here = whole_behind (is_inside s) (ends_at_header s) w v (held s s_in here)
+    joined_once s s_in here = whole_after (is_inside s) (ends_at_header s) w v (held s s_in here)
 
     joined_rounds : (s : Span) → Contains spans s → is_in s n ≡ true → (most_in s (w ++ repeated k v) ≡ max (most_in s w) (turns_at_end s w + k * count (is_inside s) (ends_at_header s) v)) × (turns_at_end s (w ++ repeated k v) ≡ turns_at_end s w + k * count (is_inside s) (ends_at_header s) v)
     joined_rounds s s_in here =
         let all_in : whole (is_inside s) (ends_at_header s) (repeated k v) ≡ true = J.whole-repeated (is_inside s) (ends_at_header s) k v (held s s_in here) in
         let times : count (is_inside s) (ends_at_header s) (repeated k v) ≡ k * count (is_inside s) (ends_at_header s) v = J.count-repeated (is_inside s) (ends_at_header s) k v in
-        let b = whole_behind (is_inside s) (ends_at_header s) w (repeated k v) all_in in
+        let b = whole_after (is_inside s) (ends_at_header s) w (repeated k v) all_in in
         (b.0 ∙ ap (λ (x : ℕ). max (most_in s w) (turns_at_end s w + x)) times, b.1 ∙ ap (λ (x : ℕ). turns_at_end s w + x) times)
 
     none_many : (c : ℕ) → c ≡ 0 → k * c ≡ 0

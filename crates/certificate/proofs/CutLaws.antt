@@ -46,12 +46,12 @@ front_taken [] rest = refl
 front_taken (x ∷ front) rest = ap (λ (xs : List ℕ). x ∷ xs) (front_taken front rest)
 
 -- what stands after a front, by a test of the front's length of bytes
-pub behind_from : {A : Type 0} (now : A → List ℕ) (r : Option A) (words front : List ℕ)
+pub after_front_is : {A : Type 0} (now : A → List ℕ) (r : Option A) (words front : List ℕ)
     → MatchOption r (pointwise ◌==◌ (take (length front) words) front ≡ false) (λ x. (pointwise ◌==◌ (take (length front) words) front ≡ true) × (now x ≡ drop (length front) words) × (length (now x) + length front ≡ length words))
     → MatchOption r ((rest : List ℕ) → words ≡ front ++ rest → ⊥) (λ x. words ≡ front ++ now x)
-behind_from now None words front e = λ rest is.
+after_front_is now None words front e = λ rest is.
     let same : take (length front) words ≡ front = ap (take (length front)) is ∙ front_taken front rest in
     true≢false (sym ((bytes_decides (take (length front) words) front).1 same) ∙ e)
-behind_from now (Some x) words front e =
+after_front_is now (Some x) words front e =
     let same : take (length front) words ≡ front = (bytes_decides (take (length front) words) front).0 e.0 in
     sym (take-append-drop (length front) words) ∙ ap₂ (λ (a b : List ℕ). a ++ b) same (sym e.1)

@@ -90,9 +90,9 @@ complete_at (s.Places last) n going = record { next = l.Stop; more = []; fit = (
 complete_at (s.Instances last) n going = record { next = l.Stop; more = []; fit = (tt, tt); ends = (at n s.Done, refl, refl) }
 complete_at s.Done n going = absurd (going refl)
 
-all_behind : (xs ys : List Line) → AllByRecursion LineFits (xs ++ ys) → AllByRecursion LineFits ys
-all_behind [] ys f = f
-all_behind (x ∷ xs) ys f = all_behind xs ys f.1
+all_after : (xs ys : List Line) → AllByRecursion LineFits (xs ++ ys) → AllByRecursion LineFits ys
+all_after [] ys f = f
+all_after (x ∷ xs) ys f = all_after xs ys f.1
 
 -- lines that have not come to the last begin a certificate
 are_first : (lines : List Line) (to : Reached) → Follow lines to → to.stage ≢ s.Done → AreFirst lines
@@ -115,9 +115,9 @@ no_misfit : (text : List ℕ) (n : ℕ) → (b : StopsAt text n) → (said : Sai
 no_misfit text n b said spelled more e =
     let fits = cert_fits said spelled in
     let front = begins b.lines (cert_lines said) (ended b.words ++ more) b.follow.fit fits e in
-    let behind = all_behind b.lines front.more (subst (AllByRecursion LineFits) front.all_are fits) in
-    let next = next_line front.more b.words more behind b.within (sym front.rest_is) in
-    let fit = (subst (AllByRecursion LineFits) next.more_are behind).0 in
+    let after = all_after b.lines front.more (subst (AllByRecursion LineFits) front.all_are fits) in
+    let next = next_line front.more b.words more after b.within (sym front.rest_is) in
+    let fit = (subst (AllByRecursion LineFits) next.more_are after).0 in
     let none : follow_all follows b.to front.more ≡ None = ap (follow_all follows b.to) next.more_are ∙ follow-none follows b.to next.line next.left (b.misfit next.line fit next.words_are) in
     let ends = on said spelled b.lines front.more b.to b.follow front.all_are in
     some_none ends.0 (sym none ∙ ends.1)

@@ -99,8 +99,8 @@ module _ {R : Type 0} (list : R → List ℕ) (address : R → ℕ) where
   abbrev pub finds : List R → R → Type 0
   finds rows r = find (λ x. is_at (list x) (address x) (about r)) rows ≡ Some r
 
-  behind : (x r : R) (rows : List R) → place_cmp (about x) (about r) ≡ Less → finds rows r → finds (x ∷ rows) r
-  behind x r rows below found = by (is_at (list x) (address x) (about r)) refl
+  after : (x r : R) (rows : List R) → place_cmp (about x) (about r) ≡ Less → finds rows r → finds (x ∷ rows) r
+  after x r rows below found = by (is_at (list x) (address x) (about r)) refl
     where
       by : (b : Bool) → is_at (list x) (address x) (about r) ≡ b → cond b (Some x) (find (λ y. is_at (list y) (address y) (about r)) rows) ≡ Some r
       by true e =
@@ -113,12 +113,12 @@ module _ {R : Type 0} (list : R → List ℕ) (address : R → ℕ) where
   first : (r : R) (rows : List R) → finds (r ∷ rows) r
   first r rows = ap (λ (b : Bool). cond b (Some r) (find (λ y. is_at (list y) (address y) (about r)) rows)) (at_itself (list r) (address r))
 
-  all_behind : (x : R) (rows some : List R) → AllByRecursion (λ p. place_cmp (about x) p ≡ Less) (map about some) → AllByRecursion (finds rows) some → AllByRecursion (finds (x ∷ rows)) some
-  all_behind x rows [] below found = tt
-  all_behind x rows (r ∷ some) below found = (behind x r rows below.0 found.0, all_behind x rows some below.1 found.1)
+  all_after : (x : R) (rows some : List R) → AllByRecursion (λ p. place_cmp (about x) p ≡ Less) (map about some) → AllByRecursion (finds rows) some → AllByRecursion (finds (x ∷ rows)) some
+  all_after x rows [] below found = tt
+  all_after x rows (r ∷ some) below found = (after x r rows below.0 found.0, all_after x rows some below.1 found.1)
 
   -- each row of an ascending list is found by its place
   pub all_found : (rows : List R) → IsStrictlySortedBy place_cmp (map about rows) → AllByRecursion (finds rows) rows
   all_found [] sorted = tt
   all_found (x ∷ rows) sorted =
-      (first x rows, all_behind x rows rows (sorted_head place_cmp (about x) (map about rows) sorted) (all_found rows (sorted_tail place_cmp (about x) (map about rows) sorted)))
+      (first x rows, all_after x rows rows (sorted_head place_cmp (about x) (map about rows) sorted) (all_found rows (sorted_tail place_cmp (about x) (map about rows) sorted)))

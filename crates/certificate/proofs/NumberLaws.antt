@@ -136,21 +136,21 @@ hex_starts (suc k) n le small =
 
 -- ## A word without its first byte, as a slice
 
-abbrev pub behind_first : List ℕ → List ℕ
-behind_first word = take (length word - 1) (drop 1 word)
+abbrev pub after_first : List ℕ → List ℕ
+after_first word = take (length word - 1) (drop 1 word)
 
-pub behind_is : (x : ℕ) (xs : List ℕ) → behind_first (x ∷ xs) ≡ xs
-behind_is x xs = take_all (length (x ∷ xs) - 1) xs (omega arith)
+pub after_first_is : (x : ℕ) (xs : List ℕ) → after_first (x ∷ xs) ≡ xs
+after_first_is x xs = take_all (length (x ∷ xs) - 1) xs (omega arith)
 
-pub behind_at : (word : List ℕ) (i : ℕ) → i < length (behind_first word) → (suc i < length word) × (get_or (behind_first word) i 0 ≡ get_or word (suc i) 0)
-behind_at [] i lt = absurd (omega (arith, lt, length-take {A = ℕ} (length {A = ℕ} [] - 1) []))
-behind_at (x ∷ xs) i lt = let n : length (behind_first (x ∷ xs)) ≡ length xs = ap length (behind_is x xs) in (omega (arith, n, lt), ap (λ (ys : List ℕ). get_or ys i 0) (behind_is x xs))
+pub after_first_at : (word : List ℕ) (i : ℕ) → i < length (after_first word) → (suc i < length word) × (get_or (after_first word) i 0 ≡ get_or word (suc i) 0)
+after_first_at [] i lt = absurd (omega (arith, lt, length-take {A = ℕ} (length {A = ℕ} [] - 1) []))
+after_first_at (x ∷ xs) i lt = let n : length (after_first (x ∷ xs)) ≡ length xs = ap length (after_first_is x xs) in (omega (arith, n, lt), ap (λ (ys : List ℕ). get_or ys i 0) (after_first_is x xs))
 
 -- a front that grows by a digit
-pub front_more : (word : List ℕ) (n d i : ℕ) → hex n ≡ take (suc i) word → 0 < n → n < 2 ^ 22 → d < 16 → i < length (behind_first word) → get_or (behind_first word) i 0 ≡ digit_glyph true d
+pub front_more : (word : List ℕ) (n d i : ℕ) → hex n ≡ take (suc i) word → 0 < n → n < 2 ^ 22 → d < 16 → i < length (after_first word) → get_or (after_first word) i 0 ≡ digit_glyph true d
     → hex (n * 16 + d) ≡ take (suc (i + 1)) word
 front_more word n d i front some small digit lt is =
-    let next = behind_at word i lt in
+    let next = after_first_at word i lt in
     let at : take (suc (suc i)) word ≡ take (suc i) word ++ get_or word (suc i) 0 ∷ [] = take-suc word (suc i) 0 next.0 in
     let len : suc (i + 1) ≡ suc (suc i) = omega arith in
     hex_more n d some small digit ∙ ap₂ (λ (x : List ℕ) (y : ℕ). x ++ y ∷ []) front (sym is ∙ next.1) ∙ sym at ∙ ap (λ (k : ℕ). take k word) (sym len)

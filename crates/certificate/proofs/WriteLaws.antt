@@ -1,7 +1,7 @@
 -- The text of a certificate, section by section.
 use Rattle.std.proofs.Common.{◌≡◌, ◌∙◌, ◌==◌, ℕ, List, [], ◌∷◌, ◌++◌, Bool, false, Vec, codes, map, refl, sym, ap, append_assoc, append-nil, Result, Ok, Err, OnOk, is_ok, ◌<◌, ◌≤◌, length, take, get_or, arith, take_all, if◌then◌else◌}
 use Rattle.certificate.specs.declared.line.Version.TheVariants.{One, Two}
-use Rattle.certificate.proofs.NumberLaws.{behind_first, behind_is}
+use Rattle.certificate.proofs.NumberLaws.{after_first, after_first_is}
 use Rattle.std.specs.declared.rc.Rc.{Rc}
 use Rattle.std.specs.List.{flat_map, join_with_byte}
 use Rattle.std.specs.Fmt.{decimal}
@@ -51,9 +51,9 @@ by_items (i ∷ items) = ap (λ (t : List ℕ). walk_text (item_lines i) ++ t) (
 
 -- ## Calls and prices
 
-pub joined_behind : (mark : ℕ) (spell : ℕ → List ℕ) (n : ℕ) (ns : List ℕ) → join_with_byte mark (map spell (n ∷ ns)) ≡ spell n ++ flat_map (λ x. mark ∷ spell x) ns
-joined_behind mark spell n [] = sym (append-nil (spell n))
-joined_behind mark spell n (m ∷ ns) = ap (λ (t : List ℕ). spell n ++ mark ∷ t) (joined_behind mark spell m ns)
+pub joined_after : (mark : ℕ) (spell : ℕ → List ℕ) (n : ℕ) (ns : List ℕ) → join_with_byte mark (map spell (n ∷ ns)) ≡ spell n ++ flat_map (λ x. mark ∷ spell x) ns
+joined_after mark spell n [] = sym (append-nil (spell n))
+joined_after mark spell n (m ∷ ns) = ap (λ (t : List ℕ). spell n ++ mark ∷ t) (joined_after mark spell m ns)
 
 -- ## The whole
 
@@ -81,17 +81,17 @@ sections c =
 
 -- ## Lists that are written word by word
 
-pub listed : (calls : List ℕ) (i : ℕ) → 0 < length calls → length (behind_first calls) ≤ i → list_words calls ≡ hex (get_or calls 0 0) ++ flat_map (λ c. 47 ∷ hex c) (take i (behind_first calls))
+pub listed : (calls : List ℕ) (i : ℕ) → 0 < length calls → length (after_first calls) ≤ i → list_words calls ≡ hex (get_or calls 0 0) ++ flat_map (λ c. 47 ∷ hex c) (take i (after_first calls))
 listed [] i some le = absurd (omega arith)
 listed (x ∷ xs) i some le =
-    joined_behind 47 hex x xs
-    ∙ ap (λ (ys : List ℕ). hex x ++ flat_map (λ c. 47 ∷ hex c) ys) (sym (take_all i (behind_first (x ∷ xs)) le ∙ behind_is x xs))
+    joined_after 47 hex x xs
+    ∙ ap (λ (ys : List ℕ). hex x ++ flat_map (λ c. 47 ∷ hex c) ys) (sym (take_all i (after_first (x ∷ xs)) le ∙ after_first_is x xs))
 
 pub head_other : (ns : List ℕ) → length ns ≡ 15 → pointwise ◌==◌ ns profile_one ≡ false → head_text ns ≡ codes "arcwcet certificate 2\nprofile" ++ (flat_map (λ n. 32 ∷ decimal n) ns ++ codes "\n")
 head_other [] n other = absurd (omega (arith, n))
 head_other (x ∷ ns) n other =
     ap (λ (b : Bool). text_of (if b then l.Title One ∷ [] else l.Title Two ∷ l.Profile (x ∷ ns) ∷ [])) other
-    ∙ ap (λ (t : List ℕ). codes "arcwcet certificate 2\nprofile " ++ t) (append-nil (join_with_byte 32 (map decimal (x ∷ ns)) ++ codes "\n") ∙ ap (λ (t : List ℕ). t ++ codes "\n") (joined_behind 32 decimal x ns))
+    ∙ ap (λ (t : List ℕ). codes "arcwcet certificate 2\nprofile " ++ t) (append-nil (join_with_byte 32 (map decimal (x ∷ ns)) ++ codes "\n") ∙ ap (λ (t : List ℕ). t ++ codes "\n") (joined_after 32 decimal x ns))
 
 pub seven : (o h b w c p i s : List ℕ) → ((((((o ++ h) ++ b) ++ w) ++ c) ++ p) ++ i) ++ s ≡ o ++ (h ++ (b ++ (w ++ (c ++ (p ++ (i ++ s))))))
 seven o h b w c p i s =

@@ -49,10 +49,12 @@ title_words Two = codes "arcwcet certificate 2"
 abbrev pub profile_words : List ℕ → List ℕ
 profile_words numbers = codes "profile " ++ join_with_byte 32 (map decimal numbers)
 
+-- an edge by its address, label, target and cost
+abbrev pub edge_words : StepLine → List ℕ
+edge_words s = hex s.address ++ 32 ∷ (label_words s.label ++ 32 ∷ (to_words s.to ++ 32 ∷ decimal s.cost))
+
 abbrev pub step_words : StepLine → List ℕ
-step_words s =
-    codes "step "
-    ++ (hex s.address ++ 32 ∷ (label_words s.label ++ 32 ∷ (to_words s.to ++ 32 ∷ decimal s.cost)))
+step_words s = codes "step " ++ edge_words s
 
 abbrev pub walk_words : WalkLine → List ℕ
 walk_words (w.Step s) = step_words s

@@ -6,7 +6,7 @@ ghost use Rattle.certificate.specs.declared.walk.To.{To};
 ghost use Rattle.flow_graph.specs.declared.edges.Label.{Label};
 
 use crate::numbers::{decimal_at, hex_at};
-use crate::splitting::{behind, cut_at};
+use crate::splitting::{after_front, cut_at};
 use crate::walk::To;
 use flow_graph::{Calls, Label};
 
@@ -41,10 +41,10 @@ pub(crate) fn label_first(words: &[u8]) -> Option<(Label, &[u8])>
         ((label : Label) (rest : List ℕ) → words.now ≡ label_words label ++ 32 ∷ rest → ⊥)
         (λ p. words.now ≡ label_words p.0 ++ 32 ∷ p.1.now) }
 {
-    if let Some(rest) = behind(words, b"do ") {
+    if let Some(rest) = after_front(words, b"do ") {
         return Some((Label::Do, rest));
     }
-    if let Some(rest) = behind(words, b"skip ") {
+    if let Some(rest) = after_front(words, b"skip ") {
         return Some((Label::Skip, rest));
     }
     None
@@ -56,7 +56,7 @@ pub(crate) fn to_first(words: &[u8]) -> Option<(To, &[u8])>
         ((to : To) (rest : List ℕ) → ToFits to → words.now ≡ to_words to ++ 32 ∷ rest → ⊥)
         (λ p. ToFits p.0 × (words.now ≡ to_words p.0 ++ 32 ∷ p.1.now)) }
 {
-    if let Some(rest) = behind(words, b"exit ") {
+    if let Some(rest) = after_front(words, b"exit ") {
         return Some((To::Exit, rest));
     }
     let (address, rest) = address_first(words)?;

@@ -23,4 +23,4 @@ pub use line::WalkLine;
 pub use longest_walk::{InstanceRow, PlaceRow, Rows};
 pub use reading::read_cert;
 pub use walk::{CertItem, CertWalk, StepLine, To};
-pub use writing::write_cert;
+pub use writing::{address_of, write_cert, write_edge};

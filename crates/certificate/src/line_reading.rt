@@ -16,7 +16,7 @@ ghost use Rattle.longest_walk.specs.declared.rows.InstanceRow.{InstanceRow};
 use crate::fields::{address_first, calls_at, label_first, number_first, to_first};
 use crate::line::{Line, Version, WalkLine};
 use crate::numbers::decimal_at;
-use crate::splitting::{behind, cut_at};
+use crate::splitting::{after_front, cut_at};
 use crate::walk::StepLine;
 use bus_ticks::Profile;
 use longest_walk::{InstanceRow, PlaceRow};
@@ -39,7 +39,7 @@ fn bound_at(words: &[u8]) -> Option<u64>
     ensures { MatchOption result ((n : ℕ) → n < 2 ^ 63 → words.now ≡ codes "bound " ++ decimal n → ⊥)
         (λ n. (n < 2 ^ 63) × (words.now ≡ codes "bound " ++ decimal n)) }
 {
-    decimal_at(behind(words, b"bound ")?)
+    decimal_at(after_front(words, b"bound ")?)
 }
 
 fn repeat_at(words: &[u8]) -> Option<u32>
@@ -47,7 +47,7 @@ fn repeat_at(words: &[u8]) -> Option<u32>
         ((k : ℕ) → 0 < k → k ≤ 1048576 → words.now ≡ codes "repeat " ++ decimal k → ⊥)
         (λ k. (0 < k) × (k ≤ 1048576) × (words.now ≡ codes "repeat " ++ decimal k)) }
 {
-    let count = decimal_at(behind(words, b"repeat ")?)?;
+    let count = decimal_at(after_front(words, b"repeat ")?)?;
     if count == 0 {
         return None;
     }
@@ -61,7 +61,7 @@ fn step_at(words: &[u8]) -> Option<StepLine>
     ensures { MatchOption result ((s : StepLine) → StepFits s → words.now ≡ step_words s → ⊥)
         (λ s. StepFits s × (words.now ≡ step_words s)) }
 {
-    let rest = behind(words, b"step ")?;
+    let rest = after_front(words, b"step ")?;
     let (address, rest) = address_first(rest)?;
     let (label, rest) = label_first(rest)?;
     let (to, rest) = to_first(rest)?;
@@ -81,7 +81,7 @@ fn place_at(words: &[u8]) -> Option<PlaceRow>
     ensures { MatchOption result ((r : PlaceRow) → PlaceFits r → words.now ≡ place_words r → ⊥)
         (λ r. PlaceFits r × (words.now ≡ place_words r)) }
 {
-    let rest = behind(words, b"place ")?;
+    let rest = after_front(words, b"place ")?;
     let (word, rest) = cut_at(b' ', rest)?;
     let list = calls_at(word)?;
     let (address, rest) = address_first(rest)?;
@@ -97,7 +97,7 @@ fn instance_at(words: &[u8]) -> Option<InstanceRow>
     ensures { MatchOption result ((r : InstanceRow) → InstanceFits r → words.now ≡ instance_words r → ⊥)
         (λ r. InstanceFits r × (words.now ≡ instance_words r)) }
 {
-    let rest = behind(words, b"instance ")?;
+    let rest = after_front(words, b"instance ")?;
     let (word, rest) = cut_at(b' ', rest)?;
     let list = calls_at(word)?;
     let (header, rest) = address_first(rest)?;
@@ -145,7 +145,7 @@ fn profile_at(words: &[u8]) -> Option<[u32; 15]>
         ((ns : List ℕ) → IsProfile ns → ns ≢ profile_one → words.now ≡ profile_words ns → ⊥)
         (λ ns. IsProfile ns × (ns ≢ profile_one) × (words.now ≡ profile_words ns)) }
 {
-    let prices = prices_at(behind(words, b"profile ")?)?;
+    let prices = prices_at(after_front(words, b"profile ")?)?;
     if prices == Profile::one().numbers() {
         return None;
     }

@@ -1,7 +1,8 @@
 ghost use Rattle.std.specs.Prelude.{◌≡◌, ◌++◌, OnOk, IfOk, IfErr, string_bytes};
 ghost use Rattle.certificate.specs.Lines.{cert_text, said_of};
-ghost use Rattle.certificate.specs.Walk.{item_lines, step_of, walk_lines};
-ghost use Rattle.certificate.specs.Words.{ended, instance_words, list_words, place_words, step_words};
+ghost use Rattle.certificate.specs.Walk.{address_of, item_lines, step_of, walk_lines};
+ghost use Rattle.certificate.specs.Words.{edge_words, ended, instance_words, list_words, place_words};
+ghost use Rattle.certificate.specs.Words.{step_words};
 ghost use Rattle.bus_ticks.specs.Numbers.{numbers_of};
 ghost use Rattle.certificate.specs.Written.{head_text, instances_text, places_text, walk_text};
 
@@ -40,22 +41,38 @@ fn put_calls(out: &mut String, calls: &Calls) -> Result<(), AllocError>
     Ok(())
 }
 
-fn put_step(out: &mut String, edge: &Edge) -> Result<(), AllocError>
-    ensures { OnOk result
-        (string_bytes out.new ≡ string_bytes out.old ++ ended (step_words (step_of edge.now))) }
+/// The address by which a place is shown, in bytes: 0 for Exit, from which no edge leads.
+pub fn address_of(place: &Place) -> u32
+    ensures { result ≡ address_of place.now }
 {
-    let address = match edge.from {
-        Place::At(_, address) => address,
+    match place {
+        Place::At(_, address) => *address,
         Place::Exit => 0,
-    };
+    }
+}
+
+/// Writes an edge as the lines of a walk do, `ADDRESS skip|do TO COST`, and ends the line.
+pub fn write_edge(out: &mut String, edge: &Edge) -> Result<(), AllocError>
+    ensures { OnOk result
+        (string_bytes out.new ≡ string_bytes out.old ++ ended (edge_words (step_of edge.now))) }
+{
+    let address = address_of(&edge.from);
     let label = match edge.label {
         Label::Skip => "skip",
         Label::Do => "do",
     };
     match edge.to {
-        Place::At(_, to) => write!(out, "step {address:X} {label} {to:X} {}\n", edge.cost),
-        Place::Exit => write!(out, "step {address:X} {label} exit {}\n", edge.cost),
+        Place::At(_, to) => write!(out, "{address:X} {label} {to:X} {}\n", edge.cost),
+        Place::Exit => write!(out, "{address:X} {label} exit {}\n", edge.cost),
     }
+}
+
+fn put_step(out: &mut String, edge: &Edge) -> Result<(), AllocError>
+    ensures { OnOk result
+        (string_bytes out.new ≡ string_bytes out.old ++ ended (step_words (step_of edge.now))) }
+{
+    out.push_str("step ")?;
+    write_edge(out, edge)
 }
 
 #[cycle(walk)]

@@ -16,7 +16,7 @@ use Rattle.clap.specs.declared.error.Error.{Error}
 use Rattle.clap.specs.declared.error.kind.ErrorKind.TheVariants.{OutOfMemory}
 use Rattle.clap.specs.declared.error.kind.ErrorKind.{ErrorKind}
 use Rattle.clap.proofs.ValueTestLemmas.{accepts-Accepts, Accepts-accepts}
-use Rattle.command_line.specs.Line.{Asked, arcwcet_command, asked, asked_by, most_visits, unless_refused, visits_in}
+use Rattle.command_line.specs.Line.{Asked, arcwcet_command, asked, asked_by, most_number, number_in, unless_refused}
 
 shut : (kinds : Kinds) (x : Option Asked) (k : ErrorKind) → IsAmong k kinds → unless_refused kinds x ≡ None
 shut [] x k among = absurd among
@@ -50,32 +50,32 @@ asked_of_error app words e is kinds other =
       | inr among ↦ asked_refused words (kind_of e) among
     ]
 
-visits_or_none : Text → Bool → Option ℕ
-visits_or_none t fits = if fits then Some (digits_value 10 (without_leading_plus t)) else None
+number_or_none : Text → Bool → Option ℕ
+number_or_none t fits = if fits then Some (digits_value 10 (without_leading_plus t)) else None
 
--- `u32` reads a text as the number of visits that it writes
-visits_parsed : {E : Type 0} (t : Text) (r : Result ℕ E) → ParsesUnsigned 32 10 t r → result_ok r ≡ visits_in t
-unfolding visits_or_none
-visits_parsed t (Ok n) h =
-    let fits = Accepts-accepts false (parser.Unsigned 0 most_visits) t (h.0.0, omega (arith, h.0.1), omega arith, omega (arith, h.0.1)) in
-    ap (λ (k : ℕ). Some k) h.1 ∙ sym (ap (visits_or_none t) fits)
-visits_parsed t (Err e) h = go (is_unsigned_in 0 most_visits t) refl
+-- `u32` reads a text as the number that it writes
+number_parsed : {E : Type 0} (t : Text) (r : Result ℕ E) → ParsesUnsigned 32 10 t r → result_ok r ≡ number_in t
+unfolding number_or_none
+number_parsed t (Ok n) h =
+    let fits = Accepts-accepts false (parser.Unsigned 0 most_number) t (h.0.0, omega (arith, h.0.1), omega arith, omega (arith, h.0.1)) in
+    ap (λ (k : ℕ). Some k) h.1 ∙ sym (ap (number_or_none t) fits)
+number_parsed t (Err e) h = go (is_unsigned_in 0 most_number t) refl
   where
-    go : (fits : Bool) → is_unsigned_in 0 most_visits t ≡ fits → None ≡ visits_or_none t fits
+    go : (fits : Bool) → is_unsigned_in 0 most_number t ≡ fits → None ≡ number_or_none t fits
     go false is = refl
     go true is =
-        let fits = accepts-Accepts false (parser.Unsigned 0 most_visits) t is in
+        let fits = accepts-Accepts false (parser.Unsigned 0 most_number) t is in
         absurd (h (fits.0, omega (arith, fits.3)))
 
 -- what `u32` says of a text that it reads
 abbrev pub ReadsU32 : Text → Result ℕ ParseIntError → Type 0
 ReadsU32 t r = ParsesUnsigned 32 10 t r × ExplainsUnsignedError 10 t r × HasUnsignedDigitsIfOk t r
 
--- what `get_one` gives is the number of visits that the text writes
-pub visits_read : (o : Option Text) (r : Option ℕ) → (o ≡ None → r ≡ None) → ((t : Text) → o ≡ Some t → ReadsOne ReadsU32 t r)
-    → r ≡ option_and_then visits_in o
-visits_read None r none value = none refl
-visits_read (Some t) (Some n) none value = visits_parsed {E = ParseIntError} t (Ok n) (value t refl).0
-visits_read (Some t) None none value =
+-- what `get_one` gives is the number that the text writes
+pub number_read : (o : Option Text) (r : Option ℕ) → (o ≡ None → r ≡ None) → ((t : Text) → o ≡ Some t → ReadsOne ReadsU32 t r)
+    → r ≡ option_and_then number_in o
+number_read None r none value = none refl
+number_read (Some t) (Some n) none value = number_parsed {E = ParseIntError} t (Ok n) (value t refl).0
+number_read (Some t) None none value =
     let failed = value t refl in
-    visits_parsed t (Err failed.0) failed.1.0
+    number_parsed t (Err failed.0) failed.1.0

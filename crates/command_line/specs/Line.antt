@@ -41,23 +41,29 @@ trace_command = priced_command (codes "trace") (codes "machine")
 abbrev pub debug_command : App
 debug_command = priced_command (codes "debug") (codes "machine")
 
+-- the greatest number of 32 bits
+abbrev pub most_number : ℕ
+most_number = 4294967295
+
+-- an argument's value is a whole number, named so in the usage
+abbrev pub numbered : Rule → Rule
+numbered rule = record rule { value_names = 1; parser = Some (parser.Signed (pos 0) (pos most_number)) }
+
+-- `--tight N`
+abbrev pub tight_rule : Rule
+tight_rule = numbered (record (new_rule (codes "tight")) { long = Some (codes "tight") })
+
+-- `bound SOURCE STATEMENT`, with a cycle profile and the number of an edge
 abbrev pub bound_command : App
-bound_command = priced_command (codes "bound") (codes "statement")
+bound_command = with_rule (priced_command (codes "bound") (codes "statement")) tight_rule
 
 -- `check SOURCE STATEMENT CERT`, with a cycle profile
 abbrev pub check_command : App
 check_command = with_rule (priced_command (codes "check") (codes "statement")) (wanted (codes "cert"))
 
--- the most visits: the greatest number of 32 bits
-abbrev pub most_visits : ℕ
-most_visits = 4294967295
-
 -- a whole number of visits, in its place
 abbrev pub visits_rule : Rule
-visits_rule = record (wanted (codes "visits")) {
-  value_names = 1;
-  parser = Some (parser.Signed (pos 0) (pos most_visits));
-}
+visits_rule = numbered (wanted (codes "visits"))
 
 -- `visits SOURCE STATEMENT FIQSTATEMENT K`, with a cycle profile
 abbrev pub visits_command : App
@@ -95,6 +101,7 @@ pub data Asked : Type 0 where
   trace : FileNames → Asked
   debug : FileNames → Asked
   bound : FileNames → Asked
+  tight : FileNames → ℕ → Asked
   check : FileNames → Text → Asked
   visits : FileNames → Text → ℕ → Asked
 
@@ -108,6 +115,7 @@ asked_of (request.Run names) = run (names_of names)
 asked_of (request.Trace names) = trace (names_of names)
 asked_of (request.Debug names) = debug (names_of names)
 asked_of (request.Bound names) = bound (names_of names)
+asked_of (request.Tight names) = tight (names_of names.handler) names.edge
 asked_of (request.Check names) = check (names_of names.handler) names.cert.now
 asked_of (request.Visits names) = visits (names_of names.handler) names.fiq_statement.now names.visits
 
@@ -127,10 +135,14 @@ abbrev pub visits_of : Option FileNames → Option Text → Option ℕ → Optio
 visits_of (Some names) (Some fiq_statement) (Some k) = Some (visits names fiq_statement k)
 visits_of _ _ _ = None
 
--- the number of visits that a text writes: decimal digits, after any plus, and no more than the most
-abbrev pub visits_in : Text → Option ℕ
-visits_in text =
-    if is_unsigned_in 0 most_visits text then Some (digits_value 10 (without_leading_plus text)) else None
+-- the number of 32 bits that a text writes: decimal digits, after any plus
+abbrev pub number_in : Text → Option ℕ
+number_in text =
+    if is_unsigned_in 0 most_number text then Some (digits_value 10 (without_leading_plus text)) else None
+
+-- the number of an option or an argument, whose word is read as clap's typed getters read it
+abbrev pub number_at : Text → List Row → Option ℕ
+number_at id rows = option_and_then number_in (one_of id rows)
 
 -- by the values of `asm`
 abbrev pub asked_asm : List Row → Option Asked
@@ -141,15 +153,24 @@ abbrev pub names_in : Text → List Row → Option FileNames
 names_in second rows =
     named (first_of (codes "profile") rows) (first_of (codes "source") rows) (first_of second rows)
 
+-- an edge where one is named, else the bound
+abbrev pub bound_of : Option ℕ → FileNames → Asked
+bound_of (Some edge) names = tight names edge
+bound_of None names = bound names
+
+-- by the values of `bound`
+abbrev pub asked_bound : List Row → Option Asked
+asked_bound rows = option_map (bound_of (number_at (codes "tight") rows)) (names_in (codes "statement") rows)
+
 -- by the values of `check`
 abbrev pub asked_check : List Row → Option Asked
 asked_check rows = check_of (names_in (codes "statement") rows) (first_of (codes "cert") rows)
 
--- by the values of `visits`: the number's word is read as clap's typed getters read it
+-- by the values of `visits`
 abbrev pub asked_visits : List Row → Option Asked
 asked_visits rows =
     visits_of (names_in (codes "statement") rows) (first_of (codes "fiq_statement") rows)
-    (option_and_then visits_in (one_of (codes "visits") rows))
+    (number_at (codes "visits") rows)
 
 -- by the subcommand's name and its values
 abbrev pub asked_by : Text × List Row → Option Asked
@@ -158,7 +179,7 @@ asked_by p =
     else (if bytes_eq p.0 (codes "run") then option_map run (names_in (codes "machine") p.1)
     else (if bytes_eq p.0 (codes "trace") then option_map trace (names_in (codes "machine") p.1)
     else (if bytes_eq p.0 (codes "debug") then option_map debug (names_in (codes "machine") p.1)
-    else (if bytes_eq p.0 (codes "bound") then option_map bound (names_in (codes "statement") p.1)
+    else (if bytes_eq p.0 (codes "bound") then asked_bound p.1
     else (if bytes_eq p.0 (codes "check") then asked_check p.1
     else (if bytes_eq p.0 (codes "visits") then asked_visits p.1 else None))))))
 

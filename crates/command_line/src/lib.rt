@@ -4,5 +4,5 @@
 mod line;
 mod words;
 
-pub use line::{AsmNames, CheckNames, LineFault, Names, Request, VisitsNames};
+pub use line::{AsmNames, CheckNames, LineFault, Names, Request, TightNames, VisitsNames};
 pub use words::request;

@@ -31,6 +31,13 @@ pub struct VisitsNames<'a> {
     pub visits: u32,
 }
 
+/// The names of a handler's files, its source first, and the number of an edge of its flow graph, from 0.
+#[derive(Clone, Copy)]
+pub struct TightNames<'a> {
+    pub handler: Names<'a>,
+    pub edge: u32,
+}
+
 /// What a line of words asks for, with the names of its files.
 #[derive(Clone, Copy)]
 pub enum Request<'a> {
@@ -44,6 +51,8 @@ pub enum Request<'a> {
     Debug(Names<'a>),
     /// The longest run time of the handler in a source, under a statement.
     Bound(Names<'a>),
+    /// A machine that takes an edge of that handler's flow graph at its price.
+    Tight(TightNames<'a>),
     /// The verdict on a certificate of that.
     Check(CheckNames<'a>),
     /// The longest run time of that handler with up to so many visits of FIQ's.

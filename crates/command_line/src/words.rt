@@ -4,13 +4,14 @@ ghost use Rattle.clap.specs.Simple.{app_of, with_subcommand};
 ghost use Rattle.clap.specs.Walk.{rows_of, rule_of};
 ghost use Rattle.clap.specs.Words.{kind_of, subcommand_rows_of};
 ghost use Rattle.clap.specs.declared.builder.command.Command.TheViews.{out-Command};
-ghost use Rattle.command_line.specs.Line.{arcwcet_command, asked_asm, asked_by, asked_check, asked_in};
-ghost use Rattle.command_line.specs.Line.{asked_of, asm_command, bound_command, check_command, debug_command};
-ghost use Rattle.command_line.specs.Line.{names_in, names_of, priced_command, profile_rule};
-ghost use Rattle.command_line.specs.Line.{asked_visits, run_command, trace_command, visits_command};
-ghost use Rattle.command_line.specs.Line.{visits_rule, wanted};
+ghost use Rattle.command_line.specs.Line.{arcwcet_command, asked_asm, asked_bound, asked_by, asked_check};
+ghost use Rattle.command_line.specs.Line.{asked_in, asked_of, asked_visits, asm_command, bound_command};
+ghost use Rattle.command_line.specs.Line.{check_command, debug_command, names_in, names_of, number_at};
+ghost use Rattle.command_line.specs.Line.{priced_command, profile_rule, run_command, tight_rule};
+ghost use Rattle.command_line.specs.Line.{trace_command};
+ghost use Rattle.command_line.specs.Line.{visits_command, visits_rule, wanted};
 
-use crate::line::{AsmNames, CheckNames, LineFault, Names, Request, VisitsNames};
+use crate::line::{AsmNames, CheckNames, LineFault, Names, Request, TightNames, VisitsNames};
 use clap::error::ErrorKind;
 use clap::{Arg, ArgMatches, Command, Error, value_parser};
 use std::alloc::{AllocError, Global};
@@ -52,6 +53,25 @@ fn priced<'a>(alloc: Global, name: &'a str, second: &'a str) -> Result<Command<'
         .arg(profile(alloc))?
         .arg(wanted(alloc, "source"))?
         .arg(wanted(alloc, second))
+}
+
+/// `--tight N`.
+fn tight<'a>(alloc: Global) -> Arg<'a>
+    ensures rule { rule_of result ≡ tight_rule }
+    ensures local { result.global ≡ false }
+{
+    Arg::new(alloc, "tight")
+        .long("tight")
+        .value_name("N")
+        .value_parser(value_parser!(u32))
+}
+
+/// The command `bound SOURCE STATEMENT`.
+fn bound<'a>(alloc: Global) -> Result<Command<'a>, AllocError>
+    ensures shape { IfOk result (λ c. app_of c ≡ bound_command) }
+    ensures no_globals { IfOk result (λ c. (out-Command c).has_globals ≡ false) }
+{
+    priced(alloc, "bound", "statement")?.arg(tight(alloc))
 }
 
 /// The command `check SOURCE STATEMENT CERT`.
@@ -96,6 +116,13 @@ fn with_priced<'a>(
     command.subcommand(priced(alloc, name, second)?)
 }
 
+/// A command with one more, `bound`.
+fn with_bound<'a>(alloc: Global, command: Command<'a>) -> Result<Command<'a>, AllocError>
+    ensures { IfOk result (λ c. app_of c ≡ with_subcommand (app_of command.entry) bound_command.top) }
+{
+    command.subcommand(bound(alloc)?)
+}
+
 /// A command with one more, `check`.
 fn with_check<'a>(alloc: Global, command: Command<'a>) -> Result<Command<'a>, AllocError>
     ensures { IfOk result (λ c. app_of c ≡ with_subcommand (app_of command.entry) check_command.top) }
@@ -131,7 +158,7 @@ fn with_analysis<'a>(alloc: Global, command: Command<'a>) -> Result<Command<'a>,
         (with_subcommand
         (with_subcommand (app_of command.entry) bound_command.top) check_command.top) visits_command.top) }
 {
-    let command = with_priced(alloc, command, "bound", "statement")?;
+    let command = with_bound(alloc, command)?;
     let command = with_check(alloc, command)?;
     with_visits(alloc, command)
 }
@@ -169,6 +196,24 @@ fn asm_in<'a>(values: &ArgMatches<'a>) -> Option<Request<'a>>
     Some(Request::Asm(AsmNames { source, image }))
 }
 
+/// The number of an option or of an argument.
+fn number_at(values: &ArgMatches<'_>, id: &str) -> Option<u32>
+    ensures { result ≡ number_at id.now (rows_of (found_of values.now)) }
+{
+    values.get_one(id)
+}
+
+/// What `bound` is asked with.
+fn bound_in<'a>(values: &ArgMatches<'a>) -> Option<Request<'a>>
+    ensures { option_map asked_of result ≡ asked_bound (rows_of (found_of values.now)) }
+{
+    let handler = names_in(values, "statement")?;
+    match number_at(values, "tight") {
+        Some(edge) => Some(Request::Tight(TightNames { handler, edge })),
+        None => Some(Request::Bound(handler)),
+    }
+}
+
 /// What `check` is asked with.
 fn check_in<'a>(values: &ArgMatches<'a>) -> Option<Request<'a>>
     ensures { option_map asked_of result ≡ asked_check (rows_of (found_of values.now)) }
@@ -184,7 +229,7 @@ fn visits_in<'a>(values: &ArgMatches<'a>) -> Option<Request<'a>>
 {
     let handler = names_in(values, "statement")?;
     let fiq_statement = values.get_str("fiq_statement")?;
-    let visits = values.get_one::<u32>("visits")?;
+    let visits = number_at(values, "visits")?;
     Some(Request::Visits(VisitsNames {
         handler,
         fiq_statement,
@@ -210,7 +255,7 @@ fn request_in<'a>(matches: &ArgMatches<'a>) -> Option<Request<'a>>
         return Some(Request::Debug(names_in(values, "machine")?));
     }
     if name == "bound" {
-        return Some(Request::Bound(names_in(values, "statement")?));
+        return bound_in(values);
     }
     if name == "check" {
         return check_in(values);

@@ -32,15 +32,15 @@ words_skip (b ∷ bs) = elim (cases_Bool (is_blank b)) [
 ]
 
 -- after them stands a word, or nothing
-pub starts_behind : (text : List ℕ) → 0 < length (drop (prefix_len is_blank text) text)
+pub starts_after : (text : List ℕ) → 0 < length (drop (prefix_len is_blank text) text)
     → starts_word (drop (prefix_len is_blank text) text) ≡ true
-starts_behind [] some = absurd (omega arith)
-starts_behind (b ∷ bs) some = elim (cases_Bool (is_blank b)) [
+starts_after [] some = absurd (omega arith)
+starts_after (b ∷ bs) some = elim (cases_Bool (is_blank b)) [
   | inl h ↦
       let m : 1 + prefix_len is_blank bs ≡ suc (prefix_len is_blank bs) = omega arith in
       let same : drop (prefix_len is_blank (b ∷ bs)) (b ∷ bs) ≡ drop (prefix_len is_blank bs) bs =
       rw (h, m) refl in
-      ap starts_word same ∙ starts_behind bs (subst (λ (t : List ℕ). 0 < length t) same some)
+      ap starts_word same ∙ starts_after bs (subst (λ (t : List ℕ). 0 < length t) same some)
   | inr h ↦ rw (h, h) refl
 ]
 

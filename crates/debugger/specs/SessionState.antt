@@ -28,15 +28,15 @@ abbrev pub capped_sum : ℕ → ℕ → ℕ
 capped_sum a b = min (a + b) (2 ^ 128 - 1)
 
 -- bursts stretch one step alone; lines and port stay
-abbrev pub behind : Input → Input
-behind i = record i { bursts = 0 }
+abbrev pub without_bursts : Input → Input
+without_bursts i = record i { bursts = 0 }
 
 -- after a run
 abbrev pub moved_on : SessionState → Ran → State → SessionState
 moved_on s ran machine = record {
   machine = machine;
   breaks = s.breaks;
-  next = behind s.next;
+  next = without_bursts s.next;
   ticks = capped_sum s.ticks ran.ticks;
   elapsed = capped_sum s.elapsed ran.elapsed;
 }

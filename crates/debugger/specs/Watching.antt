@@ -12,12 +12,12 @@ use Rattle.trace_text.specs.declared.trace.Traced.{Traced}
 use Rattle.trace_text.specs.TraceText.{IsTraceLine, traced_word}
 use Rattle.debugger.specs.declared.stepping.Keep.{Keep}
 use Rattle.debugger.specs.declared.stepping.Keep.TheVariants.{All, Last}
-use Rattle.debugger.specs.SessionState.{behind}
+use Rattle.debugger.specs.SessionState.{without_bursts}
 
 -- the inputs of so many steps
 abbrev pub inputs_of : Input → ℕ → List Input
 inputs_of i zero = []
-inputs_of i (suc n) = i ∷ inputs_of (behind i) n
+inputs_of i (suc n) = i ∷ inputs_of (without_bursts i) n
 
 -- the address in R15 is a breakpoint
 abbrev pub is_break : List ℕ → State → Bool

@@ -65,12 +65,12 @@ fn tell_all(
     ensures err { IfErr result (λ fault. fault ≡ DebugFault.Memory) }
 {
     let mut rest = lines;
-    while let Some((line, behind)) = first_line(rest) {
+    while let Some((line, after)) = first_line(rest) {
         if is_quit(line) {
             return Ok(());
         }
         tell(out, alloc, session, line)?;
-        rest = behind;
+        rest = after;
     }
     Ok(())
 }

@@ -1,21 +1,17 @@
 -- Where the dearest transfers start, and what a machine has for each operation.
-use Rattle.std.proofs.Common.{◌≡◌, ℕ, ◌+◌, ◌*◌, ◌-◌, ◌/◌, ◌%◌, ◌^◌, ◌<◌, ◌≤◌, ◌⊎◌, inl, inr, Bool, true, false, cond, not, nat_lt, Result, Ok, Err, Some, None, IsTrue, count_ones, List, refl, sym, ap, subst, ◌∙◌, arith}
+use Rattle.std.proofs.Common.{◌≡◌, ℕ, ◌+◌, ◌*◌, ◌-◌, ◌/◌, ◌%◌, ◌^◌, ◌<◌, ◌≤◌, ◌⊎◌, inl, inr, Bool, true, false, cond, not, nat_lt, Ok, refl, sym, subst, ◌∙◌, arith}
 use Rattle.std.proofs.lemmas.Bool.{le-ltb, lt-ltb, lt-leb, ne_eqb, false≢true}
 use Rattle.bus_ticks.specs.declared.profile.Class.{Class}
 use Rattle.bus_ticks.specs.declared.profile.Class.TheVariants.{Any, Ram, Rom, Io}
-use Rattle.bus_ticks.specs.declared.profile.Profile.{Profile}
 use Rattle.bus_ticks.specs.declared.profile.RomTimes.{RomTimes}
 use Rattle.bus_ticks.specs.Dearest.{AreDearest, IsDearestBlock}
 use Rattle.bus_ticks.specs.Prices.{class_at, word_address}
 use Rattle.bus_ticks.specs.Worst.{IsBlockOf}
 use Rattle.bus_ticks.proofs.WorstLemmas.{rom_load, rom_store}
-use Rattle.memc.specs.Memory.{Memory, located, physical_at, written_at}
-use Rattle.memc.specs.declared.spots.Spot.{Spot}
+use Rattle.memc.specs.Memory.{Memory, located}
 use Rattle.memc.specs.declared.spots.Spot.TheVariants as spot
-use Rattle.memc.specs.declared.spots.Refused.{Refused}
-use Rattle.memc.specs.declared.spots.Refused.TheVariants as refused
 use Rattle.ioc.specs.Registers.{is_register}
-use Rattle.flow_graph.specs.Setting.{IsData, IsDataOf, IsSource, MayStart}
+use Rattle.flow_graph.specs.Setting.{IsDataOf, IsSource, MayStart}
 use Rattle.flow_graph.specs.declared.setting.Aim.{Aim}
 
 -- ## Where accesses of a privileged mode go

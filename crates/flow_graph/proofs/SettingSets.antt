@@ -1,5 +1,5 @@
 -- A machine that has what is chosen for an operation is set for it.
-use Rattle.std.proofs.Common.{◌≡◌, ℕ, ◌+◌, ◌*◌, ◌-◌, ◌/◌, ◌%◌, ◌^◌, ◌<◌, ◌≤◌, ◌==◌, ◌&&◌, ◌||◌, ◌⊎◌, inl, inr, Bool, true, false, cond, not, Ok, Some, None, IsTrue, count_ones, length, refl, sym, ap, subst, ◌∙◌, arith}
+use Rattle.std.proofs.Common.{◌≡◌, ℕ, ◌+◌, ◌*◌, ◌-◌, ◌%◌, ◌^◌, ◌<◌, ◌≤◌, ◌==◌, ◌&&◌, ◌||◌, Bool, true, false, cond, not, Ok, None, IsTrue, count_ones, length, refl, sym, ap, subst, ◌∙◌, arith}
 use Rattle.std.specs.Prelude.{IfSome}
 use Rattle.std.proofs.lemmas.Bool.{eqb-true, false≢true}
 use Rattle.bus_ticks.specs.declared.profile.Class.{Class}
@@ -45,7 +45,7 @@ use Rattle.arm2_exec.specs.declared.machine.Input.{Input}
 use Rattle.flow_graph.specs.Free.{adds_an_immediate, asks_for_user, copies_a_register, is_add_or_sub, is_free_operation, is_lsl, is_mov, writes_pc}
 use Rattle.flow_graph.specs.Kinds.{lists_pc}
 use Rattle.flow_graph.specs.Setting.{HasSetting, IsData, IsDataOf, IsMemory, IsPort, IsSource, MayStart, Sets, of_register, rotated, transfer_setting, with_source}
-use Rattle.flow_graph.specs.TightWork.{IsDearestTarget, IsSetFor, TransfersDearest}
+use Rattle.flow_graph.specs.TightWork.{IsDearestTarget, TransfersDearest}
 use Rattle.flow_graph.specs.declared.places.Place.{Place}
 use Rattle.flow_graph.specs.declared.setting.Aim.{Aim}
 use Rattle.flow_graph.specs.declared.setting.Held.{Held}

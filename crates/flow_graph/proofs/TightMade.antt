@@ -1,7 +1,7 @@
 -- The machine of an edge's file takes the edge at its price.
-use Rattle.std.proofs.Common.{◌≡◌, ℕ, ◌+◌, ◌*◌, ◌-◌, ◌/◌, ◌%◌, ◌^◌, ◌<◌, ◌≤◌, ◌==◌, ◌&&◌, ◌⊎◌, inl, inr, Bool, true, false, cond, not, nat_lt, Option, Some, None, Result, Ok, Err, List, [], ◌∷◌, ◌++◌, length, map, get_or, IsTrue, replicate, refl, sym, ap, subst, ◌∙◌, arith}
-use Rattle.std.specs.Prelude.{All, Contains, IfErr, IfSome, IsSome, is_some, slice_index, slice_set, nat_le}
-use Rattle.std.proofs.lemmas.Bool.{cases_lt, eq-eqb, eqb-false, le-leb, lt-ltb}
+use Rattle.std.proofs.Common.{◌≡◌, ℕ, ◌+◌, ◌*◌, ◌-◌, ◌/◌, ◌%◌, ◌^◌, ◌<◌, ◌≤◌, ◌⊎◌, inl, inr, true, false, Option, Some, None, Result, Ok, Err, List, [], ◌∷◌, ◌++◌, length, get_or, IsTrue, replicate, refl, sym, ap, subst, ◌∙◌, arith}
+use Rattle.std.specs.Prelude.{All, Contains, IfErr, IfSome, IsSome, is_some}
+use Rattle.std.proofs.lemmas.Bool.{eqb-false}
 use Rattle.std.proofs.lemmas.List.{get_or-set_same, get_or_append_left, get_or_push, length-append, length-replicate, length-set}
 use Rattle.std.proofs.lemmas.List.Elements.{All-from_recursion, recursion_from_All}
 use Rattle.std.proofs.lemmas.Option.{same_Some}
@@ -9,21 +9,21 @@ use Rattle.bus_ticks.specs.declared.profile.Profile.{Profile}
 use Rattle.bus_ticks.specs.declared.profile.RomTimes.{RomTimes}
 use Rattle.bus_ticks.specs.Dearest.{AreDearest}
 use Rattle.bus_ticks.specs.Prices.{rom_price}
-use Rattle.loader.specs.Image.{Words, may_hold, word_of}
+use Rattle.loader.specs.Image.{Words, is_past_ram, may_hold, word_of}
 use Rattle.loader.specs.Inside.{AreWhole}
 use Rattle.loader.specs.Loading.{GivesWord, lacks_page, loaded, put_words, spot_of}
-use Rattle.loader.specs.PagePlan.{HasWordOn, IsPagePlan}
+use Rattle.loader.specs.PagePlan.{IsPagePlan}
 use Rattle.loader.specs.Planned.{AreOf, IsBeside, IsFitted, IsMapped}
 use Rattle.loader.specs.declared.plan.PlacedPage.{PlacedPage}
+use Rattle.loader.proofs.FittedLemmas.{fitted}
 use Rattle.loader.proofs.MemoryLemmas.{same_spot}
 use Rattle.loader.proofs.PlaceLemmas.{may_within}
-use Rattle.loader.proofs.PlannedLemmas.{InRam, InRom, IsPlanned, beside_given, found, gives_at, image_fits, image_given, image_stays, mapped_stays, parts}
-use Rattle.memc.specs.Memory.{Memory as Memc, control_of, located, word_at}
+use Rattle.loader.proofs.PlannedLemmas.{InRam, InRom, beside_given, found, gives_at, image_fits, image_given, image_stays, mapped_stays, parts}
+use Rattle.memc.specs.Memory.{Memory as Memc, located, word_at}
 use Rattle.memc.specs.declared.spots.Spot.{Spot}
 use Rattle.memc.specs.declared.spots.Spot.TheVariants.{Ram, Rom}
 use Rattle.arm2_decode.specs.Names.{is_pc, register_number}
 use Rattle.arm2_decode.specs.declared.flags.Flags.{Flags}
-use Rattle.arm2_decode.specs.declared.names.Register.{Register}
 use Rattle.arm2_effect.specs.declared.modes.Mode.TheVariants.{Svc}
 use Rattle.arm2_effect.specs.Modes.{mode_named, r15_in, register_in, slot_of}
 use Rattle.arm2_effect.specs.ProgramCounter.{address_of, mode_of, psr_with, r15_of}
@@ -41,23 +41,21 @@ use Rattle.flow_graph.specs.Edges.{AreEdgesOf, IsEdge}
 use Rattle.flow_graph.specs.Flow.{Flow, HasEdge, IsWellFormed}
 use Rattle.flow_graph.specs.Graph.{IsFlowGraph}
 use Rattle.flow_graph.specs.Places.{place_at}
-use Rattle.flow_graph.specs.Free.{IsFree, is_past_ram}
-use Rattle.flow_graph.specs.Setting.{HasSetting, IsData, Sets}
-use Rattle.flow_graph.specs.StepLaw.{label_by}
+use Rattle.flow_graph.specs.Free.{IsFree}
+use Rattle.flow_graph.specs.Setting.{HasSetting, IsData}
 use Rattle.flow_graph.specs.Tight.{IsTight}
-use Rattle.flow_graph.specs.TightFile.{CanPlace, HasPlaceWord, HasWordAt, IsEntryOf, IsPlaceWord, IsPlaced, IsSettingOf, IsStand, IsTightFile, file_of, listed, masked_flags, open_page, registers_with}
-use Rattle.flow_graph.specs.TightWork.{IsSetFor, IsSetForEdge, StandsAt, masked}
+use Rattle.flow_graph.specs.TightFile.{CanPlace, HasPlaceWord, HasWordAt, IsEntryOf, IsPlaceWord, IsPlaced, IsStand, IsTightFile, file_of, listed, masked_flags, registers_with}
+use Rattle.flow_graph.specs.TightWork.{StandsAt, masked}
 use Rattle.flow_graph.specs.declared.edges.Edge.{Edge}
-use Rattle.flow_graph.specs.declared.edges.Label.TheVariants.{Skip}
 use Rattle.flow_graph.specs.declared.places.Place.{Place}
 use Rattle.flow_graph.specs.declared.places.Place.TheVariants.{At, Exit}
 use Rattle.flow_graph.specs.declared.setting.Held.{Held}
 use Rattle.flow_graph.specs.declared.tight.Stand.{Stand}
 use Rattle.flow_graph.specs.declared.tight.TightFault.{TightFault}
 use Rattle.flow_graph.specs.declared.tight.TightFault.TheVariants.{Memory, NotFree}
-use Rattle.statement.specs.Stated.{Stated, class_of}
+use Rattle.statement.specs.Stated.{Stated}
 use Rattle.std.proofs.lemmas.List.{get_or_read}
-use Rattle.flow_graph.proofs.FlowLemmas.{has_edge_is_edge, part_of}
+use Rattle.flow_graph.proofs.FlowLemmas.{part_of}
 use Rattle.flow_graph.proofs.SortedLemmas.{here, no_member}
 use Rattle.flow_graph.proofs.StepRegisters.{address_put}
 use Rattle.flow_graph.proofs.TightPages.{all_mappable, all_single, is_mapped}
@@ -95,19 +93,6 @@ svc_of : (psr a : ℕ) → a % 4 ≡ 0 → mode_of (r15_of psr a Svc) ≡ Svc
 svc_of psr a whole = ap mode_named (let e : (psr * 2 ^ 26 + a + 3) % 4 ≡ 3 = omega (arith, whole) in e)
 
 -- ## Memory
-
--- below where no RAM is fitted, or past it
-pub fitted : (a : ℕ) → is_past_ram a ≡ false → IsFitted a
-fitted a h = elim (cases_lt a 0x2400000) [
-  | inl below ↦ inl below
-  | inr past ↦ elim (cases_lt a 0x3000000) [
-    | inl io ↦ absurd (both_true (sym (rw (le-leb 0x2400000 a past, lt-ltb a 0x3000000 io) refl) ∙ h))
-    | inr high ↦ inr high
-  ]
-]
-  where
-    both_true : true ≡ false → ⊥
-    both_true e = cc
 
 -- a word in memory besides the image's is on the spare page or in ROM, and not the one that is executed
 apart_of : (words : Words) (pages : List PlacedPage) (spare a at : ℕ) → IsPagePlan words pages spare → IsSome (word_of words a) → IsData spare a at → IsBeside spare at × (at ≡ a → ⊥)

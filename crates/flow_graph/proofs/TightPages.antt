@@ -1,5 +1,5 @@
 -- A planned image's pages, as a machine file maps them.
-use Rattle.std.proofs.Common.{◌≡◌, ℕ, ◌+◌, ◌*◌, ◌/◌, ◌^◌, ◌<◌, ◌≤◌, ◌==◌, ◌&&◌, ◌||◌, ◌⊎◌, inl, inr, Bool, true, false, cond, not, Option, Some, None, List, [], ◌∷◌, length, map, refl, sym, ap, subst, ◌∙◌, arith}
+use Rattle.std.proofs.Common.{◌≡◌, ℕ, ◌*◌, ◌^◌, ◌<◌, ◌==◌, ◌||◌, ◌⊎◌, inl, inr, Bool, true, false, cond, Some, None, List, [], ◌∷◌, length, map, refl, sym, ap, ◌∙◌, arith}
 use Rattle.std.specs.Prelude.{All, Contains, nat_eq}
 use Rattle.std.specs.List.{list_all, list_any}
 use Rattle.std.proofs.lemmas.Bool.{cases_lt, eqb-false, eq-eqb, eqb-true, lt-ltb, ne_eqb}
@@ -16,8 +16,7 @@ use Rattle.memc.specs.declared.pages.Entry.{Entry}
 use Rattle.memc.specs.declared.spots.PageSize.TheVariants.{K32}
 use Rattle.toml_reading.specs.Documents.{are_distinct}
 use Rattle.machine_file.specs.MachineFile.{are_single, is_mappable}
-use Rattle.machine_file.specs.Started.{IsController, IsMap, IsResetMap, stated_at}
-use Rattle.machine_file.specs.Stated.{Controller}
+use Rattle.machine_file.specs.Started.{IsController, IsResetMap, stated_at}
 use Rattle.machine_file.specs.declared.pages.MappedPage.{MappedPage}
 use Rattle.flow_graph.specs.TightFile.{open_page}
 use Rattle.flow_graph.proofs.SortedLemmas.{cons_cases, here, no_member, there}

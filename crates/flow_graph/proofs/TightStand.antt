@@ -1,5 +1,5 @@
 -- How a machine stands for an edge.
-use Rattle.std.proofs.Common.{◌≡◌, ℕ, ◌+◌, ◌*◌, ◌%◌, ◌^◌, ◌<◌, ◌≤◌, ◌⊎◌, inl, inr, Bool, true, false, cond, Option, Some, None, List, [], ◌∷◌, IsTrue, refl, sym, ap, subst, ◌∙◌, arith}
+use Rattle.std.proofs.Common.{◌≡◌, ℕ, ◌⊎◌, inl, inr, Bool, true, false, cond, Some, List, [], ◌∷◌, IsTrue, refl, sym, ap, subst, ◌∙◌}
 use Rattle.std.specs.Prelude.{Contains}
 use Rattle.std.proofs.lemmas.Bool.{false≢true}
 use Rattle.std.proofs.lemmas.Option.{same_Some}
@@ -10,21 +10,19 @@ use Rattle.bus_ticks.specs.declared.profile.Profile.{Profile}
 use Rattle.bus_ticks.specs.Dearest.{IsDearestLeave}
 use Rattle.loader.specs.Image.{Words, may_hold, word_of}
 use Rattle.loader.proofs.PlaceLemmas.{may_parts}
-use Rattle.arm2_decode.specs.Conditions.{condition_holds}
-use Rattle.arm2_decode.specs.Table.{Means, IsUnallocated}
+use Rattle.arm2_decode.specs.Table.{Means}
 use Rattle.arm2_decode.specs.declared.flags.Flags.{Flags}
 use Rattle.arm2_decode.specs.declared.instr.Instr.{Instr}
 use Rattle.arm2_decode.specs.declared.names.Cond.{Cond}
 use Rattle.arm2_decode.specs.declared.names.Cond.TheVariants as condition
-use Rattle.arm2_decode.proofs.Unique.{one_instr}
 use Rattle.arm2_effect.specs.ProgramCounter.{ahead_of}
 use Rattle.flow_graph.specs.Edges.{AreEdgesOf, HasAction, IsEdge, do_edge, do_edges, landing_edges, landings}
 use Rattle.flow_graph.specs.Edges.{skip_edge, skip_edges, word_edges}
-use Rattle.flow_graph.specs.Free.{HasFreeWord, IsFree, IsFreeWord, is_free_operation}
+use Rattle.flow_graph.specs.Free.{HasFreeWord, IsFree, IsFreeWord}
 use Rattle.flow_graph.specs.Kinds.{IsAction, is_always, is_never}
 use Rattle.flow_graph.specs.Setting.{Sets}
 use Rattle.flow_graph.specs.StepLaw.{label_by}
-use Rattle.flow_graph.specs.TightFile.{HasWordAt, IsSettingOf, IsStand}
+use Rattle.flow_graph.specs.TightFile.{IsSettingOf}
 use Rattle.flow_graph.specs.TightWork.{IsDearestTarget}
 use Rattle.flow_graph.specs.declared.edges.Edge.{Edge}
 use Rattle.flow_graph.specs.declared.edges.Label.{Label}
@@ -72,7 +70,6 @@ edge_word words st profile e calls address is from =
     let here : AreEdgesOf words st profile (At calls address) is.0 = subst (λ p. AreEdgesOf words st profile p is.0) from is.1 in
     record { action = here.0; has = here.1; among = subst (λ es. Contains es e) here.2 is.2 }
 
--- some flags pass a condition over unless it always holds, and fulfil it unless it never does
 abbrev flags : Bool → Bool → Bool → Bool → Flags
 flags n z c v = record { negative = n; zero = z; carry = c; overflow = v }
 
@@ -85,59 +82,46 @@ all_set = flags true true true true
 abbrev n_and_c : Flags
 n_and_c = flags true false true false
 
-pub passes_over : (c : Cond) → is_always c ≡ false → (f : Flags) × (label_by f c ≡ Skip)
-passes_over condition.Eq h = (none_set, refl)
-passes_over condition.Ne h = (all_set, refl)
-passes_over condition.Cs h = (none_set, refl)
-passes_over condition.Cc h = (all_set, refl)
-passes_over condition.Mi h = (none_set, refl)
-passes_over condition.Pl h = (all_set, refl)
-passes_over condition.Vs h = (none_set, refl)
-passes_over condition.Vc h = (all_set, refl)
-passes_over condition.Hi h = (none_set, refl)
-passes_over condition.Ls h = (n_and_c, refl)
-passes_over condition.Ge h = (n_and_c, refl)
-passes_over condition.Lt h = (none_set, refl)
-passes_over condition.Gt h = (all_set, refl)
-passes_over condition.Le h = (none_set, refl)
-passes_over condition.Al h = absurd (cc)
-passes_over condition.Nv h = (none_set, refl)
+-- by some flags an instruction of the condition has the label
+abbrev Reaches : Label → Cond → Type 0
+Reaches label c = (f : Flags) × (label_by f c ≡ label)
 
-pub fulfils : (c : Cond) → is_never c ≡ false → (f : Flags) × (label_by f c ≡ Do)
-fulfils condition.Eq h = (all_set, refl)
-fulfils condition.Ne h = (none_set, refl)
-fulfils condition.Cs h = (all_set, refl)
-fulfils condition.Cc h = (none_set, refl)
-fulfils condition.Mi h = (all_set, refl)
-fulfils condition.Pl h = (none_set, refl)
-fulfils condition.Vs h = (all_set, refl)
-fulfils condition.Vc h = (none_set, refl)
-fulfils condition.Hi h = (n_and_c, refl)
-fulfils condition.Ls h = (none_set, refl)
-fulfils condition.Ge h = (none_set, refl)
-fulfils condition.Lt h = (n_and_c, refl)
-fulfils condition.Gt h = (none_set, refl)
-fulfils condition.Le h = (all_set, refl)
-fulfils condition.Al h = (none_set, refl)
-fulfils condition.Nv h = absurd (cc)
+-- some flags pass a condition over unless it always holds, and some fulfil it unless it never does
+reached : (c : Cond) → (is_always c ≡ false → Reaches Skip c) × (is_never c ≡ false → Reaches Do c)
+reached condition.Eq = (λ h. (none_set, refl), λ h. (all_set, refl))
+reached condition.Ne = (λ h. (all_set, refl), λ h. (none_set, refl))
+reached condition.Cs = (λ h. (none_set, refl), λ h. (all_set, refl))
+reached condition.Cc = (λ h. (all_set, refl), λ h. (none_set, refl))
+reached condition.Mi = (λ h. (none_set, refl), λ h. (all_set, refl))
+reached condition.Pl = (λ h. (all_set, refl), λ h. (none_set, refl))
+reached condition.Vs = (λ h. (none_set, refl), λ h. (all_set, refl))
+reached condition.Vc = (λ h. (all_set, refl), λ h. (none_set, refl))
+reached condition.Hi = (λ h. (none_set, refl), λ h. (n_and_c, refl))
+reached condition.Ls = (λ h. (n_and_c, refl), λ h. (none_set, refl))
+reached condition.Ge = (λ h. (n_and_c, refl), λ h. (none_set, refl))
+reached condition.Lt = (λ h. (none_set, refl), λ h. (n_and_c, refl))
+reached condition.Gt = (λ h. (all_set, refl), λ h. (none_set, refl))
+reached condition.Le = (λ h. (none_set, refl), λ h. (all_set, refl))
+reached condition.Al = (λ h. absurd (false≢true (sym h)), λ h. (none_set, refl))
+reached condition.Nv = (λ h. (none_set, refl), λ h. absurd (false≢true (sym h)))
 
--- what stands behind a test
-behind_test : (b : Bool) (xs : List Edge) (e : Edge) → Contains (cond b [] xs) e → (b ≡ false) × Contains xs e
-behind_test true xs e h = absurd (no_member e h)
-behind_test false xs e h = (refl, h)
+-- what is listed where a test fails
+after_test : (b : Bool) (xs : List Edge) (e : Edge) → Contains (cond b [] xs) e → (b ≡ false) × Contains xs e
+after_test true xs e h = absurd (no_member e h)
+after_test false xs e h = (refl, h)
 
 -- the edge's label comes from some flags
-label_flags : (words : Words) (st : Stated) (profile : Profile) (e : Edge) (calls : List ℕ) (address : ℕ) (a : Action) → Contains (word_edges st profile calls address a) e → (f : Flags) × (label_by f a.cond ≡ e.label)
+label_flags : (words : Words) (st : Stated) (profile : Profile) (e : Edge) (calls : List ℕ) (address : ℕ) (a : Action) → Contains (word_edges st profile calls address a) e → Reaches e.label a.cond
 label_flags words st profile e calls address a among = by_part (Contains-append_cases (skip_edges profile calls address a) (do_edges st profile calls address a) e among)
   where
-    by_part : Contains (skip_edges profile calls address a) e ⊎ Contains (do_edges st profile calls address a) e → (f : Flags) × (label_by f a.cond ≡ e.label)
+    by_part : Contains (skip_edges profile calls address a) e ⊎ Contains (do_edges st profile calls address a) e → Reaches e.label a.cond
     by_part (inl skip) =
-        let test = behind_test (is_always a.cond) (skip_edge profile calls address ∷ []) e skip in
-        let f = passes_over a.cond test.0 in
+        let test = after_test (is_always a.cond) (skip_edge profile calls address ∷ []) e skip in
+        let f = (reached a.cond).0 test.0 in
         (f.0, f.1 ∙ ap (λ (x : Edge). x.label) (only_one (skip_edge profile calls address) e test.1))
     by_part (inr done) =
-        let test = behind_test (is_never a.cond) (landing_edges st profile calls address a) e done in
-        let f = fulfils a.cond test.0 in
+        let test = after_test (is_never a.cond) (landing_edges st profile calls address a) e done in
+        let f = (reached a.cond).1 test.0 in
         let to = contains_map (do_edge st profile calls address a) (landings st calls address a.kind) e test.1 in
         (f.0, f.1 ∙ ap (λ (x : Edge). x.label) to.2)
 

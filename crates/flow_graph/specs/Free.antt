@@ -1,11 +1,10 @@
--- Free edges: those of which there are a machine and an input whose one step takes the edge at exactly its
--- price (`tight_state` gives them). The rule is our own, and coarse: whole kinds of instructions are not free
--- of which some have too little choice of the address to which they transfer or jump, and no edge is from
--- where no RAM is fitted.
-use Rattle.std.specs.Prelude.{◌≡◌, ℕ, Bool, true, false, not, ◌&&◌, ◌||◌, ◌==◌, nat_le, nat_lt, IsTrue, List}
+-- Free edges: for each of them `tight_state` gives a machine and an input whose one step takes the edge at
+-- exactly its price. The rule is our own, and coarse: whole kinds of instructions are not free of which some
+-- have too little choice of the address to which they transfer or jump, and no edge is from where no RAM is
+-- fitted.
+use Rattle.std.specs.Prelude.{◌≡◌, ℕ, Bool, true, false, not, ◌&&◌, ◌||◌, ◌==◌, IsTrue, List}
 use Rattle.std.specs.Prelude.{Some, ◌⊎◌}
-use Rattle.bus_ticks.specs.declared.space.TheConstants.{IO_START}
-use Rattle.loader.specs.Image.{Words, word_of}
+use Rattle.loader.specs.Image.{Words, is_past_ram, word_of}
 use Rattle.arm2_decode.specs.Names.{is_pc}
 use Rattle.arm2_decode.specs.Table.{Means}
 use Rattle.arm2_decode.specs.declared.instr.DataImmediate.{DataImmediate}
@@ -68,10 +67,6 @@ is_free_operation _ = true
 
 -- ## Edges
 
--- from 2400000 to 2FFFFFF, where no RAM is fitted even with the largest pages, of 32 KB
-abbrev pub is_past_ram : ℕ → Bool
-is_past_ram address = nat_le 0x2400000 address && nat_lt address IO_START
-
 -- the word is an instruction whose operation is free
 abbrev pub IsFreeWord : ℕ → Type 0
 IsFreeWord word = (i : Instr) × Means word i × IsTrue (is_free_operation i.operation)
@@ -80,8 +75,8 @@ IsFreeWord word = (i : Instr) × Means word i × IsTrue (is_free_operation i.ope
 abbrev pub HasFreeWord : Words → ℕ → Type 0
 HasFreeWord words address = (word : ℕ) × (word_of words address ≡ Some word) × IsFreeWord word
 
--- of an edge of the graph: it leaves an address outside of that range, and it passes over the word there, or
--- does it, and then the word is free
+-- of an edge of the graph: it leaves an address outside of 2400000 to 2FFFFFF, and it passes over the word
+-- there, or does it, and then the word is free
 pub record IsFree (words : Words) (e : Edge) : Type 0 where
   pub calls : List ℕ
   pub address : ℕ

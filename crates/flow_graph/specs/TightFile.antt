@@ -1,6 +1,6 @@
--- The machine file of a machine that takes an edge at its price: what the clauses of private functions cite.
--- Our own choice among such machines: SVC mode, pages of 32 KB, both interrupts masked, one register and at
--- most one word in memory besides the image's.
+-- The machine file of a machine that takes an edge at its price. Our own choice among such machines: SVC mode,
+-- pages of 32 KB, both interrupts masked, one register and at most one word in memory that is put after the
+-- image's.
 use Rattle.std.specs.Prelude.{◌≡◌, ◌<◌, ◌^◌, ◌⊎◌, ℕ, true, false, [], ◌∷◌, replicate, slice_set, map, All}
 use Rattle.std.specs.Prelude.{List, Option, Contains}
 use Rattle.std.specs.Prelude.{Some, None, IfSome}
@@ -151,11 +151,12 @@ pub record IsTightFile (words : Words) (st : Stated) (profile : Profile) (e : Ed
 
 -- ## Where its words go
 
--- the place is one of a word of the image, which is that one
+-- the image has a word at the place, which is not Exit
 abbrev pub IsEntryOf : Words → Place → Type 0
 IsEntryOf words (At calls address) = (word : ℕ) × (word_of words address ≡ Some word)
 IsEntryOf words Exit = ⊥
 
+-- the image's word at the place, with its address
 pub record IsPlaceWord (words : Words) (place : Place) (e : ℕ × ℕ) : Type 0 where
   pub calls : List ℕ
   pub is : place ≡ At calls e.0
@@ -177,10 +178,14 @@ pub record IsPlaced (profile : Profile) (f : file.Stated) (word : ℕ × ℕ) (s
 
 -- ## What is given
 
--- such a file, and a machine and an input that take the edge; the machine is the file's, with one word and then
--- with those of the file
+-- such a file, and a machine and an input that take the edge: the file's machine, with the image's word at the
+-- edge's place and then with the words of the file, and the input of the file's step
 pub record IsTightAt (words : Words) (st : Stated) (profile : Profile) (e : Edge) (t : Tight) : Type 0 where
   pub takes : IsTight words st profile e t.machine t.input
   pub file : IsTightFile words st profile e t.file
   pub word : ℕ × ℕ
+  pub word_is : IsPlaceWord words e.from word
   pub made : IsPlaced profile t.file word t.machine
+  pub quiet : t.input.bursts ≡ 0
+  pub no_lines : t.input.lines.0 ≡ 0
+  pub port : t.input.port ≡ t.file.schedule.port

@@ -1,7 +1,6 @@
 ghost use Rattle.std.specs.Prelude.{◌≡◌, ◌↔◌, IsTrue};
 ghost use Rattle.flow_graph.specs.Free.{HasFreeWord, IsFree, IsFreeWord, adds_an_immediate};
-ghost use Rattle.flow_graph.specs.Free.{asks_for_user, copies_a_register, is_free_operation, is_past_ram};
-ghost use Rattle.flow_graph.specs.Free.{writes_pc};
+ghost use Rattle.flow_graph.specs.Free.{asks_for_user, copies_a_register, is_free_operation, writes_pc};
 
 use crate::edges::{Edge, Label};
 use crate::kinds::{data_processing, is_r15_writer};
@@ -9,17 +8,7 @@ use crate::places::Place;
 use arm2_decode::{
     DataImmediate, DataRegister, Opcode, Operation, Register, Shift, SingleImmediate, decode,
 };
-use bus_ticks::IO_START;
-use loader::Image;
-
-// Where physical RAM ends with pages of 32 KB.
-const LARGEST_RAM_END: u32 = 0x240_0000;
-
-fn is_past_ram(address: u32) -> bool
-    ensures { result ≡ is_past_ram address }
-{
-    LARGEST_RAM_END <= address && address < IO_START
-}
+use loader::{Image, is_past_ram};
 
 pub(crate) fn writes_pc(opcode: Opcode, rd: Register) -> bool
     ensures { result ≡ writes_pc opcode rd }

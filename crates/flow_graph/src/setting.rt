@@ -11,9 +11,7 @@ ghost use Rattle.flow_graph.specs.Setting.{MayStart, Sets, of_register, rotated,
 
 use crate::free::writes_pc;
 use crate::kinds::lists_pc;
-use arm2_decode::{
-    Block, DataImmediate, DataRegister, Multiply, Opcode, Operation, Register, SingleImmediate,
-};
+use arm2_decode::{Block, DataImmediate, Opcode, Operation, Register, SingleImmediate};
 use bus_ticks::{Class, Profile, ROM_START, dearest_device, dearest_ram_start, word_address};
 use shifter::rotate_imm;
 
@@ -66,11 +64,11 @@ pub(crate) const NOTHING: Setting = Setting {
     word: None,
 };
 
-fn of_register(held: Held) -> Setting
-    ensures { result ≡ of_register held }
+fn of_register(register: Register, word: u32) -> Setting
+    ensures { result ≡ of_register (record { register = register; word = word }) }
 {
     Setting {
-        register: Some(held),
+        register: Some(Held { register, word }),
         ..NOTHING
     }
 }
@@ -124,7 +122,7 @@ fn base_of_block(x: &Block, address: u32, words: u32) -> u32
 fn transfer_setting(aim: &Aim, base: Held, loads_pc: bool, last: u32) -> Setting
     ensures { result ≡ transfer_setting aim.now base loads_pc last }
 {
-    let found = of_register(base);
+    let found = of_register(base.register, base.word);
     if !loads_pc {
         return found;
     }
@@ -167,20 +165,6 @@ fn of_block(aim: &Aim, x: &Block) -> Setting
     transfer_setting(aim, base, x.load & lists_pc(x.list), last)
 }
 
-// MOV of a register that holds the target.
-fn of_copy(aim: &Aim, x: &DataRegister) -> Setting
-    requires { IsTrue (is_free_operation (Operation.DataRegister x.now)) }
-    ensures { Sets aim.now (Operation.DataRegister x.now) result }
-{
-    if !writes_pc(x.opcode, x.rd) {
-        return NOTHING;
-    }
-    of_register(Held {
-        register: x.rm,
-        word: aim.target,
-    })
-}
-
 // The word in Rn by which the sum or the difference is the target.
 fn addend(x: &DataImmediate, target: u32) -> u32
     requires { adds_an_immediate x.now ≡ true }
@@ -195,30 +179,6 @@ fn addend(x: &DataImmediate, target: u32) -> u32
     }
 }
 
-// ADD or SUB of an immediate that gives the target.
-fn of_sum(aim: &Aim, x: &DataImmediate) -> Setting
-    requires { IsTrue (is_free_operation (Operation.DataImmediate x.now)) }
-    ensures { Sets aim.now (Operation.DataImmediate x.now) result }
-{
-    if !writes_pc(x.opcode, x.rd) {
-        return NOTHING;
-    }
-    of_register(Held {
-        register: x.rn,
-        word: addend(x, aim.target),
-    })
-}
-
-// A multiply by a number that takes the most cycles.
-fn of_multiply(aim: &Aim, x: &Multiply) -> Setting
-    ensures { Sets aim.now (Operation.Multiply x.now) result }
-{
-    of_register(Held {
-        register: x.rs,
-        word: u32::MAX,
-    })
-}
-
 /// What a machine has so that the operation costs the most that it can at its address, and leads to the
 /// target where it writes R15.
 pub(crate) fn setting_for(aim: &Aim, operation: &Operation) -> Setting
@@ -227,9 +187,12 @@ pub(crate) fn setting_for(aim: &Aim, operation: &Operation) -> Setting
     ensures { Sets aim.now operation.now result }
 {
     match operation {
-        Operation::Multiply(x) => of_multiply(aim, x),
-        Operation::DataRegister(x) => of_copy(aim, x),
-        Operation::DataImmediate(x) => of_sum(aim, x),
+        // a number that takes the most cycles
+        Operation::Multiply(x) => of_register(x.rs, u32::MAX),
+        Operation::DataRegister(x) if writes_pc(x.opcode, x.rd) => of_register(x.rm, aim.target),
+        Operation::DataImmediate(x) if writes_pc(x.opcode, x.rd) => {
+            of_register(x.rn, addend(x, aim.target))
+        }
         Operation::SingleImmediate(x) => of_single(aim, x),
         Operation::Block(x) => of_block(aim, x),
         _ => NOTHING,

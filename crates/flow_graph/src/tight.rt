@@ -306,6 +306,22 @@ pub struct Tight {
     pub file: MachineFile,
 }
 
+impl Tight {
+    /// The logical pages, of 32 KB, that have words of the image, each with its physical page and level.
+    pub fn maps(&self) -> &[MappedPage]
+        ensures { result.now ≡ self.now.file.controller.pages }
+    {
+        self.file.pages()
+    }
+
+    /// The words that are put into the machine's memory after the image's, with their addresses in front.
+    pub fn words(&self) -> &[(u32, u32)]
+        ensures { result.now ≡ self.now.file.words }
+    {
+        self.file.words()
+    }
+}
+
 // Puts one word into a machine, and then others.
 fn put_in_turn(
     alloc: Global,
@@ -387,7 +403,8 @@ fn tight_edge(
 
 /// A machine and an input whose one step takes an edge at exactly its price: in SVC mode it executes the
 /// image's word at the edge's place, moves only words of the stated classes, has the edge's label and leads
-/// to its target. The edge is that of the number, from 0, in the order of the graph's edges.
+/// to its target. The edge is that of the number, from 0, in the order of the graph's edges; the graph is that
+/// of the image and the statement, and has an edge of the number.
 ///
 /// # Errors
 ///

@@ -1,4 +1,5 @@
 use crate::sample::Sample;
+use crate::tight::{Edges, edges_of};
 use arcwcet::{
     MemoryOutput, ReportFault, Store, StoreFault, bound_report, check_report, run_report,
     visits_report,
@@ -52,17 +53,24 @@ struct Run {
     elapsed: u64,
 }
 
-/// What was found about a handler: its bound, and what its run took.
+/// What was found about a handler: its bound, what its run took, and of its edges by the first cycle profile
+/// and by a dearer one.
 #[derive(Clone, Copy, Debug)]
 pub(crate) struct Judgement {
     bound: Bounded,
     run: Run,
+    edges: Edges,
+    dearer: Edges,
 }
 
 impl Judgement {
-    /// Whether each certificate was accepted and the run kept the bound.
+    /// Whether each certificate was accepted, the run kept the bound, and each free edge takes its cost.
     pub(crate) fn holds(&self) -> bool {
-        self.bound.accepted && self.run.finished && self.run.ticks <= self.bound.ticks
+        self.bound.accepted
+            && self.run.finished
+            && self.run.ticks <= self.bound.ticks
+            && self.edges.exact
+            && self.dearer.exact
     }
 }
 
@@ -71,17 +79,17 @@ impl fmt::Display for Judgement {
         let verdict = if self.bound.accepted { "yes" } else { "no" };
         write!(
             f,
-            "bound {}, {verdict}, ticks {} elapsed {}",
-            self.bound.ticks, self.run.ticks, self.run.elapsed
+            "bound {}, {verdict}, ticks {} elapsed {}, {} of {} edges tight",
+            self.bound.ticks, self.run.ticks, self.run.elapsed, self.edges.free, self.edges.all
         )
     }
 }
 
 /// The files of a handler.
 #[derive(Drop)]
-struct Files {
-    source: Vec<u8>,
-    statement: Vec<u8>,
+pub(crate) struct Files {
+    pub(crate) source: Vec<u8>,
+    pub(crate) statement: Vec<u8>,
     machine: Vec<u8>,
 }
 
@@ -121,8 +129,8 @@ fn number_in(text: &[u8], line: usize, word: &str) -> Option<u64> {
     number_after(text.lines().nth(line)?, word)
 }
 
-// The ticks and the elapsed ticks of a run's report, which its last line gives.
-fn ticks_of(report: &[u8]) -> Option<(u64, u64)> {
+/// The ticks and the elapsed ticks of a run's report, which its last line gives.
+pub(crate) fn ticks_of(report: &[u8]) -> Option<(u64, u64)> {
     let text = str::from_utf8(report).ok()?;
     let line = text.lines().last()?;
     Some((number_after(line, "ticks")?, number_after(line, "elapsed")?))
@@ -206,8 +214,11 @@ pub(crate) fn judge<S: Store>(
             bounded_with_visits(alloc, &files, &fiq, visits)?
         }
     };
+    let profile = store.read(alloc, "dearer.toml")?;
     Ok(Judgement {
         bound,
         run: run_of(alloc, &files)?,
+        edges: edges_of(alloc, &files, None)?,
+        dearer: edges_of(alloc, &files, Some(&profile))?,
     })
 }

@@ -29,8 +29,8 @@ past (b ∷ bytes) (suc k) le = past bytes k (omega (arith, le))
 pub are_bytes : (bytes : List ℕ) → All (λ b. b < 256) bytes → AreBytes bytes
 are_bytes bytes all k = elim (cases_lt k (length bytes)) [ inl lt ↦ All-get_or (λ b. b < 256) bytes k 0 lt all | inr le ↦ let none = past bytes k le in omega (arith, none) ]
 
-pub bytes_behind : (n : ℕ) (bytes : List ℕ) → AreBytes bytes → AreBytes (drop n bytes)
-bytes_behind n bytes all = λ k. subst (λ (b : ℕ). b < 256) (sym (get_or-drop n bytes k 0)) (all (n + k))
+pub bytes_after : (n : ℕ) (bytes : List ℕ) → AreBytes bytes → AreBytes (drop n bytes)
+bytes_after n bytes all = λ k. subst (λ (b : ℕ). b < 256) (sym (get_or-drop n bytes k 0)) (all (n + k))
 
 pub four_split : (bytes : List ℕ) → AreBytes bytes → 4 ≤ length bytes → bytes ≡ little_bytes 4 (little_number 4 bytes) ++ drop 4 bytes
 four_split [] all some = absurd (omega (arith, some))
@@ -57,7 +57,7 @@ numbers_split (suc count) bytes all some =
     let words = flat_map (little_bytes 4) (numbers count (drop 4 bytes)) in
     let len = length-drop 4 bytes in
     four_split bytes all (omega (arith, some))
-    ∙ ap (λ (bs : List ℕ). four ++ bs) (numbers_split count (drop 4 bytes) (bytes_behind 4 bytes all) (omega (arith, some, len)))
+    ∙ ap (λ (bs : List ℕ). four ++ bs) (numbers_split count (drop 4 bytes) (bytes_after 4 bytes all) (omega (arith, some, len)))
     ∙ ap (λ (bs : List ℕ). four ++ (words ++ bs)) (drop-drop (4 * count) 4 bytes ∙ ap (λ (n : ℕ). drop n bytes) (omega arith))
 
 pub number_fits : (bytes : List ℕ) → AreBytes bytes → little_number 4 bytes < 2 ^ 32
@@ -70,7 +70,7 @@ number_fits bytes all =
 
 pub numbers_fit : (count : ℕ) (bytes : List ℕ) → AreBytes bytes → AreNumbers (numbers count bytes)
 numbers_fit zero bytes all = tt
-numbers_fit (suc count) bytes all = (number_fits bytes all, numbers_fit count (drop 4 bytes) (bytes_behind 4 bytes all))
+numbers_fit (suc count) bytes all = (number_fits bytes all, numbers_fit count (drop 4 bytes) (bytes_after 4 bytes all))
 
 -- after four bytes nothing counts
 pub number_front : (xs ys : List ℕ) → 4 ≤ length xs → little_number 4 (xs ++ ys) ≡ little_number 4 xs
@@ -106,9 +106,9 @@ segment_split count bytes all is long =
     let len8 = length-drop 8 bytes in
     let number : little_bytes 4 (little_number 4 (drop 4 bytes)) ≡ four = ap (little_bytes 4) (sym is ∙ sym (length_numbers count (drop 8 bytes))) in
     four_split bytes all (omega (arith, long))
-    ∙ ap (λ (bs : List ℕ). address ++ bs) (four_split (drop 4 bytes) (bytes_behind 4 bytes all) (omega (arith, long, len4)))
+    ∙ ap (λ (bs : List ℕ). address ++ bs) (four_split (drop 4 bytes) (bytes_after 4 bytes all) (omega (arith, long, len4)))
     ∙ ap (λ (bs : List ℕ). address ++ (bs ++ drop 4 (drop 4 bytes))) number
-    ∙ ap (λ (bs : List ℕ). address ++ (four ++ bs)) (drop-drop 4 4 bytes ∙ numbers_split count (drop 8 bytes) (bytes_behind 8 bytes all) (omega (arith, long, len8)))
+    ∙ ap (λ (bs : List ℕ). address ++ (four ++ bs)) (drop-drop 4 4 bytes ∙ numbers_split count (drop 8 bytes) (bytes_after 8 bytes all) (omega (arith, long, len8)))
     ∙ ap (λ (bs : List ℕ). address ++ (four ++ (words ++ bs))) (drop-drop (4 * count) 8 bytes ∙ ap (λ (n : ℕ). drop n bytes) (omega arith))
     ∙ ap (λ (bs : List ℕ). address ++ bs) (sym (append_assoc four words rest))
     ∙ sym (append_assoc address (four ++ words) rest)
@@ -143,7 +143,7 @@ one_more left before words bytes all none long others =
       segments = s ∷ others.segments;
       count = ap suc others.count;
       bytes_are = segment_split count bytes all is long ∙ ap (λ (bs : List ℕ). segment_bytes s ++ bs) others.bytes_are;
-      numbers_are = (numbers_fit count (drop 8 bytes) (bytes_behind 8 bytes all), others.numbers_are);
+      numbers_are = (numbers_fit count (drop 8 bytes) (bytes_after 8 bytes all), others.numbers_are);
       follow = (ap (λ (n : ℕ). segment_fault before (head_address bytes) n) (length_numbers count (drop 8 bytes)) ∙ none, others.follow);
       words_are = others.words_are;
     }
@@ -154,7 +154,7 @@ all_read zero before words (b ∷ rest) all e = absurd (cc)
 all_read (suc left) before words bytes all e =
     let p = ok_parts (segment_fault before (head_address bytes) (head_count bytes)) (nat_lt (length bytes) (8 + 4 * head_count bytes)) _ _ words (whole_part (nat_lt (length bytes) 4) (cut_fault before left bytes) _ words e) in
     one_more left before words bytes all p.0 (ltb-false (length bytes) (8 + 4 * head_count bytes) p.1)
-    (all_read left _ words (drop (8 + 4 * head_count bytes) bytes) (bytes_behind (8 + 4 * head_count bytes) bytes all) p.2)
+    (all_read left _ words (drop (8 + 4 * head_count bytes) bytes) (bytes_after (8 + 4 * head_count bytes) bytes all) p.2)
 
 -- ## The magic and the number of segments
 
@@ -178,8 +178,8 @@ accepted bytes words all e =
     let body = drop 8 bytes in
     let q = count_parts (nat_lt 16 (little_number 4 body)) (nat_lt (length body) 4) _ words p.2 in
     let few : little_number 4 body ≤ 16 = ltb-false 16 (little_number 4 body) q.0 in
-    let all_body = bytes_behind 8 bytes all in
-    let segments = all_read (little_number 4 body) [] words (drop 4 body) (bytes_behind 4 body all_body) q.2 in
+    let all_body = bytes_after 8 bytes all in
+    let segments = all_read (little_number 4 body) [] words (drop 4 body) (bytes_after 4 body all_body) q.2 in
     let count = segments.count in (
       segments.segments,
       sym (take-append-drop 8 bytes)

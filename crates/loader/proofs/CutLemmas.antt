@@ -13,8 +13,8 @@ use Rattle.loader.specs.ImageBytes.{Segment, count_read, cut_fault, end_fault, h
 use Rattle.loader.specs.Spelling.{AreNumbers, BeginImage, CanFollow, with_segments}
 use Rattle.loader.specs.declared.reading.ReadFault.{ReadFault}
 use Rattle.loader.specs.declared.reading.ReadFault.TheVariants.{BadMagic, Misaligned, OutOfRange, Overlap, Truncated}
-use Rattle.loader.proofs.AcceptLemmas.{AreBytes, bytes_behind, four_split, head_counted, number_front, numbers_fit, segment_at, segment_split}
-use Rattle.loader.proofs.RoomLemmas.{HasRoom, fill, free_address, grown, low_holds, one_stands, room_behind}
+use Rattle.loader.proofs.AcceptLemmas.{AreBytes, bytes_after, four_split, head_counted, number_front, numbers_fit, segment_at, segment_split}
+use Rattle.loader.proofs.RoomLemmas.{HasRoom, fill, free_address, grown, low_holds, one_stands, room_after}
 use Rattle.loader.proofs.SegmentLemmas.{CanStand, can_stand, length_numbers}
 use Rattle.loader.proofs.WrittenLemmas.{no_fault}
 
@@ -36,15 +36,15 @@ goes_with left before bytes tail s is some can all room short =
     let new = with_words before s.address s.words in
     let more = grown before s.address s.words can room.ascends room.may_stand in
     let long = more.long in
-    let others = fill left new (room_behind left before new (length s.words) room more) (omega (arith, long, short)) in
-    let behind = flat_map segment_bytes others.segments in
-    let len = length-append tail behind in
+    let others = fill left new (room_after left before new (length s.words) room more) (omega (arith, long, short)) in
+    let after = flat_map segment_bytes others.segments in
+    let len = length-append tail after in
     record {
-      more = tail ++ behind;
+      more = tail ++ after;
       some = omega (arith, len, some);
       segments = s ∷ others.segments;
       count = ap suc others.count;
-      bytes_are = sym (append_assoc bytes tail behind) ∙ ap (λ (bs : List ℕ). bs ++ behind) is;
+      bytes_are = sym (append_assoc bytes tail after) ∙ ap (λ (bs : List ℕ). bs ++ after) is;
       numbers_are = (all, others.numbers_are);
       follow = (no_fault before s.address (length s.words) can, others.follow);
     }
@@ -147,19 +147,19 @@ cut_goes left before (x ∷ y ∷ z ∷ u ∷ rest) all cut e room = absurd (ome
 
 -- ## A segment that ends after its address
 
-zeros_behind : (xs : List ℕ) (n k : ℕ) → get_or (xs ++ replicate n 0) k 0 ≡ get_or xs k 0
-zeros_behind [] zero k = refl
-zeros_behind [] (suc n) zero = refl
-zeros_behind [] (suc n) (suc k) = zeros_behind [] n k
-zeros_behind (x ∷ xs) n zero = refl
-zeros_behind (x ∷ xs) n (suc k) = zeros_behind xs n k
+zeros_after : (xs : List ℕ) (n k : ℕ) → get_or (xs ++ replicate n 0) k 0 ≡ get_or xs k 0
+zeros_after [] zero k = refl
+zeros_after [] (suc n) zero = refl
+zeros_after [] (suc n) (suc k) = zeros_after [] n k
+zeros_after (x ∷ xs) n zero = refl
+zeros_after (x ∷ xs) n (suc k) = zeros_after xs n k
 
 number_zeros : (xs : List ℕ) (n : ℕ) → little_number 4 (xs ++ replicate n 0) ≡ little_number 4 xs
 number_zeros xs n =
-    let a = zeros_behind xs n 0 in
-    let b = zeros_behind xs n 1 in
-    let c = zeros_behind xs n 2 in
-    let d = zeros_behind xs n 3 in
+    let a = zeros_after xs n 0 in
+    let b = zeros_after xs n 1 in
+    let c = zeros_after xs n 2 in
+    let d = zeros_after xs n 3 in
     omega (arith, a, b, c, d)
 
 bytes_append : (xs ys : List ℕ) → AreBytes xs → AreBytes ys → AreBytes (xs ++ ys)
@@ -198,17 +198,17 @@ short_goes left before bytes all some none ends room short =
     let zeros_len = length-replicate {A = ℕ} (8 + 4 * count - length bytes - length next) 0 in
     let pad_len = length-append next zeros in
     let len = length-append bytes pad in
-    let all_padded : AreBytes padded = bytes_append bytes pad all (bytes_append next zeros rest.are_bytes (λ k. subst (λ (b : ℕ). b < 256) (sym (zeros_behind [] (8 + 4 * count - length bytes - length next) k)) (omega arith))) in
+    let all_padded : AreBytes padded = bytes_append bytes pad all (bytes_append next zeros rest.are_bytes (λ k. subst (λ (b : ℕ). b < 256) (sym (zeros_after [] (8 + 4 * count - length bytes - length next) k)) (omega arith))) in
     let address : head_address padded ≡ head_address bytes = number_front bytes pad some in
     let counted : little_number 4 (drop 4 padded) ≡ count =
     ap (little_number 4) (drop-append-le 4 bytes pad some ∙ sym (append_assoc (drop 4 bytes) next zeros)) ∙ number_zeros (drop 4 bytes ++ next) (8 + 4 * count - length bytes - length next) ∙ rest.counts in
     let s = segment_at count padded in
-    let behind : drop (8 + 4 * count) padded ≡ [] = nothing (8 + 4 * count) padded (omega (arith, len, pad_len, zeros_len, few, ends)) in
+    let after : drop (8 + 4 * count) padded ≡ [] = nothing (8 + 4 * count) padded (omega (arith, len, pad_len, zeros_len, few, ends)) in
     let split : padded ≡ segment_bytes s =
-    segment_split count padded all_padded (sym counted) (omega (arith, len, pad_len, zeros_len, few, ends)) ∙ ap (λ (bs : List ℕ). segment_bytes s ++ bs) behind ∙ append-nil (segment_bytes s) in
+    segment_split count padded all_padded (sym counted) (omega (arith, len, pad_len, zeros_len, few, ends)) ∙ ap (λ (bs : List ℕ). segment_bytes s ++ bs) after ∙ append-nil (segment_bytes s) in
     let words = length_numbers count (drop 8 padded) in
     let can : CanStand before s.address (length s.words) = can_stand before s.address (length s.words) (ap (λ (a : ℕ). segment_fault before a (length s.words)) address ∙ ap (λ (n : ℕ). segment_fault before (head_address bytes) n) words ∙ none) in
-    goes_with left before bytes pad s split (omega (arith, pad_len, zeros_len, few, ends)) can (numbers_fit count (drop 8 padded) (bytes_behind 8 padded all_padded)) room (omega (arith, words, short))
+    goes_with left before bytes pad s split (omega (arith, pad_len, zeros_len, few, ends)) can (numbers_fit count (drop 8 padded) (bytes_after 8 padded all_padded)) room (omega (arith, words, short))
   where
     nothing : (n : ℕ) (xs : List ℕ) → length xs ≤ n → drop n xs ≡ []
     nothing zero [] le = refl
@@ -252,14 +252,14 @@ goes_later left before bytes all long none later =
     let count = head_count bytes in
     let s = segment_at count bytes in
     let split = segment_split count bytes all (head_counted bytes (omega (arith, long))) long in
-    let behind = drop (8 + 4 * count) bytes in
+    let after = drop (8 + 4 * count) bytes in
     record {
       more = later.more;
       some = later.some;
       segments = s ∷ later.segments;
       count = ap suc later.count;
-      bytes_are = ap (λ (bs : List ℕ). bs ++ later.more) split ∙ append_assoc (segment_bytes s) behind later.more ∙ ap (λ (bs : List ℕ). segment_bytes s ++ bs) later.bytes_are;
-      numbers_are = (numbers_fit count (drop 8 bytes) (bytes_behind 8 bytes all), later.numbers_are);
+      bytes_are = ap (λ (bs : List ℕ). bs ++ later.more) split ∙ append_assoc (segment_bytes s) after later.more ∙ ap (λ (bs : List ℕ). segment_bytes s ++ bs) later.bytes_are;
+      numbers_are = (numbers_fit count (drop 8 bytes) (bytes_after 8 bytes all), later.numbers_are);
       follow = (ap (λ (n : ℕ). segment_fault before (head_address bytes) n) (length_numbers count (drop 8 bytes)) ∙ none, later.follow);
     }
 
@@ -281,7 +281,7 @@ goes_on (suc left) before bytes all e room = elim (cases_lt (length bytes) 4) [
               let words = length_numbers count (drop 8 bytes) in
               let can = can_stand before a (length (numbers count (drop 8 bytes))) (ap (λ (n : ℕ). segment_fault before a n) words ∙ goes.0) in
               let more = grown before a (numbers count (drop 8 bytes)) can room.ascends room.may_stand in
-              goes_later left before bytes all long goes.0 (goes_on left new (drop (8 + 4 * count) bytes) (bytes_behind (8 + 4 * count) bytes all) later.1 (room_behind left before new _ room more))
+              goes_later left before bytes all long goes.0 (goes_on left new (drop (8 + 4 * count) bytes) (bytes_after (8 + 4 * count) bytes all) later.1 (room_after left before new _ room more))
         ]
       ]
 ]
@@ -307,18 +307,18 @@ count_goes body all cut few =
     let four = body ++ zeros in
     let zeros_len = length-replicate {A = ℕ} (4 - length body) 0 in
     let len = length-append body zeros in
-    let all_four : AreBytes four = bytes_append body zeros all (λ k. subst (λ (b : ℕ). b < 256) (sym (zeros_behind [] (4 - length body) k)) (omega arith)) in
+    let all_four : AreBytes four = bytes_append body zeros all (λ k. subst (λ (b : ℕ). b < 256) (sym (zeros_after [] (4 - length body) k)) (omega arith)) in
     let filled = fill n [] (empty_room n few) (omega (arith, few)) in
     let count = filled.count in
-    let behind = flat_map segment_bytes filled.segments in
+    let after = flat_map segment_bytes filled.segments in
     let is : four ≡ little_bytes 4 (length filled.segments) =
     four_split four all_four (omega (arith, len, zeros_len))
     ∙ ap (λ (m : ℕ). little_bytes 4 m ++ drop 4 four) (number_zeros body (4 - length body) ∙ sym count)
     ∙ ap (λ (bs : List ℕ). little_bytes 4 (length filled.segments) ++ bs) (nothing 4 four (omega (arith, len, zeros_len)))
     ∙ append-nil (little_bytes 4 (length filled.segments)) in
-    let more_len = length-append zeros behind in
-    begins_with (magic ++ body) (zeros ++ behind) filled.segments (omega (arith, more_len, zeros_len, cut))
-    (append_assoc magic body (zeros ++ behind) ∙ ap (λ (bs : List ℕ). magic ++ bs) (sym (append_assoc body zeros behind) ∙ ap (λ (bs : List ℕ). bs ++ behind) is))
+    let more_len = length-append zeros after in
+    begins_with (magic ++ body) (zeros ++ after) filled.segments (omega (arith, more_len, zeros_len, cut))
+    (append_assoc magic body (zeros ++ after) ∙ ap (λ (bs : List ℕ). magic ++ bs) (sym (append_assoc body zeros after) ∙ ap (λ (bs : List ℕ). bs ++ after) is))
     (omega (arith, count, few)) filled.numbers_are filled.follow
   where
     nothing : (n : ℕ) (xs : List ℕ) → length xs ≤ n → drop n xs ≡ []
@@ -341,7 +341,7 @@ body_begins body all e =
     elim p.1 [
       | inl short ↦ count_goes body all (ltb-true (length body) 4 short) few
       | inr later ↦
-          let goes = goes_on n [] (drop 4 body) (bytes_behind 4 body all) later.1 (empty_room n few) in
+          let goes = goes_on n [] (drop 4 body) (bytes_after 4 body all) later.1 (empty_room n few) in
           let count = goes.count in
           let four = little_bytes 4 n in
           begins_with (magic ++ body) goes.more goes.segments goes.some
@@ -379,5 +379,5 @@ truncated_begins bytes all e =
       | inr later ↦
           let long : 8 ≤ length bytes = ltb-false (length bytes) 8 later.0 in
           let split : magic ++ drop 8 bytes ≡ bytes = ap (λ (m : List ℕ). m ++ drop 8 bytes) (sym (same ∙ take_all (length bytes) magic long)) ∙ take-append-drop 8 bytes in
-          subst BeginImage split (body_begins (drop 8 bytes) (bytes_behind 8 bytes all) later.1)
+          subst BeginImage split (body_begins (drop 8 bytes) (bytes_after 8 bytes all) later.1)
     ]

@@ -13,6 +13,7 @@ mod FrontLemmas
 mod TrailLemmas
 mod LoadLemmas
 mod PageLemmas
+pub mod FittedLemmas
 pub mod PlanLemmas
 pub mod MemoryLemmas
 pub mod PlannedLemmas

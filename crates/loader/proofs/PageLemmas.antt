@@ -10,7 +10,7 @@ use Rattle.std.proofs.lemmas.Bool.{cases_eq, eq-eqb, ne_eqb}
 use Rattle.std.proofs.lemmas.Bool.Decides.{nat_tests}
 use Rattle.std.proofs.lemmas.List.Filters.{dedup_is}
 use Rattle.std.proofs.lemmas.List.Kept.{Contains-dedup_nat, Contains-from_dedup}
-use Rattle.loader.specs.Image.{Words, begins, runs_behind, runs_of, word_of}
+use Rattle.loader.specs.Image.{Words, begins, runs_after, runs_of, word_of}
 use Rattle.loader.specs.Inside.{AreWhole, Ascends}
 use Rattle.loader.specs.PagePlan.{AreHeld, Ascend, HasWordOn}
 use Rattle.loader.proofs.WordLemmas.{Quads, begins_new, quads}
@@ -100,23 +100,23 @@ next_page : (p a n r b kept : ℕ) → p % 4 ≡ 0 → a % 4 ≡ 0 → a / 32768
 next_page p a n r b kept p4 a4 other (inl next) few = omega (arith, p4, a4, other, next, few)
 next_page p a n r b kept p4 a4 other (inr new) few = omega (arith, new, few)
 
-few_behind : (words : Words) (p : ℕ) → Quads words → p % 4 ≡ 0
-    → 8192 * length (dedup_from eqb (p / 2 ^ 15) (pages words)) ≤ 8192 + length words + 16384 * runs_behind (Some p) words + p % 32768 / 4
-few_behind [] p quad p4 = omega arith
-few_behind (e ∷ rest) p quad p4 =
-    let more = few_behind rest e.0 quad.1 quad.0 in
+few_after : (words : Words) (p : ℕ) → Quads words → p % 4 ≡ 0
+    → 8192 * length (dedup_from eqb (p / 2 ^ 15) (pages words)) ≤ 8192 + length words + 16384 * runs_after (Some p) words + p % 32768 / 4
+few_after [] p quad p4 = omega arith
+few_after (e ∷ rest) p quad p4 =
+    let more = few_after rest e.0 quad.1 quad.0 in
     elim (cases_eq (e.0 / 2 ^ 15) (p / 2 ^ 15)) [
       | inl same ↦ rw (eq-eqb (e.0 / 2 ^ 15) (p / 2 ^ 15) same)
-          (same_page p e.0 (length rest) (runs_behind (Some e.0) rest) (begins (Some p) e.0) (length (dedup_from eqb (p / 2 ^ 15) (pages rest))) p4 quad.0 same (joins p e.0)
-          (subst (λ (k : ℕ). 8192 * length (dedup_from eqb k (pages rest)) ≤ 8192 + length rest + 16384 * runs_behind (Some e.0) rest + e.0 % 32768 / 4) same more))
+          (same_page p e.0 (length rest) (runs_after (Some e.0) rest) (begins (Some p) e.0) (length (dedup_from eqb (p / 2 ^ 15) (pages rest))) p4 quad.0 same (joins p e.0)
+          (subst (λ (k : ℕ). 8192 * length (dedup_from eqb k (pages rest)) ≤ 8192 + length rest + 16384 * runs_after (Some e.0) rest + e.0 % 32768 / 4) same more))
       | inr other ↦ rw (ne_eqb (e.0 / 2 ^ 15) (p / 2 ^ 15) other)
-          (next_page p e.0 (length rest) (runs_behind (Some e.0) rest) (begins (Some p) e.0) (length (dedup_from eqb (e.0 / 2 ^ 15) (pages rest))) p4 quad.0 other (joins p e.0) more)
+          (next_page p e.0 (length rest) (runs_after (Some e.0) rest) (begins (Some p) e.0) (length (dedup_from eqb (e.0 / 2 ^ 15) (pages rest))) p4 quad.0 other (joins p e.0) more)
     ]
 
 pub pages_few : (words : Words) → Quads words → runs_of words ≤ 16 → length words ≤ 65536 → length (dedup eqb (pages words)) ≤ 40
 pages_few [] quad few short = omega arith
 pages_few (e ∷ rest) quad few short =
-    let more = few_behind rest e.0 quad.1 quad.0 in
+    let more = few_after rest e.0 quad.1 quad.0 in
     omega (arith, few, short, more)
 
 -- ## All of it

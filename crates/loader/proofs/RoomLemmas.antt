@@ -4,7 +4,7 @@ use Rattle.std.specs.Prelude.{◌&&◌, ◌||◌, is_some, nat_le, nat_lt, IsTru
 use Rattle.std.specs.List.{AllByRecursion}
 use Rattle.std.proofs.lemmas.Bool.{cases_lt, cases_eq, ne_eqb}
 use Rattle.std.proofs.lemmas.Bool.Decides.{nat_tests}
-use Rattle.loader.specs.Image.{Words, begins, may_hold, runs_behind, runs_of, with_word, word_of}
+use Rattle.loader.specs.Image.{Words, begins, may_hold, runs_after, runs_of, with_word, word_of}
 use Rattle.loader.specs.ImageBytes.{Segment, overlaps, with_words}
 use Rattle.loader.specs.Inside.{Ascends, MayStand}
 use Rattle.loader.specs.Spelling.{AreNumbers, CanFollow}
@@ -37,17 +37,17 @@ has_put words a w none =
     subst (λ (b : ℕ). has (with_word words a w) b ≡ 1) back (ap (λ o. cond {A = ℕ} (is_some o) 1 0) (word_of_here words a w none))
 
 -- after a word that stands, no run begins
-grown_behind : (words : Words) (a : ℕ) (ws : List ℕ) → a % 4 ≡ 0 → Ascends words → MayStand words → has words (a - 4) ≡ 1 → IsFree words a (a + 4 * length ws) → MayHold a (a + 4 * length ws)
+grown_after : (words : Words) (a : ℕ) (ws : List ℕ) → a % 4 ≡ 0 → Ascends words → MayStand words → has words (a - 4) ≡ 1 → IsFree words a (a + 4 * length ws) → MayHold a (a + 4 * length ws)
     → IsGrown words (with_words words a ws) (length ws) 0
-grown_behind words a [] a4 up stand before free may = record { ascends = up; may_stand = stand; long = omega arith; few = omega arith }
-grown_behind words a (w ∷ ws) a4 up stand before free may =
+grown_after words a [] a4 up stand before free may = record { ascends = up; may_stand = stand; long = omega arith; few = omega arith }
+grown_after words a (w ∷ ws) a4 up stand before free may =
     let none : word_of words a ≡ None = free a (omega arith) (omega arith) in
     let here : IsTrue (may_hold a) = may a (omega arith) (omega arith) a4 in
     let new = with_word words a w in
     let same : a + 4 * suc (length ws) ≡ a + 4 + 4 * length ws = omega arith in
     let counted = runs_of-with_word words a w a4 (quads words stand) up none in
     let longer = length_with_word words a w in
-    let more = grown_behind new (a + 4) ws (omega (arith, a4)) (Ascends-with_word words a w up none) (MayStand-with_word words a w stand here) (has_put words a w none)
+    let more = grown_after new (a + 4) ws (omega (arith, a4)) (Ascends-with_word words a w up none) (MayStand-with_word words a w stand here) (has_put words a w none)
     (subst (λ (to : ℕ). IsFree new (a + 4) to) same (still_free words a w (a + 4 * suc (length ws)) free)) (λ b low high b4. may b (omega (arith, low)) (omega (arith, high)) b4) in
     let long = more.long in
     let few = more.few in
@@ -71,7 +71,7 @@ grown words a (w ∷ ws) can up stand =
     let same : a + 4 * suc (length ws) ≡ a + 4 + 4 * length ws = omega arith in
     let counted = runs_of-with_word words a w a4 (quads words stand) up none in
     let longer = length_with_word words a w in
-    let more = grown_behind new (a + 4) ws (omega (arith, a4)) (Ascends-with_word words a w up none) (MayStand-with_word words a w stand here) (has_put words a w none)
+    let more = grown_after new (a + 4) ws (omega (arith, a4)) (Ascends-with_word words a w up none) (MayStand-with_word words a w stand here) (has_put words a w none)
     (subst (λ (to : ℕ). IsFree new (a + 4) to) same (still_free words a w (a + 4 * suc (length ws)) free)) (λ b low high b4. may b (omega (arith, low)) (omega (arith, high)) b4) in
     let long = more.long in
     let few = more.few in
@@ -86,8 +86,8 @@ absent_above : (words : Words) (a : ℕ) → AllByRecursion (λ e. a < e.0) word
 absent_above [] a all = refl
 absent_above (e ∷ rest) a all = let lt : a < e.0 = all.0 in rw (ne_eqb e.0 a (λ same. omega (arith, lt, same))) (absent_above rest a all.1)
 
-absent_behind : (e : ℕ × ℕ) (rest : Words) (a : ℕ) → e.0 ≢ a → word_of rest a ≡ None → word_of (e ∷ rest) a ≡ None
-absent_behind e rest a other none = rw (ne_eqb e.0 a other) none
+absent_after : (e : ℕ × ℕ) (rest : Words) (a : ℕ) → e.0 ≢ a → word_of rest a ≡ None → word_of (e ∷ rest) a ≡ None
+absent_after e rest a other none = rw (ne_eqb e.0 a other) none
 
 -- a word that begins no run follows the one before
 follows : (p a : ℕ) → a ≤ p + 65536 → a ≤ 65536 * begins (Some p) a + 4 + p
@@ -105,26 +105,26 @@ free_here words c most none fits =
     (0, subst (λ (b : ℕ). word_of words b ≡ None) same none, omega (arith, fits))
 
 -- after a word p
-free_behind : (words : Words) (p c : ℕ) → Ascends words → AllByRecursion (λ e. p < e.0) words → c ≤ p + 65536 → p < c
-    → Free words c (65536 * runs_behind (Some p) words + 4 * length words + 65536 + p)
-free_behind [] p c up all near lt = free_here [] c _ refl (omega (arith, near))
-free_behind (e ∷ rest) p c up all near lt = elim (cases_lt c e.0) [
+free_after : (words : Words) (p c : ℕ) → Ascends words → AllByRecursion (λ e. p < e.0) words → c ≤ p + 65536 → p < c
+    → Free words c (65536 * runs_after (Some p) words + 4 * length words + 65536 + p)
+free_after [] p c up all near lt = free_here [] c _ refl (omega (arith, near))
+free_after (e ∷ rest) p c up all near lt = elim (cases_lt c e.0) [
   | inl below ↦ free_here (e ∷ rest) c _ (absent_above (e ∷ rest) c (below, above c e.0 rest below up.0)) (omega (arith, near))
   | inr le ↦
       let joins = follows p e.0 (omega (arith, le, near)) in
       elim (cases_eq e.0 c) [
         | inl same ↦
-            let deeper = free_behind rest e.0 (c + 65536) up.1 up.0 (omega (arith, same)) (omega (arith, same)) in
+            let deeper = free_after rest e.0 (c + 65536) up.1 up.0 (omega (arith, same)) (omega (arith, same)) in
             let m = deeper.0 in
             let bound = deeper.2 in
             let next : c + 65536 + 65536 * m ≡ c + 65536 * suc m = omega arith in
-            (suc m, subst (λ (b : ℕ). word_of (e ∷ rest) b ≡ None) next (absent_behind e rest (c + 65536 + 65536 * m) (λ equal. omega (arith, equal, same)) deeper.1), omega (arith, bound, joins, same))
+            (suc m, subst (λ (b : ℕ). word_of (e ∷ rest) b ≡ None) next (absent_after e rest (c + 65536 + 65536 * m) (λ equal. omega (arith, equal, same)) deeper.1), omega (arith, bound, joins, same))
         | inr other ↦
             let past : p < e.0 = all.0 in
-            let deeper = free_behind rest e.0 c up.1 up.0 (omega (arith, near, past)) (omega (arith, le, other)) in
+            let deeper = free_after rest e.0 c up.1 up.0 (omega (arith, near, past)) (omega (arith, le, other)) in
             let m = deeper.0 in
             let bound = deeper.2 in
-            (m, absent_behind e rest (c + 65536 * m) (λ equal. omega (arith, equal, le, other)) deeper.1, omega (arith, bound, joins))
+            (m, absent_after e rest (c + 65536 * m) (λ equal. omega (arith, equal, le, other)) deeper.1, omega (arith, bound, joins))
       ]
 ]
 
@@ -135,16 +135,16 @@ free_address (e ∷ rest) low up small few short = elim (cases_lt low e.0) [
   | inl below ↦ free_here (e ∷ rest) low _ (absent_above (e ∷ rest) low (below, above low e.0 rest below up.0)) (omega (arith, small))
   | inr le ↦ elim (cases_eq e.0 low) [
     | inl same ↦
-        let deeper = free_behind rest e.0 (low + 65536) up.1 up.0 (omega (arith, same)) (omega (arith, same)) in
+        let deeper = free_after rest e.0 (low + 65536) up.1 up.0 (omega (arith, same)) (omega (arith, same)) in
         let m = deeper.0 in
         let bound = deeper.2 in
         let next : low + 65536 + 65536 * m ≡ low + 65536 * suc m = omega arith in
-        (suc m, subst (λ (b : ℕ). word_of (e ∷ rest) b ≡ None) next (absent_behind e rest (low + 65536 + 65536 * m) (λ equal. omega (arith, equal, same)) deeper.1), omega (arith, bound, few, short, small, same))
+        (suc m, subst (λ (b : ℕ). word_of (e ∷ rest) b ≡ None) next (absent_after e rest (low + 65536 + 65536 * m) (λ equal. omega (arith, equal, same)) deeper.1), omega (arith, bound, few, short, small, same))
     | inr other ↦
-        let deeper = free_behind rest e.0 low up.1 up.0 (omega (arith, small)) (omega (arith, le, other)) in
+        let deeper = free_after rest e.0 low up.1 up.0 (omega (arith, small)) (omega (arith, le, other)) in
         let m = deeper.0 in
         let bound = deeper.2 in
-        (m, absent_behind e rest (low + 65536 * m) (λ equal. omega (arith, equal, le, other)) deeper.1, omega (arith, bound, few, short, small, le))
+        (m, absent_after e rest (low + 65536 * m) (λ equal. omega (arith, equal, le, other)) deeper.1, omega (arith, bound, few, short, small, le))
   ]
 ]
 
@@ -183,8 +183,8 @@ pub record HasRoom (left : ℕ) (words : Words) : Type 0 where
   pub may_stand : MayStand words
   pub runs : runs_of words + left ≤ 16
 
-pub room_behind : (left : ℕ) (words new : Words) (n : ℕ) → HasRoom (suc left) words → IsGrown words new n 1 → HasRoom left new
-room_behind left words new n room more =
+pub room_after : (left : ℕ) (words new : Words) (n : ℕ) → HasRoom (suc left) words → IsGrown words new n 1 → HasRoom left new
+room_after left words new n room more =
     let runs = room.runs in
     let few = more.few in
     record { ascends = more.ascends; may_stand = more.may_stand; runs = omega (arith, runs, few) }
@@ -216,4 +216,4 @@ fill (suc left) before room short =
     let can = one_stands before a room.may_stand (omega (arith, short)) (low_holds a a4 (omega (arith, bound))) free.1 in
     let more = grown before a (0 ∷ []) can room.ascends room.may_stand in
     let long = more.long in
-    filled left before a can (fill left (with_words before a (0 ∷ [])) (room_behind left before _ 1 room more) (omega (arith, long, short)))
+    filled left before a can (fill left (with_words before a (0 ∷ [])) (room_after left before _ 1 room more) (omega (arith, long, short)))

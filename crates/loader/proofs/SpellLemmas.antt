@@ -29,8 +29,8 @@ words_length : (words : List ℕ) → length (flat_map (little_bytes 4) words) �
 words_length [] = refl
 words_length (w ∷ words) = let more = words_length words in omega (arith, more)
 
-words_behind : (words rest : List ℕ) → drop (4 * length words) (flat_map (little_bytes 4) words ++ rest) ≡ rest
-words_behind words rest = ap (λ (n : ℕ). drop n (flat_map (little_bytes 4) words ++ rest)) (sym (words_length words)) ∙ drop-append_seam (flat_map (little_bytes 4) words) rest
+words_after : (words rest : List ℕ) → drop (4 * length words) (flat_map (little_bytes 4) words ++ rest) ≡ rest
+words_after words rest = ap (λ (n : ℕ). drop n (flat_map (little_bytes 4) words ++ rest)) (sym (words_length words)) ∙ drop-append_seam (flat_map (little_bytes 4) words) rest
 
 -- ## One segment
 
@@ -71,10 +71,10 @@ segment_read s before rest left none all =
     let some : 0 < little_number 4 (drop 4 bytes) = subst (λ (n : ℕ). 0 < n) (sym number) can.some in
     let count : head_count bytes ≡ length s.words = count_taken (little_number 4 (drop 4 bytes)) _ some ∙ number in
     let long : length bytes ≡ 8 + 4 * length s.words + length rest = (let l = words_length s.words in let a = length-append words rest in omega (arith, l, a)) in
-    let behind : drop (8 + 4 * length s.words) bytes ≡ rest =
-    ap (λ (n : ℕ). drop n bytes) (omega arith) ∙ sym (drop-drop (4 * length s.words) 8 bytes) ∙ words_behind s.words rest in
+    let after : drop (8 + 4 * length s.words) bytes ≡ rest =
+    ap (λ (n : ℕ). drop n bytes) (omega arith) ∙ sym (drop-drop (4 * length s.words) 8 bytes) ∙ words_after s.words rest in
     read_step left before (with_words before s.address s.words) bytes rest s.address (length s.words) address count none (omega (arith, long))
-    (ap (λ (ws : List ℕ). with_words before s.address ws) (words_read s.words rest all)) behind
+    (ap (λ (ws : List ℕ). with_words before s.address ws) (words_read s.words rest all)) after
 
 -- ## All segments
 

@@ -12,7 +12,7 @@ use Rattle.loader.specs.ImageBytes.{Segment, count_read, cut_fault, end_fault, h
 use Rattle.loader.specs.Spelling.{AreNumbers, CanFollow, PassImage, with_segments}
 use Rattle.loader.specs.declared.reading.ReadFault.{ReadFault}
 use Rattle.loader.specs.declared.reading.ReadFault.TheVariants.{BadMagic, Misaligned, OutOfRange, Overlap, TrailingBytes, Truncated}
-use Rattle.loader.proofs.AcceptLemmas.{AreBytes, bytes_behind, four_split, head_counted, numbers_fit, segment_at, segment_split}
+use Rattle.loader.proofs.AcceptLemmas.{AreBytes, bytes_after, four_split, head_counted, numbers_fit, segment_at, segment_split}
 use Rattle.loader.proofs.CutLemmas.{same_fault}
 use Rattle.loader.proofs.SegmentLemmas.{length_numbers}
 use Rattle.loader.proofs.SpellLemmas.{begun, counted, segment_read}
@@ -38,20 +38,20 @@ passed_trailing bytes pass =
     let spell = image.2 in
     let four = little_bytes 4 (length segments) in
     let body = flat_map segment_bytes segments in
-    ap image_read (pass.split ∙ ap (λ (bs : List ℕ). bs ++ pass.behind) image.3 ∙ append_assoc magic (four ++ body) pass.behind ∙ ap (λ (bs : List ℕ). magic ++ bs) (append_assoc four body pass.behind))
-    ∙ begun (four ++ (body ++ pass.behind))
-    ∙ counted (length segments) (body ++ pass.behind) spell.few
-    ∙ segments_then segments [] pass.behind spell.follow spell.numbers
-    ∙ trailing (with_segments [] segments) pass.behind pass.some
+    ap image_read (pass.split ∙ ap (λ (bs : List ℕ). bs ++ pass.after) image.3 ∙ append_assoc magic (four ++ body) pass.after ∙ ap (λ (bs : List ℕ). magic ++ bs) (append_assoc four body pass.after))
+    ∙ begun (four ++ (body ++ pass.after))
+    ∙ counted (length segments) (body ++ pass.after) spell.few
+    ∙ segments_then segments [] pass.after spell.follow spell.numbers
+    ∙ trailing (with_segments [] segments) pass.after pass.some
 
 -- ## Trailing bytes stand after an image's
 
 record Passes (left : ℕ) (before : Words) (bytes : List ℕ) : Type 0 where
   segments : List Segment
   count : length segments ≡ left
-  behind : List ℕ
-  some : 0 < length behind
-  bytes_are : bytes ≡ flat_map segment_bytes segments ++ behind
+  after : List ℕ
+  some : 0 < length after
+  bytes_are : bytes ≡ flat_map segment_bytes segments ++ after
   numbers_are : AllByRecursion (λ s. AreNumbers s.words) segments
   follow : CanFollow before segments
 
@@ -90,7 +90,7 @@ passed_later None false end rest no_head no_end e = (refl, refl, e)
 
 passes : (left : ℕ) (before : Words) (bytes : List ℕ) → AreBytes bytes → segments_read left before bytes ≡ Err TrailingBytes → Passes left before bytes
 passes zero before [] all e = absurd (cc)
-passes zero before (b ∷ rest) all e = record { segments = []; count = refl; behind = b ∷ rest; some = omega arith; bytes_are = refl; numbers_are = tt; follow = tt }
+passes zero before (b ∷ rest) all e = record { segments = []; count = refl; after = b ∷ rest; some = omega arith; bytes_are = refl; numbers_are = tt; follow = tt }
 passes (suc left) before bytes all e = elim (cases_lt (length bytes) 4) [
   | inl cut ↦ absurd (never_cut before left bytes (same_fault {A = Words} _ _ _ _ refl refl (rw (lt-ltb (length bytes) 4 cut) at e)))
   | inr whole ↦
@@ -99,7 +99,7 @@ passes (suc left) before bytes all e = elim (cases_lt (length bytes) 4) [
       let new = with_words before a (numbers count (drop 8 bytes)) in
       let p = passed_later (segment_fault before a count) (nat_lt (length bytes) (8 + 4 * count)) (end_fault (length before + count) left) (segments_read left new (drop (8 + 4 * count) bytes)) (never_passed before a count) (never_ends (length before + count) left) (rw (le-ltb (length bytes) 4 whole) at e) in
       let long : 8 + 4 * count ≤ length bytes = ltb-false (length bytes) (8 + 4 * count) p.1 in
-      passed_on left before bytes all long p.0 (passes left new (drop (8 + 4 * count) bytes) (bytes_behind (8 + 4 * count) bytes all) p.2)
+      passed_on left before bytes all long p.0 (passes left new (drop (8 + 4 * count) bytes) (bytes_after (8 + 4 * count) bytes all) p.2)
 ]
   where
     passed_on : (n : ℕ) (old : Words) (bs : List ℕ) → AreBytes bs → 8 + 4 * head_count bs ≤ length bs → segment_fault old (head_address bs) (head_count bs) ≡ None
@@ -110,13 +110,13 @@ passes (suc left) before bytes all e = elim (cases_lt (length bytes) 4) [
         record {
           segments = s ∷ others.segments;
           count = ap suc others.count;
-          behind = others.behind;
+          after = others.after;
           some = others.some;
           bytes_are =
               segment_split count bs all_bs (head_counted bs (omega (arith, long))) long
               ∙ ap (λ (xs : List ℕ). segment_bytes s ++ xs) others.bytes_are
-              ∙ sym (append_assoc (segment_bytes s) (flat_map segment_bytes others.segments) others.behind);
-          numbers_are = (numbers_fit count (drop 8 bs) (bytes_behind 8 bs all_bs), others.numbers_are);
+              ∙ sym (append_assoc (segment_bytes s) (flat_map segment_bytes others.segments) others.after);
+          numbers_are = (numbers_fit count (drop 8 bs) (bytes_after 8 bs all_bs), others.numbers_are);
           follow = (ap (λ (m : ℕ). segment_fault old (head_address bs) m) (length_numbers count (drop 8 bs)) ∙ none, others.follow);
         }
 
@@ -135,22 +135,22 @@ body_passes body all e =
     let n = little_number 4 body in
     let p = count_whole (nat_lt 16 n) (nat_lt (length body) 4) (segments_read n [] (drop 4 body)) e in
     let few : n ≤ 16 = ltb-false 16 n p.0 in
-    let passed = passes n [] (drop 4 body) (bytes_behind 4 body all) p.2 in
+    let passed = passes n [] (drop 4 body) (bytes_after 4 body all) p.2 in
     let segments = passed.segments in
     let count = passed.count in
     let four = little_bytes 4 (length segments) in
-    let behind = flat_map segment_bytes segments in
+    let after = flat_map segment_bytes segments in
     record {
       image = image_bytes segments;
-      behind = passed.behind;
+      after = passed.after;
       some = passed.some;
       split =
           ap (λ (bs : List ℕ). magic ++ bs) (
           four_split body all (ltb-false (length body) 4 p.1)
           ∙ ap (λ (m : ℕ). little_bytes 4 m ++ drop 4 body) (sym count)
           ∙ ap (λ (bs : List ℕ). four ++ bs) passed.bytes_are
-          ∙ sym (append_assoc four behind passed.behind))
-          ∙ sym (append_assoc magic (four ++ behind) passed.behind);
+          ∙ sym (append_assoc four after passed.after))
+          ∙ sym (append_assoc magic (four ++ after) passed.after);
       whole = (segments, with_segments [] segments, record { few = omega (arith, count, few); numbers = passed.numbers_are; follow = passed.follow; words_are = refl }, refl);
     }
 
@@ -159,4 +159,4 @@ trailing_passes bytes all e =
     let p = magic_whole (bytes_eq (take 8 bytes) (take (length bytes) magic)) (nat_lt (length bytes) 8) (count_read (drop 8 bytes)) e in
     let same : take 8 bytes ≡ take (length bytes) magic = (bytes_decides (take 8 bytes) (take (length bytes) magic)).0 p.0 in
     let split : magic ++ drop 8 bytes ≡ bytes = ap (λ (m : List ℕ). m ++ drop 8 bytes) (sym (same ∙ take_all (length bytes) magic (ltb-false (length bytes) 8 p.1))) ∙ take-append-drop 8 bytes in
-    subst PassImage split (body_passes (drop 8 bytes) (bytes_behind 8 bytes all) p.2)
+    subst PassImage split (body_passes (drop 8 bytes) (bytes_after 8 bytes all) p.2)

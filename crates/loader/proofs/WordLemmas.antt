@@ -9,7 +9,7 @@ use Rattle.std.proofs.lemmas.Bool.{cases_lt, cases_eq, le-ltb, lt-ltb, ltb-false
 use Rattle.std.proofs.lemmas.Bool.Decides.{nat_tests}
 use mir.Val.{bool_byte}
 use Rattle.memc.proofs.Rom.{is_at-eqb}
-use Rattle.loader.specs.Image.{Words, begins, may_hold, put_fault, runs_behind, runs_of, with_word, word_of}
+use Rattle.loader.specs.Image.{Words, begins, may_hold, put_fault, runs_after, runs_of, with_word, word_of}
 use Rattle.loader.specs.Inside.{Ascends, MayStand}
 use Rattle.loader.specs.declared.image.ImageFault.{ImageFault}
 use Rattle.loader.specs.declared.image.ImageFault.TheVariants.{OutOfRange, TooLong}
@@ -130,7 +130,7 @@ joins (Some p) words a = cond {A = ℕ} (eqb a (p + 4)) 1 (has words (a - 4)) + 
 
 -- where the new word is the first, of the words after it
 first_new : (p a w : ℕ) (words : Words) → p % 4 ≡ 0 → a % 4 ≡ 0 → p < a → Quads words → Ascends words → AllByRecursion (λ e. a < e.0) words
-    → runs_behind (Some p) ((a, w) ∷ words) + joins (Some p) words a ≡ runs_behind (Some p) words + 1
+    → runs_after (Some p) ((a, w) ∷ words) + joins (Some p) words a ≡ runs_after (Some p) words + 1
 first_new p a w [] p4 a4 lt q up all = let left = left_one p a 0 refl in omega (arith, left)
 first_new p a w (e ∷ rest) p4 a4 lt q up all =
     let a_e : a < e.0 = all.0 in
@@ -151,7 +151,7 @@ same_before a e rest e4 a4 lt = elim (cases_eq a (e.0 + 4)) [
 
 -- a new word adds a run, less those that it joins
 pub runs-with_word : (p a w : ℕ) (words : Words) → p % 4 ≡ 0 → a % 4 ≡ 0 → p < a → Quads words → Ascends words → AllByRecursion (λ e. p < e.0) words → word_of words a ≡ None
-    → runs_behind (Some p) (with_word words a w) + joins (Some p) words a ≡ runs_behind (Some p) words + 1
+    → runs_after (Some p) (with_word words a w) + joins (Some p) words a ≡ runs_after (Some p) words + 1
 runs-with_word p a w [] p4 a4 lt q up all none = first_new p a w [] p4 a4 lt q up tt
 runs-with_word p a w (e ∷ rest) p4 a4 lt q up all none = elim (cases_lt a e.0) [
   | inl less ↦ rw (lt-ltb a e.0 less) (first_new p a w (e ∷ rest) p4 a4 lt q up (less, above a e.0 rest less up.0))
@@ -161,18 +161,18 @@ runs-with_word p a w (e ∷ rest) p4 a4 lt q up all none = elim (cases_lt a e.0)
       let p_e : p < e.0 = all.0 in
       let e_a : e.0 < a = omega arith in
       let deeper = runs-with_word e.0 a w rest e4 a4 e_a q.1 up.1 up.0 (absent_rest e rest a none) in
-      rw (le-ltb a e.0 le) (later p a e rest p4 a4 e4 p_e e_a (runs_behind (Some e.0) (with_word rest a w)) deeper)
+      rw (le-ltb a e.0 le) (later p a e rest p4 a4 e4 p_e e_a (runs_after (Some e.0) (with_word rest a w)) deeper)
 ]
   where
     -- past the first word
     later : (p a : ℕ) (e : ℕ × ℕ) (rest : Words) → p % 4 ≡ 0 → a % 4 ≡ 0 → e.0 % 4 ≡ 0 → p < e.0 → e.0 < a → (n : ℕ)
-        → n + joins (Some e.0) rest a ≡ runs_behind (Some e.0) rest + 1
-        → (begins (Some p) e.0 + n) + joins (Some p) (e ∷ rest) a ≡ (begins (Some p) e.0 + runs_behind (Some e.0) rest) + 1
+        → n + joins (Some e.0) rest a ≡ runs_after (Some e.0) rest + 1
+        → (begins (Some p) e.0 + n) + joins (Some p) (e ∷ rest) a ≡ (begins (Some p) e.0 + runs_after (Some e.0) rest) + 1
     later p a e rest p4 a4 e4 p_e e_a n deeper =
-        let behind = has_other e rest (a + 4) (λ same. omega arith) in
+        let after = has_other e rest (a + 4) (λ same. omega arith) in
         let apart : eqb a (p + 4) ≡ false = ne_eqb a (p + 4) (λ same. omega arith) in
         let before = same_before a e rest e4 a4 e_a in
-        rw apart (omega (arith, behind, before, deeper))
+        rw apart (omega (arith, after, before, deeper))
 
 pub runs_of-with_word : (words : Words) (a w : ℕ) → a % 4 ≡ 0 → Quads words → Ascends words → word_of words a ≡ None → runs_of (with_word words a w) + joins None words a ≡ runs_of words + 1
 runs_of-with_word [] a w a4 q up none = refl
@@ -188,9 +188,9 @@ runs_of-with_word (e ∷ rest) a w a4 q up none = elim (cases_lt a e.0) [
       let e4 : e.0 % 4 ≡ 0 = q.0 in
       let e_a : e.0 < a = omega arith in
       let deeper = runs-with_word e.0 a w rest e4 a4 e_a q.1 up.1 up.0 (absent_rest e rest a none) in
-      let behind = has_other e rest (a + 4) (λ same. omega arith) in
+      let after = has_other e rest (a + 4) (λ same. omega arith) in
       let before = same_before a e rest e4 a4 e_a in
-      rw (le-ltb a e.0 le) (omega (arith, behind, before, deeper))
+      rw (le-ltb a e.0 le) (omega (arith, after, before, deeper))
 ]
 
 pub quad : (a : ℕ) → IsTrue (may_hold a) → a % 4 ≡ 0

@@ -30,19 +30,23 @@ lies_in_memory from to = nat_le to IO_START || (nat_le ROM_START from && nat_le 
 abbrev pub may_hold : ℕ → Bool
 may_hold address = address % 4 == 0 && lies_in_memory address (address + 4)
 
+-- from 2400000 to 2FFFFFF, where no RAM is fitted even with the largest pages, of 32 KB
+abbrev pub is_past_ram : ℕ → Bool
+is_past_ram address = nat_le 0x2400000 address && nat_lt address IO_START
+
 -- 1 where a word does not follow the word before it, and so begins a run
 abbrev pub begins : Option ℕ → ℕ → ℕ
 begins None address = 1
 begins (Some before) address = if address == before + 4 then 0 else 1
 
 -- the runs of words side by side, after a word or after none
-abbrev pub runs_behind : Option ℕ → Words → ℕ
-runs_behind before [] = 0
-runs_behind before (e ∷ rest) = begins before e.0 + runs_behind (Some e.0) rest
+abbrev pub runs_after : Option ℕ → Words → ℕ
+runs_after before [] = 0
+runs_after before (e ∷ rest) = begins before e.0 + runs_after (Some e.0) rest
 
 -- the number of maximal runs
 abbrev pub runs_of : Words → ℕ
-runs_of words = runs_behind None words
+runs_of words = runs_after None words
 
 -- why a word cannot be put: the lowest reason
 abbrev pub put_fault : Words → ℕ → ℕ → Option ImageFault

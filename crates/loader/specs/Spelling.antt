@@ -42,7 +42,7 @@ pub record BeginImage (bytes : List ℕ) : Type 0 where
 -- bytes that go on after those of an image
 pub record PassImage (bytes : List ℕ) : Type 0 where
   pub image : List ℕ
-  pub behind : List ℕ
-  pub some : 0 < length behind
-  pub split : bytes ≡ image ++ behind
+  pub after : List ℕ
+  pub some : 0 < length after
+  pub split : bytes ≡ image ++ after
   pub whole : AreImage image

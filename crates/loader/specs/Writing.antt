@@ -8,9 +8,9 @@ abbrev pub is_next : ℕ → ℕ × ℕ → Bool
 is_next before e = e.0 == before + 4
 
 -- the number of words that stand side by side after an address
-abbrev pub run_behind : ℕ → Words → ℕ
-run_behind before [] = 0
-run_behind before (e ∷ rest) = if is_next before e then suc (run_behind e.0 rest) else 0
+abbrev pub run_after : ℕ → Words → ℕ
+run_after before [] = 0
+run_after before (e ∷ rest) = if is_next before e then suc (run_after e.0 rest) else 0
 
 -- a run of words as a segment
 abbrev pub segment_in : ℕ → Words → Segment

@@ -1,12 +1,13 @@
-ghost use Rattle.std.specs.Prelude.{◌≡◌, ◌≤◌, ◌⊎◌, ◌/◌, ◌^◌, [], IsTrue, IsSome, IfOk, OnOk, OnErr, IfErr};
-ghost use Rattle.std.specs.Prelude.{length, map};
-ghost use Rattle.std.specs.List.{slice_get};
+ghost use Rattle.std.specs.Prelude.{◌≡◌, ◌≤◌, ◌⊎◌, ◌↔◌, ◌/◌, ◌^◌, [], All, IsTrue, IsSome, IfOk, OnOk};
+ghost use Rattle.std.specs.Prelude.{OnErr, IfErr, length, map, not};
+ghost use Rattle.std.specs.List.{list_all, slice_get};
 ghost use Rattle.loader.specs.ImageBytes.{segments_of};
 ghost use Rattle.loader.specs.Inside.{AreWhole};
 ghost use Rattle.loader.specs.PagePlan.{AreHeld};
-ghost use Rattle.loader.specs.Image.{may_hold, put_fault, runs_of, with_word, word_of};
+ghost use Rattle.loader.specs.Planned.{AreOf, IsFitted};
+ghost use Rattle.loader.specs.Image.{is_past_ram, may_hold, put_fault, runs_of, with_word, word_of};
 
-use crate::places::{MOST_SEGMENTS, MOST_WORDS, may_hold};
+use crate::places::{MOST_SEGMENTS, MOST_WORDS, is_past_ram, may_hold};
 use std::alloc::{AllocError, AllocFailed, Global};
 use std::collections::BTreeMap;
 use std::marker::Model;
@@ -109,6 +110,22 @@ impl Image {
         ensures { result ≡ slice_get (map (λ e. e.0) self.now) n }
     {
         self.words.keys().nth(n as usize).copied()
+    }
+
+    /// Whether each word lies where a machine with the most RAM, 128 pages of 32 KB, has memory: none from
+    /// 2400000 to 2FFFFFF.
+    pub fn is_fitted(&self) -> bool
+        ensures fitted { IsTrue result ↔ All (λ e. IsFitted e.0) self.now }
+        ensures own { AreOf self.now self.now }
+    {
+        self.whole();
+        self.none_is_past_ram()
+    }
+
+    fn none_is_past_ram(&self) -> bool
+        ensures { result ≡ list_all (λ a. not (is_past_ram a)) (map (λ e. e.0) self.now) }
+    {
+        self.words.keys().all(|address| !is_past_ram(*address))
     }
 
     // What every image keeps.

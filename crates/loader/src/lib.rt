@@ -17,7 +17,7 @@ pub use law::{
     trailing_bytes_follow_an_image, truncated_begins_an_image,
 };
 pub use loading::{LoadFault, load, put_words};
-pub use places::{MOST_SEGMENTS, MOST_WORDS, lies_in_memory, may_hold};
+pub use places::{MOST_SEGMENTS, MOST_WORDS, is_past_ram, lies_in_memory, may_hold};
 pub use plan::{PagePlan, PlacedPage, page_plan};
 pub use reading::{MAGIC, ReadFault, read_image};
 pub use writing::write_image;

@@ -1,7 +1,7 @@
 //! Where the words of an image may stand, and how many there may be.
 
 ghost use Rattle.std.specs.Prelude.{◌≡◌};
-ghost use Rattle.loader.specs.Image.{lies_in_memory, may_hold};
+ghost use Rattle.loader.specs.Image.{is_past_ram, lies_in_memory, may_hold};
 
 use bus_ticks::{IO_START, ROM_START, SPACE_END};
 
@@ -25,4 +25,14 @@ pub fn may_hold(address: u32) -> bool
 {
     let from = u64::from(address);
     address % 4 == 0 && lies_in_memory(from, from + 4)
+}
+
+// Where physical RAM ends with the largest pages, 128 of 32 KB.
+const LARGEST_RAM_END: u32 = 0x240_0000;
+
+/// Whether the address is from 2400000 to 2FFFFFF, where no RAM is fitted even with the largest pages.
+pub fn is_past_ram(address: u32) -> bool
+    ensures { result ≡ is_past_ram address }
+{
+    LARGEST_RAM_END <= address && address < IO_START
 }

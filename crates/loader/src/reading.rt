@@ -85,12 +85,12 @@ impl Head {
         ensures address { result.address ≡ head_address bytes.now }
         ensures count { result.count ≡ head_count bytes.now }
     {
-        let behind = &bytes[bytes.len().min(4)..];
-        let count = number_of(behind);
+        let after = &bytes[bytes.len().min(4)..];
+        let count = number_of(after);
         Head {
             address: number_of(bytes),
             count: if count == 0 {
-                least_count(behind.len())
+                least_count(after.len())
             } else {
                 count
             },

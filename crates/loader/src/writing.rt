@@ -1,7 +1,7 @@
 ghost use Rattle.std.specs.Prelude.{◌≡◌, ◌<◌, ◌≤◌, ◌++◌, Ok, IfOk, OnOk, IfErr, flat_map, length};
 ghost use Rattle.byteorder.specs.Endian.{little_bytes};
 ghost use Rattle.loader.specs.ImageBytes.{image_bytes, image_read, segment_bytes, segments_of};
-ghost use Rattle.loader.specs.Writing.{is_next, run_behind, segment_in};
+ghost use Rattle.loader.specs.Writing.{is_next, run_after, segment_in};
 
 use crate::image::{Image, ImageFault};
 use crate::places::MOST_WORDS;
@@ -39,8 +39,8 @@ fn is_next(before: u32, entry: &(u32, u32)) -> bool
 }
 
 // The number of words that stand side by side after an address.
-fn run_behind(address: u32, words: &[(u32, u32)]) -> usize
-    ensures count { result ≡ run_behind address words.now }
+fn run_after(address: u32, words: &[(u32, u32)]) -> usize
+    ensures count { result ≡ run_after address words.now }
     ensures within { result ≤ length words.now }
 {
     let mut before = address;
@@ -60,8 +60,8 @@ fn push_segments(bytes: &mut Vec<u8>, words: &[(u32, u32)]) -> Result<(), AllocE
         (bytes.new.items ≡ bytes.old.items ++ flat_map segment_bytes (segments_of words.now)) }
 {
     let mut rest = words;
-    while let [first, behind @ ..] = rest {
-        let length = 1 + run_behind(first.0, behind);
+    while let [first, after @ ..] = rest {
+        let length = 1 + run_after(first.0, after);
         let (run, others) = rest.split_at(length);
         push_segment(bytes, first.0, run)?;
         rest = others;

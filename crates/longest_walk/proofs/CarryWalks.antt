@@ -17,7 +17,7 @@ use Rattle.numbered_walks.specs.declared.span.Span.{Span}
 use Rattle.numbered_walks.specs.declared.fault.WalkFault.{WalkFault}
 use Rattle.numbered_walks.specs.declared.fault.WalkFault.TheVariants.{Memory, NoCompleteWalk, BoundTooLarge}
 use Rattle.numbered_walks.specs.Index.{edge_at, edges_of}
-use Rattle.numbered_walks.specs.Ordered.{number_shape, span_loops, is_in}
+use Rattle.numbered_walks.specs.Ordered.{number_shape, is_in}
 use Rattle.numbered_walks.specs.Ordered as O
 use Rattle.numbered_walks.specs.Found as F
 use Rattle.loop_bounds.specs.Bounds.{IsCompleteWalk}

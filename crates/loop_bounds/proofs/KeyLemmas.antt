@@ -38,9 +38,9 @@ then_further Less p q r = refl
 then_further Equal p q r = refl
 then_further Greater p q r = refl
 
-behind : (xs : List ℕ) (b : ℕ) → slice_cmp nat_cmp [] (xs ++ b ∷ []) ≡ Less
-behind [] b = refl
-behind (x ∷ xs) b = refl
+empty_less : (xs : List ℕ) (b : ℕ) → slice_cmp nat_cmp [] (xs ++ b ∷ []) ≡ Less
+empty_less [] b = refl
+empty_less (x ∷ xs) b = refl
 
 pub before : (xs : List ℕ) (a : ℕ) → slice_cmp nat_cmp (xs ++ a ∷ []) [] ≡ Greater
 before [] a = refl
@@ -49,7 +49,7 @@ before (x ∷ xs) a = refl
 -- the common part first, then the next address, and then the lengths
 pub compared : (c d : List ℕ) (a b n : ℕ) → n ≤ length c → n ≤ length d → (n ≡ length c) ⊎ (n ≡ length d) → slice_cmp nat_cmp (c ++ a ∷ []) (d ++ b ∷ []) ≡ ordering_then (ordering_then (slice_cmp nat_cmp (take n c) (take n d)) (nat_cmp (get_or (c ++ a ∷ []) n 0) (get_or (d ++ b ∷ []) n 0))) (nat_cmp (length c) (length d))
 compared [] [] a b zero u v at = refl
-compared [] (y ∷ d) a b zero u v at = rw (length_less (length d), behind d b) refl
+compared [] (y ∷ d) a b zero u v at = rw (length_less (length d), empty_less d b) refl
 compared (x ∷ c) [] a b zero u v at = rw (length_greater (length c), before c a) refl
 compared (x ∷ c) (y ∷ d) a b zero u v at = absurd (⊎_elim (λ e. omega arith) (λ e. omega arith) at)
 compared [] d a b (suc n) u v at = absurd (omega arith)

@@ -9,7 +9,7 @@ use Rattle.arm2_effect.specs.declared.modes.Mode.TheVariants.{Svc}
 use Rattle.memc.specs.Memory.{shift_of_size}
 use Rattle.memc.specs.declared.spots.PageSize.{PageSize}
 use Rattle.memc.specs.declared.spots.PageSize.TheVariants.{K4}
-use Rattle.toml_reading.specs.Documents.{are_distinct, has_only_keys, items_at, tables_at}
+use Rattle.toml_reading.specs.Documents.{are_distinct, has_only_keys, tables_at}
 use Rattle.toml_reading.specs.Lowest.{AtKey, AtKeyOr, IsListOf, IsNumber, KeysFault, ListFault, entries_at, numbers_at}
 use Rattle.toml_reading.specs.Readings.{both, seen}
 use Rattle.toml_reading.proofs.LowestLemmas.{Judges, and_then_judged, joint, judged_as, judged_one, one_test, optional_judged, required_judged, seen_judged, two_tests}

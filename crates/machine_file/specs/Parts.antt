@@ -53,7 +53,7 @@ pub record IsBuilt (s : Stated) (answer : Read Stated) : Type 0 where
   pub out_of_range : ¬ IsInRange s → answer ≡ Err OutOfRange
   pub twice : IsInRange s → ¬ StandsOnce s → answer ≡ Err Twice
 
--- what every machine file has: 26 registers, and words of 32 bits
+-- what every machine file has: 26 registers, and registers and port of 32 bits
 pub record AreWords (s : Stated) : Type 0 where
   pub count : length s.processor.registers ≡ 26
   pub registers : All (λ w. w < 2 ^ 32) s.processor.registers

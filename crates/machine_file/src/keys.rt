@@ -1,4 +1,4 @@
-ghost use Rattle.std.specs.Prelude.{◌≡◌, IfOk, map};
+ghost use Rattle.std.specs.Prelude.{◌≡◌, IfOk, map, option_map};
 ghost use Rattle.toml.specs.Data.{string};
 ghost use Rattle.toml.specs.View.{table_view, view};
 ghost use Rattle.machine_file.specs.Written.{listed, number, tabled, unless_zero, with_key, with_optional};
@@ -47,53 +47,49 @@ pub(crate) fn set_text(
     set(alloc, table, key, Value::string(alloc, text)?)
 }
 
-/// Sets a list, but for an empty one.
-pub(crate) fn set_list(
+/// Sets a value, if there is one.
+pub(crate) fn set_optional(
     alloc: Global,
     table: &mut Table,
     key: &str,
-    values: Vec<Value>,
+    value: Option<Value>,
 ) -> Result<(), AllocError>
     ensures { IfOk result
         (λ _. table_view table.new
-        ≡ with_optional (table_view table.old) key.now (listed (map view values.items))) }
+        ≡ with_optional (table_view table.old) key.now (option_map view value)) }
 {
-    if values.is_empty() {
-        return Ok(());
+    match value {
+        Some(value) => set(alloc, table, key, value),
+        None => Ok(()),
     }
-    set(alloc, table, key, Value::from(values))
 }
 
-/// Sets a table, but for an empty one.
-pub(crate) fn set_table(
-    alloc: Global,
-    table: &mut Table,
-    key: &str,
-    inner: Table,
-) -> Result<(), AllocError>
-    ensures { IfOk result
-        (λ _. table_view table.new
-        ≡ with_optional (table_view table.old) key.now (tabled (table_view inner))) }
-{
-    if inner.is_empty() {
-        return Ok(());
-    }
-    set(alloc, table, key, Value::from(inner))
-}
-
-/// Sets a number, but for 0.
-pub(crate) fn set_nonzero(
-    alloc: Global,
-    table: &mut Table,
-    key: &str,
-    value: u32,
-) -> Result<(), AllocError>
-    ensures { IfOk result
-        (λ _. table_view table.new
-        ≡ with_optional (table_view table.old) key.now (unless_zero value)) }
+/// A number, but for 0.
+pub(crate) fn unless_zero(value: u32) -> Option<Value>
+    ensures { option_map view result ≡ unless_zero value }
 {
     if value == 0 {
-        return Ok(());
+        return None;
     }
-    set_number(alloc, table, key, value)
+    Some(Value::from(value))
+}
+
+/// A list, but for an empty one.
+pub(crate) fn listed(values: Vec<Value>) -> Option<Value>
+    ensures { option_map view result ≡ listed (map view values.items) }
+{
+    if values.is_empty() {
+        return None;
+    }
+    Some(Value::from(values))
+}
+
+/// A table, but for an empty one.
+pub(crate) fn tabled(inner: Table) -> Option<Value>
+    ensures { option_map view result ≡ tabled (table_view inner) }
+{
+    if inner.is_empty() {
+        return None;
+    }
+    Some(Value::from(inner))
 }

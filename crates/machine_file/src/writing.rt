@@ -12,7 +12,7 @@ ghost use Rattle.machine_file.specs.Written.{schedule_rows, with_key, with_rows,
 
 use crate::events::Schedule;
 use crate::flags::PsrFlags;
-use crate::keys::{set, set_list, set_nonzero, set_number, set_table, set_text};
+use crate::keys::{listed, set, set_number, set_optional, set_text, tabled, unless_zero};
 use crate::machine_files::MachineFile;
 use crate::pages::{Controller, MappedPage};
 use crate::processor::Processor;
@@ -81,7 +81,7 @@ fn set_words(
         (map register_row (zip (map (λ n. n.now) names.now) words.now))) }
 {
     for (i, word) in words.iter().enumerate() {
-        set_nonzero(alloc, table, names[i], *word)?;
+        set_optional(alloc, table, names[i], unless_zero(*word))?;
     }
     Ok(())
 }
@@ -104,7 +104,7 @@ fn set_processor(alloc: Global, table: &mut Table, processor: &Processor) -> Res
     set_text(alloc, table, "mode", mode_name(processor.mode))?;
     set_flags(alloc, table, processor.flags)?;
     let registers = register_table(alloc, &processor.registers.words)?;
-    set_table(alloc, table, "registers", registers)
+    set_optional(alloc, table, "registers", tabled(registers))
 }
 
 // ## The memory controller
@@ -153,7 +153,7 @@ fn set_controller(
     set_number(alloc, table, "low_rom", controller.rom.low)?;
     set_number(alloc, table, "high_rom", controller.rom.high)?;
     let pages = page_values(alloc, &controller.pages.pages)?;
-    set_list(alloc, table, "map", pages)
+    set_optional(alloc, table, "map", listed(pages))
 }
 
 // ## The steps, and the words that are put into memory
@@ -195,7 +195,7 @@ fn set_put_words(alloc: Global, table: &mut Table, words: &[(u32, u32)]) -> Resu
     ensures bound { IfOk result (λ _. All (λ w. w.1 < 2 ^ 32) words.now) }
 {
     let values = word_values(alloc, words)?;
-    set_list(alloc, table, "word", values)
+    set_optional(alloc, table, "word", listed(values))
 }
 
 // ## The file
@@ -213,7 +213,7 @@ fn document(alloc: Global, file: &MachineFile) -> Result<Table, AllocError>
 }
 
 /// The text of a machine file without events, which [`read_machine`](crate::machine_files::read_machine)
-/// reads back as the same file. It has all keys but those of registers that are 0, and of empty lists. An
+/// reads back as the same file. It has all keys but those of registers that are 0, and of empty lists and tables. An
 /// error says that an allocation failed.
 pub fn write_machine(alloc: Global, file: &MachineFile) -> Result<String, AllocError>
     requires { file.now.schedule.events ≡ [] }

@@ -143,7 +143,7 @@ module _ (start : State) (inputs : List Input) (n : ℕ) (now next : State) (i :
     done = take n inputs;
     input = i;
     rest = rest;
-    are = sym (take-append-drop n inputs) ∙ ap (λ (behind : List Input). take n inputs ++ behind) left;
+    are = sym (take-append-drop n inputs) ∙ ap (λ (after : List Input). take n inputs ++ after) left;
     ran = going ran;
     between = now;
     runs =

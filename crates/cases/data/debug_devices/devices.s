@@ -1,4 +1,4 @@
-; R1 is IRQ A's status, and 8 behind it lies IRQ A's mask.
+; R1 is IRQ A's status, and IRQ A's mask is 8 after it.
         LDR   R0,[R1]
         LDRB  R0,[R1,#1]
         STRB  R2,[R1,#8]

@@ -1,5 +1,5 @@
 ; Each operation on R0 and R1, with the PSR of R4 before it, from the table at 9000. R0 and the PSR
-; behind it go to the table at A000. R2 is 1.
+; after it go to the table at A000. R2 is 1.
         LDMIA R12!,{R0,R1,R4}
         TEQP  R4,#0
         ANDS  R0,R0,R1

@@ -1,4 +1,4 @@
-; The data abort goes back to the word behind the store.
+; The data abort goes back to the word after the store.
         ORG   &10
         SUBS  PC,R14,#4
 ; Logical page 8 on physical page 5 at level 1; then User mode stores and loads there.

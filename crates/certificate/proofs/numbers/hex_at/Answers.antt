@@ -1,6 +1,6 @@
 use Rattle.std.proofs.Common.{◌∙◌, suc, ap, length, get_or, arith}
 use Rattle.certificate.proofs.FieldLaws.{from_none}
-use Rattle.certificate.proofs.NumberLaws.{behind_at, front_more, front_one, hex_inside, hex_some, hex_starts}
+use Rattle.certificate.proofs.NumberLaws.{after_first_at, front_more, front_one, hex_inside, hex_some, hex_starts}
 use Rattle.certificate.proofs.numbers.hex_at.Goals as goal
 
 pub returns-in_default : goal.returns-in_default
@@ -19,19 +19,19 @@ loop-byte-init c = record {
 
 pub returns-then-number-eq0 : goal.returns-then-number-eq0
 returns-then-number-eq0 c = λ n small e.
-    let next = behind_at c.args.word.now c.loop-byte.byte-index c.loop-byte-test.true in
+    let next = after_first_at c.args.word.now c.loop-byte.byte-index c.loop-byte-test.true in
     let inside = hex_inside n c.loop-byte.number (suc c.loop-byte.byte-index) c.args.word.now small c.loop-byte.invariant.small e c.loop-byte.invariant.so_far next.0 in
     absurd (omega (arith, inside.some, c.if-number-eq0.true))
 
 pub returns-then-number : goal.returns-then-number
 returns-then-number c = λ n small e.
-    let next = behind_at c.args.word.now c.loop-byte.byte-index c.loop-byte-test.true in
+    let next = after_first_at c.args.word.now c.loop-byte.byte-index c.loop-byte-test.true in
     let inside = hex_inside n c.loop-byte.number (suc c.loop-byte.byte-index) c.args.word.now small c.loop-byte.invariant.small e c.loop-byte.invariant.so_far next.0 in
     absurd (omega (arith, inside.small, c.if-number.true))
 
 pub returns-in_err-number-2 : goal.returns-in_err-number-2
 returns-in_err-number-2 c = from_none _ _ _ c.from_residual-in_err-number-2.ensures (λ n small e.
-    let next = behind_at c.args.word.now c.loop-byte.byte-index c.loop-byte-test.true in
+    let next = after_first_at c.args.word.now c.loop-byte.byte-index c.loop-byte-test.true in
     let inside = hex_inside n c.loop-byte.number (suc c.loop-byte.byte-index) c.args.word.now small c.loop-byte.invariant.small e c.loop-byte.invariant.so_far next.0 in
     c.in_err-number-2.ensures inside.digit inside.digit_small (next.1 ∙ inside.byte_is))
 

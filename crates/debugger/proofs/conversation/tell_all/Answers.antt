@@ -7,14 +7,14 @@ pub returns-then-is_quit-clause-ok : goal.returns-then-is_quit-clause-ok
 returns-then-is_quit-clause-ok c =
     talk_quits c.args.session.now (lines_of c.args.lines.now) c.loop-line.session
     (lines_of c.loop-line.rest.now) c.loop-line.out.items c.in-Some.line.now
-    (lines_of c.in-Some.behind.now)
+    (lines_of c.in-Some.after.now)
     c.loop-line.invariant c.in-Some.ensures.0 (sym c.if-is_quit.ensures)
 
 pub loop-line-preserved : goal.loop-line-preserved
 loop-line-preserved c =
     talk_goes c.args.session.now (lines_of c.args.lines.now) c.loop-line.session c.tell.new.session
     (lines_of c.loop-line.rest.now) c.loop-line.out.items c.tell.new.out.items c.in-Some.line.now
-    (lines_of c.in-Some.behind.now)
+    (lines_of c.in-Some.after.now)
     c.loop-line.invariant c.in-Some.ensures.0 (sym c.if-is_quit.ensures) c.in_ok-tell.ensures.ok
 
 pub returns-clause-ok : goal.returns-clause-ok

@@ -2,7 +2,7 @@ use Rattle.std.proofs.Common.{◌≡◌, ◌∙◌, ◌+◌, ◌-◌, ◌*◌, �
 use Rattle.std.proofs.Common.{ap, subst, arith}
 use Rattle.bus_ticks.specs.declared.profile.Profile.{Profile}
 use Rattle.arm2_exec.specs.declared.machine.Input.{Input}
-use Rattle.debugger.specs.SessionState.{behind}
+use Rattle.debugger.specs.SessionState.{without_bursts}
 use Rattle.debugger.specs.Watching.{HasRoom, inputs_of}
 use Rattle.debugger.specs.declared.stepping.Keep.{Keep}
 use Rattle.debugger.specs.declared.stepping.Keep.TheVariants.{All, Last}
@@ -11,7 +11,7 @@ use Rattle.debugger.proofs.stepping.run_watched.Goals as goal
 
 -- the inputs that are left, with the first at hand
 at_hand : (i : Input) (steps made : ℕ) → made < steps
-    → inputs_of i (steps - made) ≡ i ∷ inputs_of (behind i) (steps - (made + 1))
+    → inputs_of i (steps - made) ≡ i ∷ inputs_of (without_bursts i) (steps - (made + 1))
 at_hand i steps made less =
     let one : steps - made ≡ suc (steps - (made + 1)) = omega (arith, less) in
     ap (inputs_of i) one
@@ -47,7 +47,7 @@ returns-in-Stopped c =
     let made = c.loop-made.made in
     run_stops c.args.breaks.now c.args.machine.now
     (inputs_of c.args.watch.first steps) c.loop-made.machine traced.new.machine (inputs_of i (steps - made))
-    (inputs_of (behind i) (steps - (made + 1)))
+    (inputs_of (without_bursts i) (steps - (made + 1)))
     i traced.result c.args.watch.keep c.loop-made.ran c.loop-made.out.items
     (at_hand i steps made c.loop-made-test.true) traced.ensures.step traced.ensures.word
     c.loop-made.invariant.0 c.in-Stopped.why c.in-Stopped.is
@@ -62,7 +62,7 @@ returns-then-is_at_break c =
     let done =
     run_breaks c.args.breaks.now c.args.machine.now
     (inputs_of c.args.watch.first steps) c.loop-made.machine traced.new.machine (inputs_of i (steps - made))
-    (inputs_of (behind i) (steps - (made + 1)))
+    (inputs_of (without_bursts i) (steps - (made + 1)))
     i traced.result c.args.watch.keep c.loop-made.ran c.loop-made.out.items
     (at_hand i steps made c.loop-made-test.true) traced.ensures.step traced.ensures.word
     c.loop-made.invariant.0
@@ -83,7 +83,7 @@ loop-made-preserved c =
     let on =
     run_goes c.args.breaks.now c.args.machine.now
     (inputs_of c.args.watch.first steps) c.loop-made.machine traced.new.machine (inputs_of i (steps - made))
-    (inputs_of (behind i) (steps - (made + 1)))
+    (inputs_of (without_bursts i) (steps - (made + 1)))
     i traced.result c.args.watch.keep c.loop-made.ran c.loop-made.out.items
     (at_hand i steps made less) traced.ensures.step traced.ensures.word c.loop-made.invariant.0
     line.0 c.put_line.new.out.items line.1 line.2 c.in_default.not-Stopped (sym c.if-is_at_break.ensures) in

@@ -1,4 +1,4 @@
-use Rattle.std.proofs.Common.{rules}
+use Rattle.std.proofs.Common.{refl, rules}
 use Rattle.flow_graph.proofs.TightMade.{can_place, edge_entry, placed_takes}
 use Rattle.flow_graph.proofs.tight.tight_edge.Goals as goal
 
@@ -16,5 +16,9 @@ returns-clause-tight c = record {
       placed_takes c.args.image.now c.args.statement.now c.args.profile.now c.args.edge.now c.in_ok-file.file c.in-Some.word c.in_ok-machine.machine _ c.in_ok-file.ensures.tight c.in-Some.ensures.word c.in_ok-machine.ensures.placed c.port.ensures;
   file = c.in_ok-file.ensures.tight;
   word = c.in-Some.word;
+  word_is = c.in-Some.ensures.word;
   made = c.in_ok-machine.ensures.placed;
+  quiet = refl;
+  no_lines = search rules;
+  port = c.port.ensures;
 }

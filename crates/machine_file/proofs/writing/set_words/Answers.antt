@@ -1,5 +1,6 @@
-use Rattle.std.proofs.Common.{map}
+use Rattle.std.proofs.Common.{◌∙◌, ap, map}
 use Rattle.toml.specs.View.{table_view}
+use Rattle.machine_file.specs.Written.{with_optional}
 use Rattle.machine_file.proofs.TableOfLemmas.{no_rows, rows_next}
 use Rattle.machine_file.proofs.writing.set_words.Goals as goal
 
@@ -8,4 +9,4 @@ loop-i-init c = no_rows (map (λ n. n.now) c.args.names.now) (table_view c.args.
 
 pub loop-i-preserved : goal.loop-i-preserved
 loop-i-preserved c =
-    rows_next c.args.names.now c.args.words.now _ c.loop-i.i (table_view c.args.table.now) (table_view c.loop-i.table) (table_view c.set_nonzero.new.table) c.requires c.loop-i-test.true c.loop-i.invariant c.in_ok-set_nonzero.ensures
+    rows_next c.args.names.now c.args.words.now _ c.loop-i.i (table_view c.args.table.now) (table_view c.loop-i.table) (table_view c.set_optional.new.table) c.requires c.loop-i-test.true c.loop-i.invariant (c.in_ok-set_optional.ensures ∙ ap (with_optional (table_view c.loop-i.table) _) c.unless_zero.ensures)

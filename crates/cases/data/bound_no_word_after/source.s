@@ -1,0 +1,1 @@
+start    MOV    R0,#3           ; and no word after it

@@ -1,1 +1,0 @@
-start    MOV    R0,#3           ; and no word behind it

@@ -1,0 +1,6 @@
+start    ADD    PC,PC,R0,LSL #2
+         DCD    0
+slow     MUL    R2,R3,R4
+fast     SUBS   PC,R14,#4
+         ORG    &2400000
+         DCD    0

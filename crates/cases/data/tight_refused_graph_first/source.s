@@ -1,0 +1,1 @@
+start    B      &8008           ; where there is no word

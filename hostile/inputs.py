@@ -1,0 +1,544 @@
+"""Inputs that are cut at each byte, forged, or as large as they may be."""
+
+import random
+import re
+import struct
+
+import readers
+import worked
+from manual import ALL_KEYS, SAMPLES, Allowed, Is, fault_of, refused, refusal
+from running import Trial, shown
+
+MOST = 16_777_216
+COUNTDOWN = [0xE3A00003, 0xE2500001, 0x1AFFFFFD, 0xE25EF004]
+WORKED = readers.image_bytes([(0x8000, COUNTDOWN)])
+TWO = readers.image_bytes([(0x8000, COUNTDOWN), (0x1C, [0xE25EF004])])
+# Addresses and numbers of words at the edges of what an image may say.
+EDGES = [0, 1, 2, 4, 16, 17, 0xFFFF, 0x10000, 0x10001, 0x8000, 0x8004, 0x800C, 0x8010, 0x1008000]
+EDGES += [0x2FFFFFC, 0x3000000, 0x33FFFFC, 0x3400000, 0x3FFFFFC, 0x4000000]
+EDGES += [0x7FFFFFFF, 0x80000000, 0xFFFFFFFC, 0xFFFFFFFF]
+
+
+class ImageIs:
+    """What `asm` answers to an image, by the reader of images: its size and its spelling, or the refusal."""
+
+    def __init__(self, data):
+        self.read = readers.read_image(data)
+
+    def __call__(self, told, folder):
+        if isinstance(self.read, str):
+            return refused(self.read)(told, folder)
+        runs = readers.runs(self.read)
+        fault = Is(0, f"words {len(self.read)} segments {len(runs)}\n".encode())(told, folder)
+        if fault:
+            return fault
+        made = (folder / "made.image").read_bytes()
+        return None if made == readers.image_bytes(runs) else f"the image is written as {shown(made)}"
+
+
+class Follows:
+    """What a judge says; and to a certificate that `bound` prints, `check` says yes, if it can be read."""
+
+    def __init__(self, bench, judge, words, files):
+        self.bench, self.judge, self.words, self.files = bench, judge, words, files
+
+    def __call__(self, told, folder):
+        fault = self.judge(told, folder)
+        if fault or told.status:
+            return fault
+        words = ["check", *self.words[1:], "printed.cert"]
+        checked = self.bench.ask(words, {**self.files, "printed.cert": told.out})[0]
+        if checked.out == b"yes\n" or len(told.out) > MOST and checked.err == b"refused: InputTooLong\n":
+            return None
+        return f"{told}, and check on that: {checked}"
+
+
+def image_judge(data):
+    if data[:8] == readers.MAGIC:
+        return ImageIs(data)
+    # Other bytes are a text: a front of the magic is a label, and a control byte is no text.
+    return Is(0, b"words 0 segments 0\n") if len(data) < 8 else refused("NotText", " at line 1")
+
+
+def changed_bytes(data, values=(0x00, 0x7F, 0xFF)):
+    """The data with each byte replaced by each value, and where that was."""
+    for at in range(len(data)):
+        for value in values:
+            yield f"byte {at} made {value:02X}", data[:at] + bytes([value]) + data[at + 1 :]
+
+
+def cuts(data):
+    for at in range(len(data)):
+        yield f"the first {at} bytes", data[:at]
+
+
+def image_forgeries(seed, number):
+    """Images of a few segments with odd heads, then bytes exchanged, added or cut off."""
+    chance = random.Random(f"images {seed}")
+    for at in range(number):
+        segments = []
+        for _ in range(chance.randrange(4)):
+            address = chance.choice(EDGES[3:]) if chance.random() < 0.7 else 4 * chance.randrange(2**24)
+            segments.append((address & 0xFFFFFFFF, chance.choices(COUNTDOWN, k=chance.randrange(5))))
+        data = bytearray(readers.image_bytes(segments))
+        for _ in range(chance.randrange(3)):
+            place = 8 + 4 * chance.randrange(len(data) // 4 - 1)
+            data[place : place + 4] = struct.pack("<I", chance.choice(EDGES))
+        if chance.random() < 0.5:
+            del data[chance.randrange(8, len(data) + 1) :]
+        if chance.random() < 0.1:
+            data.append(chance.randrange(256))
+        yield f"forgery {at}", bytes(data)
+
+
+def large_images():
+    """Images of as many words and segments as there may be, and of more; an address that is cut."""
+    whole = [0xE1A00000] * readers.MOST_WORDS
+    ones = [(0x8000 + 8 * n, [n]) for n in range(17)]
+    # 3008000 is a device's, so that after three words no address ends in 008000.
+    taken = readers.image_bytes([(0x8000 + (n << 24), [n]) for n in range(4)])
+    full = readers.image_bytes([(0, whole)])
+    yield "65,536 words", full
+    yield "65,537 words", readers.image_bytes([(0, [*whole, 0])])
+    yield "65,536 words, the last cut", full[:-1]
+    yield "65,536 words and a segment to come", readers.MAGIC + struct.pack("<I", 2) + full[12:]
+    yield "65,536 words and a segment to come, cut", (readers.MAGIC + struct.pack("<I", 2) + full[12:])[:-1]
+    yield "65,536 words and one in the second segment", readers.image_bytes([(0, whole), (0x100000, [0])])
+    yield "16 segments", readers.image_bytes(ones[:16])
+    yield "17 segments", readers.image_bytes(ones)
+    yield "an address that is taken whatever its last byte is", taken[: 12 + 3 * 12 + 3]
+    yield "the same with one byte less", taken[: 12 + 3 * 12 + 2]
+    yield "16,777,216 bytes", readers.MAGIC + bytes(MOST - 8)
+
+
+def images(bench):
+    words = ["asm", "forged.image", "made.image"]
+    rows = [("the worked image", WORKED), *large_images(), *image_forgeries(bench.seed, 3000)]
+    for name, image in (("the worked image", WORKED), ("two segments", TWO)):
+        rows += [(f"{name}, {how}", data) for how, data in [*cuts(image), *changed_bytes(image)]]
+    for name, data in rows:
+        yield Trial(f"asm, image: {name}", words, image_judge(data), {"forged.image": data})
+    words = ["bound", "forged.image", "handler.toml"]
+    for name, data in [*cuts(WORKED), *changed_bytes(WORKED)]:
+        files = {"forged.image": data, "handler.toml": worked.STATEMENT}
+        read = data[:8] == readers.MAGIC and readers.read_image(data)
+        judge = refused(read) if isinstance(read, str) else Allowed("bound")
+        yield Trial(f"bound, image: {name}", words, Follows(bench, judge, words, files), files)
+
+
+class ReadAs:
+    """The refusal that a reader foretells; where it foretells none, any answer but those that it might."""
+
+    def __init__(self, command, fault, names):
+        self.command, self.fault, self.names = command, fault, names
+
+    def __call__(self, told, folder):
+        if self.fault:
+            return refused(self.fault)(told, folder)
+        fault = fault_of(self.command, told)
+        found = refusal(told)
+        if not fault and found and found[0] in self.names and not found[1]:
+            return f"no fault was foretold: {told}"
+        return fault
+
+
+def labels_of(bench, source):
+    """A source's labels with their addresses, found with a table of its labels that `asm` makes behind it."""
+    names = sorted(readers.labels(source))
+    table = source + b"         ORG    &3000\n" + "".join(f"         DCD    {it}\n" for it in names).encode()
+    left = bench.ask(["asm", "handler.s", "made.image"], {"handler.s": table})[1]
+    words = readers.read_image(left["made.image"])
+    return {name: words[0x3000 + 4 * n] for n, name in enumerate(names)}
+
+
+def changed(text):
+    """A text cut at each byte, and with each byte replaced by some others."""
+    yield from cuts(text)
+    for at in range(len(text)):
+        for value in b"\x00\xff\"]\n0":
+            yield f"byte {at} made {value:02X}", text[:at] + bytes([value]) + text[at + 1 :]
+
+
+def statements(bench):
+    """Statements of the worked handler and of a sample, judged by a reader of statements."""
+    dispatch = worked.sample("dispatch")
+    words = ["bound", "handler.s", "handler.toml"]
+    wanted = readers.Faults.ORDER
+    for source, text, rows in (
+        (worked.SOURCE, worked.STATEMENT, changed(worked.STATEMENT)),
+        (dispatch["handler.s"], dispatch["handler.toml"], cuts(dispatch["handler.toml"])),
+    ):
+        known = labels_of(bench, source)
+        for name, data in [("whole", text), *rows]:
+            files = {"handler.s": source, "handler.toml": data}
+            judge = ReadAs("bound", readers.statement_fault(data, known), wanted)
+            yield Trial(f"bound, statement: {name}", words, Follows(bench, judge, words, files), files)
+
+
+def machines():
+    for text, rows in ((ALL_KEYS, cuts(ALL_KEYS)), (worked.MACHINE, changed(worked.MACHINE))):
+        for name, data in [("whole", text), *rows]:
+            files = {"handler.s": worked.SOURCE, "machine.toml": data}
+            judge = ReadAs("run", readers.machine_fault(data), {*readers.Faults.ORDER} - {"Disordered"})
+            yield Trial(f"run, machine file: {name}", ["run", "handler.s", "machine.toml"], judge, files)
+
+
+def profiles(bench):
+    words = ["bound", "--profile", "profile.toml", "handler.s", "handler.toml"]
+    text = worked.profile()
+    for name, data in [("whole", text), *changed(text)]:
+        files = {"handler.s": worked.SOURCE, "handler.toml": worked.STATEMENT, "profile.toml": data}
+        judge = ReadAs("bound", readers.profile_fault(data), readers.Faults.ORDER)
+        yield Trial(f"bound, profile: {name}", words, Follows(bench, judge, words, files), files)
+
+
+def many(key, row, number):
+    """A document with a list of so many tables under a key."""
+    return f"{key} = [{', '.join(row % {'at': 4 * n} for n in range(number))}]\n".encode()
+
+
+def limits():
+    """As many entries of a statement as there may be, and one more, and the name that is answered or None."""
+    loop = "{header = %(at)d, first = %(at)d, last = %(at)d, bound = 0}"
+    target, access = '{at = %(at)d, kind = "return"}', '{at = %(at)d, class = "ram"}'
+    for key, row, most in (("loop", loop, 256), ("target", target, 1024), ("access", access, 4096)):
+        yield f"{most} under {key}", many(key, row, most), None
+        yield f"{most + 1} under {key}", many(key, row, most + 1), "OutOfRange"
+    for number, name in ((64, None), (65, "OutOfRange")):
+        to = ", ".join(str(4 * n) for n in range(number))
+        text = f'target = [{{at = 0x8000, kind = "jump", to = [{to}]}}]\n'
+        yield f"{number} destinations", text.encode(), name
+
+
+def statement_limits(bench):
+    words = ["bound", "handler.s", "handler.toml"]
+    for name, text, fault in limits():
+        files = {"handler.s": worked.SOURCE, "handler.toml": b"entry = 0x1C\n" + text}
+        judge = ReadAs("bound", fault, readers.Faults.ORDER)
+        yield Trial(f"bound, statement: {name}", words, Follows(bench, judge, words, files), files)
+
+
+def filled(front, part, back=b""):
+    """A text of 16,777,216 bytes; where the parts do not fill it, line ends do."""
+
+    def make():
+        text = front + part * ((MOST - len(front) - len(back)) // len(part)) + back
+        return text.ljust(MOST, b"\n")
+
+    return make
+
+
+def numbered(front, part, most=MOST):
+    """A document of as many parts with a number each as fit."""
+
+    def make():
+        size = len(part % 1_000_000)
+        return front + b"".join(part % (1_000_000 + n) for n in range((most - len(front)) // size))
+
+    return make
+
+
+# Control characters, and bytes that are no UTF-8.
+NO_TEXT = [b"\0", b"\x01", b"\x7f", b"\r", b"\xff", b"\xe2\x82", b"\xc0\x80", b"\xed\xa0\x80"]
+NO_TEXT += [b"\xf4\x90\x80\x80"]
+NO_DOCUMENTS = [b"=", b"a", b"a=", b"a=]", b"[", b"[]", b"a=1 b=2", b"a=1\na=2", b"a.b=1\na=1"]
+NO_DOCUMENTS += [b"[a]\n[a]", b"[[a]]\n[a]"]
+
+
+def odd_documents(key):
+    """TOML that is deep, long or no text, and the names of which one is answered. `key` takes a number."""
+    wrong, none = ("WrongKind",), ("NotToml",)
+    either = ("NotToml", "WrongKind")
+    unknown, any_name = ("UnknownKey",), ("NotToml", "UnknownKey", "WrongKind")
+    no_label = ("UnknownLabel", "WrongKind")
+    name = key.encode()
+    start = name + b" = "
+    for depth in (10, 100, 1_000, 100_000, 8_000_000):
+        yield f"lists {depth} deep", start + b"[" * depth + b"]" * depth, either
+        yield f"lists {depth} deep, not closed", start + b"[" * depth, none
+        if depth <= 1_000_000:
+            yield f"tables {depth} deep", start + b"{a=" * depth + b"1" + b"}" * depth, either
+            yield f"tables {depth} deep, not closed", start + b"{a=" * depth, none
+            yield f"a key of {depth} parts", b".".join([b"a"] * depth) + b" = 1\n", any_name
+            yield f"a table's name of {depth} parts", b"[" + b".".join([b"a"] * depth) + b"]\n", any_name
+            yield f"a list's name of {depth} parts", b"[[" + b".".join([b"a"] * depth) + b"]]\n", any_name
+    for text, names in (
+        (b"1" * 1000, none),
+        (b"-" + b"9" * 1000, none),
+        (b"0x" + b"F" * 1000, none),
+        (b"0b" + b"1" * 1000, none),
+        (b"0." + b"1" * 1000, wrong),
+        # The kit's crate refuses a number past the greatest of 64 bits.
+        (b"1" * 1000 + b".5", none),
+        (b"1e" + b"9" * 1000, either),
+        (b"1e-" + b"9" * 1000, either),
+        (b"1_" * 1000 + b"1", none),
+        (b"9223372036854775807", ("OutOfRange",)),
+        (b"9223372036854775808", none),
+        (b"-9223372036854775808", ("OutOfRange",)),
+        (b"1979-05-27T07:32:00." + b"1" * 1000 + b"Z", either),
+        (b"9" * 1000 + b"-05-27", none),
+        (b"true", wrong),
+        (b"nan", wrong),
+        (b"+inf", wrong),
+    ):
+        yield f"the number {shown(text)}", start + text + b"\n", names
+    million = b"k" * 1_000_000
+    yield "a key of a million letters", million + b" = 1\n", unknown
+    yield "a quoted key of a million letters", b'"' + million + b'" = 1\n', unknown
+    yield "a text of a million letters", start + b'"' + million + b'"\n', no_label
+    yield "a text of a million lines", start + b'"""' + b"\n" * 1_000_000 + b'"""\n', no_label
+    yield "a text that is not closed", start + b'"' + million, none
+    yield "a text of a million escapes", start + b'"' + b"\\u0041" * 1_000_000 + b'"\n', no_label
+    for byte in NO_TEXT:
+        for how, text in (
+            ("by itself", b"%s"),
+            ("in a key", b"a%sb = 1\n"),
+            ("in a quoted key", b'"%s" = 1\n'),
+            ("in a text", b'k = "%s"\n'),
+            ("in a text of lines", b'k = """%s"""\n'),
+            ("in a plain text", b"k = '%s'\n"),
+            ("in a comment", b"# %s\n"),
+        ):
+            # A CR is allowed in no place but in front of an LF, which ends some of these texts.
+            yield f"the bytes {byte!r} {how}", text % byte, any_name if byte == b"\r" else none
+    for escape in (b"\\ud800", b"\\U00110000", b"\\x", b"\\q", b"\\"):
+        yield f"the escape {escape!r}", b'k = "' + escape + b'"\n', none
+    for text in NO_DOCUMENTS:
+        yield f"the text {text!r}", text, none
+    yield "an empty file", b"", wrong
+    yield "a mark of the byte order", b"\xef\xbb\xbf" + start + b"true\n", any_name
+
+
+def large_documents(key):
+    """TOML documents of 16,777,216 bytes."""
+    start = key.encode() + b" = "
+    yield "a comment", filled(b"# ", b"x"), ("WrongKind",)
+    yield "line ends", filled(b"", b"\n"), ("WrongKind",)
+    yield "blanks", filled(b"", b" "), ("WrongKind",)
+    yield "a text", filled(start + b'"', b"x", b'"'), ("UnknownLabel", "WrongKind")
+    yield "a text that is not closed", filled(start + b'"', b"x"), ("NotToml",)
+    yield "a key", filled(b"", b"k"), ("NotToml",)
+    yield "a number", filled(start, b"1"), ("NotToml",)
+    yield "a list of numbers", filled(start + b"[", b"1,", b"]"), ("WrongKind",)
+    yield "a list that is not closed", filled(start + b"[", b"1,"), ("NotToml",)
+    yield "keys", numbered(b"", b"k%d = 1\n"), ("UnknownKey",)
+    yield "tables", numbered(b"", b"[k%d]\n"), ("UnknownKey",)
+    yield "lists of a table", filled(b"", b"[[k]]\n"), ("UnknownKey",)
+    yield "a table of keys", numbered(b"k = {a = 1", b", k%d = 1"), ("NotToml",)
+    keys = numbered(b"k = {a = 1", b", k%d = 1", MOST - 1)
+    yield "a table of keys, closed", lambda: keys() + b"}", ("UnknownKey",)
+    yield "bytes that are no text", filled(b"", b"\xff"), ("NotToml",)
+    yield "0s", filled(b"", b"\0"), ("NotToml",)
+
+
+def documents():
+    """The odd documents as statements, machine files and cycle profiles."""
+    kinds = (
+        ("statement", "entry", ["bound", "handler.s", "odd.toml"]),
+        ("machine file", "pc", ["run", "handler.s", "odd.toml"]),
+        ("profile", "n", ["bound", "--profile", "odd.toml", "handler.s", "handler.toml"]),
+    )
+    for kind, key, words in kinds:
+        for name, text, names in [*odd_documents(key), *large_documents(key)]:
+            # A number of a profile is read beside eight others, which are missing.
+            names = ("WrongKind",) if kind == "profile" and names == ("OutOfRange",) else names
+            files = {"handler.s": worked.SOURCE, "handler.toml": worked.STATEMENT, "odd.toml": text}
+            judge = Allowed(words[0], *names)
+            yield Trial(f"{words[0]}, {kind}: {name}", words, judge, files, seconds=300)
+
+
+class SourceCut:
+    """A cut source is refused at its last line or for a missing label, or gives its whole lines' words."""
+
+    def __init__(self, text, words):
+        self.text, self.words = text, words
+
+    def __call__(self, told, folder):
+        fault = fault_of("asm", told)
+        if fault:
+            return fault
+        last = self.text.count(b"\n") + (not self.text.endswith(b"\n"))
+        if told.status:
+            name, place = refusal(told)
+            is_last = place == f" at line {last}"
+            return None if is_last or name == "LabelMissing" else f"the lines above {last} are right: {told}"
+        made = readers.read_image((folder / "made.image").read_bytes())
+        # The last line may have been cut to another word.
+        others = [it for it in made if self.words.get(it) != made[it]]
+        return None if len(others) <= 1 else f"other words than those of the whole source: {told}"
+
+
+def source_cuts(bench):
+    words = ["asm", "cut.s", "made.image"]
+    rows = [(name, worked.sample(name)["handler.s"]) for name in ("dispatch", "sound")]
+    for name, source in [("the worked one", worked.SOURCE), *rows]:
+        made = bench.ask(words, {"cut.s": source})[1]["made.image"]
+        whole = readers.read_image(made)
+        for how, text in [*cuts(source), ("whole", source)]:
+            judge = SourceCut(text, whole)
+            yield Trial(f"asm, source: {name}, {how}", words, judge, {"cut.s": text})
+    for how, text in changed_bytes(worked.SOURCE, b"\x00\x7f\xff\n ,#;&["):
+        yield Trial(f"asm, source: {how}", words, Allowed("asm"), {"cut.s": text})
+
+
+def large_sources():
+    """Sources that are large, long or odd, and their answers."""
+    size = b"words %d segments %d\n"
+    nothing = Is(0, size % (0, 0))
+    lines = [b" DCD 0\n" * number for number in (65_536, 65_537)]
+    yield "a label of 32 letters", b"l" * 32 + b" DCD 0\n", Is(0, size % (1, 1))
+    yield "a label of 33 letters", b"l" * 33 + b" DCD 0\n", refused("UnknownWord", " at line 1")
+    yield "an operand of 33 letters", b" B " + b"l" * 33 + b"\n", refused("BadOperand", " at line 1")
+    yield "65,536 words", lines[0], Is(0, size % (65_536, 1))
+    yield "65,537 words", lines[1], refused("TooLong", " at line 65537")
+    yield "65,536 words on a line", b" DCD " + b"0," * 65_535 + b"0\n", Is(0, size % (65_536, 1))
+    yield "65,537 words on a line", b" DCD " + b"0," * 65_536 + b"0\n", refused("TooLong", " at line 1")
+    yield "a line of 16 MiB, a comment", filled(b";", b"x"), nothing
+    yield "a line of 16 MiB, blanks", filled(b"", b" "), nothing
+    yield "a line of 16 MiB, tabs", filled(b"", b"\t"), nothing
+    yield "a line of 16 MiB, a label", filled(b"", b"l"), refused("UnknownWord", " at line 1")
+    yield "a line of 16 MiB, a word", filled(b" ", b"l"), refused("UnknownWord", " at line 1")
+    yield "a line of 16 MiB, a number", filled(b" MOV R0,#", b"1"), refused("BadOperand", " at line 1")
+    yield "a line of 16 MiB, a number of 0s", filled(b" MOV R0,#", b"0"), Allowed("asm")
+    yield "a line of 16 MiB, a list of words", filled(b" DCD 0", b",0"), refused("TooLong", " at line 1")
+    yield "a line of 16 MiB, commas", filled(b" DCD 0", b","), refused("BadOperand", " at line 1")
+    yield "a line of 16 MiB, a register list", filled(b" LDMIA R0,{R1", b",R1", b"}"), Allowed("asm")
+    yield "a line of 16 MiB, open brackets", filled(b" LDR R0,", b"["), refused("BadOperand", " at line 1")
+    yield "a line of 16 MiB, 0s", filled(b"", b"\0"), refused("NotText", " at line 1")
+    yield "16 MiB of line ends", filled(b"", b"\n"), nothing
+    wrong = refused("UnknownWord", f" at line {MOST}")
+    yield "16 MiB of line ends, the last line wrong", filled(b"", b"\n", b"1"), wrong
+    yield "16 MiB of labels", numbered(b"", b"l%d\n"), nothing
+    yield "16 MiB of labels, the last twice", last_twice, Allowed("asm", "LabelTwice")
+    yield "16 MiB of one label", filled(b"", b"l\n"), refused("LabelTwice", " at line 2")
+    yield "16 MiB of ORG", filled(b"", b" ORG 4\n"), nothing
+    yield "16 MiB of branches to no label", filled(b"", b" B l\n"), refused("TooLong", " at line 65537")
+    segments = b"".join(b" ORG %d\n DCD 0\n" % (8 * n) for n in range(17))
+    yield "17 segments", segments, refused("TooLong", " at line 34")
+    yield "only a CR", b"\r", refused("NotText", " at line 1")
+    yield "a CR within a line", b" DCD 0\r DCD 0\n", refused("NotText", " at line 1")
+
+
+def last_twice():
+    return numbered(b"", b"l%d\n", MOST - 20)() + b"l1000000\n"
+
+
+def sources():
+    for name, text, judge in large_sources():
+        words = ["asm", "large.s", "made.image"]
+        yield Trial(f"asm, source: {name}", words, judge, {"large.s": text}, seconds=300)
+
+
+def sessions(bench):
+    """The worked session, cut at each byte: the answers to its whole lines are as before."""
+    files = {"handler.s": worked.SOURCE, "machine.toml": worked.MACHINE}
+    words = ["debug", "handler.s", "machine.toml"]
+    lines = worked.SESSION.splitlines(keepends=True)
+    answers = [bench.ask(words, files, stdin=b"".join(lines[:n]))[0].out for n in range(len(lines) + 1)]
+    for name, text in cuts(worked.SESSION):
+        judge = Begins(answers[text.count(b"\n")])
+        yield Trial(f"debug, session: {name}", words, judge, files, stdin=text)
+    for name, text in changed_bytes(worked.SESSION):
+        yield Trial(f"debug, session: {name}", words, Begins(b""), files, stdin=text)
+
+
+class Begins:
+    """Status 0, an empty standard error, and an answer that begins so."""
+
+    def __init__(self, front):
+        self.front = front
+
+    def __call__(self, told, folder):
+        if told.status or told.err or not told.out.startswith(self.front):
+            return f"{told}; standard output does not begin with {shown(self.front)}"
+        names = re.findall(rb"^refused: (\w+)$", told.out, re.M)
+        known = {b"UnknownCommand", b"BadNumber", b"NoPage", b"MachineStopped", b"TooManyBreaks"}
+        return None if set(names) <= known else str(told)
+
+
+def code(bench):
+    """Words by chance, run in each mode, and bounded."""
+    chance = random.Random(f"code {bench.seed}")
+    for at in range(1000):
+        words = [chance.getrandbits(32) | chance.choice((0, 0xE0000000)) for _ in range(64)]
+        image = readers.image_bytes([(0x8000, words)])
+        mode, port = chance.choice(readers.MODES), chance.getrandbits(32)
+        machine = f'pc = 0x8000\nmode = "{mode}"\nsteps = 500\nport = {port}\n'
+        files = {"chance.image": image, "machine.toml": machine.encode()}
+        words = ["trace", "chance.image", "machine.toml"]
+        yield Trial(f"trace, words by chance: {at} of seed {bench.seed}", words, Allowed("trace"), files)
+        first, last = sorted(0x8000 + 4 * chance.randrange(64) for _ in range(2))
+        loop = f"[[loop]]\nheader = {first}\nfirst = {first}\nlast = {last}\nbound = {chance.randrange(9)}\n"
+        statement = f"entry = {0x8000 + 4 * chance.randrange(64)}\n" + chance.choice(("", loop))
+        files = {"chance.image": image, "handler.toml": statement.encode()}
+        words = ["bound", "chance.image", "handler.toml"]
+        judge = Follows(bench, Allowed("bound"), words, files)
+        yield Trial(f"bound, words by chance: {at} of seed {bench.seed}", words, judge, files)
+
+
+class Certified:
+    """A certificate, and no refusal."""
+
+    def __call__(self, told, folder):
+        return str(told) if told.status or told.err or not told.out.endswith(b"\nstop\n") else None
+
+
+class Made:
+    """Any answer that is allowed to `asm`; an image is one by the reader, and in its one spelling."""
+
+    def __call__(self, told, folder):
+        fault = fault_of("asm", told)
+        if fault or told.status:
+            return fault
+        data = (folder / "made.image").read_bytes()
+        read = readers.read_image(data)
+        is_right = isinstance(read, dict) and readers.image_bytes(readers.runs(read)) == data
+        return None if is_right else f"{told}, and the image is {shown(data)}"
+
+
+def lines(bench):
+    """Lines of the samples in another order, some of them with another byte."""
+    chance = random.Random(f"lines {bench.seed}")
+    known = [line for name in SAMPLES for line in worked.sample(name)["handler.s"].split(b"\n")]
+    for at in range(1000):
+        text = bytearray(b"\n".join(chance.choices(known, k=chance.randrange(1, 30))) + b"\n")
+        for _ in range(chance.randrange(3)):
+            text[chance.randrange(len(text))] = chance.choice(b"\t !#&'()*,-.0123456789:;<ARSZ[]^_aprz{}~")
+        name = f"asm, lines by chance: {at} of seed {bench.seed}"
+        yield Trial(name, ["asm", "chance.s", "made.image"], Made(), {"chance.s": bytes(text)})
+
+
+def deep(bench):
+    """Loops 16 deep, whose certificate grows twofold with each, to more than an input may have."""
+    for more in (0, 12):
+        first = [0x8000 + 4 * n for n in range(16)]
+        end = 0x8000 + 4 * (16 + more)
+        words = [0xE1A00000] * (16 + more)
+        statement = ["entry = 0x8000\n"]
+        for n, header in enumerate(reversed(first)):
+            at = end + 4 * n
+            words.append(0x1A000000 | (header - at - 8 >> 2) & 0xFFFFFF)
+            statement.append(f"[[loop]]\nheader = {header}\nfirst = {header}\nlast = {at}\nbound = 3\n")
+        image = readers.image_bytes([(0x8000, [*words, 0xE25EF004])])
+        files = {"deep.image": image, "deep.toml": "".join(statement).encode()}
+        words = ["bound", "deep.image", "deep.toml"]
+        judge = Follows(bench, Certified(), words, files)
+        yield Trial(f"bound, 16 loops around {more + 1} words", words, judge, files, seconds=300)
+
+
+def trials(bench):
+    return [
+        *images(bench),
+        *statements(bench),
+        *statement_limits(bench),
+        *machines(),
+        *profiles(bench),
+        *documents(),
+        *source_cuts(bench),
+        *sources(),
+        *sessions(bench),
+        *code(bench),
+        *lines(bench),
+        *deep(bench),
+    ]

@@ -1,0 +1,127 @@
+"""What docs/MANUAL.md allows the program to answer."""
+
+import re
+
+from running import TOP, shown
+
+ANY, SOURCES, IMAGES = "Any command", "Sources, with the line", "Images"
+STATEMENTS, GRAPH, LOOPS, PATH = "Statements", "The graph", "Loops", "The path"
+VISITS, MACHINES, PROFILES, CERTIFICATES = "Visits", "Machine files", "Cycle profiles", "Certificates"
+
+OF_SOURCE = (ANY, SOURCES, IMAGES)
+OF_HANDLER = (*OF_SOURCE, PROFILES, STATEMENTS, GRAPH, LOOPS)
+
+# The sections of the manual whose refusals a command can meet.
+MET_BY = {
+    "asm": OF_SOURCE,
+    "bound": (*OF_HANDLER, PATH),
+    "check": (*OF_HANDLER, CERTIFICATES),
+    "visits": (*OF_HANDLER, PATH, VISITS),
+    **{name: (*OF_SOURCE, PROFILES, MACHINES) for name in ("run", "trace", "debug")},
+}
+STATUSES = {"Memory": 3, "Device": 4}
+
+
+def section(text, title):
+    """What stands under a heading of the manual, up to the next of its kind or a higher one."""
+    found = re.search(rf"^(#+) {re.escape(title)}\n(.*?)(?=^#{{1,9}} )", text + "\n# ", re.M | re.S)
+    marks = "#" * len(found[1])
+    start = found.start(2)
+    end = re.search(rf"^#{{1,{len(marks)}}} ", text[start:] + "\n# ", re.M)
+    return text[start : start + end.start()]
+
+
+def refusals(text):
+    """The refusals of each section, by name, each with what may stand after it."""
+    tables = {}
+    for part in re.split(r"^### ", section(text, "Refusals"), flags=re.M)[1:]:
+        title, _, body = part.partition("\n")
+        names = {}
+        for cell in re.findall(r"^\| (`[^|]*) \|", body, re.M):
+            for name, place in re.findall(r"`(\w+)(?: at (line N|A))?`", cell):
+                place = "line N" if title == SOURCES else place
+                names[name] = {"": "", "A": r" at [0-9A-F]+", "line N": r" at line [1-9]\d*"}[place]
+        tables[title] = names
+    return tables
+
+
+MANUAL = (TOP / "docs/MANUAL.md").read_text()
+REFUSALS = refusals(MANUAL)
+OBJECTIONS = re.findall(r"^\| `(\w+)` \|", section(MANUAL, "Certificates"), re.M)
+# The bounds of the sample handlers.
+SAMPLES = {name: int(it) for name, it in re.findall(r"^\| `(\w+)` \| (\d+) \|", MANUAL, re.M)}
+# The machine file with every key.
+ALL_KEYS = re.search(r"^```toml file=all_keys.toml\n(.*?)^```$", MANUAL, re.M | re.S)[1].encode()
+
+
+def refusal(told):
+    """The name of the refusal on standard error, and what stands after it, or None."""
+    found = re.fullmatch(rb"refused: (\w+)((?: at [\w ]+)?)\n", told.err)
+    return (found[1].decode(), found[2].decode()) if found else None
+
+
+def sections_of(told):
+    """The sections that have the refusal on standard error."""
+    found = refusal(told)
+    if not found:
+        return set()
+    name, place = found
+    return {title for title, it in REFUSALS.items() if name in it and re.fullmatch(it[name], place)}
+
+
+def ended_early(told):
+    """Whether an answer with status 1 and no refusal is the verdict No, or that of a machine that stopped."""
+    verdict = re.fullmatch(rb"no: (\w+)\n", told.out)
+    if verdict:
+        return verdict[1].decode() in OBJECTIONS
+    return re.search(rb"^stopped \w+ at [0-9A-F]+\nticks \d+ elapsed \d+\n\Z", told.out, re.M) is not None
+
+
+def fault_of(command, told):
+    """What the manual does not allow in an answer, or None. Both outputs were read."""
+    if told.status not in range(5):
+        return str(told)
+    if told.status == 0:
+        return f"status 0 and standard error {shown(told.err)}" if told.err else None
+    if told.status == 1 and not told.err:
+        return None if command in ("check", "run", "trace") and ended_early(told) else str(told)
+    if told.status == 2:
+        return None if told.err and not told.out else str(told)
+    met = sections_of(told) & set(MET_BY.get(command, ()))
+    if told.out or not met:
+        return f"no answer of the manual: {told}"
+    name = refusal(told)[0]
+    return None if told.status == STATUSES.get(name, 1) else f"{name} with status {told.status}"
+
+
+class Allowed:
+    """Any answer that the manual allows to a command, or one of these refusals where some are named."""
+
+    def __init__(self, command, *names):
+        self.command, self.names = command, names
+
+    def __call__(self, told, folder):
+        fault = fault_of(self.command, told)
+        if fault or not self.names:
+            return fault
+        found = refusal(told)
+        is_named = found and found[0] in self.names
+        return None if is_named else f"not refused as {' or '.join(self.names)}: {told}"
+
+
+class Is:
+    """This answer and no other."""
+
+    def __init__(self, status, out=b"", err=b""):
+        self.wanted = (status, out, err)
+
+    def __call__(self, told, folder):
+        if (told.status, told.out, told.err) == self.wanted:
+            return None
+        status, out, err = self.wanted
+        return f"{told}; not status {status}, {shown(out)}, {shown(err)}"
+
+
+def refused(name, place=""):
+    """The refusal with this name, and what stands after it."""
+    return Is(STATUSES.get(name, 1), err=f"refused: {name}{place}\n".encode())

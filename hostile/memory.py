@@ -1,0 +1,138 @@
+"""Runs in which the system gives no memory: each request for it is refused in turn, once and from then on."""
+
+import dataclasses
+import subprocess
+import sys
+
+import worked
+from manual import ALL_KEYS, refused
+from running import TOP, Told, Trial, counts, shown
+
+OLD_IMAGE = b"what stood here"
+
+
+def build(bench):
+    """Builds the library that refuses requests."""
+    source = TOP / "hostile/starve.c"
+    words = ["cc", "-O2", "-Wall", "-shared", "-fPIC", "-o", bench.library, source]
+    if subprocess.run(words).returncode:
+        sys.exit("the library that refuses requests for memory cannot be built")
+
+
+def settings(bench, at, goes_on):
+    return {
+        "LD_PRELOAD": bench.library,
+        "STARVE_COUNTS": "counts",
+        "STARVE_AT": at,
+        "STARVE_ON": int(goes_on),
+    }
+
+
+@dataclasses.dataclass(frozen=True)
+class Starved:
+    """The right answer, or the refusal, and the file of an image as it was or whole."""
+
+    right: Told
+    image: bytes | None
+    before: bytes | None
+    is_within: bool
+
+    def __call__(self, told, folder):
+        requests, refused = counts(folder)
+        if self.is_within != (refused > 0):
+            return f"{refused} of {requests} requests were refused"
+        if told != self.right and not (refused and told.status == 3):
+            return f"{told}; {refused} of {requests} requests were refused"
+        if told.status == 3 and (told.out or told.err not in (b"", b"refused: Memory\n")):
+            return str(told)
+        there = made_image(folder)
+        is_so = there == (self.image if told == self.right else self.before)
+        return None if is_so else f"{told}; the image's file holds {shown(there)}"
+
+
+def made_image(folder):
+    file = folder / "made.image"
+    return file.read_bytes() if file.exists() else None
+
+
+def requests_of(bench, command):
+    """How many requests a command makes for which nothing is refused."""
+    told, left = bench.ask(
+        command.words, command.files, stdin=command.stdin, settings=settings(bench, 0, False)
+    )
+    if told != command.told:
+        sys.exit(f"{command.name}: another answer with the library alone: {told}")
+    number = int.from_bytes(left["counts"][:8], "little")
+    if not number:
+        sys.exit(f"{command.name}: the library saw no request for memory: is the program linked statically?")
+    return number
+
+
+def refused_in_turn(bench, command):
+    """A trial for each request of a command, once and from then on, and for one more than it makes."""
+    most = requests_of(bench, command)
+    found = []
+    olds = (None, OLD_IMAGE) if command.words[:1] == ["asm"] else (None,)
+    for old in olds:
+        files = command.files if old is None else {**command.files, "made.image": old}
+        image = old if command.image is None else command.image
+        # Of many thousands some hundred.
+        for at in [*range(1, most + 1, most // 100 if most > 5000 else 1), most + 1]:
+            for goes_on in (False, True):
+                which = f"request {at} of {most}{' and all later ones' if goes_on else ''}"
+                judge = Starved(command.told, image, old, at <= most)
+                how = {"stdin": command.stdin, "settings": settings(bench, at, goes_on)}
+                found.append(Trial(f"{command.name}: {which}", command.words, judge, files, **how))
+    return found
+
+
+def larger(bench):
+    """A machine file with every key, a long answer of the debugger, and a handler with calls and loops."""
+    files = {"handler.s": worked.SOURCE, "machine.toml": ALL_KEYS}
+    yield worked.command(bench, "trace handler.s machine.toml", files)
+    files = {"handler.s": worked.ROUND, "machine.toml": worked.LONG}
+    yield worked.command(bench, "debug handler.s machine.toml", files, b"step 1024\nticks\n")
+    bound = worked.command(bench, "bound handler.s handler.toml", worked.sample("dispatch"))
+    yield bound
+    files = {**bound.files, "handler.cert": bound.told.out}
+    yield worked.command(bench, "check handler.s handler.toml handler.cert", files)
+
+
+class Limited:
+    """The right answer or the refusal, whatever the system gives."""
+
+    def __init__(self, right, image):
+        self.right, self.image = right, image
+
+    def __call__(self, told, folder):
+        there = made_image(folder)
+        if told == self.right and there == self.image:
+            return None
+        is_refused = told.status == 3 and told.err == b"refused: Memory\n" and not told.out
+        return None if is_refused and there is None else f"{told}; the image's file holds {shown(there)}"
+
+
+def limits(bench):
+    """A long source, and a long answer, where the system gives so many KiB in all, without the library."""
+    source = b"".join(b"l%d DCD %d\n" % (n, n) for n in range(65_536))
+    made = worked.command(bench, "asm handler.s made.image", {"handler.s": source})
+    for limit in range(8_000, 40_000, 1_000):
+        shell = f"ulimit -v {limit}; exec {{}}"
+        name = f"asm: a source of 65,536 labels in {limit} KiB"
+        yield Trial(name, made.words, Limited(made.told, made.image), made.files, shell=shell)
+    files = {"handler.s": worked.ROUND, "machine.toml": worked.LONG}
+    words, session = ["debug", "handler.s", "machine.toml"], b"step 1024\n" * 10_000
+    how = {"stdin": session, "shell": "ulimit -v 50000; exec {}"}
+    yield Trial("debug: an answer of 280 MB in 50,000 KiB", words, refused("Memory"), files, **how)
+
+
+def trials(bench):
+    build(bench)
+    commands = [*worked.commands(bench), *worked.each_answer(bench), *larger(bench)]
+    for it in commands:
+        if it.told.status not in (0, 1, 2, 4):
+            sys.exit(f"{it.name}: {it.told}")
+    found = [trial for it in commands for trial in refused_in_turn(bench, it)]
+    refusing = sum(it.judge.is_within for it in found)
+    print(f"memory: {len(commands)} commands, {refusing} runs in which requests are refused", flush=True)
+    return [*found, *limits(bench)]

@@ -1,0 +1,161 @@
+"""The commands on which the program is tried, with the files that they name."""
+
+import dataclasses
+
+from running import TOP
+
+SOURCE = b"""\
+; Counts down from 3, and returns from the interrupt. FIQ's handler returns at once.
+         ORG    &1C
+fiq      SUBS   PC,R14,#4
+         ORG    &8000
+start    MOV    R0,#3
+again    SUBS   R0,R0,#1
+turn     BNE    again
+         SUBS   PC,R14,#4
+"""
+STATEMENT = b"""\
+entry = 0x8000
+leave = "ram"
+
+[[loop]]
+header = 0x8004
+first = 0x8004
+last = 0x8008
+bound = 2
+"""
+FIQ = b"""\
+entry = 0x1C
+leave = "ram"
+"""
+MACHINE = b"""\
+pc = 0x8000
+mode = "irq"
+flags = "I"
+steps = 8
+
+[registers]
+r14_irq = 0x1010
+
+[[map]]
+logical = 0
+physical = 1
+level = 0
+
+[[map]]
+logical = 8
+physical = 3
+level = 0
+
+[[event]]
+step = 3
+bursts = 2
+lines = ["F0", "B5"]
+
+[[word]]
+at = 0x8100
+value = 500
+"""
+SESSION = b"""\
+step 3
+break &800C
+run 100
+regs
+mem &8000 4
+dis &8000 4
+burst 7
+line F0 on
+port 5
+break
+ticks
+step
+line F0 off
+frob
+quit
+"""
+# A machine that goes round for long: its trace does not fit into a pipe.
+ROUND = b"again    B      again\n"
+LONG = b"pc = 0x8000\nsteps = 5000\n"
+
+
+@dataclasses.dataclass(frozen=True)
+class Command:
+    """Words of the program with the files that they name, and its right answer."""
+
+    words: list
+    files: dict
+    stdin: bytes
+    told: object
+    image: bytes | None
+
+    @property
+    def name(self):
+        return " ".join(self.words)
+
+
+def sample(name):
+    """The files of a sample handler."""
+    return {it.name: it.read_bytes() for it in (TOP / "crates/handlers/data" / name).iterdir()}
+
+
+def profile():
+    return (TOP / "examples/slower_ram.toml").read_bytes()
+
+
+def answered(bench, words, files, stdin=b""):
+    """The command with the answer that it gives when nothing is in its way."""
+    told, left = bench.ask(words, files, stdin=stdin)
+    return Command(words, files, stdin, told, left.get("made.image"))
+
+
+def command(bench, line, files, stdin=b""):
+    return answered(bench, line.split(), files, stdin)
+
+
+def commands(bench):
+    """Each command over a source as text and as an image, with and without a cycle profile."""
+    image = bench.ask(["asm", "handler.s", "made.image"], {"handler.s": SOURCE})[1]["made.image"]
+    found = []
+    for source, first in (("handler.s", SOURCE), ("handler.image", image)):
+        files = {source: first}
+        found.append(command(bench, f"asm {source} made.image", files))
+        for option in ("", "--profile profile.toml "):
+            files = {source: first, **({"profile.toml": profile()} if option else {})}
+            found += priced(bench, f"{option}{source}", files)
+    return found
+
+
+def priced(bench, words, files):
+    """The commands that have prices, over these words for profile and source."""
+    bound = command(bench, f"bound {words} handler.toml", {**files, "handler.toml": STATEMENT})
+    judged = {**bound.files, "handler.cert": bound.told.out}
+    machine = {**files, "machine.toml": MACHINE}
+    return [
+        bound,
+        command(bench, f"check {words} handler.toml handler.cert", judged),
+        command(bench, f"visits {words} handler.toml fiq.toml 2", {**bound.files, "fiq.toml": FIQ}),
+        command(bench, f"run {words} machine.toml", machine),
+        command(bench, f"trace {words} machine.toml", machine),
+        command(bench, f"debug {words} machine.toml", machine, SESSION),
+    ]
+
+
+def cases():
+    """The cases: each one's name, its words, the files that they name, and all that its folder holds."""
+    for folder in sorted((TOP / "crates/cases/data").iterdir()):
+        held = {it.name: it.read_bytes() for it in folder.iterdir()}
+        words = held["args"].decode().splitlines()
+        # The file of that name in the folder is what is to be written.
+        if words[:1] == ["asm"] and len(words) == 3:
+            words[2] = "made.image"
+        yield folder.name, words, {name: held[name] for name in held if name in words}, held
+
+
+def each_answer(bench):
+    """A case for each refusal of each command, each verdict and each status: the one with the least files."""
+    found = {}
+    for _, words, files, held in sorted(cases(), key=lambda it: sum(map(len, it[2].values()))):
+        answer = held.get("stderr", b"").partition(b" at ")[0] or held.get("stdout", b"")[:20]
+        key = (*words[:1], held.get("status"), answer if b":" in answer else b"")
+        found.setdefault(key, (words, files, held.get("stdin", b"")))
+    return [answered(bench, *it) for it in found.values()]
