@@ -135,8 +135,8 @@ impl Image {
         let _runs = self.runs;
     }
 
-    // The words with their addresses, which ascend.
-    pub(crate) fn listed(&self, alloc: Global) -> Result<Vec<(u32, u32)>, AllocError>
+    /// The words with their addresses, which ascend. An error says that an allocation failed.
+    pub fn listed(&self, alloc: Global) -> Result<Vec<(u32, u32)>, AllocError>
         ensures words { IfOk result (λ words. words.items ≡ self.now) }
         ensures few { length self.now ≤ MOST_WORDS }
     {
