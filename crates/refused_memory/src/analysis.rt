@@ -1,5 +1,5 @@
 use crate::texts::{NESTED, NESTED_STATEMENT};
-use crate::trial::{Answer, Trial};
+use crate::trial::{Answer, IN_TURN, Trial};
 use arcwcet::ReportFault;
 use assembler::assemble;
 use bus_ticks::Profile;
@@ -142,50 +142,64 @@ impl Trial for AnalysisCall {
     }
 }
 
-/// An item put at the end of a walk of none.
+/// Steps put at the end of a walk.
 #[derive(Drop)]
-pub(crate) struct PushItem {
+pub(crate) struct PushItems {
     walk: FoldedWalk,
+    put: u32,
 }
 
-fn step(address: u32, to: Place, cost: u32) -> Edge {
-    Edge {
-        from: Place::At(Calls::new(), address),
+// A step of so many ticks.
+fn step(cost: u32) -> Item {
+    Item::Step(Edge {
+        from: Place::At(Calls::new(), 0x8000),
         label: Label::Do,
-        to,
+        to: Place::Exit,
         cost,
+    })
+}
+
+fn cost_of(item: &Item) -> Option<u32> {
+    match item {
+        Item::Step(edge) => Some(edge.cost),
+        Item::Repeat(_, _) => None,
     }
 }
 
-impl PushItem {
-    pub(crate) fn new(alloc: Global) -> Result<PushItem, ReportFault> {
-        Ok(PushItem {
+impl PushItems {
+    pub(crate) fn new(alloc: Global) -> PushItems {
+        PushItems {
             walk: FoldedWalk::new(alloc),
-        })
+            put: 0,
+        }
     }
 
-    // The cost of the first item, if it is a step, and the number of items.
-    fn first(&self) -> (Option<u32>, usize) {
-        let items = self.walk.items();
-        let cost = match items.first() {
-            Some(Item::Step(edge)) => Some(edge.cost),
-            _ => None,
-        };
-        (cost, items.len())
+    // Whether the walk has the steps that were put, and no other.
+    fn is_whole(&self) -> bool {
+        let mut wanted = 0u32;
+        for item in self.walk.items() {
+            if cost_of(item) != Some(wanted) {
+                return false;
+            }
+            wanted = wanted.saturating_add(1);
+        }
+        wanted == self.put
     }
 }
 
-impl Trial for PushItem {
+impl Trial for PushItems {
     fn make(&mut self, alloc: Global) -> Result<Answer, ReportFault> {
-        let item = Item::Step(step(0x1C, Place::Exit, 9));
-        Ok(match self.walk.push(alloc, item) {
-            Ok(()) => Answer::of(self.first() == (Some(9), 1)),
-            Err(WalkFault::Memory) => Answer::Refused,
-            Err(_) => Answer::Wrong,
-        })
+        for n in self.put..u32::from(IN_TURN) {
+            match self.walk.push(alloc, step(n)) {
+                Ok(()) => self.put = n.saturating_add(1),
+                Err(WalkFault::Memory) => return Ok(Answer::Refused),
+                Err(_) => return Ok(Answer::Wrong),
+            }
+        }
+        Ok(Answer::of(self.is_whole()))
     }
 
     fn is_unchanged(&mut self, _alloc: Global) -> Result<bool, ReportFault> {
-        Ok(self.first() == (None, 0))
+        Ok(self.is_whole())
     }
 }

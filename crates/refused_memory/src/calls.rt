@@ -1,6 +1,6 @@
-use crate::analysis::{AnalysisCall, PushItem};
+use crate::analysis::{AnalysisCall, PushItems};
 use crate::certificates::CertificateCall;
-use crate::images::{ImageCall, Load, PutLabel, PutWord};
+use crate::images::{ImageCall, Load, PutLabels, PutWords};
 use crate::machine::{AddRom, NewCall};
 use crate::machine_files::MachineFileCall;
 use crate::programs::{Line, Started};
@@ -20,11 +20,11 @@ pub(crate) enum Call {
     MachineFile(MachineFileCall),
     Image(ImageCall),
     Load,
-    PutWord,
-    PutLabel,
+    PutWords,
+    PutLabels,
     Source(SourceCall),
     Analysis(AnalysisCall),
-    PushItem,
+    PushItems,
     Certificate(CertificateCall),
     Command(Command),
     /// A report over an output that has taken memory for so many bytes.
@@ -59,15 +59,15 @@ pub(crate) const CALLS: &[(&str, Call)] = &[
     ("write_image", Call::Image(ImageCall::Write)),
     ("page_plan", Call::Image(ImageCall::Plan)),
     ("load", Call::Load),
-    ("Image::put", Call::PutWord),
-    ("Labels::put", Call::PutLabel),
+    ("Image::put", Call::PutWords),
+    ("Labels::put", Call::PutLabels),
     ("assemble", Call::Source(SourceCall::Assemble)),
     ("read_statement", Call::Source(SourceCall::ReadStatement)),
     ("build", Call::Analysis(AnalysisCall::Build)),
     ("tight_state", Call::Analysis(AnalysisCall::Tight)),
     ("nest", Call::Analysis(AnalysisCall::Nest)),
     ("longest", Call::Analysis(AnalysisCall::Longest)),
-    ("FoldedWalk::push", Call::PushItem),
+    ("FoldedWalk::push", Call::PushItems),
     ("write_cert", Call::Certificate(CertificateCall::Write)),
     ("read_cert", Call::Certificate(CertificateCall::Read)),
     ("check", Call::Certificate(CertificateCall::Check)),
@@ -102,11 +102,11 @@ impl Call {
             Call::MachineFile(mut call) => tried(alloc, &mut call),
             Call::Image(mut call) => tried(alloc, &mut call),
             Call::Load => tried(alloc, &mut Load::new(alloc)?),
-            Call::PutWord => tried(alloc, &mut PutWord::new(alloc)?),
-            Call::PutLabel => tried(alloc, &mut PutLabel::new(alloc)?),
+            Call::PutWords => tried(alloc, &mut PutWords::new(alloc)),
+            Call::PutLabels => tried(alloc, &mut PutLabels::new(alloc)),
             Call::Source(mut call) => tried(alloc, &mut call),
             Call::Analysis(mut call) => tried(alloc, &mut call),
-            Call::PushItem => tried(alloc, &mut PushItem::new(alloc)?),
+            Call::PushItems => tried(alloc, &mut PushItems::new(alloc)),
             Call::Certificate(mut call) => tried(alloc, &mut call),
             Call::Command(command) => tried(alloc, &mut Obeyed::new(alloc, command)?),
             Call::Report(report, room) => tried(alloc, &mut Written::new(alloc, report, room)?),

@@ -1,6 +1,6 @@
 use crate::machine::word_in;
 use crate::texts::{COUNTDOWN, COUNTDOWN_IMAGE};
-use crate::trial::{Answer, Trial};
+use crate::trial::{Answer, IN_TURN, Trial};
 use arcwcet::ReportFault;
 use arm2_exec::Machine;
 use assembler::assemble;
@@ -15,21 +15,6 @@ use std::alloc::Global;
 /// Words in RAM, by a logical and a physical address, and in ROM.
 const SCATTERED: &[u8] =
     b" ORG &8000\n DCD 1\n ORG &2000010\n DCD 2\n ORG &3800000\n DCD &12345678\n";
-
-/// Eleven words and labels, which fill what a list of them first takes memory for.
-const ELEVEN: &[u8] =
-    b"l0 DCD 0\nl1 DCD 1\nl2 DCD 2\nl3 DCD 3\nl4 DCD 4\nl5 DCD 5\nl6 DCD 6\nl7 DCD 7\n\
-    l8 DCD 8\nl9 DCD 9\nl10 DCD 10\n";
-
-const NAMES: [&str; 11] = [
-    "l0", "l1", "l2", "l3", "l4", "l5", "l6", "l7", "l8", "l9", "l10",
-];
-
-const NEW_NAME: &[u8] = b"l11";
-
-const NEW_ADDRESS: u32 = 0x9000;
-
-const NEW_WORD: u32 = 11;
 
 /// A call that reads, writes or plans an image, and changes none.
 #[derive(Clone, Copy)]
@@ -145,77 +130,107 @@ impl Trial for Load {
     }
 }
 
-/// A word put into an image of eleven, apart from them.
+/// Words put into an image side by side.
 #[derive(Drop)]
-pub(crate) struct PutWord {
+pub(crate) struct PutWords {
     image: Image,
+    put: u32,
 }
 
-impl PutWord {
-    pub(crate) fn new(alloc: Global) -> Result<PutWord, ReportFault> {
-        Ok(PutWord {
-            image: assemble(alloc, ELEVEN)?.image,
-        })
-    }
-
-    // Whether the image has the eleven words, and so many words, segments, and such a new one.
-    fn has(&self, words: u32, segments: u32, new: Option<u32>) -> bool {
-        let is_whole = (0..11u32).all(|n| self.image.word_at(0x8000 + 4 * n) == Some(n));
-        let counts = (self.image.words(), self.image.segments());
-        is_whole && counts == (words, segments) && self.image.word_at(NEW_ADDRESS) == new
-    }
+// The address of the n-th word or label.
+fn address_of(n: u32) -> u32 {
+    n.wrapping_mul(4).wrapping_add(0x8000)
 }
 
-impl Trial for PutWord {
-    fn make(&mut self, alloc: Global) -> Result<Answer, ReportFault> {
-        Ok(match self.image.put(alloc, NEW_ADDRESS, NEW_WORD) {
-            Ok(()) => Answer::of(self.has(12, 2, Some(NEW_WORD))),
-            Err(ImageFault::Memory) => Answer::Refused,
-            Err(_) => Answer::Wrong,
-        })
+impl PutWords {
+    pub(crate) fn new(alloc: Global) -> PutWords {
+        PutWords {
+            image: Image::new(alloc),
+            put: 0,
+        }
     }
 
-    fn is_unchanged(&mut self, _alloc: Global) -> Result<bool, ReportFault> {
-        Ok(self.has(11, 1, None))
-    }
-}
-
-/// A label put beside eleven others.
-#[derive(Drop)]
-pub(crate) struct PutLabel {
-    labels: Labels,
-}
-
-impl PutLabel {
-    pub(crate) fn new(alloc: Global) -> Result<PutLabel, ReportFault> {
-        Ok(PutLabel {
-            labels: assemble(alloc, ELEVEN)?.labels,
-        })
-    }
-
-    // Whether the labels are the eleven, and such a new one.
-    fn has(&self, new: Option<u32>) -> bool {
-        let mut address = 0x8000u32;
-        for name in &NAMES {
-            if self.labels.get(name.as_bytes()) != Some(address) {
+    // Whether the image has the words that were put, and no other.
+    fn is_whole(&self) -> bool {
+        for n in 0..self.put {
+            if self.image.word_at(address_of(n)) != Some(n) {
                 return false;
             }
-            address = address.wrapping_add(4);
         }
-        self.labels.get(NEW_NAME) == new
+        let segments = u32::from(self.put > 0);
+        (self.image.words(), self.image.segments()) == (self.put, segments)
     }
 }
 
-impl Trial for PutLabel {
+impl Trial for PutWords {
     fn make(&mut self, alloc: Global) -> Result<Answer, ReportFault> {
-        Ok(match self.labels.put(alloc, NEW_NAME, NEW_ADDRESS) {
-            Ok(()) => Answer::of(self.has(Some(NEW_ADDRESS))),
-            Err(LabelFault::Memory) => Answer::Refused,
-            Err(LabelFault::Twice) => Answer::Wrong,
-        })
+        for n in self.put..u32::from(IN_TURN) {
+            match self.image.put(alloc, address_of(n), n) {
+                Ok(()) => self.put = n.saturating_add(1),
+                Err(ImageFault::Memory) => return Ok(Answer::Refused),
+                Err(_) => return Ok(Answer::Wrong),
+            }
+        }
+        Ok(Answer::of(self.is_whole()))
     }
 
     fn is_unchanged(&mut self, _alloc: Global) -> Result<bool, ReportFault> {
-        Ok(self.has(None))
+        Ok(self.is_whole())
+    }
+}
+
+/// Labels put beside one another.
+#[derive(Drop)]
+pub(crate) struct PutLabels {
+    labels: Labels,
+    put: u8,
+}
+
+// The name of the n-th label.
+fn name_of(n: u8) -> [u8; 2] {
+    [b'l', n]
+}
+
+impl PutLabels {
+    pub(crate) fn new(alloc: Global) -> PutLabels {
+        PutLabels {
+            labels: Labels::new(alloc),
+            put: 0,
+        }
+    }
+
+    // Whether the labels are those that were put.
+    fn is_whole(&self) -> bool {
+        for n in 0..IN_TURN {
+            let address = if n < self.put {
+                Some(address_of(u32::from(n)))
+            } else {
+                None
+            };
+            if self.labels.get(&name_of(n)) != address {
+                return false;
+            }
+        }
+        true
+    }
+}
+
+impl Trial for PutLabels {
+    fn make(&mut self, alloc: Global) -> Result<Answer, ReportFault> {
+        for n in self.put..IN_TURN {
+            match self
+                .labels
+                .put(alloc, &name_of(n), address_of(u32::from(n)))
+            {
+                Ok(()) => self.put = n.saturating_add(1),
+                Err(LabelFault::Memory) => return Ok(Answer::Refused),
+                Err(LabelFault::Twice) => return Ok(Answer::Wrong),
+            }
+        }
+        Ok(Answer::of(self.is_whole()))
+    }
+
+    fn is_unchanged(&mut self, _alloc: Global) -> Result<bool, ReportFault> {
+        Ok(self.is_whole())
     }
 }

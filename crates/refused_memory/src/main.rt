@@ -20,7 +20,7 @@ mod tally;
 mod texts;
 mod trial;
 
-use calls::CALLS;
+use calls::{CALLS, Call};
 use std::process::ExitCode;
 use std::{env, io};
 use tally::{OUT_OF_MEMORY, Tally};
@@ -32,19 +32,25 @@ fn is_asked(asked: &Option<String>, name: &str) -> bool {
     }
 }
 
+// Makes the calls that are asked for.
+fn make(rt: &HostRuntime, calls: &[(&str, Call)], asked: &Option<String>) -> io::Result<Tally> {
+    let mut tally = Tally::new();
+    for (name, call) in calls {
+        if is_asked(asked, name) {
+            let outcome = call.outcome(rt.alloc());
+            println!(rt; "{name}: {outcome}")?;
+            tally.add(outcome);
+        }
+    }
+    Ok(tally)
+}
+
 fn main(rt: HostRuntime) -> io::Result<ExitCode> {
     let Ok(mut words) = env::args(&rt) else {
         println!(rt; "memory refused before the calls")?;
         return Ok(ExitCode::from(OUT_OF_MEMORY));
     };
     let asked = words.nth(1);
-    let mut tally = Tally::new();
-    for (name, call) in CALLS {
-        if is_asked(&asked, name) {
-            let outcome = call.outcome(rt.alloc());
-            println!(rt; "{name}: {outcome}")?;
-            tally.add(outcome);
-        }
-    }
+    let tally = make(&rt, CALLS, &asked)?;
     Ok(ExitCode::from(tally.status()))
 }

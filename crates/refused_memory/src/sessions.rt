@@ -1,15 +1,16 @@
 use crate::trial::{Answer, Trial};
 use arcwcet::ReportFault;
 use arm2_exec::{Machine, Reg};
+use assembler::assemble;
 use bus_ticks::Profile;
 use debugger::{DebugFault, Session};
-use loader::put_words;
+use loader::load;
 use memc::PageSize;
 use std::alloc::Global;
 use std::str;
 
-/// A loop of `ADD R0,R0,#1` and a branch back, whose round takes 1 and 4 ticks.
-const LOOP: [(u32, u32); 2] = [(0x8000, 0xE280_0001), (0x8004, 0xEAFF_FFFD)];
+/// A loop whose round takes 1 and 4 ticks.
+const LOOP: &[u8] = b"round ADD R0,R0,#1\n B round\n";
 
 const ADD: &str = "00008000 E2800001 1 ADD R0,R0,#1";
 
@@ -84,15 +85,15 @@ fn is_traced(answer: &[u8]) -> bool {
     let Ok(text) = str::from_utf8(answer) else {
         return false;
     };
-    let mut is_add = true;
+    let mut lines = 0u32;
     for line in text.lines() {
-        let wanted = if is_add { ADD } else { BRANCH };
+        let wanted = if lines % 2 == 0 { ADD } else { BRANCH };
         if line != wanted {
             return false;
         }
-        is_add = !is_add;
+        lines = lines.saturating_add(1);
     }
-    answer.len() == 512 * (ADD.len() + BRANCH.len() + 2)
+    lines == 1024 && text.ends_with("\n")
 }
 
 /// A session at the start of the loop, with a breakpoint and 7 bursts in its next step, and a command of it.
@@ -104,7 +105,8 @@ pub(crate) struct Obeyed {
 
 fn machine(alloc: Global) -> Result<Machine, ReportFault> {
     let mut machine = Machine::new(alloc, PageSize::K4, Profile::one())?;
-    put_words(alloc, &mut machine, &LOOP)?;
+    let said = assemble(alloc, LOOP)?;
+    load(alloc, &mut machine, &said.image)?;
     machine.set(Reg::R15, 0x0C00_8003);
     Ok(machine)
 }
