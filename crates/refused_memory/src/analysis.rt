@@ -1,0 +1,205 @@
+use crate::texts::{NESTED, NESTED_STATEMENT};
+use crate::trial::{Answer, IN_TURN, Trial};
+use arcwcet::ReportFault;
+use assembler::assemble;
+use bus_ticks::Profile;
+use flow_graph::{
+    BuildFault, Calls, Edge, Graph, Label, Place, Statement, Tight, TightFault, build,
+    read_statement, tight_state,
+};
+use loader::Image;
+use longest_walk::{FoldedWalk, Item, Longest, WalkFault, longest};
+use loop_bounds::{LoopTree, NestFault, nest};
+use std::alloc::Global;
+
+/// An edge of the nested countdown: the branch that turns its inner loop, which takes 4 ticks.
+const EDGE: usize = 4;
+
+/// A call on the nested countdown. None changes a value.
+#[derive(Clone, Copy)]
+pub(crate) enum AnalysisCall {
+    Build,
+    Tight,
+    Nest,
+    Longest,
+}
+
+/// A handler's image and statement.
+#[derive(Drop)]
+pub(crate) struct Stated {
+    pub(crate) image: Image,
+    pub(crate) statement: Statement,
+}
+
+/// The nested countdown.
+pub(crate) fn nested(alloc: Global) -> Result<Stated, ReportFault> {
+    let said = assemble(alloc, NESTED)?;
+    let statement = read_statement(alloc, NESTED_STATEMENT, &said.labels)?;
+    Ok(Stated {
+        image: said.image,
+        statement,
+    })
+}
+
+fn is_nested_graph(graph: &Graph) -> bool {
+    let costs = [1, 1, 2, 1, 4, 1, 1, 4, 10];
+    graph.places().len() == 7
+        && graph.edges().len() == 9
+        && graph
+            .edges()
+            .iter()
+            .zip(costs.iter())
+            .all(|(edge, cost)| edge.cost == *cost)
+}
+
+fn built(alloc: Global, handler: &Stated) -> Answer {
+    match build(alloc, &handler.image, &handler.statement, &Profile::one()) {
+        Ok(graph) => Answer::of(is_nested_graph(&graph)),
+        Err(BuildFault::Memory) => Answer::Refused,
+        Err(_) => Answer::Wrong,
+    }
+}
+
+// Whether the machine's one step takes the edge.
+fn is_tight(mut tight: Tight) -> bool {
+    let stepped = tight.machine.step(tight.input);
+    let numbers = [stepped.from, stepped.to, stepped.ticks];
+    numbers == [0x800C, 0x8008, 4] && tight.file.pc() == 0x800C
+}
+
+fn tight(alloc: Global, handler: &Stated) -> Result<Answer, ReportFault> {
+    let graph = build(alloc, &handler.image, &handler.statement, &Profile::one())?;
+    if EDGE >= graph.edges().len() {
+        return Ok(Answer::Wrong);
+    }
+    Ok(
+        match tight_state(alloc, &handler.image, &handler.statement, &graph, EDGE) {
+            Ok(tight) => Answer::of(is_tight(tight)),
+            Err(TightFault::Memory) => Answer::Refused,
+            Err(TightFault::NotFree) => Answer::Wrong,
+        },
+    )
+}
+
+// The inner instance comes before the outer one.
+fn is_nested_tree(tree: &LoopTree) -> bool {
+    let headers = [0x8008, 0x8004];
+    tree.instances().len() == 2
+        && tree.order().len() == 8
+        && tree.edges().len() == 9
+        && tree
+            .instances()
+            .iter()
+            .zip(headers.iter())
+            .all(|(found, header)| found.stated.header == *header)
+}
+
+fn nest_of(alloc: Global, handler: &Stated) -> Result<Answer, ReportFault> {
+    let graph = build(alloc, &handler.image, &handler.statement, &Profile::one())?;
+    Ok(match nest(alloc, &graph, &handler.statement) {
+        Ok(tree) => Answer::of(is_nested_tree(&tree)),
+        Err(NestFault::Memory) => Answer::Refused,
+        Err(_) => Answer::Wrong,
+    })
+}
+
+fn is_nested_walk(found: &Longest) -> bool {
+    let distances = [0, 0, 0, 2, 16, 17, 40];
+    let rows = found.potentials.places.items();
+    found.bound == 50
+        && found.walk.items().len() == 9
+        && rows.len() == 7
+        && rows
+            .iter()
+            .zip(distances.iter())
+            .all(|(row, distance)| row.distance == *distance)
+        && found.potentials.instances.items().len() == 2
+}
+
+fn longest_of(alloc: Global, handler: &Stated) -> Result<Answer, ReportFault> {
+    let graph = build(alloc, &handler.image, &handler.statement, &Profile::one())?;
+    let tree = nest(alloc, &graph, &handler.statement)?;
+    Ok(match longest(alloc, &graph, &tree) {
+        Ok(found) => Answer::of(is_nested_walk(&found)),
+        Err(WalkFault::Memory) => Answer::Refused,
+        Err(_) => Answer::Wrong,
+    })
+}
+
+impl Trial for AnalysisCall {
+    fn make(&mut self, alloc: Global) -> Result<Answer, ReportFault> {
+        let handler = nested(alloc)?;
+        match self {
+            AnalysisCall::Build => Ok(built(alloc, &handler)),
+            AnalysisCall::Tight => tight(alloc, &handler),
+            AnalysisCall::Nest => nest_of(alloc, &handler),
+            AnalysisCall::Longest => longest_of(alloc, &handler),
+        }
+    }
+
+    fn is_unchanged(&mut self, _alloc: Global) -> Result<bool, ReportFault> {
+        Ok(true)
+    }
+}
+
+/// Steps put at the end of a walk.
+#[derive(Drop)]
+pub(crate) struct PushItems {
+    walk: FoldedWalk,
+    put: u32,
+}
+
+// A step of so many ticks.
+fn step(cost: u32) -> Item {
+    Item::Step(Edge {
+        from: Place::At(Calls::new(), 0x8000),
+        label: Label::Do,
+        to: Place::Exit,
+        cost,
+    })
+}
+
+fn cost_of(item: &Item) -> Option<u32> {
+    match item {
+        Item::Step(edge) => Some(edge.cost),
+        Item::Repeat(_, _) => None,
+    }
+}
+
+impl PushItems {
+    pub(crate) fn new(alloc: Global) -> PushItems {
+        PushItems {
+            walk: FoldedWalk::new(alloc),
+            put: 0,
+        }
+    }
+
+    // Whether the walk has the steps that were put, and no other.
+    fn is_whole(&self) -> bool {
+        let mut wanted = 0u32;
+        for item in self.walk.items() {
+            if cost_of(item) != Some(wanted) {
+                return false;
+            }
+            wanted = wanted.saturating_add(1);
+        }
+        wanted == self.put
+    }
+}
+
+impl Trial for PushItems {
+    fn make(&mut self, alloc: Global) -> Result<Answer, ReportFault> {
+        for n in self.put..u32::from(IN_TURN) {
+            match self.walk.push(alloc, step(n)) {
+                Ok(()) => self.put = n.saturating_add(1),
+                Err(WalkFault::Memory) => return Ok(Answer::Refused),
+                Err(_) => return Ok(Answer::Wrong),
+            }
+        }
+        Ok(Answer::of(self.is_whole()))
+    }
+
+    fn is_unchanged(&mut self, _alloc: Global) -> Result<bool, ReportFault> {
+        Ok(self.is_whole())
+    }
+}

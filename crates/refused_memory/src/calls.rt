@@ -1,0 +1,124 @@
+use crate::analysis::{AnalysisCall, PushItems};
+use crate::certificates::CertificateCall;
+use crate::images::{ImageCall, Load, PutLabels, PutWords};
+use crate::machine::{AddRom, NewCall};
+use crate::machine_files::MachineFileCall;
+use crate::programs::{Line, Started};
+use crate::reports::{NewOutput, ROOM, Report, Written};
+use crate::sessions::{Command, Obeyed};
+use crate::sources::SourceCall;
+use crate::trial::{Outcome, tried};
+use arcwcet::ReportFault;
+use std::alloc::Global;
+
+/// A call that takes memory.
+#[derive(Clone, Copy)]
+pub(crate) enum Call {
+    New(NewCall),
+    NewOutput,
+    AddRom,
+    MachineFile(MachineFileCall),
+    Image(ImageCall),
+    Load,
+    PutWords,
+    PutLabels,
+    Source(SourceCall),
+    Analysis(AnalysisCall),
+    PushItems,
+    Certificate(CertificateCall),
+    Command(Command),
+    /// A report over an output that has taken memory for so many bytes.
+    Report(Report, usize),
+    Program(Line),
+}
+
+/// All calls, with the words that name them.
+pub(crate) const CALLS: &[(&str, Call)] = &[
+    ("Memc::new", Call::New(NewCall::Memc)),
+    ("Memc::add_rom", Call::AddRom),
+    ("Machine::new", Call::New(NewCall::Machine)),
+    ("read_machine", Call::MachineFile(MachineFileCall::Read)),
+    (
+        "read_profile",
+        Call::MachineFile(MachineFileCall::ReadProfile),
+    ),
+    ("write_machine", Call::MachineFile(MachineFileCall::Write)),
+    (
+        "MachineFile::of_parts",
+        Call::MachineFile(MachineFileCall::OfParts),
+    ),
+    (
+        "MachineFile::machine",
+        Call::MachineFile(MachineFileCall::Machine),
+    ),
+    (
+        "MachineFile::inputs",
+        Call::MachineFile(MachineFileCall::Inputs),
+    ),
+    ("read_image", Call::Image(ImageCall::Read)),
+    ("write_image", Call::Image(ImageCall::Write)),
+    ("page_plan", Call::Image(ImageCall::Plan)),
+    ("load", Call::Load),
+    ("Image::put", Call::PutWords),
+    ("Labels::put", Call::PutLabels),
+    ("assemble", Call::Source(SourceCall::Assemble)),
+    ("read_statement", Call::Source(SourceCall::ReadStatement)),
+    ("build", Call::Analysis(AnalysisCall::Build)),
+    ("tight_state", Call::Analysis(AnalysisCall::Tight)),
+    ("nest", Call::Analysis(AnalysisCall::Nest)),
+    ("longest", Call::Analysis(AnalysisCall::Longest)),
+    ("FoldedWalk::push", Call::PushItems),
+    ("write_cert", Call::Certificate(CertificateCall::Write)),
+    ("read_cert", Call::Certificate(CertificateCall::Read)),
+    ("check", Call::Certificate(CertificateCall::Check)),
+    ("Session::command-step", Call::Command(Command::Step)),
+    ("Session::command-run", Call::Command(Command::Run)),
+    ("Session::command-regs", Call::Command(Command::Registers)),
+    ("Session::command-ticks", Call::Command(Command::Ticks)),
+    ("Session::command-mem", Call::Command(Command::Words)),
+    ("Session::command-dis", Call::Command(Command::Lines)),
+    ("Session::command-break", Call::Command(Command::Breaks)),
+    ("MemoryOutput::with_room", Call::NewOutput),
+    ("asm_report", Call::Report(Report::Asm, ROOM)),
+    ("run_report", Call::Report(Report::Run, ROOM)),
+    ("trace_report", Call::Report(Report::Trace, ROOM)),
+    ("debug_report", Call::Report(Report::Debug, ROOM)),
+    ("bound_report", Call::Report(Report::Bound, ROOM)),
+    ("bound_report-without-room", Call::Report(Report::Bound, 0)),
+    ("check_report", Call::Report(Report::Check, ROOM)),
+    ("visits_report", Call::Report(Report::Visits, ROOM)),
+    ("tight_report", Call::Report(Report::Tight, ROOM)),
+    ("program-bound", Call::Program(Line::Bound)),
+    ("program-asm", Call::Program(Line::Asm)),
+    ("program-usage", Call::Program(Line::Usage)),
+];
+
+impl Call {
+    fn tried(self, alloc: Global) -> Result<Outcome, ReportFault> {
+        match self {
+            Call::New(mut call) => tried(alloc, &mut call),
+            Call::NewOutput => tried(alloc, &mut NewOutput),
+            Call::AddRom => tried(alloc, &mut AddRom::new(alloc)?),
+            Call::MachineFile(mut call) => tried(alloc, &mut call),
+            Call::Image(mut call) => tried(alloc, &mut call),
+            Call::Load => tried(alloc, &mut Load::new(alloc)?),
+            Call::PutWords => tried(alloc, &mut PutWords::new(alloc)),
+            Call::PutLabels => tried(alloc, &mut PutLabels::new(alloc)),
+            Call::Source(mut call) => tried(alloc, &mut call),
+            Call::Analysis(mut call) => tried(alloc, &mut call),
+            Call::PushItems => tried(alloc, &mut PushItems::new(alloc)),
+            Call::Certificate(mut call) => tried(alloc, &mut call),
+            Call::Command(command) => tried(alloc, &mut Obeyed::new(alloc, command)?),
+            Call::Report(report, room) => tried(alloc, &mut Written::new(alloc, report, room)?),
+            Call::Program(line) => tried(alloc, &mut Started::new(alloc, line)?),
+        }
+    }
+
+    /// Makes the call, and makes it again if memory was refused.
+    pub(crate) fn outcome(self, alloc: Global) -> Outcome {
+        match self.tried(alloc) {
+            Ok(outcome) => outcome,
+            Err(fault) => Outcome::Unmade(fault),
+        }
+    }
+}

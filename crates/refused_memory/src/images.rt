@@ -1,0 +1,236 @@
+use crate::machine::word_in;
+use crate::texts::{COUNTDOWN, COUNTDOWN_IMAGE};
+use crate::trial::{Answer, IN_TURN, Trial};
+use arcwcet::ReportFault;
+use arm2_exec::Machine;
+use assembler::assemble;
+use bus_ticks::Profile;
+use loader::{
+    Image, ImageFault, LabelFault, Labels, LoadFault, PagePlan, PlacedPage, ReadFault, load,
+    page_plan, read_image, write_image,
+};
+use memc::PageSize;
+use std::alloc::Global;
+
+/// Words in RAM, by a logical and a physical address, and in ROM.
+const SCATTERED: &[u8] =
+    b" ORG &8000\n DCD 1\n ORG &2000010\n DCD 2\n ORG &3800000\n DCD &12345678\n";
+
+/// A call that reads, writes or plans an image, and changes none.
+#[derive(Clone, Copy)]
+pub(crate) enum ImageCall {
+    Read,
+    Write,
+    Plan,
+}
+
+fn is_countdown(image: &Image) -> bool {
+    let words = [
+        image.word_at(0x8000),
+        image.word_at(0x8004),
+        image.word_at(0x8008),
+        image.word_at(0x800C),
+    ];
+    image.words() == 4
+        && image.segments() == 1
+        && words
+            == [
+                Some(0xE3A0_0003),
+                Some(0xE250_0001),
+                Some(0x1AFF_FFFD),
+                Some(0xE25E_F004),
+            ]
+}
+
+fn read(alloc: Global) -> Answer {
+    match read_image(alloc, COUNTDOWN_IMAGE) {
+        Ok(image) => Answer::of(is_countdown(&image)),
+        Err(ReadFault::Memory) => Answer::Refused,
+        Err(_) => Answer::Wrong,
+    }
+}
+
+fn written(alloc: Global) -> Result<Answer, ReportFault> {
+    let said = assemble(alloc, COUNTDOWN)?;
+    Ok(match write_image(alloc, &said.image) {
+        Ok(bytes) => Answer::of(bytes.as_slice() == COUNTDOWN_IMAGE),
+        Err(ImageFault::Memory) => Answer::Refused,
+        Err(_) => Answer::Wrong,
+    })
+}
+
+// Physical page 0 is taken, logical page 1 gets the next, and the one after that is spare.
+fn is_planned(plan: &PagePlan) -> bool {
+    let page = PlacedPage {
+        logical: 1,
+        physical: 1,
+    };
+    plan.pages.as_slice() == [page].as_slice() && plan.spare == 2
+}
+
+fn planned(alloc: Global) -> Result<Answer, ReportFault> {
+    let said = assemble(alloc, SCATTERED)?;
+    Ok(match page_plan(alloc, &said.image) {
+        Ok(plan) => Answer::of(is_planned(&plan)),
+        Err(_) => Answer::Refused,
+    })
+}
+
+impl Trial for ImageCall {
+    fn make(&mut self, alloc: Global) -> Result<Answer, ReportFault> {
+        match self {
+            ImageCall::Read => Ok(read(alloc)),
+            ImageCall::Write => written(alloc),
+            ImageCall::Plan => planned(alloc),
+        }
+    }
+
+    fn is_unchanged(&mut self, _alloc: Global) -> Result<bool, ReportFault> {
+        Ok(true)
+    }
+}
+
+/// An image loaded into a machine.
+#[derive(Drop)]
+pub(crate) struct Load {
+    image: Image,
+    machine: Machine,
+}
+
+impl Load {
+    pub(crate) fn new(alloc: Global) -> Result<Load, ReportFault> {
+        let machine = Machine::new(alloc, PageSize::K4, Profile::one())?;
+        Ok(Load {
+            image: assemble(alloc, SCATTERED)?.image,
+            machine,
+        })
+    }
+
+    fn words(&self) -> [Option<u32>; 3] {
+        let memc = self.machine.memc();
+        [
+            word_in(memc, 0x8000),
+            word_in(memc, 0x200_0010),
+            word_in(memc, 0x380_0000),
+        ]
+    }
+}
+
+impl Trial for Load {
+    fn make(&mut self, alloc: Global) -> Result<Answer, ReportFault> {
+        Ok(match load(alloc, &mut self.machine, &self.image) {
+            Ok(()) => Answer::of(self.words() == [Some(1), Some(2), Some(0x1234_5678)]),
+            Err(LoadFault::Memory) => Answer::Refused,
+            Err(LoadFault::NoPage) => Answer::Wrong,
+        })
+    }
+
+    fn is_unchanged(&mut self, _alloc: Global) -> Result<bool, ReportFault> {
+        Ok(self.words() == [Some(0); 3])
+    }
+}
+
+/// Words put into an image side by side.
+#[derive(Drop)]
+pub(crate) struct PutWords {
+    image: Image,
+    put: u32,
+}
+
+// The address of the n-th word or label.
+fn address_of(n: u32) -> u32 {
+    n.wrapping_mul(4).wrapping_add(0x8000)
+}
+
+impl PutWords {
+    pub(crate) fn new(alloc: Global) -> PutWords {
+        PutWords {
+            image: Image::new(alloc),
+            put: 0,
+        }
+    }
+
+    // Whether the image has the words that were put, and no other.
+    fn is_whole(&self) -> bool {
+        for n in 0..self.put {
+            if self.image.word_at(address_of(n)) != Some(n) {
+                return false;
+            }
+        }
+        let segments = u32::from(self.put > 0);
+        (self.image.words(), self.image.segments()) == (self.put, segments)
+    }
+}
+
+impl Trial for PutWords {
+    fn make(&mut self, alloc: Global) -> Result<Answer, ReportFault> {
+        for n in self.put..u32::from(IN_TURN) {
+            match self.image.put(alloc, address_of(n), n) {
+                Ok(()) => self.put = n.saturating_add(1),
+                Err(ImageFault::Memory) => return Ok(Answer::Refused),
+                Err(_) => return Ok(Answer::Wrong),
+            }
+        }
+        Ok(Answer::of(self.is_whole()))
+    }
+
+    fn is_unchanged(&mut self, _alloc: Global) -> Result<bool, ReportFault> {
+        Ok(self.is_whole())
+    }
+}
+
+/// Labels put beside one another.
+#[derive(Drop)]
+pub(crate) struct PutLabels {
+    labels: Labels,
+    put: u8,
+}
+
+// The name of the n-th label.
+fn name_of(n: u8) -> [u8; 2] {
+    [b'l', n]
+}
+
+impl PutLabels {
+    pub(crate) fn new(alloc: Global) -> PutLabels {
+        PutLabels {
+            labels: Labels::new(alloc),
+            put: 0,
+        }
+    }
+
+    // Whether the labels are those that were put.
+    fn is_whole(&self) -> bool {
+        for n in 0..IN_TURN {
+            let address = if n < self.put {
+                Some(address_of(u32::from(n)))
+            } else {
+                None
+            };
+            if self.labels.get(&name_of(n)) != address {
+                return false;
+            }
+        }
+        true
+    }
+}
+
+impl Trial for PutLabels {
+    fn make(&mut self, alloc: Global) -> Result<Answer, ReportFault> {
+        for n in self.put..IN_TURN {
+            match self
+                .labels
+                .put(alloc, &name_of(n), address_of(u32::from(n)))
+            {
+                Ok(()) => self.put = n.saturating_add(1),
+                Err(LabelFault::Memory) => return Ok(Answer::Refused),
+                Err(LabelFault::Twice) => return Ok(Answer::Wrong),
+            }
+        }
+        Ok(Answer::of(self.is_whole()))
+    }
+
+    fn is_unchanged(&mut self, _alloc: Global) -> Result<bool, ReportFault> {
+        Ok(self.is_whole())
+    }
+}

@@ -1,0 +1,132 @@
+use crate::reports::ROOM;
+use crate::texts::{COUNTDOWN, COUNTDOWN_IMAGE, NESTED, NESTED_CERTIFICATE, NESTED_STATEMENT};
+use crate::trial::{Answer, Trial};
+use arcwcet::{MemoryOutput, ReportFault, Store, StoreFault, program, read_limited};
+use std::alloc::{AllocError, Global};
+
+/// The status for lack of memory.
+const NO_MEMORY: u8 = 3;
+
+/// What the program is asked for.
+#[derive(Clone, Copy)]
+pub(crate) enum Line {
+    Bound,
+    Asm,
+    /// A command that there is not.
+    Usage,
+}
+
+impl Line {
+    // The words after the program's name.
+    fn words(self) -> [&'static str; 3] {
+        match self {
+            Line::Bound => ["bound", "nested.s", "nested.toml"],
+            Line::Asm => ["asm", "countdown.s", "image"],
+            Line::Usage => ["frob", "countdown.s", "image"],
+        }
+    }
+
+    // The status, and standard output.
+    fn answer(self) -> (u8, &'static [u8]) {
+        match self {
+            Line::Bound => (0, NESTED_CERTIFICATE),
+            Line::Asm => (0, b"words 4 segments 1\n"),
+            Line::Usage => (2, b""),
+        }
+    }
+
+    // Whether the image's file was written, and as it has to be.
+    fn written(self) -> Option<bool> {
+        match self {
+            Line::Asm => Some(true),
+            Line::Bound | Line::Usage => None,
+        }
+    }
+}
+
+/// The files that the words name. Of the one that is written it only knows whether it is the image.
+#[derive(Drop)]
+struct Files {
+    written: Option<bool>,
+}
+
+impl Store for Files {
+    fn read(&mut self, alloc: Global, name: &str) -> Result<Vec<u8>, StoreFault> {
+        let mut bytes = match name {
+            "countdown.s" => COUNTDOWN,
+            "nested.s" => NESTED,
+            "nested.toml" => NESTED_STATEMENT,
+            _ => return Err(StoreFault::Device),
+        };
+        read_limited(alloc, &mut bytes)
+    }
+
+    fn write(&mut self, name: &str, bytes: &[u8]) -> Result<(), StoreFault> {
+        self.written = Some(name == "image" && bytes == COUNTDOWN_IMAGE);
+        Ok(())
+    }
+}
+
+/// The program with its words, files and standard output.
+#[derive(Drop)]
+pub(crate) struct Started {
+    line: Line,
+    words: Vec<String>,
+    files: Files,
+    out: MemoryOutput,
+}
+
+fn words(alloc: Global, line: Line) -> Result<Vec<String>, AllocError> {
+    let mut words = Vec::new(alloc);
+    words.push(String::from_str(alloc, "arcwcet")?)?;
+    for word in line.words() {
+        words.push(String::from_str(alloc, word)?)?;
+    }
+    Ok(words)
+}
+
+impl Started {
+    pub(crate) fn new(alloc: Global, line: Line) -> Result<Started, ReportFault> {
+        let out = MemoryOutput::with_room(alloc, ROOM)?;
+        Ok(Started {
+            line,
+            words: words(alloc, line)?,
+            files: Files { written: None },
+            out,
+        })
+    }
+
+    fn is_right(&self, status: u8, told: &[u8]) -> bool {
+        let answer = (status, self.out.bytes());
+        answer == self.line.answer()
+            && self.files.written == self.line.written()
+            && told.is_empty() == (status == 0)
+    }
+}
+
+impl Trial for Started {
+    fn make(&mut self, alloc: Global) -> Result<Answer, ReportFault> {
+        let mut err = MemoryOutput::with_room(alloc, ROOM)?;
+        let mut input: &[u8] = b"";
+        let status = program(
+            alloc,
+            &self.words,
+            &mut self.files,
+            &mut input,
+            &mut self.out,
+            &mut err,
+        );
+        if status != NO_MEMORY {
+            return Ok(Answer::of(self.is_right(status, err.bytes())));
+        }
+        if err.bytes() == b"refused: Memory\n".as_slice() {
+            Ok(Answer::Refused)
+        } else {
+            Ok(Answer::Wrong)
+        }
+    }
+
+    fn is_unchanged(&mut self, _alloc: Global) -> Result<bool, ReportFault> {
+        Ok(self.out.bytes().is_empty() && self.files.written == None)
+    }
+}

@@ -1,0 +1,260 @@
+use crate::texts::{
+    COUNTDOWN, COUNTDOWN_MACHINE, COUNTDOWN_STATEMENT, NESTED, NESTED_CERTIFICATE, NESTED_STATEMENT,
+};
+use crate::trial::{Answer, Trial};
+use arcwcet::{
+    MemoryOutput, Output, ReportFault, asm_report, bound_report, check_report, debug_report,
+    run_report, tight_report, trace_report, visits_report,
+};
+use std::alloc::Global;
+
+/// Room for each report.
+pub(crate) const ROOM: usize = 4096;
+
+const RAN: &[u8] = b"R0=00000000 R1=00000000 R2=00000000 R3=00000000
+R4=00000000 R5=00000000 R6=00000000 R7=00000000
+R8=00000000 R9=00000000 R10=00000000 R11=00000000
+R12=00000000 R13=00000000 R14=00000000 R15=0000100C
+ticks 21 elapsed 21
+";
+
+const TRACED: &[u8] = b"00008000 E3A00003 1 MOV R0,#3
+00008004 E2500001 1 SUBS R0,R0,#1
+00008008 1AFFFFFD 5 BNE &8004
+00008004 E2500001 1 SUBS R0,R0,#1
+00008008 1AFFFFFD 5 BNE &8004
+00008004 E2500001 1 SUBS R0,R0,#1
+00008008 1AFFFFFD 2 BNE &8004
+0000800C E25EF004 5 SUBS R15,R14,#4
+ticks 21 elapsed 21
+";
+
+const COMMANDS: &[u8] = b"step\nticks\nmem &8004 1\nfrob\nstep x\nmem &80000 1\n";
+
+const ANSWERED: &[u8] = b"00008000 E3A00003 1 MOV R0,#3
+ticks 1 elapsed 1
+00008004 E2500001
+refused: UnknownCommand
+refused: BadNumber
+refused: NoPage
+";
+
+/// A handler of FIQ that returns at once, and the countdown.
+const TWO_HANDLERS: &[u8] = b" ORG &1C\nfiq SUBS PC,R14,#4\n ORG &8000\n\
+    start MOV R0,#3\nagain SUBS R0,R0,#1\nturn BNE again\n SUBS PC,R14,#4\n";
+
+const IRQ_STATEMENT: &[u8] = b"entry = \"start\"\nleave = \"ram\"\n\
+    [[loop]]\nheader = \"again\"\nfirst = \"again\"\nlast = \"turn\"\nbound = 2\n";
+
+const FIQ_STATEMENT: &[u8] = b"entry = \"fiq\"\nleave = \"ram\"\n";
+
+const VISITED: &[u8] = b"arcwcet visits
+visits 2
+irq 21
+fiq 5
+entry 8
+total 47
+arcwcet certificate 1
+bound 21
+step 8000 do 8004 1
+repeat 2
+step 8004 do 8008 1
+step 8008 do 8004 5
+end
+step 8004 do 8008 1
+step 8008 skip 800C 2
+step 800C do exit 5
+close
+place - 8000 0
+place - 8004 0
+place - 8008 1
+place - 800C 16
+instance - 8004 1 6
+stop
+arcwcet certificate 1
+bound 5
+step 1C do exit 5
+close
+place - 1C 0
+stop
+";
+
+/// The edge of the countdown's return, and the line of its report that shows it.
+const EDGE: u32 = 4;
+
+const EDGE_LINE: &[u8] = b"# edge 800C do exit 9\n";
+
+/// What a run of the edge ends with.
+const EDGE_TICKS: &[u8] = b"ticks 9 elapsed 9\n";
+
+/// A report that takes memory.
+#[derive(Clone, Copy, PartialEq, Eq)]
+pub(crate) enum Report {
+    Asm,
+    Run,
+    Trace,
+    Debug,
+    Bound,
+    Check,
+    Visits,
+    Tight,
+}
+
+impl Report {
+    // What is written; of a tight edge's report what stands before the machine file.
+    fn text(self) -> &'static [u8] {
+        match self {
+            Report::Asm => b"words 4 segments 1\n",
+            Report::Run => RAN,
+            Report::Trace => TRACED,
+            Report::Debug => ANSWERED,
+            Report::Bound => NESTED_CERTIFICATE,
+            Report::Check => b"yes\n",
+            Report::Visits => VISITED,
+            Report::Tight => EDGE_LINE,
+        }
+    }
+
+    fn write(self, alloc: Global, out: &mut MemoryOutput) -> Result<bool, ReportFault> {
+        match self {
+            Report::Asm | Report::Run | Report::Trace | Report::Debug => {
+                self.write_of_machine(alloc, out)
+            }
+            Report::Bound | Report::Check | Report::Visits | Report::Tight => {
+                self.write_of_handler(alloc, out)
+            }
+        }
+    }
+
+    fn write_of_machine(self, alloc: Global, out: &mut MemoryOutput) -> Result<bool, ReportFault> {
+        match self {
+            Report::Run => run_report(alloc, COUNTDOWN, COUNTDOWN_MACHINE, None, out),
+            Report::Trace => trace_report(alloc, COUNTDOWN, COUNTDOWN_MACHINE, None, out),
+            Report::Debug => {
+                debug_report(alloc, COUNTDOWN, COUNTDOWN_MACHINE, COMMANDS, None, out)?;
+                Ok(true)
+            }
+            _ => {
+                asm_report(alloc, COUNTDOWN, out)?;
+                Ok(true)
+            }
+        }
+    }
+
+    fn write_of_handler(self, alloc: Global, out: &mut MemoryOutput) -> Result<bool, ReportFault> {
+        match self {
+            Report::Check => {
+                check_report(
+                    alloc,
+                    NESTED,
+                    NESTED_STATEMENT,
+                    NESTED_CERTIFICATE,
+                    None,
+                    out,
+                )
+            }
+            Report::Visits => {
+                visits_report(
+                    alloc,
+                    TWO_HANDLERS,
+                    IRQ_STATEMENT,
+                    FIQ_STATEMENT,
+                    2,
+                    None,
+                    out,
+                )?;
+                Ok(true)
+            }
+            Report::Tight => {
+                tight_report(alloc, COUNTDOWN, COUNTDOWN_STATEMENT, EDGE, None, out)?;
+                Ok(true)
+            }
+            _ => {
+                bound_report(alloc, NESTED, NESTED_STATEMENT, None, out)?;
+                Ok(true)
+            }
+        }
+    }
+
+    fn is_written(self, alloc: Global, written: &[u8]) -> Result<bool, ReportFault> {
+        if self == Report::Tight {
+            return Ok(written.starts_with(EDGE_LINE) && runs_edge(alloc, written)?);
+        }
+        Ok(written == self.text())
+    }
+}
+
+// Whether a machine file runs for the ticks of the edge.
+fn runs_edge(alloc: Global, file: &[u8]) -> Result<bool, ReportFault> {
+    let mut ran = MemoryOutput::with_room(alloc, ROOM)?;
+    let finished = run_report(alloc, COUNTDOWN, file, None, &mut ran)?;
+    Ok(finished && ran.bytes().ends_with(EDGE_TICKS))
+}
+
+/// A report and its output, which has taken memory for so many bytes.
+#[derive(Drop)]
+pub(crate) struct Written {
+    report: Report,
+    room: usize,
+    out: MemoryOutput,
+}
+
+impl Written {
+    pub(crate) fn new(alloc: Global, report: Report, room: usize) -> Result<Written, ReportFault> {
+        Ok(Written {
+            report,
+            room,
+            out: MemoryOutput::with_room(alloc, room)?,
+        })
+    }
+
+    // What an output without room took before it failed has to be a front of the report. Another takes its
+    // place.
+    fn failed(&mut self, alloc: Global) -> Result<Answer, ReportFault> {
+        if self.room > 0 || !self.report.text().starts_with(self.out.bytes()) {
+            return Ok(Answer::Wrong);
+        }
+        self.out = MemoryOutput::with_room(alloc, self.room)?;
+        Ok(Answer::Refused)
+    }
+}
+
+impl Trial for Written {
+    fn make(&mut self, alloc: Global) -> Result<Answer, ReportFault> {
+        match self.report.write(alloc, &mut self.out) {
+            Ok(answer) => {
+                let is_written = self.report.is_written(alloc, self.out.bytes())?;
+                Ok(Answer::of(answer && is_written))
+            }
+            Err(ReportFault::Memory) => Ok(Answer::Refused),
+            Err(ReportFault::Device) => self.failed(alloc),
+            Err(_) => Ok(Answer::Wrong),
+        }
+    }
+
+    fn is_unchanged(&mut self, _alloc: Global) -> Result<bool, ReportFault> {
+        Ok(self.out.bytes().is_empty())
+    }
+}
+
+/// An output that takes memory for 100 bytes.
+#[derive(Clone, Copy)]
+pub(crate) struct NewOutput;
+
+fn takes_hundred(out: &mut MemoryOutput) -> bool {
+    out.bytes().is_empty() && out.write(&[7; 100]) == Ok(100) && out.bytes() == [7; 100].as_slice()
+}
+
+impl Trial for NewOutput {
+    fn make(&mut self, alloc: Global) -> Result<Answer, ReportFault> {
+        match MemoryOutput::with_room(alloc, 100) {
+            Ok(mut out) => Ok(Answer::of(takes_hundred(&mut out))),
+            Err(ReportFault::Memory) => Ok(Answer::Refused),
+            Err(_) => Ok(Answer::Wrong),
+        }
+    }
+
+    fn is_unchanged(&mut self, _alloc: Global) -> Result<bool, ReportFault> {
+        Ok(true)
+    }
+}
