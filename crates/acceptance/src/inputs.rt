@@ -1,5 +1,7 @@
 //! Runs of the program over files and a standard input that are too long or fail.
 
+use crate::countdown;
+use crate::countdown::SOURCE;
 use crate::files::{Files, line};
 use arcwcet::{LIMIT, MemoryOutput, ReportFault, program};
 use std::alloc::{AllocError, Global};
@@ -8,21 +10,34 @@ use std::io::{ErrorKind, Read};
 use std::test::Fail;
 
 /// So many blanks, and a text after them.
-type Source = (usize, &'static str);
+type File = (usize, &'static [u8]);
 
-const COUNTDOWN: Source = (
-    0,
-    "start MOV R0,#3\nagain SUBS R0,R0,#1\n BNE again\n SUBS PC,R14,#4\n",
-);
+const COUNTDOWN: File = (0, SOURCE);
 
-const NO_SOURCE: Source = (0, "frob");
+const NO_SOURCE: File = (0, b"frob");
 
-const LONG_SOURCE: Source = (LIMIT + 1, "");
+const MACHINE: File = (0, countdown::MACHINE);
 
-const MACHINE: &[u8] = b"pc = 0x8000\nmode = \"irq\"\nsteps = 8\n[registers]\nr14_irq = 0x1010\n";
+/// A source of one line.
+const RETURN: &[u8] = b" SUBS PC,R14,#4";
+
+const ENTRY: &[u8] = b"entry = 0x8000";
+
+/// Files that are as long as they may be.
+const LONGEST_SOURCE: File = (LIMIT - RETURN.len(), RETURN);
+
+const LONGEST_STATEMENT: File = (LIMIT - ENTRY.len(), ENTRY);
+
+const TOO_LONG_A_FILE: File = (LIMIT + 1, b"");
 
 /// A status, and what standard output and standard error then hold.
 type Told = (u8, &'static str, &'static str);
+
+const BOUND: Told = (
+    0,
+    "arcwcet certificate 1\nbound 9\nstep 8000 do exit 9\nclose\nplace - 8000 0\nstop\n",
+    "",
+);
 
 const UNKNOWN_COMMAND: Told = (0, "refused: UnknownCommand\n", "");
 
@@ -47,19 +62,34 @@ const ENDLESS: Input = (b'\n', usize::MAX, None);
 /// What stays of an endless input, of which a byte more than the limit is read.
 const UNREAD: usize = usize::MAX - LIMIT - 1;
 
-/// A command, its source, its input, what it tells, and how much of the input it leaves.
-type Row = (&'static str, Source, Input, Told, usize);
+/// A command, its source and second file, its input, what it tells, and how much of the input it leaves.
+type Row = (&'static str, [File; 2], Input, Told, usize);
 
-const ROWS: [Row; 8] = [
-    ("bound", LONG_SOURCE, NOTHING, TOO_LONG, 0),
-    ("asm", COUNTDOWN, NOTHING, DEVICE, 0),
-    ("debug", COUNTDOWN, (b'x', LIMIT, None), UNKNOWN_COMMAND, 0),
-    ("debug", COUNTDOWN, FAILS, DEVICE, 0),
-    ("debug", COUNTDOWN, FAILS_LATER, DEVICE, 0),
-    ("debug", COUNTDOWN, INTERRUPTED, DEVICE, 0),
-    ("debug", COUNTDOWN, ENDLESS, TOO_LONG, UNREAD),
+const ROWS: [Row; 11] = [
+    ("bound", [TOO_LONG_A_FILE, (0, ENTRY)], NOTHING, TOO_LONG, 0),
+    (
+        "bound",
+        [(0, RETURN), TOO_LONG_A_FILE],
+        NOTHING,
+        TOO_LONG,
+        0,
+    ),
+    ("bound", [LONGEST_SOURCE, (0, ENTRY)], NOTHING, BOUND, 0),
+    ("bound", [(0, RETURN), LONGEST_STATEMENT], NOTHING, BOUND, 0),
+    ("asm", [COUNTDOWN, MACHINE], NOTHING, DEVICE, 0),
+    (
+        "debug",
+        [COUNTDOWN, MACHINE],
+        (b'x', LIMIT, None),
+        UNKNOWN_COMMAND,
+        0,
+    ),
+    ("debug", [COUNTDOWN, MACHINE], FAILS, DEVICE, 0),
+    ("debug", [COUNTDOWN, MACHINE], FAILS_LATER, DEVICE, 0),
+    ("debug", [COUNTDOWN, MACHINE], INTERRUPTED, DEVICE, 0),
+    ("debug", [COUNTDOWN, MACHINE], ENDLESS, TOO_LONG, UNREAD),
     // The input is refused before a source that is none.
-    ("debug", NO_SOURCE, ENDLESS, TOO_LONG, UNREAD),
+    ("debug", [NO_SOURCE, MACHINE], ENDLESS, TOO_LONG, UNREAD),
 ];
 
 /// A reader of one byte so many times, which then ends or fails.
@@ -84,21 +114,22 @@ impl Read for Bytes {
     }
 }
 
-fn bytes_of(alloc: Global, source: &Source) -> Result<Vec<u8>, AllocError> {
-    let (blanks, text) = source;
+fn bytes_of(alloc: Global, file: &File) -> Result<Vec<u8>, AllocError> {
+    let (blanks, text) = file;
     let mut bytes = vec![in alloc; b' '; *blanks]?;
-    bytes.extend_from_slice(text.as_bytes())?;
+    bytes.extend_from_slice(text)?;
     Ok(bytes)
 }
 
 /// Whether the program tells that of the command, and leaves so much of the input.
 fn is_told(alloc: Global, row: &Row) -> Result<bool, ReportFault> {
-    let (command, source, (byte, left, fails), (status, said, told), unread) = row;
+    let (command, [source, second], (byte, left, fails), (status, said, told), unread) = row;
     let words = line(alloc, command)?;
     let source = bytes_of(alloc, source)?;
+    let second = bytes_of(alloc, second)?;
     let mut files = Files {
         source: &source,
-        second: MACHINE,
+        second: &second,
     };
     let mut input = Bytes {
         byte: *byte,

@@ -6,6 +6,10 @@
 #[cfg(test)]
 mod certificates;
 #[cfg(test)]
+mod countdown;
+#[cfg(test)]
+mod cuts;
+#[cfg(test)]
 mod enumeration;
 #[cfg(test)]
 mod files;
@@ -19,6 +23,8 @@ mod lines;
 mod loading;
 #[cfg(test)]
 mod outputs;
+#[cfg(test)]
+mod reports;
 #[cfg(test)]
 mod tight;
 #[cfg(test)]

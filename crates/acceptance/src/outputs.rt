@@ -3,37 +3,37 @@
 ghost use Rattle.std.specs.Prelude.{Some};
 
 use crate::files::{Files, line};
-use arcwcet::{MemoryOutput, Output, OutputFault, ReportFault, bound_report, program, write_whole};
+use crate::reports::{REPORTS, Report, SOURCE, STATEMENT, on_room};
+use arcwcet::{MemoryOutput, Output, OutputFault, program, write_whole};
 use std::alloc::Global;
 use std::process::Abort;
 use std::test::Fail;
 
-const SOURCE: &[u8] = b" ORG &1C\n SUBS PC,R14,#4\n";
+/// How an output fails.
+#[derive(Clone, Copy)]
+enum Failure {
+    TakesNothing,
+    Error,
+}
 
-const STATEMENT: &[u8] = b"entry = 0x1C\n";
-
-const REPORT: &[u8] =
-    b"arcwcet certificate 1\nbound 9\nstep 1C do exit 9\nclose\nplace - 1C 0\nstop\n";
-
-// What `visits` prints above two such reports.
-const VISITS: &[u8] = b"arcwcet visits\nvisits 1\nirq 9\nfiq 9\nentry 8\ntotal 26\n";
-
-/// Takes at most `step` bytes a write and `left` bytes in all, and then nothing.
+/// Takes at most `step` bytes a write and `left` bytes in all, and then fails.
 #[derive(Drop)]
 struct Narrow {
     bytes: Vec<u8>,
     failures: u64,
     step: usize,
     left: usize,
+    failure: Failure,
 }
 
 impl Narrow {
-    fn new(alloc: Global, step: usize, left: usize) -> Narrow {
+    fn new(alloc: Global, step: usize, left: usize, failure: Failure) -> Narrow {
         Narrow {
             bytes: Vec::new(alloc),
             failures: 0,
             step,
             left,
+            failure,
         }
     }
 }
@@ -47,7 +47,10 @@ impl Output for Narrow {
         let n = bytes.len().min(self.step).min(self.left);
         if n == 0 && !bytes.is_empty() {
             self.failures = self.failures.saturating_add(1);
-            return Ok(0);
+            return match self.failure {
+                Failure::TakesNothing => Ok(0),
+                Failure::Error => Err(OutputFault::Failed),
+            };
         }
         match self.bytes.extend_from_slice(&bytes[..n]) {
             Ok(()) => {
@@ -62,24 +65,62 @@ impl Output for Narrow {
     }
 }
 
-#[test]
-fn outputs_take_all(rt: HostRuntime) -> Result<(), Fail> {
-    let alloc = rt.alloc();
+/// Whether outputs take the whole of the text.
+fn take_all(alloc: Global, text: &[u8]) -> Result<bool, Fail> {
     let mut memory = MemoryOutput::with_room(alloc, 3)?;
-    write_whole(&mut memory, b"abc")?;
-    let mut slow = Narrow::new(alloc, 1, 9);
-    write_whole(&mut slow, b"abc")?;
-    let mut report = MemoryOutput::with_room(alloc, 128)?;
-    bound_report(alloc, SOURCE, STATEMENT, None, &mut report)?;
-    assert_eq!(rt;
-        (
-            memory.bytes(),
-            slow.bytes.as_slice(),
-            slow.failures,
-            report.bytes()
-        ),
-        (b"abc".as_slice(), b"abc".as_slice(), 0, REPORT)
-    );
+    write_whole(&mut memory, text)?;
+    let mut slow = Narrow::new(alloc, 1, 9, Failure::Error);
+    write_whole(&mut slow, text)?;
+    Ok(memory.bytes() == text && slow.bytes.as_slice() == text && slow.failures == 0)
+}
+
+/// How many bytes an output takes a write, and how it fails.
+const KINDS: [(usize, Failure); 3] = [
+    (1, Failure::TakesNothing),
+    (7, Failure::TakesNothing),
+    (7, Failure::Error),
+];
+
+/// Whether the report ends as it has to on an output of such a kind with that room, and writes no more once
+/// it has failed.
+fn is_cut(
+    alloc: Global,
+    report: Report,
+    text: &[u8],
+    kind: &(usize, Failure),
+    room: usize,
+) -> bool {
+    let (step, failure) = kind;
+    let mut out = Narrow::new(alloc, *step, room, *failure);
+    let found = report.print(alloc, &mut out);
+    let (answer, front) = on_room(text, room);
+    found == answer && out.bytes.as_slice() == front && out.failures == u64::from(room < text.len())
+}
+
+/// The room at which the report does not end as it has to, if there is one up to its length. In a long text,
+/// which may take a machine to make, each room is tried with one kind of output in turn, but for the ends.
+fn first_wrong(alloc: Global, report: Report, text: &[u8]) -> Option<usize> {
+    for room in 0..=text.len() {
+        let are_all_tried = text.len() < 100 || room == 0 || room == text.len();
+        for (number, kind) in KINDS.iter().enumerate() {
+            let is_tried = are_all_tried || room % KINDS.len() == number;
+            if is_tried && !is_cut(alloc, report, text, kind, room) {
+                return Some(room);
+            }
+        }
+    }
+    None
+}
+
+#[test]
+fn reports_at_each_cut(rt: HostRuntime) -> Result<(), Fail> {
+    let alloc = rt.alloc();
+    assert!(rt; take_all(alloc, b"abc")?);
+    for (number, (report, parts)) in REPORTS.iter().enumerate() {
+        let text = report.text(alloc)?;
+        assert!(rt; report.is_of(&text, parts), "report {number}");
+        assert_eq!(rt; first_wrong(alloc, *report, &text), None, "report {number}");
+    }
     Ok(())
 }
 
@@ -92,9 +133,9 @@ fn program_at_cuts(
 ) -> Result<(), Fail> {
     for left in 0..=report.len() {
         let status = if left < report.len() { 4 } else { 0 };
-        let mut out = Narrow::new(alloc, 7, left);
+        let mut out = Narrow::new(alloc, 7, left, Failure::TakesNothing);
         // What standard error takes changes no status.
-        let mut err = Narrow::new(alloc, 1, 0);
+        let mut err = Narrow::new(alloc, 1, 0, Failure::Error);
         let mut files = Files {
             source: SOURCE,
             second: STATEMENT,
@@ -111,35 +152,13 @@ fn program_at_cuts(
 }
 
 #[test]
-fn reports_at_each_cut(rt: HostRuntime) -> Result<(), Fail> {
-    let alloc = rt.alloc();
-    for (step, left) in (0..=100).flat_map(|left| [(1, left), (7, left)]) {
-        let kept = &REPORT[..REPORT.len().min(left)];
-        let (answer, failures) = if left < REPORT.len() {
-            (Err(ReportFault::Device), 1)
-        } else {
-            (Ok(()), 0)
-        };
-        let mut report = Narrow::new(alloc, step, left);
-        let found = bound_report(alloc, SOURCE, STATEMENT, None, &mut report);
-        assert_eq!(rt;
-            (found, report.bytes.as_slice(), report.failures),
-            (answer, kept, failures),
-            "at {left}"
-        );
-    }
-    Ok(())
-}
-
-#[test]
 fn program_at_outputs_that_fail(rt: HostRuntime) -> Result<(), Fail> {
     let alloc = rt.alloc();
-    program_at_cuts(&rt, alloc, &line(alloc, "bound")?, REPORT)?;
+    let bound = Report::Bound.text(alloc)?;
+    program_at_cuts(&rt, alloc, &line(alloc, "bound")?, &bound)?;
     let mut words = line(alloc, "visits")?;
     words.push(String::from_str(alloc, "second")?)?;
     words.push(String::from_str(alloc, "1")?)?;
-    let mut report = VISITS.to_vec(alloc)?;
-    report.extend_from_slice(REPORT)?;
-    report.extend_from_slice(REPORT)?;
-    program_at_cuts(&rt, alloc, &words, &report)
+    let visits = Report::Visits.text(alloc)?;
+    program_at_cuts(&rt, alloc, &words, &visits)
 }

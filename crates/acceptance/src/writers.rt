@@ -1,26 +1,45 @@
 //! Outputs over writers that take all of a slice, a part of it or nothing, or fail.
 
+use crate::reports::{REPORTS, Report, on_room};
 use arcwcet::{Output, OutputFault, StreamOutput};
 use std::alloc::Global;
 use std::io;
 use std::io::{ErrorKind, Write};
 use std::test::Fail;
 
-/// Takes so many bytes of a slice, or fails.
+/// Takes at most `step` bytes a write and `left` bytes in all, and then none, or fails.
 #[derive(Drop)]
 struct Writer {
     bytes: Vec<u8>,
-    most: Option<usize>,
+    step: usize,
+    left: usize,
+    fails: Option<ErrorKind>,
+}
+
+impl Writer {
+    fn new(alloc: Global, step: usize, left: usize, fails: Option<ErrorKind>) -> Writer {
+        Writer {
+            bytes: Vec::new(alloc),
+            step,
+            left,
+            fails,
+        }
+    }
 }
 
 impl Write for Writer {
     fn write(&mut self, buf: &[u8]) -> io::Result<usize> {
-        let Some(most) = self.most else {
-            return Err(ErrorKind::BrokenPipe.into());
-        };
-        let taken = buf.len().min(most);
+        if self.left == 0 {
+            if let Some(kind) = self.fails {
+                return Err(kind.into());
+            }
+        }
+        let taken = buf.len().min(self.step).min(self.left);
         match self.bytes.extend_from_slice(&buf[..taken]) {
-            Ok(()) => Ok(taken),
+            Ok(()) => {
+                self.left -= taken;
+                Ok(taken)
+            }
             Err(_) => Err(ErrorKind::OutOfMemory.into()),
         }
     }
@@ -30,31 +49,86 @@ impl Write for Writer {
     }
 }
 
-/// What a writer takes of a slice at most, the answer to `abc`, and what the writer has then.
-type Row = (Option<usize>, Result<usize, OutputFault>, &'static [u8]);
+/// What a writer takes of a slice at most, how it fails once it is full, the answer to `abc`, and what the
+/// writer has then.
+type Row = (
+    usize,
+    Option<ErrorKind>,
+    Result<usize, OutputFault>,
+    &'static [u8],
+);
 
-const ROWS: [Row; 4] = [
-    (Some(9), Ok(3), b"abc"),
-    (Some(2), Ok(2), b"ab"),
-    (Some(0), Ok(0), b""),
-    (None, Err(OutputFault::Failed), b""),
+const ROWS: [Row; 5] = [
+    (9, None, Ok(3), b"abc"),
+    (2, None, Ok(2), b"ab"),
+    (0, None, Ok(0), b""),
+    (
+        0,
+        Some(ErrorKind::BrokenPipe),
+        Err(OutputFault::Failed),
+        b"",
+    ),
+    (
+        0,
+        Some(ErrorKind::Interrupted),
+        Err(OutputFault::Failed),
+        b"",
+    ),
 ];
 
 /// Whether the output answers so, and its writer has those bytes.
 fn writes(alloc: Global, row: &Row) -> bool {
-    let (most, answer, bytes) = row;
-    let mut writer = Writer {
-        bytes: Vec::new(alloc),
-        most: *most,
-    };
+    let (left, fails, answer, bytes) = row;
+    let mut writer = Writer::new(alloc, 9, *left, *fails);
     let found = StreamOutput::new(&mut writer).write(b"abc");
     found == *answer && writer.bytes.as_slice() == *bytes
 }
 
+/// How many bytes a writer takes a write, and how it fails once it is full. An interrupted write has failed;
+/// it is not tried again.
+const KINDS: [(usize, Option<ErrorKind>); 3] = [
+    (1, None),
+    (7, Some(ErrorKind::BrokenPipe)),
+    (7, Some(ErrorKind::Interrupted)),
+];
+
+/// Whether the report ends as it has to over a writer of such a kind with that room.
+fn is_cut(
+    alloc: Global,
+    report: Report,
+    text: &[u8],
+    kind: &(usize, Option<ErrorKind>),
+    room: usize,
+) -> bool {
+    let (step, fails) = kind;
+    let mut writer = Writer::new(alloc, *step, room, *fails);
+    let found = report.print(alloc, &mut StreamOutput::new(&mut writer));
+    let (answer, front) = on_room(text, room);
+    found == answer && writer.bytes.as_slice() == front
+}
+
+/// The room at which the report does not end as it has to, if there is one of some up to its length.
+fn first_wrong(alloc: Global, report: Report, text: &[u8]) -> Option<usize> {
+    let most = text.len();
+    for room in [0, 1, most / 2, most.saturating_sub(1), most] {
+        for kind in &KINDS {
+            if !is_cut(alloc, report, text, kind, room) {
+                return Some(room);
+            }
+        }
+    }
+    None
+}
+
 #[test]
 fn writers_take_what_they_are_given(rt: HostRuntime) -> Result<(), Fail> {
+    let alloc = rt.alloc();
     for (number, row) in ROWS.iter().enumerate() {
-        assert!(rt; writes(rt.alloc(), row), "row {number}");
+        assert!(rt; writes(alloc, row), "row {number}");
+    }
+    for (number, (report, _)) in REPORTS.iter().enumerate() {
+        let text = report.text(alloc)?;
+        assert_eq!(rt; first_wrong(alloc, *report, &text), None, "report {number}");
     }
     Ok(())
 }

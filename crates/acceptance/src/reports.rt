@@ -1,0 +1,105 @@
+//! Each report of one short handler, and what it prints.
+
+use arcwcet::{
+    MemoryOutput, Output, ReportFault, asm_report, bound_report, check_report, debug_report,
+    run_report, tight_report, trace_report, visits_report,
+};
+use std::alloc::{AllocError, Global};
+
+/// A return at FIQ's vector.
+pub(crate) const SOURCE: &[u8] = b" ORG &1C\n SUBS PC,R14,#4\n";
+
+pub(crate) const STATEMENT: &[u8] = b"entry = 0x1C\n";
+
+/// It returns to user mode.
+const MACHINE: &[u8] = b"pc = 0x1C\nmode = \"irq\"\nsteps = 1\n[registers]\nr14_irq = 0x1010\n";
+
+const SESSION: &[u8] = b"step\nfrob\n";
+
+const CERTIFICATE: &[u8] =
+    b"arcwcet certificate 1\nbound 9\nstep 1C do exit 9\nclose\nplace - 1C 0\nstop\n";
+
+/// What `visits` prints above both certificates.
+const SUMMARY: &[u8] = b"arcwcet visits\nvisits 1\nirq 9\nfiq 9\nentry 8\ntotal 26\n";
+
+const REGISTERS: &[u8] = b"R0=00000000 R1=00000000 R2=00000000 R3=00000000
+R4=00000000 R5=00000000 R6=00000000 R7=00000000
+R8=00000000 R9=00000000 R10=00000000 R11=00000000
+R12=00000000 R13=00000000 R14=00000000 R15=0000100C
+";
+
+const STEP: &[u8] = b"0000001C E25EF004 5 SUBS R15,R14,#4\n";
+
+const TICKS: &[u8] = b"ticks 5 elapsed 5\n";
+
+/// The calls that print a report.
+#[derive(Clone, Copy)]
+pub(crate) enum Report {
+    Asm,
+    Bound,
+    Visits,
+    Tight,
+    Check,
+    Run,
+    Trace,
+    Debug,
+}
+
+/// The reports, and the parts of their texts; of an edge's machine file the first line alone.
+pub(crate) const REPORTS: [(Report, &[&[u8]]); 8] = [
+    (Report::Asm, &[b"words 1 segments 1\n"]),
+    (Report::Bound, &[CERTIFICATE]),
+    (Report::Visits, &[SUMMARY, CERTIFICATE, CERTIFICATE]),
+    (Report::Tight, &[b"# edge 1C do exit 9\n"]),
+    (Report::Check, &[b"yes\n"]),
+    (Report::Run, &[REGISTERS, TICKS]),
+    (Report::Trace, &[STEP, TICKS]),
+    (Report::Debug, &[STEP, b"refused: UnknownCommand\n"]),
+];
+
+impl Report {
+    /// Prints the report, and answers what it answers: `true` where it answers nothing.
+    pub(crate) fn print<O: Output>(self, alloc: Global, out: &mut O) -> Result<bool, ReportFault> {
+        match self {
+            Report::Asm => asm_report(alloc, SOURCE, out).and(Ok(true)),
+            Report::Bound => bound_report(alloc, SOURCE, STATEMENT, None, out).and(Ok(true)),
+            Report::Visits => {
+                visits_report(alloc, SOURCE, STATEMENT, STATEMENT, 1, None, out).and(Ok(true))
+            }
+            Report::Tight => tight_report(alloc, SOURCE, STATEMENT, 0, None, out).and(Ok(true)),
+            Report::Check => check_report(alloc, SOURCE, STATEMENT, CERTIFICATE, None, out),
+            Report::Run => run_report(alloc, SOURCE, MACHINE, None, out),
+            Report::Trace => trace_report(alloc, SOURCE, MACHINE, None, out),
+            Report::Debug => {
+                debug_report(alloc, SOURCE, MACHINE, SESSION, None, out).and(Ok(true))
+            }
+        }
+    }
+
+    /// What the report prints on an output in memory.
+    pub(crate) fn text(self, alloc: Global) -> Result<Vec<u8>, ReportFault> {
+        let mut out = MemoryOutput::with_room(alloc, 0)?;
+        self.print(alloc, &mut out)?;
+        Ok(out.bytes().to_vec(alloc)?)
+    }
+
+    /// Whether the text has these parts in turn, and no more but the rest of a machine file.
+    pub(crate) fn is_of(self, text: &[u8], parts: &[&[u8]]) -> bool {
+        let mut rest = text;
+        for part in parts {
+            match rest.strip_prefix(*part) {
+                Some(after) => rest = after,
+                None => return false,
+            }
+        }
+        matches!(self, Report::Tight) || rest.is_empty()
+    }
+}
+
+/// What a report of that text answers where the output takes so many bytes, and which it takes.
+pub(crate) fn on_room(text: &[u8], room: usize) -> (Result<bool, ReportFault>, &[u8]) {
+    match text.get(..room) {
+        Some(front) if room < text.len() => (Err(ReportFault::Device), front),
+        _ => (Ok(true), text),
+    }
+}
