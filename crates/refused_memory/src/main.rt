@@ -2,8 +2,9 @@
 //! what it changes has to be as it was before, and the same call made again has to give the right answer.
 //! An argument names the one call to be made.
 //!
-//! The status is 0 where each answer is right, also where that was at the second time; 1 where one is wrong;
-//! 2 where there is no call of the name; 3 where memory was refused beside the calls, and none is wrong.
+//! The status is 0 where each answer is right, also where that was at the second time; 1 where one is wrong,
+//! or a call was refused twice; 2 where there is no call of the name; 3 where memory was refused beside the
+//! calls, and none is wrong.
 #![tactic(auto)]
 
 mod analysis;

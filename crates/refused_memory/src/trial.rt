@@ -106,7 +106,7 @@ pub(crate) fn tried<T: Trial>(alloc: Global, trial: &mut T) -> Result<Outcome, R
         Answer::Right => Ok(Outcome::Right),
         Answer::Wrong => Ok(Outcome::Wrong),
         Answer::Refused => match tried_again(alloc, trial) {
-            // Only one request is refused.
+            // Beside the call that is made again.
             Err(ReportFault::Memory) => Ok(Outcome::RefusedAgain),
             outcome => outcome,
         },
