@@ -1,64 +1,65 @@
-//! Runs a loop on the machine and prints its steps and ticks, so that steps a second can be timed from
-//! outside. The number of steps is an argument, at most 4294967295, or else 4096.
+//! Runs loops on the machine and prints their steps and ticks, so that steps a second can be timed from outside.
+//!
+//!     speed [LOOP [STEPS]]
+//!
+//! LOOP is the name of a loop; all of them run where none is named. STEPS is at most 4294967295, or else 4096.
+//! The status is 0, 2 where there is no such loop or number, and 3 where a loop was not run.
 #![tactic(auto)]
 
-use arm2_exec::{Input, Machine, Reg};
-use bitflags::Flags;
-use bus_ticks::Profile;
-use ioc::Lines;
-use memc::{Memc, PageSize, Spot};
+mod loops;
+mod running;
+
+use loops::{LOOPS, Loop};
+use running::{debug, run};
 use std::process::ExitCode;
 use std::{env, io};
 
-/// The steps without an argument.
+/// The steps where no number is given.
 const FEW: u32 = 4096;
 
-// ADD R1,R1,R0; LDR R2,[R3]; STR R1,[R3]; SUBS R0,R0,#1; B 8000
-const LOOP: [u32; 5] = [
-    0xE081_1000,
-    0xE593_2000,
-    0xE583_1000,
-    0xE250_0001,
-    0xEAFF_FFFA,
-];
-
-fn put(memc: &mut Memc, address: u32, word: u32) {
-    if let Ok(Spot::Ram(place)) = memc.locate(address % 0x400_0000, false, true) {
-        memc.store(Spot::Ram(place), word);
+// The steps that a word asks for.
+fn steps_of(word: Option<String>) -> Option<u32> {
+    match word {
+        Some(word) => word.as_str().parse().ok(),
+        None => Some(FEW),
     }
 }
 
-fn steps_asked(rt: &HostRuntime) -> u32 {
-    let Ok(mut words) = env::args(rt) else {
-        return FEW;
+// Whether a word asks for a loop: no word asks for all.
+fn asks_for(word: &Option<String>, which: Loop) -> bool {
+    match word {
+        Some(word) => word.as_str() == which.name(),
+        None => true,
+    }
+}
+
+// Runs a loop, prints what it took, and answers whether it ran.
+fn show(rt: &HostRuntime, which: Loop, steps: u32) -> io::Result<bool> {
+    let name = which.name();
+    let shown = match which {
+        Loop::Debug => debug(rt.alloc(), which, steps),
+        _ => run(rt.alloc(), which, steps),
     };
-    match words.nth(1) {
-        Some(word) => word.parse().unwrap_or(FEW),
-        None => FEW,
+    match shown {
+        Ok(text) => println!(rt; "{name}: {text}").and(Ok(true)),
+        Err(fault) => println!(rt; "{name}: {fault}").and(Ok(false)),
     }
 }
 
 fn main(rt: HostRuntime) -> io::Result<ExitCode> {
-    let Ok(mut machine) = Machine::new(rt.alloc(), PageSize::K32, Profile::one()) else {
+    let Ok(mut words) = env::args(&rt) else {
         return Ok(ExitCode::from(3));
     };
-    let mut address = 0x8000u32;
-    for word in LOOP {
-        put(machine.memc_mut(), address, word);
-        address = address.wrapping_add(4);
-    }
-    machine.set(Reg::R15, 0x0C00_8003);
-    machine.set(Reg::R3, 0x9000);
-    let input = Input {
-        bursts: 0,
-        lines: Lines::empty(),
-        port: 0,
+    let name = words.nth(1);
+    let Some(steps) = steps_of(words.next()) else {
+        return Ok(ExitCode::from(2));
     };
-    let steps = steps_asked(&rt);
-    let mut ticks = 0u64;
-    for _ in 0..steps {
-        ticks = ticks.wrapping_add(u64::from(machine.step(input).ticks));
+    let mut status = 2u8;
+    for which in LOOPS {
+        if asks_for(&name, which) {
+            let ran = show(&rt, which, steps)?;
+            status = if ran && status != 3 { 0 } else { 3 };
+        }
     }
-    println!(rt; "steps {steps} ticks {ticks}")?;
-    Ok(ExitCode::SUCCESS)
+    Ok(ExitCode::from(status))
 }
