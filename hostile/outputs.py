@@ -154,14 +154,17 @@ def image_files(command):
 
 
 def full_disks(bench):
-    """Limits on a file's length, which stand for a disc that is full. No part of an image may stay."""
+    """Limits on a file's length, which stand for a disc that is full.
+
+    No part of an image may stay. What stood in the file before is lost when it is opened.
+    """
     source = b"         DCD    1\n" * 1000
     for limit in (0, 1):
         for old in (None, OLD_IMAGE):
             files = {"handler.s": source, **({"made.image": old} if old else {})}
             name = f"asm, the image's file, {'old' if old else 'new'}: {1024 * limit} bytes at most"
             shell = f"trap '' XFSZ; ulimit -f {limit}; exec {{}}"
-            judge = Leaves(FAILED, "made.image", old)
+            judge = Leaves(FAILED, "made.image", None)
             yield Trial(name, ["asm", "handler.s", "made.image"], judge, files, shell=shell)
 
 
