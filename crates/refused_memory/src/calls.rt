@@ -57,6 +57,7 @@ pub(crate) const CALLS: &[(&str, Call)] = &[
     ),
     ("read_image", Call::Image(ImageCall::Read)),
     ("write_image", Call::Image(ImageCall::Write)),
+    ("Image::listed", Call::Image(ImageCall::List)),
     ("page_plan", Call::Image(ImageCall::Plan)),
     ("load", Call::Load),
     ("Image::put", Call::PutWords),

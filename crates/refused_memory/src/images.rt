@@ -16,11 +16,12 @@ use std::alloc::Global;
 const SCATTERED: &[u8] =
     b" ORG &8000\n DCD 1\n ORG &2000010\n DCD 2\n ORG &3800000\n DCD &12345678\n";
 
-/// A call that reads, writes or plans an image, and changes none.
+/// A call that reads, writes, lists or plans an image, and changes none.
 #[derive(Clone, Copy)]
 pub(crate) enum ImageCall {
     Read,
     Write,
+    List,
     Plan,
 }
 
@@ -59,6 +60,19 @@ fn written(alloc: Global) -> Result<Answer, ReportFault> {
     })
 }
 
+fn listed(alloc: Global) -> Result<Answer, ReportFault> {
+    let said = assemble(alloc, SCATTERED)?;
+    let words = [
+        (0x8000u32, 1u32),
+        (0x200_0010, 2),
+        (0x380_0000, 0x1234_5678),
+    ];
+    Ok(match said.image.listed(alloc) {
+        Ok(list) => Answer::of(list.as_slice() == words.as_slice()),
+        Err(_) => Answer::Refused,
+    })
+}
+
 // Physical page 0 is taken, logical page 1 gets the next, and the one after that is spare.
 fn is_planned(plan: &PagePlan) -> bool {
     let page = PlacedPage {
@@ -81,6 +95,7 @@ impl Trial for ImageCall {
         match self {
             ImageCall::Read => Ok(read(alloc)),
             ImageCall::Write => written(alloc),
+            ImageCall::List => listed(alloc),
             ImageCall::Plan => planned(alloc),
         }
     }
