@@ -1,4 +1,4 @@
-ghost use Rattle.std.specs.Prelude.{◌≡◌, ◌++◌, OnOk, IfOk, IfErr, string_bytes};
+ghost use Rattle.std.specs.Prelude.{◌≡◌, ◌++◌, OnOk, MatchResult, IfOk, IfErr, string_bytes};
 ghost use Rattle.certificate.specs.Lines.{cert_text, said_of};
 ghost use Rattle.certificate.specs.Walk.{address_of, item_lines, step_of, walk_lines};
 ghost use Rattle.certificate.specs.Words.{edge_words, ended, instance_words, list_words, place_words};
@@ -51,8 +51,7 @@ pub fn address_of(place: &Place) -> u32
     }
 }
 
-/// Writes an edge as the lines of a walk do, `ADDRESS skip|do TO COST`, and ends the line.
-pub fn write_edge(out: &mut String, edge: &Edge) -> Result<(), AllocError>
+fn put_edge(out: &mut String, edge: &Edge) -> Result<(), AllocError>
     ensures { OnOk result
         (string_bytes out.new ≡ string_bytes out.old ++ ended (edge_words (step_of edge.now))) }
 {
@@ -67,12 +66,25 @@ pub fn write_edge(out: &mut String, edge: &Edge) -> Result<(), AllocError>
     }
 }
 
+/// Adds an edge as the lines of a walk show it, `ADDRESS skip|do TO COST`, and ends the line. The cost is in ticks.
+///
+/// An error says that an allocation failed; the text is then as it was.
+pub fn write_edge(out: &mut String, edge: &Edge) -> Result<(), AllocError>
+    ensures { MatchResult result
+        (λ _. string_bytes out.new ≡ string_bytes out.old ++ ended (edge_words (step_of edge.now)))
+        (λ _. string_bytes out.new ≡ string_bytes out.old) }
+{
+    let mut line = String::new(*out.allocator());
+    put_edge(&mut line, edge)?;
+    out.push_str(line.as_str())
+}
+
 fn put_step(out: &mut String, edge: &Edge) -> Result<(), AllocError>
     ensures { OnOk result
         (string_bytes out.new ≡ string_bytes out.old ++ ended (step_words (step_of edge.now))) }
 {
     out.push_str("step ")?;
-    write_edge(out, edge)
+    put_edge(out, edge)
 }
 
 #[cycle(walk)]
