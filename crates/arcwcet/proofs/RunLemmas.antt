@@ -12,7 +12,7 @@ use Rattle.arcwcet.specs.Priced.{ByProfile, HasNoProfile, Priced, PricedFault}
 use Rattle.arcwcet.specs.Assembly.{IsSourceRefused}
 use Rattle.arcwcet.specs.Report.{IsRefused, IsReport}
 use Rattle.arcwcet.specs.Run.{HasNoReport, HasNoRun, HasNoTightReportOf, HasNoVerdict, HasNoVisitsReport, HasHeard, HasPrinted, IsAnswerOf, IsReportOf, IsRunOf, IsSessionOf, IsTightReportOf, IsVisitsReportOf, OfThree, OfTwo}
-use Rattle.arcwcet.specs.Run.{Runs, RunsAsked, RunsAsm, RunsCheck, RunsDebug, RunsMachine, RunsVisits, answer_status, report_status, store_status}
+use Rattle.arcwcet.specs.Run.{Runs, RunsAsked, RunsAsm, RunsCheck, RunsDebug, RunsMachine, RunsVisits, answer_status, done_status, report_status, store_status}
 use Rattle.arcwcet.specs.VisitsReport.{AreAccepted, AreRefused, IsVisitsReport, ReportsVisits}
 use Rattle.arcwcet.specs.declared.fault.ReportFault.{ReportFault}
 use Rattle.arcwcet.specs.declared.fault.ReportFault.TheVariants.{Memory, Source, Image, Statement, Graph, Loops, Walk, MachineFile, Load, Cert, Device}
@@ -169,6 +169,15 @@ module _ {S O T : Type 0} (reads : Reading S) (taken : O → Option (List ℕ)) 
       no_device None h = h
       no_device (Some t) h = h
 
+  -- the status of a report that gives no answer but its text
+  pub priced_done : ((x : T) → bool_of x ≡ true) → (result : Result T ReportFault) → Answered result
+      → (status : ℕ) → status ≡ done_status result → Runs reads taken failures IsRunText IsRunFault names old new before after status
+  priced_done yes (Ok x) h status is =
+      subst (λ (s : ℕ). Runs reads taken failures IsRunText IsRunFault names old new before after s) (sym is)
+      (done reads taken failures IsRunText IsRunFault names old new before after files read
+      (subst (λ (b : Bool). HasPrinted reads names old new (IsRunText b) (taken before) (taken after)) (yes x) (priced_printed x h)))
+  priced_done yes (Err fault) h status is = priced_refused fault h status is
+
 -- the files of a run in front of which a cycle profile's may stand
 pub of_two : (Is : Option (List ℕ) → List ℕ → List ℕ → Type 0) (file : Option (List ℕ)) (a b : List ℕ) → Is file a b → OfTwo Is (in_front file (a ∷ b ∷ []))
 of_two Is None a b h = h
@@ -260,18 +269,10 @@ module _ {S O : Type 0} (reads : Reading S) (taken : O → Option (List ℕ)) (f
     abbrev RunsReport : ℕ → Type 0
     RunsReport status = Runs reads taken failures (IsReportOf Is) (HasNoReport IsFault) (in_front profile (source ∷ second ∷ [])) old new before after status
 
-    pub report_done : {T : Type 0} (x : T) → Reported (Ok x) → RunsReport 0
-    report_done {T} x h =
-        let names = in_front profile (source ∷ second ∷ []) in
-        let files = in_front file (one ∷ two ∷ []) in
-        done reads taken failures (IsReportOf Is) (HasNoReport IsFault) names old new before after files read
-        (priced_printed {T = T} reads taken failures (IsReportOf Is) (HasNoReport IsFault) names old new before after files read
-        file (λ p y text. Is one two p text) (λ p. IsFine one two p) (λ p. IsFault one two p) (λ y. true) report_text report_fault_of x h)
-
-    pub report_refused : {T : Type 0} (fault : ReportFault) → Reported {T = T} (Err fault) → (status : ℕ) → status ≡ report_status fault → RunsReport status
-    report_refused {T} =
-        priced_refused {T = T} reads taken failures (IsReportOf Is) (HasNoReport IsFault) (in_front profile (source ∷ second ∷ [])) old new before after (in_front file (one ∷ two ∷ [])) read
-        file (λ p y text. Is one two p text) (λ p. IsFine one two p) (λ p. IsFault one two p) (λ y. true) report_text report_fault_of
+    pub report_ran : {T : Type 0} (result : Result T ReportFault) → Reported result → (status : ℕ) → status ≡ done_status result → RunsReport status
+    report_ran {T} =
+        priced_done {T = T} reads taken failures (IsReportOf Is) (HasNoReport IsFault) (in_front profile (source ∷ second ∷ [])) old new before after (in_front file (one ∷ two ∷ [])) read
+        file (λ p y text. Is one two p text) (λ p. IsFine one two p) (λ p. IsFault one two p) (λ y. true) report_text report_fault_of (λ y. refl)
 
 pub check_ran : {S O : Type 0} (reads : Reading S) (taken : O → Option (List ℕ)) (failures : O → ℕ) (profile : Option (List ℕ)) (source statement cert : List ℕ) (file : Option (List ℕ)) (one two three : List ℕ)
     (old new : S) (before after : O) → ReadsAll reads old (in_front profile (source ∷ statement ∷ cert ∷ [])) (in_front file (one ∷ two ∷ three ∷ [])) new
@@ -291,21 +292,12 @@ module _ {S O : Type 0} (reads : Reading S) (taken : O → Option (List ℕ)) (f
   visits_fault : (fault : ReportFault) → PricedFault file (λ p e. AreRefused one two three k p e) fault → HasNoVisitsReport k (in_front file (one ∷ two ∷ three ∷ [])) fault
   visits_fault fault h = of_three (λ f s t u. PricedFault f (λ p e. AreRefused s t u k p e) fault) file one two three h
 
-  pub visits_done : {T : Type 0} (x : T) → Priced file (λ p. ReportsVisits taken failures one two three k p before after (Ok x)) before after (Ok x)
-      → RunsVisits reads taken failures profile source irq fiq k old new before after 0
-  visits_done {T} x h =
-      let names = in_front profile (source ∷ irq ∷ fiq ∷ []) in
-      let files = in_front file (one ∷ two ∷ three ∷ []) in
-      done reads taken failures (IsVisitsReportOf k) (HasNoVisitsReport k) names old new before after files read
-      (priced_printed {T = T} reads taken failures (IsVisitsReportOf k) (HasNoVisitsReport k) names old new before after files read
-      file (λ p y text. IsVisitsReport one two three k p text) (λ p. AreAccepted one two three k p) (λ p. AreRefused one two three k p) (λ y. true) visits_text visits_fault x h)
-
-  pub visits_refused : {T : Type 0} (fault : ReportFault) → Priced {T = T} file (λ p. ReportsVisits {T = T} taken failures one two three k p before after (Err fault)) before after (Err fault)
-      → (status : ℕ) → status ≡ report_status fault → RunsVisits reads taken failures profile source irq fiq k old new before after status
-  visits_refused {T} =
-      priced_refused {T = T} reads taken failures (IsVisitsReportOf k) (HasNoVisitsReport k) (in_front profile (source ∷ irq ∷ fiq ∷ [])) old new before after
+  pub visits_ran : {T : Type 0} (result : Result T ReportFault) → Priced {T = T} file (λ p. ReportsVisits {T = T} taken failures one two three k p before after result) before after result
+      → (status : ℕ) → status ≡ done_status result → RunsVisits reads taken failures profile source irq fiq k old new before after status
+  visits_ran {T} =
+      priced_done {T = T} reads taken failures (IsVisitsReportOf k) (HasNoVisitsReport k) (in_front profile (source ∷ irq ∷ fiq ∷ [])) old new before after
       (in_front file (one ∷ two ∷ three ∷ [])) read
-      file (λ p y text. IsVisitsReport one two three k p text) (λ p. AreAccepted one two three k p) (λ p. AreRefused one two three k p) (λ y. true) visits_text visits_fault
+      file (λ p y text. IsVisitsReport one two three k p text) (λ p. AreAccepted one two three k p) (λ p. AreRefused one two three k p) (λ y. true) visits_text visits_fault (λ y. refl)
 
 module _ {S I O : Type 0} (reads : Reading S) (remaining : I → Option (List ℕ)) (taken : O → Option (List ℕ)) (failures : O → ℕ) (profile : Option (List ℕ)) (source machine : List ℕ)
     (old new : S) (heard_old heard_new : I) (before after : O) where
@@ -334,26 +326,14 @@ module _ {S I O : Type 0} (reads : Reading S) (remaining : I → Option (List �
     abbrev pub DebugAnswers : {T : Type 0} → Result T ReportFault → Type 0
     DebugAnswers result = Priced file (λ p. Answers taken failures (λ _ text. IsDebugReport one two commands p text) (IsRunnable one two p) (IsRunRefused one two p) before after result) before after result
 
-    pub debug_done : {T : Type 0} (x : T) → DebugAnswers (Ok x) → RunsDebug reads remaining taken failures profile source machine old new heard_old heard_new before after 0
-    debug_done {T} x h =
-        let names = in_front profile (source ∷ machine ∷ []) in
-        let files = in_front file (one ∷ two ∷ []) in
-        inl (
-          commands,
-          has_heard,
-          done reads taken failures (IsSessionOf commands) HasNoRun names old new before after files read
-              (priced_printed {T = T} reads taken failures (IsSessionOf commands) HasNoRun names old new before after files read
-              file (λ p y text. IsDebugReport one two commands p text) (λ p. IsRunnable one two p) (λ p. IsRunRefused one two p) (λ y. true) debug_text debug_fault x h),
-        )
-
-    pub debug_refused : {T : Type 0} (fault : ReportFault) → DebugAnswers {T = T} (Err fault) → (status : ℕ) → status ≡ report_status fault
+    pub debug_ran : {T : Type 0} (result : Result T ReportFault) → DebugAnswers result → (status : ℕ) → status ≡ done_status result
         → RunsDebug reads remaining taken failures profile source machine old new heard_old heard_new before after status
-    debug_refused {T} fault h status is =
+    debug_ran {T} result h status is =
         inl (
           commands,
           has_heard,
-          priced_refused {T = T} reads taken failures (IsSessionOf commands) HasNoRun (in_front profile (source ∷ machine ∷ [])) old new before after (in_front file (one ∷ two ∷ [])) read
-              file (λ p y text. IsDebugReport one two commands p text) (λ p. IsRunnable one two p) (λ p. IsRunRefused one two p) (λ y. true) debug_text debug_fault fault h status is,
+          priced_done {T = T} reads taken failures (IsSessionOf commands) HasNoRun (in_front profile (source ∷ machine ∷ [])) old new before after (in_front file (one ∷ two ∷ [])) read
+              file (λ p y text. IsDebugReport one two commands p text) (λ p. IsRunnable one two p) (λ p. IsRunRefused one two p) (λ y. true) debug_text debug_fault (λ y. refl) result h status is,
         )
 
 -- ## Without memory for the words

@@ -32,6 +32,11 @@ report_status report_fault.Memory = 3
 report_status report_fault.Device = 4
 report_status fault = 1
 
+-- the exit status of a report that gives no answer but its text
+abbrev pub done_status : {T : Type 0} → Result T ReportFault → ℕ
+done_status (Ok _) = 0
+done_status (Err fault) = report_status fault
+
 -- the exit status of a report that says yes or no
 abbrev pub answer_status : Result Bool ReportFault → ℕ
 answer_status (Ok answer) = if answer then 0 else 1

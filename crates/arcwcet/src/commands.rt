@@ -11,7 +11,7 @@ use crate::fault::ReportFault;
 use crate::files::{Store, read_limited, read_three_files, read_two_files};
 use crate::machine::{Front, Registers, Steps, machine_report};
 use crate::output::{Output, write_whole};
-use crate::status::{answer_status, line_status, report_status, store_status};
+use crate::status::{answer_status, done_status, line_status, report_status, store_status};
 use crate::tight::tight_report;
 use crate::visits::visits_report;
 use command_line::{AsmNames, CheckNames, Names, Request, TightNames, VisitsNames, request};
@@ -151,17 +151,15 @@ fn run_debug<S: Store, I: Read, O: Output, E: Output>(
         Ok(commands) => commands,
         Err(fault) => return store_status(fault, err),
     };
-    match debug_report(
+    let done = debug_report(
         alloc,
         &files.first,
         &files.second,
         &commands,
         files.profile(),
         out,
-    ) {
-        Ok(()) => 0,
-        Err(fault) => report_status(fault, err),
-    }
+    );
+    done_status(done, err)
 }
 
 /// `bound`: reads the files and prints the report.
@@ -181,10 +179,8 @@ fn run_bound<S: Store, O: Output, E: Output>(
         Ok(files) => files,
         Err(fault) => return store_status(fault, err),
     };
-    match bound_report(alloc, &files.first, &files.second, files.profile(), out) {
-        Ok(()) => 0,
-        Err(fault) => report_status(fault, err),
-    }
+    let done = bound_report(alloc, &files.first, &files.second, files.profile(), out);
+    done_status(done, err)
 }
 
 /// `bound --tight N`: reads the files and prints the report of the edge.
@@ -204,17 +200,15 @@ fn run_tight<S: Store, O: Output, E: Output>(
         Ok(files) => files,
         Err(fault) => return store_status(fault, err),
     };
-    match tight_report(
+    let done = tight_report(
         alloc,
         &files.first,
         &files.second,
         names.edge,
         files.profile(),
         out,
-    ) {
-        Ok(()) => 0,
-        Err(fault) => report_status(fault, err),
-    }
+    );
+    done_status(done, err)
 }
 
 /// `check`: reads the files and prints the verdict.
@@ -266,7 +260,7 @@ fn run_visits<S: Store, O: Output, E: Output>(
         Err(fault) => return store_status(fault, err),
     };
     let handler = &files.handler;
-    match visits_report(
+    let done = visits_report(
         alloc,
         &handler.first,
         &handler.second,
@@ -274,8 +268,6 @@ fn run_visits<S: Store, O: Output, E: Output>(
         names.visits,
         handler.profile(),
         out,
-    ) {
-        Ok(()) => 0,
-        Err(fault) => report_status(fault, err),
-    }
+    );
+    done_status(done, err)
 }

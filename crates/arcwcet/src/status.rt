@@ -1,5 +1,5 @@
 ghost use Rattle.std.specs.Prelude.{◌≡◌, ◌≢◌, ◌⊎◌};
-ghost use Rattle.arcwcet.specs.Run.{answer_status, report_status, store_status};
+ghost use Rattle.arcwcet.specs.Run.{answer_status, done_status, report_status, store_status};
 
 use crate::fault::{ReportFault, StoreFault};
 use crate::output::{Output, write_whole};
@@ -67,6 +67,17 @@ pub(crate) fn report_status<E: Output>(fault: ReportFault, err: &mut E) -> u8
 }
 
 /// Prints the refusal of a report, if it was refused, and answers the exit status.
+pub(crate) fn done_status<E: Output>(done: Result<(), ReportFault>, err: &mut E) -> u8
+    ensures status { result ≡ done_status done }
+    ensures silent { result ≡ 0 → err.new ≡ err.old }
+{
+    match done {
+        Ok(()) => 0,
+        Err(fault) => report_status(fault, err),
+    }
+}
+
+/// The same of a report that says yes or no.
 pub(crate) fn answer_status<E: Output>(answer: Result<bool, ReportFault>, err: &mut E) -> u8
     ensures status { result ≡ answer_status answer }
     ensures silent { result ≡ 0 → err.new ≡ err.old }

@@ -2,21 +2,8 @@ use Rattle.std.proofs.Common.{[], ◌∷◌, option_map, sym, subst}
 use Rattle.arcwcet.specs.Files.{ReadsAll, Texts, in_front}
 use Rattle.arcwcet.specs.Run.{HasNoTightReportOf, IsTightReportOf}
 use Rattle.arcwcet.specs.TightReport.{HasTightReport}
-use Rattle.arcwcet.proofs.RunLemmas.{report_done, report_refused}
+use Rattle.arcwcet.proofs.RunLemmas.{report_ran}
 use Rattle.arcwcet.proofs.commands.run_tight.Goals as goal
-
-pub returns-in-Ok-tight_report-clause-ran : goal.returns-in-Ok-tight_report-clause-ran
-returns-in-Ok-tight_report-clause-ran g c =
-    let reads = g.S.Store.read_gives in
-    let names = c.args.names.handler in
-    let profile = option_map (λ n. n.now) names.profile in
-    let file = option_map (λ f. f.now) c.profile.result in
-    report_done reads g.O.Output.taken g.O.Output.failures profile names.first.now names.second.now file c.deref.result.now c.deref-2.result.now c.args.store.now c.read_two_files.new.store c.args.out.now c.tight_report.new.out
-    (subst (λ (files : Texts). ReadsAll reads c.args.store.now (in_front profile (names.first.now ∷ names.second.now ∷ [])) files c.read_two_files.new.store)
-    (λ i. in_front (sym c.profile.ensures i) (sym c.deref.ensures.value i ∷ sym c.deref-2.ensures.value i ∷ []))
-    c.in-Ok.ensures.read)
-    (IsTightReportOf c.args.names.edge) (λ s t p. HasTightReport s t c.args.names.edge p) (HasNoTightReportOf c.args.names.edge)
-    c.in-Ok-tight_report.field-0 c.in-Ok-tight_report.ensures
 
 pub returns-clause-ran : goal.returns-clause-ran
 returns-clause-ran g c =
@@ -24,9 +11,9 @@ returns-clause-ran g c =
     let names = c.args.names.handler in
     let profile = option_map (λ n. n.now) names.profile in
     let file = option_map (λ f. f.now) c.profile.result in
-    report_refused reads g.O.Output.taken g.O.Output.failures profile names.first.now names.second.now file c.deref.result.now c.deref-2.result.now c.args.store.now c.read_two_files.new.store c.args.out.now c.tight_report.new.out
+    report_ran reads g.O.Output.taken g.O.Output.failures profile names.first.now names.second.now file c.deref.result.now c.deref-2.result.now c.args.store.now c.read_two_files.new.store c.args.out.now c.tight_report-done.new.out
     (subst (λ (files : Texts). ReadsAll reads c.args.store.now (in_front profile (names.first.now ∷ names.second.now ∷ [])) files c.read_two_files.new.store)
     (λ i. in_front (sym c.profile.ensures i) (sym c.deref.ensures.value i ∷ sym c.deref-2.ensures.value i ∷ []))
     c.in-Ok.ensures.read)
     (IsTightReportOf c.args.names.edge) (λ s t p. HasTightReport s t c.args.names.edge p) (HasNoTightReportOf c.args.names.edge)
-    c.in-Err-tight_report.fault c.in-Err-tight_report.ensures c.report_status.result c.report_status.ensures
+    c.tight_report-done.result c.tight_report-done.ensures c.done_status.result c.done_status.ensures.status

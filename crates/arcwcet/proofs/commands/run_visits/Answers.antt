@@ -1,21 +1,7 @@
 use Rattle.std.proofs.Common.{[], ◌∷◌, option_map, sym, subst}
 use Rattle.arcwcet.specs.Files.{ReadsAll, Texts, in_front}
-use Rattle.arcwcet.proofs.RunLemmas.{refused_status, visits_done, visits_refused}
+use Rattle.arcwcet.proofs.RunLemmas.{visits_ran}
 use Rattle.arcwcet.proofs.commands.run_visits.Goals as goal
-
-pub returns-in-Ok-visits_report-clause-ran : goal.returns-in-Ok-visits_report-clause-ran
-returns-in-Ok-visits_report-clause-ran g c =
-    let reads = g.S.Store.read_gives in
-    let names = c.args.names.handler in
-    let third = c.args.names.fiq_statement.now in
-    let profile = option_map (λ n. n.now) names.profile in
-    let file = option_map (λ f. f.now) c.profile.result in
-    visits_done reads g.O.Output.taken g.O.Output.failures profile names.first.now names.second.now third c.args.names.visits file c.deref.result.now c.deref-2.result.now c.deref-3.result.now
-    c.args.store.now c.read_three_files.new.store c.args.out.now c.visits_report.new.out
-    (subst (λ (files : Texts). ReadsAll reads c.args.store.now (in_front profile (names.first.now ∷ names.second.now ∷ third ∷ [])) files c.read_three_files.new.store)
-    (λ i. in_front (sym c.profile.ensures i) (sym c.deref.ensures.value i ∷ sym c.deref-2.ensures.value i ∷ sym c.deref-3.ensures.value i ∷ []))
-    c.in-Ok.ensures.read)
-    c.in-Ok-visits_report.field-0 c.in-Ok-visits_report.ensures
 
 pub returns-clause-ran : goal.returns-clause-ran
 returns-clause-ran g c =
@@ -24,12 +10,9 @@ returns-clause-ran g c =
     let third = c.args.names.fiq_statement.now in
     let profile = option_map (λ n. n.now) names.profile in
     let file = option_map (λ f. f.now) c.profile.result in
-    visits_refused reads g.O.Output.taken g.O.Output.failures profile names.first.now names.second.now third c.args.names.visits file c.deref.result.now c.deref-2.result.now c.deref-3.result.now
-    c.args.store.now c.read_three_files.new.store c.args.out.now c.visits_report.new.out
+    visits_ran reads g.O.Output.taken g.O.Output.failures profile names.first.now names.second.now third c.args.names.visits file c.deref.result.now c.deref-2.result.now c.deref-3.result.now
+    c.args.store.now c.read_three_files.new.store c.args.out.now c.visits_report-done.new.out
     (subst (λ (files : Texts). ReadsAll reads c.args.store.now (in_front profile (names.first.now ∷ names.second.now ∷ third ∷ [])) files c.read_three_files.new.store)
     (λ i. in_front (sym c.profile.ensures i) (sym c.deref.ensures.value i ∷ sym c.deref-2.ensures.value i ∷ sym c.deref-3.ensures.value i ∷ []))
     c.in-Ok.ensures.read)
-    c.in-Err-visits_report.fault c.in-Err-visits_report.ensures c.report_status.result c.report_status.ensures
-
-pub returns-clause-silent : goal.returns-clause-silent
-returns-clause-silent g c = λ zero. absurd (refused_status c.in-Err-visits_report.fault c.report_status.result c.report_status.ensures zero)
+    c.visits_report-done.result c.visits_report-done.ensures c.done_status.result c.done_status.ensures.status
