@@ -50,7 +50,9 @@ fn list<'a>(alloc: Global) -> Result<Command<'a>, AllocError>
     ensures shape { IfOk result (λ c. app_of c ≡ list_command) }
     ensures no_globals { IfOk result (λ c. (out-Command c).has_globals ≡ false) }
 {
-    Command::new(alloc, "list").arg(wanted(alloc, "source"))
+    Command::new(alloc, "list")
+        .about("Print addresses, words and lines of a source, or an image's words")
+        .arg(wanted(alloc, "source"))
 }
 
 /// A command `NAME SOURCE SECOND` with a cycle profile.
