@@ -1,9 +1,10 @@
 -- One row more.
-use Rattle.std.proofs.Common.{◌≡◌, ◌+◌, ◌-◌, ◌*◌, ◌<◌, ◌≤◌, ℕ, zero, suc, List, [], ◌∷◌, ◌++◌, length, drop, replicate, codes, decimal, Option, Some, refl, sym, ap, subst, ◌∙◌, arith, append-nil, append_assoc, get_or}
+use Rattle.std.proofs.Common.{◌≡◌, ◌+◌, ◌-◌, ◌<◌, ◌≤◌, ℕ, suc, List, [], ◌∷◌, ◌++◌, length, drop, take, replicate, codes, decimal, Some, refl, sym, ap, subst, ◌∙◌, arith, append-nil, append_assoc, get_or}
 use Rattle.std.specs.Prelude.{min}
 use Rattle.std.proofs.Math.Nat.{min_comm, sub-add-min_cancel}
 use Rattle.std.proofs.Math.ListN.{drop_of_length-le}
-use Rattle.std.proofs.lemmas.List.{drop-replicate, drop_more}
+use Rattle.std.proofs.Math.Seq.{take-length}
+use Rattle.std.proofs.lemmas.List.{drop-replicate, drop_more, length-drop}
 use Rattle.assembler.specs.ShownLines.{IsShown}
 use Rattle.assembler.specs.declared.placed_line.PlacedLine.{PlacedLine}
 use Rattle.loader.specs.Image.{Words, word_of}
@@ -12,17 +13,17 @@ use Rattle.listing.specs.Listing.{AreWordRows, IsWordRow, in_six, line_rows, sou
 
 -- ---- columns
 
-six_blanks : List ℕ
-six_blanks = codes "      "
-
 blanks_in_front : (len : ℕ) → drop (min len 6) (codes "      ") ≡ replicate (6 - len) 32
 blanks_in_front len =
     let rest : 6 - min len 6 ≡ 6 - len = omega (arith, sub-add-min_cancel 6 len, min_comm 6 len) in
     drop-replicate (min len 6) 6 32 ∙ ap (λ i. replicate i 32) rest
 
-pub numbered : (n k : ℕ) (old before after digits : List ℕ) → digits ≡ decimal n → k ≡ min (length digits) 6
-    → before ≡ old ++ drop k (codes "      ") → after ≡ before ++ digits → after ≡ old ++ in_six n
-numbered n k old before after digits is width front back =
+pub numbered : (n k : ℕ) (old blanks before after digits : List ℕ) → blanks ≡ codes "      " → digits ≡ decimal n
+    → k ≡ min (length digits) 6 → before ≡ old ++ take (length blanks - k) (drop k blanks)
+    → after ≡ before ++ digits → after ≡ old ++ in_six n
+numbered n k old six before after digits six_is is width front0 back =
+    let front : before ≡ old ++ drop k (codes "      ") =
+    front0 ∙ ap (λ xs. old ++ xs) (ap (λ n. take n (drop k six)) (sym (length-drop k six)) ∙ take-length (drop k six) ∙ ap (drop k) six_is) in
     let len : length digits ≡ length (decimal n) = ap length is in
     let blanks : drop k (codes "      ") ≡ replicate (6 - length (decimal n)) 32 =
     ap (λ i. drop i (codes "      ")) (width ∙ ap (λ i. min i 6) len) ∙ blanks_in_front (length (decimal n)) in
@@ -51,37 +52,38 @@ pub record SoFar (words : Words) (i : ℕ) (text : List ℕ) : Type 0 where
 pub so_far_none : (words : Words) → SoFar words 0 []
 so_far_none words = record { whole = λ more rows. rows }
 
-pub so_far_one : (words : Words) (i : ℕ) (d e : ℕ × ℕ) (text new : List ℕ) → SoFar words i text → i < length words
-    → get_or words i d ≡ e → Adds (IsWordRow e) text new → SoFar words (i + 1) new
-so_far_one words i d e text new h lt is adds = record {
+pub so_far_one : (words items : Words) (i : ℕ) (d : ℕ × ℕ) (text new : List ℕ) → SoFar words i text → items ≡ words
+    → i < length items → Adds (IsWordRow (get_or items i d)) text new → SoFar words (i + 1) new
+so_far_one words items i d text new h same lt adds = record {
   whole = λ more rows.
       let row = adds.0 in
+      let e = get_or items i d in
       let left : drop i words ≡ e ∷ drop (i + 1) words =
-      drop_more words i d lt ∙ ap (λ x. x ∷ drop (i + 1) words) is in
+      subst (λ ws. drop i ws ≡ e ∷ drop (i + 1) ws) same (drop_more items i d lt) in
       let here : AreWordRows (drop i words) (row ++ more) =
       subst (λ ws. AreWordRows ws (row ++ more)) (sym left) (row, more, adds.1, rows, refl) in
       subst (AreWordRows words) (sym (ap (λ xs. xs ++ more) adds.2 ∙ append_assoc text row more)) (h.whole (row ++ more) here);
 }
 
-pub so_far_all : (words : Words) (i : ℕ) (text : List ℕ) → SoFar words i text → length words ≤ i
-    → AreWordRows words text
-so_far_all words i text h le =
-    let none : drop i words ≡ [] = drop_of_length-le words le in
+pub so_far_all : (words items : Words) (i : ℕ) (text : List ℕ) → SoFar words i text → items ≡ words
+    → length items ≤ i → AreWordRows words text
+so_far_all words items i text h same le =
+    let none : drop i words ≡ [] = subst (λ ws. drop i ws ≡ []) same (drop_of_length-le items le) in
     subst (AreWordRows words) (append-nil text)
     (h.whole [] (subst (λ ws. AreWordRows ws []) (sym none) refl))
 
 -- ---- rows of a source
 
-pub word_more : (image : Words) (at left : ℕ) (old columns new all : List ℕ) → 0 < left
+pub word_more : (image : Words) (at left after : ℕ) (old columns new all : List ℕ) → left ≡ suc after
     → old ++ word_rows image at left ≡ all → columns ≡ old ++ word_columns at (word_of image at)
-    → new ≡ columns ++ codes "\n" → new ++ word_rows image (at + 4) (left - 1) ≡ all
-word_more image at zero old columns new all some h a b = absurd (omega (arith, some))
-word_more image at (suc left) old columns new all some h a b =
+    → new ≡ columns ++ codes "\n" → new ++ word_rows image (at + 4) after ≡ all
+word_more image at left after old columns new all is h0 a b =
+    let h = subst (λ n. old ++ word_rows image at n ≡ all) is h0 in
     let c = word_columns at (word_of image at) in
     let one : new ≡ old ++ (c ++ codes "\n") =
     b ∙ ap (λ xs. xs ++ codes "\n") a ∙ append_assoc old c (codes "\n") in
-    ap (λ xs. xs ++ word_rows image (at + 4) left) one
-    ∙ append_assoc old (c ++ codes "\n") (word_rows image (at + 4) left) ∙ h
+    ap (λ xs. xs ++ word_rows image (at + 4) after) one
+    ∙ append_assoc old (c ++ codes "\n") (word_rows image (at + 4) after) ∙ h
 
 pub words_end : (image : Words) (at left : ℕ) (text all : List ℕ) → left ≡ 0 → text ++ word_rows image at left ≡ all
     → text ≡ all

@@ -47,11 +47,7 @@ fn put_number(out: &mut Vec<u8>, number: usize) -> Result<(), AllocError>
 }
 
 /// Adds the number of a line and its text, and ends the row.
-pub(crate) fn put_line_row(
-    out: &mut Vec<u8>,
-    number: usize,
-    text: &[u8],
-) -> Result<(), AllocError>
+pub(crate) fn put_line_row(out: &mut Vec<u8>, number: usize, text: &[u8]) -> Result<(), AllocError>
     ensures { OnOk result (out.new.items ≡ out.old.items ++ line_row number text.now) }
 {
     put(out, b"  ")?;

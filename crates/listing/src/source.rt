@@ -9,12 +9,7 @@ use loader::Image;
 use std::alloc::{AllocError, Global};
 
 // Adds a row for each of so many words from an address on.
-fn put_words(
-    out: &mut Vec<u8>,
-    image: &Image,
-    from: u32,
-    count: usize,
-) -> Result<(), AllocError>
+fn put_words(out: &mut Vec<u8>, image: &Image, from: u32, count: usize) -> Result<(), AllocError>
     requires { from + 4 * count ≤ 2 ^ 26 }
     ensures { OnOk result (out.new.items ≡ out.old.items ++ word_rows image.now from count) }
 {
