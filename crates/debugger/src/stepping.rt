@@ -1,4 +1,5 @@
-ghost use Rattle.std.specs.Prelude.{◌≡◌, ◌+◌, ◌*◌, ◌^◌, ◌≤◌, ℕ, List, None, MatchOption, OnSome, length, vec_capacity};
+ghost use Rattle.std.specs.Prelude.{◌≡◌, ◌+◌, ◌*◌, ◌^◌, ◌≤◌, ℕ, List, None, MatchOption, OnSome, length};
+ghost use Rattle.std.specs.Prelude.{vec_capacity};
 ghost use Rattle.arm2_exec.specs.Run.{Runs, at_rest};
 ghost use Rattle.trace_text.specs.declared.trace.Traced.{Traced};
 ghost use Rattle.trace_text.specs.TraceText.{Adds, TracesRun};
@@ -79,8 +80,8 @@ pub(crate) fn put_steps(out: &mut Vec<u8>, machine: &mut Machine, first: Input, 
     ran
 }
 
-/// Steps a machine up to so many times: up to a step that is stopped, and after each step to a breakpoint. The
-/// bursts of the first input are those of the first step alone.
+/// Steps a machine up to so many times: up to a step that is stopped, and after each step to a breakpoint.
+/// The bursts of the first input are those of the first step alone.
 pub(crate) fn run_watched(
     machine: &mut Machine,
     breaks: &[u32],
