@@ -194,7 +194,8 @@ module _ (breaks : List ℕ) (start : State) (inputs : List Input) (now next : S
 
 -- ---- what a watched run is
 
-module _ (s next : State) (i : Input) (rest : List Input) (traced : Traced) (makes : Makes s i traced next) where
+module _ (s next : State) (i : Input) (rest : List Input) (traced : Traced)
+    (makes : Makes s i traced next) where
   abbrev Steps : (breaks : List ℕ) → List Traced → Ran → State → Type 0
   Steps breaks made ran after =
       (later : List Traced) × (more : Ran)

@@ -1,7 +1,9 @@
-ghost use Rattle.std.specs.Prelude.{◌≡◌, ◌+◌, ◌*◌, ◌^◌, ◌≤◌, ℕ, List, None, MatchOption, length, vec_capacity};
+ghost use Rattle.std.specs.Prelude.{◌≡◌, ◌+◌, ◌*◌, ◌^◌, ◌≤◌, ℕ, List, None, MatchOption, OnSome, length};
+ghost use Rattle.std.specs.Prelude.{vec_capacity};
 ghost use Rattle.arm2_exec.specs.Run.{Runs, at_rest};
 ghost use Rattle.trace_text.specs.declared.trace.Traced.{Traced};
 ghost use Rattle.trace_text.specs.TraceText.{Adds, TracesRun};
+ghost use Rattle.debugger.specs.SessionState.{without_bursts};
 ghost use Rattle.debugger.specs.Stepping.{Counts, IsWithin, Stops};
 ghost use Rattle.debugger.specs.Watching.{IsLast, Watches, inputs_of, is_break};
 
@@ -37,15 +39,17 @@ fn is_at_break(breaks: &[u32], machine: &Machine) -> bool
     breaks.iter().any(|a| *a == address)
 }
 
-// Makes a step and counts it. None where it is stopped, which the run then tells.
-fn advance(machine: &mut Machine, input: Input, ran: &mut Ran) -> Option<Traced>
+// Makes a step and counts it; its bursts are left out of the input of the next. None where it is stopped,
+// which the run then tells.
+fn advance(machine: &mut Machine, input: &mut Input, ran: &mut Ran) -> Option<Traced>
     requires { IsWithin (2 ^ 32) ran.old }
-    ensures told { MatchOption result (Stops machine.old input ran.old ran.new machine.new)
-        (λ traced. Counts machine.old input ran.old traced ran.new machine.new) }
+    ensures told { MatchOption result (Stops machine.old input.old ran.old ran.new machine.new)
+        (λ traced. Counts machine.old input.old ran.old traced ran.new machine.new) }
+    ensures input { OnSome result (input.new ≡ without_bursts input.old) }
     ensures bound { (made : ℕ) → IsWithin made ran.old → IsWithin (made + 1) ran.new }
 {
     let stretched = machine.profile().burst_ticks(input.bursts);
-    let traced = step_traced(machine, input);
+    let traced = step_traced(machine, *input);
     if let Kind::Stopped(why) = traced.told.kind {
         ran.stopped = Some(why);
         return None;
@@ -54,6 +58,7 @@ fn advance(machine: &mut Machine, input: Input, ran: &mut Ran) -> Option<Traced>
     ran.steps += 1;
     ran.ticks += ticks;
     ran.elapsed += ticks + u128::from(stretched);
+    input.bursts = 0;
     Some(traced)
 }
 
@@ -67,17 +72,16 @@ pub(crate) fn put_steps(out: &mut Vec<u8>, machine: &mut Machine, first: Input, 
     let mut ran = nothing_ran();
     let mut input = first;
     for made in 0..steps {
-        let Some(traced) = advance(machine, input, &mut ran) else {
+        let Some(traced) = advance(machine, &mut input, &mut ran) else {
             return ran;
         };
         put_trace(out, &traced);
-        input.bursts = 0;
     }
     ran
 }
 
-/// Steps a machine up to so many times: up to a step that is stopped, and after each step to a breakpoint. The
-/// bursts of the first input are those of the first step alone.
+/// Steps a machine up to so many times: up to a step that is stopped, and after each step to a breakpoint.
+/// The bursts of the first input are those of the first step alone.
 pub(crate) fn run_watched(
     machine: &mut Machine,
     breaks: &[u32],
@@ -92,14 +96,13 @@ pub(crate) fn run_watched(
     let mut last = None;
     let mut input = first;
     for made in 0..steps {
-        let Some(traced) = advance(machine, input, &mut ran) else {
+        let Some(traced) = advance(machine, &mut input, &mut ran) else {
             return Watched { ran, last };
         };
         last = Some(traced);
         if is_at_break(breaks, machine) {
             return Watched { ran, last };
         }
-        input.bursts = 0;
     }
     Watched { ran, last }
 }

@@ -1,8 +1,10 @@
-use Rattle.std.proofs.Common.{◌∙◌, ◌+◌, ◌-◌, ap, arith, subst, sym}
+use Rattle.std.proofs.Common.{◌∙◌, ◌+◌, ◌-◌, List, ap, arith, subst, sym}
+use Rattle.arm2_exec.specs.declared.machine.Input.{Input}
 use Rattle.arm2_exec.specs.declared.machine.Ran.{Ran}
 use Rattle.arm2_exec.proofs.RunLemmas.{SoFar, at_end, at_stop, more_steps}
 use Rattle.arm2_exec.specs.Run.{Runs}
-use Rattle.trace_text.proofs.RunLaws.{text_ends, text_goes, text_stops}
+use Rattle.trace_text.specs.TraceText.{Adds}
+use Rattle.trace_text.proofs.RunLaws.{ToldSoFar, text_ends, text_goes, text_stops}
 use Rattle.debugger.specs.SessionState.{without_bursts}
 use Rattle.debugger.specs.Watching.{inputs_of}
 use Rattle.debugger.proofs.WatchLaws.{at_hand, none_left}
@@ -54,11 +56,15 @@ loop-made-preserved c =
     text_goes start inputs now next left rest i traced here counts.0.0 c.args.out.now.items
     c.loop-made.out.items c.put_trace.new.out.items counts.0.1 counts.1 c.loop-made.invariant.1
     c.put_trace.ensures.text in
+    let counted = subst (λ (r : Ran). SoFar start inputs r next rest) (sym counts.2) runs in
+    let cleared = sym c.in-Some.ensures.input in
+    let later : Input → List Input = λ it. inputs_of it (steps - (made + 1)) in
     let room = c.loop-made.invariant.2 in
     let line = c.put_trace.ensures.len in
     let kept = c.put_trace.ensures.room in (
-      subst (λ (r : Ran). SoFar start inputs r next rest) (sym counts.2) runs,
-      text,
+      subst (λ (it : Input). SoFar start inputs c.advance.new.ran next (later it)) cleared counted,
+      subst (λ (it : Input). Adds (ToldSoFar start inputs next (later it)) c.args.out.now.items
+          c.put_trace.new.out.items) cleared text,
       omega (arith, less, room, line, kept),
       ap (λ (r : Ran). r.stopped) counts.2 ∙ c.loop-made.invariant.3,
       c.advance.ensures.bound made c.loop-made.invariant.4,
