@@ -173,11 +173,11 @@ module _ {S O T : Type 0} (reads : Reading S) (taken : O → Option (List ℕ)) 
   -- the status of a report that gives no answer but its text
   pub priced_done : ((x : T) → bool_of x ≡ true) → (result : Result T ReportFault) → Answered result
       → (status : ℕ) → status ≡ done_status result → Runs reads taken failures IsRunText IsRunFault names old new before after status
-  priced_done yes (Ok x) h status is =
+  priced_done always (Ok x) h status is =
       subst (λ (s : ℕ). Runs reads taken failures IsRunText IsRunFault names old new before after s) (sym is)
       (done reads taken failures IsRunText IsRunFault names old new before after files read
-      (subst (λ (b : Bool). HasPrinted reads names old new (IsRunText b) (taken before) (taken after)) (yes x) (priced_printed x h)))
-  priced_done yes (Err fault) h status is = priced_refused fault h status is
+      (subst (λ (b : Bool). HasPrinted reads names old new (IsRunText b) (taken before) (taken after)) (always x) (priced_printed x h)))
+  priced_done always (Err fault) h status is = priced_refused fault h status is
 
 -- the files of a run in front of which a cycle profile's may stand
 pub of_two : (Is : Option (List ℕ) → List ℕ → List ℕ → Type 0) (file : Option (List ℕ)) (a b : List ℕ) → Is file a b → OfTwo Is (in_front file (a ∷ b ∷ []))
