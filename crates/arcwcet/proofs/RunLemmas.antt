@@ -6,13 +6,14 @@ use Rattle.arcwcet.specs.Answers.{Answers, FailsWithin, OfSome}
 use Rattle.arcwcet.specs.Check.{Checks, IsAnswer, IsCheckRefused, IsCheckable}
 use Rattle.arcwcet.specs.Debug.{IsDebugReport}
 use Rattle.arcwcet.specs.Files.{FailsToRead, ReadsAll, Reading, Texts, in_front, Writing}
-use Rattle.command_line.specs.Line.{Asked, asm, run, trace, debug, bound, tight, check, visits}
+use Rattle.command_line.specs.Line.{Asked, asm, list, run, trace, debug, bound, tight, check, visits}
 use Rattle.arcwcet.specs.Machine.{Front, IsMachineReport, IsRunRefused, IsRunnable, ShowsRegisters, ShowsSteps}
 use Rattle.arcwcet.specs.Priced.{ByProfile, HasNoProfile, Priced, PricedFault}
-use Rattle.arcwcet.specs.Assembly.{IsSourceRefused}
+use Rattle.arcwcet.specs.Assembly.{IsSource, IsSourceRefused}
+use Rattle.arcwcet.specs.ListReport.{IsListReport}
 use Rattle.arcwcet.specs.Report.{IsRefused, IsReport}
-use Rattle.arcwcet.specs.Run.{HasNoReport, HasNoRun, HasNoTightReportOf, HasNoVerdict, HasNoVisitsReport, HasHeard, HasPrinted, IsAnswerOf, IsReportOf, IsRunOf, IsSessionOf, IsTightReportOf, IsVisitsReportOf, OfThree, OfTwo}
-use Rattle.arcwcet.specs.Run.{Runs, RunsAsked, RunsAsm, RunsCheck, RunsDebug, RunsMachine, RunsVisits, answer_status, done_status, report_status, store_status}
+use Rattle.arcwcet.specs.Run.{HasNoReport, HasNoRun, HasNoTightReportOf, HasNoVerdict, HasNoVisitsReport, HasHeard, HasPrinted, IsAnswerOf, IsListingOf, IsRefusedSource, IsReportOf, IsRunOf, IsSessionOf, IsTightReportOf, IsVisitsReportOf, OfThree, OfTwo}
+use Rattle.arcwcet.specs.Run.{Runs, RunsAsked, RunsAsm, RunsCheck, RunsDebug, RunsList, RunsMachine, RunsVisits, answer_status, done_status, report_status, store_status}
 use Rattle.arcwcet.specs.VisitsReport.{AreAccepted, AreRefused, IsVisitsReport, ReportsVisits}
 use Rattle.arcwcet.specs.declared.fault.ReportFault.{ReportFault}
 use Rattle.arcwcet.specs.declared.fault.ReportFault.TheVariants.{Memory, Source, Image, Statement, Graph, Loops, Walk, MachineFile, Load, Cert, Device}
@@ -243,6 +244,22 @@ asm_refused reads writes taken failures source image file old new out fault read
           }
     ]
 
+-- ## `list`
+
+pub list_ran : {S O T : Type 0} (reads : Reading S) (taken : O → Option (List ℕ)) (failures : O → ℕ) (name source : List ℕ) (old new : S) (before after : O) → reads old name (Ok source) new
+    → (result : Result T ReportFault) → Answers taken failures (λ _ text. IsListReport source text) (IsSource source) (IsSourceRefused source) before after result
+    → (status : ℕ) → status ≡ done_status result → RunsList reads taken failures name old new before after status
+list_ran reads taken failures name source old new before after read (Ok x) h status is =
+    let p = h.printed in
+    subst (λ (s : ℕ). RunsList reads taken failures name old new before after s) (sym is)
+    (done reads taken failures IsListingOf IsRefusedSource (name ∷ []) old new before after (source ∷ []) (new, read, refl)
+    (record { files = source ∷ []; read = (new, read, refl); printed = record { text = p.text; is_text = p.is_text; printed = p.printed } }))
+list_ran reads taken failures name source old new before after read (Err fault) h status is =
+    refused reads taken failures IsListingOf IsRefusedSource (name ∷ []) old new before after (source ∷ []) (new, read, refl) fault h.fault h.quiet
+    (λ d.
+    let f = h.device (ap Err d) in
+    record { text = f.text; is_text = (true, f.is_text.1); taken = f.taken; failed = f.failed }) status is
+
 -- ## Of each command
 
 module _ {S O : Type 0} (reads : Reading S) (taken : O → Option (List ℕ)) (failures : O → ℕ) (profile : Option (List ℕ)) (source second : List ℕ) (file : Option (List ℕ)) (one two : List ℕ)
@@ -359,6 +376,7 @@ module _ {S I O : Type 0} (reads : Reading S) (writes : Writing S) (remaining : 
     },
     refl,
   )
+  starved_asked (list source) = (starved_run IsListingOf IsRefusedSource (source ∷ []), refl)
   starved_asked (debug n) = inr (inr (inr (refl, refl, refl)), refl)
   starved_asked (run n) = (starved_run (IsRunOf ShowsRegisters) HasNoRun (in_front n.profile (n.first ∷ n.second ∷ [])), refl)
   starved_asked (trace n) = (starved_run (IsRunOf ShowsSteps) HasNoRun (in_front n.profile (n.first ∷ n.second ∷ [])), refl)

@@ -7,6 +7,7 @@ pub mod Faults
 pub mod Files
 pub mod Keeping
 pub mod Kept
+pub mod ListReport
 pub mod Machine
 pub mod Output
 pub mod Priced

@@ -7,7 +7,8 @@ use Rattle.arcwcet.specs.Assembly.{IsSourceRefused, IsWritten}
 use Rattle.arcwcet.specs.Check.{IsAnswer, IsCheckRefused}
 use Rattle.arcwcet.specs.Debug.{IsDebugReport}
 use Rattle.arcwcet.specs.Files.{FailsToRead, ReadsAll, Reading, Texts, Writing, in_front}
-use Rattle.command_line.specs.Line.{Asked, asm, run, trace, debug, bound, tight, check, visits}
+use Rattle.command_line.specs.Line.{Asked, asm, list, run, trace, debug, bound, tight, check, visits}
+use Rattle.arcwcet.specs.ListReport.{IsListReport}
 use Rattle.arcwcet.specs.Machine.{Front, IsMachineReport, IsRunRefused, ShowsRegisters, ShowsSteps}
 use Rattle.arcwcet.specs.Output.{TakesFront, FailsSince}
 use Rattle.arcwcet.specs.Priced.{ByProfile, PricedFault}
@@ -257,6 +258,18 @@ pub record RunsAsm {S O : Type 0} (reads : Reading S) (writes : Writing S) (take
   pub starved : status ≡ 3 → IsStarvedRun reads (source ∷ []) old new × (after ≡ before)
   pub known : (status ≡ 0) ⊎ ((status ≡ 1) ⊎ ((status ≡ 3) ⊎ (status ≡ 4)))
 
+-- ## `list SOURCE`
+
+-- the listing of a source, at 0 alone
+abbrev pub IsListingOf : Bool → Texts → List ℕ → Type 0
+IsListingOf true (source ∷ []) text = IsListReport source text
+IsListingOf _ files text = ⊥
+
+abbrev pub RunsList : {S O : Type 0} → Reading S → (O → Option (List ℕ)) → (O → ℕ) → List ℕ → S → S → O → O → ℕ
+    → Type 0
+RunsList reads taken failures source old new before after status =
+    Runs reads taken failures IsListingOf IsRefusedSource (source ∷ []) old new before after status
+
 -- ## `debug SOURCE MACHINE`
 
 -- the session of these commands by the profile, at 0 alone
@@ -318,6 +331,8 @@ abbrev pub RunsAsked : {S I O : Type 0} → Reading S → Writing S → (I → O
 RunsAsked reads writes remaining taken failures
     (asm source image) old new heard_old heard_new before after status =
     RunsAsm reads writes taken failures source image old new before after status × (heard_new ≡ heard_old)
+RunsAsked reads writes remaining taken failures (list source) old new heard_old heard_new before after status =
+    RunsList reads taken failures source old new before after status × (heard_new ≡ heard_old)
 RunsAsked reads writes remaining taken failures (run n) old new heard_old heard_new before after status =
     RunsMachine ShowsRegisters reads taken failures n.profile n.first n.second old new before after status
     × (heard_new ≡ heard_old)

@@ -1,19 +1,27 @@
 ghost use Rattle.std.specs.Prelude.{◌≡◌, ◌≢◌, IfErr, IfOk, string_bytes};
 ghost use Rattle.arcwcet.specs.Answers.{Answers};
-ghost use Rattle.arcwcet.specs.Assembly.{IsAsmReport, IsSource, IsSourceRefused, IsWritten};
+ghost use Rattle.arcwcet.specs.Assembly.{IsAsmReport, IsSource, IsSourceRefused, IsWritten, size_text};
 
 use crate::fault::ReportFault;
 use crate::handler::read_source;
 use crate::output::{Output, write_whole};
-use loader::write_image;
-use std::alloc::Global;
-use std::fmt::Write;
+use loader::{Image, write_image};
+use std::alloc::{AllocError, Global};
 
 /// A source's image as bytes, and the line that tells its size.
 #[derive(Drop)]
 pub(crate) struct Written {
     pub(crate) bytes: Vec<u8>,
     pub(crate) line: String,
+}
+
+/// The line that tells an image's size.
+pub(crate) fn size_line(alloc: Global, image: &Image) -> Result<String, AllocError>
+    ensures { IfOk result (λ line. string_bytes line ≡ size_text image.now) }
+{
+    let words = image.words();
+    let segments = image.segments();
+    format!(in alloc; "words {words} segments {segments}\n")
 }
 
 // The file and the report of a source's image.
@@ -26,10 +34,7 @@ pub(crate) fn image_written(alloc: Global, source: &[u8]) -> Result<Written, Rep
     let Ok(bytes) = write_image(alloc, &image) else {
         return Err(ReportFault::Memory);
     };
-    let words = image.words();
-    let segments = image.segments();
-    let mut line = String::new(alloc);
-    write!(line, "words {words} segments {segments}\n")?;
+    let line = size_line(alloc, &image)?;
     Ok(Written { bytes, line })
 }
 

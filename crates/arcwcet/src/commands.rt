@@ -1,6 +1,6 @@
 ghost use Rattle.std.specs.Prelude.{◌≡◌, ◌≢◌, ◌⊎◌, None, Some, option_map};
 ghost use Rattle.command_line.specs.Line.{Asked, asked_in, asked_of};
-ghost use Rattle.arcwcet.specs.Run.{RunsAsked, RunsAsm, RunsBound, RunsCheck, RunsDebug, RunsMachine};
+ghost use Rattle.arcwcet.specs.Run.{RunsAsked, RunsAsm, RunsBound, RunsCheck, RunsDebug, RunsList, RunsMachine};
 ghost use Rattle.arcwcet.specs.Run.{RunsTight, RunsVisits};
 
 use crate::assembly::image_written;
@@ -9,6 +9,7 @@ use crate::check::check_report;
 use crate::debug::debug_report;
 use crate::fault::ReportFault;
 use crate::files::{Store, read_limited, read_three_files, read_two_files};
+use crate::list::list_report;
 use crate::machine::{Front, Registers, Steps, machine_report};
 use crate::output::{Output, write_whole};
 use crate::status::{answer_status, done_status, line_status, report_status, store_status};
@@ -32,6 +33,7 @@ fn obey<S: Store, I: Read, O: Output, E: Output>(
 {
     match asked {
         Request::Asm(names) => run_asm(alloc, names, store, out, err),
+        Request::List(source) => run_list(alloc, source, store, out, err),
         Request::Run(names) => run_machine::<Registers, S, O, E>(alloc, names, store, out, err),
         Request::Trace(names) => run_machine::<Steps, S, O, E>(alloc, names, store, out, err),
         Request::Debug(names) => run_debug(alloc, names, store, input, out, err),
@@ -106,6 +108,26 @@ fn run_asm<S: Store, O: Output, E: Output>(
         Ok(()) => 0,
         Err(_) => report_status(ReportFault::Device, err),
     }
+}
+
+/// `list`: reads the source and prints its listing.
+fn run_list<S: Store, O: Output, E: Output>(
+    alloc: Global,
+    name: &str,
+    store: &mut S,
+    out: &mut O,
+    err: &mut E,
+) -> u8
+    ensures ran { RunsList S.read_gives O.taken O.failures name.now store.old store.new out.old out.new
+        result }
+    ensures silent { result ≡ 0 → err.new ≡ err.old }
+{
+    let source = match store.read(alloc, name) {
+        Ok(source) => source,
+        Err(fault) => return store_status(fault, err),
+    };
+    let done = list_report(alloc, &source, out);
+    done_status(done, err)
 }
 
 /// `run` and `trace`: reads the files and prints the report of the run.

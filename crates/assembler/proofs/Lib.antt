@@ -22,3 +22,4 @@ mod RefuseFront
 mod RefuseSweep
 mod RefuseLabels
 mod RefuseLaws
+mod PlaceLemmas

@@ -13,17 +13,17 @@ use Rattle.assembler.proofs.AssembleLaws.{first_put}
 use Rattle.assembler.proofs.AssembleFits.{Fits, JoinsIf, fits}
 use Rattle.assembler.proofs.RefuseFront.{Front, ItemsOf}
 use Rattle.assembler.proofs.RefuseLabels.{Known, filled_all, filled_stops, known_or_stop}
-use Rattle.assembler.proofs.RefuseSweep.{Texts, front_first, pass_or_stop, passed_on, stops_swept}
+use Rattle.assembler.proofs.RefuseSweep.{Stops, Texts, front_first, pass_or_stop, passed_on, stops_swept}
 
 -- ---- all lines pass the first sweep
 
-record Swept (source : List ℕ) (said : List Parsed) : Type 0 where
-  state : State
-  number : ℕ
-  front : Front state number said
-  same : swept at_first 1 (lines_of source) ≡ Ok state
+pub record Swept (source : List ℕ) (said : List Parsed) : Type 0 where
+  pub state : State
+  pub number : ℕ
+  pub front : Front state number said
+  pub same : swept at_first 1 (lines_of source) ≡ Ok state
 
-all_swept : Texts → (source : List ℕ) (said : List Parsed) → ArePassed [] (lines_of source) said
+pub all_swept : Texts → (source : List ℕ) (said : List Parsed) → ArePassed [] (lines_of source) said
     → Swept source said
 unfolding swept
 all_swept texts source said a =
@@ -67,15 +67,17 @@ names_known s k said h = h.named
 
 -- ---- a refusal is refused
 
-at_once : Texts → (source : List ℕ) (fault : Fault) (n : ℕ) → IsRefusedAtOnce source fault n
-    → assembled source ≡ Err (fault, n)
-at_once texts source fault n r =
+pub stopped_at_once : Texts → (source : List ℕ) (fault : Fault) (n : ℕ) → IsRefusedAtOnce source fault n
+    → swept at_first 1 (lines_of source) ≡ Err (fault, n)
+stopped_at_once texts source fault n r =
     let p = passed_on texts at_first 1 [] r.front r.said (r.line ∷ r.after) front_first r.passed in
     let stop = stops_swept texts p.state p.next r.said r.line r.after fault p.front r.fault-is in
     let number : p.next ≡ n = omega (arith, p.next-is, r.number-is) in
-    let sweep : swept at_first 1 (lines_of source) ≡ Err (fault, n) =
-    ap (swept at_first 1) r.parts ∙ p.same ∙ stop ∙ ap (λ m. Err (fault, m)) number in
-    ap assembled_on sweep
+    ap (swept at_first 1) r.parts ∙ p.same ∙ stop ∙ ap (λ m. Err (fault, m)) number
+
+at_once : Texts → (source : List ℕ) (fault : Fault) (n : ℕ) → IsRefusedAtOnce source fault n
+    → assembled source ≡ Err (fault, n)
+at_once texts source fault n r = ap assembled_on (stopped_at_once texts source fault n r)
 
 for_labels : Texts → (source : List ℕ) (fault : Fault) (n : ℕ) → IsRefusedForLabels source fault n
     → assembled source ≡ Err (fault, n)
@@ -115,22 +117,27 @@ not_refused source f n image names e k = absurd (other (sym e ∙ k))
     other : ◌≡◌ {A = Result (Words × Names) (Fault × ℕ)} (Err (f, n)) (Ok (image, names)) → ⊥
     other e = cc
 
+-- where the first sweep stops
+pub refused_there : (source : List ℕ) (stop : Stops [] (lines_of source))
+    → IsRefusedAtOnce source stop.fault (length stop.front + 1)
+refused_there source stop = record {
+  front = stop.front;
+  line = stop.line;
+  after = stop.after;
+  parts = stop.parts;
+  number-is = refl;
+  said = stop.said;
+  passed = stop.passed;
+  fault-is = stop.fault-is;
+}
+
 pub refused_is : Texts → (source : List ℕ) (fault : Fault) (n : ℕ) → assembled source ≡ Err (fault, n)
     → IsRefusal source fault n
 refused_is texts source fault n e =
     elim (pass_or_stop texts at_first 1 [] (lines_of source) front_first) [
       | inr stop ↦
           let m = length stop.front + 1 in
-          let r : IsRefusedAtOnce source stop.fault m = record {
-            front = stop.front;
-            line = stop.line;
-            after = stop.after;
-            parts = stop.parts;
-            number-is = refl;
-            said = stop.said;
-            passed = stop.passed;
-            fault-is = stop.fault-is;
-          } in
+          let r = refused_there source stop in
           same_refusal source stop.fault fault m n (at_once texts source stop.fault m r) e (inl r)
       | inl all ↦
           let said = all.0 in

@@ -4,5 +4,6 @@ pub mod Sweeps
 pub mod Assembles
 pub mod Refusals
 pub mod Views
+pub mod Placed
 pub mod Shown
 pub mod ShownLines

@@ -27,6 +27,10 @@ profile_rule = record (new_rule (codes "profile")) { long = Some (codes "profile
 abbrev pub asm_command : App
 asm_command = with_rule (with_rule (new_app (codes "asm")) (wanted (codes "source"))) (wanted (codes "image"))
 
+-- `list SOURCE`
+abbrev pub list_command : App
+list_command = with_rule (new_app (codes "list")) (wanted (codes "source"))
+
 -- `NAME SOURCE SECOND`, with a cycle profile
 abbrev pub priced_command : Text → Text → App
 priced_command name second =
@@ -84,8 +88,9 @@ arcwcet_command =
     (with_subcommand
     (with_subcommand
     (with_subcommand
+    (with_subcommand
     (with_subcommand arcwcet_top
-    asm_command.top) run_command.top) trace_command.top) debug_command.top) bound_command.top)
+    asm_command.top) list_command.top) run_command.top) trace_command.top) debug_command.top) bound_command.top)
     check_command.top) visits_command.top
 
 -- the names of two files, and of a cycle profile's
@@ -97,6 +102,7 @@ pub record FileNames : Type 0 where
 -- what is asked for, with the names of files
 pub data Asked : Type 0 where
   asm : Text → Text → Asked
+  list : Text → Asked
   run : FileNames → Asked
   trace : FileNames → Asked
   debug : FileNames → Asked
@@ -111,6 +117,7 @@ names_of n =
 
 abbrev pub asked_of : Request → Asked
 asked_of (request.Asm names) = asm names.source.now names.image.now
+asked_of (request.List source) = list source.now
 asked_of (request.Run names) = run (names_of names)
 asked_of (request.Trace names) = trace (names_of names)
 asked_of (request.Debug names) = debug (names_of names)
@@ -148,6 +155,10 @@ number_at id rows = option_and_then number_in (one_of id rows)
 abbrev pub asked_asm : List Row → Option Asked
 asked_asm rows = asm_of (first_of (codes "source") rows) (first_of (codes "image") rows)
 
+-- by the values of `list`
+abbrev pub asked_list : List Row → Option Asked
+asked_list rows = option_map list (first_of (codes "source") rows)
+
 -- by the values of a command with a cycle profile
 abbrev pub names_in : Text → List Row → Option FileNames
 names_in second rows =
@@ -176,12 +187,13 @@ asked_visits rows =
 abbrev pub asked_by : Text × List Row → Option Asked
 asked_by p =
     if bytes_eq p.0 (codes "asm") then asked_asm p.1
+    else (if bytes_eq p.0 (codes "list") then asked_list p.1
     else (if bytes_eq p.0 (codes "run") then option_map run (names_in (codes "machine") p.1)
     else (if bytes_eq p.0 (codes "trace") then option_map trace (names_in (codes "machine") p.1)
     else (if bytes_eq p.0 (codes "debug") then option_map debug (names_in (codes "machine") p.1)
     else (if bytes_eq p.0 (codes "bound") then asked_bound p.1
     else (if bytes_eq p.0 (codes "check") then asked_check p.1
-    else (if bytes_eq p.0 (codes "visits") then asked_visits p.1 else None))))))
+    else (if bytes_eq p.0 (codes "visits") then asked_visits p.1 else None)))))))
 
 -- only where there is no fault
 abbrev pub unless_refused : Kinds → Option Asked → Option Asked

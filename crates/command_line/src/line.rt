@@ -43,6 +43,8 @@ pub struct TightNames<'a> {
 pub enum Request<'a> {
     /// The image of a source.
     Asm(AsmNames<'a>),
+    /// The addresses, words and lines of a source of this name, or the words of an image.
+    List(&'a str),
     /// The registers and the ticks of a run of a source's image, by a machine file.
     Run(Names<'a>),
     /// The lines of its steps.

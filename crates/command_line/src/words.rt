@@ -6,7 +6,8 @@ ghost use Rattle.clap.specs.Words.{kind_of, subcommand_rows_of};
 ghost use Rattle.clap.specs.declared.builder.command.Command.TheViews.{out-Command};
 ghost use Rattle.command_line.specs.Line.{arcwcet_command, asked_asm, asked_bound, asked_by, asked_check};
 ghost use Rattle.command_line.specs.Line.{asked_in, asked_of, asked_visits, asm_command, bound_command};
-ghost use Rattle.command_line.specs.Line.{check_command, debug_command, names_in, names_of, number_at};
+ghost use Rattle.command_line.specs.Line.{asked_list, check_command, debug_command, list_command, names_in};
+ghost use Rattle.command_line.specs.Line.{names_of, number_at};
 ghost use Rattle.command_line.specs.Line.{priced_command, profile_rule, run_command, tight_rule};
 ghost use Rattle.command_line.specs.Line.{trace_command};
 ghost use Rattle.command_line.specs.Line.{visits_command, visits_rule, wanted};
@@ -42,6 +43,16 @@ fn asm<'a>(alloc: Global) -> Result<Command<'a>, AllocError>
     Command::new(alloc, "asm")
         .arg(wanted(alloc, "source"))?
         .arg(wanted(alloc, "image"))
+}
+
+/// The command `list SOURCE`.
+fn list<'a>(alloc: Global) -> Result<Command<'a>, AllocError>
+    ensures shape { IfOk result (λ c. app_of c ≡ list_command) }
+    ensures no_globals { IfOk result (λ c. (out-Command c).has_globals ≡ false) }
+{
+    Command::new(alloc, "list")
+        .about("Print addresses, words and lines of a source, or an image's words")
+        .arg(wanted(alloc, "source"))
 }
 
 /// A command `NAME SOURCE SECOND` with a cycle profile.
@@ -100,6 +111,20 @@ fn visits<'a>(alloc: Global) -> Result<Command<'a>, AllocError>
     priced(alloc, "visits", "statement")?
         .arg(wanted(alloc, "fiq_statement"))?
         .arg(visit_count(alloc))
+}
+
+/// A command with one more, `asm`.
+fn with_asm<'a>(alloc: Global, command: Command<'a>) -> Result<Command<'a>, AllocError>
+    ensures { IfOk result (λ c. app_of c ≡ with_subcommand (app_of command.entry) asm_command.top) }
+{
+    command.subcommand(asm(alloc)?)
+}
+
+/// A command with one more, `list`.
+fn with_list<'a>(alloc: Global, command: Command<'a>) -> Result<Command<'a>, AllocError>
+    ensures { IfOk result (λ c. app_of c ≡ with_subcommand (app_of command.entry) list_command.top) }
+{
+    command.subcommand(list(alloc)?)
 }
 
 /// A command with one more that has a cycle profile, `NAME SOURCE SECOND`.
@@ -168,7 +193,8 @@ fn arcwcet<'a>(alloc: Global) -> Result<Command<'a>, AllocError>
     ensures { IfOk result (λ c. app_of c ≡ arcwcet_command) }
 {
     let command = Command::new(alloc, "arcwcet").subcommand_required(true);
-    let command = command.subcommand(asm(alloc)?)?;
+    let command = with_asm(alloc, command)?;
+    let command = with_list(alloc, command)?;
     let command = with_machine(alloc, command)?;
     with_analysis(alloc, command)
 }
@@ -194,6 +220,14 @@ fn asm_in<'a>(values: &ArgMatches<'a>) -> Option<Request<'a>>
     let source = values.get_str("source")?;
     let image = values.get_str("image")?;
     Some(Request::Asm(AsmNames { source, image }))
+}
+
+/// What `list` is asked with.
+fn list_in<'a>(values: &ArgMatches<'a>) -> Option<Request<'a>>
+    ensures { option_map asked_of result ≡ asked_list (rows_of (found_of values.now)) }
+{
+    let source = values.get_str("source")?;
+    Some(Request::List(source))
 }
 
 /// The number of an option or of an argument.
@@ -244,6 +278,9 @@ fn request_in<'a>(matches: &ArgMatches<'a>) -> Option<Request<'a>>
     let (name, values) = matches.subcommand()?;
     if name == "asm" {
         return asm_in(values);
+    }
+    if name == "list" {
+        return list_in(values);
     }
     if name == "run" {
         return Some(Request::Run(names_in(values, "machine")?));

@@ -1,9 +1,8 @@
 -- A run that is watched, step after step.
-use Rattle.std.proofs.Common.{◌≡◌, ◌∙◌, ℕ, zero, suc, ◌+◌, ◌*◌, ◌<◌, Bool, true, false, List, [], ◌∷◌, ◌++◌}
-use Rattle.std.proofs.Common.{Option, Some, None, refl, sym, ap, append_assoc, arith, subst}
+use Rattle.std.proofs.Common.{◌≡◌, ◌∙◌, ℕ, zero, suc, ◌+◌, ◌-◌, ◌*◌, ◌<◌, ◌≤◌, Bool, true, false, List, []}
+use Rattle.std.proofs.Common.{◌∷◌, ◌++◌, Option, Some, None, refl, sym, ap, append_assoc, arith, subst}
 use Rattle.std.specs.Prelude.{is_some}
 use Rattle.std.proofs.lemmas.List.{append-nil}
-use Rattle.arm2_effect.specs.declared.step_end.Kind.TheVariants.{Stopped}
 use Rattle.arm2_effect.specs.declared.step_end.Why.{Why}
 use Rattle.arm2_exec.specs.declared.machine.Input.{Input}
 use Rattle.arm2_exec.specs.declared.machine.Ran.{Ran}
@@ -14,31 +13,41 @@ use Rattle.arm2_exec.specs.Run.{Ends, Runs, at_rest, counted, why_stopped}
 use Rattle.arm2_exec.proofs.StepLemmas.{stopped_same, stops}
 use Rattle.arm2_exec.proofs.RunLemmas.{added, goes, plus_none, why_of}
 use Rattle.trace_text.specs.declared.trace.Traced.{Traced}
-use Rattle.trace_text.specs.TraceText.{Goes, IsTraceLine, TracesRun, traced_word}
-use Rattle.debugger.specs.declared.stepping.Keep.{Keep}
-use Rattle.debugger.specs.declared.stepping.Keep.TheVariants.{All, Last}
-use Rattle.debugger.specs.Watching.{EndsAt, UpTo, Watches, all_lines, inputs_of, is_break, kept, kept_line}
-use Rattle.debugger.specs.SessionState.{SessionState}
+use Rattle.trace_text.specs.TraceText.{Adds}
+use Rattle.debugger.specs.Stepping.{Counts, IsWithin, Makes, Stops}
+use Rattle.debugger.specs.Watching.{EndsAt, IsLast, UpTo, Watches, inputs_of, is_break}
+use Rattle.debugger.specs.SessionState.{SessionState, without_bursts}
 use Rattle.debugger.specs.Answers.{RunsFirst}
+
+-- ---- the inputs of a run
+
+-- those that are left, with the first at hand
+pub at_hand : (i : Input) (steps made : ℕ) → made < steps
+    → inputs_of i (steps - made) ≡ i ∷ inputs_of (without_bursts i) (steps - (made + 1))
+at_hand i steps made less =
+    let one : steps - made ≡ suc (steps - (made + 1)) = omega (arith, less) in
+    ap (inputs_of i) one
+
+pub none_left : (i : Input) (steps made : ℕ) → steps ≤ made → inputs_of i (steps - made) ≡ []
+none_left i steps made all = let none : steps - made ≡ 0 = omega (arith, all) in ap (inputs_of i) none
+
+pub nothing_is_within : IsWithin 0 (at_rest None)
+nothing_is_within = (omega arith, omega arith, omega arith)
 
 -- ---- what has run, whatever follows
 
 pub record SoFar (breaks : List ℕ) (start : State) (inputs : List Input) (now : State) (left : List Input)
-    (keep : Keep) (ran : Ran) (out : List ℕ) : Type 0 where
-  pub lines : List (List ℕ)
-  pub whole : (later : List (List ℕ)) (more : Ran) (after : State) → Watches breaks now left later more after
-      → Watches breaks start inputs (lines ++ later) (added ran more) after
-  pub text : out ≡ kept keep lines
+    (ran : Ran) (last : Option Traced) : Type 0 where
+  pub made : List Traced
+  pub whole : (later : List Traced) (more : Ran) (after : State) → Watches breaks now left later more after
+      → Watches breaks start inputs (made ++ later) (added ran more) after
+  pub ends : IsLast made last
   pub going : ran.stopped ≡ None
 
 -- what a whole run is
-abbrev pub Done : (breaks : List ℕ) → State → List Input → Keep → Ran → State → (out : List ℕ) → Type 0
-Done breaks start inputs keep ran after out =
-    (lines : List (List ℕ)) × Watches breaks start inputs lines ran after × (out ≡ kept keep lines)
-
-nothing_kept : (keep : Keep) → [] ≡ kept keep []
-nothing_kept All = refl
-nothing_kept Last = refl
+abbrev pub Done : (breaks : List ℕ) → State → List Input → Ran → Option Traced → State → Type 0
+Done breaks start inputs ran last after =
+    (made : List Traced) × Watches breaks start inputs made ran after × IsLast made last
 
 from_nothing : (more : Ran) (P : Ran → Type 0) → P more → P (added (at_rest None) more)
 from_nothing more P h =
@@ -47,13 +56,13 @@ from_nothing more P h =
     let elapsed : more.elapsed ≡ 0 + more.elapsed = omega arith in
     subst P (λ k. record { steps = steps k; ticks = ticks k; elapsed = elapsed k; stopped = more.stopped }) h
 
-pub at_start : (breaks : List ℕ) (start : State) (inputs : List Input) (keep : Keep) (out : List ℕ) → out ≡ []
-    → SoFar breaks start inputs start inputs keep (at_rest None) out
-at_start breaks start inputs keep out empty = record {
-  lines = [];
+pub at_start : (breaks : List ℕ) (start : State) (inputs : List Input)
+    → SoFar breaks start inputs start inputs (at_rest None) None
+at_start breaks start inputs = record {
+  made = [];
   whole = λ later more after watches. from_nothing more
       (λ r. Watches breaks start inputs later r after) watches;
-  text = empty ∙ nothing_kept keep;
+  ends = refl;
   going = refl;
 }
 
@@ -68,178 +77,130 @@ unadded ran why = λ k. record {
 
 -- the run ends where it stands
 ended : (breaks : List ℕ) (start : State) (inputs : List Input) (now : State) (left : List Input)
-    (keep : Keep) (ran : Ran) (out : List ℕ) (why : Option Why)
-    → SoFar breaks start inputs now left keep ran out → Watches breaks now left [] (at_rest why) now
-    → Done breaks start inputs keep (record ran { stopped = why }) now out
-ended breaks start inputs now left keep ran out why so_far rests =
+    (ran : Ran) (last : Option Traced) (why : Option Why)
+    → SoFar breaks start inputs now left ran last → Watches breaks now left [] (at_rest why) now
+    → Done breaks start inputs (record ran { stopped = why }) last now
+ended breaks start inputs now left ran last why so_far rests =
     let same = unadded ran why in
-    let lines = append-nil so_far.lines in
+    let made = append-nil so_far.made in
     let whole = so_far.whole [] (at_rest why) now rests in
-    let P : List (List ℕ) → Type 0 = λ ls. Watches breaks start inputs ls (added ran (at_rest why)) now in
-    let Q : Ran → Type 0 = λ r. Watches breaks start inputs so_far.lines r now in
-    (so_far.lines, subst Q same (subst P lines whole), so_far.text)
+    let P : List Traced → Type 0 = λ ts. Watches breaks start inputs ts (added ran (at_rest why)) now in
+    let Q : Ran → Type 0 = λ r. Watches breaks start inputs so_far.made r now in
+    (so_far.made, subst Q same (subst P made whole), so_far.ends)
 
 -- all inputs were taken
 pub run_ends : (breaks : List ℕ) (start : State) (inputs : List Input) (now : State) (left : List Input)
-    (keep : Keep) (ran : Ran) (out : List ℕ)
-    → SoFar breaks start inputs now left keep ran out → left ≡ [] → Done breaks start inputs keep ran now out
-run_ends breaks start inputs now left keep ran out so_far none =
+    (ran : Ran) (last : Option Traced)
+    → SoFar breaks start inputs now left ran last → left ≡ [] → Done breaks start inputs ran last now
+run_ends breaks start inputs now left ran last so_far none =
     let P : List Input → Type 0 = λ is. Watches breaks now is [] (at_rest None) now in
     let done =
-    ended breaks start inputs now left keep ran out None so_far (subst P (sym none) (refl, refl, refl)) in
-    subst (λ (why : Option Why). Done breaks start inputs keep (record ran { stopped = why }) now out)
+    ended breaks start inputs now left ran last None so_far (subst P (sym none) (refl, refl, refl)) in
+    subst (λ (why : Option Why). Done breaks start inputs (record ran { stopped = why }) last now)
     (sym so_far.going) done
-
--- a line more
-kept_push : (keep : Keep) (lines : List (List ℕ)) (line : List ℕ)
-    → kept keep (lines ++ line ∷ []) ≡ kept_line keep (kept keep lines) line
-kept_push All [] line = append-nil line
-kept_push All (first ∷ lines) line =
-    ap (λ (t : List ℕ). first ++ t) (kept_push All lines line)
-    ∙ sym (append_assoc first (all_lines lines) line)
-kept_push Last [] line = refl
-kept_push Last (first ∷ []) line = refl
-kept_push Last (first ∷ next ∷ lines) line = kept_push Last (next ∷ lines) line
 
 -- ---- a step more
 
 module _ (breaks : List ℕ) (start : State) (inputs : List Input) (now next : State) (left rest : List Input)
-    (i : Input) (traced : Traced) (keep : Keep) (ran : Ran) (out : List ℕ)
-    (at_hand : left ≡ i ∷ rest) (step : Step now i traced.told next) (word : traced.word ≡ traced_word now i)
-    (so_far : SoFar breaks start inputs now left keep ran out) where
-  abbrev Counts : List (List ℕ) → Ran → State → Type 0
-  Counts lines more after =
-      (line : List ℕ) × IsTraceLine traced line × (later : List (List ℕ)) × (last : Ran)
-      × (lines ≡ line ∷ later) × (more ≡ counted now.profile.burst i traced.told last)
-      × UpTo (is_break breaks next) next later last after (Watches breaks next rest later last after)
+    (i : Input) (ran told : Ran) (last : Option Traced) (at_hand : left ≡ i ∷ rest)
+    (so_far : SoFar breaks start inputs now left ran last) where
+  abbrev Onward : Traced → List Traced → Ran → State → Type 0
+  Onward traced made more after =
+      (later : List Traced) × (rests : Ran)
+      × (made ≡ traced ∷ later) × (more ≡ counted now.profile.burst i traced.told rests)
+      × UpTo (is_break breaks next) next later rests after (Watches breaks next rest later rests after)
 
-  abbrev On : List (List ℕ) → Ran → State → Type 0
-  On lines more after = EndsAt (why_stopped traced.told.kind) now lines more after (Counts lines more after)
+  abbrev On : Traced → List Traced → Ran → State → Type 0
+  On traced made more after =
+      EndsAt (why_stopped traced.told.kind) now made more after (Onward traced made more after)
 
-  here : (lines : List (List ℕ)) (more : Ran) (after : State) → On lines more after
-      → Watches breaks now left lines more after
-  here lines more after on =
-      subst (λ (is : List Input). Watches breaks now is lines more after) (sym at_hand)
-      (traced, next, step, word, on)
+  here : (traced : Traced) (made : List Traced) (more : Ran) (after : State) → Makes now i traced next
+      → On traced made more after → Watches breaks now left made more after
+  here traced made more after makes on =
+      subst (λ (is : List Input). Watches breaks now is made more after) (sym at_hand)
+      (traced, next, makes, on)
 
   -- it was stopped
-  pub run_stops : (w : Why) → traced.told.kind ≡ Stopped w
-      → Done breaks start inputs keep (record ran { stopped = Some w }) next out
-  run_stops w is =
-      let same : next ≡ now = stopped_same now i traced.told next step (stops traced.told.kind w is) in
-      let on : On [] (at_rest (Some w)) now =
+  pub run_stops : Stops now i ran told next → Done breaks start inputs told last next
+  run_stops (traced, w, makes, is, told_is) =
+      let same : next ≡ now = stopped_same now i traced.told next makes.0 (stops traced.told.kind w is) in
+      let on : On traced [] (at_rest (Some w)) now =
       subst (λ (why : Option Why). EndsAt why now [] (at_rest (Some w)) now
-      (Counts [] (at_rest (Some w)) now)) (sym (why_of traced.told.kind w is)) (refl, refl, refl) in
+      (Onward traced [] (at_rest (Some w)) now)) (sym (why_of traced.told.kind w is)) (refl, refl, refl) in
       let done =
-      ended breaks start inputs now left keep ran out (Some w) so_far
-      (here [] (at_rest (Some w)) now on) in
-      subst (λ (s : State). Done breaks start inputs keep (record ran { stopped = Some w }) s out)
-      (sym same) done
+      ended breaks start inputs now left ran last (Some w) so_far
+      (here traced [] (at_rest (Some w)) now makes on) in
+      let there =
+      subst (λ (s : State). Done breaks start inputs (record ran { stopped = Some w }) last s)
+      (sym same) done in
+      subst (λ (r : Ran). Done breaks start inputs r last next) (sym told_is) there
 
-  not_stopped_on : (lines : List (List ℕ)) (more : Ran) (after : State) (goes_on : Type 0)
-      → ((w : Why) → traced.told.kind ≡ Stopped w → ⊥) → goes_on
-      → EndsAt (why_stopped traced.told.kind) now lines more after goes_on
-  not_stopped_on lines more after goes_on not_stopped on =
-      subst (λ (why : Option Why). EndsAt why now lines more after goes_on)
-      (sym (goes traced.told.kind not_stopped)) on
-
-  abbrev pub further : Ran
-  further = record {
-    steps = ran.steps + 1;
-    ticks = ran.ticks + traced.told.ticks;
-    elapsed = ran.elapsed + (traced.told.ticks + now.profile.burst * i.bursts);
-    stopped = ran.stopped;
-  }
-
-  module _ (line new : List ℕ) (is_line : IsTraceLine traced line) (wrote : new ≡ kept_line keep out line)
-      (not_stopped : (w : Why) → traced.told.kind ≡ Stopped w → ⊥) where
-    passes : (later : List (List ℕ)) (more : Ran) (after : State)
+  module _ (traced : Traced) (counts : Counts now i ran traced told next) where
+    passes : (later : List Traced) (more : Ran) (after : State)
         → UpTo (is_break breaks next) next later more after (Watches breaks next rest later more after)
-        → Watches breaks start inputs ((so_far.lines ++ line ∷ []) ++ later) (added further more) after
-    passes later more after on =
+        → Watches breaks start inputs ((so_far.made ++ traced ∷ []) ++ later) (added told more) after
+    passes later more after up =
         let whole = counted now.profile.burst i traced.told more in
+        let on : On traced (traced ∷ later) whole after =
+        subst (λ (why : Option Why). EndsAt why now (traced ∷ later) whole after
+        (Onward traced (traced ∷ later) whole after)) (sym (goes traced.told.kind counts.1))
+        (later, more, refl, refl, up) in
         let all =
-        so_far.whole (line ∷ later) whole after
-        (here (line ∷ later) whole after
-        (not_stopped_on (line ∷ later) whole after (Counts (line ∷ later) whole after) not_stopped
-        (line, is_line, later, more, refl, refl, on))) in
+        so_far.whole (traced ∷ later) whole after (here traced (traced ∷ later) whole after counts.0 on) in
         let steps : ran.steps + (1 + more.steps) ≡ ran.steps + 1 + more.steps = omega arith in
         let ticks : ran.ticks + (traced.told.ticks + more.ticks)
         ≡ ran.ticks + traced.told.ticks + more.ticks = omega arith in
         let elapsed : ran.elapsed + (traced.told.ticks + now.profile.burst * i.bursts + more.elapsed)
         ≡ ran.elapsed + (traced.told.ticks + now.profile.burst * i.bursts) + more.elapsed = omega arith in
-        let P : List (List ℕ) → Type 0 = λ ls. Watches breaks start inputs ls (added ran whole) after in
+        let P : List Traced → Type 0 = λ ts. Watches breaks start inputs ts (added ran whole) after in
         let Q : Ran → Type 0 =
-        λ r. Watches breaks start inputs ((so_far.lines ++ line ∷ []) ++ later) r after in
-        let lines = subst P (sym (append_assoc so_far.lines (line ∷ []) later)) all in
+        λ r. Watches breaks start inputs ((so_far.made ++ traced ∷ []) ++ later) r after in
+        let made = subst P (sym (append_assoc so_far.made (traced ∷ []) later)) all in
+        let counted_on =
         subst Q
         (λ k. record { steps = steps k; ticks = ticks k; elapsed = elapsed k; stopped = more.stopped })
-        lines
+        made in
+        subst (λ (r : Ran). Q (added r more)) (sym counts.2) counted_on
 
-    kept_more : new ≡ kept keep (so_far.lines ++ line ∷ [])
-    kept_more =
-        wrote ∙ ap (λ (t : List ℕ). kept_line keep t line) so_far.text
-        ∙ sym (kept_push keep so_far.lines line)
+    still_going : told.stopped ≡ None
+    still_going = ap (λ (r : Ran). r.stopped) counts.2 ∙ so_far.going
 
     -- it went on
-    pub run_goes : is_break breaks next ≡ false → SoFar breaks start inputs next rest keep further new
+    pub run_goes : is_break breaks next ≡ false → SoFar breaks start inputs next rest told (Some traced)
     run_goes clear = record {
-      lines = so_far.lines ++ line ∷ [];
+      made = so_far.made ++ traced ∷ [];
       whole = λ later more after on. passes later more after
           (subst (λ (b : Bool). UpTo b next later more after (Watches breaks next rest later more after))
           (sym clear) on);
-      text = kept_more;
-      going = so_far.going;
+      ends = (so_far.made, refl);
+      going = still_going;
     }
 
     -- it came to a breakpoint
-    pub run_breaks : is_break breaks next ≡ true → Done breaks start inputs keep further next new
+    pub run_breaks : is_break breaks next ≡ true → Done breaks start inputs told (Some traced) next
     run_breaks at =
         let Up : Bool → Type 0 =
         λ b. UpTo b next [] (at_rest None) next (Watches breaks next rest [] (at_rest None) next) in
         let all = passes [] (at_rest None) next (subst Up (sym at) (refl, refl, refl)) in
-        let going = so_far.going in
-        let clear : record further { stopped = None } ≡ further =
-        ap (λ (why : Option Why). record further { stopped = why }) (sym going) in
-        let same : added further (at_rest None) ≡ further = unadded further None ∙ clear in
-        let P : List (List ℕ) → Type 0 =
-        λ ls. Watches breaks start inputs ls (added further (at_rest None)) next in
-        let Q : Ran → Type 0 = λ r. Watches breaks start inputs (so_far.lines ++ line ∷ []) r next in (
-          so_far.lines ++ line ∷ [],
-          subst Q same
-              (subst P (append-nil (so_far.lines ++ line ∷ [])) all),
-          kept_more,
-        )
+        let going = still_going in
+        let clear : record told { stopped = None } ≡ told =
+        ap (λ (why : Option Why). record told { stopped = why }) (sym going) in
+        let same : added told (at_rest None) ≡ told = unadded told None ∙ clear in
+        let made = so_far.made ++ traced ∷ [] in
+        let P : List Traced → Type 0 =
+        λ ts. Watches breaks start inputs ts (added told (at_rest None)) next in
+        let Q : Ran → Type 0 = λ r. Watches breaks start inputs made r next in
+        (made, subst Q same (subst P (append-nil made) all), (so_far.made, refl))
 
 -- ---- what a watched run is
 
-module _ (s next : State) (i : Input) (rest : List Input) (traced : Traced) (step : Step s i traced.told next)
-    (word : traced.word ≡ traced_word s i) where
-  abbrev Steps : (breaks : List ℕ) → List (List ℕ) → Ran → State → Type 0
-  Steps breaks lines ran after =
-      (line : List ℕ) × IsTraceLine traced line × (later : List (List ℕ)) × (more : Ran)
-      × (lines ≡ line ∷ later) × (ran ≡ counted s.profile.burst i traced.told more)
+module _ (s next : State) (i : Input) (rest : List Input) (traced : Traced)
+    (makes : Makes s i traced next) where
+  abbrev Steps : (breaks : List ℕ) → List Traced → Ran → State → Type 0
+  Steps breaks made ran after =
+      (later : List Traced) × (more : Ran)
+      × (made ≡ traced ∷ later) × (ran ≡ counted s.profile.burst i traced.told more)
       × UpTo (is_break breaks next) next later more after (Watches breaks next rest later more after)
-
-  run_of_end : (why : Option Why) (lines : List (List ℕ)) (ran : Ran) (after : State)
-      → ((later : List (List ℕ)) (more : Ran) → Watches [] next rest later more after
-      → Runs next rest more after)
-      → EndsAt why s lines ran after (Steps [] lines ran after)
-      → Ends why s ran after ((more : Ran) × Runs next rest more after
-      × (ran ≡ counted s.profile.burst i traced.told more))
-  run_of_end (Some why) lines ran after on rests = (rests.1, rests.2)
-  run_of_end None lines ran after on (line, is_line, later, more, lines_are, ran_is, watches) =
-      (more, on later more watches, ran_is)
-
-  text_of_end : (why : Option Why) (lines : List (List ℕ)) (ran : Ran) (after : State)
-      → ((later : List (List ℕ)) (more : Ran) → Watches [] next rest later more after
-      → TracesRun next rest (all_lines later))
-      → EndsAt why s lines ran after (Steps [] lines ran after)
-      → Goes why (all_lines lines) ((line : List ℕ) × IsTraceLine traced line × (more : List ℕ)
-      × TracesRun next rest more × (all_lines lines ≡ line ++ more))
-  text_of_end (Some why) lines ran after on rests = ap all_lines rests.0
-  text_of_end None lines ran after on (line, is_line, later, more, lines_are, ran_is, watches) =
-      (line, is_line, all_lines later, on later more watches, ap all_lines lines_are)
 
   -- no step was taken
   none_first : (ran : Ran) (after : State) → ran.steps ≡ 0 → ran.ticks ≡ 0 → ran.elapsed ≡ 0 → after ≡ s
@@ -266,7 +227,7 @@ module _ (s next : State) (i : Input) (rest : List Input) (traced : Traced) (ste
     (
       traced.told,
       next,
-      step,
+      makes.0,
       subst (λ (why : Option Why). Ends why s (record ran { stopped = None }) after
           ((m : Ran) × Runs next taken m after
           × (record ran { stopped = None } ≡ counted s.profile.burst i traced.told m))) (sym going)
@@ -274,7 +235,7 @@ module _ (s next : State) (i : Input) (rest : List Input) (traced : Traced) (ste
     ),
   )
 
-  first_of_up : (b : Bool) (breaks : List ℕ) (later : List (List ℕ)) (more : Ran) (after : State)
+  first_of_up : (b : Bool) (breaks : List ℕ) (later : List Traced) (more : Ran) (after : State)
       → (Watches breaks next rest later more after → RunsFirst next rest more after)
       → UpTo b next later more after (Watches breaks next rest later more after)
       → RunsFirst next rest more after
@@ -282,53 +243,51 @@ module _ (s next : State) (i : Input) (rest : List Input) (traced : Traced) (ste
   first_of_up true breaks later more after on rests =
       ([], rest, refl, (ap (λ (r : Ran). record r { stopped = None }) rests.1, rests.2))
 
-  first_of_end : (why : Option Why) (breaks : List ℕ) (lines : List (List ℕ)) (ran : Ran) (after : State)
+  first_of_end : (why : Option Why) (breaks : List ℕ) (made : List Traced) (ran : Ran) (after : State)
       → why_stopped traced.told.kind ≡ why
-      → ((later : List (List ℕ)) (more : Ran) → Watches breaks next rest later more after
+      → ((later : List Traced) (more : Ran) → Watches breaks next rest later more after
       → RunsFirst next rest more after)
-      → EndsAt why s lines ran after (Steps breaks lines ran after) → RunsFirst s (i ∷ rest) ran after
-  first_of_end (Some why) breaks lines ran after is on rests =
+      → EndsAt why s made ran after (Steps breaks made ran after) → RunsFirst s (i ∷ rest) ran after
+  first_of_end (Some why) breaks made ran after is on rests =
       none_first ran after (ap (λ (r : Ran). r.steps) rests.1) (ap (λ (r : Ran). r.ticks) rests.1)
       (ap (λ (r : Ran). r.elapsed) rests.1) rests.2
-  first_of_end None breaks lines ran after is on (line, is_line, later, more, lines_are, ran_is, up) =
+  first_of_end None breaks made ran after is on (later, more, made_are, ran_is, up) =
       one_first ran more after is ran_is
       (first_of_up (is_break breaks next) breaks later more after (on later more) up)
 
--- without breakpoints it is the run of the machine
-pub run_of_watch : (s : State) (inputs : List Input) (lines : List (List ℕ)) (ran : Ran) (after : State)
-    → Watches [] s inputs lines ran after → Runs s inputs ran after
-run_of_watch s [] lines ran after watches = (watches.1, watches.2)
-run_of_watch s (i ∷ rest) lines ran after (traced, next, step, word, on) = (
-  traced.told,
-  next,
-  step,
-  run_of_end s next i rest traced step word
-      (why_stopped traced.told.kind) lines ran after
-      (λ later more watches. run_of_watch next rest later more after watches) on,
-)
-
--- and its lines are the trace
-pub text_of_watch : (s : State) (inputs : List Input) (lines : List (List ℕ)) (ran : Ran) (after : State)
-    → Watches [] s inputs lines ran after → TracesRun s inputs (all_lines lines)
-text_of_watch s [] lines ran after watches = ap all_lines watches.0
-text_of_watch s (i ∷ rest) lines ran after (traced, next, step, word, on) = (
-  traced,
-  next,
-  step,
-  word,
-  text_of_end s next i rest traced step word
-      (why_stopped traced.told.kind) lines ran after
-      (λ later more watches. text_of_watch next rest later more after watches) on,
-)
-
--- with them it is the run of the first inputs
-pub first_of_watch : (breaks : List ℕ) (s : State) (inputs : List Input) (lines : List (List ℕ)) (ran : Ran)
-    (after : State) → Watches breaks s inputs lines ran after → RunsFirst s inputs ran after
-first_of_watch breaks s [] lines ran after watches =
+-- it is the run of the first inputs
+pub first_of_watch : (breaks : List ℕ) (s : State) (inputs : List Input) (made : List Traced) (ran : Ran)
+    (after : State) → Watches breaks s inputs made ran after → RunsFirst s inputs ran after
+first_of_watch breaks s [] made ran after watches =
     ([], [], refl, (ap (λ (r : Ran). record r { stopped = None }) watches.1, watches.2))
-first_of_watch breaks s (i ∷ rest) lines ran after (traced, next, step, word, on) =
-    first_of_end s next i rest traced step word (why_stopped traced.told.kind) breaks lines ran after refl
+first_of_watch breaks s (i ∷ rest) made ran after (traced, next, makes, on) =
+    first_of_end s next i rest traced makes (why_stopped traced.told.kind) breaks made ran after refl
     (λ later more watches. first_of_watch breaks next rest later more after watches) on
+
+-- ---- a run of a step or more
+
+counted_some : (r more : Ran) (burst : ℕ) (i : Input) (told : Stepped) → r ≡ counted burst i told more
+    → 0 < r.steps
+counted_some r more burst i told is =
+    let same : r.steps ≡ 1 + more.steps = ap (λ (x : Ran). x.steps) is in
+    omega (arith, same)
+
+no_last : (before : List Traced) (last : Traced) → before ++ last ∷ [] ≡ [] → ⊥
+no_last [] last none = absurd cc
+no_last (first ∷ before) last none = absurd cc
+
+some_end : (why : Option Why) (s : State) (made : List Traced) (ran : Ran) (after : State)
+    (goes_on : Type 0) → (made ≡ [] → ⊥) → (goes_on → 0 < ran.steps) → EndsAt why s made ran after goes_on
+    → 0 < ran.steps
+some_end (Some why) s made ran after goes_on some counts rests = absurd (some rests.0)
+some_end None s made ran after goes_on some counts on = counts on
+
+pub some_steps : (breaks : List ℕ) (s : State) (inputs : List Input) (before : List Traced) (last : Traced)
+    (ran : Ran) (after : State) → Watches breaks s inputs (before ++ last ∷ []) ran after → 0 < ran.steps
+some_steps breaks s [] before last ran after watches = absurd (no_last before last watches.0)
+some_steps breaks s (i ∷ rest) before last ran after (traced, next, makes, on) =
+    some_end (why_stopped traced.told.kind) s (before ++ last ∷ []) ran after _ (no_last before last)
+    (λ (later, more, made_are, ran_is, up). counted_some ran more s.profile.burst i traced.told ran_is) on
 
 -- ---- a run without a step
 
@@ -337,28 +296,58 @@ abbrev pub StopsAt : State → Input → Type 0
 StopsAt s i =
     (told : Stepped) × (after : State) × Step s i told after × (is_some (why_stopped told.kind) ≡ true)
 
-counts : (r more : Ran) (burst : ℕ) (i : Input) (told : Stepped) → r ≡ counted burst i told more → r.steps ≡ 0
-    → ⊥
-counts r more burst i told is none =
-    let same : r.steps ≡ 1 + more.steps = ap (λ (x : Ran). x.steps) is in
-    omega (arith, same, none)
-
-still_end : (why : Option Why) (s : State) (lines : List (List ℕ)) (ran : Ran) (after : State)
-    (goes_on : Type 0) → (goes_on → ⊥) → EndsAt why s lines ran after goes_on
+still_end : (why : Option Why) (s : State) (made : List Traced) (ran : Ran) (after : State)
+    (goes_on : Type 0) → (goes_on → ⊥) → EndsAt why s made ran after goes_on
     → (after ≡ s) × (is_some why ≡ true)
-still_end (Some why) s lines ran after goes_on no_step rests = (rests.2, refl)
-still_end None s lines ran after goes_on no_step on = absurd (no_step on)
+still_end (Some why) s made ran after goes_on no_step rests = (rests.2, refl)
+still_end None s made ran after goes_on no_step on = absurd (no_step on)
 
-pub still : (breaks : List ℕ) (s : State) (i : Input) (n : ℕ) (lines : List (List ℕ)) (ran : Ran)
-    (after : State) → 0 < n → Watches breaks s (inputs_of i n) lines ran after → ran.steps ≡ 0
+no_first : (made later : List Traced) (first : Traced) → made ≡ [] → made ≡ first ∷ later → ⊥
+no_first made later first none is = absurd cc
+
+pub still : (breaks : List ℕ) (s : State) (i : Input) (n : ℕ) (made : List Traced) (ran : Ran)
+    (after : State) → 0 < n → Watches breaks s (inputs_of i n) made ran after → made ≡ []
     → (after ≡ s) × StopsAt s i
-still breaks s i zero lines ran after some watches none = absurd (omega arith)
-still breaks s i (suc n) lines ran after some (traced, next, step, word, on) none =
+still breaks s i zero made ran after some watches none = absurd (omega arith)
+still breaks s i (suc n) made ran after some (traced, next, makes, on) none =
     let at_end =
-    still_end (why_stopped traced.told.kind) s lines ran after _
-    (λ (line, is_line, later, more, lines_are, ran_is, up). counts ran more s.profile.burst i traced.told
-    ran_is none) on in
-    (at_end.0, (traced.told, next, step, at_end.1))
+    still_end (why_stopped traced.told.kind) s made ran after _
+    (λ (later, more, made_are, ran_is, up). no_first made later traced none made_are) on in
+    (at_end.0, (traced.told, next, makes.0, at_end.1))
+
+-- the same of a run that is not watched
+rest_end : (why : Option Why) (s : State) (ran : Ran) (after : State) (goes_on : Type 0) → (goes_on → ⊥)
+    → Ends why s ran after goes_on → (after ≡ s) × (is_some why ≡ true)
+rest_end (Some why) s ran after goes_on no_step rests = (rests.1, refl)
+rest_end None s ran after goes_on no_step on = absurd (no_step on)
+
+pub still_run : (s : State) (i : Input) (n : ℕ) (ran : Ran) (after : State) → 0 < n
+    → Runs s (inputs_of i n) ran after → ran.steps ≡ 0 → (after ≡ s) × StopsAt s i
+still_run s i zero ran after some runs none = absurd (omega arith)
+still_run s i (suc n) ran after some (told, next, step, on) none =
+    let at_end =
+    rest_end (why_stopped told.kind) s ran after _
+    (λ (more, runs, is). let some = counted_some ran more s.profile.burst i told is in
+    omega (arith, some, none)) on in
+    (at_end.0, (told, next, step, at_end.1))
+
+-- ---- the last step
+
+-- no step was made where there is no last one
+pub none_made : (made : List Traced) (last : Option Traced) → ((t : Traced) → last ≡ Some t → ⊥)
+    → IsLast made last → made ≡ []
+none_made made None none is = is
+none_made made (Some t) none is = absurd (none t refl)
+
+-- with the last one at hand
+pub with_last : (made : List Traced) (o : Option Traced) (last : Traced) → o ≡ Some last → IsLast made o
+    → (before : List Traced) × (made ≡ before ++ last ∷ [])
+with_last made o last is ends = subst (IsLast made) is ends
+
+-- what is added to nothing
+pub added_alone : (Is : List ℕ → Type 0) (old new : List ℕ) → old ≡ [] → Adds Is old new → Is new
+added_alone Is old new none (text, is, whole) =
+    subst Is (sym (whole ∙ ap (λ (t : List ℕ). t ++ text) none)) is
 
 -- a session, by its machine
 abbrev pub session_on : (breaks : List ℕ) (next : Input) (ticks elapsed : ℕ) → State → SessionState

@@ -13,7 +13,8 @@ use Rattle.arm2_exec.specs.Step.{Step as MachineStep, fetched_at}
 use Rattle.arm2_exec.specs.Run.{Runs, why_stopped}
 use Rattle.assembler.specs.ShownLines.{IsShown}
 use Rattle.asm_text.specs.Hex.{hex8}
-use Rattle.trace_text.specs.TraceText.{TracesRun, registers_text, ticks_text}
+use Rattle.trace_text.specs.declared.trace.Traced.{Traced}
+use Rattle.trace_text.specs.TraceText.{IsTraceLine, TracesRun, registers_text, ticks_text}
 use Rattle.debugger.specs.declared.command.Command.{Command}
 use Rattle.debugger.specs.declared.command.Command.TheVariants.{Step, Run, ListBreaks, Break, Regs, Mem, Dis}
 use Rattle.debugger.specs.declared.command.Command.TheVariants.{Ticks, Burst, Line, Port}
@@ -23,7 +24,7 @@ use Rattle.debugger.specs.declared.rows.Row.{Row}
 use Rattle.debugger.specs.declared.rows.Row.TheVariants as row
 use Rattle.debugger.specs.Commands.{command_of}
 use Rattle.debugger.specs.SessionState.{Ascending, SessionState, moved_on, toggled}
-use Rattle.debugger.specs.Watching.{Watches, inputs_of, last_line}
+use Rattle.debugger.specs.Watching.{Watches, inputs_of}
 
 -- ---- runs
 
@@ -39,12 +40,13 @@ RunsFirst s inputs ran after =
     (taken : List Input) × (left : List Input) × (inputs ≡ taken ++ left)
     × Runs s taken (record ran { stopped = None }) after
 
--- the last trace line of at least one step and up to so many, with an end at a breakpoint
+-- at least one step and up to so many, with an end at a breakpoint: the trace line of the last
 abbrev pub AnswersRun : SessionState → ℕ → List ℕ → SessionState → Type 0
 AnswersRun s n answer after =
     (ran : Ran) × (machine : State) × RunsFirst s.machine (inputs_of s.next n) ran machine × (0 < ran.steps)
-    × (lines : List (List ℕ)) × Watches s.breaks s.machine (inputs_of s.next n) lines ran machine
-    × (answer ≡ last_line lines) × (after ≡ moved_on s ran machine)
+    × (before : List Traced) × (last : Traced)
+    × Watches s.breaks s.machine (inputs_of s.next n) (before ++ last ∷ []) ran machine
+    × IsTraceLine last answer × (after ≡ moved_on s ran machine)
 
 -- the next step is stopped
 abbrev pub IsStopped : SessionState → Type 0

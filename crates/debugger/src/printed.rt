@@ -3,10 +3,10 @@
 ghost use Rattle.std.specs.Prelude.{◌≡◌, ◌++◌, ◌+◌, ◌≤◌, length, vec_capacity};
 ghost use Rattle.assembler.specs.ShownLines.{IsShown};
 ghost use Rattle.asm_text.specs.Hex.{hex8};
-ghost use Rattle.trace_text.specs.TraceText.{Adds};
+ghost use Rattle.trace_text.specs.TraceText.{Adds, IsTraceLine};
 
 use assembler::disassemble;
-use trace_text::hex_word;
+use trace_text::{Traced, hex_word, trace_line};
 
 /// Adds a text.
 pub(crate) fn put(out: &mut Vec<u8>, text: &[u8])
@@ -39,4 +39,15 @@ pub(crate) fn put_shown(out: &mut Vec<u8>, word: u32, at: u32)
 {
     let line = disassemble(word, at);
     put(out, line.items());
+}
+
+/// Adds the line of a step.
+pub(crate) fn put_trace(out: &mut Vec<u8>, traced: &Traced)
+    requires { length out.old.items + 94 ≤ vec_capacity out.old }
+    ensures text { Adds (IsTraceLine traced.now) out.old.items out.new.items }
+    ensures len { length out.new.items ≤ length out.old.items + 94 }
+    ensures room { vec_capacity out.old ≤ vec_capacity out.new }
+{
+    let line = trace_line(traced);
+    put(out, line.as_str().as_bytes());
 }

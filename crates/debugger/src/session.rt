@@ -10,9 +10,10 @@ ghost use Rattle.debugger.specs.SessionState.{Ascending, begun, moved_on, toggle
 
 use crate::command::Command;
 use crate::fault::DebugFault;
+use crate::printed::put_trace;
 use crate::reading::read_command;
 use crate::rows::{ROW_ROOM, Row, put_breaks, put_rows};
-use crate::stepping::{Keep, Watch, run_watched};
+use crate::stepping::{put_steps, run_watched};
 use arm2_exec::{Input, Machine, Ran};
 use arrayvec::ArrayVec;
 use bitflags::Flags;
@@ -146,12 +147,7 @@ impl Session {
         ensures unchanged { OnErr result (self.new ≡ self.old) }
     {
         let mut answer = Vec::with_capacity(alloc, steps as usize * LINE_ROOM)?;
-        let watch = Watch {
-            first: self.next,
-            steps,
-            keep: Keep::All,
-        };
-        let ran = run_watched(&mut answer, &mut self.machine, &[], watch);
+        let ran = put_steps(&mut answer, &mut self.machine, self.next, steps);
         if ran.steps == 0 {
             return Err(DebugFault::MachineStopped);
         }
@@ -169,16 +165,12 @@ impl Session {
     {
         let mut answer = Vec::with_capacity(alloc, LINE_ROOM)?;
         let breaks = self.breaks.as_slice();
-        let watch = Watch {
-            first: self.next,
-            steps,
-            keep: Keep::Last,
-        };
-        let ran = run_watched(&mut answer, &mut self.machine, breaks, watch);
-        if ran.steps == 0 {
+        let watched = run_watched(&mut self.machine, breaks, self.next, steps);
+        let Some(last) = watched.last else {
             return Err(DebugFault::MachineStopped);
-        }
-        self.settle(ran);
+        };
+        put_trace(&mut answer, &last);
+        self.settle(watched.ran);
         Ok(answer)
     }
 

@@ -1,3 +1,3 @@
 mod TextLaws
-mod RunLaws
+pub mod RunLaws
 pub mod AsciiLaws

@@ -1,15 +1,15 @@
-use Rattle.std.proofs.Common.{◌≡◌, ◌∙◌, ap, ap₂, true}
+use Rattle.std.proofs.Common.{◌≡◌, ◌∙◌, ap, true}
 use Rattle.std.proofs.lemmas.Result.{IfOk-weaker}
 use Rattle.clap.specs.Simple.{App, Shape, app_of, app_of_fields, on_top, with_subcommand}
-use Rattle.command_line.specs.Line.{arcwcet_top, asm_command, bound_command, check_command, debug_command, run_command, trace_command, visits_command}
+use Rattle.command_line.specs.Line.{arcwcet_top, asm_command, bound_command, check_command, debug_command, list_command, run_command, trace_command, visits_command}
 use Rattle.command_line.proofs.words.arcwcet.Goals as goal
 
 pub returns : goal.returns
 returns c =
-    let asm_is : app_of c.in_ok-asm.field-0 ≡ asm_command = c.in_ok-asm.ensures.shape in
     let top_is : app_of c.subcommand_required-command.result ≡ arcwcet_top = ap app_of_fields c.subcommand_required-command.ensures
     ∙ ap (on_top (λ (s : Shape). record s { subcommand_required = true })) c.new.ensures.app in
-    let one = c.in_ok-command.ensures.shape c.in_ok-asm.ensures.no_globals ∙ ap₂ with_subcommand top_is (ap (λ (a : App). a.top) asm_is) in
-    let machine = c.in_ok-command-2.ensures
-    ∙ ap (λ (a : App). with_subcommand (with_subcommand (with_subcommand a run_command.top) trace_command.top) debug_command.top) one in
+    let one = c.in_ok-command.ensures ∙ ap (λ (a : App). with_subcommand a asm_command.top) top_is in
+    let two = c.in_ok-command-2.ensures ∙ ap (λ (a : App). with_subcommand a list_command.top) one in
+    let machine = c.in_ok-command-3.ensures
+    ∙ ap (λ (a : App). with_subcommand (with_subcommand (with_subcommand a run_command.top) trace_command.top) debug_command.top) two in
     IfOk-weaker c.with_analysis.result _ _ (λ r h. h ∙ ap (λ (a : App). with_subcommand (with_subcommand (with_subcommand a bound_command.top) check_command.top) visits_command.top) machine) c.with_analysis.ensures

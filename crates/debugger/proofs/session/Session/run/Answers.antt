@@ -1,45 +1,49 @@
-use Rattle.std.proofs.Common.{◌<◌, List, ℕ, inr, refl, ap, subst, arith}
+use Rattle.std.proofs.Common.{◌++◌, ◌∷◌, List, ℕ, [], inr, refl, ap, subst, arith}
+use Rattle.trace_text.specs.declared.trace.Traced.{Traced}
+use Rattle.trace_text.specs.TraceText.{IsTraceLine}
 use Rattle.debugger.specs.Watching.{Watches, inputs_of}
-use Rattle.debugger.proofs.WatchLaws.{first_of_watch, session_on, still}
+use Rattle.debugger.proofs.WatchLaws.{added_alone, first_of_watch, none_made, session_on, some_steps, still}
+use Rattle.debugger.proofs.WatchLaws.{with_last}
 use Rattle.debugger.proofs.session.Session.run.Goals as goal
 
-pub returns-then-ran-eq0-clause-err : goal.returns-then-ran-eq0-clause-err
-returns-then-ran-eq0-clause-err c =
+pub returns-in_default-clause-err : goal.returns-in_default-clause-err
+returns-in_default-clause-err c =
     let s = c.self.inside in
-    let ran = c.run_watched-ran in
+    let watched = c.run_watched-watched in
+    let (made, watches, ends) = watched.ensures in
+    let none = none_made made watched.result.last c.in_default.not-Some ends in
     let stopped =
-    still c.as_slice-breaks.result.now s.machine s.next c.args.steps ran.ensures.0 ran.result
-    ran.new.machine (omega (arith, c.requires)) ran.ensures.1 c.if-ran-eq0.true in
+    still c.as_slice-breaks.result.now s.machine s.next c.args.steps made watched.result.ran
+    watched.new.machine (omega (arith, c.requires)) watches none in
     inr (refl, rw (← c.self.view_is) stopped.1)
 
-pub returns-then-ran-eq0-clause-unchanged : goal.returns-then-ran-eq0-clause-unchanged
-returns-then-ran-eq0-clause-unchanged c =
+pub returns-in_default-clause-unchanged : goal.returns-in_default-clause-unchanged
+returns-in_default-clause-unchanged c =
     let s = c.self.inside in
-    let ran = c.run_watched-ran in
+    let watched = c.run_watched-watched in
+    let (made, watches, ends) = watched.ensures in
+    let none = none_made made watched.result.last c.in_default.not-Some ends in
     let stopped =
-    still c.as_slice-breaks.result.now s.machine s.next c.args.steps ran.ensures.0 ran.result
-    ran.new.machine (omega (arith, c.requires)) ran.ensures.1 c.if-ran-eq0.true in
+    still c.as_slice-breaks.result.now s.machine s.next c.args.steps made watched.result.ran
+    watched.new.machine (omega (arith, c.requires)) watches none in
     rw (← c.self.view_is) (ap (session_on s.breaks.items s.next s.ticks s.elapsed) stopped.0)
 
 pub returns-clause-ok : goal.returns-clause-ok
 returns-clause-ok c =
     let s = c.self.inside in
-    let ran = c.run_watched-ran in
+    let watched = c.run_watched-watched in
+    let ran = watched.result.ran in
+    let machine = watched.new.machine in
     let inputs = inputs_of s.next c.args.steps in
-    let some : 0 < ran.result.steps = omega (arith, c.if-ran-eq0.false) in
-    let first =
-    first_of_watch c.as_slice-breaks.result.now s.machine inputs ran.ensures.0 ran.result ran.new.machine
-    ran.ensures.1 in
-    let watches =
-    subst (λ (breaks : List ℕ). Watches breaks s.machine inputs ran.ensures.0 ran.result ran.new.machine)
-    c.as_slice-breaks.ensures.value ran.ensures.1 in
-    rw (← c.self.view_is) (
-      ran.result,
-      ran.new.machine,
-      first,
-      some,
-      ran.ensures.0,
-      watches,
-      ran.ensures.2,
-      c.settle.ensures,
-    )
+    let last = c.in-Some.last in
+    let (made, watches, ends) = watched.ensures in
+    let (before, is) = with_last made watched.result.last last c.in-Some.is ends in
+    let same = c.as_slice-breaks.ensures.value in
+    let on = subst (λ (breaks : List ℕ). Watches breaks s.machine inputs made ran machine) same watches in
+    let whole = subst (λ (ts : List Traced). Watches s.breaks.items s.machine inputs ts ran machine) is on in
+    let first = first_of_watch s.breaks.items s.machine inputs (before ++ last ∷ []) ran machine whole in
+    let some = some_steps s.breaks.items s.machine inputs before last ran machine whole in
+    let line =
+    added_alone (IsTraceLine last) c.in_ok-answer.answer.items c.put_trace.new.out.items
+    c.in_ok-answer.ensures.items c.put_trace.ensures.text in
+    rw (← c.self.view_is) (ran, machine, first, some, before, last, whole, line, c.settle.ensures)

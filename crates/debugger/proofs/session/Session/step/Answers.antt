@@ -1,35 +1,33 @@
-use Rattle.std.proofs.Common.{◌<◌, [], inr, refl, sym, ap, subst, arith}
+use Rattle.std.proofs.Common.{◌<◌, inr, refl, ap, arith}
 use Rattle.trace_text.specs.TraceText.{TracesRun}
 use Rattle.debugger.specs.Watching.{inputs_of}
-use Rattle.debugger.proofs.WatchLaws.{run_of_watch, session_on, still, text_of_watch}
+use Rattle.debugger.proofs.WatchLaws.{added_alone, session_on, still_run}
 use Rattle.debugger.proofs.session.Session.step.Goals as goal
 
 pub returns-then-ran-eq0-clause-err : goal.returns-then-ran-eq0-clause-err
 returns-then-ran-eq0-clause-err c =
     let s = c.self.inside in
-    let ran = c.run_watched-ran in
+    let ran = c.put_steps-ran in
     let stopped =
-    still [] s.machine s.next c.args.steps ran.ensures.0 ran.result ran.new.machine
-    (omega (arith, c.requires)) ran.ensures.1 c.if-ran-eq0.true in
+    still_run s.machine s.next c.args.steps ran.result ran.new.machine (omega (arith, c.requires))
+    ran.ensures.runs c.if-ran-eq0.true in
     inr (refl, rw (← c.self.view_is) stopped.1)
 
 pub returns-then-ran-eq0-clause-unchanged : goal.returns-then-ran-eq0-clause-unchanged
 returns-then-ran-eq0-clause-unchanged c =
     let s = c.self.inside in
-    let ran = c.run_watched-ran in
+    let ran = c.put_steps-ran in
     let stopped =
-    still [] s.machine s.next c.args.steps ran.ensures.0 ran.result ran.new.machine
-    (omega (arith, c.requires)) ran.ensures.1 c.if-ran-eq0.true in
+    still_run s.machine s.next c.args.steps ran.result ran.new.machine (omega (arith, c.requires))
+    ran.ensures.runs c.if-ran-eq0.true in
     rw (← c.self.view_is) (ap (session_on s.breaks.items s.next s.ticks s.elapsed) stopped.0)
 
 pub returns-clause-ok : goal.returns-clause-ok
 returns-clause-ok c =
     let s = c.self.inside in
-    let ran = c.run_watched-ran in
-    let inputs = inputs_of s.next c.args.steps in
+    let ran = c.put_steps-ran in
     let some : 0 < ran.result.steps = omega (arith, c.if-ran-eq0.false) in
-    let runs = run_of_watch s.machine inputs ran.ensures.0 ran.result ran.new.machine ran.ensures.1 in
     let text =
-    subst (TracesRun s.machine inputs) (sym ran.ensures.2)
-    (text_of_watch s.machine inputs ran.ensures.0 ran.result ran.new.machine ran.ensures.1) in
-    rw (← c.self.view_is) (ran.result, ran.new.machine, runs, some, text, c.settle.ensures)
+    added_alone (TracesRun s.machine (inputs_of s.next c.args.steps)) c.in_ok-answer.answer.items
+    ran.new.out.items c.in_ok-answer.ensures.items ran.ensures.text in
+    rw (← c.self.view_is) (ran.result, ran.new.machine, ran.ensures.runs, some, text, c.settle.ensures)

@@ -1,0 +1,41 @@
+-- A step of a run, with the word that shows it, and what the run tells after it.
+use Rattle.std.specs.Prelude.{◌≡◌, ◌≢◌, ◌+◌, ◌*◌, ◌^◌, ◌≤◌, ℕ, Some}
+use Rattle.arm2_effect.specs.declared.step_end.Kind.TheVariants.{Stopped}
+use Rattle.arm2_effect.specs.declared.step_end.Why.{Why}
+use Rattle.arm2_exec.specs.declared.machine.Input.{Input}
+use Rattle.arm2_exec.specs.declared.machine.Ran.{Ran}
+use Rattle.arm2_exec.specs.declared.machine.Stepped.{Stepped}
+use Rattle.arm2_exec.specs.State.{State}
+use Rattle.arm2_exec.specs.Step.{Step}
+use Rattle.trace_text.specs.declared.trace.Traced.{Traced}
+use Rattle.trace_text.specs.TraceText.{traced_word}
+
+-- it is made, and shown with the word that it fetched
+abbrev pub Makes : State → Input → Traced → State → Type 0
+Makes s i traced next = Step s i traced.told next × (traced.word ≡ traced_word s i)
+
+-- it is stopped, which is told and not counted
+abbrev pub Stops : State → Input → (ran told : Ran) → State → Type 0
+Stops s i ran told after =
+    (traced : Traced) × (why : Why) × Makes s i traced after × (traced.told.kind ≡ Stopped why)
+    × (told ≡ record ran { stopped = Some why })
+
+-- one step after others: its ticks, and those that pass with its bursts
+abbrev pub further : (burst : ℕ) → Input → Stepped → Ran → Ran
+further burst i told ran = record {
+  steps = ran.steps + 1;
+  ticks = ran.ticks + told.ticks;
+  elapsed = ran.elapsed + (told.ticks + burst * i.bursts);
+  stopped = ran.stopped;
+}
+
+-- it is not stopped, and counted
+abbrev pub Counts : State → Input → (ran : Ran) → Traced → (told : Ran) → State → Type 0
+Counts s i ran traced told next =
+    Makes s i traced next × ((why : Why) → traced.told.kind ≢ Stopped why)
+    × (told ≡ further s.profile.burst i traced.told ran)
+
+-- what so many steps can tell at most
+abbrev pub IsWithin : (steps : ℕ) → Ran → Type 0
+IsWithin steps ran =
+    (ran.steps ≤ steps) × (ran.ticks ≤ steps * 2 ^ 16) × (ran.elapsed ≤ steps * 2 ^ 33)

@@ -1,0 +1,121 @@
+-- One row more.
+use Rattle.std.proofs.Common.{◌≡◌, ◌+◌, ◌-◌, ◌<◌, ◌≤◌, ℕ, suc, List, [], ◌∷◌, ◌++◌, length, drop, take, replicate, codes, decimal, Some, refl, sym, ap, subst, ◌∙◌, arith, append-nil, append_assoc, get_or}
+use Rattle.std.specs.Prelude.{min}
+use Rattle.std.proofs.Math.Nat.{min_comm, sub-add-min_cancel}
+use Rattle.std.proofs.Math.ListN.{drop_of_length-le}
+use Rattle.std.proofs.Math.Seq.{take-length}
+use Rattle.std.proofs.lemmas.List.{drop-replicate, drop_more, length-drop}
+use Rattle.assembler.specs.ShownLines.{IsShown}
+use Rattle.assembler.specs.declared.placed_line.PlacedLine.{PlacedLine}
+use Rattle.loader.specs.Image.{Words, word_of}
+use Rattle.trace_text.specs.TraceText.{Adds}
+use Rattle.listing.specs.Listing.{AreWordRows, IsWordRow, in_six, line_rows, source_rows, word_columns, word_rows}
+
+-- ---- columns
+
+blanks_in_front : (len : ℕ) → drop (min len 6) (codes "      ") ≡ replicate (6 - len) 32
+blanks_in_front len =
+    let rest : 6 - min len 6 ≡ 6 - len = omega (arith, sub-add-min_cancel 6 len, min_comm 6 len) in
+    drop-replicate (min len 6) 6 32 ∙ ap (λ i. replicate i 32) rest
+
+pub numbered : (n k : ℕ) (old blanks before after digits : List ℕ) → blanks ≡ codes "      " → digits ≡ decimal n
+    → k ≡ min (length digits) 6 → before ≡ old ++ take (length blanks - k) (drop k blanks)
+    → after ≡ before ++ digits → after ≡ old ++ in_six n
+numbered n k old six before after digits six_is is width front0 back =
+    let front : before ≡ old ++ drop k (codes "      ") =
+    front0 ∙ ap (λ xs. old ++ xs) (ap (λ n. take n (drop k six)) (sym (length-drop k six)) ∙ take-length (drop k six) ∙ ap (drop k) six_is) in
+    let len : length digits ≡ length (decimal n) = ap length is in
+    let blanks : drop k (codes "      ") ≡ replicate (6 - length (decimal n)) 32 =
+    ap (λ i. drop i (codes "      ")) (width ∙ ap (λ i. min i 6) len) ∙ blanks_in_front (length (decimal n)) in
+    back ∙ ap (λ xs. xs ++ digits) (front ∙ ap (λ xs. old ++ xs) blanks)
+    ∙ ap (λ ds. (old ++ replicate (6 - length (decimal n)) 32) ++ ds) is
+    ∙ append_assoc old (replicate (6 - length (decimal n)) 32) (decimal n)
+
+-- ---- rows of an image
+
+pub word_row : (at word : ℕ) (line old columns gap shown new : List ℕ) → IsShown word at line
+    → columns ≡ old ++ word_columns at (Some word) → gap ≡ columns ++ codes "  " → shown ≡ gap ++ line
+    → new ≡ shown ++ codes "\n" → Adds (IsWordRow (at, word)) old new
+word_row at word line old columns gap shown new is a b c d =
+    let c0 = word_columns at (Some word) in
+    let whole : new ≡ old ++ (c0 ++ (codes "  " ++ (line ++ codes "\n"))) =
+    d ∙ ap (λ xs. xs ++ codes "\n") (c ∙ ap (λ xs. xs ++ line) (b ∙ ap (λ xs. xs ++ codes "  ") a))
+    ∙ append_assoc ((old ++ c0) ++ codes "  ") line (codes "\n")
+    ∙ append_assoc (old ++ c0) (codes "  ") (line ++ codes "\n")
+    ∙ append_assoc old c0 (codes "  " ++ (line ++ codes "\n")) in
+    (c0 ++ (codes "  " ++ (line ++ codes "\n")), (line, is, refl), whole)
+
+-- whatever rows the other words have, all rows are those so far and these
+pub record SoFar (words : Words) (i : ℕ) (text : List ℕ) : Type 0 where
+  pub whole : (more : List ℕ) → AreWordRows (drop i words) more → AreWordRows words (text ++ more)
+
+pub so_far_none : (words : Words) → SoFar words 0 []
+so_far_none words = record { whole = λ more rows. rows }
+
+pub so_far_one : (words items : Words) (i : ℕ) (d : ℕ × ℕ) (text new : List ℕ) → SoFar words i text → items ≡ words
+    → i < length items → Adds (IsWordRow (get_or items i d)) text new → SoFar words (i + 1) new
+so_far_one words items i d text new h same lt adds = record {
+  whole = λ more rows.
+      let row = adds.0 in
+      let e = get_or items i d in
+      let left : drop i words ≡ e ∷ drop (i + 1) words =
+      subst (λ ws. drop i ws ≡ e ∷ drop (i + 1) ws) same (drop_more items i d lt) in
+      let here : AreWordRows (drop i words) (row ++ more) =
+      subst (λ ws. AreWordRows ws (row ++ more)) (sym left) (row, more, adds.1, rows, refl) in
+      subst (AreWordRows words) (sym (ap (λ xs. xs ++ more) adds.2 ∙ append_assoc text row more)) (h.whole (row ++ more) here);
+}
+
+pub so_far_all : (words items : Words) (i : ℕ) (text : List ℕ) → SoFar words i text → items ≡ words
+    → length items ≤ i → AreWordRows words text
+so_far_all words items i text h same le =
+    let none : drop i words ≡ [] = subst (λ ws. drop i ws ≡ []) same (drop_of_length-le items le) in
+    subst (AreWordRows words) (append-nil text)
+    (h.whole [] (subst (λ ws. AreWordRows ws []) (sym none) refl))
+
+-- ---- rows of a source
+
+pub word_more : (image : Words) (at left after : ℕ) (old columns new all : List ℕ) → left ≡ suc after
+    → old ++ word_rows image at left ≡ all → columns ≡ old ++ word_columns at (word_of image at)
+    → new ≡ columns ++ codes "\n" → new ++ word_rows image (at + 4) after ≡ all
+word_more image at left after old columns new all is h0 a b =
+    let h = subst (λ n. old ++ word_rows image at n ≡ all) is h0 in
+    let c = word_columns at (word_of image at) in
+    let one : new ≡ old ++ (c ++ codes "\n") =
+    b ∙ ap (λ xs. xs ++ codes "\n") a ∙ append_assoc old c (codes "\n") in
+    ap (λ xs. xs ++ word_rows image (at + 4) after) one
+    ∙ append_assoc old (c ++ codes "\n") (word_rows image (at + 4) after) ∙ h
+
+pub words_end : (image : Words) (at left : ℕ) (text all : List ℕ) → left ≡ 0 → text ++ word_rows image at left ≡ all
+    → text ≡ all
+words_end image at left text all none h =
+    sym (append-nil text) ∙ ap (λ n. text ++ word_rows image at n) (sym none) ∙ h
+
+-- the rows that are left with a number, some lines and some places
+pub line_more : (image : Words) (n : ℕ) (now : List (List ℕ)) (line : List ℕ) (lines : List (List ℕ))
+    (placed : List PlacedLine) (i : ℕ) (d p : PlacedLine) (old new all : List ℕ)
+    → old ++ source_rows image n now (drop i placed) ≡ all → now ≡ line ∷ lines → i < length placed
+    → get_or placed i d ≡ p → new ≡ old ++ line_rows image n line p.at p.words
+    → new ++ source_rows image (n + 1) lines (drop (i + 1) placed) ≡ all
+line_more image n now line lines placed i d p old new all h parts lt is more =
+    let left : drop i placed ≡ p ∷ drop (i + 1) placed =
+    drop_more placed i d lt ∙ ap (λ x. x ∷ drop (i + 1) placed) is in
+    let rest = source_rows image (n + 1) lines (drop (i + 1) placed) in
+    ap (λ xs. xs ++ rest) more ∙ append_assoc old (line_rows image n line p.at p.words) rest
+    ∙ ap (λ ls. old ++ source_rows image n ls (p ∷ drop (i + 1) placed)) (sym parts)
+    ∙ ap (λ ps. old ++ source_rows image n now ps) (sym left) ∙ h
+
+no_places : (image : Words) (n : ℕ) (lines : List (List ℕ)) → source_rows image n lines [] ≡ []
+no_places image n [] = refl
+no_places image n (line ∷ lines) = refl
+
+pub lines_end : (image : Words) (n : ℕ) (now : List (List ℕ)) (placed : List PlacedLine) (text all : List ℕ)
+    → now ≡ [] → text ++ source_rows image n now placed ≡ all → text ≡ all
+lines_end image n now placed text all none h =
+    sym (append-nil text) ∙ ap (λ ls. text ++ source_rows image n ls placed) (sym none) ∙ h
+
+pub places_end : (image : Words) (n : ℕ) (lines : List (List ℕ)) (placed : List PlacedLine) (i : ℕ) (text all : List ℕ)
+    → length placed ≤ i → text ++ source_rows image n lines (drop i placed) ≡ all → text ≡ all
+places_end image n lines placed i text all le h =
+    let none : drop i placed ≡ [] = drop_of_length-le placed le in
+    sym (append-nil text) ∙ ap (λ xs. text ++ xs) (sym (no_places image n lines))
+    ∙ ap (λ ps. text ++ source_rows image n lines ps) (sym none) ∙ h

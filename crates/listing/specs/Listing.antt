@@ -1,0 +1,53 @@
+-- The rows of a listing. Our own format.
+use Rattle.std.specs.Prelude.{◌≡◌, ℕ, zero, suc, ◌+◌, ◌-◌, List, [], ◌∷◌, ◌++◌, length, replicate}
+use Rattle.std.specs.Prelude.{codes, decimal, Option, Some}
+use Rattle.asm_text.specs.Hex.{hex8}
+use Rattle.assembler.specs.ShownLines.{IsShown}
+use Rattle.assembler.specs.declared.placed_line.PlacedLine.{PlacedLine}
+use Rattle.loader.specs.Image.{Words, word_of}
+use Rattle.trace_text.specs.TraceText.{word_text}
+
+-- an address and the word there
+abbrev pub word_columns : ℕ → Option ℕ → List ℕ
+word_columns at word = hex8 at ++ (codes "  " ++ word_text word)
+
+-- blanks in the place of both
+abbrev pub no_columns : List ℕ
+no_columns = codes "                  "
+
+-- a number in decimal that ends in the sixth column, with blanks in front
+abbrev pub in_six : ℕ → List ℕ
+in_six n = replicate (6 - length (decimal n)) 32 ++ decimal n
+
+-- the number of a line and its text
+abbrev pub line_row : ℕ → List ℕ → List ℕ
+line_row n text = codes "  " ++ (in_six n ++ (codes "  " ++ (text ++ codes "\n")))
+
+-- a row for each of so many words from an address on
+abbrev pub word_rows : Words → (at count : ℕ) → List ℕ
+word_rows image at zero = []
+word_rows image at (suc n) = (word_columns at (word_of image at) ++ codes "\n") ++ word_rows image (at + 4) n
+
+-- the number and the text of a line, beside its first word if it has one; its other words below
+abbrev pub line_rows : Words → (n : ℕ) → (text : List ℕ) → (at count : ℕ) → List ℕ
+line_rows image n text at zero = no_columns ++ line_row n text
+line_rows image n text at (suc more) =
+    (word_columns at (word_of image at) ++ line_row n text) ++ word_rows image (at + 4) more
+
+-- the rows of lines, each where it stands, with numbers from one on
+abbrev pub source_rows : Words → ℕ → List (List ℕ) → List PlacedLine → List ℕ
+source_rows image n (line ∷ lines) (p ∷ placed) =
+    line_rows image n line p.at p.words ++ source_rows image (n + 1) lines placed
+source_rows image n _ _ = []
+
+-- the address, the word and its line
+abbrev pub IsWordRow : ℕ × ℕ → List ℕ → Type 0
+IsWordRow e row =
+    (line : List ℕ) × IsShown e.1 e.0 line
+    × (row ≡ word_columns e.0 (Some e.1) ++ (codes "  " ++ (line ++ codes "\n")))
+
+-- a row for each word
+abbrev pub AreWordRows : Words → List ℕ → Type 0
+AreWordRows [] text = text ≡ []
+AreWordRows (e ∷ words) text =
+    (row more : List ℕ) × IsWordRow e row × AreWordRows words more × (text ≡ row ++ more)

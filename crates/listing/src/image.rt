@@ -1,0 +1,34 @@
+ghost use Rattle.std.specs.Prelude.{IfOk, OnOk};
+ghost use Rattle.listing.specs.Listing.{AreWordRows, IsWordRow};
+ghost use Rattle.trace_text.specs.TraceText.{Adds};
+
+use crate::columns::{put, put_word_columns};
+use assembler::disassemble;
+use loader::Image;
+use std::alloc::{AllocError, Global};
+
+fn put_row(out: &mut Vec<u8>, at: u32, word: u32) -> Result<(), AllocError>
+    ensures { OnOk result (Adds (IsWordRow (at, word)) out.old.items out.new.items) }
+{
+    put_word_columns(out, at, Some(word))?;
+    put(out, b"  ")?;
+    let line = disassemble(word, at);
+    put(out, line.items())?;
+    put(out, b"\n")
+}
+
+/// A row for each word of an image: its address, itself, and its line as [`disassemble`] shows it.
+///
+/// # Errors
+///
+/// An allocation failed.
+pub fn list_image(alloc: Global, image: &Image) -> Result<Vec<u8>, AllocError>
+    ensures { IfOk result (λ rows. AreWordRows image.now rows.items) }
+{
+    let words = image.listed(alloc)?;
+    let mut out = Vec::new(alloc);
+    for (at, word) in &words {
+        put_row(&mut out, *at, *word)?;
+    }
+    Ok(out)
+}

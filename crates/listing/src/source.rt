@@ -1,0 +1,75 @@
+ghost use Rattle.std.specs.Prelude.{◌≡◌, ◌≤◌, ◌+◌, ◌*◌, ◌^◌, ◌++◌, IfOk, OnOk};
+ghost use Rattle.asm_text.specs.Source.{lines_of};
+ghost use Rattle.listing.specs.Listing.{line_rows, source_rows, word_rows};
+
+use crate::columns::{put, put_line_row, put_word_columns};
+use asm_text::first_line;
+use assembler::PlacedLine;
+use loader::Image;
+use std::alloc::{AllocError, Global};
+
+// Adds a row for each of so many words from an address on.
+fn put_words(out: &mut Vec<u8>, image: &Image, from: u32, count: usize) -> Result<(), AllocError>
+    requires { from + 4 * count ≤ 2 ^ 26 }
+    ensures { OnOk result (out.new.items ≡ out.old.items ++ word_rows image.now from count) }
+{
+    let mut at = from;
+    for _ in 0..count {
+        put_word_columns(out, at, image.word_at(at))?;
+        put(out, b"\n")?;
+        at += 4;
+    }
+    Ok(())
+}
+
+// Adds the rows of a line.
+fn put_line(
+    out: &mut Vec<u8>,
+    image: &Image,
+    placed: PlacedLine,
+    number: usize,
+    text: &[u8],
+) -> Result<(), AllocError>
+    ensures { OnOk result
+        (out.new.items ≡ out.old.items ++ line_rows image.now number text.now placed.at placed.words) }
+{
+    if placed.words == 0 {
+        put(out, b"                  ")?;
+        return put_line_row(out, number, text);
+    }
+    put_word_columns(out, placed.at, image.word_at(placed.at))?;
+    put_line_row(out, number, text)?;
+    put_words(out, image, placed.at + 4, placed.words - 1)
+}
+
+/// The lines of a source beside the words of its image: a row for each line, with the address and the word
+/// of its first word, if it has one, its number from 1 and its text; below it a row for each further word.
+///
+/// `placed` says where the lines stand, in their order; the rows end with the lines, or with the places. The
+/// text is bytes, since a comment may be other than UTF-8. Dashes stand for a word that the image lacks.
+///
+/// # Errors
+///
+/// An allocation failed.
+pub fn list_source(
+    alloc: Global,
+    source: &[u8],
+    placed: &[PlacedLine],
+    image: &Image,
+) -> Result<Vec<u8>, AllocError>
+    ensures { IfOk result
+        (λ rows. rows.items ≡ source_rows image.now 1 (lines_of source.now) placed.now) }
+{
+    let mut out = Vec::new(alloc);
+    let mut rest = source;
+    let mut number = 1;
+    for line in placed {
+        let Some((text, after)) = first_line(rest) else {
+            return Ok(out);
+        };
+        put_line(&mut out, image, *line, number, text)?;
+        rest = after;
+        number += 1;
+    }
+    Ok(out)
+}
