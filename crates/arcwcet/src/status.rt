@@ -36,7 +36,10 @@ pub(crate) fn line_status<E: Output>(fault: LineFault, err: &mut E) -> u8
             let _ = write!(text, "{error}");
             2
         }
-        LineFault::Other => 2,
+        LineFault::SourceReplaced => {
+            let _ = writeln!(text, "error: the image would be written over its source");
+            2
+        }
     }
 }
 

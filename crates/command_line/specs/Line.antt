@@ -126,8 +126,9 @@ asked_of (request.Tight names) = tight (names_of names.handler) names.edge
 asked_of (request.Check names) = check (names_of names.handler) names.cert.now
 asked_of (request.Visits names) = visits (names_of names.handler) names.fiq_statement.now names.visits
 
+-- nothing where the image would be written over its source
 abbrev pub asm_of : Option Text → Option Text → Option Asked
-asm_of (Some source) (Some image) = Some (asm source image)
+asm_of (Some source) (Some image) = if bytes_eq source image then None else Some (asm source image)
 asm_of _ _ = None
 
 abbrev pub named : Option Text → Option Text → Option Text → Option FileNames

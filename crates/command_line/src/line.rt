@@ -68,6 +68,6 @@ pub enum LineFault {
     Memory,
     /// The command-line crate's own refusal, or its help.
     Usage(Error),
-    /// A command that is not one of the program's.
-    Other,
+    /// `asm` would write the image over its source.
+    SourceReplaced,
 }

@@ -1,11 +1,12 @@
-ghost use Rattle.std.specs.Prelude.{◌≡◌, ◌≢◌, IfOk, IfErr, Some, None, false, option_map, option_and_then};
+ghost use Rattle.std.specs.Prelude.{◌≡◌, ◌≢◌, IfOk, IfErr, Some, None, false, codes, option_map};
+ghost use Rattle.std.specs.Prelude.{option_and_then};
 ghost use Rattle.clap.specs.Matches.{found_of};
 ghost use Rattle.clap.specs.Simple.{app_of, with_subcommand};
 ghost use Rattle.clap.specs.Walk.{rows_of, rule_of};
 ghost use Rattle.clap.specs.Words.{kind_of, subcommand_rows_of};
 ghost use Rattle.clap.specs.declared.builder.command.Command.TheViews.{out-Command};
 ghost use Rattle.command_line.specs.Line.{arcwcet_command, asked_asm, asked_bound, asked_by, asked_check};
-ghost use Rattle.command_line.specs.Line.{asked_in, asked_of, asked_visits, asm_command, bound_command};
+ghost use Rattle.command_line.specs.Line.{asked_in, asked_of, asked_visits, asm_command, asm_of, bound_command};
 ghost use Rattle.command_line.specs.Line.{asked_list, check_command, debug_command, list_command, names_in};
 ghost use Rattle.command_line.specs.Line.{names_of, number_at};
 ghost use Rattle.command_line.specs.Line.{priced_command, profile_rule, run_command, tight_rule};
@@ -17,12 +18,33 @@ use clap::error::ErrorKind;
 use clap::{Arg, ArgMatches, Command, Error, value_parser};
 use std::alloc::{AllocError, Global};
 
-/// An argument that has to be there, in its place.
-fn wanted<'a>(alloc: Global, id: &'a str) -> Arg<'a>
+/// An argument that has to be there, in its place, and what the help says of it.
+fn wanted<'a>(alloc: Global, id: &'a str, help: &'a str) -> Arg<'a>
     ensures rule { rule_of result ≡ wanted id.entry.now }
     ensures local { result.global ≡ false }
 {
-    Arg::new(alloc, id).required(true)
+    Arg::new(alloc, id).required(true).help(help)
+}
+
+/// SOURCE.
+fn source<'a>(alloc: Global) -> Arg<'a>
+    ensures rule { rule_of result ≡ wanted (codes "source") }
+    ensures local { result.global ≡ false }
+{
+    wanted(alloc, "source", "Assembly source, or an image")
+}
+
+/// The second file of a command with a cycle profile: a machine file, or else a statement.
+fn second_file<'a>(alloc: Global, id: &'a str) -> Arg<'a>
+    ensures rule { rule_of result ≡ wanted id.entry.now }
+    ensures local { result.global ≡ false }
+{
+    let help = if id == "machine" {
+        "Machine file"
+    } else {
+        "Statement on the handler"
+    };
+    wanted(alloc, id, help)
 }
 
 /// `--profile FILE`.
@@ -33,6 +55,7 @@ fn profile<'a>(alloc: Global) -> Arg<'a>
     Arg::new(alloc, "profile")
         .long("profile")
         .value_name("FILE")
+        .help("Cycle profile file [default: the first profile]")
 }
 
 /// The command `asm SOURCE IMAGE`.
@@ -41,8 +64,9 @@ fn asm<'a>(alloc: Global) -> Result<Command<'a>, AllocError>
     ensures no_globals { IfOk result (λ c. (out-Command c).has_globals ≡ false) }
 {
     Command::new(alloc, "asm")
-        .arg(wanted(alloc, "source"))?
-        .arg(wanted(alloc, "image"))
+        .about("Write a source's image, and print its size")
+        .arg(source(alloc))?
+        .arg(wanted(alloc, "image", "File of the image, to be written"))
 }
 
 /// The command `list SOURCE`.
@@ -52,18 +76,24 @@ fn list<'a>(alloc: Global) -> Result<Command<'a>, AllocError>
 {
     Command::new(alloc, "list")
         .about("Print addresses, words and lines of a source, or an image's words")
-        .arg(wanted(alloc, "source"))
+        .arg(source(alloc))
 }
 
 /// A command `NAME SOURCE SECOND` with a cycle profile.
-fn priced<'a>(alloc: Global, name: &'a str, second: &'a str) -> Result<Command<'a>, AllocError>
+fn priced<'a>(
+    alloc: Global,
+    name: &'a str,
+    summary: &'a str,
+    second: &'a str,
+) -> Result<Command<'a>, AllocError>
     ensures shape { IfOk result (λ c. app_of c ≡ priced_command name.now second.now) }
     ensures no_globals { IfOk result (λ c. (out-Command c).has_globals ≡ false) }
 {
     Command::new(alloc, name)
+        .about(summary)
         .arg(profile(alloc))?
-        .arg(wanted(alloc, "source"))?
-        .arg(wanted(alloc, second))
+        .arg(source(alloc))?
+        .arg(second_file(alloc, second))
 }
 
 /// `--tight N`.
@@ -74,6 +104,7 @@ fn tight<'a>(alloc: Global) -> Arg<'a>
     Arg::new(alloc, "tight")
         .long("tight")
         .value_name("N")
+        .help("Print a machine file that takes the graph's edge N at its price")
         .value_parser(value_parser!(u32))
 }
 
@@ -82,7 +113,8 @@ fn bound<'a>(alloc: Global) -> Result<Command<'a>, AllocError>
     ensures shape { IfOk result (λ c. app_of c ≡ bound_command) }
     ensures no_globals { IfOk result (λ c. (out-Command c).has_globals ≡ false) }
 {
-    priced(alloc, "bound", "statement")?.arg(tight(alloc))
+    let summary = "Print the greatest run time of a handler, as a certificate";
+    priced(alloc, "bound", summary, "statement")?.arg(tight(alloc))
 }
 
 /// The command `check SOURCE STATEMENT CERT`.
@@ -90,7 +122,9 @@ fn check<'a>(alloc: Global) -> Result<Command<'a>, AllocError>
     ensures shape { IfOk result (λ c. app_of c ≡ check_command) }
     ensures no_globals { IfOk result (λ c. (out-Command c).has_globals ≡ false) }
 {
-    priced(alloc, "check", "statement")?.arg(wanted(alloc, "cert"))
+    let summary = "Judge a certificate of a handler's run time";
+    let cert = wanted(alloc, "cert", "Certificate");
+    priced(alloc, "check", summary, "statement")?.arg(cert)
 }
 
 /// A whole number of visits, in its place.
@@ -98,7 +132,7 @@ fn visit_count<'a>(alloc: Global) -> Arg<'a>
     ensures rule { rule_of result ≡ visits_rule }
     ensures local { result.global ≡ false }
 {
-    wanted(alloc, "visits")
+    wanted(alloc, "visits", "How often FIQ interrupts it, at most")
         .value_name("K")
         .value_parser(value_parser!(u32))
 }
@@ -108,8 +142,9 @@ fn visits<'a>(alloc: Global) -> Result<Command<'a>, AllocError>
     ensures shape { IfOk result (λ c. app_of c ≡ visits_command) }
     ensures no_globals { IfOk result (λ c. (out-Command c).has_globals ≡ false) }
 {
-    priced(alloc, "visits", "statement")?
-        .arg(wanted(alloc, "fiq_statement"))?
+    let summary = "Print the greatest run time of a handler that FIQ interrupts";
+    priced(alloc, "visits", summary, "statement")?
+        .arg(wanted(alloc, "fiq_statement", "Statement on FIQ's handler"))?
         .arg(visit_count(alloc))
 }
 
@@ -132,13 +167,14 @@ fn with_priced<'a>(
     alloc: Global,
     command: Command<'a>,
     name: &'a str,
+    summary: &'a str,
     second: &'a str,
 ) -> Result<Command<'a>, AllocError>
     ensures { IfOk result
         (λ c. app_of c
         ≡ with_subcommand (app_of command.entry) (priced_command name.entry.now second.entry.now).top) }
 {
-    command.subcommand(priced(alloc, name, second)?)
+    command.subcommand(priced(alloc, name, summary, second)?)
 }
 
 /// A command with one more, `bound`.
@@ -170,9 +206,12 @@ fn with_machine<'a>(alloc: Global, command: Command<'a>) -> Result<Command<'a>, 
         (with_subcommand
         (with_subcommand (app_of command.entry) run_command.top) trace_command.top) debug_command.top) }
 {
-    let command = with_priced(alloc, command, "run", "machine")?;
-    let command = with_priced(alloc, command, "trace", "machine")?;
-    with_priced(alloc, command, "debug", "machine")
+    let summary = "Run a machine, and print its registers and ticks";
+    let command = with_priced(alloc, command, "run", summary, "machine")?;
+    let summary = "Run a machine, and print a line for each step";
+    let command = with_priced(alloc, command, "trace", summary, "machine")?;
+    let summary = "Obey the debugger's commands on standard input";
+    with_priced(alloc, command, "debug", summary, "machine")
 }
 
 /// A command with those about a handler's longest run time.
@@ -192,7 +231,10 @@ fn with_analysis<'a>(alloc: Global, command: Command<'a>) -> Result<Command<'a>,
 fn arcwcet<'a>(alloc: Global) -> Result<Command<'a>, AllocError>
     ensures { IfOk result (λ c. app_of c ≡ arcwcet_command) }
 {
-    let command = Command::new(alloc, "arcwcet").subcommand_required(true);
+    let command = Command::new(alloc, "arcwcet")
+        .subcommand_required(true)
+        .bin_name("arcwcet")?
+        .about("Greatest run times of interrupt handlers of the Acorn Archimedes");
     let command = with_asm(alloc, command)?;
     let command = with_list(alloc, command)?;
     let command = with_machine(alloc, command)?;
@@ -213,13 +255,24 @@ fn names_in<'a>(values: &ArgMatches<'a>, second: &str) -> Option<Names<'a>>
     })
 }
 
+/// The request for a source's image: none where the image would be written over its source.
+fn asm_request<'a>(source: &'a str, image: &'a str) -> Option<Request<'a>>
+    ensures { option_map asked_of result ≡ asm_of (Some source.now) (Some image.now) }
+{
+    if source == image {
+        None
+    } else {
+        Some(Request::Asm(AsmNames { source, image }))
+    }
+}
+
 /// What `asm` is asked with.
 fn asm_in<'a>(values: &ArgMatches<'a>) -> Option<Request<'a>>
     ensures { option_map asked_of result ≡ asked_asm (rows_of (found_of values.now)) }
 {
     let source = values.get_str("source")?;
     let image = values.get_str("image")?;
-    Some(Request::Asm(AsmNames { source, image }))
+    asm_request(source, image)
 }
 
 /// What `list` is asked with.
@@ -325,7 +378,7 @@ pub fn request<'a>(alloc: Global, words: &'a [String]) -> Result<Request<'a>, Li
     match command.try_get_matches_from(words) {
         Ok(matches) => match request_in(&matches) {
             Some(asked) => Ok(asked),
-            None => Err(LineFault::Other),
+            None => Err(LineFault::SourceReplaced),
         },
         Err(error) => Err(line_fault(error)),
     }

@@ -6,7 +6,8 @@ use Rattle.command_line.proofs.words.arcwcet.Goals as goal
 
 pub returns : goal.returns
 returns c =
-    let top_is : app_of c.subcommand_required-command.result ≡ arcwcet_top = ap app_of_fields c.subcommand_required-command.ensures
+    let top_is : app_of c.about-command.result ≡ arcwcet_top = ap app_of_fields c.about-command.ensures
+    ∙ ap app_of_fields c.in_ok-bin_name.ensures.0 ∙ ap app_of_fields c.subcommand_required.ensures
     ∙ ap (on_top (λ (s : Shape). record s { subcommand_required = true })) c.new.ensures.app in
     let one = c.in_ok-command.ensures ∙ ap (λ (a : App). with_subcommand a asm_command.top) top_is in
     let two = c.in_ok-command-2.ensures ∙ ap (λ (a : App). with_subcommand a list_command.top) one in

@@ -8,7 +8,8 @@ use Rattle.command_line.proofs.words.asm_in.Goals as goal
 pub returns : goal.returns
 returns c =
     let f = found_of c.args.values.now in
-    ap₂ asm_of (c.in_ok-source.ensures ∙ first_value-rows f (codes "source")) (c.in_ok-image.ensures ∙ first_value-rows f (codes "image"))
+    c.asm_request.ensures
+    ∙ ap₂ asm_of (c.in_ok-source.ensures ∙ first_value-rows f (codes "source")) (c.in_ok-image.ensures ∙ first_value-rows f (codes "image"))
 
 pub returns-in_err-source : goal.returns-in_err-source
 returns-in_err-source c =
