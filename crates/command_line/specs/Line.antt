@@ -61,6 +61,14 @@ tight_rule = numbered (record (new_rule (codes "tight")) { long = Some (codes "t
 abbrev pub bound_command : App
 bound_command = with_rule (priced_command (codes "bound") (codes "statement")) tight_rule
 
+-- `--at-most N`
+abbrev pub at_most_rule : Rule
+at_most_rule = numbered (record (new_rule (codes "at-most")) { long = Some (codes "at-most") })
+
+-- `explain SOURCE STATEMENT`, with a cycle profile and the most ticks that are wanted
+abbrev pub explain_command : App
+explain_command = with_rule (priced_command (codes "explain") (codes "statement")) at_most_rule
+
 -- `check SOURCE STATEMENT CERT`, with a cycle profile
 abbrev pub check_command : App
 check_command = with_rule (priced_command (codes "check") (codes "statement")) (wanted (codes "cert"))
@@ -89,9 +97,10 @@ arcwcet_command =
     (with_subcommand
     (with_subcommand
     (with_subcommand
+    (with_subcommand
     (with_subcommand arcwcet_top
     asm_command.top) list_command.top) run_command.top) trace_command.top) debug_command.top) bound_command.top)
-    check_command.top) visits_command.top
+    check_command.top) visits_command.top) explain_command.top
 
 -- the names of two files, and of a cycle profile's
 pub record FileNames : Type 0 where
@@ -107,6 +116,7 @@ pub data Asked : Type 0 where
   trace : FileNames → Asked
   debug : FileNames → Asked
   bound : FileNames → Asked
+  explain : FileNames → Option ℕ → Asked
   tight : FileNames → ℕ → Asked
   check : FileNames → Text → Asked
   visits : FileNames → Text → ℕ → Asked
@@ -122,6 +132,7 @@ asked_of (request.Run names) = run (names_of names)
 asked_of (request.Trace names) = trace (names_of names)
 asked_of (request.Debug names) = debug (names_of names)
 asked_of (request.Bound names) = bound (names_of names)
+asked_of (request.Explain names) = explain (names_of names.handler) names.at_most
 asked_of (request.Tight names) = tight (names_of names.handler) names.edge
 asked_of (request.Check names) = check (names_of names.handler) names.cert.now
 asked_of (request.Visits names) = visits (names_of names.handler) names.fiq_statement.now names.visits
@@ -174,6 +185,14 @@ bound_of None names = bound names
 abbrev pub asked_bound : List Row → Option Asked
 asked_bound rows = option_map (bound_of (number_at (codes "tight") rows)) (names_in (codes "statement") rows)
 
+abbrev pub explain_of : Option ℕ → FileNames → Asked
+explain_of at_most names = explain names at_most
+
+-- by the values of `explain`
+abbrev pub asked_explain : List Row → Option Asked
+asked_explain rows =
+    option_map (explain_of (number_at (codes "at-most") rows)) (names_in (codes "statement") rows)
+
 -- by the values of `check`
 abbrev pub asked_check : List Row → Option Asked
 asked_check rows = check_of (names_in (codes "statement") rows) (first_of (codes "cert") rows)
@@ -194,7 +213,8 @@ asked_by p =
     else (if bytes_eq p.0 (codes "debug") then option_map debug (names_in (codes "machine") p.1)
     else (if bytes_eq p.0 (codes "bound") then asked_bound p.1
     else (if bytes_eq p.0 (codes "check") then asked_check p.1
-    else (if bytes_eq p.0 (codes "visits") then asked_visits p.1 else None)))))))
+    else (if bytes_eq p.0 (codes "visits") then asked_visits p.1
+    else (if bytes_eq p.0 (codes "explain") then asked_explain p.1 else None))))))))
 
 -- only where there is no fault
 abbrev pub unless_refused : Kinds → Option Asked → Option Asked

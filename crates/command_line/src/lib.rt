@@ -4,5 +4,7 @@
 mod line;
 mod words;
 
-pub use line::{AsmNames, CheckNames, LineFault, Names, Request, TightNames, VisitsNames};
+pub use line::{
+    AsmNames, CheckNames, ExplainNames, LineFault, Names, Request, TightNames, VisitsNames,
+};
 pub use words::request;

@@ -38,6 +38,13 @@ pub struct TightNames<'a> {
     pub edge: u32,
 }
 
+/// The names of a handler's files, its source first, and the most ticks that are wanted of its bound.
+#[derive(Clone, Copy)]
+pub struct ExplainNames<'a> {
+    pub handler: Names<'a>,
+    pub at_most: Option<u32>,
+}
+
 /// What a line of words asks for, with the names of its files.
 #[derive(Clone, Copy)]
 pub enum Request<'a> {
@@ -53,6 +60,8 @@ pub enum Request<'a> {
     Debug(Names<'a>),
     /// The longest run time of the handler in a source, under a statement.
     Bound(Names<'a>),
+    /// Where the ticks of that run time go.
+    Explain(ExplainNames<'a>),
     /// A machine that takes an edge of that handler's flow graph at its price.
     Tight(TightNames<'a>),
     /// The verdict on a certificate of that.

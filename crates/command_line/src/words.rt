@@ -8,12 +8,14 @@ ghost use Rattle.clap.specs.declared.builder.command.Command.TheViews.{out-Comma
 ghost use Rattle.command_line.specs.Line.{arcwcet_command, asked_asm, asked_bound, asked_by, asked_check};
 ghost use Rattle.command_line.specs.Line.{asked_in, asked_of, asked_visits, asm_command, asm_of, bound_command};
 ghost use Rattle.command_line.specs.Line.{asked_list, check_command, debug_command, list_command, names_in};
-ghost use Rattle.command_line.specs.Line.{names_of, number_at};
+ghost use Rattle.command_line.specs.Line.{asked_explain, at_most_rule, explain_command, names_of, number_at};
 ghost use Rattle.command_line.specs.Line.{priced_command, profile_rule, run_command, tight_rule};
 ghost use Rattle.command_line.specs.Line.{trace_command};
 ghost use Rattle.command_line.specs.Line.{visits_command, visits_rule, wanted};
 
-use crate::line::{AsmNames, CheckNames, LineFault, Names, Request, TightNames, VisitsNames};
+use crate::line::{
+    AsmNames, CheckNames, ExplainNames, LineFault, Names, Request, TightNames, VisitsNames,
+};
 use clap::error::ErrorKind;
 use clap::{Arg, ArgMatches, Command, Error, value_parser};
 use std::alloc::{AllocError, Global};
@@ -117,6 +119,27 @@ fn bound<'a>(alloc: Global) -> Result<Command<'a>, AllocError>
     priced(alloc, "bound", summary, "statement")?.arg(tight(alloc))
 }
 
+/// `--at-most N`.
+fn at_most<'a>(alloc: Global) -> Arg<'a>
+    ensures rule { rule_of result ≡ at_most_rule }
+    ensures local { result.global ≡ false }
+{
+    Arg::new(alloc, "at-most")
+        .long("at-most")
+        .value_name("N")
+        .help("Status 1 where the bound is more than N ticks")
+        .value_parser(value_parser!(u32))
+}
+
+/// The command `explain SOURCE STATEMENT`.
+fn explain<'a>(alloc: Global) -> Result<Command<'a>, AllocError>
+    ensures shape { IfOk result (λ c. app_of c ≡ explain_command) }
+    ensures no_globals { IfOk result (λ c. (out-Command c).has_globals ≡ false) }
+{
+    let summary = "Print where the ticks of a handler's greatest run time go";
+    priced(alloc, "explain", summary, "statement")?.arg(at_most(alloc))
+}
+
 /// The command `check SOURCE STATEMENT CERT`.
 fn check<'a>(alloc: Global) -> Result<Command<'a>, AllocError>
     ensures shape { IfOk result (λ c. app_of c ≡ check_command) }
@@ -198,6 +221,13 @@ fn with_visits<'a>(alloc: Global, command: Command<'a>) -> Result<Command<'a>, A
     command.subcommand(visits(alloc)?)
 }
 
+/// A command with one more, `explain`.
+fn with_explain<'a>(alloc: Global, command: Command<'a>) -> Result<Command<'a>, AllocError>
+    ensures { IfOk result (λ c. app_of c ≡ with_subcommand (app_of command.entry) explain_command.top) }
+{
+    command.subcommand(explain(alloc)?)
+}
+
 /// A command with those that run a machine.
 fn with_machine<'a>(alloc: Global, command: Command<'a>) -> Result<Command<'a>, AllocError>
     ensures { IfOk result
@@ -220,11 +250,14 @@ fn with_analysis<'a>(alloc: Global, command: Command<'a>) -> Result<Command<'a>,
         (λ c. app_of c
         ≡ with_subcommand
         (with_subcommand
-        (with_subcommand (app_of command.entry) bound_command.top) check_command.top) visits_command.top) }
+        (with_subcommand
+        (with_subcommand (app_of command.entry) bound_command.top) check_command.top) visits_command.top)
+        explain_command.top) }
 {
     let command = with_bound(alloc, command)?;
     let command = with_check(alloc, command)?;
-    with_visits(alloc, command)
+    let command = with_visits(alloc, command)?;
+    with_explain(alloc, command)
 }
 
 /// The program's command.
@@ -301,6 +334,15 @@ fn bound_in<'a>(values: &ArgMatches<'a>) -> Option<Request<'a>>
     }
 }
 
+/// What `explain` is asked with.
+fn explain_in<'a>(values: &ArgMatches<'a>) -> Option<Request<'a>>
+    ensures { option_map asked_of result ≡ asked_explain (rows_of (found_of values.now)) }
+{
+    let handler = names_in(values, "statement")?;
+    let at_most = number_at(values, "at-most");
+    Some(Request::Explain(ExplainNames { handler, at_most }))
+}
+
 /// What `check` is asked with.
 fn check_in<'a>(values: &ArgMatches<'a>) -> Option<Request<'a>>
     ensures { option_map asked_of result ≡ asked_check (rows_of (found_of values.now)) }
@@ -352,6 +394,9 @@ fn request_in<'a>(matches: &ArgMatches<'a>) -> Option<Request<'a>>
     }
     if name == "visits" {
         return visits_in(values);
+    }
+    if name == "explain" {
+        return explain_in(values);
     }
     None
 }
