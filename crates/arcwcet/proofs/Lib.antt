@@ -1,6 +1,7 @@
 pub mod AnswerLemmas
 pub mod CheckLemmas
 pub mod CommentLemmas
+pub mod ExplainLemmas
 pub mod FileLemmas
 pub mod Fronts
 pub mod HandlerLemmas

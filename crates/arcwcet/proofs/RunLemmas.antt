@@ -6,14 +6,15 @@ use Rattle.arcwcet.specs.Answers.{Answers, FailsWithin, OfSome}
 use Rattle.arcwcet.specs.Check.{Checks, IsAnswer, IsCheckRefused, IsCheckable}
 use Rattle.arcwcet.specs.Debug.{IsDebugReport}
 use Rattle.arcwcet.specs.Files.{FailsToRead, ReadsAll, Reading, Texts, in_front, Writing}
-use Rattle.command_line.specs.Line.{Asked, asm, list, run, trace, debug, bound, tight, check, visits}
+use Rattle.command_line.specs.Line.{Asked, asm, list, run, trace, debug, bound, explain, tight, check, visits}
+use Rattle.arcwcet.specs.ExplainReport.{IsExplainReport}
 use Rattle.arcwcet.specs.Machine.{Front, IsMachineReport, IsRunRefused, IsRunnable, ShowsRegisters, ShowsSteps}
 use Rattle.arcwcet.specs.Priced.{ByProfile, HasNoProfile, Priced, PricedFault}
 use Rattle.arcwcet.specs.Assembly.{IsSource, IsSourceRefused}
 use Rattle.arcwcet.specs.ListReport.{IsListReport}
-use Rattle.arcwcet.specs.Report.{IsRefused, IsReport}
-use Rattle.arcwcet.specs.Run.{HasNoReport, HasNoRun, HasNoTightReportOf, HasNoVerdict, HasNoVisitsReport, HasHeard, HasPrinted, IsAnswerOf, IsListingOf, IsRefusedSource, IsReportOf, IsRunOf, IsSessionOf, IsTightReportOf, IsVisitsReportOf, OfThree, OfTwo}
-use Rattle.arcwcet.specs.Run.{Runs, RunsAsked, RunsAsm, RunsCheck, RunsDebug, RunsList, RunsMachine, RunsVisits, answer_status, done_status, report_status, store_status}
+use Rattle.arcwcet.specs.Report.{IsAccepted, IsRefused, IsReport}
+use Rattle.arcwcet.specs.Run.{HasNoReport, HasNoRun, HasNoTightReportOf, HasNoVerdict, HasNoVisitsReport, HasHeard, HasPrinted, IsAnswerOf, IsExplanationOf, IsListingOf, IsRefusedSource, IsReportOf, IsRunOf, IsSessionOf, IsTightReportOf, IsVisitsReportOf, OfThree, OfTwo}
+use Rattle.arcwcet.specs.Run.{Runs, RunsAsked, RunsAsm, RunsCheck, RunsDebug, RunsExplain, RunsList, RunsMachine, RunsVisits, answer_status, done_status, report_status, store_status}
 use Rattle.arcwcet.specs.VisitsReport.{AreAccepted, AreRefused, IsVisitsReport, ReportsVisits}
 use Rattle.arcwcet.specs.declared.fault.ReportFault.{ReportFault}
 use Rattle.arcwcet.specs.declared.fault.ReportFault.TheVariants.{Memory, Source, Image, Statement, Graph, Loops, Walk, MachineFile, Load, Cert, Device}
@@ -272,6 +273,15 @@ module _ {S O : Type 0} (reads : Reading S) (taken : O → Option (List ℕ)) (f
       file (λ p. IsMachineReport Shows one two p) (λ p. IsRunnable one two p) (λ p. IsRunRefused one two p)
       (λ x text b. of_two (λ f s m. ByProfile f (λ p. IsMachineReport Shows s m p x text)) file one two b)
       (λ fault k. of_two (λ f s m. PricedFault f (λ p e. IsRunRefused s m p e) fault) file one two k)
+
+  pub explain_ran : (at_most : Option ℕ) (result : Result Bool ReportFault)
+      → Priced file (λ p. Answers taken failures (IsExplainReport one two at_most p) (IsAccepted one two p) (IsRefused one two p) before after result) before after result
+      → (status : ℕ) → status ≡ answer_status result → RunsExplain reads taken failures profile source second at_most old new before after status
+  explain_ran at_most =
+      priced_ran reads taken failures (IsExplanationOf at_most) (HasNoReport IsRefused) (in_front profile (source ∷ second ∷ [])) old new before after (in_front file (one ∷ two ∷ [])) read
+      file (λ p. IsExplainReport one two at_most p) (λ p. IsAccepted one two p) (λ p. IsRefused one two p)
+      (λ x text b. of_two (λ f s t. ByProfile f (λ p. IsExplainReport s t at_most p x text)) file one two b)
+      (λ fault k. of_two (λ f s t. PricedFault f (λ p e. IsRefused s t p e) fault) file one two k)
 
   module _ (Is : List ℕ → List ℕ → Profile → List ℕ → Type 0) (IsFine : List ℕ → List ℕ → Profile → Type 0) (IsFault : List ℕ → List ℕ → Profile → ReportFault → Type 0) where
     abbrev Reported : {T : Type 0} → Result T ReportFault → Type 0

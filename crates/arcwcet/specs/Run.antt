@@ -7,7 +7,8 @@ use Rattle.arcwcet.specs.Assembly.{IsSourceRefused, IsWritten}
 use Rattle.arcwcet.specs.Check.{IsAnswer, IsCheckRefused}
 use Rattle.arcwcet.specs.Debug.{IsDebugReport}
 use Rattle.arcwcet.specs.Files.{FailsToRead, ReadsAll, Reading, Texts, Writing, in_front}
-use Rattle.command_line.specs.Line.{Asked, asm, list, run, trace, debug, bound, tight, check, visits}
+use Rattle.command_line.specs.Line.{Asked, asm, list, run, trace, debug, bound, explain, tight, check, visits}
+use Rattle.arcwcet.specs.ExplainReport.{IsExplainReport}
 use Rattle.arcwcet.specs.ListReport.{IsListReport}
 use Rattle.arcwcet.specs.Machine.{Front, IsMachineReport, IsRunRefused, ShowsRegisters, ShowsSteps}
 use Rattle.arcwcet.specs.Output.{TakesFront, FailsSince}
@@ -132,6 +133,21 @@ abbrev pub RunsBound : {S O : Type 0} → Reading S → (O → Option (List ℕ)
     → List ℕ → S → S → O → O → ℕ → Type 0
 RunsBound reads taken failures profile source statement old new before after status =
     Runs reads taken failures (IsReportOf IsReport) (HasNoReport IsRefused)
+    (in_front profile (source ∷ statement ∷ [])) old new before after status
+
+-- ## `explain SOURCE STATEMENT`
+
+-- the explanation of a source and a statement by the profile: at 0 the bound is enough, at 1 it is not
+abbrev pub IsExplanationOf : (at_most : Option ℕ) → Bool → Texts → List ℕ → Type 0
+IsExplanationOf at_most enough files text =
+    OfTwo
+    (λ file source statement. ByProfile file
+    (λ p. IsExplainReport source statement at_most p enough text)) files
+
+abbrev pub RunsExplain : {S O : Type 0} → Reading S → (O → Option (List ℕ)) → (O → ℕ) → Option (List ℕ)
+    → List ℕ → List ℕ → Option ℕ → S → S → O → O → ℕ → Type 0
+RunsExplain reads taken failures profile source statement at_most old new before after status =
+    Runs reads taken failures (IsExplanationOf at_most) (HasNoReport IsRefused)
     (in_front profile (source ∷ statement ∷ [])) old new before after status
 
 -- ## `bound --tight N SOURCE STATEMENT`
@@ -344,6 +360,10 @@ RunsAsked reads writes remaining taken failures (debug n) old new heard_old hear
     after status
 RunsAsked reads writes remaining taken failures (bound n) old new heard_old heard_new before after status =
     RunsBound reads taken failures n.profile n.first n.second old new before after status
+    × (heard_new ≡ heard_old)
+RunsAsked reads writes remaining taken failures
+    (explain n at_most) old new heard_old heard_new before after status =
+    RunsExplain reads taken failures n.profile n.first n.second at_most old new before after status
     × (heard_new ≡ heard_old)
 RunsAsked reads writes remaining taken failures
     (tight n edge) old new heard_old heard_new before after status =

@@ -1,12 +1,13 @@
 ghost use Rattle.std.specs.Prelude.{◌≡◌, ◌≢◌, ◌⊎◌, None, Some, option_map};
 ghost use Rattle.command_line.specs.Line.{Asked, asked_in, asked_of};
 ghost use Rattle.arcwcet.specs.Run.{RunsAsked, RunsAsm, RunsBound, RunsCheck, RunsDebug, RunsList, RunsMachine};
-ghost use Rattle.arcwcet.specs.Run.{RunsTight, RunsVisits};
+ghost use Rattle.arcwcet.specs.Run.{RunsExplain, RunsTight, RunsVisits};
 
 use crate::assembly::image_written;
 use crate::bound::bound_report;
 use crate::check::check_report;
 use crate::debug::debug_report;
+use crate::explain::{Explained, explain_report};
 use crate::fault::ReportFault;
 use crate::files::{Store, read_limited, read_three_files, read_two_files};
 use crate::list::list_report;
@@ -15,7 +16,7 @@ use crate::output::{Output, write_whole};
 use crate::status::{answer_status, done_status, line_status, report_status, store_status};
 use crate::tight::tight_report;
 use crate::visits::visits_report;
-use command_line::{AsmNames, CheckNames, Names, Request, TightNames, VisitsNames, request};
+use command_line::{AsmNames, CheckNames, ExplainNames, Names, Request, TightNames, VisitsNames, request};
 use std::alloc::Global;
 use std::io::Read;
 
@@ -38,6 +39,7 @@ fn obey<S: Store, I: Read, O: Output, E: Output>(
         Request::Trace(names) => run_machine::<Steps, S, O, E>(alloc, names, store, out, err),
         Request::Debug(names) => run_debug(alloc, names, store, input, out, err),
         Request::Bound(names) => run_bound(alloc, names, store, out, err),
+        Request::Explain(names) => run_explain(alloc, names, store, out, err),
         Request::Tight(names) => run_tight(alloc, names, store, out, err),
         Request::Check(names) => run_check(alloc, names, store, out, err),
         Request::Visits(names) => run_visits(alloc, names, store, out, err),
@@ -203,6 +205,32 @@ fn run_bound<S: Store, O: Output, E: Output>(
     };
     let done = bound_report(alloc, &files.first, &files.second, files.profile(), out);
     done_status(done, err)
+}
+
+/// `explain`: reads the files and prints the explanation.
+fn run_explain<S: Store, O: Output, E: Output>(
+    alloc: Global,
+    names: ExplainNames<'_>,
+    store: &mut S,
+    out: &mut O,
+    err: &mut E,
+) -> u8
+    ensures ran { RunsExplain S.read_gives O.taken O.failures
+        (option_map (λ n. n.now) names.entry.handler.profile) names.entry.handler.first.now
+        names.entry.handler.second.now names.entry.at_most store.old store.new out.old out.new result }
+    ensures silent { result ≡ 0 → err.new ≡ err.old }
+{
+    let files = match read_two_files(alloc, names.handler, store) {
+        Ok(files) => files,
+        Err(fault) => return store_status(fault, err),
+    };
+    let explained = Explained {
+        source: &files.first,
+        statement: &files.second,
+        at_most: names.at_most,
+    };
+    let answer = explain_report(alloc, explained, files.profile(), out);
+    answer_status(answer, err)
 }
 
 /// `bound --tight N`: reads the files and prints the report of the edge.

@@ -1,0 +1,43 @@
+-- The explanation of a handler's bound.
+use Rattle.std.proofs.Common.{◌≡◌, ◌≢◌, ℕ, List, Ok, refl, ap, subst}
+use Rattle.bus_ticks.specs.declared.profile.Profile.{Profile}
+use Rattle.loader.specs.Image.{Words}
+use Rattle.statement.specs.Stated.{Stated}
+use Rattle.statement.specs.Statement.{Names}
+use Rattle.flow_graph.specs.Flow.{Flow}
+use Rattle.loop_bounds.specs.Tree.{Tree}
+use Rattle.longest_walk.specs.Longest.{IsLongest, IsWalkFault}
+use Rattle.longest_walk.specs.declared.folded.Longest.{Longest}
+use Rattle.numbered_walks.specs.declared.fault.WalkFault.{WalkFault}
+use Rattle.numbered_walks.specs.declared.fault.WalkFault.TheVariants as walk_fault
+use Rattle.arcwcet.specs.ExplainReport.{IsExplanation, IsTableOf}
+use Rattle.arcwcet.specs.Report.{HasLoops, IsRefused, IsTreeOf}
+use Rattle.arcwcet.specs.Source.{IsSourceFault, Said, source_of}
+use Rattle.arcwcet.specs.declared.fault.ReportFault.{ReportFault}
+use Rattle.arcwcet.specs.declared.fault.ReportFault.TheVariants.{Device}
+use Rattle.arcwcet.proofs.HandlerLemmas.{one_ok, source_refusal}
+use Rattle.arcwcet.proofs.ReportLemmas.{accepted, report_refusal, tree_is_greatest}
+
+module _ (source statement : List ℕ) (profile : Profile) (words : Words) (names : Names) (said : source_of source ≡ Ok (words, names))
+    (st : Stated) (flow : Flow) (tree : Tree) (loops : HasLoops source statement profile st flow) (of : IsTreeOf flow st.loops tree) where
+  -- the table of a greatest walk explains its bound
+  pub explained : (l : Longest) (text : List ℕ) → IsLongest flow tree l → ((f : WalkFault) → f ≢ walk_fault.Memory → IsWalkFault flow tree f → ⊥)
+      → IsTableOf source words flow l text → IsExplanation source statement profile l.bound text
+  unfolding accepted
+  explained l text is allowed table =
+      let pairs : (words, names) ≡ (loops.graph.words, loops.graph.names) =
+      one_ok (words, names) (loops.graph.words, loops.graph.names) (source_of source) said loops.graph.source_is in
+      record {
+        accepted = accepted source statement profile st flow tree loops of allowed;
+        tree = tree;
+        longest = l;
+        tree_of = of;
+        longest_is = is;
+        bound_is = refl;
+        greatest = tree_is_greatest flow st.loops tree of.instances l.bound is.greatest;
+        table = subst (λ (w : Words). IsTableOf source w flow l text) (ap (λ (p : Said). p.0) pairs) table;
+      }
+
+-- a fault of the source refuses the explanation
+pub source_unexplained : (source statement : List ℕ) (profile : Profile) (e : ReportFault) → IsSourceFault source e → (e ≢ Device) × IsRefused source statement profile e
+source_unexplained source statement profile e h = report_refusal source statement profile e (source_refusal source statement profile e h)

@@ -1,0 +1,27 @@
+use Rattle.std.proofs.Common.{◌≢◌}
+use Rattle.arcwcet.specs.Faults.{of_walk}
+use Rattle.arcwcet.specs.Report.{IsRefused}
+use Rattle.arcwcet.specs.declared.fault.ReportFault.TheVariants.{Device}
+use Rattle.arcwcet.proofs.ExplainLemmas.{explained, source_unexplained}
+use Rattle.arcwcet.proofs.HandlerLemmas.{refused_as}
+use Rattle.arcwcet.proofs.ReportLemmas.{walk_refusal}
+use Rattle.arcwcet.proofs.explain.explanation_of.Goals as goal
+
+pub returns-in_err-found-clause-fault : goal.returns-in_err-found-clause-fault
+returns-in_err-found-clause-fault c = λ statement profile names said loops.
+    let h = c.args.handler.now in
+    let f = c.in_err-found.field-0.0 in
+    refused_as c.from_residual.result (of_walk f) (λ e. (e ≢ Device) × IsRefused c.args.source.now statement profile e) c.from_residual.ensures.1
+    (walk_refusal c.args.source.now statement profile h.statement h.graph h.tree loops c.requires.tree f c.in_err-found.ensures.fault)
+
+pub returns-in_err-text-clause-fault : goal.returns-in_err-text-clause-fault
+returns-in_err-text-clause-fault c = λ statement profile names said loops.
+    let e = c.in_err-text.field-0.0 in
+    refused_as c.from_residual-in_err-text.result e (λ e. (e ≢ Device) × IsRefused c.args.source.now statement profile e) c.from_residual-in_err-text.ensures.1
+    (source_unexplained c.args.source.now statement profile e c.in_err-text.ensures.fault)
+
+pub returns-clause-explains : goal.returns-clause-explains
+returns-clause-explains c = λ statement profile names said loops.
+    let h = c.args.handler.now in
+    explained c.args.source.now statement profile c.args.image.now names said h.statement h.graph h.tree loops c.requires.tree
+    c.in_ok-found.found c.in_ok-text.text.items c.in_ok-found.ensures.longest c.in_ok-found.ensures.allowed c.in_ok-text.ensures.table

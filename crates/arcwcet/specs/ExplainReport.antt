@@ -1,0 +1,66 @@
+-- Where the ticks of a handler's greatest run time go. Our own format.
+use Rattle.std.specs.Prelude.{◌≡◌, ℕ, Bool, true, false, nat_le, List, Option, Some, None, Result}
+use Rattle.bus_ticks.specs.declared.profile.Profile.{Profile}
+use Rattle.loader.specs.Image.{Words}
+use Rattle.assembler.specs.Placed.{ArePlaced}
+use Rattle.assembler.specs.declared.placed_line.PlacedLine.{PlacedLine}
+use Rattle.flow_graph.specs.Flow.{Flow}
+use Rattle.loop_bounds.specs.Bounds.{IsGreatestCost}
+use Rattle.loop_bounds.specs.Tree.{Tree}
+use Rattle.longest_walk.specs.Folded.{unfolded}
+use Rattle.longest_walk.specs.Longest.{IsLongest}
+use Rattle.longest_walk.specs.declared.folded.Longest.{Longest}
+use Rattle.explained.specs.Table.{IsImageTable, source_table}
+use Rattle.explained.specs.Taken.{taken_at}
+use Rattle.arcwcet.specs.Answers.{Answers}
+use Rattle.arcwcet.specs.Report.{IsAccepted, IsRefused, IsTreeOf}
+use Rattle.arcwcet.specs.Source.{is_image}
+use Rattle.arcwcet.specs.declared.fault.ReportFault.{ReportFault}
+
+-- ## The table
+
+-- by the lines of a text, each where it stands
+pub record IsLineTable (source : List ℕ) (flow : Flow) (longest : Longest) (text : List ℕ) : Type 0 where
+  pub placed : List PlacedLine
+  pub are_placed : ArePlaced source placed
+  pub text_is : text ≡ source_table (taken_at flow (unfolded longest.walk)) longest.bound source placed
+
+-- of an image by its words, of a text by its lines
+pub record IsTableOf (source : List ℕ) (words : Words) (flow : Flow) (longest : Longest)
+    (text : List ℕ) : Type 0 where
+  pub of_image : is_image source ≡ true
+      → IsImageTable (taken_at flow (unfolded longest.walk)) longest.bound words text
+  pub of_text : is_image source ≡ false → IsLineTable source flow longest text
+
+-- ## The report
+
+-- of an accepted source and statement: the table of a greatest walk, whose cost is the bound
+pub record IsExplanation (source statement : List ℕ) (profile : Profile) (bound : ℕ)
+    (text : List ℕ) : Type 0 where
+  pub accepted : IsAccepted source statement profile
+  pub tree : Tree
+  pub longest : Longest
+  pub tree_of : IsTreeOf accepted.flow accepted.stated.loops tree
+  pub longest_is : IsLongest accepted.flow tree longest
+  pub bound_is : longest.bound ≡ bound
+  pub greatest : IsGreatestCost accepted.flow accepted.stated.loops bound
+  pub table : IsTableOf source accepted.loops.graph.words accepted.flow longest text
+
+-- no more ticks than are wanted; any number where none is
+abbrev pub is_enough : Option ℕ → ℕ → Bool
+is_enough None bound = true
+is_enough (Some most) bound = nat_le bound most
+
+-- with the answer whether the bound is enough
+pub record IsExplainReport (source statement : List ℕ) (at_most : Option ℕ) (profile : Profile) (answer : Bool)
+    (text : List ℕ) : Type 0 where
+  pub bound : ℕ
+  pub explains : IsExplanation source statement profile bound text
+  pub answer_is : answer ≡ is_enough at_most bound
+
+-- the answer to a source and a statement: their explanation
+abbrev pub Explains : {O : Type 0} → (O → Option (List ℕ)) → (O → ℕ) → List ℕ → List ℕ → Option ℕ → Profile
+    → O → O → Result Bool ReportFault → Type 0
+Explains taken failures source statement at_most profile old new result =
+    Answers taken failures (IsExplainReport source statement at_most profile)
+    (IsAccepted source statement profile) (IsRefused source statement profile) old new result
