@@ -31,6 +31,11 @@ asm_command = with_rule (with_rule (new_app (codes "asm")) (wanted (codes "sourc
 abbrev pub list_command : App
 list_command = with_rule (new_app (codes "list")) (wanted (codes "source"))
 
+-- `draft SOURCE ENTRY`
+abbrev pub draft_command : App
+draft_command =
+    with_rule (with_rule (new_app (codes "draft")) (wanted (codes "source"))) (wanted (codes "entry"))
+
 -- `NAME SOURCE SECOND`, with a cycle profile
 abbrev pub priced_command : Text → Text → App
 priced_command name second =
@@ -98,8 +103,10 @@ arcwcet_command =
     (with_subcommand
     (with_subcommand
     (with_subcommand
+    (with_subcommand
     (with_subcommand arcwcet_top
-    asm_command.top) list_command.top) run_command.top) trace_command.top) debug_command.top) bound_command.top)
+    asm_command.top) list_command.top) draft_command.top) run_command.top) trace_command.top) debug_command.top)
+    bound_command.top)
     check_command.top) visits_command.top) explain_command.top
 
 -- the names of two files, and of a cycle profile's
@@ -112,6 +119,7 @@ pub record FileNames : Type 0 where
 pub data Asked : Type 0 where
   asm : Text → Text → Asked
   list : Text → Asked
+  draft : Text → Text → Asked
   run : FileNames → Asked
   trace : FileNames → Asked
   debug : FileNames → Asked
@@ -128,6 +136,7 @@ names_of n =
 abbrev pub asked_of : Request → Asked
 asked_of (request.Asm names) = asm names.source.now names.image.now
 asked_of (request.List source) = list source.now
+asked_of (request.Draft names) = draft names.source.now names.entry.now
 asked_of (request.Run names) = run (names_of names)
 asked_of (request.Trace names) = trace (names_of names)
 asked_of (request.Debug names) = debug (names_of names)
@@ -141,6 +150,10 @@ asked_of (request.Visits names) = visits (names_of names.handler) names.fiq_stat
 abbrev pub asm_of : Option Text → Option Text → Option Asked
 asm_of (Some source) (Some image) = if bytes_eq source image then None else Some (asm source image)
 asm_of _ _ = None
+
+abbrev pub draft_of : Option Text → Option Text → Option Asked
+draft_of (Some source) (Some entry) = Some (draft source entry)
+draft_of _ _ = None
 
 abbrev pub named : Option Text → Option Text → Option Text → Option FileNames
 named profile (Some first) (Some second) = Some (record { profile = profile; first = first; second = second })
@@ -170,6 +183,10 @@ asked_asm rows = asm_of (first_of (codes "source") rows) (first_of (codes "image
 -- by the values of `list`
 abbrev pub asked_list : List Row → Option Asked
 asked_list rows = option_map list (first_of (codes "source") rows)
+
+-- by the values of `draft`
+abbrev pub asked_draft : List Row → Option Asked
+asked_draft rows = draft_of (first_of (codes "source") rows) (first_of (codes "entry") rows)
 
 -- by the values of a command with a cycle profile
 abbrev pub names_in : Text → List Row → Option FileNames
@@ -214,7 +231,8 @@ asked_by p =
     else (if bytes_eq p.0 (codes "bound") then asked_bound p.1
     else (if bytes_eq p.0 (codes "check") then asked_check p.1
     else (if bytes_eq p.0 (codes "visits") then asked_visits p.1
-    else (if bytes_eq p.0 (codes "explain") then asked_explain p.1 else None))))))))
+    else (if bytes_eq p.0 (codes "explain") then asked_explain p.1
+    else (if bytes_eq p.0 (codes "draft") then asked_draft p.1 else None)))))))))
 
 -- only where there is no fault
 abbrev pub unless_refused : Kinds → Option Asked → Option Asked

@@ -5,6 +5,7 @@ mod line;
 mod words;
 
 pub use line::{
-    AsmNames, CheckNames, ExplainNames, LineFault, Names, Request, TightNames, VisitsNames,
+    AsmNames, CheckNames, DraftNames, ExplainNames, LineFault, Names, Request, TightNames,
+    VisitsNames,
 };
 pub use words::request;

@@ -15,6 +15,13 @@ pub struct AsmNames<'a> {
     pub image: &'a str,
 }
 
+/// The name of a source's file, and the word that says where a handler begins: a label or an address.
+#[derive(Clone, Copy)]
+pub struct DraftNames<'a> {
+    pub source: &'a str,
+    pub entry: &'a str,
+}
+
 /// The names of a handler's files, its source first, and of a certificate's.
 #[derive(Clone, Copy)]
 pub struct CheckNames<'a> {
@@ -52,6 +59,8 @@ pub enum Request<'a> {
     Asm(AsmNames<'a>),
     /// The addresses, words and lines of a source of this name, or the words of an image.
     List(&'a str),
+    /// What has to be stated of a handler in a source.
+    Draft(DraftNames<'a>),
     /// The registers and the ticks of a run of a source's image, by a machine file.
     Run(Names<'a>),
     /// The lines of its steps.

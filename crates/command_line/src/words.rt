@@ -8,7 +8,7 @@ ghost use Rattle.clap.specs.declared.builder.command.Command.TheViews.{out-Comma
 ghost use Rattle.command_line.specs.Line.{arcwcet_command, asked_asm, asked_bound, asked_by, asked_check};
 ghost use Rattle.command_line.specs.Line.{asked_in, asked_of, asked_visits, asm_command, asm_of, bound_command};
 ghost use Rattle.command_line.specs.Line.{asked_list, check_command, debug_command, list_command, names_in};
-ghost use Rattle.command_line.specs.Line.{asked_explain, at_most_rule, explain_command, names_of, number_at};
+ghost use Rattle.command_line.specs.Line.{asked_draft, asked_explain, at_most_rule, draft_command, explain_command, names_of, number_at};
 ghost use Rattle.command_line.specs.Line.{priced_command, profile_rule, run_command, tight_rule};
 ghost use Rattle.command_line.specs.Line.{trace_command};
 ghost use Rattle.command_line.specs.Line.{visits_command, visits_rule, wanted};
@@ -79,6 +79,21 @@ fn list<'a>(alloc: Global) -> Result<Command<'a>, AllocError>
     Command::new(alloc, "list")
         .about("Print addresses, words and lines of a source, or an image's words")
         .arg(source(alloc))
+}
+
+/// The command `draft SOURCE ENTRY`.
+fn draft<'a>(alloc: Global) -> Result<Command<'a>, AllocError>
+    ensures shape { IfOk result (λ c. app_of c ≡ draft_command) }
+    ensures no_globals { IfOk result (λ c. (out-Command c).has_globals ≡ false) }
+{
+    Command::new(alloc, "draft")
+        .about("Print a statement on a handler, to be filled in")
+        .arg(source(alloc))?
+        .arg(wanted(
+            alloc,
+            "entry",
+            "Where the handler begins: a label or an address",
+        ))
 }
 
 /// A command `NAME SOURCE SECOND` with a cycle profile.
@@ -185,6 +200,13 @@ fn with_list<'a>(alloc: Global, command: Command<'a>) -> Result<Command<'a>, All
     command.subcommand(list(alloc)?)
 }
 
+/// A command with one more, `draft`.
+fn with_draft<'a>(alloc: Global, command: Command<'a>) -> Result<Command<'a>, AllocError>
+    ensures { IfOk result (λ c. app_of c ≡ with_subcommand (app_of command.entry) draft_command.top) }
+{
+    command.subcommand(draft(alloc)?)
+}
+
 /// A command with one more that has a cycle profile, `NAME SOURCE SECOND`.
 fn with_priced<'a>(
     alloc: Global,
@@ -270,6 +292,7 @@ fn arcwcet<'a>(alloc: Global) -> Result<Command<'a>, AllocError>
         .about("Greatest run times of interrupt handlers of the Acorn Archimedes");
     let command = with_asm(alloc, command)?;
     let command = with_list(alloc, command)?;
+    let command = with_draft(alloc, command)?;
     let command = with_machine(alloc, command)?;
     with_analysis(alloc, command)
 }
@@ -314,6 +337,15 @@ fn list_in<'a>(values: &ArgMatches<'a>) -> Option<Request<'a>>
 {
     let source = values.get_str("source")?;
     Some(Request::List(source))
+}
+
+/// What `draft` is asked with.
+fn draft_in<'a>(values: &ArgMatches<'a>) -> Option<Request<'a>>
+    ensures { option_map asked_of result ≡ asked_draft (rows_of (found_of values.now)) }
+{
+    let source = values.get_str("source")?;
+    let entry = values.get_str("entry")?;
+    Some(Request::Draft(DraftNames { source, entry }))
 }
 
 /// The number of an option or of an argument.
@@ -397,6 +429,9 @@ fn request_in<'a>(matches: &ArgMatches<'a>) -> Option<Request<'a>>
     }
     if name == "explain" {
         return explain_in(values);
+    }
+    if name == "draft" {
+        return draft_in(values);
     }
     None
 }
