@@ -1,0 +1,6 @@
+mod ColumnLaws
+mod ImageLaws
+mod SumLaws
+mod TableLaws
+mod TallyLaws
+mod TotalLaws

@@ -1,0 +1,129 @@
+-- The numbers of a walk of the graph are exact, and add up to what it costs.
+use Rattle.std.proofs.Common.{◌≡◌, ◌∙◌, ℕ, ◌+◌, ◌-◌, ◌*◌, ◌^◌, ◌<◌, ◌≤◌, min, Bool, true, false, cond, List, [], ◌∷◌, length, flat_map, map, Option, Some, None, ⊎_elim, refl, sym, ap, subst, arith}
+use Rattle.std.specs.Prelude.{All, Contains, count_by, if◌then◌else◌, sum_by}
+use Rattle.std.specs.List.{list_any, range_with_len}
+use Rattle.std.proofs.lemmas.Bool.{both_ways, cases_Bool}
+use Rattle.std.proofs.lemmas.List.Elements.{All-head, All-tail, All-weaker}
+use Rattle.std.proofs.lemmas.List.Sums.{sum_by-cons}
+use Rattle.assembler.specs.declared.placed_line.PlacedLine.{PlacedLine}
+use Rattle.flow_graph.specs.declared.places.Place.{Place}
+use Rattle.flow_graph.specs.declared.places.Place.TheVariants.{Exit}
+use Rattle.flow_graph.specs.declared.edges.Edge.{Edge}
+use Rattle.flow_graph.specs.Flow.{Flow, HasEdge, IsWellFormed, edge_shape}
+use Rattle.loader.specs.Image.{Words}
+use Rattle.loop_bounds.specs.Tree.{Tree}
+use Rattle.longest_walk.specs.Built.{step_at}
+use Rattle.longest_walk.specs.Folded.{unfolded}
+use Rattle.longest_walk.specs.Longest.{IsWalkOf}
+use Rattle.longest_walk.specs.declared.folded.Item.{Item}
+use Rattle.walks.specs.Walk.{cost_of}
+use Rattle.walk_counts.specs.Counts.{capped, number_of, occurrences}
+use Rattle.walk_counts.proofs.CountLemmas.{along}
+use Rattle.walk_counts.proofs.NumberLemmas.{known_edge}
+use Rattle.walk_counts.proofs.SumLemmas.{sum_none, sums_by_number}
+use Rattle.explained.specs.Table.{addresses, image_ticks, source_ticks, ticks_in, ticks_of, words_of}
+use Rattle.explained.specs.Taken.{StandOnce, cost_at, in_all, is_at, is_reached, pass_at, taken_at, taken_of}
+use Rattle.explained.specs.declared.tally.Taken.{Taken}
+use Rattle.explained.proofs.SumLaws.{capped_sums, counted_sum, exchanged, same_terms, sum-flat_map, sum-map_terms}
+use Rattle.explained.proofs.TallyLaws.{reached, same_taken}
+
+at_most : {X : Type 0} (f g : X → ℕ) (xs : List X) → All (λ x. f x ≤ g x) xs → sum_by f xs ≤ sum_by g xs
+at_most f g [] all = omega arith
+at_most f g (x ∷ xs) all =
+    let here : f x ≤ g x = All-head (λ y. f y ≤ g y) x xs all in
+    omega (arith, sum_by-cons f x xs, sum_by-cons g x xs, at_most f g xs (All-tail (λ y. f y ≤ g y) x xs all))
+
+module _ (flow : Flow) (walk : List Edge) (well : IsWellFormed flow) (on : All (HasEdge flow) walk) (fits : cost_of edge_shape walk < 2 ^ 64) where
+  -- what is added up over the graph's edges is added up over the walk
+  all_of_walk : (number : Edge → ℕ) → in_all flow.edges walk (length flow.edges) number ≡ sum_by number walk
+  all_of_walk number =
+      sums_by_number (number_of flow.edges) number (λ k. number (step_at flow.edges k)) (length flow.edges) walk
+      (All-weaker (HasEdge flow) (λ e. (number_of flow.edges e < length flow.edges) × (number (step_at flow.edges (number_of flow.edges e)) ≡ number e))
+      (λ e has. let k = known_edge flow.edges e has in (k.0, ap number k.1)) walk on)
+
+  part_of_cost : (number : Edge → ℕ) → ((e : Edge) → 0 < e.cost → number e ≤ e.cost) → capped (in_all flow.edges walk (length flow.edges) number) ≡ sum_by number walk
+  part_of_cost number part =
+      let is = all_of_walk number in
+      let le : sum_by number walk ≤ sum_by (λ e. e.cost) walk =
+      at_most number (λ e. e.cost) walk (All-weaker (HasEdge flow) (λ e. number e ≤ e.cost) (λ e has. part e (well.costs_some e has)) walk on) in
+      let small : capped (sum_by number walk) ≡ sum_by number walk = omega arith in
+      ap capped is ∙ small
+
+  within : (b : Bool) (n cost : ℕ) → n ≤ cost → cond b n 0 ≤ cost
+  within true n cost le = le
+  within false n cost le = omega arith
+
+  passes_is : (a : ℕ) → capped (in_all flow.edges walk (length flow.edges) (pass_at a)) ≡ sum_by (pass_at a) walk
+  passes_is a = part_of_cost (pass_at a) (λ e some. within (is_at a e.from) 1 e.cost (omega arith))
+
+  ticks_is : (a : ℕ) → capped (in_all flow.edges walk (length flow.edges) (cost_at a)) ≡ sum_by (cost_at a) walk
+  ticks_is a = part_of_cost (cost_at a) (λ e some. within (is_at a e.from) e.cost e.cost (omega arith))
+
+  exact_taken : (a : ℕ) → taken_of flow.edges walk (length flow.edges) a ≡ record { passes = sum_by (pass_at a) walk; ticks = sum_by (cost_at a) walk }
+  exact_taken a = same_taken (taken_of flow.edges walk (length flow.edges) a) (record { passes = sum_by (pass_at a) walk; ticks = sum_by (cost_at a) walk }) (passes_is a) (ticks_is a)
+
+  pub taken_is : (a : ℕ) → is_reached flow.places a ≡ true → taken_at flow walk a ≡ Some (record { passes = sum_by (pass_at a) walk; ticks = sum_by (cost_at a) walk })
+  taken_is a known =
+      ap (λ b. if b then Some (taken_of flow.edges walk (length flow.edges) a) else None) known ∙ ap (λ (t : Taken). Some t) (exact_taken a)
+
+  -- no edge leaves an address that is not reached
+  none_leaves : (a : ℕ) → is_reached flow.places a ≡ false → sum_by (cost_at a) walk ≡ 0
+  none_leaves a never =
+      same_terms (cost_at a) (λ e. 0) walk
+      (All-weaker (HasEdge flow) (λ e. cost_at a e ≡ 0)
+      (λ e has. ⊎_elim
+      (λ at. absurd (both_ways (is_reached flow.places a) never (reached flow.places e.from a (well.starts e has) at)))
+      (λ apart. ap (λ b. cond b e.cost 0) apart)
+      (cases_Bool (is_at a e.from))) walk on)
+      ∙ sum_none walk
+
+  ticks_of_walk : (a : ℕ) → ticks_of (taken_at flow walk a) ≡ sum_by (cost_at a) walk
+  ticks_of_walk a = ⊎_elim
+      (λ known. ap ticks_of (taken_is a known))
+      (λ never. ap (λ b. ticks_of (if b then Some (taken_of flow.edges walk (length flow.edges) a) else None)) never ∙ sym (none_leaves a never))
+      (cases_Bool (is_reached flow.places a))
+
+  -- the ticks at addresses at which each place stands once
+  all_ticks : (all : List ℕ) → StandOnce flow.places all → sum_by (λ a. ticks_of (taken_at flow walk a)) all ≡ cost_of edge_shape walk
+  all_ticks all once =
+      (λ i. sum_by (λ a. ticks_of_walk a i) all) ∙ exchanged cost_at all walk
+      ∙ same_terms (λ e. sum_by (λ a. cost_at a e) all) (λ e. e.cost) walk
+      (All-weaker (HasEdge flow) (λ e. sum_by (λ a. cost_at a e) all ≡ e.cost)
+      (λ e has. counted_sum (λ a. is_at a e.from) e.cost all ∙ ap (λ n. n * e.cost) (once e.from (well.starts e has)) ∙ omega arith) walk on)
+
+  pub source_total : (placed : List PlacedLine) → StandOnce flow.places (flat_map words_of placed) → source_ticks (taken_at flow walk) placed ≡ cost_of edge_shape walk
+  source_total placed once =
+      let f = λ (a : ℕ). ticks_of (taken_at flow walk a) in
+      let all : sum_by (λ (p : PlacedLine). sum_by f (words_of p)) placed ≡ cost_of edge_shape walk = sym (sum-flat_map words_of f placed) ∙ all_ticks (flat_map words_of placed) once in
+      let small : capped (cost_of edge_shape walk) ≡ cost_of edge_shape walk = omega arith in
+      capped_sums (2 ^ 64 - 1) (λ (p : PlacedLine). sum_by f (words_of p)) placed ∙ ap capped all ∙ small
+
+  pub image_total : (words : Words) → StandOnce flow.places (map (λ e. e.0) words) → image_ticks (taken_at flow walk) words ≡ cost_of edge_shape walk
+  image_total words once =
+      let f = λ (a : ℕ). ticks_of (taken_at flow walk a) in
+      let all : sum_by (λ (e : ℕ × ℕ). f e.0) words ≡ cost_of edge_shape walk = sym (sum-map_terms (λ (e : ℕ × ℕ). e.0) f words) ∙ all_ticks (map (λ e. e.0) words) once in
+      let small : capped (cost_of edge_shape walk) ≡ cost_of edge_shape walk = omega arith in
+      ap capped all ∙ small
+
+-- ## Walks that are complete
+
+on_graph : (flow : Flow) (tree : Tree) (cost : ℕ) (items : List Item) → IsWalkOf flow tree cost items → All (HasEdge flow) (unfolded items)
+on_graph flow tree cost items walk = along flow flow.entry Exit (unfolded items) walk.complete
+
+fitting : (flow : Flow) (tree : Tree) (cost : ℕ) (items : List Item) → IsWalkOf flow tree cost items → cost < 2 ^ 64 → cost_of edge_shape (unfolded items) < 2 ^ 64
+fitting flow tree cost items walk fits = subst (λ n. n < 2 ^ 64) (sym walk.costs) fits
+
+pub numbers_of_walk : (flow : Flow) (tree : Tree) (cost : ℕ) (items : List Item) (a : ℕ) → IsWellFormed flow → IsWalkOf flow tree cost items → cost < 2 ^ 64 → is_reached flow.places a ≡ true
+    → taken_at flow (unfolded items) a ≡ Some (record { passes = sum_by (pass_at a) (unfolded items); ticks = sum_by (cost_at a) (unfolded items) })
+numbers_of_walk flow tree cost items a well walk fits known =
+    taken_is flow (unfolded items) well (on_graph flow tree cost items walk) (fitting flow tree cost items walk fits) a known
+
+pub source_sum : (flow : Flow) (tree : Tree) (cost : ℕ) (items : List Item) (placed : List PlacedLine) → IsWellFormed flow → IsWalkOf flow tree cost items → cost < 2 ^ 64
+    → StandOnce flow.places (flat_map words_of placed) → source_ticks (taken_at flow (unfolded items)) placed ≡ cost
+source_sum flow tree cost items placed well walk fits once =
+    source_total flow (unfolded items) well (on_graph flow tree cost items walk) (fitting flow tree cost items walk fits) placed once ∙ walk.costs
+
+pub image_sum : (flow : Flow) (tree : Tree) (cost : ℕ) (items : List Item) (words : Words) → IsWellFormed flow → IsWalkOf flow tree cost items → cost < 2 ^ 64
+    → StandOnce flow.places (map (λ e. e.0) words) → image_ticks (taken_at flow (unfolded items)) words ≡ cost
+image_sum flow tree cost items words well walk fits once =
+    image_total flow (unfolded items) well (on_graph flow tree cost items walk) (fitting flow tree cost items walk fits) words once ∙ walk.costs

@@ -1,0 +1,36 @@
+-- The columns of the table of a bound. Our own format.
+use Rattle.std.specs.Prelude.{ℕ, ◌+◌, ◌-◌, ◌*◌, ◌/◌, ◌%◌, max, List, ◌++◌, length, replicate, codes, decimal}
+
+-- a text that ends so many columns on, with blanks in front
+abbrev pub in_columns : ℕ → List ℕ → List ℕ
+in_columns width text = replicate (width - length text) 32 ++ text
+
+-- a part in thousandths, rounded down
+abbrev pub thousandths : (ticks bound : ℕ) → ℕ
+thousandths ticks bound = ticks * 1000 / max bound 1
+
+-- in per cent, with one decimal
+abbrev pub share_text : (ticks bound : ℕ) → List ℕ
+share_text ticks bound =
+    decimal (thousandths ticks bound / 10)
+    ++ (codes "." ++ (decimal (thousandths ticks bound % 10) ++ codes "%"))
+
+-- ticks, and what part of the bound they are
+abbrev pub ticks_text : (ticks bound : ℕ) → List ℕ
+ticks_text ticks bound =
+    codes " " ++ (in_columns 10 (decimal ticks) ++ (codes " " ++ in_columns 6 (share_text ticks bound)))
+
+-- three digits
+abbrev pub three_digits : ℕ → List ℕ
+three_digits n = decimal (n / 100) ++ (decimal (n / 10 % 10) ++ decimal (n % 10))
+
+-- eight ticks are a microsecond
+abbrev pub microseconds_text : ℕ → List ℕ
+microseconds_text ticks = decimal (ticks / 8) ++ (codes "." ++ three_digits (ticks % 8 * 125))
+
+abbrev pub total_row : (total bound : ℕ) → List ℕ
+total_row total bound = codes "    total" ++ (ticks_text total bound ++ codes "\n")
+
+abbrev pub bound_line : ℕ → List ℕ
+bound_line bound =
+    codes "bound " ++ (decimal bound ++ (codes " ticks, " ++ (microseconds_text bound ++ codes " microseconds at 8 MHz\n")))

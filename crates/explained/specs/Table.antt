@@ -1,0 +1,117 @@
+-- The table of a bound. Our own format.
+use Rattle.std.specs.Prelude.{◌≡◌, ℕ, zero, suc, ◌+◌, Bool, ◌==◌, if◌then◌else◌, List, [], ◌∷◌, ◌++◌, codes}
+use Rattle.std.specs.Prelude.{decimal, map, flat_map, sum_by, Option, Some, None, is_some}
+use Rattle.std.specs.List.{list_any}
+use Rattle.asm_text.specs.Hex.{hex8}
+use Rattle.asm_text.specs.Source.{lines_of}
+use Rattle.assembler.specs.ShownLines.{IsShown}
+use Rattle.assembler.specs.declared.placed_line.PlacedLine.{PlacedLine}
+use Rattle.loader.specs.Image.{Words}
+use Rattle.walk_counts.specs.Counts.{capped}
+use Rattle.explained.specs.Columns.{bound_line, in_columns, ticks_text, total_row}
+use Rattle.explained.specs.declared.tally.Taken.{Taken}
+
+-- ## Lines
+
+-- the addresses of so many words from one on
+abbrev pub addresses : (from count : ℕ) → List ℕ
+addresses from zero = []
+addresses from (suc n) = from ∷ addresses (from + 4) n
+
+abbrev pub words_of : PlacedLine → List ℕ
+words_of line = addresses line.at line.words
+
+abbrev pub passes_of : Option Taken → ℕ
+passes_of None = 0
+passes_of (Some t) = t.passes
+
+abbrev pub ticks_of : Option Taken → ℕ
+ticks_of None = 0
+ticks_of (Some t) = t.ticks
+
+-- what is taken at each address, None where no place is
+module _ (taken : ℕ → Option Taken) where
+  -- a place is at one of the words
+  abbrev pub is_any_reached : (from count : ℕ) → Bool
+  is_any_reached from count = list_any (λ a. is_some (taken a)) (addresses from count)
+
+  -- the ticks at the words
+  abbrev pub ticks_in : (from count : ℕ) → ℕ
+  ticks_in from count = capped (sum_by (λ a. ticks_of (taken a)) (addresses from count))
+
+  -- the passes of the first word, and the ticks of all words; None where no place is on the line
+  abbrev pub line_taken : PlacedLine → Option Taken
+  line_taken line =
+      if is_any_reached line.at line.words
+      then Some (record { passes = passes_of (taken line.at); ticks = ticks_in line.at line.words }) else None
+
+  -- the ticks of all lines
+  abbrev pub source_ticks : List PlacedLine → ℕ
+  source_ticks placed = capped (sum_by (λ line. ticks_in line.at line.words) placed)
+
+  -- the ticks of all words
+  abbrev pub image_ticks : Words → ℕ
+  image_ticks words = capped (sum_by (λ e. ticks_of (taken e.0)) words)
+
+-- ## Rows
+
+-- how often, and the ticks; or that no walk ever comes there
+abbrev pub columns_text : ℕ → Option Taken → List ℕ
+columns_text bound None = in_columns 27 (codes "never reached")
+columns_text bound (Some t) = in_columns 9 (decimal t.passes) ++ ticks_text t.ticks bound
+
+-- with the number of a line and its text
+abbrev pub line_row : ℕ → Option Taken → ℕ → List ℕ → List ℕ
+line_row bound taken n text =
+    columns_text bound taken ++ (codes " " ++ (in_columns 5 (decimal n) ++ (codes "  " ++ (text ++ codes "\n"))))
+
+-- the rows of the lines that have words, with numbers from one on
+abbrev pub source_rows : (ℕ → Option Taken) → ℕ → ℕ → List (List ℕ) → List PlacedLine → List ℕ
+source_rows taken bound n (text ∷ lines) (p ∷ placed) =
+    (if p.words == 0 then [] else line_row bound (line_taken taken p) n text)
+    ++ source_rows taken bound (n + 1) lines placed
+source_rows taken bound n _ _ = []
+
+-- with the address, the word and its line
+abbrev pub IsWordRow : (ℕ → Option Taken) → ℕ → ℕ × ℕ → List ℕ → Type 0
+IsWordRow taken bound e row =
+    (line : List ℕ) × IsShown e.1 e.0 line
+    × (row ≡ columns_text bound (taken e.0)
+    ++ (codes "  " ++ (hex8 e.0 ++ (codes "  " ++ (hex8 e.1 ++ (codes "  " ++ (line ++ codes "\n")))))))
+
+-- a row for each word
+abbrev pub AreWordRows : (ℕ → Option Taken) → ℕ → Words → List ℕ → Type 0
+AreWordRows taken bound [] text = text ≡ []
+AreWordRows taken bound (e ∷ words) text =
+    (row rest : List ℕ) × IsWordRow taken bound e row × AreWordRows taken bound words rest × (text ≡ row ++ rest)
+
+-- the row of a word stands after the old text
+abbrev pub AddsWordRow : (ℕ → Option Taken) → ℕ → ℕ × ℕ → (old new : List ℕ) → Type 0
+AddsWordRow taken bound e old new = (row : List ℕ) × IsWordRow taken bound e row × (new ≡ old ++ row)
+
+-- the rows of the words do
+abbrev pub AddsWordRows : (ℕ → Option Taken) → ℕ → Words → (old new : List ℕ) → Type 0
+AddsWordRows taken bound words old new =
+    (rows : List ℕ) × AreWordRows taken bound words rows × (new ≡ old ++ rows)
+
+-- ## Tables
+
+abbrev pub heading : List ℕ
+heading = codes "   passes      ticks  share  line  text\n"
+
+abbrev pub table_end : (total bound : ℕ) → List ℕ
+table_end total bound = total_row total bound ++ bound_line bound
+
+-- of a source whose lines stand so
+abbrev pub source_table : (ℕ → Option Taken) → ℕ → List ℕ → List PlacedLine → List ℕ
+source_table taken bound source placed =
+    heading ++ (source_rows taken bound 1 (lines_of source) placed ++ table_end (source_ticks taken placed) bound)
+
+abbrev pub image_heading : List ℕ
+image_heading = codes "   passes      ticks  share   address      word  text\n"
+
+-- of an image
+abbrev pub IsImageTable : (ℕ → Option Taken) → ℕ → Words → List ℕ → Type 0
+IsImageTable taken bound words text =
+    (rows : List ℕ) × AreWordRows taken bound words rows
+    × (text ≡ image_heading ++ (rows ++ table_end (image_ticks taken words) bound))

@@ -1,0 +1,92 @@
+-- What a walk takes at an address.
+use Rattle.std.specs.Prelude.{◌≡◌, ℕ, ◌+◌, ◌*◌, Bool, false, ◌==◌, cond, if◌then◌else◌, List, Option, Some, None}
+use Rattle.std.specs.Prelude.{length, count_by, sum_by, unwrap_or, Contains}
+use Rattle.std.specs.BTreeMap.{get}
+use Rattle.std.specs.List.{list_any, range_with_len}
+use Rattle.std.specs.Ordering.{nat_cmp}
+use Rattle.flow_graph.specs.declared.places.Place.{Place}
+use Rattle.flow_graph.specs.declared.places.Place.TheVariants.{At, Exit}
+use Rattle.flow_graph.specs.declared.edges.Edge.{Edge}
+use Rattle.flow_graph.specs.Flow.{Flow}
+use Rattle.longest_walk.specs.Built.{step_at}
+use Rattle.walk_counts.specs.Counts.{capped, occurrences}
+use Rattle.explained.specs.declared.tally.Taken.{Taken}
+use Rattle.explained.specs.declared.tally.Tally.{Tally}
+
+-- ## Addresses
+
+-- the place is at the address, whatever the calls
+abbrev pub is_at : ℕ → Place → Bool
+is_at a (At calls b) = b == a
+is_at a Exit = false
+
+-- the graph has a place at the address
+abbrev pub is_reached : List Place → ℕ → Bool
+is_reached places a = list_any (is_at a) places
+
+-- ## Numbers
+
+-- 1 for an edge that leaves the address, and its ticks
+abbrev pub pass_at : ℕ → Edge → ℕ
+pass_at a e = cond (is_at a e.from) 1 0
+
+abbrev pub cost_at : ℕ → Edge → ℕ
+cost_at a e = cond (is_at a e.from) e.cost 0
+
+-- a number of each of the first edges, each as often as the walk takes it, in all
+abbrev pub in_all : (edges walk : List Edge) → (count : ℕ) → (Edge → ℕ) → ℕ
+in_all edges walk count number =
+    sum_by (λ k. occurrences edges walk k * number (step_at edges k)) (range_with_len 0 count)
+
+-- how often the walk takes those of them that leave the address, and the ticks of that
+abbrev pub taken_of : (edges walk : List Edge) → (count a : ℕ) → Taken
+taken_of edges walk count a =
+    record {
+      passes = capped (in_all edges walk count (pass_at a));
+      ticks = capped (in_all edges walk count (cost_at a));
+    }
+
+abbrev pub taken_by : Flow → List Edge → (count a : ℕ) → Option Taken
+taken_by flow walk count a = if is_reached flow.places a then Some (taken_of flow.edges walk count a) else None
+
+-- what the walk takes at the address: how often it leaves it, and the ticks of that; None where the graph has
+-- no place
+abbrev pub taken_at : Flow → List Edge → ℕ → Option Taken
+taken_at flow walk a = taken_by flow walk (length flow.edges) a
+
+-- ## Tallies
+
+abbrev pub nothing : Taken
+nothing = record { passes = 0; ticks = 0 }
+
+-- what is taken at the place's address is set
+abbrev pub Puts : Place → Taken → (old new : Tally) → Type 0
+Puts place taken old new =
+    (a : ℕ) → get nat_cmp new.by_address a ≡ (if is_at a place then Some taken else get nat_cmp old.by_address a)
+
+-- an edge more, taken so many times
+abbrev pub more : Taken → Edge → ℕ → Taken
+more t e count =
+    record { passes = capped (t.passes + count); ticks = capped (t.ticks + capped (count * e.cost)) }
+
+-- a tally of the places, before any edge
+abbrev pub Starts : List Place → Tally → Type 0
+Starts places t = (a : ℕ) → get nat_cmp t.by_address a ≡ (if is_reached places a then Some nothing else None)
+
+-- an edge is added, taken so many times
+abbrev pub Adds : Edge → ℕ → (old new : Tally) → Type 0
+Adds e count old new =
+    (a : ℕ) → get nat_cmp new.by_address a
+    ≡ (if is_at a e.from then Some (more (unwrap_or (get nat_cmp old.by_address a) nothing) e count)
+    else get nat_cmp old.by_address a)
+
+-- the first edges are added
+abbrev pub HasAdded : Flow → List Edge → ℕ → Tally → Type 0
+HasAdded flow walk count t = (a : ℕ) → get nat_cmp t.by_address a ≡ taken_by flow walk count a
+
+abbrev pub IsTally : Flow → List Edge → Tally → Type 0
+IsTally flow walk t = (a : ℕ) → get nat_cmp t.by_address a ≡ taken_at flow walk a
+
+-- each of the places is at exactly one of the addresses
+abbrev pub StandOnce : List Place → List ℕ → Type 0
+StandOnce places all = (p : Place) → Contains places p → count_by (λ a. is_at a p) all ≡ 1

@@ -1,0 +1,87 @@
+ghost use Rattle.std.specs.Prelude.{◌≡◌, ◌≤◌, ◌++◌, IfOk, OnOk, decimal, string_bytes};
+ghost use Rattle.explained.specs.Columns.{bound_line, in_columns, microseconds_text, share_text, ticks_text};
+ghost use Rattle.explained.specs.Columns.{total_row};
+
+use itoa::Buffer;
+use std::alloc::{AllocError, Global};
+
+// As many blanks as the widest column has.
+const BLANKS: &[u8] = b"                           ";
+
+/// The names of the columns.
+pub(crate) const HEADING: &[u8] = b"   passes      ticks  share  line  text\n";
+
+/// The names of the columns of an image.
+pub(crate) const IMAGE_HEADING: &[u8] = b"   passes      ticks  share   address      word  text\n";
+
+/// Adds a text.
+pub(crate) fn put(out: &mut Vec<u8>, text: &[u8]) -> Result<(), AllocError>
+    ensures { OnOk result (out.new.items ≡ out.old.items ++ text.now) }
+{
+    out.extend_from_slice(text)
+}
+
+/// Adds a text that ends so many columns on.
+pub(crate) fn put_right(out: &mut Vec<u8>, text: &[u8], width: usize) -> Result<(), AllocError>
+    requires { width ≤ 27 }
+    ensures { OnOk result (out.new.items ≡ out.old.items ++ in_columns width text.now) }
+{
+    put(out, &BLANKS[..width.saturating_sub(text.len())])?;
+    put(out, text)
+}
+
+/// Adds a number in decimal that ends so many columns on.
+pub(crate) fn put_number(out: &mut Vec<u8>, number: u64, width: usize) -> Result<(), AllocError>
+    requires { width ≤ 27 }
+    ensures { OnOk result (out.new.items ≡ out.old.items ++ in_columns width (decimal number)) }
+{
+    let mut buffer = Buffer::new();
+    put_right(out, buffer.format(number).as_bytes(), width)
+}
+
+// What part of the bound the ticks are, in per cent.
+fn share(alloc: Global, ticks: u64, bound: u64) -> Result<String, AllocError>
+    ensures { IfOk result (λ text. string_bytes text ≡ share_text ticks bound) }
+{
+    let thousandths = u128::from(ticks) * 1000 / u128::from(bound.max(1));
+    format!(in alloc; "{}.{}%", thousandths / 10, thousandths % 10)
+}
+
+/// Adds ticks and what part of the bound they are.
+pub(crate) fn put_ticks(out: &mut Vec<u8>, ticks: u64, bound: u64) -> Result<(), AllocError>
+    ensures { OnOk result (out.new.items ≡ out.old.items ++ ticks_text ticks bound) }
+{
+    put(out, b" ")?;
+    put_number(out, ticks, 10)?;
+    put(out, b" ")?;
+    let share = share(*out.allocator(), ticks, bound)?;
+    put_right(out, share.as_bytes(), 6)
+}
+
+// So many ticks of the 8 MHz processor in microseconds.
+fn microseconds(alloc: Global, ticks: u64) -> Result<String, AllocError>
+    ensures { IfOk result (λ text. string_bytes text ≡ microseconds_text ticks) }
+{
+    let rest = ticks % 8 * 125;
+    format!(in alloc;
+        "{}.{}{}{}",
+        ticks / 8,
+        rest / 100,
+        rest / 10 % 10,
+        rest % 10
+    )
+}
+
+/// Adds the row of the ticks of all rows, and a line that states the bound.
+pub(crate) fn put_end(out: &mut Vec<u8>, total: u64, bound: u64) -> Result<(), AllocError>
+    ensures { OnOk result (out.new.items ≡ out.old.items ++ (total_row total bound ++ bound_line bound)) }
+{
+    put(out, b"    total")?;
+    put_ticks(out, total, bound)?;
+    put(out, b"\nbound ")?;
+    put_number(out, bound, 0)?;
+    put(out, b" ticks, ")?;
+    let time = microseconds(*out.allocator(), bound)?;
+    put(out, time.as_bytes())?;
+    put(out, b" microseconds at 8 MHz\n")
+}

@@ -1,0 +1,92 @@
+ghost use Rattle.std.specs.Prelude.{◌≡◌, IfOk, OnOk};
+ghost use Rattle.std.specs.BTreeMap.{get};
+ghost use Rattle.std.specs.Ordering.{nat_cmp};
+ghost use Rattle.longest_walk.specs.Folded.{unfolded};
+ghost use Rattle.explained.specs.Table.{AddsWordRow, AddsWordRows, IsImageTable, image_ticks};
+ghost use Rattle.explained.specs.Taken.{taken_at};
+
+use crate::columns::{IMAGE_HEADING, put, put_end};
+use crate::lines::{put_taken, ticks_at};
+use crate::tally::{Tally, capped_sum};
+use asm_text::hex8;
+use assembler::disassemble;
+use flow_graph::Graph;
+use loader::Image;
+use longest_walk::Longest;
+use std::alloc::{AllocError, Global};
+
+// Adds the row of a word.
+fn put_row(
+    out: &mut Vec<u8>,
+    tally: &Tally,
+    bound: u64,
+    at: u32,
+    word: u32,
+) -> Result<(), AllocError>
+    ensures { OnOk result
+        (AddsWordRow (get nat_cmp tally.now.by_address) bound (at, word) out.old.items out.new.items) }
+{
+    put_taken(out, tally.at(at), bound)?;
+    put(out, b"  ")?;
+    put(out, &hex8(at))?;
+    put(out, b"  ")?;
+    put(out, &hex8(word))?;
+    put(out, b"  ")?;
+    let line = disassemble(word, at);
+    put(out, line.items())?;
+    put(out, b"\n")
+}
+
+// Adds the rows of the words.
+fn put_rows(
+    out: &mut Vec<u8>,
+    tally: &Tally,
+    bound: u64,
+    words: &[(u32, u32)],
+) -> Result<(), AllocError>
+    ensures { OnOk result
+        (AddsWordRows (get nat_cmp tally.now.by_address) bound words.now out.old.items out.new.items) }
+{
+    for (at, word) in words {
+        put_row(out, tally, bound, *at, *word)?;
+    }
+    Ok(())
+}
+
+// The ticks at all words.
+fn image_ticks(tally: &Tally, words: &[(u32, u32)]) -> u64
+    ensures { result ≡ image_ticks (get nat_cmp tally.now.by_address) words.now }
+{
+    let mut ticks = 0;
+    for (at, _) in words {
+        ticks = capped_sum(ticks, ticks_at(tally, *at));
+    }
+    ticks
+}
+
+/// Where the ticks of a greatest walk go in an image: a row for each of its words, with how often the walk
+/// passes it, the ticks there, what part of the bound those are, the address, the word and the line that
+/// [`disassemble`] shows; then the ticks of all rows, and the bound in ticks and in microseconds.
+///
+/// Where the graph has no place at a word, the row says so in place of the numbers.
+///
+/// # Errors
+///
+/// An allocation failed.
+pub fn image_table(
+    alloc: Global,
+    image: &Image,
+    graph: &Graph,
+    longest: &Longest,
+) -> Result<Vec<u8>, AllocError>
+    ensures { IfOk result
+        (λ text. IsImageTable (taken_at graph.now (unfolded longest.now.walk)) longest.now.bound image.now
+        text.items) }
+{
+    let tally = Tally::of_walk(alloc, graph, &longest.walk)?;
+    let words = image.listed(alloc)?;
+    let mut out = Vec::from_slice(alloc, IMAGE_HEADING)?;
+    put_rows(&mut out, &tally, longest.bound, &words)?;
+    put_end(&mut out, image_ticks(&tally, &words), longest.bound)?;
+    Ok(out)
+}

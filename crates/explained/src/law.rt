@@ -1,0 +1,33 @@
+ghost use Rattle.std.specs.Prelude.{◌≡◌, ◌<◌, ◌^◌, ℕ, List, Some, sum_by, flat_map, map};
+ghost use Rattle.assembler.specs.declared.placed_line.PlacedLine.{PlacedLine};
+ghost use Rattle.flow_graph.specs.Flow.{Flow, IsWellFormed};
+ghost use Rattle.loader.specs.Image.{Words};
+ghost use Rattle.loop_bounds.specs.Tree.{Tree};
+ghost use Rattle.longest_walk.specs.Folded.{unfolded};
+ghost use Rattle.longest_walk.specs.Longest.{IsWalkOf};
+ghost use Rattle.longest_walk.specs.declared.folded.Item.{Item};
+ghost use Rattle.explained.specs.Table.{image_ticks, source_ticks, words_of};
+ghost use Rattle.explained.specs.Taken.{StandOnce, cost_at, is_reached, pass_at, taken_at};
+
+/// States that of a walk of the graph that costs less than 2^64 ticks the numbers at an address are exact: how
+/// often the walk leaves the address, and the ticks of that. It does nothing.
+pub fn numbers_are_of_the_walk()
+    ensures { (flow : Flow) (tree : Tree) (cost : ℕ) (items : List Item) (a : ℕ)
+        → IsWellFormed flow → IsWalkOf flow tree cost items → cost < 2 ^ 64
+        → is_reached flow.places a ≡ true
+        → taken_at flow (unfolded items) a
+        ≡ Some (record { passes = sum_by (pass_at a) (unfolded items); ticks = sum_by (cost_at a) (unfolded items) }) }
+{}
+
+/// States that the ticks of all rows are what the walk costs, if each place of the graph stands at one word of
+/// the lines, or of the image. It does nothing.
+pub fn totals_are_the_bound()
+    ensures source { (flow : Flow) (tree : Tree) (cost : ℕ) (items : List Item) (placed : List PlacedLine)
+        → IsWellFormed flow → IsWalkOf flow tree cost items → cost < 2 ^ 64
+        → StandOnce flow.places (flat_map words_of placed)
+        → source_ticks (taken_at flow (unfolded items)) placed ≡ cost }
+    ensures image { (flow : Flow) (tree : Tree) (cost : ℕ) (items : List Item) (words : Words)
+        → IsWellFormed flow → IsWalkOf flow tree cost items → cost < 2 ^ 64
+        → StandOnce flow.places (map (λ e. e.0) words)
+        → image_ticks (taken_at flow (unfolded items)) words ≡ cost }
+{}

@@ -1,0 +1,88 @@
+ghost use Rattle.std.specs.Prelude.{◌≡◌, ◌+◌, ◌*◌, ◌^◌, ◌≤◌, ◌++◌, OnOk};
+ghost use Rattle.std.specs.BTreeMap.{get};
+ghost use Rattle.std.specs.Ordering.{nat_cmp};
+ghost use Rattle.explained.specs.Table.{columns_text, is_any_reached, line_taken, passes_of, ticks_in, ticks_of};
+
+use crate::columns::{put_number, put_right, put_ticks};
+use crate::tally::{Taken, Tally, capped_sum};
+use assembler::PlacedLine;
+use std::alloc::AllocError;
+
+// Whether the graph has a place at one of so many words from an address on.
+fn is_any_reached(tally: &Tally, from: u32, count: usize) -> bool
+    requires { from + 4 * count ≤ 2 ^ 26 }
+    ensures { result ≡ is_any_reached (get nat_cmp tally.now.by_address) from count }
+{
+    let mut at = from;
+    for _ in 0..count {
+        if tally.at(at).is_some() {
+            return true;
+        }
+        at += 4;
+    }
+    false
+}
+
+/// The ticks that the walk takes at an address.
+pub(crate) fn ticks_at(tally: &Tally, at: u32) -> u64
+    ensures { result ≡ ticks_of (get nat_cmp tally.now.by_address at) }
+{
+    match tally.at(at) {
+        Some(taken) => taken.ticks,
+        None => 0,
+    }
+}
+
+fn passes_at(tally: &Tally, at: u32) -> u64
+    ensures { result ≡ passes_of (get nat_cmp tally.now.by_address at) }
+{
+    match tally.at(at) {
+        Some(taken) => taken.passes,
+        None => 0,
+    }
+}
+
+/// The ticks that the walk takes at so many words from an address on.
+pub(crate) fn ticks_in(tally: &Tally, from: u32, count: usize) -> u64
+    requires { from + 4 * count ≤ 2 ^ 26 }
+    ensures { result ≡ ticks_in (get nat_cmp tally.now.by_address) from count }
+{
+    let mut at = from;
+    let mut ticks = 0;
+    for _ in 0..count {
+        ticks = capped_sum(ticks, ticks_at(tally, at));
+        at += 4;
+    }
+    ticks
+}
+
+/// What the walk takes on a line: it passes the line as often as its first word. None where the graph has no
+/// place on the line.
+pub(crate) fn line_taken(tally: &Tally, line: PlacedLine) -> Option<Taken>
+    ensures { result ≡ line_taken (get nat_cmp tally.now.by_address) line }
+{
+    if !is_any_reached(tally, line.at, line.words) {
+        return None;
+    }
+    Some(Taken {
+        passes: passes_at(tally, line.at),
+        ticks: ticks_in(tally, line.at, line.words),
+    })
+}
+
+/// Adds what is taken and what part of the bound that is, or that nothing ever can be.
+pub(crate) fn put_taken(
+    out: &mut Vec<u8>,
+    taken: Option<Taken>,
+    bound: u64,
+) -> Result<(), AllocError>
+    ensures { OnOk result (out.new.items ≡ out.old.items ++ columns_text bound taken) }
+{
+    match taken {
+        Some(taken) => {
+            put_number(out, taken.passes, 9)?;
+            put_ticks(out, taken.ticks, bound)
+        }
+        None => put_right(out, b"never reached", 27),
+    }
+}

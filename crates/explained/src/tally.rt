@@ -1,0 +1,109 @@
+ghost use Rattle.std.specs.Prelude.{◌≡◌, ◌+◌, ◌*◌, ℕ, IfOk, OnOk};
+ghost use Rattle.std.specs.BTreeMap.{get};
+ghost use Rattle.std.specs.Ordering.{nat_cmp};
+ghost use Rattle.longest_walk.specs.Folded.{unfolded};
+ghost use Rattle.walk_counts.specs.Counts.{capped};
+ghost use Rattle.explained.specs.Taken.{Adds, IsTally, Puts, Starts};
+
+use flow_graph::{Edge, Graph, Place};
+use longest_walk::FoldedWalk;
+use std::alloc::{AllocError, Global};
+use std::collections::BTreeMap;
+use walk_counts::edge_counts;
+
+/// How often a walk passes an instruction, and what that costs in ticks, each told up to 2^64 - 1.
+#[derive(Clone, Copy)]
+pub(crate) struct Taken {
+    pub(crate) passes: u64,
+    pub(crate) ticks: u64,
+}
+
+/// What a walk takes at each address where the graph has a place.
+#[derive(Drop)]
+pub(crate) struct Tally {
+    by_address: BTreeMap<u32, Taken>,
+}
+
+pub(crate) fn capped_sum(sum: u64, more: u64) -> u64
+    ensures { result ≡ capped (sum + more) }
+{
+    sum.saturating_add(more)
+}
+
+fn capped_product(count: u64, cost: u32) -> u64
+    ensures { result ≡ capped (count * cost) }
+{
+    count.saturating_mul(u64::from(cost))
+}
+
+impl Taken {
+    const NOTHING: Taken = Taken {
+        passes: 0,
+        ticks: 0,
+    };
+}
+
+impl Tally {
+    // Sets what is taken at a place's address.
+    fn put(&mut self, place: &Place, taken: Taken) -> Result<(), AllocError>
+        ensures { OnOk result (Puts place.now taken self.old self.new) }
+    {
+        let Place::At(_, address) = place else {
+            return Ok(());
+        };
+        self.by_address.insert(*address, taken)?;
+        Ok(())
+    }
+
+    // Nothing at the places.
+    fn of_places(alloc: Global, places: &[Place]) -> Result<Tally, AllocError>
+        ensures { IfOk result (Starts places.now) }
+    {
+        let mut tally = Tally {
+            by_address: BTreeMap::new(alloc),
+        };
+        for place in places {
+            tally.put(place, Taken::NOTHING)?;
+        }
+        Ok(tally)
+    }
+
+    // Adds an edge that is taken so many times.
+    fn add(&mut self, edge: &Edge, count: u64) -> Result<(), AllocError>
+        ensures { OnOk result (Adds edge.now count self.old self.new) }
+    {
+        let Place::At(_, address) = edge.from else {
+            return Ok(());
+        };
+        let before = self.at(address).unwrap_or(Taken::NOTHING);
+        let after = Taken {
+            passes: capped_sum(before.passes, count),
+            ticks: capped_sum(before.ticks, capped_product(count, edge.cost)),
+        };
+        self.put(&edge.from, after)
+    }
+
+    /// What the walk takes at the graph's places, in time linear in the walk as it is folded.
+    /// `AllocError`: an allocation failed.
+    pub(crate) fn of_walk(
+        alloc: Global,
+        graph: &Graph,
+        walk: &FoldedWalk,
+    ) -> Result<Tally, AllocError>
+        ensures { IfOk result (IsTally graph.now (unfolded walk.now)) }
+    {
+        let counts = edge_counts(alloc, graph, walk)?;
+        let mut tally = Tally::of_places(alloc, graph.places())?;
+        for number in 0..graph.edges().len() {
+            tally.add(&graph.edges()[number], counts[number])?;
+        }
+        Ok(tally)
+    }
+
+    /// What the walk takes at the address; None where the graph has no place.
+    pub(crate) fn at(&self, address: u32) -> Option<Taken>
+        ensures { result ≡ get nat_cmp self.now.by_address address }
+    {
+        self.by_address.get(&address).copied()
+    }
+}

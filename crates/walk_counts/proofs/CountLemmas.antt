@@ -1,0 +1,160 @@
+-- What counting an edge, items and rounds does, and when the counts are exact.
+use Rattle.std.proofs.Common.{◌≡◌, ◌∙◌, ℕ, ◌+◌, ◌-◌, ◌*◌, ◌^◌, ◌<◌, ◌≤◌, min, cond, eqb, List, [], ◌∷◌, ◌++◌, append-nil, length, get_or, take, map, flat_map, replicate, ⊎_elim, refl, sym, ap, subst, arith, get_or-set_other, get_or-set_same}
+use Rattle.std.specs.Prelude.{All, Contains, count_by, sum_by}
+use Rattle.std.proofs.Math.ListN.{set, length-set}
+use Rattle.std.proofs.lemmas.Bool.{cases_lt, eq-eqb, ne_eqb}
+use Rattle.std.proofs.lemmas.List.{map-append, take_more, take_all}
+use Rattle.std.proofs.lemmas.List.Concat.{flat_map-append}
+use Rattle.std.proofs.lemmas.List.Elements.{All-head, All-tail, All-weaker, All-nil, All-cons}
+use Rattle.std.proofs.lemmas.List.Sums.{count_by-le-length, sum_by-append, sum_by-cons}
+use Rattle.walks.specs.Walk.{Leads, cost_of}
+use Rattle.walks.specs.Segments.{repeated}
+use Rattle.flow_graph.specs.declared.edges.Edge.{Edge}
+use Rattle.flow_graph.specs.declared.places.Place.{Place}
+use Rattle.flow_graph.specs.declared.places.Place.TheVariants.{Exit}
+use Rattle.flow_graph.specs.Flow.{Flow, HasEdge, IsWellFormed, edge_shape}
+use Rattle.loop_bounds.specs.Tree.{Tree}
+use Rattle.longest_walk.specs.Built.{step_at}
+use Rattle.longest_walk.specs.Folded.{Opened, open_item, unfolded}
+use Rattle.longest_walk.specs.Longest.{IsWalkOf}
+use Rattle.longest_walk.specs.declared.folded.Item.{Item}
+use Rattle.walk_counts.specs.Counts.{AreCounts, AreExact, Counts, capped, counted, counted_cost, number_of, occurrences}
+use Rattle.walk_counts.proofs.NumberLemmas.{known_edge}
+use Rattle.walk_counts.proofs.SumLemmas.{capped_more, capped_times, count-repeated, same_sums, sums_by_number}
+
+-- the counts are numbers of 64 bits
+abbrev pub AreSmall : List ℕ → Type 0
+AreSmall counts = (k : ℕ) → get_or counts k 0 < 2 ^ 64
+
+-- ## Counting
+
+module _ (edges : List Edge) (times : ℕ) where
+  pub counts_none : (old : List ℕ) → AreSmall old → Counts edges [] times old old
+  counts_none old small = record { whole = refl; each = λ k lt. (let s : get_or old k 0 < 2 ^ 64 = small k in omega arith) }
+
+  pub counts_both : (xs ys : List Edge) (old mid new : List ℕ) → Counts edges xs times old mid → Counts edges ys times mid new → Counts edges (xs ++ ys) times old new
+  counts_both xs ys old mid new one two = record {
+    whole = two.whole ∙ one.whole;
+    each = λ k lt.
+        let x = occurrences edges xs k in
+        let y = occurrences edges ys k in
+        let joins : times * x + times * y ≡ times * occurrences edges (xs ++ ys) k =
+        omega arith ∙ ap (λ n. times * n) (sym (sum_by-append (λ e. cond (eqb (number_of edges e) k) 1 0) xs ys)) in
+        two.each k lt ∙ ap (λ n. capped (n + times * y)) (one.each k lt)
+        ∙ capped_more (2 ^ 64 - 1) (get_or old k 0) (times * x) (times * y)
+        ∙ ap (λ n. capped (get_or old k 0 + n)) joins;
+  }
+
+  pub counts_rounds : (n : ℕ) (walk : List Edge) (old new : List ℕ) → Counts edges walk (capped (times * n)) old new → Counts edges (repeated n walk) times old new
+  counts_rounds n walk old new h = record {
+    whole = h.whole;
+    each = λ k lt.
+        let x = occurrences edges walk k in
+        let all : times * n * x ≡ times * occurrences edges (repeated n walk) k =
+        omega arith ∙ ap (λ m. times * m) (sym (count-repeated (λ e. eqb (number_of edges e) k) n walk)) in
+        h.each k lt ∙ capped_times (2 ^ 64 - 1) (get_or old k 0) (times * n) x ∙ ap (λ m. capped (get_or old k 0 + m)) all;
+  }
+
+  -- an edge that is none of the list
+  pub counts_nowhere : (e : Edge) (old : List ℕ) → AreSmall old → length edges ≤ number_of edges e → Counts edges (e ∷ []) times old old
+  counts_nowhere e old small past = record {
+    whole = refl;
+    each = λ k lt.
+        let s : get_or old k 0 < 2 ^ 64 = small k in
+        let none : occurrences edges (e ∷ []) k ≡ 0 = ap (λ b. 0 + cond b 1 0) (ne_eqb (number_of edges e) k (λ is. absurd (omega arith))) in
+        let same : get_or old k 0 ≡ capped (get_or old k 0 + times * 0) = omega arith in
+        same ∙ ap (λ n. capped (get_or old k 0 + times * n)) (sym none);
+  }
+
+  pub counts_here : (e : Edge) (j count : ℕ) (old : List ℕ) → AreSmall old → length old ≡ length edges → j ≡ number_of edges e → j < length edges → count ≡ capped (get_or old j 0 + times) → Counts edges (e ∷ []) times old (set old j count)
+  counts_here e j count old small whole is inside count_is = record {
+    whole = length-set old j count;
+    each = λ k lt. ⊎_elim
+        (λ (less : k < j). other k (λ same. absurd (omega arith)))
+        (λ (le : j ≤ k). ⊎_elim (λ (more : j < k). other k (λ same. absurd (omega arith))) (λ (ge : k ≤ j). here k (omega arith)) (cases_lt j k))
+        (cases_lt k j);
+  }
+    where
+      other : (k : ℕ) → (j ≡ k → ⊥) → get_or (set old j count) k 0 ≡ capped (get_or old k 0 + times * occurrences edges (e ∷ []) k)
+      other k differ =
+          let s : get_or old k 0 < 2 ^ 64 = small k in
+          let none : occurrences edges (e ∷ []) k ≡ 0 = ap (λ b. 0 + cond b 1 0) (ne_eqb (number_of edges e) k (λ same. differ (is ∙ same))) in
+          let kept : get_or (set old j count) k 0 ≡ get_or old k 0 = get_or-set_other old j k count 0 differ in
+          let same : get_or old k 0 ≡ capped (get_or old k 0 + times * 0) = omega arith in
+          kept ∙ same ∙ ap (λ n. capped (get_or old k 0 + times * n)) (sym none)
+
+      here : (k : ℕ) → j ≡ k → get_or (set old j count) k 0 ≡ capped (get_or old k 0 + times * occurrences edges (e ∷ []) k)
+      here k same =
+          let one : occurrences edges (e ∷ []) k ≡ 1 = ap (λ b. 0 + cond b 1 0) (eq-eqb (number_of edges e) k (sym is ∙ same)) in
+          let put : get_or (set old j count) j 0 ≡ count = get_or-set_same old j count 0 (omega arith) in
+          let once : capped (get_or old j 0 + times) ≡ capped (get_or old j 0 + times * 1) = ap (λ n. capped (get_or old j 0 + n)) (omega arith) in
+          ap (λ n. get_or (set old j count) n 0) (sym same) ∙ put ∙ count_is ∙ once
+          ∙ ap (λ n. capped (get_or old n 0 + times * 1)) same ∙ ap (λ n. capped (get_or old k 0 + times * n)) (sym one)
+
+-- ## Items
+
+pub one_more : (items : List Item) (i : ℕ) (d : Item) → i < length items → unfolded (take (i + 1) items) ≡ unfolded (take i items) ++ (open_item (get_or items i d)).walk
+one_more items i d lt =
+    let walk_of = λ (o : Opened). o.walk in
+    let item = get_or items i d in
+    ap unfolded (take_more items i d lt)
+    ∙ ap (λ (os : List Opened). flat_map walk_of os) (map-append open_item (take i items) (item ∷ []))
+    ∙ flat_map-append walk_of (map open_item (take i items)) (open_item item ∷ [])
+    ∙ ap (λ (w : List Edge). unfolded (take i items) ++ w) (append-nil (open_item item).walk)
+
+pub counts_item : (edges : List Edge) (times : ℕ) (items : List Item) (i : ℕ) (item : Item) (old mid new : List ℕ) → i < length items → item ≡ get_or items i item
+    → Counts edges (unfolded (take i items)) times old mid → Counts edges (open_item item).walk times mid new → Counts edges (unfolded (take (i + 1) items)) times old new
+counts_item edges times items i item old mid new lt at before here =
+    subst (λ (w : List Edge). Counts edges w times old new) (sym (one_more items i item lt))
+    (counts_both edges times (unfolded (take i items)) (open_item (get_or items i item)).walk old mid new before
+    (subst (λ (x : Item). Counts edges (open_item x).walk times mid new) at here))
+
+-- ## The whole
+
+-- no count before the first
+pub first_counts : (edges walk : List Edge) (old new : List ℕ) → old ≡ replicate (length edges) 0 → length old ≡ length edges → ((k : ℕ) → get_or old k 0 ≡ 0) → Counts edges walk 1 old new → AreCounts edges walk new
+first_counts edges walk old new is whole zeros h = record {
+  whole = h.whole ∙ whole;
+  each = λ k lt. h.each k lt ∙ ap (λ n. capped (n + 1 * occurrences edges walk k)) (zeros k) ∙ ap capped (omega arith);
+}
+
+-- ## Exact counts
+
+shorter : (walk : List Edge) → All (λ e. 0 < e.cost) walk → length walk ≤ sum_by (λ e. e.cost) walk
+shorter [] some = omega arith
+shorter (e ∷ walk) some =
+    let here : 0 < e.cost = All-head (λ x. 0 < x.cost) e walk some in
+    omega (arith, sum_by-cons (λ x. x.cost) e walk, shorter walk (All-tail (λ x. 0 < x.cost) e walk some))
+
+pub exact : (flow : Flow) (walk : List Edge) (counts : List ℕ) → IsWellFormed flow → AreCounts flow.edges walk counts → All (HasEdge flow) walk → cost_of edge_shape walk < 2 ^ 64 → AreExact flow.edges walk counts
+exact flow walk counts well are along fits = record {
+  each = each;
+  sums = λ number.
+      same_sums (λ k. get_or counts k 0 * number (step_at edges k)) (λ k. occurrences edges walk k * number (step_at edges k)) (length edges) 0
+      (λ k low high. ap (λ c. c * number (step_at edges k)) (each k (omega arith)))
+      ∙ sums_by_number (number_of edges) number (λ k. number (step_at edges k)) (length edges) walk
+      (All-weaker (HasEdge flow) (λ e. (number_of edges e < length edges) × (number (step_at edges (number_of edges e)) ≡ number e))
+      (λ e has. let k = known_edge edges e has in (k.0, ap number k.1)) walk along);
+}
+  where
+    edges : List Edge
+    edges = flow.edges
+
+    short : length walk < 2 ^ 64
+    short = let s = shorter walk (All-weaker (HasEdge flow) (λ e. 0 < e.cost) well.costs_some walk along) in omega arith
+
+    each : (k : ℕ) → k < length edges → get_or counts k 0 ≡ occurrences edges walk k
+    each k lt =
+        let few : occurrences edges walk k ≤ length walk = count_by-le-length (λ e. eqb (number_of edges e) k) walk in
+        let s = short in
+        let fit : capped (occurrences edges walk k) ≡ occurrences edges walk k = omega arith in
+        are.each k lt ∙ fit
+
+pub along : (flow : Flow) (p q : Place) (walk : List Edge) → Leads edge_shape (HasEdge flow) p walk q → All (HasEdge flow) walk
+along flow p q [] leads = All-nil (HasEdge flow)
+along flow p q (e ∷ walk) leads = All-cons (HasEdge flow) e walk leads.0 (along flow e.to q walk leads.2)
+
+pub total : (flow : Flow) (items : List Item) (counts : List ℕ) (tree : Tree) (cost : ℕ) → IsWellFormed flow → AreCounts flow.edges (unfolded items) counts → IsWalkOf flow tree cost items → cost < 2 ^ 64 → counted_cost flow.edges counts ≡ cost
+total flow items counts tree cost well are walk fits =
+    (exact flow (unfolded items) counts well are (along flow flow.entry Exit (unfolded items) walk.complete) (subst (λ n. n < 2 ^ 64) (sym walk.costs) fits)).sums (λ e. e.cost)
+    ∙ walk.costs

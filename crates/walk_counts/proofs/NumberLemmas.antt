@@ -1,0 +1,141 @@
+-- The number of an edge stands among those of its place.
+use Rattle.std.proofs.Common.{◌≡◌, ◌∙◌, ℕ, zero, suc, ◌+◌, ◌-◌, ◌<◌, ◌≤◌, Bool, true, false, ◌&&◌, List, length, get_or, Ok, Err, ⊎_elim, refl, sym, ap, subst, arith, add-one}
+use Rattle.std.specs.Prelude.{Contains, nat_eq}
+use Rattle.std.specs.List.{position_or_len}
+use Rattle.std.specs.List.Sorted.{IsBinarySearchResult, IsSearchInRange}
+use Rattle.std.specs.Ordering.{is_eq}
+use Rattle.std.specs.declared.cmp.Ordering.{Ordering}
+use Rattle.std.specs.declared.cmp.Ordering.TheVariants.{Less, Equal, Greater}
+use Rattle.std.proofs.lemmas.Bool.{and_from, and_parts, both_ways, cases_Bool, cases_lt, eq-eqb, eqb-true}
+use Rattle.std.proofs.lemmas.Cmp.{tied_itself}
+use Rattle.std.proofs.lemmas.List.{get_or_default}
+use Rattle.std.proofs.lemmas.List.Sums.{fails_before_first, passes_at_first, position_or_len_is}
+use Rattle.flow_graph.specs.declared.places.Place.{Place}
+use Rattle.flow_graph.specs.declared.places.Place.TheVariants.{Exit}
+use Rattle.flow_graph.specs.declared.edges.Edge.{Edge}
+use Rattle.flow_graph.specs.declared.edges.Label.{Label}
+use Rattle.flow_graph.specs.declared.edges.Label.TheVariants.{Skip, Do}
+use Rattle.flow_graph.specs.Flow.{Flow, IsWellFormed}
+use Rattle.flow_graph.specs.Places.{place_at, place_cmp}
+use Rattle.flow_graph.specs.Search.{by_order}
+use Rattle.flow_graph.proofs.PlaceLemmas.{by_order_exact, place_exact, place_total}
+use Rattle.loop_bounds.proofs.Grouped.{rises_to}
+use Rattle.loop_bounds.proofs.Positions.{known, places_once}
+use Rattle.longest_walk.specs.Built.{step_at}
+use Rattle.longest_walk.proofs.CarryWalks.{no_edge}
+use Rattle.walk_counts.specs.Counts.{is_same, is_same_label, is_same_place, number_of}
+
+-- ## The same edge
+
+is_equal : (o : Ordering) → is_eq o ≡ true → o ≡ Equal
+is_equal Less e = cc
+is_equal Equal e = refl
+is_equal Greater e = cc
+
+one_place : (p q : Place) → is_same_place p q ≡ true → p ≡ q
+one_place p q e = place_exact p q (is_equal (place_cmp p q) e)
+
+own_place : (p : Place) → is_same_place p p ≡ true
+own_place p = ap is_eq (tied_itself place_total p)
+
+one_label : (l m : Label) → is_same_label l m ≡ true → l ≡ m
+one_label Skip Skip e = refl
+one_label Skip Do e = cc
+one_label Do Skip e = cc
+one_label Do Do e = refl
+
+own_label : (l : Label) → is_same_label l l ≡ true
+own_label Skip = refl
+own_label Do = refl
+
+made : (e f : Edge) → e.from ≡ f.from → e.label ≡ f.label → e.to ≡ f.to → e.cost ≡ f.cost → e ≡ f
+made e f from label to cost = λ i. record { from = from i; label = label i; to = to i; cost = cost i }
+
+-- edges that pass the test are one
+pub one_edge : (e f : Edge) → is_same e f ≡ true → e ≡ f
+one_edge e f is =
+    let from = and_parts (is_same_place e.from f.from) (is_same_label e.label f.label && (is_same_place e.to f.to && nat_eq e.cost f.cost)) is in
+    let label = and_parts (is_same_label e.label f.label) (is_same_place e.to f.to && nat_eq e.cost f.cost) from.1 in
+    let to = and_parts (is_same_place e.to f.to) (nat_eq e.cost f.cost) label.1 in
+    made e f (one_place e.from f.from from.0) (one_label e.label f.label label.0) (one_place e.to f.to to.0) (eqb-true e.cost f.cost to.1)
+
+own_edge : (e : Edge) → is_same e e ≡ true
+own_edge e =
+    and_from (is_same_place e.from e.from) (is_same_label e.label e.label && (is_same_place e.to e.to && nat_eq e.cost e.cost)) (own_place e.from)
+    (and_from (is_same_label e.label e.label) (is_same_place e.to e.to && nat_eq e.cost e.cost) (own_label e.label)
+    (and_from (is_same_place e.to e.to) (nat_eq e.cost e.cost) (own_place e.to) (eq-eqb e.cost e.cost refl)))
+
+-- an edge of the list has a number in it, and is the edge with the number
+pub known_edge : (edges : List Edge) (e : Edge) → Contains edges e → (number_of edges e < length edges) × (step_at edges (number_of edges e) ≡ e)
+known_edge edges e has =
+    let pass : is_same e (get_or edges has.0 e) ≡ true = subst (λ f. is_same e f ≡ true) (sym has.2) (own_edge e) in
+    let inside : number_of edges e < length edges = ⊎_elim
+    (λ (before : has.0 < number_of edges e). absurd (both_ways (is_same e (get_or edges has.0 e)) (fails_before_first (is_same e) edges has.0 e before) pass))
+    (λ (le : number_of edges e ≤ has.0). let lt : has.0 < length edges = has.1 in let goal : number_of edges e < length edges = omega arith in goal)
+    (cases_lt has.0 (number_of edges e)) in
+    (inside, sym (one_edge e (step_at edges (number_of edges e)) (passes_at_first (is_same e) edges no_edge inside)))
+
+module _ (flow : Flow) (well : IsWellFormed flow) where
+  -- an edge that stands before the part of a place belongs to an earlier place
+  owner : (u k : ℕ) → u ≤ length flow.places → k < get_or flow.firsts u 0 → (v : ℕ) × (v < u) × (get_or flow.firsts v 0 ≤ k) × (k < get_or flow.firsts (v + 1) 0)
+  owner zero k le below = let z : get_or flow.firsts 0 0 ≡ 0 = well.first_zero in absurd (omega arith)
+  owner (suc u) k le below =
+      ⊎_elim
+      (λ (l : k < get_or flow.firsts u 0). let w = owner u k (omega arith) l in let m : w.0 < u = w.1 in (w.0, omega arith, w.2, w.3))
+      (λ (m : get_or flow.firsts u 0 ≤ k). (u, omega arith, m, subst (λ n. k < get_or flow.firsts n 0) (sym (add-one u)) below))
+      (cases_lt k (get_or flow.firsts u 0))
+
+  -- an edge that leaves a place stands in its part
+  part_of : (v k : ℕ) → v < length flow.places → k < length flow.edges → (step_at flow.edges k).from ≡ place_at flow.places v → (get_or flow.firsts v 0 ≤ k) × (k < get_or flow.firsts (v + 1) 0)
+  part_of v k v_in k_in from_is =
+      let all : get_or flow.firsts (length flow.places) 0 ≡ length flow.edges = well.last_all in
+      let w = owner (length flow.places) k (omega arith) (omega (arith, k_in, all)) in
+      let is : w.0 ≡ v = places_once flow.places well.ordered w.0 v Exit w.1 v_in (sym (well.part w.0 k no_edge w.1 w.2 w.3) ∙ from_is) in
+      (subst (λ n. get_or flow.firsts n 0 ≤ k) is w.2, subst (λ n. k < get_or flow.firsts (n + 1) 0) is w.3)
+
+  pub part_fits : (v : ℕ) → v < length flow.places → get_or flow.firsts (v + 1) 0 ≤ length flow.edges
+  part_fits v v_in = rises_to flow.firsts (length flow.places) (length flow.edges) well.rising well.last_all (length flow.places - (v + 1)) (v + 1) (omega arith)
+
+  module _ (v : ℕ) (v_in : v < length flow.places) (e : Edge) (leaves : place_at flow.places v ≡ e.from) where
+    outside : (k : ℕ) → k < length flow.edges → (get_or flow.firsts v 0 ≤ k → k < get_or flow.firsts (v + 1) 0 → ⊥) → is_same e (step_at flow.edges k) ≡ false
+    outside k k_in out = ⊎_elim
+        (λ is. let at = part_of v k v_in k_in (sym (ap (λ (f : Edge). f.from) (one_edge e (step_at flow.edges k) is)) ∙ sym leaves) in absurd (out at.0 at.1))
+        (λ fails. fails)
+        (cases_Bool (is_same e (step_at flow.edges k)))
+
+    pub fail_before : (k : ℕ) → k < get_or flow.firsts v 0 → is_same e (step_at flow.edges k) ≡ false
+    fail_before k less = outside k (omega (arith, well.rising v v_in, part_fits v v_in)) (λ low high. omega arith)
+
+    pub found_here : (k : ℕ) → k < get_or flow.firsts (v + 1) 0 → ((j : ℕ) → j < k → is_same e (step_at flow.edges j) ≡ false) → is_same e (step_at flow.edges k) ≡ true → (k ≡ number_of flow.edges e) × (k < length flow.edges)
+    found_here k high before at =
+        let k_in : k < length flow.edges = omega (arith, part_fits v v_in) in
+        (sym (position_or_len_is (is_same e) flow.edges k no_edge (omega arith) before (λ _. at)), k_in)
+
+    pub found_nowhere : (k : ℕ) → get_or flow.firsts (v + 1) 0 ≤ k → ((j : ℕ) → j < k → is_same e (step_at flow.edges j) ≡ false) → length flow.edges ≤ number_of flow.edges e
+    found_nowhere k past before =
+        let none : number_of flow.edges e ≡ length flow.edges = position_or_len_is (is_same e) flow.edges (length flow.edges) no_edge (omega arith)
+        (λ j j_in. ⊎_elim
+        (λ (less : j < k). before j less)
+        (λ (more : k ≤ j). outside j j_in (λ low high. omega arith))
+        (cases_lt j k))
+        (λ lt. absurd (omega arith)) in
+        omega arith
+
+  -- ## The place
+
+  pub place_found : (v : ℕ) (p : Place) → IsBinarySearchResult (λ q. by_order q p) flow.places (Ok v) → place_at flow.places v ≡ p
+  place_found v p found = by_order_exact (place_at flow.places v) p (found Exit)
+
+  -- an edge whose place is none of the graph's is none of its edges
+  pub place_missed : (v : ℕ) (e : Edge) → IsSearchInRange (Err v) (length flow.places) → IsBinarySearchResult (λ q. by_order q e.from) flow.places (Err v) → length flow.edges ≤ number_of flow.edges e
+  place_missed v e range missed =
+      let no_place : Contains flow.places e.from → ⊥ = (known flow.places e.from (Err v) well.ordered range missed).1 refl in
+      let none : number_of flow.edges e ≡ length flow.edges = position_or_len_is (is_same e) flow.edges (length flow.edges) no_edge (omega arith)
+      (λ j j_in. ⊎_elim
+      (λ is.
+      let same = one_edge e (step_at flow.edges j) is in
+      absurd (no_place (subst (Contains flow.places) (sym (ap (λ (f : Edge). f.from) same)) (well.starts (step_at flow.edges j) (j, j_in, get_or_default flow.edges j (step_at flow.edges j) no_edge j_in)))))
+      (λ fails. fails)
+      (cases_Bool (is_same e (step_at flow.edges j))))
+      (λ lt. absurd (omega arith)) in
+      omega arith

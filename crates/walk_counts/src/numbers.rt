@@ -1,0 +1,59 @@
+ghost use Rattle.std.specs.Prelude.{◌≡◌, ◌<◌, ◌≤◌, MatchOption, length, slice_index};
+ghost use Rattle.flow_graph.specs.Flow.{IsWellFormed};
+ghost use Rattle.flow_graph.specs.Places.{place_at, place_cmp};
+ghost use Rattle.walk_counts.specs.Counts.{is_same, is_same_label, is_same_place, number_of};
+
+use flow_graph::{Edge, Graph, Label, Place, order_of_places};
+use std::cmp::Ordering;
+
+fn same_place(place: &Place, other: &Place) -> bool
+    ensures { result ≡ is_same_place place.now other.now }
+{
+    order_of_places();
+    place.cmp(other) == Ordering::Equal
+}
+
+fn same_label(label: Label, other: Label) -> bool
+    ensures { result ≡ is_same_label label other }
+{
+    match (label, other) {
+        (Label::Skip, Label::Skip) | (Label::Do, Label::Do) => true,
+        _ => false,
+    }
+}
+
+fn same_edge(edge: &Edge, other: &Edge) -> bool
+    ensures { result ≡ is_same edge.now other.now }
+{
+    same_place(&edge.from, &other.from)
+        && same_label(edge.label, other.label)
+        && same_place(&edge.to, &other.to)
+        && edge.cost == other.cost
+}
+
+// The number of an edge among those of the place with the number, which it leaves.
+fn number_at(graph: &Graph, place: usize, edge: &Edge) -> Option<usize>
+    requires known { place < length graph.now.places }
+    requires leaves { place_at graph.now.places place ≡ edge.now.from }
+    ensures { MatchOption result (length graph.now.edges ≤ number_of graph.now.edges edge.now)
+        (λ k. (k ≡ number_of graph.now.edges edge.now) × (k < length graph.now.edges)) }
+{
+    let firsts = graph.firsts();
+    for number in firsts[place]..firsts[place + 1] {
+        if same_edge(edge, &graph.edges()[number]) {
+            return Some(number);
+        }
+    }
+    None
+}
+
+/// The number of an edge among the graph's edges, if it is one of them: the first of them that is the same.
+pub(crate) fn edge_number(graph: &Graph, edge: &Edge) -> Option<usize>
+    ensures { MatchOption result (length graph.now.edges ≤ number_of graph.now.edges edge.now)
+        (λ k. (k ≡ number_of graph.now.edges edge.now) × (k < length graph.now.edges)) }
+{
+    match graph.places().binary_search(&edge.from) {
+        Ok(place) => number_at(graph, place, edge),
+        Err(_) => None,
+    }
+}
