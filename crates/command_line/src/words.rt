@@ -14,7 +14,8 @@ ghost use Rattle.command_line.specs.Line.{trace_command};
 ghost use Rattle.command_line.specs.Line.{visits_command, visits_rule, wanted};
 
 use crate::line::{
-    AsmNames, CheckNames, ExplainNames, LineFault, Names, Request, TightNames, VisitsNames,
+    AsmNames, CheckNames, DraftNames, ExplainNames, LineFault, Names, Request, TightNames,
+    VisitsNames,
 };
 use clap::error::ErrorKind;
 use clap::{Arg, ArgMatches, Command, Error, value_parser};
