@@ -129,6 +129,7 @@ module _ (source machine : List ℕ) (profile : Profile) where
   runnable_refusals (Cert f) a r = absurd r
   runnable_refusals (report_fault.Profile f) a r = absurd r
   runnable_refusals report_fault.NotFiqEntry a r = absurd r
+  runnable_refusals report_fault.NoSuchEntry a r = absurd r
   runnable_refusals report_fault.NoSuchEdge a r = absurd r
   runnable_refusals (report_fault.NotFree at) a r = absurd r
 
@@ -153,6 +154,7 @@ module _ (source machine : List ℕ) (profile : Profile) where
   source_refuses Device h = absurd h
   source_refuses (report_fault.Profile f) h = absurd h
   source_refuses report_fault.NotFiqEntry h = absurd h
+  source_refuses report_fault.NoSuchEntry h = absurd h
   source_refuses report_fault.NoSuchEdge h = absurd h
   source_refuses (report_fault.NotFree a) h = absurd h
 

@@ -6,15 +6,16 @@ use Rattle.arcwcet.specs.Answers.{Answers, FailsWithin, OfSome}
 use Rattle.arcwcet.specs.Check.{Checks, IsAnswer, IsCheckRefused, IsCheckable}
 use Rattle.arcwcet.specs.Debug.{IsDebugReport}
 use Rattle.arcwcet.specs.Files.{FailsToRead, ReadsAll, Reading, Texts, in_front, Writing}
-use Rattle.command_line.specs.Line.{Asked, asm, list, run, trace, debug, bound, explain, tight, check, visits}
+use Rattle.command_line.specs.Line.{Asked, asm, list, draft, run, trace, debug, bound, explain, tight, check, visits}
 use Rattle.arcwcet.specs.ExplainReport.{IsExplainReport}
 use Rattle.arcwcet.specs.Machine.{Front, IsMachineReport, IsRunRefused, IsRunnable, ShowsRegisters, ShowsSteps}
 use Rattle.arcwcet.specs.Priced.{ByProfile, HasNoProfile, Priced, PricedFault}
-use Rattle.arcwcet.specs.Assembly.{IsSource, IsSourceRefused}
+use Rattle.arcwcet.specs.Assembly.{IsSourceRefused}
+use Rattle.arcwcet.specs.DraftReport.{IsDraftRefused, IsDraftReport}
 use Rattle.arcwcet.specs.ListReport.{IsListReport}
 use Rattle.arcwcet.specs.Report.{IsAccepted, IsRefused, IsReport}
-use Rattle.arcwcet.specs.Run.{HasNoReport, HasNoRun, HasNoTightReportOf, HasNoVerdict, HasNoVisitsReport, HasHeard, HasPrinted, IsAnswerOf, IsExplanationOf, IsListingOf, IsRefusedSource, IsReportOf, IsRunOf, IsSessionOf, IsTightReportOf, IsVisitsReportOf, OfThree, OfTwo}
-use Rattle.arcwcet.specs.Run.{Runs, RunsAsked, RunsAsm, RunsCheck, RunsDebug, RunsExplain, RunsList, RunsMachine, RunsVisits, answer_status, done_status, report_status, store_status}
+use Rattle.arcwcet.specs.Run.{HasNoReport, HasNoRun, HasNoTightReportOf, HasNoVerdict, HasNoVisitsReport, HasHeard, HasPrinted, IsAnswerOf, IsExplanationOf, HasNoText, IsReportOf, IsTextOf, IsRunOf, IsSessionOf, IsTightReportOf, IsVisitsReportOf, OfThree, OfTwo}
+use Rattle.arcwcet.specs.Run.{Runs, RunsAsked, RunsAsm, RunsCheck, RunsDebug, RunsExplain, RunsMachine, RunsVisits, answer_status, done_status, report_status, store_status}
 use Rattle.arcwcet.specs.VisitsReport.{AreAccepted, AreRefused, IsVisitsReport, ReportsVisits}
 use Rattle.arcwcet.specs.declared.fault.ReportFault.{ReportFault}
 use Rattle.arcwcet.specs.declared.fault.ReportFault.TheVariants.{Memory, Source, Image, Statement, Graph, Loops, Walk, MachineFile, Load, Cert, Device}
@@ -37,6 +38,7 @@ told (MachineFile f) = of_other (λ e. cc e) (λ e. cc e) refl
 told (Load f) = of_other (λ e. cc e) (λ e. cc e) refl
 told (report_fault.Profile f) = of_other (λ e. cc e) (λ e. cc e) refl
 told report_fault.NotFiqEntry = of_other (λ e. cc e) (λ e. cc e) refl
+told report_fault.NoSuchEntry = of_other (λ e. cc e) (λ e. cc e) refl
 told report_fault.NoSuchEdge = of_other (λ e. cc e) (λ e. cc e) refl
 told (report_fault.NotFree a) = of_other (λ e. cc e) (λ e. cc e) refl
 told (Statement f) = of_other (λ e. cc e) (λ e. cc e) refl
@@ -245,21 +247,23 @@ asm_refused reads writes taken failures source image file old new out fault read
           }
     ]
 
--- ## `list`
+-- ## Of a source alone
 
-pub list_ran : {S O T : Type 0} (reads : Reading S) (taken : O → Option (List ℕ)) (failures : O → ℕ) (name source : List ℕ) (old new : S) (before after : O) → reads old name (Ok source) new
-    → (result : Result T ReportFault) → Answers taken failures (λ _ text. IsListReport source text) (IsSource source) (IsSourceRefused source) before after result
-    → (status : ℕ) → status ≡ done_status result → RunsList reads taken failures name old new before after status
-list_ran reads taken failures name source old new before after read (Ok x) h status is =
-    let p = h.printed in
-    subst (λ (s : ℕ). RunsList reads taken failures name old new before after s) (sym is)
-    (done reads taken failures IsListingOf IsRefusedSource (name ∷ []) old new before after (source ∷ []) (new, read, refl)
-    (record { files = source ∷ []; read = (new, read, refl); printed = record { text = p.text; is_text = p.is_text; printed = p.printed } }))
-list_ran reads taken failures name source old new before after read (Err fault) h status is =
-    refused reads taken failures IsListingOf IsRefusedSource (name ∷ []) old new before after (source ∷ []) (new, read, refl) fault h.fault h.quiet
-    (λ d.
-    let f = h.device (ap Err d) in
-    record { text = f.text; is_text = (true, f.is_text.1); taken = f.taken; failed = f.failed }) status is
+-- a report of a source that is its text alone
+module _ (Is : List ℕ → List ℕ → Type 0) (IsFine : List ℕ → Type 0) (IsFault : List ℕ → ReportFault → Type 0) where
+  pub source_ran : {S O T : Type 0} (reads : Reading S) (taken : O → Option (List ℕ)) (failures : O → ℕ) (name source : List ℕ) (old new : S) (before after : O) → reads old name (Ok source) new
+      → (result : Result T ReportFault) → Answers taken failures (λ _ text. Is source text) (IsFine source) (IsFault source) before after result
+      → (status : ℕ) → status ≡ done_status result → Runs reads taken failures (IsTextOf Is) (HasNoText IsFault) (name ∷ []) old new before after status
+  source_ran reads taken failures name source old new before after read (Ok x) h status is =
+      let p = h.printed in
+      subst (λ (s : ℕ). Runs reads taken failures (IsTextOf Is) (HasNoText IsFault) (name ∷ []) old new before after s) (sym is)
+      (done reads taken failures (IsTextOf Is) (HasNoText IsFault) (name ∷ []) old new before after (source ∷ []) (new, read, refl)
+      (record { files = source ∷ []; read = (new, read, refl); printed = record { text = p.text; is_text = p.is_text; printed = p.printed } }))
+  source_ran reads taken failures name source old new before after read (Err fault) h status is =
+      refused reads taken failures (IsTextOf Is) (HasNoText IsFault) (name ∷ []) old new before after (source ∷ []) (new, read, refl) fault h.fault h.quiet
+      (λ d.
+      let f = h.device (ap Err d) in
+      record { text = f.text; is_text = (true, f.is_text.1); taken = f.taken; failed = f.failed }) status is
 
 -- ## Of each command
 
@@ -386,7 +390,10 @@ module _ {S I O : Type 0} (reads : Reading S) (writes : Writing S) (remaining : 
     },
     refl,
   )
-  starved_asked (list source) = (starved_run IsListingOf IsRefusedSource (source ∷ []), refl)
+  starved_asked (list source) = (starved_run (IsTextOf IsListReport) (HasNoText IsSourceRefused) (source ∷ []), refl)
+  starved_asked (draft source entry) =
+      (starved_run (IsTextOf (λ s text. IsDraftReport s entry text)) (HasNoText (λ s e. IsDraftRefused s entry e)) (source ∷ []), refl)
+  starved_asked (explain n at_most) = (starved_run (IsExplanationOf at_most) (HasNoReport IsRefused) (in_front n.profile (n.first ∷ n.second ∷ [])), refl)
   starved_asked (debug n) = inr (inr (inr (refl, refl, refl)), refl)
   starved_asked (run n) = (starved_run (IsRunOf ShowsRegisters) HasNoRun (in_front n.profile (n.first ∷ n.second ∷ [])), refl)
   starved_asked (trace n) = (starved_run (IsRunOf ShowsSteps) HasNoRun (in_front n.profile (n.first ∷ n.second ∷ [])), refl)

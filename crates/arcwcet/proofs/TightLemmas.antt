@@ -283,6 +283,7 @@ module _ (source statement : List ℕ) (n : ℕ) (profile : Profile) (words : Wo
   edge_refusal (Cert f) (inr r) = absurd r
   edge_refusal (report_fault.Profile f) (inr r) = absurd r
   edge_refusal report_fault.NotFiqEntry (inr r) = absurd r
+  edge_refusal report_fault.NoSuchEntry (inr r) = absurd r
 
 module _ (source statement : List ℕ) (n : ℕ) (profile : Profile) where
   abbrev IsRefusal : ReportFault → Type 0
@@ -303,6 +304,7 @@ module _ (source statement : List ℕ) (n : ℕ) (profile : Profile) where
   source_refused (Cert f) h = absurd h
   source_refused (report_fault.Profile f) h = absurd h
   source_refused report_fault.NotFiqEntry h = absurd h
+  source_refused report_fault.NoSuchEntry h = absurd h
   source_refused report_fault.NoSuchEdge h = absurd h
   source_refused (report_fault.NotFree a) h = absurd h
 
@@ -357,6 +359,7 @@ module _ (source statement : List ℕ) (n : ℕ) (profile : Profile) where
   never_refused h (Cert f) r = r
   never_refused h (report_fault.Profile f) r = r
   never_refused h report_fault.NotFiqEntry r = r
+  never_refused h report_fault.NoSuchEntry r = r
 
   not_refused : (h : HasTightReport source statement n profile) (e : ReportFault) → HasNoTightReport source statement n profile e → ⊥
   not_refused h e r =
@@ -386,6 +389,7 @@ module _ (source statement : List ℕ) (n : ℕ) (profile : Profile) where
   tight_refusals (Cert f) h r = absurd r
   tight_refusals (report_fault.Profile f) h r = absurd r
   tight_refusals report_fault.NotFiqEntry h r = absurd r
+  tight_refusals report_fault.NoSuchEntry h r = absurd r
 
   -- the same of an answer
   pub only_starved : {T : Type 0} (r : Result T ReportFault) → IfErr r IsRefusal → HasTightReport source statement n profile → IfErr r (λ e. (e ≡ Memory) ⊎ (e ≡ Device))

@@ -55,6 +55,7 @@ module _ (source fiq : List ℕ) (profile : Profile) where
   fiq_refusal Memory right r = (λ e. cc e, tt)
   fiq_refusal NotFiqEntry right r = absurd r.1
   fiq_refusal report_fault.NoSuchEdge right r = absurd r.1
+  fiq_refusal report_fault.NoSuchEntry right r = absurd r.1
   fiq_refusal (report_fault.NotFree at) right r = absurd r.1
   fiq_refusal Device right r = absurd (r.0 refl)
   fiq_refusal (Source f) right r = (λ e. cc e, (r.1, right))
@@ -152,6 +153,7 @@ module _ (source irq fiq : List ℕ) (profile : Profile) where
   fiq_refusals Memory both r = inl refl
   fiq_refusals NotFiqEntry both r = absurd (other_entry both r)
   fiq_refusals report_fault.NoSuchEdge both r = absurd r.0
+  fiq_refusals report_fault.NoSuchEntry both r = absurd r.0
   fiq_refusals (report_fault.NotFree at) both r = absurd r.0
   fiq_refusals Device both r = inr refl
   fiq_refusals (Source f) both r = accepted_refusals source fiq profile (Source f) both.fiq_is.accepted r.0

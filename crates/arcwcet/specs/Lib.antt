@@ -3,6 +3,7 @@ pub mod Assembly
 pub mod Bound
 pub mod Check
 pub mod Debug
+pub mod DraftReport
 pub mod ExplainReport
 pub mod Faults
 pub mod Files

@@ -7,7 +7,9 @@ use Rattle.arcwcet.specs.Assembly.{IsSourceRefused, IsWritten}
 use Rattle.arcwcet.specs.Check.{IsAnswer, IsCheckRefused}
 use Rattle.arcwcet.specs.Debug.{IsDebugReport}
 use Rattle.arcwcet.specs.Files.{FailsToRead, ReadsAll, Reading, Texts, Writing, in_front}
-use Rattle.command_line.specs.Line.{Asked, asm, list, run, trace, debug, bound, explain, tight, check, visits}
+use Rattle.command_line.specs.Line.{Asked, asm, list, draft, run, trace, debug, bound, explain, tight}
+use Rattle.command_line.specs.Line.{check, visits}
+use Rattle.arcwcet.specs.DraftReport.{IsDraftRefused, IsDraftReport}
 use Rattle.arcwcet.specs.ExplainReport.{IsExplainReport}
 use Rattle.arcwcet.specs.ListReport.{IsListReport}
 use Rattle.arcwcet.specs.Machine.{Front, IsMachineReport, IsRunRefused, ShowsRegisters, ShowsSteps}
@@ -221,11 +223,18 @@ RunsMachine Shows reads taken failures profile source machine old new before aft
     Runs reads taken failures (IsRunOf Shows) HasNoRun
     (in_front profile (source ∷ machine ∷ [])) old new before after status
 
--- ## `asm SOURCE IMAGE`
+-- ## Of a source alone
 
-abbrev pub IsRefusedSource : Texts → ReportFault → Type 0
-IsRefusedSource (source ∷ []) fault = IsSourceRefused source fault
-IsRefusedSource files fault = ⊥
+-- such a text of a source, at 0 alone
+abbrev pub IsTextOf : (List ℕ → List ℕ → Type 0) → Bool → Texts → List ℕ → Type 0
+IsTextOf Is true (source ∷ []) text = Is source text
+IsTextOf Is _ files text = ⊥
+
+abbrev pub HasNoText : (List ℕ → ReportFault → Type 0) → Texts → ReportFault → Type 0
+HasNoText IsFault (source ∷ []) fault = IsFault source fault
+HasNoText IsFault files fault = ⊥
+
+-- ## `asm SOURCE IMAGE`
 
 -- the source was read, its image written, with that result, and the report is this
 pub record HasWritten {S : Type 0} (reads : Reading S) (writes : Writing S) (source image : List ℕ)
@@ -264,7 +273,7 @@ pub record RunsAsm {S O : Type 0} (reads : Reading S) (writes : Writing S) (take
     (failures : O → ℕ)
     (source image : List ℕ) (old new : S) (before after : O) (status : ℕ) : Type 0 where
   pub done : status ≡ 0 → HasAssembled reads writes source image old new (taken before) (taken after)
-  pub denied : status ≡ 1 → IsRefusedRun reads (source ∷ []) old new IsRefusedSource × (after ≡ before)
+  pub denied : status ≡ 1 → IsRefusedRun reads (source ∷ []) old new (HasNoText IsSourceRefused) × (after ≡ before)
   pub failed : status ≡ 4
       → FailsToTell reads writes source image old new (taken before) (taken after) (failures before)
       (failures after)
@@ -276,15 +285,21 @@ pub record RunsAsm {S O : Type 0} (reads : Reading S) (writes : Writing S) (take
 
 -- ## `list SOURCE`
 
--- the listing of a source, at 0 alone
-abbrev pub IsListingOf : Bool → Texts → List ℕ → Type 0
-IsListingOf true (source ∷ []) text = IsListReport source text
-IsListingOf _ files text = ⊥
-
 abbrev pub RunsList : {S O : Type 0} → Reading S → (O → Option (List ℕ)) → (O → ℕ) → List ℕ → S → S → O → O → ℕ
     → Type 0
 RunsList reads taken failures source old new before after status =
-    Runs reads taken failures IsListingOf IsRefusedSource (source ∷ []) old new before after status
+    Runs reads taken failures (IsTextOf IsListReport) (HasNoText IsSourceRefused) (source ∷ [])
+    old new before after status
+
+-- ## `draft SOURCE ENTRY`
+
+abbrev pub RunsDraft : {S O : Type 0} → Reading S → (O → Option (List ℕ)) → (O → ℕ) → List ℕ → (entry : List ℕ)
+    → S → S → O → O → ℕ → Type 0
+RunsDraft reads taken failures source entry old new before after status =
+    Runs reads taken failures
+    (IsTextOf (λ source text. IsDraftReport source entry text))
+    (HasNoText (λ source fault. IsDraftRefused source entry fault))
+    (source ∷ []) old new before after status
 
 -- ## `debug SOURCE MACHINE`
 
@@ -349,6 +364,9 @@ RunsAsked reads writes remaining taken failures
     RunsAsm reads writes taken failures source image old new before after status × (heard_new ≡ heard_old)
 RunsAsked reads writes remaining taken failures (list source) old new heard_old heard_new before after status =
     RunsList reads taken failures source old new before after status × (heard_new ≡ heard_old)
+RunsAsked reads writes remaining taken failures
+    (draft source entry) old new heard_old heard_new before after status =
+    RunsDraft reads taken failures source entry old new before after status × (heard_new ≡ heard_old)
 RunsAsked reads writes remaining taken failures (run n) old new heard_old heard_new before after status =
     RunsMachine ShowsRegisters reads taken failures n.profile n.first n.second old new before after status
     × (heard_new ≡ heard_old)

@@ -1,12 +1,13 @@
 ghost use Rattle.std.specs.Prelude.{◌≡◌, ◌≢◌, ◌⊎◌, None, Some, option_map};
 ghost use Rattle.command_line.specs.Line.{Asked, asked_in, asked_of};
 ghost use Rattle.arcwcet.specs.Run.{RunsAsked, RunsAsm, RunsBound, RunsCheck, RunsDebug, RunsList, RunsMachine};
-ghost use Rattle.arcwcet.specs.Run.{RunsExplain, RunsTight, RunsVisits};
+ghost use Rattle.arcwcet.specs.Run.{RunsDraft, RunsExplain, RunsTight, RunsVisits};
 
 use crate::assembly::image_written;
 use crate::bound::bound_report;
 use crate::check::check_report;
 use crate::debug::debug_report;
+use crate::draft::draft_report;
 use crate::explain::{Explained, explain_report};
 use crate::fault::ReportFault;
 use crate::files::{Store, read_limited, read_three_files, read_two_files};
@@ -16,7 +17,7 @@ use crate::output::{Output, write_whole};
 use crate::status::{answer_status, done_status, line_status, report_status, store_status};
 use crate::tight::tight_report;
 use crate::visits::visits_report;
-use command_line::{AsmNames, CheckNames, ExplainNames, Names, Request, TightNames, VisitsNames, request};
+use command_line::{AsmNames, CheckNames, DraftNames, ExplainNames, Names, Request, TightNames, VisitsNames, request};
 use std::alloc::Global;
 use std::io::Read;
 
@@ -35,6 +36,7 @@ fn obey<S: Store, I: Read, O: Output, E: Output>(
     match asked {
         Request::Asm(names) => run_asm(alloc, names, store, out, err),
         Request::List(source) => run_list(alloc, source, store, out, err),
+        Request::Draft(names) => run_draft(alloc, names, store, out, err),
         Request::Run(names) => run_machine::<Registers, S, O, E>(alloc, names, store, out, err),
         Request::Trace(names) => run_machine::<Steps, S, O, E>(alloc, names, store, out, err),
         Request::Debug(names) => run_debug(alloc, names, store, input, out, err),
@@ -129,6 +131,26 @@ fn run_list<S: Store, O: Output, E: Output>(
         Err(fault) => return store_status(fault, err),
     };
     let done = list_report(alloc, &source, out);
+    done_status(done, err)
+}
+
+/// `draft`: reads the source and prints the draft of a statement.
+fn run_draft<S: Store, O: Output, E: Output>(
+    alloc: Global,
+    names: DraftNames<'_>,
+    store: &mut S,
+    out: &mut O,
+    err: &mut E,
+) -> u8
+    ensures ran { RunsDraft S.read_gives O.taken O.failures names.entry.source.now names.entry.entry.now
+        store.old store.new out.old out.new result }
+    ensures silent { result ≡ 0 → err.new ≡ err.old }
+{
+    let source = match store.read(alloc, names.source) {
+        Ok(source) => source,
+        Err(fault) => return store_status(fault, err),
+    };
+    let done = draft_report(alloc, &source, names.entry.as_bytes(), out);
     done_status(done, err)
 }
 
