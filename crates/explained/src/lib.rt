@@ -14,6 +14,6 @@ mod tally;
 
 pub use assumed::{Assumption, assumed};
 pub use image::image_table;
-pub use law::{numbers_are_of_the_walk, totals_are_the_bound};
+pub use law::{numbers_are_of_the_walk, totals_are_the_bound, unreached_lines_have_no_place};
 pub use named::named_lines;
 pub use source::source_table;

@@ -1,5 +1,5 @@
 -- What counting an edge, items and rounds does, and when the counts are exact.
-use Rattle.std.proofs.Common.{◌≡◌, ◌∙◌, ℕ, ◌+◌, ◌-◌, ◌*◌, ◌^◌, ◌<◌, ◌≤◌, min, cond, eqb, List, [], ◌∷◌, ◌++◌, append-nil, length, get_or, take, map, flat_map, replicate, ⊎_elim, refl, sym, ap, subst, arith, get_or-set_other, get_or-set_same}
+use Rattle.std.proofs.Common.{◌≡◌, ◌∙◌, ℕ, ◌+◌, ◌-◌, ◌*◌, ◌^◌, ◌<◌, ◌≤◌, min, cond, eqb, List, [], ◌∷◌, ◌++◌, append-nil, length, get_or, take, map, flat_map, replicate, ⊎_elim, refl, sym, ap, subst, Vec, arith, get_or-set_other, get_or-set_same}
 use Rattle.std.specs.Prelude.{All, Contains, count_by, sum_by}
 use Rattle.std.proofs.Math.ListN.{set, length-set}
 use Rattle.std.proofs.lemmas.Bool.{cases_lt, eq-eqb, ne_eqb}
@@ -18,6 +18,10 @@ use Rattle.longest_walk.specs.Built.{step_at}
 use Rattle.longest_walk.specs.Folded.{Opened, open_item, unfolded}
 use Rattle.longest_walk.specs.Longest.{IsWalkOf}
 use Rattle.longest_walk.specs.declared.folded.Item.{Item}
+use Rattle.longest_walk.specs.declared.folded.Item.TheVariants.{Step, Repeat}
+use Rattle.longest_walk.proofs.Opening.{open-repeat, open-step}
+use Rattle.std.specs.Global.{Global}
+use Rattle.std.specs.declared.rc.Rc.{Rc}
 use Rattle.walk_counts.specs.Counts.{AreCounts, AreExact, Counts, capped, counted, counted_cost, number_of, occurrences}
 use Rattle.walk_counts.proofs.NumberLemmas.{known_edge}
 use Rattle.walk_counts.proofs.SumLemmas.{capped_more, capped_times, count-repeated, same_sums, sums_by_number}
@@ -93,6 +97,19 @@ module _ (edges : List Edge) (times : ℕ) where
 
 -- ## Items
 
+pub of_step : (edges : List Edge) (times : ℕ) (item : Item) (e : Edge) (old new : List ℕ) → item ≡ Step e → Counts edges (e ∷ []) times old new → Counts edges (open_item item).walk times old new
+of_step edges times item e old new is h =
+    subst (λ (w : List Edge). Counts edges w times old new) (sym (ap (λ (x : Item). (open_item x).walk) is ∙ ap (λ (o : Opened). o.walk) (open-step e))) h
+
+pub of_rounds : (edges : List Edge) (times : ℕ) (item : Item) (k : ℕ) (body : Rc (Vec Item Global) Global) (items : List Item) (inner : ℕ) (old new : List ℕ)
+    → item ≡ Repeat k body → items ≡ body.value.items → inner ≡ capped (times * k) → Counts edges (unfolded items) inner old new → Counts edges (open_item item).walk times old new
+of_rounds edges times item k body items inner old new is items_are times_are h =
+    let all : Counts edges (unfolded body.value.items) (capped (times * k)) old new =
+    subst (λ (xs : List Item). Counts edges (unfolded xs) (capped (times * k)) old new) items_are
+    (subst (λ n. Counts edges (unfolded items) n old new) times_are h) in
+    subst (λ (w : List Edge). Counts edges w times old new) (sym (ap (λ (x : Item). (open_item x).walk) is ∙ ap (λ (o : Opened). o.walk) (open-repeat k body)))
+    (counts_rounds edges times k (unfolded body.value.items) old new all)
+
 pub one_more : (items : List Item) (i : ℕ) (d : Item) → i < length items → unfolded (take (i + 1) items) ≡ unfolded (take i items) ++ (open_item (get_or items i d)).walk
 one_more items i d lt =
     let walk_of = λ (o : Opened). o.walk in
@@ -108,6 +125,9 @@ counts_item edges times items i item old mid new lt at before here =
     subst (λ (w : List Edge). Counts edges w times old new) (sym (one_more items i item lt))
     (counts_both edges times (unfolded (take i items)) (open_item (get_or items i item)).walk old mid new before
     (subst (λ (x : Item). Counts edges (open_item x).walk times mid new) at here))
+
+pub counts_items : (edges : List Edge) (times : ℕ) (items : List Item) (i : ℕ) (old new : List ℕ) → length items ≤ i → Counts edges (unfolded (take i items)) times old new → Counts edges (unfolded items) times old new
+counts_items edges times items i old new le h = subst (λ (xs : List Item). Counts edges (unfolded xs) times old new) (take_all i items le) h
 
 -- ## The whole
 
