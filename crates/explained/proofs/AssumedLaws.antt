@@ -26,7 +26,7 @@ use Rattle.loader.specs.Image.{Words}
 use Rattle.statement.specs.Stated.{Stated, Target, class_of, target_of}
 use Rattle.explained.specs.Assumed.{AreAssumed, Assumes, IsInstrAt, IsLooseTransfer, IsTakenForReturn, Notes, is_odd_writer, is_transfer}
 use Rattle.explained.specs.Taken.{is_at, is_reached}
-use Rattle.explained.specs.declared.assumed.Assumption.{Assumption}
+use Rattle.explained.specs.declared.assumptions.Assumption.{Assumption}
 
 -- ## One word
 

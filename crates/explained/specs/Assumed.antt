@@ -25,8 +25,8 @@ use Rattle.statement.specs.Stated.{Stated, class_of, target_of}
 use Rattle.flow_graph.specs.declared.places.Place.{Place}
 use Rattle.explained.specs.Columns.{in_columns}
 use Rattle.explained.specs.Taken.{is_at, is_reached}
-use Rattle.explained.specs.declared.assumed.Assumption.{Assumption}
-use Rattle.explained.specs.declared.assumed.Assumption.TheVariants.{LooseTransfer, TakenForReturn}
+use Rattle.explained.specs.declared.assumptions.Assumption.{Assumption}
+use Rattle.explained.specs.declared.assumptions.Assumption.TheVariants.{LooseTransfer, TakenForReturn}
 
 -- ## Shapes of words
 

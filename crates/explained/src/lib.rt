@@ -2,7 +2,7 @@
 //! image.
 #![tactic(auto)]
 
-mod assumed;
+mod assumptions;
 mod columns;
 mod image;
 mod law;
@@ -12,7 +12,7 @@ mod shapes;
 mod source;
 mod tally;
 
-pub use assumed::{Assumption, assumed};
+pub use assumptions::{Assumption, assumed};
 pub use image::image_table;
 pub use law::{numbers_are_of_the_walk, totals_are_the_bound, unreached_lines_have_no_place};
 pub use named::named_lines;

@@ -1,9 +1,9 @@
 -- What counting an edge, items and rounds does, and when the counts are exact.
-use Rattle.std.proofs.Common.{◌≡◌, ◌∙◌, ℕ, ◌+◌, ◌-◌, ◌*◌, ◌^◌, ◌<◌, ◌≤◌, min, cond, eqb, List, [], ◌∷◌, ◌++◌, append-nil, length, get_or, take, map, flat_map, replicate, ⊎_elim, refl, sym, ap, subst, Vec, arith, get_or-set_other, get_or-set_same}
+use Rattle.std.proofs.Common.{◌≡◌, ◌∙◌, ℕ, ◌+◌, ◌-◌, ◌*◌, ◌^◌, ◌<◌, ◌≤◌, min, cond, eqb, List, [], ◌∷◌, ◌++◌, append-nil, length, get_or, drop, take, map, flat_map, replicate, ⊎_elim, refl, sym, ap, subst, Vec, arith, get_or-set_other, get_or-set_same}
 use Rattle.std.specs.Prelude.{All, Contains, count_by, sum_by}
 use Rattle.std.proofs.Math.ListN.{set, length-set}
 use Rattle.std.proofs.lemmas.Bool.{cases_lt, eq-eqb, ne_eqb}
-use Rattle.std.proofs.lemmas.List.{map-append, take_more, take_all}
+use Rattle.std.proofs.lemmas.List.{get_or-replicate, length-replicate, map-append, take_more, take_all}
 use Rattle.std.proofs.lemmas.List.Concat.{flat_map-append}
 use Rattle.std.proofs.lemmas.List.Elements.{All-head, All-tail, All-weaker, All-nil, All-cons}
 use Rattle.std.proofs.lemmas.List.Sums.{count_by-le-length, sum_by-append, sum_by-cons}
@@ -83,7 +83,7 @@ module _ (edges : List Edge) (times : ℕ) where
       other k differ =
           let s : get_or old k 0 < 2 ^ 64 = small k in
           let none : occurrences edges (e ∷ []) k ≡ 0 = ap (λ b. 0 + cond b 1 0) (ne_eqb (number_of edges e) k (λ same. differ (is ∙ same))) in
-          let kept : get_or (set old j count) k 0 ≡ get_or old k 0 = get_or-set_other old j k count 0 differ in
+          let kept : get_or (set old j count) k 0 ≡ get_or old k 0 = get_or-set_other old j k count 0 (λ same. differ (sym same)) in
           let same : get_or old k 0 ≡ capped (get_or old k 0 + times * 0) = omega arith in
           kept ∙ same ∙ ap (λ n. capped (get_or old k 0 + times * n)) (sym none)
 
@@ -131,12 +131,27 @@ counts_items edges times items i old new le h = subst (λ (xs : List Item). Coun
 
 -- ## The whole
 
--- no count before the first
-pub first_counts : (edges walk : List Edge) (old new : List ℕ) → old ≡ replicate (length edges) 0 → length old ≡ length edges → ((k : ℕ) → get_or old k 0 ≡ 0) → Counts edges walk 1 old new → AreCounts edges walk new
-first_counts edges walk old new is whole zeros h = record {
-  whole = h.whole ∙ whole;
-  each = λ k lt. h.each k lt ∙ ap (λ n. capped (n + 1 * occurrences edges walk k)) (zeros k) ∙ ap capped (omega arith);
-}
+front : (xs ys : List ℕ) → take (length xs) (xs ++ ys) ≡ xs
+front [] ys = refl
+front (x ∷ xs) ys = ap (λ zs. x ∷ zs) (front xs ys)
+
+-- what was lent as a slice comes back with the slice's new numbers; there were none before
+pub first_counts : (edges walk : List Edge) (n len : ℕ) (items lent new : List ℕ) → n ≡ length edges → len ≡ n → items ≡ replicate n 0 → lent ≡ items → Counts edges walk 1 lent new
+    → AreCounts edges walk (take len (new ++ drop (length new) items))
+first_counts edges walk n len items lent new size len_is zeros same h =
+    subst (AreCounts edges walk) (sym back) (record {
+      whole = whole;
+      each = λ k lt.
+          let zero_at : get_or lent k 0 ≡ 0 = ap (λ xs. get_or xs k 0) (same ∙ zeros) ∙ get_or-replicate n k 0 0 (omega arith) in
+          let once : capped (0 + 1 * occurrences edges walk k) ≡ capped (occurrences edges walk k) = ap capped (omega arith) in
+          h.each k lt ∙ ap (λ m. capped (m + 1 * occurrences edges walk k)) zero_at ∙ once;
+    })
+  where
+    whole : length new ≡ length edges
+    whole = h.whole ∙ ap length (same ∙ zeros) ∙ length-replicate n 0 ∙ size
+
+    back : take len (new ++ drop (length new) items) ≡ new
+    back = ap (λ m. take m (new ++ drop (length new) items)) (len_is ∙ size ∙ sym whole) ∙ front new (drop (length new) items)
 
 -- ## Exact counts
 

@@ -1,4 +1,6 @@
-use Rattle.std.proofs.Common.{rules, ◌≡◌, ap, arith}
+use Rattle.std.proofs.Common.{rules, ◌∙◌, Vec, ap}
+use Rattle.std.specs.Global.{Global}
+use Rattle.longest_walk.specs.declared.folded.Item.{Item}
 use Rattle.walk_counts.proofs.CountLemmas.{counts_item, counts_items, counts_none, of_rounds, of_step}
 use Rattle.walk_counts.proofs.counting.+walk.Goals as goal
 
@@ -8,11 +10,11 @@ count_item-returns-in-Step t c =
 
 pub count_item-returns-in-Repeat : goal.count_item-returns-in-Repeat
 count_item-returns-in-Repeat t c =
-    of_rounds c.args.graph.now.edges c.args.times c.args.item.now c.in-Repeat.rounds c.in-Repeat.body c.deref.result.now c.capped_product.result c.args.counts.now
-    c.count_items.new.counts c.in-Repeat.is c.deref.ensures.value c.capped_product.ensures c.count_items.ensures
+    of_rounds c.args.graph.now.edges c.args.times c.args.item.now c.in-Repeat.rounds c.in-Repeat.body c.deref-in-Repeat.result.now c.capped_product.result c.args.counts.now
+    c.count_items.new.counts c.in-Repeat.is (c.deref-in-Repeat.ensures.value ∙ ap (λ (v : Vec Item Global). v.items) c.deref.ensures) c.capped_product.ensures c.count_items.ensures
 
 pub count_items-loop-item-init : goal.count_items-loop-item-init
-count_items-loop-item-init t c = ?
+count_items-loop-item-init t c = counts_none c.args.graph.now.edges c.args.times c.args.counts.now (λ k. search (rules, c.type_inv.counts k))
 
 pub count_items-loop-item-preserved : goal.count_items-loop-item-preserved
 count_items-loop-item-preserved t c =

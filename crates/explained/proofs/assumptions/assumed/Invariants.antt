@@ -4,7 +4,7 @@ use Rattle.std.specs.BTreeSet.{contains}
 use Rattle.std.specs.Ordering.{nat_cmp}
 use Rattle.explained.specs.Assumed.{Assumes}
 use Rattle.explained.specs.Taken.{is_reached}
-use Rattle.explained.proofs.assumed.assumed.Given as goal
+use Rattle.explained.proofs.assumptions.assumed.Given as goal
 
 abbrev pub invariant-loop-place : goal.invariant-loop-place
 invariant-loop-place l =

@@ -4,7 +4,7 @@ use Rattle.std.specs.BTreeSet.{contains}
 use Rattle.std.specs.Ordering.{nat_cmp}
 use Rattle.explained.specs.Assumed.{AreAssumed, Assumes}
 use Rattle.explained.proofs.AssumedLaws.{are_assumed, both_ok, noted}
-use Rattle.explained.proofs.assumed.assumed.Goals as goal
+use Rattle.explained.proofs.assumptions.assumed.Goals as goal
 
 pub loop-place-preserved : goal.loop-place-preserved
 loop-place-preserved c =

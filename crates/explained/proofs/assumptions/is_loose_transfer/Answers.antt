@@ -1,5 +1,5 @@
 use Rattle.explained.proofs.AssumedLaws.{no_transfer, other_word, transfer_told}
-use Rattle.explained.proofs.assumed.is_loose_transfer.Goals as goal
+use Rattle.explained.proofs.assumptions.is_loose_transfer.Goals as goal
 
 pub returns-then-is_transfer : goal.returns-then-is_transfer
 returns-then-is_transfer c =

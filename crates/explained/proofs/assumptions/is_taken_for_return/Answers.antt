@@ -1,7 +1,7 @@
 use Rattle.std.proofs.Common.{Bor}
 use Rattle.statement.specs.Stated.{Target}
 use Rattle.explained.proofs.AssumedLaws.{no_writer, plain_word, writer_told}
-use Rattle.explained.proofs.assumed.is_taken_for_return.Goals as goal
+use Rattle.explained.proofs.assumptions.is_taken_for_return.Goals as goal
 
 pub returns-then-is_odd_writer : goal.returns-then-is_odd_writer
 returns-then-is_odd_writer c =
