@@ -1,3 +1,4 @@
+mod AssumedLaws
 mod ColumnLaws
 mod ImageLaws
 mod SumLaws

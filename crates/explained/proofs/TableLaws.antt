@@ -1,10 +1,11 @@
 -- One word more, and one row more.
-use Rattle.std.proofs.Common.{◌≡◌, ◌∙◌, ℕ, zero, suc, ◌+◌, ◌-◌, ◌^◌, ◌<◌, ◌≤◌, min, Bool, false, ◌||◌, List, [], ◌∷◌, ◌++◌, append-nil, length, drop, Option, refl, sym, ap, subst, arith}
+use Rattle.std.proofs.Common.{◌≡◌, ◌∙◌, ℕ, zero, suc, ◌+◌, ◌-◌, ◌^◌, ◌<◌, ◌≤◌, min, Bool, false, ◌||◌, List, [], ◌∷◌, ◌++◌, append-nil, append_assoc, length, drop, Option, refl, sym, ap, subst, arith}
 use Rattle.std.specs.Prelude.{is_some, sum_by}
 use Rattle.std.proofs.Math.ListN.{drop_of_length-le}
 use Rattle.std.proofs.lemmas.List.Sums.{sum_by-cons}
 use Rattle.assembler.specs.declared.placed_line.PlacedLine.{PlacedLine}
 use Rattle.walk_counts.specs.Counts.{capped}
+use Rattle.explained.specs.Assumed.{named_rows, row_if_named, word_rows}
 use Rattle.explained.specs.Table.{addresses, is_any_reached, source_rows}
 use Rattle.explained.specs.declared.tally.Taken.{Taken}
 
@@ -40,3 +41,23 @@ places_end taken bound n lines placed i text all le h =
     let none : drop i placed ≡ [] = drop_of_length-le placed le in
     sym (append-nil text) ∙ ap (λ xs. text ++ xs) (sym (no_places taken bound n lines))
     ∙ ap (λ ps. text ++ source_rows taken bound n lines ps) (sym none) ∙ h
+
+-- ## Named words
+
+pub named_more : (named : List ℕ) (n : ℕ) (line : List ℕ) (at left after : ℕ) (old new all : List ℕ) → left ≡ suc after
+    → old ++ word_rows named n line at left ≡ all → new ≡ old ++ row_if_named named n line at → new ++ word_rows named n line (at + 4) after ≡ all
+named_more named n line at left after old new all is h one =
+    ap (λ xs. xs ++ word_rows named n line (at + 4) after) one
+    ∙ append_assoc old (row_if_named named n line at) (word_rows named n line (at + 4) after)
+    ∙ ap (λ k. old ++ word_rows named n line at k) (sym is) ∙ h
+
+none_named : (named : List ℕ) (n : ℕ) (lines : List (List ℕ)) → named_rows named n lines [] ≡ []
+none_named named n [] = refl
+none_named named n (line ∷ lines) = refl
+
+pub named_end : (named : List ℕ) (n : ℕ) (lines : List (List ℕ)) (placed : List PlacedLine) (i : ℕ) (text all : List ℕ)
+    → length placed ≤ i → text ++ named_rows named n lines (drop i placed) ≡ all → text ≡ all
+named_end named n lines placed i text all le h =
+    let none : drop i placed ≡ [] = drop_of_length-le placed le in
+    sym (append-nil text) ∙ ap (λ xs. text ++ xs) (sym (none_named named n lines))
+    ∙ ap (λ ps. text ++ named_rows named n lines ps) (sym none) ∙ h

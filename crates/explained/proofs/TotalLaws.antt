@@ -1,9 +1,10 @@
 -- The numbers of a walk of the graph are exact, and add up to what it costs.
 use Rattle.std.proofs.Common.{◌≡◌, ◌∙◌, ℕ, ◌+◌, ◌-◌, ◌*◌, ◌^◌, ◌<◌, ◌≤◌, min, Bool, true, false, cond, List, [], ◌∷◌, length, flat_map, map, Option, Some, None, ⊎_elim, refl, sym, ap, subst, arith}
-use Rattle.std.specs.Prelude.{All, Contains, count_by, if◌then◌else◌, sum_by}
+use Rattle.std.specs.Prelude.{◌↔◌, All, Contains, count_by, if◌then◌else◌, is_some, sum_by}
 use Rattle.std.specs.List.{list_any, range_with_len}
 use Rattle.std.proofs.lemmas.Bool.{both_ways, cases_Bool}
-use Rattle.std.proofs.lemmas.List.Elements.{All-head, All-tail, All-weaker}
+use Rattle.std.proofs.lemmas.List.Elements.{All-contains_itself, All-head, All-tail, All-weaker}
+use Rattle.std.proofs.lemmas.List.Folds.{list_any_at, list_any_none}
 use Rattle.std.proofs.lemmas.List.Sums.{sum_by-cons}
 use Rattle.assembler.specs.declared.placed_line.PlacedLine.{PlacedLine}
 use Rattle.flow_graph.specs.declared.places.Place.{Place}
@@ -21,7 +22,7 @@ use Rattle.walk_counts.specs.Counts.{capped, number_of, occurrences}
 use Rattle.walk_counts.proofs.CountLemmas.{along}
 use Rattle.walk_counts.proofs.NumberLemmas.{known_edge}
 use Rattle.walk_counts.proofs.SumLemmas.{sum_none, sums_by_number}
-use Rattle.explained.specs.Table.{addresses, image_ticks, source_ticks, ticks_in, ticks_of, words_of}
+use Rattle.explained.specs.Table.{image_ticks, is_any_reached, line_taken, passes_of, source_ticks, ticks_in, ticks_of, words_of}
 use Rattle.explained.specs.Taken.{StandOnce, cost_at, in_all, is_at, is_reached, pass_at, taken_at, taken_of}
 use Rattle.explained.specs.declared.tally.Taken.{Taken}
 use Rattle.explained.proofs.SumLaws.{capped_sums, counted_sum, exchanged, same_terms, sum-flat_map, sum-map_terms}
@@ -127,3 +128,31 @@ pub image_sum : (flow : Flow) (tree : Tree) (cost : ℕ) (items : List Item) (wo
     → StandOnce flow.places (map (λ e. e.0) words) → image_ticks (taken_at flow (unfolded items)) words ≡ cost
 image_sum flow tree cost items words well walk fits once =
     image_total flow (unfolded items) well (on_graph flow tree cost items walk) (fitting flow tree cost items walk fits) words once ∙ walk.costs
+
+-- ## Lines without a place
+
+is_line : (flow : Flow) (walk : List Edge) (a : ℕ) (b : Bool) → is_reached flow.places a ≡ b → is_some (taken_at flow walk a) ≡ b
+is_line flow walk a true known = ap (λ c. is_some (if c then Some (taken_of flow.edges walk (length flow.edges) a) else None)) known
+is_line flow walk a false never = ap (λ c. is_some (if c then Some (taken_of flow.edges walk (length flow.edges) a) else None)) never
+
+pub unreached : (flow : Flow) (walk : List Edge) (line : PlacedLine) → (line_taken (taken_at flow walk) line ≡ None) ↔ ((a : ℕ) → Contains (words_of line) a → is_reached flow.places a ≡ false)
+unreached flow walk line = (
+  λ none a has. ⊎_elim
+      (λ known. absurd (both_ways (is_any_reached taken line.at line.words) (not_any none) (list_any_at (λ x. is_some (taken x)) (words_of line) has.0 a has.1 (ap (λ x. is_some (taken x)) has.2 ∙ is_line flow walk a true known))))
+      (λ never. never)
+      (cases_Bool (is_reached flow.places a)),
+  λ never. ap (λ b. if b then Some found else None)
+      (list_any_none (λ x. is_some (taken x)) (words_of line) (All-weaker (Contains (words_of line)) (λ x. is_some (taken x) ≡ false) (λ x has. is_line flow walk x false (never x has)) (words_of line) (All-contains_itself (words_of line)))),
+)
+  where
+    taken : ℕ → Option Taken
+    taken = taken_at flow walk
+
+    found : Taken
+    found = record { passes = passes_of (taken line.at); ticks = ticks_in taken line.at line.words }
+
+    not_any : line_taken taken line ≡ None → is_any_reached taken line.at line.words ≡ false
+    not_any none = ⊎_elim
+        (λ any. let both : Some found ≡ None = sym (ap (λ b. if b then Some found else None) any) ∙ none in cc)
+        (λ no_place. no_place)
+        (cases_Bool (is_any_reached taken line.at line.words))

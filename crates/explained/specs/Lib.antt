@@ -1,3 +1,4 @@
+pub mod Assumed
 pub mod Columns
 pub mod Table
 pub mod Taken

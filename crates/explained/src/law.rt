@@ -1,4 +1,5 @@
-ghost use Rattle.std.specs.Prelude.{◌≡◌, ◌<◌, ◌^◌, ℕ, List, Some, sum_by, flat_map, map};
+ghost use Rattle.std.specs.Prelude.{◌≡◌, ◌↔◌, ◌<◌, ◌^◌, ℕ, List, None, Some, Contains, flat_map, map, sum_by, false};
+ghost use Rattle.flow_graph.specs.declared.edges.Edge.{Edge};
 ghost use Rattle.assembler.specs.declared.placed_line.PlacedLine.{PlacedLine};
 ghost use Rattle.flow_graph.specs.Flow.{Flow, IsWellFormed};
 ghost use Rattle.loader.specs.Image.{Words};
@@ -6,7 +7,7 @@ ghost use Rattle.loop_bounds.specs.Tree.{Tree};
 ghost use Rattle.longest_walk.specs.Folded.{unfolded};
 ghost use Rattle.longest_walk.specs.Longest.{IsWalkOf};
 ghost use Rattle.longest_walk.specs.declared.folded.Item.{Item};
-ghost use Rattle.explained.specs.Table.{image_ticks, source_ticks, words_of};
+ghost use Rattle.explained.specs.Table.{image_ticks, line_taken, source_ticks, words_of};
 ghost use Rattle.explained.specs.Taken.{StandOnce, cost_at, is_reached, pass_at, taken_at};
 
 /// States that of a walk of the graph that costs less than 2^64 ticks the numbers at an address are exact: how
@@ -30,4 +31,12 @@ pub fn totals_are_the_bound()
         → IsWellFormed flow → IsWalkOf flow tree cost items → cost < 2 ^ 64
         → StandOnce flow.places (map (λ e. e.0) words)
         → image_ticks (taken_at flow (unfolded items)) words ≡ cost }
+{}
+
+/// States which lines a table says nothing can ever reach: those at whose words the graph has no place. It does
+/// nothing.
+pub fn unreached_lines_have_no_place()
+    ensures { (flow : Flow) (walk : List Edge) (line : PlacedLine)
+        → (line_taken (taken_at flow walk) line ≡ None)
+        ↔ ((a : ℕ) → Contains (words_of line) a → is_reached flow.places a ≡ false) }
 {}

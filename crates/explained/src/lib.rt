@@ -2,13 +2,18 @@
 //! image.
 #![tactic(auto)]
 
+mod assumptions;
 mod columns;
 mod image;
 mod law;
 mod lines;
+mod named;
+mod shapes;
 mod source;
 mod tally;
 
+pub use assumptions::{Assumption, assumed};
 pub use image::image_table;
-pub use law::{numbers_are_of_the_walk, totals_are_the_bound};
+pub use law::{numbers_are_of_the_walk, totals_are_the_bound, unreached_lines_have_no_place};
+pub use named::named_lines;
 pub use source::source_table;

@@ -1,9 +1,9 @@
 -- What counting an edge, items and rounds does, and when the counts are exact.
-use Rattle.std.proofs.Common.{◌≡◌, ◌∙◌, ℕ, ◌+◌, ◌-◌, ◌*◌, ◌^◌, ◌<◌, ◌≤◌, min, cond, eqb, List, [], ◌∷◌, ◌++◌, append-nil, length, get_or, take, map, flat_map, replicate, ⊎_elim, refl, sym, ap, subst, arith, get_or-set_other, get_or-set_same}
+use Rattle.std.proofs.Common.{◌≡◌, ◌∙◌, ℕ, ◌+◌, ◌-◌, ◌*◌, ◌^◌, ◌<◌, ◌≤◌, min, cond, eqb, List, [], ◌∷◌, ◌++◌, append-nil, length, get_or, drop, take, map, flat_map, replicate, ⊎_elim, refl, sym, ap, subst, Vec, arith, get_or-set_other, get_or-set_same}
 use Rattle.std.specs.Prelude.{All, Contains, count_by, sum_by}
 use Rattle.std.proofs.Math.ListN.{set, length-set}
 use Rattle.std.proofs.lemmas.Bool.{cases_lt, eq-eqb, ne_eqb}
-use Rattle.std.proofs.lemmas.List.{map-append, take_more, take_all}
+use Rattle.std.proofs.lemmas.List.{get_or-replicate, length-replicate, map-append, take_more, take_all}
 use Rattle.std.proofs.lemmas.List.Concat.{flat_map-append}
 use Rattle.std.proofs.lemmas.List.Elements.{All-head, All-tail, All-weaker, All-nil, All-cons}
 use Rattle.std.proofs.lemmas.List.Sums.{count_by-le-length, sum_by-append, sum_by-cons}
@@ -18,6 +18,10 @@ use Rattle.longest_walk.specs.Built.{step_at}
 use Rattle.longest_walk.specs.Folded.{Opened, open_item, unfolded}
 use Rattle.longest_walk.specs.Longest.{IsWalkOf}
 use Rattle.longest_walk.specs.declared.folded.Item.{Item}
+use Rattle.longest_walk.specs.declared.folded.Item.TheVariants.{Step, Repeat}
+use Rattle.longest_walk.proofs.Opening.{open-repeat, open-step}
+use Rattle.std.specs.Global.{Global}
+use Rattle.std.specs.declared.rc.Rc.{Rc}
 use Rattle.walk_counts.specs.Counts.{AreCounts, AreExact, Counts, capped, counted, counted_cost, number_of, occurrences}
 use Rattle.walk_counts.proofs.NumberLemmas.{known_edge}
 use Rattle.walk_counts.proofs.SumLemmas.{capped_more, capped_times, count-repeated, same_sums, sums_by_number}
@@ -79,7 +83,7 @@ module _ (edges : List Edge) (times : ℕ) where
       other k differ =
           let s : get_or old k 0 < 2 ^ 64 = small k in
           let none : occurrences edges (e ∷ []) k ≡ 0 = ap (λ b. 0 + cond b 1 0) (ne_eqb (number_of edges e) k (λ same. differ (is ∙ same))) in
-          let kept : get_or (set old j count) k 0 ≡ get_or old k 0 = get_or-set_other old j k count 0 differ in
+          let kept : get_or (set old j count) k 0 ≡ get_or old k 0 = get_or-set_other old j k count 0 (λ same. differ (sym same)) in
           let same : get_or old k 0 ≡ capped (get_or old k 0 + times * 0) = omega arith in
           kept ∙ same ∙ ap (λ n. capped (get_or old k 0 + times * n)) (sym none)
 
@@ -92,6 +96,19 @@ module _ (edges : List Edge) (times : ℕ) where
           ∙ ap (λ n. capped (get_or old n 0 + times * 1)) same ∙ ap (λ n. capped (get_or old k 0 + times * n)) (sym one)
 
 -- ## Items
+
+pub of_step : (edges : List Edge) (times : ℕ) (item : Item) (e : Edge) (old new : List ℕ) → item ≡ Step e → Counts edges (e ∷ []) times old new → Counts edges (open_item item).walk times old new
+of_step edges times item e old new is h =
+    subst (λ (w : List Edge). Counts edges w times old new) (sym (ap (λ (x : Item). (open_item x).walk) is ∙ ap (λ (o : Opened). o.walk) (open-step e))) h
+
+pub of_rounds : (edges : List Edge) (times : ℕ) (item : Item) (k : ℕ) (body : Rc (Vec Item Global) Global) (items : List Item) (inner : ℕ) (old new : List ℕ)
+    → item ≡ Repeat k body → items ≡ body.value.items → inner ≡ capped (times * k) → Counts edges (unfolded items) inner old new → Counts edges (open_item item).walk times old new
+of_rounds edges times item k body items inner old new is items_are times_are h =
+    let all : Counts edges (unfolded body.value.items) (capped (times * k)) old new =
+    subst (λ (xs : List Item). Counts edges (unfolded xs) (capped (times * k)) old new) items_are
+    (subst (λ n. Counts edges (unfolded items) n old new) times_are h) in
+    subst (λ (w : List Edge). Counts edges w times old new) (sym (ap (λ (x : Item). (open_item x).walk) is ∙ ap (λ (o : Opened). o.walk) (open-repeat k body)))
+    (counts_rounds edges times k (unfolded body.value.items) old new all)
 
 pub one_more : (items : List Item) (i : ℕ) (d : Item) → i < length items → unfolded (take (i + 1) items) ≡ unfolded (take i items) ++ (open_item (get_or items i d)).walk
 one_more items i d lt =
@@ -109,14 +126,32 @@ counts_item edges times items i item old mid new lt at before here =
     (counts_both edges times (unfolded (take i items)) (open_item (get_or items i item)).walk old mid new before
     (subst (λ (x : Item). Counts edges (open_item x).walk times mid new) at here))
 
+pub counts_items : (edges : List Edge) (times : ℕ) (items : List Item) (i : ℕ) (old new : List ℕ) → length items ≤ i → Counts edges (unfolded (take i items)) times old new → Counts edges (unfolded items) times old new
+counts_items edges times items i old new le h = subst (λ (xs : List Item). Counts edges (unfolded xs) times old new) (take_all i items le) h
+
 -- ## The whole
 
--- no count before the first
-pub first_counts : (edges walk : List Edge) (old new : List ℕ) → old ≡ replicate (length edges) 0 → length old ≡ length edges → ((k : ℕ) → get_or old k 0 ≡ 0) → Counts edges walk 1 old new → AreCounts edges walk new
-first_counts edges walk old new is whole zeros h = record {
-  whole = h.whole ∙ whole;
-  each = λ k lt. h.each k lt ∙ ap (λ n. capped (n + 1 * occurrences edges walk k)) (zeros k) ∙ ap capped (omega arith);
-}
+front : (xs ys : List ℕ) → take (length xs) (xs ++ ys) ≡ xs
+front [] ys = refl
+front (x ∷ xs) ys = ap (λ zs. x ∷ zs) (front xs ys)
+
+-- what was lent as a slice comes back with the slice's new numbers; there were none before
+pub first_counts : (edges walk : List Edge) (n len : ℕ) (items lent new : List ℕ) → n ≡ length edges → len ≡ n → items ≡ replicate n 0 → lent ≡ items → Counts edges walk 1 lent new
+    → AreCounts edges walk (take len (new ++ drop (length new) items))
+first_counts edges walk n len items lent new size len_is zeros same h =
+    subst (AreCounts edges walk) (sym back) (record {
+      whole = whole;
+      each = λ k lt.
+          let zero_at : get_or lent k 0 ≡ 0 = ap (λ xs. get_or xs k 0) (same ∙ zeros) ∙ get_or-replicate n k 0 0 (omega arith) in
+          let once : capped (0 + 1 * occurrences edges walk k) ≡ capped (occurrences edges walk k) = ap capped (omega arith) in
+          h.each k lt ∙ ap (λ m. capped (m + 1 * occurrences edges walk k)) zero_at ∙ once;
+    })
+  where
+    whole : length new ≡ length edges
+    whole = h.whole ∙ ap length (same ∙ zeros) ∙ length-replicate n 0 ∙ size
+
+    back : take len (new ++ drop (length new) items) ≡ new
+    back = ap (λ m. take m (new ++ drop (length new) items)) (len_is ∙ size ∙ sym whole) ∙ front new (drop (length new) items)
 
 -- ## Exact counts
 

@@ -106,6 +106,12 @@ module _ (flow : Flow) (well : IsWellFormed flow) where
     pub fail_before : (k : ℕ) → k < get_or flow.firsts v 0 → is_same e (step_at flow.edges k) ≡ false
     fail_before k less = outside k (omega (arith, well.rising v v_in, part_fits v v_in)) (λ low high. omega arith)
 
+    -- what is tested of an edge of the part
+    pub tested : (k : ℕ) → k < get_or flow.firsts (v + 1) 0 → (es : List Edge) (f : Edge) (r b : Bool) → es ≡ flow.edges → f ≡ get_or es k f → r ≡ is_same e f → r ≡ b → is_same e (step_at flow.edges k) ≡ b
+    tested k high es f r b are at is answer =
+        let same : f ≡ step_at flow.edges k = at ∙ ap (λ (xs : List Edge). get_or xs k f) are ∙ get_or_default flow.edges k f no_edge (omega (arith, high, part_fits v v_in)) in
+        ap (is_same e) (sym same) ∙ sym is ∙ answer
+
     pub found_here : (k : ℕ) → k < get_or flow.firsts (v + 1) 0 → ((j : ℕ) → j < k → is_same e (step_at flow.edges j) ≡ false) → is_same e (step_at flow.edges k) ≡ true → (k ≡ number_of flow.edges e) × (k < length flow.edges)
     found_here k high before at =
         let k_in : k < length flow.edges = omega (arith, part_fits v v_in) in

@@ -28,9 +28,10 @@ fn count_edge(graph: &Graph, counts: &mut [u64], edge: &Edge, times: u64)
     requires { length counts.old ≡ length graph.now.edges }
     ensures { Counts graph.now.edges (edge.now ∷ []) times counts.old counts.new }
 {
-    if let Some(number) = edge_number(graph, edge) {
-        counts[number] = capped_sum(counts[number], times);
-    }
+    let Some(number) = edge_number(graph, edge) else {
+        return;
+    };
+    counts[number] = capped_sum(counts[number], times);
 }
 
 // Counts the edges of an item so many times.

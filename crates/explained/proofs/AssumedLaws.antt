@@ -1,0 +1,142 @@
+-- Which addresses are named.
+use Rattle.std.proofs.Common.{◌≡◌, ◌∙◌, ℕ, ◌+◌, ◌<◌, ◌≤◌, Bool, true, false, ◌&&◌, ◌||◌, eqb, List, [], ◌∷◌, length, get_or, take, Result, Ok, Err, Option, Some, None, ◌⊎◌, inl, inr, ⊎_elim, refl, sym, ap, subst, arith}
+use Rattle.std.specs.Prelude.{◌↔◌, All, Contains, IsTrue, is_some, not, option_map}
+use Rattle.std.specs.BTreeSet.{BTreeSet, contains}
+use Rattle.std.specs.List.{list_any}
+use Rattle.std.specs.List.Sorted.{IsBinarySearchResult, IsStrictlySortedBy}
+use Rattle.std.specs.Ordering.{nat_cmp}
+use Rattle.std.specs.Result.{IfOk, MatchResult, is_ok}
+use Rattle.std.specs.declared.cmp.Ordering.TheVariants.{Less}
+use Rattle.std.proofs.lemmas.Bool.{and_from, and_parts, cases_lt, eq-eqb, false≢true, ne_eqb}
+use Rattle.std.proofs.lemmas.Bool.Decides.{nat_tests}
+use Rattle.std.proofs.lemmas.Cmp.{nat_cmp_total}
+use Rattle.std.proofs.lemmas.List.{take_all}
+use Rattle.std.proofs.lemmas.List.Elements.{All-from_get_or}
+use Rattle.std.proofs.lemmas.List.Folds.{list_any_at, list_any_more, list_any_none}
+use Rattle.std.proofs.lemmas.List.Sorted.{searched}
+use Rattle.std.proofs.lemmas.Map.Keys.{Less-from_sorted}
+use Rattle.std.proofs.lemmas.Map.Lookups.{exact_unsigned}
+use Rattle.std.proofs.lemmas.Map.Views.{btree_set_contains_iff}
+use Rattle.arm2_decode.specs.declared.instr.Instr.{Instr}
+use Rattle.bus_ticks.specs.declared.profile.Class.{Class}
+use Rattle.bus_ticks.specs.declared.profile.Class.TheVariants.{Any}
+use Rattle.flow_graph.specs.declared.places.Place.{Place}
+use Rattle.flow_graph.specs.Flow.{Flow}
+use Rattle.loader.specs.Image.{Words}
+use Rattle.statement.specs.Stated.{Stated, Target, class_of, target_of}
+use Rattle.explained.specs.Assumed.{AreAssumed, Assumes, IsInstrAt, IsLooseTransfer, IsTakenForReturn, Notes, is_odd_writer, is_transfer}
+use Rattle.explained.specs.Taken.{is_at, is_reached}
+use Rattle.explained.specs.declared.assumptions.Assumption.{Assumption}
+
+-- ## One word
+
+-- the one instruction at an address
+abbrev pub IsOnlyInstr : Words → ℕ → Instr → Type 0
+IsOnlyInstr image a i = IsInstrAt image a i × ((j : Instr) → IsInstrAt image a j → j ≡ i)
+
+none_told : {A B : Type 0} (f : A → B) (found : Option A) (t : Option B) (r : Bool) → option_map f found ≡ t → is_some found ≡ not r → (r ≡ true) ↔ (t ≡ None)
+none_told f None t true is some = (λ e. sym is, λ h. refl)
+none_told f None t false is some = absurd (false≢true some)
+none_told f (Some x) t true is some = absurd (false≢true (sym some))
+none_told f (Some x) t false is some = (λ e. absurd (false≢true e), λ h. absurd (let both : Some (f x) ≡ None = is ∙ h in cc))
+
+module _ (image : Words) (st : Stated) (a : ℕ) where
+  pub no_transfer : ((i : Instr) → IsInstrAt image a i → ⊥) → IsTrue false ↔ IsLooseTransfer image st a
+  no_transfer none = (λ e. absurd (false≢true e), λ h. absurd (none h.instr h.there))
+
+  pub no_writer : ((i : Instr) → IsInstrAt image a i → ⊥) → IsTrue false ↔ IsTakenForReturn image st a
+  no_writer none = (λ e. absurd (false≢true e), λ h. absurd (none h.instr h.there))
+
+  module _ (i : Instr) (only : IsOnlyInstr image a i) where
+    pub other_word : (b : Bool) → b ≡ is_transfer i.operation → b ≡ false → IsTrue b ↔ IsLooseTransfer image st a
+    other_word b is none = (
+      λ e. absurd (false≢true (sym none ∙ e)),
+      λ h. absurd (false≢true (sym none ∙ is ∙ ap (λ (j : Instr). is_transfer j.operation) (sym (only.1 h.instr h.there)) ∙ h.transfers)),
+    )
+
+    pub transfer_told : (b r : Bool) (class : Class) → b ≡ is_transfer i.operation → b ≡ true → class ≡ class_of st a → IsTrue r ↔ (class ≡ Any) → IsTrue r ↔ IsLooseTransfer image st a
+    transfer_told b r class is does class_is told = (
+      λ e. record { instr = i; there = only.0; transfers = sym is ∙ does; loose = sym class_is ∙ told.0 e },
+      λ h. told.1 (class_is ∙ h.loose),
+    )
+
+    pub plain_word : (b : Bool) → b ≡ is_odd_writer i.operation → b ≡ false → IsTrue b ↔ IsTakenForReturn image st a
+    plain_word b is none = (
+      λ e. absurd (false≢true (sym none ∙ e)),
+      λ h. absurd (false≢true (sym none ∙ is ∙ ap (λ (j : Instr). is_odd_writer j.operation) (sym (only.1 h.instr h.there)) ∙ h.odd)),
+    )
+
+    pub writer_told : {A : Type 0} (f : A → Target) (found : Option A) (b r : Bool) → b ≡ is_odd_writer i.operation → b ≡ true → option_map f found ≡ target_of st a → is_some found ≡ not r → IsTrue r ↔ IsTakenForReturn image st a
+    writer_told f found b r is does target some =
+        let told = none_told f found (target_of st a) r target some in (
+          λ e. record { instr = i; there = only.0; odd = sym is ∙ does; unstated = told.0 e },
+          λ h. told.1 h.unstated,
+        )
+
+-- ## All places
+
+module _ (Holds : ℕ → Type 0) where
+  pub noted : (places : List Place) (k : ℕ) (d : Place) (old new : ℕ → Bool) → k < length places
+      → ((a : ℕ) → (old a ≡ true) ↔ ((is_reached (take k places) a ≡ true) × Holds a)) → Notes Holds (get_or places k d) old new
+      → (a : ℕ) → (new a ≡ true) ↔ ((is_reached (take (k + 1) places) a ≡ true) × Holds a)
+  noted places k d old new lt before notes a =
+      let p = get_or places k d in
+      let step : is_reached (take (k + 1) places) a ≡ (is_reached (take k places) a || is_at a p) =
+      list_any_more (is_at a) places k d lt in (
+        λ h. ⊎_elim
+            (λ was. let w = (before a).0 was in (step ∙ ap (λ b. b || is_at a p) w.0, w.1))
+            (λ here. (step ∙ or_last (is_reached (take k places) a) (is_at a p) here.0, here.1))
+            ((notes a).0 h),
+        λ h. (notes a).1 (⊎_elim (λ was. inl ((before a).1 (was, h.1))) (λ here. inr (here, h.1)) (or_parts (is_reached (take k places) a) (is_at a p) (sym step ∙ h.0))),
+      )
+    where
+      or_last : (b c : Bool) → c ≡ true → (b || c) ≡ true
+      or_last true c e = refl
+      or_last false c e = e
+
+      or_parts : (b c : Bool) → (b || c) ≡ true → (b ≡ true) ⊎ (c ≡ true)
+      or_parts true c e = inl refl
+      or_parts false c e = inr e
+
+  pub none_noted : (set : BTreeSet ℕ) (a : ℕ) → set.keys ≡ [] → (contains nat_cmp set a ≡ true) ↔ ((is_reached [] a ≡ true) × Holds a)
+  none_noted set a empty = (
+    λ h. let w = (btree_set_contains_iff nat_cmp_total exact_unsigned set a).0 h in let lt : w.0 < length set.keys = w.1 in let none : length set.keys ≡ 0 = ap length empty in absurd (omega arith),
+    λ h. absurd (false≢true h.0),
+  )
+
+pub both_ok : {T E : Type 0} (r : Result T E) (P Q R : T → Type 0) → ((x : T) → P x → Q x → R x) → IfOk r P → IfOk r Q → IfOk r R
+both_ok (Ok x) P Q R f p q = f x p q
+both_ok (Err e) P Q R f p q = tt
+
+pub are_assumed : (image : Words) (st : Stated) (flow : Flow) (what : Assumption) (places : List Place) (k : ℕ) (set : BTreeSet ℕ) (items : List ℕ) → places ≡ flow.places → length places ≤ k
+    → ((a : ℕ) → (contains nat_cmp set a ≡ true) ↔ ((is_reached (take k places) a ≡ true) × Assumes image st what a)) → items ≡ set.keys → IsStrictlySortedBy nat_cmp items → AreAssumed image st flow what items
+are_assumed image st flow what places k set items are le known is ascending = record {
+  ascending = ascending;
+  each = λ a.
+      let iff = btree_set_contains_iff nat_cmp_total exact_unsigned set a in
+      let same : is_reached (take k places) a ≡ is_reached flow.places a = ap (λ (ps : List Place). is_reached ps a) (take_all k places le ∙ are) in (
+        λ h. let w = (known a).0 (iff.1 (subst (λ xs. Contains xs a) is h)) in (sym same ∙ w.0, w.1),
+        λ h. subst (λ xs. Contains xs a) (sym is) (iff.0 ((known a).1 (same ∙ h.0, h.1))),
+      );
+}
+
+-- ## A named address
+
+less : (x y : ℕ) → nat_cmp x y ≡ Less → x < y
+less x y h = grind (arith, nat_tests)
+
+rising : (xs : List ℕ) → IsStrictlySortedBy nat_cmp xs → (i j : ℕ) → i ≤ j → j < length xs → get_or xs i 0 ≤ get_or xs j 0
+rising xs sorted i j le lt = ⊎_elim
+    (λ (before : i < j). let l : get_or xs i 0 < get_or xs j 0 = less (get_or xs i 0) (get_or xs j 0) (Less-from_sorted nat_cmp xs i j 0 sorted before lt) in let goal : get_or xs i 0 ≤ get_or xs j 0 = omega arith in goal)
+    (λ (ge : j ≤ i). let same : i ≡ j = omega arith in let eq : get_or xs i 0 ≡ get_or xs j 0 = ap (λ n. get_or xs n 0) same in let goal : get_or xs i 0 ≤ get_or xs j 0 = omega arith in goal)
+    (cases_lt i j)
+
+told_at : (xs : List ℕ) (x : ℕ) (r : Result ℕ ℕ) → MatchResult r (λ i. (i < length xs) × (get_or xs i 0 ≡ x)) (λ i. (i ≤ length xs) × ((k : ℕ) → k < i → get_or xs k 0 < x) × ((k : ℕ) → i ≤ k → k < length xs → x < get_or xs k 0)) → is_ok r ≡ list_any (λ a. eqb a x) xs
+told_at xs x (Ok i) h = sym (list_any_at (λ a. eqb a x) xs i 0 h.0 (eq-eqb (get_or xs i 0) x h.1))
+told_at xs x (Err i) h = sym (list_any_none (λ a. eqb a x) xs (All-from_get_or (λ a. eqb a x ≡ false) xs 0 (λ k lt. ne_eqb (get_or xs k 0) x (λ same. ⊎_elim
+    (λ (before : k < i). let l : get_or xs k 0 < x = h.1 k before in absurd (omega arith))
+    (λ (after : i ≤ k). let l : x < get_or xs k 0 = h.2 k after lt in absurd (omega arith))
+    (cases_lt k i)))))
+
+pub named_told : (xs : List ℕ) (x : ℕ) (r : Result ℕ ℕ) → IsStrictlySortedBy nat_cmp xs → IsBinarySearchResult (λ y. nat_cmp y x) xs r → is_ok r ≡ list_any (λ a. eqb a x) xs
+named_told xs x r sorted found = told_at xs x r (searched xs x r found (rising xs sorted))
