@@ -34,6 +34,10 @@ module _ (source entry : List ℕ) where
     pub at : ℕ
     pub entry_is : entry_of names entry ≡ Some at
 
+  -- a draft of the handler that begins there
+  pub record IsDraftReport (text : List ℕ) : Type 0 where
+    pub draftable : IsDraftable
+
   -- the source has words and labels, and the entry is no address by them
   pub record HasNoEntry : Type 0 where
     pub words : Words

@@ -1,8 +1,10 @@
 //! What has to be stated of a handler.
 
-ghost use Rattle.std.specs.Prelude.{◌≡◌};
+ghost use Rattle.std.specs.Prelude.{◌≡◌, ◌≢◌, IfErr, IfOk};
 ghost use Rattle.loader.specs.Labels.{address_of};
-ghost use Rattle.arcwcet.specs.DraftReport.{address_in, entry_of};
+ghost use Rattle.arcwcet.specs.Answers.{Answers};
+ghost use Rattle.arcwcet.specs.DraftReport.{IsDraftRefused, IsDraftReport, IsDraftable, address_in, entry_of};
+ghost use Rattle.arcwcet.specs.Source.{IsSourceFault};
 
 use crate::fault::ReportFault;
 use crate::handler::read_source;
@@ -41,7 +43,9 @@ fn draft_text(
     source: &[u8],
     said: &Assembly,
     entry: u32,
-) -> Result<Vec<u8>, ReportFault> {
+) -> Result<Vec<u8>, ReportFault>
+    ensures { IfErr result (IsSourceFault source.now) }
+{
     let placed = if source.starts_with(&MAGIC) {
         Vec::new(alloc)
     } else {
@@ -57,7 +61,11 @@ fn draft_text(
     Ok(text)
 }
 
-fn source_draft(alloc: Global, source: &[u8], entry: &[u8]) -> Result<Vec<u8>, ReportFault> {
+fn source_draft(alloc: Global, source: &[u8], entry: &[u8]) -> Result<Vec<u8>, ReportFault>
+    ensures draft { IfOk result (λ text. IsDraftReport source.now entry.now text.items) }
+    ensures fault { IfErr result (λ e. (e ≢ ReportFault.Device) × IsDraftRefused source.now entry.now e) }
+    ensures only { IsDraftable source.now entry.now → IfErr result (λ e. e ≡ ReportFault.Memory) }
+{
     let said = read_source(alloc, source)?;
     let Some(address) = entry_of(&said.labels, entry) else {
         return Err(ReportFault::NoSuchEntry);
@@ -78,7 +86,10 @@ pub fn draft_report<O: Output>(
     source: &[u8],
     entry: &[u8],
     out: &mut O,
-) -> Result<(), ReportFault> {
+) -> Result<(), ReportFault>
+    ensures { Answers O.taken O.failures (λ _ text. IsDraftReport source.now entry.now text)
+        (IsDraftable source.now entry.now) (IsDraftRefused source.now entry.now) out.old out.new result }
+{
     let text = source_draft(alloc, source, entry)?;
     match write_whole(out, &text) {
         Ok(()) => Ok(()),
