@@ -134,10 +134,10 @@ longest_by_each flow loops tree other of by l is =
 
 module _ (source statement : List ℕ) (profile : Profile) (st : Stated) (flow : Flow) (tree : Tree) (loops : HasLoops source statement profile st flow) (of : IsTreeOf flow st.loops tree) where
   -- no refusal of the walk holds
-  none_holds : ((f : WalkFault) → f ≢ walk_fault.Memory → IsWalkFault flow tree f → ⊥) → (f : WalkFault) → f ≢ walk_fault.Memory → IsWalkRefusal flow st.loops f → ⊥
+  pub none_holds : ((f : WalkFault) → f ≢ walk_fault.Memory → IsWalkFault flow tree f → ⊥) → (f : WalkFault) → f ≢ walk_fault.Memory → IsWalkRefusal flow st.loops f → ⊥
   none_holds allowed f not_memory h = allowed f not_memory (fault_there flow st.loops tree of.instances f h)
 
-  pub accepted : ((f : WalkFault) → f ≢ walk_fault.Memory → IsWalkFault flow tree f → ⊥) → IsAccepted source statement profile
+  unfoldable pub accepted : ((f : WalkFault) → f ≢ walk_fault.Memory → IsWalkFault flow tree f → ⊥) → IsAccepted source statement profile
   accepted allowed = record { stated = st; flow = flow; loops = loops; no_fault = none_holds allowed }
 
   pub reported : (l : Longest) (text : List ℕ) → RunLaw → IsWellFormed flow → IsLongest flow tree l → ((f : WalkFault) → f ≢ walk_fault.Memory → IsWalkFault flow tree f → ⊥)

@@ -92,7 +92,7 @@ fn explanation_of(
     })
 }
 
-fn explanation(
+fn source_explanation(
     alloc: Global,
     source: &[u8],
     statement: &[u8],
@@ -117,7 +117,7 @@ fn priced_explanation<O: Output>(
     ensures { Explains O.taken O.failures explained.entry.source.now explained.entry.statement.now
         explained.entry.at_most profile.now out.old out.new result }
 {
-    let found = explanation(alloc, explained.source, explained.statement, profile)?;
+    let found = source_explanation(alloc, explained.source, explained.statement, profile)?;
     match write_whole(out, &found.text) {
         Ok(()) => Ok(is_enough(explained.at_most, found.bound)),
         Err(_) => Err(ReportFault::Device),

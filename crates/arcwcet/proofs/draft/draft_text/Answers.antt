@@ -9,4 +9,4 @@ pub returns-in_err-placed : goal.returns-in_err-placed
 returns-in_err-placed c =
     let is : is_image c.args.source.now ≡ false = search rules in
     let f = c.in_err-placed.field-0.0 in
-    refused_as c.from_residual-in_err-placed.result (of_source f) (IsSourceFault c.args.source.now) c.from_residual-in_err-placed.ensures.1 (text_fault c.args.source.now f is c.in_err-placed.ensures.fault)
+    refused_as c.from_residual.result (of_source f) (IsSourceFault c.args.source.now) c.from_residual.ensures.1 (text_fault c.args.source.now f is c.in_err-placed.ensures.fault)

@@ -5,7 +5,7 @@ use Rattle.arcwcet.specs.declared.fault.ReportFault.TheVariants.{Device}
 use Rattle.arcwcet.proofs.ExplainLemmas.{source_unexplained}
 use Rattle.arcwcet.proofs.HandlerLemmas.{refused_as}
 use Rattle.arcwcet.proofs.ReportLemmas.{report_refusal}
-use Rattle.arcwcet.proofs.explain.explanation.Goals as goal
+use Rattle.arcwcet.proofs.explain.source_explanation.Goals as goal
 
 pub returns-in_err-said-clause-fault : goal.returns-in_err-said-clause-fault
 returns-in_err-said-clause-fault c =
