@@ -1,0 +1,5 @@
+pub mod ClassLemmas
+pub mod MovedLemmas
+pub mod EdgeChoice
+pub mod StepJudged
+pub mod StayLemmas
