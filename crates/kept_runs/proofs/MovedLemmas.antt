@@ -1,15 +1,14 @@
 -- What a word that is done transfers, against what is read of it beforehand.
-use Rattle.std.proofs.Common.{◌≡◌, ℕ, zero, suc, ◌+◌, ◌*◌, ◌<◌, ◌==◌, ◌^◌, inl, inr, not, nat_lt, if◌then◌else◌, Bool, true, false, cond, List, [], ◌∷◌, ◌++◌, length, Option, Some, None, Result, Ok, Err, count_ones, refl, sym, ap, subst, ◌∙◌, arith}
+use Rattle.std.proofs.Common.{◌≡◌, ℕ, zero, suc, ◌<◌, ◌≤◌, ◌==◌, ◌^◌, ◌⊎◌, inl, inr, not, nat_lt, if◌then◌else◌, Bool, true, false, cond, List, [], ◌∷◌, ◌++◌, length, Option, Some, None, Result, Ok, Err, refl, sym, ap, subst, ◌∙◌, arith}
 use Rattle.std.specs.Prelude.{All, Contains}
 use Rattle.std.proofs.Math.ListN.{length-set}
-use Rattle.std.proofs.lemmas.Bool.{false≢true, ltb-true, true≢false}
-use Rattle.std.proofs.lemmas.List.Elements.{All-append, All-from_recursion, All-nil, All-push}
-use Rattle.bus_ticks.specs.Prices.{class_at, word_address}
+use Rattle.std.proofs.Math.Nat.{eq-or-lt_of_le}
+use Rattle.std.proofs.lemmas.Bool.{ltb-true}
+use Rattle.std.proofs.lemmas.List.Elements.{All-append, All-from_recursion, All-nil, All-push, Contains-append_left, Contains-append_right, Contains-push}
+use Rattle.bus_ticks.specs.Prices.{word_address}
 use Rattle.bus_ticks.specs.Worst.{IsOf}
 use Rattle.bus_ticks.specs.declared.profile.Class.{Class}
-use Rattle.bus_ticks.specs.declared.profile.Class.TheVariants.{Any, Ram, Rom, Io}
 use Rattle.arm2_decode.specs.Names.{is_compare, is_pc, register_number}
-use Rattle.arm2_decode.specs.Table.{IsUnallocated, Means}
 use Rattle.arm2_decode.specs.declared.instr.Block.{Block}
 use Rattle.arm2_decode.specs.declared.instr.Branch.{Branch}
 use Rattle.arm2_decode.specs.declared.instr.Instr.{Instr}
@@ -47,11 +46,10 @@ use Rattle.arm2_transfer.specs.Words.{is_listed, registers_in}
 use Rattle.arm2_transfer.proofs.Listed.{words_are}
 use Rattle.arm2_exec.specs.Step.{Obeys, instruction_moved, unallocated_moved}
 use Rattle.flow_graph.specs.StepLaw.{TransfersIn, holds_in}
-use Rattle.flow_graph.proofs.StepTicks.{load_block, store_block}
 use Rattle.flow_graph.proofs.TightTicks.{IsIn, transfers_in}
 use Rattle.kept_runs.specs.declared.transfers.Access.{Access}
 use Rattle.kept_runs.specs.declared.transfers.Transfer.{Transfer}
-use Rattle.kept_runs.specs.Transfers.{AllOf, HasNoOther, HasOther, HasOtherOf, block_words, covers, one_word, words_of}
+use Rattle.kept_runs.specs.Transfers.{HasNoOther, HasOther, block_words, words_of}
 use Rattle.kept_runs.specs.Reading.{IsReading, transfer_if}
 use Rattle.kept_runs.specs.declared.reading.Reading.{Reading}
 use Rattle.arm2_decode.proofs.Unique.{never_both, one_instr, one_unallocated}
@@ -92,6 +90,18 @@ module _ (class : Class) where
       (All-from_recursion (IsIn class) (FetchN (ahead_of a 8) ∷ []) (tt, tt))
       (words_in true x k each)
 
+-- the first words of a transfer stand among its accesses
+words_there : (store : Bool) (address k i : ℕ) → i < k → Contains (words_at store address k) (Word store (i == 0) (word_address address i))
+unfolding words_at
+words_there store address zero i h = absurd (omega arith)
+words_there store address (suc k) i h = by_place (λ less. words_there store address k i less) (eq-or-lt_of_le (let le : i ≤ k = omega arith in le))
+  where
+    by_place : (i < k → Contains (words_at store address k) (Word store (i == 0) (word_address address i))) → (i ≡ k) ⊎ (i < k) → Contains (words_at store address k ++ Word store (k == 0) (word_address address k) ∷ []) (Word store (i == 0) (word_address address i))
+    by_place before (inl e) =
+        subst (λ n. Contains (words_at store address k ++ Word store (k == 0) (word_address address k) ∷ []) (Word store (n == 0) (word_address address n))) (sym e)
+        (Contains-push (words_at store address k) (Word store (k == 0) (word_address address k)))
+    by_place before (inr less) = Contains-append_left (words_at store address k) (Word store (k == 0) (word_address address k) ∷ []) _ (before less)
+
 -- ## Lengths
 
 either_long : (b : Bool) (xs ys : List ℕ) (n : ℕ) → length xs ≡ n → length ys ≡ n → length (cond b xs ys) ≡ n
@@ -119,10 +129,11 @@ all_loaded_long psr mode r bus port (move ∷ rest) regs =
 -- ## What is done
 
 -- Where a step ends as other instructions do: its words are of the class where none of the transfer's is of
--- another; one of them is of another where one of the transfer's is; and there are as many registers.
+-- another; each of the transfer's that is of another is among its words; and there are as many registers.
 pub record Moves (class : Class) (regs : List ℕ) (t : Option Transfer) (m : Moved) : Type 0 where
   pub in_class : m.kind ≡ Plain → HasNoOther class t → TransfersIn class m.accesses
-  pub other : m.kind ≡ Plain → (access : Access) → HasOther class t access → TransfersIn class m.accesses → ⊥
+  pub there : m.kind ≡ Plain → (access : Access) → HasOther class t access
+      → (first : Bool) × Contains m.accesses (Word access.store first access.address)
   pub registers : m.kind ≡ Plain → length m.regs ≡ length regs
 
 module _ (class : Class) (regs : List ℕ) (bus : Bus) where
@@ -133,7 +144,7 @@ module _ (class : Class) (regs : List ℕ) (bus : Bus) where
   none : (e : Effect) → All (IsIn class) e.accesses → length e.regs ≡ length regs → IsMoved None (on_bus bus e)
   none e all long = record {
     in_class = λ plain no. transfers_in class e.accesses all;
-    other = λ plain access has in_class. has;
+    there = λ plain access has. absurd has;
     registers = λ plain. long;
   }
 
@@ -141,7 +152,7 @@ module _ (class : Class) (regs : List ℕ) (bus : Bus) where
   not_plain : (t : Option Transfer) (m : Moved) → (m.kind ≡ Plain → ⊥) → IsMoved t m
   not_plain t m other = record {
     in_class = λ plain no. absurd (other plain);
-    other = λ plain access has in_class. other plain;
+    there = λ plain access has. absurd (other plain);
     registers = λ plain. absurd (other plain);
   }
 
@@ -199,7 +210,7 @@ module _ (class : Class) (regs : List ℕ) (bus : Bus) where
   delayed_moves : (cycles : ℕ) (e : Effect) → IsMoved None (on_bus bus e) → IsMoved None (on_bus bus (delayed cycles e))
   delayed_moves cycles e h = record {
     in_class = λ plain no. cycles_no_word cycles e.accesses (h.in_class plain no);
-    other = λ plain access has in_class. has;
+    there = λ plain access has. absurd has;
     registers = λ plain. h.registers plain;
   }
 
@@ -216,89 +227,102 @@ module _ (class : Class) (regs : List ℕ) (bus : Bus) where
 
   -- ## Transfers
 
-  -- a load or a store from a base below 4000000
-  loads : (address words : ℕ) (jumps : Bool) (t : ℕ) (m : Moved) → address < 2 ^ 26 → m.accesses ≡ load_accesses (address_of (r15_in regs)) address words jumps t → length m.regs ≡ length regs → (store : Bool) → IsMoved (Some (record { address = address; words = words; store = store })) m
-  loads address words jumps t m below are long store = record {
-    in_class = λ plain no. subst (TransfersIn class) (sym are) (transfers_in class (load_accesses (address_of (r15_in regs)) address words jumps t) (load_in class (address_of (r15_in regs)) address words jumps t (no below)));
-    other = λ plain access has in_class.
-        let h = has.1 in
-        let of_class = (load_block class (record { low = 0; high = 0 }) (address_of (r15_in regs)) address words jumps t below (subst (TransfersIn class) are in_class)).each h.number h.below in
-        h.other (subst (IsOf class) (sym h.stands) of_class);
-    registers = λ plain. long;
-  }
+  -- a word of the transfer, where the accesses have it
+  at_word : (store : Bool) (address words : ℕ) (accesses : List effect.Access) → ((k : ℕ) → k < words → Contains accesses (Word store (k == 0) (word_address address k)))
+      → (access : Access) → HasOther class (Some (record { address = address; words = words; store = store })) access → (first : Bool) × Contains accesses (Word access.store first access.address)
+  at_word store address words accesses each access has =
+      let h = has.1 in (
+        h.number == 0,
+        subst (λ (b : Bool). Contains accesses (Word b (h.number == 0) access.address)) (sym h.store)
+        (subst (λ (n : ℕ). Contains accesses (Word store (h.number == 0) n)) (sym h.stands) (each h.number h.below)),
+      )
 
-  stores : (address words : ℕ) (m : Moved) → address < 2 ^ 26 → m.accesses ≡ store_accesses (address_of (r15_in regs)) address words → length m.regs ≡ length regs → (store : Bool) → IsMoved (Some (record { address = address; words = words; store = store })) m
-  stores address words m below are long store = record {
+  -- a load or a store from a base below 4000000
+  loads : (address words : ℕ) (jumps : Bool) (t : ℕ) (m : Moved) → m.accesses ≡ load_accesses (address_of (r15_in regs)) address words jumps t → length m.regs ≡ length regs → address < 2 ^ 26
+      → IsMoved (Some (record { address = address; words = words; store = false })) m
+  loads address words jumps t m are long below =
+      let all : List effect.Access = load_accesses (address_of (r15_in regs)) address words jumps t in
+      record {
+        in_class = λ plain no. subst (TransfersIn class) (sym are) (transfers_in class (load_accesses (address_of (r15_in regs)) address words jumps t) (load_in class (address_of (r15_in regs)) address words jumps t (no below)));
+        there = λ plain. subst (λ (xs : List effect.Access). (access : Access) → HasOther class (Some (record { address = address; words = words; store = false })) access → (first : Bool) × Contains xs (Word access.store first access.address)) (sym are)
+            (at_word false address words (load_accesses (address_of (r15_in regs)) address words jumps t)
+            (λ k lt. Contains-append_left (straight (address_of (r15_in regs)) ++ words_at false address words) _ _
+            (Contains-append_right (straight (address_of (r15_in regs))) (words_at false address words) _ (words_there false address words k lt))));
+        registers = λ plain. long;
+      }
+
+  stores : (address words : ℕ) (m : Moved) → m.accesses ≡ store_accesses (address_of (r15_in regs)) address words → length m.regs ≡ length regs → address < 2 ^ 26
+      → IsMoved (Some (record { address = address; words = words; store = true })) m
+  stores address words m are long below = record {
     in_class = λ plain no. subst (TransfersIn class) (sym are) (transfers_in class (store_accesses (address_of (r15_in regs)) address words) (store_in class (address_of (r15_in regs)) address words (no below)));
-    other = λ plain access has in_class.
-        let h = has.1 in
-        let of_class = (store_block class (record { low = 0; high = 0 }) (address_of (r15_in regs)) address words below (subst (TransfersIn class) are in_class)).each h.number h.below in
-        h.other (subst (IsOf class) (sym h.stands) of_class);
+    there = λ plain. subst (λ (xs : List effect.Access). (access : Access) → HasOther class (Some (record { address = address; words = words; store = true })) access → (first : Bool) × Contains xs (Word access.store first access.address)) (sym are)
+        (at_word true address words (store_accesses (address_of (r15_in regs)) address words)
+        (λ k lt. Contains-append_right (FetchN (ahead_of (address_of (r15_in regs)) 8) ∷ []) (words_at true address words) _ (words_there true address words k lt)));
     registers = λ plain. long;
   }
 
   -- the test is that of a load
-  either : (load : Bool) (t : Option Transfer) (m n : Moved) → IsMoved t m → IsMoved t n → IsMoved t (cond load m n)
-  either true t m n h k = h
-  either false t m n h k = k
+  either : (load : Bool) (address words : ℕ) (m n : Moved) → IsMoved (Some (record { address = address; words = words; store = false })) m → IsMoved (Some (record { address = address; words = words; store = true })) n → IsMoved (Some (record { address = address; words = words; store = not load })) (cond load m n)
+  either true address words m n h k = h
+  either false address words m n h k = k
 
   -- ## Single transfers
 
   base_long : (x : Single) (base : ℕ) → length (base_after x base regs) ≡ length regs
   base_long x base = based_long (passed regs) _ (mode_of (r15_in regs)) x.rn _ ∙ r15_long regs _
 
-  single_loads_move : (x : Single) (base port : ℕ) (spot : Spot) → address_for x base < 2 ^ 26 → (store : Bool) → IsMoved (Some (record { address = address_for x base; words = 1; store = store })) (single_loads x base port spot regs bus)
+  single_loads_move : (x : Single) (base port : ℕ) (spot : Spot) → address_for x base < 2 ^ 26 → IsMoved (Some (record { address = address_for x base; words = 1; store = false })) (single_loads x base port spot regs bus)
   unfolding single_loads single_loaded
-  single_loads_move x base port spot below store =
-      loads (address_for x base) 1 (is_pc x.rd) _ (single_loads x base port spot regs bus) below refl
-      (loaded_long (base_after x base regs) false (mode_of (r15_in regs)) (r15_in regs) x.rd _ ∙ base_long x base) store
+  single_loads_move x base port spot below =
+      loads (address_for x base) 1 (is_pc x.rd) _ (single_loads x base port spot regs bus) refl
+      (loaded_long (base_after x base regs) false (mode_of (r15_in regs)) (r15_in regs) x.rd _ ∙ base_long x base) below
 
-  single_stores_move : (x : Single) (base : ℕ) (spot : Spot) → address_for x base < 2 ^ 26 → (store : Bool) → IsMoved (Some (record { address = address_for x base; words = 1; store = store })) (single_stores x base spot regs bus)
+  single_stores_move : (x : Single) (base : ℕ) (spot : Spot) → address_for x base < 2 ^ 26 → IsMoved (Some (record { address = address_for x base; words = 1; store = true })) (single_stores x base spot regs bus)
   unfolding single_stores
-  single_stores_move x base spot below store =
-      stores (address_for x base) 1 (single_stores x base spot regs bus) below refl (base_long x base) store
+  single_stores_move x base spot below =
+      stores (address_for x base) 1 (single_stores x base spot regs bus) refl (base_long x base) below
 
-  single_by_moves : (x : Single) (base port : ℕ) (found : Result Spot TransferFault) → address_for x base < 2 ^ 26 → (store : Bool) → IsMoved (Some (record { address = address_for x base; words = 1; store = store })) (single_by x base port found regs bus)
+  single_by_moves : (x : Single) (base port : ℕ) (found : Result Spot TransferFault) → address_for x base < 2 ^ 26 → IsMoved (Some (record { address = address_for x base; words = 1; store = not x.load })) (single_by x base port found regs bus)
   unfolding single_by single_carried_out
-  single_by_moves x base port (Err f) below store = faulted_moves _ f
-  single_by_moves x base port (Ok spot) below store =
-      either x.load _ (single_loads x base port spot regs bus) (single_stores x base spot regs bus)
-      (single_loads_move x base port spot below store) (single_stores_move x base spot below store)
+  single_by_moves x base port (Err f) below = faulted_moves _ f
+  single_by_moves x base port (Ok spot) below =
+      either x.load (address_for x base) 1 (single_loads x base port spot regs bus) (single_stores x base spot regs bus)
+      (single_loads_move x base port spot below) (single_stores_move x base spot below)
 
-  single_moves : (x : Single) (base port : ℕ) (store : Bool) → IsMoved (Some (record { address = address_for x base; words = 1; store = store })) (single_at x base port regs bus)
+  single_moves : (x : Single) (base port : ℕ) → IsMoved (Some (record { address = address_for x base; words = 1; store = not x.load })) (single_at x base port regs bus)
   unfolding single_at
-  single_moves x base port store =
+  single_moves x base port =
       choose _ (nat_lt (address_for x base) (2 ^ 26)) _ _
-      (λ inside. single_by_moves x base port _ (ltb-true (address_for x base) (2 ^ 26) inside) store)
+      (λ inside. single_by_moves x base port _ (ltb-true (address_for x base) (2 ^ 26) inside))
       (taken_moves _ _)
 
   -- ## Block transfers
 
-  block_loads_move : (x : Block) (span : Span) (port : ℕ) (moves : List Move) → span.lowest < 2 ^ 26 → (store : Bool) → IsMoved (Some (record { address = span.lowest; words = span.words; store = store })) (block_loads x span port moves regs bus)
+  block_loads_move : (x : Block) (span : Span) (port : ℕ) (moves : List Move) → span.lowest < 2 ^ 26 → IsMoved (Some (record { address = span.lowest; words = span.words; store = false })) (block_loads x span port moves regs bus)
   unfolding block_loads
-  block_loads_move x span port moves below store =
-      loads span.lowest span.words (is_listed x.list R15) _ (block_loads x span port moves regs bus) below refl
+  block_loads_move x span port moves below =
+      loads span.lowest span.words (is_listed x.list R15) _ (block_loads x span port moves regs bus) refl
       (all_loaded_long x.user (mode_for x (mode_of (r15_in regs))) (r15_in regs) bus port moves (with_base x.write_back (mode_of (r15_in regs)) x.rn span.base (passed regs))
-      ∙ based_long (passed regs) x.write_back (mode_of (r15_in regs)) x.rn span.base ∙ r15_long regs _) store
+      ∙ based_long (passed regs) x.write_back (mode_of (r15_in regs)) x.rn span.base ∙ r15_long regs _) below
 
-  block_stores_move : (x : Block) (span : Span) (moves : List Move) → span.lowest < 2 ^ 26 → (store : Bool) → IsMoved (Some (record { address = span.lowest; words = span.words; store = store })) (block_stores x span moves regs bus)
+  block_stores_move : (x : Block) (span : Span) (moves : List Move) → span.lowest < 2 ^ 26 → IsMoved (Some (record { address = span.lowest; words = span.words; store = true })) (block_stores x span moves regs bus)
   unfolding block_stores
-  block_stores_move x span moves below store =
-      stores span.lowest span.words (block_stores x span moves regs bus) below refl
-      (r15_long (with_base x.write_back (mode_of (r15_in regs)) x.rn span.base regs) _ ∙ based_long regs x.write_back (mode_of (r15_in regs)) x.rn span.base) store
+  block_stores_move x span moves below =
+      stores span.lowest span.words (block_stores x span moves regs bus) refl
+      (r15_long (with_base x.write_back (mode_of (r15_in regs)) x.rn span.base regs) _ ∙ based_long regs x.write_back (mode_of (r15_in regs)) x.rn span.base) below
 
-  block_by_moves : (x : Block) (span : Span) (port : ℕ) (verdict : Result (List Move) TransferFault) → span.lowest < 2 ^ 26 → (store : Bool) → IsMoved (Some (record { address = span.lowest; words = span.words; store = store })) (block_by x span port verdict regs bus)
+  block_by_moves : (x : Block) (span : Span) (port : ℕ) (verdict : Result (List Move) TransferFault) → span.lowest < 2 ^ 26 → IsMoved (Some (record { address = span.lowest; words = span.words; store = not x.load })) (block_by x span port verdict regs bus)
   unfolding block_by block_carried_out
-  block_by_moves x span port (Err f) below store = faulted_moves _ f
-  block_by_moves x span port (Ok moves) below store =
-      either x.load _ (block_loads x span port moves regs bus) (block_stores x span moves regs bus)
-      (block_loads_move x span port moves below store) (block_stores_move x span moves below store)
+  block_by_moves x span port (Err f) below = faulted_moves _ f
+  block_by_moves x span port (Ok moves) below =
+      either x.load span.lowest span.words (block_loads x span port moves regs bus) (block_stores x span moves regs bus)
+      (block_loads_move x span port moves below) (block_stores_move x span moves below)
 
-  block_at_moves : (x : Block) (span : Span) (port : ℕ) (store : Bool) → IsMoved (Some (record { address = span.lowest; words = span.words; store = store })) (block_at x span port regs bus)
+  block_at_moves : (x : Block) (span : Span) (port : ℕ) → IsMoved (Some (record { address = span.lowest; words = span.words; store = not x.load })) (block_at x span port regs bus)
   unfolding block_at
-  block_at_moves x span port store =
+  block_at_moves x span port =
       choose _ (nat_lt span.lowest (2 ^ 26)) _ _
-      (λ inside. block_by_moves x span port _ (ltb-true span.lowest (2 ^ 26) inside) store)
+      (λ inside. block_by_moves x span port _ (ltb-true span.lowest (2 ^ 26) inside))
       (taken_moves _ _)
 
   block_moves : (x : Block) (port : ℕ) → IsMoved (Some (block_words x regs)) (block_moved x port regs bus)
@@ -308,7 +332,7 @@ module _ (class : Class) (regs : List ℕ) (bus : Bus) where
       let k : ℕ = length (registers_in x.list) in
       subst (λ (n : ℕ). IsMoved (Some (record { address = lowest_of x base n; words = n; store = not x.load })) (block_at x (span_of x base k) port regs bus))
       (words_are x.list x.list_fits)
-      (block_at_moves x (span_of x base k) port (not x.load))
+      (block_at_moves x (span_of x base k) port)
 
   -- ## Any word
 
@@ -318,8 +342,8 @@ module _ (class : Class) (regs : List ℕ) (bus : Bus) where
   operation_moves (operation.DataRegister x) port = placed_moves x.opcode x.sets_flags x.rd _
   operation_moves (operation.DataRegisterShift x) port = delayed_moves 1 _ (placed_moves x.opcode x.sets_flags x.rd _)
   operation_moves (operation.DataImmediate x) port = placed_moves x.opcode x.sets_flags x.rd _
-  operation_moves (operation.SingleImmediate x) port = single_moves (of_immediate x) _ port (not x.load)
-  operation_moves (operation.SingleRegister x) port = single_moves (of_register x regs) _ port (not x.load)
+  operation_moves (operation.SingleImmediate x) port = single_moves (of_immediate x) _ port
+  operation_moves (operation.SingleRegister x) port = single_moves (of_register x regs) _ port
   operation_moves (operation.Block x) port = block_moves x port
   operation_moves (operation.Branch x) port = branch_moves x
   operation_moves (operation.Swi x) port = taken_moves None _

@@ -39,7 +39,9 @@ use Rattle.longest_walk.specs.Built.{step_at}
 use Rattle.kept_runs.specs.declared.edges.Going.{Going}
 use Rattle.kept_runs.specs.declared.judging.Taken.{Taken}
 use Rattle.kept_runs.specs.declared.reading.Reading.{Reading}
+use Rattle.bus_ticks.specs.Worst.{IsOf}
 use Rattle.kept_runs.specs.declared.transfers.Access.{Access}
+use Rattle.kept_runs.specs.declared.transfers.Transfer.{Transfer}
 use Rattle.kept_runs.specs.Edges.{HasNoEdge, IsFound, is_met, is_place_of, same_label}
 use Rattle.kept_runs.specs.Judging.{IsMachineFor, IsPlaceFor, StandsAt, Takes, TakesNone, label_if}
 use Rattle.kept_runs.specs.Reading.{HasNoWord, IsReading, StandsThere, instr_reading, unallocated_reading}
@@ -66,6 +68,11 @@ place_told st t Exit is = covers_is st.leave t is
 told_place : (st : Stated) (t : ℕ) (p : Place) → IsPlaceOf st t p → is_place_of st.leave t p ≡ true
 told_place st t (At calls a) is = eq-eqb a t is
 told_place st t Exit is = is_covers st.leave t is
+
+-- an access of another class is none of the class
+is_other : (class : Class) (access : Access) (t : Option Transfer) → HasOther class t access → IsOf class access.address → ⊥
+is_other class access None has is = has
+is_other class access (Some t) has is = has.1.other is
 
 -- ## The word
 
@@ -144,7 +151,8 @@ module _ (words : Words) (st : Stated) (flow : Flow) (graph : IsFlowGraph words 
       pub none_with_other : (access : Access) → HasOther class r.transfer access → TakesNone words st flow place s i
       none_with_other access other other_told last e h from =
           let one : h.executes.step.moved ≡ step.moved = works_one i.port s.regs bus (interrupt_due bus (r15_in s.regs)) h.executes.step.moved step.moved h.executes.step.works step.works in
-          moves.other tells.kind access other (subst (λ (m : Moved). TransfersIn class m.accesses) one h.executes.transfers)
+          let word = moves.there tells.kind access other in
+          is_other class access r.transfer other ((subst (λ (m : Moved). TransfersIn class m.accesses) one h.executes.transfers) access.store word.0 access.address word.1)
 
       -- ## The edge
 

@@ -2,7 +2,7 @@
 -- sheet, single and block data transfer).
 use Rattle.std.specs.Prelude.{◌≡◌, ℕ, ◌<◌, ◌^◌, Bool, true, false, not, count_ones, if◌then◌else◌}
 use Rattle.std.specs.Prelude.{List, Option, Some, None}
-use Rattle.bus_ticks.specs.Prices.{class_at, word_address}
+use Rattle.bus_ticks.specs.Prices.{word_address}
 use Rattle.bus_ticks.specs.Worst.{IsOf}
 use Rattle.bus_ticks.specs.declared.profile.Class.{Class}
 use Rattle.bus_ticks.specs.declared.profile.Class.TheVariants.{Any, Ram, Rom, Io}
