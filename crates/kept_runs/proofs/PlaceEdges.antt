@@ -1,5 +1,5 @@
 -- The edges of a place stand from one number to another.
-use Rattle.std.proofs.Common.{◌≡◌, ◌∙◌, ℕ, zero, suc, ◌+◌, ◌-◌, ◌<◌, ◌≤◌, Bool, true, false, length, get_or, ⊎_elim, refl, sym, ap, subst, arith, add-one}
+use Rattle.std.proofs.Common.{◌≡◌, ◌∙◌, ℕ, zero, suc, ◌+◌, ◌-◌, ◌<◌, ◌≤◌, Bool, true, false, List, length, get_or, ⊎_elim, refl, sym, ap, subst, arith, add-one}
 use Rattle.std.proofs.lemmas.Bool.{both_ways, cases_lt}
 use Rattle.std.proofs.lemmas.List.{get_or_default}
 use Rattle.flow_graph.specs.declared.edges.Edge.{Edge}
@@ -12,7 +12,7 @@ use Rattle.loop_bounds.proofs.Grouped.{rises_to}
 use Rattle.longest_walk.specs.Built.{step_at}
 use Rattle.longest_walk.proofs.CarryWalks.{no_edge}
 use Rattle.kept_runs.specs.declared.edges.Going.{Going}
-use Rattle.kept_runs.specs.Edges.{HasNoEdge, IsFound, is_met}
+use Rattle.kept_runs.specs.Edges.{HasNoEdge, IsFound, IsPartOf, is_met}
 
 module _ (flow : Flow) (well : IsWellFormed flow) where
   -- an edge that stands before the part of a place belongs to an earlier place
@@ -33,14 +33,50 @@ module _ (flow : Flow) (well : IsWellFormed flow) where
         let is : w.0 ≡ v = places_once flow.places well.ordered w.0 v Exit w.1 v_in (sym (well.part w.0 k no_edge w.1 w.2 w.3) ∙ from_is) in
         (subst (λ n. get_or flow.firsts n 0 ≤ k) is w.2, subst (λ n. k < get_or flow.firsts (n + 1) 0) is w.3)
 
-    pub fits : get_or flow.firsts (v + 1) 0 ≤ length flow.edges
-    fits = rises_to flow.firsts (length flow.places) (length flow.edges) well.rising well.last_all (length flow.places - (v + 1)) (v + 1) (omega arith)
+    pub part_at : IsPartOf flow (place_at flow.places v) (get_or flow.firsts v 0) (get_or flow.firsts (v + 1) 0)
+    part_at = record {
+      ordered = well.rising v v_in;
+      fits = rises_to flow.firsts (length flow.places) (length flow.edges) well.rising well.last_all (length flow.places - (v + 1)) (v + 1) (omega arith);
+      own = λ k low high. well.part v k no_edge v_in low high;
+      whole = part_of;
+    }
 
-    pub found : (going : Going) (k : ℕ) → get_or flow.firsts v 0 ≤ k → k < get_or flow.firsts (v + 1) 0 → is_met going (step_at flow.edges k) ≡ true → IsFound flow (place_at flow.places v) going k
-    found going k low high met = record { known = omega (arith, high, fits); from = well.part v k no_edge v_in low high; met = met }
+module _ (flow : Flow) (place : Place) (going : Going) (first end : ℕ) (part : IsPartOf flow place first end) where
+  -- the edges of the place before this one are not met
+  abbrev pub AreNotMet : ℕ → Type 0
+  AreNotMet limit = (k : ℕ) → k < limit → (step_at flow.edges k).from ≡ place → is_met going (step_at flow.edges k) ≡ false
 
-    pub not_found : (going : Going) → ((k : ℕ) → get_or flow.firsts v 0 ≤ k → k < get_or flow.firsts (v + 1) 0 → is_met going (step_at flow.edges k) ≡ false) → HasNoEdge flow (place_at flow.places v) going
-    not_found going fails e (k, k_in, at) from met =
-        let is : step_at flow.edges k ≡ e = get_or_default flow.edges k no_edge e k_in ∙ at in
-        let part = part_of k k_in (ap (λ (x : Edge). x.from) is ∙ from) in
-        both_ways (is_met going e) (ap (is_met going) (sym is) ∙ fails k part.0 part.1) met
+  pub none_before : AreNotMet first
+  none_before k less from =
+      let fits = part.fits in
+      let ordered = part.ordered in
+      let own = part.whole k (omega (arith, less, fits, ordered)) from in
+      absurd (omega (arith, less, own.0))
+
+  -- what is tested of an edge
+  module _ (k : ℕ) (low : first ≤ k) (high : k < end) (e : Edge) (r : Bool) (es : List Edge) (are : es ≡ flow.edges) (at : e ≡ get_or es k e) (is : r ≡ is_met going e) where
+    known : k < length flow.edges
+    known = let fits = part.fits in omega (arith, high, fits)
+
+    tested : (b : Bool) → r ≡ b → is_met going (step_at flow.edges k) ≡ b
+    tested b answer =
+        let same : e ≡ step_at flow.edges k = at ∙ ap (λ (xs : List Edge). get_or xs k e) are ∙ get_or_default flow.edges k e no_edge known in
+        sym (ap (is_met going) same) ∙ sym is ∙ answer
+
+    pub found_here : r ≡ true → IsFound flow place going k
+    found_here answer = record { known = known; from = part.own k low high; met = tested true answer }
+
+    pub none_here : AreNotMet k → r ≡ false → AreNotMet (k + 1)
+    none_here before answer j less from = ⊎_elim
+        (λ (l : j < k). before j l from)
+        (λ (m : k ≤ j).
+        let same : k ≡ j = omega (arith, less, m) in
+        subst (λ (n : ℕ). is_met going (step_at flow.edges n) ≡ false) same (tested false answer))
+        (cases_lt j k)
+
+  pub found_nowhere : (k : ℕ) → end ≤ k → AreNotMet k → HasNoEdge flow place going
+  found_nowhere k past before e (j, j_in, at) from met =
+      let is : step_at flow.edges j ≡ e = get_or_default flow.edges j no_edge e j_in ∙ at in
+      let from_is : (step_at flow.edges j).from ≡ place = ap (λ (x : Edge). x.from) is ∙ from in
+      let own = part.whole j j_in from_is in
+      both_ways (is_met going e) (ap (is_met going) (sym is) ∙ before j (omega (arith, own.1, past)) from_is) met

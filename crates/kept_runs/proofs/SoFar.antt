@@ -59,6 +59,14 @@ map_append f (x ∷ xs) ys = ap (λ rest. f x ∷ rest) (map_append f xs ys)
 next_to : {X : Type 0} (xs : List X) (x : X) (rest : List X) → (xs ++ x ∷ []) ++ rest ≡ xs ++ x ∷ rest
 next_to xs x rest = append_assoc xs (x ∷ []) rest
 
+take_none : {X : Type 0} (xs : List X) → take 0 xs ≡ []
+take_none [] = refl
+take_none (x ∷ xs) = refl
+
+drop_none : {X : Type 0} (xs : List X) → drop 0 xs ≡ xs
+drop_none [] = refl
+drop_none (x ∷ xs) = refl
+
 -- a walk's front keeps a bound that the walk keeps
 front_keeps : {E : Type 0} (inside turns : E → _) (b : ℕ) (v w : List E) → Keeps inside turns b (v ++ w) → Keeps inside turns b v
 front_keeps inside turns b v w keeps before stretch after is pass =
@@ -98,6 +106,9 @@ module _ (words : Words) (st : Stated) (flow : Flow) (tree : Tree) (well : IsWel
 
   -- ## The beginning
 
+  front : (rest : List Input) → take 0 inputs ++ rest ≡ rest
+  front rest = ap (λ (is : List Input). is ++ rest) (take_none inputs)
+
   none_in : (s : Span) → most_in s [] ≤ s.bound
   none_in s = omega arith
 
@@ -112,9 +123,9 @@ module _ (words : Words) (st : Stated) (flow : Flow) (tree : Tree) (well : IsWel
           ap (λ (xs : List ℕ). get_or xs s.header 0) fresh.turns_are ∙ get_or-replicate (length flow.places + 1) s.header 0 0 (omega (arith, header));
       kept = λ s has. none_in s;
     };
-    follows = λ rest more follows. follows;
+    follows = λ rest more follows. subst (λ (is : List Input). Follows words st flow.profile start is more) (sym (front rest)) follows;
     ran = record { steps = 0; ticks = 0; elapsed = 0; stopped = None };
-    runs = λ rest more after runs. runs;
+    runs = λ rest more after runs. subst (λ (is : List Input). Runs start is more after) (sym (front rest)) runs;
     going = refl;
     steps_are = sym fresh.steps_are;
     steps_count = fresh.steps_are;
@@ -124,7 +135,7 @@ module _ (words : Words) (st : Stated) (flow : Flow) (tree : Tree) (well : IsWel
       count = m;
       walk_is = refl;
       leads = subst (λ (p : Place). Leads edge_shape (HasEdge flow) p walk Exit) (sym t.entry_first ∙ ap (place_in flow tree) (sym fresh.number_is)) complete;
-      follows = follows;
+      follows = subst (λ (is : List Input). Follows words st flow.profile start (take m is) walk) (sym (drop_none inputs)) follows;
     };
   }
 

@@ -1,5 +1,5 @@
 -- A step against the statement: what it executes, and along which edge.
-use Rattle.std.proofs.Common.{◌≡◌, ℕ, ◌<◌, ◌⊎◌, inl, inr, Bool, true, false, cond, ◌&&◌, eqb, List, length, Option, Some, None, refl, sym, ap, subst, ◌∙◌, arith}
+use Rattle.std.proofs.Common.{◌≡◌, ℕ, ◌<◌, ◌^◌, ◌⊎◌, inl, inr, Bool, true, false, cond, ◌&&◌, eqb, List, length, Option, Some, None, refl, sym, ap, subst, ◌∙◌, arith}
 use Rattle.std.specs.Prelude.{Contains}
 use Rattle.std.proofs.lemmas.Bool.{and_from, and_parts, eq-eqb, eqb-true}
 use Rattle.std.proofs.lemmas.List.Elements.{Contains-get_or}
@@ -10,7 +10,9 @@ use Rattle.statement.specs.Stated.{Stated, class_of}
 use Rattle.arm2_decode.specs.declared.instr.Instr.{Instr}
 use Rattle.arm2_decode.specs.declared.instr.Unallocated.{Unallocated}
 use Rattle.arm2_effect.specs.declared.exceptions.Vector.{Vector}
+use Rattle.arm2_effect.specs.declared.step_end.Kind.{Kind}
 use Rattle.arm2_effect.specs.declared.step_end.Kind.TheVariants as ended
+use Rattle.arm2_effect.specs.declared.step_end.Why.{Why}
 use Rattle.arm2_effect.specs.Exceptions.{taken}
 use Rattle.arm2_effect.specs.Modes.{r15_in}
 use Rattle.arm2_transfer.specs.declared.bus.Bus.{Bus}
@@ -35,6 +37,7 @@ use Rattle.flow_graph.specs.declared.places.Place.TheVariants.{At, Exit}
 use Rattle.flow_graph.proofs.EdgeLemmas.{one_action}
 use Rattle.flow_graph.proofs.FlowLemmas.{has_edge_is_edge, is_edge_has_edge}
 use Rattle.flow_graph.proofs.StepLemmas.{TellsPlain, tells_plain}
+use Rattle.flow_graph.proofs.StepRegisters.{word_address_of}
 use Rattle.longest_walk.specs.Built.{step_at}
 use Rattle.kept_runs.specs.declared.edges.Going.{Going}
 use Rattle.kept_runs.specs.declared.judging.Taken.{Taken}
@@ -43,7 +46,8 @@ use Rattle.bus_ticks.specs.Worst.{IsOf}
 use Rattle.kept_runs.specs.declared.transfers.Access.{Access}
 use Rattle.kept_runs.specs.declared.transfers.Transfer.{Transfer}
 use Rattle.kept_runs.specs.Edges.{HasNoEdge, IsFound, is_met, is_place_of, same_label}
-use Rattle.kept_runs.specs.Judging.{IsMachineFor, IsPlaceFor, StandsAt, Takes, TakesNone, label_if}
+use Rattle.kept_runs.specs.declared.judging.Stray.TheVariants as stray
+use Rattle.kept_runs.specs.Judging.{IsMachineFor, IsPlaceFor, StandsAt, Strays, Takes, TakesNone, label_if}
 use Rattle.kept_runs.specs.Reading.{HasNoWord, IsReading, StandsThere, instr_reading, unallocated_reading}
 use Rattle.kept_runs.specs.Transfers.{HasNoOther, HasOther, covers}
 use Rattle.kept_runs.proofs.ClassLemmas.{covers_is, is_covers}
@@ -115,8 +119,11 @@ module _ (words : Words) (st : Stated) (flow : Flow) (graph : IsFlowGraph words 
   there : {told : Stepped} {after : State} {e : Edge} → (h : IsEdgeOf words st flow.profile s i told after e) → StandsThere words s h.executes.has.word
   there h = record { stands = h.executes.has.stands; fetches = h.executes.fetches ∙ h.executes.has.stands }
 
-  pub none_without_word : HasNoWord words s → TakesNone words st flow place s i
-  none_without_word no told after e h from = no h.executes.has.word (there h)
+  none_without_word : HasNoWord words s → TakesNone words st flow place s i
+  none_without_word lacks told after e h from = lacks h.executes.has.word (there h)
+
+  pub other_word : HasNoWord words s → Strays words st flow place s i s stray.OtherWord
+  other_word lacks = record { none = none_without_word lacks; is = (lacks, refl) }
 
   module _ (told : Stepped) (after : State) (step : Step s i told after) where
     -- the same step, whoever makes it
@@ -126,8 +133,26 @@ module _ (words : Words) (st : Stated) (flow : Flow) (graph : IsFlowGraph words 
     plain_as : {other : Stepped} {last : State} {e : Edge} → (h : IsEdgeOf words st flow.profile s i other last e) → told.kind ≡ ended.Plain
     plain_as h = ap (λ (x : Stepped). x.kind) (sym (same h).0) ∙ h.executes.plain
 
-    pub none_unless_plain : (told.kind ≡ ended.Plain → ⊥) → TakesNone words st flow place s i
+    pub to_small : told.kind ≡ ended.Plain → told.to < 2 ^ 26
+    to_small plain = subst (λ t. t < 2 ^ 26) (sym (tells_plain s step.moved told step.told_is plain).to) ((word_address_of (r15_in step.moved.regs)).0)
+
+    none_unless_plain : (told.kind ≡ ended.Plain → ⊥) → TakesNone words st flow place s i
     none_unless_plain not_plain other last e h from = not_plain (plain_as h)
+
+    not_both : (k other : Kind) → told.kind ≡ k → told.kind ≡ other → k ≡ other
+    not_both k other is also = sym is ∙ also
+
+    pub exception : (vector : Vector) → told.kind ≡ ended.Taken vector → Strays words st flow place s i after (stray.Exception vector)
+    exception vector is = record {
+      none = none_unless_plain (λ plain. let both : ended.Taken vector ≡ ended.Plain = not_both (ended.Taken vector) ended.Plain is plain in cc);
+      is = record { told = told; step = step; kind_is = is };
+    }
+
+    pub stop : (why : Why) → told.kind ≡ ended.Stopped why → Strays words st flow place s i after (stray.Stopped why)
+    stop why is = record {
+      none = none_unless_plain (λ plain. let both : ended.Stopped why ≡ ended.Plain = not_both (ended.Stopped why) ended.Plain is plain in cc);
+      is = record { told = told; step = step; kind_is = is };
+    }
 
     module _ (plain : told.kind ≡ ended.Plain) (word : ℕ) (at_word : StandsThere words s word) (r : Reading) (reads : IsReading word s.regs r) where
       tells : TellsPlain s step.moved told
@@ -148,11 +173,19 @@ module _ (words : Words) (st : Stated) (flow : Flow) (graph : IsFlowGraph words 
       has = record { word = word; stands = at_word.stands; is = read.is }
 
       -- a word of another class
-      pub none_with_other : (access : Access) → HasOther class r.transfer access → TakesNone words st flow place s i
+      none_with_other : (access : Access) → HasOther class r.transfer access → TakesNone words st flow place s i
       none_with_other access other other_told last e h from =
           let one : h.executes.step.moved ≡ step.moved = works_one i.port s.regs bus (interrupt_due bus (r15_in s.regs)) h.executes.step.moved step.moved h.executes.step.works step.works in
           let word = moves.there tells.kind access other in
           is_other class access r.transfer other ((subst (λ (m : Moved). TransfersIn class m.accesses) one h.executes.transfers) access.store word.0 access.address word.1)
+
+      pub other_class : (access : Access) → HasOther class r.transfer access → Strays words st flow place s i after (stray.OtherClass access)
+      other_class access other =
+          let word = moves.there tells.kind access other in
+          record {
+            none = none_with_other access other;
+            is = record { ends = record { told = told; step = step; kind_is = plain }; first = word.0; there = word.1; other = is_other class access r.transfer other };
+          }
 
       -- ## The edge
 
@@ -171,11 +204,14 @@ module _ (words : Words) (st : Stated) (flow : Flow) (graph : IsFlowGraph words 
           let to : IsPlaceOf st told.to e.to = subst (λ (x : Stepped). IsPlaceOf st x.to e.to) (same h).0 h.taken.to in
           and_from (same_label e.label (label_if r.holds)) (is_place_of st.leave told.to e.to) (label_itself e.label (label_if r.holds) label) (told_place st told.to e.to to)
 
-      pub none_elsewhere : Contains flow.places place → HasNoEdge flow place going → TakesNone words st flow place s i
+      none_elsewhere : Contains flow.places place → HasNoEdge flow place going → TakesNone words st flow place s i
       none_elsewhere place_in none other last e h from =
           none e
           (is_edge_has_edge words st flow.profile flow graph e (subst (Contains flow.places) (sym from) place_in) h.taken.is_edge)
           from (met h)
+
+      pub elsewhere : Contains flow.places place → HasNoEdge flow place going → Strays words st flow place s i after (stray.Elsewhere told.to)
+      elsewhere place_in none = record { none = none_elsewhere place_in none; is = record { ends = record { told = told; step = step; kind_is = plain }; to_is = refl } }
 
       long : length after.regs ≡ 27
       unfolding state_after
@@ -186,18 +222,18 @@ module _ (words : Words) (st : Stated) (flow : Flow) (graph : IsFlowGraph words 
           ∙ stands.machine.registers
 
       executes : HasNoOther class r.transfer → Executes words st flow.profile read.action s i told after
-      executes no = record {
+      executes clean = record {
         registers = stands.machine.registers;
         prices = stands.machine.prices;
         has = has;
         fetches = at_word.fetches ∙ sym at_word.stands;
         step = step;
         plain = plain;
-        transfers = moves.in_class tells.kind no;
+        transfers = moves.in_class tells.kind clean;
       }
 
       pub takes : HasNoOther class r.transfer → told.ticks < 65536 → (k : ℕ) → IsFound flow place going k → Takes words st flow place s i after (record { edge = k; stepped = told })
-      takes no small k found =
+      takes clean small k found =
           let e : Edge = step_at flow.edges k in
           let both = and_parts (same_label e.label (label_if r.holds)) (is_place_of st.leave told.to e.to) found.met in
           record {
@@ -205,7 +241,7 @@ module _ (words : Words) (st : Stated) (flow : Flow) (graph : IsFlowGraph words 
             is_edge_of = record {
               calls = calls;
               action = read.action;
-              executes = executes no;
+              executes = executes clean;
               taken = record {
                 is_edge = has_edge_is_edge words st flow.profile flow graph e (Contains-get_or flow.edges k _ found.known);
                 from = found.from ∙ stands.at.1;

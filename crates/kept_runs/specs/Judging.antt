@@ -1,9 +1,13 @@
 -- One step of the machine against the edges of a place.
-use Rattle.std.specs.Prelude.{◌≡◌, ℕ, ◌<◌, ◌^◌, Bool, if◌then◌else◌, List, length}
+use Rattle.std.specs.Prelude.{◌≡◌, ℕ, ◌<◌, ◌^◌, Bool, if◌then◌else◌, List, length, Contains}
 use Rattle.loader.specs.Image.{Words}
-use Rattle.statement.specs.Stated.{Stated}
+use Rattle.statement.specs.Stated.{Stated, class_of}
+use Rattle.bus_ticks.specs.Worst.{IsOf}
+use Rattle.arm2_effect.specs.Effects.{Word}
+use Rattle.arm2_effect.specs.declared.step_end.Kind.{Kind}
+use Rattle.arm2_effect.specs.declared.step_end.Kind.TheVariants as ended
 use Rattle.arm2_exec.specs.State.{State}
-use Rattle.arm2_exec.specs.Step.{address_in}
+use Rattle.arm2_exec.specs.Step.{Step, address_in}
 use Rattle.arm2_exec.specs.declared.machine.Input.{Input}
 use Rattle.arm2_exec.specs.declared.machine.Stepped.{Stepped}
 use Rattle.flow_graph.specs.declared.edges.Edge.{Edge}
@@ -14,7 +18,11 @@ use Rattle.flow_graph.specs.declared.places.Place.TheVariants.{At}
 use Rattle.flow_graph.specs.Flow.{Flow}
 use Rattle.flow_graph.specs.StepLaw.{IsEdgeOf}
 use Rattle.longest_walk.specs.Built.{step_at}
+use Rattle.kept_runs.specs.declared.judging.Stray.{Stray}
+use Rattle.kept_runs.specs.declared.judging.Stray.TheVariants as stray
 use Rattle.kept_runs.specs.declared.judging.Taken.{Taken}
+use Rattle.kept_runs.specs.declared.transfers.Access.{Access}
+use Rattle.kept_runs.specs.Reading.{HasNoWord}
 
 abbrev pub label_if : Bool → Label
 label_if holds = if holds then Do else Skip
@@ -47,3 +55,34 @@ module _ (words : Words) (st : Stated) (flow : Flow) (place : Place) (s : State)
   TakesNone =
       (told : Stepped) (after : State) (e : Edge) → IsEdgeOf words st flow.profile s i told after e
       → e.from ≡ place → ⊥
+
+  -- ## Why there is none
+
+  -- the step ends in this way
+  pub record Ends (after : State) (kind : Kind) : Type 0 where
+    pub told : Stepped
+    pub step : Step s i told after
+    pub kind_is : told.kind ≡ kind
+
+  -- the step transfers a word, of another class than the one stated
+  pub record TransfersOther (after : State) (access : Access) : Type 0 where
+    pub ends : Ends after ended.Plain
+    pub first : Bool
+    pub there : Contains ends.step.moved.accesses (Word access.store first access.address)
+    pub other : IsOf (class_of st (address_in s.regs)) access.address → ⊥
+
+  -- the step goes to the address
+  pub record GoesTo (after : State) (to : ℕ) : Type 0 where
+    pub ends : Ends after ended.Plain
+    pub to_is : ends.told.to ≡ to
+
+  abbrev pub IsStray : State → Stray → Type 0
+  IsStray after stray.OtherWord = HasNoWord words s × (after ≡ s)
+  IsStray after (stray.Exception vector) = Ends after (ended.Taken vector)
+  IsStray after (stray.Stopped why) = Ends after (ended.Stopped why)
+  IsStray after (stray.OtherClass access) = TransfersOther after access
+  IsStray after (stray.Elsewhere to) = GoesTo after to
+
+  pub record Strays (after : State) (stray : Stray) : Type 0 where
+    pub none : TakesNone
+    pub is : IsStray after stray

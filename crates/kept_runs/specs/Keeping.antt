@@ -44,4 +44,4 @@ module _ (words : Words) (st : Stated) (flow : Flow) (tree : Tree) where
 
   abbrev pub IsFollowed : State → List Input → State → Followed → Type 0
   IsFollowed s inputs after (Kept steps ticks) = IsKeptRun s inputs steps ticks after
-  IsFollowed s inputs after (Strayed steps stray) = KeepsNone s inputs
+  IsFollowed s inputs after (Strayed steps why) = KeepsNone s inputs

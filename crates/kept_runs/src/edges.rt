@@ -2,7 +2,7 @@
 
 ghost use Rattle.std.specs.Prelude.{◌≡◌, ◌<◌, ◌^◌, length, MatchOption};
 ghost use Rattle.flow_graph.specs.Places.{place_at};
-ghost use Rattle.kept_runs.specs.Edges.{HasNoEdge, IsFound, is_met, is_place_of, same_label};
+ghost use Rattle.kept_runs.specs.Edges.{HasNoEdge, IsFound, IsPartOf, is_met, is_place_of, same_label};
 
 use crate::transfers::covers;
 use bus_ticks::{Class, class_of};
@@ -44,6 +44,15 @@ fn is_met(edge: &Edge, going: Going) -> bool
     same_label(edge.label, going.label) && is_place_of(&edge.to, going)
 }
 
+// Where the edges of the place begin and end.
+fn part(graph: &Graph, place: usize) -> (usize, usize)
+    requires { place < length graph.now.places }
+    ensures { IsPartOf graph.now (place_at graph.now.places place) result.0 result.1 }
+{
+    let firsts = graph.firsts();
+    (firsts[place], firsts[place + 1])
+}
+
 /// An edge of the place by the label and to the address, by its index in the graph's edges. It takes time
 /// linear in the edges of the place.
 pub(crate) fn edge_taken(graph: &Graph, place: usize, going: Going) -> Option<usize>
@@ -52,7 +61,7 @@ pub(crate) fn edge_taken(graph: &Graph, place: usize, going: Going) -> Option<us
     ensures { MatchOption result (HasNoEdge graph.now (place_at graph.now.places place) going)
         (IsFound graph.now (place_at graph.now.places place) going) }
 {
-    let (first, end) = (graph.firsts()[place], graph.firsts()[place + 1]);
+    let (first, end) = part(graph, place);
     for edge in first..end {
         if is_met(&graph.edges()[edge], going) {
             return Some(edge);

@@ -1,7 +1,5 @@
-ghost use Rattle.std.specs.Prelude.{◌≡◌, ◌+◌, ◌<◌, ◌≤◌, ◌^◌, IfOk, MatchOption, length};
-ghost use Rattle.flow_graph.specs.Graph.{IsFlowGraph};
-ghost use Rattle.loop_bounds.specs.Tree.{IsTree};
-ghost use Rattle.numbered_walks.specs.Index.{AreHeaders};
+ghost use Rattle.std.specs.Prelude.{◌+◌, ◌<◌, ◌^◌, IfOk, MatchOption, length};
+ghost use Rattle.flow_graph.specs.Flow.{IsWellFormed};
 ghost use Rattle.kept_runs.specs.Following.{AreHeadersOf, CannotGo, CanGo, Goes, IsFresh};
 ghost use Rattle.kept_runs.specs.Judging.{IsMachineFor};
 ghost use Rattle.kept_runs.specs.Keeping.{IsFollowed, IsHandler};
@@ -13,6 +11,19 @@ use arm2_effect::address_of;
 use arm2_exec::{Input, Machine, Reg};
 use numbered_walks::Span;
 use std::alloc::{AllocError, Global};
+
+/// How a run does not keep the statement of its handler.
+#[derive(Clone, Copy, Debug, PartialEq, Eq)]
+pub enum Unkept {
+    /// R15 is not the entry where the run begins.
+    NotAtEntry,
+    /// A step is along no edge.
+    Stray(Stray),
+    /// An edge turns back to the header of an instance more often than its bound allows.
+    TurnedBack(Span),
+    /// The inputs end inside the handler.
+    Unfinished,
+}
 
 /// Whether a run keeps the statement of its handler.
 #[derive(Clone, Copy)]
@@ -28,7 +39,7 @@ pub enum Followed {
     Strayed {
         /// The steps before the one that does not keep it.
         steps: u64,
-        stray: Stray,
+        why: Unkept,
     },
 }
 
@@ -51,11 +62,12 @@ fn take_step(
     follower: &mut Follower,
     machine: &mut Machine,
     input: Input,
-) -> Option<Stray>
+) -> Option<Unkept>
     requires handler { IsHandler handler.image.now handler.statement.now handler.graph.now handler.tree.now }
     requires headers { AreHeadersOf handler.graph.now handler.tree.now headers.now }
     requires can { CanGo handler.graph.now handler.tree.now follower.old machine.old }
-    requires few { follower.old.steps < 2 ^ 63 }
+    requires well_formed { IsWellFormed handler.graph.now }
+    requires few { follower.old.steps + 1 < 2 ^ 64 }
     requires small { follower.old.ticks < 2 ^ 100 }
     ensures { MatchOption result
         (Goes handler.entry.image.now handler.entry.statement.now handler.entry.graph.now
@@ -66,11 +78,11 @@ fn take_step(
     let place = handler.tree.order()[follower.number];
     let taken = match judge_step(handler, machine, place, input) {
         Ok(taken) => taken,
-        Err(stray) => return Some(stray),
+        Err(stray) => return Some(Unkept::Stray(stray)),
     };
     let edge = handler.tree.edges()[taken.edge];
     if let Some(span) = turn(headers, &mut follower.turns, &edge) {
-        return Some(Stray::TurnedBack(span));
+        return Some(Unkept::TurnedBack(span));
     }
     follower.number = edge.to;
     follower.steps += 1;
@@ -79,6 +91,7 @@ fn take_step(
 }
 
 // Steps, one for each input, until the handler is left.
+#[tactic(none)]
 fn follow_from(
     handler: Handler<'_>,
     headers: &[Option<Span>],
@@ -95,9 +108,9 @@ fn follow_from(
 {
     let exit = handler.graph.places().len();
     for input in inputs {
-        if let Some(stray) = take_step(handler, headers, follower, machine, *input) {
+        if let Some(why) = take_step(handler, headers, follower, machine, *input) {
             let steps = follower.steps;
-            return Followed::Strayed { steps, stray };
+            return Followed::Strayed { steps, why };
         }
         if follower.number == exit {
             let (steps, ticks) = (follower.steps, follower.ticks);
@@ -106,7 +119,7 @@ fn follow_from(
     }
     Followed::Strayed {
         steps: follower.steps,
-        stray: Stray::Unfinished,
+        why: Unkept::Unfinished,
     }
 }
 
@@ -122,6 +135,7 @@ fn follow_from(
 /// # Errors
 ///
 /// `AllocError` where an allocation failed.
+#[tactic(none)]
 pub fn follow(
     alloc: Global,
     handler: Handler<'_>,
@@ -145,7 +159,7 @@ pub fn follow(
     if address_of(machine.get(Reg::R15)) != handler.statement.entry() {
         return Ok(Followed::Strayed {
             steps: 0,
-            stray: Stray::NotAtEntry,
+            why: Unkept::NotAtEntry,
         });
     }
     Ok(follow_from(handler, &headers, &mut follower, machine, inputs))

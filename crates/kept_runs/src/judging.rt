@@ -1,7 +1,7 @@
 ghost use Rattle.std.specs.Prelude.{◌≡◌, ◌<◌, length, MatchResult};
 ghost use Rattle.flow_graph.specs.Graph.{IsFlowGraph};
 ghost use Rattle.flow_graph.specs.Places.{place_at};
-ghost use Rattle.kept_runs.specs.Judging.{StandsAt, Takes, TakesNone, label_if};
+ghost use Rattle.kept_runs.specs.Judging.{StandsAt, Strays, Takes, label_if};
 
 use crate::edges::{Going, edge_taken};
 use crate::handler::Handler;
@@ -10,13 +10,10 @@ use crate::transfers::{Access, other_of};
 use arm2_effect::address_of;
 use arm2_exec::{Input, Kind, Machine, Reg, Stepped, Vector, Why};
 use flow_graph::Label;
-use numbered_walks::Span;
 
-/// How a run does not keep the statement of its handler.
+/// How a step is along no edge of its place, by the statement.
 #[derive(Clone, Copy, Debug, PartialEq, Eq)]
 pub enum Stray {
-    /// R15 is not the entry where the run begins.
-    NotAtEntry,
     /// The machine does not fetch the image's word at its address.
     OtherWord,
     /// The step takes an exception.
@@ -27,10 +24,6 @@ pub enum Stray {
     OtherClass(Access),
     /// The step goes to an address, in bytes, to which no edge leads.
     Elsewhere(u32),
-    /// An edge turns back to the header of an instance more often than its bound allows.
-    TurnedBack(Span),
-    /// The inputs end inside the handler.
-    Unfinished,
 }
 
 /// A step along an edge.
@@ -47,10 +40,15 @@ fn label(holds: bool) -> Label
     if holds { Label::Do } else { Label::Skip }
 }
 
-/// Makes one step of a machine that stands at a place of the graph, named by its index: along an edge of the
-/// place, by the statement, or how not.
+/// Makes one step of a machine that stands at a place of the graph, named by its index: along which edge of the
+/// place it is, by the statement.
 ///
 /// It takes time linear in the edges of the place, and no memory.
+///
+/// # Errors
+///
+/// A [`Stray`] where no edge of the place is that of the step. The step is made all the same, but where the
+/// machine does not fetch the image's word.
 pub fn judge_step(
     handler: Handler<'_>,
     machine: &mut Machine,
@@ -64,8 +62,8 @@ pub fn judge_step(
     ensures { MatchResult result
         (Takes handler.entry.image.now handler.entry.statement.now handler.entry.graph.now
         (place_at handler.entry.graph.now.places place) machine.old input machine.new)
-        (λ _. TakesNone handler.entry.image.now handler.entry.statement.now handler.entry.graph.now
-        (place_at handler.entry.graph.now.places place) machine.old input) }
+        (Strays handler.entry.image.now handler.entry.statement.now handler.entry.graph.now
+        (place_at handler.entry.graph.now.places place) machine.old input machine.new) }
 {
     let Some(word) = own_word(handler.image, machine) else {
         return Err(Stray::OtherWord);

@@ -13,7 +13,7 @@ mod registers;
 mod stays;
 mod transfers;
 
-pub use following::{Followed, follow};
+pub use following::{Followed, Unkept, follow};
 pub use handler::Handler;
 pub use judging::{Stray, Taken, judge_step};
 pub use transfers::Access;
