@@ -2,7 +2,7 @@
 use Rattle.std.proofs.Common.{◌≡◌, ◌≢◌, ◌∙◌, ℕ, zero, suc, ◌+◌, ◌*◌, ◌<◌, ◌≤◌, ◌^◌, ◌⊎◌, inl, inr, List, [], ◌∷◌, ◌++◌, length, get_or, take, drop, map, replicate, All, None, refl, sym, ap, subst, arith, append_assoc, append-nil}
 use Rattle.std.specs.Prelude.{Contains}
 use Rattle.std.proofs.Math.ListN.{drop_of_length-le}
-use Rattle.std.proofs.lemmas.List.{drop_more, get_or-replicate, get_or_default, take_more}
+use Rattle.std.proofs.lemmas.List.{drop_more, get_or-replicate, get_or_default, length-replicate, take_more}
 use Rattle.std.proofs.lemmas.List.Elements.{All-append, All-cons, All-nil, Contains-get_or}
 use Rattle.loader.specs.Image.{Words}
 use Rattle.statement.specs.Stated.{Stated}
@@ -109,6 +109,12 @@ module _ (words : Words) (st : Stated) (flow : Flow) (tree : Tree) (well : IsWel
   front : (rest : List Input) → take 0 inputs ++ rest ≡ rest
   front rest = ap (λ (is : List Input). is ++ rest) (take_none inputs)
 
+  zero_plus : (n : ℕ) → n ≡ 0 + n
+  zero_plus n = omega arith
+
+  zero_added : (more : Ran) → more ≡ R.added (record { steps = 0; ticks = 0; elapsed = 0; stopped = None }) more
+  zero_added more = λ j. record { steps = zero_plus more.steps j; ticks = zero_plus more.ticks j; elapsed = zero_plus more.elapsed j; stopped = more.stopped }
+
   none_in : (s : Span) → most_in s [] ≤ s.bound
   none_in s = omega arith
 
@@ -125,7 +131,9 @@ module _ (words : Words) (st : Stated) (flow : Flow) (tree : Tree) (well : IsWel
     };
     follows = λ rest more follows. subst (λ (is : List Input). Follows words st flow.profile start is more) (sym (front rest)) follows;
     ran = record { steps = 0; ticks = 0; elapsed = 0; stopped = None };
-    runs = λ rest more after runs. subst (λ (is : List Input). Runs start is more after) (sym (front rest)) runs;
+    runs = λ rest more after runs.
+        subst (λ (is : List Input). Runs start is (R.added (record { steps = 0; ticks = 0; elapsed = 0; stopped = None }) more) after) (sym (front rest))
+        (subst (λ (r : Ran). Runs start rest r after) (zero_added more) runs);
     going = refl;
     steps_are = sym fresh.steps_are;
     steps_count = fresh.steps_are;
@@ -138,6 +146,18 @@ module _ (words : Words) (st : Stated) (flow : Flow) (tree : Tree) (well : IsWel
       follows = subst (λ (is : List Input). Follows words st flow.profile start (take m is) walk) (sym (drop_none inputs)) follows;
     };
   }
+
+  -- the machine stands at the entry
+  pub can_begin : (x : Follower) → IsMachineFor flow start → address_in start.regs ≡ st.entry → {exit : ℕ} → IsFresh exit x → exit ≡ length flow.places → CanGo flow tree x start
+  can_begin x machine at {exit = exit} fresh same =
+      let some : 0 < length flow.places = t.ordered.some in
+      let number = fresh.number_is in
+      record {
+        machine = machine;
+        known = omega (arith, some, number);
+        at = ([], ap (place_in flow tree) number ∙ t.entry_first ∙ handler.graph_is.entry_is ∙ ap (λ (a : ℕ). At [] a) (sym at));
+        room = ap length fresh.turns_are ∙ length-replicate (exit + 1) 0 ∙ ap (λ (n : ℕ). n + 1) same;
+      }
 
   -- ## One step more
 

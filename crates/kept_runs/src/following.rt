@@ -55,6 +55,19 @@ pub(crate) struct Follower {
     pub(crate) ticks: u128,
 }
 
+// At the entry, before a run.
+fn start(alloc: Global, exit: usize) -> Result<Follower, AllocError>
+    requires { exit < 2 ^ 32 }
+    ensures { IfOk result (IsFresh exit) }
+{
+    Ok(Follower {
+        number: 0,
+        turns: vec![in alloc; 0; exit + 1]?,
+        steps: 0,
+        ticks: 0,
+    })
+}
+
 // One step from where the run stands, or how it does not keep the statement.
 fn take_step(
     handler: Handler<'_>,
@@ -91,7 +104,6 @@ fn take_step(
 }
 
 // Steps, one for each input, until the handler is left.
-#[tactic(none)]
 fn follow_from(
     handler: Handler<'_>,
     headers: &[Option<Span>],
@@ -135,7 +147,6 @@ fn follow_from(
 /// # Errors
 ///
 /// `AllocError` where an allocation failed.
-#[tactic(none)]
 pub fn follow(
     alloc: Global,
     handler: Handler<'_>,
@@ -150,12 +161,7 @@ pub fn follow(
 {
     let exit = handler.graph.places().len();
     let headers = headers(alloc, handler.tree.spans(), exit)?;
-    let mut follower = Follower {
-        number: 0,
-        turns: vec![in alloc; 0; exit + 1]?,
-        steps: 0,
-        ticks: 0,
-    };
+    let mut follower = start(alloc, exit)?;
     if address_of(machine.get(Reg::R15)) != handler.statement.entry() {
         return Ok(Followed::Strayed {
             steps: 0,

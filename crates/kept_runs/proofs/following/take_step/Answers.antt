@@ -1,4 +1,4 @@
-use Rattle.std.proofs.Common.{◌<◌, ◌≡◌, ◌∙◌, ℕ, List, ap, arith, get_or, length, subst, sym}
+use Rattle.std.proofs.Common.{◌+◌, ◌<◌, ℕ, List, ap, arith, get_or, length, refl, subst, sym}
 use Rattle.flow_graph.specs.Places.{place_at}
 use Rattle.numbered_walks.specs.Index.{edge_at}
 use Rattle.numbered_walks.specs.declared.span.NumberedEdge.{NumberedEdge}
@@ -61,4 +61,13 @@ returns-in-Some c =
     (subst (λ (es : List NumberedEdge). IsOver c.args.headers.now (edge_at es c.in-Ok.taken.edge) c.args.follower.now.turns.items c.in-Some.span) c.edges.ensures c.in-Some.ensures)
 
 pub returns : goal.returns
-returns c = ?
+returns c =
+    let k = c.in-Ok.taken.edge in
+    goes c.args.handler.image.now c.args.handler.statement.now c.args.handler.graph.now c.args.handler.tree.now c.requires.well_formed c.requires.handler.tree_is c.args.follower.now c.args.machine.now c.requires.can c.args.input
+    c.args.headers.now c.requires.headers c.judge_step.new.machine c.in-Ok.taken
+    (subst (λ (xs : List ℕ). Takes c.args.handler.image.now c.args.handler.statement.now c.args.handler.graph.now (place_at c.args.handler.graph.now.places (get_or xs c.args.follower.now.number 0)) c.args.machine.now c.args.input c.judge_step.new.machine c.in-Ok.taken) c.order.ensures c.in-Ok.ensures)
+    _
+    (subst (λ (es : List NumberedEdge). Turns c.args.headers.now (edge_at es c.in-Ok.taken.edge) c.args.follower.now.turns.items c.turn.new.turns.items) c.edges.ensures c.in_default.ensures)
+    (ap (λ (es : List NumberedEdge). (edge_at es c.in-Ok.taken.edge).to) c.edges.ensures)
+    refl
+    (ap (λ (n : ℕ). c.args.follower.now.ticks + n) c.from.ensures)
