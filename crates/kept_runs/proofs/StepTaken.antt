@@ -1,5 +1,5 @@
 -- One step of a run that is followed.
-use Rattle.std.proofs.Common.{◌≡◌, ◌∙◌, ℕ, ◌+◌, ◌<◌, ◌≤◌, ◌^◌, List, [], ◌∷◌, ◌++◌, length, get_or, Option, Some, None, refl, sym, ap, subst, arith}
+use Rattle.std.proofs.Common.{◌≡◌, ◌∙◌, ℕ, ◌+◌, ◌<◌, ◌≤◌, List, [], ◌∷◌, ◌++◌, length, get_or, Option, Some, None, refl, sym, ap, subst, arith}
 use Rattle.std.specs.Prelude.{Contains}
 use Rattle.std.proofs.Math.ListN.{length-set}
 use Rattle.std.proofs.lemmas.List.{get_or_default}
@@ -12,7 +12,6 @@ use Rattle.arm2_exec.specs.declared.machine.Stepped.{Stepped}
 use Rattle.flow_graph.specs.Flow.{Flow, IsWellFormed}
 use Rattle.flow_graph.specs.Places.{place_at}
 use Rattle.flow_graph.specs.declared.edges.Edge.{Edge}
-use Rattle.flow_graph.specs.declared.places.Place.{Place}
 use Rattle.numbered_walks.specs.declared.span.NumberedEdge.{NumberedEdge}
 use Rattle.numbered_walks.specs.declared.span.Span.{Span}
 use Rattle.numbered_walks.specs.Index.{edge_at}
@@ -22,7 +21,7 @@ use Rattle.longest_walk.proofs.CarryWalks.{edge_same, no_number, number_is}
 use Rattle.kept_runs.specs.declared.following.Follower.{Follower}
 use Rattle.kept_runs.specs.declared.judging.Taken.{Taken}
 use Rattle.kept_runs.specs.Following.{AreHeadersOf, CanGo, CannotGo, Goes, IsNext, Keeps}
-use Rattle.kept_runs.specs.Judging.{IsMachineFor, StandsAt, Takes, TakesNone}
+use Rattle.kept_runs.specs.Judging.{StandsAt, Takes, TakesNone}
 use Rattle.kept_runs.specs.Stays.{IsOver, Tells, Turns, header_at, turned}
 use Rattle.kept_runs.proofs.OneStep.{one_edge_of}
 use Rattle.kept_runs.proofs.StayLemmas.{over, told_on}
