@@ -1,17 +1,18 @@
 -- A run that is followed, as far as it has come.
-use Rattle.std.proofs.Common.{◌≡◌, ◌∙◌, ℕ, zero, suc, ◌+◌, ◌*◌, ◌<◌, ◌≤◌, List, [], ◌∷◌, ◌++◌, length, get_or, take, drop, map, None, refl, sym, ap, subst, arith, append_assoc, append-nil}
+use Rattle.std.proofs.Common.{◌≡◌, ◌≢◌, ◌∙◌, ℕ, zero, suc, ◌+◌, ◌*◌, ◌<◌, ◌≤◌, ◌^◌, ◌⊎◌, inl, inr, List, [], ◌∷◌, ◌++◌, length, get_or, take, drop, map, replicate, All, None, refl, sym, ap, subst, arith, append_assoc, append-nil}
 use Rattle.std.specs.Prelude.{Contains}
 use Rattle.std.proofs.Math.ListN.{drop_of_length-le}
 use Rattle.std.proofs.lemmas.List.{drop_more, get_or-replicate, get_or_default, length-replicate, take_more}
 use Rattle.std.proofs.lemmas.List.Elements.{All-append, All-cons, All-nil, Contains-get_or}
 use Rattle.loader.specs.Image.{Words}
 use Rattle.statement.specs.Stated.{Stated}
-use Rattle.arm2_exec.specs.Run.{Runs}
+use Rattle.arm2_exec.specs.Run.{Runs, at_rest, why_stopped}
 use Rattle.arm2_exec.specs.State.{State}
-use Rattle.arm2_exec.specs.Step.{address_in}
+use Rattle.arm2_exec.specs.Step.{Step, address_in}
 use Rattle.arm2_exec.specs.declared.machine.Input.{Input}
 use Rattle.arm2_exec.specs.declared.machine.Ran.{Ran}
 use Rattle.arm2_exec.specs.declared.machine.Stepped.{Stepped}
+use Rattle.arm2_effect.specs.declared.step_end.Kind.{Kind}
 use Rattle.arm2_effect.specs.declared.step_end.Kind.TheVariants.{Plain, Stopped}
 use Rattle.arm2_effect.specs.declared.step_end.Why.{Why}
 use Rattle.arm2_exec.proofs.RunLemmas as R
@@ -19,9 +20,11 @@ use Rattle.arm2_exec.proofs.StepLemmas.{one_step}
 use Rattle.walks.specs.Walk.{Leads}
 use Rattle.walks.specs.Stretch.{Keeps}
 use Rattle.walks.specs.Greatest as G
+use Rattle.walks.specs.Segments.{most, tail}
 use Rattle.walks.proofs.Joins.{keeps_from_most, most_from_keeps}
 use Rattle.walks.proofs.Leading.{Leads-append}
 use Rattle.flow_graph.specs.Flow.{Flow, HasEdge, IsWellFormed, edge_shape}
+use Rattle.flow_graph.specs.Graph.{IsFlowGraph}
 use Rattle.flow_graph.specs.StepLaw.{Follows, IsEdgeOf, IsPlaceOf}
 use Rattle.flow_graph.specs.declared.edges.Edge.{Edge}
 use Rattle.flow_graph.specs.declared.places.Place.{Place}
@@ -33,15 +36,18 @@ use Rattle.numbered_walks.specs.Ordered as O
 use Rattle.numbered_walks.specs.Ordered.{ends_at_header, is_in, is_inside, number_shape}
 use Rattle.numbered_walks.specs.Reach.{most_in}
 use Rattle.loop_bounds.specs.Bounds.{IsCompleteWalk}
-use Rattle.loop_bounds.specs.Instance.{place_loops}
+use Rattle.loop_bounds.specs.Instance.{Instance, place_loops}
 use Rattle.loop_bounds.specs.Tree.{IsTree, Tree, place_in}
 use Rattle.longest_walk.specs.Built.{step_at, steps_of}
 use Rattle.longest_walk.specs.Longest.{KeepsTree}
-use Rattle.longest_walk.proofs.CarryWalks.{AreNumbersOf, edge_same, exit_is, exit_place, keeps_down, keeps_up, leads_up, no_edge}
+use Rattle.longest_walk.proofs.CarryWalks.{AreNumbersOf, edge_same, exit_is, exit_place, keeps_down, keeps_up, leads_up, no_edge, number_is}
 use Rattle.kept_runs.specs.declared.following.Follower.{Follower}
-use Rattle.kept_runs.specs.Following.{CanGo, CannotGo, Goes, IsFresh, IsNext}
+use Rattle.kept_runs.specs.declared.following.Unkept.{Unkept}
+use Rattle.kept_runs.specs.declared.following.Unkept.TheVariants as unkept
+use Rattle.kept_runs.specs.declared.following.Unkept.TheVariants.{NotAtEntry, TurnedBack, Unfinished}
+use Rattle.kept_runs.specs.Following.{CanGo, CannotGo, Goes, IsFresh, IsNext, IsWhy, Halts}
 use Rattle.kept_runs.specs.Judging.{IsMachineFor, IsPlaceFor}
-use Rattle.kept_runs.specs.Keeping.{IsHandler, IsKeptRun, KeepsNone}
+use Rattle.kept_runs.specs.Keeping.{ComesTo, IsHandler, IsKeptRun, IsStrayedRun, IsUnkept, KeepsNone, KeepsTo}
 use Rattle.kept_runs.specs.Stays.{Tells}
 use Rattle.kept_runs.proofs.OneStep.{lands, one_edge_of}
 use Rattle.kept_runs.proofs.StepTaken.{leaves_number, leaves_place}
@@ -156,6 +162,29 @@ module _ (words : Words) (st : Stated) (flow : Flow) (tree : Tree) (well : IsWel
         room = ap length fresh.turns_are ∙ length-replicate (exit + 1) 0 ∙ ap (λ (n : ℕ). n + 1) same;
       }
 
+  -- ## How far it has come
+
+  abbrev pub comes_to : (n : ℕ) (x : Follower) (now : State) → SoFar words st flow tree start inputs n x now → n ≤ length inputs → ComesTo words st flow tree start inputs x.steps (place_in flow tree x.number) now
+  comes_to n x now so_far few =
+      let count : n ≡ x.steps = sym so_far.steps_count in
+      let all : take n inputs ++ [] ≡ take x.steps inputs = append-nil (take n inputs) ∙ ap (λ (m : ℕ). take m inputs) count in
+      record {
+        few = omega (arith, few, count);
+        walk = steps_of flow.edges so_far.numbers;
+        leads =
+            subst (λ (p : Place). Leads edge_shape (HasEdge flow) p (steps_of flow.edges so_far.numbers) (place_in flow tree x.number)) t.entry_first
+            (leads_up flow tree well t so_far.numbers 0 x.number so_far.inside so_far.leads);
+        kept = keeps_up flow tree well t so_far.numbers so_far.inside
+            (λ s s_in. keeps_from_most (is_inside s) (ends_at_header s) s.bound (edges_of tree.edges so_far.numbers) (so_far.told.kept s s_in));
+        follows =
+            subst (λ (is : List Input). Follows words st flow.profile start is (steps_of flow.edges so_far.numbers)) all
+            (subst (λ (v : List Edge). Follows words st flow.profile start (take n inputs ++ []) v) (append-nil (steps_of flow.edges so_far.numbers))
+            (so_far.follows [] [] tt));
+        ran = so_far.ran;
+        runs = subst (λ (is : List Input). Runs start is so_far.ran now) all (R.at_end start (take n inputs ++ []) so_far.ran now [] (so_far.runs []) refl so_far.going);
+        steps_are = so_far.steps_are;
+      }
+
   -- ## One step more
 
   module _ (n : ℕ) (i : Input) (n_in : n < length inputs) (at : get_or inputs n i ≡ i) (x : Follower) (now : State) (can : CanGo flow tree x now) (so_far : SoFar words st flow tree start inputs n x now) where
@@ -209,23 +238,69 @@ module _ (words : Words) (st : Stated) (flow : Flow) (tree : Tree) (well : IsWel
         next_by walk on.rest on.count on.walk_is on.leads
         (subst (λ (is : List Input). Follows words st flow.profile now (take on.count is) on.rest) left_is on.follows)
 
+    -- a walk that goes on by an edge, along places and along numbers
+    module _ (k : ℕ) (k_in : k < length flow.edges) where
+      inside_on : AreNumbersOf flow (so_far.numbers ++ k ∷ [])
+      inside_on = All-append (λ j. j < length flow.edges) so_far.numbers (k ∷ []) so_far.inside (All-cons (λ j. j < length flow.edges) k [] k_in (All-nil (λ j. j < length flow.edges)))
+
+      up_on : steps_of flow.edges (so_far.numbers ++ k ∷ []) ≡ steps_of flow.edges so_far.numbers ++ step_at flow.edges k ∷ []
+      up_on = map_append (step_at flow.edges) so_far.numbers (k ∷ [])
+
+      down_on : edges_of tree.edges (so_far.numbers ++ k ∷ []) ≡ edges_of tree.edges so_far.numbers ++ edge_at tree.edges k ∷ []
+      down_on = map_append (edge_at tree.edges) so_far.numbers (k ∷ [])
+
+      -- where the walk by places keeps the bounds, that by numbers does
+      keeps_on : KeepsTree tree (steps_of flow.edges so_far.numbers ++ step_at flow.edges k ∷ []) → (s : Span) → Contains tree.spans s → most_in s (edges_of tree.edges so_far.numbers ++ edge_at tree.edges k ∷ []) ≤ s.bound
+      keeps_on keeps s s_in =
+          let kept : O.KeepsBounds tree.spans (edges_of tree.edges (so_far.numbers ++ k ∷ [])) =
+          keeps_down flow tree well t (so_far.numbers ++ k ∷ []) inside_on (subst (λ (v : List Edge). KeepsTree tree v) (sym up_on) keeps) in
+          most_from_keeps (is_inside s) (ends_at_header s) s.bound (edges_of tree.edges so_far.numbers ++ edge_at tree.edges k ∷ [])
+          (subst (λ (v : List NumberedEdge). Keeps (is_inside s) (ends_at_header s) s.bound v) down_on (kept s s_in))
+
     -- no complete walk goes on
-    pub none_next : CannotGo words st flow tree x now i → KeepsNone words st flow tree start inputs
+    none_next : CannotGo words st flow tree x now i → KeepsNone words st flow tree start inputs
     none_next cannot m keeps =
         let h = has_next m keeps.walk keeps.complete keeps.follows in
-        let numbers : List ℕ = so_far.numbers ++ h.edge ∷ [] in
-        let inside : AreNumbersOf flow numbers = All-append (λ k. k < length flow.edges) so_far.numbers (h.edge ∷ []) so_far.inside (All-cons (λ k. k < length flow.edges) h.edge [] h.next.known (All-nil (λ k. k < length flow.edges))) in
-        let up : steps_of flow.edges numbers ≡ steps_of flow.edges so_far.numbers ++ step_at flow.edges h.edge ∷ [] = map_append (step_at flow.edges) so_far.numbers (h.edge ∷ []) in
-        let down : edges_of tree.edges numbers ≡ edges_of tree.edges so_far.numbers ++ edge_at tree.edges h.edge ∷ [] = map_append (edge_at tree.edges) so_far.numbers (h.edge ∷ []) in
-        let whole : keeps.walk ≡ steps_of flow.edges numbers ++ h.rest =
-        h.walk_is ∙ sym (next_to (steps_of flow.edges so_far.numbers) (step_at flow.edges h.edge) h.rest) ∙ ap (λ (v : List Edge). v ++ h.rest) (sym up) in
-        let front : KeepsTree tree (steps_of flow.edges numbers) = λ j in_tree.
-        front_keeps (G.is_inside edge_shape place_loops j) (G.ends_at_header edge_shape place_loops j) j.bound (steps_of flow.edges numbers) h.rest
+        let front : List Edge = steps_of flow.edges so_far.numbers ++ step_at flow.edges h.edge ∷ [] in
+        let whole : keeps.walk ≡ (steps_of flow.edges so_far.numbers ++ step_at flow.edges h.edge ∷ []) ++ h.rest =
+        h.walk_is ∙ sym (next_to (steps_of flow.edges so_far.numbers) (step_at flow.edges h.edge) h.rest) in
+        let kept : KeepsTree tree (steps_of flow.edges so_far.numbers ++ step_at flow.edges h.edge ∷ []) = λ j in_tree.
+        front_keeps (G.is_inside edge_shape place_loops j) (G.ends_at_header edge_shape place_loops j) j.bound (steps_of flow.edges so_far.numbers ++ step_at flow.edges h.edge ∷ []) h.rest
         (subst (λ (v : List Edge). G.KeepsBound edge_shape place_loops j v) whole (keeps.kept j in_tree)) in
-        let kept : O.KeepsBounds tree.spans (edges_of tree.edges numbers) = keeps_down flow tree well t numbers inside front in
-        cannot h.told h.after h.edge h.next (edges_of tree.edges so_far.numbers) so_far.told
-        (λ s s_in. most_from_keeps (is_inside s) (ends_at_header s) s.bound (edges_of tree.edges so_far.numbers ++ edge_at tree.edges h.edge ∷ [])
-        (subst (λ (v : List NumberedEdge). Keeps (is_inside s) (ends_at_header s) s.bound v) down (kept s s_in)))
+        cannot h.told h.after h.edge h.next (edges_of tree.edges so_far.numbers) so_far.told (keeps_on h.edge h.next.known kept)
+
+    -- how far the run has come
+    comes : ComesTo words st flow tree start inputs x.steps (place_in flow tree x.number) now
+    comes = comes_to n x now so_far (omega (arith, n_in))
+
+    at_steps : x.steps < length inputs
+    at_steps = let count = so_far.steps_count in omega (arith, n_in, count)
+
+    input_is : get_or inputs x.steps i ≡ i
+    input_is = ap (λ (m : ℕ). get_or inputs m i) so_far.steps_count ∙ at
+
+    unkept_by : (last : State) (why : Unkept) → CannotGo words st flow tree x now i → IsWhy words st flow tree x now i last why → IsUnkept words st flow tree start inputs x.steps last why
+    unkept_by last NotAtEntry cannot is = absurd is
+    unkept_by last (unkept.Stray stray) cannot is = record { place = place_in flow tree x.number; now = now; input = i; comes = comes; at = at_steps; input_is = input_is; is = is }
+    unkept_by last (TurnedBack span) cannot (told, k, next, in_tree, header) = record {
+      place = place_in flow tree x.number;
+      now = now;
+      input = i;
+      comes = comes_to n x now so_far (omega (arith, n_in));
+      at = at_steps;
+      input_is = input_is;
+      told = told;
+      edge = step_at flow.edges k;
+      is_edge_of = next.is_edge_of;
+      from = leaves_place words st flow tree well t x now can k next.known next.from;
+      in_tree = in_tree;
+      to = sym (edge_same flow tree well t k next.known).to_is ∙ ap (place_in flow tree) header;
+      broken = λ keeps. cannot told last k next (edges_of tree.edges so_far.numbers) so_far.told (keeps_on k next.known keeps);
+    }
+    unkept_by last Unfinished cannot is = absurd is
+
+    pub strays : (last : State) (why : Unkept) → Halts words st flow tree x now i last why → IsStrayedRun words st flow tree start inputs x.steps why last
+    strays last why h = record { none = none_next h.cannot; is = unkept_by last why h.cannot h.is }
 
     module _ (y : Follower) (after : State) (goes : Goes words st flow tree x y now i after) where
       abbrev k : ℕ
@@ -311,33 +386,25 @@ module _ (words : Words) (st : Stated) (flow : Flow) (tree : Tree) (well : IsWel
 
   pub left : (n : ℕ) (x : Follower) (now : State) → SoFar words st flow tree start inputs n x now → n ≤ length inputs → x.number ≡ length flow.places → IsKeptRun words st flow tree start inputs x.steps x.ticks now
   left n x now so_far few at_exit =
-      let count : n ≡ x.steps = sym so_far.steps_count in
-      let all : take n inputs ++ [] ≡ take x.steps inputs = append-nil (take n inputs) ∙ ap (λ (m : ℕ). take m inputs) count in
+      let come = comes_to n x now so_far few in
       let end : place_in flow tree x.number ≡ Exit = ap (place_in flow tree) at_exit ∙ exit_place flow tree well t in
       record {
-        few = omega (arith, few, count);
+        few = come.few;
         keeps = record {
-          walk = steps_of flow.edges so_far.numbers;
-          complete =
-              subst (λ (p : Place). Leads edge_shape (HasEdge flow) p (steps_of flow.edges so_far.numbers) Exit) t.entry_first
-              (subst (λ (p : Place). Leads edge_shape (HasEdge flow) (place_in flow tree 0) (steps_of flow.edges so_far.numbers) p) end
-              (leads_up flow tree well t so_far.numbers 0 x.number so_far.inside so_far.leads));
-          kept = keeps_up flow tree well t so_far.numbers so_far.inside
-              (λ s s_in. keeps_from_most (is_inside s) (ends_at_header s) s.bound (edges_of tree.edges so_far.numbers) (so_far.told.kept s s_in));
-          follows =
-              subst (λ (is : List Input). Follows words st flow.profile start is (steps_of flow.edges so_far.numbers)) all
-              (subst (λ (v : List Edge). Follows words st flow.profile start (take n inputs ++ []) v) (append-nil (steps_of flow.edges so_far.numbers))
-              (so_far.follows [] [] tt));
+          walk = come.walk;
+          complete = subst (λ (p : Place). Leads edge_shape (HasEdge flow) flow.entry come.walk p) end come.leads;
+          kept = come.kept;
+          follows = come.follows;
         };
         ran = so_far.ran;
-        runs = subst (λ (is : List Input). Runs start is so_far.ran now) all (R.at_end start (take n inputs ++ []) so_far.ran now [] (so_far.runs []) refl so_far.going);
+        runs = come.runs;
         steps_are = so_far.steps_are;
         ticks_are = so_far.ticks_are;
       }
 
   -- the inputs end inside the handler
-  pub unfinished : (n : ℕ) (x : Follower) (now : State) → CanGo flow tree x now → SoFar words st flow tree start inputs n x now → length inputs ≤ n → KeepsNone words st flow tree start inputs
-  unfinished n x now can so_far past m keeps =
+  none_left : (n : ℕ) (x : Follower) (now : State) → CanGo flow tree x now → SoFar words st flow tree start inputs n x now → length inputs ≤ n → KeepsNone words st flow tree start inputs
+  none_left n x now can so_far past m keeps =
       let on = so_far.only m keeps.walk keeps.complete keeps.follows in
       let none : drop n inputs ≡ [] = drop_of_length-le inputs past in
       ends_by on.rest on.count on.leads (subst (λ (is : List Input). Follows words st flow.profile now (take on.count is) on.rest) none on.follows)
@@ -347,9 +414,17 @@ module _ (words : Words) (st : Stated) (flow : Flow) (tree : Tree) (well : IsWel
       ends_by (e ∷ rest) zero leads follows = follows
       ends_by (e ∷ rest) (suc count) leads follows = follows
 
+  pub unfinished : (n : ℕ) (x : Follower) (now : State) → CanGo flow tree x now → SoFar words st flow tree start inputs n x now → length inputs ≤ n → n ≤ length inputs → IsStrayedRun words st flow tree start inputs x.steps Unfinished now
+  unfinished n x now can so_far past few =
+      let count = so_far.steps_count in
+      record {
+        none = none_left n x now can so_far past;
+        is = (omega (arith, count, past, few), (place_in flow tree x.number, comes_to n x now so_far few));
+      }
+
   -- the machine does not stand at the entry
-  pub elsewhere : (address_in start.regs ≡ st.entry → ⊥) → KeepsNone words st flow tree start inputs
-  elsewhere other m keeps = by_walk keeps.walk (take m inputs) keeps.complete keeps.follows
+  none_there : (address_in start.regs ≡ st.entry → ⊥) → KeepsNone words st flow tree start inputs
+  none_there other m keeps = by_walk keeps.walk (take m inputs) keeps.complete keeps.follows
     where
       entry : flow.entry ≡ At [] st.entry
       entry = handler.graph_is.entry_is
@@ -362,3 +437,6 @@ module _ (words : Words) (st : Stated) (flow : Flow) (tree : Tree) (well : IsWel
       by_walk (e ∷ walk) [] leads follows = follows
       by_walk (e ∷ walk) (i ∷ is) leads follows =
           other (same_address follows.2.calls [] (address_in start.regs) st.entry (sym follows.2.taken.from ∙ leads.1 ∙ entry))
+
+  pub elsewhere : (address_in start.regs ≡ st.entry → ⊥) → IsStrayedRun words st flow tree start inputs 0 NotAtEntry start
+  elsewhere other = record { none = none_there other; is = (refl, refl, other) }

@@ -1,5 +1,5 @@
 -- One step of a run that is followed.
-use Rattle.std.proofs.Common.{◌≡◌, ◌∙◌, ℕ, ◌+◌, ◌<◌, ◌≤◌, List, [], ◌∷◌, ◌++◌, length, get_or, Option, Some, None, refl, sym, ap, subst, arith}
+use Rattle.std.proofs.Common.{◌≡◌, ◌∙◌, ℕ, ◌+◌, ◌<◌, ◌≤◌, ◌^◌, List, [], ◌∷◌, ◌++◌, length, get_or, Option, Some, None, refl, sym, ap, subst, arith}
 use Rattle.std.specs.Prelude.{Contains}
 use Rattle.std.proofs.Math.ListN.{length-set}
 use Rattle.std.proofs.lemmas.List.{get_or_default}
@@ -12,6 +12,7 @@ use Rattle.arm2_exec.specs.declared.machine.Stepped.{Stepped}
 use Rattle.flow_graph.specs.Flow.{Flow, IsWellFormed}
 use Rattle.flow_graph.specs.Places.{place_at}
 use Rattle.flow_graph.specs.declared.edges.Edge.{Edge}
+use Rattle.flow_graph.specs.declared.places.Place.{Place}
 use Rattle.numbered_walks.specs.declared.span.NumberedEdge.{NumberedEdge}
 use Rattle.numbered_walks.specs.declared.span.Span.{Span}
 use Rattle.numbered_walks.specs.Index.{edge_at}
@@ -20,8 +21,11 @@ use Rattle.longest_walk.specs.Built.{step_at}
 use Rattle.longest_walk.proofs.CarryWalks.{edge_same, no_number, number_is}
 use Rattle.kept_runs.specs.declared.following.Follower.{Follower}
 use Rattle.kept_runs.specs.declared.judging.Taken.{Taken}
-use Rattle.kept_runs.specs.Following.{AreHeadersOf, CanGo, CannotGo, Goes, IsNext, Keeps}
-use Rattle.kept_runs.specs.Judging.{StandsAt, Takes, TakesNone}
+use Rattle.kept_runs.specs.declared.following.Unkept.TheVariants as unkept
+use Rattle.kept_runs.specs.declared.following.Unkept.TheVariants.{TurnedBack}
+use Rattle.kept_runs.specs.declared.judging.Stray.{Stray}
+use Rattle.kept_runs.specs.Following.{AreHeadersOf, CanGo, CannotGo, Goes, IsNext, Keeps, Halts}
+use Rattle.kept_runs.specs.Judging.{IsMachineFor, IsStray, StandsAt, Strays, Takes, TakesNone}
 use Rattle.kept_runs.specs.Stays.{IsOver, Tells, Turns, header_at, turned}
 use Rattle.kept_runs.proofs.OneStep.{one_edge_of}
 use Rattle.kept_runs.proofs.StayLemmas.{over, told_on}
@@ -69,9 +73,15 @@ module _ (words : Words) (st : Stated) (flow : Flow) (tree : Tree) (well : IsWel
 
   module _ (i : Input) where
     -- no edge of the place
-    pub none_goes : TakesNone words st flow (place_at flow.places (get_or tree.order x.number 0)) s i → CannotGo words st flow tree x s i
+    none_goes : TakesNone words st flow (place_at flow.places (get_or tree.order x.number 0)) s i → CannotGo words st flow tree x s i
     none_goes none told after k next walk tells keeps =
         none told after (step_at flow.edges k) next.is_edge_of (leaves_place k next.known next.from ∙ place_is)
+
+    pub strays : (after : State) (stray : Stray) → Strays words st flow (place_at flow.places (get_or tree.order x.number 0)) s i after stray → Halts words st flow tree x s i after (unkept.Stray stray)
+    strays after stray h = record {
+      cannot = none_goes h.none;
+      is = subst (λ (p : Place). IsStray words st flow p s i after stray) (sym place_is) h.is;
+    }
 
     module _ (headers : List (Option Span)) (are : AreHeadersOf flow tree headers) (after : State) (taken : Taken) (takes : Takes words st flow (place_at flow.places (get_or tree.order x.number 0)) s i after taken) where
       abbrev e : NumberedEdge
@@ -106,10 +116,15 @@ module _ (words : Words) (st : Stated) (flow : Flow) (tree : Tree) (well : IsWel
           (a.cost_is ∙ ap (λ (d : Edge). d.cost) same ∙ sym b.cost_is)
 
       -- one back edge too many
-      pub over_goes : (span : Span) → IsOver headers (edge_at tree.edges taken.edge) x.turns.items span → CannotGo words st flow tree x s i
+      over_goes : (span : Span) → IsOver headers (edge_at tree.edges taken.edge) x.turns.items span → CannotGo words st flow tree x s i
       over_goes span is_over told last k other walk tells keeps =
           over (length flow.places) tree.edges tree.spans t.ordered headers are.are (edge_at tree.edges taken.edge) (in_tree taken.edge takes.known) walk x.turns.items x.turns.items room (tells_from walk tells) span is_over
           (subst (λ (d : NumberedEdge). Keeps tree (walk ++ d ∷ [])) (sym (one told last k other)) keeps)
+
+      pub turns_back : (span : Span) → IsOver headers (edge_at tree.edges taken.edge) x.turns.items span → Halts words st flow tree x s i after (TurnedBack span)
+      turns_back span is_over =
+          let known = are.are.known (edge_at tree.edges taken.edge).to span is_over.header in
+          record { cannot = over_goes span is_over; is = (taken.stepped, taken.edge, next, known.0, sym known.1) }
 
       pub goes : (new : Follower) → Turns headers (edge_at tree.edges taken.edge) x.turns.items new.turns.items → new.number ≡ (edge_at tree.edges taken.edge).to → new.steps ≡ x.steps + 1 → new.ticks ≡ x.ticks + taken.stepped.ticks → Goes words st flow tree x new s i after
       goes new turns number steps ticks = record {

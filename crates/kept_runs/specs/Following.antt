@@ -15,7 +15,10 @@ use Rattle.numbered_walks.specs.Reach.{most_in}
 use Rattle.loop_bounds.specs.Tree.{Tree, place_in}
 use Rattle.longest_walk.specs.Built.{step_at}
 use Rattle.kept_runs.specs.declared.following.Follower.{Follower}
-use Rattle.kept_runs.specs.Judging.{IsMachineFor, IsPlaceFor}
+use Rattle.kept_runs.specs.declared.following.Unkept.{Unkept}
+use Rattle.kept_runs.specs.declared.following.Unkept.TheVariants as unkept
+use Rattle.kept_runs.specs.declared.following.Unkept.TheVariants.{NotAtEntry, TurnedBack, Unfinished}
+use Rattle.kept_runs.specs.Judging.{IsMachineFor, IsPlaceFor, IsStray}
 use Rattle.kept_runs.specs.Stays.{Tells}
 
 -- the span that begins at each number of a place, and at that of Exit
@@ -68,3 +71,17 @@ module _ (words : Words) (st : Stated) (flow : Flow) (tree : Tree) where
   CannotGo x s i =
       (told : Stepped) (after : State) (k : ℕ) → IsNext x s i told after k → (walk : List NumberedEdge)
       → Tells tree.spans x.turns.items x.number walk → Keeps tree (walk ++ edge_at tree.edges k ∷ []) → ⊥
+
+  -- why not: what the step does, or the instance to whose header its edge leads
+  abbrev pub IsWhy : Follower → State → Input → State → Unkept → Type 0
+  IsWhy x s i after NotAtEntry = ⊥
+  IsWhy x s i after (unkept.Stray stray) =
+      IsStray words st flow (place_in flow tree x.number) s i after stray
+  IsWhy x s i after (TurnedBack span) =
+      (told : Stepped) × (k : ℕ) × IsNext x s i told after k × Contains tree.spans span
+      × ((edge_at tree.edges k).to ≡ span.header)
+  IsWhy x s i after Unfinished = ⊥
+
+  pub record Halts (x : Follower) (s : State) (i : Input) (after : State) (why : Unkept) : Type 0 where
+    pub cannot : CannotGo x s i
+    pub is : IsWhy x s i after why

@@ -1,6 +1,6 @@
 ghost use Rattle.std.specs.Prelude.{◌+◌, ◌<◌, ◌^◌, IfOk, MatchOption, length};
 ghost use Rattle.flow_graph.specs.Flow.{IsWellFormed};
-ghost use Rattle.kept_runs.specs.Following.{AreHeadersOf, CannotGo, CanGo, Goes, IsFresh};
+ghost use Rattle.kept_runs.specs.Following.{AreHeadersOf, CanGo, Goes, IsFresh, Halts};
 ghost use Rattle.kept_runs.specs.Judging.{IsMachineFor};
 ghost use Rattle.kept_runs.specs.Keeping.{IsFollowed, IsHandler};
 
@@ -85,8 +85,8 @@ fn take_step(
     ensures { MatchOption result
         (Goes handler.entry.image.now handler.entry.statement.now handler.entry.graph.now
         handler.entry.tree.now follower.old follower.new machine.old input machine.new)
-        (λ _. CannotGo handler.entry.image.now handler.entry.statement.now handler.entry.graph.now
-        handler.entry.tree.now follower.old machine.old input) }
+        (Halts handler.entry.image.now handler.entry.statement.now handler.entry.graph.now
+        handler.entry.tree.now follower.old machine.old input machine.new) }
 {
     let place = handler.tree.order()[follower.number];
     let taken = match judge_step(handler, machine, place, input) {
@@ -120,8 +120,8 @@ fn follow_from(
 {
     let exit = handler.graph.places().len();
     for input in inputs {
+        let steps = follower.steps;
         if let Some(why) = take_step(handler, headers, follower, machine, *input) {
-            let steps = follower.steps;
             return Followed::Strayed { steps, why };
         }
         if follower.number == exit {

@@ -1,7 +1,7 @@
-use Rattle.std.proofs.Common.{◌+◌, ◌∙◌, ap, arith, get_or, length, sym}
+use Rattle.std.proofs.Common.{◌+◌, ◌≡◌, ◌∙◌, ap, arith, get_or, length, sym}
 use Rattle.std.proofs.lemmas.List.{get_or_default}
 use Rattle.arm2_exec.specs.declared.machine.Input.{Input}
-use Rattle.kept_runs.proofs.SoFar.{begins, can_more, left, more, none_next, unfinished}
+use Rattle.kept_runs.proofs.SoFar.{begins, can_more, left, more, strays, unfinished}
 use Rattle.kept_runs.proofs.following.follow_from.Goals as goal
 
 abbrev none : Input
@@ -34,9 +34,9 @@ pub returns-in-Some : goal.returns-in-Some
 returns-in-Some c =
     let n = c.loop-input.input-index in
     let inputs = c.args.inputs.now in
-    none_next c.args.handler.image.now c.args.handler.statement.now c.args.handler.graph.now c.args.handler.tree.now c.places-exit.ensures.well_formed c.requires.handler c.args.machine.now c.args.inputs.now
+    strays c.args.handler.image.now c.args.handler.statement.now c.args.handler.graph.now c.args.handler.tree.now c.places-exit.ensures.well_formed c.requires.handler c.args.machine.now c.args.inputs.now
     c.loop-input.input-index (get_or inputs n none) c.loop-input-test.true (get_or_default inputs n (get_or inputs n none) none c.loop-input-test.true)
-    c.loop-input.follower c.loop-input.machine c.loop-input.invariant.1 c.loop-input.invariant.0 c.in-Some.ensures
+    c.loop-input.follower c.loop-input.machine c.loop-input.invariant.1 c.loop-input.invariant.0 c.take_step.new.machine c.in-Some.why c.in-Some.ensures
 
 pub returns-then-follower-exit : goal.returns-then-follower-exit
 returns-then-follower-exit c =
@@ -75,4 +75,4 @@ loop-input-preserved c =
 pub returns : goal.returns
 returns c =
     unfinished c.args.handler.image.now c.args.handler.statement.now c.args.handler.graph.now c.args.handler.tree.now c.places-exit.ensures.well_formed c.requires.handler c.args.machine.now c.args.inputs.now
-    c.loop-input.input-index c.loop-input.follower c.loop-input.machine c.loop-input.invariant.1 c.loop-input.invariant.0 c.loop-input-test.false
+    c.loop-input.input-index c.loop-input.follower c.loop-input.machine c.loop-input.invariant.1 c.loop-input.invariant.0 c.loop-input-test.false c.loop-input.auto.input-index-end

@@ -2,9 +2,9 @@ use Rattle.std.proofs.Common.{◌+◌, ◌<◌, ℕ, List, ap, arith, get_or, le
 use Rattle.flow_graph.specs.Places.{place_at}
 use Rattle.numbered_walks.specs.Index.{edge_at}
 use Rattle.numbered_walks.specs.declared.span.NumberedEdge.{NumberedEdge}
-use Rattle.kept_runs.specs.Judging.{StandsAt, Takes, TakesNone}
+use Rattle.kept_runs.specs.Judging.{StandsAt, Strays, Takes}
 use Rattle.kept_runs.specs.Stays.{IsOver, Turns}
-use Rattle.kept_runs.proofs.StepTaken.{goes, index_in, none_goes, over_goes, room, stands, to_in}
+use Rattle.kept_runs.proofs.StepTaken.{goes, index_in, room, stands, strays, to_in, turns_back}
 use Rattle.kept_runs.proofs.following.take_step.Goals as goal
 
 pub bounds-order-follower : goal.bounds-order-follower
@@ -28,8 +28,9 @@ judge_step-requires-clause-stands c =
 
 pub returns-in-Err : goal.returns-in-Err
 returns-in-Err c =
-    none_goes c.args.handler.image.now c.args.handler.statement.now c.args.handler.graph.now c.args.handler.tree.now c.requires.well_formed c.requires.handler.tree_is c.args.follower.now c.args.machine.now c.requires.can c.args.input
-    (subst (λ (xs : List ℕ). TakesNone c.args.handler.image.now c.args.handler.statement.now c.args.handler.graph.now (place_at c.args.handler.graph.now.places (get_or xs c.args.follower.now.number 0)) c.args.machine.now c.args.input) c.order.ensures c.in-Err.ensures.none)
+    strays c.args.handler.image.now c.args.handler.statement.now c.args.handler.graph.now c.args.handler.tree.now c.requires.well_formed c.requires.handler.tree_is c.args.follower.now c.args.machine.now c.requires.can c.args.input
+    c.judge_step.new.machine c.in-Err.stray
+    (subst (λ (xs : List ℕ). Strays c.args.handler.image.now c.args.handler.statement.now c.args.handler.graph.now (place_at c.args.handler.graph.now.places (get_or xs c.args.follower.now.number 0)) c.args.machine.now c.args.input c.judge_step.new.machine c.in-Err.stray) c.order.ensures c.in-Err.ensures)
 
 pub bounds-edges-taken : goal.bounds-edges-taken
 bounds-edges-taken c =
@@ -54,7 +55,7 @@ turn-requires-clause-room c =
 
 pub returns-in-Some : goal.returns-in-Some
 returns-in-Some c =
-    over_goes c.args.handler.image.now c.args.handler.statement.now c.args.handler.graph.now c.args.handler.tree.now c.requires.well_formed c.requires.handler.tree_is c.args.follower.now c.args.machine.now c.requires.can c.args.input
+    turns_back c.args.handler.image.now c.args.handler.statement.now c.args.handler.graph.now c.args.handler.tree.now c.requires.well_formed c.requires.handler.tree_is c.args.follower.now c.args.machine.now c.requires.can c.args.input
     c.args.headers.now c.requires.headers c.judge_step.new.machine c.in-Ok.taken
     (subst (λ (xs : List ℕ). Takes c.args.handler.image.now c.args.handler.statement.now c.args.handler.graph.now (place_at c.args.handler.graph.now.places (get_or xs c.args.follower.now.number 0)) c.args.machine.now c.args.input c.judge_step.new.machine c.in-Ok.taken) c.order.ensures c.in-Ok.ensures)
     c.in-Some.span
