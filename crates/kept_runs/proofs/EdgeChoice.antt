@@ -1,5 +1,5 @@
 -- A step is along one edge of its place at most.
-use Rattle.std.proofs.Common.{◌≡◌, ℕ, ◌<◌, ◌⊎◌, inl, inr, Bool, true, false, cond, nat_lt, List, [], ◌∷◌, ◌++◌, length, Option, Some, None, refl, sym, ap, subst, ◌∙◌}
+use Rattle.std.proofs.Common.{◌≡◌, ℕ, inl, inr, Bool, true, false, cond, nat_lt, List, [], ◌∷◌, ◌++◌, length, Option, Some, None, refl, sym, ap, subst, ◌∙◌}
 use Rattle.std.specs.Prelude.{Contains}
 use Rattle.bus_ticks.specs.declared.profile.Profile.{Profile}
 use Rattle.loader.specs.Image.{Words}
@@ -10,8 +10,8 @@ use Rattle.arm2_effect.specs.ProgramCounter.{ahead_of}
 use Rattle.arm2_exec.specs.State.{State}
 use Rattle.arm2_exec.specs.Step.{address_in}
 use Rattle.arm2_exec.specs.declared.machine.Stepped.{Stepped}
-use Rattle.flow_graph.specs.Edges.{HasAction, branch_target, call_places, do_edge, landings, places_at, return_place, skip_edge, stated_landings, word_edges, writer_landings}
-use Rattle.flow_graph.specs.StepLaw.{IsPlaceOf, IsTaken, holds_in}
+use Rattle.flow_graph.specs.Edges.{HasAction, branch_target, call_places, do_edge, landings, places_at, return_place, stated_landings, word_edges, writer_landings}
+use Rattle.flow_graph.specs.StepLaw.{IsPlaceOf, IsTaken}
 use Rattle.flow_graph.specs.declared.edges.Edge.{Edge}
 use Rattle.flow_graph.specs.declared.edges.Label.{Label}
 use Rattle.flow_graph.specs.declared.edges.Label.TheVariants.{Skip, Do}

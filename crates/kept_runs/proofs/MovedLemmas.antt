@@ -234,7 +234,7 @@ module _ (class : Class) (regs : List ℕ) (bus : Bus) where
       let h = has.1 in (
         h.number == 0,
         subst (λ (b : Bool). Contains accesses (Word b (h.number == 0) access.address)) (sym h.store)
-        (subst (λ (n : ℕ). Contains accesses (Word store (h.number == 0) n)) (sym h.stands) (each h.number h.below)),
+            (subst (λ (n : ℕ). Contains accesses (Word store (h.number == 0) n)) (sym h.stands) (each h.number h.below)),
       )
 
   -- a load or a store from a base below 4000000

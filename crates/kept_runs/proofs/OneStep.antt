@@ -1,5 +1,5 @@
 -- A state and an input have one step, and that is along one edge of a place at most.
-use Rattle.std.proofs.Common.{◌≡◌, ◌∙◌, ℕ, Bool, true, false, cond, List, Some, refl, sym, ap, subst}
+use Rattle.std.proofs.Common.{◌≡◌, ◌∙◌, ℕ, Bool, true, false, cond, List, refl, sym, ap, subst}
 use Rattle.std.proofs.lemmas.Bool.{false≢true}
 use Rattle.std.proofs.lemmas.Option.{same_Some}
 use Rattle.bus_ticks.specs.declared.profile.Profile.{Profile}
@@ -7,7 +7,6 @@ use Rattle.loader.specs.Image.{Words}
 use Rattle.statement.specs.Stated.{Stated}
 use Rattle.arm2_effect.specs.Effects.{is_stopped}
 use Rattle.arm2_effect.specs.declared.step_end.Kind.TheVariants as ended
-use Rattle.arm2_transfer.specs.Moved.{Moved}
 use Rattle.arm2_exec.specs.State.{State}
 use Rattle.arm2_exec.specs.Step.{Step, address_in, state_after}
 use Rattle.arm2_exec.specs.declared.machine.Input.{Input}
@@ -17,8 +16,7 @@ use Rattle.flow_graph.specs.Kinds.{IsAction}
 use Rattle.flow_graph.specs.StepLaw.{IsEdgeOf, IsTaken}
 use Rattle.flow_graph.specs.declared.edges.Edge.{Edge}
 use Rattle.flow_graph.specs.declared.kinds.Action.{Action}
-use Rattle.flow_graph.specs.declared.places.Place.{Place}
-use Rattle.flow_graph.specs.declared.places.Place.TheVariants.{At, Exit}
+use Rattle.flow_graph.specs.declared.places.Place.TheVariants.{At}
 use Rattle.flow_graph.proofs.EdgeLemmas.{one_action}
 use Rattle.flow_graph.proofs.StepLemmas.{tells_plain}
 use Rattle.kept_runs.proofs.EdgeChoice.{one_edge}

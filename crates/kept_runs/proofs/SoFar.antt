@@ -1,18 +1,17 @@
 -- A run that is followed, as far as it has come.
-use Rattle.std.proofs.Common.{◌≡◌, ◌≢◌, ◌∙◌, ℕ, zero, suc, ◌+◌, ◌*◌, ◌<◌, ◌≤◌, ◌^◌, ◌⊎◌, inl, inr, List, [], ◌∷◌, ◌++◌, length, get_or, take, drop, map, replicate, All, None, refl, sym, ap, subst, arith, append_assoc, append-nil}
+use Rattle.std.proofs.Common.{◌≡◌, ◌∙◌, ℕ, zero, suc, ◌+◌, ◌*◌, ◌<◌, ◌≤◌, List, [], ◌∷◌, ◌++◌, length, get_or, take, drop, map, None, refl, sym, ap, subst, arith, append_assoc, append-nil}
 use Rattle.std.specs.Prelude.{Contains}
 use Rattle.std.proofs.Math.ListN.{drop_of_length-le}
 use Rattle.std.proofs.lemmas.List.{drop_more, get_or-replicate, get_or_default, length-replicate, take_more}
 use Rattle.std.proofs.lemmas.List.Elements.{All-append, All-cons, All-nil, Contains-get_or}
 use Rattle.loader.specs.Image.{Words}
 use Rattle.statement.specs.Stated.{Stated}
-use Rattle.arm2_exec.specs.Run.{Runs, at_rest, why_stopped}
+use Rattle.arm2_exec.specs.Run.{Runs}
 use Rattle.arm2_exec.specs.State.{State}
-use Rattle.arm2_exec.specs.Step.{Step, address_in}
+use Rattle.arm2_exec.specs.Step.{address_in}
 use Rattle.arm2_exec.specs.declared.machine.Input.{Input}
 use Rattle.arm2_exec.specs.declared.machine.Ran.{Ran}
 use Rattle.arm2_exec.specs.declared.machine.Stepped.{Stepped}
-use Rattle.arm2_effect.specs.declared.step_end.Kind.{Kind}
 use Rattle.arm2_effect.specs.declared.step_end.Kind.TheVariants.{Plain, Stopped}
 use Rattle.arm2_effect.specs.declared.step_end.Why.{Why}
 use Rattle.arm2_exec.proofs.RunLemmas as R
@@ -20,11 +19,9 @@ use Rattle.arm2_exec.proofs.StepLemmas.{one_step}
 use Rattle.walks.specs.Walk.{Leads}
 use Rattle.walks.specs.Stretch.{Keeps}
 use Rattle.walks.specs.Greatest as G
-use Rattle.walks.specs.Segments.{most, tail}
 use Rattle.walks.proofs.Joins.{keeps_from_most, most_from_keeps}
 use Rattle.walks.proofs.Leading.{Leads-append}
 use Rattle.flow_graph.specs.Flow.{Flow, HasEdge, IsWellFormed, edge_shape}
-use Rattle.flow_graph.specs.Graph.{IsFlowGraph}
 use Rattle.flow_graph.specs.StepLaw.{Follows, IsEdgeOf, IsPlaceOf}
 use Rattle.flow_graph.specs.declared.edges.Edge.{Edge}
 use Rattle.flow_graph.specs.declared.places.Place.{Place}
@@ -36,18 +33,18 @@ use Rattle.numbered_walks.specs.Ordered as O
 use Rattle.numbered_walks.specs.Ordered.{ends_at_header, is_in, is_inside, number_shape}
 use Rattle.numbered_walks.specs.Reach.{most_in}
 use Rattle.loop_bounds.specs.Bounds.{IsCompleteWalk}
-use Rattle.loop_bounds.specs.Instance.{Instance, place_loops}
+use Rattle.loop_bounds.specs.Instance.{place_loops}
 use Rattle.loop_bounds.specs.Tree.{IsTree, Tree, place_in}
 use Rattle.longest_walk.specs.Built.{step_at, steps_of}
 use Rattle.longest_walk.specs.Longest.{KeepsTree}
-use Rattle.longest_walk.proofs.CarryWalks.{AreNumbersOf, edge_same, exit_is, exit_place, keeps_down, keeps_up, leads_up, no_edge, number_is}
+use Rattle.longest_walk.proofs.CarryWalks.{AreNumbersOf, edge_same, exit_is, exit_place, keeps_down, keeps_up, leads_up, no_edge}
 use Rattle.kept_runs.specs.declared.following.Follower.{Follower}
 use Rattle.kept_runs.specs.declared.following.Unkept.{Unkept}
 use Rattle.kept_runs.specs.declared.following.Unkept.TheVariants as unkept
 use Rattle.kept_runs.specs.declared.following.Unkept.TheVariants.{NotAtEntry, TurnedBack, Unfinished}
 use Rattle.kept_runs.specs.Following.{CanGo, CannotGo, Goes, IsFresh, IsNext, IsWhy, Halts}
 use Rattle.kept_runs.specs.Judging.{IsMachineFor, IsPlaceFor}
-use Rattle.kept_runs.specs.Keeping.{ComesTo, IsHandler, IsKeptRun, IsStrayedRun, IsUnkept, KeepsNone, KeepsTo}
+use Rattle.kept_runs.specs.Keeping.{ComesTo, IsHandler, IsKeptRun, IsStrayedRun, IsUnkept, KeepsNone}
 use Rattle.kept_runs.specs.Stays.{Tells}
 use Rattle.kept_runs.proofs.OneStep.{lands, one_edge_of}
 use Rattle.kept_runs.proofs.StepTaken.{leaves_number, leaves_place}

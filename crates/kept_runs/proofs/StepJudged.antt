@@ -1,14 +1,12 @@
 -- A step against the statement: what it executes, and along which edge.
-use Rattle.std.proofs.Common.{◌≡◌, ℕ, ◌<◌, ◌^◌, ◌⊎◌, inl, inr, Bool, true, false, cond, ◌&&◌, eqb, List, length, Option, Some, None, refl, sym, ap, subst, ◌∙◌, arith}
+use Rattle.std.proofs.Common.{◌≡◌, ℕ, ◌<◌, ◌^◌, inl, inr, Bool, true, false, cond, List, length, Option, Some, None, refl, sym, ap, subst, ◌∙◌}
 use Rattle.std.specs.Prelude.{Contains}
 use Rattle.std.proofs.lemmas.Bool.{and_from, and_parts, eq-eqb, eqb-true}
 use Rattle.std.proofs.lemmas.List.Elements.{Contains-get_or}
 use Rattle.std.proofs.lemmas.Option.{same_Some}
 use Rattle.bus_ticks.specs.declared.profile.Class.{Class}
-use Rattle.loader.specs.Image.{Words, word_of}
+use Rattle.loader.specs.Image.{Words}
 use Rattle.statement.specs.Stated.{Stated, class_of}
-use Rattle.arm2_decode.specs.declared.instr.Instr.{Instr}
-use Rattle.arm2_decode.specs.declared.instr.Unallocated.{Unallocated}
 use Rattle.arm2_effect.specs.declared.exceptions.Vector.{Vector}
 use Rattle.arm2_effect.specs.declared.step_end.Kind.{Kind}
 use Rattle.arm2_effect.specs.declared.step_end.Kind.TheVariants as ended
@@ -24,10 +22,10 @@ use Rattle.arm2_exec.specs.declared.machine.Stepped.{Stepped}
 use Rattle.arm2_effect.specs.Effects.{is_stopped}
 use Rattle.arm2_exec.proofs.StepLemmas.{one_step, same_profile, works_one}
 use Rattle.flow_graph.specs.Edges.{HasAction}
-use Rattle.flow_graph.specs.Flow.{Flow, HasEdge}
+use Rattle.flow_graph.specs.Flow.{Flow}
 use Rattle.flow_graph.specs.Graph.{IsFlowGraph}
 use Rattle.flow_graph.specs.Kinds.{IsAction, instr_action, unallocated_action}
-use Rattle.flow_graph.specs.StepLaw.{Executes, IsEdgeOf, IsPlaceOf, IsTaken, TransfersIn, holds_in, label_in}
+use Rattle.flow_graph.specs.StepLaw.{Executes, IsEdgeOf, IsPlaceOf, TransfersIn, holds_in, label_in}
 use Rattle.flow_graph.specs.declared.edges.Edge.{Edge}
 use Rattle.flow_graph.specs.declared.edges.Label.{Label}
 use Rattle.flow_graph.specs.declared.edges.Label.TheVariants.{Skip, Do}
@@ -40,16 +38,15 @@ use Rattle.flow_graph.proofs.StepLemmas.{TellsPlain, tells_plain}
 use Rattle.flow_graph.proofs.StepRegisters.{word_address_of}
 use Rattle.longest_walk.specs.Built.{step_at}
 use Rattle.kept_runs.specs.declared.edges.Going.{Going}
-use Rattle.kept_runs.specs.declared.judging.Taken.{Taken}
 use Rattle.kept_runs.specs.declared.reading.Reading.{Reading}
 use Rattle.bus_ticks.specs.Worst.{IsOf}
 use Rattle.kept_runs.specs.declared.transfers.Access.{Access}
 use Rattle.kept_runs.specs.declared.transfers.Transfer.{Transfer}
 use Rattle.kept_runs.specs.Edges.{HasNoEdge, IsFound, is_met, is_place_of, same_label}
 use Rattle.kept_runs.specs.declared.judging.Stray.TheVariants as stray
-use Rattle.kept_runs.specs.Judging.{IsMachineFor, IsPlaceFor, StandsAt, Strays, Takes, TakesNone, label_if}
-use Rattle.kept_runs.specs.Reading.{HasNoWord, IsReading, StandsThere, instr_reading, unallocated_reading}
-use Rattle.kept_runs.specs.Transfers.{HasNoOther, HasOther, covers}
+use Rattle.kept_runs.specs.Judging.{StandsAt, Strays, Takes, TakesNone, label_if}
+use Rattle.kept_runs.specs.Reading.{HasNoWord, IsReading, StandsThere}
+use Rattle.kept_runs.specs.Transfers.{HasNoOther, HasOther}
 use Rattle.kept_runs.proofs.ClassLemmas.{covers_is, is_covers}
 use Rattle.kept_runs.proofs.MovedLemmas.{Moves, word_moves}
 

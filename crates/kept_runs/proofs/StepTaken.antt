@@ -1,5 +1,5 @@
 -- One step of a run that is followed.
-use Rattle.std.proofs.Common.{◌≡◌, ◌∙◌, ℕ, ◌+◌, ◌<◌, ◌≤◌, ◌^◌, List, [], ◌∷◌, ◌++◌, length, get_or, Option, Some, None, refl, sym, ap, subst, arith}
+use Rattle.std.proofs.Common.{◌≡◌, ◌∙◌, ℕ, ◌+◌, ◌<◌, ◌≤◌, List, [], ◌∷◌, ◌++◌, length, get_or, Option, Some, None, refl, sym, ap, subst, arith}
 use Rattle.std.specs.Prelude.{Contains}
 use Rattle.std.proofs.Math.ListN.{length-set}
 use Rattle.std.proofs.lemmas.List.{get_or_default}
@@ -25,7 +25,7 @@ use Rattle.kept_runs.specs.declared.following.Unkept.TheVariants as unkept
 use Rattle.kept_runs.specs.declared.following.Unkept.TheVariants.{TurnedBack}
 use Rattle.kept_runs.specs.declared.judging.Stray.{Stray}
 use Rattle.kept_runs.specs.Following.{AreHeadersOf, CanGo, CannotGo, Goes, IsNext, Keeps, Halts}
-use Rattle.kept_runs.specs.Judging.{IsMachineFor, IsStray, StandsAt, Strays, Takes, TakesNone}
+use Rattle.kept_runs.specs.Judging.{IsStray, StandsAt, Strays, Takes, TakesNone}
 use Rattle.kept_runs.specs.Stays.{IsOver, Tells, Turns, header_at, turned}
 use Rattle.kept_runs.proofs.OneStep.{one_edge_of}
 use Rattle.kept_runs.proofs.StayLemmas.{over, told_on}

@@ -123,7 +123,12 @@ pub(crate) fn offset(machine: &Machine, fields: &SingleRegister) -> Shifted
         ≡ shifted_by_amount fields.now.shift fields.now.amount fields.now.rm machine.now.regs }
 {
     let carry = flags_of(machine.get(Reg::R15)).carry;
-    shift_imm(fields.shift, fields.amount, operand(machine, fields.rm), carry)
+    shift_imm(
+        fields.shift,
+        fields.amount,
+        operand(machine, fields.rm),
+        carry,
+    )
 }
 
 /// Whether an instruction of the condition is carried out, by the flags in R15.

@@ -46,7 +46,11 @@ fn moved(up: bool, base: u32, offset: u32) -> u32
 fn address(before: bool, up: bool, base: u32, offset: u32) -> u32
     ensures { result ≡ address_by before up base offset }
 {
-    if before { moved(up, base, offset) } else { base }
+    if before {
+        moved(up, base, offset)
+    } else {
+        base
+    }
 }
 
 fn lowest(block: &Block, base: u32, words: u32) -> u32

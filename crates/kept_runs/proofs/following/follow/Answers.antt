@@ -1,8 +1,6 @@
-use Rattle.std.proofs.Common.{◌+◌, ◌≡◌, ◌∙◌, ℕ, List, Option, All, [], ap, arith, get_or, length, subst, sym}
-use Rattle.std.proofs.lemmas.List.{length-replicate}
+use Rattle.std.proofs.Common.{◌+◌, ◌∙◌, ℕ, List, Option, All, ap, arith, get_or, length, subst, sym}
 use Rattle.std.proofs.lemmas.List.Elements.{Contains-get_or}
 use Rattle.arm2_effect.specs.ProgramCounter.{address_of}
-use Rattle.flow_graph.specs.declared.places.Place.TheVariants.{At}
 use Rattle.numbered_walks.specs.Index.{AreHeaders}
 use Rattle.numbered_walks.specs.declared.span.Span.{Span}
 use Rattle.kept_runs.specs.Stays.{EndsBefore}

@@ -1,4 +1,4 @@
-use Rattle.std.proofs.Common.{◌+◌, ◌≡◌, ◌∙◌, ap, arith, get_or, length, sym}
+use Rattle.std.proofs.Common.{◌+◌, ◌∙◌, ap, arith, get_or, length, sym}
 use Rattle.std.proofs.lemmas.List.{get_or_default}
 use Rattle.arm2_exec.specs.declared.machine.Input.{Input}
 use Rattle.kept_runs.proofs.SoFar.{begins, can_more, left, more, strays, unfinished}
