@@ -1,0 +1,9 @@
+pub mod ClassLemmas
+pub mod MovedLemmas
+pub mod EdgeChoice
+pub mod StepJudged
+pub mod PlaceEdges
+pub mod StayLemmas
+pub mod OneStep
+pub mod StepTaken
+pub mod SoFar

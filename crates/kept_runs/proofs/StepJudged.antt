@@ -1,0 +1,252 @@
+-- A step against the statement: what it executes, and along which edge.
+use Rattle.std.proofs.Common.{◌≡◌, ℕ, ◌<◌, ◌^◌, inl, inr, Bool, true, false, cond, List, length, Option, Some, None, refl, sym, ap, subst, ◌∙◌}
+use Rattle.std.specs.Prelude.{Contains}
+use Rattle.std.proofs.lemmas.Bool.{and_from, and_parts, eq-eqb, eqb-true}
+use Rattle.std.proofs.lemmas.List.Elements.{Contains-get_or}
+use Rattle.std.proofs.lemmas.Option.{same_Some}
+use Rattle.bus_ticks.specs.declared.profile.Class.{Class}
+use Rattle.loader.specs.Image.{Words}
+use Rattle.statement.specs.Stated.{Stated, class_of}
+use Rattle.arm2_effect.specs.declared.exceptions.Vector.{Vector}
+use Rattle.arm2_effect.specs.declared.step_end.Kind.{Kind}
+use Rattle.arm2_effect.specs.declared.step_end.Kind.TheVariants as ended
+use Rattle.arm2_effect.specs.declared.step_end.Why.{Why}
+use Rattle.arm2_effect.specs.Exceptions.{taken}
+use Rattle.arm2_effect.specs.Modes.{r15_in}
+use Rattle.arm2_transfer.specs.declared.bus.Bus.{Bus}
+use Rattle.arm2_transfer.specs.Moved.{Moved}
+use Rattle.arm2_exec.specs.State.{State}
+use Rattle.arm2_exec.specs.Step.{Obeys, ObeysFetched, Step, Works, address_in, fetched, interrupt_due, state_after, with_lines}
+use Rattle.arm2_exec.specs.declared.machine.Input.{Input}
+use Rattle.arm2_exec.specs.declared.machine.Stepped.{Stepped}
+use Rattle.arm2_effect.specs.Effects.{is_stopped}
+use Rattle.arm2_exec.proofs.StepLemmas.{one_step, same_profile, works_one}
+use Rattle.flow_graph.specs.Edges.{HasAction}
+use Rattle.flow_graph.specs.Flow.{Flow}
+use Rattle.flow_graph.specs.Graph.{IsFlowGraph}
+use Rattle.flow_graph.specs.Kinds.{IsAction, instr_action, unallocated_action}
+use Rattle.flow_graph.specs.StepLaw.{Executes, IsEdgeOf, IsPlaceOf, TransfersIn, holds_in, label_in}
+use Rattle.flow_graph.specs.declared.edges.Edge.{Edge}
+use Rattle.flow_graph.specs.declared.edges.Label.{Label}
+use Rattle.flow_graph.specs.declared.edges.Label.TheVariants.{Skip, Do}
+use Rattle.flow_graph.specs.declared.kinds.Action.{Action}
+use Rattle.flow_graph.specs.declared.places.Place.{Place}
+use Rattle.flow_graph.specs.declared.places.Place.TheVariants.{At, Exit}
+use Rattle.flow_graph.proofs.EdgeLemmas.{one_action}
+use Rattle.flow_graph.proofs.FlowLemmas.{has_edge_is_edge, is_edge_has_edge}
+use Rattle.flow_graph.proofs.StepLemmas.{TellsPlain, tells_plain}
+use Rattle.flow_graph.proofs.StepRegisters.{word_address_of}
+use Rattle.longest_walk.specs.Built.{step_at}
+use Rattle.kept_runs.specs.declared.edges.Going.{Going}
+use Rattle.kept_runs.specs.declared.reading.Reading.{Reading}
+use Rattle.bus_ticks.specs.Worst.{IsOf}
+use Rattle.kept_runs.specs.declared.transfers.Access.{Access}
+use Rattle.kept_runs.specs.declared.transfers.Transfer.{Transfer}
+use Rattle.kept_runs.specs.Edges.{HasNoEdge, IsFound, is_met, is_place_of, same_label}
+use Rattle.kept_runs.specs.declared.judging.Stray.TheVariants as stray
+use Rattle.kept_runs.specs.Judging.{StandsAt, Strays, Takes, TakesNone, label_if}
+use Rattle.kept_runs.specs.Reading.{HasNoWord, IsReading, StandsThere}
+use Rattle.kept_runs.specs.Transfers.{HasNoOther, HasOther}
+use Rattle.kept_runs.proofs.ClassLemmas.{covers_is, is_covers}
+use Rattle.kept_runs.proofs.MovedLemmas.{Moves, word_moves}
+
+-- ## Labels and places
+
+label_told : (a b : Label) → same_label a b ≡ true → a ≡ b
+label_told Skip Skip is = refl
+label_told Do Do is = refl
+label_told Skip Do is = absurd (cc)
+label_told Do Skip is = absurd (cc)
+
+label_itself : (a b : Label) → a ≡ b → same_label a b ≡ true
+label_itself a Skip is = ap (λ x. same_label x Skip) is
+label_itself a Do is = ap (λ x. same_label x Do) is
+
+place_told : (st : Stated) (t : ℕ) (p : Place) → is_place_of st.leave t p ≡ true → IsPlaceOf st t p
+place_told st t (At calls a) is = eqb-true a t is
+place_told st t Exit is = covers_is st.leave t is
+
+told_place : (st : Stated) (t : ℕ) (p : Place) → IsPlaceOf st t p → is_place_of st.leave t p ≡ true
+told_place st t (At calls a) is = eq-eqb a t is
+told_place st t Exit is = is_covers st.leave t is
+
+-- an access of another class is none of the class
+is_other : (class : Class) (access : Access) (t : Option Transfer) → HasOther class t access → IsOf class access.address → ⊥
+is_other class access None has is = has
+is_other class access (Some t) has is = has.1.other is
+
+-- ## The word
+
+-- what is read of a word is what its action does
+pub record HasRead (word : ℕ) (regs : List ℕ) (r : Reading) : Type 0 where
+  pub action : Action
+  pub is : IsAction word action
+  pub holds : r.holds ≡ holds_in regs action.cond
+
+pub has_read : (word : ℕ) (regs : List ℕ) (r : Reading) → IsReading word regs r → HasRead word regs r
+has_read word regs r (inl (i, means, is)) = record { action = instr_action i; is = inl (i, means, refl); holds = ap (λ (x : Reading). x.holds) is }
+has_read word regs r (inr (u, none, is)) = record { action = unallocated_action u; is = inr (u, none, refl); holds = ap (λ (x : Reading). x.holds) is }
+
+-- no interrupt was taken
+works_plain : (due : Option Vector) (port : ℕ) (regs : List ℕ) (bus : Bus) (m : Moved) → Works due port regs bus m → m.kind ≡ ended.Plain → ObeysFetched (fetched bus.memc (r15_in regs)) port regs bus m
+unfolding taken
+works_plain None port regs bus m works plain = works
+works_plain (Some vector) port regs bus m works plain =
+    let interrupted : m.kind ≡ ended.Taken vector = ap (λ (x : Moved). x.kind) works in
+    let both : ended.Taken vector ≡ ended.Plain = sym interrupted ∙ plain in
+    absurd (cc)
+
+after_regs : (stops : Bool) (s a b : State) → length a.regs ≡ length s.regs → length b.regs ≡ length s.regs → length (cond stops a b).regs ≡ length s.regs
+after_regs true s a b h k = h
+after_regs false s a b h k = k
+
+module _ (words : Words) (st : Stated) (flow : Flow) (graph : IsFlowGraph words st flow.profile flow) (place : Place) (s : State) (i : Input) (stands : StandsAt flow place s) where
+  abbrev class : Class
+  class = class_of st (address_in s.regs)
+
+  abbrev calls : List ℕ
+  calls = stands.at.0
+
+  abbrev bus : Bus
+  bus = with_lines i.lines.0 s.bus
+
+  abbrev IsStepOf : Stepped → State → Edge → Type 0
+  IsStepOf told after e = IsEdgeOf words st flow.profile s i told after e
+
+  there : {told : Stepped} {after : State} {e : Edge} → (h : IsEdgeOf words st flow.profile s i told after e) → StandsThere words s h.executes.has.word
+  there h = record { stands = h.executes.has.stands; fetches = h.executes.fetches ∙ h.executes.has.stands }
+
+  none_without_word : HasNoWord words s → TakesNone words st flow place s i
+  none_without_word lacks told after e h from = lacks h.executes.has.word (there h)
+
+  pub other_word : HasNoWord words s → Strays words st flow place s i s stray.OtherWord
+  other_word lacks = record { none = none_without_word lacks; is = (lacks, refl) }
+
+  module _ (told : Stepped) (after : State) (step : Step s i told after) where
+    -- the same step, whoever makes it
+    same : {other : Stepped} {last : State} {e : Edge} → (h : IsEdgeOf words st flow.profile s i other last e) → (other ≡ told) × (last ≡ after)
+    same {other = other} {last = last} h = one_step s i told other after last step h.executes.step
+
+    plain_as : {other : Stepped} {last : State} {e : Edge} → (h : IsEdgeOf words st flow.profile s i other last e) → told.kind ≡ ended.Plain
+    plain_as h = ap (λ (x : Stepped). x.kind) (sym (same h).0) ∙ h.executes.plain
+
+    pub to_small : told.kind ≡ ended.Plain → told.to < 2 ^ 26
+    to_small plain = subst (λ t. t < 2 ^ 26) (sym (tells_plain s step.moved told step.told_is plain).to) ((word_address_of (r15_in step.moved.regs)).0)
+
+    none_unless_plain : (told.kind ≡ ended.Plain → ⊥) → TakesNone words st flow place s i
+    none_unless_plain not_plain other last e h from = not_plain (plain_as h)
+
+    not_both : (k other : Kind) → told.kind ≡ k → told.kind ≡ other → k ≡ other
+    not_both k other is also = sym is ∙ also
+
+    pub exception : (vector : Vector) → told.kind ≡ ended.Taken vector → Strays words st flow place s i after (stray.Exception vector)
+    exception vector is = record {
+      none = none_unless_plain (λ plain. let both : ended.Taken vector ≡ ended.Plain = not_both (ended.Taken vector) ended.Plain is plain in cc);
+      is = record { told = told; step = step; kind_is = is };
+    }
+
+    pub stop : (why : Why) → told.kind ≡ ended.Stopped why → Strays words st flow place s i after (stray.Stopped why)
+    stop why is = record {
+      none = none_unless_plain (λ plain. let both : ended.Stopped why ≡ ended.Plain = not_both (ended.Stopped why) ended.Plain is plain in cc);
+      is = record { told = told; step = step; kind_is = is };
+    }
+
+    module _ (plain : told.kind ≡ ended.Plain) (word : ℕ) (at_word : StandsThere words s word) (r : Reading) (reads : IsReading word s.regs r) where
+      tells : TellsPlain s step.moved told
+      tells = tells_plain s step.moved told step.told_is plain
+
+      obeys : Obeys word i.port s.regs bus step.moved
+      obeys =
+          subst (λ o. ObeysFetched o i.port s.regs bus step.moved) at_word.fetches
+          (works_plain (interrupt_due bus (r15_in s.regs)) i.port s.regs bus step.moved step.works tells.kind)
+
+      moves : Moves class s.regs r.transfer step.moved
+      moves = word_moves class s.regs bus word i.port r step.moved reads obeys
+
+      read : HasRead word s.regs r
+      read = has_read word s.regs r reads
+
+      has : HasAction words (address_in s.regs) read.action
+      has = record { word = word; stands = at_word.stands; is = read.is }
+
+      -- a word of another class
+      none_with_other : (access : Access) → HasOther class r.transfer access → TakesNone words st flow place s i
+      none_with_other access other other_told last e h from =
+          let one : h.executes.step.moved ≡ step.moved = works_one i.port s.regs bus (interrupt_due bus (r15_in s.regs)) h.executes.step.moved step.moved h.executes.step.works step.works in
+          let word = moves.there tells.kind access other in
+          is_other class access r.transfer other ((subst (λ (m : Moved). TransfersIn class m.accesses) one h.executes.transfers) access.store word.0 access.address word.1)
+
+      pub other_class : (access : Access) → HasOther class r.transfer access → Strays words st flow place s i after (stray.OtherClass access)
+      other_class access other =
+          let word = moves.there tells.kind access other in
+          record {
+            none = none_with_other access other;
+            is = record { ends = record { told = told; step = step; kind_is = plain }; first = word.0; there = word.1; other = is_other class access r.transfer other };
+          }
+
+      -- ## The edge
+
+      abbrev going : Going
+      going = record { label = label_if r.holds; to = told.to; leave = st.leave }
+
+      label_is : label_if r.holds ≡ label_in s.regs read.action.cond
+      label_is = ap label_if read.holds
+
+      -- an edge of the step is one of the place's
+      met : {other : Stepped} {last : State} {e : Edge} → (h : IsEdgeOf words st flow.profile s i other last e) → is_met going e ≡ true
+      met {other = other} {last = last} {e = e} h =
+          let word_is : h.executes.has.word ≡ word = same_Some h.executes.has.word word (sym h.executes.has.stands ∙ at_word.stands) in
+          let act : h.action ≡ read.action = one_action word h.action read.action (subst (λ w. IsAction w h.action) word_is h.executes.has.is) read.is in
+          let label : e.label ≡ label_if r.holds = h.taken.label ∙ ap (λ (a : Action). label_in s.regs a.cond) act ∙ sym label_is in
+          let to : IsPlaceOf st told.to e.to = subst (λ (x : Stepped). IsPlaceOf st x.to e.to) (same h).0 h.taken.to in
+          and_from (same_label e.label (label_if r.holds)) (is_place_of st.leave told.to e.to) (label_itself e.label (label_if r.holds) label) (told_place st told.to e.to to)
+
+      none_elsewhere : Contains flow.places place → HasNoEdge flow place going → TakesNone words st flow place s i
+      none_elsewhere place_in none other last e h from =
+          none e
+          (is_edge_has_edge words st flow.profile flow graph e (subst (Contains flow.places) (sym from) place_in) h.taken.is_edge)
+          from (met h)
+
+      pub elsewhere : Contains flow.places place → HasNoEdge flow place going → Strays words st flow place s i after (stray.Elsewhere told.to)
+      elsewhere place_in none = record { none = none_elsewhere place_in none; is = record { ends = record { told = told; step = step; kind_is = plain }; to_is = refl } }
+
+      long : length after.regs ≡ 27
+      unfolding state_after
+      long =
+          let same_long : length step.moved.regs ≡ length s.regs = moves.registers tells.kind in
+          ap (λ (x : State). length x.regs) step.after_is
+          ∙ after_regs (is_stopped step.moved.kind) s s _ refl same_long
+          ∙ stands.machine.registers
+
+      executes : HasNoOther class r.transfer → Executes words st flow.profile read.action s i told after
+      executes clean = record {
+        registers = stands.machine.registers;
+        prices = stands.machine.prices;
+        has = has;
+        fetches = at_word.fetches ∙ sym at_word.stands;
+        step = step;
+        plain = plain;
+        transfers = moves.in_class tells.kind clean;
+      }
+
+      pub takes : HasNoOther class r.transfer → told.ticks < 65536 → (k : ℕ) → IsFound flow place going k → Takes words st flow place s i after (record { edge = k; stepped = told })
+      takes clean small k found =
+          let e : Edge = step_at flow.edges k in
+          let both = and_parts (same_label e.label (label_if r.holds)) (is_place_of st.leave told.to e.to) found.met in
+          record {
+            known = found.known;
+            is_edge_of = record {
+              calls = calls;
+              action = read.action;
+              executes = executes clean;
+              taken = record {
+                is_edge = has_edge_is_edge words st flow.profile flow graph e (Contains-get_or flow.edges k _ found.known);
+                from = found.from ∙ stands.at.1;
+                label = label_told e.label (label_if r.holds) both.0 ∙ label_is;
+                to = place_told st told.to e.to both.1;
+              };
+            };
+            from = found.from;
+            machine = record { registers = long; prices = same_profile s i told after step ∙ stands.machine.prices };
+            small = small;
+          }

@@ -1,0 +1,48 @@
+use Rattle.std.proofs.Common.{◌+◌, ◌∙◌, ℕ, List, Option, All, ap, arith, get_or, length, subst, sym}
+use Rattle.std.proofs.lemmas.List.Elements.{Contains-get_or}
+use Rattle.arm2_effect.specs.ProgramCounter.{address_of}
+use Rattle.numbered_walks.specs.Index.{AreHeaders}
+use Rattle.numbered_walks.specs.declared.span.Span.{Span}
+use Rattle.kept_runs.specs.Stays.{EndsBefore}
+use Rattle.kept_runs.proofs.SoFar.{can_begin, elsewhere}
+use Rattle.kept_runs.proofs.following.follow.Goals as goal
+
+pub headers-requires-clause-ended : goal.headers-requires-clause-ended
+headers-requires-clause-ended c =
+    let t = c.requires.handler.tree_is in
+    let places = ap length c.places-exit.ensures.value in
+    let spans = c.args.handler.tree.now.spans in
+    subst (λ (xs : List Span). All (EndsBefore (length c.places-exit.result.now)) xs) (sym c.spans.ensures)
+    (λ k d lt.
+    let shape = t.ordered.shape (get_or spans k d) (Contains-get_or spans k d lt) in
+    let before = shape.1 in
+    (shape.0, omega (arith, before, places)))
+
+pub headers-requires-clause-small : goal.headers-requires-clause-small
+headers-requires-clause-small c =
+    let few = c.places-exit.ensures.well_formed.few in
+    omega (arith, few, ap length c.places-exit.ensures.value)
+
+pub returns-then-address_of-entry : goal.returns-then-address_of-entry
+returns-then-address_of-entry c =
+    elsewhere c.args.handler.image.now c.args.handler.statement.now c.args.handler.graph.now c.args.handler.tree.now c.places-exit.ensures.well_formed c.requires.handler c.args.machine.now c.args.inputs.now
+    (λ is. c.if-address_of-entry.true (c.address_of.ensures.address ∙ ap address_of c.get.ensures ∙ is ∙ sym c.entry.ensures.value))
+
+pub follow_from-requires-clause-handler : goal.follow_from-requires-clause-handler
+follow_from-requires-clause-handler c = c.requires.handler
+
+pub follow_from-requires-clause-headers : goal.follow_from-requires-clause-headers
+follow_from-requires-clause-headers c = record {
+  whole = ap length c.deref.ensures.value ∙ c.in_ok-headers.ensures.0 ∙ ap (λ (n : ℕ). n + 1) (ap length c.places-exit.ensures.value);
+  are =
+      subst (λ (xs : List (Option Span)). AreHeaders c.args.handler.tree.now.spans xs) (sym c.deref.ensures.value)
+      (subst (λ (ss : List Span). AreHeaders ss c.in_ok-headers.headers.items) c.spans.ensures c.in_ok-headers.ensures.1);
+}
+
+pub follow_from-requires-clause-can : goal.follow_from-requires-clause-can
+follow_from-requires-clause-can c =
+    can_begin c.args.handler.image.now c.args.handler.statement.now c.args.handler.graph.now c.args.handler.tree.now c.places-exit.ensures.well_formed c.requires.handler c.args.machine.now c.args.inputs.now
+    c.in_ok-follower.follower c.requires.machine
+    (sym (ap address_of c.get.ensures) ∙ sym c.address_of.ensures.address ∙ c.if-address_of-entry.false ∙ c.entry.ensures.value)
+    c.in_ok-follower.ensures
+    (ap length c.places-exit.ensures.value)

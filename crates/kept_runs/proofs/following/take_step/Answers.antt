@@ -1,0 +1,74 @@
+use Rattle.std.proofs.Common.{◌+◌, ◌<◌, ℕ, List, ap, arith, get_or, length, refl, subst, sym}
+use Rattle.flow_graph.specs.Places.{place_at}
+use Rattle.numbered_walks.specs.Index.{edge_at}
+use Rattle.numbered_walks.specs.declared.span.NumberedEdge.{NumberedEdge}
+use Rattle.kept_runs.specs.Judging.{StandsAt, Strays, Takes}
+use Rattle.kept_runs.specs.Stays.{IsOver, Turns}
+use Rattle.kept_runs.proofs.StepTaken.{goes, index_in, room, stands, strays, to_in, turns_back}
+use Rattle.kept_runs.proofs.following.take_step.Goals as goal
+
+pub bounds-order-follower : goal.bounds-order-follower
+bounds-order-follower c =
+    let whole = c.requires.handler.tree_is.whole in
+    let known = c.requires.can.known in
+    omega (arith, ap length c.order.ensures, whole, known)
+
+pub judge_step-requires-clause-graph : goal.judge_step-requires-clause-graph
+judge_step-requires-clause-graph c = c.requires.handler.graph_is
+
+pub judge_step-requires-clause-known : goal.judge_step-requires-clause-known
+judge_step-requires-clause-known c =
+    subst (λ (xs : List ℕ). get_or xs c.args.follower.now.number 0 < length c.args.handler.graph.now.places) (sym c.order.ensures)
+    (index_in c.args.handler.image.now c.args.handler.statement.now c.args.handler.graph.now c.args.handler.tree.now c.requires.well_formed c.requires.handler.tree_is c.args.follower.now c.args.machine.now c.requires.can)
+
+pub judge_step-requires-clause-stands : goal.judge_step-requires-clause-stands
+judge_step-requires-clause-stands c =
+    subst (λ (xs : List ℕ). StandsAt c.args.handler.graph.now (place_at c.args.handler.graph.now.places (get_or xs c.args.follower.now.number 0)) c.args.machine.now) (sym c.order.ensures)
+    (stands c.args.handler.image.now c.args.handler.statement.now c.args.handler.graph.now c.args.handler.tree.now c.requires.well_formed c.requires.handler.tree_is c.args.follower.now c.args.machine.now c.requires.can)
+
+pub returns-in-Err : goal.returns-in-Err
+returns-in-Err c =
+    strays c.args.handler.image.now c.args.handler.statement.now c.args.handler.graph.now c.args.handler.tree.now c.requires.well_formed c.requires.handler.tree_is c.args.follower.now c.args.machine.now c.requires.can c.args.input
+    c.judge_step.new.machine c.in-Err.stray
+    (subst (λ (xs : List ℕ). Strays c.args.handler.image.now c.args.handler.statement.now c.args.handler.graph.now (place_at c.args.handler.graph.now.places (get_or xs c.args.follower.now.number 0)) c.args.machine.now c.args.input c.judge_step.new.machine c.in-Err.stray) c.order.ensures c.in-Err.ensures)
+
+pub bounds-edges-taken : goal.bounds-edges-taken
+bounds-edges-taken c =
+    let same = c.requires.handler.tree_is.numbered.same in
+    let known = c.in-Ok.ensures.known in
+    omega (arith, ap length c.edges.ensures, same, known)
+
+pub turn-requires-clause-known : goal.turn-requires-clause-known
+turn-requires-clause-known c =
+    let whole = c.requires.headers.whole in
+    let most = to_in c.args.handler.image.now c.args.handler.statement.now c.args.handler.graph.now c.args.handler.tree.now c.requires.well_formed c.requires.handler.tree_is c.args.follower.now c.args.machine.now c.requires.can c.args.input
+    c.args.headers.now c.requires.headers c.judge_step.new.machine c.in-Ok.taken
+    (subst (λ (xs : List ℕ). Takes c.args.handler.image.now c.args.handler.statement.now c.args.handler.graph.now (place_at c.args.handler.graph.now.places (get_or xs c.args.follower.now.number 0)) c.args.machine.now c.args.input c.judge_step.new.machine c.in-Ok.taken) c.order.ensures c.in-Ok.ensures) in
+    subst (λ (es : List NumberedEdge). (edge_at es c.in-Ok.taken.edge).to < length c.args.headers.now) (sym c.edges.ensures) (omega (arith, whole, most))
+
+pub turn-requires-clause-room : goal.turn-requires-clause-room
+turn-requires-clause-room c =
+    subst (λ (es : List NumberedEdge). (edge_at es c.in-Ok.taken.edge).to < length c.args.follower.now.turns.items) (sym c.edges.ensures)
+    (room c.args.handler.image.now c.args.handler.statement.now c.args.handler.graph.now c.args.handler.tree.now c.requires.well_formed c.requires.handler.tree_is c.args.follower.now c.args.machine.now c.requires.can c.args.input
+    c.args.headers.now c.requires.headers c.judge_step.new.machine c.in-Ok.taken
+    (subst (λ (xs : List ℕ). Takes c.args.handler.image.now c.args.handler.statement.now c.args.handler.graph.now (place_at c.args.handler.graph.now.places (get_or xs c.args.follower.now.number 0)) c.args.machine.now c.args.input c.judge_step.new.machine c.in-Ok.taken) c.order.ensures c.in-Ok.ensures))
+
+pub returns-in-Some : goal.returns-in-Some
+returns-in-Some c =
+    turns_back c.args.handler.image.now c.args.handler.statement.now c.args.handler.graph.now c.args.handler.tree.now c.requires.well_formed c.requires.handler.tree_is c.args.follower.now c.args.machine.now c.requires.can c.args.input
+    c.args.headers.now c.requires.headers c.judge_step.new.machine c.in-Ok.taken
+    (subst (λ (xs : List ℕ). Takes c.args.handler.image.now c.args.handler.statement.now c.args.handler.graph.now (place_at c.args.handler.graph.now.places (get_or xs c.args.follower.now.number 0)) c.args.machine.now c.args.input c.judge_step.new.machine c.in-Ok.taken) c.order.ensures c.in-Ok.ensures)
+    c.in-Some.span
+    (subst (λ (es : List NumberedEdge). IsOver c.args.headers.now (edge_at es c.in-Ok.taken.edge) c.args.follower.now.turns.items c.in-Some.span) c.edges.ensures c.in-Some.ensures)
+
+pub returns : goal.returns
+returns c =
+    let k = c.in-Ok.taken.edge in
+    goes c.args.handler.image.now c.args.handler.statement.now c.args.handler.graph.now c.args.handler.tree.now c.requires.well_formed c.requires.handler.tree_is c.args.follower.now c.args.machine.now c.requires.can c.args.input
+    c.args.headers.now c.requires.headers c.judge_step.new.machine c.in-Ok.taken
+    (subst (λ (xs : List ℕ). Takes c.args.handler.image.now c.args.handler.statement.now c.args.handler.graph.now (place_at c.args.handler.graph.now.places (get_or xs c.args.follower.now.number 0)) c.args.machine.now c.args.input c.judge_step.new.machine c.in-Ok.taken) c.order.ensures c.in-Ok.ensures)
+    _
+    (subst (λ (es : List NumberedEdge). Turns c.args.headers.now (edge_at es c.in-Ok.taken.edge) c.args.follower.now.turns.items c.turn.new.turns.items) c.edges.ensures c.in_default.ensures)
+    (ap (λ (es : List NumberedEdge). (edge_at es c.in-Ok.taken.edge).to) c.edges.ensures)
+    refl
+    (ap (λ (n : ℕ). c.args.follower.now.ticks + n) c.from.ensures)

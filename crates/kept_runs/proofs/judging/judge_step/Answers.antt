@@ -1,0 +1,72 @@
+use Rattle.std.proofs.Common.{◌∙◌, ap, subst}
+use Rattle.std.proofs.lemmas.List.Elements.{Contains-get_or}
+use Rattle.bus_ticks.specs.declared.profile.Class.{Class}
+use Rattle.statement.specs.Stated.{class_of}
+use Rattle.arm2_effect.specs.ProgramCounter.{address_of}
+use Rattle.flow_graph.specs.Places.{place_at}
+use Rattle.flow_graph.specs.declared.places.Place.TheVariants.{Exit}
+use Rattle.kept_runs.specs.declared.edges.Going.{Going}
+use Rattle.kept_runs.specs.Edges.{HasNoEdge, IsFound}
+use Rattle.kept_runs.specs.Transfers.{HasNoOther, HasOther}
+use Rattle.kept_runs.proofs.StepJudged.{elsewhere, exception, other_class, other_word, stop, takes, to_small}
+use Rattle.kept_runs.proofs.judging.judge_step.Goals as goal
+
+pub returns-in_default : goal.returns-in_default
+returns-in_default c =
+    let place = place_at c.args.handler.graph.now.places c.args.place in
+    other_word c.args.handler.image.now c.args.handler.statement.now c.args.handler.graph.now c.requires.graph place c.args.machine.now c.args.input c.requires.stands c.in_default.ensures
+
+pub other_of-other-requires : goal.other_of-other-requires
+other_of-other-requires c = c.read_word-reading.ensures.few
+
+pub returns-in-Taken : goal.returns-in-Taken
+returns-in-Taken c =
+    let place = place_at c.args.handler.graph.now.places c.args.place in
+    exception c.args.handler.image.now c.args.handler.statement.now c.args.handler.graph.now c.requires.graph place c.args.machine.now c.args.input c.requires.stands
+    c.step-stepped.result c.step-stepped.new.self c.step-stepped.ensures.step c.in-Taken.vector c.in-Taken.is
+
+pub returns-in-Stopped : goal.returns-in-Stopped
+returns-in-Stopped c =
+    let place = place_at c.args.handler.graph.now.places c.args.place in
+    stop c.args.handler.image.now c.args.handler.statement.now c.args.handler.graph.now c.requires.graph place c.args.machine.now c.args.input c.requires.stands
+    c.step-stepped.result c.step-stepped.new.self c.step-stepped.ensures.step c.in-Stopped.why c.in-Stopped.is
+
+pub returns-in-Some-other : goal.returns-in-Some-other
+returns-in-Some-other c =
+    let place = place_at c.args.handler.graph.now.places c.args.place in
+    let class = c.class_at.ensures ∙ ap (class_of c.args.handler.statement.now) (c.address_of-address.ensures.address ∙ ap address_of c.get.ensures) in
+    other_class c.args.handler.image.now c.args.handler.statement.now c.args.handler.graph.now c.requires.graph place c.args.machine.now c.args.input c.requires.stands
+    c.step-stepped.result c.step-stepped.new.self c.step-stepped.ensures.step c.in-Plain.is c.in-Some.word c.in-Some.ensures c.read_word-reading.result c.read_word-reading.ensures.reading
+    c.in-Some-other.access
+    (subst (λ (k : Class). HasOther k c.read_word-reading.result.transfer c.in-Some-other.access) class c.in-Some-other.ensures)
+
+pub edge_taken-requires-clause-known : goal.edge_taken-requires-clause-known
+edge_taken-requires-clause-known c = c.requires.known
+
+pub edge_taken-requires-clause-to : goal.edge_taken-requires-clause-to
+edge_taken-requires-clause-to c =
+    let place = place_at c.args.handler.graph.now.places c.args.place in
+    to_small c.args.handler.image.now c.args.handler.statement.now c.args.handler.graph.now c.requires.graph place c.args.machine.now c.args.input c.requires.stands
+    c.step-stepped.result c.step-stepped.new.self c.step-stepped.ensures.step c.in-Plain.is
+
+pub returns-in-Some-edge_taken : goal.returns-in-Some-edge_taken
+returns-in-Some-edge_taken c =
+    let place = place_at c.args.handler.graph.now.places c.args.place in
+    let class = c.class_at.ensures ∙ ap (class_of c.args.handler.statement.now) (c.address_of-address.ensures.address ∙ ap address_of c.get.ensures) in
+    let label = c.label.ensures in
+    let leave = c.leave.ensures in
+    takes c.args.handler.image.now c.args.handler.statement.now c.args.handler.graph.now c.requires.graph place c.args.machine.now c.args.input c.requires.stands
+    c.step-stepped.result c.step-stepped.new.self c.step-stepped.ensures.step c.in-Plain.is c.in-Some.word c.in-Some.ensures c.read_word-reading.result c.read_word-reading.ensures.reading
+    (subst (λ (k : Class). HasNoOther k c.read_word-reading.result.transfer) class c.in_default-other.ensures)
+    c.step-stepped.ensures.bound c.in-Some-edge_taken.edge
+    (subst (λ (g : Going). IsFound c.args.handler.graph.now place g c.in-Some-edge_taken.edge) (λ j. record { label = label j; to = c.step-stepped.result.to; leave = leave j }) c.in-Some-edge_taken.ensures)
+
+pub returns-in-None : goal.returns-in-None
+returns-in-None c =
+    let place = place_at c.args.handler.graph.now.places c.args.place in
+    let label = c.label.ensures in
+    let leave = c.leave.ensures in
+    elsewhere c.args.handler.image.now c.args.handler.statement.now c.args.handler.graph.now c.requires.graph place c.args.machine.now c.args.input c.requires.stands
+    c.step-stepped.result c.step-stepped.new.self c.step-stepped.ensures.step c.in-Plain.is c.in-Some.word c.in-Some.ensures c.read_word-reading.result c.read_word-reading.ensures.reading
+    (Contains-get_or c.args.handler.graph.now.places c.args.place Exit c.requires.known)
+    (subst (λ (g : Going). HasNoEdge c.args.handler.graph.now place g) (λ j. record { label = label j; to = c.step-stepped.result.to; leave = leave j }) c.in-None.ensures)

@@ -1,0 +1,87 @@
+-- Where a run stands that is followed, and one step of it.
+use Rattle.std.specs.Prelude.{◌≡◌, ℕ, ◌+◌, ◌<◌, ◌≤◌, ◌^◌, List, [], ◌∷◌, ◌++◌, length, replicate, Option}
+use Rattle.std.specs.Prelude.{Contains}
+use Rattle.loader.specs.Image.{Words}
+use Rattle.statement.specs.Stated.{Stated}
+use Rattle.arm2_exec.specs.State.{State}
+use Rattle.arm2_exec.specs.declared.machine.Input.{Input}
+use Rattle.arm2_exec.specs.declared.machine.Stepped.{Stepped}
+use Rattle.flow_graph.specs.Flow.{Flow}
+use Rattle.flow_graph.specs.StepLaw.{IsEdgeOf}
+use Rattle.numbered_walks.specs.declared.span.NumberedEdge.{NumberedEdge}
+use Rattle.numbered_walks.specs.declared.span.Span.{Span}
+use Rattle.numbered_walks.specs.Index.{AreHeaders, edge_at}
+use Rattle.numbered_walks.specs.Reach.{most_in}
+use Rattle.loop_bounds.specs.Tree.{Tree, place_in}
+use Rattle.longest_walk.specs.Built.{step_at}
+use Rattle.kept_runs.specs.declared.following.Follower.{Follower}
+use Rattle.kept_runs.specs.declared.following.Unkept.{Unkept}
+use Rattle.kept_runs.specs.declared.following.Unkept.TheVariants as unkept
+use Rattle.kept_runs.specs.declared.following.Unkept.TheVariants.{NotAtEntry, TurnedBack, Unfinished}
+use Rattle.kept_runs.specs.Judging.{IsMachineFor, IsPlaceFor, IsStray}
+use Rattle.kept_runs.specs.Stays.{Tells}
+
+-- the span that begins at each number of a place, and at that of Exit
+pub record AreHeadersOf (flow : Flow) (tree : Tree) (headers : List (Option Span)) : Type 0 where
+  pub whole : length headers ≡ length flow.places + 1
+  pub are : AreHeaders tree.spans headers
+
+-- nothing is followed yet
+pub record IsFresh (exit : ℕ) (x : Follower) : Type 0 where
+  pub number_is : x.number ≡ 0
+  pub turns_are : x.turns.items ≡ replicate (exit + 1) 0
+  pub steps_are : x.steps ≡ 0
+  pub ticks_are : x.ticks ≡ 0
+
+-- a step may be made: the run stands at a place of the graph, at the machine's address
+pub record CanGo (flow : Flow) (tree : Tree) (x : Follower) (s : State) : Type 0 where
+  pub machine : IsMachineFor flow s
+  pub known : x.number < length flow.places
+  pub at : IsPlaceFor (place_in flow tree x.number) s
+  pub room : length x.turns.items ≡ length flow.places + 1
+
+-- a walk that stays within the bounds
+abbrev pub Keeps : Tree → List NumberedEdge → Type 0
+Keeps tree walk = (s : Span) → Contains tree.spans s → most_in s walk ≤ s.bound
+
+module _ (words : Words) (st : Stated) (flow : Flow) (tree : Tree) where
+  -- the edge of the number is that of the step, and leaves the place where the run stands
+  pub record IsNext (x : Follower) (s : State) (i : Input) (told : Stepped) (after : State)
+      (k : ℕ) : Type 0 where
+    pub known : k < length flow.edges
+    pub is_edge_of : IsEdgeOf words st flow.profile s i told after (step_at flow.edges k)
+    pub from : (edge_at tree.edges k).from ≡ x.number
+
+  -- a step along an edge: what was told of any walk is told of it with the edge after it
+  pub record Goes (old new : Follower) (s : State) (i : Input) (after : State) : Type 0 where
+    pub edge : ℕ
+    pub told : Stepped
+    pub next : IsNext old s i told after edge
+    pub number_is : new.number ≡ (edge_at tree.edges edge).to
+    pub steps_are : new.steps ≡ old.steps + 1
+    pub ticks_are : new.ticks ≡ old.ticks + told.ticks
+    pub small : told.ticks < 2 ^ 16
+    pub machine : IsMachineFor flow after
+    pub room : length new.turns.items ≡ length flow.places + 1
+    pub adds : (walk : List NumberedEdge) → Tells tree.spans old.turns.items old.number walk
+        → Tells tree.spans new.turns.items new.number (walk ++ edge_at tree.edges edge ∷ [])
+
+  -- no step along an edge stays within the bounds
+  abbrev pub CannotGo : Follower → State → Input → Type 0
+  CannotGo x s i =
+      (told : Stepped) (after : State) (k : ℕ) → IsNext x s i told after k → (walk : List NumberedEdge)
+      → Tells tree.spans x.turns.items x.number walk → Keeps tree (walk ++ edge_at tree.edges k ∷ []) → ⊥
+
+  -- why not: what the step does, or the instance to whose header its edge leads
+  abbrev pub IsWhy : Follower → State → Input → State → Unkept → Type 0
+  IsWhy x s i after NotAtEntry = ⊥
+  IsWhy x s i after (unkept.Stray stray) =
+      IsStray words st flow (place_in flow tree x.number) s i after stray
+  IsWhy x s i after (TurnedBack span) =
+      (told : Stepped) × (k : ℕ) × IsNext x s i told after k × Contains tree.spans span
+      × ((edge_at tree.edges k).to ≡ span.header)
+  IsWhy x s i after Unfinished = ⊥
+
+  pub record Halts (x : Follower) (s : State) (i : Input) (after : State) (why : Unkept) : Type 0 where
+    pub cannot : CannotGo x s i
+    pub is : IsWhy x s i after why

@@ -1,0 +1,88 @@
+-- One step of the machine against the edges of a place.
+use Rattle.std.specs.Prelude.{◌≡◌, ℕ, ◌<◌, ◌^◌, Bool, if◌then◌else◌, List, length, Contains}
+use Rattle.loader.specs.Image.{Words}
+use Rattle.statement.specs.Stated.{Stated, class_of}
+use Rattle.bus_ticks.specs.Worst.{IsOf}
+use Rattle.arm2_effect.specs.Effects.{Word}
+use Rattle.arm2_effect.specs.declared.step_end.Kind.{Kind}
+use Rattle.arm2_effect.specs.declared.step_end.Kind.TheVariants as ended
+use Rattle.arm2_exec.specs.State.{State}
+use Rattle.arm2_exec.specs.Step.{Step, address_in}
+use Rattle.arm2_exec.specs.declared.machine.Input.{Input}
+use Rattle.arm2_exec.specs.declared.machine.Stepped.{Stepped}
+use Rattle.flow_graph.specs.declared.edges.Edge.{Edge}
+use Rattle.flow_graph.specs.declared.edges.Label.{Label}
+use Rattle.flow_graph.specs.declared.edges.Label.TheVariants.{Skip, Do}
+use Rattle.flow_graph.specs.declared.places.Place.{Place}
+use Rattle.flow_graph.specs.declared.places.Place.TheVariants.{At}
+use Rattle.flow_graph.specs.Flow.{Flow}
+use Rattle.flow_graph.specs.StepLaw.{IsEdgeOf}
+use Rattle.longest_walk.specs.Built.{step_at}
+use Rattle.kept_runs.specs.declared.judging.Stray.{Stray}
+use Rattle.kept_runs.specs.declared.judging.Stray.TheVariants as stray
+use Rattle.kept_runs.specs.declared.judging.Taken.{Taken}
+use Rattle.kept_runs.specs.declared.transfers.Access.{Access}
+use Rattle.kept_runs.specs.Reading.{HasNoWord}
+
+abbrev pub label_if : Bool → Label
+label_if holds = if holds then Do else Skip
+
+-- the machine has its 27 registers and the prices of the graph
+pub record IsMachineFor (flow : Flow) (s : State) : Type 0 where
+  pub registers : length s.regs ≡ 27
+  pub prices : s.profile ≡ flow.profile
+
+-- the place is that of the machine's address, inside some calls
+abbrev pub IsPlaceFor : Place → State → Type 0
+IsPlaceFor place s = (calls : List ℕ) × (place ≡ At calls (address_in s.regs))
+
+-- what `judge_step` asks of the machine
+pub record StandsAt (flow : Flow) (place : Place) (s : State) : Type 0 where
+  pub machine : IsMachineFor flow s
+  pub at : IsPlaceFor place s
+
+module _ (words : Words) (st : Stated) (flow : Flow) (place : Place) (s : State) (i : Input) where
+  -- the step is along the edge of this number, which leaves the place
+  pub record Takes (after : State) (taken : Taken) : Type 0 where
+    pub known : taken.edge < length flow.edges
+    pub is_edge_of : IsEdgeOf words st flow.profile s i taken.stepped after (step_at flow.edges taken.edge)
+    pub from : (step_at flow.edges taken.edge).from ≡ place
+    pub machine : IsMachineFor flow after
+    pub small : taken.stepped.ticks < 2 ^ 16
+
+  -- no step is along an edge that leaves the place
+  abbrev pub TakesNone : Type 0
+  TakesNone =
+      (told : Stepped) (after : State) (e : Edge) → IsEdgeOf words st flow.profile s i told after e
+      → e.from ≡ place → ⊥
+
+  -- ## Why there is none
+
+  -- the step ends in this way
+  pub record Ends (after : State) (kind : Kind) : Type 0 where
+    pub told : Stepped
+    pub step : Step s i told after
+    pub kind_is : told.kind ≡ kind
+
+  -- the step transfers a word, of another class than the one stated
+  pub record TransfersOther (after : State) (access : Access) : Type 0 where
+    pub ends : Ends after ended.Plain
+    pub first : Bool
+    pub there : Contains ends.step.moved.accesses (Word access.store first access.address)
+    pub other : IsOf (class_of st (address_in s.regs)) access.address → ⊥
+
+  -- the step goes to the address
+  pub record GoesTo (after : State) (to : ℕ) : Type 0 where
+    pub ends : Ends after ended.Plain
+    pub to_is : ends.told.to ≡ to
+
+  abbrev pub IsStray : State → Stray → Type 0
+  IsStray after stray.OtherWord = HasNoWord words s × (after ≡ s)
+  IsStray after (stray.Exception vector) = Ends after (ended.Taken vector)
+  IsStray after (stray.Stopped why) = Ends after (ended.Stopped why)
+  IsStray after (stray.OtherClass access) = TransfersOther after access
+  IsStray after (stray.Elsewhere to) = GoesTo after to
+
+  pub record Strays (after : State) (stray : Stray) : Type 0 where
+    pub none : TakesNone
+    pub is : IsStray after stray

@@ -1,0 +1,7 @@
+pub mod Transfers
+pub mod Reading
+pub mod Edges
+pub mod Judging
+pub mod Stays
+pub mod Following
+pub mod Keeping

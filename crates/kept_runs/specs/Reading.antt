@@ -1,0 +1,42 @@
+-- What the word at the machine's address is to do, by the registers.
+use Rattle.std.specs.Prelude.{◌≡◌, ◌⊎◌, ℕ, Bool, if◌then◌else◌, List, Option, Some, None}
+use Rattle.loader.specs.Image.{Words, word_of}
+use Rattle.arm2_decode.specs.Table.{IsUnallocated, Means}
+use Rattle.arm2_decode.specs.declared.instr.Instr.{Instr}
+use Rattle.arm2_decode.specs.declared.instr.Operation.{Operation}
+use Rattle.arm2_decode.specs.declared.instr.Unallocated.{Unallocated}
+use Rattle.arm2_effect.specs.Modes.{r15_in}
+use Rattle.arm2_exec.specs.State.{State}
+use Rattle.arm2_exec.specs.Step.{address_in, fetched}
+use Rattle.flow_graph.specs.StepLaw.{holds_in}
+use Rattle.kept_runs.specs.declared.reading.Reading.{Reading}
+use Rattle.kept_runs.specs.declared.transfers.Transfer.{Transfer}
+use Rattle.kept_runs.specs.Transfers.{words_of}
+
+-- the machine fetches the image's word at its address
+pub record StandsThere (words : Words) (s : State) (word : ℕ) : Type 0 where
+  pub stands : word_of words (address_in s.regs) ≡ Some word
+  pub fetches : fetched s.bus.memc (r15_in s.regs) ≡ Some word
+
+abbrev pub HasNoWord : Words → State → Type 0
+HasNoWord words s = (word : ℕ) → StandsThere words s word → ⊥
+
+-- an instruction transfers words where its condition holds
+abbrev pub transfer_if : Bool → Operation → List ℕ → Option Transfer
+transfer_if holds o regs = if holds then words_of o regs else None
+
+abbrev pub instr_reading : Instr → List ℕ → Reading
+instr_reading i regs =
+    record {
+      holds = holds_in regs i.cond;
+      transfer = transfer_if (holds_in regs i.cond) i.operation regs;
+    }
+
+abbrev pub unallocated_reading : Unallocated → List ℕ → Reading
+unallocated_reading u regs = record { holds = holds_in regs u.cond; transfer = None }
+
+-- by the table of instruction words
+abbrev pub IsReading : ℕ → List ℕ → Reading → Type 0
+IsReading word regs r =
+    ((i : Instr) × Means word i × (r ≡ instr_reading i regs))
+    ⊎ ((u : Unallocated) × IsUnallocated word u × (r ≡ unallocated_reading u regs))

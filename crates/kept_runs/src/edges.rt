@@ -1,0 +1,71 @@
+//! Which edge of a place a step takes.
+
+ghost use Rattle.std.specs.Prelude.{◌≡◌, ◌<◌, ◌^◌, length, MatchOption};
+ghost use Rattle.flow_graph.specs.Places.{place_at};
+ghost use Rattle.kept_runs.specs.Edges.{HasNoEdge, IsFound, IsPartOf, is_met, is_place_of, same_label};
+
+use crate::transfers::covers;
+use bus_ticks::{Class, class_of};
+use flow_graph::{Edge, Graph, Label, Place};
+
+/// Where a step goes: by which label, and to which address.
+#[derive(Clone, Copy)]
+pub(crate) struct Going {
+    pub(crate) label: Label,
+    /// In bytes, below 2^26.
+    pub(crate) to: u32,
+    /// The class of the addresses to which the handler leaves.
+    pub(crate) leave: Class,
+}
+
+fn same_label(label: Label, other: Label) -> bool
+    ensures { result ≡ same_label label other }
+{
+    match (label, other) {
+        (Label::Skip, Label::Skip) | (Label::Do, Label::Do) => true,
+        _ => false,
+    }
+}
+
+fn is_place_of(place: &Place, going: Going) -> bool
+    requires { going.to < 2 ^ 26 }
+    ensures { result ≡ is_place_of going.leave going.to place.now }
+{
+    match place {
+        Place::At(_, address) => *address == going.to,
+        Place::Exit => covers(going.leave, class_of(going.to)),
+    }
+}
+
+fn is_met(edge: &Edge, going: Going) -> bool
+    requires { going.to < 2 ^ 26 }
+    ensures { result ≡ is_met going edge.now }
+{
+    same_label(edge.label, going.label) && is_place_of(&edge.to, going)
+}
+
+// Where the edges of the place begin and end.
+fn part(graph: &Graph, place: usize) -> (usize, usize)
+    requires { place < length graph.now.places }
+    ensures { IsPartOf graph.now (place_at graph.now.places place) result.0 result.1 }
+{
+    let firsts = graph.firsts();
+    (firsts[place], firsts[place + 1])
+}
+
+/// An edge of the place by the label and to the address, by its index in the graph's edges. It takes time
+/// linear in the edges of the place.
+pub(crate) fn edge_taken(graph: &Graph, place: usize, going: Going) -> Option<usize>
+    requires known { place < length graph.now.places }
+    requires to { going.to < 2 ^ 26 }
+    ensures { MatchOption result (HasNoEdge graph.now (place_at graph.now.places place) going)
+        (IsFound graph.now (place_at graph.now.places place) going) }
+{
+    let (first, end) = part(graph, place);
+    for edge in first..end {
+        if is_met(&graph.edges()[edge], going) {
+            return Some(edge);
+        }
+    }
+    None
+}

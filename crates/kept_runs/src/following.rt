@@ -1,0 +1,172 @@
+ghost use Rattle.std.specs.Prelude.{◌+◌, ◌<◌, ◌^◌, IfOk, MatchOption, length};
+ghost use Rattle.flow_graph.specs.Flow.{IsWellFormed};
+ghost use Rattle.kept_runs.specs.Following.{AreHeadersOf, CanGo, Goes, IsFresh, Halts};
+ghost use Rattle.kept_runs.specs.Judging.{IsMachineFor};
+ghost use Rattle.kept_runs.specs.Keeping.{IsFollowed, IsHandler};
+
+use crate::handler::Handler;
+use crate::judging::{Stray, judge_step};
+use crate::stays::{headers, turn};
+use arm2_effect::address_of;
+use arm2_exec::{Input, Machine, Reg};
+use numbered_walks::Span;
+use std::alloc::{AllocError, Global};
+
+/// How a run does not keep the statement of its handler.
+#[derive(Clone, Copy, Debug, PartialEq, Eq)]
+pub enum Unkept {
+    /// R15 is not the entry where the run begins.
+    NotAtEntry,
+    /// A step is along no edge.
+    Stray(Stray),
+    /// An edge turns back to the header of an instance more often than its bound allows.
+    TurnedBack(Span),
+    /// The inputs end inside the handler.
+    Unfinished,
+}
+
+/// Whether a run keeps the statement of its handler.
+#[derive(Clone, Copy)]
+pub enum Followed {
+    /// It goes along a walk from the entry to Exit that keeps the loop bounds.
+    Kept {
+        /// The steps until it leaves the handler.
+        steps: u64,
+        /// Their processor ticks, without those of DMA bursts.
+        ticks: u128,
+    },
+    /// It does not.
+    Strayed {
+        /// The steps before the one that does not keep it.
+        steps: u64,
+        why: Unkept,
+    },
+}
+
+/// Where a run stands that is followed from the entry, and what is known of it.
+#[derive(Drop)]
+pub(crate) struct Follower {
+    /// The number of the place where it stands.
+    pub(crate) number: usize,
+    /// By the numbers of headers, the back edges of its stay in each instance where it stands.
+    pub(crate) turns: Vec<u32>,
+    pub(crate) steps: u64,
+    /// Their processor ticks.
+    pub(crate) ticks: u128,
+}
+
+// At the entry, before a run.
+fn start(alloc: Global, exit: usize) -> Result<Follower, AllocError>
+    requires { exit < 2 ^ 32 }
+    ensures { IfOk result (IsFresh exit) }
+{
+    Ok(Follower {
+        number: 0,
+        turns: vec![in alloc; 0; exit + 1]?,
+        steps: 0,
+        ticks: 0,
+    })
+}
+
+// One step from where the run stands, or how it does not keep the statement.
+fn take_step(
+    handler: Handler<'_>,
+    headers: &[Option<Span>],
+    follower: &mut Follower,
+    machine: &mut Machine,
+    input: Input,
+) -> Option<Unkept>
+    requires handler { IsHandler handler.image.now handler.statement.now handler.graph.now handler.tree.now }
+    requires headers { AreHeadersOf handler.graph.now handler.tree.now headers.now }
+    requires can { CanGo handler.graph.now handler.tree.now follower.old machine.old }
+    requires well_formed { IsWellFormed handler.graph.now }
+    requires few { follower.old.steps + 1 < 2 ^ 64 }
+    requires small { follower.old.ticks < 2 ^ 100 }
+    ensures { MatchOption result
+        (Goes handler.entry.image.now handler.entry.statement.now handler.entry.graph.now
+        handler.entry.tree.now follower.old follower.new machine.old input machine.new)
+        (Halts handler.entry.image.now handler.entry.statement.now handler.entry.graph.now
+        handler.entry.tree.now follower.old machine.old input machine.new) }
+{
+    let place = handler.tree.order()[follower.number];
+    let taken = match judge_step(handler, machine, place, input) {
+        Ok(taken) => taken,
+        Err(stray) => return Some(Unkept::Stray(stray)),
+    };
+    let edge = handler.tree.edges()[taken.edge];
+    if let Some(span) = turn(headers, &mut follower.turns, &edge) {
+        return Some(Unkept::TurnedBack(span));
+    }
+    follower.number = edge.to;
+    follower.steps += 1;
+    follower.ticks += u128::from(taken.stepped.ticks);
+    None
+}
+
+// Steps, one for each input, until the handler is left.
+fn follow_from(
+    handler: Handler<'_>,
+    headers: &[Option<Span>],
+    follower: &mut Follower,
+    machine: &mut Machine,
+    inputs: &[Input],
+) -> Followed
+    requires handler { IsHandler handler.image.now handler.statement.now handler.graph.now handler.tree.now }
+    requires headers { AreHeadersOf handler.graph.now handler.tree.now headers.now }
+    requires fresh { IsFresh (length handler.graph.now.places) follower.old }
+    requires can { CanGo handler.graph.now handler.tree.now follower.old machine.old }
+    ensures { IsFollowed handler.entry.image.now handler.entry.statement.now handler.entry.graph.now
+        handler.entry.tree.now machine.old inputs.now machine.new result }
+{
+    let exit = handler.graph.places().len();
+    for input in inputs {
+        let steps = follower.steps;
+        if let Some(why) = take_step(handler, headers, follower, machine, *input) {
+            return Followed::Strayed { steps, why };
+        }
+        if follower.number == exit {
+            let (steps, ticks) = (follower.steps, follower.ticks);
+            return Followed::Kept { steps, ticks };
+        }
+    }
+    Followed::Strayed {
+        steps: follower.steps,
+        why: Unkept::Unfinished,
+    }
+}
+
+/// Runs a machine from a handler's entry until it leaves the handler, a step for each input, and judges each
+/// step by the handler's statement.
+///
+/// `Kept` where the steps go along a walk of the flow graph from the entry to Exit that keeps the loop bounds:
+/// then their ticks are at most the greatest cost. `Strayed` where no number of the inputs makes such a run.
+///
+/// A step takes time linear in the edges of its place, and no memory. The call takes as much memory as the
+/// graph has places.
+///
+/// # Errors
+///
+/// `AllocError` where an allocation failed.
+pub fn follow(
+    alloc: Global,
+    handler: Handler<'_>,
+    machine: &mut Machine,
+    inputs: &[Input],
+) -> Result<Followed, AllocError>
+    requires handler { IsHandler handler.image.now handler.statement.now handler.graph.now handler.tree.now }
+    requires machine { IsMachineFor handler.graph.now machine.old }
+    ensures { IfOk result
+        (IsFollowed handler.entry.image.now handler.entry.statement.now handler.entry.graph.now
+        handler.entry.tree.now machine.old inputs.now machine.new) }
+{
+    let exit = handler.graph.places().len();
+    let headers = headers(alloc, handler.tree.spans(), exit)?;
+    let mut follower = start(alloc, exit)?;
+    if address_of(machine.get(Reg::R15)) != handler.statement.entry() {
+        return Ok(Followed::Strayed {
+            steps: 0,
+            why: Unkept::NotAtEntry,
+        });
+    }
+    Ok(follow_from(handler, &headers, &mut follower, machine, inputs))
+}

@@ -1,0 +1,12 @@
+use flow_graph::{Graph, Statement};
+use loader::Image;
+use loop_bounds::LoopTree;
+
+/// An accepted handler: its words, its statement, and the flow graph and the loops that they have.
+#[derive(Clone, Copy)]
+pub struct Handler<'a> {
+    pub image: &'a Image,
+    pub statement: &'a Statement,
+    pub graph: &'a Graph,
+    pub tree: &'a LoopTree,
+}

@@ -1,0 +1,92 @@
+ghost use Rattle.std.specs.Prelude.{◌≡◌, ◌<◌, length, MatchResult};
+ghost use Rattle.flow_graph.specs.Graph.{IsFlowGraph};
+ghost use Rattle.flow_graph.specs.Places.{place_at};
+ghost use Rattle.kept_runs.specs.Judging.{StandsAt, Strays, Takes, label_if};
+
+use crate::edges::{Going, edge_taken};
+use crate::handler::Handler;
+use crate::reading::{own_word, read_word};
+use crate::transfers::{Access, other_of};
+use arm2_effect::address_of;
+use arm2_exec::{Input, Kind, Machine, Reg, Stepped, Vector, Why};
+use flow_graph::Label;
+
+/// How a step is along no edge of its place, by the statement.
+#[derive(Clone, Copy, Debug, PartialEq, Eq)]
+pub enum Stray {
+    /// The machine does not fetch the image's word at its address.
+    OtherWord,
+    /// The step takes an exception.
+    Exception(Vector),
+    /// The machine stops.
+    Stopped(Why),
+    /// The step transfers a word of another class than the one stated.
+    OtherClass(Access),
+    /// The step goes to an address, in bytes, to which no edge leads.
+    Elsewhere(u32),
+}
+
+/// A step along an edge.
+#[derive(Clone, Copy)]
+pub struct Taken {
+    /// The edge's index in the graph's edges.
+    pub edge: usize,
+    pub stepped: Stepped,
+}
+
+fn label(holds: bool) -> Label
+    ensures { result ≡ label_if holds }
+{
+    if holds { Label::Do } else { Label::Skip }
+}
+
+/// Makes one step of a machine that stands at a place of the graph, named by its index: along which edge of the
+/// place it is, by the statement.
+///
+/// It takes time linear in the edges of the place, and no memory.
+///
+/// # Errors
+///
+/// A [`Stray`] where no edge of the place is that of the step. The step is made all the same, but where the
+/// machine does not fetch the image's word.
+pub fn judge_step(
+    handler: Handler<'_>,
+    machine: &mut Machine,
+    place: usize,
+    input: Input,
+) -> Result<Taken, Stray>
+    requires graph { IsFlowGraph handler.image.now handler.statement.now handler.graph.now.profile
+        handler.graph.now }
+    requires known { place < length handler.graph.now.places }
+    requires stands { StandsAt handler.graph.now (place_at handler.graph.now.places place) machine.old }
+    ensures { MatchResult result
+        (Takes handler.entry.image.now handler.entry.statement.now handler.entry.graph.now
+        (place_at handler.entry.graph.now.places place) machine.old input machine.new)
+        (Strays handler.entry.image.now handler.entry.statement.now handler.entry.graph.now
+        (place_at handler.entry.graph.now.places place) machine.old input machine.new) }
+{
+    let Some(word) = own_word(handler.image, machine) else {
+        return Err(Stray::OtherWord);
+    };
+    let address = address_of(machine.get(Reg::R15));
+    let reading = read_word(machine, word);
+    let other = other_of(handler.statement.class_at(address), reading.transfer);
+    let stepped = machine.step(input);
+    match stepped.kind {
+        Kind::Taken(vector) => return Err(Stray::Exception(vector)),
+        Kind::Stopped(why) => return Err(Stray::Stopped(why)),
+        Kind::Plain => {}
+    }
+    if let Some(access) = other {
+        return Err(Stray::OtherClass(access));
+    }
+    let going = Going {
+        label: label(reading.holds),
+        to: stepped.to,
+        leave: handler.statement.leave(),
+    };
+    match edge_taken(handler.graph, place, going) {
+        Some(edge) => Ok(Taken { edge, stepped }),
+        None => Err(Stray::Elsewhere(stepped.to)),
+    }
+}

@@ -1,0 +1,143 @@
+//! The words that an instruction transfers, by the registers before it.
+
+ghost use Rattle.std.specs.Prelude.{◌≡◌, ◌≤◌, ◌<◌, ◌^◌, ℕ, IfSome, MatchOption};
+ghost use Rattle.bus_ticks.specs.Prices.{class_at};
+ghost use Rattle.arm2_transfer.specs.Block.{lowest_of};
+ghost use Rattle.arm2_transfer.specs.Registers.{moved_by};
+ghost use Rattle.kept_runs.specs.Transfers.{covers, words_of};
+ghost use Rattle.kept_runs.specs.Transfers.{AllOf, HasNoOther, HasOther, HasOtherOf, address_by};
+
+use crate::registers::{base, current, offset};
+use arm2_decode::{Block, Operation};
+use arm2_exec::Machine;
+use bus_ticks::{Class, SPACE_END, class_of, word_address};
+
+/// The words that an instruction transfers where it is carried out.
+#[derive(Clone, Copy, Debug, PartialEq, Eq)]
+pub struct Transfer {
+    /// The address of the first, in bytes, of 32 bits.
+    pub address: u32,
+    /// How many: 1 to 16.
+    pub words: u32,
+    /// Whether they are stored.
+    pub store: bool,
+}
+
+/// A word that is transferred.
+#[derive(Clone, Copy, Debug, PartialEq, Eq)]
+pub struct Access {
+    /// Its address in bytes, a multiple of 4 below 2^26.
+    pub address: u32,
+    /// Whether it is stored.
+    pub store: bool,
+}
+
+fn moved(up: bool, base: u32, offset: u32) -> u32
+    ensures { result ≡ moved_by up base offset }
+{
+    if up {
+        base.wrapping_add(offset)
+    } else {
+        base.wrapping_sub(offset)
+    }
+}
+
+// The address of a single transfer's word.
+fn address(before: bool, up: bool, base: u32, offset: u32) -> u32
+    ensures { result ≡ address_by before up base offset }
+{
+    if before {
+        moved(up, base, offset)
+    } else {
+        base
+    }
+}
+
+fn lowest(block: &Block, base: u32, words: u32) -> u32
+    requires { words ≤ 32 }
+    ensures { result ≡ lowest_of block.now base words }
+{
+    let lowest = match (block.up, block.before) {
+        (true, true) => base.wrapping_add(4),
+        (true, false) => base,
+        (false, true) => base.wrapping_sub(4 * words),
+        (false, false) => base.wrapping_sub(4 * words).wrapping_add(4),
+    };
+    lowest / 4 * 4
+}
+
+/// The words that an operation transfers from where the machine stands.
+pub(crate) fn words_of(machine: &Machine, operation: &Operation) -> Option<Transfer>
+    ensures words { result ≡ words_of operation.now machine.now.regs }
+    ensures few { IfSome result (λ t. t.words ≤ 16) }
+{
+    match operation {
+        Operation::SingleImmediate(x) => Some(Transfer {
+            address: address(x.before, x.up, base(machine, x.rn), x.offset),
+            words: 1,
+            store: !x.load,
+        }),
+        Operation::SingleRegister(x) => {
+            let offset = offset(machine, x).value;
+            Some(Transfer {
+                address: address(x.before, x.up, base(machine, x.rn), offset),
+                words: 1,
+                store: !x.load,
+            })
+        }
+        Operation::Block(x) => {
+            let words = x.list.count_ones();
+            Some(Transfer {
+                address: lowest(x, current(machine, x.rn), words),
+                words,
+                store: !x.load,
+            })
+        }
+        _ => None,
+    }
+}
+
+/// Whether an address of the one class is always one of the other.
+pub(crate) fn covers(class: Class, own: Class) -> bool
+    ensures { result ≡ covers class own }
+{
+    match (class, own) {
+        (Class::Any, _)
+        | (Class::Ram, Class::Ram)
+        | (Class::Rom, Class::Rom)
+        | (Class::Io, Class::Io) => true,
+        _ => false,
+    }
+}
+
+/// The first word that is of another class than the one stated, if one is.
+fn other_word(class: Class, transfer: &Transfer) -> Option<Access>
+    requires below { transfer.now.address < 2 ^ 26 }
+    requires few { transfer.now.words ≤ 16 }
+    ensures { MatchOption result (AllOf class transfer.now) (HasOtherOf class transfer.now) }
+{
+    for word in 0..transfer.words {
+        let address = word_address(transfer.address, word);
+        if !covers(class, class_of(address)) {
+            return Some(Access {
+                address,
+                store: transfer.store,
+            });
+        }
+    }
+    None
+}
+
+/// The first word of another class than the one stated. None of a transfer whose address is an exception.
+pub(crate) fn other_of(class: Class, transfer: Option<Transfer>) -> Option<Access>
+    requires { IfSome transfer (λ t. t.words ≤ 16) }
+    ensures { MatchOption result (HasNoOther class transfer) (HasOther class transfer) }
+{
+    let Some(transfer) = transfer else {
+        return None;
+    };
+    if transfer.address >= SPACE_END {
+        return None;
+    }
+    other_word(class, &transfer)
+}
