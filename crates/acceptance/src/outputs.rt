@@ -3,8 +3,9 @@
 ghost use Rattle.std.specs.Prelude.{Some};
 
 use crate::files::{Files, line};
-use crate::reports::{REPORTS, Report, SOURCE, STATEMENT, on_room};
+use crate::reports::{REPORTS, Report, on_room};
 use arcwcet::{MemoryOutput, Output, OutputFault, program, write_whole};
+use samples::lone_return::{SOURCE, STATEMENT};
 use std::alloc::Global;
 use std::process::Abort;
 use std::test::Fail;
