@@ -3,11 +3,12 @@
 use arcwcet::{Store, StoreFault, read_limited};
 use std::alloc::{AllocError, Global};
 
-/// The files `source` and `second`. None can be written.
+/// The files of these names. None can be written.
 #[derive(Drop)]
 pub(crate) struct Files<'a> {
     pub(crate) source: &'a [u8],
     pub(crate) second: &'a [u8],
+    pub(crate) profile: &'a [u8],
 }
 
 impl Store for Files<'_> {
@@ -15,6 +16,7 @@ impl Store for Files<'_> {
         let mut bytes = match name {
             "source" => self.source,
             "second" => self.second,
+            "profile" => self.profile,
             _ => return Err(StoreFault::Device),
         };
         read_limited(alloc, &mut bytes)
@@ -25,11 +27,14 @@ impl Store for Files<'_> {
     }
 }
 
-/// The program's words for a command on both files.
-pub(crate) fn line(alloc: Global, command: &str) -> Result<Vec<String>, AllocError> {
+/// The program's words for a command, with its options, on the files `source` and `second`.
+pub(crate) fn line(alloc: Global, command: &[&str]) -> Result<Vec<String>, AllocError> {
     let mut line = Vec::new(alloc);
-    for word in ["arcwcet", command, "source", "second"] {
+    line.push(String::from_str(alloc, "arcwcet")?)?;
+    for word in command {
         line.push(String::from_str(alloc, word)?)?;
     }
+    line.push(String::from_str(alloc, "source")?)?;
+    line.push(String::from_str(alloc, "second")?)?;
     Ok(line)
 }

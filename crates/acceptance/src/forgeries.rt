@@ -183,11 +183,17 @@ fn is_right(alloc: Global, handler: &Handler) -> Result<bool, ReportFault> {
 
 #[test]
 fn forged_certificates(rt: HostRuntime) -> Result<(), Fail> {
+    let mut accepted = 0u32;
     for (number, handler) in HANDLERS.iter().enumerate() {
         assert!(rt; is_right(rt.alloc(), handler)?, "handler {number}");
         let found = answers_to_forgeries(rt.alloc(), handler)?;
-        let are_all_met = found.no > 0 && found.refused > 0;
-        assert!(rt; are_all_met && found.first_wrong == None, "handler {number}: {found:?}");
+        let are_refused = found.no > 0 && found.refused > 0;
+        assert!(rt;
+            are_refused && found.first_wrong == None,
+            "handler {number}: {found:?}"
+        );
+        accepted = accepted.saturating_add(found.yes);
     }
+    assert!(rt; accepted > 0, "no other certificate is accepted");
     Ok(())
 }

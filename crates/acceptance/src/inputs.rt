@@ -1,49 +1,53 @@
 //! Runs of the program over files and a standard input that are too long or fail.
 
-use crate::countdown;
-use crate::countdown::SOURCE;
 use crate::files::{Files, line};
 use arcwcet::{LIMIT, MemoryOutput, ReportFault, program};
+use samples::countdown;
 use std::alloc::{AllocError, Global};
 use std::io;
 use std::io::{ErrorKind, Read};
 use std::test::Fail;
 
-/// So many blanks, and a text after them.
-type File = (usize, &'static [u8]);
+/// A text, and the length in bytes to which the comment at its end is drawn out, if that is longer.
+type File = (&'static [u8], usize);
 
-const COUNTDOWN: File = (0, SOURCE);
+const COUNTDOWN: File = (countdown::SOURCE, 0);
 
-const NO_SOURCE: File = (0, b"frob");
+const NO_SOURCE: File = (b"frob", 0);
 
-const MACHINE: File = (0, countdown::MACHINE);
+const MACHINE: File = (countdown::MACHINE, 0);
 
-/// A source of one line.
-const RETURN: &[u8] = b" SUBS PC,R14,#4";
+const LONGEST_MACHINE: File = (
+    b"steps = 8\npc = 0x8000\nmode = \"irq\"\nregisters.r14_irq = 0x1010 #",
+    LIMIT,
+);
 
-const ENTRY: &[u8] = b"entry = 0x8000";
+const RETURN: &[u8] = b" SUBS PC,R14,#4 ;";
 
-/// Files that are as long as they may be.
-const LONGEST_SOURCE: File = (LIMIT - RETURN.len(), RETURN);
+const STATEMENT: &[u8] = b"entry = 0x8000 #";
 
-const LONGEST_STATEMENT: File = (LIMIT - ENTRY.len(), ENTRY);
+/// The numbers of the first cycle profile.
+const PROFILE: &[u8] = b"n=2\ns=1\nquad=2\nrom=[4,3,2,2]\nio=[8,6,5,10]\ncontrol=2\nunfitted=2\n\
+    internal=1\nburst=6 #";
 
-const TOO_LONG_A_FILE: File = (LIMIT + 1, b"");
+const TOO_LONG: File = (b"#", LIMIT + 1);
 
 /// A status, and what standard output and standard error then hold.
-type Told = (u8, &'static str, &'static str);
+type Told = (u8, &'static [u8], &'static [u8]);
 
 const BOUND: Told = (
     0,
-    "arcwcet certificate 1\nbound 9\nstep 8000 do exit 9\nclose\nplace - 8000 0\nstop\n",
-    "",
+    b"arcwcet certificate 1\nbound 9\nstep 8000 do exit 9\nclose\nplace - 8000 0\nstop\n",
+    b"",
 );
 
-const UNKNOWN_COMMAND: Told = (0, "refused: UnknownCommand\n", "");
+const UNKNOWN_COMMAND: Told = (0, b"refused: UnknownCommand\n", b"");
 
-const TOO_LONG: Told = (1, "", "refused: InputTooLong\n");
+const RAN: Told = (0, countdown::RAN, b"");
 
-const DEVICE: Told = (4, "", "refused: Device\n");
+const REFUSED: Told = (1, b"", b"refused: InputTooLong\n");
+
+const DEVICE: Told = (4, b"", b"refused: Device\n");
 
 /// A byte, how often it stands in standard input, and how that fails then in place of its end.
 type Input = (u8, usize, Option<ErrorKind>);
@@ -62,34 +66,67 @@ const ENDLESS: Input = (b'\n', usize::MAX, None);
 /// What stays of an endless input, of which a byte more than the limit is read.
 const UNREAD: usize = usize::MAX - LIMIT - 1;
 
-/// A command, its source and second file, its input, what it tells, and how much of the input it leaves.
-type Row = (&'static str, [File; 2], Input, Told, usize);
+/// A command with its options, the files `source`, `second` and `profile`, its input, what it tells, and
+/// how much of the input it leaves.
+type Row = (&'static [&'static str], [File; 3], Input, Told, usize);
 
-const ROWS: [Row; 11] = [
-    ("bound", [TOO_LONG_A_FILE, (0, ENTRY)], NOTHING, TOO_LONG, 0),
+const PLAIN: &[&str] = &["bound"];
+
+const PRICED: &[&str] = &["bound", "--profile", "profile"];
+
+const RUN: &[&str] = &["run"];
+
+const DEBUG: &[&str] = &["debug"];
+
+const NONE: File = (b"", 0);
+
+const ROWS: [Row; 15] = [
+    (PLAIN, [TOO_LONG, (STATEMENT, 0), NONE], NOTHING, REFUSED, 0),
+    (PLAIN, [(RETURN, 0), TOO_LONG, NONE], NOTHING, REFUSED, 0),
     (
-        "bound",
-        [(0, RETURN), TOO_LONG_A_FILE],
+        PLAIN,
+        [(RETURN, LIMIT), (STATEMENT, 0), NONE],
         NOTHING,
-        TOO_LONG,
+        BOUND,
         0,
     ),
-    ("bound", [LONGEST_SOURCE, (0, ENTRY)], NOTHING, BOUND, 0),
-    ("bound", [(0, RETURN), LONGEST_STATEMENT], NOTHING, BOUND, 0),
-    ("asm", [COUNTDOWN, MACHINE], NOTHING, DEVICE, 0),
     (
-        "debug",
-        [COUNTDOWN, MACHINE],
+        PLAIN,
+        [(RETURN, 0), (STATEMENT, LIMIT), NONE],
+        NOTHING,
+        BOUND,
+        0,
+    ),
+    (
+        PRICED,
+        [(RETURN, 0), (STATEMENT, 0), TOO_LONG],
+        NOTHING,
+        REFUSED,
+        0,
+    ),
+    (
+        PRICED,
+        [(RETURN, 0), (STATEMENT, 0), (PROFILE, LIMIT)],
+        NOTHING,
+        BOUND,
+        0,
+    ),
+    (RUN, [COUNTDOWN, TOO_LONG, NONE], NOTHING, REFUSED, 0),
+    (RUN, [COUNTDOWN, LONGEST_MACHINE, NONE], NOTHING, RAN, 0),
+    (&["asm"], [COUNTDOWN, MACHINE, NONE], NOTHING, DEVICE, 0),
+    (
+        DEBUG,
+        [COUNTDOWN, MACHINE, NONE],
         (b'x', LIMIT, None),
         UNKNOWN_COMMAND,
         0,
     ),
-    ("debug", [COUNTDOWN, MACHINE], FAILS, DEVICE, 0),
-    ("debug", [COUNTDOWN, MACHINE], FAILS_LATER, DEVICE, 0),
-    ("debug", [COUNTDOWN, MACHINE], INTERRUPTED, DEVICE, 0),
-    ("debug", [COUNTDOWN, MACHINE], ENDLESS, TOO_LONG, UNREAD),
+    (DEBUG, [COUNTDOWN, MACHINE, NONE], FAILS, DEVICE, 0),
+    (DEBUG, [COUNTDOWN, MACHINE, NONE], FAILS_LATER, DEVICE, 0),
+    (DEBUG, [COUNTDOWN, MACHINE, NONE], INTERRUPTED, DEVICE, 0),
+    (DEBUG, [COUNTDOWN, MACHINE, NONE], ENDLESS, REFUSED, UNREAD),
     // The input is refused before a source that is none.
-    ("debug", [NO_SOURCE, MACHINE], ENDLESS, TOO_LONG, UNREAD),
+    (DEBUG, [NO_SOURCE, MACHINE, NONE], ENDLESS, REFUSED, UNREAD),
 ];
 
 /// A reader of one byte so many times, which then ends or fails.
@@ -115,21 +152,24 @@ impl Read for Bytes {
 }
 
 fn bytes_of(alloc: Global, file: &File) -> Result<Vec<u8>, AllocError> {
-    let (blanks, text) = file;
-    let mut bytes = vec![in alloc; b' '; *blanks]?;
-    bytes.extend_from_slice(text)?;
+    let (text, length) = file;
+    let mut bytes = vec![in alloc; b'x'; (*length).max(text.len())]?;
+    bytes[..text.len()].copy_from_slice(text);
     Ok(bytes)
 }
 
 /// Whether the program tells that of the command, and leaves so much of the input.
 fn is_told(alloc: Global, row: &Row) -> Result<bool, ReportFault> {
-    let (command, [source, second], (byte, left, fails), (status, said, told), unread) = row;
+    let (command, [source, second, profile], (byte, left, fails), (status, said, told), unread) =
+        row;
     let words = line(alloc, command)?;
     let source = bytes_of(alloc, source)?;
     let second = bytes_of(alloc, second)?;
+    let profile = bytes_of(alloc, profile)?;
     let mut files = Files {
         source: &source,
         second: &second,
+        profile: &profile,
     };
     let mut input = Bytes {
         byte: *byte,
@@ -139,12 +179,7 @@ fn is_told(alloc: Global, row: &Row) -> Result<bool, ReportFault> {
     let mut out = MemoryOutput::with_room(alloc, 0)?;
     let mut err = MemoryOutput::with_room(alloc, 0)?;
     let found = program(alloc, &words, &mut files, &mut input, &mut out, &mut err);
-    Ok(
-        found == *status
-            && out.bytes() == said.as_bytes()
-            && err.bytes() == told.as_bytes()
-            && input.left == *unread,
-    )
+    Ok(found == *status && out.bytes() == *said && err.bytes() == *told && input.left == *unread)
 }
 
 #[test]

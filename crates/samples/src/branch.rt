@@ -1,7 +1,6 @@
 //! A branch forward, of which the way with the branch is the dearer one.
 
-pub const SOURCE: &[u8] =
-    b"start SUBS R0,R0,#1\n BEQ out\n MOV R0,#3\nout SUBS PC,R14,#4\n";
+pub const SOURCE: &[u8] = b"start SUBS R0,R0,#1\n BEQ out\n MOV R0,#3\nout SUBS PC,R14,#4\n";
 
 pub const STATEMENT: &[u8] = b"entry = \"start\"\n";
 

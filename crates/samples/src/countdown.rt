@@ -17,6 +17,14 @@ pub const STATEMENT: &[u8] =
 pub const MACHINE: &[u8] =
     b"steps = 8\npc = 0x8000\nmode = \"irq\"\n[registers]\nr14_irq = 0x1010\n";
 
+/// What a run by the machine file prints.
+pub const RAN: &[u8] = b"R0=00000000 R1=00000000 R2=00000000 R3=00000000
+R4=00000000 R5=00000000 R6=00000000 R7=00000000
+R8=00000000 R9=00000000 R10=00000000 R11=00000000
+R12=00000000 R13=00000000 R14=00000000 R15=0000100C
+ticks 21 elapsed 21
+";
+
 pub const CERTIFICATE: &[u8] = b"arcwcet certificate 1
 bound 25
 step 8000 do 8004 1
