@@ -15,27 +15,35 @@ const COUNTDOWN: File = (countdown::SOURCE, 0);
 
 const NO_SOURCE: File = (b"frob", 0);
 
+const RETURN: File = (b" SUBS PC,R14,#4 ;", 0);
+
+const LONG_RETURN: File = (RETURN.0, LIMIT);
+
+const ENTRY: File = (b"entry = 0x8000 #", 0);
+
+const LONG_ENTRY: File = (ENTRY.0, LIMIT);
+
+/// By the numbers of the first cycle profile.
+const LONG_PROFILE: File = (
+    b"n=2\ns=1\nquad=2\nrom=[4,3,2,2]\nio=[8,6,5,10]\ncontrol=2\nunfitted=2\ninternal=1\nburst=6#",
+    LIMIT,
+);
+
 const MACHINE: File = (countdown::MACHINE, 0);
 
-const LONGEST_MACHINE: File = (
+const LONG_MACHINE: File = (
     b"steps = 8\npc = 0x8000\nmode = \"irq\"\nregisters.r14_irq = 0x1010 #",
     LIMIT,
 );
 
-const RETURN: &[u8] = b" SUBS PC,R14,#4 ;";
-
-const STATEMENT: &[u8] = b"entry = 0x8000 #";
-
-/// The numbers of the first cycle profile.
-const PROFILE: &[u8] = b"n=2\ns=1\nquad=2\nrom=[4,3,2,2]\nio=[8,6,5,10]\ncontrol=2\nunfitted=2\n\
-    internal=1\nburst=6 #";
-
 const TOO_LONG: File = (b"#", LIMIT + 1);
+
+const NONE: File = (b"", 0);
 
 /// A status, and what standard output and standard error then hold.
 type Told = (u8, &'static [u8], &'static [u8]);
 
-const BOUND: Told = (
+const CERTIFICATE: Told = (
     0,
     b"arcwcet certificate 1\nbound 9\nstep 8000 do exit 9\nclose\nplace - 8000 0\nstop\n",
     b"",
@@ -49,84 +57,54 @@ const REFUSED: Told = (1, b"", b"refused: InputTooLong\n");
 
 const DEVICE: Told = (4, b"", b"refused: Device\n");
 
-/// A byte, how often it stands in standard input, and how that fails then in place of its end.
-type Input = (u8, usize, Option<ErrorKind>);
+/// A byte, how often it stands in standard input, how that fails then in place of its end, and how much of
+/// it the program leaves.
+type Input = (u8, usize, Option<ErrorKind>, usize);
 
-const NOTHING: Input = (b'\n', 0, None);
+const NOTHING: Input = (b'\n', 0, None, 0);
 
-const FAILS: Input = (b'\n', 0, Some(ErrorKind::Other));
+const LONG: Input = (b'x', LIMIT, None, 0);
 
-const FAILS_LATER: Input = (b'\n', 4096, Some(ErrorKind::Other));
+const FAILS: Input = (b'\n', 0, Some(ErrorKind::Other), 0);
+
+const FAILS_LATER: Input = (b'\n', 4096, Some(ErrorKind::Other), 0);
 
 // An interrupted read has failed; it is not tried again.
-const INTERRUPTED: Input = (b'\n', 8192, Some(ErrorKind::Interrupted));
+const INTERRUPTED: Input = (b'\n', 8192, Some(ErrorKind::Interrupted), 0);
 
-const ENDLESS: Input = (b'\n', usize::MAX, None);
+/// A byte more than the limit is read.
+const ENDLESS: Input = (b'\n', usize::MAX, None, usize::MAX - LIMIT - 1);
 
-/// What stays of an endless input, of which a byte more than the limit is read.
-const UNREAD: usize = usize::MAX - LIMIT - 1;
-
-/// A command with its options, the files `source`, `second` and `profile`, its input, what it tells, and
-/// how much of the input it leaves.
-type Row = (&'static [&'static str], [File; 3], Input, Told, usize);
-
-const PLAIN: &[&str] = &["bound"];
+const BOUND: &[&str] = &["bound"];
 
 const PRICED: &[&str] = &["bound", "--profile", "profile"];
 
 const RUN: &[&str] = &["run"];
 
+const ASM: &[&str] = &["asm"];
+
 const DEBUG: &[&str] = &["debug"];
 
-const NONE: File = (b"", 0);
+/// A command with its options; the files `source`, `second` and `profile`; its input, and what it tells.
+type Row = (&'static [&'static str], [File; 3], Input, Told);
 
 const ROWS: [Row; 15] = [
-    (PLAIN, [TOO_LONG, (STATEMENT, 0), NONE], NOTHING, REFUSED, 0),
-    (PLAIN, [(RETURN, 0), TOO_LONG, NONE], NOTHING, REFUSED, 0),
-    (
-        PLAIN,
-        [(RETURN, LIMIT), (STATEMENT, 0), NONE],
-        NOTHING,
-        BOUND,
-        0,
-    ),
-    (
-        PLAIN,
-        [(RETURN, 0), (STATEMENT, LIMIT), NONE],
-        NOTHING,
-        BOUND,
-        0,
-    ),
-    (
-        PRICED,
-        [(RETURN, 0), (STATEMENT, 0), TOO_LONG],
-        NOTHING,
-        REFUSED,
-        0,
-    ),
-    (
-        PRICED,
-        [(RETURN, 0), (STATEMENT, 0), (PROFILE, LIMIT)],
-        NOTHING,
-        BOUND,
-        0,
-    ),
-    (RUN, [COUNTDOWN, TOO_LONG, NONE], NOTHING, REFUSED, 0),
-    (RUN, [COUNTDOWN, LONGEST_MACHINE, NONE], NOTHING, RAN, 0),
-    (&["asm"], [COUNTDOWN, MACHINE, NONE], NOTHING, DEVICE, 0),
-    (
-        DEBUG,
-        [COUNTDOWN, MACHINE, NONE],
-        (b'x', LIMIT, None),
-        UNKNOWN_COMMAND,
-        0,
-    ),
-    (DEBUG, [COUNTDOWN, MACHINE, NONE], FAILS, DEVICE, 0),
-    (DEBUG, [COUNTDOWN, MACHINE, NONE], FAILS_LATER, DEVICE, 0),
-    (DEBUG, [COUNTDOWN, MACHINE, NONE], INTERRUPTED, DEVICE, 0),
-    (DEBUG, [COUNTDOWN, MACHINE, NONE], ENDLESS, REFUSED, UNREAD),
+    (BOUND, [TOO_LONG, ENTRY, NONE], NOTHING, REFUSED),
+    (BOUND, [RETURN, TOO_LONG, NONE], NOTHING, REFUSED),
+    (BOUND, [LONG_RETURN, ENTRY, NONE], NOTHING, CERTIFICATE),
+    (BOUND, [RETURN, LONG_ENTRY, NONE], NOTHING, CERTIFICATE),
+    (PRICED, [RETURN, ENTRY, TOO_LONG], NOTHING, REFUSED),
+    (PRICED, [RETURN, ENTRY, LONG_PROFILE], NOTHING, CERTIFICATE),
+    (RUN, [COUNTDOWN, TOO_LONG, NONE], NOTHING, REFUSED),
+    (RUN, [COUNTDOWN, LONG_MACHINE, NONE], NOTHING, RAN),
+    (ASM, [COUNTDOWN, MACHINE, NONE], NOTHING, DEVICE),
+    (DEBUG, [COUNTDOWN, MACHINE, NONE], LONG, UNKNOWN_COMMAND),
+    (DEBUG, [COUNTDOWN, MACHINE, NONE], FAILS, DEVICE),
+    (DEBUG, [COUNTDOWN, MACHINE, NONE], FAILS_LATER, DEVICE),
+    (DEBUG, [COUNTDOWN, MACHINE, NONE], INTERRUPTED, DEVICE),
+    (DEBUG, [COUNTDOWN, MACHINE, NONE], ENDLESS, REFUSED),
     // The input is refused before a source that is none.
-    (DEBUG, [NO_SOURCE, MACHINE, NONE], ENDLESS, REFUSED, UNREAD),
+    (DEBUG, [NO_SOURCE, MACHINE, NONE], ENDLESS, REFUSED),
 ];
 
 /// A reader of one byte so many times, which then ends or fails.
