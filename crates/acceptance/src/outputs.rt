@@ -135,9 +135,9 @@ fn program_at_cuts(
         // What standard error takes changes no status.
         let mut err = Narrow::new(alloc, 1, 0, Failure::Error);
         let mut files = Files {
-            source: SOURCE,
-            second: STATEMENT,
-            profile: b"",
+            source: (SOURCE, 0),
+            second: (STATEMENT, 0),
+            profile: (b"", 0),
         };
         let mut input: &[u8] = b"";
         let found = program(alloc, words, &mut files, &mut input, &mut out, &mut err);
