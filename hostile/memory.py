@@ -19,11 +19,13 @@ def build(bench):
         sys.exit("the library that refuses requests for memory cannot be built")
 
 
-def settings(bench, at, goes_on):
+def settings(bench, at, goes_on=False, row=1):
+    """The library's settings: the request to be refused, all later ones too, or so many in a row."""
     return {
         "LD_PRELOAD": bench.library,
         "STARVE_COUNTS": "counts",
         "STARVE_AT": at,
+        "STARVE_ROW": row,
         "STARVE_ON": int(goes_on),
     }
 
@@ -58,7 +60,7 @@ def made_image(folder):
 def requests_of(bench, command):
     """How many requests a command makes for which nothing is refused."""
     told, left = bench.ask(
-        command.words, command.files, stdin=command.stdin, settings=settings(bench, 0, False)
+        command.words, command.files, stdin=command.stdin, settings=settings(bench, 0)
     )
     if told != command.told:
         sys.exit(f"{command.name}: another answer with the library alone: {told}")

@@ -1,6 +1,7 @@
 /* Refuses requests for memory of the program that it is loaded into by LD_PRELOAD.
  *
  *   STARVE_AT=N        the Nth request is refused, counted from 1; 0 or nothing: none is
+ *   STARVE_ROW=K       and so are those that come after it, K in all; nothing: the one alone
  *   STARVE_ON=1        and so are all that come after it
  *   STARVE_COUNTS=F    the file F holds two numbers of 64 bits: the requests so far, and those refused
  *
@@ -30,6 +31,7 @@ struct counts {
 static struct counts unseen;
 static struct counts *counts = &unseen;
 static uint64_t first;
+static uint64_t row;
 static int goes_on;
 static int has_begun;
 
@@ -56,6 +58,7 @@ static void share_counts(const char *name)
 __attribute__((constructor)) static void begin(void)
 {
     first = number("STARVE_AT");
+    row = number("STARVE_ROW");
     goes_on = number("STARVE_ON") != 0;
     share_counts(getenv("STARVE_COUNTS"));
     has_begun = 1;
@@ -66,7 +69,9 @@ static int is_refused(void)
     if (!has_begun)
         return 0;
     uint64_t now = ++counts->requests;
-    if (first == 0 || now < first || (now > first && !goes_on))
+    if (first == 0 || now < first)
+        return 0;
+    if (now > first && now - first >= row && !goes_on)
         return 0;
     ++counts->refused;
     return 1;

@@ -1,26 +1,13 @@
 //! Inputs that are cut at each byte, and the bytes of an image changed in turn.
 
-use crate::countdown::{CERTIFICATE, IMAGE, MACHINE, SOURCE, STATEMENT};
-use crate::reports;
-use arcwcet::{MemoryOutput, ReportFault, asm_report, bound_report, check_report, run_report};
+use crate::told::{Input, TAKEN, is_told};
+use samples::countdown::{CERTIFICATE, IMAGE, MACHINE, STATEMENT};
+use samples::lone_return;
 use std::alloc::{AllocError, Global};
 use std::test::Fail;
 
-/// As what bytes are read, beside the countdown's other inputs.
-#[derive(Clone, Copy)]
-enum Input {
-    Source,
-    Statement,
-    Machine,
-    Profile,
-    Certificate,
-}
-
 const PROFILE: &[u8] = b"n=3\ns=1\nquad=2\nrom=[5,4,3,2]\nio=[8,6,5,10]\ncontrol=2\nunfitted=2\n\
     internal=1\nburst=8\n";
-
-/// What is told of an input that is not refused.
-const TAKEN: &str = "taken";
 
 /// An input, and its refusals by the length of what stands of it: each row up to so many bytes.
 type Cut = (Input, &'static [u8], &'static [(usize, &'static str)]);
@@ -28,7 +15,7 @@ type Cut = (Input, &'static [u8], &'static [(usize, &'static str)]);
 const CUTS: [Cut; 6] = [
     (
         Input::Source,
-        reports::SOURCE,
+        lone_return::SOURCE,
         &[
             (1, TAKEN),
             (3, "UnknownWord at line 1"),
@@ -160,28 +147,6 @@ const CHANGES: [(usize, [&str; 3]); 10] = [
     // The words.
     (35, [TAKEN, TAKEN, TAKEN]),
 ];
-
-/// Reads the bytes as that input.
-fn read(alloc: Global, input: Input, bytes: &[u8]) -> Result<bool, ReportFault> {
-    let mut out = MemoryOutput::with_room(alloc, 0)?;
-    match input {
-        Input::Source => asm_report(alloc, bytes, &mut out).and(Ok(true)),
-        Input::Statement => bound_report(alloc, SOURCE, bytes, None, &mut out).and(Ok(true)),
-        Input::Machine => run_report(alloc, SOURCE, bytes, None, &mut out),
-        Input::Profile => {
-            bound_report(alloc, SOURCE, STATEMENT, Some(bytes), &mut out).and(Ok(true))
-        }
-        Input::Certificate => check_report(alloc, SOURCE, STATEMENT, bytes, None, &mut out),
-    }
-}
-
-/// Whether that is told of the bytes as that input.
-fn is_told(alloc: Global, input: Input, bytes: &[u8], told: &str) -> Result<bool, AllocError> {
-    match read(alloc, input, bytes) {
-        Ok(is_right) => Ok(is_right && told == TAKEN),
-        Err(fault) => Ok(format!(in alloc; "{fault}")?.as_str() == told),
-    }
-}
 
 /// The first row that goes so far.
 fn row_at<T: Copy>(rows: &[(usize, T)], at: usize) -> Option<T> {

@@ -1,6 +1,7 @@
 //! Small handlers made by a fixed generator: the greatest walk found in the folded way beside the greatest
 //! of all walks that keep the bounds, unrolled.
 
+use crate::numbers::Numbers;
 use bus_ticks::Profile;
 use flow_graph::{Edge, Graph, Place, build, read_statement};
 use loader::{Image, Labels};
@@ -14,24 +15,6 @@ type Stated = (u32, u32, u32, u32);
 
 /// The words of a handler before its return.
 const WORDS: u32 = 8;
-
-/// Numbers that look like random ones, the same in each run.
-#[derive(Drop)]
-struct Numbers {
-    state: u64,
-}
-
-impl Numbers {
-    // A number below the limit.
-    fn below(&mut self, limit: u32) -> u32 {
-        self.state = self
-            .state
-            .wrapping_mul(6_364_136_223_846_793_005)
-            .wrapping_add(1_442_695_040_888_963_407);
-        let high = (self.state >> 33) as u32;
-        if limit == 0 { 0 } else { high % limit }
-    }
-}
 
 // A branch from one word of the handler to another, where flags say so.
 fn branch(from: u32, to: u32) -> u32 {
@@ -205,7 +188,7 @@ fn agrees(alloc: Global, words: &[u32], loops: &[Stated]) -> Result<Option<bool>
 #[test]
 fn folded_and_unrolled_agree(rt: HostRuntime) -> Result<(), Fail> {
     let alloc = rt.alloc();
-    let mut numbers = Numbers { state: 2 };
+    let mut numbers = Numbers::new(2);
     let mut compared = 0u32;
     for number in 0..1000u32 {
         let (words, loops) = handler(alloc, &mut numbers)?;

@@ -1,95 +1,107 @@
 //! Runs of the program over files and a standard input that are too long or fail.
 
-use crate::countdown;
-use crate::countdown::SOURCE;
-use crate::files::{Files, line};
+use crate::files::{File, Files, line};
 use arcwcet::{LIMIT, MemoryOutput, ReportFault, program};
-use std::alloc::{AllocError, Global};
+use samples::countdown;
+use std::alloc::Global;
 use std::io;
 use std::io::{ErrorKind, Read};
 use std::test::Fail;
 
-/// So many blanks, and a text after them.
-type File = (usize, &'static [u8]);
+const COUNTDOWN: File = (countdown::SOURCE, 0);
 
-const COUNTDOWN: File = (0, SOURCE);
+const NO_SOURCE: File = (b"frob", 0);
 
-const NO_SOURCE: File = (0, b"frob");
+const RETURN: File = (b" SUBS PC,R14,#4 ;", 0);
 
-const MACHINE: File = (0, countdown::MACHINE);
+const LONG_RETURN: File = (b" SUBS PC,R14,#4 ;", LIMIT);
 
-/// A source of one line.
-const RETURN: &[u8] = b" SUBS PC,R14,#4";
+const ENTRY: File = (b"entry = 0x8000 #", 0);
 
-const ENTRY: &[u8] = b"entry = 0x8000";
+const LONG_ENTRY: File = (b"entry = 0x8000 #", LIMIT);
 
-/// Files that are as long as they may be.
-const LONGEST_SOURCE: File = (LIMIT - RETURN.len(), RETURN);
-
-const LONGEST_STATEMENT: File = (LIMIT - ENTRY.len(), ENTRY);
-
-const TOO_LONG_A_FILE: File = (LIMIT + 1, b"");
-
-/// A status, and what standard output and standard error then hold.
-type Told = (u8, &'static str, &'static str);
-
-const BOUND: Told = (
-    0,
-    "arcwcet certificate 1\nbound 9\nstep 8000 do exit 9\nclose\nplace - 8000 0\nstop\n",
-    "",
+/// By the numbers of the first cycle profile.
+const LONG_PROFILE: File = (
+    b"n=2\ns=1\nquad=2\nrom=[4,3,2,2]\nio=[8,6,5,10]\ncontrol=2\nunfitted=2\ninternal=1\nburst=6#",
+    LIMIT,
 );
 
-const UNKNOWN_COMMAND: Told = (0, "refused: UnknownCommand\n", "");
+const MACHINE: File = (countdown::MACHINE, 0);
 
-const TOO_LONG: Told = (1, "", "refused: InputTooLong\n");
+const LONG_MACHINE: File = (
+    b"steps = 8\npc = 0x8000\nmode = \"irq\"\nregisters.r14_irq = 0x1010 #",
+    LIMIT,
+);
 
-const DEVICE: Told = (4, "", "refused: Device\n");
+const TOO_LONG: File = (b"#", LIMIT + 1);
 
-/// A byte, how often it stands in standard input, and how that fails then in place of its end.
-type Input = (u8, usize, Option<ErrorKind>);
+const NONE: File = (b"", 0);
 
-const NOTHING: Input = (b'\n', 0, None);
+/// A status, and what standard output and standard error then hold.
+type Told = (u8, &'static [u8], &'static [u8]);
 
-const FAILS: Input = (b'\n', 0, Some(ErrorKind::Other));
+const CERTIFICATE: Told = (
+    0,
+    b"arcwcet certificate 1\nbound 9\nstep 8000 do exit 9\nclose\nplace - 8000 0\nstop\n",
+    b"",
+);
 
-const FAILS_LATER: Input = (b'\n', 4096, Some(ErrorKind::Other));
+const UNKNOWN_COMMAND: Told = (0, b"refused: UnknownCommand\n", b"");
+
+const RAN: Told = (0, countdown::RAN, b"");
+
+const REFUSED: Told = (1, b"", b"refused: InputTooLong\n");
+
+const DEVICE: Told = (4, b"", b"refused: Device\n");
+
+/// A byte, how often it stands in standard input, how that fails then in place of its end, and how much of
+/// it the program leaves.
+type Input = (u8, usize, Option<ErrorKind>, usize);
+
+const NOTHING: Input = (b'\n', 0, None, 0);
+
+const LONG: Input = (b'x', LIMIT, None, 0);
+
+const FAILS: Input = (b'\n', 0, Some(ErrorKind::Other), 0);
+
+const FAILS_LATER: Input = (b'\n', 4096, Some(ErrorKind::Other), 0);
 
 // An interrupted read has failed; it is not tried again.
-const INTERRUPTED: Input = (b'\n', 8192, Some(ErrorKind::Interrupted));
+const INTERRUPTED: Input = (b'\n', 8192, Some(ErrorKind::Interrupted), 0);
 
-const ENDLESS: Input = (b'\n', usize::MAX, None);
+/// A byte more than the limit is read.
+const ENDLESS: Input = (b'\n', usize::MAX, None, usize::MAX - LIMIT - 1);
 
-/// What stays of an endless input, of which a byte more than the limit is read.
-const UNREAD: usize = usize::MAX - LIMIT - 1;
+const BOUND: &[&str] = &["bound"];
 
-/// A command, its source and second file, its input, what it tells, and how much of the input it leaves.
-type Row = (&'static str, [File; 2], Input, Told, usize);
+const PRICED: &[&str] = &["bound", "--profile", "profile"];
 
-const ROWS: [Row; 11] = [
-    ("bound", [TOO_LONG_A_FILE, (0, ENTRY)], NOTHING, TOO_LONG, 0),
-    (
-        "bound",
-        [(0, RETURN), TOO_LONG_A_FILE],
-        NOTHING,
-        TOO_LONG,
-        0,
-    ),
-    ("bound", [LONGEST_SOURCE, (0, ENTRY)], NOTHING, BOUND, 0),
-    ("bound", [(0, RETURN), LONGEST_STATEMENT], NOTHING, BOUND, 0),
-    ("asm", [COUNTDOWN, MACHINE], NOTHING, DEVICE, 0),
-    (
-        "debug",
-        [COUNTDOWN, MACHINE],
-        (b'x', LIMIT, None),
-        UNKNOWN_COMMAND,
-        0,
-    ),
-    ("debug", [COUNTDOWN, MACHINE], FAILS, DEVICE, 0),
-    ("debug", [COUNTDOWN, MACHINE], FAILS_LATER, DEVICE, 0),
-    ("debug", [COUNTDOWN, MACHINE], INTERRUPTED, DEVICE, 0),
-    ("debug", [COUNTDOWN, MACHINE], ENDLESS, TOO_LONG, UNREAD),
+const RUN: &[&str] = &["run"];
+
+const ASM: &[&str] = &["asm"];
+
+const DEBUG: &[&str] = &["debug"];
+
+/// A command with its options; the files `source`, `second` and `profile`; its input, and what it tells.
+type Row = (&'static [&'static str], [File; 3], Input, Told);
+
+const ROWS: [Row; 15] = [
+    (BOUND, [TOO_LONG, ENTRY, NONE], NOTHING, REFUSED),
+    (BOUND, [RETURN, TOO_LONG, NONE], NOTHING, REFUSED),
+    (BOUND, [LONG_RETURN, ENTRY, NONE], NOTHING, CERTIFICATE),
+    (BOUND, [RETURN, LONG_ENTRY, NONE], NOTHING, CERTIFICATE),
+    (PRICED, [RETURN, ENTRY, TOO_LONG], NOTHING, REFUSED),
+    (PRICED, [RETURN, ENTRY, LONG_PROFILE], NOTHING, CERTIFICATE),
+    (RUN, [COUNTDOWN, TOO_LONG, NONE], NOTHING, REFUSED),
+    (RUN, [COUNTDOWN, LONG_MACHINE, NONE], NOTHING, RAN),
+    (ASM, [COUNTDOWN, MACHINE, NONE], NOTHING, DEVICE),
+    (DEBUG, [COUNTDOWN, MACHINE, NONE], LONG, UNKNOWN_COMMAND),
+    (DEBUG, [COUNTDOWN, MACHINE, NONE], FAILS, DEVICE),
+    (DEBUG, [COUNTDOWN, MACHINE, NONE], FAILS_LATER, DEVICE),
+    (DEBUG, [COUNTDOWN, MACHINE, NONE], INTERRUPTED, DEVICE),
+    (DEBUG, [COUNTDOWN, MACHINE, NONE], ENDLESS, REFUSED),
     // The input is refused before a source that is none.
-    ("debug", [NO_SOURCE, MACHINE], ENDLESS, TOO_LONG, UNREAD),
+    (DEBUG, [NO_SOURCE, MACHINE, NONE], ENDLESS, REFUSED),
 ];
 
 /// A reader of one byte so many times, which then ends or fails.
@@ -114,22 +126,13 @@ impl Read for Bytes {
     }
 }
 
-fn bytes_of(alloc: Global, file: &File) -> Result<Vec<u8>, AllocError> {
-    let (blanks, text) = file;
-    let mut bytes = vec![in alloc; b' '; *blanks]?;
-    bytes.extend_from_slice(text)?;
-    Ok(bytes)
-}
-
-/// Whether the program tells that of the command, and leaves so much of the input.
-fn is_told(alloc: Global, row: &Row) -> Result<bool, ReportFault> {
-    let (command, [source, second], (byte, left, fails), (status, said, told), unread) = row;
-    let words = line(alloc, command)?;
-    let source = bytes_of(alloc, source)?;
-    let second = bytes_of(alloc, second)?;
+/// Whether the program tells that of its words, and leaves so much of the input.
+fn is_told(alloc: Global, words: &[String], row: &Row) -> Result<bool, ReportFault> {
+    let (_, [source, second, profile], (byte, left, fails, unread), told) = row;
     let mut files = Files {
-        source: &source,
-        second: &second,
+        source: *source,
+        second: *second,
+        profile: *profile,
     };
     let mut input = Bytes {
         byte: *byte,
@@ -138,19 +141,24 @@ fn is_told(alloc: Global, row: &Row) -> Result<bool, ReportFault> {
     };
     let mut out = MemoryOutput::with_room(alloc, 0)?;
     let mut err = MemoryOutput::with_room(alloc, 0)?;
-    let found = program(alloc, &words, &mut files, &mut input, &mut out, &mut err);
-    Ok(
-        found == *status
-            && out.bytes() == said.as_bytes()
-            && err.bytes() == told.as_bytes()
-            && input.left == *unread,
-    )
+    let status = program(alloc, words, &mut files, &mut input, &mut out, &mut err);
+    let answer = (status, out.bytes(), err.bytes());
+    Ok(answer == *told && input.left == *unread)
+}
+
+/// The number of the first row of which something else is told.
+fn first_wrong(alloc: Global, rows: &[Row]) -> Result<Option<usize>, ReportFault> {
+    for (number, row) in rows.iter().enumerate() {
+        let words = line(alloc, row.0)?;
+        if !is_told(alloc, &words, row)? {
+            return Ok(Some(number));
+        }
+    }
+    Ok(None)
 }
 
 #[test]
 fn inputs_too_long_or_failing(rt: HostRuntime) -> Result<(), Fail> {
-    for (number, row) in ROWS.iter().enumerate() {
-        assert!(rt; is_told(rt.alloc(), row)?, "row {number}");
-    }
+    assert_eq!(rt; first_wrong(rt.alloc(), &ROWS)?, None);
     Ok(())
 }

@@ -6,13 +6,13 @@
 #[cfg(test)]
 mod certificates;
 #[cfg(test)]
-mod countdown;
-#[cfg(test)]
 mod cuts;
 #[cfg(test)]
 mod enumeration;
 #[cfg(test)]
 mod files;
+#[cfg(test)]
+mod forgeries;
 #[cfg(test)]
 mod inputs;
 #[cfg(test)]
@@ -22,10 +22,16 @@ mod lines;
 #[cfg(test)]
 mod loading;
 #[cfg(test)]
+mod numbers;
+#[cfg(test)]
+mod odd;
+#[cfg(test)]
 mod outputs;
 #[cfg(test)]
 mod reports;
 #[cfg(test)]
 mod tight;
+#[cfg(test)]
+mod told;
 #[cfg(test)]
 mod writers;

@@ -2,22 +2,21 @@
 
 use arcwcet::{
     MemoryOutput, Output, ReportFault, asm_report, bound_report, check_report, debug_report,
-    run_report, tight_report, trace_report, visits_report,
+    list_report, run_report, tight_report, trace_report, visits_report,
 };
+use samples::lone_return::{CERTIFICATE, SOURCE, STATEMENT};
 use std::alloc::{AllocError, Global};
-
-/// A return at FIQ's vector.
-pub(crate) const SOURCE: &[u8] = b" ORG &1C\n SUBS PC,R14,#4\n";
-
-pub(crate) const STATEMENT: &[u8] = b"entry = 0x1C\n";
 
 /// It returns to user mode.
 const MACHINE: &[u8] = b"pc = 0x1C\nmode = \"irq\"\nsteps = 1\n[registers]\nr14_irq = 0x1010\n";
 
 const SESSION: &[u8] = b"step\nfrob\n";
 
-const CERTIFICATE: &[u8] =
-    b"arcwcet certificate 1\nbound 9\nstep 1C do exit 9\nclose\nplace - 1C 0\nstop\n";
+const SIZE: &[u8] = b"words 1 segments 1\n";
+
+const LINES: &[u8] = b"                         1   ORG &1C
+0000001C  E25EF004       2   SUBS PC,R14,#4
+";
 
 /// What `visits` prints above both certificates.
 const SUMMARY: &[u8] = b"arcwcet visits\nvisits 1\nirq 9\nfiq 9\nentry 8\ntotal 26\n";
@@ -36,6 +35,7 @@ const TICKS: &[u8] = b"ticks 5 elapsed 5\n";
 #[derive(Clone, Copy)]
 pub(crate) enum Report {
     Asm,
+    List,
     Bound,
     Visits,
     Tight,
@@ -46,8 +46,9 @@ pub(crate) enum Report {
 }
 
 /// The reports, and the parts of their texts; of an edge's machine file the first line alone.
-pub(crate) const REPORTS: [(Report, &[&[u8]]); 8] = [
-    (Report::Asm, &[b"words 1 segments 1\n"]),
+pub(crate) const REPORTS: [(Report, &[&[u8]]); 9] = [
+    (Report::Asm, &[SIZE]),
+    (Report::List, &[LINES, SIZE]),
     (Report::Bound, &[CERTIFICATE]),
     (Report::Visits, &[SUMMARY, CERTIFICATE, CERTIFICATE]),
     (Report::Tight, &[b"# edge 1C do exit 9\n"]),
@@ -62,6 +63,7 @@ impl Report {
     pub(crate) fn print<O: Output>(self, alloc: Global, out: &mut O) -> Result<bool, ReportFault> {
         match self {
             Report::Asm => asm_report(alloc, SOURCE, out).and(Ok(true)),
+            Report::List => list_report(alloc, SOURCE, out).and(Ok(true)),
             Report::Bound => bound_report(alloc, SOURCE, STATEMENT, None, out).and(Ok(true)),
             Report::Visits => {
                 visits_report(alloc, SOURCE, STATEMENT, STATEMENT, 1, None, out).and(Ok(true))

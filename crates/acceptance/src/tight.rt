@@ -1,7 +1,7 @@
 //! Machine files of edges, run by the source that they were made for.
 
-use crate::countdown::{SOURCE, STATEMENT};
 use arcwcet::{MemoryOutput, ReportFault, run_report, tight_report};
+use samples::countdown::{SOURCE, STATEMENT};
 use std::alloc::Global;
 use std::test::Fail;
 

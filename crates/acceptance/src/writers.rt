@@ -107,10 +107,9 @@ fn is_cut(
     found == answer && writer.bytes.as_slice() == front
 }
 
-/// The room at which the report does not end as it has to, if there is one of some up to its length.
+/// The room at which the report does not end as it has to, if there is one up to its length.
 fn first_wrong(alloc: Global, report: Report, text: &[u8]) -> Option<usize> {
-    let most = text.len();
-    for room in [0, 1, most / 2, most.saturating_sub(1), most] {
+    for room in 0..=text.len() {
         for kind in &KINDS {
             if !is_cut(alloc, report, text, kind, room) {
                 return Some(room);

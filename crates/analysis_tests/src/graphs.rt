@@ -1,6 +1,7 @@
 use assembler::assemble;
 use bus_ticks::Profile;
 use flow_graph::{Graph, Label, Place, build};
+use samples::{branch, call_twice, lone_return};
 use statement::read_statement;
 use std::alloc::Global;
 use std::test::Fail;
@@ -27,30 +28,12 @@ fn edges(alloc: Global, graph: &Graph) -> Result<Vec<(u32, usize, u32)>, Fail> {
 
 const PLAIN: &[u8] = b"entry = 0x8000";
 
-// The routine is two places, each with its own return.
-const CALLED_TWICE: &[u8] = b"
-        MOV  R4,R14
-        BL   routine
-        BL   routine
-        SUBS PC,R4,#4
-        DCD  0
-routine MOV  PC,R14
-";
-
 const CALLED_ONCE: &[u8] = b"
         MOV  R4,R14
         BL   routine
         SUBS PC,R4,#4
         DCD  0
 routine MOV  PC,R14
-";
-
-// The walk with the branch taken costs 15, the other one 13.
-const BRANCH: &[u8] = b"
-        SUBS R0,R0,#1
-        BEQ  out
-        MOV  R0,#3
-out     SUBS PC,R14,#4
 ";
 
 const TABLE: &[u8] = b"
@@ -89,16 +72,16 @@ fn edges_place_by_place(rt: HostRuntime) -> Result<(), Fail> {
     let up = [(4, 0, 0x8008), (5, 0, 0x800C), (18, 0, 0x800C), (9, 0, 0)];
     let down = [(5, 0, 0x800C), (4, 0, 0x8008), (18, 0, 0x800C), (9, 0, 0)];
     for (source, statement, wanted) in [
-        (CALLED_TWICE, PLAIN, twice.as_slice()),
+        (call_twice::SOURCE, PLAIN, twice.as_slice()),
         (CALLED_ONCE, PLAIN, &once),
-        (BRANCH, PLAIN, &branch),
+        (branch::SOURCE, PLAIN, &branch),
         (TABLE, UP, &up),
         (TABLE, DOWN, &down),
     ] {
         let graph = built(alloc, source, statement)?;
         assert_eq!(rt; edges(alloc, &graph)?.as_slice(), wanted);
     }
-    let graph = built(alloc, BRANCH, PLAIN)?;
+    let graph = built(alloc, branch::SOURCE, PLAIN)?;
     assert_eq!(rt; graph.firsts(), [0, 1, 3, 4, 5].as_slice());
     Ok(())
 }
@@ -109,7 +92,7 @@ fn builds_a_return(rt: HostRuntime) -> Result<(), Fail> {
         (b"entry = 0x1C".as_slice(), 9),
         (b"entry = 0x1C\nleave = \"ram\"", 5),
     ] {
-        let graph = built(rt.alloc(), b" ORG &1C\n SUBS PC,R14,#4", statement)?;
+        let graph = built(rt.alloc(), lone_return::SOURCE, statement)?;
         let is_entry = graph.places() == [graph.entry()].as_slice();
         let leaves = match graph.edges() {
             [edge] => edge.to == Place::Exit && edge.label == Label::Do && edge.cost == cost,

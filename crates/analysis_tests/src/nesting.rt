@@ -5,6 +5,7 @@ use bus_ticks::Profile;
 use flow_graph::{Graph, Place, Statement, build, read_statement};
 use loop_bounds::{Instance, Instances, LoopTree, nest};
 use numbered_walks::{NumberedEdge, Span};
+use samples::{branch, nested_countdown};
 use std::alloc::{AllocError, Global};
 use std::test::Fail;
 
@@ -28,22 +29,6 @@ fn instances_of(alloc: Global, source: &[u8], statement: &[u8]) -> Result<Instan
 
 const NO_LOOPS: &[u8] = b"entry = 0x8000";
 
-const NESTED_COUNTDOWN: &[u8] = b"
-        MOV  R1,#2
-outer   MOV  R0,#3
-inner   SUBS R0,R0,#1
-again   BNE  inner
-        SUBS R1,R1,#1
-last    BNE  outer
-        SUBS PC,R14,#4
-";
-
-const NESTED_LOOPS: &[u8] = b"entry = 0x8000
-loop = [
-  {header = \"outer\", first = \"outer\", last = \"last\", bound = 1},
-  {header = \"inner\", first = \"inner\", last = \"again\", bound = 2},
-]";
-
 // Each call has its own instance of the routine's loop.
 const CALLED_TWICE: &[u8] = b"
         BL   wait
@@ -57,14 +42,6 @@ again   BNE  wait
 
 const CALLED_LOOP: &[u8] = b"entry = 0x8000
 loop = [{header = \"wait\", first = \"wait\", last = \"again\", bound = 5}]";
-
-// Both ways meet at the return, and there is one order.
-const BRANCH: &[u8] = b"
-        SUBS R0,R0,#1
-        BEQ  out
-        MOV  R0,#3
-out     SUBS PC,R14,#4
-";
 
 // The routine's place is a member of the loop.
 const CALL_IN_A_LOOP: &[u8] = b"
@@ -110,10 +87,16 @@ fn span(header: usize, last: usize, bound: u32) -> Span {
 fn orders_and_spans(rt: HostRuntime) -> Result<(), Fail> {
     let alloc = rt.alloc();
     for (source, statement, order, spans) in [
-        (BRANCH, NO_LOOPS, [0, 1, 2, 3, 4].as_slice(), [].as_slice()),
+        // Both ways meet at the return, and there is one order.
         (
-            NESTED_COUNTDOWN,
-            NESTED_LOOPS,
+            branch::SOURCE,
+            NO_LOOPS,
+            [0, 1, 2, 3, 4].as_slice(),
+            [].as_slice(),
+        ),
+        (
+            nested_countdown::SOURCE,
+            nested_countdown::STATEMENT,
             &[0, 1, 2, 3, 4, 5, 6, 7],
             &[span(2, 3, 2), span(1, 5, 1)],
         ),
@@ -133,7 +116,7 @@ fn orders_and_spans(rt: HostRuntime) -> Result<(), Fail> {
         let tree = tree_of(alloc, source, statement)?;
         assert_eq!(rt; (tree.order(), tree.spans()), (order, spans));
     }
-    let tree = tree_of(alloc, BRANCH, NO_LOOPS)?;
+    let tree = tree_of(alloc, branch::SOURCE, NO_LOOPS)?;
     let wanted = [(0, 1, 1), (1, 2, 1), (1, 3, 5), (2, 3, 2), (3, 4, 9)].map(|(
         from,
         to,
@@ -205,8 +188,8 @@ fn instances(rt: HostRuntime) -> Result<(), Fail> {
     let alloc = rt.alloc();
     for (source, statement, wanted) in [
         (
-            NESTED_COUNTDOWN,
-            NESTED_LOOPS,
+            nested_countdown::SOURCE,
+            nested_countdown::STATEMENT,
             [
                 0x8004, 1, 0x8004, 0x8008, 0x800C, 0x8010, 0x8014, 1, // outside
                 0x8008, 2, 0x8008, 0x800C, 0, // inside

@@ -3,71 +3,10 @@ use cert_check::{longest_gets_yes, yes_means_greatest};
 use certificate::*;
 use flow_graph::{Calls, Edge, Label, Place};
 use longest_walk::{FoldedWalk, Item, Longest, Potentials};
+use samples::{countdown, lone_return, nested_countdown};
 use std::alloc::{AllocError, Global};
 use std::rc::Rc;
 use std::test::*;
-
-/// The handler of one instruction, a return.
-const LONE_RETURN: &[u8] =
-    b"arcwcet certificate 1\nbound 9\nstep 1C do exit 9\nclose\nplace - 1C 0\nstop\n";
-
-/// A loop that is taken twice.
-const COUNTDOWN: &[u8] = b"arcwcet certificate 1
-bound 25
-step 8000 do 8004 1
-repeat 2
-step 8004 do 8008 1
-step 8008 do 8004 5
-end
-step 8004 do 8008 1
-step 8008 skip 800C 2
-step 800C do exit 9
-close
-place - 8000 0
-place - 8004 0
-place - 8008 1
-place - 800C 16
-instance - 8004 1 6
-stop
-";
-
-/// A loop in a loop.
-const NESTED_COUNTDOWN: &[u8] = b"arcwcet certificate 1
-bound 50
-step 8000 do 8004 1
-repeat 1
-step 8004 do 8008 1
-repeat 2
-step 8008 do 800C 2
-step 800C do 8008 4
-end
-step 8008 do 800C 2
-step 800C skip 8010 1
-step 8010 do 8014 1
-step 8014 do 8004 4
-end
-step 8004 do 8008 1
-repeat 2
-step 8008 do 800C 2
-step 800C do 8008 4
-end
-step 8008 do 800C 2
-step 800C skip 8010 1
-step 8010 do 8014 1
-step 8014 skip 8018 1
-step 8018 do exit 10
-close
-place - 8000 0
-place - 8004 0
-place - 8008 0
-place - 800C 2
-place - 8010 16
-place - 8014 17
-place - 8018 40
-instance - 8004 1 21
-instance - 8008 1 6
-stop
-";
 
 /// By another profile, with a list of calls, the greatest bound, and no walk.
 const OTHER_PROFILE: &[u8] = b"arcwcet certificate 2
@@ -123,8 +62,12 @@ fn reads_certificates(rt: HostRuntime) -> Result<(), Fail> {
         0x8004, 1, 21, 0x8008, 1, 6, // instances
     ];
     for (text, profile, wanted) in [
-        (LONE_RETURN, one, [9, 0x1C, 1, 1, 9, 0x1C, 0].as_slice()),
-        (NESTED_COUNTDOWN, one, &nested),
+        (
+            lone_return::CERTIFICATE,
+            one,
+            [9, 0x1C, 1, 1, 9, 0x1C, 0].as_slice(),
+        ),
+        (nested_countdown::CERTIFICATE, one, &nested),
         (
             OTHER_PROFILE,
             OTHER_NUMBERS,
@@ -136,16 +79,6 @@ fn reads_certificates(rt: HostRuntime) -> Result<(), Fail> {
         assert_eq!(rt; numbers_of(rt.alloc(), &cert)?.as_slice(), wanted);
     }
     Ok(())
-}
-
-#[test]
-fn countdown_cut_anywhere(rt: HostRuntime) {
-    for n in 0..COUNTDOWN.len() {
-        assert_eq!(rt;
-            read_cert(rt.alloc(), &COUNTDOWN[..n]).err(),
-            Some(CertFault::Truncated)
-        );
-    }
 }
 
 fn at(address: u32) -> Place {
@@ -162,7 +95,7 @@ fn step(from: u32, label: Label, to: Place, cost: u32) -> Item {
 }
 
 /// The greatest walk of the countdown.
-fn countdown(alloc: Global) -> Result<Longest, Fail> {
+fn countdown_walk(alloc: Global) -> Result<Longest, Fail> {
     let mut body = Vec::new(alloc);
     body.push(step(0x8004, Label::Do, at(0x8008), 1))?;
     body.push(step(0x8008, Label::Do, at(0x8004), 5))?;
@@ -209,9 +142,9 @@ fn countdown(alloc: Global) -> Result<Longest, Fail> {
 
 #[test]
 fn writes_countdown(rt: HostRuntime) -> Result<(), Fail> {
-    let mut longest = countdown(rt.alloc())?;
+    let mut longest = countdown_walk(rt.alloc())?;
     let text = write_cert(rt.alloc(), &longest)?;
-    assert_eq!(rt; text.as_slice(), COUNTDOWN);
+    assert_eq!(rt; text.as_slice(), countdown::CERTIFICATE);
     longest.profile = Profile::new(OTHER_NUMBERS)?;
     let text = write_cert(rt.alloc(), &longest)?;
     let head = b"arcwcet certificate 2\nprofile 3 1 2 5 4 3 2 8 6 5 10 2 2 1 8\nbound 25\n";

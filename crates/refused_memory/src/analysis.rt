@@ -1,4 +1,3 @@
-use crate::texts::{NESTED, NESTED_STATEMENT};
 use crate::trial::{Answer, IN_TURN, Trial};
 use arcwcet::ReportFault;
 use assembler::assemble;
@@ -10,6 +9,7 @@ use flow_graph::{
 use loader::Image;
 use longest_walk::{FoldedWalk, Item, Longest, WalkFault, longest};
 use loop_bounds::{LoopTree, NestFault, nest};
+use samples::nested_countdown::{SOURCE, STATEMENT};
 use std::alloc::Global;
 
 /// An edge of the nested countdown: the branch that turns its inner loop, which takes 4 ticks.
@@ -33,8 +33,8 @@ pub(crate) struct Stated {
 
 /// The nested countdown.
 pub(crate) fn nested(alloc: Global) -> Result<Stated, ReportFault> {
-    let said = assemble(alloc, NESTED)?;
-    let statement = read_statement(alloc, NESTED_STATEMENT, &said.labels)?;
+    let said = assemble(alloc, SOURCE)?;
+    let statement = read_statement(alloc, STATEMENT, &said.labels)?;
     Ok(Stated {
         image: said.image,
         statement,

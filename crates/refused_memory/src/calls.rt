@@ -1,6 +1,7 @@
 use crate::analysis::{AnalysisCall, PushItems};
 use crate::certificates::CertificateCall;
 use crate::images::{ImageCall, Load, PutLabels, PutWords};
+use crate::listings::ListingCall;
 use crate::machine::{AddRom, NewCall};
 use crate::machine_files::MachineFileCall;
 use crate::programs::{Line, Started};
@@ -23,6 +24,7 @@ pub(crate) enum Call {
     PutWords,
     PutLabels,
     Source(SourceCall),
+    Listing(ListingCall),
     Analysis(AnalysisCall),
     PushItems,
     Certificate(CertificateCall),
@@ -63,6 +65,9 @@ pub(crate) const CALLS: &[(&str, Call)] = &[
     ("Image::put", Call::PutWords),
     ("Labels::put", Call::PutLabels),
     ("assemble", Call::Source(SourceCall::Assemble)),
+    ("placed_lines", Call::Listing(ListingCall::Places)),
+    ("list_source", Call::Listing(ListingCall::Source)),
+    ("list_image", Call::Listing(ListingCall::Image)),
     ("read_statement", Call::Source(SourceCall::ReadStatement)),
     ("build", Call::Analysis(AnalysisCall::Build)),
     ("tight_state", Call::Analysis(AnalysisCall::Tight)),
@@ -81,6 +86,7 @@ pub(crate) const CALLS: &[(&str, Call)] = &[
     ("Session::command-break", Call::Command(Command::Breaks)),
     ("MemoryOutput::with_room", Call::NewOutput),
     ("asm_report", Call::Report(Report::Asm, ROOM)),
+    ("list_report", Call::Report(Report::List, ROOM)),
     ("run_report", Call::Report(Report::Run, ROOM)),
     ("trace_report", Call::Report(Report::Trace, ROOM)),
     ("debug_report", Call::Report(Report::Debug, ROOM)),
@@ -106,6 +112,7 @@ impl Call {
             Call::PutWords => tried(alloc, &mut PutWords::new(alloc)),
             Call::PutLabels => tried(alloc, &mut PutLabels::new(alloc)),
             Call::Source(mut call) => tried(alloc, &mut call),
+            Call::Listing(mut call) => tried(alloc, &mut call),
             Call::Analysis(mut call) => tried(alloc, &mut call),
             Call::PushItems => tried(alloc, &mut PushItems::new(alloc)),
             Call::Certificate(mut call) => tried(alloc, &mut call),

@@ -1,5 +1,4 @@
 use crate::analysis::{Stated, nested};
-use crate::texts::NESTED_CERTIFICATE;
 use crate::trial::{Answer, Trial};
 use arcwcet::ReportFault;
 use bus_ticks::Profile;
@@ -8,6 +7,7 @@ use certificate::{Cert, CertFault, read_cert, write_cert};
 use flow_graph::build;
 use longest_walk::{Longest, longest};
 use loop_bounds::nest;
+use samples::nested_countdown::CERTIFICATE;
 use std::alloc::Global;
 
 /// A call on the certificate of the nested countdown. None changes a value.
@@ -28,7 +28,7 @@ fn written(alloc: Global) -> Result<Answer, ReportFault> {
     let handler = nested(alloc)?;
     let found = longest_of(alloc, &handler)?;
     Ok(match write_cert(alloc, &found) {
-        Ok(text) => Answer::of(text.as_slice() == NESTED_CERTIFICATE),
+        Ok(text) => Answer::of(text.as_slice() == CERTIFICATE),
         Err(CertFault::Memory) => Answer::Refused,
         Err(_) => Answer::Wrong,
     })
@@ -44,7 +44,7 @@ fn is_nested(cert: &Cert) -> bool {
 }
 
 fn read(alloc: Global) -> Answer {
-    match read_cert(alloc, NESTED_CERTIFICATE) {
+    match read_cert(alloc, CERTIFICATE) {
         Ok(cert) => Answer::of(is_nested(&cert)),
         Err(CertFault::Memory) => Answer::Refused,
         Err(_) => Answer::Wrong,
@@ -54,7 +54,7 @@ fn read(alloc: Global) -> Answer {
 fn checked(alloc: Global, handler: &Stated) -> Result<Answer, ReportFault> {
     let graph = build(alloc, &handler.image, &handler.statement, &Profile::one())?;
     let tree = nest(alloc, &graph, &handler.statement)?;
-    let cert = read_cert(alloc, NESTED_CERTIFICATE)?;
+    let cert = read_cert(alloc, CERTIFICATE)?;
     Ok(match check(alloc, &graph, &tree, &cert) {
         Ok(verdict) => Answer::of(verdict == Verdict::Yes),
         Err(CheckFault::Memory) => Answer::Refused,

@@ -1,5 +1,4 @@
 use crate::machine::word_in;
-use crate::texts::{COUNTDOWN, COUNTDOWN_IMAGE};
 use crate::trial::{Answer, IN_TURN, Trial};
 use arcwcet::ReportFault;
 use arm2_exec::Machine;
@@ -10,6 +9,7 @@ use loader::{
     page_plan, read_image, write_image,
 };
 use memc::PageSize;
+use samples::countdown::{IMAGE, SOURCE};
 use std::alloc::Global;
 
 /// Words in RAM, by a logical and a physical address, and in ROM.
@@ -44,7 +44,7 @@ fn is_countdown(image: &Image) -> bool {
 }
 
 fn read(alloc: Global) -> Answer {
-    match read_image(alloc, COUNTDOWN_IMAGE) {
+    match read_image(alloc, &IMAGE) {
         Ok(image) => Answer::of(is_countdown(&image)),
         Err(ReadFault::Memory) => Answer::Refused,
         Err(_) => Answer::Wrong,
@@ -52,9 +52,9 @@ fn read(alloc: Global) -> Answer {
 }
 
 fn written(alloc: Global) -> Result<Answer, ReportFault> {
-    let said = assemble(alloc, COUNTDOWN)?;
+    let said = assemble(alloc, SOURCE)?;
     Ok(match write_image(alloc, &said.image) {
-        Ok(bytes) => Answer::of(bytes.as_slice() == COUNTDOWN_IMAGE),
+        Ok(bytes) => Answer::of(bytes.as_slice() == IMAGE.as_slice()),
         Err(ImageFault::Memory) => Answer::Refused,
         Err(_) => Answer::Wrong,
     })

@@ -11,6 +11,7 @@ mod analysis;
 mod calls;
 mod certificates;
 mod images;
+mod listings;
 mod machine;
 mod machine_files;
 mod programs;
@@ -18,7 +19,6 @@ mod reports;
 mod sessions;
 mod sources;
 mod tally;
-mod texts;
 mod trial;
 
 use calls::{CALLS, Call};

@@ -1,7 +1,7 @@
 use crate::reports::ROOM;
-use crate::texts::{COUNTDOWN, COUNTDOWN_IMAGE, NESTED, NESTED_CERTIFICATE, NESTED_STATEMENT};
 use crate::trial::{Answer, Trial};
 use arcwcet::{MemoryOutput, ReportFault, Store, StoreFault, program, read_limited};
+use samples::{countdown, nested_countdown};
 use std::alloc::{AllocError, Global};
 
 /// The status for lack of memory.
@@ -29,7 +29,7 @@ impl Line {
     // The status, and standard output.
     fn answer(self) -> (u8, &'static [u8]) {
         match self {
-            Line::Bound => (0, NESTED_CERTIFICATE),
+            Line::Bound => (0, nested_countdown::CERTIFICATE),
             Line::Asm => (0, b"words 4 segments 1\n"),
             Line::Usage => (2, b""),
         }
@@ -53,16 +53,16 @@ struct Files {
 impl Store for Files {
     fn read(&mut self, alloc: Global, name: &str) -> Result<Vec<u8>, StoreFault> {
         let mut bytes = match name {
-            "countdown.s" => COUNTDOWN,
-            "nested.s" => NESTED,
-            "nested.toml" => NESTED_STATEMENT,
+            "countdown.s" => countdown::SOURCE,
+            "nested.s" => nested_countdown::SOURCE,
+            "nested.toml" => nested_countdown::STATEMENT,
             _ => return Err(StoreFault::Device),
         };
         read_limited(alloc, &mut bytes)
     }
 
     fn write(&mut self, name: &str, bytes: &[u8]) -> Result<(), StoreFault> {
-        self.written = Some(name == "image" && bytes == COUNTDOWN_IMAGE);
+        self.written = Some(name == "image" && bytes == countdown::IMAGE.as_slice());
         Ok(())
     }
 }

@@ -1,21 +1,19 @@
-use crate::texts::{
-    COUNTDOWN, COUNTDOWN_MACHINE, COUNTDOWN_STATEMENT, NESTED, NESTED_CERTIFICATE, NESTED_STATEMENT,
-};
 use crate::trial::{Answer, Trial};
 use arcwcet::{
     MemoryOutput, Output, ReportFault, asm_report, bound_report, check_report, debug_report,
-    run_report, tight_report, trace_report, visits_report,
+    list_report, run_report, tight_report, trace_report, visits_report,
 };
+use samples::{countdown, nested_countdown};
 use std::alloc::Global;
 
 /// Room for each report.
 pub(crate) const ROOM: usize = 4096;
 
-const RAN: &[u8] = b"R0=00000000 R1=00000000 R2=00000000 R3=00000000
-R4=00000000 R5=00000000 R6=00000000 R7=00000000
-R8=00000000 R9=00000000 R10=00000000 R11=00000000
-R12=00000000 R13=00000000 R14=00000000 R15=0000100C
-ticks 21 elapsed 21
+const LISTED: &[u8] = b"00008000  E3A00003       1  start MOV R0,#3
+00008004  E2500001       2  again SUBS R0,R0,#1
+00008008  1AFFFFFD       3  turn BNE again
+0000800C  E25EF004       4   SUBS PC,R14,#4
+words 4 segments 1
 ";
 
 const TRACED: &[u8] = b"00008000 E3A00003 1 MOV R0,#3
@@ -91,6 +89,7 @@ const EDGE_TICKS: &[u8] = b"ticks 9 elapsed 9\n";
 #[derive(Clone, Copy, PartialEq, Eq)]
 pub(crate) enum Report {
     Asm,
+    List,
     Run,
     Trace,
     Debug,
@@ -105,10 +104,11 @@ impl Report {
     fn text(self) -> &'static [u8] {
         match self {
             Report::Asm => b"words 4 segments 1\n",
-            Report::Run => RAN,
+            Report::List => LISTED,
+            Report::Run => countdown::RAN,
             Report::Trace => TRACED,
             Report::Debug => ANSWERED,
-            Report::Bound => NESTED_CERTIFICATE,
+            Report::Bound => nested_countdown::CERTIFICATE,
             Report::Check => b"yes\n",
             Report::Visits => VISITED,
             Report::Tight => EDGE_LINE,
@@ -117,7 +117,7 @@ impl Report {
 
     fn write(self, alloc: Global, out: &mut MemoryOutput) -> Result<bool, ReportFault> {
         match self {
-            Report::Asm | Report::Run | Report::Trace | Report::Debug => {
+            Report::Asm | Report::List | Report::Run | Report::Trace | Report::Debug => {
                 self.write_of_machine(alloc, out)
             }
             Report::Bound | Report::Check | Report::Visits | Report::Tight => {
@@ -127,31 +127,31 @@ impl Report {
     }
 
     fn write_of_machine(self, alloc: Global, out: &mut MemoryOutput) -> Result<bool, ReportFault> {
+        let (source, machine) = (countdown::SOURCE, countdown::MACHINE);
         match self {
-            Report::Run => run_report(alloc, COUNTDOWN, COUNTDOWN_MACHINE, None, out),
-            Report::Trace => trace_report(alloc, COUNTDOWN, COUNTDOWN_MACHINE, None, out),
+            Report::List => {
+                list_report(alloc, source, out)?;
+                Ok(true)
+            }
+            Report::Run => run_report(alloc, source, machine, None, out),
+            Report::Trace => trace_report(alloc, source, machine, None, out),
             Report::Debug => {
-                debug_report(alloc, COUNTDOWN, COUNTDOWN_MACHINE, COMMANDS, None, out)?;
+                debug_report(alloc, source, machine, COMMANDS, None, out)?;
                 Ok(true)
             }
             _ => {
-                asm_report(alloc, COUNTDOWN, out)?;
+                asm_report(alloc, source, out)?;
                 Ok(true)
             }
         }
     }
 
     fn write_of_handler(self, alloc: Global, out: &mut MemoryOutput) -> Result<bool, ReportFault> {
+        let (source, statement) = (nested_countdown::SOURCE, nested_countdown::STATEMENT);
         match self {
             Report::Check => {
-                check_report(
-                    alloc,
-                    NESTED,
-                    NESTED_STATEMENT,
-                    NESTED_CERTIFICATE,
-                    None,
-                    out,
-                )
+                let certificate = nested_countdown::CERTIFICATE;
+                check_report(alloc, source, statement, certificate, None, out)
             }
             Report::Visits => {
                 visits_report(
@@ -166,11 +166,12 @@ impl Report {
                 Ok(true)
             }
             Report::Tight => {
-                tight_report(alloc, COUNTDOWN, COUNTDOWN_STATEMENT, EDGE, None, out)?;
+                let (source, statement) = (countdown::SOURCE, countdown::STATEMENT);
+                tight_report(alloc, source, statement, EDGE, None, out)?;
                 Ok(true)
             }
             _ => {
-                bound_report(alloc, NESTED, NESTED_STATEMENT, None, out)?;
+                bound_report(alloc, source, statement, None, out)?;
                 Ok(true)
             }
         }
@@ -187,7 +188,7 @@ impl Report {
 // Whether a machine file runs for the ticks of the edge.
 fn runs_edge(alloc: Global, file: &[u8]) -> Result<bool, ReportFault> {
     let mut ran = MemoryOutput::with_room(alloc, ROOM)?;
-    let finished = run_report(alloc, COUNTDOWN, file, None, &mut ran)?;
+    let finished = run_report(alloc, countdown::SOURCE, file, None, &mut ran)?;
     Ok(finished && ran.bytes().ends_with(EDGE_TICKS))
 }
 

@@ -1,8 +1,8 @@
-use crate::texts::{NESTED, NESTED_STATEMENT};
 use crate::trial::{Answer, Trial};
 use arcwcet::ReportFault;
 use assembler::{AsmFault, Assembly, assemble};
 use flow_graph::{Loop, Statement, StatementFault, read_statement};
+use samples::nested_countdown::{SOURCE, STATEMENT};
 use std::alloc::Global;
 
 /// A call that reads a source or a statement, and changes none.
@@ -20,7 +20,7 @@ fn is_nested(said: &Assembly) -> bool {
 }
 
 fn assembled(alloc: Global) -> Answer {
-    match assemble(alloc, NESTED) {
+    match assemble(alloc, SOURCE) {
         Ok(said) => Answer::of(is_nested(&said)),
         Err(AsmFault::Memory) => Answer::Refused,
         Err(_) => Answer::Wrong,
@@ -44,14 +44,12 @@ fn states_nested(statement: &Statement) -> bool {
 }
 
 fn stated(alloc: Global) -> Result<Answer, ReportFault> {
-    let said = assemble(alloc, NESTED)?;
-    Ok(
-        match read_statement(alloc, NESTED_STATEMENT, &said.labels) {
-            Ok(statement) => Answer::of(states_nested(&statement)),
-            Err(StatementFault::Memory) => Answer::Refused,
-            Err(_) => Answer::Wrong,
-        },
-    )
+    let said = assemble(alloc, SOURCE)?;
+    Ok(match read_statement(alloc, STATEMENT, &said.labels) {
+        Ok(statement) => Answer::of(states_nested(&statement)),
+        Err(StatementFault::Memory) => Answer::Refused,
+        Err(_) => Answer::Wrong,
+    })
 }
 
 impl Trial for SourceCall {

@@ -1,0 +1,92 @@
+use crate::trial::{Answer, Trial};
+use arcwcet::ReportFault;
+use assembler::{AsmFault, Assembly, PlacedLine, assemble, placed_lines};
+use listing::{list_image, list_source};
+use std::alloc::Global;
+
+/// A line of three words, lines without a word, and one in a second segment.
+const LINES: &[u8] = b" DCD 1,&FFFFFFFF,end\n; nothing\nend\n ORG &9000\nhere B here\n";
+
+/// The address of each line, and how many words it has.
+const PLACES: [(u32, usize); 5] = [
+    (0x8000, 3),
+    (0x800C, 0),
+    (0x800C, 0),
+    (0x800C, 0),
+    (0x9000, 1),
+];
+
+const SOURCE_ROWS: &[u8] = b"00008000  00000001       1   DCD 1,&FFFFFFFF,end
+00008004  FFFFFFFF
+00008008  0000800C
+                         2  ; nothing
+                         3  end
+                         4   ORG &9000
+00009000  EAFFFFFE       5  here B here
+";
+
+/// The word FFFFFFFF is an SWI that is passed over.
+const IMAGE_ROWS: &[u8] = b"00008000  00000001  ANDEQ R0,R0,R1
+00008004  FFFFFFFF  SWINV 16777215
+00008008  0000800C  ANDEQ R8,R0,R12
+00009000  EAFFFFFE  B &9000
+";
+
+/// A call that lists a source or an image, or finds the places of lines. None changes a value.
+#[derive(Clone, Copy)]
+pub(crate) enum ListingCall {
+    Places,
+    Source,
+    Image,
+}
+
+fn are_placed(found: &[PlacedLine]) -> bool {
+    found.len() == PLACES.len()
+        && found
+            .iter()
+            .zip(PLACES.iter())
+            .all(|(line, place)| (line.at, line.words) == *place)
+}
+
+fn placed(alloc: Global) -> Answer {
+    match placed_lines(alloc, LINES) {
+        Ok(found) => Answer::of(are_placed(&found)),
+        Err(AsmFault::Memory) => Answer::Refused,
+        Err(_) => Answer::Wrong,
+    }
+}
+
+fn source_rows(alloc: Global, said: &Assembly) -> Result<Answer, ReportFault> {
+    let placed = placed_lines(alloc, LINES)?;
+    Ok(match list_source(alloc, LINES, &placed, &said.image) {
+        Ok(rows) => Answer::of(rows.as_slice() == SOURCE_ROWS),
+        Err(_) => Answer::Refused,
+    })
+}
+
+fn image_rows(alloc: Global, said: &Assembly) -> Answer {
+    match list_image(alloc, &said.image) {
+        Ok(rows) => Answer::of(rows.as_slice() == IMAGE_ROWS),
+        Err(_) => Answer::Refused,
+    }
+}
+
+impl Trial for ListingCall {
+    fn make(&mut self, alloc: Global) -> Result<Answer, ReportFault> {
+        match self {
+            ListingCall::Places => Ok(placed(alloc)),
+            ListingCall::Source => {
+                let said = assemble(alloc, LINES)?;
+                source_rows(alloc, &said)
+            }
+            ListingCall::Image => {
+                let said = assemble(alloc, LINES)?;
+                Ok(image_rows(alloc, &said))
+            }
+        }
+    }
+
+    fn is_unchanged(&mut self, _alloc: Global) -> Result<bool, ReportFault> {
+        Ok(true)
+    }
+}
