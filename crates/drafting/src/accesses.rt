@@ -1,0 +1,84 @@
+use crate::constants::Constants;
+use crate::reach::Reached;
+use crate::ways::{before, called};
+use crate::words::{instr_at, is_transfer};
+use arm2_decode::{Block, Instr, Operation, SingleImmediate};
+use bus_ticks::{Class, SPACE_END, class_of};
+use loader::Image;
+use std::alloc::{AllocError, Global};
+
+// The class of both addresses, where they are of one.
+fn class_from(first: u32, last: u32) -> Class {
+    if first >= SPACE_END || last >= SPACE_END {
+        return Class::Any;
+    }
+    let class = class_of(first);
+    if class == class_of(last) {
+        class
+    } else {
+        Class::Any
+    }
+}
+
+fn single_class(known: &Constants, at: u32, x: &SingleImmediate) -> Class {
+    let Some(base) = known.get(x.rn, at) else {
+        return Class::Any;
+    };
+    let address = if !x.before {
+        base
+    } else if x.up {
+        base.wrapping_add(x.offset)
+    } else {
+        base.wrapping_sub(x.offset)
+    };
+    class_from(address, address)
+}
+
+fn block_class(known: &Constants, at: u32, x: &Block) -> Class {
+    let Some(base) = known.get(x.rn, at) else {
+        return Class::Any;
+    };
+    let bytes = 4 * x.list.count_ones();
+    if x.up {
+        class_from(base, base.wrapping_add(bytes))
+    } else {
+        class_from(base.wrapping_sub(bytes), base)
+    }
+}
+
+// The class of what an operation transfers, where the words show its address; else any.
+fn class_shown(known: &Constants, at: u32, operation: &Operation) -> Class {
+    match operation {
+        Operation::SingleImmediate(x) => single_class(known, at, x),
+        Operation::Block(x) => block_class(known, at, x),
+        _ => Class::Any,
+    }
+}
+
+fn goes_straight(image: &Image, reach: &Reached, at: u32) -> bool {
+    let last = before(at);
+    reach.follows_alone(at, last) && called(image, last).is_none()
+}
+
+/// The addresses of the loads and stores, ascending, each with the class of what it transfers where the words
+/// in front of it show it.
+pub(crate) fn find_accesses(
+    alloc: Global,
+    image: &Image,
+    reach: &Reached,
+) -> Result<Vec<(u32, Class)>, AllocError> {
+    let mut found = Vec::new(alloc);
+    let mut known = Constants::none();
+    for at in &reach.addresses {
+        if !goes_straight(image, reach, *at) {
+            known = Constants::none();
+        }
+        if let Some(instr) = instr_at(image, *at) {
+            if is_transfer(&instr.operation) {
+                found.push((*at, class_shown(&known, *at, &instr.operation)))?;
+            }
+            known.pass(*at, &instr);
+        }
+    }
+    Ok(found)
+}

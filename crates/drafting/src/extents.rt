@@ -1,0 +1,91 @@
+use crate::paths::Descent;
+use crate::reach::{Reached, addresses_within, pairs_within};
+use flow_graph::MOST_PLACES;
+use std::alloc::{AllocError, Global};
+use std::collections::BTreeSet;
+
+/// The addresses of a loop's header and of its first and last instruction.
+#[derive(Clone, Copy)]
+pub(crate) struct Extent {
+    pub header: u32,
+    pub first: u32,
+    pub last: u32,
+}
+
+impl Extent {
+    /// Whether an address lies from the first to the last.
+    pub(crate) fn holds(&self, at: u32) -> bool {
+        self.first <= at && at <= self.last
+    }
+}
+
+// Way from the ends of the steps back to a header against all steps, as far as the header; whether no
+// routine begins on the way.
+fn gather(
+    reach: &Reached,
+    backs: &[(u32, u32)],
+    members: &mut BTreeSet<u32>,
+    order: &mut Vec<u32>,
+) -> Result<bool, AllocError> {
+    for (_, from) in backs {
+        if members.insert(*from)? {
+            order.push(*from)?;
+        }
+    }
+    for next in 0..MOST_PLACES {
+        let Some(at) = order.get(next).copied() else {
+            break;
+        };
+        if reach.is_root(at) {
+            return Ok(false);
+        }
+        for (_, from) in reach.into(at) {
+            if members.insert(*from)? {
+                order.push(*from)?;
+            }
+        }
+    }
+    Ok(true)
+}
+
+/// The extent of the natural loop of a header and the steps back to it, or None where a way leads into its
+/// middle.
+pub(crate) fn natural_extent(
+    alloc: Global,
+    reach: &Reached,
+    header: u32,
+    backs: &[(u32, u32)],
+) -> Result<Option<Extent>, AllocError> {
+    let mut members = BTreeSet::new(alloc);
+    let mut order = Vec::new(alloc);
+    members.insert(header)?;
+    if !gather(reach, backs, &mut members, &mut order)? {
+        return Ok(None);
+    }
+    let first = members.first().copied().unwrap_or(header);
+    let last = members.last().copied().unwrap_or(header);
+    Ok(Some(Extent {
+        header,
+        first,
+        last,
+    }))
+}
+
+// Whether two addresses were come to in one routine.
+fn are_of_one(descent: &Descent, one: u32, other: u32) -> bool {
+    descent.routines.get(&one) == descent.routines.get(&other)
+}
+
+/// Whether a step from outside the addresses from first to last, or the beginning of a routine, lies at one of
+/// them that is not the header.
+pub(crate) fn is_entered_in_middle(reach: &Reached, descent: &Descent, extent: &Extent) -> bool {
+    let stepped = pairs_within(&reach.entering, extent.first, extent.last)
+        .iter()
+        .any(|(to, from)| {
+            *to != extent.header && !extent.holds(*from) && are_of_one(descent, *to, extent.header)
+        });
+    let begun = addresses_within(&reach.roots, extent.first, extent.last)
+        .iter()
+        .any(|root| *root != extent.header && are_of_one(descent, *root, extent.header));
+    stepped || begun
+}

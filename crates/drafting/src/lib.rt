@@ -1,0 +1,21 @@
+//! Drafts of statements: what the words of a handler show of what its author has to state.
+#![tactic(auto)]
+
+mod accesses;
+mod constants;
+mod counted;
+mod draft;
+mod extents;
+mod loops;
+mod paths;
+mod program;
+mod reach;
+mod rows;
+mod source_lines;
+mod statement_text;
+mod ways;
+mod words;
+mod writers;
+
+pub use draft::draft;
+pub use program::Program;
