@@ -61,7 +61,7 @@ impl Constants {
         }
     }
 
-    /// Way past the instruction at an address.
+    /// Goes past the instruction at an address.
     pub(crate) fn pass(&mut self, at: u32, instr: &Instr) {
         let known = match &instr.operation {
             Operation::DataImmediate(x) => self.given(x, at).map(|word| (x.rd, word)),

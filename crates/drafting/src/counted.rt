@@ -1,4 +1,4 @@
-use crate::extents::Extent;
+use crate::found_loop::FoundLoop;
 use crate::reach::{Reached, addresses_within};
 use crate::ways::before;
 use crate::words::{Way, instr_at, reading_at, way_of, written};
@@ -89,7 +89,7 @@ fn is_entered_from_before(reach: &Reached, header: u32, back: u32) -> bool {
 pub(crate) fn turns_back(
     image: &Image,
     reach: &Reached,
-    extent: &Extent,
+    found: &FoundLoop,
     backs: &[(u32, u32)],
 ) -> Option<u32> {
     let [(_, back)] = backs else {
@@ -97,20 +97,20 @@ pub(crate) fn turns_back(
     };
     let count = before(*back);
     let register = counter_at(image, count)?;
-    let ends = *back == extent.last
+    let ends = *back == found.last
         && is_branch_if_not_zero(image, *back)
         && reach.follows_alone(*back, count)
-        && is_entered_from_before(reach, extent.header, *back)
-        && extent.first <= count;
+        && is_entered_from_before(reach, found.header, *back)
+        && found.first <= count;
     if !ends {
         return None;
     }
-    for at in addresses_within(&reach.addresses, extent.first, extent.last) {
+    for at in addresses_within(&reach.addresses, found.first, found.last) {
         if *at != count && !leaves_alone(image, *at, register) {
             return None;
         }
     }
-    let n = set_before(image, reach, before(extent.header), register)?;
+    let n = set_before(image, reach, before(found.header), register)?;
     if 1 <= n && n <= MOST_TURNS {
         Some(n - 1)
     } else {

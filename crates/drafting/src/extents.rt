@@ -1,25 +1,11 @@
+use crate::found_loop::FoundLoop;
 use crate::paths::Descent;
 use crate::reach::{Reached, addresses_within, pairs_within};
 use flow_graph::MOST_PLACES;
 use std::alloc::{AllocError, Global};
 use std::collections::BTreeSet;
 
-/// The addresses of a loop's header and of its first and last instruction.
-#[derive(Clone, Copy)]
-pub(crate) struct Extent {
-    pub header: u32,
-    pub first: u32,
-    pub last: u32,
-}
-
-impl Extent {
-    /// Whether an address lies from the first to the last.
-    pub(crate) fn holds(&self, at: u32) -> bool {
-        self.first <= at && at <= self.last
-    }
-}
-
-// Way from the ends of the steps back to a header against all steps, as far as the header; whether no
+// Goes from the ends of the steps back to a header against all steps, as far as the header; whether no
 // routine begins on the way.
 fn gather(
     reach: &Reached,
@@ -48,14 +34,14 @@ fn gather(
     Ok(true)
 }
 
-/// The extent of the natural loop of a header and the steps back to it, or None where a way leads into its
+/// The natural loop of a header and the steps back to it, or None where a way leads into its
 /// middle.
-pub(crate) fn natural_extent(
+pub(crate) fn natural_loop(
     alloc: Global,
     reach: &Reached,
     header: u32,
     backs: &[(u32, u32)],
-) -> Result<Option<Extent>, AllocError> {
+) -> Result<Option<FoundLoop>, AllocError> {
     let mut members = BTreeSet::new(alloc);
     let mut order = Vec::new(alloc);
     members.insert(header)?;
@@ -64,10 +50,12 @@ pub(crate) fn natural_extent(
     }
     let first = members.first().copied().unwrap_or(header);
     let last = members.last().copied().unwrap_or(header);
-    Ok(Some(Extent {
+    Ok(Some(FoundLoop {
         header,
         first,
         last,
+        depth: 0,
+        turns: None,
     }))
 }
 
@@ -78,14 +66,14 @@ fn are_of_one(descent: &Descent, one: u32, other: u32) -> bool {
 
 /// Whether a step from outside the addresses from first to last, or the beginning of a routine, lies at one of
 /// them that is not the header.
-pub(crate) fn is_entered_in_middle(reach: &Reached, descent: &Descent, extent: &Extent) -> bool {
-    let stepped = pairs_within(&reach.entering, extent.first, extent.last)
+pub(crate) fn is_entered_in_middle(reach: &Reached, descent: &Descent, found: &FoundLoop) -> bool {
+    let stepped = pairs_within(&reach.entering, found.first, found.last)
         .iter()
         .any(|(to, from)| {
-            *to != extent.header && !extent.holds(*from) && are_of_one(descent, *to, extent.header)
+            *to != found.header && !found.holds(*from) && are_of_one(descent, *to, found.header)
         });
-    let begun = addresses_within(&reach.roots, extent.first, extent.last)
+    let begun = addresses_within(&reach.roots, found.first, found.last)
         .iter()
-        .any(|root| *root != extent.header && are_of_one(descent, *root, extent.header));
+        .any(|root| *root != found.header && are_of_one(descent, *root, found.header));
     stepped || begun
 }

@@ -20,7 +20,7 @@ struct Search<'a> {
 }
 
 impl<'a> Search<'a> {
-    // Way down to an address.
+    // Goes down to an address.
     fn enter(&mut self, at: u32, routine: u32) -> Result<(), AllocError> {
         self.descent.routines.insert(at, routine)?;
         self.on_path.insert(at, true)?;
@@ -40,7 +40,7 @@ impl<'a> Search<'a> {
         }
     }
 
-    // Way on from the end of the path, or back up.
+    // Goes on from the end of the path, or back up.
     fn advance(
         &mut self,
         at: u32,

@@ -65,8 +65,8 @@ pub(crate) fn table_len(image: &Image, at: u32) -> u32 {
     MOST_BRANCHES
 }
 
-/// Adds the addresses of the branches of the table behind a word.
-pub(crate) fn push_table(out: &mut Vec<u32>, image: &Image, at: u32) -> Result<(), AllocError> {
+// Adds the addresses of the branches of the table behind a word.
+fn push_table(out: &mut Vec<u32>, image: &Image, at: u32) -> Result<(), AllocError> {
     for n in 0..table_len(image, at) {
         out.push(table_place(at, n))?;
     }

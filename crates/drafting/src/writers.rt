@@ -1,7 +1,15 @@
-use crate::words::{Way, instr_at, is_return, reading_at, writes_pc};
-use arm2_decode::Cond;
+use crate::ways::table_len;
+use crate::words::{instr_at, is_return, writes_pc};
 use loader::Image;
 use std::alloc::{AllocError, Global};
+
+/// A word that writes R15 and has not the shape of a return.
+#[derive(Clone, Copy)]
+pub struct FoundTarget {
+    pub at: u32,
+    /// How many branches stand from 8 bytes on, where it jumps into them.
+    pub branches: u32,
+}
 
 // Whether the image has a word there that writes R15 and has not the shape of a return.
 fn is_odd_writer_at(image: &Image, at: u32) -> bool {
@@ -12,55 +20,16 @@ fn is_odd_writer_at(image: &Image, at: u32) -> bool {
 }
 
 /// Those of the addresses whose words write R15 and have not the shape of a return.
-pub(crate) fn find_writers(
+pub fn find_targets(
     alloc: Global,
     image: &Image,
     addresses: &[u32],
-) -> Result<Vec<u32>, AllocError> {
+) -> Result<Vec<FoundTarget>, AllocError> {
     let mut found = Vec::new(alloc);
     for at in addresses {
         if is_odd_writer_at(image, *at) {
-            found.push(*at)?;
-        }
-    }
-    Ok(found)
-}
-
-/// Why a graph ends at an address.
-#[derive(Clone, Copy, PartialEq, Eq)]
-pub(crate) enum End {
-    /// The image has no word there.
-    NoWord,
-    /// The word is no instruction.
-    Unallocated,
-    /// The word is a software interrupt or undefined.
-    Trap,
-}
-
-fn end_at(image: &Image, at: u32) -> Option<End> {
-    let Some(reading) = reading_at(image, at) else {
-        return Some(End::NoWord);
-    };
-    if reading.cond == Cond::Nv {
-        return None;
-    }
-    match reading.way {
-        Way::Trap => Some(End::Trap),
-        Way::Unallocated => Some(End::Unallocated),
-        _ => None,
-    }
-}
-
-/// Those of the addresses at which a handler cannot go on, and why.
-pub(crate) fn find_ends(
-    alloc: Global,
-    image: &Image,
-    addresses: &[u32],
-) -> Result<Vec<(u32, End)>, AllocError> {
-    let mut found = Vec::new(alloc);
-    for at in addresses {
-        if let Some(end) = end_at(image, *at) {
-            found.push((*at, end))?;
+            let branches = table_len(image, *at);
+            found.push(FoundTarget { at: *at, branches })?;
         }
     }
     Ok(found)
