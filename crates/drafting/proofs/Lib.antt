@@ -1,0 +1,2 @@
+mod FlatLaws
+mod Picked

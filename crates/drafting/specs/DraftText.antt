@@ -19,6 +19,10 @@ class_word Ram = codes "ram"
 class_word Rom = codes "rom"
 class_word Io = codes "io"
 
+-- the end of an access
+abbrev pub class_text : Class → List ℕ
+class_text class = codes ", class = \"" ++ (class_word class ++ codes "\"},")
+
 -- what a draft says of an end
 abbrev pub end_words : End → List ℕ
 end_words NoWord = codes ": reached, and no word stands there."
@@ -56,17 +60,16 @@ module _ (lines : Lines) where
 
   abbrev pub access_text : ℕ × Class → List ℕ
   access_text e =
-      row
-      (codes "  {at = " ++ (name_text (lines e.0) e.0 ++ (codes ", class = \"" ++ (class_word e.1 ++ codes "\"},"))))
-      (lines e.0)
+      row (codes "  {at = " ++ (name_text (lines e.0) e.0 ++ class_text e.1)) (lines e.0)
+
+  abbrev pub access_list_text : List (ℕ × Class) → List ℕ
+  access_list_text accesses =
+      codes "\n# What loads and stores reach: \"any\", \"ram\", \"rom\" or \"io\".\naccess = [\n"
+      ++ (flat_map access_text accesses ++ codes "]\n")
 
   -- all loads and stores, if there are any
   abbrev pub accesses_text : List (ℕ × Class) → List ℕ
-  accesses_text accesses =
-      if length accesses == 0 then []
-      else
-      codes "\n# What loads and stores reach: \"any\", \"ram\", \"rom\" or \"io\".\naccess = [\n"
-      ++ (flat_map access_text accesses ++ codes "]\n")
+  accesses_text accesses = if length accesses == 0 then [] else access_list_text accesses
 
   -- a loop, further in by two columns for each loop around it
   abbrev pub loop_text : FoundLoop → List ℕ
@@ -84,12 +87,15 @@ module _ (lines : Lines) where
       if branches == 0 then codes "# to = [\"?\"]  # of a jump or a call: draft from each of them too\n"
       else codes "to = [\n" ++ (flat_map destination_text (words_from table branches) ++ codes "]\n")
 
-  -- a word that writes R15
+  -- what is to be written of a word that writes R15
+  abbrev pub way_text : ℕ → ℕ → List ℕ
+  way_text at branches =
+      codes "kind = \"?\"  # \"jump\", \"call\", \"return\" or \"leave\"\n"
+      ++ destinations_text (ahead_of at 8) branches
+
   abbrev pub target_text : FoundTarget → List ℕ
   target_text t =
-      codes "\n[[target]]\n" ++ (place_text 0 (codes "at") t.at
-      ++ (codes "kind = \"?\"  # \"jump\", \"call\", \"return\" or \"leave\"\n"
-      ++ destinations_text (ahead_of t.at 8) t.branches))
+      codes "\n[[target]]\n" ++ (place_text 0 (codes "at") t.at ++ way_text t.at t.branches)
 
   -- what to do, the entry, and what may be stated of where the handler leaves to
   abbrev pub head_text : ℕ → List ℕ
@@ -98,3 +104,10 @@ module _ (lines : Lines) where
       ++ (codes "# turns back: of a loop that runs eight times seven.\n"
       ++ (place_text 0 (codes "entry") entry
       ++ codes "# leave = \"ram\"  # where it returns to, if always to one: \"ram\", \"rom\" or \"io\"\n"))
+
+  -- the whole text
+  abbrev pub draft_text : ℕ → (ends : List (ℕ × End)) → (cycles : List ℕ) → (accesses : List (ℕ × Class))
+      → (loops : List FoundLoop) → (targets : List FoundTarget) → List ℕ
+  draft_text entry ends cycles accesses loops targets =
+      head_text entry ++ (flat_map end_text ends ++ (flat_map cycle_text cycles
+      ++ (accesses_text accesses ++ (flat_map loop_text loops ++ flat_map target_text targets))))

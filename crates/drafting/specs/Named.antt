@@ -13,8 +13,11 @@ Lines = ℕ → Option SourceLine
 abbrev pub lines_of : BTreeMap ℕ SourceLine → Lines
 lines_of table at = get nat_cmp table at
 
--- each line's label is none, or stands for the address
+-- the label is none, or stands for the address
+abbrev pub IsNamed : Names → ℕ → List ℕ → Type 0
+IsNamed names at label = (label ≡ []) ⊎ (address_of names label ≡ Some at)
+
+-- so is each line's
 abbrev pub AreNamed : Names → Lines → Type 0
 AreNamed names lines =
-    (at : ℕ) (line : SourceLine) → lines at ≡ Some line
-    → (line.label.now ≡ []) ⊎ (address_of names line.label.now ≡ Some at)
+    (at : ℕ) (line : SourceLine) → lines at ≡ Some line → IsNamed names at line.label.now

@@ -1,8 +1,13 @@
+ghost use Rattle.std.specs.Prelude.{IfOk, OnOk};
+ghost use Rattle.std.specs.Map.{keys_of};
+ghost use Rattle.drafting.specs.Picks.{Keeps, Picks};
+ghost use Rattle.drafting.specs.Words.{IsTransfer};
+
 use crate::constants::Constants;
 use crate::reach::Reached;
 use crate::ways::{before, called};
 use crate::words::{instr_at, is_transfer};
-use arm2_decode::{Block, Instr, Operation, SingleImmediate};
+use arm2_decode::{Block, Operation, SingleImmediate};
 use bus_ticks::{Class, SPACE_END, class_of};
 use loader::Image;
 use std::alloc::{AllocError, Global};
@@ -60,25 +65,54 @@ fn goes_straight(image: &Image, reach: &Reached, at: u32) -> bool {
     reach.follows_alone(at, last) && called(image, last).is_none()
 }
 
-/// The addresses of the loads and stores, ascending, each with the class of what it transfers where the words
-/// in front of it show it.
-pub(crate) fn find_accesses(
+// Takes an address whose word loads or stores.
+fn keep_access(
+    found: &mut Vec<(u32, Class)>,
+    image: &Image,
+    known: &Constants,
+    at: u32,
+) -> Result<(), AllocError>
+    ensures { OnOk result
+        (Keeps (IsTransfer image.now) at (keys_of found.old.items) (keys_of found.new.items)) }
+{
+    let Some(instr) = instr_at(image, at) else {
+        return Ok(());
+    };
+    if !is_transfer(&instr.operation) {
+        return Ok(());
+    }
+    found.push((at, class_shown(known, at, &instr.operation)))?;
+    Ok(())
+}
+
+// What is known where control goes on from an address to the next.
+fn passed(image: &Image, known: Constants, at: u32) -> Constants {
+    let mut known = known;
+    if let Some(instr) = instr_at(image, at) {
+        known.pass(at, &instr);
+    }
+    known
+}
+
+/// Those of the addresses whose words load or store, in their order, each with the class of what it
+/// transfers where the words in front of it show it. No clause says that the class is right: that is tested.
+pub fn find_accesses(
     alloc: Global,
     image: &Image,
     reach: &Reached,
-) -> Result<Vec<(u32, Class)>, AllocError> {
+    addresses: &[u32],
+) -> Result<Vec<(u32, Class)>, AllocError>
+    ensures { IfOk result
+        (λ found. Picks (IsTransfer image.now) addresses.now (keys_of found.items)) }
+{
     let mut found = Vec::new(alloc);
     let mut known = Constants::none();
-    for at in &reach.addresses {
+    for at in addresses {
         if !goes_straight(image, reach, *at) {
             known = Constants::none();
         }
-        if let Some(instr) = instr_at(image, *at) {
-            if is_transfer(&instr.operation) {
-                found.push((*at, class_shown(&known, *at, &instr.operation)))?;
-            }
-            known.pass(*at, &instr);
-        }
+        keep_access(&mut found, image, &known, *at)?;
+        known = passed(image, known, *at);
     }
     Ok(found)
 }

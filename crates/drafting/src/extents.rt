@@ -1,7 +1,6 @@
 use crate::found_loop::FoundLoop;
 use crate::paths::Descent;
-use crate::reach::{Reached, addresses_within, pairs_within};
-use flow_graph::MOST_PLACES;
+use crate::reach::{MOST_ADDRESSES, Reached, addresses_within, pairs_within};
 use std::alloc::{AllocError, Global};
 use std::collections::BTreeSet;
 
@@ -18,7 +17,7 @@ fn gather(
             order.push(*from)?;
         }
     }
-    for next in 0..MOST_PLACES {
+    for next in 0..MOST_ADDRESSES {
         let Some(at) = order.get(next).copied() else {
             break;
         };
@@ -48,8 +47,8 @@ pub(crate) fn natural_loop(
     if !gather(reach, backs, &mut members, &mut order)? {
         return Ok(None);
     }
-    let first = members.first().copied().unwrap_or(header);
-    let last = members.last().copied().unwrap_or(header);
+    let first = members.first().copied().unwrap_or(header).min(header);
+    let last = members.last().copied().unwrap_or(header).max(header);
     Ok(Some(FoundLoop {
         header,
         first,

@@ -1,3 +1,5 @@
+ghost use Rattle.std.specs.Prelude.{◌≤◌};
+
 /// A loop that can be stated, by the addresses of its header and of its first and last instruction.
 #[derive(Clone, Copy)]
 pub struct FoundLoop {
@@ -8,6 +10,8 @@ pub struct FoundLoop {
     pub depth: u32,
     /// How often it turns back, where the words show it.
     pub turns: Option<u32>,
+    ghost from_first: { first ≤ header },
+    ghost to_last: { header ≤ last },
 }
 
 impl FoundLoop {

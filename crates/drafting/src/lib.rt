@@ -2,15 +2,15 @@
 #![tactic(auto)]
 
 mod accesses;
+mod assembled;
 mod constants;
 mod counted;
-mod draft;
+mod drafts;
 mod ends;
 mod extents;
 mod found_loop;
 mod loops;
 mod paths;
-mod program;
 mod reach;
 mod rows;
 mod source_lines;
@@ -19,5 +19,5 @@ mod ways;
 mod words;
 mod writers;
 
-pub use draft::draft;
-pub use program::Program;
+pub use assembled::Program;
+pub use drafts::draft;

@@ -65,10 +65,9 @@ fn nested(alloc: Global, loops: &[FoundLoop]) -> Result<Vec<FoundLoop>, AllocErr
     for found in loops {
         close(&mut open, &mut closed, found.first)?;
         widen(&mut open, found.last);
-        open.push(FoundLoop {
-            depth: open.len() as u32,
-            ..*found
-        })?;
+        let mut inner = *found;
+        inner.depth = open.len().min(MOST_LOOPS) as u32;
+        open.push(inner)?;
     }
     close(&mut open, &mut closed, u32::MAX)?;
     closed.sort_by_key(|found| (order_of(found), found.depth))?;
@@ -109,10 +108,9 @@ pub(crate) fn find_loops(
             cycles.push(found.header)?;
         } else {
             let backs = pairs_within(&descent.backs, found.header, found.header);
-            loops.push(FoundLoop {
-                turns: turns_back(image, reach, found, backs),
-                ..*found
-            })?;
+            let mut counted = *found;
+            counted.turns = turns_back(image, reach, found, backs);
+            loops.push(counted)?;
         }
     }
     cycles.sort()?;

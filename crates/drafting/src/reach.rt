@@ -1,8 +1,10 @@
 use crate::ways::{called, push_ways};
-use flow_graph::MOST_PLACES;
 use loader::Image;
 use std::alloc::{AllocError, Global};
 use std::collections::BTreeSet;
+
+/// How many addresses are looked at: as many as the flow graph of a handler has places at most.
+pub(crate) const MOST_ADDRESSES: usize = 16_384;
 
 /// What is reached from an entry, routines that are called included, as far as the words show.
 #[derive(Drop)]
@@ -72,7 +74,7 @@ fn explore(
     let mut ways = Vec::new(alloc);
     roots.insert(entry)?;
     add(&mut seen, &mut order, entry)?;
-    for next in 0..MOST_PLACES {
+    for next in 0..MOST_ADDRESSES {
         let Some(at) = order.get(next).copied() else {
             break;
         };

@@ -135,7 +135,7 @@ pub(crate) fn put_blanks(out: &mut Vec<u8>, count: usize) -> Result<(), AllocErr
     ensures { OnOk result (out.new.items ≡ out.old.items ++ replicate count 32) }
 {
     for _ in 0..count {
-        out.push(b' ')?;
+        put(out, b" ")?;
     }
     Ok(())
 }

@@ -2,9 +2,10 @@ ghost use Rattle.std.specs.Prelude.{◌≡◌, ◌++◌, ℕ, List, IfOk, OnOk, 
 ghost use Rattle.std.specs.List.{flat_map};
 ghost use Rattle.std.specs.Ordering.{nat_cmp};
 ghost use Rattle.drafting.specs.Named.{lines_of};
-ghost use Rattle.drafting.specs.DraftText.{access_text, accesses_text, bound_text, class_word, comment_text};
-ghost use Rattle.drafting.specs.DraftText.{cycle_text, destination_text, destinations_text, end_text};
-ghost use Rattle.drafting.specs.DraftText.{end_words, head_text, loop_text, place_text, target_text, words_from};
+ghost use Rattle.drafting.specs.DraftText.{access_list_text, access_text, accesses_text, bound_text, class_text, class_word};
+ghost use Rattle.drafting.specs.DraftText.{comment_text, cycle_text, destination_text, destinations_text, end_text};
+ghost use Rattle.drafting.specs.DraftText.{end_words, head_text, loop_text, place_text, target_text};
+ghost use Rattle.drafting.specs.DraftText.{way_text, words_from};
 
 use crate::ends::End;
 use crate::found_loop::FoundLoop;
@@ -17,12 +18,12 @@ use std::alloc::{AllocError, Global};
 
 /// What stands at the addresses, and the memory for rows.
 #[derive(Clone, Copy)]
-pub struct Sheet<'a> {
+pub struct Sheet<'s, 'a> {
     pub alloc: Global,
-    pub lines: &'a SourceLines<'a>,
+    pub lines: &'s SourceLines<'a>,
 }
 
-impl<'a> Sheet<'a> {
+impl<'a> Sheet<'_, 'a> {
     // The line of the word at an address.
     fn line(&self, at: u32) -> Option<SourceLine<'a>>
         ensures { result ≡ lines_of self.now.lines.now at }
@@ -70,9 +71,7 @@ impl<'a> Sheet<'a> {
         let mut text = Vec::new(self.alloc);
         put(&mut text, b"  {at = ")?;
         put_name(&mut text, line, at)?;
-        put(&mut text, b", class = \"")?;
-        put(&mut text, class_word(class))?;
-        put(&mut text, b"\"},")?;
+        put_class(&mut text, class)?;
         put_row(self.alloc, out, &text, line)
     }
 
@@ -91,6 +90,22 @@ impl<'a> Sheet<'a> {
         Ok(())
     }
 
+    fn put_access_list(
+        &self,
+        out: &mut Vec<u8>,
+        accesses: &[(u32, Class)],
+    ) -> Result<(), AllocError>
+        ensures { OnOk result
+            (out.new.items ≡ out.old.items ++ access_list_text (lines_of self.now.lines.now) accesses.now) }
+    {
+        put(
+            out,
+            b"\n# What loads and stores reach: \"any\", \"ram\", \"rom\" or \"io\".\naccess = [\n",
+        )?;
+        self.put_each_access(out, accesses)?;
+        put(out, b"]\n")
+    }
+
     /// Adds the loads and stores with their classes.
     pub fn put_accesses(
         &self,
@@ -103,12 +118,7 @@ impl<'a> Sheet<'a> {
         if accesses.is_empty() {
             return Ok(());
         }
-        put(
-            out,
-            b"\n# What loads and stores reach: \"any\", \"ram\", \"rom\" or \"io\".\naccess = [\n",
-        )?;
-        self.put_each_access(out, accesses)?;
-        put(out, b"]\n")
+        self.put_access_list(out, accesses)
     }
 
     fn put_loop(&self, out: &mut Vec<u8>, found: &FoundLoop) -> Result<(), AllocError>
@@ -188,17 +198,26 @@ impl<'a> Sheet<'a> {
         put(out, b"]\n")
     }
 
+    // Adds what is to be written of a word that writes R15, with its table if it jumps into one.
+    fn put_way(&self, out: &mut Vec<u8>, at: u32, branches: u32) -> Result<(), AllocError>
+        ensures { OnOk result
+            (out.new.items ≡ out.old.items ++ way_text (lines_of self.now.lines.now) at branches) }
+    {
+        let table = ahead_of(at, 8);
+        put(
+            out,
+            b"kind = \"?\"  # \"jump\", \"call\", \"return\" or \"leave\"\n",
+        )?;
+        self.put_destinations(out, table, branches)
+    }
+
     fn put_target(&self, out: &mut Vec<u8>, target: &FoundTarget) -> Result<(), AllocError>
         ensures { OnOk result
             (out.new.items ≡ out.old.items ++ target_text (lines_of self.now.lines.now) target.now) }
     {
         put(out, b"\n[[target]]\n")?;
         self.put_place(out, 0, b"at", target.at)?;
-        put(
-            out,
-            b"kind = \"?\"  # \"jump\", \"call\", \"return\" or \"leave\"\n",
-        )?;
-        self.put_destinations(out, ahead_of(target.at, 8), target.branches)
+        self.put_way(out, target.at, target.branches)
     }
 
     /// Adds the words that write R15, with the branches to which they jump.
@@ -265,6 +284,14 @@ fn class_word(class: Class) -> &'static [u8]
         Class::Rom => b"rom",
         Class::Io => b"io",
     }
+}
+
+fn put_class(out: &mut Vec<u8>, class: Class) -> Result<(), AllocError>
+    ensures { OnOk result (out.new.items ≡ out.old.items ++ class_text class) }
+{
+    put(out, b", class = \"")?;
+    put(out, class_word(class))?;
+    put(out, b"\"},")
 }
 
 fn put_bound(out: &mut Vec<u8>, indent: usize, turns: Option<u32>) -> Result<(), AllocError>

@@ -1,3 +1,6 @@
+ghost use Rattle.std.specs.Prelude.{◌≡◌, ◌<◌, ◌^◌};
+ghost use Rattle.arm2_effect.specs.ProgramCounter.{ahead_of};
+
 use crate::words::{Reading, Way, instr_at, reading_at};
 use arm2_decode::{Cond, DataRegister, Opcode, Operation, Register, Shift};
 use bus_ticks::SPACE_END;
@@ -8,7 +11,10 @@ use std::alloc::AllocError;
 const MOST_BRANCHES: u32 = 64;
 
 /// The address so many bytes on, which wraps at [`SPACE_END`].
-pub(crate) fn ahead_of(address: u32, bytes: u32) -> u32 {
+pub(crate) fn ahead_of(address: u32, bytes: u32) -> u32
+    ensures sum { result ≡ ahead_of address bytes }
+    ensures fits { result < 2 ^ 26 }
+{
     address.wrapping_add(bytes) % SPACE_END
 }
 

@@ -1,4 +1,12 @@
-use arm2_decode::{Block, Cond, DataRegister, Instr, Opcode, Operation, Register, Shift, decode};
+ghost use Rattle.std.specs.Prelude.{◌≡◌, IfSome, Some};
+ghost use Rattle.arm2_decode.specs.declared.instr.Instr.{Instr};
+ghost use Rattle.arm2_decode.specs.Table.{Means};
+ghost use Rattle.drafting.specs.Words.{HasInstr, data_writes_pc, is_link, is_move, is_return, is_stack};
+ghost use Rattle.drafting.specs.Words.{is_transfer, moves_link, subtracts_from_link, writes_pc};
+
+use arm2_decode::{
+    Block, Cond, DataRegister, Instr, Opcode, Operation, Register, Shift, decode, decode_encoded,
+};
 use loader::Image;
 
 /// What a word shows of where control goes.
@@ -27,33 +35,68 @@ pub(crate) struct Reading {
     pub way: Way,
 }
 
-/// The instruction at an address, if the image has one there.
-pub(crate) fn instr_at(image: &Image, at: u32) -> Option<Instr> {
-    decode(image.word_at(at)?).ok()
-}
-
-fn is_link(register: Register) -> bool {
-    register == Register::R14
-}
-
-fn is_stack(register: Register) -> bool {
-    register == Register::R13
-}
-
-// Whether it is a move of R14, or R14 less something.
-fn comes_from_link(x: &DataRegister) -> bool {
-    match x.opcode {
-        Opcode::Mov => is_link(x.rm) && x.amount == 0 && x.shift == Shift::Lsl,
-        _ => x.opcode == Opcode::Sub && is_link(x.rn),
+// The instruction of a word.
+fn decoded(word: u32) -> Option<Instr>
+    ensures some { IfSome result (Means word) }
+    ensures only { (i : Instr) → Means word i → result ≡ Some i }
+{
+    decode_encoded();
+    match decode(word) {
+        Ok(instr) => Some(instr),
+        Err(_) => None,
     }
 }
 
+/// The instruction at an address, if the image has one there.
+pub(crate) fn instr_at(image: &Image, at: u32) -> Option<Instr>
+    ensures some { IfSome result (HasInstr image.now at) }
+    ensures only { (i : Instr) → HasInstr image.now at i → result ≡ Some i }
+{
+    match image.word_at(at) {
+        Some(word) => decoded(word),
+        None => None,
+    }
+}
+
+fn is_link(register: Register) -> bool
+    ensures { result ≡ is_link register }
+{
+    register.number() == 14
+}
+
+fn is_stack(register: Register) -> bool
+    ensures { result ≡ is_stack register }
+{
+    register.number() == 13
+}
+
+fn is_move(opcode: Opcode) -> bool
+    ensures { result ≡ is_move opcode }
+{
+    matches!(opcode, Opcode::Mov)
+}
+
+fn subtracts_from_link(opcode: Opcode, rn: Register) -> bool
+    ensures { result ≡ subtracts_from_link opcode rn }
+{
+    matches!(opcode, Opcode::Sub) && is_link(rn)
+}
+
+// Whether it is R14 as it is.
+fn moves_link(x: &DataRegister) -> bool
+    ensures { result ≡ moves_link x.now }
+{
+    is_move(x.opcode) && is_link(x.rm) && matches!(x.shift, Shift::Lsl) && x.amount == 0
+}
+
 // Whether a word that writes R15 does so as returns do: by MOV or SUB from R14, or by a load from the stack.
-pub(crate) fn is_return(operation: &Operation) -> bool {
+pub(crate) fn is_return(operation: &Operation) -> bool
+    ensures { result ≡ is_return operation.now }
+{
     match operation {
-        Operation::DataRegister(x) => comes_from_link(x),
-        Operation::DataRegisterShift(x) => x.opcode == Opcode::Sub && is_link(x.rn),
-        Operation::DataImmediate(x) => x.opcode == Opcode::Sub && is_link(x.rn),
+        Operation::DataRegister(x) => moves_link(x) || subtracts_from_link(x.opcode, x.rn),
+        Operation::DataRegisterShift(x) => subtracts_from_link(x.opcode, x.rn),
+        Operation::DataImmediate(x) => subtracts_from_link(x.opcode, x.rn),
         Operation::SingleImmediate(x) => is_stack(x.rn),
         Operation::SingleRegister(x) => is_stack(x.rn),
         Operation::Block(x) => is_stack(x.rn),
@@ -66,12 +109,16 @@ pub(crate) fn is_return(operation: &Operation) -> bool {
     }
 }
 
-fn data_writes_pc(opcode: Opcode, rd: Register) -> bool {
+fn data_writes_pc(opcode: Opcode, rd: Register) -> bool
+    ensures { result ≡ data_writes_pc opcode rd }
+{
     rd.is_pc() && !opcode.is_compare()
 }
 
 /// Whether an operation writes R15, other than a branch or a call.
-pub(crate) fn writes_pc(operation: &Operation) -> bool {
+pub(crate) fn writes_pc(operation: &Operation) -> bool
+    ensures { result ≡ writes_pc operation.now }
+{
     match operation {
         Operation::DataRegister(x) => data_writes_pc(x.opcode, x.rd),
         Operation::DataRegisterShift(x) => data_writes_pc(x.opcode, x.rd),
@@ -89,7 +136,9 @@ pub(crate) fn writes_pc(operation: &Operation) -> bool {
 }
 
 /// Whether an operation loads or stores.
-pub(crate) fn is_transfer(operation: &Operation) -> bool {
+pub(crate) fn is_transfer(operation: &Operation) -> bool
+    ensures { result ≡ is_transfer operation.now }
+{
     matches!(
         operation,
         Operation::SingleImmediate(_) | Operation::SingleRegister(_) | Operation::Block(_)
