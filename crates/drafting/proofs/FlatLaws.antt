@@ -1,7 +1,8 @@
 -- Texts of one part after another.
-use Rattle.std.proofs.Common.{◌≡◌, ◌+◌, ◌<◌, ℕ, suc, List, [], ◌∷◌, ◌++◌, length, drop, refl, sym, ap, replicate, subst, ◌∙◌, append_assoc, get_or}
+use Rattle.std.proofs.Common.{◌≡◌, ◌+◌, ◌<◌, ℕ, suc, List, [], ◌∷◌, ◌++◌, length, drop, codes, refl, sym, ap, replicate, subst, ◌∙◌, append_assoc, get_or}
 use Rattle.arm2_effect.specs.ProgramCounter.{ahead_of}
-use Rattle.drafting.specs.DraftText.{words_from}
+use Rattle.drafting.specs.DraftText.{destinations_text, way_text, words_from}
+use Rattle.drafting.specs.Named.{Lines}
 use Rattle.std.specs.List.{flat_map}
 use Rattle.std.proofs.lemmas.List.{drop_more}
 
@@ -29,3 +30,13 @@ pub blanks_more : (left after : ℕ) (old new all : List ℕ) → left ≡ suc a
 blanks_more left after old new all is h0 more =
     let h = subst (λ n. old ++ replicate n 32 ≡ all) is h0 in
     ap (λ t. t ++ replicate after 32) more ∙ append_assoc old (32 ∷ []) (replicate after 32) ∙ h
+
+pub two_parts : {old front new one two : List ℕ} → front ≡ old ++ one → new ≡ front ++ two → new ≡ old ++ (one ++ two)
+two_parts {old} {front} {new} {one} {two} a b = b ∙ ap (λ t. t ++ two) a ∙ append_assoc old one two
+
+-- what is to be written of a word that writes R15
+pub way_whole : (lines : Lines) (at table branches : ℕ) (old front new : List ℕ) → table ≡ ahead_of at 8
+    → front ≡ old ++ codes "kind = \"?\"  # \"jump\", \"call\", \"return\" or \"leave\"\n"
+    → new ≡ front ++ destinations_text lines table branches → new ≡ old ++ way_text lines at branches
+way_whole lines at table branches old front new is a b =
+    two_parts a (b ∙ ap (λ t. front ++ destinations_text lines t branches) is)

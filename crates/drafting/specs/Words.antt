@@ -74,6 +74,10 @@ writes_pc (operation.UndefinedTransfer x) = false
 writes_pc (operation.CoprocessorTransfer x) = false
 writes_pc (operation.Coprocessor x) = false
 
+-- it writes R15, and has not the shape of a return
+abbrev pub is_odd_writer : Operation → Bool
+is_odd_writer o = writes_pc o && not (is_return o)
+
 -- it loads or stores
 abbrev pub is_transfer : Operation → Bool
 is_transfer (operation.SingleImmediate x) = true
@@ -91,8 +95,7 @@ pub record HasInstr (words : Words) (at : ℕ) (i : Instr) : Type 0 where
 
 -- an instruction there writes R15, and has not the shape of a return
 abbrev pub IsOddWriter : Words → ℕ → Type 0
-IsOddWriter words at =
-    (i : Instr) × HasInstr words at i × (writes_pc i.operation ≡ true) × (is_return i.operation ≡ false)
+IsOddWriter words at = (i : Instr) × HasInstr words at i × (is_odd_writer i.operation ≡ true)
 
 -- an instruction there loads or stores
 abbrev pub IsTransfer : Words → ℕ → Type 0

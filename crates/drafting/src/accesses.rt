@@ -1,11 +1,11 @@
-ghost use Rattle.std.specs.Prelude.{IfOk, OnOk};
+ghost use Rattle.std.specs.Prelude.{◌≡◌, true, IfOk, OnOk};
 ghost use Rattle.std.specs.Map.{keys_of};
 ghost use Rattle.drafting.specs.Picks.{Keeps, Picks};
 ghost use Rattle.drafting.specs.Words.{IsTransfer};
 
 use crate::constants::Constants;
 use crate::reach::Reached;
-use crate::ways::{before, called};
+use crate::ways::before;
 use crate::words::{instr_at, is_transfer};
 use arm2_decode::{Block, Operation, SingleImmediate};
 use bus_ticks::{Class, SPACE_END, class_of};
@@ -60,9 +60,22 @@ fn class_shown(known: &Constants, at: u32, operation: &Operation) -> Class {
     }
 }
 
-fn goes_straight(image: &Image, reach: &Reached, at: u32) -> bool {
-    let last = before(at);
-    reach.follows_alone(at, last) && called(image, last).is_none()
+// Whether the image has a word there that loads or stores.
+fn is_transfer_at(image: &Image, at: u32) -> bool
+    ensures yes { result ≡ true → IsTransfer image.now at }
+    ensures no { IsTransfer image.now at → result ≡ true }
+{
+    match instr_at(image, at) {
+        Some(instr) => is_transfer(&instr.operation),
+        None => false,
+    }
+}
+
+fn class_at(image: &Image, known: &Constants, at: u32) -> Class {
+    match instr_at(image, at) {
+        Some(instr) => class_shown(known, at, &instr.operation),
+        None => Class::Any,
+    }
 }
 
 // Takes an address whose word loads or stores.
@@ -75,13 +88,11 @@ fn keep_access(
     ensures { OnOk result
         (Keeps (IsTransfer image.now) at (keys_of found.old.items) (keys_of found.new.items)) }
 {
-    let Some(instr) = instr_at(image, at) else {
-        return Ok(());
-    };
-    if !is_transfer(&instr.operation) {
+    if !is_transfer_at(image, at) {
         return Ok(());
     }
-    found.push((at, class_shown(known, at, &instr.operation)))?;
+    let class = class_at(image, known, at);
+    found.push((at, class))?;
     Ok(())
 }
 
@@ -108,7 +119,7 @@ pub fn find_accesses(
     let mut found = Vec::new(alloc);
     let mut known = Constants::none();
     for at in addresses {
-        if !goes_straight(image, reach, *at) {
+        if !reach.follows_alone(*at, before(*at)) {
             known = Constants::none();
         }
         keep_access(&mut found, image, &known, *at)?;

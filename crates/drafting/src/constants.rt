@@ -1,6 +1,6 @@
 use crate::counted::immediate;
 use crate::ways::ahead_of;
-use crate::words::written;
+use crate::words::changed;
 use arm2_decode::{Cond, DataImmediate, DataRegister, Instr, Opcode, Operation, Register, Shift};
 
 /// The registers whose words the last words show.
@@ -69,7 +69,7 @@ impl Constants {
             _ => None,
         };
         if instr.cond != Cond::Nv {
-            self.forget(written(&instr.operation));
+            self.forget(changed(&instr.operation));
         }
         if let Some((register, word)) = known {
             if instr.cond == Cond::Al {

@@ -1,7 +1,7 @@
 use crate::found_loop::FoundLoop;
 use crate::reach::{Reached, addresses_within};
 use crate::ways::before;
-use crate::words::{Way, instr_at, reading_at, way_of, written};
+use crate::words::{Way, changed, instr_at, reading_at};
 use arm2_decode::{Cond, DataImmediate, Opcode, Operation, Register};
 use loader::Image;
 
@@ -41,18 +41,8 @@ fn is_branch_if_not_zero(image: &Image, at: u32) -> bool {
 
 fn may_write(image: &Image, at: u32, register: Register) -> bool {
     match instr_at(image, at) {
-        Some(instr) => written(&instr.operation) >> register.number() & 1 == 1,
+        Some(instr) => changed(&instr.operation) >> register.number() & 1 == 1,
         None => true,
-    }
-}
-
-// Whether a word neither calls nor jumps, nor writes the register.
-fn leaves_alone(image: &Image, at: u32, register: Register) -> bool {
-    match instr_at(image, at) {
-        Some(instr) => {
-            way_of(&instr.operation) != Way::Writer && !may_write(image, at, register)
-        }
-        None => false,
     }
 }
 
@@ -106,7 +96,7 @@ pub(crate) fn turns_back(
         return None;
     }
     for at in addresses_within(&reach.addresses, found.first, found.last) {
-        if *at != count && !leaves_alone(image, *at, register) {
+        if *at != count && may_write(image, *at, register) {
             return None;
         }
     }

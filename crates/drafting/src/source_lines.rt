@@ -65,7 +65,7 @@ fn add_line<'a>(
     placed: PlacedLine,
     line: SourceLine<'a>,
 ) -> Result<(), AllocError>
-    requires { IsNamed program.now.labels.now placed.at line.entry.label.now }
+    requires { IsNamed program.now.labels.now placed.at line.label.now }
     ensures { OnOk result
         (AreNamed program.now.labels.now (lines_of lines.old)
         → AreNamed program.now.labels.now (lines_of lines.new)) }

@@ -1,7 +1,7 @@
 ghost use Rattle.std.specs.Prelude.{◌≡◌, IfSome, Some};
 ghost use Rattle.arm2_decode.specs.declared.instr.Instr.{Instr};
 ghost use Rattle.arm2_decode.specs.Table.{Means};
-ghost use Rattle.drafting.specs.Words.{HasInstr, data_writes_pc, is_link, is_move, is_return, is_stack};
+ghost use Rattle.drafting.specs.Words.{HasInstr, data_writes_pc, is_link, is_odd_writer, is_move, is_return, is_stack};
 ghost use Rattle.drafting.specs.Words.{is_transfer, moves_link, subtracts_from_link, writes_pc};
 
 use arm2_decode::{
@@ -135,6 +135,13 @@ pub(crate) fn writes_pc(operation: &Operation) -> bool
     }
 }
 
+/// Whether an operation writes R15 and has not the shape of a return.
+pub(crate) fn is_odd_writer(operation: &Operation) -> bool
+    ensures { result ≡ is_odd_writer operation.now }
+{
+    writes_pc(operation) && !is_return(operation)
+}
+
 /// Whether an operation loads or stores.
 pub(crate) fn is_transfer(operation: &Operation) -> bool
     ensures { result ≡ is_transfer operation.now }
@@ -219,9 +226,9 @@ fn block_written(x: &Block) -> u32 {
 
 const ALL_REGISTERS: u32 = 0xFFFF;
 
-/// The registers that an operation may write, as the bits of their numbers: all for a call, and for a compare
-/// that changes the mode.
-pub(crate) fn written(operation: &Operation) -> u32 {
+// The registers that an operation may write, as the bits of their numbers: all for a call, and for a compare
+// that changes the mode.
+fn written(operation: &Operation) -> u32 {
     match operation {
         Operation::Multiply(x) => bit(x.rd),
         Operation::DataRegister(x) => data_written(x.opcode, x.rd),
@@ -239,5 +246,15 @@ pub(crate) fn written(operation: &Operation) -> u32 {
         | Operation::UndefinedTransfer(_)
         | Operation::CoprocessorTransfer(_)
         | Operation::Coprocessor(_) => ALL_REGISTERS,
+    }
+}
+
+/// The registers that may differ after an operation, as the bits of their numbers: all after a word that may call
+/// a routine by writing R15.
+pub(crate) fn changed(operation: &Operation) -> u32 {
+    if way_of(operation) == Way::Writer {
+        ALL_REGISTERS
+    } else {
+        written(operation)
     }
 }

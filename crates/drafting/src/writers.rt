@@ -4,7 +4,7 @@ ghost use Rattle.drafting.specs.Picks.{Keeps, Picks};
 ghost use Rattle.drafting.specs.Words.{IsOddWriter};
 
 use crate::ways::table_len;
-use crate::words::{instr_at, is_return, writes_pc};
+use crate::words::{instr_at, is_odd_writer};
 use loader::Image;
 use std::alloc::{AllocError, Global};
 
@@ -22,7 +22,7 @@ fn is_odd_writer_at(image: &Image, at: u32) -> bool
     ensures no { IsOddWriter image.now at → result ≡ true }
 {
     match instr_at(image, at) {
-        Some(instr) => writes_pc(&instr.operation) && !is_return(&instr.operation),
+        Some(instr) => is_odd_writer(&instr.operation),
         None => false,
     }
 }
