@@ -5,6 +5,7 @@ ghost use Rattle.loader.specs.Labels.{address_of};
 ghost use Rattle.arcwcet.specs.Answers.{Answers};
 ghost use Rattle.arcwcet.specs.DraftReport.{IsDraftRefused, IsDraftReport, IsDraftable, address_in, entry_of};
 ghost use Rattle.arcwcet.specs.Source.{IsSourceFault};
+ghost use Rattle.drafting.specs.Drafts.{IsDraft};
 
 use crate::fault::ReportFault;
 use crate::handler::read_source;
@@ -44,7 +45,8 @@ fn draft_text(
     said: &Assembly,
     entry: u32,
 ) -> Result<Vec<u8>, ReportFault>
-    ensures { IfErr result (IsSourceFault source.now) }
+    ensures draft { IfOk result (λ text. IsDraft said.now.image said.now.labels entry text.items) }
+    ensures fault { IfErr result (IsSourceFault source.now) }
 {
     let placed = if source.starts_with(&MAGIC) {
         Vec::new(alloc)

@@ -5,8 +5,8 @@ use Rattle.arcwcet.proofs.HandlerLemmas.{refused_as}
 use Rattle.arcwcet.proofs.SourceLemmas.{text_fault}
 use Rattle.arcwcet.proofs.draft.draft_text.Goals as goal
 
-pub returns-in_err-placed : goal.returns-in_err-placed
-returns-in_err-placed c =
+pub returns-in_err-placed-clause-fault : goal.returns-in_err-placed-clause-fault
+returns-in_err-placed-clause-fault c =
     let is : is_image c.args.source.now ≡ false = search rules in
     let f = c.in_err-placed.field-0.0 in
     refused_as c.from_residual.result (of_source f) (IsSourceFault c.args.source.now) c.from_residual.ensures.1 (text_fault c.args.source.now f is c.in_err-placed.ensures.fault)

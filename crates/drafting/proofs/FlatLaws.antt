@@ -1,0 +1,42 @@
+-- Texts of one part after another.
+use Rattle.std.proofs.Common.{◌≡◌, ◌+◌, ◌<◌, ℕ, suc, List, [], ◌∷◌, ◌++◌, length, drop, codes, refl, sym, ap, replicate, subst, ◌∙◌, append_assoc, get_or}
+use Rattle.arm2_effect.specs.ProgramCounter.{ahead_of}
+use Rattle.drafting.specs.DraftText.{destinations_text, way_text, words_from}
+use Rattle.drafting.specs.Named.{Lines}
+use Rattle.std.specs.List.{flat_map}
+use Rattle.std.proofs.lemmas.List.{drop_more}
+
+pub flat_more : {X : Type 0} (f : X → List ℕ) (xs : List X) (i : ℕ) (d : X) (old new all : List ℕ)
+    → old ++ flat_map f (drop i xs) ≡ all → i < length xs → new ≡ old ++ f (get_or xs i d)
+    → new ++ flat_map f (drop (i + 1) xs) ≡ all
+flat_more f xs i d old new all h lt more =
+    let x = get_or xs i d in
+    let left : drop i xs ≡ x ∷ drop (i + 1) xs = drop_more xs i d lt in
+    let rest = flat_map f (drop (i + 1) xs) in
+    ap (λ t. t ++ rest) more ∙ append_assoc old (f x) rest ∙ ap (λ ys. old ++ flat_map f ys) (sym left) ∙ h
+
+-- the texts of words side by side
+pub words_more : (f : ℕ → List ℕ) (at next left after : ℕ) (old new all : List ℕ) → left ≡ suc after
+    → old ++ flat_map f (words_from at left) ≡ all → new ≡ old ++ f at → next ≡ ahead_of at 4
+    → new ++ flat_map f (words_from next after) ≡ all
+words_more f at next left after old new all is h0 more on =
+    let h = subst (λ n. old ++ flat_map f (words_from at n) ≡ all) is h0 in
+    let rest = flat_map f (words_from (ahead_of at 4) after) in
+    ap (λ a. new ++ flat_map f (words_from a after)) on ∙ ap (λ t. t ++ rest) more ∙ append_assoc old (f at) rest ∙ h
+
+-- one blank more
+pub blanks_more : (left after : ℕ) (old new all : List ℕ) → left ≡ suc after → old ++ replicate left 32 ≡ all
+    → new ≡ old ++ 32 ∷ [] → new ++ replicate after 32 ≡ all
+blanks_more left after old new all is h0 more =
+    let h = subst (λ n. old ++ replicate n 32 ≡ all) is h0 in
+    ap (λ t. t ++ replicate after 32) more ∙ append_assoc old (32 ∷ []) (replicate after 32) ∙ h
+
+pub two_parts : {old front new one two : List ℕ} → front ≡ old ++ one → new ≡ front ++ two → new ≡ old ++ (one ++ two)
+two_parts {old} {front} {new} {one} {two} a b = b ∙ ap (λ t. t ++ two) a ∙ append_assoc old one two
+
+-- what is to be written of a word that writes R15
+pub way_whole : (lines : Lines) (at table branches : ℕ) (old front new : List ℕ) → table ≡ ahead_of at 8
+    → front ≡ old ++ codes "kind = \"?\"  # \"jump\", \"call\", \"return\" or \"leave\"\n"
+    → new ≡ front ++ destinations_text lines table branches → new ≡ old ++ way_text lines at branches
+way_whole lines at table branches old front new is a b =
+    two_parts a (b ∙ ap (λ t. front ++ destinations_text lines t branches) is)

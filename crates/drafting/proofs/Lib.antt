@@ -1,0 +1,3 @@
+mod FlatLaws
+mod InstrLaws
+mod Picked

@@ -1,0 +1,15 @@
+use Rattle.drafting.specs.Named.{lines_of}
+use Rattle.drafting.proofs.drafts.draft_by_lines.Goals as goal
+
+pub returns : goal.returns
+returns c = record {
+  lines = lines_of c.args.lines.now;
+  named = c.requires;
+  ends = c.in_ok-found.found.ends.items;
+  cycles = c.in_ok-found.found.loops.cycles.items;
+  accesses = c.in_ok-found.found.accesses.items;
+  loops = c.in_ok-found.found.loops.loops.items;
+  targets = c.in_ok-found.found.targets.items;
+  found = c.in_ok-found.ensures;
+  text_is = c.in_ok-text.ensures;
+}

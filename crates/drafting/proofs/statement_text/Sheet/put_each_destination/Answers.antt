@@ -1,0 +1,13 @@
+use Rattle.std.proofs.Common.{◌-◌, ◌+◌, arith}
+use Rattle.drafting.specs.DraftText.{destination_text}
+use Rattle.drafting.specs.Named.{lines_of}
+use Rattle.drafting.proofs.FlatLaws.{words_more}
+use Rattle.drafting.proofs.statement_text.Sheet.put_each_destination.Goals as goal
+
+pub loop-preserved : goal.loop-preserved
+loop-preserved c =
+    let left = c.args.branches - c.loop.counter in
+    let after = c.args.branches - (c.loop.counter + 1) in
+    words_more (destination_text (lines_of c.args.self.now.lines.now)) c.loop.at c.ahead_of-at.result left after c.loop.out.items
+    c.put_destination.new.out.items _ (omega (arith, c.loop-test.true)) c.loop.invariant c.in_ok-put_destination.ensures
+    c.ahead_of-at.ensures.sum

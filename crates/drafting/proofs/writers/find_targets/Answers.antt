@@ -1,0 +1,18 @@
+use Rattle.std.proofs.Common.{refl}
+use Rattle.drafting.specs.Found.{addresses_of}
+use Rattle.drafting.specs.Words.{IsOddWriter}
+use Rattle.drafting.proofs.Picked.{so_far_all, so_far_kept, so_far_none}
+use Rattle.drafting.proofs.writers.find_targets.Goals as goal
+
+pub loop-at-init : goal.loop-at-init
+loop-at-init c = so_far_none (IsOddWriter c.args.image.now) c.args.addresses.now
+
+pub loop-at-preserved : goal.loop-at-preserved
+loop-at-preserved c =
+    so_far_kept (IsOddWriter c.args.image.now) c.args.addresses.now c.loop-at.at-index 0 _ (addresses_of c.loop-at.found.items) _
+    c.loop-at.invariant c.loop-at-test.true refl c.in_ok-keep_target.ensures
+
+pub returns : goal.returns
+returns c =
+    so_far_all (IsOddWriter c.args.image.now) c.args.addresses.now c.loop-at.at-index (addresses_of c.loop-at.found.items)
+    c.loop-at.invariant c.loop-at-test.false

@@ -1,0 +1,33 @@
+-- What a draft of a statement is.
+use Rattle.std.specs.Prelude.{◌≡◌, ℕ, List}
+use Rattle.std.specs.Map.{keys_of}
+use Rattle.bus_ticks.specs.declared.profile.Class.{Class}
+use Rattle.loader.specs.Image.{Words}
+use Rattle.loader.specs.Labels.{Names}
+use Rattle.drafting.specs.DraftText.{draft_text}
+use Rattle.drafting.specs.Found.{addresses_of}
+use Rattle.drafting.specs.Named.{AreNamed, Lines}
+use Rattle.drafting.specs.Picks.{Picks}
+use Rattle.drafting.specs.Words.{IsOddWriter, IsTransfer}
+use Rattle.drafting.specs.declared.ends.End.{End}
+use Rattle.drafting.specs.declared.found_loop.FoundLoop.{FoundLoop}
+use Rattle.drafting.specs.declared.writers.FoundTarget.{FoundTarget}
+
+-- what was found at some addresses: exactly those of them whose words load or store, and those whose words
+-- write R15 and have not the shape of a return
+pub record AreFound (words : Words) (accesses : List (ℕ × Class)) (targets : List FoundTarget) : Type 0 where
+  pub addresses : List ℕ
+  pub accesses_are : Picks (IsTransfer words) addresses (keys_of accesses)
+  pub targets_are : Picks (IsOddWriter words) addresses (addresses_of targets)
+
+-- the text of what was found, with labels that stand for the addresses
+pub record IsDraft (words : Words) (names : Names) (entry : ℕ) (text : List ℕ) : Type 0 where
+  pub lines : Lines
+  pub named : AreNamed names lines
+  pub ends : List (ℕ × End)
+  pub cycles : List ℕ
+  pub accesses : List (ℕ × Class)
+  pub loops : List FoundLoop
+  pub targets : List FoundTarget
+  pub found : AreFound words accesses targets
+  pub text_is : text ≡ draft_text lines entry ends cycles accesses loops targets

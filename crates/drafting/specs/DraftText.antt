@@ -1,0 +1,113 @@
+-- The text of a draft, of what was found. Our own format.
+use Rattle.std.specs.Prelude.{ℕ, zero, suc, ◌+◌, ◌*◌, ◌==◌, if◌then◌else◌, List, [], ◌∷◌, ◌++◌, length, replicate}
+use Rattle.std.specs.Prelude.{codes, decimal, Option, Some, None}
+use Rattle.std.specs.List.{flat_map}
+use Rattle.asm_text.specs.Hex.{hex8}
+use Rattle.arm2_effect.specs.ProgramCounter.{ahead_of}
+use Rattle.bus_ticks.specs.declared.profile.Class.{Class}
+use Rattle.bus_ticks.specs.declared.profile.Class.TheVariants.{Any, Ram, Rom, Io}
+use Rattle.drafting.specs.Named.{Lines}
+use Rattle.drafting.specs.Rows.{name_text, row}
+use Rattle.drafting.specs.declared.ends.End.{End}
+use Rattle.drafting.specs.declared.ends.End.TheVariants.{NoWord, Unallocated, Trap}
+use Rattle.drafting.specs.declared.found_loop.FoundLoop.{FoundLoop}
+use Rattle.drafting.specs.declared.writers.FoundTarget.{FoundTarget}
+
+abbrev pub class_word : Class → List ℕ
+class_word Any = codes "any"
+class_word Ram = codes "ram"
+class_word Rom = codes "rom"
+class_word Io = codes "io"
+
+-- the end of an access
+abbrev pub class_text : Class → List ℕ
+class_text class = codes ", class = \"" ++ (class_word class ++ codes "\"},")
+
+-- what a draft says of an end
+abbrev pub end_words : End → List ℕ
+end_words NoWord = codes ": reached, and no word stands there."
+end_words Unallocated = codes ": reached, and the word is no instruction."
+end_words Trap = codes ": reached, and the word is a SWI or undefined."
+
+-- a bound, that many columns in: the number that was counted, or a question mark
+abbrev pub bound_text : ℕ → Option ℕ → List ℕ
+bound_text indent None = replicate indent 32 ++ codes "bound = \"?\"\n"
+bound_text indent (Some turns) =
+    replicate indent 32 ++ (codes "bound = " ++ (decimal turns ++ codes "  # counted\n"))
+
+-- so many addresses of words, from one on
+abbrev pub words_from : ℕ → ℕ → List ℕ
+words_from at zero = []
+words_from at (suc more) = at ∷ words_from (ahead_of at 4) more
+
+-- ## What stands at the addresses
+
+module _ (lines : Lines) where
+  -- a key and an address, that many columns in
+  abbrev pub place_text : ℕ → List ℕ → ℕ → List ℕ
+  place_text indent key at =
+      row (replicate indent 32 ++ (key ++ (codes " = " ++ name_text (lines at) at))) (lines at)
+
+  -- a comment on an address
+  abbrev pub comment_text : ℕ → List ℕ → List ℕ
+  comment_text at words = row (codes "# " ++ (hex8 at ++ words)) (lines at)
+
+  abbrev pub end_text : ℕ × End → List ℕ
+  end_text e = comment_text e.0 (end_words e.1)
+
+  abbrev pub cycle_text : ℕ → List ℕ
+  cycle_text at = comment_text at (codes ": a cycle that no loop bounds.")
+
+  abbrev pub access_text : ℕ × Class → List ℕ
+  access_text e =
+      row (codes "  {at = " ++ (name_text (lines e.0) e.0 ++ class_text e.1)) (lines e.0)
+
+  abbrev pub access_list_text : List (ℕ × Class) → List ℕ
+  access_list_text accesses =
+      codes "\n# What loads and stores reach: \"any\", \"ram\", \"rom\" or \"io\".\naccess = [\n"
+      ++ (flat_map access_text accesses ++ codes "]\n")
+
+  -- all loads and stores, if there are any
+  abbrev pub accesses_text : List (ℕ × Class) → List ℕ
+  accesses_text accesses = if length accesses == 0 then [] else access_list_text accesses
+
+  -- a loop, further in by two columns for each loop around it
+  abbrev pub loop_text : FoundLoop → List ℕ
+  loop_text l =
+      codes "\n" ++ (replicate (2 * l.depth) 32 ++ (codes "[[loop]]\n"
+      ++ (place_text (2 * l.depth) (codes "header") l.header ++ (place_text (2 * l.depth) (codes "first") l.first
+      ++ (place_text (2 * l.depth) (codes "last") l.last ++ bound_text (2 * l.depth) l.turns)))))
+
+  abbrev pub destination_text : ℕ → List ℕ
+  destination_text at = row (codes "  " ++ (name_text (lines at) at ++ codes ",")) (lines at)
+
+  -- the branches of a table, or what to write
+  abbrev pub destinations_text : ℕ → ℕ → List ℕ
+  destinations_text table branches =
+      if branches == 0 then codes "# to = [\"?\"]  # of a jump or a call: draft from each of them too\n"
+      else codes "to = [\n" ++ (flat_map destination_text (words_from table branches) ++ codes "]\n")
+
+  -- what is to be written of a word that writes R15
+  abbrev pub way_text : ℕ → ℕ → List ℕ
+  way_text at branches =
+      codes "kind = \"?\"  # \"jump\", \"call\", \"return\" or \"leave\"\n"
+      ++ destinations_text (ahead_of at 8) branches
+
+  abbrev pub target_text : FoundTarget → List ℕ
+  target_text t =
+      codes "\n[[target]]\n" ++ (place_text 0 (codes "at") t.at ++ way_text t.at t.branches)
+
+  -- what to do, the entry, and what may be stated of where the handler leaves to
+  abbrev pub head_text : ℕ → List ℕ
+  head_text entry =
+      codes "# A draft, of what the words show. Write something for each \"?\". A bound counts\n"
+      ++ (codes "# turns back: of a loop that runs eight times seven.\n"
+      ++ (place_text 0 (codes "entry") entry
+      ++ codes "# leave = \"ram\"  # where it returns to, if always to one: \"ram\", \"rom\" or \"io\"\n"))
+
+  -- the whole text
+  abbrev pub draft_text : ℕ → (ends : List (ℕ × End)) → (cycles : List ℕ) → (accesses : List (ℕ × Class))
+      → (loops : List FoundLoop) → (targets : List FoundTarget) → List ℕ
+  draft_text entry ends cycles accesses loops targets =
+      head_text entry ++ (flat_map end_text ends ++ (flat_map cycle_text cycles
+      ++ (accesses_text accesses ++ (flat_map loop_text loops ++ flat_map target_text targets))))

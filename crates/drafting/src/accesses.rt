@@ -1,0 +1,129 @@
+ghost use Rattle.std.specs.Prelude.{◌≡◌, true, IfOk, OnOk};
+ghost use Rattle.std.specs.Map.{keys_of};
+ghost use Rattle.drafting.specs.Picks.{Keeps, Picks};
+ghost use Rattle.drafting.specs.Words.{IsTransfer};
+
+use crate::constants::Constants;
+use crate::reach::Reached;
+use crate::ways::before;
+use crate::words::{instr_at, is_transfer};
+use arm2_decode::{Block, Operation, SingleImmediate};
+use bus_ticks::{Class, SPACE_END, class_of};
+use loader::Image;
+use std::alloc::{AllocError, Global};
+
+// The class of both addresses, where they are of one.
+fn class_from(first: u32, last: u32) -> Class {
+    if first >= SPACE_END || last >= SPACE_END {
+        return Class::Any;
+    }
+    let class = class_of(first);
+    if class == class_of(last) {
+        class
+    } else {
+        Class::Any
+    }
+}
+
+fn single_class(known: &Constants, at: u32, x: &SingleImmediate) -> Class {
+    let Some(base) = known.get(x.rn, at) else {
+        return Class::Any;
+    };
+    let address = if !x.before {
+        base
+    } else if x.up {
+        base.wrapping_add(x.offset)
+    } else {
+        base.wrapping_sub(x.offset)
+    };
+    class_from(address, address)
+}
+
+fn block_class(known: &Constants, at: u32, x: &Block) -> Class {
+    let Some(base) = known.get(x.rn, at) else {
+        return Class::Any;
+    };
+    let bytes = 4 * x.list.count_ones();
+    if x.up {
+        class_from(base, base.wrapping_add(bytes))
+    } else {
+        class_from(base.wrapping_sub(bytes), base)
+    }
+}
+
+// The class of what an operation transfers, where the words show its address; else any.
+fn class_shown(known: &Constants, at: u32, operation: &Operation) -> Class {
+    match operation {
+        Operation::SingleImmediate(x) => single_class(known, at, x),
+        Operation::Block(x) => block_class(known, at, x),
+        _ => Class::Any,
+    }
+}
+
+// Whether the image has a word there that loads or stores.
+fn is_transfer_at(image: &Image, at: u32) -> bool
+    ensures yes { result ≡ true → IsTransfer image.now at }
+    ensures no { IsTransfer image.now at → result ≡ true }
+{
+    match instr_at(image, at) {
+        Some(instr) => is_transfer(&instr.operation),
+        None => false,
+    }
+}
+
+fn class_at(image: &Image, known: &Constants, at: u32) -> Class {
+    match instr_at(image, at) {
+        Some(instr) => class_shown(known, at, &instr.operation),
+        None => Class::Any,
+    }
+}
+
+// Takes an address whose word loads or stores.
+fn keep_access(
+    found: &mut Vec<(u32, Class)>,
+    image: &Image,
+    known: &Constants,
+    at: u32,
+) -> Result<(), AllocError>
+    ensures { OnOk result
+        (Keeps (IsTransfer image.now) at (keys_of found.old.items) (keys_of found.new.items)) }
+{
+    if !is_transfer_at(image, at) {
+        return Ok(());
+    }
+    let class = class_at(image, known, at);
+    found.push((at, class))?;
+    Ok(())
+}
+
+// What is known where control goes on from an address to the next.
+fn passed(image: &Image, known: Constants, at: u32) -> Constants {
+    let mut known = known;
+    if let Some(instr) = instr_at(image, at) {
+        known.pass(at, &instr);
+    }
+    known
+}
+
+/// Those of the addresses whose words load or store, in their order, each with the class of what it
+/// transfers where the words in front of it show it. No clause says that the class is right: that is tested.
+pub fn find_accesses(
+    alloc: Global,
+    image: &Image,
+    reach: &Reached,
+    addresses: &[u32],
+) -> Result<Vec<(u32, Class)>, AllocError>
+    ensures { IfOk result
+        (λ found. Picks (IsTransfer image.now) addresses.now (keys_of found.items)) }
+{
+    let mut found = Vec::new(alloc);
+    let mut known = Constants::none();
+    for at in addresses {
+        if !reach.follows_alone(*at, before(*at)) {
+            known = Constants::none();
+        }
+        keep_access(&mut found, image, &known, *at)?;
+        known = passed(image, known, *at);
+    }
+    Ok(found)
+}

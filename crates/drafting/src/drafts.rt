@@ -1,0 +1,108 @@
+ghost use Rattle.std.specs.Prelude.{◌≡◌, ◌++◌, IfOk, OnOk};
+ghost use Rattle.drafting.specs.Draft.{AreFound, IsDraft};
+ghost use Rattle.drafting.specs.DraftText.{draft_text};
+ghost use Rattle.drafting.specs.Named.{AreNamed, lines_of};
+
+use crate::accesses::find_accesses;
+use crate::assembled::Program;
+use crate::ends::{End, find_ends};
+use crate::loops::{Loops, find_loops};
+use crate::reach::reach;
+use crate::source_lines::{SourceLines, lines_by_address};
+use crate::statement_text::Sheet;
+use crate::writers::{FoundTarget, find_targets};
+use bus_ticks::Class;
+use loader::Image;
+use std::alloc::{AllocError, Global};
+
+/// What the words show of what is to be stated.
+#[derive(Drop)]
+pub struct Found {
+    pub ends: Vec<(u32, End)>,
+    pub loops: Loops,
+    pub accesses: Vec<(u32, Class)>,
+    pub targets: Vec<FoundTarget>,
+}
+
+fn find(alloc: Global, image: &Image, entry: u32) -> Result<Found, AllocError>
+    ensures { IfOk result (λ found. AreFound image.now found.accesses.items found.targets.items) }
+{
+    let reach = reach(alloc, image, entry)?;
+    let addresses = reach.addresses.as_slice();
+    let ends = find_ends(alloc, image, addresses)?;
+    let targets = find_targets(alloc, image, addresses)?;
+    let accesses = find_accesses(alloc, image, &reach, addresses)?;
+    let loops = find_loops(alloc, image, &reach, entry)?;
+    Ok(Found {
+        ends,
+        loops,
+        accesses,
+        targets,
+    })
+}
+
+fn put_found(out: &mut Vec<u8>, sheet: &Sheet, entry: u32, found: &Found) -> Result<(), AllocError>
+    ensures { OnOk result
+        (out.new.items
+        ≡ out.old.items
+        ++ draft_text (lines_of sheet.now.lines.now) entry found.now.ends.items
+        found.now.loops.cycles.items found.now.accesses.items found.now.loops.loops.items
+        found.now.targets.items) }
+{
+    sheet.put_head(out, entry)?;
+    sheet.put_ends(out, &found.ends)?;
+    sheet.put_cycles(out, &found.loops.cycles)?;
+    sheet.put_accesses(out, &found.accesses)?;
+    sheet.put_loops(out, &found.loops.loops)?;
+    sheet.put_targets(out, &found.targets)
+}
+
+// The text of what was found.
+fn text_of(
+    alloc: Global,
+    lines: &SourceLines,
+    entry: u32,
+    found: &Found,
+) -> Result<Vec<u8>, AllocError>
+    ensures { IfOk result
+        (λ text. text.items
+        ≡ draft_text (lines_of lines.now) entry found.now.ends.items found.now.loops.cycles.items
+        found.now.accesses.items found.now.loops.loops.items found.now.targets.items) }
+{
+    let mut out = Vec::new(alloc);
+    put_found(&mut out, &Sheet { alloc, lines }, entry, found)?;
+    Ok(out)
+}
+
+// The draft, where the lines stand by their addresses.
+fn draft_by_lines(
+    alloc: Global,
+    program: &Program,
+    lines: &SourceLines,
+    entry: u32,
+) -> Result<Vec<u8>, AllocError>
+    requires { AreNamed program.now.labels.now (lines_of lines.now) }
+    ensures { IfOk result (λ text. IsDraft program.now.image.now program.now.labels.now entry text.items) }
+{
+    let found = find(alloc, program.image, entry)?;
+    let text = text_of(alloc, lines, entry, &found)?;
+    Ok(text)
+}
+
+/// A statement of the handler that begins at an address, to be filled in: its entry, the loops, loads and stores,
+/// and the words that write R15 and are no returns by their shape, with the lines of the source as comments.
+///
+/// The clause says what the text is, that each label in it stands for its address, that each loop's header lies
+/// from its first to its last instruction, and that of the addresses that were looked at exactly the loads and
+/// stores and the writers of R15 are named. That these addresses are all that is reached, that the loops are those
+/// of the handler, and what is written of classes and of counted loops, is tested only.
+///
+/// # Errors
+///
+/// An allocation failed.
+pub fn draft(alloc: Global, program: &Program, entry: u32) -> Result<Vec<u8>, AllocError>
+    ensures { IfOk result (λ text. IsDraft program.now.image.now program.now.labels.now entry text.items) }
+{
+    let lines = lines_by_address(alloc, program)?;
+    draft_by_lines(alloc, program, &lines, entry)
+}

@@ -1,0 +1,23 @@
+//! Drafts of statements: what the words of a handler show of what its author has to state.
+#![tactic(auto)]
+
+mod accesses;
+mod assembled;
+mod constants;
+mod counted;
+mod drafts;
+mod ends;
+mod extents;
+mod found_loop;
+mod loops;
+mod paths;
+mod reach;
+mod rows;
+mod source_lines;
+mod statement_text;
+mod ways;
+mod words;
+mod writers;
+
+pub use assembled::Program;
+pub use drafts::draft;

@@ -1,0 +1,141 @@
+ghost use Rattle.std.specs.Prelude.{◌≡◌, ◌++◌, IfOk, OnOk, codes, map, replicate, decimal};
+ghost use Rattle.asm_text.specs.Hex.{hex8};
+ghost use Rattle.drafting.specs.Rows.{labelled, name_text, number_text, quoted, remark, row, shown};
+
+use crate::source_lines::SourceLine;
+use asm_text::hex8;
+use itoa::Buffer;
+use std::alloc::{AllocError, Global};
+
+/// The most columns of a row that ends in a comment.
+const COLUMNS: usize = 80;
+
+/// Adds a text.
+pub(crate) fn put(out: &mut Vec<u8>, text: &[u8]) -> Result<(), AllocError>
+    ensures { OnOk result (out.new.items ≡ out.old.items ++ text.now) }
+{
+    out.extend_from_slice(text)
+}
+
+/// Adds a number in decimal.
+pub(crate) fn put_number(out: &mut Vec<u8>, number: usize) -> Result<(), AllocError>
+    ensures { OnOk result (out.new.items ≡ out.old.items ++ decimal number) }
+{
+    let mut buffer = Buffer::new();
+    put(out, buffer.format(number).as_bytes())
+}
+
+/// Adds an address in eight hexadecimal digits.
+pub(crate) fn put_address(out: &mut Vec<u8>, at: u32) -> Result<(), AllocError>
+    ensures { OnOk result (out.new.items ≡ out.old.items ++ hex8 at) }
+{
+    put(out, &hex8(at))
+}
+
+// Adds an address as a number of TOML.
+fn put_hex(out: &mut Vec<u8>, at: u32) -> Result<(), AllocError>
+    ensures { OnOk result (out.new.items ≡ out.old.items ++ number_text at) }
+{
+    put(out, b"0x")?;
+    put_address(out, at)
+}
+
+fn put_quoted(out: &mut Vec<u8>, label: &[u8]) -> Result<(), AllocError>
+    ensures { OnOk result (out.new.items ≡ out.old.items ++ quoted label.now) }
+{
+    put(out, b"\"")?;
+    put(out, label)?;
+    put(out, b"\"")
+}
+
+fn put_label(out: &mut Vec<u8>, label: &[u8], at: u32) -> Result<(), AllocError>
+    ensures { OnOk result (out.new.items ≡ out.old.items ++ labelled label.now at) }
+{
+    if label.is_empty() {
+        return put_hex(out, at);
+    }
+    put_quoted(out, label)
+}
+
+/// Adds an address as a statement has it: its label in quotes, or a number.
+pub(crate) fn put_name(
+    out: &mut Vec<u8>,
+    line: Option<SourceLine>,
+    at: u32,
+) -> Result<(), AllocError>
+    ensures { OnOk result (out.new.items ≡ out.old.items ++ name_text line.entry at) }
+{
+    match line {
+        Some(line) => put_label(out, line.label, at),
+        None => put_hex(out, at),
+    }
+}
+
+// A byte as comments have it.
+fn shown(byte: u8) -> u8
+    ensures { result ≡ shown byte }
+{
+    if byte >= b' ' && byte <= b'~' {
+        byte
+    } else {
+        b'.'
+    }
+}
+
+fn shown_text(alloc: Global, text: &[u8]) -> Result<Vec<u8>, AllocError>
+    ensures { IfOk result (λ shown_bytes. shown_bytes.items ≡ map shown text.now) }
+{
+    text.iter().map(|byte| shown(*byte)).collect(alloc)
+}
+
+fn put_line(alloc: Global, out: &mut Vec<u8>, number: usize, text: &[u8]) -> Result<(), AllocError>
+    ensures { OnOk result
+        (out.new.items
+        ≡ out.old.items ++ (codes "  # line " ++ (decimal number ++ (codes ": " ++ map shown text.now)))) }
+{
+    let text = shown_text(alloc, text)?;
+    put(out, b"  # line ")?;
+    put_number(out, number)?;
+    put(out, b": ")?;
+    put(out, &text)
+}
+
+// The comment with the number and the text of a line.
+fn remark(alloc: Global, line: Option<SourceLine>) -> Result<Vec<u8>, AllocError>
+    ensures { IfOk result (λ text. text.items ≡ remark line.entry) }
+{
+    let mut out = Vec::new(alloc);
+    match line {
+        Some(line) => {
+            put_line(alloc, &mut out, line.number, line.text)?;
+            Ok(out)
+        }
+        None => Ok(out),
+    }
+}
+
+/// Adds a row: its text, and a comment with the number and the text of a line as far as they fit.
+pub(crate) fn put_row(
+    alloc: Global,
+    out: &mut Vec<u8>,
+    text: &[u8],
+    line: Option<SourceLine>,
+) -> Result<(), AllocError>
+    ensures { OnOk result (out.new.items ≡ out.old.items ++ row text.now line.entry) }
+{
+    let mut remark = remark(alloc, line)?;
+    remark.truncate(COLUMNS.saturating_sub(text.len()));
+    put(out, text)?;
+    put(out, &remark)?;
+    put(out, b"\n")
+}
+
+/// Adds blanks.
+pub(crate) fn put_blanks(out: &mut Vec<u8>, count: usize) -> Result<(), AllocError>
+    ensures { OnOk result (out.new.items ≡ out.old.items ++ replicate count 32) }
+{
+    for _ in 0..count {
+        put(out, b" ")?;
+    }
+    Ok(())
+}

@@ -1,0 +1,319 @@
+ghost use Rattle.std.specs.Prelude.{◌≡◌, ◌++◌, ℕ, List, IfOk, OnOk, codes};
+ghost use Rattle.std.specs.List.{flat_map};
+ghost use Rattle.std.specs.Ordering.{nat_cmp};
+ghost use Rattle.drafting.specs.Named.{lines_of};
+ghost use Rattle.drafting.specs.DraftText.{access_list_text, access_text, accesses_text, bound_text, class_text, class_word};
+ghost use Rattle.drafting.specs.DraftText.{comment_text, cycle_text, destination_text, destinations_text, end_text};
+ghost use Rattle.drafting.specs.DraftText.{end_words, head_text, loop_text, place_text, target_text};
+ghost use Rattle.drafting.specs.DraftText.{way_text, words_from};
+
+use crate::ends::End;
+use crate::found_loop::FoundLoop;
+use crate::rows::{put, put_address, put_blanks, put_name, put_number, put_row};
+use crate::source_lines::{SourceLine, SourceLines};
+use crate::ways::ahead_of;
+use crate::writers::FoundTarget;
+use bus_ticks::Class;
+use std::alloc::{AllocError, Global};
+
+/// What stands at the addresses, and the memory for rows.
+#[derive(Clone, Copy)]
+pub struct Sheet<'s, 'a> {
+    pub alloc: Global,
+    pub lines: &'s SourceLines<'a>,
+}
+
+impl<'a> Sheet<'_, 'a> {
+    // The line of the word at an address.
+    fn line(&self, at: u32) -> Option<SourceLine<'a>>
+        ensures { result ≡ lines_of self.now.lines.now at }
+    {
+        self.lines.get(&at).copied()
+    }
+
+    // Adds a key with an address, beside the line that stands there.
+    fn put_place(
+        &self,
+        out: &mut Vec<u8>,
+        indent: usize,
+        key: &[u8],
+        at: u32,
+    ) -> Result<(), AllocError>
+        ensures { OnOk result
+            (out.new.items ≡ out.old.items ++ place_text (lines_of self.now.lines.now) indent key.now at) }
+    {
+        let line = self.line(at);
+        let mut text = Vec::new(self.alloc);
+        put_blanks(&mut text, indent)?;
+        put(&mut text, key)?;
+        put(&mut text, b" = ")?;
+        put_name(&mut text, line, at)?;
+        put_row(self.alloc, out, &text, line)
+    }
+
+    // Adds a comment on an address.
+    fn put_comment(&self, out: &mut Vec<u8>, at: u32, words: &[u8]) -> Result<(), AllocError>
+        ensures { OnOk result
+            (out.new.items ≡ out.old.items ++ comment_text (lines_of self.now.lines.now) at words.now) }
+    {
+        let mut text = Vec::new(self.alloc);
+        put(&mut text, b"# ")?;
+        put_address(&mut text, at)?;
+        put(&mut text, words)?;
+        put_row(self.alloc, out, &text, self.line(at))
+    }
+
+    fn put_access(&self, out: &mut Vec<u8>, at: u32, class: Class) -> Result<(), AllocError>
+        ensures { OnOk result
+            (out.new.items ≡ out.old.items ++ access_text (lines_of self.now.lines.now) (at, class)) }
+    {
+        let line = self.line(at);
+        let mut text = Vec::new(self.alloc);
+        put(&mut text, b"  {at = ")?;
+        put_name(&mut text, line, at)?;
+        put_class(&mut text, class)?;
+        put_row(self.alloc, out, &text, line)
+    }
+
+    fn put_each_access(
+        &self,
+        out: &mut Vec<u8>,
+        accesses: &[(u32, Class)],
+    ) -> Result<(), AllocError>
+        ensures { OnOk result
+            (out.new.items
+            ≡ out.old.items ++ flat_map (access_text (lines_of self.now.lines.now)) accesses.now) }
+    {
+        for (at, class) in accesses {
+            self.put_access(out, *at, *class)?;
+        }
+        Ok(())
+    }
+
+    fn put_access_list(
+        &self,
+        out: &mut Vec<u8>,
+        accesses: &[(u32, Class)],
+    ) -> Result<(), AllocError>
+        ensures { OnOk result
+            (out.new.items ≡ out.old.items ++ access_list_text (lines_of self.now.lines.now) accesses.now) }
+    {
+        put(
+            out,
+            b"\n# What loads and stores reach: \"any\", \"ram\", \"rom\" or \"io\".\naccess = [\n",
+        )?;
+        self.put_each_access(out, accesses)?;
+        put(out, b"]\n")
+    }
+
+    /// Adds the loads and stores with their classes.
+    pub fn put_accesses(
+        &self,
+        out: &mut Vec<u8>,
+        accesses: &[(u32, Class)],
+    ) -> Result<(), AllocError>
+        ensures { OnOk result
+            (out.new.items ≡ out.old.items ++ accesses_text (lines_of self.now.lines.now) accesses.now) }
+    {
+        if accesses.is_empty() {
+            return Ok(());
+        }
+        self.put_access_list(out, accesses)
+    }
+
+    fn put_loop(&self, out: &mut Vec<u8>, found: &FoundLoop) -> Result<(), AllocError>
+        ensures { OnOk result
+            (out.new.items ≡ out.old.items ++ loop_text (lines_of self.now.lines.now) found.now) }
+    {
+        let indent = 2 * found.depth as usize;
+        put(out, b"\n")?;
+        put_blanks(out, indent)?;
+        put(out, b"[[loop]]\n")?;
+        self.put_place(out, indent, b"header", found.header)?;
+        self.put_place(out, indent, b"first", found.first)?;
+        self.put_place(out, indent, b"last", found.last)?;
+        put_bound(out, indent, found.turns)
+    }
+
+    /// Adds the loops, each inside those around it.
+    pub fn put_loops(&self, out: &mut Vec<u8>, loops: &[FoundLoop]) -> Result<(), AllocError>
+        ensures { OnOk result
+            (out.new.items ≡ out.old.items ++ flat_map (loop_text (lines_of self.now.lines.now)) loops.now) }
+    {
+        for found in loops {
+            self.put_loop(out, found)?;
+        }
+        Ok(())
+    }
+
+    fn put_destination(&self, out: &mut Vec<u8>, at: u32) -> Result<(), AllocError>
+        ensures { OnOk result
+            (out.new.items ≡ out.old.items ++ destination_text (lines_of self.now.lines.now) at) }
+    {
+        let line = self.line(at);
+        let mut text = Vec::new(self.alloc);
+        put(&mut text, b"  ")?;
+        put_name(&mut text, line, at)?;
+        put(&mut text, b",")?;
+        put_row(self.alloc, out, &text, line)
+    }
+
+    fn put_each_destination(
+        &self,
+        out: &mut Vec<u8>,
+        table: u32,
+        branches: u32,
+    ) -> Result<(), AllocError>
+        ensures { OnOk result
+            (out.new.items
+            ≡ out.old.items
+            ++ flat_map (destination_text (lines_of self.now.lines.now)) (words_from table branches)) }
+    {
+        let mut at = table;
+        for _ in 0..branches {
+            self.put_destination(out, at)?;
+            at = ahead_of(at, 4);
+        }
+        Ok(())
+    }
+
+    // Adds the destinations, or what to write of them.
+    fn put_destinations(
+        &self,
+        out: &mut Vec<u8>,
+        table: u32,
+        branches: u32,
+    ) -> Result<(), AllocError>
+        ensures { OnOk result
+            (out.new.items ≡ out.old.items ++ destinations_text (lines_of self.now.lines.now) table branches) }
+    {
+        if branches == 0 {
+            return put(
+                out,
+                b"# to = [\"?\"]  # of a jump or a call: draft from each of them too\n",
+            );
+        }
+        put(out, b"to = [\n")?;
+        self.put_each_destination(out, table, branches)?;
+        put(out, b"]\n")
+    }
+
+    // Adds what is to be written of a word that writes R15, with its table if it jumps into one.
+    fn put_way(&self, out: &mut Vec<u8>, at: u32, branches: u32) -> Result<(), AllocError>
+        ensures { OnOk result
+            (out.new.items ≡ out.old.items ++ way_text (lines_of self.now.lines.now) at branches) }
+    {
+        let table = ahead_of(at, 8);
+        put(
+            out,
+            b"kind = \"?\"  # \"jump\", \"call\", \"return\" or \"leave\"\n",
+        )?;
+        self.put_destinations(out, table, branches)
+    }
+
+    fn put_target(&self, out: &mut Vec<u8>, target: &FoundTarget) -> Result<(), AllocError>
+        ensures { OnOk result
+            (out.new.items ≡ out.old.items ++ target_text (lines_of self.now.lines.now) target.now) }
+    {
+        put(out, b"\n[[target]]\n")?;
+        self.put_place(out, 0, b"at", target.at)?;
+        self.put_way(out, target.at, target.branches)
+    }
+
+    /// Adds the words that write R15, with the branches to which they jump.
+    pub fn put_targets(&self, out: &mut Vec<u8>, targets: &[FoundTarget]) -> Result<(), AllocError>
+        ensures { OnOk result
+            (out.new.items
+            ≡ out.old.items ++ flat_map (target_text (lines_of self.now.lines.now)) targets.now) }
+    {
+        for target in targets {
+            self.put_target(out, target)?;
+        }
+        Ok(())
+    }
+
+    /// Adds a comment for each address at which the handler cannot go on.
+    pub fn put_ends(&self, out: &mut Vec<u8>, ends: &[(u32, End)]) -> Result<(), AllocError>
+        ensures { OnOk result
+            (out.new.items ≡ out.old.items ++ flat_map (end_text (lines_of self.now.lines.now)) ends.now) }
+    {
+        for (at, end) in ends {
+            self.put_comment(out, *at, end_words(*end))?;
+        }
+        Ok(())
+    }
+
+    /// Adds a comment for each cycle that no loop bounds.
+    pub fn put_cycles(&self, out: &mut Vec<u8>, cycles: &[u32]) -> Result<(), AllocError>
+        ensures { OnOk result
+            (out.new.items ≡ out.old.items ++ flat_map (cycle_text (lines_of self.now.lines.now)) cycles.now) }
+    {
+        for at in cycles {
+            self.put_comment(out, *at, b": a cycle that no loop bounds.")?;
+        }
+        Ok(())
+    }
+
+    /// Adds the head, with the entry.
+    pub fn put_head(&self, out: &mut Vec<u8>, entry: u32) -> Result<(), AllocError>
+        ensures { OnOk result
+            (out.new.items ≡ out.old.items ++ head_text (lines_of self.now.lines.now) entry) }
+    {
+        put(
+            out,
+            b"# A draft, of what the words show. Write something for each \"?\". A bound counts\n",
+        )?;
+        put(
+            out,
+            b"# turns back: of a loop that runs eight times seven.\n",
+        )?;
+        self.put_place(out, 0, b"entry", entry)?;
+        put(
+            out,
+            b"# leave = \"ram\"  # where it returns to, if always to one: \"ram\", \"rom\" or \"io\"\n",
+        )
+    }
+}
+
+fn class_word(class: Class) -> &'static [u8]
+    ensures { result.now ≡ class_word class }
+{
+    match class {
+        Class::Any => b"any",
+        Class::Ram => b"ram",
+        Class::Rom => b"rom",
+        Class::Io => b"io",
+    }
+}
+
+fn put_class(out: &mut Vec<u8>, class: Class) -> Result<(), AllocError>
+    ensures { OnOk result (out.new.items ≡ out.old.items ++ class_text class) }
+{
+    put(out, b", class = \"")?;
+    put(out, class_word(class))?;
+    put(out, b"\"},")
+}
+
+fn put_bound(out: &mut Vec<u8>, indent: usize, turns: Option<u32>) -> Result<(), AllocError>
+    ensures { OnOk result (out.new.items ≡ out.old.items ++ bound_text indent turns) }
+{
+    put_blanks(out, indent)?;
+    match turns {
+        Some(turns) => {
+            put(out, b"bound = ")?;
+            put_number(out, turns as usize)?;
+            put(out, b"  # counted\n")
+        }
+        None => put(out, b"bound = \"?\"\n"),
+    }
+}
+
+fn end_words(end: End) -> &'static [u8]
+    ensures { result.now ≡ end_words end }
+{
+    match end {
+        End::NoWord => b": reached, and no word stands there.",
+        End::Unallocated => b": reached, and the word is no instruction.",
+        End::Trap => b": reached, and the word is a SWI or undefined.",
+    }
+}

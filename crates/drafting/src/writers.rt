@@ -1,0 +1,57 @@
+ghost use Rattle.std.specs.Prelude.{◌≡◌, true, IfOk, OnOk};
+ghost use Rattle.drafting.specs.Found.{addresses_of};
+ghost use Rattle.drafting.specs.Picks.{Keeps, Picks};
+ghost use Rattle.drafting.specs.Words.{IsOddWriter};
+
+use crate::ways::table_len;
+use crate::words::{instr_at, is_odd_writer};
+use loader::Image;
+use std::alloc::{AllocError, Global};
+
+/// A word that writes R15 and has not the shape of a return.
+#[derive(Clone, Copy)]
+pub struct FoundTarget {
+    pub at: u32,
+    /// How many branches stand from 8 bytes on, where it jumps into them.
+    pub branches: u32,
+}
+
+// Whether the image has a word there that writes R15 and has not the shape of a return.
+fn is_odd_writer_at(image: &Image, at: u32) -> bool
+    ensures yes { result ≡ true → IsOddWriter image.now at }
+    ensures no { IsOddWriter image.now at → result ≡ true }
+{
+    match instr_at(image, at) {
+        Some(instr) => is_odd_writer(&instr.operation),
+        None => false,
+    }
+}
+
+// Takes an address whose word writes R15 and has not the shape of a return.
+fn keep_target(found: &mut Vec<FoundTarget>, image: &Image, at: u32) -> Result<(), AllocError>
+    ensures { OnOk result
+        (Keeps (IsOddWriter image.now) at (addresses_of found.old.items) (addresses_of found.new.items)) }
+{
+    if !is_odd_writer_at(image, at) {
+        return Ok(());
+    }
+    let branches = table_len(image, at);
+    found.push(FoundTarget { at, branches })?;
+    Ok(())
+}
+
+/// Those of the addresses whose words write R15 and have not the shape of a return, in their order.
+pub fn find_targets(
+    alloc: Global,
+    image: &Image,
+    addresses: &[u32],
+) -> Result<Vec<FoundTarget>, AllocError>
+    ensures { IfOk result
+        (λ found. Picks (IsOddWriter image.now) addresses.now (addresses_of found.items)) }
+{
+    let mut found = Vec::new(alloc);
+    for at in addresses {
+        keep_target(&mut found, image, *at)?;
+    }
+    Ok(found)
+}
