@@ -3,9 +3,9 @@ use Rattle.std.specs.Prelude.{◌≡◌, ◌==◌, ◌%◌, ◌&&◌, ℕ, nat_l
 use Rattle.std.specs.Prelude.{option_and_then}
 use Rattle.asm_text.specs.Numbers.{run_number}
 use Rattle.bus_ticks.specs.declared.space.TheConstants.{SPACE_END}
-use Rattle.drafting.specs.Drafts.{IsDraft}
+use Rattle.drafting.specs.Draft.{IsDraft}
 use Rattle.loader.specs.Image.{Words}
-use Rattle.loader.specs.Labels.{Names as Labels, address_of}
+use Rattle.loader.specs.Labels as labels
 use Rattle.statement.specs.Statement.{Names}
 use Rattle.arcwcet.specs.Source.{IsSourceFault, source_of}
 use Rattle.arcwcet.specs.declared.fault.ReportFault.{ReportFault}
@@ -39,9 +39,9 @@ module _ (source entry : List ℕ) where
   -- a draft of the handler that begins there
   pub record IsDraftReport (text : List ℕ) : Type 0 where
     pub draftable : IsDraftable
-    pub labels : Labels
-    pub labels_are : draftable.names ≡ address_of labels
-    pub is_draft : IsDraft draftable.words labels draftable.at text
+    pub list : labels.Names
+    pub names_are : draftable.names ≡ labels.address_of list
+    pub is_draft : IsDraft draftable.words list draftable.at text
 
   -- the source has words and labels, and the entry is no address by them
   pub record HasNoEntry : Type 0 where

@@ -5,7 +5,7 @@ ghost use Rattle.loader.specs.Labels.{address_of};
 ghost use Rattle.arcwcet.specs.Answers.{Answers};
 ghost use Rattle.arcwcet.specs.DraftReport.{IsDraftRefused, IsDraftReport, IsDraftable, address_in, entry_of};
 ghost use Rattle.arcwcet.specs.Source.{IsSourceFault};
-ghost use Rattle.drafting.specs.Drafts.{IsDraft};
+ghost use Rattle.drafting.specs.Draft.{IsDraft};
 
 use crate::fault::ReportFault;
 use crate::handler::read_source;
