@@ -1,5 +1,5 @@
 -- The rows of the words of an image.
-use Rattle.std.proofs.Common.{◌≡◌, ◌∙◌, ℕ, suc, ◌+◌, ◌<◌, ◌≤◌, List, [], ◌∷◌, ◌++◌, append-nil, length, drop, get_or, take, codes, sum_by, min, Option, refl, sym, ap, subst, arith, append_assoc, ◌-◌, ◌^◌}
+use Rattle.std.proofs.Common.{◌≡◌, ◌∙◌, ℕ, ◌+◌, ◌<◌, ◌≤◌, List, [], ◌++◌, append-nil, length, drop, get_or, take, codes, sum_by, Option, refl, sym, ap, subst, arith, append_assoc}
 use Rattle.std.proofs.Math.ListN.{drop_of_length-le}
 use Rattle.std.proofs.lemmas.List.{drop_more}
 use Rattle.std.proofs.lemmas.List.Sums.{sum_by_more}
@@ -54,8 +54,7 @@ pub image_row : (taken : ℕ → Option Taken) (bound at word : ℕ) (here : Opt
     → a ≡ old ++ columns_text bound here → b ≡ a ++ codes "  " → c ≡ b ++ hex8 at → d ≡ c ++ codes "  " → e ≡ d ++ hex8 word → f ≡ e ++ codes "  " → g ≡ f ++ line → new ≡ g ++ codes "\n"
     → AddsWordRow taken bound (at, word) old new
 image_row taken bound at word here line old a b c d e f g new same shown ia ib ic id ie jf ig inew =
-    let first : a ≡ old ++ columns_text bound (taken at) = ia ∙ ap (λ (o : Option Taken). old ++ columns_text bound o) same in
-    (
+    let first : a ≡ old ++ columns_text bound (taken at) = ia ∙ ap (λ (o : Option Taken). old ++ columns_text bound o) same in (
       columns_text bound (taken at) ++ (codes "  " ++ (hex8 at ++ (codes "  " ++ (hex8 word ++ (codes "  " ++ (line ++ codes "\n")))))),
       (line, shown, refl),
       eight_parts old (columns_text bound (taken at)) (codes "  ") (hex8 at) (codes "  ") (hex8 word) (codes "  ") line (codes "\n") a b c d e f g new first ib ic id ie jf ig inew,
@@ -78,8 +77,8 @@ image_whole taken lookup bound total words listed start rows new same are headin
       adds.0,
       adds.1,
       last ∙ ap (λ n. rows ++ table_end n bound) total_is
-      ∙ ap (λ xs. xs ++ table_end (image_ticks lookup listed) bound) (adds.2 ∙ ap (λ xs. xs ++ adds.0) heading_is)
-      ∙ append_assoc image_heading adds.0 (table_end (image_ticks lookup listed) bound),
+          ∙ ap (λ xs. xs ++ table_end (image_ticks lookup listed) bound) (adds.2 ∙ ap (λ xs. xs ++ adds.0) heading_is)
+          ∙ append_assoc image_heading adds.0 (table_end (image_ticks lookup listed) bound),
     ) in
     subst (λ ws. IsImageTable taken bound ws new) are (subst (λ f. IsImageTable f bound listed new) same table)
 

@@ -1,8 +1,8 @@
 -- An edge more in a tally.
-use Rattle.std.proofs.Common.{◌≡◌, ◌∙◌, ℕ, zero, suc, ◌+◌, ◌-◌, ◌*◌, ◌^◌, ◌<◌, min, Bool, true, false, cond, List, [], ◌∷◌, ◌++◌, length, get_or, Option, Some, None, unwrap_or, ⊎_elim, refl, sym, ap, subst, arith, add-one}
-use Rattle.std.specs.Prelude.{Contains, if◌then◌else◌, slice_index, sum_by}
+use Rattle.std.proofs.Common.{◌≡◌, ◌∙◌, ℕ, zero, suc, ◌+◌, ◌-◌, ◌*◌, ◌^◌, ◌<◌, min, true, false, cond, List, [], ◌∷◌, ◌++◌, length, get_or, Some, None, unwrap_or, ⊎_elim, sym, ap, arith, add-one}
+use Rattle.std.specs.Prelude.{Contains, if◌then◌else◌, sum_by}
 use Rattle.std.specs.BTreeMap.{get}
-use Rattle.std.specs.List.{list_any, range_with_len}
+use Rattle.std.specs.List.{range_with_len}
 use Rattle.std.specs.Ordering.{nat_cmp}
 use Rattle.std.proofs.lemmas.Bool.{cases_Bool}
 use Rattle.std.proofs.lemmas.List.{get_or_default}
@@ -13,9 +13,9 @@ use Rattle.flow_graph.specs.declared.edges.Edge.{Edge}
 use Rattle.flow_graph.specs.Flow.{Flow, IsWellFormed}
 use Rattle.longest_walk.specs.Built.{step_at}
 use Rattle.longest_walk.proofs.CarryWalks.{no_edge}
-use Rattle.walk_counts.specs.Counts.{AreCounts, capped, occurrences}
+use Rattle.walk_counts.specs.Counts.{capped, occurrences}
 use Rattle.walk_counts.proofs.SumLemmas.{capped_times}
-use Rattle.explained.specs.Taken.{Adds, HasAdded, IsTally, Starts, cost_at, in_all, is_at, is_reached, more, nothing, pass_at, taken_by, taken_of}
+use Rattle.explained.specs.Taken.{Adds, HasAdded, Starts, cost_at, in_all, is_at, is_reached, more, nothing, pass_at, taken_by, taken_of}
 use Rattle.explained.specs.declared.tally.Taken.{Taken}
 use Rattle.explained.specs.declared.tally.Tally.{Tally}
 
