@@ -1,11 +1,15 @@
 -- The rows of the words of an image.
-use Rattle.std.proofs.Common.{◌≡◌, ◌∙◌, ℕ, suc, ◌+◌, ◌<◌, ◌≤◌, List, [], ◌∷◌, ◌++◌, append-nil, length, drop, get_or, codes, Option, refl, sym, ap, subst, append_assoc}
+use Rattle.std.proofs.Common.{◌≡◌, ◌∙◌, ℕ, ◌+◌, ◌<◌, ◌≤◌, List, [], ◌++◌, append-nil, length, drop, get_or, take, codes, sum_by, Option, refl, sym, ap, subst, arith, append_assoc}
 use Rattle.std.proofs.Math.ListN.{drop_of_length-le}
 use Rattle.std.proofs.lemmas.List.{drop_more}
+use Rattle.std.proofs.lemmas.List.Sums.{sum_by_more}
 use Rattle.asm_text.specs.Hex.{hex8}
+use Rattle.asm_text.specs.Source.{lines_of}
+use Rattle.assembler.specs.declared.placed_line.PlacedLine.{PlacedLine}
+use Rattle.walk_counts.specs.Counts.{capped}
 use Rattle.assembler.specs.ShownLines.{IsShown}
 use Rattle.loader.specs.Image.{Words}
-use Rattle.explained.specs.Table.{AddsWordRow, AddsWordRows, AreWordRows, IsImageTable, columns_text, image_heading, image_ticks, table_end}
+use Rattle.explained.specs.Table.{AddsWordRow, AddsWordRows, AreWordRows, IsImageTable, columns_text, heading, image_heading, image_ticks, source_rows, source_table, source_ticks, table_end, ticks_of}
 use Rattle.explained.specs.declared.tally.Taken.{Taken}
 
 -- parts put one after another
@@ -45,14 +49,45 @@ so_far_all taken bound words i old text h le =
       h.is,
     )
 
+-- the row of a word
+pub image_row : (taken : ℕ → Option Taken) (bound at word : ℕ) (here : Option Taken) (line old a b c d e f g new : List ℕ) → here ≡ taken at → IsShown word at line
+    → a ≡ old ++ columns_text bound here → b ≡ a ++ codes "  " → c ≡ b ++ hex8 at → d ≡ c ++ codes "  " → e ≡ d ++ hex8 word → f ≡ e ++ codes "  " → g ≡ f ++ line → new ≡ g ++ codes "\n"
+    → AddsWordRow taken bound (at, word) old new
+image_row taken bound at word here line old a b c d e f g new same shown ia ib ic id ie jf ig inew =
+    let first : a ≡ old ++ columns_text bound (taken at) = ia ∙ ap (λ (o : Option Taken). old ++ columns_text bound o) same in (
+      columns_text bound (taken at) ++ (codes "  " ++ (hex8 at ++ (codes "  " ++ (hex8 word ++ (codes "  " ++ (line ++ codes "\n")))))),
+      (line, shown, refl),
+      eight_parts old (columns_text bound (taken at)) (codes "  ") (hex8 at) (codes "  ") (hex8 word) (codes "  ") line (codes "\n") a b c d e f g new first ib ic id ie jf ig inew,
+    )
+
+-- the ticks of a word more
+pub image_more : (taken : ℕ → Option Taken) (words : Words) (i : ℕ) (d : ℕ × ℕ) (ticks one new : ℕ) → i < length words → ticks ≡ image_ticks taken (take i words)
+    → one ≡ ticks_of (taken (get_or words i d).0) → new ≡ capped (ticks + one) → new ≡ image_ticks taken (take (i + 1) words)
+image_more taken words i d ticks one new lt before here sum_is =
+    let f = λ (e : ℕ × ℕ). ticks_of (taken e.0) in
+    let all : sum_by f (take (i + 1) words) ≡ sum_by f (take i words) + one = sum_by_more f words i d lt ∙ ap (λ n. sum_by f (take i words) + n) (sym here) in
+    let once : capped (capped (sum_by f (take i words)) + one) ≡ capped (sum_by f (take i words) + one) = omega arith in
+    sum_is ∙ ap (λ n. capped (n + one)) before ∙ once ∙ ap capped (sym all)
+
 -- the heading, the rows and the end
-pub image_whole : (taken lookup : ℕ → Option Taken) (bound : ℕ) (words listed : Words) (start rows new : List ℕ) → lookup ≡ taken → listed ≡ words → start ≡ image_heading
-    → AddsWordRows lookup bound listed start rows → new ≡ rows ++ table_end (image_ticks lookup listed) bound → IsImageTable taken bound words new
-image_whole taken lookup bound words listed start rows new same are heading adds last =
+pub image_whole : (taken lookup : ℕ → Option Taken) (bound total : ℕ) (words listed : Words) (start rows new : List ℕ) → lookup ≡ taken → listed ≡ words → start ≡ image_heading
+    → AddsWordRows lookup bound listed start rows → total ≡ image_ticks lookup listed → new ≡ rows ++ table_end total bound → IsImageTable taken bound words new
+image_whole taken lookup bound total words listed start rows new same are heading_is adds total_is last =
     let table : IsImageTable lookup bound listed new = (
       adds.0,
       adds.1,
-      last ∙ ap (λ xs. xs ++ table_end (image_ticks lookup listed) bound) (adds.2 ∙ ap (λ xs. xs ++ adds.0) heading)
+      last ∙ ap (λ n. rows ++ table_end n bound) total_is
+          ∙ ap (λ xs. xs ++ table_end (image_ticks lookup listed) bound) (adds.2 ∙ ap (λ xs. xs ++ adds.0) heading_is)
           ∙ append_assoc image_heading adds.0 (table_end (image_ticks lookup listed) bound),
     ) in
     subst (λ ws. IsImageTable taken bound ws new) are (subst (λ f. IsImageTable f bound listed new) same table)
+
+pub source_whole : (taken lookup : ℕ → Option Taken) (bound total : ℕ) (source : List ℕ) (placed : List PlacedLine) (start rows new : List ℕ) → lookup ≡ taken → start ≡ heading
+    → rows ≡ start ++ source_rows lookup bound 1 (lines_of source) placed → total ≡ source_ticks lookup placed → new ≡ rows ++ table_end total bound → new ≡ source_table taken bound source placed
+source_whole taken lookup bound total source placed start rows new same heading_is rows_are total_is last =
+    let lines = source_rows lookup bound 1 (lines_of source) placed in
+    let table : new ≡ source_table lookup bound source placed =
+    last ∙ ap (λ n. rows ++ table_end n bound) total_is
+    ∙ ap (λ xs. xs ++ table_end (source_ticks lookup placed) bound) (rows_are ∙ ap (λ xs. xs ++ lines) heading_is)
+    ∙ append_assoc heading lines (table_end (source_ticks lookup placed) bound) in
+    table ∙ ap (λ (f : ℕ → Option Taken). source_table f bound source placed) same

@@ -1,8 +1,8 @@
 -- An edge more in a tally.
-use Rattle.std.proofs.Common.{◌≡◌, ◌∙◌, ℕ, zero, suc, ◌+◌, ◌-◌, ◌*◌, ◌^◌, ◌<◌, min, Bool, true, false, cond, List, [], ◌∷◌, ◌++◌, length, get_or, Option, Some, None, unwrap_or, ⊎_elim, refl, sym, ap, subst, arith}
-use Rattle.std.specs.Prelude.{Contains, if◌then◌else◌, slice_index, sum_by}
+use Rattle.std.proofs.Common.{◌≡◌, ◌∙◌, ℕ, zero, suc, ◌+◌, ◌-◌, ◌*◌, ◌^◌, ◌<◌, min, true, false, cond, List, [], ◌∷◌, ◌++◌, length, get_or, Some, None, unwrap_or, ⊎_elim, sym, ap, arith, add-one}
+use Rattle.std.specs.Prelude.{Contains, if◌then◌else◌, sum_by}
 use Rattle.std.specs.BTreeMap.{get}
-use Rattle.std.specs.List.{list_any, range_with_len}
+use Rattle.std.specs.List.{range_with_len}
 use Rattle.std.specs.Ordering.{nat_cmp}
 use Rattle.std.proofs.lemmas.Bool.{cases_Bool}
 use Rattle.std.proofs.lemmas.List.{get_or_default}
@@ -13,23 +13,26 @@ use Rattle.flow_graph.specs.declared.edges.Edge.{Edge}
 use Rattle.flow_graph.specs.Flow.{Flow, IsWellFormed}
 use Rattle.longest_walk.specs.Built.{step_at}
 use Rattle.longest_walk.proofs.CarryWalks.{no_edge}
-use Rattle.walk_counts.specs.Counts.{AreCounts, capped, occurrences}
+use Rattle.walk_counts.specs.Counts.{capped, occurrences}
 use Rattle.walk_counts.proofs.SumLemmas.{capped_times}
-use Rattle.explained.specs.Taken.{Adds, HasAdded, IsTally, Starts, cost_at, in_all, is_at, is_reached, more, nothing, pass_at, taken_by, taken_of}
+use Rattle.explained.specs.Taken.{Adds, HasAdded, Starts, cost_at, in_all, is_at, is_reached, more, nothing, pass_at, taken_by, taken_of}
 use Rattle.explained.specs.declared.tally.Taken.{Taken}
 use Rattle.explained.specs.declared.tally.Tally.{Tally}
 
-range_push : (n a : ℕ) → range_with_len a (n + 1) ≡ range_with_len a n ++ (a + n) ∷ []
+range_push : (n a : ℕ) → range_with_len a (suc n) ≡ range_with_len a n ++ (a + n) ∷ []
 range_push zero a = ap (λ k. k ∷ []) (omega arith)
 range_push (suc n) a = ap (λ ks. a ∷ ks) (range_push n (a + 1) ∙ ap (λ k. range_with_len (a + 1) n ++ k ∷ []) (omega arith))
+
+zero_more : (m x : ℕ) → min x m ≡ min (0 + x) m
+zero_more m x = omega arith
 
 in_all_more : (edges walk : List Edge) (i : ℕ) (number : Edge → ℕ) → in_all edges walk (i + 1) number ≡ in_all edges walk i number + occurrences edges walk i * number (step_at edges i)
 in_all_more edges walk i number =
     let term = λ (k : ℕ). occurrences edges walk k * number (step_at edges k) in
-    ap (sum_by term) (range_push i 0) ∙ sum_by_push term (range_with_len 0 i) (0 + i) ∙ ap (λ k. sum_by term (range_with_len 0 i) + term k) (omega arith)
+    ap (λ n. sum_by term (range_with_len 0 n)) (add-one i) ∙ ap (sum_by term) (range_push i 0) ∙ sum_by_push term (range_with_len 0 i) (0 + i) ∙ ap (λ k. sum_by term (range_with_len 0 i) + term k) (omega arith)
 
 pub same_taken : (s t : Taken) → s.passes ≡ t.passes → s.ticks ≡ t.ticks → s ≡ t
-pub same_taken s t passes ticks = λ i. record { passes = passes i; ticks = ticks i }
+same_taken s t passes ticks = λ i. record { passes = passes i; ticks = ticks i }
 
 -- the place of an edge is reached
 pub reached : (places : List Place) (p : Place) (a : ℕ) → Contains places p → is_at a p ≡ true → is_reached places a ≡ true
@@ -60,7 +63,8 @@ module _ (edges walk : List Edge) (i : ℕ) (e : Edge) (count : ℕ) (e_is : e �
       ticks =
           let s = in_all edges walk i (cost_at a) in
           let all : n * cost_at a (step_at edges i) ≡ n * e.cost = ap (λ b. n * cond b (step_at edges i).cost 0) here ∙ ap (λ c. n * c) cost in
-          let once : capped (capped n * e.cost) ≡ capped (n * e.cost) = capped_times (2 ^ 64 - 1) 0 n e.cost in
+          let once : capped (capped n * e.cost) ≡ capped (n * e.cost) =
+          zero_more (2 ^ 64 - 1) (capped n * e.cost) ∙ capped_times (2 ^ 64 - 1) 0 n e.cost ∙ sym (zero_more (2 ^ 64 - 1) (n * e.cost)) in
           let sum : capped (capped s + capped (n * e.cost)) ≡ capped (s + n * e.cost) = omega arith in
           ap (λ c. capped (capped s + capped (c * e.cost))) count_is ∙ ap (λ c. capped (capped s + c)) once ∙ sum
           ∙ ap (λ m. capped (s + m)) (sym all) ∙ ap capped (sym (in_all_more edges walk i (cost_at a)))
@@ -90,13 +94,13 @@ one_added flow walk i e count old new well lt at count_is h adds = λ a. ⊎_eli
     e_is = at ∙ get_or_default flow.edges i e no_edge lt
 
     taken : (a : ℕ) → is_at a e.from ≡ true → get nat_cmp new.by_address a ≡ taken_by flow walk (i + 1) a
-    taken a yes =
-        let known : is_reached flow.places a ≡ true = reached flow.places e.from a (well.starts e (i, lt, sym at)) yes in
+    taken a here =
+        let known : is_reached flow.places a ≡ true = reached flow.places e.from a (well.starts e (i, lt, sym at)) here in
         let before : get nat_cmp old.by_address a ≡ Some (taken_of flow.edges walk i a) =
         h a ∙ ap (λ b. if b then Some (taken_of flow.edges walk i a) else None) known in
-        adds a ∙ ap (λ b. if b then Some (more (unwrap_or (get nat_cmp old.by_address a) nothing) e count) else get nat_cmp old.by_address a) yes
+        adds a ∙ ap (λ b. if b then Some (more (unwrap_or (get nat_cmp old.by_address a) nothing) e count) else get nat_cmp old.by_address a) here
         ∙ ap (λ o. Some (more (unwrap_or o nothing) e count)) before
-        ∙ ap (λ (t : Taken). Some t) (leaving flow.edges walk i e count e_is count_is a yes)
+        ∙ ap (λ (t : Taken). Some t) (leaving flow.edges walk i e count e_is count_is a here)
         ∙ ap (λ b. if b then Some (taken_of flow.edges walk (i + 1) a) else None) (sym known)
 
     left : (a : ℕ) → is_at a e.from ≡ false → get nat_cmp new.by_address a ≡ taken_by flow walk (i + 1) a

@@ -1,5 +1,5 @@
 -- The columns of the table of a bound. Our own format.
-use Rattle.std.specs.Prelude.{ℕ, ◌+◌, ◌-◌, ◌*◌, ◌/◌, ◌%◌, max, List, ◌++◌, length, replicate, codes, decimal}
+use Rattle.std.specs.Prelude.{ℕ, ◌-◌, ◌*◌, ◌/◌, ◌%◌, max, List, ◌++◌, length, replicate, codes, decimal}
 
 -- a text that ends so many columns on, with blanks in front
 abbrev pub in_columns : ℕ → List ℕ → List ℕ

@@ -1,4 +1,4 @@
-ghost use Rattle.std.specs.Prelude.{◌≡◌, ◌↔◌, ◌<◌, ◌^◌, ℕ, List, None, Some, Contains, flat_map, map, sum_by, false};
+ghost use Rattle.std.specs.Prelude.{◌≡◌, ◌↔◌, ◌<◌, ◌^◌, ℕ, List, None, Some, Contains, flat_map, map, sum_by, false, true};
 ghost use Rattle.flow_graph.specs.declared.edges.Edge.{Edge};
 ghost use Rattle.assembler.specs.declared.placed_line.PlacedLine.{PlacedLine};
 ghost use Rattle.flow_graph.specs.Flow.{Flow, IsWellFormed};

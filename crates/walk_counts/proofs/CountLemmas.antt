@@ -1,6 +1,6 @@
 -- What counting an edge, items and rounds does, and when the counts are exact.
-use Rattle.std.proofs.Common.{◌≡◌, ◌∙◌, ℕ, ◌+◌, ◌-◌, ◌*◌, ◌^◌, ◌<◌, ◌≤◌, min, cond, eqb, List, [], ◌∷◌, ◌++◌, append-nil, length, get_or, drop, take, map, flat_map, replicate, ⊎_elim, refl, sym, ap, subst, Vec, arith, get_or-set_other, get_or-set_same}
-use Rattle.std.specs.Prelude.{All, Contains, count_by, sum_by}
+use Rattle.std.proofs.Common.{◌≡◌, ◌∙◌, ℕ, ◌+◌, ◌-◌, ◌*◌, ◌^◌, ◌<◌, ◌≤◌, cond, eqb, List, [], ◌∷◌, ◌++◌, append-nil, length, get_or, drop, take, map, flat_map, replicate, ⊎_elim, refl, sym, ap, subst, Vec, arith, get_or-set_other, get_or-set_same}
+use Rattle.std.specs.Prelude.{All, sum_by}
 use Rattle.std.proofs.Math.ListN.{set, length-set}
 use Rattle.std.proofs.lemmas.Bool.{cases_lt, eq-eqb, ne_eqb}
 use Rattle.std.proofs.lemmas.List.{get_or-replicate, length-replicate, map-append, take_more, take_all}
@@ -22,7 +22,7 @@ use Rattle.longest_walk.specs.declared.folded.Item.TheVariants.{Step, Repeat}
 use Rattle.longest_walk.proofs.Opening.{open-repeat, open-step}
 use Rattle.std.specs.Global.{Global}
 use Rattle.std.specs.declared.rc.Rc.{Rc}
-use Rattle.walk_counts.specs.Counts.{AreCounts, AreExact, Counts, capped, counted, counted_cost, number_of, occurrences}
+use Rattle.walk_counts.specs.Counts.{AreCounts, AreExact, Counts, capped, counted_cost, number_of, occurrences}
 use Rattle.walk_counts.proofs.NumberLemmas.{known_edge}
 use Rattle.walk_counts.proofs.SumLemmas.{capped_more, capped_times, count-repeated, same_sums, sums_by_number}
 

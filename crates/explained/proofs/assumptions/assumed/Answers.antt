@@ -1,15 +1,17 @@
-use Rattle.std.proofs.Common.{◌≡◌}
+use Rattle.std.proofs.Common.{◌≡◌, subst}
+use Rattle.flow_graph.specs.declared.places.Place.{Place}
 use Rattle.std.specs.List.Sorted.{IsStrictlySortedBy}
 use Rattle.std.specs.BTreeSet.{contains}
 use Rattle.std.specs.Ordering.{nat_cmp}
-use Rattle.explained.specs.Assumed.{AreAssumed, Assumes}
+use Rattle.explained.specs.Assumed.{AreAssumed, Assumes, Notes}
 use Rattle.explained.proofs.AssumedLaws.{are_assumed, both_ok, noted}
 use Rattle.explained.proofs.assumptions.assumed.Goals as goal
 
 pub loop-place-preserved : goal.loop-place-preserved
 loop-place-preserved c =
-    noted (Assumes c.args.image.now c.args.statement.now c.args.what) c.places-place-items.result.now c.loop-place.place-index _
-    (contains nat_cmp c.loop-place.named) (contains nat_cmp c.note.new.named) c.loop-place-test.true c.loop-place.invariant c.in_ok-note.ensures
+    noted (Assumes c.args.image.now c.args.statement.now c.args.what) c.places-place-items.result.now c.loop-place.place-index c.place-item.result
+    (contains nat_cmp c.loop-place.named) (contains nat_cmp c.note.new.named) c.loop-place-test.true c.loop-place.invariant
+    (subst (λ (p : Place). Notes (Assumes c.args.image.now c.args.statement.now c.args.what) p (contains nat_cmp c.loop-place.named) (contains nat_cmp c.note.new.named)) c.place-item.is c.in_ok-note.ensures)
 
 pub returns : goal.returns
 returns c =

@@ -1,7 +1,6 @@
-use Rattle.std.proofs.Common.{◌≡◌, sum_by, take}
+use Rattle.std.proofs.Common.{◌≡◌, take}
 use Rattle.std.specs.BTreeMap.{get}
 use Rattle.std.specs.Ordering.{nat_cmp}
-use Rattle.walk_counts.specs.Counts.{capped}
 use Rattle.explained.specs.Table.{source_ticks}
 use Rattle.explained.proofs.source.source_ticks.Given as goal
 

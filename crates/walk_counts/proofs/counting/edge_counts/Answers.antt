@@ -1,7 +1,7 @@
 use Rattle.std.proofs.Common.{◌++◌, List, ap, drop, length, subst, take}
 use Rattle.longest_walk.specs.Folded.{unfolded}
 use Rattle.longest_walk.specs.declared.folded.Item.{Item}
-use Rattle.walk_counts.specs.Counts.{AreCounts, Counts}
+use Rattle.walk_counts.specs.Counts.{Counts}
 use Rattle.walk_counts.proofs.CountLemmas.{exact, first_counts, total}
 use Rattle.walk_counts.proofs.counting.edge_counts.Goals as goal
 

@@ -1,14 +1,14 @@
-use Rattle.std.proofs.Common.{◌≡◌, ◌∙◌, ℕ, ◌+◌, ◌<◌, ◌≤◌, below_more, false, true, ap, get_or, length, List, sym, subst, arith}
+use Rattle.std.proofs.Common.{◌≡◌, ◌<◌, ◌≤◌, below_more, false, true, subst}
 use Rattle.longest_walk.specs.Built.{step_at}
 use Rattle.walk_counts.specs.Counts.{is_same}
-use Rattle.walk_counts.proofs.NumberLemmas.{fail_before, found_here, found_nowhere, part_fits, tested}
+use Rattle.walk_counts.proofs.NumberLemmas.{fail_before, found_here, found_nowhere, tested}
 use Rattle.walk_counts.proofs.numbers.number_at.Goals as goal
 
 pub loop-number-init : goal.loop-number-init
 loop-number-init c =
     let flow = c.args.graph.now in
     λ k less. fail_before flow c.part-first.ensures.well_formed c.args.place c.requires.known c.args.edge.now c.requires.leaves k
-        (subst (λ n. k < n) c.part-first.ensures.first less)
+    (subst (λ n. k < n) c.part-first.ensures.first less)
 
 pub loop-number-preserved : goal.loop-number-preserved
 loop-number-preserved c =

@@ -1,0 +1,16 @@
+use Rattle.std.proofs.Common.{◌∙◌, ap, sym}
+use Rattle.std.specs.BTreeMap.{get}
+use Rattle.std.specs.Ordering.{nat_cmp}
+use Rattle.longest_walk.specs.Folded.{unfolded}
+use Rattle.explained.specs.Table.{image_ticks}
+use Rattle.explained.specs.Taken.{taken_at}
+use Rattle.explained.proofs.ImageLaws.{image_whole}
+use Rattle.explained.proofs.image.image_table.Goals as goal
+
+pub returns : goal.returns
+returns c =
+    let lookup = get nat_cmp c.in_ok-tally.tally.by_address in
+    image_whole (taken_at c.args.graph.now (unfolded c.args.longest.now.walk)) lookup c.args.longest.now.bound c.image_ticks.result c.args.image.now c.deref.result.now
+    c.in_ok-out.out.items c.put_rows.new.out.items c.put_end.new.out.items (λ i a. c.in_ok-tally.ensures a i) (c.deref.ensures.value ∙ c.in_ok-words.ensures.words)
+    c.in_ok-out.ensures.items c.in_ok-put_rows.ensures (c.image_ticks.ensures ∙ ap (image_ticks lookup) (c.deref-2.ensures.value ∙ sym c.deref.ensures.value))
+    c.in_ok-put_end.ensures
