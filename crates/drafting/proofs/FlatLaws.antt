@@ -1,7 +1,11 @@
 -- Texts of one part after another.
 use Rattle.std.proofs.Common.{◌≡◌, ◌+◌, ◌<◌, ℕ, suc, List, [], ◌∷◌, ◌++◌, length, drop, codes, refl, sym, ap, replicate, subst, ◌∙◌, append_assoc, get_or}
 use Rattle.arm2_effect.specs.ProgramCounter.{ahead_of}
-use Rattle.drafting.specs.DraftText.{destinations_text, way_text, words_from}
+use Rattle.bus_ticks.specs.declared.profile.Class.{Class}
+use Rattle.drafting.specs.DraftText.{accesses_text, cycle_text, destinations_text, draft_text, end_text, head_text, loop_text, target_text, way_text, words_from}
+use Rattle.drafting.specs.declared.ends.End.{End}
+use Rattle.drafting.specs.declared.found_loop.FoundLoop.{FoundLoop}
+use Rattle.drafting.specs.declared.writers.FoundTarget.{FoundTarget}
 use Rattle.drafting.specs.Named.{Lines}
 use Rattle.std.specs.List.{flat_map}
 use Rattle.std.proofs.lemmas.List.{drop_more}
@@ -31,12 +35,30 @@ blanks_more left after old new all is h0 more =
     let h = subst (λ n. old ++ replicate n 32 ≡ all) is h0 in
     ap (λ t. t ++ replicate after 32) more ∙ append_assoc old (32 ∷ []) (replicate after 32) ∙ h
 
-pub two_parts : {old front new one two : List ℕ} → front ≡ old ++ one → new ≡ front ++ two → new ≡ old ++ (one ++ two)
-two_parts {old} {front} {new} {one} {two} a b = b ∙ ap (λ t. t ++ two) a ∙ append_assoc old one two
+pub two_parts : (old front new one two : List ℕ) → front ≡ old ++ one → new ≡ front ++ two → new ≡ old ++ (one ++ two)
+two_parts old front new one two a b = b ∙ ap (λ t. t ++ two) a ∙ append_assoc old one two
 
 -- what is to be written of a word that writes R15
 pub way_whole : (lines : Lines) (at table branches : ℕ) (old front new : List ℕ) → table ≡ ahead_of at 8
     → front ≡ old ++ codes "kind = \"?\"  # \"jump\", \"call\", \"return\" or \"leave\"\n"
     → new ≡ front ++ destinations_text lines table branches → new ≡ old ++ way_text lines at branches
 way_whole lines at table branches old front new is a b =
-    two_parts a (b ∙ ap (λ t. front ++ destinations_text lines t branches) is)
+    two_parts old front new _ _ a (b ∙ ap (λ t. front ++ destinations_text lines t branches) is)
+
+-- a whole draft, part by part
+pub draft_whole : (lines : Lines) (entry : ℕ) (ends : List (ℕ × End)) (cycles : List ℕ) (accesses : List (ℕ × Class))
+    (loops : List FoundLoop) (targets : List FoundTarget) (old p q r s t new : List ℕ) → p ≡ old ++ head_text lines entry
+    → q ≡ p ++ flat_map (end_text lines) ends → r ≡ q ++ flat_map (cycle_text lines) cycles
+    → s ≡ r ++ accesses_text lines accesses → t ≡ s ++ flat_map (loop_text lines) loops
+    → new ≡ t ++ flat_map (target_text lines) targets
+    → new ≡ old ++ draft_text lines entry ends cycles accesses loops targets
+draft_whole lines entry ends cycles accesses loops targets old p q r s t new h1 h2 h3 h4 h5 h6 =
+    let a = head_text lines entry in
+    let b = flat_map (end_text lines) ends in
+    let c = flat_map (cycle_text lines) cycles in
+    let d = accesses_text lines accesses in
+    let e = flat_map (loop_text lines) loops in
+    let f = flat_map (target_text lines) targets in
+    two_parts old p new a (b ++ (c ++ (d ++ (e ++ f)))) h1
+    (two_parts p q new b (c ++ (d ++ (e ++ f))) h2
+    (two_parts q r new c (d ++ (e ++ f)) h3 (two_parts r s new d (e ++ f) h4 (two_parts s t new e f h5 h6))))

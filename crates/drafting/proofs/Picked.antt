@@ -8,8 +8,8 @@ use Rattle.drafting.specs.Picks.{Keeps, Picks}
 pub record SoFar {X : Type 0} (P : X → Type 0) (xs : List X) (i : ℕ) (found : List X) : Type 0 where
   pub whole : (more : List X) → Picks P (drop i xs) more → Picks P xs (found ++ more)
 
-pub so_far_none : {X : Type 0} (P : X → Type 0) (xs : List X) → SoFar P xs 0 []
-so_far_none P xs = record { whole = λ more picked. picked }
+pub so_far_none : {X : Type 0} (P : X → Type 0) (xs found : List X) → found ≡ [] → SoFar P xs 0 found
+so_far_none P xs found is = record { whole = λ more picked. subst (λ t. Picks P xs (t ++ more)) (sym is) picked }
 
 pub so_far_kept : {X : Type 0} (P : X → Type 0) (xs : List X) (i : ℕ) (d x : X) (found new : List X) → SoFar P xs i found
     → i < length xs → get_or xs i d ≡ x → Keeps P x found new → SoFar P xs (i + 1) new

@@ -1,11 +1,13 @@
-use Rattle.std.proofs.Common.{refl}
+use Rattle.std.proofs.Common.{ap, refl}
 use Rattle.std.specs.Map.{keys_of}
 use Rattle.drafting.specs.Words.{IsTransfer}
 use Rattle.drafting.proofs.Picked.{so_far_all, so_far_kept, so_far_none}
 use Rattle.drafting.proofs.accesses.find_accesses.Goals as goal
 
 pub loop-at-init : goal.loop-at-init
-loop-at-init c = so_far_none (IsTransfer c.args.image.now) c.args.addresses.now
+loop-at-init c =
+    so_far_none (IsTransfer c.args.image.now) c.args.addresses.now (keys_of c.new-found.result.items)
+    (ap (λ es. keys_of es) c.new-found.ensures.items)
 
 pub loop-at-preserved : goal.loop-at-preserved
 loop-at-preserved c =
