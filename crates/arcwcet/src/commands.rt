@@ -17,7 +17,10 @@ use crate::output::{Output, write_whole};
 use crate::status::{answer_status, done_status, line_status, report_status, store_status};
 use crate::tight::tight_report;
 use crate::visits::visits_report;
-use command_line::{AsmNames, CheckNames, DraftNames, ExplainNames, Names, Request, TightNames, VisitsNames, request};
+use command_line::{
+    AsmNames, CheckNames, DraftNames, ExplainNames, Names, Request, TightNames, VisitsNames,
+    request,
+};
 use std::alloc::Global;
 use std::io::Read;
 
