@@ -1,4 +1,5 @@
-ghost use Rattle.std.specs.Prelude.{◌≡◌, ◌↔◌, ◌<◌, ◌^◌, ℕ, List, None, Some, Contains, flat_map, map, sum_by, false, true};
+ghost use Rattle.std.specs.Prelude.{◌≡◌, ◌↔◌, ◌<◌, ◌^◌, ℕ, false, true, List, None, Some, Contains};
+ghost use Rattle.std.specs.Prelude.{flat_map, map, sum_by};
 ghost use Rattle.flow_graph.specs.declared.edges.Edge.{Edge};
 ghost use Rattle.assembler.specs.declared.placed_line.PlacedLine.{PlacedLine};
 ghost use Rattle.flow_graph.specs.Flow.{Flow, IsWellFormed};
@@ -10,18 +11,19 @@ ghost use Rattle.longest_walk.specs.declared.folded.Item.{Item};
 ghost use Rattle.explained.specs.Table.{image_ticks, line_taken, source_ticks, words_of};
 ghost use Rattle.explained.specs.Taken.{StandOnce, cost_at, is_reached, pass_at, taken_at};
 
-/// States that of a walk of the graph that costs less than 2^64 ticks the numbers at an address are exact: how
-/// often the walk leaves the address, and the ticks of that. It does nothing.
+/// States that of a walk of the graph that costs less than 2^64 ticks the numbers at an address are exact:
+/// how often the walk leaves the address, and the ticks of that. It does nothing.
 pub fn numbers_are_of_the_walk()
     ensures { (flow : Flow) (tree : Tree) (cost : ℕ) (items : List Item) (a : ℕ)
         → IsWellFormed flow → IsWalkOf flow tree cost items → cost < 2 ^ 64
         → is_reached flow.places a ≡ true
         → taken_at flow (unfolded items) a
-        ≡ Some (record { passes = sum_by (pass_at a) (unfolded items); ticks = sum_by (cost_at a) (unfolded items) }) }
+        ≡ Some (record
+        { passes = sum_by (pass_at a) (unfolded items); ticks = sum_by (cost_at a) (unfolded items) }) }
 {}
 
-/// States that the ticks of all rows are what the walk costs, if each place of the graph stands at one word of
-/// the lines, or of the image. It does nothing.
+/// States that the ticks of all rows are what the walk costs, if each place of the graph stands at one word
+/// of the lines, or of the image. It does nothing.
 pub fn totals_are_the_bound()
     ensures source { (flow : Flow) (tree : Tree) (cost : ℕ) (items : List Item) (placed : List PlacedLine)
         → IsWellFormed flow → IsWalkOf flow tree cost items → cost < 2 ^ 64
@@ -33,8 +35,8 @@ pub fn totals_are_the_bound()
         → image_ticks (taken_at flow (unfolded items)) words ≡ cost }
 {}
 
-/// States which lines a table says nothing can ever reach: those at whose words the graph has no place. It does
-/// nothing.
+/// States which lines a table says nothing can ever reach: those at whose words the graph has no place. It
+/// does nothing.
 pub fn unreached_lines_have_no_place()
     ensures { (flow : Flow) (walk : List Edge) (line : PlacedLine)
         → (line_taken (taken_at flow walk) line ≡ None)

@@ -1,7 +1,8 @@
 ghost use Rattle.std.specs.Prelude.{◌≡◌, ◌+◌, ◌*◌, ◌^◌, ◌≤◌, ◌++◌, OnOk};
 ghost use Rattle.std.specs.BTreeMap.{get};
 ghost use Rattle.std.specs.Ordering.{nat_cmp};
-ghost use Rattle.explained.specs.Table.{columns_text, is_any_reached, line_taken, passes_of, ticks_in, ticks_of};
+ghost use Rattle.explained.specs.Table.{columns_text, is_any_reached, line_taken, passes_of};
+ghost use Rattle.explained.specs.Table.{ticks_in, ticks_of};
 
 use crate::columns::{put_number, put_right, put_ticks};
 use crate::tally::{Taken, Tally, capped_sum};

@@ -25,7 +25,8 @@ fn is_named(named: &[u32], at: u32) -> bool
 }
 
 fn put_named_row(out: &mut Vec<u8>, line: NumberedLine<'_>, at: u32) -> Result<(), AllocError>
-    ensures { OnOk result (out.new.items ≡ out.old.items ++ named_row at line.entry.number line.entry.text.now) }
+    ensures { OnOk result
+        (out.new.items ≡ out.old.items ++ named_row at line.entry.number line.entry.text.now) }
 {
     put(out, b"  ")?;
     put(out, &hex8(at))?;
@@ -63,7 +64,8 @@ fn put_words(
 ) -> Result<(), AllocError>
     requires { IsStrictlySortedBy nat_cmp named.now }
     ensures { OnOk result
-        (out.new.items ≡ out.old.items ++ word_rows named.now line.entry.number line.entry.text.now placed.at placed.words) }
+        (out.new.items ≡ out.old.items
+        ++ word_rows named.now line.entry.number line.entry.text.now placed.at placed.words) }
 {
     let mut at = placed.at;
     for _ in 0..placed.words {
@@ -73,8 +75,8 @@ fn put_words(
     Ok(())
 }
 
-/// The rows of those of a source's words that are named: the address of each, and the number and the text of its
-/// line. The named addresses ascend, and `placed` says where the lines stand, in their order.
+/// The rows of those of a source's words that are named: the address of each, and the number and the text of
+/// its line. The named addresses ascend, and `placed` says where the lines stand, in their order.
 ///
 /// # Errors
 ///

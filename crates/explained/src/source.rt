@@ -90,7 +90,8 @@ pub fn source_table(
 ) -> Result<Vec<u8>, AllocError>
     ensures { IfOk result
         (λ text. text.items
-        ≡ source_table (taken_at graph.now (unfolded longest.now.walk)) longest.now.bound source.now placed.now) }
+        ≡ source_table (taken_at graph.now (unfolded longest.now.walk)) longest.now.bound source.now
+        placed.now) }
 {
     let tally = Tally::of_walk(alloc, graph, &longest.walk)?;
     let mut out = Vec::from_slice(alloc, HEADING)?;
