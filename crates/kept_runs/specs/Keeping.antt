@@ -55,7 +55,8 @@ module _ (words : Words) (st : Stated) (flow : Flow) (tree : Tree) where
   KeepsNone s inputs = (n : ℕ) → KeepsTo s (take n inputs) → ⊥
 
   -- so many steps go along a walk from the entry to a place, which keeps the loop bounds
-  pub record ComesTo (s : State) (inputs : List Input) (steps : ℕ) (place : Place) (now : State) : Type 0 where
+  pub record ComesTo (s : State) (inputs : List Input) (steps : ℕ) (place : Place)
+      (now : State) : Type 0 where
     pub few : steps ≤ length inputs
     pub walk : List Edge
     pub leads : Leads edge_shape (HasEdge flow) flow.entry walk place
@@ -65,9 +66,10 @@ module _ (words : Words) (st : Stated) (flow : Flow) (tree : Tree) where
     pub runs : Runs s (take steps inputs) ran now
     pub steps_are : ran.steps ≡ steps
 
-  -- the step after so many is along an edge to the header of the span's instance, which the loop bounds do not
-  -- allow
-  pub record TurnsBack (s : State) (inputs : List Input) (steps : ℕ) (after : State) (span : Span) : Type 0 where
+  -- the step after so many is along an edge to the header of the span's instance, which the loop bounds do
+  -- not allow
+  pub record TurnsBack (s : State) (inputs : List Input) (steps : ℕ) (after : State)
+      (span : Span) : Type 0 where
     pub place : Place
     pub now : State
     pub input : Input
@@ -83,7 +85,8 @@ module _ (words : Words) (st : Stated) (flow : Flow) (tree : Tree) where
     pub broken : KeepsTree tree (comes.walk ++ edge ∷ []) → ⊥
 
   -- the step after so many is along no edge of the place where the run stands
-  pub record StraysAfter (s : State) (inputs : List Input) (steps : ℕ) (after : State) (stray : Stray) : Type 0 where
+  pub record StraysAfter (s : State) (inputs : List Input) (steps : ℕ) (after : State)
+      (stray : Stray) : Type 0 where
     pub place : Place
     pub now : State
     pub input : Input
@@ -100,7 +103,8 @@ module _ (words : Words) (st : Stated) (flow : Flow) (tree : Tree) where
   IsUnkept s inputs steps after Unfinished =
       (steps ≡ length inputs) × ((place : Place) × ComesTo s inputs steps place after)
 
-  pub record IsStrayedRun (s : State) (inputs : List Input) (steps : ℕ) (why : Unkept) (after : State) : Type 0 where
+  pub record IsStrayedRun (s : State) (inputs : List Input) (steps : ℕ) (why : Unkept)
+      (after : State) : Type 0 where
     pub none : KeepsNone s inputs
     pub is : IsUnkept s inputs steps after why
 

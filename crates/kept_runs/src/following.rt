@@ -138,8 +138,9 @@ fn follow_from(
 /// Runs a machine from a handler's entry until it leaves the handler, a step for each input, and judges each
 /// step by the handler's statement.
 ///
-/// `Kept` where the steps go along a walk of the flow graph from the entry to Exit that keeps the loop bounds:
-/// then their ticks are at most the greatest cost. `Strayed` where no number of the inputs makes such a run.
+/// `Kept` where the steps go along a walk of the flow graph from the entry to Exit that keeps the loop
+/// bounds: then their ticks are at most the greatest cost. `Strayed` where no number of the inputs makes such
+/// a run.
 ///
 /// A step takes time linear in the edges of its place, and no memory. The call takes as much memory as the
 /// graph has places.

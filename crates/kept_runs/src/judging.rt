@@ -40,8 +40,8 @@ fn label(holds: bool) -> Label
     if holds { Label::Do } else { Label::Skip }
 }
 
-/// Makes one step of a machine that stands at a place of the graph, named by its index: along which edge of the
-/// place it is, by the statement.
+/// Makes one step of a machine that stands at a place of the graph, named by its index: along which edge of
+/// the place it is, by the statement.
 ///
 /// It takes time linear in the edges of the place, and no memory.
 ///

@@ -44,9 +44,9 @@ fn one_more(span: &Span, turns: u32) -> Option<u32>
     Some(turns + 1)
 }
 
-/// Counts an edge: by the numbers of headers, the back edges of the stay in each instance where a walk stands.
-/// What is counted of other instances means nothing. The instance whose bound allows no further back edge, if
-/// the edge is one of its.
+/// Counts an edge: by the numbers of headers, the back edges of the stay in each instance where a walk
+/// stands. What is counted of other instances means nothing. The instance whose bound allows no further back
+/// edge, if the edge is one of its.
 pub(crate) fn turn(
     headers: &[Option<Span>],
     turns: &mut Vec<u32>,
