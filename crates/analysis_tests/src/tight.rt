@@ -27,8 +27,8 @@ fn ticks(alloc: Global, source: &[u8], statement: &[u8]) -> Result<Vec<u32>, Fai
     Ok(ticks)
 }
 
-// A countdown that leaves to any address; a load of R15 from ROM that leaves to RAM, 1 + 4 + 1 + 4 ticks; and a
-// load whose offset is in a register.
+// A countdown that leaves to any address; a load of R15 from ROM that leaves to RAM, 1 + 4 + 1 + 4 ticks;
+// and a load whose offset is in a register.
 #[test]
 fn free_edges_cost_their_price(rt: HostRuntime) -> Result<(), Fail> {
     for (source, statement, wanted) in [

@@ -52,8 +52,8 @@ is_enough None bound = true
 is_enough (Some most) bound = nat_le bound most
 
 -- with the answer whether the bound is enough
-pub record IsExplainReport (source statement : List ℕ) (at_most : Option ℕ) (profile : Profile) (answer : Bool)
-    (text : List ℕ) : Type 0 where
+pub record IsExplainReport (source statement : List ℕ) (at_most : Option ℕ) (profile : Profile)
+    (answer : Bool) (text : List ℕ) : Type 0 where
   pub bound : ℕ
   pub explains : IsExplanation source statement profile bound text
   pub answer_is : answer ≡ is_enough at_most bound

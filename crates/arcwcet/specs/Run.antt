@@ -273,7 +273,8 @@ pub record RunsAsm {S O : Type 0} (reads : Reading S) (writes : Writing S) (take
     (failures : O → ℕ)
     (source image : List ℕ) (old new : S) (before after : O) (status : ℕ) : Type 0 where
   pub done : status ≡ 0 → HasAssembled reads writes source image old new (taken before) (taken after)
-  pub denied : status ≡ 1 → IsRefusedRun reads (source ∷ []) old new (HasNoText IsSourceRefused) × (after ≡ before)
+  pub denied : status ≡ 1
+      → IsRefusedRun reads (source ∷ []) old new (HasNoText IsSourceRefused) × (after ≡ before)
   pub failed : status ≡ 4
       → FailsToTell reads writes source image old new (taken before) (taken after) (failures before)
       (failures after)
@@ -285,16 +286,16 @@ pub record RunsAsm {S O : Type 0} (reads : Reading S) (writes : Writing S) (take
 
 -- ## `list SOURCE`
 
-abbrev pub RunsList : {S O : Type 0} → Reading S → (O → Option (List ℕ)) → (O → ℕ) → List ℕ → S → S → O → O → ℕ
-    → Type 0
+abbrev pub RunsList : {S O : Type 0} → Reading S → (O → Option (List ℕ)) → (O → ℕ) → List ℕ → S → S → O → O
+    → ℕ → Type 0
 RunsList reads taken failures source old new before after status =
     Runs reads taken failures (IsTextOf IsListReport) (HasNoText IsSourceRefused) (source ∷ [])
     old new before after status
 
 -- ## `draft SOURCE ENTRY`
 
-abbrev pub RunsDraft : {S O : Type 0} → Reading S → (O → Option (List ℕ)) → (O → ℕ) → List ℕ → (entry : List ℕ)
-    → S → S → O → O → ℕ → Type 0
+abbrev pub RunsDraft : {S O : Type 0} → Reading S → (O → Option (List ℕ)) → (O → ℕ) → List ℕ
+    → (entry : List ℕ) → S → S → O → O → ℕ → Type 0
 RunsDraft reads taken failures source entry old new before after status =
     Runs reads taken failures
     (IsTextOf (λ source text. IsDraftReport source entry text))
@@ -362,7 +363,8 @@ abbrev pub RunsAsked : {S I O : Type 0} → Reading S → Writing S → (I → O
 RunsAsked reads writes remaining taken failures
     (asm source image) old new heard_old heard_new before after status =
     RunsAsm reads writes taken failures source image old new before after status × (heard_new ≡ heard_old)
-RunsAsked reads writes remaining taken failures (list source) old new heard_old heard_new before after status =
+RunsAsked reads writes remaining taken failures
+    (list source) old new heard_old heard_new before after status =
     RunsList reads taken failures source old new before after status × (heard_new ≡ heard_old)
 RunsAsked reads writes remaining taken failures
     (draft source entry) old new heard_old heard_new before after status =

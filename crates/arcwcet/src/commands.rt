@@ -1,6 +1,7 @@
 ghost use Rattle.std.specs.Prelude.{◌≡◌, ◌≢◌, ◌⊎◌, None, Some, option_map};
 ghost use Rattle.command_line.specs.Line.{Asked, asked_in, asked_of};
-ghost use Rattle.arcwcet.specs.Run.{RunsAsked, RunsAsm, RunsBound, RunsCheck, RunsDebug, RunsList, RunsMachine};
+ghost use Rattle.arcwcet.specs.Run.{RunsAsked, RunsAsm, RunsBound, RunsCheck, RunsDebug, RunsList};
+ghost use Rattle.arcwcet.specs.Run.{RunsMachine};
 ghost use Rattle.arcwcet.specs.Run.{RunsDraft, RunsExplain, RunsTight, RunsVisits};
 
 use crate::assembly::image_written;

@@ -81,8 +81,8 @@ fn source_draft(alloc: Global, source: &[u8], entry: &[u8]) -> Result<Vec<u8>, R
 ///
 /// # Errors
 ///
-/// `Source` with the line of a text, `Image` of an image, then `NoSuchEntry`; `Memory`. After any but `Device`
-/// nothing was written.
+/// `Source` with the line of a text, `Image` of an image, then `NoSuchEntry`; `Memory`. After any but
+/// `Device` nothing was written.
 pub fn draft_report<O: Output>(
     alloc: Global,
     source: &[u8],

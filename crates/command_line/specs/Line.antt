@@ -105,8 +105,8 @@ arcwcet_command =
     (with_subcommand
     (with_subcommand
     (with_subcommand arcwcet_top
-    asm_command.top) list_command.top) draft_command.top) run_command.top) trace_command.top) debug_command.top)
-    bound_command.top)
+    asm_command.top) list_command.top) draft_command.top) run_command.top) trace_command.top)
+    debug_command.top) bound_command.top)
     check_command.top) visits_command.top) explain_command.top
 
 -- the names of two files, and of a cycle profile's

@@ -1,5 +1,6 @@
 -- The text of a draft, of what was found. Our own format.
-use Rattle.std.specs.Prelude.{ℕ, zero, suc, ◌+◌, ◌*◌, ◌==◌, if◌then◌else◌, List, [], ◌∷◌, ◌++◌, length, replicate}
+use Rattle.std.specs.Prelude.{ℕ, zero, suc, ◌+◌, ◌*◌, ◌==◌, if◌then◌else◌, List, [], ◌∷◌, ◌++◌, length}
+use Rattle.std.specs.Prelude.{replicate}
 use Rattle.std.specs.Prelude.{codes, decimal, Option, Some, None}
 use Rattle.std.specs.List.{flat_map}
 use Rattle.asm_text.specs.Hex.{hex8}
@@ -75,7 +76,8 @@ module _ (lines : Lines) where
   abbrev pub loop_text : FoundLoop → List ℕ
   loop_text l =
       codes "\n" ++ (replicate (2 * l.depth) 32 ++ (codes "[[loop]]\n"
-      ++ (place_text (2 * l.depth) (codes "header") l.header ++ (place_text (2 * l.depth) (codes "first") l.first
+      ++ (place_text (2 * l.depth) (codes "header") l.header
+      ++ (place_text (2 * l.depth) (codes "first") l.first
       ++ (place_text (2 * l.depth) (codes "last") l.last ++ bound_text (2 * l.depth) l.turns)))))
 
   abbrev pub destination_text : ℕ → List ℕ

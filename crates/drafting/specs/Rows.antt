@@ -1,5 +1,6 @@
 -- Rows of a draft: what a statement says, and beside it as a comment the line of the source. Our own format.
-use Rattle.std.specs.Prelude.{ℕ, ◌-◌, ◌&&◌, ◌==◌, nat_le, if◌then◌else◌, List, [], ◌∷◌, ◌++◌, length, map, take}
+use Rattle.std.specs.Prelude.{ℕ, ◌-◌, ◌&&◌, ◌==◌, nat_le, if◌then◌else◌, List, [], ◌∷◌, ◌++◌, length, map}
+use Rattle.std.specs.Prelude.{take}
 use Rattle.std.specs.Prelude.{codes, decimal, Option, Some, None}
 use Rattle.asm_text.specs.Hex.{hex8}
 use Rattle.drafting.specs.declared.source_lines.SourceLine.{SourceLine}

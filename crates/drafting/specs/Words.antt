@@ -1,5 +1,5 @@
--- What words show of where control goes, and which of them load and store. Source: the VL86C010 data sheet, by the
--- table of instruction words; which shapes are returns is our own choice.
+-- What words show of where control goes, and which of them load and store. Source: the VL86C010 data sheet,
+-- by the table of instruction words; which shapes are returns is our own choice.
 use Rattle.std.specs.Prelude.{◌≡◌, ℕ, Bool, true, false, not, ◌&&◌, ◌||◌, ◌==◌, nat_le, Some}
 use Rattle.arm2_decode.specs.Names.{is_compare, is_pc, register_number}
 use Rattle.arm2_decode.specs.Table.{Means}

@@ -89,13 +89,14 @@ fn draft_by_lines(
     Ok(text)
 }
 
-/// A statement of the handler that begins at an address, to be filled in: its entry, the loops, loads and stores,
-/// and the words that write R15 and are no returns by their shape, with the lines of the source as comments.
+/// A statement of the handler that begins at an address, to be filled in: its entry, the loops, loads and
+/// stores, and the words that write R15 and are no returns by their shape, with the lines of the source as
+/// comments.
 ///
-/// The clause says what the text is, that each label in it stands for its address, that each loop's header lies
-/// from its first to its last instruction, and that of the addresses that were looked at exactly the loads and
-/// stores and the writers of R15 are named. That these addresses are all that is reached, that the loops are those
-/// of the handler, and what is written of classes and of counted loops, is tested only.
+/// The clause says what the text is, that each label in it stands for its address, that each loop's header
+/// lies from its first to its last instruction, and that of the addresses that were looked at exactly the
+/// loads and stores and the writers of R15 are named. That these addresses are all that is reached, that
+/// the loops are those of the handler, and what is written of classes and of counted loops, is tested only.
 ///
 /// # Errors
 ///

@@ -63,8 +63,8 @@ fn are_of_one(descent: &Descent, one: u32, other: u32) -> bool {
     descent.routines.get(&one) == descent.routines.get(&other)
 }
 
-/// Whether a step from outside the addresses from first to last, or the beginning of a routine, lies at one of
-/// them that is not the header.
+/// Whether a step from outside the addresses from first to last, or the beginning of a routine, lies at one
+/// of them that is not the header.
 pub(crate) fn is_entered_in_middle(reach: &Reached, descent: &Descent, found: &FoundLoop) -> bool {
     let stepped = pairs_within(&reach.entering, found.first, found.last)
         .iter()

@@ -2,8 +2,10 @@ ghost use Rattle.std.specs.Prelude.{◌≡◌, ◌++◌, ℕ, List, IfOk, OnOk, 
 ghost use Rattle.std.specs.List.{flat_map};
 ghost use Rattle.std.specs.Ordering.{nat_cmp};
 ghost use Rattle.drafting.specs.Named.{lines_of};
-ghost use Rattle.drafting.specs.DraftText.{access_list_text, access_text, accesses_text, bound_text, class_text, class_word};
-ghost use Rattle.drafting.specs.DraftText.{comment_text, cycle_text, destination_text, destinations_text, end_text};
+ghost use Rattle.drafting.specs.DraftText.{access_list_text, access_text, accesses_text, bound_text};
+ghost use Rattle.drafting.specs.DraftText.{class_text, class_word};
+ghost use Rattle.drafting.specs.DraftText.{comment_text, cycle_text, destination_text, destinations_text};
+ghost use Rattle.drafting.specs.DraftText.{end_text};
 ghost use Rattle.drafting.specs.DraftText.{end_words, head_text, loop_text, place_text, target_text};
 ghost use Rattle.drafting.specs.DraftText.{way_text, words_from};
 
@@ -185,7 +187,8 @@ impl<'a> Sheet<'_, 'a> {
         branches: u32,
     ) -> Result<(), AllocError>
         ensures { OnOk result
-            (out.new.items ≡ out.old.items ++ destinations_text (lines_of self.now.lines.now) table branches) }
+            (out.new.items
+            ≡ out.old.items ++ destinations_text (lines_of self.now.lines.now) table branches) }
     {
         if branches == 0 {
             return put(
@@ -246,7 +249,8 @@ impl<'a> Sheet<'_, 'a> {
     /// Adds a comment for each cycle that no loop bounds.
     pub fn put_cycles(&self, out: &mut Vec<u8>, cycles: &[u32]) -> Result<(), AllocError>
         ensures { OnOk result
-            (out.new.items ≡ out.old.items ++ flat_map (cycle_text (lines_of self.now.lines.now)) cycles.now) }
+            (out.new.items
+            ≡ out.old.items ++ flat_map (cycle_text (lines_of self.now.lines.now)) cycles.now) }
     {
         for at in cycles {
             self.put_comment(out, *at, b": a cycle that no loop bounds.")?;

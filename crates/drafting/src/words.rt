@@ -1,7 +1,8 @@
 ghost use Rattle.std.specs.Prelude.{◌≡◌, IfSome, Some};
 ghost use Rattle.arm2_decode.specs.declared.instr.Instr.{Instr};
 ghost use Rattle.arm2_decode.specs.Table.{Means};
-ghost use Rattle.drafting.specs.Words.{HasInstr, data_writes_pc, is_link, is_odd_writer, is_move, is_return, is_stack};
+ghost use Rattle.drafting.specs.Words.{HasInstr, data_writes_pc, is_link, is_odd_writer, is_move};
+ghost use Rattle.drafting.specs.Words.{is_return, is_stack};
 ghost use Rattle.drafting.specs.Words.{is_transfer, moves_link, subtracts_from_link, writes_pc};
 
 use arm2_decode::{
@@ -249,8 +250,8 @@ fn written(operation: &Operation) -> u32 {
     }
 }
 
-/// The registers that may differ after an operation, as the bits of their numbers: all after a word that may call
-/// a routine by writing R15.
+/// The registers that may differ after an operation, as the bits of their numbers: all after a word that
+/// may call a routine by writing R15.
 pub(crate) fn changed(operation: &Operation) -> u32 {
     if way_of(operation) == Way::Writer {
         ALL_REGISTERS

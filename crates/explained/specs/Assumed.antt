@@ -1,5 +1,6 @@
 -- What a bound takes for granted of words that its handler reaches.
-use Rattle.std.specs.Prelude.{◌≡◌, ◌↔◌, ℕ, zero, suc, ◌+◌, ◌==◌, Bool, true, false, not, ◌&&◌, ◌||◌, List, [], ◌∷◌, ◌++◌, codes, decimal}
+use Rattle.std.specs.Prelude.{◌≡◌, ◌↔◌, ℕ, zero, suc, ◌+◌, ◌==◌, Bool, true, false, not, ◌&&◌, ◌||◌, List}
+use Rattle.std.specs.Prelude.{[], ◌∷◌, ◌++◌, codes, decimal}
 use Rattle.std.specs.Prelude.{if◌then◌else◌, Contains, Some, None, ◌⊎◌}
 use Rattle.std.specs.List.{list_any}
 use Rattle.std.specs.List.Sorted.{IsStrictlySortedBy}
@@ -123,7 +124,8 @@ Notes Holds place old new = (a : ℕ) → (new a ≡ true) ↔ ((old a ≡ true)
 -- the row of a word: its address, and the number and the text of its line
 abbrev pub named_row : (at n : ℕ) → List ℕ → List ℕ
 named_row at n text =
-    codes "  " ++ (hex8 at ++ (codes " " ++ (in_columns 5 (decimal n) ++ (codes "  " ++ (text ++ codes "\n")))))
+    codes "  "
+    ++ (hex8 at ++ (codes " " ++ (in_columns 5 (decimal n) ++ (codes "  " ++ (text ++ codes "\n")))))
 
 abbrev pub row_if_named : (named : List ℕ) → (n : ℕ) → (text : List ℕ) → (at : ℕ) → List ℕ
 row_if_named named n text at = if list_any (λ a. a == at) named then named_row at n text else []

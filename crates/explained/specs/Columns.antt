@@ -33,4 +33,6 @@ total_row total bound = codes "    total" ++ (ticks_text total bound ++ codes "\
 
 abbrev pub bound_line : ℕ → List ℕ
 bound_line bound =
-    codes "bound " ++ (decimal bound ++ (codes " ticks, " ++ (microseconds_text bound ++ codes " microseconds at 8 MHz\n")))
+    codes "bound "
+    ++ (decimal bound
+    ++ (codes " ticks, " ++ (microseconds_text bound ++ codes " microseconds at 8 MHz\n")))

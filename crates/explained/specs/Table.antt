@@ -63,7 +63,8 @@ columns_text bound (Some t) = in_columns 9 (decimal t.passes) ++ ticks_text t.ti
 -- with the number of a line and its text
 abbrev pub line_row : ℕ → Option Taken → ℕ → List ℕ → List ℕ
 line_row bound taken n text =
-    columns_text bound taken ++ (codes " " ++ (in_columns 5 (decimal n) ++ (codes "  " ++ (text ++ codes "\n"))))
+    columns_text bound taken
+    ++ (codes " " ++ (in_columns 5 (decimal n) ++ (codes "  " ++ (text ++ codes "\n"))))
 
 -- the rows of the lines that have words, with numbers from one on
 abbrev pub source_rows : (ℕ → Option Taken) → ℕ → ℕ → List (List ℕ) → List PlacedLine → List ℕ
@@ -83,7 +84,8 @@ IsWordRow taken bound e row =
 abbrev pub AreWordRows : (ℕ → Option Taken) → ℕ → Words → List ℕ → Type 0
 AreWordRows taken bound [] text = text ≡ []
 AreWordRows taken bound (e ∷ words) text =
-    (row rest : List ℕ) × IsWordRow taken bound e row × AreWordRows taken bound words rest × (text ≡ row ++ rest)
+    (row rest : List ℕ) × IsWordRow taken bound e row × AreWordRows taken bound words rest
+    × (text ≡ row ++ rest)
 
 -- the row of a word stands after the old text
 abbrev pub AddsWordRow : (ℕ → Option Taken) → ℕ → ℕ × ℕ → (old new : List ℕ) → Type 0
@@ -105,7 +107,8 @@ table_end total bound = total_row total bound ++ bound_line bound
 -- of a source whose lines stand so
 abbrev pub source_table : (ℕ → Option Taken) → ℕ → List ℕ → List PlacedLine → List ℕ
 source_table taken bound source placed =
-    heading ++ (source_rows taken bound 1 (lines_of source) placed ++ table_end (source_ticks taken placed) bound)
+    heading
+    ++ (source_rows taken bound 1 (lines_of source) placed ++ table_end (source_ticks taken placed) bound)
 
 abbrev pub image_heading : List ℕ
 image_heading = codes "   passes      ticks  share   address      word  text\n"

@@ -1,5 +1,6 @@
 -- What a walk takes at an address.
-use Rattle.std.specs.Prelude.{◌≡◌, ℕ, ◌+◌, ◌*◌, Bool, false, ◌==◌, cond, if◌then◌else◌, List, Option, Some, None}
+use Rattle.std.specs.Prelude.{◌≡◌, ℕ, ◌+◌, ◌*◌, Bool, false, ◌==◌, cond, if◌then◌else◌, List, Option, Some}
+use Rattle.std.specs.Prelude.{None}
 use Rattle.std.specs.Prelude.{length, count_by, sum_by, unwrap_or, Contains}
 use Rattle.std.specs.BTreeMap.{get}
 use Rattle.std.specs.List.{list_any, range_with_len}
@@ -47,7 +48,8 @@ taken_of edges walk count a =
     }
 
 abbrev pub taken_by : Flow → List Edge → (count a : ℕ) → Option Taken
-taken_by flow walk count a = if is_reached flow.places a then Some (taken_of flow.edges walk count a) else None
+taken_by flow walk count a =
+    if is_reached flow.places a then Some (taken_of flow.edges walk count a) else None
 
 -- what the walk takes at the address: how often it leaves it, and the ticks of that; None where the graph has
 -- no place
@@ -62,7 +64,8 @@ nothing = record { passes = 0; ticks = 0 }
 -- what is taken at the place's address is set
 abbrev pub Puts : Place → Taken → (old new : Tally) → Type 0
 Puts place taken old new =
-    (a : ℕ) → get nat_cmp new.by_address a ≡ (if is_at a place then Some taken else get nat_cmp old.by_address a)
+    (a : ℕ)
+    → get nat_cmp new.by_address a ≡ (if is_at a place then Some taken else get nat_cmp old.by_address a)
 
 -- an edge more, taken so many times
 abbrev pub more : Taken → Edge → ℕ → Taken

@@ -1,7 +1,8 @@
 ghost use Rattle.std.specs.Prelude.{◌≡◌, MatchOption};
 ghost use Rattle.arm2_decode.specs.declared.instr.Instr.{Instr};
 ghost use Rattle.flow_graph.specs.Kinds.{data_kind, is_writer, kind_of};
-ghost use Rattle.explained.specs.Assumed.{IsInstrAt, is_link, is_link_less, is_link_moved, is_return, is_stack};
+ghost use Rattle.explained.specs.Assumed.{IsInstrAt, is_link, is_link_less, is_link_moved, is_return};
+ghost use Rattle.explained.specs.Assumed.{is_stack};
 ghost use Rattle.explained.specs.Assumed.{is_lsl, is_mov, is_odd_writer, is_sub, is_transfer};
 
 use arm2_decode::{DataRegister, Instr, Opcode, Operation, Register, Shift, decode};
