@@ -13,6 +13,7 @@ from running import Trial, shown
 
 MOST = 16_777_216
 FAILED, TOO_LONG = refused("Device"), refused("InputTooLong")
+OVER_ITS_SOURCE = b"error: the image would be written over its source\n"
 # The number of the user without rights.
 NOBODY = 65_534
 NO_READER = "exec 3> >(:); wait $!; exec {} >&3 3>&-"
@@ -137,7 +138,7 @@ def image_files(command):
         ("an empty name", "", None, "", Allowed("asm")),
         ("standard output", "/dev/stdout", None, "", Is(0, image + line)),
         ("a pipe", "pipe", None, pipe, Leaves(Is(0, line), "copy", image)),
-        ("the source", "handler.s", None, "", Leaves(Is(0, line), "handler.s", image)),
+        ("the source", "handler.s", None, "", Leaves(Is(2, b"", OVER_ITS_SOURCE), "handler.s", source)),
     ]
     if not os.geteuid():
         rows.append(("a full device", "full", full_device, "", FAILED))
