@@ -1,7 +1,7 @@
 ghost use Rattle.std.specs.Prelude.{◌≡◌, ◌≢◌, IfOk, IfErr, Some, None, false, codes, option_map};
 ghost use Rattle.std.specs.Prelude.{option_and_then};
 ghost use Rattle.clap.specs.Matches.{found_of};
-ghost use Rattle.clap.specs.Simple.{app_of, with_subcommand};
+ghost use Rattle.clap.specs.Simple.{App, app_of, with_subcommand};
 ghost use Rattle.clap.specs.Walk.{rows_of, rule_of};
 ghost use Rattle.clap.specs.Words.{kind_of, subcommand_rows_of};
 ghost use Rattle.clap.specs.declared.builder.command.Command.TheViews.{out-Command};
@@ -189,68 +189,17 @@ fn visits<'a>(alloc: Global) -> Result<Command<'a>, AllocError>
         .arg(visit_count(alloc))
 }
 
-/// A command with one more, `asm`.
-fn with_asm<'a>(alloc: Global, command: Command<'a>) -> Result<Command<'a>, AllocError>
-    ensures { IfOk result (λ c. app_of c ≡ with_subcommand (app_of command.entry) asm_command.top) }
-{
-    command.subcommand(asm(alloc)?)
-}
-
-/// A command with one more, `list`.
-fn with_list<'a>(alloc: Global, command: Command<'a>) -> Result<Command<'a>, AllocError>
-    ensures { IfOk result (λ c. app_of c ≡ with_subcommand (app_of command.entry) list_command.top) }
-{
-    command.subcommand(list(alloc)?)
-}
-
-/// A command with one more, `draft`.
-fn with_draft<'a>(alloc: Global, command: Command<'a>) -> Result<Command<'a>, AllocError>
-    ensures { IfOk result (λ c. app_of c ≡ with_subcommand (app_of command.entry) draft_command.top) }
-{
-    command.subcommand(draft(alloc)?)
-}
-
-/// A command with one more that has a cycle profile, `NAME SOURCE SECOND`.
-fn with_priced<'a>(
-    alloc: Global,
+/// A command with one more, or the failure to make that one.
+fn with<'a>(
     command: Command<'a>,
-    name: &'a str,
-    summary: &'a str,
-    second: &'a str,
+    one: Result<Command<'a>, AllocError>,
 ) -> Result<Command<'a>, AllocError>
-    ensures { IfOk result
-        (λ c. app_of c
-        ≡ with_subcommand (app_of command.entry) (priced_command name.entry.now second.entry.now).top) }
+    requires { IfOk one (λ o. (out-Command o).has_globals ≡ false) }
+    ensures { (added : App) → IfOk one.entry (λ o. app_of o ≡ added)
+        → IfOk result (λ c. app_of c ≡ with_subcommand (app_of command.entry) added.top) }
 {
-    command.subcommand(priced(alloc, name, summary, second)?)
-}
-
-/// A command with one more, `bound`.
-fn with_bound<'a>(alloc: Global, command: Command<'a>) -> Result<Command<'a>, AllocError>
-    ensures { IfOk result (λ c. app_of c ≡ with_subcommand (app_of command.entry) bound_command.top) }
-{
-    command.subcommand(bound(alloc)?)
-}
-
-/// A command with one more, `check`.
-fn with_check<'a>(alloc: Global, command: Command<'a>) -> Result<Command<'a>, AllocError>
-    ensures { IfOk result (λ c. app_of c ≡ with_subcommand (app_of command.entry) check_command.top) }
-{
-    command.subcommand(check(alloc)?)
-}
-
-/// A command with one more, `visits`.
-fn with_visits<'a>(alloc: Global, command: Command<'a>) -> Result<Command<'a>, AllocError>
-    ensures { IfOk result (λ c. app_of c ≡ with_subcommand (app_of command.entry) visits_command.top) }
-{
-    command.subcommand(visits(alloc)?)
-}
-
-/// A command with one more, `explain`.
-fn with_explain<'a>(alloc: Global, command: Command<'a>) -> Result<Command<'a>, AllocError>
-    ensures { IfOk result (λ c. app_of c ≡ with_subcommand (app_of command.entry) explain_command.top) }
-{
-    command.subcommand(explain(alloc)?)
+    let one = one?;
+    command.subcommand(one)
 }
 
 /// A command with those that run a machine.
@@ -262,11 +211,11 @@ fn with_machine<'a>(alloc: Global, command: Command<'a>) -> Result<Command<'a>, 
         (with_subcommand (app_of command.entry) run_command.top) trace_command.top) debug_command.top) }
 {
     let summary = "Run a machine, and print its registers and ticks";
-    let command = with_priced(alloc, command, "run", summary, "machine")?;
+    let command = with(command, priced(alloc, "run", summary, "machine"))?;
     let summary = "Run a machine, and print a line for each step";
-    let command = with_priced(alloc, command, "trace", summary, "machine")?;
+    let command = with(command, priced(alloc, "trace", summary, "machine"))?;
     let summary = "Obey the debugger's commands on standard input";
-    with_priced(alloc, command, "debug", summary, "machine")
+    with(command, priced(alloc, "debug", summary, "machine"))
 }
 
 /// A command with those about a handler's longest run time.
@@ -279,10 +228,10 @@ fn with_analysis<'a>(alloc: Global, command: Command<'a>) -> Result<Command<'a>,
         (with_subcommand (app_of command.entry) bound_command.top) check_command.top) visits_command.top)
         explain_command.top) }
 {
-    let command = with_bound(alloc, command)?;
-    let command = with_check(alloc, command)?;
-    let command = with_visits(alloc, command)?;
-    with_explain(alloc, command)
+    let command = with(command, bound(alloc))?;
+    let command = with(command, check(alloc))?;
+    let command = with(command, visits(alloc))?;
+    with(command, explain(alloc))
 }
 
 /// The program's command.
@@ -293,9 +242,9 @@ fn arcwcet<'a>(alloc: Global) -> Result<Command<'a>, AllocError>
         .subcommand_required(true)
         .bin_name("arcwcet")?
         .about("Greatest run times of interrupt handlers of the Acorn Archimedes");
-    let command = with_asm(alloc, command)?;
-    let command = with_list(alloc, command)?;
-    let command = with_draft(alloc, command)?;
+    let command = with(command, asm(alloc))?;
+    let command = with(command, list(alloc))?;
+    let command = with(command, draft(alloc))?;
     let command = with_machine(alloc, command)?;
     with_analysis(alloc, command)
 }

@@ -9,9 +9,9 @@ returns c =
     let top_is : app_of c.about-command.result ≡ arcwcet_top = ap app_of_fields c.about-command.ensures
     ∙ ap app_of_fields c.in_ok-bin_name.ensures.0 ∙ ap app_of_fields c.subcommand_required.ensures
     ∙ ap (on_top (λ (s : Shape). record s { subcommand_required = true })) c.new.ensures.app in
-    let one = c.in_ok-command.ensures ∙ ap (λ (a : App). with_subcommand a asm_command.top) top_is in
-    let two = c.in_ok-command-2.ensures ∙ ap (λ (a : App). with_subcommand a list_command.top) one in
-    let three = c.in_ok-command-3.ensures ∙ ap (λ (a : App). with_subcommand a draft_command.top) two in
+    let one = c.in_ok-command.ensures asm_command c.asm.ensures.shape ∙ ap (λ (a : App). with_subcommand a asm_command.top) top_is in
+    let two = c.in_ok-command-2.ensures list_command c.list.ensures.shape ∙ ap (λ (a : App). with_subcommand a list_command.top) one in
+    let three = c.in_ok-command-3.ensures draft_command c.draft.ensures.shape ∙ ap (λ (a : App). with_subcommand a draft_command.top) two in
     let machine = c.in_ok-command-4.ensures
     ∙ ap (λ (a : App). with_subcommand (with_subcommand (with_subcommand a run_command.top) trace_command.top) debug_command.top) three in
     IfOk-weaker c.with_analysis.result _ _ (λ r h. h ∙ ap (λ (a : App). with_subcommand (with_subcommand (with_subcommand (with_subcommand a bound_command.top) check_command.top) visits_command.top) explain_command.top) machine) c.with_analysis.ensures
