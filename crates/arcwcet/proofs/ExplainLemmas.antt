@@ -10,7 +10,7 @@ use Rattle.longest_walk.specs.Longest.{IsLongest, IsWalkFault}
 use Rattle.longest_walk.specs.declared.folded.Longest.{Longest}
 use Rattle.numbered_walks.specs.declared.fault.WalkFault.{WalkFault}
 use Rattle.numbered_walks.specs.declared.fault.WalkFault.TheVariants as walk_fault
-use Rattle.arcwcet.specs.ExplainReport.{IsExplanation, IsTableOf}
+use Rattle.arcwcet.specs.ExplainReport.{IsExplanation, IsTextOf}
 use Rattle.arcwcet.specs.Report.{HasLoops, IsRefused, IsTreeOf}
 use Rattle.arcwcet.specs.Source.{IsSourceFault, Said, source_of}
 use Rattle.arcwcet.specs.declared.fault.ReportFault.{ReportFault}
@@ -22,9 +22,9 @@ module _ (source statement : List ℕ) (profile : Profile) (words : Words) (name
     (st : Stated) (flow : Flow) (tree : Tree) (loops : HasLoops source statement profile st flow) (of : IsTreeOf flow st.loops tree) where
   -- the table of a greatest walk explains its bound
   pub explained : (l : Longest) (text : List ℕ) → IsLongest flow tree l → ((f : WalkFault) → f ≢ walk_fault.Memory → IsWalkFault flow tree f → ⊥)
-      → IsTableOf source words flow l text → IsExplanation source statement profile l.bound text
+      → IsTextOf source words st flow l text → IsExplanation source statement profile l.bound text
   unfolding accepted
-  explained l text is allowed table =
+  explained l text is allowed explains =
       let pairs : (words, names) ≡ (loops.graph.words, loops.graph.names) =
       one_ok (words, names) (loops.graph.words, loops.graph.names) (source_of source) said loops.graph.source_is in
       record {
@@ -35,7 +35,7 @@ module _ (source statement : List ℕ) (profile : Profile) (words : Words) (name
         longest_is = is;
         bound_is = refl;
         greatest = tree_is_greatest flow st.loops tree of.instances l.bound is.greatest;
-        table = subst (λ (w : Words). IsTableOf source w flow l text) (ap (λ (p : Said). p.0) pairs) table;
+        explains = subst (λ (w : Words). IsTextOf source w st flow l text) (ap (λ (p : Said). p.0) pairs) explains;
       }
 
 -- a fault of the source refuses the explanation

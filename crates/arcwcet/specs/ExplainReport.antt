@@ -1,7 +1,9 @@
 -- Where the ticks of a handler's greatest run time go. Our own format.
-use Rattle.std.specs.Prelude.{◌≡◌, ℕ, Bool, true, false, nat_le, List, Option, Some, None, Result}
+use Rattle.std.specs.Prelude.{◌≡◌, ℕ, Bool, true, false, nat_le, List, ◌++◌, Option, Some, None}
+use Rattle.std.specs.Prelude.{Result}
 use Rattle.bus_ticks.specs.declared.profile.Profile.{Profile}
 use Rattle.loader.specs.Image.{Words}
+use Rattle.statement.specs.Stated.{Stated}
 use Rattle.assembler.specs.Placed.{ArePlaced}
 use Rattle.assembler.specs.declared.placed_line.PlacedLine.{PlacedLine}
 use Rattle.flow_graph.specs.Flow.{Flow}
@@ -10,6 +12,7 @@ use Rattle.loop_bounds.specs.Tree.{Tree}
 use Rattle.longest_walk.specs.Folded.{unfolded}
 use Rattle.longest_walk.specs.Longest.{IsLongest}
 use Rattle.longest_walk.specs.declared.folded.Longest.{Longest}
+use Rattle.explained.specs.Assumed.{AreImageAssumptions, AreSourceAssumptions}
 use Rattle.explained.specs.Table.{IsImageTable, source_table}
 use Rattle.explained.specs.Taken.{taken_at}
 use Rattle.arcwcet.specs.Answers.{Answers}
@@ -17,24 +20,37 @@ use Rattle.arcwcet.specs.Report.{IsAccepted, IsRefused, IsTreeOf}
 use Rattle.arcwcet.specs.Source.{is_image}
 use Rattle.arcwcet.specs.declared.fault.ReportFault.{ReportFault}
 
--- ## The table
+-- ## The explanation
 
--- by the lines of a text, each where it stands
-pub record IsLineTable (source : List ℕ) (flow : Flow) (longest : Longest) (text : List ℕ) : Type 0 where
+-- by the lines of a text, each where it stands: the table, and then what is taken for granted
+pub record IsSourceText (source : List ℕ) (words : Words) (stated : Stated) (flow : Flow) (longest : Longest)
+    (text : List ℕ) : Type 0 where
   pub placed : List PlacedLine
+  pub assumptions : List ℕ
   pub are_placed : ArePlaced source placed
-  pub text_is : text ≡ source_table (taken_at flow (unfolded longest.walk)) longest.bound source placed
+  pub are_assumptions : AreSourceAssumptions source placed words stated flow assumptions
+  pub text_is : text
+      ≡ source_table (taken_at flow (unfolded longest.walk)) longest.bound source placed ++ assumptions
+
+-- by the words of an image
+pub record IsImageText (words : Words) (stated : Stated) (flow : Flow) (longest : Longest)
+    (text : List ℕ) : Type 0 where
+  pub table : List ℕ
+  pub assumptions : List ℕ
+  pub is_table : IsImageTable (taken_at flow (unfolded longest.walk)) longest.bound words table
+  pub are_assumptions : AreImageAssumptions words stated flow assumptions
+  pub text_is : text ≡ table ++ assumptions
 
 -- of an image by its words, of a text by its lines
-pub record IsTableOf (source : List ℕ) (words : Words) (flow : Flow) (longest : Longest)
+pub record IsTextOf (source : List ℕ) (words : Words) (stated : Stated) (flow : Flow) (longest : Longest)
     (text : List ℕ) : Type 0 where
-  pub of_image : is_image source ≡ true
-      → IsImageTable (taken_at flow (unfolded longest.walk)) longest.bound words text
-  pub of_text : is_image source ≡ false → IsLineTable source flow longest text
+  pub of_image : is_image source ≡ true → IsImageText words stated flow longest text
+  pub of_source : is_image source ≡ false → IsSourceText source words stated flow longest text
 
 -- ## The report
 
--- of an accepted source and statement: the table of a greatest walk, whose cost is the bound
+-- of an accepted source and statement: the table of a greatest walk, whose cost is the bound, and what is
+-- taken for granted of the words that are reached
 pub record IsExplanation (source statement : List ℕ) (profile : Profile) (bound : ℕ)
     (text : List ℕ) : Type 0 where
   pub accepted : IsAccepted source statement profile
@@ -44,7 +60,7 @@ pub record IsExplanation (source statement : List ℕ) (profile : Profile) (boun
   pub longest_is : IsLongest accepted.flow tree longest
   pub bound_is : longest.bound ≡ bound
   pub greatest : IsGreatestCost accepted.flow accepted.stated.loops bound
-  pub table : IsTableOf source accepted.loops.graph.words accepted.flow longest text
+  pub explains : IsTextOf source accepted.loops.graph.words accepted.stated accepted.flow longest text
 
 -- no more ticks than are wanted; any number where none is
 abbrev pub is_enough : Option ℕ → ℕ → Bool

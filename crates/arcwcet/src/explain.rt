@@ -4,7 +4,9 @@ ghost use Rattle.std.specs.Prelude.{◌≡◌, ◌≢◌, ℕ, List, Ok, IfErr, 
 ghost use Rattle.bus_ticks.specs.declared.profile.Profile.{Profile};
 ghost use Rattle.flow_graph.specs.Flow.{IsWellFormed};
 ghost use Rattle.statement.specs.Statement.{Names};
-ghost use Rattle.arcwcet.specs.ExplainReport.{Explains, IsExplanation, IsTableOf, is_enough};
+ghost use Rattle.assembler.specs.Placed.{ArePlaced};
+ghost use Rattle.arcwcet.specs.ExplainReport.{Explains, IsExplanation, IsImageText, IsSourceText};
+ghost use Rattle.arcwcet.specs.ExplainReport.{IsTextOf, is_enough};
 ghost use Rattle.arcwcet.specs.Priced.{Priced};
 ghost use Rattle.arcwcet.specs.Report.{HasLoops, IsAccepted, IsRefused, IsTreeOf};
 ghost use Rattle.arcwcet.specs.Source.{IsSourceFault, source_of};
@@ -12,13 +14,12 @@ ghost use Rattle.arcwcet.specs.Source.{IsSourceFault, source_of};
 use crate::fault::ReportFault;
 use crate::handler::{Handler, handler_of, profile_of, read_source};
 use crate::output::{Output, write_whole};
-use assembler::placed_lines;
+use assembler::{PlacedLine, placed_lines};
 use bus_ticks::Profile;
-use explained::{image_table, source_table};
-use flow_graph::Graph;
+use explained::{StatedGraph, image_assumptions, image_table, source_assumptions, source_table};
 use loader::{Image, MAGIC};
 use longest_walk::{Longest, longest};
-use std::alloc::Global;
+use std::alloc::{AllocError, Global};
 
 /// A handler whose bound is explained.
 #[derive(Clone, Copy)]
@@ -47,23 +48,59 @@ fn is_enough(at_most: Option<u32>, bound: u64) -> bool
     }
 }
 
-// The table of a greatest walk, by a text's lines or an image's words.
-fn table_of(
+// The explanation by the words of an image.
+fn image_text(
+    alloc: Global,
+    stated: StatedGraph<'_>,
+    longest: &Longest,
+) -> Result<Vec<u8>, AllocError>
+    ensures { IfOk result
+        (λ text. IsImageText stated.entry.image.now stated.entry.statement.now stated.entry.graph.now
+        longest.now text.items) }
+{
+    let mut text = image_table(alloc, stated.image, stated.graph, longest)?;
+    let assumptions = image_assumptions(alloc, stated)?;
+    text.extend_from_slice(&assumptions)?;
+    Ok(text)
+}
+
+// The explanation by the lines of a text, which stand so.
+fn placed_text(
     alloc: Global,
     source: &[u8],
-    image: &Image,
-    graph: &Graph,
+    placed: &[PlacedLine],
+    stated: StatedGraph<'_>,
+    longest: &Longest,
+) -> Result<Vec<u8>, AllocError>
+    requires { ArePlaced source.now placed.now }
+    ensures { IfOk result
+        (λ text. IsSourceText source.now stated.entry.image.now stated.entry.statement.now
+        stated.entry.graph.now longest.now text.items) }
+{
+    let mut text = source_table(alloc, source, placed, stated.graph, longest)?;
+    let assumptions = source_assumptions(alloc, stated, source, placed)?;
+    text.extend_from_slice(&assumptions)?;
+    Ok(text)
+}
+
+// The explanation by a greatest walk.
+fn text_of(
+    alloc: Global,
+    source: &[u8],
+    stated: StatedGraph<'_>,
     longest: &Longest,
 ) -> Result<Vec<u8>, ReportFault>
-    ensures table { IfOk result (λ text. IsTableOf source.now image.now graph.now longest.now text.items) }
+    ensures text { IfOk result
+        (λ text. IsTextOf source.now stated.entry.image.now stated.entry.statement.now
+        stated.entry.graph.now longest.now text.items) }
     ensures fault { IfErr result (IsSourceFault source.now) }
 {
     if source.starts_with(&MAGIC) {
-        let text = image_table(alloc, image, graph, longest)?;
+        let text = image_text(alloc, stated, longest)?;
         return Ok(text);
     }
     let placed = placed_lines(alloc, source)?;
-    let text = source_table(alloc, source, &placed, graph, longest)?;
+    let text = placed_text(alloc, source, &placed, stated, longest)?;
     Ok(text)
 }
 
@@ -85,7 +122,12 @@ fn explanation_of(
         → IfErr result (λ e. (e ≢ ReportFault.Device) × IsRefused source.now statement profile e) }
 {
     let found = longest(alloc, &handler.graph, &handler.tree)?;
-    let text = table_of(alloc, source, image, &handler.graph, &found)?;
+    let stated = StatedGraph {
+        image,
+        statement: &handler.statement,
+        graph: &handler.graph,
+    };
+    let text = text_of(alloc, source, stated, &found)?;
     Ok(Explanation {
         bound: found.bound,
         text,
@@ -126,8 +168,9 @@ fn priced_explanation<O: Output>(
 
 /// Writes where the ticks of a handler's greatest run time go, by a cycle profile's file or by the first
 /// profile: a table by the lines of the source, or by the words of an image, with how often a greatest walk
-/// passes each and the ticks of that; and then the bound, in ticks and in microseconds. Answers whether the
-/// bound is enough: at most so many ticks as are wanted.
+/// passes each and the ticks of that; then the bound, in ticks and in microseconds; and then what is taken for
+/// granted: words that count as returns although they do not look like one, and loads and stores of which no
+/// class is stated. Answers whether the bound is enough: at most so many ticks as are wanted.
 ///
 /// # Errors
 ///

@@ -1,7 +1,5 @@
 -- The rows of the words of an image.
 use Rattle.std.proofs.Common.{◌≡◌, ◌∙◌, ℕ, ◌+◌, ◌<◌, ◌≤◌, List, [], ◌++◌, append-nil, length, drop, get_or, take, codes, sum_by, Option, refl, sym, ap, subst, arith, append_assoc}
-use Rattle.std.proofs.Math.ListN.{drop_of_length-le}
-use Rattle.std.proofs.lemmas.List.{drop_more}
 use Rattle.std.proofs.lemmas.List.Sums.{sum_by_more}
 use Rattle.asm_text.specs.Hex.{hex8}
 use Rattle.asm_text.specs.Source.{lines_of}
@@ -9,56 +7,34 @@ use Rattle.assembler.specs.declared.placed_line.PlacedLine.{PlacedLine}
 use Rattle.walk_counts.specs.Counts.{capped}
 use Rattle.assembler.specs.ShownLines.{IsShown}
 use Rattle.loader.specs.Image.{Words}
-use Rattle.explained.specs.Table.{AddsWordRow, AddsWordRows, AreWordRows, IsImageTable, columns_text, heading, image_heading, image_ticks, source_rows, source_table, source_ticks, table_end, ticks_of}
+use Rattle.explained.specs.Rows.{Appends, AreRows, IsShownRow}
+use Rattle.explained.specs.Table.{IsImageTable, IsWordRow, columns_text, heading, image_heading, image_ticks, source_rows, source_table, source_ticks, table_end, ticks_of}
 use Rattle.explained.specs.declared.tally.Taken.{Taken}
 
 -- parts put one after another
-pub eight_parts : (old p1 p2 p3 p4 p5 p6 p7 p8 a b c d e f g new : List ℕ) → a ≡ old ++ p1 → b ≡ a ++ p2 → c ≡ b ++ p3 → d ≡ c ++ p4 → e ≡ d ++ p5 → f ≡ e ++ p6 → g ≡ f ++ p7 → new ≡ g ++ p8
-    → new ≡ old ++ (p1 ++ (p2 ++ (p3 ++ (p4 ++ (p5 ++ (p6 ++ (p7 ++ p8)))))))
-eight_parts old p1 p2 p3 p4 p5 p6 p7 p8 a b c d e f g new ia ib ic id ie jf ig inew =
-    inew ∙ ap (λ xs. xs ++ p8) (ig ∙ ap (λ xs. xs ++ p7) (jf ∙ ap (λ xs. xs ++ p6) (ie ∙ ap (λ xs. xs ++ p5) (id ∙ ap (λ xs. xs ++ p4) (ic ∙ ap (λ xs. xs ++ p3) (ib ∙ ap (λ xs. xs ++ p2) ia))))))
+pub seven_parts : (old p1 p2 p3 p4 p5 p6 p7 a b c d e f new : List ℕ) → a ≡ old ++ p1 → b ≡ a ++ p2 → c ≡ b ++ p3 → d ≡ c ++ p4 → e ≡ d ++ p5 → f ≡ e ++ p6 → new ≡ f ++ p7
+    → new ≡ old ++ (p1 ++ (p2 ++ (p3 ++ (p4 ++ (p5 ++ (p6 ++ p7))))))
+seven_parts old p1 p2 p3 p4 p5 p6 p7 a b c d e f new ia ib ic id ie jf inew =
+    inew ∙ ap (λ xs. xs ++ p7) (jf ∙ ap (λ xs. xs ++ p6) (ie ∙ ap (λ xs. xs ++ p5) (id ∙ ap (λ xs. xs ++ p4) (ic ∙ ap (λ xs. xs ++ p3) (ib ∙ ap (λ xs. xs ++ p2) ia)))))
     ∙ simp append_assoc
 
--- whatever rows the other words have, all rows are those so far and these
-pub record SoFar (taken : ℕ → Option Taken) (bound : ℕ) (words : Words) (i : ℕ) (old text : List ℕ) : Type 0 where
-  pub rows : List ℕ
-  pub is : text ≡ old ++ rows
-  pub whole : (rest : List ℕ) → AreWordRows taken bound (drop i words) rest → AreWordRows taken bound words (rows ++ rest)
-
-pub so_far_none : (taken : ℕ → Option Taken) (bound : ℕ) (words : Words) (old : List ℕ) → SoFar taken bound words 0 old old
-so_far_none taken bound words old = record { rows = []; is = sym (append-nil old); whole = λ rest are. are }
-
-pub so_far_one : (taken : ℕ → Option Taken) (bound : ℕ) (words : Words) (i : ℕ) (d : ℕ × ℕ) (old text new : List ℕ) → SoFar taken bound words i old text
-    → i < length words → AddsWordRow taken bound (get_or words i d) text new → SoFar taken bound words (i + 1) old new
-so_far_one taken bound words i d old text new h lt adds = record {
-  rows = h.rows ++ adds.0;
-  is = adds.2 ∙ ap (λ xs. xs ++ adds.0) h.is ∙ append_assoc old h.rows adds.0;
-  whole = λ rest are.
-      let row = adds.0 in
-      let here : AreWordRows taken bound (drop i words) (row ++ rest) =
-      subst (λ ws. AreWordRows taken bound ws (row ++ rest)) (sym (drop_more words i d lt)) (row, rest, adds.1, are, refl) in
-      subst (AreWordRows taken bound words) (sym (append_assoc h.rows row rest)) (h.whole (row ++ rest) here);
-}
-
-pub so_far_all : (taken : ℕ → Option Taken) (bound : ℕ) (words : Words) (i : ℕ) (old text : List ℕ) → SoFar taken bound words i old text
-    → length words ≤ i → AddsWordRows taken bound words old text
-so_far_all taken bound words i old text h le =
-    let none : drop i words ≡ [] = drop_of_length-le words le in (
-      h.rows,
-      subst (AreWordRows taken bound words) (append-nil h.rows) (h.whole [] (subst (λ ws. AreWordRows taken bound ws []) (sym none) refl)),
-      h.is,
-    )
-
 -- the row of a word
-pub image_row : (taken : ℕ → Option Taken) (bound at word : ℕ) (here : Option Taken) (line old a b c d e f g new : List ℕ) → here ≡ taken at → IsShown word at line
-    → a ≡ old ++ columns_text bound here → b ≡ a ++ codes "  " → c ≡ b ++ hex8 at → d ≡ c ++ codes "  " → e ≡ d ++ hex8 word → f ≡ e ++ codes "  " → g ≡ f ++ line → new ≡ g ++ codes "\n"
-    → AddsWordRow taken bound (at, word) old new
-image_row taken bound at word here line old a b c d e f g new same shown ia ib ic id ie jf ig inew =
-    let first : a ≡ old ++ columns_text bound (taken at) = ia ∙ ap (λ (o : Option Taken). old ++ columns_text bound o) same in (
-      columns_text bound (taken at) ++ (codes "  " ++ (hex8 at ++ (codes "  " ++ (hex8 word ++ (codes "  " ++ (line ++ codes "\n")))))),
-      (line, shown, refl),
-      eight_parts old (columns_text bound (taken at)) (codes "  ") (hex8 at) (codes "  ") (hex8 word) (codes "  ") line (codes "\n") a b c d e f g new first ib ic id ie jf ig inew,
-    )
+pub shown_row : (at word : ℕ) (line old a b c d e f new : List ℕ) → IsShown word at line
+    → a ≡ old ++ codes "  " → b ≡ a ++ hex8 at → c ≡ b ++ codes "  " → d ≡ c ++ hex8 word → e ≡ d ++ codes "  " → f ≡ e ++ line → new ≡ f ++ codes "\n"
+    → Appends (IsShownRow (at, word)) old new
+shown_row at word line old a b c d e f new shown ia ib ic id ie jf inew = (
+  codes "  " ++ (hex8 at ++ (codes "  " ++ (hex8 word ++ (codes "  " ++ (line ++ codes "\n"))))),
+  (line, shown, refl),
+  seven_parts old (codes "  ") (hex8 at) (codes "  ") (hex8 word) (codes "  ") line (codes "\n") a b c d e f new ia ib ic id ie jf inew,
+)
+
+-- with what is taken there
+pub word_row : (taken : ℕ → Option Taken) (bound at word : ℕ) (here : Option Taken) (old a new : List ℕ) → here ≡ taken at → a ≡ old ++ columns_text bound here
+    → Appends (IsShownRow (at, word)) a new → Appends (IsWordRow taken bound (at, word)) old new
+word_row taken bound at word here old a new same first adds =
+    let columns = columns_text bound (taken at) in
+    let begins : a ≡ old ++ columns = first ∙ ap (λ (o : Option Taken). old ++ columns_text bound o) same in
+    (columns ++ adds.0, (adds.0, adds.1, refl), adds.2 ∙ ap (λ xs. xs ++ adds.0) begins ∙ append_assoc old columns adds.0)
 
 -- the ticks of a word more
 pub image_more : (taken : ℕ → Option Taken) (words : Words) (i : ℕ) (d : ℕ × ℕ) (ticks one new : ℕ) → i < length words → ticks ≡ image_ticks taken (take i words)
@@ -71,7 +47,7 @@ image_more taken words i d ticks one new lt before here sum_is =
 
 -- the heading, the rows and the end
 pub image_whole : (taken lookup : ℕ → Option Taken) (bound total : ℕ) (words listed : Words) (start rows new : List ℕ) → lookup ≡ taken → listed ≡ words → start ≡ image_heading
-    → AddsWordRows lookup bound listed start rows → total ≡ image_ticks lookup listed → new ≡ rows ++ table_end total bound → IsImageTable taken bound words new
+    → Appends (AreRows (IsWordRow lookup bound) listed) start rows → total ≡ image_ticks lookup listed → new ≡ rows ++ table_end total bound → IsImageTable taken bound words new
 image_whole taken lookup bound total words listed start rows new same are heading_is adds total_is last =
     let table : IsImageTable lookup bound listed new = (
       adds.0,

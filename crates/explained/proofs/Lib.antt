@@ -1,6 +1,7 @@
 mod AssumedLaws
 mod ColumnLaws
 mod ImageLaws
+mod RowLaws
 mod SumLaws
 mod TableLaws
 mod TallyLaws

@@ -17,6 +17,7 @@ use Rattle.arm2_decode.specs.declared.names.Register.TheVariants.{R13, R14}
 use Rattle.arm2_decode.specs.declared.names.Shift.{Shift}
 use Rattle.arm2_decode.specs.declared.names.Shift.TheVariants.{Lsl}
 use Rattle.asm_text.specs.Hex.{hex8}
+use Rattle.asm_text.specs.Source.{lines_of}
 use Rattle.assembler.specs.declared.placed_line.PlacedLine.{PlacedLine}
 use Rattle.bus_ticks.specs.declared.profile.Class.TheVariants.{Any}
 use Rattle.flow_graph.specs.Flow.{Flow}
@@ -25,6 +26,7 @@ use Rattle.loader.specs.Image.{Words, word_of}
 use Rattle.statement.specs.Stated.{Stated, class_of, target_of}
 use Rattle.flow_graph.specs.declared.places.Place.{Place}
 use Rattle.explained.specs.Columns.{in_columns}
+use Rattle.explained.specs.Rows.{AreRows, IsShownRow}
 use Rattle.explained.specs.Taken.{is_at, is_reached}
 use Rattle.explained.specs.declared.assumptions.Assumption.{Assumption}
 use Rattle.explained.specs.declared.assumptions.Assumption.TheVariants.{LooseTransfer, TakenForReturn}
@@ -141,3 +143,48 @@ abbrev pub named_rows : List ℕ → ℕ → List (List ℕ) → List PlacedLine
 named_rows named n (text ∷ lines) (p ∷ placed) =
     word_rows named n text p.at p.words ++ named_rows named (n + 1) lines placed
 named_rows named n _ _ = []
+
+-- the row of an image's word if it is named, else nothing
+pub record IsNamedRow (named : List ℕ) (e : ℕ × ℕ) (row : List ℕ) : Type 0 where
+  pub named_one : list_any (λ a. a == e.0) named ≡ true → IsShownRow e row
+  pub other : list_any (λ a. a == e.0) named ≡ false → row ≡ []
+
+-- ## Texts
+
+-- above the rows of the words of which that is assumed
+abbrev pub heading_of : Assumption → List ℕ
+heading_of TakenForReturn =
+    codes "\nWARNING: taken for returns, though these do not look like one (see [[target]]):\n"
+heading_of LooseTransfer = codes "\nLoads and stores that may be anywhere (see [[access]]):\n"
+
+-- the rows under their heading; nothing where there are none
+abbrev pub section : Assumption → List ℕ → List ℕ
+section what [] = []
+section what (byte ∷ rows) = heading_of what ++ (byte ∷ rows)
+
+-- of exactly the words of which that is assumed, the rows of named words being such
+pub record IsSection (AreRowsOf : (named rows : List ℕ) → Type 0) (image : Words) (st : Stated) (flow : Flow)
+    (what : Assumption) (text : List ℕ) : Type 0 where
+  pub named : List ℕ
+  pub rows : List ℕ
+  pub are_assumed : AreAssumed image st flow what named
+  pub are_rows : AreRowsOf named rows
+  pub text_is : text ≡ section what rows
+
+-- the words taken for returns come first
+pub record AreAssumptions (AreRowsOf : (named rows : List ℕ) → Type 0) (image : Words) (st : Stated)
+    (flow : Flow) (text : List ℕ) : Type 0 where
+  pub returns : List ℕ
+  pub transfers : List ℕ
+  pub are_returns : IsSection AreRowsOf image st flow TakenForReturn returns
+  pub are_transfers : IsSection AreRowsOf image st flow LooseTransfer transfers
+  pub text_is : text ≡ returns ++ transfers
+
+-- by the lines of a source
+abbrev pub AreSourceAssumptions : List ℕ → List PlacedLine → Words → Stated → Flow → List ℕ → Type 0
+AreSourceAssumptions source placed =
+    AreAssumptions (λ named rows. rows ≡ named_rows named 1 (lines_of source) placed)
+
+-- by the words of an image
+abbrev pub AreImageAssumptions : Words → Stated → Flow → List ℕ → Type 0
+AreImageAssumptions image = AreAssumptions (λ named. AreRows (IsNamedRow named) image) image

@@ -2,13 +2,12 @@
 use Rattle.std.specs.Prelude.{◌≡◌, ℕ, zero, suc, ◌+◌, Bool, ◌==◌, if◌then◌else◌, List, [], ◌∷◌, ◌++◌, codes}
 use Rattle.std.specs.Prelude.{decimal, sum_by, Option, Some, None, is_some}
 use Rattle.std.specs.List.{list_any}
-use Rattle.asm_text.specs.Hex.{hex8}
 use Rattle.asm_text.specs.Source.{lines_of}
-use Rattle.assembler.specs.ShownLines.{IsShown}
 use Rattle.assembler.specs.declared.placed_line.PlacedLine.{PlacedLine}
 use Rattle.loader.specs.Image.{Words}
 use Rattle.walk_counts.specs.Counts.{capped}
 use Rattle.explained.specs.Columns.{bound_line, in_columns, ticks_text, total_row}
+use Rattle.explained.specs.Rows.{AreRows, IsShownRow}
 use Rattle.explained.specs.declared.tally.Taken.{Taken}
 
 -- ## Lines
@@ -76,25 +75,7 @@ source_rows taken bound n _ _ = []
 -- with the address, the word and its line
 abbrev pub IsWordRow : (ℕ → Option Taken) → ℕ → ℕ × ℕ → List ℕ → Type 0
 IsWordRow taken bound e row =
-    (line : List ℕ) × IsShown e.1 e.0 line
-    × (row ≡ columns_text bound (taken e.0)
-    ++ (codes "  " ++ (hex8 e.0 ++ (codes "  " ++ (hex8 e.1 ++ (codes "  " ++ (line ++ codes "\n")))))))
-
--- a row for each word
-abbrev pub AreWordRows : (ℕ → Option Taken) → ℕ → Words → List ℕ → Type 0
-AreWordRows taken bound [] text = text ≡ []
-AreWordRows taken bound (e ∷ words) text =
-    (row rest : List ℕ) × IsWordRow taken bound e row × AreWordRows taken bound words rest
-    × (text ≡ row ++ rest)
-
--- the row of a word stands after the old text
-abbrev pub AddsWordRow : (ℕ → Option Taken) → ℕ → ℕ × ℕ → (old new : List ℕ) → Type 0
-AddsWordRow taken bound e old new = (row : List ℕ) × IsWordRow taken bound e row × (new ≡ old ++ row)
-
--- the rows of the words do
-abbrev pub AddsWordRows : (ℕ → Option Taken) → ℕ → Words → (old new : List ℕ) → Type 0
-AddsWordRows taken bound words old new =
-    (rows : List ℕ) × AreWordRows taken bound words rows × (new ≡ old ++ rows)
+    (shown : List ℕ) × IsShownRow e shown × (row ≡ columns_text bound (taken e.0) ++ shown)
 
 -- ## Tables
 
@@ -116,5 +97,5 @@ image_heading = codes "   passes      ticks  share   address      word  text\n"
 -- of an image
 abbrev pub IsImageTable : (ℕ → Option Taken) → ℕ → Words → List ℕ → Type 0
 IsImageTable taken bound words text =
-    (rows : List ℕ) × AreWordRows taken bound words rows
+    (rows : List ℕ) × AreRows (IsWordRow taken bound) words rows
     × (text ≡ image_heading ++ (rows ++ table_end (image_ticks taken words) bound))

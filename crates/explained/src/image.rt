@@ -2,7 +2,8 @@ ghost use Rattle.std.specs.Prelude.{◌≡◌, IfOk, OnOk};
 ghost use Rattle.std.specs.BTreeMap.{get};
 ghost use Rattle.std.specs.Ordering.{nat_cmp};
 ghost use Rattle.longest_walk.specs.Folded.{unfolded};
-ghost use Rattle.explained.specs.Table.{AddsWordRow, AddsWordRows, IsImageTable, image_ticks};
+ghost use Rattle.explained.specs.Rows.{Appends, AreRows, IsShownRow};
+ghost use Rattle.explained.specs.Table.{IsImageTable, IsWordRow, image_ticks};
 ghost use Rattle.explained.specs.Taken.{taken_at};
 
 use crate::columns::{IMAGE_HEADING, put, put_end};
@@ -15,18 +16,10 @@ use loader::Image;
 use longest_walk::Longest;
 use std::alloc::{AllocError, Global};
 
-// Adds the row of a word.
-fn put_row(
-    out: &mut Vec<u8>,
-    tally: &Tally,
-    bound: u64,
-    at: u32,
-    word: u32,
-) -> Result<(), AllocError>
-    ensures { OnOk result
-        (AddsWordRow (get nat_cmp tally.now.by_address) bound (at, word) out.old.items out.new.items) }
+/// Adds the row of a word: its address, the word and its line.
+pub(crate) fn put_shown_row(out: &mut Vec<u8>, at: u32, word: u32) -> Result<(), AllocError>
+    ensures { OnOk result (Appends (IsShownRow (at, word)) out.old.items out.new.items) }
 {
-    put_taken(out, tally.at(at), bound)?;
     put(out, b"  ")?;
     put(out, &hex8(at))?;
     put(out, b"  ")?;
@@ -37,6 +30,21 @@ fn put_row(
     put(out, b"\n")
 }
 
+// Adds the row of a word, with what is taken there.
+fn put_row(
+    out: &mut Vec<u8>,
+    tally: &Tally,
+    bound: u64,
+    at: u32,
+    word: u32,
+) -> Result<(), AllocError>
+    ensures { OnOk result
+        (Appends (IsWordRow (get nat_cmp tally.now.by_address) bound (at, word)) out.old.items out.new.items) }
+{
+    put_taken(out, tally.at(at), bound)?;
+    put_shown_row(out, at, word)
+}
+
 // Adds the rows of the words.
 fn put_rows(
     out: &mut Vec<u8>,
@@ -45,7 +53,8 @@ fn put_rows(
     words: &[(u32, u32)],
 ) -> Result<(), AllocError>
     ensures { OnOk result
-        (AddsWordRows (get nat_cmp tally.now.by_address) bound words.now out.old.items out.new.items) }
+        (Appends (AreRows (IsWordRow (get nat_cmp tally.now.by_address) bound) words.now) out.old.items
+        out.new.items) }
 {
     for (at, word) in words {
         put_row(out, tally, bound, *at, *word)?;

@@ -1,5 +1,5 @@
-//! The table of a bound: where the ticks of a greatest walk go, by the line of a source or the word of an
-//! image.
+//! A bound explained: where the ticks of a greatest walk go, and what is taken for granted, by the line of a
+//! source or the word of an image.
 #![tactic(auto)]
 
 mod assumptions;
@@ -8,6 +8,7 @@ mod image;
 mod law;
 mod lines;
 mod named;
+mod sections;
 mod shapes;
 mod source;
 mod tally;
@@ -16,4 +17,5 @@ pub use assumptions::{Assumption, assumed};
 pub use image::image_table;
 pub use law::{numbers_are_of_the_walk, totals_are_the_bound, unreached_lines_have_no_place};
 pub use named::named_lines;
+pub use sections::{StatedGraph, image_assumptions, source_assumptions};
 pub use source::source_table;

@@ -3,11 +3,14 @@ ghost use Rattle.std.specs.List.{list_any};
 ghost use Rattle.std.specs.List.Sorted.{IsStrictlySortedBy};
 ghost use Rattle.std.specs.Ordering.{nat_cmp};
 ghost use Rattle.asm_text.specs.Source.{lines_of};
-ghost use Rattle.explained.specs.Assumed.{named_row, named_rows, row_if_named, word_rows};
+ghost use Rattle.explained.specs.Assumed.{IsNamedRow, named_row, named_rows, row_if_named, word_rows};
+ghost use Rattle.explained.specs.Rows.{Appends, AreRows};
 
 use crate::columns::{put, put_number};
+use crate::image::put_shown_row;
 use asm_text::{first_line, hex8};
 use assembler::PlacedLine;
+use loader::Image;
 use std::alloc::{AllocError, Global};
 
 // A line of a source and its number, from 1.
@@ -101,6 +104,39 @@ pub fn named_lines(
         put_words(&mut out, named, NumberedLine { number, text }, *line)?;
         rest = after;
         number += 1;
+    }
+    Ok(out)
+}
+
+// Adds the row of an image's word, if that is named.
+fn put_word(out: &mut Vec<u8>, named: &[u32], at: u32, word: u32) -> Result<(), AllocError>
+    requires { IsStrictlySortedBy nat_cmp named.now }
+    ensures { OnOk result (Appends (IsNamedRow named.now (at, word)) out.old.items out.new.items) }
+{
+    if !is_named(named, at) {
+        return Ok(());
+    }
+    put_shown_row(out, at, word)
+}
+
+/// The rows of those of an image's words that are named: the address of each, the word, and the line that
+/// [`disassemble`] shows. The named addresses ascend.
+///
+/// # Errors
+///
+/// An allocation failed.
+pub(crate) fn named_words(
+    alloc: Global,
+    image: &Image,
+    named: &[u32],
+) -> Result<Vec<u8>, AllocError>
+    requires { IsStrictlySortedBy nat_cmp named.now }
+    ensures { IfOk result (λ rows. AreRows (IsNamedRow named.now) image.now rows.items) }
+{
+    let words = image.listed(alloc)?;
+    let mut out = Vec::new(alloc);
+    for (at, word) in &words {
+        put_word(&mut out, named, *at, *word)?;
     }
     Ok(out)
 }

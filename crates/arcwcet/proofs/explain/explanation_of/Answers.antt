@@ -24,4 +24,4 @@ pub returns-clause-explains : goal.returns-clause-explains
 returns-clause-explains c = λ statement profile names said loops.
     let h = c.args.handler.now in
     explained c.args.source.now statement profile c.args.image.now names said h.statement h.graph h.tree loops c.requires.tree
-    c.in_ok-found.found c.in_ok-text.text.items c.in_ok-found.ensures.longest c.in_ok-found.ensures.allowed c.in_ok-text.ensures.table
+    c.in_ok-found.found c.in_ok-text.text.items c.in_ok-found.ensures.longest c.in_ok-found.ensures.allowed c.in_ok-text.ensures.text

@@ -3,7 +3,7 @@ use Rattle.arcwcet.specs.Faults.{of_source}
 use Rattle.arcwcet.specs.Source.{IsSourceFault, is_image}
 use Rattle.arcwcet.proofs.HandlerLemmas.{refused_as}
 use Rattle.arcwcet.proofs.SourceLemmas.{text_fault}
-use Rattle.arcwcet.proofs.explain.table_of.Goals as goal
+use Rattle.arcwcet.proofs.explain.text_of.Goals as goal
 
 pub returns-in_err-placed-clause-fault : goal.returns-in_err-placed-clause-fault
 returns-in_err-placed-clause-fault c =

@@ -1,19 +1,12 @@
-use Rattle.std.proofs.Common.{◌∙◌, ◌++◌, ℕ, List, ap, subst, sym}
 use Rattle.std.proofs.lemmas.Result.{on_ok_weaker}
 use Rattle.std.specs.BTreeMap.{get}
 use Rattle.std.specs.Ordering.{nat_cmp}
-use Rattle.assembler.specs.ShownLines.{IsShown}
-use Rattle.explained.proofs.ImageLaws.{image_row}
+use Rattle.explained.proofs.ImageLaws.{word_row}
 use Rattle.explained.proofs.image.put_row.Goals as goal
 
 pub returns : goal.returns
 returns c =
-    let line = c.items.result.now in
-    let shown = subst (IsShown c.args.word c.args.at) (sym c.items.ensures.bytes) c.disassemble-line.ensures in
-    on_ok_weaker c.put-7.result
-    (image_row (get nat_cmp c.args.tally.now.by_address) c.args.bound c.args.at c.args.word c.at.result line c.args.out.now.items
-    c.put_taken.new.out.items c.put.new.out.items c.put-2.new.out.items c.put-3.new.out.items c.put-4.new.out.items c.put-5.new.out.items c.put-6.new.out.items
-    c.put-7.new.out.items c.at.ensures shown c.in_ok-put_taken.ensures c.in_ok-put.ensures
-    (c.in_ok-put-2.ensures ∙ ap (λ (xs : List ℕ). c.put.new.out.items ++ xs) c.hex8.ensures) c.in_ok-put-3.ensures
-    (c.in_ok-put-4.ensures ∙ ap (λ (xs : List ℕ). c.put-3.new.out.items ++ xs) c.hex8-2.ensures) c.in_ok-put-5.ensures c.in_ok-put-6.ensures)
-    c.put-7.ensures
+    on_ok_weaker c.put_shown_row.result
+    (word_row (get nat_cmp c.args.tally.now.by_address) c.args.bound c.args.at c.args.word c.at.result c.args.out.now.items c.put_taken.new.out.items
+    c.put_shown_row.new.out.items c.at.ensures c.in_ok-put_taken.ensures)
+    c.put_shown_row.ensures

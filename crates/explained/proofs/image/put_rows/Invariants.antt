@@ -1,7 +1,9 @@
 use Rattle.std.specs.BTreeMap.{get}
 use Rattle.std.specs.Ordering.{nat_cmp}
-use Rattle.explained.proofs.ImageLaws.{SoFar}
+use Rattle.explained.specs.Table.{IsWordRow}
+use Rattle.explained.proofs.RowLaws.{SoFar}
 use Rattle.explained.proofs.image.put_rows.Given as goal
 
 abbrev pub invariant-loop-at : goal.invariant-loop-at
-invariant-loop-at l = SoFar (get nat_cmp l.tally.by_address) l.bound l.words l.at-index l.initial.out.items l.out.items
+invariant-loop-at l =
+    SoFar (IsWordRow (get nat_cmp l.tally.by_address) l.bound) l.words l.at-index l.initial.out.items l.out.items

@@ -1,0 +1,20 @@
+-- Rows of a text, one for each of several things.
+use Rattle.std.specs.Prelude.{◌≡◌, ℕ, List, [], ◌∷◌, ◌++◌, codes}
+use Rattle.asm_text.specs.Hex.{hex8}
+use Rattle.assembler.specs.ShownLines.{IsShown}
+
+-- a row for each, in their order
+abbrev pub AreRows : {A : Type 0} → (A → List ℕ → Type 0) → List A → List ℕ → Type 0
+AreRows IsRow [] text = text ≡ []
+AreRows IsRow (e ∷ es) text =
+    (row rest : List ℕ) × IsRow e row × AreRows IsRow es rest × (text ≡ row ++ rest)
+
+-- such a text stands after the old one
+abbrev pub Appends : (List ℕ → Type 0) → (old new : List ℕ) → Type 0
+Appends Is old new = (text : List ℕ) × Is text × (new ≡ old ++ text)
+
+-- the row of an image's word: its address, the word and its line
+abbrev pub IsShownRow : ℕ × ℕ → List ℕ → Type 0
+IsShownRow e row =
+    (line : List ℕ) × IsShown e.1 e.0 line
+    × (row ≡ codes "  " ++ (hex8 e.0 ++ (codes "  " ++ (hex8 e.1 ++ (codes "  " ++ (line ++ codes "\n"))))))
