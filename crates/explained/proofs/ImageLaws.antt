@@ -1,5 +1,5 @@
 -- The rows of the words of an image.
-use Rattle.std.proofs.Common.{◌≡◌, ◌∙◌, ℕ, ◌+◌, ◌<◌, ◌≤◌, List, [], ◌++◌, append-nil, length, drop, get_or, take, codes, sum_by, Option, refl, sym, ap, subst, arith, append_assoc}
+use Rattle.std.proofs.Common.{◌≡◌, ◌∙◌, ℕ, ◌+◌, ◌<◌, List, ◌++◌, length, get_or, take, codes, sum_by, Option, refl, sym, ap, subst, arith, append_assoc}
 use Rattle.std.proofs.lemmas.List.Sums.{sum_by_more}
 use Rattle.asm_text.specs.Hex.{hex8}
 use Rattle.asm_text.specs.Source.{lines_of}

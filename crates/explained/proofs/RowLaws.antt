@@ -1,8 +1,12 @@
 -- Rows that are put one after another.
-use Rattle.std.proofs.Common.{◌≡◌, ◌∙◌, ℕ, ◌+◌, ◌<◌, ◌≤◌, List, [], ◌++◌, append-nil, length, drop, get_or, refl, sym, ap, subst, append_assoc}
+use Rattle.std.proofs.Common.{◌≡◌, ◌∙◌, ℕ, ◌+◌, ◌<◌, ◌≤◌, true, false, List, [], ◌++◌, append-nil, length, drop, get_or, refl, sym, ap, subst, append_assoc}
+use Rattle.std.specs.Prelude.{◌==◌}
+use Rattle.std.specs.List.{list_any}
+use Rattle.std.proofs.lemmas.Bool.{false≢true}
 use Rattle.std.proofs.Math.ListN.{drop_of_length-le}
 use Rattle.std.proofs.lemmas.List.{drop_more}
-use Rattle.explained.specs.Rows.{Appends, AreRows}
+use Rattle.explained.specs.Assumed.{IsNamedRow}
+use Rattle.explained.specs.Rows.{Appends, AreRows, IsShownRow}
 
 module _ {A : Type 0} (IsRow : A → List ℕ → Type 0) (all : List A) where
   -- whatever rows the others have, all rows are those so far and these
@@ -32,3 +36,13 @@ module _ {A : Type 0} (IsRow : A → List ℕ → Type 0) (all : List A) where
         subst (AreRows IsRow all) (append-nil h.rows) (h.whole [] (subst (λ ws. AreRows IsRow ws []) (sym none) refl)),
         h.is,
       )
+
+-- ## Named words
+
+-- a word that is not named has no row
+pub no_row : (named : List ℕ) (e : ℕ × ℕ) (text : List ℕ) → list_any (λ a. a == e.0) named ≡ false → Appends (IsNamedRow named e) text text
+no_row named e text other = ([], record { named_one = λ one. absurd (false≢true (sym other ∙ one)); other = λ o. refl }, sym (append-nil text))
+
+-- one that is named has its own
+pub its_row : (named : List ℕ) (e : ℕ × ℕ) (old new : List ℕ) → list_any (λ a. a == e.0) named ≡ true → Appends (IsShownRow e) old new → Appends (IsNamedRow named e) old new
+its_row named e old new one adds = (adds.0, record { named_one = λ o. adds.1; other = λ other. absurd (false≢true (sym other ∙ one)) }, adds.2)

@@ -40,7 +40,7 @@ fn section(alloc: Global, what: Assumption, rows: &[u8]) -> Result<Vec<u8>, Allo
     ensures { IfOk result (λ text. text.items ≡ section what rows.now) }
 {
     let mut out = Vec::new(alloc);
-    if rows.is_empty() {
+    if let [] = rows {
         return Ok(out);
     }
     put(&mut out, heading(what))?;
