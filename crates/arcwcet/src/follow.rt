@@ -161,11 +161,7 @@ fn handler_run(
     judged_run(alloc, bounded, &mut placed)
 }
 
-fn source_run(
-    alloc: Global,
-    run: FollowedRun<'_>,
-    profile: &Profile,
-) -> Result<Judged, ReportFault>
+fn source_run(alloc: Global, run: FollowedRun<'_>, profile: &Profile) -> Result<Judged, ReportFault>
     ensures judged { IfOk result
         (λ j. IsFollowReport run.entry.source.now run.entry.statement.now run.entry.machine.now profile.now
         j.kept (string_bytes j.text)) }
