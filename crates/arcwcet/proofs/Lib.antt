@@ -3,6 +3,7 @@ pub mod CheckLemmas
 pub mod CommentLemmas
 pub mod ExplainLemmas
 pub mod FileLemmas
+pub mod FollowLemmas
 pub mod Fronts
 pub mod HandlerLemmas
 pub mod KeptRun

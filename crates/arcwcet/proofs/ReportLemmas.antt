@@ -85,10 +85,10 @@ report_refusal source statement profile (report_fault.Cert f) h = (λ e. cc e, h
 -- ## A walk that keeps the bounds of a tree's instances keeps those of the stated loops
 
 module _ (flow : Flow) (loops : List Loop) (tree : Tree) (same : (i : Instance) → Contains tree.instances i ↔ IsInstance flow loops i) where
-  kept_here : (walk : List Edge) → KeepsTree tree walk → KeepsTheBounds flow loops walk
+  pub kept_here : (walk : List Edge) → KeepsTree tree walk → KeepsTheBounds flow loops walk
   kept_here walk kept i is = kept i ((same i).1 is)
 
-  kept_there : (walk : List Edge) → KeepsTheBounds flow loops walk → KeepsTree tree walk
+  pub kept_there : (walk : List Edge) → KeepsTheBounds flow loops walk → KeepsTree tree walk
   kept_there walk kept i is = kept i ((same i).0 is)
 
   -- the greatest cost by the tree's instances is that by the stated loops
@@ -119,7 +119,7 @@ module _ (flow : Flow) (loops : List Loop) (tree : Tree) (same : (i : Instance) 
 -- ## The report
 
 -- a run whose steps are the edges of a walk takes at most the walk, and no such walk costs more than the greatest
-bounds_runs : (words : Words) (profile : Profile) (st : Stated) (flow : Flow) (bound : ℕ) → RunLaw → IsGreatestCost flow st.loops bound → BoundsRuns words st profile flow bound
+pub bounds_runs : (words : Words) (profile : Profile) (st : Stated) (flow : Flow) (bound : ℕ) → RunLaw → IsGreatestCost flow st.loops bound → BoundsRuns words st profile flow bound
 bounds_runs words profile st flow bound law greatest s inputs ran after keeps runs =
     let within : IsWithin profile keeps.walk inputs ran = law words st profile s inputs keeps.walk ran after runs keeps.follows in
     let most : cost_of edge_shape keeps.walk ≤ bound = greatest.upper keeps.walk keeps.complete keeps.kept in

@@ -6,16 +6,17 @@ use Rattle.arcwcet.specs.Answers.{Answers, FailsWithin, OfSome}
 use Rattle.arcwcet.specs.Check.{Checks, IsAnswer, IsCheckRefused, IsCheckable}
 use Rattle.arcwcet.specs.Debug.{IsDebugReport}
 use Rattle.arcwcet.specs.Files.{FailsToRead, ReadsAll, Reading, Texts, in_front, Writing}
-use Rattle.command_line.specs.Line.{Asked, asm, list, draft, run, trace, debug, bound, explain, tight, check, visits}
+use Rattle.command_line.specs.Line.{Asked, asm, list, draft, run, trace, debug, bound, explain, tight, check, visits, follow}
 use Rattle.arcwcet.specs.ExplainReport.{IsExplainReport}
+use Rattle.arcwcet.specs.FollowReport.{FollowsRun, IsFollowRefused, IsFollowReport, IsFollowable}
 use Rattle.arcwcet.specs.Machine.{Front, IsMachineReport, IsRunRefused, IsRunnable, ShowsRegisters, ShowsSteps}
 use Rattle.arcwcet.specs.Priced.{ByProfile, HasNoProfile, Priced, PricedFault}
 use Rattle.arcwcet.specs.Assembly.{IsSourceRefused}
 use Rattle.arcwcet.specs.DraftReport.{IsDraftRefused, IsDraftReport}
 use Rattle.arcwcet.specs.ListReport.{IsListReport}
 use Rattle.arcwcet.specs.Report.{IsAccepted, IsRefused, IsReport}
-use Rattle.arcwcet.specs.Run.{HasNoReport, HasNoRun, HasNoTightReportOf, HasNoVerdict, HasNoVisitsReport, HasHeard, HasPrinted, IsAnswerOf, IsExplanationOf, HasNoText, IsReportOf, IsTextOf, IsRunOf, IsSessionOf, IsTightReportOf, IsVisitsReportOf, OfThree, OfTwo}
-use Rattle.arcwcet.specs.Run.{Runs, RunsAsked, RunsAsm, RunsCheck, RunsDebug, RunsExplain, RunsMachine, RunsVisits, answer_status, done_status, report_status, store_status}
+use Rattle.arcwcet.specs.Run.{HasNoFollowed, HasNoReport, HasNoRun, HasNoTightReportOf, HasNoVerdict, HasNoVisitsReport, HasHeard, HasPrinted, IsAnswerOf, IsExplanationOf, IsFollowedOf, HasNoText, IsReportOf, IsTextOf, IsRunOf, IsSessionOf, IsTightReportOf, IsVisitsReportOf, OfThree, OfTwo}
+use Rattle.arcwcet.specs.Run.{Runs, RunsAsked, RunsAsm, RunsCheck, RunsDebug, RunsExplain, RunsFollow, RunsMachine, RunsVisits, answer_status, done_status, report_status, store_status}
 use Rattle.arcwcet.specs.VisitsReport.{AreAccepted, AreRefused, IsVisitsReport, ReportsVisits}
 use Rattle.arcwcet.specs.declared.fault.ReportFault.{ReportFault}
 use Rattle.arcwcet.specs.declared.fault.ReportFault.TheVariants.{Memory, Source, Image, Statement, Graph, Loops, Walk, MachineFile, Load, Cert, Device}
@@ -315,6 +316,16 @@ check_ran reads taken failures profile source statement cert file one two three 
     (λ x text b. of_three (λ f s t u. ByProfile f (λ p. IsAnswer s t u p x text)) file one two three b)
     (λ fault k. of_three (λ f s t u. PricedFault f (λ p e. IsCheckRefused s t u p e) fault) file one two three k)
 
+pub follow_ran : {S O : Type 0} (reads : Reading S) (taken : O → Option (List ℕ)) (failures : O → ℕ) (profile : Option (List ℕ)) (source statement machine : List ℕ) (file : Option (List ℕ)) (one two three : List ℕ)
+    (old new : S) (before after : O) → ReadsAll reads old (in_front profile (source ∷ statement ∷ machine ∷ [])) (in_front file (one ∷ two ∷ three ∷ [])) new
+    → (result : Result Bool ReportFault) → Priced file (λ p. FollowsRun taken failures one two three p before after result) before after result
+    → (status : ℕ) → status ≡ answer_status result → RunsFollow reads taken failures profile source statement machine old new before after status
+follow_ran reads taken failures profile source statement machine file one two three old new before after read =
+    priced_ran reads taken failures IsFollowedOf HasNoFollowed (in_front profile (source ∷ statement ∷ machine ∷ [])) old new before after (in_front file (one ∷ two ∷ three ∷ [])) read
+    file (λ p. IsFollowReport one two three p) (λ p. IsFollowable one two three p) (λ p. IsFollowRefused one two three p)
+    (λ x text b. of_three (λ f s t u. ByProfile f (λ p. IsFollowReport s t u p x text)) file one two three b)
+    (λ fault k. of_three (λ f s t u. PricedFault f (λ p e. IsFollowRefused s t u p e) fault) file one two three k)
+
 module _ {S O : Type 0} (reads : Reading S) (taken : O → Option (List ℕ)) (failures : O → ℕ) (profile : Option (List ℕ)) (source irq fiq : List ℕ) (k : ℕ) (file : Option (List ℕ))
     (one two three : List ℕ) (old new : S) (before after : O) (read : ReadsAll reads old (in_front profile (source ∷ irq ∷ fiq ∷ [])) (in_front file (one ∷ two ∷ three ∷ [])) new) where
   visits_text : {T : Type 0} (x : T) (text : List ℕ) → ByProfile file (λ p. IsVisitsReport one two three k p text) → IsVisitsReportOf k true (in_front file (one ∷ two ∷ three ∷ [])) text
@@ -401,3 +412,4 @@ module _ {S I O : Type 0} (reads : Reading S) (writes : Writing S) (remaining : 
   starved_asked (tight n edge) = (starved_run (IsReportOf (IsTightReportOf edge)) (HasNoReport (HasNoTightReportOf edge)) (in_front n.profile (n.first ∷ n.second ∷ [])), refl)
   starved_asked (check n cert) = (starved_run IsAnswerOf HasNoVerdict (in_front n.profile (n.first ∷ n.second ∷ cert ∷ [])), refl)
   starved_asked (visits n fiq k) = (starved_run (IsVisitsReportOf k) (HasNoVisitsReport k) (in_front n.profile (n.first ∷ n.second ∷ fiq ∷ [])), refl)
+  starved_asked (follow n machine) = (starved_run IsFollowedOf HasNoFollowed (in_front n.profile (n.first ∷ n.second ∷ machine ∷ [])), refl)

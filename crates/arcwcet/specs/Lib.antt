@@ -7,6 +7,9 @@ pub mod DraftReport
 pub mod ExplainReport
 pub mod Faults
 pub mod Files
+pub mod FollowReport
+pub mod FollowText
+pub mod FollowWork
 pub mod Keeping
 pub mod Kept
 pub mod ListReport

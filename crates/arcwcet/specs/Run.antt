@@ -8,9 +8,10 @@ use Rattle.arcwcet.specs.Check.{IsAnswer, IsCheckRefused}
 use Rattle.arcwcet.specs.Debug.{IsDebugReport}
 use Rattle.arcwcet.specs.Files.{FailsToRead, ReadsAll, Reading, Texts, Writing, in_front}
 use Rattle.command_line.specs.Line.{Asked, asm, list, draft, run, trace, debug, bound, explain, tight}
-use Rattle.command_line.specs.Line.{check, visits}
+use Rattle.command_line.specs.Line.{check, follow, visits}
 use Rattle.arcwcet.specs.DraftReport.{IsDraftRefused, IsDraftReport}
 use Rattle.arcwcet.specs.ExplainReport.{IsExplainReport}
+use Rattle.arcwcet.specs.FollowReport.{IsFollowRefused, IsFollowReport}
 use Rattle.arcwcet.specs.ListReport.{IsListReport}
 use Rattle.arcwcet.specs.Machine.{Front, IsMachineReport, IsRunRefused, ShowsRegisters, ShowsSteps}
 use Rattle.arcwcet.specs.Output.{TakesFront, FailsSince}
@@ -185,6 +186,28 @@ abbrev pub RunsCheck : {S O : Type 0} → Reading S → (O → Option (List ℕ)
 RunsCheck reads taken failures profile source statement cert old new before after status =
     Runs reads taken failures IsAnswerOf HasNoVerdict
     (in_front profile (source ∷ statement ∷ cert ∷ [])) old new before after status
+
+-- ## `follow SOURCE STATEMENT MACHINE`
+
+-- the answer on the run of a machine through a handler by the profile: at 0 it keeps the statement, at 1 it
+-- does not
+abbrev pub IsFollowedOf : Bool → Texts → List ℕ → Type 0
+IsFollowedOf kept files text =
+    OfThree
+    (λ file source statement machine. ByProfile file
+    (λ p. IsFollowReport source statement machine p kept text)) files
+
+abbrev pub HasNoFollowed : Texts → ReportFault → Type 0
+HasNoFollowed files fault =
+    OfThree
+    (λ file source statement machine. PricedFault file
+    (λ p f. IsFollowRefused source statement machine p f) fault) files
+
+abbrev pub RunsFollow : {S O : Type 0} → Reading S → (O → Option (List ℕ)) → (O → ℕ) → Option (List ℕ)
+    → List ℕ → List ℕ → List ℕ → S → S → O → O → ℕ → Type 0
+RunsFollow reads taken failures profile source statement machine old new before after status =
+    Runs reads taken failures IsFollowedOf HasNoFollowed
+    (in_front profile (source ∷ statement ∷ machine ∷ [])) old new before after status
 
 -- ## `visits SOURCE STATEMENT FIQSTATEMENT K`
 
@@ -396,4 +419,8 @@ RunsAsked reads writes remaining taken failures
 RunsAsked reads writes remaining taken failures
     (visits n fiq k) old new heard_old heard_new before after status =
     RunsVisits reads taken failures n.profile n.first n.second fiq k old new before after status
+    × (heard_new ≡ heard_old)
+RunsAsked reads writes remaining taken failures
+    (follow n machine) old new heard_old heard_new before after status =
+    RunsFollow reads taken failures n.profile n.first n.second machine old new before after status
     × (heard_new ≡ heard_old)

@@ -2,7 +2,7 @@ ghost use Rattle.std.specs.Prelude.{◌≡◌, ◌≢◌, ◌⊎◌, None, Some,
 ghost use Rattle.command_line.specs.Line.{Asked, asked_in, asked_of};
 ghost use Rattle.arcwcet.specs.Run.{RunsAsked, RunsAsm, RunsBound, RunsCheck, RunsDebug, RunsList};
 ghost use Rattle.arcwcet.specs.Run.{RunsMachine};
-ghost use Rattle.arcwcet.specs.Run.{RunsDraft, RunsExplain, RunsTight, RunsVisits};
+ghost use Rattle.arcwcet.specs.Run.{RunsDraft, RunsExplain, RunsFollow, RunsTight, RunsVisits};
 
 use crate::assembly::image_written;
 use crate::bound::bound_report;
@@ -12,6 +12,7 @@ use crate::draft::draft_report;
 use crate::explain::{Explained, explain_report};
 use crate::fault::ReportFault;
 use crate::files::{Store, read_limited, read_three_files, read_two_files};
+use crate::follow::{FollowedRun, follow_report};
 use crate::list::list_report;
 use crate::machine::{Front, Registers, Steps, machine_report};
 use crate::output::{Output, write_whole};
@@ -19,8 +20,8 @@ use crate::status::{answer_status, done_status, line_status, report_status, stor
 use crate::tight::tight_report;
 use crate::visits::visits_report;
 use command_line::{
-    AsmNames, CheckNames, DraftNames, ExplainNames, Names, Request, TightNames, VisitsNames,
-    request,
+    AsmNames, CheckNames, DraftNames, ExplainNames, FollowNames, Names, Request, TightNames,
+    VisitsNames, request,
 };
 use std::alloc::Global;
 use std::io::Read;
@@ -49,11 +50,12 @@ fn obey<S: Store, I: Read, O: Output, E: Output>(
         Request::Tight(names) => run_tight(alloc, names, store, out, err),
         Request::Check(names) => run_check(alloc, names, store, out, err),
         Request::Visits(names) => run_visits(alloc, names, store, out, err),
+        Request::Follow(names) => run_follow(alloc, names, store, out, err),
     }
 }
 
 /// Runs the program on its words, of which the first is its name, and answers its exit status: 0; 1 where the
-/// work is refused, a certificate's verdict is No, or a machine stopped; 2 for wrong usage; 3 for lack of
+/// work is refused, a certificate's verdict is No, a machine stopped, or a run does not keep its statement; 2 for wrong usage; 3 for lack of
 /// memory; 4 where a file, a stream or the output fails.
 ///
 /// A refusal is one line on `err`, whose failures change no status. The work begins once everything is read:
@@ -346,4 +348,32 @@ fn run_visits<S: Store, O: Output, E: Output>(
         out,
     );
     done_status(done, err)
+}
+
+/// `follow`: reads the files and prints whether the run keeps the statement.
+fn run_follow<S: Store, O: Output, E: Output>(
+    alloc: Global,
+    names: FollowNames<'_>,
+    store: &mut S,
+    out: &mut O,
+    err: &mut E,
+) -> u8
+    ensures ran { RunsFollow S.read_gives O.taken O.failures
+        (option_map (λ n. n.now) names.entry.handler.profile)
+        names.entry.handler.first.now names.entry.handler.second.now names.entry.machine.now store.old
+        store.new out.old out.new result }
+    ensures silent { result ≡ 0 → err.new ≡ err.old }
+{
+    let files = match read_three_files(alloc, names.handler, names.machine, store) {
+        Ok(files) => files,
+        Err(fault) => return store_status(fault, err),
+    };
+    let handler = &files.handler;
+    let run = FollowedRun {
+        source: &handler.first,
+        statement: &handler.second,
+        machine: &files.third,
+    };
+    let answer = follow_report(alloc, run, handler.profile(), out);
+    answer_status(answer, err)
 }

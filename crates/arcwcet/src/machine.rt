@@ -48,8 +48,8 @@ pub(crate) fn place(
     place_image(alloc, &said, machine, profile)
 }
 
-// The same, of a source that was read.
-fn place_image(
+/// The same, of a source that was read.
+pub(crate) fn place_image(
     alloc: Global,
     said: &Assembly,
     machine: &[u8],

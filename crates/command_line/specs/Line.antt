@@ -89,6 +89,10 @@ visits_command =
     (with_rule (priced_command (codes "visits") (codes "statement")) (wanted (codes "fiq_statement")))
     visits_rule
 
+-- `follow SOURCE STATEMENT MACHINE`, with a cycle profile
+abbrev pub follow_command : App
+follow_command = with_rule (priced_command (codes "follow") (codes "statement")) (wanted (codes "machine"))
+
 abbrev pub arcwcet_top : App
 arcwcet_top = on_top (λ s. record s { subcommand_required = true }) (new_app (codes "arcwcet"))
 
@@ -104,10 +108,11 @@ arcwcet_command =
     (with_subcommand
     (with_subcommand
     (with_subcommand
+    (with_subcommand
     (with_subcommand arcwcet_top
     asm_command.top) list_command.top) draft_command.top) run_command.top) trace_command.top)
     debug_command.top) bound_command.top)
-    check_command.top) visits_command.top) explain_command.top
+    check_command.top) visits_command.top) explain_command.top) follow_command.top
 
 -- the names of two files, and of a cycle profile's
 pub record FileNames : Type 0 where
@@ -128,6 +133,7 @@ pub data Asked : Type 0 where
   tight : FileNames → ℕ → Asked
   check : FileNames → Text → Asked
   visits : FileNames → Text → ℕ → Asked
+  follow : FileNames → Text → Asked
 
 abbrev pub names_of : Names → FileNames
 names_of n =
@@ -145,6 +151,7 @@ asked_of (request.Explain names) = explain (names_of names.handler) names.at_mos
 asked_of (request.Tight names) = tight (names_of names.handler) names.edge
 asked_of (request.Check names) = check (names_of names.handler) names.cert.now
 asked_of (request.Visits names) = visits (names_of names.handler) names.fiq_statement.now names.visits
+asked_of (request.Follow names) = follow (names_of names.handler) names.machine.now
 
 -- nothing where the image would be written over its source
 abbrev pub asm_of : Option Text → Option Text → Option Asked
@@ -162,6 +169,10 @@ named profile _ _ = None
 abbrev pub check_of : Option FileNames → Option Text → Option Asked
 check_of (Some names) (Some cert) = Some (check names cert)
 check_of _ _ = None
+
+abbrev pub follow_of : Option FileNames → Option Text → Option Asked
+follow_of (Some names) (Some machine) = Some (follow names machine)
+follow_of _ _ = None
 
 abbrev pub visits_of : Option FileNames → Option Text → Option ℕ → Option Asked
 visits_of (Some names) (Some fiq_statement) (Some k) = Some (visits names fiq_statement k)
@@ -214,6 +225,10 @@ asked_explain rows =
 abbrev pub asked_check : List Row → Option Asked
 asked_check rows = check_of (names_in (codes "statement") rows) (first_of (codes "cert") rows)
 
+-- by the values of `follow`
+abbrev pub asked_follow : List Row → Option Asked
+asked_follow rows = follow_of (names_in (codes "statement") rows) (first_of (codes "machine") rows)
+
 -- by the values of `visits`
 abbrev pub asked_visits : List Row → Option Asked
 asked_visits rows =
@@ -232,7 +247,8 @@ asked_by p =
     else (if bytes_eq p.0 (codes "check") then asked_check p.1
     else (if bytes_eq p.0 (codes "visits") then asked_visits p.1
     else (if bytes_eq p.0 (codes "explain") then asked_explain p.1
-    else (if bytes_eq p.0 (codes "draft") then asked_draft p.1 else None)))))))))
+    else (if bytes_eq p.0 (codes "draft") then asked_draft p.1
+    else (if bytes_eq p.0 (codes "follow") then asked_follow p.1 else None))))))))))
 
 -- only where there is no fault
 abbrev pub unless_refused : Kinds → Option Asked → Option Asked

@@ -5,7 +5,7 @@ mod line;
 mod words;
 
 pub use line::{
-    AsmNames, CheckNames, DraftNames, ExplainNames, LineFault, Names, Request, TightNames,
-    VisitsNames,
+    AsmNames, CheckNames, DraftNames, ExplainNames, FollowNames, LineFault, Names, Request,
+    TightNames, VisitsNames,
 };
 pub use words::request;

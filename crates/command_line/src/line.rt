@@ -45,6 +45,13 @@ pub struct TightNames<'a> {
     pub edge: u32,
 }
 
+/// The names of a handler's files, its source first, and of a machine file.
+#[derive(Clone, Copy)]
+pub struct FollowNames<'a> {
+    pub handler: Names<'a>,
+    pub machine: &'a str,
+}
+
 /// The names of a handler's files, its source first, and the most ticks that are wanted of its bound.
 #[derive(Clone, Copy)]
 pub struct ExplainNames<'a> {
@@ -77,6 +84,8 @@ pub enum Request<'a> {
     Check(CheckNames<'a>),
     /// The longest run time of that handler with up to so many visits of FIQ's.
     Visits(VisitsNames<'a>),
+    /// Whether a machine's run through that handler keeps the statement.
+    Follow(FollowNames<'a>),
 }
 
 /// Why a line of words asks for nothing.

@@ -10,14 +10,15 @@ ghost use Rattle.command_line.specs.Line.{asked_in, asked_of, asked_visits, asm_
 ghost use Rattle.command_line.specs.Line.{bound_command};
 ghost use Rattle.command_line.specs.Line.{asked_list, check_command, debug_command, list_command, names_in};
 ghost use Rattle.command_line.specs.Line.{asked_draft, asked_explain, at_most_rule, draft_command};
-ghost use Rattle.command_line.specs.Line.{explain_command, names_of, number_at};
+ghost use Rattle.command_line.specs.Line.{asked_follow, explain_command, follow_command, names_of};
+ghost use Rattle.command_line.specs.Line.{number_at};
 ghost use Rattle.command_line.specs.Line.{priced_command, profile_rule, run_command, tight_rule};
 ghost use Rattle.command_line.specs.Line.{trace_command};
 ghost use Rattle.command_line.specs.Line.{visits_command, visits_rule, wanted};
 
 use crate::line::{
-    AsmNames, CheckNames, DraftNames, ExplainNames, LineFault, Names, Request, TightNames,
-    VisitsNames,
+    AsmNames, CheckNames, DraftNames, ExplainNames, FollowNames, LineFault, Names, Request,
+    TightNames, VisitsNames,
 };
 use clap::error::ErrorKind;
 use clap::{Arg, ArgMatches, Command, Error, value_parser};
@@ -189,6 +190,16 @@ fn visits<'a>(alloc: Global) -> Result<Command<'a>, AllocError>
         .arg(visit_count(alloc))
 }
 
+/// The command `follow SOURCE STATEMENT MACHINE`.
+fn follow<'a>(alloc: Global) -> Result<Command<'a>, AllocError>
+    ensures shape { IfOk result (λ c. app_of c ≡ follow_command) }
+    ensures no_globals { IfOk result (λ c. (out-Command c).has_globals ≡ false) }
+{
+    let summary = "Judge a machine's run through a handler by its statement";
+    let machine = wanted(alloc, "machine", "Machine file");
+    priced(alloc, "follow", summary, "statement")?.arg(machine)
+}
+
 /// A command with one more, or the failure to make that one.
 fn with<'a>(
     command: Command<'a>,
@@ -246,7 +257,8 @@ fn arcwcet<'a>(alloc: Global) -> Result<Command<'a>, AllocError>
     let command = with(command, list(alloc))?;
     let command = with(command, draft(alloc))?;
     let command = with_machine(alloc, command)?;
-    with_analysis(alloc, command)
+    let command = with_analysis(alloc, command)?;
+    with(command, follow(alloc))
 }
 
 /// The names of a profile's file, if there is one, and of two others.
@@ -336,6 +348,15 @@ fn check_in<'a>(values: &ArgMatches<'a>) -> Option<Request<'a>>
     Some(Request::Check(CheckNames { handler, cert }))
 }
 
+/// What `follow` is asked with.
+fn follow_in<'a>(values: &ArgMatches<'a>) -> Option<Request<'a>>
+    ensures { option_map asked_of result ≡ asked_follow (rows_of (found_of values.now)) }
+{
+    let handler = names_in(values, "statement")?;
+    let machine = values.get_str("machine")?;
+    Some(Request::Follow(FollowNames { handler, machine }))
+}
+
 /// What `visits` is asked with.
 fn visits_in<'a>(values: &ArgMatches<'a>) -> Option<Request<'a>>
     ensures { option_map asked_of result ≡ asked_visits (rows_of (found_of values.now)) }
@@ -384,6 +405,9 @@ fn request_in<'a>(matches: &ArgMatches<'a>) -> Option<Request<'a>>
     }
     if name == "draft" {
         return draft_in(values);
+    }
+    if name == "follow" {
+        return follow_in(values);
     }
     None
 }

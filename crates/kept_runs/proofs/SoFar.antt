@@ -44,7 +44,7 @@ use Rattle.kept_runs.specs.declared.following.Unkept.TheVariants as unkept
 use Rattle.kept_runs.specs.declared.following.Unkept.TheVariants.{NotAtEntry, TurnedBack, Unfinished}
 use Rattle.kept_runs.specs.Following.{CanGo, CannotGo, Goes, IsFresh, IsNext, IsWhy, Halts}
 use Rattle.kept_runs.specs.Judging.{IsMachineFor, IsPlaceFor}
-use Rattle.kept_runs.specs.Keeping.{ComesTo, IsHandler, IsKeptRun, IsStrayedRun, IsUnkept, KeepsNone}
+use Rattle.kept_runs.specs.Keeping.{ComesTo, IsHandler, IsKeptRun, IsStrayedRun, IsUnkept, KeepsNone, StandsAfter}
 use Rattle.kept_runs.specs.Stays.{Tells}
 use Rattle.kept_runs.proofs.OneStep.{lands, one_edge_of}
 use Rattle.kept_runs.proofs.StepTaken.{leaves_number, leaves_place}
@@ -182,6 +182,11 @@ module _ (words : Words) (st : Stated) (flow : Flow) (tree : Tree) (well : IsWel
         steps_are = so_far.steps_are;
       }
 
+  stands_at : (n : ℕ) (x : Follower) (now : State) (a : ℕ) → SoFar words st flow tree start inputs n x now → n ≤ length inputs → a ≡ address_in now.regs → StandsAfter start inputs x.steps a
+  stands_at n x now a so_far few here =
+      let come = comes_to n x now so_far few in
+      record { ran = come.ran; now = now; runs = come.runs; at_is = here }
+
   -- ## One step more
 
   module _ (n : ℕ) (i : Input) (n_in : n < length inputs) (at : get_or inputs n i ≡ i) (x : Follower) (now : State) (can : CanGo flow tree x now) (so_far : SoFar words st flow tree start inputs n x now) where
@@ -296,8 +301,8 @@ module _ (words : Words) (st : Stated) (flow : Flow) (tree : Tree) (well : IsWel
     }
     unkept_by last Unfinished cannot is = absurd is
 
-    pub strays : (last : State) (why : Unkept) → Halts words st flow tree x now i last why → IsStrayedRun words st flow tree start inputs x.steps why last
-    strays last why h = record { none = none_next h.cannot; is = unkept_by last why h.cannot h.is }
+    pub strays : (last : State) (a : ℕ) (why : Unkept) → a ≡ address_in now.regs → Halts words st flow tree x now i last why → IsStrayedRun words st flow tree start inputs x.steps a why last
+    strays last a why here h = record { none = none_next h.cannot; stands = stands_at n x now a so_far (omega (arith, n_in)) here; is = unkept_by last why h.cannot h.is }
 
     module _ (y : Follower) (after : State) (goes : Goes words st flow tree x y now i after) where
       abbrev k : ℕ
@@ -411,11 +416,12 @@ module _ (words : Words) (st : Stated) (flow : Flow) (tree : Tree) (well : IsWel
       ends_by (e ∷ rest) zero leads follows = follows
       ends_by (e ∷ rest) (suc count) leads follows = follows
 
-  pub unfinished : (n : ℕ) (x : Follower) (now : State) → CanGo flow tree x now → SoFar words st flow tree start inputs n x now → length inputs ≤ n → n ≤ length inputs → IsStrayedRun words st flow tree start inputs x.steps Unfinished now
-  unfinished n x now can so_far past few =
+  pub unfinished : (n : ℕ) (x : Follower) (now : State) → CanGo flow tree x now → SoFar words st flow tree start inputs n x now → length inputs ≤ n → n ≤ length inputs → (a : ℕ) → a ≡ address_in now.regs → IsStrayedRun words st flow tree start inputs x.steps a Unfinished now
+  unfinished n x now can so_far past few a here =
       let count = so_far.steps_count in
       record {
         none = none_left n x now can so_far past;
+        stands = stands_at n x now a so_far few here;
         is = (omega (arith, count, past, few), (place_in flow tree x.number, comes_to n x now so_far few));
       }
 
@@ -435,5 +441,14 @@ module _ (words : Words) (st : Stated) (flow : Flow) (tree : Tree) (well : IsWel
       by_walk (e ∷ walk) (i ∷ is) leads follows =
           other (same_address follows.2.calls [] (address_in start.regs) st.entry (sym follows.2.taken.from ∙ leads.1 ∙ entry))
 
-  pub elsewhere : (address_in start.regs ≡ st.entry → ⊥) → IsStrayedRun words st flow tree start inputs 0 NotAtEntry start
-  elsewhere other = record { none = none_there other; is = (refl, refl, other) }
+  pub elsewhere : (a : ℕ) → a ≡ address_in start.regs → (address_in start.regs ≡ st.entry → ⊥) → IsStrayedRun words st flow tree start inputs 0 a NotAtEntry start
+  elsewhere a here other = record {
+    none = none_there other;
+    stands = record {
+      ran = record { steps = 0; ticks = 0; elapsed = 0; stopped = None };
+      now = start;
+      runs = subst (λ (is : List Input). Runs start is (record { steps = 0; ticks = 0; elapsed = 0; stopped = None }) start) (sym (take_none inputs)) (refl, refl);
+      at_is = here;
+    };
+    is = (refl, refl, other);
+  }

@@ -31,6 +31,13 @@ pub record IsHandler (words : Words) (st : Stated) (flow : Flow) (tree : Tree) :
   pub graph_is : IsFlowGraph words st flow.profile flow
   pub tree_is : IsTree flow tree
 
+-- after so many steps the machine stands at the address
+pub record StandsAfter (s : State) (inputs : List Input) (steps at : ℕ) : Type 0 where
+  pub ran : Ran
+  pub now : State
+  pub runs : Runs s (take steps inputs) ran now
+  pub at_is : at ≡ address_in now.regs
+
 module _ (words : Words) (st : Stated) (flow : Flow) (tree : Tree) where
   -- the steps by the inputs are the edges of a walk from the entry to Exit that keeps the loop bounds
   pub record KeepsTo (s : State) (inputs : List Input) : Type 0 where
@@ -103,11 +110,12 @@ module _ (words : Words) (st : Stated) (flow : Flow) (tree : Tree) where
   IsUnkept s inputs steps after Unfinished =
       (steps ≡ length inputs) × ((place : Place) × ComesTo s inputs steps place after)
 
-  pub record IsStrayedRun (s : State) (inputs : List Input) (steps : ℕ) (why : Unkept)
+  pub record IsStrayedRun (s : State) (inputs : List Input) (steps at : ℕ) (why : Unkept)
       (after : State) : Type 0 where
     pub none : KeepsNone s inputs
+    pub stands : StandsAfter s inputs steps at
     pub is : IsUnkept s inputs steps after why
 
   abbrev pub IsFollowed : State → List Input → State → Followed → Type 0
   IsFollowed s inputs after (Kept steps ticks) = IsKeptRun s inputs steps ticks after
-  IsFollowed s inputs after (Strayed steps why) = IsStrayedRun s inputs steps why after
+  IsFollowed s inputs after (Strayed steps at why) = IsStrayedRun s inputs steps at why after

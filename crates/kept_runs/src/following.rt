@@ -1,4 +1,5 @@
-ghost use Rattle.std.specs.Prelude.{◌+◌, ◌<◌, ◌^◌, IfOk, MatchOption, length};
+ghost use Rattle.std.specs.Prelude.{◌≡◌, ◌+◌, ◌<◌, ◌^◌, IfOk, MatchOption, length};
+ghost use Rattle.arm2_exec.specs.Step.{address_in};
 ghost use Rattle.flow_graph.specs.Flow.{IsWellFormed};
 ghost use Rattle.kept_runs.specs.Following.{AreHeadersOf, CanGo, Goes, IsFresh, Halts};
 ghost use Rattle.kept_runs.specs.Judging.{IsMachineFor};
@@ -39,6 +40,8 @@ pub enum Followed {
     Strayed {
         /// The steps before the one that does not keep it.
         steps: u64,
+        /// The address, in bytes, where the machine stands after them.
+        at: u32,
         why: Unkept,
     },
 }
@@ -53,6 +56,13 @@ pub(crate) struct Follower {
     pub(crate) steps: u64,
     /// Their processor ticks.
     pub(crate) ticks: u128,
+}
+
+// Where the machine stands, in bytes.
+fn address(machine: &Machine) -> u32
+    ensures { result ≡ address_in machine.now.regs }
+{
+    address_of(machine.get(Reg::R15))
 }
 
 // At the entry, before a run.
@@ -120,9 +130,9 @@ fn follow_from(
 {
     let exit = handler.graph.places().len();
     for input in inputs {
-        let steps = follower.steps;
+        let (steps, at) = (follower.steps, address(machine));
         if let Some(why) = take_step(handler, headers, follower, machine, *input) {
-            return Followed::Strayed { steps, why };
+            return Followed::Strayed { steps, at, why };
         }
         if follower.number == exit {
             let (steps, ticks) = (follower.steps, follower.ticks);
@@ -131,6 +141,7 @@ fn follow_from(
     }
     Followed::Strayed {
         steps: follower.steps,
+        at: address(machine),
         why: Unkept::Unfinished,
     }
 }
@@ -163,9 +174,11 @@ pub fn follow(
     let exit = handler.graph.places().len();
     let headers = headers(alloc, handler.tree.spans(), exit)?;
     let mut follower = start(alloc, exit)?;
-    if address_of(machine.get(Reg::R15)) != handler.statement.entry() {
+    let at = address(machine);
+    if at != handler.statement.entry() {
         return Ok(Followed::Strayed {
             steps: 0,
+            at,
             why: Unkept::NotAtEntry,
         });
     }

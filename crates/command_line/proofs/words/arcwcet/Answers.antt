@@ -1,7 +1,7 @@
 use Rattle.std.proofs.Common.{◌≡◌, ◌∙◌, ap, true}
 use Rattle.std.proofs.lemmas.Result.{IfOk-weaker}
 use Rattle.clap.specs.Simple.{App, Shape, app_of, app_of_fields, on_top, with_subcommand}
-use Rattle.command_line.specs.Line.{arcwcet_top, asm_command, bound_command, check_command, debug_command, draft_command, explain_command, list_command, run_command, trace_command, visits_command}
+use Rattle.command_line.specs.Line.{arcwcet_top, asm_command, bound_command, check_command, debug_command, draft_command, explain_command, follow_command, list_command, run_command, trace_command, visits_command}
 use Rattle.command_line.proofs.words.arcwcet.Goals as goal
 
 pub returns : goal.returns
@@ -14,4 +14,7 @@ returns c =
     let three = c.in_ok-command-3.ensures draft_command c.draft.ensures.shape ∙ ap (λ (a : App). with_subcommand a draft_command.top) two in
     let machine = c.in_ok-command-4.ensures
     ∙ ap (λ (a : App). with_subcommand (with_subcommand (with_subcommand a run_command.top) trace_command.top) debug_command.top) three in
-    IfOk-weaker c.with_analysis.result _ _ (λ r h. h ∙ ap (λ (a : App). with_subcommand (with_subcommand (with_subcommand (with_subcommand a bound_command.top) check_command.top) visits_command.top) explain_command.top) machine) c.with_analysis.ensures
+    let analysis = c.in_ok-command-5.ensures
+    ∙ ap (λ (a : App). with_subcommand (with_subcommand (with_subcommand (with_subcommand a bound_command.top) check_command.top) visits_command.top) explain_command.top) machine in
+    IfOk-weaker c.with-4.result _ _ (λ r h. h ∙ ap (λ (a : App). with_subcommand a follow_command.top) analysis)
+    (c.with-4.ensures follow_command c.follow.ensures.shape)

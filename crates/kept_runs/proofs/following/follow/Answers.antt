@@ -1,6 +1,5 @@
 use Rattle.std.proofs.Common.{◌+◌, ◌∙◌, ℕ, List, Option, All, ap, arith, get_or, length, subst, sym}
 use Rattle.std.proofs.lemmas.List.Elements.{Contains-get_or}
-use Rattle.arm2_effect.specs.ProgramCounter.{address_of}
 use Rattle.numbered_walks.specs.Index.{AreHeaders}
 use Rattle.numbered_walks.specs.declared.span.Span.{Span}
 use Rattle.kept_runs.specs.Stays.{EndsBefore}
@@ -23,10 +22,10 @@ headers-requires-clause-small c =
     let few = c.places-exit.ensures.well_formed.few in
     omega (arith, few, ap length c.places-exit.ensures.value)
 
-pub returns-then-address_of-entry : goal.returns-then-address_of-entry
-returns-then-address_of-entry c =
+pub returns-then-at-entry : goal.returns-then-at-entry
+returns-then-at-entry c =
     elsewhere c.args.handler.image.now c.args.handler.statement.now c.args.handler.graph.now c.args.handler.tree.now c.places-exit.ensures.well_formed c.requires.handler c.args.machine.now c.args.inputs.now
-    (λ is. c.if-address_of-entry.true (c.address_of.ensures.address ∙ ap address_of c.get.ensures ∙ is ∙ sym c.entry.ensures.value))
+    c.address-at.result c.address-at.ensures (λ is. c.if-at-entry.true (c.address-at.ensures ∙ is ∙ sym c.entry.ensures.value))
 
 pub follow_from-requires-clause-handler : goal.follow_from-requires-clause-handler
 follow_from-requires-clause-handler c = c.requires.handler
@@ -43,6 +42,6 @@ pub follow_from-requires-clause-can : goal.follow_from-requires-clause-can
 follow_from-requires-clause-can c =
     can_begin c.args.handler.image.now c.args.handler.statement.now c.args.handler.graph.now c.args.handler.tree.now c.places-exit.ensures.well_formed c.requires.handler c.args.machine.now c.args.inputs.now
     c.in_ok-follower.follower c.requires.machine
-    (sym (ap address_of c.get.ensures) ∙ sym c.address_of.ensures.address ∙ c.if-address_of-entry.false ∙ c.entry.ensures.value)
+    (sym c.address-at.ensures ∙ c.if-at-entry.false ∙ c.entry.ensures.value)
     c.in_ok-follower.ensures
     (ap length c.places-exit.ensures.value)

@@ -1,0 +1,3 @@
+start    SUBS   PC,R14,#4
+         ORG    &80000
+         DCD    2
