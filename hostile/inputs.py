@@ -66,8 +66,9 @@ class Explains:
         if bound.status:
             return None if told == bound else f"{told}, and bound: {bound}"
         number = int(re.search(rb"^bound (\d+)$", bound.out, re.M)[1])
-        ticks = re.findall(rb"^ +\d+ +(\d+) +\d+\.\d%  ", told.out, re.M)
-        end = f"    total {number:10} 100.0%\nbound {number} ticks, {number / 8:.3f} microseconds at 8 MHz\n"
+        ticks = re.findall(rb"^ *\d+ +(\d+) +\d+\.\d% ", told.out, re.M)
+        microseconds = f"{number // 8}.{number % 8 * 125:03}"
+        end = f"    total {number:10} 100.0%\nbound {number} ticks, {microseconds} microseconds at 8 MHz\n"
         is_right = not told.status and told.out.endswith(end.encode()) and sum(map(int, ticks)) == number
         return None if is_right and not told.err else f"{told}, where the bound is {number}"
 
