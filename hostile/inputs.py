@@ -13,6 +13,8 @@ MOST = 16_777_216
 COUNTDOWN = [0xE3A00003, 0xE2500001, 0x1AFFFFFD, 0xE25EF004]
 WORKED = readers.image_bytes([(0x8000, COUNTDOWN)])
 TWO = readers.image_bytes([(0x8000, COUNTDOWN), (0x1C, [0xE25EF004])])
+# Where the handlers of samples begin.
+ENTRIES = {"dispatch": "0x18", "sound": "0x18"}
 # Addresses and numbers of words at the edges of what an image may say.
 EDGES = [0, 1, 2, 4, 16, 17, 0xFFFF, 0x10000, 0x10001, 0x8000, 0x8004, 0x800C, 0x8010, 0x1008000]
 EDGES += [0x2FFFFFC, 0x3000000, 0x33FFFFC, 0x3400000, 0x3FFFFFC, 0x4000000]
@@ -51,6 +53,70 @@ class Follows:
         if checked.out == b"yes\n" or len(told.out) > MOST and checked.err == b"refused: InputTooLong\n":
             return None
         return f"{told}, and check on that: {checked}"
+
+
+class Explains:
+    """The table of the bound that `bound` prints, with rows that add up to it, or the same refusal."""
+
+    def __init__(self, bench, words, files):
+        self.bench, self.words, self.files = bench, words, files
+
+    def __call__(self, told, folder):
+        bound = self.bench.ask(["bound", *self.words[1:]], self.files)[0]
+        if bound.status:
+            return None if told == bound else f"{told}, and bound: {bound}"
+        number = int(re.search(rb"^bound (\d+)$", bound.out, re.M)[1])
+        ticks = re.findall(rb"^ *\d+ +(\d+) +\d+\.\d% ", told.out, re.M)
+        microseconds = f"{number // 8}.{number % 8 * 125:03}"
+        end = f"    total {number:10} 100.0%\nbound {number} ticks, {microseconds} microseconds at 8 MHz\n"
+        is_right = not told.status and told.out.endswith(end.encode()) and sum(map(int, ticks)) == number
+        return None if is_right and not told.err else f"{told}, where the bound is {number}"
+
+
+class OfSource:
+    """What `asm` refuses is refused so; else the answer is judged by the words of the image."""
+
+    def __init__(self, bench, source):
+        self.bench, self.source = bench, source
+
+    def __call__(self, told, folder):
+        files = {"judged.s": self.source}
+        asm, left = self.bench.ask(["asm", "judged.s", "made.image"], files)
+        if asm.status:
+            return None if told == asm else f"{told}, and asm: {asm}"
+        if told.status or told.err:
+            return str(told)
+        return self.fault(told, asm, readers.read_image(left["made.image"]))
+
+
+class Lists(OfSource):
+    """Each line of the source in turn, beside exactly the words of the image, and then what `asm` prints."""
+
+    def fault(self, told, asm, words):
+        rows = told.out.removesuffix(asm.out).split(b"\n")[:-1]
+        stands = re.findall(rb"^([0-9A-F]{8})  ([0-9A-F]{8})(?:  ?|$)", b"\n".join(rows), re.M)
+        if not told.out.endswith(asm.out) or {int(at, 16): int(word, 16) for at, word in stands} != words:
+            return f"other words than those of the image: {told}"
+        if self.source[:8] == readers.MAGIC:
+            return None if len(rows) == len(words) else f"other rows than words: {told}"
+        lines = self.source.removesuffix(b"\n").split(b"\n") if self.source else []
+        numbered = [b"%8d  %s" % (n + 1, line) for n, line in enumerate(lines)]
+        return None if [it[18:] for it in rows if it[18:]] == numbered else f"other lines: {told}"
+
+
+class Drafts(OfSource):
+    """A statement that `bound` can read once it is filled in."""
+
+    UNREADABLE = ("NotToml", "UnknownKey", "WrongKind", "UnknownLabel")
+
+    def fault(self, told, asm, words):
+        filled_in = told.out.replace(b'bound = "?"', b"bound = 1").replace(b'kind = "?"', b'kind = "leave"')
+        files = {"judged.s": self.source, "draft.toml": filled_in}
+        bound = self.bench.ask(["bound", "judged.s", "draft.toml"], files)[0]
+        found = refusal(bound)
+        if readers.document(told.out) is None or found and found[0] in self.UNREADABLE and not found[1]:
+            return f"{told}, and bound by it: {bound}"
+        return fault_of("bound", bound)
 
 
 def image_judge(data):
@@ -124,6 +190,22 @@ def images(bench):
         read = data[:8] == readers.MAGIC and readers.read_image(data)
         judge = refused(read) if isinstance(read, str) else Allowed("bound")
         yield Trial(f"bound, image: {name}", words, Follows(bench, judge, words, files), files)
+        yield explained(bench, f"image: {name}", ["forged.image", "handler.toml"], files)
+    for name, data in [*cuts(TWO), *changed_bytes(TWO), *large_images()]:
+        yield from read_source(bench, f"image: {name}", data, "0x8000")
+
+
+def explained(bench, name, words, files):
+    """The explanation of a bound."""
+    words = ["explain", *words]
+    return Trial(f"explain, {name}", words, Explains(bench, words, files), files)
+
+
+def read_source(bench, name, source, entry):
+    """The listing of a source, and the draft of a handler in it."""
+    files = {"judged.s": source}
+    yield Trial(f"list, {name}", ["list", "judged.s"], Lists(bench, source), files)
+    yield Trial(f"draft, {name}", ["draft", "judged.s", entry], Drafts(bench, source), files)
 
 
 class ReadAs:
@@ -173,6 +255,7 @@ def statements(bench):
             files = {"handler.s": source, "handler.toml": data}
             judge = ReadAs("bound", readers.statement_fault(data, known), wanted)
             yield Trial(f"bound, statement: {name}", words, Follows(bench, judge, words, files), files)
+            yield explained(bench, f"statement: {name}", words[1:], files)
 
 
 def machines():
@@ -190,6 +273,7 @@ def profiles(bench):
         files = {"handler.s": worked.SOURCE, "handler.toml": worked.STATEMENT, "profile.toml": data}
         judge = ReadAs("bound", readers.profile_fault(data), readers.Faults.ORDER)
         yield Trial(f"bound, profile: {name}", words, Follows(bench, judge, words, files), files)
+        yield explained(bench, f"profile: {name}", words[1:], files)
 
 
 def many(key, row, number):
@@ -378,6 +462,10 @@ def source_cuts(bench):
         for how, text in [*cuts(source), ("whole", source)]:
             judge = SourceCut(text, whole)
             yield Trial(f"asm, source: {name}, {how}", words, judge, {"cut.s": text})
+        # Of the samples the whole lines, which are enough for the readers of lines.
+        fronts = [(how, text) for how, text in cuts(source) if name not in SAMPLES or text.endswith(b"\n")]
+        for how, text in [*fronts, ("whole", source)]:
+            yield from read_source(bench, f"source: {name}, {how}", text, ENTRIES.get(name, "0x8000"))
     for how, text in changed_bytes(worked.SOURCE, b"\x00\x7f\xff\n ,#;&["):
         yield Trial(f"asm, source: {how}", words, Allowed("asm"), {"cut.s": text})
 
@@ -475,6 +563,8 @@ def code(bench):
         words = ["bound", "chance.image", "handler.toml"]
         judge = Follows(bench, Allowed("bound"), words, files)
         yield Trial(f"bound, words by chance: {at} of seed {bench.seed}", words, judge, files)
+        yield explained(bench, f"words by chance: {at} of seed {bench.seed}", words[1:], files)
+        yield from read_source(bench, f"words by chance: {at} of seed {bench.seed}", image, "0x8000")
 
 
 class Certified:
@@ -507,6 +597,8 @@ def lines(bench):
             text[chance.randrange(len(text))] = chance.choice(b"\t !#&'()*,-.0123456789:;<ARSZ[]^_aprz{}~")
         name = f"asm, lines by chance: {at} of seed {bench.seed}"
         yield Trial(name, ["asm", "chance.s", "made.image"], Made(), {"chance.s": bytes(text)})
+        name = f"lines by chance: {at} of seed {bench.seed}"
+        yield from read_source(bench, name, bytes(text), "0x8000")
 
 
 def deep(bench):

@@ -7,6 +7,7 @@ from running import TOP, shown
 ANY, SOURCES, IMAGES = "Any command", "Sources, with the line", "Images"
 STATEMENTS, GRAPH, LOOPS, PATH = "Statements", "The graph", "Loops", "The path"
 VISITS, MACHINES, PROFILES, CERTIFICATES = "Visits", "Machine files", "Cycle profiles", "Certificates"
+DRAFTS = "Drafts"
 
 OF_SOURCE = (ANY, SOURCES, IMAGES)
 OF_HANDLER = (*OF_SOURCE, PROFILES, STATEMENTS, GRAPH, LOOPS)
@@ -14,7 +15,10 @@ OF_HANDLER = (*OF_SOURCE, PROFILES, STATEMENTS, GRAPH, LOOPS)
 # The sections of the manual whose refusals a command can meet.
 MET_BY = {
     "asm": OF_SOURCE,
+    "list": OF_SOURCE,
+    "draft": (*OF_SOURCE, DRAFTS),
     "bound": (*OF_HANDLER, PATH),
+    "explain": (*OF_HANDLER, PATH),
     "check": (*OF_HANDLER, CERTIFICATES),
     "visits": (*OF_HANDLER, PATH, VISITS),
     **{name: (*OF_SOURCE, PROFILES, MACHINES) for name in ("run", "trace", "debug")},
@@ -70,10 +74,13 @@ def sections_of(told):
 
 
 def ended_early(told):
-    """Whether an answer with status 1 and no refusal is the verdict No, or that of a machine that stopped."""
+    """Whether an answer with status 1 and no refusal is the verdict No, the table of a bound that is more than
+    it may be, or a machine that stopped."""
     verdict = re.fullmatch(rb"no: (\w+)\n", told.out)
     if verdict:
         return verdict[1].decode() in OBJECTIONS
+    if re.search(rb"^bound \d+ ticks, .*\n\Z", told.out, re.M):
+        return True
     return re.search(rb"^stopped \w+ at [0-9A-F]+\nticks \d+ elapsed \d+\n\Z", told.out, re.M) is not None
 
 
@@ -84,7 +91,7 @@ def fault_of(command, told):
     if told.status == 0:
         return f"status 0 and standard error {shown(told.err)}" if told.err else None
     if told.status == 1 and not told.err:
-        return None if command in ("check", "run", "trace") and ended_early(told) else str(told)
+        return None if command in ("check", "explain", "run", "trace") and ended_early(told) else str(told)
     if told.status == 2:
         return None if told.err and not told.out else str(told)
     met = sections_of(told) & set(MET_BY.get(command, ()))

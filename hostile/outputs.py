@@ -279,11 +279,12 @@ def trials(bench):
     commands = worked.commands(bench)
     by_name = {it.name: it for it in commands}
     asm = by_name["asm handler.s made.image"]
-    named = [it for it in commands if it.words[0] == "asm" or "--profile" in it.words]
+    named = [it for it in commands if it.words[0] in ("asm", "list", "draft") or "--profile" in it.words]
+    plain = [it for it in commands if "handler.s" in it.words and "--profile" not in it.words]
     return [
         *streams([*commands, *worked.each_answer(bench)]),
         *long_answers(bench),
-        *fronts(it for it in commands if it.words[1] == "handler.s" and it.words[0] != "asm"),
+        *fronts(it for it in plain if it.words[0] != "asm"),
         *image_files(asm),
         *full_disks(bench),
         *files(named),

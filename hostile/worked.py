@@ -118,7 +118,8 @@ def commands(bench):
     found = []
     for source, first in (("handler.s", SOURCE), ("handler.image", image)):
         files = {source: first}
-        found.append(command(bench, f"asm {source} made.image", files))
+        lines = (f"asm {source} made.image", f"list {source}", f"draft {source} 0x8000")
+        found += [command(bench, it, files) for it in lines]
         for option in ("", "--profile profile.toml "):
             files = {source: first, **({"profile.toml": profile()} if option else {})}
             found += priced(bench, f"{option}{source}", files)
@@ -132,6 +133,10 @@ def priced(bench, words, files):
     machine = {**files, "machine.toml": MACHINE}
     return [
         bound,
+        command(bench, f"bound --tight 3 {words} handler.toml", bound.files),
+        command(bench, f"explain {words} handler.toml", bound.files),
+        # The bound is more than that, so the status is 1.
+        command(bench, f"explain --at-most 20 {words} handler.toml", bound.files),
         command(bench, f"check {words} handler.toml handler.cert", judged),
         command(bench, f"visits {words} handler.toml fiq.toml 2", {**bound.files, "fiq.toml": FIQ}),
         command(bench, f"run {words} machine.toml", machine),

@@ -9,60 +9,61 @@ use std::test::Fail;
 const PROFILE: &[u8] = b"n=3\ns=1\nquad=2\nrom=[5,4,3,2]\nio=[8,6,5,10]\ncontrol=2\nunfitted=2\n\
     internal=1\nburst=8\n";
 
-/// An input, and its refusals by the length of what stands of it: each row up to so many bytes.
-type Cut = (Input, &'static [u8], &'static [(usize, &'static str)]);
+/// What is told of an input by the length of what stands of it: each row up to so many bytes.
+type Fronts = &'static [(usize, &'static str)];
 
-const CUTS: [Cut; 6] = [
-    (
-        Input::Source,
-        lone_return::SOURCE,
-        &[
-            (1, TAKEN),
-            (3, "UnknownWord at line 1"),
-            (6, "BadOperand at line 1"),
-            (7, "OutOfRange at line 1"),
-            (10, TAKEN),
-            (12, "UnknownWord at line 2"),
-            (23, "BadOperand at line 2"),
-            (25, TAKEN),
-        ],
-    ),
-    // A front of what begins an image is a label.
-    (
-        Input::Source,
-        &IMAGE,
-        &[(7, TAKEN), (35, "Truncated"), (36, TAKEN)],
-    ),
-    (
-        Input::Statement,
-        STATEMENT,
-        &[
-            (0, "WrongKind"),
-            (8, "NotToml"),
-            (9, "OutsideImage at 0"),
-            (10, "NotToml"),
-            (11, "OutsideImage at 8"),
-            (12, "OutsideImage at 80"),
-            (13, "OutsideImage at 800"),
-            (15, "UnboundedCycle"),
-            (22, "NotToml"),
-            (24, "WrongKind"),
-            (33, "NotToml"),
-            (34, "WrongKind"),
-            (35, "NotToml"),
-            (40, "WrongKind"),
-            (48, "NotToml"),
-            (49, "WrongKind"),
-            (50, "NotToml"),
-            (55, "WrongKind"),
-            (62, "NotToml"),
-            (63, "WrongKind"),
-            (64, "NotToml"),
-            (69, "WrongKind"),
-            (77, "NotToml"),
-            (79, TAKEN),
-        ],
-    ),
+type Cut = (Input, &'static [u8], Fronts);
+
+const SOURCE_FRONTS: Fronts = &[
+    (1, TAKEN),
+    (3, "UnknownWord at line 1"),
+    (6, "BadOperand at line 1"),
+    (7, "OutOfRange at line 1"),
+    (10, TAKEN),
+    (12, "UnknownWord at line 2"),
+    (23, "BadOperand at line 2"),
+    (25, TAKEN),
+];
+
+// A front of what begins an image is a label.
+const IMAGE_FRONTS: Fronts = &[(7, TAKEN), (35, "Truncated"), (36, TAKEN)];
+
+const STATEMENT_FRONTS: Fronts = &[
+    (0, "WrongKind"),
+    (8, "NotToml"),
+    (9, "OutsideImage at 0"),
+    (10, "NotToml"),
+    (11, "OutsideImage at 8"),
+    (12, "OutsideImage at 80"),
+    (13, "OutsideImage at 800"),
+    (15, "UnboundedCycle"),
+    (22, "NotToml"),
+    (24, "WrongKind"),
+    (33, "NotToml"),
+    (34, "WrongKind"),
+    (35, "NotToml"),
+    (40, "WrongKind"),
+    (48, "NotToml"),
+    (49, "WrongKind"),
+    (50, "NotToml"),
+    (55, "WrongKind"),
+    (62, "NotToml"),
+    (63, "WrongKind"),
+    (64, "NotToml"),
+    (69, "WrongKind"),
+    (77, "NotToml"),
+    (79, TAKEN),
+];
+
+const CUTS: [Cut; 11] = [
+    (Input::Source, lone_return::SOURCE, SOURCE_FRONTS),
+    (Input::Listed, lone_return::SOURCE, SOURCE_FRONTS),
+    (Input::Drafted, lone_return::SOURCE, SOURCE_FRONTS),
+    (Input::Source, &IMAGE, IMAGE_FRONTS),
+    (Input::Listed, &IMAGE, IMAGE_FRONTS),
+    (Input::Drafted, &IMAGE, IMAGE_FRONTS),
+    (Input::Statement, STATEMENT, STATEMENT_FRONTS),
+    (Input::Explained, STATEMENT, STATEMENT_FRONTS),
     (
         Input::Machine,
         MACHINE,

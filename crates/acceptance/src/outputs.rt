@@ -155,6 +155,8 @@ fn program_at_outputs_that_fail(rt: HostRuntime) -> Result<(), Fail> {
     let alloc = rt.alloc();
     let bound = Report::Bound.text(alloc)?;
     program_at_cuts(&rt, alloc, &line(alloc, &["bound"])?, &bound)?;
+    let explain = Report::Explain.text(alloc)?;
+    program_at_cuts(&rt, alloc, &line(alloc, &["explain"])?, &explain)?;
     let mut words = line(alloc, &["visits"])?;
     words.push(String::from_str(alloc, "second")?)?;
     words.push(String::from_str(alloc, "1")?)?;

@@ -1,8 +1,9 @@
 //! Each report of one short handler, and what it prints.
 
 use arcwcet::{
-    MemoryOutput, Output, ReportFault, asm_report, bound_report, check_report, debug_report,
-    list_report, run_report, tight_report, trace_report, visits_report,
+    Explained, MemoryOutput, Output, ReportFault, asm_report, bound_report, check_report,
+    debug_report, draft_report, explain_report, list_report, run_report, tight_report,
+    trace_report, visits_report,
 };
 use samples::lone_return::{CERTIFICATE, SOURCE, STATEMENT};
 use std::alloc::{AllocError, Global};
@@ -18,8 +19,28 @@ const LINES: &[u8] = b"                         1   ORG &1C
 0000001C  E25EF004       2   SUBS PC,R14,#4
 ";
 
+/// Its bound is exactly as much as it may be.
+const EXPLAINED: Explained<'static> = Explained {
+    source: SOURCE,
+    statement: STATEMENT,
+    at_most: Some(9),
+};
+
 /// What `visits` prints above both certificates.
 const SUMMARY: &[u8] = b"arcwcet visits\nvisits 1\nirq 9\nfiq 9\nentry 8\ntotal 26\n";
+
+const TABLE: &[u8] = b"   passes      ticks  share  line  text
+        1          9 100.0%     2   SUBS PC,R14,#4
+    total          9 100.0%
+bound 9 ticks, 1.125 microseconds at 8 MHz
+";
+
+const DRAFT: &[u8] = b"\
+# A draft, of what the words show. Write something for each \"?\". A bound counts
+# turns back: of a loop that runs eight times seven.
+entry = 0x0000001C  # line 2:  SUBS PC,R14,#4
+# leave = \"ram\"  # where it returns to, if always to one: \"ram\", \"rom\" or \"io\"
+";
 
 const REGISTERS: &[u8] = b"R0=00000000 R1=00000000 R2=00000000 R3=00000000
 R4=00000000 R5=00000000 R6=00000000 R7=00000000
@@ -38,6 +59,8 @@ pub(crate) enum Report {
     List,
     Bound,
     Visits,
+    Explain,
+    Draft,
     Tight,
     Check,
     Run,
@@ -46,11 +69,13 @@ pub(crate) enum Report {
 }
 
 /// The reports, and the parts of their texts; of an edge's machine file the first line alone.
-pub(crate) const REPORTS: [(Report, &[&[u8]]); 9] = [
+pub(crate) const REPORTS: [(Report, &[&[u8]]); 11] = [
     (Report::Asm, &[SIZE]),
     (Report::List, &[LINES, SIZE]),
     (Report::Bound, &[CERTIFICATE]),
     (Report::Visits, &[SUMMARY, CERTIFICATE, CERTIFICATE]),
+    (Report::Explain, &[TABLE]),
+    (Report::Draft, &[DRAFT]),
     (Report::Tight, &[b"# edge 1C do exit 9\n"]),
     (Report::Check, &[b"yes\n"]),
     (Report::Run, &[REGISTERS, TICKS]),
@@ -68,6 +93,8 @@ impl Report {
             Report::Visits => {
                 visits_report(alloc, SOURCE, STATEMENT, STATEMENT, 1, None, out).and(Ok(true))
             }
+            Report::Explain => explain_report(alloc, EXPLAINED, None, out),
+            Report::Draft => draft_report(alloc, SOURCE, b"28", out).and(Ok(true)),
             Report::Tight => tight_report(alloc, SOURCE, STATEMENT, 0, None, out).and(Ok(true)),
             Report::Check => check_report(alloc, SOURCE, STATEMENT, CERTIFICATE, None, out),
             Report::Run => run_report(alloc, SOURCE, MACHINE, None, out),

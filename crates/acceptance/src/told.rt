@@ -1,6 +1,9 @@
 //! What the reports tell of bytes as one of their inputs.
 
-use arcwcet::{MemoryOutput, ReportFault, asm_report, bound_report, check_report, run_report};
+use arcwcet::{
+    Explained, MemoryOutput, ReportFault, asm_report, bound_report, check_report, draft_report,
+    explain_report, list_report, run_report,
+};
 use samples::countdown::{SOURCE, STATEMENT};
 use std::alloc::{AllocError, Global};
 
@@ -8,7 +11,13 @@ use std::alloc::{AllocError, Global};
 #[derive(Clone, Copy)]
 pub(crate) enum Input {
     Source,
+    /// A source that is listed.
+    Listed,
+    /// A source of whose handler at 8000 a statement is drafted.
+    Drafted,
     Statement,
+    /// A statement by which the bound is explained.
+    Explained,
     Machine,
     Profile,
     Certificate,
@@ -17,11 +26,23 @@ pub(crate) enum Input {
 /// What is told of an input that is not refused.
 pub(crate) const TAKEN: &str = "taken";
 
+fn explained(alloc: Global, statement: &[u8], out: &mut MemoryOutput) -> Result<bool, ReportFault> {
+    let explained = Explained {
+        source: SOURCE,
+        statement,
+        at_most: None,
+    };
+    explain_report(alloc, explained, None, out)
+}
+
 /// Reads the bytes as that input.
 fn read(alloc: Global, input: Input, bytes: &[u8]) -> Result<bool, ReportFault> {
     let mut out = MemoryOutput::with_room(alloc, 0)?;
     match input {
         Input::Source => asm_report(alloc, bytes, &mut out).and(Ok(true)),
+        Input::Listed => list_report(alloc, bytes, &mut out).and(Ok(true)),
+        Input::Drafted => draft_report(alloc, bytes, b"0x8000", &mut out).and(Ok(true)),
+        Input::Explained => explained(alloc, bytes, &mut out),
         Input::Statement => bound_report(alloc, SOURCE, bytes, None, &mut out).and(Ok(true)),
         Input::Machine => run_report(alloc, SOURCE, bytes, None, &mut out),
         Input::Profile => {

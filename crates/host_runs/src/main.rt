@@ -1,12 +1,15 @@
 //! Runs commands over the system's own files and streams, in the folder `data/`: the image that `asm` writes
-//! is what the others read. What is stored as this program's output is what standard output took, and each
-//! command's status.
+//! is what the others read. The last one writes an image where the disc is full. What is stored as this
+//! program's output is what standard output took, each command's status, and which image is there.
 #![tactic(auto)]
 
-use arcwcet::{HostStore, StreamOutput, program};
+mod full_disc;
+
+use arcwcet::{HostStore, Store, StreamOutput, program};
+use full_disc::FullDisc;
 use std::alloc::{AllocError, Global};
-use std::io;
 use std::process::ExitCode;
+use std::{fs, io};
 
 /// Commands in turn, each as its words after the program's name.
 const COMMANDS: [&str; 6] = [
@@ -18,6 +21,11 @@ const COMMANDS: [&str; 6] = [
     "bound missing.s statement.toml",
 ];
 
+/// What is run where the disc is full.
+const CUT: &str = "asm countdown.s cut.image";
+
+const IMAGES: [&str; 2] = ["countdown.image", "cut.image"];
+
 fn words_of(alloc: Global, command: &str) -> Result<Vec<String>, AllocError> {
     let mut words = Vec::new(alloc);
     words.push(String::from_str(alloc, "arcwcet")?)?;
@@ -27,23 +35,25 @@ fn words_of(alloc: Global, command: &str) -> Result<Vec<String>, AllocError> {
     Ok(words)
 }
 
-fn main(rt: HostRuntime) -> io::Result<ExitCode> {
+fn run<S: Store>(rt: &HostRuntime, store: &mut S, command: &str) -> io::Result<()> {
     let alloc = rt.alloc();
-    let mut store = HostStore::new(&rt);
+    let words = words_of(alloc, command)?;
     let mut input = rt.reader();
     let mut out = StreamOutput::new(rt.stdout());
     let mut err = StreamOutput::new(rt.stderr());
+    let status = program(alloc, &words, store, &mut input, &mut out, &mut err);
+    println!(rt; "{command}: status {status}")
+}
+
+fn main(rt: HostRuntime) -> io::Result<ExitCode> {
     for command in COMMANDS {
-        let words = words_of(alloc, command)?;
-        let status = program(
-            alloc,
-            words.as_slice(),
-            &mut store,
-            &mut input,
-            &mut out,
-            &mut err,
-        );
-        println!(rt; "{command}: status {status}")?;
+        run(&rt, &mut HostStore::new(&rt), command)?;
+    }
+    let disc = FullDisc::new(&rt);
+    run(&rt, &mut HostStore::new(&disc), CUT)?;
+    for image in IMAGES {
+        let is_there = fs::exists(&rt, image)?;
+        println!(rt; "{image} is there: {is_there}")?;
     }
     Ok(ExitCode::SUCCESS)
 }

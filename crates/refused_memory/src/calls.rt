@@ -1,5 +1,9 @@
 use crate::analysis::{AnalysisCall, PushItems};
+use crate::assumptions::AssumedCall;
 use crate::certificates::CertificateCall;
+use crate::drafts::Drafted;
+use crate::explanations::ExplainedCall;
+use crate::followed::Follow;
 use crate::images::{ImageCall, Load, PutLabels, PutWords};
 use crate::listings::ListingCall;
 use crate::machine::{AddRom, NewCall};
@@ -28,6 +32,10 @@ pub(crate) enum Call {
     Analysis(AnalysisCall),
     PushItems,
     Certificate(CertificateCall),
+    Explained(ExplainedCall),
+    Assumed(AssumedCall),
+    Draft,
+    Follow,
     Command(Command),
     /// A report over an output that has taken memory for so many bytes.
     Report(Report, usize),
@@ -77,6 +85,13 @@ pub(crate) const CALLS: &[(&str, Call)] = &[
     ("write_cert", Call::Certificate(CertificateCall::Write)),
     ("read_cert", Call::Certificate(CertificateCall::Read)),
     ("check", Call::Certificate(CertificateCall::Check)),
+    ("edge_counts", Call::Explained(ExplainedCall::Counts)),
+    ("source_table", Call::Explained(ExplainedCall::Lines)),
+    ("image_table", Call::Explained(ExplainedCall::Words)),
+    ("assumed", Call::Assumed(AssumedCall::Addresses)),
+    ("named_lines", Call::Assumed(AssumedCall::Rows)),
+    ("draft", Call::Draft),
+    ("follow", Call::Follow),
     ("Session::command-step", Call::Command(Command::Step)),
     ("Session::command-run", Call::Command(Command::Run)),
     ("Session::command-regs", Call::Command(Command::Registers)),
@@ -95,6 +110,8 @@ pub(crate) const CALLS: &[(&str, Call)] = &[
     ("check_report", Call::Report(Report::Check, ROOM)),
     ("visits_report", Call::Report(Report::Visits, ROOM)),
     ("tight_report", Call::Report(Report::Tight, ROOM)),
+    ("explain_report", Call::Report(Report::Explain, ROOM)),
+    ("draft_report", Call::Report(Report::Draft, ROOM)),
     ("program-bound", Call::Program(Line::Bound)),
     ("program-asm", Call::Program(Line::Asm)),
     ("program-usage", Call::Program(Line::Usage)),
@@ -116,6 +133,10 @@ impl Call {
             Call::Analysis(mut call) => tried(alloc, &mut call),
             Call::PushItems => tried(alloc, &mut PushItems::new(alloc)),
             Call::Certificate(mut call) => tried(alloc, &mut call),
+            Call::Explained(mut call) => tried(alloc, &mut call),
+            Call::Assumed(mut call) => tried(alloc, &mut call),
+            Call::Draft => tried(alloc, &mut Drafted),
+            Call::Follow => tried(alloc, &mut Follow),
             Call::Command(command) => tried(alloc, &mut Obeyed::new(alloc, command)?),
             Call::Report(report, room) => tried(alloc, &mut Written::new(alloc, report, room)?),
             Call::Program(line) => tried(alloc, &mut Started::new(alloc, line)?),

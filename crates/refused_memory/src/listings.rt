@@ -58,17 +58,12 @@ fn placed(alloc: Global) -> Answer {
 
 fn source_rows(alloc: Global, said: &Assembly) -> Result<Answer, ReportFault> {
     let placed = placed_lines(alloc, LINES)?;
-    Ok(match list_source(alloc, LINES, &placed, &said.image) {
-        Ok(rows) => Answer::of(rows.as_slice() == SOURCE_ROWS),
-        Err(_) => Answer::Refused,
-    })
+    let made = list_source(alloc, LINES, &placed, &said.image);
+    Ok(Answer::of_text(made, SOURCE_ROWS))
 }
 
 fn image_rows(alloc: Global, said: &Assembly) -> Answer {
-    match list_image(alloc, &said.image) {
-        Ok(rows) => Answer::of(rows.as_slice() == IMAGE_ROWS),
-        Err(_) => Answer::Refused,
-    }
+    Answer::of_text(list_image(alloc, &said.image), IMAGE_ROWS)
 }
 
 impl Trial for ListingCall {

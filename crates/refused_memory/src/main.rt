@@ -8,8 +8,12 @@
 #![tactic(auto)]
 
 mod analysis;
+mod assumptions;
 mod calls;
 mod certificates;
+mod drafts;
+mod explanations;
+mod followed;
 mod images;
 mod listings;
 mod machine;

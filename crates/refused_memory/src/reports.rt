@@ -1,7 +1,9 @@
+use crate::explanations::NESTED_LINES;
 use crate::trial::{Answer, Trial};
 use arcwcet::{
-    MemoryOutput, Output, ReportFault, asm_report, bound_report, check_report, debug_report,
-    list_report, run_report, tight_report, trace_report, visits_report,
+    Explained, MemoryOutput, Output, ReportFault, asm_report, bound_report, check_report,
+    debug_report, draft_report, explain_report, list_report, run_report, tight_report,
+    trace_report, visits_report,
 };
 use samples::{countdown, nested_countdown};
 use std::alloc::Global;
@@ -25,6 +27,19 @@ const TRACED: &[u8] = b"00008000 E3A00003 1 MOV R0,#3
 00008008 1AFFFFFD 2 BNE &8004
 0000800C E25EF004 5 SUBS R15,R14,#4
 ticks 21 elapsed 21
+";
+
+const DRAFTED: &[u8] = b"\
+# A draft, of what the words show. Write something for each \"?\". A bound counts
+# turns back: of a loop that runs eight times seven.
+entry = \"start\"  # line 1: start MOV R0,#3
+# leave = \"ram\"  # where it returns to, if always to one: \"ram\", \"rom\" or \"io\"
+
+[[loop]]
+header = \"again\"  # line 2: again SUBS R0,R0,#1
+first = \"again\"  # line 2: again SUBS R0,R0,#1
+last = \"turn\"  # line 3: turn BNE again
+bound = 2  # counted
 ";
 
 const COMMANDS: &[u8] = b"step\nticks\nmem &8004 1\nfrob\nstep x\nmem &80000 1\n";
@@ -97,6 +112,8 @@ pub(crate) enum Report {
     Check,
     Visits,
     Tight,
+    Explain,
+    Draft,
 }
 
 impl Report {
@@ -112,35 +129,36 @@ impl Report {
             Report::Check => b"yes\n",
             Report::Visits => VISITED,
             Report::Tight => EDGE_LINE,
+            Report::Explain => NESTED_LINES,
+            Report::Draft => DRAFTED,
         }
     }
 
     fn write(self, alloc: Global, out: &mut MemoryOutput) -> Result<bool, ReportFault> {
         match self {
-            Report::Asm | Report::List | Report::Run | Report::Trace | Report::Debug => {
-                self.write_of_machine(alloc, out)
-            }
-            Report::Bound | Report::Check | Report::Visits | Report::Tight => {
-                self.write_of_handler(alloc, out)
-            }
+            Report::Asm | Report::List | Report::Draft => self.write_of_source(alloc, out),
+            Report::Run | Report::Trace | Report::Debug => self.write_of_machine(alloc, out),
+            _ => self.write_of_handler(alloc, out),
         }
+    }
+
+    fn write_of_source(self, alloc: Global, out: &mut MemoryOutput) -> Result<bool, ReportFault> {
+        let source = countdown::SOURCE;
+        match self {
+            Report::List => list_report(alloc, source, out)?,
+            Report::Draft => draft_report(alloc, source, b"start", out)?,
+            _ => asm_report(alloc, source, out)?,
+        }
+        Ok(true)
     }
 
     fn write_of_machine(self, alloc: Global, out: &mut MemoryOutput) -> Result<bool, ReportFault> {
         let (source, machine) = (countdown::SOURCE, countdown::MACHINE);
         match self {
-            Report::List => {
-                list_report(alloc, source, out)?;
-                Ok(true)
-            }
             Report::Run => run_report(alloc, source, machine, None, out),
             Report::Trace => trace_report(alloc, source, machine, None, out),
-            Report::Debug => {
-                debug_report(alloc, source, machine, COMMANDS, None, out)?;
-                Ok(true)
-            }
             _ => {
-                asm_report(alloc, source, out)?;
+                debug_report(alloc, source, machine, COMMANDS, None, out)?;
                 Ok(true)
             }
         }
@@ -169,6 +187,15 @@ impl Report {
                 let (source, statement) = (countdown::SOURCE, countdown::STATEMENT);
                 tight_report(alloc, source, statement, EDGE, None, out)?;
                 Ok(true)
+            }
+            // Its bound is exactly as much as it may be.
+            Report::Explain => {
+                let explained = Explained {
+                    source,
+                    statement,
+                    at_most: Some(50),
+                };
+                explain_report(alloc, explained, None, out)
             }
             _ => {
                 bound_report(alloc, source, statement, None, out)?;

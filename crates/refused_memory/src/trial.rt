@@ -1,5 +1,5 @@
 use arcwcet::ReportFault;
-use std::alloc::Global;
+use std::alloc::{AllocError, Global};
 use std::fmt;
 use std::fmt::Write;
 
@@ -23,6 +23,23 @@ impl Answer {
             Answer::Right
         } else {
             Answer::Wrong
+        }
+    }
+
+    /// The answer of a call that was refused.
+    pub(crate) fn of_refusal(is_unchanged: bool) -> Answer {
+        if is_unchanged {
+            Answer::Refused
+        } else {
+            Answer::Wrong
+        }
+    }
+
+    /// The answer of a call that makes a text.
+    pub(crate) fn of_text(made: Result<Vec<u8>, AllocError>, wanted: &[u8]) -> Answer {
+        match made {
+            Ok(text) => Answer::of(text.as_slice() == wanted),
+            Err(_) => Answer::Refused,
         }
     }
 }

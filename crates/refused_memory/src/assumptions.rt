@@ -1,0 +1,73 @@
+use crate::analysis::Stated;
+use crate::trial::{Answer, Trial};
+use arcwcet::ReportFault;
+use assembler::{assemble, placed_lines};
+use bus_ticks::Profile;
+use explained::{Assumption, assumed, named_lines};
+use flow_graph::{Graph, build, read_statement};
+use std::alloc::Global;
+
+/// Transfers for which no class is stated. The second may write R15, and no target is stated for it.
+const SOURCE: &[u8] = b"start LDR R0,[R1]\n LDREQ PC,[R2]\n STR R0,[R3]\n MOV PC,R14\n";
+
+const STATEMENT: &[u8] = b"entry = \"start\"\n";
+
+const LOOSE: [u32; 3] = [0x8000, 0x8004, 0x8008];
+
+const LOOSE_ROWS: &[u8] = b"  00008000     1  start LDR R0,[R1]
+  00008004     2   LDREQ PC,[R2]
+  00008008     3   STR R0,[R3]
+";
+
+/// A call that tells what a bound takes for granted of its handler. None changes a value.
+#[derive(Clone, Copy)]
+pub(crate) enum AssumedCall {
+    Addresses,
+    Rows,
+}
+
+fn loose(alloc: Global) -> Result<Stated, ReportFault> {
+    let said = assemble(alloc, SOURCE)?;
+    let statement = read_statement(alloc, STATEMENT, &said.labels)?;
+    Ok(Stated {
+        image: said.image,
+        statement,
+    })
+}
+
+fn addresses(alloc: Global, handler: &Stated, graph: &Graph) -> Answer {
+    let (image, statement) = (&handler.image, &handler.statement);
+    match assumed(alloc, image, statement, graph, Assumption::LooseTransfer) {
+        Ok(named) => Answer::of(named.as_slice() == LOOSE.as_slice()),
+        Err(_) => Answer::Refused,
+    }
+}
+
+fn rows(alloc: Global, handler: &Stated, graph: &Graph) -> Result<Answer, ReportFault> {
+    let (image, statement) = (&handler.image, &handler.statement);
+    let named = assumed(alloc, image, statement, graph, Assumption::LooseTransfer)?;
+    let placed = placed_lines(alloc, SOURCE)?;
+    let made = named_lines(alloc, SOURCE, &placed, &named);
+    Ok(Answer::of_text(made, LOOSE_ROWS))
+}
+
+impl AssumedCall {
+    fn on(self, alloc: Global, handler: &Stated) -> Result<Answer, ReportFault> {
+        let graph = build(alloc, &handler.image, &handler.statement, &Profile::one())?;
+        match self {
+            AssumedCall::Addresses => Ok(addresses(alloc, handler, &graph)),
+            AssumedCall::Rows => rows(alloc, handler, &graph),
+        }
+    }
+}
+
+impl Trial for AssumedCall {
+    fn make(&mut self, alloc: Global) -> Result<Answer, ReportFault> {
+        let handler = loose(alloc)?;
+        self.on(alloc, &handler)
+    }
+
+    fn is_unchanged(&mut self, _alloc: Global) -> Result<bool, ReportFault> {
+        Ok(true)
+    }
+}

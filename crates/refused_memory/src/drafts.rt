@@ -1,0 +1,58 @@
+use crate::trial::{Answer, Trial};
+use arcwcet::ReportFault;
+use assembler::{Assembly, assemble, placed_lines};
+use drafting::{Program, draft};
+use std::alloc::Global;
+
+/// A byte of a device, a loop that is counted, and a jump through a table that is none.
+const SOURCE: &[u8] = b"start MOV R1,#&3200000\nread LDRB R0,[R1]\n MOV R2,#3\n\
+    again SUBS R2,R2,#1\nturn BNE again\njump ADD PC,PC,R0,LSL #2\n DCD 0\n MUL R2,R3,R4\n";
+
+const DRAFT: &[u8] = b"\
+# A draft, of what the words show. Write something for each \"?\". A bound counts
+# turns back: of a loop that runs eight times seven.
+entry = \"start\"  # line 1: start MOV R1,#&3200000
+# leave = \"ram\"  # where it returns to, if always to one: \"ram\", \"rom\" or \"io\"
+
+# What loads and stores reach: \"any\", \"ram\", \"rom\" or \"io\".
+access = [
+  {at = \"read\", class = \"io\"},  # line 2: read LDRB R0,[R1]
+]
+
+[[loop]]
+header = \"again\"  # line 4: again SUBS R2,R2,#1
+first = \"again\"  # line 4: again SUBS R2,R2,#1
+last = \"turn\"  # line 5: turn BNE again
+bound = 2  # counted
+
+[[target]]
+at = \"jump\"  # line 6: jump ADD PC,PC,R0,LSL #2
+kind = \"?\"  # \"jump\", \"call\", \"return\" or \"leave\"
+# to = [\"?\"]  # of a jump or a call: draft from each of them too
+";
+
+/// The draft of a handler. It changes no value.
+#[derive(Clone, Copy)]
+pub(crate) struct Drafted;
+
+fn answered(alloc: Global, said: &Assembly) -> Result<Answer, ReportFault> {
+    let placed = placed_lines(alloc, SOURCE)?;
+    let program = Program {
+        source: SOURCE,
+        placed: &placed,
+        image: &said.image,
+        labels: &said.labels,
+    };
+    Ok(Answer::of_text(draft(alloc, &program, 0x8000), DRAFT))
+}
+
+impl Trial for Drafted {
+    fn make(&mut self, alloc: Global) -> Result<Answer, ReportFault> {
+        let said = assemble(alloc, SOURCE)?;
+        answered(alloc, &said)
+    }
+
+    fn is_unchanged(&mut self, _alloc: Global) -> Result<bool, ReportFault> {
+        Ok(true)
+    }
+}

@@ -1,0 +1,102 @@
+use crate::analysis::{Stated, nested};
+use crate::trial::{Answer, Trial};
+use arcwcet::ReportFault;
+use assembler::placed_lines;
+use bus_ticks::Profile;
+use explained::{image_table, source_table};
+use flow_graph::{Graph, build};
+use longest_walk::{Longest, longest};
+use loop_bounds::nest;
+use samples::nested_countdown::SOURCE;
+use std::alloc::Global;
+use walk_counts::edge_counts;
+
+/// The bound of the nested countdown, by the lines of its source.
+pub(crate) const NESTED_LINES: &[u8] = b"   passes      ticks  share  line  text
+        1          1   2.0%     1  start MOV R1,#2
+        2          2   4.0%     2  outer MOV R0,#3
+        6         12  24.0%     3  inner SUBS R0,R0,#1
+        6         18  36.0%     4  turn BNE inner
+        2          2   4.0%     5   SUBS R1,R1,#1
+        2          5  10.0%     6  back BNE outer
+        1         10  20.0%     7   SUBS PC,R14,#4
+    total         50 100.0%
+bound 50 ticks, 6.250 microseconds at 8 MHz
+";
+
+/// The same by its words.
+const NESTED_WORDS: &[u8] = b"   passes      ticks  share   address      word  text
+        1          1   2.0%  00008000  E3A01002  MOV R1,#2
+        2          2   4.0%  00008004  E3A00003  MOV R0,#3
+        6         12  24.0%  00008008  E2500001  SUBS R0,R0,#1
+        6         18  36.0%  0000800C  1AFFFFFD  BNE &8008
+        2          2   4.0%  00008010  E2511001  SUBS R1,R1,#1
+        2          5  10.0%  00008014  1AFFFFFA  BNE &8004
+        1         10  20.0%  00008018  E25EF004  SUBS R15,R14,#4
+    total         50 100.0%
+bound 50 ticks, 6.250 microseconds at 8 MHz
+";
+
+/// How often its greatest walk takes each edge: of a branch first the one that goes on.
+const NESTED_COUNTS: [u64; 9] = [1, 2, 6, 2, 4, 2, 1, 1, 1];
+
+/// A call that explains the bound of the nested countdown, or counts the edges of its walk. None changes a
+/// value.
+#[derive(Clone, Copy)]
+pub(crate) enum ExplainedCall {
+    Lines,
+    Words,
+    Counts,
+}
+
+fn graph_of(alloc: Global, handler: &Stated) -> Result<Graph, ReportFault> {
+    Ok(build(alloc, &handler.image, &handler.statement, &Profile::one())?)
+}
+
+fn longest_of(alloc: Global, handler: &Stated, graph: &Graph) -> Result<Longest, ReportFault> {
+    let tree = nest(alloc, graph, &handler.statement)?;
+    Ok(longest(alloc, graph, &tree)?)
+}
+
+fn lines(alloc: Global, graph: &Graph, found: &Longest) -> Result<Answer, ReportFault> {
+    let placed = placed_lines(alloc, SOURCE)?;
+    let made = source_table(alloc, SOURCE, &placed, graph, found);
+    Ok(Answer::of_text(made, NESTED_LINES))
+}
+
+fn words(alloc: Global, handler: &Stated, graph: &Graph, found: &Longest) -> Answer {
+    Answer::of_text(
+        image_table(alloc, &handler.image, graph, found),
+        NESTED_WORDS,
+    )
+}
+
+fn counted(alloc: Global, graph: &Graph, found: &Longest) -> Answer {
+    match edge_counts(alloc, graph, &found.walk) {
+        Ok(counts) => Answer::of(counts.as_slice() == NESTED_COUNTS.as_slice()),
+        Err(_) => Answer::Refused,
+    }
+}
+
+impl ExplainedCall {
+    fn on(self, alloc: Global, handler: &Stated) -> Result<Answer, ReportFault> {
+        let graph = graph_of(alloc, handler)?;
+        let found = longest_of(alloc, handler, &graph)?;
+        match self {
+            ExplainedCall::Lines => lines(alloc, &graph, &found),
+            ExplainedCall::Words => Ok(words(alloc, handler, &graph, &found)),
+            ExplainedCall::Counts => Ok(counted(alloc, &graph, &found)),
+        }
+    }
+}
+
+impl Trial for ExplainedCall {
+    fn make(&mut self, alloc: Global) -> Result<Answer, ReportFault> {
+        let handler = nested(alloc)?;
+        self.on(alloc, &handler)
+    }
+
+    fn is_unchanged(&mut self, _alloc: Global) -> Result<bool, ReportFault> {
+        Ok(true)
+    }
+}
