@@ -24,6 +24,7 @@ pub struct Timers {
 
 impl Timers {
     // So many ticks on, in constant time.
+    #[inline(always)]
     pub(crate) fn advance(&mut self, ticks: u32)
         requires { self.old.phase < 4 }
         ensures ticked { self.new ≡ ticked ticks self.old }
@@ -51,6 +52,7 @@ impl Timer {
     }
 
     // So many decrements, in constant time.
+    #[inline(always)]
     fn decrement(&mut self, times: u32)
         ensures { self.new ≡ after_decrements times self.old }
     {

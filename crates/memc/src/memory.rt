@@ -63,16 +63,29 @@ impl Memc {
     }
 
     /// Where an access at an address below 2^26 goes, or the first reason why it is refused.
+    #[inline(always)]
     pub fn locate(&self, address: u32, user: bool, store: bool) -> Result<Spot, Refused>
         requires { address < 2 ^ 26 }
         ensures located { result ≡ located self.now address user store }
         ensures fitted { IfOk result (Fits self.now.shift) }
         ensures whole { IsWhole self.now.shift self.now.paged }
     {
-        let limit = self.limit();
+        let _limit = self.limit();
         if address < PHYSICAL_RAM {
             return self.logical(address, user, store);
         }
+        self.beyond(address, user, store)
+    }
+
+    // Where an access past logical RAM goes.
+    #[inline(never)]
+    fn beyond(&self, address: u32, user: bool, store: bool) -> Result<Spot, Refused>
+        requires past { 0x2000000 ≤ address }
+        requires below { address < 2 ^ 26 }
+        ensures located { result ≡ located self.now address user store }
+        ensures fitted { IfOk result (Fits self.now.shift) }
+    {
+        let limit = self.limit();
         if address < IO_START {
             return physical(address - PHYSICAL_RAM, limit, user);
         }
@@ -89,18 +102,20 @@ impl Memc {
     }
 
     /// The word at a spot of RAM or ROM that `locate` gave. It is 0 where ROM has no word.
+    #[inline(always)]
     pub fn load(&self, spot: Spot) -> u32
         requires { IsMemorySpot self.now.shift spot }
         ensures { result ≡ word_at self.now spot }
     {
         match spot {
             Spot::Ram(place) => self.pages.load(place),
-            Spot::Rom(address) => self.rom.get(&(address / 4 * 4)).copied().unwrap_or(0),
+            Spot::Rom(address) => self.rom_word(address),
             _ => unreachable!(),
         }
     }
 
     /// Puts a word at a spot of RAM that `locate` gave.
+    #[inline(always)]
     pub fn store(&mut self, spot: Spot, word: u32)
         requires { IsRamSpot self.old.shift spot }
         ensures { self.new ≡ stored spot word self.old }
@@ -185,12 +200,14 @@ impl Memc {
     }
 
     /// The time fields of low and high ROM.
+    #[inline(always)]
     pub fn rom_times(&self) -> RomTimes
         ensures { result ≡ self.now.control.rom_times }
     {
         self.control.rom_times
     }
 
+    #[inline(always)]
     fn logical(&self, address: u32, user: bool, store: bool) -> Result<Spot, Refused>
         requires { address < 2 ^ 25 }
         ensures located { result ≡ logical_at self.now address user store }
@@ -231,6 +248,14 @@ impl Memc {
         Err(Refused::UnsupportedWrite)
     }
 
+    // The word of ROM that an address names: 0 where there is none.
+    #[inline(never)]
+    fn rom_word(&self, address: u32) -> u32
+        ensures { result ≡ rom_word self.now.rom (address / 4 * 4) }
+    {
+        self.rom.get(&(address / 4 * 4)).copied().unwrap_or(0)
+    }
+
     fn shift(&self) -> u32
         ensures shift { result ≡ self.now.shift }
         ensures bounds { (12 ≤ result) × (result ≤ 15) }
@@ -245,6 +270,7 @@ impl Memc {
         self.pages.limit()
     }
 
+    #[inline(always)]
     fn page(&self, address: u32) -> Option<Entry>
         requires { address < 2 ^ 25 }
         ensures page { result ≡ page_at self.now.paged (address / 2 ^ self.now.shift) }
@@ -253,6 +279,7 @@ impl Memc {
         self.pages.page(address)
     }
 
+    #[inline(always)]
     fn place(&self, physical: u8, address: u32) -> u32
         requires { physical < 128 }
         ensures place { result ≡ place_of self.now.shift physical address }
@@ -262,6 +289,7 @@ impl Memc {
     }
 
     // Whether a level of protection lets an access pass.
+    #[inline(always)]
     fn allowed(&self, level: u8, user: bool, store: bool) -> bool
         ensures { result ≡ allowed self.now.control.system level user store }
     {

@@ -78,6 +78,7 @@ impl Pages {
     }
 
     /// The word at a physical place.
+    #[inline(always)]
     pub fn load(&self, place: u32) -> u32
         requires { place < 128 * 2 ^ self.now.shift }
         ensures { result ≡ slice_index self.now.paged.words (place / 4) }
@@ -86,6 +87,7 @@ impl Pages {
     }
 
     /// Puts a word at a physical place.
+    #[inline(always)]
     pub fn store(&mut self, place: u32, word: u32)
         requires { place < 128 * 2 ^ self.old.shift }
         ensures { self.new ≡ record self.old { paged
@@ -95,6 +97,7 @@ impl Pages {
     }
 
     /// The page of a logical address, which is below 2^25.
+    #[inline(always)]
     pub fn page(&self, address: u32) -> Option<Entry>
         requires { address < 2 ^ 25 }
         ensures page { result ≡ page_at self.now.paged (address / 2 ^ self.now.shift) }
@@ -104,6 +107,7 @@ impl Pages {
     }
 
     /// The place of the word that a logical address names, on a physical page.
+    #[inline(always)]
     pub fn place(&self, physical: u8, address: u32) -> u32
         requires { physical < 128 }
         ensures place { result ≡ place_of self.now.shift physical address }
