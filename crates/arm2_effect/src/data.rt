@@ -63,14 +63,15 @@ macro_rules! destination {
 impl Registers {
     /// Puts a value into a register other than R15, and goes on.
     #[tactic(auto, unfolding(crate::specs::Operations::entered))]
+    #[inline(always)]
     pub(crate) fn enter(
         &mut self,
-        prices: Prices,
+        prices: &Prices,
         sets_flags: bool,
         rd: Register,
         outcome: Outcome,
     ) -> Done
-        ensures effect { IsEffect prices.profile prices.rom result self.new
+        ensures effect { IsEffect prices.now.profile prices.now.rom result self.new
             (entered sets_flags rd outcome self.old) }
         ensures goes_on { is_stopped result.kind ≡ false }
         ensures bound { result.ticks < 2 ^ 10 }
@@ -85,8 +86,9 @@ impl Registers {
     }
 
     #[tactic(auto, unfolding(crate::specs::Operations::jumped))]
-    fn jump(&mut self, prices: Prices, sets_flags: bool, outcome: Outcome) -> Done
-        ensures effect { IsEffect prices.profile prices.rom result self.new
+    #[inline(never)]
+    fn jump(&mut self, prices: &Prices, sets_flags: bool, outcome: Outcome) -> Done
+        ensures effect { IsEffect prices.now.profile prices.now.rom result self.new
             (jumped sets_flags outcome self.old) }
         ensures goes_on { is_stopped result.kind ≡ false }
         ensures bound { result.ticks < 2 ^ 10 }
@@ -105,8 +107,9 @@ impl Registers {
     }
 
     #[tactic(auto, unfolding(crate::specs::Operations::compared))]
-    fn compare(&mut self, prices: Prices, rd: Register, outcome: Outcome) -> Done
-        ensures effect { IsEffect prices.profile prices.rom result self.new
+    #[inline(always)]
+    fn compare(&mut self, prices: &Prices, rd: Register, outcome: Outcome) -> Done
+        ensures effect { IsEffect prices.now.profile prices.now.rom result self.new
             (compared rd outcome self.old) }
         ensures goes_on { is_stopped result.kind ≡ false }
         ensures bound { result.ticks < 2 ^ 10 }
@@ -127,8 +130,9 @@ impl Registers {
     }
 
     #[tactic(auto, unfolding(crate::specs::Operations::placed))]
-    fn place(&mut self, prices: Prices, to: Destination, outcome: Outcome) -> Done
-        ensures effect { IsEffect prices.profile prices.rom result self.new
+    #[inline(always)]
+    fn place(&mut self, prices: &Prices, to: Destination, outcome: Outcome) -> Done
+        ensures effect { IsEffect prices.now.profile prices.now.rom result self.new
             (placed to.opcode to.sets_flags to.rd outcome self.old) }
         ensures goes_on { is_stopped result.kind ≡ false }
         ensures bound { result.ticks < 2 ^ 10 }
@@ -144,8 +148,8 @@ impl Registers {
 
     /// Data processing with a byte that is rotated.
     #[tactic(auto, unfolding(crate::specs::Operations::data_immediate_effect))]
-    pub(crate) fn data_immediate(&mut self, prices: Prices, fields: &DataImmediate) -> Done
-        ensures effect { IsEffect prices.profile prices.rom result self.new
+    pub(crate) fn data_immediate(&mut self, prices: &Prices, fields: &DataImmediate) -> Done
+        ensures effect { IsEffect prices.now.profile prices.now.rom result self.new
             (data_immediate_effect fields.now self.old) }
         ensures goes_on { is_stopped result.kind ≡ false }
         ensures bound { result.ticks < 2 ^ 16 }
@@ -158,8 +162,8 @@ impl Registers {
 
     /// Data processing with a register that is shifted by an amount in the word.
     #[tactic(auto, unfolding(crate::specs::Operations::data_register_effect))]
-    pub(crate) fn data_register(&mut self, prices: Prices, fields: &DataRegister) -> Done
-        ensures effect { IsEffect prices.profile prices.rom result self.new
+    pub(crate) fn data_register(&mut self, prices: &Prices, fields: &DataRegister) -> Done
+        ensures effect { IsEffect prices.now.profile prices.now.rom result self.new
             (data_register_effect fields.now self.old) }
         ensures goes_on { is_stopped result.kind ≡ false }
         ensures bound { result.ticks < 2 ^ 16 }
@@ -172,8 +176,9 @@ impl Registers {
 
     /// Data processing with a register that is shifted by another.
     #[tactic(auto, unfolding(crate::specs::Operations::data_register_shift_effect))]
-    pub(crate) fn data_register_shift(&mut self, prices: Prices, fields: &DataRegisterShift) -> Done
-        ensures effect { IsEffect prices.profile prices.rom result self.new
+    #[inline(never)]
+    pub(crate) fn data_register_shift(&mut self, prices: &Prices, fields: &DataRegisterShift) -> Done
+        ensures effect { IsEffect prices.now.profile prices.now.rom result self.new
             (data_register_shift_effect fields.now self.old) }
         ensures goes_on { is_stopped result.kind ≡ false }
         ensures bound { result.ticks < 2 ^ 16 }

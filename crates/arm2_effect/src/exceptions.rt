@@ -73,8 +73,9 @@ fn masked(masks_fiq: bool, psr: u32) -> u32
 impl Registers {
     /// Takes an exception at the instruction in R15.
     #[tactic(auto, unfolding(crate::specs::Exceptions::taken))]
-    pub fn take(&mut self, prices: Prices, vector: Vector) -> Done
-        ensures effect { IsEffect prices.profile prices.rom result self.new (taken vector self.old) }
+    #[inline(never)]
+    pub fn take(&mut self, prices: &Prices, vector: Vector) -> Done
+        ensures effect { IsEffect prices.now.profile prices.now.rom result self.new (taken vector self.old) }
         ensures goes_on { is_stopped result.kind ≡ false }
         ensures bound { result.ticks < 2 ^ 16 }
     {
@@ -101,8 +102,8 @@ impl Registers {
 
     /// Passes over the instruction in R15: its condition fails.
     #[tactic(auto, unfolding(crate::specs::Effects::skipped))]
-    pub fn skip(&mut self, prices: Prices) -> Done
-        ensures effect { IsEffect prices.profile prices.rom result self.new (skipped self.old) }
+    pub fn skip(&mut self, prices: &Prices) -> Done
+        ensures effect { IsEffect prices.now.profile prices.now.rom result self.new (skipped self.old) }
         ensures goes_on { is_stopped result.kind ≡ false }
         ensures bound { result.ticks < 2 ^ 16 }
     {

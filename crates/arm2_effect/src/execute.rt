@@ -47,8 +47,9 @@ impl Registers {
 
     /// MUL and MLA.
     #[tactic(auto, unfolding(crate::specs::Operations::multiply_effect))]
-    fn multiply(&mut self, prices: Prices, multiply: &Multiply) -> Done
-        ensures effect { IsEffect prices.profile prices.rom result self.new
+    #[inline(never)]
+    fn multiply(&mut self, prices: &Prices, multiply: &Multiply) -> Done
+        ensures effect { IsEffect prices.now.profile prices.now.rom result self.new
             (multiply_effect multiply.now self.old) }
         ensures goes_on { is_stopped result.kind ≡ false }
         ensures bound { result.ticks < 2 ^ 16 }
@@ -64,8 +65,8 @@ impl Registers {
 
     /// B and BL.
     #[tactic(auto, unfolding(crate::specs::Operations::branch_effect))]
-    fn branch(&mut self, prices: Prices, branch: &Branch) -> Done
-        ensures effect { IsEffect prices.profile prices.rom result self.new
+    fn branch(&mut self, prices: &Prices, branch: &Branch) -> Done
+        ensures effect { IsEffect prices.now.profile prices.now.rom result self.new
             (branch_effect branch.now self.old) }
         ensures goes_on { is_stopped result.kind ≡ false }
         ensures bound { result.ticks < 2 ^ 16 }
@@ -91,9 +92,9 @@ impl Registers {
 
     /// Carries out an instruction whose condition holds, and which is no load or store.
     #[tactic(auto, unfolding(crate::specs::Operations::operation_effect))]
-    pub fn execute(&mut self, prices: Prices, operation: &Operation) -> Done
+    pub fn execute(&mut self, prices: &Prices, operation: &Operation) -> Done
         requires { is_transfer operation.now ≡ false }
-        ensures effect { IsEffect prices.profile prices.rom result self.new
+        ensures effect { IsEffect prices.now.profile prices.now.rom result self.new
             (operation_effect operation.now self.old) }
         ensures goes_on { is_stopped result.kind ≡ false }
         ensures bound { result.ticks < 2 ^ 16 }

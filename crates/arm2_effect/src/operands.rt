@@ -12,6 +12,7 @@ use shifter::{Shifted, rotate_imm, shift_imm, shift_reg};
 impl Registers {
     /// A register as the first operand, or as a base: R15 gives its address bits alone, so many
     /// bytes ahead.
+    #[inline(always)]
     pub fn first(&self, register: Register, bytes: u32) -> u32
         requires words { bytes % 4 ≡ 0 }
         requires small { bytes < 16 }
@@ -26,6 +27,7 @@ impl Registers {
 
     /// A register where it is shifted: R15 gives all its bits, with its address so many bytes
     /// ahead.
+    #[inline(always)]
     fn operand(&self, register: Register, bytes: u32) -> u32
         requires words { bytes % 4 ≡ 0 }
         requires small { bytes < 16 }
@@ -42,6 +44,7 @@ impl Registers {
     ///
     /// The second operand of data processing, and the offset of a load or store.
     #[tactic(auto, using(crate::proofs::Words::shifted_is))]
+    #[inline(always)]
     pub fn shifted_by_amount(&self, shift: Shift, amount: u32, rm: Register) -> Shifted
         requires { amount < 32 }
         ensures { result ≡ shifted_by_amount shift amount rm self.now }
@@ -62,6 +65,7 @@ impl Registers {
 
     /// A byte that is rotated right by twice the rotation, which is from 0 to 15.
     #[tactic(auto, using(crate::proofs::Words::shifted_is))]
+    #[inline(always)]
     pub(crate) fn rotated_byte(&self, value: u32, rotation: u32) -> Shifted
         requires byte { value < 256 }
         requires places { rotation < 16 }

@@ -53,6 +53,7 @@ fn bits(value: u32, operand: Shifted, flags: Flags) -> Outcome
 }
 
 /// What an operation computes of Rn, the second operand and the flags before.
+#[inline(always)]
 pub(crate) fn outcome_of(opcode: Opcode, x: u32, operand: Shifted, flags: Flags) -> Outcome
     ensures { result ≡ outcome_of opcode x operand flags }
 {
@@ -74,6 +75,7 @@ pub(crate) fn outcome_of(opcode: Opcode, x: u32, operand: Shifted, flags: Flags)
 }
 
 /// The condition flags that an outcome sets.
+#[inline(always)]
 pub(crate) fn flags_after(outcome: Outcome) -> Flags
     ensures { result ≡ flags_after outcome }
 {

@@ -15,41 +15,45 @@ pub struct Prices {
 
 impl Prices {
     /// The ticks of an instruction at an address that is followed by the next one.
-    pub fn straight(self, from: u32) -> u32
+    #[inline(always)]
+    pub fn straight(&self, from: u32) -> u32
         requires below { from < 2 ^ 26 }
         requires aligned { from % 4 ≡ 0 }
-        ensures ticks { result ≡ ticks_of self.profile self.rom (straight from) }
+        ensures ticks { result ≡ ticks_of self.now.profile self.now.rom (straight from) }
         ensures bound { result < 256 }
     {
         fetch_s(&self.profile, ahead(from, 8), self.rom)
     }
 
     /// The ticks of the fetches that a jump to an address adds.
-    pub fn refill(self, to: u32) -> u32
+    #[inline(always)]
+    pub fn refill(&self, to: u32) -> u32
         requires below { to < 2 ^ 26 }
         requires aligned { to % 4 ≡ 0 }
-        ensures ticks { result ≡ ticks_of self.profile self.rom (refill to) }
+        ensures ticks { result ≡ ticks_of self.now.profile self.now.rom (refill to) }
         ensures bound { result < 2 * 256 }
     {
         fetch_n(&self.profile, to, self.rom) + fetch_s(&self.profile, ahead(to, 4), self.rom)
     }
 
     /// The ticks of an instruction at an address that is followed by the one at another.
-    pub fn onward(self, from: u32, to: u32) -> u32
+    #[inline(always)]
+    pub fn onward(&self, from: u32, to: u32) -> u32
         requires from_below { from < 2 ^ 26 }
         requires from_aligned { from % 4 ≡ 0 }
         requires to_below { to < 2 ^ 26 }
         requires to_aligned { to % 4 ≡ 0 }
-        ensures ticks { result ≡ ticks_of self.profile self.rom (onward from to) }
+        ensures ticks { result ≡ ticks_of self.now.profile self.now.rom (onward from to) }
         ensures bound { result < 3 * 256 }
     {
         self.straight(from) + self.refill(to)
     }
 
     /// The ticks of cycles without an access.
-    pub fn internal(self, cycles: u32) -> u32
+    #[inline(always)]
+    pub fn internal(&self, cycles: u32) -> u32
         requires { cycles ≤ 16 }
-        ensures ticks { result ≡ ticks_of self.profile self.rom (Internal cycles ∷ []) }
+        ensures ticks { result ≡ ticks_of self.now.profile self.now.rom (Internal cycles ∷ []) }
         ensures bound { result ≤ 16 * 255 }
     {
         cycles * self.profile.internal

@@ -29,6 +29,7 @@ impl Registers {
     }
 
     /// The word in a register.
+    #[inline(always)]
     pub fn get(&self, register: Reg) -> u32
         ensures word { result ≡ slice_index self.now (reg_number register) }
         ensures all { length self.now ≡ 27 }
@@ -37,6 +38,7 @@ impl Registers {
     }
 
     /// Puts a word into a register.
+    #[inline(always)]
     pub fn set(&mut self, register: Reg, word: u32)
         ensures word { self.new ≡ slice_set self.old (reg_number register) word }
         ensures all { length self.new ≡ 27 }
@@ -45,6 +47,7 @@ impl Registers {
     }
 
     /// The word in a register as an instruction of the mode names it.
+    #[inline(always)]
     pub fn read(&self, mode: Mode, register: Register) -> u32
         ensures { result ≡ register_in mode (register_number register) self.now }
     {
@@ -52,6 +55,7 @@ impl Registers {
     }
 
     /// Puts a word into a register as an instruction of the mode names it.
+    #[inline(always)]
     pub fn write(&mut self, mode: Mode, register: Register, word: u32)
         ensures { self.new ≡ with_register mode (register_number register) word self.old }
     {
@@ -60,14 +64,18 @@ impl Registers {
 }
 
 // The place of a mode's register: FIQ has its own from R8 on, IRQ and SVC from R13 on.
+#[inline(always)]
 fn slot(mode: Mode, register: Register) -> usize
     ensures slot { result ≡ slot_of mode (register_number register) }
     ensures fits { result < 27 }
 {
     let number = register.number() as usize;
+    if number < 8 {
+        return number;
+    }
     match mode {
         _ if number == 15 => Reg::R15.number(),
-        Mode::Fiq if number >= 8 => number + 7,
+        Mode::Fiq => number + 7,
         Mode::Irq if number >= 13 => number + 9,
         Mode::Svc if number >= 13 => number + 11,
         _ => number,

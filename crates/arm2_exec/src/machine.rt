@@ -80,7 +80,8 @@ pub struct Ran {
 pub struct Machine {
     registers: Registers,
     bus: Bus,
-    profile: Profile,
+    // Its time fields of ROM are those before the last step.
+    prices: Prices,
 }
 
 impl Model for Machine {
@@ -88,7 +89,7 @@ impl Model for Machine {
 
     ghost Value = { State };
 
-    ghost view = { λ m. record { regs = m.registers; bus = m.bus; profile = m.profile } };
+    ghost view = { λ m. record { regs = m.registers; bus = m.bus; profile = m.prices.profile } };
 }
 
 impl Machine {
@@ -100,14 +101,19 @@ impl Machine {
     pub fn new(alloc: Global, size: PageSize, profile: Profile) -> Result<Machine, MachineFault>
         ensures { IfOk result (λ m. IsReset (shift_of_size size) profile m) }
     {
+        let memc = Memc::new(alloc, size)?;
+        let prices = Prices {
+            profile,
+            rom: memc.rom_times(),
+        };
         let mut machine = Machine {
             registers: Registers::new(),
             bus: Bus {
-                memc: Memc::new(alloc, size)?,
+                memc,
                 ioc: Ioc::new(),
                 vidc: Vidc::new(),
             },
-            profile,
+            prices,
         };
         machine.reset();
         Ok(machine)
@@ -183,7 +189,7 @@ impl Machine {
     pub fn profile(&self) -> Profile
         ensures { result ≡ self.now.profile }
     {
-        self.profile
+        self.prices.profile
     }
 
     /// The interrupt that a step takes once the lines are these: FIQ, or else IRQ, each unless R15 masks it.
@@ -210,13 +216,10 @@ impl Machine {
         ensures bound { result.ticks < 2 ^ 16 }
     {
         let from = address_of(self.registers.get(Reg::R15));
-        let prices = Prices {
-            profile: self.profile,
-            rom: self.bus.memc.rom_times(),
-        };
+        self.prices.rom = self.bus.memc.rom_times();
         let ioc = self.bus.ioc.snapshot();
         self.bus.ioc.lines(input.lines);
-        let done = work(&mut self.registers, &mut self.bus, input.port, prices);
+        let done = work(&mut self.registers, &mut self.bus, input.port, &self.prices);
         if let Kind::Stopped(_) = done.kind {
             self.bus.ioc = ioc;
             return Stepped {
@@ -226,7 +229,7 @@ impl Machine {
                 to: from,
             };
         }
-        let stretched = self.profile.burst_ticks(input.bursts);
+        let stretched = self.prices.profile.burst_ticks(input.bursts);
         elapse(&mut self.bus, done.ticks + stretched);
         Stepped {
             kind: done.kind,
@@ -252,7 +255,7 @@ impl Machine {
                 ran.stopped = Some(why);
                 return ran;
             }
-            let stretched = self.profile.burst_ticks(input.bursts);
+            let stretched = self.prices.profile.burst_ticks(input.bursts);
             ran.steps += 1;
             ran.ticks += u128::from(stepped.ticks);
             ran.elapsed += u128::from(stepped.ticks) + u128::from(stretched);

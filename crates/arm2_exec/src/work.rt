@@ -44,15 +44,15 @@ fn obey_instruction(
     registers: &mut Registers,
     bus: &mut Bus,
     port: u32,
-    prices: Prices,
+    prices: &Prices,
     instr: &Instr,
 ) -> Done
-    ensures moved { IsMoved prices.profile prices.rom result registers.new bus.new
+    ensures moved { IsMoved prices.now.profile prices.now.rom result registers.new bus.new
         (instruction_moved instr.now port registers.old bus.old) }
     ensures bound { result.ticks < 2 ^ 16 }
 {
     if registers.passes(instr.cond) {
-        return execute(registers, bus, port, prices, &instr.operation);
+        return execute(registers, bus, port, *prices, &instr.operation);
     }
     registers.skip(prices)
 }
@@ -62,10 +62,10 @@ fn obey_instruction(
 fn obey_unallocated(
     registers: &mut Registers,
     bus: &Bus,
-    prices: Prices,
+    prices: &Prices,
     unallocated: Unallocated,
 ) -> Done
-    ensures moved { IsMoved prices.profile prices.rom result registers.new bus.now
+    ensures moved { IsMoved prices.now.profile prices.now.rom result registers.new bus.now
         (unallocated_moved unallocated registers.old bus.now) }
     ensures bound { result.ticks < 2 ^ 16 }
 {
@@ -80,10 +80,10 @@ fn obey(
     registers: &mut Registers,
     bus: &mut Bus,
     port: u32,
-    prices: Prices,
+    prices: &Prices,
     word: Option<u32>,
 ) -> Done
-    ensures obeyed { Obeyed prices.profile prices.rom word port registers.old bus.old result registers.new
+    ensures obeyed { Obeyed prices.now.profile prices.now.rom word port registers.old bus.old result registers.new
         bus.new }
     ensures bound { result.ticks < 2 ^ 16 }
 {
@@ -97,8 +97,8 @@ fn obey(
 }
 
 // What a step does before time passes: an interrupt, or the word at the address.
-pub(crate) fn work(registers: &mut Registers, bus: &mut Bus, port: u32, prices: Prices) -> Done
-    ensures worked { Worked prices.profile prices.rom
+pub(crate) fn work(registers: &mut Registers, bus: &mut Bus, port: u32, prices: &Prices) -> Done
+    ensures worked { Worked prices.now.profile prices.now.rom
         (interrupt_due bus.old
         (r15_in registers.old)) port registers.old bus.old result registers.new bus.new }
     ensures bound { result.ticks < 2 ^ 16 }

@@ -123,7 +123,7 @@ fn put_block(registers: &mut Registers, bus: &mut Bus, block: PlacedBlock, moves
 fn load(
     registers: &mut Registers,
     bus: &Bus,
-    inputs: Inputs,
+    inputs: &Inputs,
     block: PlacedBlock,
     moves: &[Move],
 ) -> Done
@@ -131,8 +131,8 @@ fn load(
     requires below { block.span.lowest < 2 ^ 26 }
     requires some { 1 ≤ block.span.words }
     requires few { block.span.words ≤ 16 }
-    ensures moved { IsMoved inputs.prices.profile inputs.prices.rom result registers.new bus.now
-        (block_loads block.transfer block.span inputs.port moves.now registers.old bus.now) }
+    ensures moved { IsMoved inputs.now.prices.profile inputs.now.prices.rom result registers.new bus.now
+        (block_loads block.transfer block.span inputs.now.port moves.now registers.old bus.now) }
     ensures bound { result.ticks < 2 ^ 16 }
     ensures goes_on { is_stopped result.kind ≡ false }
 {
@@ -151,7 +151,7 @@ fn load(
     let jumps = is_listed(transfer.list, Register::R15);
     Done {
         kind: Kind::Plain,
-        ticks: load_ticks(inputs.prices, accesses(block, address_of(r15)), jumps, to),
+        ticks: load_ticks(&inputs.prices, accesses(block, address_of(r15)), jumps, to),
     }
 }
 
@@ -159,7 +159,7 @@ fn load(
 fn store(
     registers: &mut Registers,
     bus: &mut Bus,
-    prices: Prices,
+    prices: &Prices,
     block: PlacedBlock,
     moves: &[Move],
 ) -> Done
@@ -167,7 +167,7 @@ fn store(
     requires below { block.span.lowest < 2 ^ 26 }
     requires some { 1 ≤ block.span.words }
     requires few { block.span.words ≤ 16 }
-    ensures moved { IsMoved prices.profile prices.rom result registers.new bus.new
+    ensures moved { IsMoved prices.now.profile prices.now.rom result registers.new bus.new
         (block_stores block.transfer block.span moves.now registers.old bus.old) }
     ensures bound { result.ticks < 2 ^ 16 }
     ensures goes_on { is_stopped result.kind ≡ false }
@@ -182,24 +182,24 @@ fn store(
 }
 
 #[tactic(auto, unfolding(crate::specs::Block::block_at, crate::specs::Block::block_by))]
-fn block_at(registers: &mut Registers, bus: &mut Bus, inputs: Inputs, block: PlacedBlock) -> Done
+fn block_at(registers: &mut Registers, bus: &mut Bus, inputs: &Inputs, block: PlacedBlock) -> Done
     requires some { 1 ≤ block.span.words }
     requires few { block.span.words ≤ 16 }
-    ensures moved { IsMoved inputs.prices.profile inputs.prices.rom result registers.new bus.new
-        (block_at block.transfer block.span inputs.port registers.old bus.old) }
+    ensures moved { IsMoved inputs.now.prices.profile inputs.now.prices.rom result registers.new bus.new
+        (block_at block.transfer block.span inputs.now.port registers.old bus.old) }
     ensures bound { result.ticks < 2 ^ 16 }
     ensures stopped { is_stopped result.kind ≡ true
         → ChangesNothing result registers.old registers.new bus.old bus.new }
 {
     let (list, lowest) = (block.transfer.list, block.span.lowest);
     if lowest >= 0x400_0000 {
-        return registers.take(inputs.prices, Vector::AddressException);
+        return registers.take(&inputs.prices, Vector::AddressException);
     }
     let user = is_user(mode_of(registers.get(Reg::R15)));
     match locate_block(&bus.memc, list, lowest, user, !block.transfer.load) {
-        Err(fault) => refuse(registers, bus, inputs.prices, fault),
+        Err(fault) => refuse(registers, bus, &inputs.prices, fault),
         Ok(moves) if block.transfer.load => load(registers, bus, inputs, block, moves.as_slice()),
-        Ok(moves) => store(registers, bus, inputs.prices, block, moves.as_slice()),
+        Ok(moves) => store(registers, bus, &inputs.prices, block, moves.as_slice()),
     }
 }
 
@@ -208,11 +208,11 @@ fn block_at(registers: &mut Registers, bus: &mut Bus, inputs: Inputs, block: Pla
 pub(crate) fn block(
     registers: &mut Registers,
     bus: &mut Bus,
-    inputs: Inputs,
+    inputs: &Inputs,
     transfer: &Block,
 ) -> Done
-    ensures moved { IsMoved inputs.prices.profile inputs.prices.rom result registers.new bus.new
-        (block_moved transfer.now inputs.port registers.old bus.old) }
+    ensures moved { IsMoved inputs.now.prices.profile inputs.now.prices.rom result registers.new bus.new
+        (block_moved transfer.now inputs.now.port registers.old bus.old) }
     ensures bound { result.ticks < 2 ^ 16 }
     ensures stopped { is_stopped result.kind ≡ true
         → ChangesNothing result registers.old registers.new bus.old bus.new }

@@ -14,10 +14,10 @@ use bus_ticks::{fetch_n, transfer};
 pub(crate) fn refuse(
     registers: &mut Registers,
     bus: &Bus,
-    prices: Prices,
+    prices: &Prices,
     fault: TransferFault,
 ) -> Done
-    ensures moved { IsMoved prices.profile prices.rom result registers.new bus.now
+    ensures moved { IsMoved prices.now.profile prices.now.rom result registers.new bus.now
         (faulted fault registers.old bus.now) }
     ensures bound { result.ticks < 2 ^ 16 }
     ensures stopped { is_stopped result.kind ≡ true
@@ -41,7 +41,7 @@ pub struct Accesses {
 }
 
 /// The ticks of a load; where it writes R15 it jumps to `to`.
-pub(crate) fn load_ticks(prices: Prices, accesses: Accesses, jumps: bool, to: u32) -> u32
+pub(crate) fn load_ticks(prices: &Prices, accesses: Accesses, jumps: bool, to: u32) -> u32
     requires from { accesses.from < 2 ^ 26 }
     requires from_aligned { accesses.from % 4 ≡ 0 }
     requires address { accesses.address < 2 ^ 26 }
@@ -50,7 +50,7 @@ pub(crate) fn load_ticks(prices: Prices, accesses: Accesses, jumps: bool, to: u3
     requires to { to < 2 ^ 26 }
     requires to_aligned { to % 4 ≡ 0 }
     ensures ticks { result
-        ≡ ticks_of prices.profile prices.rom
+        ≡ ticks_of prices.now.profile prices.now.rom
         (load_accesses accesses.from accesses.address accesses.words jumps to) }
     ensures bound { result < 2 ^ 16 }
 {
@@ -70,24 +70,24 @@ pub(crate) fn load_ticks(prices: Prices, accesses: Accesses, jumps: bool, to: u3
 }
 
 // The ticks of the fetch after a store by the instruction at `from`: it does not follow the access before it.
-fn fetch_after(prices: Prices, from: u32) -> u32
+fn fetch_after(prices: &Prices, from: u32) -> u32
     requires from { from < 2 ^ 26 }
     requires from_aligned { from % 4 ≡ 0 }
-    ensures price { result ≡ n_price prices.profile prices.rom (ahead_of from 8) }
+    ensures price { result ≡ n_price prices.now.profile prices.now.rom (ahead_of from 8) }
     ensures small { result < 256 }
 {
     fetch_n(&prices.profile, ahead(from, 8), prices.rom)
 }
 
 /// The ticks of a store.
-pub(crate) fn store_ticks(prices: Prices, accesses: Accesses) -> u32
+pub(crate) fn store_ticks(prices: &Prices, accesses: Accesses) -> u32
     requires from { accesses.from < 2 ^ 26 }
     requires from_aligned { accesses.from % 4 ≡ 0 }
     requires address { accesses.address < 2 ^ 26 }
     requires some { 1 ≤ accesses.words }
     requires few { accesses.words ≤ 16 }
     ensures ticks { result
-        ≡ ticks_of prices.profile prices.rom
+        ≡ ticks_of prices.now.profile prices.now.rom
         (store_accesses accesses.from accesses.address accesses.words) }
     ensures bound { result < 2 ^ 16 }
 {

@@ -27,11 +27,14 @@ pub fn execute(
     ensures stopped { is_stopped result.kind ≡ true
         → ChangesNothing result registers.old registers.new bus.old bus.new }
 {
-    let inputs = Inputs { port, prices };
     match operation {
-        Operation::SingleImmediate(fields) => single_immediate(registers, bus, inputs, fields),
-        Operation::SingleRegister(fields) => single_register(registers, bus, inputs, fields),
-        Operation::Block(transfer) => block(registers, bus, inputs, transfer),
-        _ => registers.execute(prices, operation),
+        Operation::SingleImmediate(fields) => {
+            single_immediate(registers, bus, &Inputs { port, prices }, fields)
+        }
+        Operation::SingleRegister(fields) => {
+            single_register(registers, bus, &Inputs { port, prices }, fields)
+        }
+        Operation::Block(transfer) => block(registers, bus, &Inputs { port, prices }, transfer),
+        _ => registers.execute(&prices, operation),
     }
 }

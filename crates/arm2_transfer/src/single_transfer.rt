@@ -57,14 +57,14 @@ fn load_word(registers: &mut Registers, bus: &Bus, port: u32, single: PlacedSing
 fn load(
     registers: &mut Registers,
     bus: &Bus,
-    inputs: Inputs,
+    inputs: &Inputs,
     single: PlacedSingle,
     spot: Spot,
 ) -> Done
     requires fits { Fits bus.now.memc.shift spot }
     requires below { address_for single.transfer single.base < 2 ^ 26 }
-    ensures moved { IsMoved inputs.prices.profile inputs.prices.rom result registers.new bus.now
-        (single_loads single.transfer single.base inputs.port spot registers.old bus.now) }
+    ensures moved { IsMoved inputs.now.prices.profile inputs.now.prices.rom result registers.new bus.now
+        (single_loads single.transfer single.base inputs.now.port spot registers.old bus.now) }
     ensures bound { result.ticks < 2 ^ 16 }
     ensures goes_on { is_stopped result.kind ≡ false }
 {
@@ -74,7 +74,7 @@ fn load(
     let jumps = single.transfer.rd.is_pc();
     Done {
         kind: Kind::Plain,
-        ticks: load_ticks(inputs.prices, accesses(single, address_of(r15)), jumps, to),
+        ticks: load_ticks(&inputs.prices, accesses(single, address_of(r15)), jumps, to),
     }
 }
 
@@ -82,13 +82,13 @@ fn load(
 fn store(
     registers: &mut Registers,
     bus: &mut Bus,
-    prices: Prices,
+    prices: &Prices,
     single: PlacedSingle,
     spot: Spot,
 ) -> Done
     requires fits { Fits bus.old.memc.shift spot }
     requires below { address_for single.transfer single.base < 2 ^ 26 }
-    ensures moved { IsMoved prices.profile prices.rom result registers.new bus.new
+    ensures moved { IsMoved prices.now.profile prices.now.rom result registers.new bus.new
         (single_stores single.transfer single.base spot registers.old bus.old) }
     ensures bound { result.ticks < 2 ^ 16 }
     ensures goes_on { is_stopped result.kind ≡ false }
@@ -105,9 +105,9 @@ fn store(
 }
 
 #[tactic(auto, unfolding(crate::specs::Single::single_at, crate::specs::Single::single_by))]
-fn single_at(registers: &mut Registers, bus: &mut Bus, inputs: Inputs, single: PlacedSingle) -> Done
-    ensures moved { IsMoved inputs.prices.profile inputs.prices.rom result registers.new bus.new
-        (single_at single.transfer single.base inputs.port registers.old bus.old) }
+fn single_at(registers: &mut Registers, bus: &mut Bus, inputs: &Inputs, single: PlacedSingle) -> Done
+    ensures moved { IsMoved inputs.now.prices.profile inputs.now.prices.rom result registers.new bus.new
+        (single_at single.transfer single.base inputs.now.port registers.old bus.old) }
     ensures bound { result.ticks < 2 ^ 16 }
     ensures stopped { is_stopped result.kind ≡ true
         → ChangesNothing result registers.old registers.new bus.old bus.new }
@@ -115,19 +115,19 @@ fn single_at(registers: &mut Registers, bus: &mut Bus, inputs: Inputs, single: P
     let transfer = single.transfer;
     let address = transfer.address(single.base);
     if address >= 0x400_0000 {
-        return registers.take(inputs.prices, Vector::AddressException);
+        return registers.take(&inputs.prices, Vector::AddressException);
     }
     let user = transfer.has_user_rights(mode_of(registers.get(Reg::R15)));
     match locate_word(&bus.memc, address, user, !transfer.load) {
-        Err(fault) => refuse(registers, bus, inputs.prices, fault),
+        Err(fault) => refuse(registers, bus, &inputs.prices, fault),
         Ok(spot) if transfer.load => load(registers, bus, inputs, single, spot),
-        Ok(spot) => store(registers, bus, inputs.prices, single, spot),
+        Ok(spot) => store(registers, bus, &inputs.prices, single, spot),
     }
 }
 
-fn single(registers: &mut Registers, bus: &mut Bus, inputs: Inputs, transfer: Single) -> Done
-    ensures moved { IsMoved inputs.prices.profile inputs.prices.rom result registers.new bus.new
-        (single_moved transfer inputs.port registers.old bus.old) }
+fn single(registers: &mut Registers, bus: &mut Bus, inputs: &Inputs, transfer: Single) -> Done
+    ensures moved { IsMoved inputs.now.prices.profile inputs.now.prices.rom result registers.new bus.new
+        (single_moved transfer inputs.now.port registers.old bus.old) }
     ensures bound { result.ticks < 2 ^ 16 }
     ensures stopped { is_stopped result.kind ≡ true
         → ChangesNothing result registers.old registers.new bus.old bus.new }
@@ -156,11 +156,11 @@ macro_rules! with_offset {
 pub(crate) fn single_immediate(
     registers: &mut Registers,
     bus: &mut Bus,
-    inputs: Inputs,
+    inputs: &Inputs,
     fields: &SingleImmediate,
 ) -> Done
-    ensures moved { IsMoved inputs.prices.profile inputs.prices.rom result registers.new bus.new
-        (single_moved (of_immediate fields.now) inputs.port registers.old bus.old) }
+    ensures moved { IsMoved inputs.now.prices.profile inputs.now.prices.rom result registers.new bus.new
+        (single_moved (of_immediate fields.now) inputs.now.port registers.old bus.old) }
     ensures bound { result.ticks < 2 ^ 16 }
     ensures stopped { is_stopped result.kind ≡ true
         → ChangesNothing result registers.old registers.new bus.old bus.new }
@@ -172,11 +172,11 @@ pub(crate) fn single_immediate(
 pub(crate) fn single_register(
     registers: &mut Registers,
     bus: &mut Bus,
-    inputs: Inputs,
+    inputs: &Inputs,
     fields: &SingleRegister,
 ) -> Done
-    ensures moved { IsMoved inputs.prices.profile inputs.prices.rom result registers.new bus.new
-        (single_moved (of_register fields.now registers.old) inputs.port registers.old bus.old) }
+    ensures moved { IsMoved inputs.now.prices.profile inputs.now.prices.rom result registers.new bus.new
+        (single_moved (of_register fields.now registers.old) inputs.now.port registers.old bus.old) }
     ensures bound { result.ticks < 2 ^ 16 }
     ensures stopped { is_stopped result.kind ≡ true
         → ChangesNothing result registers.old registers.new bus.old bus.new }

@@ -29,6 +29,7 @@ macro_rules! pick {
     };
 }
 
+#[inline(never)]
 fn rom_access(profile: &Profile, rom: RomTimes, address: u32) -> u32
     ensures price { result ≡ rom_price profile.now rom address }
     ensures small { result < 256 }
@@ -42,19 +43,23 @@ fn rom_access(profile: &Profile, rom: RomTimes, address: u32) -> u32
 }
 
 /// The ticks of an instruction fetch that does not follow the access before it.
+#[inline(always)]
 pub fn fetch_n(profile: &Profile, address: u32, rom: RomTimes) -> u32
     requires { address < SPACE_END }
     ensures price { result ≡ n_price profile.now rom address }
     ensures small { result < 256 }
 {
-    match class_of(address) {
-        Class::Ram => profile.n,
-        Class::Rom => rom_access(profile, rom, address),
-        Class::Io | Class::Any => profile.unfitted,
+    if address < IO_START {
+        return profile.n;
     }
+    if address < ROM_START {
+        return profile.unfitted;
+    }
+    rom_access(profile, rom, address)
 }
 
 /// The ticks of an access to RAM that follows the one before it.
+#[inline(always)]
 pub fn ram_following(profile: &Profile, address: u32) -> u32
     ensures price { result ≡ ram_price profile.now address }
     ensures small { result < 256 }
@@ -67,16 +72,19 @@ pub fn ram_following(profile: &Profile, address: u32) -> u32
 }
 
 /// The ticks of an instruction fetch that follows the access before it.
+#[inline(always)]
 pub fn fetch_s(profile: &Profile, address: u32, rom: RomTimes) -> u32
     requires { address < SPACE_END }
     ensures price { result ≡ s_price profile.now rom address }
     ensures small { result < 256 }
 {
-    match class_of(address) {
-        Class::Ram => ram_following(profile, address),
-        Class::Rom => rom_access(profile, rom, address),
-        Class::Io | Class::Any => profile.unfitted,
+    if address < IO_START {
+        return ram_following(profile, address);
     }
+    if address < ROM_START {
+        return profile.unfitted;
+    }
+    rom_access(profile, rom, address)
 }
 
 fn io_access(profile: &Profile, address: u32) -> u32
@@ -92,23 +100,20 @@ fn word_ticks(profile: &Profile, address: u32, first: bool, store: bool, rom: Ro
     ensures price { result ≡ word_price profile.now rom store first address }
     ensures small { result < 256 }
 {
-    match class_of(address) {
-        Class::Ram => {
-            if first {
-                profile.n
-            } else {
-                ram_following(profile, address)
-            }
-        }
-        Class::Rom => {
-            if store {
-                profile.control
-            } else {
-                rom_access(profile, rom, address)
-            }
-        }
-        Class::Io | Class::Any => io_access(profile, address),
+    if address < IO_START {
+        return if first {
+            profile.n
+        } else {
+            ram_following(profile, address)
+        };
     }
+    if address < ROM_START {
+        return io_access(profile, address);
+    }
+    if store {
+        return profile.control;
+    }
+    rom_access(profile, rom, address)
 }
 
 /// The ticks of a transfer of 1 to 16 words, each priced by the class of its own address.

@@ -104,6 +104,7 @@ impl Ioc {
 
     /// Sets all lines to what they are now. [`Lines::A2`] is latched where it becomes active; the others
     /// are levels.
+    #[inline(always)]
     pub fn lines(&mut self, lines: Lines)
         ensures { self.new ≡ with_lines lines.0 self.old }
     {
@@ -122,6 +123,7 @@ impl Ioc {
     /// Lets `ticks` ticks pass, of any number. Each fourth tick decrements both timers, counted on from
     /// one call to the next. A timer moves only where neither its count nor its latch is 0; a decrement
     /// from 1 loads the latch and latches the timer's request, IRQ A bit 5 or 6.
+    #[inline(always)]
     pub fn advance(&mut self, ticks: u32)
         ensures { self.new ≡ advanced ticks self.old }
     {
@@ -129,6 +131,7 @@ impl Ioc {
     }
 
     /// Whether FIQ and IRQ are asserted: each where a status and its mask share a bit.
+    #[inline(always)]
     pub fn asserted(&self) -> Asserted
         ensures fiq { result.fiq ≡ fiq_of self.now }
         ensures irq { result.irq ≡ irq_of self.now }

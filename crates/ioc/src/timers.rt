@@ -24,6 +24,7 @@ pub struct Timers {
 
 impl Timers {
     // So many ticks on, in constant time.
+    #[inline(always)]
     pub(crate) fn advance(&mut self, ticks: u32)
         requires { self.old.phase < 4 }
         ensures ticked { self.new ≡ ticked ticks self.old }
@@ -32,8 +33,8 @@ impl Timers {
         let since = self.phase as u32 + ticks % 4;
         let times = ticks / 4 + since / 4;
         self.phase = (since % 4) as u8;
-        self.timer_0 = self.timer_0.decremented(times);
-        self.timer_1 = self.timer_1.decremented(times);
+        self.timer_0.decrement(times);
+        self.timer_1.decrement(times);
     }
 }
 
@@ -50,25 +51,24 @@ impl Timer {
         }
     }
 
-    // So many decrements on, in constant time.
-    pub(crate) fn decremented(self, times: u32) -> Timer
-        ensures { result ≡ after_decrements times self }
+    // So many decrements, in constant time.
+    #[inline(always)]
+    fn decrement(&mut self, times: u32)
+        ensures { self.new ≡ after_decrements times self.old }
     {
         let count = self.count as u32;
         let latch = self.latch as u32;
-        if count == 0 || latch == 0 {
-            self
-        } else if times < count {
-            Timer {
-                count: (count - times) as u16,
-                ..self
-            }
+        if count == 0 {
+            return;
+        }
+        if latch == 0 {
+            return;
+        }
+        if times < count {
+            self.count = (count - times) as u16;
         } else {
-            Timer {
-                count: (latch - (times - count) % latch) as u16,
-                request: true,
-                ..self
-            }
+            self.count = (latch - (times - count) % latch) as u16;
+            self.request = true;
         }
     }
 

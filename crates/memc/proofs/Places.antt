@@ -46,6 +46,12 @@ pages_long shift n s h =
 pub pages_count : (shift n : ℕ) → n * 2 ^ shift ≡ 2 ^ 25 → 2 ^ 25 / 2 ^ shift ≡ n
 pages_count shift n h = ap (λ (x : ℕ). x / 2 ^ shift) (sym h) ∙ shl-shr n shift
 
+-- and how many pages that is
+pub pages_of : (shift : ℕ) → shift ≤ 15 → 2 ^ (25 - shift) ≡ 2 ^ 25 / 2 ^ shift
+pages_of shift s =
+    let e : 25 - shift + shift ≡ 25 = omega arith in
+    sym (pages_count shift (2 ^ (25 - shift)) (sym (pow-add 2 (25 - shift) shift) ∙ ap (λ (k : ℕ). 2 ^ k) e))
+
 pub page_within : (shift n l : ℕ) → n * 2 ^ shift ≡ 2 ^ 25 → l < 2 ^ 25 / 2 ^ shift → l < n
 page_within shift n l h p = rw (pages_count shift n h) at p
 

@@ -2,6 +2,12 @@
 use Rattle.std.specs.Prelude.{◌≡◌, ℕ, ◌+◌, ◌*◌, ◌^◌, ◌<◌, ◌≤◌, Option, Some, None, List, length}
 use Rattle.std.specs.Prelude.{slice_index_or}
 use Rattle.memc.specs.declared.pages.Entry.{Entry}
+use Rattle.memc.specs.Paged.{Paged}
+
+-- RAM and its page map, with the number of bits of a place in a page
+pub record Sized : Type 0 where
+  pub shift : ℕ
+  pub paged : Paged
 
 -- the inverse has for each physical page the logical page that lies on it
 pub record IsPaged (shift : ℕ) (words : List ℕ) (pages : List (Option Entry))

@@ -19,15 +19,6 @@ const DMA_AND_CONTROL: u32 = 0x360_0000;
 
 const TRANSLATOR: u32 = 0x380_0000;
 
-/// The pages, of one of four sizes.
-#[derive(Drop)]
-enum Sized {
-    K4(Pages<12>),
-    K8(Pages<13>),
-    K16(Pages<14>),
-    K32(Pages<15>),
-}
-
 /// What a store to the control range sets, but the page size. The fields of the video and sound DMA have no
 /// effect.
 #[derive(Clone, Copy)]
@@ -41,7 +32,7 @@ struct ControlFields {
 /// The memory controller, with RAM and the words of ROM.
 #[derive(Drop)]
 pub struct Memc {
-    sized: Sized,
+    pages: Pages,
     control: ControlFields,
     rom: BTreeMap<u32, u32>,
 }
@@ -56,17 +47,6 @@ impl Model for Memc {
     ghost view = { memory_in };
 }
 
-macro_rules! each_size {
-    ($sized:expr, $pages:ident, $body:expr) => {
-        match $sized {
-            Sized::K4($pages) => $body,
-            Sized::K8($pages) => $body,
-            Sized::K16($pages) => $body,
-            Sized::K32($pages) => $body,
-        }
-    };
-}
-
 impl Memc {
     /// All words of RAM 0, no ROM words, and all control fields 0.
     ///
@@ -75,30 +55,37 @@ impl Memc {
     pub fn new(alloc: Global, size: PageSize) -> Result<Memc, MemcFault>
         ensures { IfOk result (λ m. IsStart (shift_of_size size) m) }
     {
-        let sized = match size {
-            PageSize::K4 => Sized::K4(Pages::new(alloc)?),
-            PageSize::K8 => Sized::K8(Pages::new(alloc)?),
-            PageSize::K16 => Sized::K16(Pages::new(alloc)?),
-            PageSize::K32 => Sized::K32(Pages::new(alloc)?),
-        };
         Ok(Memc {
-            sized,
+            pages: Pages::new(alloc, size.shift())?,
             control: control_at(0),
             rom: BTreeMap::new(alloc),
         })
     }
 
     /// Where an access at an address below 2^26 goes, or the first reason why it is refused.
+    #[inline(always)]
     pub fn locate(&self, address: u32, user: bool, store: bool) -> Result<Spot, Refused>
         requires { address < 2 ^ 26 }
         ensures located { result ≡ located self.now address user store }
         ensures fitted { IfOk result (Fits self.now.shift) }
         ensures whole { IsWhole self.now.shift self.now.paged }
     {
-        let limit = self.limit();
+        let _limit = self.limit();
         if address < PHYSICAL_RAM {
             return self.logical(address, user, store);
         }
+        self.beyond(address, user, store)
+    }
+
+    // Where an access past logical RAM goes.
+    #[inline(never)]
+    fn beyond(&self, address: u32, user: bool, store: bool) -> Result<Spot, Refused>
+        requires past { 0x2000000 ≤ address }
+        requires below { address < 2 ^ 26 }
+        ensures located { result ≡ located self.now address user store }
+        ensures fitted { IfOk result (Fits self.now.shift) }
+    {
+        let limit = self.limit();
         if address < IO_START {
             return physical(address - PHYSICAL_RAM, limit, user);
         }
@@ -115,24 +102,26 @@ impl Memc {
     }
 
     /// The word at a spot of RAM or ROM that `locate` gave. It is 0 where ROM has no word.
+    #[inline(always)]
     pub fn load(&self, spot: Spot) -> u32
         requires { IsMemorySpot self.now.shift spot }
         ensures { result ≡ word_at self.now spot }
     {
         match spot {
-            Spot::Ram(place) => each_size!(&self.sized, pages, pages.load(place)),
-            Spot::Rom(address) => self.rom.get(&(address / 4 * 4)).copied().unwrap_or(0),
+            Spot::Ram(place) => self.pages.load(place),
+            Spot::Rom(address) => self.rom_word(address),
             _ => unreachable!(),
         }
     }
 
     /// Puts a word at a spot of RAM that `locate` gave.
+    #[inline(always)]
     pub fn store(&mut self, spot: Spot, word: u32)
         requires { IsRamSpot self.old.shift spot }
         ensures { self.new ≡ stored spot word self.old }
     {
         match spot {
-            Spot::Ram(place) => each_size!(&mut self.sized, pages, pages.store(place, word)),
+            Spot::Ram(place) => self.pages.store(place, word),
             _ => unreachable!(),
         }
     }
@@ -154,10 +143,8 @@ impl Memc {
         let physical = address % 0x80;
         let logical = address / 0x400 % 4 * 0x800 + address / 0x1000 % 0x800;
         let level = address / 0x100 % 4;
-        match &mut self.sized {
-            Sized::K4(pages) => pages.map(physical as u8, logical as u16, level as u8),
-            _ => unreachable!(),
-        }
+        self.pages
+            .map(physical as u8, logical as u16, level as u8);
     }
 
     /// Puts a logical page on a physical page. Both lose what they had. No words move.
@@ -172,11 +159,8 @@ impl Memc {
         if physical >= 128 || level > 3 || logical >= 1 << (25 - self.shift()) {
             return Err(MapFault::OutOfRange);
         }
-        each_size!(
-            &mut self.sized,
-            pages,
-            pages.map(physical as u8, logical as u16, level as u8)
-        );
+        self.pages
+            .map(physical as u8, logical as u16, level as u8);
         Ok(())
     }
 
@@ -191,7 +175,7 @@ impl Memc {
         if physical >= 128 {
             return Err(MapFault::OutOfRange);
         }
-        each_size!(&mut self.sized, pages, pages.unmap(physical as u8));
+        self.pages.unmap(physical as u8);
         Ok(())
     }
 
@@ -216,12 +200,14 @@ impl Memc {
     }
 
     /// The time fields of low and high ROM.
+    #[inline(always)]
     pub fn rom_times(&self) -> RomTimes
         ensures { result ≡ self.now.control.rom_times }
     {
         self.control.rom_times
     }
 
+    #[inline(always)]
     fn logical(&self, address: u32, user: bool, store: bool) -> Result<Spot, Refused>
         requires { address < 2 ^ 25 }
         ensures located { result ≡ logical_at self.now address user store }
@@ -262,37 +248,48 @@ impl Memc {
         Err(Refused::UnsupportedWrite)
     }
 
+    // The word of ROM that an address names: 0 where there is none.
+    #[inline(never)]
+    fn rom_word(&self, address: u32) -> u32
+        ensures { result ≡ rom_word self.now.rom (address / 4 * 4) }
+    {
+        self.rom.get(&(address / 4 * 4)).copied().unwrap_or(0)
+    }
+
     fn shift(&self) -> u32
         ensures shift { result ≡ self.now.shift }
         ensures bounds { (12 ≤ result) × (result ≤ 15) }
     {
-        each_size!(&self.sized, pages, pages.shift())
+        self.pages.shift()
     }
 
     fn limit(&self) -> u32
         ensures bytes { result ≡ 128 * 2 ^ self.now.shift }
         ensures whole { IsWhole self.now.shift self.now.paged }
     {
-        each_size!(&self.sized, pages, pages.limit())
+        self.pages.limit()
     }
 
+    #[inline(always)]
     fn page(&self, address: u32) -> Option<Entry>
         requires { address < 2 ^ 25 }
         ensures page { result ≡ page_at self.now.paged (address / 2 ^ self.now.shift) }
         ensures fitted { IfSome result (λ e. e.physical < 128) }
     {
-        each_size!(&self.sized, pages, pages.page(address))
+        self.pages.page(address)
     }
 
+    #[inline(always)]
     fn place(&self, physical: u8, address: u32) -> u32
         requires { physical < 128 }
         ensures place { result ≡ place_of self.now.shift physical address }
         ensures fitted { result < 128 * 2 ^ self.now.shift }
     {
-        each_size!(&self.sized, pages, pages.place(physical, address))
+        self.pages.place(physical, address)
     }
 
     // Whether a level of protection lets an access pass.
+    #[inline(always)]
     fn allowed(&self, level: u8, user: bool, store: bool) -> bool
         ensures { result ≡ allowed self.now.control.system level user store }
     {

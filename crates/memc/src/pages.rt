@@ -1,5 +1,5 @@
 ghost use Rattle.std.specs.Prelude.{◌≡◌, ◌*◌, ◌/◌, ◌^◌, ◌<◌, ◌≤◌, slice_index, slice_set, IfOk, IfSome};
-ghost use Rattle.memc.specs.Paged.{Paged, IsShift, page_at, mapped, unmapped, IsFresh, IsWhole, place_of};
+ghost use Rattle.memc.specs.Paged.{IsShift, page_at, mapped, unmapped, IsFresh, IsWhole, place_of};
 
 use std::alloc::{AllocError, Global};
 use std::marker::Model;
@@ -13,33 +13,37 @@ pub struct Entry {
     pub level: u8,
 }
 
-/// 128 physical pages of `2^SHIFT` bytes under a table of logical pages and its inverse. SHIFT is from 12 to
-/// 15.
+/// 128 physical pages of `2^shift` bytes under a table of logical pages and its inverse. The shift is from 12
+/// to 15, and stays.
 #[derive(Drop)]
-pub struct Pages<const SHIFT: u32> {
+pub struct Pages {
+    shift: u32,
     words: Vec<u32>,
     table: Vec<Option<Entry>>,
     held: Vec<Option<u16>>,
 }
 
-impl<const SHIFT: u32> Model for Pages<SHIFT> {
-    ghost use Rattle.memc.specs.Paged.{Paged};
-    ghost use Rattle.memc.specs.Table.{IsPaged};
+impl Model for Pages {
+    ghost use Rattle.memc.specs.Table.{IsPaged, Sized};
 
-    ghost Value = { Paged };
+    ghost Value = { Sized };
 
-    ghost view = { λ p. record { words = p.words.items; pages = p.table.items } };
+    ghost view = { λ p. record {
+      shift = p.shift;
+      paged = record { words = p.words.items; pages = p.table.items };
+    } };
 
-    ghost invariant = { λ p. IsPaged SHIFT p.words.items p.table.items p.held.items };
+    ghost invariant = { λ p. IsPaged p.shift p.words.items p.table.items p.held.items };
 }
 
-impl<const SHIFT: u32> Pages<SHIFT> {
+impl Pages {
     /// All words 0, and each logical page on the physical page of its number, at level 0.
-    pub fn new(alloc: Global) -> Result<Self, AllocError>
-        requires { IsShift SHIFT }
-        ensures { IfOk result (λ p. IsFresh SHIFT p) }
+    pub fn new(alloc: Global, shift: u32) -> Result<Self, AllocError>
+        requires { IsShift shift }
+        ensures shift { IfOk result (λ p. p.shift ≡ shift) }
+        ensures fresh { IfOk result (λ p. IsFresh shift p.paged) }
     {
-        let mut table = vec![in alloc; None; 1usize << (25 - SHIFT)]?;
+        let mut table = vec![in alloc; None; 1usize << (25 - shift)]?;
         let mut held = vec![in alloc; None; 128]?;
         for i in 0..128usize {
             table[i] = Some(Entry {
@@ -48,67 +52,74 @@ impl<const SHIFT: u32> Pages<SHIFT> {
             });
             held[i] = Some(i as u16);
         }
-        let words = vec![in alloc; 0; 1usize << (SHIFT + 5)]?;
-        Ok(Pages { words, table, held })
+        let words = vec![in alloc; 0; 1usize << (shift + 5)]?;
+        Ok(Pages {
+            shift,
+            words,
+            table,
+            held,
+        })
     }
 
     /// A page is 2^shift bytes.
     pub fn shift(&self) -> u32
-        ensures shift { result ≡ SHIFT }
+        ensures shift { result ≡ self.now.shift }
         ensures bounds { (12 ≤ result) × (result ≤ 15) }
     {
-        let _words = &self.words;
-        SHIFT
+        self.shift
     }
 
     /// The bytes of the fitted RAM.
     pub fn limit(&self) -> u32
-        ensures bytes { result ≡ 128 * 2 ^ SHIFT }
-        ensures whole { IsWhole SHIFT self.now }
+        ensures bytes { result ≡ 128 * 2 ^ self.now.shift }
+        ensures whole { IsWhole self.now.shift self.now.paged }
     {
-        let _words = &self.words;
-        128 << SHIFT
+        128 << self.shift
     }
 
     /// The word at a physical place.
+    #[inline(always)]
     pub fn load(&self, place: u32) -> u32
-        requires { place < 128 * 2 ^ SHIFT }
-        ensures { result ≡ slice_index self.now.words (place / 4) }
+        requires { place < 128 * 2 ^ self.now.shift }
+        ensures { result ≡ slice_index self.now.paged.words (place / 4) }
     {
         self.words[(place / 4) as usize]
     }
 
     /// Puts a word at a physical place.
+    #[inline(always)]
     pub fn store(&mut self, place: u32, word: u32)
-        requires { place < 128 * 2 ^ SHIFT }
-        ensures { self.new ≡ record self.old { words = slice_set self.old.words (place / 4) word } }
+        requires { place < 128 * 2 ^ self.old.shift }
+        ensures { self.new ≡ record self.old { paged
+            = record self.old.paged { words = slice_set self.old.paged.words (place / 4) word } } }
     {
         self.words[(place / 4) as usize] = word;
     }
 
     /// The page of a logical address, which is below 2^25.
+    #[inline(always)]
     pub fn page(&self, address: u32) -> Option<Entry>
         requires { address < 2 ^ 25 }
-        ensures page { result ≡ page_at self.now (address / 2 ^ SHIFT) }
+        ensures page { result ≡ page_at self.now.paged (address / 2 ^ self.now.shift) }
         ensures fitted { IfSome result (λ e. e.physical < 128) }
     {
-        self.table[(address >> SHIFT) as usize]
+        self.table[(address >> self.shift) as usize]
     }
 
     /// The place of the word that a logical address names, on a physical page.
+    #[inline(always)]
     pub fn place(&self, physical: u8, address: u32) -> u32
         requires { physical < 128 }
-        ensures place { result ≡ place_of SHIFT physical address }
-        ensures fitted { result < 128 * 2 ^ SHIFT }
+        ensures place { result ≡ place_of self.now.shift physical address }
+        ensures fitted { result < 128 * 2 ^ self.now.shift }
     {
-        let _words = &self.words;
-        ((physical as u32) << SHIFT) | (address & ((1 << SHIFT) - 1)) / 4 * 4
+        ((physical as u32) << self.shift) | (address & ((1 << self.shift) - 1)) / 4 * 4
     }
 
     /// Takes a physical page off the map.
     pub fn unmap(&mut self, physical: u8)
         requires { physical < 128 }
-        ensures { self.new ≡ unmapped physical self.old }
+        ensures { self.new ≡ record self.old { paged = unmapped physical self.old.paged } }
     {
         if let Some(logical) = self.held[physical as usize] {
             self.table[logical as usize] = None;
@@ -119,9 +130,10 @@ impl<const SHIFT: u32> Pages<SHIFT> {
     /// Puts a logical page on a physical page. Both lose what they had.
     pub fn map(&mut self, physical: u8, logical: u16, level: u8)
         requires physical { physical < 128 }
-        requires logical { logical < 2 ^ 25 / 2 ^ SHIFT }
+        requires logical { logical < 2 ^ 25 / 2 ^ self.old.shift }
         requires level { level < 4 }
-        ensures { self.new ≡ mapped physical logical level self.old }
+        ensures { self.new
+            ≡ record self.old { paged = mapped physical logical level self.old.paged } }
     {
         self.unmap(physical);
         if let Some(entry) = self.table[logical as usize] {

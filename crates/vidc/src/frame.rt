@@ -1,6 +1,6 @@
 // The position in a frame: times in sixths of a tick, `ticks` in whole ticks.
 
-ghost use Rattle.std.specs.Prelude.{◌≡◌, ◌≤◌, ◌<◌, ◌*◌, ◌^◌};
+ghost use Rattle.std.specs.Prelude.{◌≡◌, ◌≤◌, ◌<◌, ◌+◌, ◌-◌, ◌*◌, ◌%◌, ◌^◌};
 ghost use Rattle.vidc.specs.Frame.{arrivals, position_after};
 ghost use Rattle.vidc.specs.Video.{raster_of};
 
@@ -38,7 +38,24 @@ pub(crate) fn position_after(ticks: u32, frame: u32, from: u32) -> u32
     ensures position { result ≡ position_after (ticks * 6) frame from }
     ensures within { result < frame }
 {
-    ((from as u64 + ticks as u64 * 6) % frame as u64) as u32
+    let after = from as u64 + ticks as u64 * 6;
+    if after < frame as u64 {
+        return after as u32;
+    }
+    (after % frame as u64) as u32
+}
+
+// How long ago the position was at a mark, as if it had always moved.
+fn since(frame: u32, mark: u32, from: u32) -> u32
+    requires mark { mark < frame }
+    requires from { from < frame }
+    ensures since { result ≡ (from + (frame - mark)) % frame }
+    ensures within { result < frame }
+{
+    if from < mark {
+        return from + (frame - mark);
+    }
+    from - mark
 }
 
 // How often the position comes to a mark while so many ticks pass.
@@ -48,8 +65,9 @@ pub(crate) fn arrivals(ticks: u32, frame: u32, mark: u32, from: u32) -> u32
     requires from { from < frame }
     ensures { result ≡ arrivals (ticks * 6) frame mark from }
 {
-    let frame = frame as u64;
-    // as if the position had last been at the mark so long ago
-    let since = (from as u64 + (frame - mark as u64)) % frame;
-    ((since + ticks as u64 * 6) / frame) as u32
+    let reached = since(frame, mark, from) as u64 + ticks as u64 * 6;
+    if reached < frame as u64 {
+        return 0;
+    }
+    (reached / frame as u64) as u32
 }
