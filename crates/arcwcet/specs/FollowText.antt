@@ -1,7 +1,7 @@
 -- What is printed of a run that is judged by a statement. Our own format.
-use Rattle.std.specs.Prelude.{◌≡◌, ℕ, ◌+◌, ◌*◌, ◌-◌, Bool, true, false, ◌&&◌, if◌then◌else◌, nat_eq, nat_le, nat_lt}
-use Rattle.std.specs.Prelude.{List, [], ◌++◌, codes, decimal, Option, Some, None, option_map}
-use Rattle.std.specs.List.{position}
+use Rattle.std.specs.Prelude.{◌≡◌, ℕ, ◌+◌, ◌*◌, ◌-◌, ◌<◌, Bool, true, false, ◌&&◌, if◌then◌else◌}
+use Rattle.std.specs.Prelude.{nat_eq, nat_le, nat_lt, List, [], ◌++◌, length, codes, decimal, slice_index_or}
+use Rattle.std.specs.Prelude.{Contains, Option, Some, None, MatchOption}
 use Rattle.bus_ticks.specs.Prices.{class_at}
 use Rattle.bus_ticks.specs.declared.profile.Class.{Class}
 use Rattle.bus_ticks.specs.declared.profile.Class.TheVariants.{Any, Ram, Rom, Io}
@@ -84,12 +84,22 @@ strayed_text steps at line why =
 abbrev pub has_word : (address : ℕ) → PlacedLine → Bool
 has_word address line = nat_le line.at address && nat_lt address (line.at + 4 * line.words)
 
--- the number, from 1, of the line that has a word at the address
-abbrev pub line_at : (address : ℕ) → List PlacedLine → Option ℕ
-line_at address placed = option_map (λ n. n + 1) (position (has_word address) placed)
+-- no line has
+abbrev pub HasNoLine : (address : ℕ) → List PlacedLine → Type 0
+HasNoLine address placed = (line : PlacedLine) → Contains placed line → has_word address line ≡ false
+
+-- the line of this number has, the first of which is 1
+pub record IsLine (address : ℕ) (placed : List PlacedLine) (number : ℕ) : Type 0 where
+  pub line : PlacedLine
+  pub index : ℕ
+  pub number_is : number ≡ index + 1
+  pub within : index < length placed
+  pub stands : slice_index_or placed index line ≡ line
+  pub has : has_word address line ≡ true
 
 -- of a text; an image has no lines
 pub record IsLineAt (source : List ℕ) (address : ℕ) (line : Option ℕ) : Type 0 where
   pub of_image : is_image source ≡ true → line ≡ None
   pub of_text : is_image source ≡ false
-      → (placed : List PlacedLine) × ArePlaced source placed × (line ≡ line_at address placed)
+      → (placed : List PlacedLine) × ArePlaced source placed
+      × MatchOption line (HasNoLine address placed) (IsLine address placed)

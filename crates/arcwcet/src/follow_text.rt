@@ -1,17 +1,17 @@
 //! What is printed of a run that is judged by a statement.
 
-ghost use Rattle.std.specs.Prelude.{◌≡◌, IfErr, IfOk, string_bytes};
-ghost use Rattle.statement.specs.Stated.{class_of};
+ghost use Rattle.std.specs.Prelude.{◌≡◌, IfErr, IfOk, MatchOption, string_bytes};
+ghost use Rattle.bus_ticks.specs.Prices.{class_at};
 ghost use Rattle.trace_text.specs.TraceText.{exception_name, why_name};
-ghost use Rattle.arcwcet.specs.FollowText.{IsLineAt, access_name, access_text, class_name, has_word};
-ghost use Rattle.arcwcet.specs.FollowText.{kept_text, less_text, line_at, line_text, stray_text};
-ghost use Rattle.arcwcet.specs.FollowText.{strayed_text, turned_text, why_text};
+ghost use Rattle.arcwcet.specs.FollowText.{HasNoLine, IsLine, IsLineAt, access_name, access_text};
+ghost use Rattle.arcwcet.specs.FollowText.{class_name, has_word, kept_text, less_text, line_text};
+ghost use Rattle.arcwcet.specs.FollowText.{stray_text, strayed_text, turned_text, why_text};
 ghost use Rattle.arcwcet.specs.Source.{IsSourceFault};
 
 use crate::fault::ReportFault;
 use arm2_exec::{Vector, Why};
 use assembler::{PlacedLine, placed_lines};
-use bus_ticks::{Class, class_of};
+use bus_ticks::{Class, IO_START, ROM_START};
 use flow_graph::Statement;
 use kept_runs::{Access, Stray, Unkept};
 use loader::MAGIC;
@@ -45,6 +45,19 @@ fn class_name(class: Class) -> &'static str
         Class::Rom => "rom",
         Class::Io => "io",
         Class::Any => "any",
+    }
+}
+
+// The class of a word's address.
+fn class_at(address: u32) -> Class
+    ensures { result ≡ class_at address }
+{
+    if address < IO_START {
+        Class::Ram
+    } else if address < ROM_START {
+        Class::Io
+    } else {
+        Class::Rom
     }
 }
 
@@ -82,7 +95,7 @@ fn access_text(alloc: Global, stated: Class, access: Access) -> Result<String, A
 {
     let name = access_name(access.store);
     let address = access.address;
-    let class = class_name(class_of(address));
+    let class = class_name(class_at(address));
     let stated = class_name(stated);
     format!(in alloc; "{name}{address:X}, {class}; {stated} is stated")
 }
@@ -161,10 +174,14 @@ fn has_word(line: &PlacedLine, address: u32) -> bool
 
 // The number, from 1, of the line that has a word at the address.
 fn line_at(placed: &[PlacedLine], address: u32) -> Option<usize>
-    ensures { result ≡ line_at address placed.now }
+    ensures { MatchOption result (HasNoLine address placed.now) (IsLine address placed.now) }
 {
-    let index = placed.iter().position(|line| has_word(line, address))?;
-    Some(index + 1)
+    for index in 0..placed.len() {
+        if has_word(&placed[index], address) {
+            return Some(index + 1);
+        }
+    }
+    None
 }
 
 /// The line of a source that has a word at the address; none of an image.

@@ -5,8 +5,8 @@ use Rattle.kept_runs.specs.Keeping.{IsFollowed}
 use Rattle.arcwcet.proofs.FollowLemmas.{told}
 use Rattle.arcwcet.proofs.follow.judged_run.Goals as goal
 
-pub follow-followed-requires-clause-handler : goal.follow-followed-requires-clause-handler
-follow-followed-requires-clause-handler c = record { graph_is = c.requires.graph; tree_is = c.requires.tree.tree_is }
+pub follow-requires-clause-handler : goal.follow-requires-clause-handler
+follow-requires-clause-handler c = record { graph_is = c.requires.graph; tree_is = c.requires.tree.tree_is }
 
 pub returns-clause-judged : goal.returns-clause-judged
 returns-clause-judged c =
@@ -14,7 +14,7 @@ returns-clause-judged c =
     let h = b.handler.now in
     let start = c.args.placed.now.machine in
     let inputs = c.in_ok-inputs.inputs.items in
-    let after = c.follow-followed.new.machine in
+    let after = c.follow.new.machine in
     let f = c.in_ok-followed.followed in
     let is : IsFollowed b.image.now h.statement h.graph h.tree start inputs after f =
     subst (λ (is : List Input). IsFollowed b.image.now h.statement h.graph h.tree start is after f) c.deref.ensures.value c.in_ok-followed.ensures in
