@@ -177,7 +177,11 @@ impl Registers {
     /// Data processing with a register that is shifted by another.
     #[tactic(auto, unfolding(crate::specs::Operations::data_register_shift_effect))]
     #[inline(never)]
-    pub(crate) fn data_register_shift(&mut self, prices: &Prices, fields: &DataRegisterShift) -> Done
+    pub(crate) fn data_register_shift(
+        &mut self,
+        prices: &Prices,
+        fields: &DataRegisterShift,
+    ) -> Done
         ensures effect { IsEffect prices.now.profile prices.now.rom result self.new
             (data_register_shift_effect fields.now self.old) }
         ensures goes_on { is_stopped result.kind ≡ false }

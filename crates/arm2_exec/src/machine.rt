@@ -11,7 +11,7 @@ ghost use Rattle.arm2_effect.specs.declared.modes.Reg.TheVariants.{R15};
 use crate::work::{elapse, fetch, interrupt, work};
 use arm2_decode::decode;
 use arm2_effect::{Kind, Prices, Reg, Registers, Vector, Why, address_of};
-use arm2_transfer::Bus;
+use arm2_transfer::{Bus, Inputs};
 use bus_ticks::Profile;
 use ioc::{Ioc, Lines};
 use memc::{Memc, MemcFault, PageSize};
@@ -80,8 +80,8 @@ pub struct Ran {
 pub struct Machine {
     registers: Registers,
     bus: Bus,
-    // Its time fields of ROM are those before the last step.
-    prices: Prices,
+    // The port and the time fields of ROM are those of the last step.
+    inputs: Inputs,
 }
 
 impl Model for Machine {
@@ -89,7 +89,7 @@ impl Model for Machine {
 
     ghost Value = { State };
 
-    ghost view = { λ m. record { regs = m.registers; bus = m.bus; profile = m.prices.profile } };
+    ghost view = { λ m. record { regs = m.registers; bus = m.bus; profile = m.inputs.prices.profile } };
 }
 
 impl Machine {
@@ -113,7 +113,7 @@ impl Machine {
                 ioc: Ioc::new(),
                 vidc: Vidc::new(),
             },
-            prices,
+            inputs: Inputs { port: 0, prices },
         };
         machine.reset();
         Ok(machine)
@@ -189,7 +189,7 @@ impl Machine {
     pub fn profile(&self) -> Profile
         ensures { result ≡ self.now.profile }
     {
-        self.prices.profile
+        self.inputs.prices.profile
     }
 
     /// The interrupt that a step takes once the lines are these: FIQ, or else IRQ, each unless R15 masks it.
@@ -216,10 +216,11 @@ impl Machine {
         ensures bound { result.ticks < 2 ^ 16 }
     {
         let from = address_of(self.registers.get(Reg::R15));
-        self.prices.rom = self.bus.memc.rom_times();
+        self.inputs.port = input.port;
+        self.inputs.prices.rom = self.bus.memc.rom_times();
         let ioc = self.bus.ioc.snapshot();
         self.bus.ioc.lines(input.lines);
-        let done = work(&mut self.registers, &mut self.bus, input.port, &self.prices);
+        let done = work(&mut self.registers, &mut self.bus, &self.inputs);
         if let Kind::Stopped(_) = done.kind {
             self.bus.ioc = ioc;
             return Stepped {
@@ -229,7 +230,7 @@ impl Machine {
                 to: from,
             };
         }
-        let stretched = self.prices.profile.burst_ticks(input.bursts);
+        let stretched = self.inputs.prices.profile.burst_ticks(input.bursts);
         elapse(&mut self.bus, done.ticks + stretched);
         Stepped {
             kind: done.kind,
@@ -255,7 +256,7 @@ impl Machine {
                 ran.stopped = Some(why);
                 return ran;
             }
-            let stretched = self.prices.profile.burst_ticks(input.bursts);
+            let stretched = self.inputs.prices.profile.burst_ticks(input.bursts);
             ran.steps += 1;
             ran.ticks += u128::from(stepped.ticks);
             ran.elapsed += u128::from(stepped.ticks) + u128::from(stretched);

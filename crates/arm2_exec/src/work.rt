@@ -10,7 +10,7 @@ use arm2_effect::{
     Done, Mode, Prices, Reg, Registers, Vector, Why, address_of, is_fiq_masked, is_irq_masked,
     mode_of,
 };
-use arm2_transfer::{Bus, execute};
+use arm2_transfer::{Bus, Inputs, carry_out};
 use ioc::Ioc;
 use memc::{Memc, Spot};
 
@@ -43,18 +43,17 @@ pub(crate) fn fetch(memc: &Memc, r15: u32) -> Option<u32>
 fn obey_instruction(
     registers: &mut Registers,
     bus: &mut Bus,
-    port: u32,
-    prices: &Prices,
+    inputs: &Inputs,
     instr: &Instr,
 ) -> Done
-    ensures moved { IsMoved prices.now.profile prices.now.rom result registers.new bus.new
-        (instruction_moved instr.now port registers.old bus.old) }
+    ensures moved { IsMoved inputs.now.prices.profile inputs.now.prices.rom result registers.new bus.new
+        (instruction_moved instr.now inputs.now.port registers.old bus.old) }
     ensures bound { result.ticks < 2 ^ 16 }
 {
     if registers.passes(instr.cond) {
-        return execute(registers, bus, port, *prices, &instr.operation);
+        return carry_out(registers, bus, inputs, &instr.operation);
     }
-    registers.skip(prices)
+    registers.skip(&inputs.prices)
 }
 
 // Stops at a word that is no instruction, or passes over it where its condition fails.
@@ -76,39 +75,33 @@ fn obey_unallocated(
 }
 
 // Does what a word says, or takes the prefetch abort where there is none.
-fn obey(
-    registers: &mut Registers,
-    bus: &mut Bus,
-    port: u32,
-    prices: &Prices,
-    word: Option<u32>,
-) -> Done
-    ensures obeyed { Obeyed prices.now.profile prices.now.rom word port registers.old bus.old result registers.new
-        bus.new }
+fn obey(registers: &mut Registers, bus: &mut Bus, inputs: &Inputs, word: Option<u32>) -> Done
+    ensures obeyed { Obeyed inputs.now.prices.profile inputs.now.prices.rom word inputs.now.port
+        registers.old bus.old result registers.new bus.new }
     ensures bound { result.ticks < 2 ^ 16 }
 {
     let Some(word) = word else {
-        return registers.take(prices, Vector::PrefetchAbort);
+        return registers.take(&inputs.prices, Vector::PrefetchAbort);
     };
     match decode(word) {
-        Ok(instr) => obey_instruction(registers, bus, port, prices, &instr),
-        Err(unallocated) => obey_unallocated(registers, bus, prices, unallocated),
+        Ok(instr) => obey_instruction(registers, bus, inputs, &instr),
+        Err(unallocated) => obey_unallocated(registers, bus, &inputs.prices, unallocated),
     }
 }
 
 // What a step does before time passes: an interrupt, or the word at the address.
-pub(crate) fn work(registers: &mut Registers, bus: &mut Bus, port: u32, prices: &Prices) -> Done
-    ensures worked { Worked prices.now.profile prices.now.rom
+pub(crate) fn work(registers: &mut Registers, bus: &mut Bus, inputs: &Inputs) -> Done
+    ensures worked { Worked inputs.now.prices.profile inputs.now.prices.rom
         (interrupt_due bus.old
-        (r15_in registers.old)) port registers.old bus.old result registers.new bus.new }
+        (r15_in registers.old)) inputs.now.port registers.old bus.old result registers.new bus.new }
     ensures bound { result.ticks < 2 ^ 16 }
 {
     let r15 = registers.get(Reg::R15);
     if let Some(vector) = interrupt(&bus.ioc, r15) {
-        return registers.take(prices, vector);
+        return registers.take(&inputs.prices, vector);
     }
     let word = fetch(&bus.memc, r15);
-    obey(registers, bus, port, prices, word)
+    obey(registers, bus, inputs, word)
 }
 
 // Lets time pass for the devices.

@@ -20,5 +20,6 @@ mod span;
 mod words;
 
 pub use bus::Bus;
+pub use inputs::Inputs;
 pub use law::bases_after_transfers;
-pub use operations::execute;
+pub use operations::{carry_out, execute};

@@ -27,14 +27,26 @@ pub fn execute(
     ensures stopped { is_stopped result.kind ≡ true
         → ChangesNothing result registers.old registers.new bus.old bus.new }
 {
+    carry_out(registers, bus, &Inputs { port, prices }, operation)
+}
+
+/// The same, with what it is given in one place.
+pub fn carry_out(
+    registers: &mut Registers,
+    bus: &mut Bus,
+    inputs: &Inputs,
+    operation: &Operation,
+) -> Done
+    ensures moved { IsMoved inputs.now.prices.profile inputs.now.prices.rom result registers.new bus.new
+        (operation_moved operation.now inputs.now.port registers.old bus.old) }
+    ensures bound { result.ticks < 2 ^ 16 }
+    ensures stopped { is_stopped result.kind ≡ true
+        → ChangesNothing result registers.old registers.new bus.old bus.new }
+{
     match operation {
-        Operation::SingleImmediate(fields) => {
-            single_immediate(registers, bus, &Inputs { port, prices }, fields)
-        }
-        Operation::SingleRegister(fields) => {
-            single_register(registers, bus, &Inputs { port, prices }, fields)
-        }
-        Operation::Block(transfer) => block(registers, bus, &Inputs { port, prices }, transfer),
-        _ => registers.execute(&prices, operation),
+        Operation::SingleImmediate(fields) => single_immediate(registers, bus, inputs, fields),
+        Operation::SingleRegister(fields) => single_register(registers, bus, inputs, fields),
+        Operation::Block(transfer) => block(registers, bus, inputs, transfer),
+        _ => registers.execute(&inputs.prices, operation),
     }
 }

@@ -105,7 +105,12 @@ fn store(
 }
 
 #[tactic(auto, unfolding(crate::specs::Single::single_at, crate::specs::Single::single_by))]
-fn single_at(registers: &mut Registers, bus: &mut Bus, inputs: &Inputs, single: PlacedSingle) -> Done
+fn single_at(
+    registers: &mut Registers,
+    bus: &mut Bus,
+    inputs: &Inputs,
+    single: PlacedSingle,
+) -> Done
     ensures moved { IsMoved inputs.now.prices.profile inputs.now.prices.rom result registers.new bus.new
         (single_at single.transfer single.base inputs.now.port registers.old bus.old) }
     ensures bound { result.ticks < 2 ^ 16 }

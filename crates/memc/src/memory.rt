@@ -143,8 +143,7 @@ impl Memc {
         let physical = address % 0x80;
         let logical = address / 0x400 % 4 * 0x800 + address / 0x1000 % 0x800;
         let level = address / 0x100 % 4;
-        self.pages
-            .map(physical as u8, logical as u16, level as u8);
+        self.pages.map(physical as u8, logical as u16, level as u8);
     }
 
     /// Puts a logical page on a physical page. Both lose what they had. No words move.
@@ -159,8 +158,7 @@ impl Memc {
         if physical >= 128 || level > 3 || logical >= 1 << (25 - self.shift()) {
             return Err(MapFault::OutOfRange);
         }
-        self.pages
-            .map(physical as u8, logical as u16, level as u8);
+        self.pages.map(physical as u8, logical as u16, level as u8);
         Ok(())
     }
 

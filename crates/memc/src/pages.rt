@@ -90,8 +90,10 @@ impl Pages {
     #[inline(always)]
     pub fn store(&mut self, place: u32, word: u32)
         requires { place < 128 * 2 ^ self.old.shift }
-        ensures { self.new ≡ record self.old { paged
-            = record self.old.paged { words = slice_set self.old.paged.words (place / 4) word } } }
+        ensures { self.new ≡ record self.old {
+          paged
+              = record self.old.paged { words = slice_set self.old.paged.words (place / 4) word };
+        } }
     {
         self.words[(place / 4) as usize] = word;
     }

@@ -19,7 +19,7 @@ pub loop-input-preserved : goal.loop-input-preserved
 loop-input-preserved c =
     let input : Input = slice_index_or c.args.inputs.now c.loop-input.input-index (record { bursts = 0; lines = record { 0 = 0 }; port = 0 }) in
     let step = c.step-stepped.ensures.step in
-    let price : c.self.inside.prices.profile ≡ c.loop-input.self.profile = ap (λ (s : State). s.profile) c.self.view_is ∙ same_profile c.loop-input.self input c.step-stepped.result c.step-stepped.new.self step in
+    let price : c.self.inside.inputs.prices.profile ≡ c.loop-input.self.profile = ap (λ (s : State). s.profile) c.self.view_is ∙ same_profile c.loop-input.self input c.step-stepped.result c.step-stepped.new.self step in
     let stretched : c.from-in-loop-input-2.result ≡ c.loop-input.self.profile.burst * input.bursts = c.from-in-loop-input-2.ensures ∙ c.burst_ticks-stretched.ensures.ticks ∙ ap (λ (p : Profile). p.burst * input.bursts) price in
     let goes = more_steps c.args.self.now c.args.inputs.now c.loop-input.ran c.loop-input.self c.step-stepped.new.self (drop c.loop-input.input-index c.args.inputs.now) (drop (c.loop-input.input-index + 1) c.args.inputs.now) input
     c.step-stepped.result c.loop-input.invariant.0 (drop_more c.args.inputs.now c.loop-input.input-index _ c.loop-input-test.true) step c.in_default.not-Stopped in

@@ -7,14 +7,14 @@ use Rattle.arm2_exec.proofs.machine.Machine.step.Goals as goal
 
 pub returns-in-Stopped-clause-step : goal.returns-in-Stopped-clause-step
 returns-in-Stopped-clause-step c =
-    let s : State = record { regs = c.self.inside.registers; bus = c.self.inside.bus; profile = c.self.inside.prices.profile } in
+    let s : State = record { regs = c.self.inside.registers; bus = c.self.inside.bus; profile = c.self.inside.inputs.prices.profile } in
     let from : c.address_of-from.result ≡ address_in s.regs = c.address_of-from.ensures.address ∙ ap address_of c.get.ensures.word in
     let w = rw (c.rom_times-self-inside.ensures, c.lines.ensures) at c.work-done.ensures.worked in
     rw (← c.self.view_is) (rw (from, c.snapshot-ioc.ensures) (stopped_step s c.args.input c.work-done.result c.work-done.new.registers c.work-done.new.bus w (stops c.work-done.result.kind c.in-Stopped.field-0 c.in-Stopped.is)))
 
 pub returns : goal.returns
 returns c =
-    let s : State = record { regs = c.self.inside.registers; bus = c.self.inside.bus; profile = c.self.inside.prices.profile } in
+    let s : State = record { regs = c.self.inside.registers; bus = c.self.inside.bus; profile = c.self.inside.inputs.prices.profile } in
     let from : c.address_of-from.result ≡ address_in s.regs = c.address_of-from.ensures.address ∙ ap address_of c.get.ensures.word in
     let to : c.address_of.result ≡ address_in c.work-done.new.registers = c.address_of.ensures.address ∙ ap address_of c.get-2.ensures.word in
     let w = rw (c.rom_times-self-inside.ensures, c.lines.ensures) at c.work-done.ensures.worked in
