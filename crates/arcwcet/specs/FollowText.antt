@@ -5,8 +5,6 @@ use Rattle.std.specs.Prelude.{Contains, Option, Some, None, MatchOption}
 use Rattle.bus_ticks.specs.Prices.{class_at}
 use Rattle.bus_ticks.specs.declared.profile.Class.{Class}
 use Rattle.bus_ticks.specs.declared.profile.Class.TheVariants.{Any, Ram, Rom, Io}
-use Rattle.arm2_effect.specs.declared.exceptions.Vector.{Vector}
-use Rattle.arm2_effect.specs.declared.step_end.Why.{Why}
 use Rattle.asm_text.specs.Hex.{hex}
 use Rattle.assembler.specs.Placed.{ArePlaced}
 use Rattle.assembler.specs.declared.placed_line.PlacedLine.{PlacedLine}
@@ -47,7 +45,8 @@ abbrev pub access_text : Class → Access → List ℕ
 access_text stated a =
     access_name a.store
     ++ (hex a.address
-    ++ (codes ", " ++ (class_name (class_at a.address) ++ (codes "; " ++ (class_name stated ++ codes " is stated")))))
+    ++ (codes ", "
+    ++ (class_name (class_at a.address) ++ (codes "; " ++ (class_name stated ++ codes " is stated")))))
 
 -- of a word for which this class is stated
 abbrev pub stray_text : Class → Stray → List ℕ
@@ -58,7 +57,8 @@ stray_text stated (stray.OtherClass access) = access_text stated access
 stray_text stated (stray.Elsewhere to) = codes "went to " ++ (hex to ++ codes ", which is not stated")
 
 abbrev pub turned_text : (bound : ℕ) → List ℕ
-turned_text bound = codes "turned back " ++ (decimal (bound + 1) ++ (codes " times; " ++ (decimal bound ++ codes " stated")))
+turned_text bound =
+    codes "turned back " ++ (decimal (bound + 1) ++ (codes " times; " ++ (decimal bound ++ codes " stated")))
 
 -- of the step at the address
 abbrev pub why_text : Stated → (at : ℕ) → Unkept → List ℕ
@@ -76,7 +76,9 @@ line_text (Some line) = codes ", line " ++ decimal line
 -- its number from 0, as the events of a machine file have it, its address and its line, and why
 abbrev pub strayed_text : (steps at : ℕ) → (line : Option ℕ) → (why : List ℕ) → List ℕ
 strayed_text steps at line why =
-    codes "step " ++ (decimal steps ++ (codes ", " ++ (hex at ++ (line_text line ++ (codes ": " ++ (why ++ codes "\n"))))))
+    codes "step "
+    ++ (decimal steps
+    ++ (codes ", " ++ (hex at ++ (line_text line ++ (codes ": " ++ (why ++ codes "\n"))))))
 
 -- ## The line
 

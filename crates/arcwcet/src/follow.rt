@@ -74,8 +74,8 @@ fn bound_of(alloc: Global, handler: &Handler) -> Result<u64, ReportFault>
 // The answer on a run that was followed.
 fn told(alloc: Global, bounded: Bounded<'_>, followed: Followed) -> Result<Judged, ReportFault>
     ensures told { IfOk result
-        (λ j. Tells bounded.entry.source.now bounded.entry.handler.now.statement bounded.entry.bound followed j.kept
-        (string_bytes j.text)) }
+        (λ j. Tells bounded.entry.source.now bounded.entry.handler.now.statement bounded.entry.bound
+        followed j.kept (string_bytes j.text)) }
     ensures fault { IfErr result (IsSourceFault bounded.entry.source.now) }
 {
     match followed {
@@ -107,8 +107,8 @@ fn judged_run(
     requires machine { IsMachineFor bounded.handler.now.graph placed.old.machine }
     ensures judged { IfOk result
         (λ j. IsJudgedRun bounded.entry.image.now bounded.entry.handler.now.statement
-        bounded.entry.handler.now.graph bounded.entry.handler.now.tree bounded.entry.source.now bounded.entry.bound
-        placed.old.file placed.old.machine j.kept (string_bytes j.text)) }
+        bounded.entry.handler.now.graph bounded.entry.handler.now.tree bounded.entry.source.now
+        bounded.entry.bound placed.old.file placed.old.machine j.kept (string_bytes j.text)) }
     ensures fault { IfErr result (IsSourceFault bounded.entry.source.now) }
 {
     let inputs = placed.file.inputs(alloc)?;
