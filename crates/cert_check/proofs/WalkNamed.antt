@@ -1,5 +1,5 @@
 -- The edge that a line names: it is among the edges of its place.
-use Rattle.std.proofs.Common.{◌≡◌, ◌∙◌, ℕ, zero, suc, ◌+◌, ◌-◌, ◌<◌, ◌≤◌, Bool, true, false, cond, ◌&&◌, List, [], ◌∷◌, length, get_or, Some, None, ⊎_elim, refl, sym, ap, subst, arith, add-one}
+use Rattle.std.proofs.Common.{◌≡◌, ◌∙◌, ℕ, zero, suc, ◌+◌, ◌<◌, ◌≤◌, Bool, true, false, cond, ◌&&◌, List, [], ◌∷◌, length, get_or, Some, None, ⊎_elim, refl, sym, ap, subst, arith}
 use Rattle.std.specs.List.{find}
 use Rattle.std.proofs.lemmas.Bool.{cases_Bool, cases_lt, false≢true}
 use Rattle.std.proofs.lemmas.List.{get_or_default}
@@ -9,15 +9,14 @@ use Rattle.flow_graph.specs.declared.edges.Edge.{Edge}
 use Rattle.flow_graph.specs.Flow.{Flow, IsWellFormed}
 use Rattle.flow_graph.specs.Places.{place_at}
 use Rattle.loop_bounds.specs.Tree.{IsTree, Tree, place_in}
-use Rattle.loop_bounds.proofs.Positions.{places_once}
-use Rattle.loop_bounds.proofs.Grouped.{rises_to}
 use Rattle.longest_walk.specs.Built.{step_at}
+use Rattle.longest_walk.specs.Parts.{IsPartOf}
 use Rattle.longest_walk.specs.Rows.{is_at}
 use Rattle.longest_walk.proofs.CarryFind.{at_place}
 use Rattle.longest_walk.proofs.CarryWalks.{exit_place, no_edge}
+use Rattle.longest_walk.proofs.PlaceParts.{part_at}
 use Rattle.certificate.specs.declared.walk.StepLine.{StepLine}
 use Rattle.cert_check.specs.Followed.{edge_named, is_named}
-use Rattle.cert_check.specs.Walking.{IsPartOf}
 
 -- ## Finding
 
@@ -44,23 +43,6 @@ named_from (At calls a) line e is = sym (at_place calls a e.from (first_holds (i
 named_from Exit line e is = absurd (false≢true is)
 
 module _ (flow : Flow) (well : IsWellFormed flow) where
-  -- an edge that stands before the part of a place belongs to an earlier place
-  owner : (u k : ℕ) → u ≤ length flow.places → k < get_or flow.firsts u 0 → (v : ℕ) × (v < u) × (get_or flow.firsts v 0 ≤ k) × (k < get_or flow.firsts (v + 1) 0)
-  owner zero k le below = let z : get_or flow.firsts 0 0 ≡ 0 = well.first_zero in absurd (omega arith)
-  owner (suc u) k le below =
-      ⊎_elim
-      (λ (l : k < get_or flow.firsts u 0). let w = owner u k (omega arith) l in let m : w.0 < u = w.1 in (w.0, omega arith, w.2, w.3))
-      (λ (m : get_or flow.firsts u 0 ≤ k). (u, omega arith, m, subst (λ n. k < get_or flow.firsts n 0) (sym (add-one u)) below))
-      (cases_lt k (get_or flow.firsts u 0))
-
-  -- an edge that leaves a place stands in its part
-  pub part_of : (v k : ℕ) → v < length flow.places → k < length flow.edges → (step_at flow.edges k).from ≡ place_at flow.places v → (get_or flow.firsts v 0 ≤ k) × (k < get_or flow.firsts (v + 1) 0)
-  part_of v k v_in k_in from_is =
-      let all : get_or flow.firsts (length flow.places) 0 ≡ length flow.edges = well.last_all in
-      let w = owner (length flow.places) k (omega arith) (omega (arith, k_in, all)) in
-      let is : w.0 ≡ v = places_once flow.places well.ordered w.0 v Exit w.1 v_in (sym (well.part w.0 k no_edge w.1 w.2 w.3) ∙ from_is) in
-      (subst (λ n. get_or flow.firsts n 0 ≤ k) is w.2, subst (λ n. k < get_or flow.firsts (n + 1) 0) is w.3)
-
   module _ (tree : Tree) (t : IsTree flow tree) where
     -- the place of a number
     pub place_is : (n : ℕ) → n ≤ length flow.places → place_in flow tree n ≡ place_at flow.places (get_or tree.order n 0)
@@ -71,17 +53,9 @@ module _ (flow : Flow) (well : IsWellFormed flow) where
         let at : place_in flow tree n ≡ Exit = ap (place_in flow tree) is ∙ exit_place flow tree well t in
         sym (ap (λ (p : Place). edge_named flow p line) at ∙ find_nothing (is_named Exit line) flow.edges no_edge (λ j less. refl))
 
-    part_at : (v : ℕ) → v < length flow.places → IsPartOf flow (place_at flow.places v) (get_or flow.firsts v 0) (get_or flow.firsts (v + 1) 0)
-    part_at v v_in = record {
-      ordered = well.rising v v_in;
-      fits = rises_to flow.firsts (length flow.places) (length flow.edges) well.rising well.last_all (length flow.places - (v + 1)) (v + 1) (omega arith);
-      own = λ k low high. well.part v k no_edge v_in low high;
-      whole = λ k k_in is. part_of v k v_in k_in is;
-    }
-
     pub part_of_number : (n : ℕ) → n < length flow.places → IsPartOf flow (place_in flow tree n) (get_or flow.firsts (get_or tree.order n 0) 0) (get_or flow.firsts (get_or tree.order n 0 + 1) 0)
     part_of_number n lt =
-        subst (λ (p : Place). IsPartOf flow p (get_or flow.firsts (get_or tree.order n 0) 0) (get_or flow.firsts (get_or tree.order n 0 + 1) 0)) (sym (place_is n (omega arith))) (part_at (get_or tree.order n 0) (t.inside n lt))
+        subst (λ (p : Place). IsPartOf flow p (get_or flow.firsts (get_or tree.order n 0) 0) (get_or flow.firsts (get_or tree.order n 0 + 1) 0)) (sym (place_is n (omega arith))) (part_at flow well (get_or tree.order n 0) (t.inside n lt))
 
 module _ (flow : Flow) (p : Place) (line : StepLine) (first end : ℕ) (part : IsPartOf flow p first end) where
   fails_outside : (k : ℕ) → k < length flow.edges → (first ≤ k → k < end → ⊥) → is_named p line (step_at flow.edges k) ≡ false

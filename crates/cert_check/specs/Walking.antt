@@ -14,7 +14,7 @@ use Rattle.numbered_walks.specs.Ordered as O
 use Rattle.numbered_walks.specs.Ordered.{HoldsAll, ends_at_header, is_in, is_inside}
 use Rattle.numbered_walks.specs.Reach.{most_in}
 use Rattle.loop_bounds.specs.Tree.{IsTree, Tree, place_in}
-use Rattle.longest_walk.specs.Built.{step_at, steps_of}
+use Rattle.longest_walk.specs.Built.{steps_of}
 use Rattle.longest_walk.specs.Folded.{Opened}
 use Rattle.longest_walk.specs.Longest.{IsBody}
 use Rattle.cert_check.specs.declared.index.Index.{Index}
@@ -83,13 +83,6 @@ pub record Arrives (headers : List (Option Span)) (number cost turns : ℕ) (old
   pub over_is : new.over ≡ (old.over || breaks (header_at headers number) turns)
 
 -- ## Following the lines
-
--- the edges that leave the place stand from the one number to the other
-pub record IsPartOf (flow : Flow) (p : Place) (first end : ℕ) : Type 0 where
-  pub ordered : first ≤ end
-  pub fits : end ≤ length flow.edges
-  pub own : (k : ℕ) → first ≤ k → k < end → (step_at flow.edges k).from ≡ p
-  pub whole : (k : ℕ) → k < length flow.edges → (step_at flow.edges k).from ≡ p → (first ≤ k) × (k < end)
 
 -- an edge may be followed inside the span, which is that of an instance or of the whole graph
 pub record CanFollow (flow : Flow) (tree : Tree) (index : Index) (within : Span) (x : Walker) : Type 0 where

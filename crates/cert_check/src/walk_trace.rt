@@ -3,7 +3,8 @@ ghost use Rattle.loop_bounds.specs.Tree.{IsTree, place_in};
 ghost use Rattle.longest_walk.specs.Built.{step_at};
 ghost use Rattle.cert_check.specs.Followed.{edge_named, follow_edge, follow_item, followed, is_label};
 ghost use Rattle.cert_check.specs.Followed.{is_named, leads_to};
-ghost use Rattle.cert_check.specs.Walking.{Begins, CanFollow, CannotBegin, Follows, IsPartOf};
+ghost use Rattle.longest_walk.specs.Parts.{IsPartOf};
+ghost use Rattle.cert_check.specs.Walking.{Begins, CanFollow, CannotBegin, Follows};
 
 use crate::handler::Handler;
 use crate::index::Index;

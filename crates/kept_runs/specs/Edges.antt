@@ -1,5 +1,5 @@
 -- Which edge of a place a step takes.
-use Rattle.std.specs.Prelude.{◌≡◌, ℕ, ◌<◌, ◌≤◌, ◌==◌, ◌&&◌, Bool, true, false, length}
+use Rattle.std.specs.Prelude.{◌≡◌, ℕ, ◌<◌, ◌==◌, ◌&&◌, Bool, true, false, length}
 use Rattle.bus_ticks.specs.Prices.{class_at}
 use Rattle.bus_ticks.specs.declared.profile.Class.{Class}
 use Rattle.flow_graph.specs.declared.edges.Edge.{Edge}
@@ -25,13 +25,6 @@ is_place_of leave t Exit = covers leave (class_at t)
 
 abbrev pub is_met : Going → Edge → Bool
 is_met going e = same_label e.label going.label && is_place_of going.leave going.to e.to
-
--- the edges that leave the place stand from the one number to the other
-pub record IsPartOf (flow : Flow) (place : Place) (first end : ℕ) : Type 0 where
-  pub ordered : first ≤ end
-  pub fits : end ≤ length flow.edges
-  pub own : (k : ℕ) → first ≤ k → k < end → (step_at flow.edges k).from ≡ place
-  pub whole : (k : ℕ) → k < length flow.edges → (step_at flow.edges k).from ≡ place → (first ≤ k) × (k < end)
 
 -- an edge of the place, by its number
 pub record IsFound (flow : Flow) (place : Place) (going : Going) (k : ℕ) : Type 0 where

@@ -2,7 +2,8 @@
 
 ghost use Rattle.std.specs.Prelude.{◌≡◌, ◌<◌, ◌^◌, length, MatchOption};
 ghost use Rattle.flow_graph.specs.Places.{place_at};
-ghost use Rattle.kept_runs.specs.Edges.{HasNoEdge, IsFound, IsPartOf, is_met, is_place_of, same_label};
+ghost use Rattle.longest_walk.specs.Parts.{IsPartOf};
+ghost use Rattle.kept_runs.specs.Edges.{HasNoEdge, IsFound, is_met, is_place_of, same_label};
 
 use crate::transfers::covers;
 use bus_ticks::{Class, class_of};

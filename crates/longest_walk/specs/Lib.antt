@@ -2,5 +2,6 @@ pub mod Folded
 pub mod Rows
 pub mod Longest
 pub mod Built
+pub mod Parts
 pub mod Ways
 pub mod Visits

@@ -1,5 +1,5 @@
 -- The number of an edge stands among those of its place.
-use Rattle.std.proofs.Common.{◌≡◌, ◌∙◌, ℕ, zero, suc, ◌+◌, ◌-◌, ◌<◌, ◌≤◌, Bool, true, false, ◌&&◌, List, length, get_or, Ok, Err, ⊎_elim, refl, sym, ap, subst, arith, add-one}
+use Rattle.std.proofs.Common.{◌≡◌, ◌∙◌, ℕ, ◌+◌, ◌<◌, ◌≤◌, Bool, true, false, ◌&&◌, List, length, get_or, Ok, Err, ⊎_elim, refl, sym, ap, subst, arith}
 use Rattle.std.specs.Prelude.{Contains, nat_eq}
 use Rattle.std.specs.List.Sorted.{IsBinarySearchResult, IsSearchInRange}
 use Rattle.std.specs.Ordering.{is_eq}
@@ -18,10 +18,10 @@ use Rattle.flow_graph.specs.Flow.{Flow, IsWellFormed}
 use Rattle.flow_graph.specs.Places.{place_at, place_cmp}
 use Rattle.flow_graph.specs.Search.{by_order}
 use Rattle.flow_graph.proofs.PlaceLemmas.{by_order_exact, place_exact, place_total}
-use Rattle.loop_bounds.proofs.Grouped.{rises_to}
-use Rattle.loop_bounds.proofs.Positions.{known, places_once}
+use Rattle.loop_bounds.proofs.Positions.{known}
 use Rattle.longest_walk.specs.Built.{step_at}
 use Rattle.longest_walk.proofs.CarryWalks.{no_edge}
+use Rattle.longest_walk.proofs.PlaceParts.{part_fits, part_of}
 use Rattle.walk_counts.specs.Counts.{is_same, is_same_label, is_same_place, number_of}
 
 -- ## The same edge
@@ -75,45 +75,25 @@ known_edge edges e has =
     (inside, sym (one_edge e (step_at edges (number_of edges e)) (passes_at_first (is_same e) edges no_edge inside)))
 
 module _ (flow : Flow) (well : IsWellFormed flow) where
-  -- an edge that stands before the part of a place belongs to an earlier place
-  owner : (u k : ℕ) → u ≤ length flow.places → k < get_or flow.firsts u 0 → (v : ℕ) × (v < u) × (get_or flow.firsts v 0 ≤ k) × (k < get_or flow.firsts (v + 1) 0)
-  owner zero k le below = let z : get_or flow.firsts 0 0 ≡ 0 = well.first_zero in absurd (omega arith)
-  owner (suc u) k le below =
-      ⊎_elim
-      (λ (l : k < get_or flow.firsts u 0). let w = owner u k (omega arith) l in let m : w.0 < u = w.1 in (w.0, omega arith, w.2, w.3))
-      (λ (m : get_or flow.firsts u 0 ≤ k). (u, omega arith, m, subst (λ n. k < get_or flow.firsts n 0) (sym (add-one u)) below))
-      (cases_lt k (get_or flow.firsts u 0))
-
-  -- an edge that leaves a place stands in its part
-  part_of : (v k : ℕ) → v < length flow.places → k < length flow.edges → (step_at flow.edges k).from ≡ place_at flow.places v → (get_or flow.firsts v 0 ≤ k) × (k < get_or flow.firsts (v + 1) 0)
-  part_of v k v_in k_in from_is =
-      let all : get_or flow.firsts (length flow.places) 0 ≡ length flow.edges = well.last_all in
-      let w = owner (length flow.places) k (omega arith) (omega (arith, k_in, all)) in
-      let is : w.0 ≡ v = places_once flow.places well.ordered w.0 v Exit w.1 v_in (sym (well.part w.0 k no_edge w.1 w.2 w.3) ∙ from_is) in
-      (subst (λ n. get_or flow.firsts n 0 ≤ k) is w.2, subst (λ n. k < get_or flow.firsts (n + 1) 0) is w.3)
-
-  pub part_fits : (v : ℕ) → v < length flow.places → get_or flow.firsts (v + 1) 0 ≤ length flow.edges
-  part_fits v v_in = rises_to flow.firsts (length flow.places) (length flow.edges) well.rising well.last_all (length flow.places - (v + 1)) (v + 1) (omega arith)
-
   module _ (v : ℕ) (v_in : v < length flow.places) (e : Edge) (leaves : place_at flow.places v ≡ e.from) where
     outside : (k : ℕ) → k < length flow.edges → (get_or flow.firsts v 0 ≤ k → k < get_or flow.firsts (v + 1) 0 → ⊥) → is_same e (step_at flow.edges k) ≡ false
     outside k k_in out = ⊎_elim
-        (λ is. let at = part_of v k v_in k_in (sym (ap (λ (f : Edge). f.from) (one_edge e (step_at flow.edges k) is)) ∙ sym leaves) in absurd (out at.0 at.1))
+        (λ is. let at = part_of flow well v v_in k k_in (sym (ap (λ (f : Edge). f.from) (one_edge e (step_at flow.edges k) is)) ∙ sym leaves) in absurd (out at.0 at.1))
         (λ fails. fails)
         (cases_Bool (is_same e (step_at flow.edges k)))
 
     pub fail_before : (k : ℕ) → k < get_or flow.firsts v 0 → is_same e (step_at flow.edges k) ≡ false
-    fail_before k less = outside k (omega (arith, well.rising v v_in, part_fits v v_in)) (λ low high. omega arith)
+    fail_before k less = outside k (omega (arith, well.rising v v_in, part_fits flow well v v_in)) (λ low high. omega arith)
 
     -- what is tested of an edge of the part
     pub tested : (k : ℕ) → k < get_or flow.firsts (v + 1) 0 → (es : List Edge) (f : Edge) (r b : Bool) → es ≡ flow.edges → f ≡ get_or es k f → r ≡ is_same e f → r ≡ b → is_same e (step_at flow.edges k) ≡ b
     tested k high es f r b are at is answer =
-        let same : f ≡ step_at flow.edges k = at ∙ ap (λ (xs : List Edge). get_or xs k f) are ∙ get_or_default flow.edges k f no_edge (omega (arith, high, part_fits v v_in)) in
+        let same : f ≡ step_at flow.edges k = at ∙ ap (λ (xs : List Edge). get_or xs k f) are ∙ get_or_default flow.edges k f no_edge (omega (arith, high, part_fits flow well v v_in)) in
         ap (is_same e) (sym same) ∙ sym is ∙ answer
 
     pub found_here : (k : ℕ) → k < get_or flow.firsts (v + 1) 0 → ((j : ℕ) → j < k → is_same e (step_at flow.edges j) ≡ false) → is_same e (step_at flow.edges k) ≡ true → (k ≡ number_of flow.edges e) × (k < length flow.edges)
     found_here k high before at =
-        let k_in : k < length flow.edges = omega (arith, part_fits v v_in) in
+        let k_in : k < length flow.edges = omega (arith, part_fits flow well v v_in) in
         (sym (position_or_len_is (is_same e) flow.edges k no_edge (omega arith) before (λ _. at)), k_in)
 
     pub found_nowhere : (k : ℕ) → get_or flow.firsts (v + 1) 0 ≤ k → ((j : ℕ) → j < k → is_same e (step_at flow.edges j) ≡ false) → length flow.edges ≤ number_of flow.edges e

@@ -1,4 +1,4 @@
-use Rattle.kept_runs.proofs.PlaceEdges.{part_at}
+use Rattle.longest_walk.proofs.PlaceParts.{part_at}
 use Rattle.kept_runs.proofs.edges.part.Goals as goal
 
 pub returns : goal.returns

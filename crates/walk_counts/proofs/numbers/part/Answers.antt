@@ -1,5 +1,5 @@
 use Rattle.std.proofs.Common.{◌≤◌, ◌+◌, ℕ, List, get_or, length, sym, subst}
-use Rattle.walk_counts.proofs.NumberLemmas.{part_fits}
+use Rattle.longest_walk.proofs.PlaceParts.{part_fits}
 use Rattle.walk_counts.proofs.numbers.part.Goals as goal
 
 pub returns-clause-fits : goal.returns-clause-fits
