@@ -10,5 +10,6 @@ pub mod LeastNumbers
 pub mod Grouping
 pub mod Holding
 pub mod Heading
+pub mod LastFound
 pub mod Tracing
 pub mod Paths

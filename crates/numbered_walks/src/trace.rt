@@ -21,7 +21,7 @@ fn needs(graph: NumberedGraph<'_>, tables: &Tables, edge: &NumberedEdge, number:
     }
 }
 
-// The first edge of the group that needs as much as that.
+// The last edge of the group that needs as much as that.
 fn attaining(
     graph: NumberedGraph<'_>,
     tables: &Tables,
@@ -36,12 +36,13 @@ fn attaining(
         (λ k. Contains group.now k
         × (needed graph.entry.spans.now tables.now (edge_at graph.entry.edges.now k) ≡ number)) }
 {
+    let mut found = None;
     for k in group {
         if needs(graph, tables, &graph.edges[*k], number) {
-            return Some(*k);
+            found = Some(*k);
         }
     }
-    None
+    found
 }
 
 // The arrival of the instance that begins at the number, or the number's distance.
