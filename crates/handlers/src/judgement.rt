@@ -1,3 +1,4 @@
+use crate::followed::{Followed, follow_run};
 use crate::sample::Sample;
 use crate::tight::{Edges, edges_of};
 use arcwcet::{
@@ -53,22 +54,25 @@ struct Run {
     elapsed: u64,
 }
 
-/// What was found about a handler: its bound, what its run took, and of its edges by the first cycle profile
-/// and by a dearer one.
+/// What was found about a handler: its bound, what its run took and whether it keeps the statement, and of
+/// its edges by the first cycle profile and by a dearer one.
 #[derive(Clone, Copy, Debug)]
 pub(crate) struct Judgement {
     bound: Bounded,
     run: Run,
+    followed: Followed,
     edges: Edges,
     dearer: Edges,
 }
 
 impl Judgement {
-    /// Whether each certificate was accepted, the run kept the bound, and each free edge takes its cost.
+    /// Whether each certificate was accepted, the run kept the bound, `follow` told its ticks or that it
+    /// starts elsewhere than at the entry, and each free edge takes its cost.
     pub(crate) fn holds(&self) -> bool {
         self.bound.accepted
             && self.run.finished
             && self.run.ticks <= self.bound.ticks
+            && self.followed.fits(self.run.ticks, self.bound.ticks)
             && self.edges.exact
             && self.dearer.exact
     }
@@ -79,8 +83,13 @@ impl fmt::Display for Judgement {
         let verdict = if self.bound.accepted { "yes" } else { "no" };
         write!(
             f,
-            "bound {}, {verdict}, ticks {} elapsed {}, {} of {} edges tight",
-            self.bound.ticks, self.run.ticks, self.run.elapsed, self.edges.free, self.edges.all
+            "bound {}, {verdict}, ticks {} elapsed {}, {}, {} of {} edges tight",
+            self.bound.ticks,
+            self.run.ticks,
+            self.run.elapsed,
+            self.followed.word(),
+            self.edges.free,
+            self.edges.all
         )
     }
 }
@@ -90,7 +99,7 @@ impl fmt::Display for Judgement {
 pub(crate) struct Files {
     pub(crate) source: Vec<u8>,
     pub(crate) statement: Vec<u8>,
-    machine: Vec<u8>,
+    pub(crate) machine: Vec<u8>,
 }
 
 fn read_file<S: Store>(
@@ -111,8 +120,8 @@ fn read_files<S: Store>(alloc: Global, store: &mut S, folder: &str) -> Result<Fi
     })
 }
 
-// The number after a word in a line of words and numbers.
-fn number_after(line: &str, word: &str) -> Option<u64> {
+/// The number after a word in a line of words and numbers.
+pub(crate) fn number_after(line: &str, word: &str) -> Option<u64> {
     let mut is_next = false;
     for found in line.split(' ') {
         if is_next {
@@ -218,6 +227,7 @@ pub(crate) fn judge<S: Store>(
     Ok(Judgement {
         bound,
         run: run_of(alloc, &files)?,
+        followed: follow_run(alloc, &files)?,
         edges: edges_of(alloc, &files, None)?,
         dearer: edges_of(alloc, &files, Some(&profile))?,
     })

@@ -1,5 +1,5 @@
 -- What a word that is done transfers, against what is read of it beforehand.
-use Rattle.std.proofs.Common.{◌≡◌, ℕ, zero, suc, ◌<◌, ◌≤◌, ◌==◌, ◌^◌, ◌⊎◌, inl, inr, not, nat_lt, if◌then◌else◌, Bool, true, false, cond, List, [], ◌∷◌, ◌++◌, length, Option, Some, None, Result, Ok, Err, refl, sym, ap, subst, ◌∙◌, arith}
+use Rattle.std.proofs.Common.{◌≡◌, ℕ, zero, suc, ◌<◌, ◌≤◌, ◌==◌, ◌^◌, ◌⊎◌, inl, inr, not, nat_lt, if◌then◌else◌, Bool, true, false, cond, List, [], ◌∷◌, ◌++◌, length, Option, Some, None, Result, Ok, Err, refl, sym, ap, subst, ◌∙◌, arith, append_assoc}
 use Rattle.std.specs.Prelude.{All, Contains}
 use Rattle.std.proofs.Math.ListN.{length-set}
 use Rattle.std.proofs.Math.Nat.{eq-or-lt_of_le}
@@ -49,6 +49,7 @@ use Rattle.flow_graph.specs.StepLaw.{TransfersIn, holds_in}
 use Rattle.flow_graph.proofs.TightTicks.{IsIn, transfers_in}
 use Rattle.kept_runs.specs.declared.transfers.Access.{Access}
 use Rattle.kept_runs.specs.declared.transfers.Transfer.{Transfer}
+use Rattle.kept_runs.specs.Judging.{IsFirstOther}
 use Rattle.kept_runs.specs.Transfers.{HasNoOther, HasOther, block_words, words_of}
 use Rattle.kept_runs.specs.Reading.{IsReading, transfer_if}
 use Rattle.kept_runs.specs.declared.reading.Reading.{Reading}
@@ -65,6 +66,9 @@ module _ (class : Class) where
 
   delayed_in : (cycles : ℕ) (accesses : List effect.Access) → All (IsIn class) accesses → All (IsIn class) (Internal cycles ∷ accesses)
   delayed_in cycles accesses all = All-append (IsIn class) (Internal cycles ∷ []) accesses (All-from_recursion (IsIn class) (Internal cycles ∷ []) (tt, tt)) all
+
+  fetch_in : (a : ℕ) → All (IsIn class) (FetchN a ∷ [])
+  fetch_in a = All-from_recursion (IsIn class) (FetchN a ∷ []) (tt, tt)
 
   words_in : (store : Bool) (x k : ℕ) → ((i : ℕ) → i < k → IsOf class (word_address x i)) → All (IsIn class) (words_at store x k)
   unfolding words_at
@@ -89,6 +93,34 @@ module _ (class : Class) where
       All-append (IsIn class) (FetchN (ahead_of a 8) ∷ []) (words_at true x k)
       (All-from_recursion (IsIn class) (FetchN (ahead_of a 8) ∷ []) (tt, tt))
       (words_in true x k each)
+
+-- the list has the element right behind these
+abbrev IsSplitAt : (all before : List effect.Access) → effect.Access → Type 0
+IsSplitAt all before x = (after : List effect.Access) × (all ≡ before ++ x ∷ after)
+
+split_behind : (front words before : List effect.Access) (x : effect.Access) → IsSplitAt words before x → IsSplitAt (front ++ words) (front ++ before) x
+split_behind front words before x (after, is) = (after, ap (λ ws. front ++ ws) is ∙ sym (append_assoc front before (x ∷ after)))
+
+split_within : (front words tail before : List effect.Access) (x : effect.Access) → IsSplitAt words before x → IsSplitAt ((front ++ words) ++ tail) (front ++ before) x
+split_within front words tail before x at =
+    let behind = split_behind front words before x at in
+    (behind.0 ++ tail, ap (λ ws. ws ++ tail) behind.1 ∙ append_assoc (front ++ before) (x ∷ behind.0) tail)
+
+-- the words of a transfer stand in their order
+words_split : (store : Bool) (address k i : ℕ) → i < k → IsSplitAt (words_at store address k) (words_at store address i) (Word store (i == 0) (word_address address i))
+unfolding words_at
+words_split store address zero i h = absurd (omega arith)
+words_split store address (suc k) i h = by_place (λ less. words_split store address k i less) (eq-or-lt_of_le (let le : i ≤ k = omega arith in le))
+  where
+    by_place : (i < k → IsSplitAt (words_at store address k) (words_at store address i) (Word store (i == 0) (word_address address i))) → (i ≡ k) ⊎ (i < k)
+        → IsSplitAt (words_at store address k ++ Word store (k == 0) (word_address address k) ∷ []) (words_at store address i) (Word store (i == 0) (word_address address i))
+    by_place before (inl same) = ([], ap (λ (n : ℕ). words_at store address n ++ Word store (n == 0) (word_address address n) ∷ []) (sym same))
+    by_place before (inr less) =
+        let at = before less in (
+          at.0 ++ Word store (k == 0) (word_address address k) ∷ [],
+          ap (λ ws. ws ++ Word store (k == 0) (word_address address k) ∷ []) at.1
+              ∙ append_assoc (words_at store address i) (Word store (i == 0) (word_address address i) ∷ at.0) (Word store (k == 0) (word_address address k) ∷ []),
+        )
 
 -- the first words of a transfer stand among its accesses
 words_there : (store : Bool) (address k i : ℕ) → i < k → Contains (words_at store address k) (Word store (i == 0) (word_address address i))
@@ -129,11 +161,13 @@ all_loaded_long psr mode r bus port (move ∷ rest) regs =
 -- ## What is done
 
 -- Where a step ends as other instructions do: its words are of the class where none of the transfer's is of
--- another; each of the transfer's that is of another is among its words; and there are as many registers.
+-- another; each of the transfer's that is of another is among its words, and the first is told; and there are
+-- as many registers.
 pub record Moves (class : Class) (regs : List ℕ) (t : Option Transfer) (m : Moved) : Type 0 where
   pub in_class : m.kind ≡ Plain → HasNoOther class t → TransfersIn class m.accesses
   pub there : m.kind ≡ Plain → (access : Access) → HasOther class t access
       → (first : Bool) × Contains m.accesses (Word access.store first access.address)
+  pub first_other : m.kind ≡ Plain → (access : Access) → HasOther class t access → IsFirstOther class m.accesses access
   pub registers : m.kind ≡ Plain → length m.regs ≡ length regs
 
 module _ (class : Class) (regs : List ℕ) (bus : Bus) where
@@ -145,6 +179,7 @@ module _ (class : Class) (regs : List ℕ) (bus : Bus) where
   none e all long = record {
     in_class = λ plain no. transfers_in class e.accesses all;
     there = λ plain access has. absurd has;
+    first_other = λ plain access has. absurd has;
     registers = λ plain. long;
   }
 
@@ -153,6 +188,7 @@ module _ (class : Class) (regs : List ℕ) (bus : Bus) where
   not_plain t m other = record {
     in_class = λ plain no. absurd (other plain);
     there = λ plain access has. absurd (other plain);
+    first_other = λ plain access has. absurd (other plain);
     registers = λ plain. absurd (other plain);
   }
 
@@ -211,6 +247,7 @@ module _ (class : Class) (regs : List ℕ) (bus : Bus) where
   delayed_moves cycles e h = record {
     in_class = λ plain no. cycles_no_word cycles e.accesses (h.in_class plain no);
     there = λ plain access has. absurd has;
+    first_other = λ plain access has. absurd has;
     registers = λ plain. h.registers plain;
   }
 
@@ -237,6 +274,26 @@ module _ (class : Class) (regs : List ℕ) (bus : Bus) where
             (subst (λ (n : ℕ). Contains accesses (Word store (h.number == 0) n)) (sym h.stands) (each h.number h.below)),
       )
 
+  -- the first of another class, where the accesses in front of the words are none of the transfer's
+  first_word : (store : Bool) (address words : ℕ) (front accesses : List effect.Access) → All (IsIn class) front
+      → ((k : ℕ) → k < words → IsSplitAt accesses (front ++ words_at store address k) (Word store (k == 0) (word_address address k)))
+      → (access : Access) → HasOther class (Some (record { address = address; words = words; store = store })) access → IsFirstOther class accesses access
+  first_word store address words front accesses front_in each access has =
+      let h = has.1 in
+      let at = each h.number h.below in
+      record {
+        before = front ++ words_at store address h.number;
+        first = h.number == 0;
+        after = at.0;
+        accesses_are =
+            subst (λ (b : Bool). accesses ≡ (front ++ words_at store address h.number) ++ Word b (h.number == 0) access.address ∷ at.0) (sym h.store)
+            (subst (λ (n : ℕ). accesses ≡ (front ++ words_at store address h.number) ++ Word store (h.number == 0) n ∷ at.0) (sym h.stands) at.1);
+        before_in =
+            transfers_in class (front ++ words_at store address h.number)
+            (All-append (IsIn class) front (words_at store address h.number) front_in (words_in class store address h.number h.before));
+        other = h.other;
+      }
+
   -- a load or a store from a base below 4000000
   loads : (address words : ℕ) (jumps : Bool) (t : ℕ) (m : Moved) → m.accesses ≡ load_accesses (address_of (r15_in regs)) address words jumps t → length m.regs ≡ length regs → address < 2 ^ 26
       → IsMoved (Some (record { address = address; words = words; store = false })) m
@@ -248,6 +305,9 @@ module _ (class : Class) (regs : List ℕ) (bus : Bus) where
             (at_word false address words (load_accesses (address_of (r15_in regs)) address words jumps t)
             (λ k lt. Contains-append_left (straight (address_of (r15_in regs)) ++ words_at false address words) _ _
             (Contains-append_right (straight (address_of (r15_in regs))) (words_at false address words) _ (words_there false address words k lt))));
+        first_other = λ plain. subst (λ (xs : List effect.Access). (access : Access) → HasOther class (Some (record { address = address; words = words; store = false })) access → IsFirstOther class xs access) (sym are)
+            (first_word false address words (straight (address_of (r15_in regs))) (load_accesses (address_of (r15_in regs)) address words jumps t) (straight_in class (address_of (r15_in regs)))
+            (λ k lt. split_within (straight (address_of (r15_in regs))) (words_at false address words) _ _ _ (words_split false address words k lt)));
         registers = λ plain. long;
       }
 
@@ -258,6 +318,9 @@ module _ (class : Class) (regs : List ℕ) (bus : Bus) where
     there = λ plain. subst (λ (xs : List effect.Access). (access : Access) → HasOther class (Some (record { address = address; words = words; store = true })) access → (first : Bool) × Contains xs (Word access.store first access.address)) (sym are)
         (at_word true address words (store_accesses (address_of (r15_in regs)) address words)
         (λ k lt. Contains-append_right (FetchN (ahead_of (address_of (r15_in regs)) 8) ∷ []) (words_at true address words) _ (words_there true address words k lt)));
+    first_other = λ plain. subst (λ (xs : List effect.Access). (access : Access) → HasOther class (Some (record { address = address; words = words; store = true })) access → IsFirstOther class xs access) (sym are)
+        (first_word true address words (FetchN (ahead_of (address_of (r15_in regs)) 8) ∷ []) (store_accesses (address_of (r15_in regs)) address words) (fetch_in class (ahead_of (address_of (r15_in regs)) 8))
+        (λ k lt. split_behind (FetchN (ahead_of (address_of (r15_in regs)) 8) ∷ []) (words_at true address words) _ _ (words_split true address words k lt)));
     registers = λ plain. long;
   }
 

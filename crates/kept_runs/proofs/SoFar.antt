@@ -161,31 +161,47 @@ module _ (words : Words) (st : Stated) (flow : Flow) (tree : Tree) (well : IsWel
 
   -- ## How far it has come
 
-  abbrev pub comes_to : (n : ℕ) (x : Follower) (now : State) → SoFar words st flow tree start inputs n x now → n ≤ length inputs → ComesTo words st flow tree start inputs x.steps (place_in flow tree x.number) now
-  comes_to n x now so_far few =
-      let count : n ≡ x.steps = sym so_far.steps_count in
-      let all : take n inputs ++ [] ≡ take x.steps inputs = append-nil (take n inputs) ∙ ap (λ (m : ℕ). take m inputs) count in
-      record {
-        few = omega (arith, few, count);
-        walk = steps_of flow.edges so_far.numbers;
-        leads =
-            subst (λ (p : Place). Leads edge_shape (HasEdge flow) p (steps_of flow.edges so_far.numbers) (place_in flow tree x.number)) t.entry_first
-            (leads_up flow tree well t so_far.numbers 0 x.number so_far.inside so_far.leads);
-        kept = keeps_up flow tree well t so_far.numbers so_far.inside
-            (λ s s_in. keeps_from_most (is_inside s) (ends_at_header s) s.bound (edges_of tree.edges so_far.numbers) (so_far.told.kept s s_in));
-        follows =
-            subst (λ (is : List Input). Follows words st flow.profile start is (steps_of flow.edges so_far.numbers)) all
-            (subst (λ (v : List Edge). Follows words st flow.profile start (take n inputs ++ []) v) (append-nil (steps_of flow.edges so_far.numbers))
-            (so_far.follows [] [] tt));
-        ran = so_far.ran;
-        runs = subst (λ (is : List Input). Runs start is so_far.ran now) all (R.at_end start (take n inputs ++ []) so_far.ran now [] (so_far.runs []) refl so_far.going);
-        steps_are = so_far.steps_are;
-      }
+  module _ (n : ℕ) (x : Follower) (now : State) (so_far : SoFar words st flow tree start inputs n x now) where
+    all_is : take n inputs ++ [] ≡ take x.steps inputs
+    all_is = append-nil (take n inputs) ∙ ap (λ (m : ℕ). take m inputs) (sym so_far.steps_count)
 
-  stands_at : (n : ℕ) (x : Follower) (now : State) (a : ℕ) → SoFar words st flow tree start inputs n x now → n ≤ length inputs → a ≡ address_in now.regs → StandsAfter start inputs x.steps a
-  stands_at n x now a so_far few here =
-      let come = comes_to n x now so_far few in
-      record { ran = come.ran; now = now; runs = come.runs; at_is = here }
+    come_leads : Leads edge_shape (HasEdge flow) flow.entry (steps_of flow.edges so_far.numbers) (place_in flow tree x.number)
+    come_leads =
+        subst (λ (p : Place). Leads edge_shape (HasEdge flow) p (steps_of flow.edges so_far.numbers) (place_in flow tree x.number)) t.entry_first
+        (leads_up flow tree well t so_far.numbers 0 x.number so_far.inside so_far.leads)
+
+    come_kept : KeepsTree tree (steps_of flow.edges so_far.numbers)
+    come_kept =
+        keeps_up flow tree well t so_far.numbers so_far.inside
+        (λ s s_in. keeps_from_most (is_inside s) (ends_at_header s) s.bound (edges_of tree.edges so_far.numbers) (so_far.told.kept s s_in))
+
+    come_follows : Follows words st flow.profile start (take x.steps inputs) (steps_of flow.edges so_far.numbers)
+    come_follows =
+        subst (λ (is : List Input). Follows words st flow.profile start is (steps_of flow.edges so_far.numbers)) all_is
+        (subst (λ (v : List Edge). Follows words st flow.profile start (take n inputs ++ []) v) (append-nil (steps_of flow.edges so_far.numbers))
+        (so_far.follows [] [] tt))
+
+    come_runs : Runs start (take x.steps inputs) so_far.ran now
+    come_runs = subst (λ (is : List Input). Runs start is so_far.ran now) all_is (R.at_end start (take n inputs ++ []) so_far.ran now [] (so_far.runs []) refl so_far.going)
+
+    come_few : n ≤ length inputs → x.steps ≤ length inputs
+    come_few few = let count = so_far.steps_count in omega (arith, few, count)
+
+    abbrev comes_to : CanGo flow tree x now → n ≤ length inputs → ComesTo words st flow tree start inputs x.steps (place_in flow tree x.number) now
+    comes_to can few = record {
+      few = come_few few;
+      walk = steps_of flow.edges so_far.numbers;
+      leads = come_leads;
+      kept = come_kept;
+      follows = come_follows;
+      ran = so_far.ran;
+      runs = come_runs;
+      steps_are = so_far.steps_are;
+      at = can.at;
+    }
+
+    stands_at : (a : ℕ) → a ≡ address_in now.regs → StandsAfter start inputs x.steps a
+    stands_at a here = record { ran = so_far.ran; now = now; runs = come_runs; at_is = here }
 
   -- ## One step more
 
@@ -273,7 +289,7 @@ module _ (words : Words) (st : Stated) (flow : Flow) (tree : Tree) (well : IsWel
 
     -- how far the run has come
     comes : ComesTo words st flow tree start inputs x.steps (place_in flow tree x.number) now
-    comes = comes_to n x now so_far (omega (arith, n_in))
+    comes = comes_to n x now so_far can (omega (arith, n_in))
 
     at_steps : x.steps < length inputs
     at_steps = let count = so_far.steps_count in omega (arith, n_in, count)
@@ -288,7 +304,7 @@ module _ (words : Words) (st : Stated) (flow : Flow) (tree : Tree) (well : IsWel
       place = place_in flow tree x.number;
       now = now;
       input = i;
-      comes = comes_to n x now so_far (omega (arith, n_in));
+      comes = comes_to n x now so_far can (omega (arith, n_in));
       at = at_steps;
       input_is = input_is;
       told = told;
@@ -302,7 +318,7 @@ module _ (words : Words) (st : Stated) (flow : Flow) (tree : Tree) (well : IsWel
     unkept_by last Unfinished cannot is = absurd is
 
     pub strays : (last : State) (a : ℕ) (why : Unkept) → a ≡ address_in now.regs → Halts words st flow tree x now i last why → IsStrayedRun words st flow tree start inputs x.steps a why last
-    strays last a why here h = record { none = none_next h.cannot; stands = stands_at n x now a so_far (omega (arith, n_in)) here; is = unkept_by last why h.cannot h.is }
+    strays last a why here h = record { none = none_next h.cannot; stands = stands_at n x now so_far a here; is = unkept_by last why h.cannot h.is }
 
     module _ (y : Follower) (after : State) (goes : Goes words st flow tree x y now i after) where
       abbrev k : ℕ
@@ -388,18 +404,17 @@ module _ (words : Words) (st : Stated) (flow : Flow) (tree : Tree) (well : IsWel
 
   pub left : (n : ℕ) (x : Follower) (now : State) → SoFar words st flow tree start inputs n x now → n ≤ length inputs → x.number ≡ length flow.places → IsKeptRun words st flow tree start inputs x.steps x.ticks now
   left n x now so_far few at_exit =
-      let come = comes_to n x now so_far few in
       let end : place_in flow tree x.number ≡ Exit = ap (place_in flow tree) at_exit ∙ exit_place flow tree well t in
       record {
-        few = come.few;
+        few = come_few n x now so_far few;
         keeps = record {
-          walk = come.walk;
-          complete = subst (λ (p : Place). Leads edge_shape (HasEdge flow) flow.entry come.walk p) end come.leads;
-          kept = come.kept;
-          follows = come.follows;
+          walk = steps_of flow.edges so_far.numbers;
+          complete = subst (λ (p : Place). Leads edge_shape (HasEdge flow) flow.entry (steps_of flow.edges so_far.numbers) p) end (come_leads n x now so_far);
+          kept = come_kept n x now so_far;
+          follows = come_follows n x now so_far;
         };
         ran = so_far.ran;
-        runs = come.runs;
+        runs = come_runs n x now so_far;
         steps_are = so_far.steps_are;
         ticks_are = so_far.ticks_are;
       }
@@ -421,8 +436,8 @@ module _ (words : Words) (st : Stated) (flow : Flow) (tree : Tree) (well : IsWel
       let count = so_far.steps_count in
       record {
         none = none_left n x now can so_far past;
-        stands = stands_at n x now a so_far few here;
-        is = (omega (arith, count, past, few), (place_in flow tree x.number, comes_to n x now so_far few));
+        stands = stands_at n x now so_far a here;
+        is = (omega (arith, count, past, few), (place_in flow tree x.number, comes_to n x now so_far can few));
       }
 
   -- the machine does not stand at the entry

@@ -25,7 +25,7 @@ use Rattle.flow_graph.specs.Edges.{HasAction}
 use Rattle.flow_graph.specs.Flow.{Flow}
 use Rattle.flow_graph.specs.Graph.{IsFlowGraph}
 use Rattle.flow_graph.specs.Kinds.{IsAction, instr_action, unallocated_action}
-use Rattle.flow_graph.specs.StepLaw.{Executes, IsEdgeOf, IsPlaceOf, TransfersIn, holds_in, label_in}
+use Rattle.flow_graph.specs.StepLaw.{Executes, IsEdgeOf, IsPlaceOf, IsTaken, TransfersIn, holds_in, label_in}
 use Rattle.flow_graph.specs.declared.edges.Edge.{Edge}
 use Rattle.flow_graph.specs.declared.edges.Label.{Label}
 use Rattle.flow_graph.specs.declared.edges.Label.TheVariants.{Skip, Do}
@@ -139,16 +139,16 @@ module _ (words : Words) (st : Stated) (flow : Flow) (graph : IsFlowGraph words 
     not_both : (k other : Kind) → told.kind ≡ k → told.kind ≡ other → k ≡ other
     not_both k other is also = sym is ∙ also
 
-    pub exception : (vector : Vector) → told.kind ≡ ended.Taken vector → Strays words st flow place s i after (stray.Exception vector)
-    exception vector is = record {
+    pub exception : (word : ℕ) → StandsThere words s word → (vector : Vector) → told.kind ≡ ended.Taken vector → Strays words st flow place s i after (stray.Exception vector)
+    exception word at_word vector is = record {
       none = none_unless_plain (λ plain. let both : ended.Taken vector ≡ ended.Plain = not_both (ended.Taken vector) ended.Plain is plain in cc);
-      is = record { told = told; step = step; kind_is = is };
+      is = record { word = word; fetches = at_word; told = told; step = step; kind_is = is };
     }
 
-    pub stop : (why : Why) → told.kind ≡ ended.Stopped why → Strays words st flow place s i after (stray.Stopped why)
-    stop why is = record {
+    pub stop : (word : ℕ) → StandsThere words s word → (why : Why) → told.kind ≡ ended.Stopped why → Strays words st flow place s i after (stray.Stopped why)
+    stop word at_word why is = record {
       none = none_unless_plain (λ plain. let both : ended.Stopped why ≡ ended.Plain = not_both (ended.Stopped why) ended.Plain is plain in cc);
-      is = record { told = told; step = step; kind_is = is };
+      is = record { word = word; fetches = at_word; told = told; step = step; kind_is = is };
     }
 
     module _ (plain : told.kind ≡ ended.Plain) (word : ℕ) (at_word : StandsThere words s word) (r : Reading) (reads : IsReading word s.regs r) where
@@ -178,10 +178,12 @@ module _ (words : Words) (st : Stated) (flow : Flow) (graph : IsFlowGraph words 
 
       pub other_class : (access : Access) → HasOther class r.transfer access → Strays words st flow place s i after (stray.OtherClass access)
       other_class access other =
-          let word = moves.there tells.kind access other in
           record {
             none = none_with_other access other;
-            is = record { ends = record { told = told; step = step; kind_is = plain }; first = word.0; there = word.1; other = is_other class access r.transfer other };
+            is = record {
+              ends = record { word = word; fetches = at_word; told = told; step = step; kind_is = plain };
+              is_first = moves.first_other tells.kind access other;
+            };
           }
 
       -- ## The edge
@@ -192,14 +194,19 @@ module _ (words : Words) (st : Stated) (flow : Flow) (graph : IsFlowGraph words 
       label_is : label_if r.holds ≡ label_in s.regs read.action.cond
       label_is = ap label_if read.holds
 
+      -- an edge by the step's label, to where it goes, is met
+      met_by : (c : List ℕ) (e : Edge) → IsTaken words st flow.profile c read.action s told e → is_met going e ≡ true
+      met_by c e taken =
+          let label : e.label ≡ label_if r.holds = taken.label ∙ sym label_is in
+          and_from (same_label e.label (label_if r.holds)) (is_place_of st.leave told.to e.to) (label_itself e.label (label_if r.holds) label) (told_place st told.to e.to taken.to)
+
       -- an edge of the step is one of the place's
       met : {other : Stepped} {last : State} {e : Edge} → (h : IsEdgeOf words st flow.profile s i other last e) → is_met going e ≡ true
       met {other = other} {last = last} {e = e} h =
           let word_is : h.executes.has.word ≡ word = same_Some h.executes.has.word word (sym h.executes.has.stands ∙ at_word.stands) in
           let act : h.action ≡ read.action = one_action word h.action read.action (subst (λ w. IsAction w h.action) word_is h.executes.has.is) read.is in
-          let label : e.label ≡ label_if r.holds = h.taken.label ∙ ap (λ (a : Action). label_in s.regs a.cond) act ∙ sym label_is in
-          let to : IsPlaceOf st told.to e.to = subst (λ (x : Stepped). IsPlaceOf st x.to e.to) (same h).0 h.taken.to in
-          and_from (same_label e.label (label_if r.holds)) (is_place_of st.leave told.to e.to) (label_itself e.label (label_if r.holds) label) (told_place st told.to e.to to)
+          let taken : IsTaken words st flow.profile h.calls h.action s told e = subst (λ (x : Stepped). IsTaken words st flow.profile h.calls h.action s x e) (same h).0 h.taken in
+          met_by h.calls e (subst (λ (a : Action). IsTaken words st flow.profile h.calls a s told e) act taken)
 
       none_elsewhere : Contains flow.places place → HasNoEdge flow place going → TakesNone words st flow place s i
       none_elsewhere place_in none other last e h from =
@@ -207,16 +214,11 @@ module _ (words : Words) (st : Stated) (flow : Flow) (graph : IsFlowGraph words 
           (is_edge_has_edge words st flow.profile flow graph e (subst (Contains flow.places) (sym from) place_in) h.taken.is_edge)
           from (met h)
 
-      pub elsewhere : Contains flow.places place → HasNoEdge flow place going → Strays words st flow place s i after (stray.Elsewhere told.to)
-      elsewhere place_in none = record { none = none_elsewhere place_in none; is = record { ends = record { told = told; step = step; kind_is = plain }; to_is = refl } }
-
-      long : length after.regs ≡ 27
-      unfolding state_after
-      long =
-          let same_long : length step.moved.regs ≡ length s.regs = moves.registers tells.kind in
-          ap (λ (x : State). length x.regs) step.after_is
-          ∙ after_regs (is_stopped step.moved.kind) s s _ refl same_long
-          ∙ stands.machine.registers
+      no_edge : Contains flow.places place → HasNoEdge flow place going → (c : List ℕ) (e : Edge) → IsTaken words st flow.profile c read.action s told e → e.from ≡ place → ⊥
+      no_edge place_in none c e taken from =
+          none e
+          (is_edge_has_edge words st flow.profile flow graph e (subst (Contains flow.places) (sym from) place_in) taken.is_edge)
+          from (met_by c e taken)
 
       executes : HasNoOther class r.transfer → Executes words st flow.profile read.action s i told after
       executes clean = record {
@@ -228,6 +230,20 @@ module _ (words : Words) (st : Stated) (flow : Flow) (graph : IsFlowGraph words 
         plain = plain;
         transfers = moves.in_class tells.kind clean;
       }
+
+      pub elsewhere : HasNoOther class r.transfer → Contains flow.places place → HasNoEdge flow place going → Strays words st flow place s i after (stray.Elsewhere told.to)
+      elsewhere clean place_in none = record {
+        none = none_elsewhere place_in none;
+        is = record { action = read.action; told = told; executes = executes clean; to_is = refl; none = no_edge place_in none };
+      }
+
+      long : length after.regs ≡ 27
+      unfolding state_after
+      long =
+          let same_long : length step.moved.regs ≡ length s.regs = moves.registers tells.kind in
+          ap (λ (x : State). length x.regs) step.after_is
+          ∙ after_regs (is_stopped step.moved.kind) s s _ refl same_long
+          ∙ stands.machine.registers
 
       pub takes : HasNoOther class r.transfer → told.ticks < 65536 → (k : ℕ) → IsFound flow place going k → Takes words st flow place s i after (record { edge = k; stepped = told })
       takes clean small k found =

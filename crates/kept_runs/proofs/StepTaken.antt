@@ -25,7 +25,7 @@ use Rattle.kept_runs.specs.declared.following.Unkept.TheVariants as unkept
 use Rattle.kept_runs.specs.declared.following.Unkept.TheVariants.{TurnedBack}
 use Rattle.kept_runs.specs.declared.judging.Stray.{Stray}
 use Rattle.kept_runs.specs.Following.{AreHeadersOf, CanGo, CannotGo, Goes, IsNext, Keeps, Halts}
-use Rattle.kept_runs.specs.Judging.{IsStray, StandsAt, Strays, Takes, TakesNone}
+use Rattle.kept_runs.specs.Judging.{StandsAt, Strays, Takes, TakesNone}
 use Rattle.kept_runs.specs.Stays.{IsOver, Tells, Turns, header_at, turned}
 use Rattle.kept_runs.proofs.OneStep.{one_edge_of}
 use Rattle.kept_runs.proofs.StayLemmas.{over, told_on}
@@ -80,7 +80,7 @@ module _ (words : Words) (st : Stated) (flow : Flow) (tree : Tree) (well : IsWel
     pub strays : (after : State) (stray : Stray) → Strays words st flow (place_at flow.places (get_or tree.order x.number 0)) s i after stray → Halts words st flow tree x s i after (unkept.Stray stray)
     strays after stray h = record {
       cannot = none_goes h.none;
-      is = subst (λ (p : Place). IsStray words st flow p s i after stray) (sym place_is) h.is;
+      is = subst (λ (p : Place). Strays words st flow p s i after stray) (sym place_is) h;
     }
 
     module _ (headers : List (Option Span)) (are : AreHeadersOf flow tree headers) (after : State) (taken : Taken) (takes : Takes words st flow (place_at flow.places (get_or tree.order x.number 0)) s i after taken) where

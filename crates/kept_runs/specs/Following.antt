@@ -18,7 +18,7 @@ use Rattle.kept_runs.specs.declared.following.Follower.{Follower}
 use Rattle.kept_runs.specs.declared.following.Unkept.{Unkept}
 use Rattle.kept_runs.specs.declared.following.Unkept.TheVariants as unkept
 use Rattle.kept_runs.specs.declared.following.Unkept.TheVariants.{NotAtEntry, TurnedBack, Unfinished}
-use Rattle.kept_runs.specs.Judging.{IsMachineFor, IsPlaceFor, IsStray}
+use Rattle.kept_runs.specs.Judging.{IsMachineFor, IsPlaceFor, Strays}
 use Rattle.kept_runs.specs.Stays.{Tells}
 
 -- the span that begins at each number of a place, and at that of Exit
@@ -76,7 +76,7 @@ module _ (words : Words) (st : Stated) (flow : Flow) (tree : Tree) where
   abbrev pub IsWhy : Follower → State → Input → State → Unkept → Type 0
   IsWhy x s i after NotAtEntry = ⊥
   IsWhy x s i after (unkept.Stray stray) =
-      IsStray words st flow (place_in flow tree x.number) s i after stray
+      Strays words st flow (place_in flow tree x.number) s i after stray
   IsWhy x s i after (TurnedBack span) =
       (told : Stepped) × (k : ℕ) × IsNext x s i told after k × Contains tree.spans span
       × ((edge_at tree.edges k).to ≡ span.header)

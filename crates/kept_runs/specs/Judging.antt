@@ -1,8 +1,10 @@
 -- One step of the machine against the edges of a place.
-use Rattle.std.specs.Prelude.{◌≡◌, ℕ, ◌<◌, ◌^◌, Bool, if◌then◌else◌, List, length, Contains}
+use Rattle.std.specs.Prelude.{◌≡◌, ℕ, ◌<◌, ◌^◌, Bool, if◌then◌else◌, List, ◌∷◌, ◌++◌, length}
 use Rattle.loader.specs.Image.{Words}
 use Rattle.statement.specs.Stated.{Stated, class_of}
 use Rattle.bus_ticks.specs.Worst.{IsOf}
+use Rattle.bus_ticks.specs.declared.profile.Class.{Class}
+use Rattle.arm2_effect.specs.Effects as effect
 use Rattle.arm2_effect.specs.Effects.{Word}
 use Rattle.arm2_effect.specs.declared.step_end.Kind.{Kind}
 use Rattle.arm2_effect.specs.declared.step_end.Kind.TheVariants as ended
@@ -13,16 +15,17 @@ use Rattle.arm2_exec.specs.declared.machine.Stepped.{Stepped}
 use Rattle.flow_graph.specs.declared.edges.Edge.{Edge}
 use Rattle.flow_graph.specs.declared.edges.Label.{Label}
 use Rattle.flow_graph.specs.declared.edges.Label.TheVariants.{Skip, Do}
+use Rattle.flow_graph.specs.declared.kinds.Action.{Action}
 use Rattle.flow_graph.specs.declared.places.Place.{Place}
 use Rattle.flow_graph.specs.declared.places.Place.TheVariants.{At}
 use Rattle.flow_graph.specs.Flow.{Flow}
-use Rattle.flow_graph.specs.StepLaw.{IsEdgeOf}
+use Rattle.flow_graph.specs.StepLaw.{Executes, IsEdgeOf, IsTaken, TransfersIn}
 use Rattle.longest_walk.specs.Built.{step_at}
 use Rattle.kept_runs.specs.declared.judging.Stray.{Stray}
 use Rattle.kept_runs.specs.declared.judging.Stray.TheVariants as stray
 use Rattle.kept_runs.specs.declared.judging.Taken.{Taken}
 use Rattle.kept_runs.specs.declared.transfers.Access.{Access}
-use Rattle.kept_runs.specs.Reading.{HasNoWord}
+use Rattle.kept_runs.specs.Reading.{HasNoWord, StandsThere}
 
 abbrev pub label_if : Bool → Label
 label_if holds = if holds then Do else Skip
@@ -41,6 +44,15 @@ pub record StandsAt (flow : Flow) (place : Place) (s : State) : Type 0 where
   pub machine : IsMachineFor flow s
   pub at : IsPlaceFor place s
 
+-- the word is the first of those that are transferred whose address is of another class
+pub record IsFirstOther (class : Class) (accesses : List effect.Access) (access : Access) : Type 0 where
+  pub before : List effect.Access
+  pub first : Bool
+  pub after : List effect.Access
+  pub accesses_are : accesses ≡ before ++ Word access.store first access.address ∷ after
+  pub before_in : TransfersIn class before
+  pub other : IsOf class access.address → ⊥
+
 module _ (words : Words) (st : Stated) (flow : Flow) (place : Place) (s : State) (i : Input) where
   -- the step is along the edge of this number, which leaves the place
   pub record Takes (after : State) (taken : Taken) : Type 0 where
@@ -58,24 +70,30 @@ module _ (words : Words) (st : Stated) (flow : Flow) (place : Place) (s : State)
 
   -- ## Why there is none
 
-  -- the step ends in this way
+  -- the machine fetches the image's word, and the step ends in this way
   pub record Ends (after : State) (kind : Kind) : Type 0 where
+    pub word : ℕ
+    pub fetches : StandsThere words s word
     pub told : Stepped
     pub step : Step s i told after
     pub kind_is : told.kind ≡ kind
 
-  -- the step transfers a word, of another class than the one stated
+  -- the step transfers a word of another class than the one stated, and this is the first
   pub record TransfersOther (after : State) (access : Access) : Type 0 where
     pub ends : Ends after ended.Plain
-    pub first : Bool
-    pub there : Contains ends.step.moved.accesses (Word access.store first access.address)
-    pub other : IsOf (class_of st (address_in s.regs)) access.address → ⊥
+    pub is_first : IsFirstOther (class_of st (address_in s.regs)) ends.step.moved.accesses access
 
-  -- the step goes to the address
+  -- the step executes the word as stated, and goes to the address, to which no edge of the place leads
   pub record GoesTo (after : State) (to : ℕ) : Type 0 where
-    pub ends : Ends after ended.Plain
-    pub to_is : ends.told.to ≡ to
+    pub action : Action
+    pub told : Stepped
+    pub executes : Executes words st flow.profile action s i told after
+    pub to_is : told.to ≡ to
+    pub none : (calls : List ℕ) (e : Edge) → IsTaken words st flow.profile calls action s told e
+        → e.from ≡ place → ⊥
 
+  -- Another word: the image has none at the machine's address, or the machine fetches another or none. No
+  -- step is made then.
   abbrev pub IsStray : State → Stray → Type 0
   IsStray after stray.OtherWord = HasNoWord words s × (after ≡ s)
   IsStray after (stray.Exception vector) = Ends after (ended.Taken vector)

@@ -24,7 +24,7 @@ use Rattle.kept_runs.specs.declared.following.Unkept.{Unkept}
 use Rattle.kept_runs.specs.declared.following.Unkept.TheVariants as unkept
 use Rattle.kept_runs.specs.declared.following.Unkept.TheVariants.{NotAtEntry, TurnedBack, Unfinished}
 use Rattle.kept_runs.specs.declared.judging.Stray.{Stray}
-use Rattle.kept_runs.specs.Judging.{IsStray}
+use Rattle.kept_runs.specs.Judging.{IsPlaceFor, Strays}
 
 -- the graph is that of the words and the statement, and the tree that of its loops
 pub record IsHandler (words : Words) (st : Stated) (flow : Flow) (tree : Tree) : Type 0 where
@@ -61,7 +61,8 @@ module _ (words : Words) (st : Stated) (flow : Flow) (tree : Tree) where
   abbrev pub KeepsNone : State → List Input → Type 0
   KeepsNone s inputs = (n : ℕ) → KeepsTo s (take n inputs) → ⊥
 
-  -- so many steps go along a walk from the entry to a place, which keeps the loop bounds
+  -- so many steps go along a walk from the entry to the place where the machine stands, which keeps the loop
+  -- bounds
   pub record ComesTo (s : State) (inputs : List Input) (steps : ℕ) (place : Place)
       (now : State) : Type 0 where
     pub few : steps ≤ length inputs
@@ -72,6 +73,7 @@ module _ (words : Words) (st : Stated) (flow : Flow) (tree : Tree) where
     pub ran : Ran
     pub runs : Runs s (take steps inputs) ran now
     pub steps_are : ran.steps ≡ steps
+    pub at : IsPlaceFor place now
 
   -- the step after so many is along an edge to the header of the span's instance, which the loop bounds do
   -- not allow
@@ -100,7 +102,7 @@ module _ (words : Words) (st : Stated) (flow : Flow) (tree : Tree) where
     pub comes : ComesTo s inputs steps place now
     pub at : steps < length inputs
     pub input_is : slice_index_or inputs steps input ≡ input
-    pub is : IsStray words st flow place now input after stray
+    pub is : Strays words st flow place now input after stray
 
   -- why the run after so many steps does not keep the statement
   abbrev pub IsUnkept : State → List Input → ℕ → State → Unkept → Type 0

@@ -64,12 +64,13 @@ covers Io Any = false
 abbrev pub AllOf : Class → Transfer → Type 0
 AllOf class t = (i : ℕ) → i < t.words → IsOf class (word_address t.address i)
 
--- the access is one of the words, and its address is of another class
+-- the access is the first of the words whose address is of another class
 pub record HasOtherOf (class : Class) (t : Transfer) (access : Access) : Type 0 where
   pub number : ℕ
   pub below : number < t.words
   pub stands : access.address ≡ word_address t.address number
   pub store : access.store ≡ t.store
+  pub before : (i : ℕ) → i < number → IsOf class (word_address t.address i)
   pub other : IsOf class access.address → ⊥
 
 -- A transfer from an address of 2 ^ 26 or more is an exception, and moves no word.

@@ -1,4 +1,4 @@
-ghost use Rattle.std.specs.Prelude.{◌≡◌, ◌+◌, ◌<◌, ◌^◌, IfOk, MatchOption, length};
+ghost use Rattle.std.specs.Prelude.{◌≡◌, ◌+◌, ◌<◌, ◌^◌, IfErr, IfOk, MatchOption, length};
 ghost use Rattle.arm2_exec.specs.Step.{address_in};
 ghost use Rattle.flow_graph.specs.Flow.{IsWellFormed};
 ghost use Rattle.kept_runs.specs.Following.{AreHeadersOf, CanGo, Goes, IsFresh, Halts};
@@ -18,7 +18,7 @@ use std::alloc::{AllocError, Global};
 pub enum Unkept {
     /// R15 is not the entry where the run begins.
     NotAtEntry,
-    /// A step is along no edge.
+    /// A step is along no edge of its place.
     Stray(Stray),
     /// An edge turns back to the header of an instance more often than its bound allows.
     TurnedBack(Span),
@@ -158,7 +158,7 @@ fn follow_from(
 ///
 /// # Errors
 ///
-/// `AllocError` where an allocation failed.
+/// `AllocError` where an allocation failed. The machine is as it was then.
 pub fn follow(
     alloc: Global,
     handler: Handler<'_>,
@@ -167,9 +167,10 @@ pub fn follow(
 ) -> Result<Followed, AllocError>
     requires handler { IsHandler handler.image.now handler.statement.now handler.graph.now handler.tree.now }
     requires machine { IsMachineFor handler.graph.now machine.old }
-    ensures { IfOk result
+    ensures followed { IfOk result
         (IsFollowed handler.entry.image.now handler.entry.statement.now handler.entry.graph.now
         handler.entry.tree.now machine.old inputs.now machine.new) }
+    ensures refused { IfErr result (λ _. machine.new ≡ machine.old) }
 {
     let exit = handler.graph.places().len();
     let headers = headers(alloc, handler.tree.spans(), exit)?;

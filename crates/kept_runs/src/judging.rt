@@ -14,15 +14,15 @@ use flow_graph::Label;
 /// How a step is along no edge of its place, by the statement.
 #[derive(Clone, Copy, Debug, PartialEq, Eq)]
 pub enum Stray {
-    /// The machine does not fetch the image's word at its address.
+    /// The image has no word at the machine's address, or the machine fetches another there, or none.
     OtherWord,
     /// The step takes an exception.
     Exception(Vector),
     /// The machine stops.
     Stopped(Why),
-    /// The step transfers a word of another class than the one stated.
+    /// The step transfers a word of another class than the one stated, the first that it does.
     OtherClass(Access),
-    /// The step goes to an address, in bytes, to which no edge leads.
+    /// The step goes to an address, in bytes, to which no edge of its place leads.
     Elsewhere(u32),
 }
 

@@ -17,7 +17,7 @@ returns-clause-judged c =
     let after = c.follow.new.machine in
     let f = c.in_ok-followed.followed in
     let is : IsFollowed b.image.now h.statement h.graph h.tree start inputs after f =
-    subst (λ (is : List Input). IsFollowed b.image.now h.statement h.graph h.tree start is after f) c.deref.ensures.value c.in_ok-followed.ensures in
+    subst (λ (is : List Input). IsFollowed b.image.now h.statement h.graph h.tree start is after f) c.deref.ensures.value c.in_ok-followed.ensures.followed in
     IfOk-weaker c.told.result _ _
     (λ j tells. record {
       inputs = inputs;

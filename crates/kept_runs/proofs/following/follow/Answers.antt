@@ -22,8 +22,8 @@ headers-requires-clause-small c =
     let few = c.places-exit.ensures.well_formed.few in
     omega (arith, few, ap length c.places-exit.ensures.value)
 
-pub returns-then-at-entry : goal.returns-then-at-entry
-returns-then-at-entry c =
+pub returns-then-at-entry-clause-followed : goal.returns-then-at-entry-clause-followed
+returns-then-at-entry-clause-followed c =
     elsewhere c.args.handler.image.now c.args.handler.statement.now c.args.handler.graph.now c.args.handler.tree.now c.places-exit.ensures.well_formed c.requires.handler c.args.machine.now c.args.inputs.now
     c.address-at.result c.address-at.ensures (λ is. c.if-at-entry.true (c.address-at.ensures ∙ is ∙ sym c.entry.ensures.value))
 

@@ -23,13 +23,13 @@ pub returns-in-Taken : goal.returns-in-Taken
 returns-in-Taken c =
     let place = place_at c.args.handler.graph.now.places c.args.place in
     exception c.args.handler.image.now c.args.handler.statement.now c.args.handler.graph.now c.requires.graph place c.args.machine.now c.args.input c.requires.stands
-    c.step-stepped.result c.step-stepped.new.self c.step-stepped.ensures.step c.in-Taken.vector c.in-Taken.is
+    c.step-stepped.result c.step-stepped.new.self c.step-stepped.ensures.step c.in-Some.word c.in-Some.ensures c.in-Taken.vector c.in-Taken.is
 
 pub returns-in-Stopped : goal.returns-in-Stopped
 returns-in-Stopped c =
     let place = place_at c.args.handler.graph.now.places c.args.place in
     stop c.args.handler.image.now c.args.handler.statement.now c.args.handler.graph.now c.requires.graph place c.args.machine.now c.args.input c.requires.stands
-    c.step-stepped.result c.step-stepped.new.self c.step-stepped.ensures.step c.in-Stopped.why c.in-Stopped.is
+    c.step-stepped.result c.step-stepped.new.self c.step-stepped.ensures.step c.in-Some.word c.in-Some.ensures c.in-Stopped.why c.in-Stopped.is
 
 pub returns-in-Some-other : goal.returns-in-Some-other
 returns-in-Some-other c =
@@ -64,9 +64,11 @@ returns-in-Some-edge_taken c =
 pub returns-in-None : goal.returns-in-None
 returns-in-None c =
     let place = place_at c.args.handler.graph.now.places c.args.place in
+    let class = c.class_at.ensures ∙ ap (class_of c.args.handler.statement.now) (c.address_of-address.ensures.address ∙ ap address_of c.get.ensures) in
     let label = c.label.ensures in
     let leave = c.leave.ensures in
     elsewhere c.args.handler.image.now c.args.handler.statement.now c.args.handler.graph.now c.requires.graph place c.args.machine.now c.args.input c.requires.stands
     c.step-stepped.result c.step-stepped.new.self c.step-stepped.ensures.step c.in-Plain.is c.in-Some.word c.in-Some.ensures c.read_word-reading.result c.read_word-reading.ensures.reading
+    (subst (λ (k : Class). HasNoOther k c.read_word-reading.result.transfer) class c.in_default-other.ensures)
     (Contains-get_or c.args.handler.graph.now.places c.args.place Exit c.requires.known)
     (subst (λ (g : Going). HasNoEdge c.args.handler.graph.now place g) (λ j. record { label = label j; to = c.step-stepped.result.to; leave = leave j }) c.in-None.ensures)

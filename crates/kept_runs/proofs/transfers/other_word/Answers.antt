@@ -10,6 +10,7 @@ returns-then-not-covers c = record {
   below = c.loop-word-test.true;
   stands = c.word_address-address.ensures.address;
   store = refl;
+  before = c.loop-word.invariant;
   other = covers_not c.args.class c.word_address-address.result
       (ap (covers c.args.class) (sym c.class_of.ensures) ∙ sym c.covers.ensures ∙ c.if-not-covers.true);
 }
