@@ -13,7 +13,7 @@ use Rattle.longest_walk.specs.Folded.{unfolded}
 use Rattle.longest_walk.specs.Longest.{IsLongest}
 use Rattle.longest_walk.specs.declared.folded.Longest.{Longest}
 use Rattle.explained.specs.Assumed.{AreImageAssumptions, AreSourceAssumptions}
-use Rattle.explained.specs.Table.{IsImageTable, source_table}
+use Rattle.explained.specs.Table.{IsImageTable, image_ticks, source_table, source_ticks}
 use Rattle.explained.specs.Taken.{taken_at}
 use Rattle.arcwcet.specs.Answers.{Answers}
 use Rattle.arcwcet.specs.Report.{IsAccepted, IsRefused, IsTreeOf}
@@ -47,10 +47,17 @@ pub record IsTextOf (source : List ℕ) (words : Words) (stated : Stated) (flow 
   pub of_image : is_image source ≡ true → IsImageText words stated flow longest text
   pub of_source : is_image source ≡ false → IsSourceText source words stated flow longest text
 
+-- the ticks of all rows of the table are the bound
+pub record IsTotal (source : List ℕ) (words : Words) (flow : Flow) (longest : Longest) : Type 0 where
+  pub of_image : is_image source ≡ true
+      → image_ticks (taken_at flow (unfolded longest.walk)) words ≡ longest.bound
+  pub of_source : is_image source ≡ false → (placed : List PlacedLine) → ArePlaced source placed
+      → source_ticks (taken_at flow (unfolded longest.walk)) placed ≡ longest.bound
+
 -- ## The report
 
--- of an accepted source and statement: the table of a greatest walk, whose cost is the bound, and what is
--- taken for granted of the words that are reached
+-- of an accepted source and statement: the table of a greatest walk, whose cost is the bound, as the ticks of
+-- all rows are, and what is taken for granted of the words that are reached
 pub record IsExplanation (source statement : List ℕ) (profile : Profile) (bound : ℕ)
     (text : List ℕ) : Type 0 where
   pub accepted : IsAccepted source statement profile
@@ -61,6 +68,7 @@ pub record IsExplanation (source statement : List ℕ) (profile : Profile) (boun
   pub bound_is : longest.bound ≡ bound
   pub greatest : IsGreatestCost accepted.flow accepted.stated.loops bound
   pub explains : IsTextOf source accepted.loops.graph.words accepted.stated accepted.flow longest text
+  pub total : IsTotal source accepted.loops.graph.words accepted.flow longest
 
 -- no more ticks than are wanted; any number where none is
 abbrev pub is_enough : Option ℕ → ℕ → Bool

@@ -16,7 +16,10 @@ use crate::handler::{Handler, handler_of, profile_of, read_source};
 use crate::output::{Output, write_whole};
 use assembler::{PlacedLine, placed_lines};
 use bus_ticks::Profile;
-use explained::{StatedGraph, image_assumptions, image_table, source_assumptions, source_table};
+use explained::{
+    StatedGraph, image_assumptions, image_table, places_stand_once, source_assumptions,
+    source_table, totals_are_the_bound,
+};
 use loader::{Image, MAGIC};
 use longest_walk::{Longest, longest};
 use std::alloc::{AllocError, Global};
@@ -111,6 +114,7 @@ fn explanation_of(
     image: &Image,
     handler: &Handler,
 ) -> Result<Explanation, ReportFault>
+    requires formed { IsWellFormed handler.now.graph }
     requires tree { IsTreeOf handler.now.graph handler.now.statement.loops handler.now.tree }
     ensures explains { (statement : List ℕ) (profile : Profile) (names : Names)
         → source_of source.now ≡ Ok (image.now, names)
@@ -122,6 +126,8 @@ fn explanation_of(
         → IfErr result (λ e. (e ≢ ReportFault.Device) × IsRefused source.now statement profile e) }
 {
     let found = longest(alloc, &handler.graph, &handler.tree)?;
+    places_stand_once();
+    totals_are_the_bound();
     let stated = StatedGraph {
         image,
         statement: &handler.statement,
@@ -169,7 +175,7 @@ fn priced_explanation<O: Output>(
 /// Writes where the ticks of a handler's greatest run time go, by a cycle profile's file or by the first
 /// profile: a table by the lines of the source, or by the words of an image, with how often a greatest walk
 /// passes each and the ticks of that; then the bound, in ticks and in microseconds; and then what is taken for
-/// granted: words that count as returns although they do not look like one, and loads and stores of which no
+/// granted: words that count as returns but do not look like returns, and loads and stores of which no
 /// class is stated. Answers whether the bound is enough: at most so many ticks as are wanted.
 ///
 /// # Errors

@@ -60,13 +60,13 @@ module _ (image : Words) (st : Stated) (a : ℕ) where
       λ h. told.1 (class_is ∙ h.loose),
     )
 
-    pub plain_word : (b : Bool) → b ≡ is_odd_writer i.operation → b ≡ false → IsTrue b ↔ IsTakenForReturn image st a
+    pub plain_word : (b : Bool) → b ≡ is_odd_writer i → b ≡ false → IsTrue b ↔ IsTakenForReturn image st a
     plain_word b is none = (
       λ e. absurd (false≢true (sym none ∙ e)),
-      λ h. absurd (false≢true (sym none ∙ is ∙ ap (λ (j : Instr). is_odd_writer j.operation) (sym (only.1 h.instr h.there)) ∙ h.odd)),
+      λ h. absurd (false≢true (sym none ∙ is ∙ ap is_odd_writer (sym (only.1 h.instr h.there)) ∙ h.odd)),
     )
 
-    pub writer_told : {A : Type 0} (f : A → Target) (found : Option A) (b r : Bool) → b ≡ is_odd_writer i.operation → b ≡ true → option_map f found ≡ target_of st a → is_some found ≡ not r → IsTrue r ↔ IsTakenForReturn image st a
+    pub writer_told : {A : Type 0} (f : A → Target) (found : Option A) (b r : Bool) → b ≡ is_odd_writer i → b ≡ true → option_map f found ≡ target_of st a → is_some found ≡ not r → IsTrue r ↔ IsTakenForReturn image st a
     writer_told f found b r is does target some =
         let told = none_told f found (target_of st a) r target some in (
           λ e. record { instr = i; there = only.0; odd = sym is ∙ does; unstated = told.0 e },

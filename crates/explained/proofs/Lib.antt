@@ -2,6 +2,7 @@ mod AssumedLaws
 mod ColumnLaws
 mod ImageLaws
 mod RowLaws
+mod StandLaws
 mod SumLaws
 mod TableLaws
 mod TallyLaws

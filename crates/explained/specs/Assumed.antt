@@ -21,7 +21,7 @@ use Rattle.asm_text.specs.Source.{lines_of}
 use Rattle.assembler.specs.declared.placed_line.PlacedLine.{PlacedLine}
 use Rattle.bus_ticks.specs.declared.profile.Class.TheVariants.{Any}
 use Rattle.flow_graph.specs.Flow.{Flow}
-use Rattle.flow_graph.specs.Kinds.{is_writer, kind_of}
+use Rattle.flow_graph.specs.Kinds.{is_never, is_writer, kind_of}
 use Rattle.loader.specs.Image.{Words, word_of}
 use Rattle.statement.specs.Stated.{Stated, class_of, target_of}
 use Rattle.flow_graph.specs.declared.places.Place.{Place}
@@ -78,9 +78,9 @@ is_return (operation.SingleRegister x) = is_stack x.rn
 is_return (operation.Block x) = is_stack x.rn
 is_return _ = false
 
--- it writes R15, other than a branch or a call, and does not look like a return
-abbrev pub is_odd_writer : Operation → Bool
-is_odd_writer o = is_writer (kind_of o) && not (is_return o)
+-- it may write R15, other than a branch or a call, and does not look like a return; NV words never do
+abbrev pub is_odd_writer : Instr → Bool
+is_odd_writer i = not (is_never i.cond) && (is_writer (kind_of i.operation) && not (is_return i.operation))
 
 -- ## What is assumed
 
@@ -97,11 +97,11 @@ pub record IsLooseTransfer (image : Words) (st : Stated) (a : ℕ) : Type 0 wher
   pub transfers : is_transfer instr.operation ≡ true
   pub loose : class_of st a ≡ Any
 
--- a word that counts as a return although it does not look like one, since nothing is stated of it
+-- a word that counts as a return but does not look like one, since nothing is stated of it
 pub record IsTakenForReturn (image : Words) (st : Stated) (a : ℕ) : Type 0 where
   pub instr : Instr
   pub there : IsInstrAt image a instr
-  pub odd : is_odd_writer instr.operation ≡ true
+  pub odd : is_odd_writer instr ≡ true
   pub unstated : target_of st a ≡ None
 
 -- what is assumed of the word at an address
@@ -154,7 +154,7 @@ pub record IsNamedRow (named : List ℕ) (e : ℕ × ℕ) (row : List ℕ) : Typ
 -- above the rows of the words of which that is assumed
 abbrev pub heading_of : Assumption → List ℕ
 heading_of TakenForReturn =
-    codes "\nWARNING: taken for returns, though these do not look like one (see [[target]]):\n"
+    codes "\nWARNING: these count as returns but do not look like returns (see [[target]]):\n"
 heading_of LooseTransfer = codes "\nLoads and stores that may be anywhere (see [[access]]):\n"
 
 -- the rows under their heading; nothing where there are none
@@ -171,7 +171,7 @@ pub record IsSection (AreRowsOf : (named rows : List ℕ) → Type 0) (image : W
   pub are_rows : AreRowsOf named rows
   pub text_is : text ≡ section what rows
 
--- the words taken for returns come first
+-- the words that count as returns come first
 pub record AreAssumptions (AreRowsOf : (named rows : List ℕ) → Type 0) (image : Words) (st : Stated)
     (flow : Flow) (text : List ℕ) : Type 0 where
   pub returns : List ℕ

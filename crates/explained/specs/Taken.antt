@@ -1,7 +1,7 @@
 -- What a walk takes at an address.
 use Rattle.std.specs.Prelude.{◌≡◌, ℕ, ◌+◌, ◌*◌, Bool, false, ◌==◌, cond, if◌then◌else◌, List, Option, Some}
 use Rattle.std.specs.Prelude.{None}
-use Rattle.std.specs.Prelude.{length, count_by, sum_by, unwrap_or, Contains}
+use Rattle.std.specs.Prelude.{length, count_by, is_some, sum_by, true, unwrap_or, Contains}
 use Rattle.std.specs.BTreeMap.{get}
 use Rattle.std.specs.List.{list_any, range_with_len}
 use Rattle.std.specs.Ordering.{nat_cmp}
@@ -9,6 +9,7 @@ use Rattle.flow_graph.specs.declared.places.Place.{Place}
 use Rattle.flow_graph.specs.declared.places.Place.TheVariants.{At, Exit}
 use Rattle.flow_graph.specs.declared.edges.Edge.{Edge}
 use Rattle.flow_graph.specs.Flow.{Flow}
+use Rattle.loader.specs.Image.{Words, word_of}
 use Rattle.longest_walk.specs.Built.{step_at}
 use Rattle.walk_counts.specs.Counts.{capped, occurrences}
 use Rattle.explained.specs.declared.tally.Taken.{Taken}
@@ -93,3 +94,7 @@ IsTally flow walk t = (a : ℕ) → get nat_cmp t.by_address a ≡ taken_at flow
 -- each of the places is at exactly one of the addresses
 abbrev pub StandOnce : List Place → List ℕ → Type 0
 StandOnce places all = (p : Place) → Contains places p → count_by (λ a. is_at a p) all ≡ 1
+
+-- each of the places is at a word of the image
+abbrev pub AreOnWords : Words → List Place → Type 0
+AreOnWords words places = (calls : List ℕ) (a : ℕ) → Contains places (At calls a) → is_some (word_of words a) ≡ true

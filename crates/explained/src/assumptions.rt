@@ -17,7 +17,7 @@ use std::collections::BTreeSet;
 pub enum Assumption {
     /// That a load or a store may be to any address, since no other class is stated for it.
     LooseTransfer,
-    /// That a word that writes R15 returns, although it does not look like that, since no target is stated.
+    /// That a word that may write R15 returns, although it does not look like that, since no target is stated.
     TakenForReturn,
 }
 
@@ -40,7 +40,7 @@ fn is_taken_for_return(image: &Image, statement: &Statement, at: u32) -> bool
     ensures { IsTrue result ↔ IsTakenForReturn image.now statement.now at }
 {
     match instr_at(image, at) {
-        Some(instr) => is_odd_writer(&instr.operation) && statement.target_at(at).is_none(),
+        Some(instr) => is_odd_writer(&instr) && statement.target_at(at).is_none(),
         None => false,
     }
 }

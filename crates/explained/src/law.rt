@@ -1,15 +1,25 @@
-ghost use Rattle.std.specs.Prelude.{◌≡◌, ◌↔◌, ◌<◌, ◌^◌, ℕ, false, true, List, None, Some, Contains};
+ghost use Rattle.std.specs.Prelude.{◌≡◌, ◌≢◌, ◌↔◌, ◌<◌, ◌^◌, ℕ, false, true, List, None, Some, Ok, Contains};
 ghost use Rattle.std.specs.Prelude.{flat_map, map, sum_by};
+ghost use Rattle.bus_ticks.specs.declared.profile.Profile.{Profile};
+ghost use Rattle.assembler.specs.Placed.{ArePlaced};
+ghost use Rattle.assembler.specs.Sweeps.{Names, assembled};
+ghost use Rattle.flow_graph.specs.Graph.{IsBuildFault, IsFlowGraph};
 ghost use Rattle.flow_graph.specs.declared.edges.Edge.{Edge};
+ghost use Rattle.flow_graph.specs.declared.faults.BuildFault.{BuildFault};
 ghost use Rattle.assembler.specs.declared.placed_line.PlacedLine.{PlacedLine};
 ghost use Rattle.flow_graph.specs.Flow.{Flow, IsWellFormed};
 ghost use Rattle.loader.specs.Image.{Words};
+ghost use Rattle.loader.specs.ImageBytes.{image_read};
 ghost use Rattle.loop_bounds.specs.Tree.{Tree};
 ghost use Rattle.longest_walk.specs.Folded.{unfolded};
 ghost use Rattle.longest_walk.specs.Longest.{IsWalkOf};
 ghost use Rattle.longest_walk.specs.declared.folded.Item.{Item};
 ghost use Rattle.explained.specs.Table.{image_ticks, line_taken, source_ticks, words_of};
-ghost use Rattle.explained.specs.Taken.{StandOnce, cost_at, is_reached, pass_at, taken_at};
+ghost use Rattle.explained.specs.Taken.{AreOnWords, StandOnce, cost_at, is_reached, pass_at, taken_at};
+ghost use Rattle.statement.specs.Stated.{Stated};
+
+use asm_text::lines_are_spelled;
+use assembler::sources_are_assembled;
 
 /// States that of a walk of the graph that costs less than 2^64 ticks the numbers at an address are exact:
 /// how often the walk leaves the address, and the ticks of that. It does nothing.
@@ -34,6 +44,24 @@ pub fn totals_are_the_bound()
         → StandOnce flow.places (map (λ e. e.0) words)
         → image_ticks (taken_at flow (unfolded items)) words ≡ cost }
 {}
+
+/// States that each place of a graph that is not refused stands at one word: of the lines of a source that is
+/// assembled, each where it stands, and of an image that is read. It does nothing.
+pub fn places_stand_once()
+    ensures words { (words : Words) (stated : Stated) (profile : Profile) (flow : Flow)
+        → IsFlowGraph words stated profile flow
+        → ((f : BuildFault) → f ≢ BuildFault.Memory → IsBuildFault words stated profile f → ⊥)
+        → AreOnWords words flow.places }
+    ensures source { (source : List ℕ) (words : Words) (names : Names) (placed : List PlacedLine)
+        (flow : Flow) → IsWellFormed flow → assembled source ≡ Ok (words, names) → ArePlaced source placed
+        → AreOnWords words flow.places → StandOnce flow.places (flat_map words_of placed) }
+    ensures image { (bytes : List ℕ) (words : Words) (flow : Flow) → IsWellFormed flow
+        → image_read bytes ≡ Ok words → AreOnWords words flow.places
+        → StandOnce flow.places (map (λ e. e.0) words) }
+{
+    lines_are_spelled();
+    sources_are_assembled();
+}
 
 /// States which lines a table says nothing can ever reach: those at whose words the graph has no place. It
 /// does nothing.

@@ -15,7 +15,9 @@ mod tally;
 
 pub use assumptions::{Assumption, assumed};
 pub use image::image_table;
-pub use law::{numbers_are_of_the_walk, totals_are_the_bound, unreached_lines_have_no_place};
+pub use law::{
+    numbers_are_of_the_walk, places_stand_once, totals_are_the_bound, unreached_lines_have_no_place,
+};
 pub use named::named_lines;
 pub use sections::{StatedGraph, image_assumptions, source_assumptions};
 pub use source::source_table;

@@ -13,7 +13,7 @@ use loader::Image;
 use std::alloc::{AllocError, Global};
 
 const RETURNS: &[u8] =
-    b"\nWARNING: taken for returns, though these do not look like one (see [[target]]):\n";
+    b"\nWARNING: these count as returns but do not look like returns (see [[target]]):\n";
 
 const TRANSFERS: &[u8] = b"\nLoads and stores that may be anywhere (see [[access]]):\n";
 
@@ -79,7 +79,7 @@ fn image_section(
 }
 
 /// What a bound takes for granted of the words that its handler reaches, by the lines of its source: those
-/// that count as returns although they do not look like one, and then the loads and stores of which no class
+/// that count as returns but do not look like returns, and then the loads and stores of which no class
 /// is stated. Nothing stands for either where there are none.
 ///
 /// `placed` says where the lines stand, in their order.
@@ -106,7 +106,7 @@ pub fn source_assumptions(
 }
 
 /// What a bound takes for granted of the words that its handler reaches, by an image's words: those that
-/// count as returns although they do not look like one, and then the loads and stores of which no class is
+/// count as returns but do not look like returns, and then the loads and stores of which no class is
 /// stated. Nothing stands for either where there are none.
 ///
 /// # Errors

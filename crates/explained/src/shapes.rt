@@ -1,11 +1,11 @@
 ghost use Rattle.std.specs.Prelude.{◌≡◌, MatchOption};
 ghost use Rattle.arm2_decode.specs.declared.instr.Instr.{Instr};
-ghost use Rattle.flow_graph.specs.Kinds.{data_kind, is_writer, kind_of};
+ghost use Rattle.flow_graph.specs.Kinds.{data_kind, is_never, is_writer, kind_of};
 ghost use Rattle.explained.specs.Assumed.{IsInstrAt, is_link, is_link_less, is_link_moved, is_return};
 ghost use Rattle.explained.specs.Assumed.{is_stack};
 ghost use Rattle.explained.specs.Assumed.{is_lsl, is_mov, is_odd_writer, is_sub, is_transfer};
 
-use arm2_decode::{DataRegister, Instr, Opcode, Operation, Register, Shift, decode};
+use arm2_decode::{Cond, DataRegister, Instr, Opcode, Operation, Register, Shift, decode};
 use loader::Image;
 
 /// The instruction at an address, if the image has one there.
@@ -105,9 +105,10 @@ fn is_return(operation: &Operation) -> bool
     }
 }
 
-/// Whether an operation writes R15, other than a branch or a call, and does not look like a return.
-pub(crate) fn is_odd_writer(operation: &Operation) -> bool
-    ensures { result ≡ is_odd_writer operation.now }
+/// Whether an instruction may write R15, other than a branch or a call, and does not look like a return. One
+/// whose condition is NV never does.
+pub(crate) fn is_odd_writer(instr: &Instr) -> bool
+    ensures { result ≡ is_odd_writer instr.now }
 {
-    writes_pc(operation) && !is_return(operation)
+    instr.cond != Cond::Nv && writes_pc(&instr.operation) && !is_return(&instr.operation)
 }

@@ -1,10 +1,12 @@
 use Rattle.std.proofs.Common.{◌≢◌}
 use Rattle.arcwcet.specs.Faults.{of_walk}
+use Rattle.arcwcet.specs.ExplainReport.{IsTotal}
 use Rattle.arcwcet.specs.Report.{IsRefused}
 use Rattle.arcwcet.specs.declared.fault.ReportFault.TheVariants.{Device}
-use Rattle.arcwcet.proofs.ExplainLemmas.{explained, source_unexplained}
+use Rattle.arcwcet.proofs.ExplainLemmas.{bound_fits, explained, source_unexplained}
 use Rattle.arcwcet.proofs.HandlerLemmas.{refused_as}
 use Rattle.arcwcet.proofs.ReportLemmas.{walk_refusal}
+use Rattle.arcwcet.proofs.SourceLemmas.{image_was_read, text_was_assembled}
 use Rattle.arcwcet.proofs.explain.explanation_of.Goals as goal
 
 pub returns-in_err-found-clause-fault : goal.returns-in_err-found-clause-fault
@@ -23,5 +25,21 @@ returns-in_err-text-clause-fault c = λ statement profile names said loops.
 pub returns-clause-explains : goal.returns-clause-explains
 returns-clause-explains c = λ statement profile names said loops.
     let h = c.args.handler.now in
-    explained c.args.source.now statement profile c.args.image.now names said h.statement h.graph h.tree loops c.requires.tree
-    c.in_ok-found.found c.in_ok-text.text.items c.in_ok-found.ensures.longest c.in_ok-found.ensures.allowed c.in_ok-text.ensures.text
+    let found = c.in_ok-found.found in
+    let source = c.args.source.now in
+    let words = loops.graph.words in
+    let walk = c.in_ok-found.ensures.longest.walk_is in
+    let formed = c.requires.formed in
+    let fits = bound_fits h.graph h.tree found c.in_ok-found.ensures.longest in
+    let on = c.places_stand_once.ensures.words words h.statement profile h.graph loops.graph.graph_is loops.graph.no_fault in
+    let total : IsTotal source words h.graph found = record {
+      of_image = λ is.
+          c.totals_are_the_bound.ensures.image h.graph h.tree found.bound found.walk words formed walk fits
+          (c.places_stand_once.ensures.image source words h.graph formed (image_was_read source words loops.graph.names is loops.graph.source_is) on);
+      of_source = λ is placed stand.
+          c.totals_are_the_bound.ensures.source h.graph h.tree found.bound found.walk placed formed walk fits
+          (c.places_stand_once.ensures.source source words loops.graph.names placed h.graph formed
+          (text_was_assembled source words loops.graph.names is loops.graph.source_is) stand on);
+    } in
+    explained source statement profile c.args.image.now names said h.statement h.graph h.tree loops c.requires.tree
+    found c.in_ok-text.text.items c.in_ok-found.ensures.longest c.in_ok-found.ensures.allowed c.in_ok-text.ensures.text total
