@@ -56,7 +56,8 @@ class Follows:
 
 
 class Explains:
-    """The table of the bound that `bound` prints, with rows that add up to it, or the same refusal."""
+    """The table of the bound that `bound` prints, with rows that add up to it, and then what is taken for granted; or the
+    same refusal, with more lines on standard error after it."""
 
     def __init__(self, bench, words, files):
         self.bench, self.words, self.files = bench, words, files
@@ -64,12 +65,14 @@ class Explains:
     def __call__(self, told, folder):
         bound = self.bench.ask(["bound", *self.words[1:]], self.files)[0]
         if bound.status:
-            return None if told == bound else f"{told}, and bound: {bound}"
+            is_same = (told.status, told.out) == (bound.status, bound.out) and told.err.startswith(bound.err)
+            return None if is_same else f"{told}, and bound: {bound}"
         number = int(re.search(rb"^bound (\d+)$", bound.out, re.M)[1])
-        ticks = re.findall(rb"^ *\d+ +(\d+) +\d+\.\d% ", told.out, re.M)
+        table = told.out.partition(b"\n\n")[0].rstrip(b"\n") + b"\n"
+        ticks = re.findall(rb"^ *\d+ +(\d+) +\d+\.\d% ", table, re.M)
         microseconds = f"{number // 8}.{number % 8 * 125:03}"
         end = f"    total {number:10} 100.0%\nbound {number} ticks, {microseconds} microseconds at 8 MHz\n"
-        is_right = not told.status and told.out.endswith(end.encode()) and sum(map(int, ticks)) == number
+        is_right = not told.status and table.endswith(end.encode()) and sum(map(int, ticks)) == number
         return None if is_right and not told.err else f"{told}, where the bound is {number}"
 
 

@@ -21,6 +21,7 @@ MET_BY = {
     "explain": (*OF_HANDLER, PATH),
     "check": (*OF_HANDLER, CERTIFICATES),
     "visits": (*OF_HANDLER, PATH, VISITS),
+    "follow": (*OF_HANDLER, PATH, MACHINES),
     **{name: (*OF_SOURCE, PROFILES, MACHINES) for name in ("run", "trace", "debug")},
 }
 STATUSES = {"Memory": 3, "Device": 4}
@@ -75,11 +76,13 @@ def sections_of(told):
 
 def ended_early(told):
     """Whether an answer with status 1 and no refusal is the verdict No, the table of a bound that is more than
-    it may be, or a machine that stopped."""
+    it may be, a run that does not keep its statement, or a machine that stopped."""
     verdict = re.fullmatch(rb"no: (\w+)\n", told.out)
     if verdict:
         return verdict[1].decode() in OBJECTIONS
     if re.search(rb"^bound \d+ ticks, .*\n\Z", told.out, re.M):
+        return True
+    if re.fullmatch(rb"step \d+, [0-9A-F]+(, line \d+)?: .+\n", told.out):
         return True
     return re.search(rb"^stopped \w+ at [0-9A-F]+\nticks \d+ elapsed \d+\n\Z", told.out, re.M) is not None
 
@@ -91,7 +94,7 @@ def fault_of(command, told):
     if told.status == 0:
         return f"status 0 and standard error {shown(told.err)}" if told.err else None
     if told.status == 1 and not told.err:
-        return None if command in ("check", "explain", "run", "trace") and ended_early(told) else str(told)
+        return None if command in ("check", "explain", "follow", "run", "trace") and ended_early(told) else str(told)
     if told.status == 2:
         return None if told.err and not told.out else str(told)
     met = sections_of(told) & set(MET_BY.get(command, ()))

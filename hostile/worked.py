@@ -131,6 +131,9 @@ def priced(bench, words, files):
     bound = command(bench, f"bound {words} handler.toml", {**files, "handler.toml": STATEMENT})
     judged = {**bound.files, "handler.cert": bound.told.out}
     machine = {**files, "machine.toml": MACHINE}
+    followed = {**bound.files, "machine.toml": MACHINE}
+    # A limit of two steps, which end inside the handler: the status is 1.
+    short = {**bound.files, "machine.toml": MACHINE.replace(b"steps = 8", b"steps = 2")}
     return [
         bound,
         command(bench, f"bound --tight 3 {words} handler.toml", bound.files),
@@ -139,6 +142,8 @@ def priced(bench, words, files):
         command(bench, f"explain --at-most 20 {words} handler.toml", bound.files),
         command(bench, f"check {words} handler.toml handler.cert", judged),
         command(bench, f"visits {words} handler.toml fiq.toml 2", {**bound.files, "fiq.toml": FIQ}),
+        command(bench, f"follow {words} handler.toml machine.toml", followed),
+        command(bench, f"follow {words} handler.toml machine.toml", short),
         command(bench, f"run {words} machine.toml", machine),
         command(bench, f"trace {words} machine.toml", machine),
         command(bench, f"debug {words} machine.toml", machine, SESSION),
