@@ -1,5 +1,5 @@
 -- Texts of one part after another.
-use Rattle.std.proofs.Common.{◌≡◌, ◌+◌, ◌<◌, ℕ, suc, List, [], ◌∷◌, ◌++◌, length, drop, codes, refl, sym, ap, replicate, subst, ◌∙◌, append_assoc, get_or}
+use Rattle.std.proofs.Common.{◌≡◌, ◌+◌, ◌<◌, ℕ, suc, List, [], ◌∷◌, ◌++◌, length, drop, codes, sym, ap, replicate, subst, ◌∙◌, append_assoc, get_or}
 use Rattle.arm2_effect.specs.ProgramCounter.{ahead_of}
 use Rattle.bus_ticks.specs.declared.profile.Class.{Class}
 use Rattle.drafting.specs.DraftText.{accesses_text, cycle_text, destinations_text, draft_text, end_text, head_text, loop_text, target_text, way_text, words_from}

@@ -1,3 +1,5 @@
+mod Explored
 mod FlatLaws
 mod InstrLaws
 mod Picked
+mod WayLaws

@@ -8,15 +8,18 @@ use Rattle.drafting.specs.DraftText.{draft_text}
 use Rattle.drafting.specs.Found.{addresses_of}
 use Rattle.drafting.specs.Named.{AreNamed, Lines}
 use Rattle.drafting.specs.Picks.{Picks}
+use Rattle.drafting.specs.Reach.{IsClosed}
 use Rattle.drafting.specs.Words.{IsOddWriter, IsTransfer}
 use Rattle.drafting.specs.declared.ends.End.{End}
 use Rattle.drafting.specs.declared.found_loop.FoundLoop.{FoundLoop}
 use Rattle.drafting.specs.declared.writers.FoundTarget.{FoundTarget}
 
--- what was found at some addresses: exactly those of them whose words load or store, and those whose words
--- write R15 and have not the shape of a return
-pub record AreFound (words : Words) (accesses : List (ℕ × Class)) (targets : List FoundTarget) : Type 0 where
+-- what was found at addresses that hold all to which control goes from the entry on: exactly those of them
+-- whose words load or store, and those whose words write R15 and have not the shape of a return
+pub record AreFound (words : Words) (entry : ℕ) (accesses : List (ℕ × Class)) (targets : List FoundTarget)
+    : Type 0 where
   pub addresses : List ℕ
+  pub closed : IsClosed words entry addresses
   pub accesses_are : Picks (IsTransfer words) addresses (keys_of accesses)
   pub targets_are : Picks (IsOddWriter words) addresses (addresses_of targets)
 
@@ -29,5 +32,5 @@ pub record IsDraft (words : Words) (names : Names) (entry : ℕ) (text : List �
   pub accesses : List (ℕ × Class)
   pub loops : List FoundLoop
   pub targets : List FoundTarget
-  pub found : AreFound words accesses targets
+  pub found : AreFound words entry accesses targets
   pub text_is : text ≡ draft_text lines entry ends cycles accesses loops targets

@@ -1,7 +1,9 @@
 pub mod Draft
 pub mod DraftText
+pub mod Exploring
 pub mod Found
 pub mod Named
 pub mod Picks
+pub mod Reach
 pub mod Rows
 pub mod Words

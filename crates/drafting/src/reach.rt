@@ -1,3 +1,9 @@
+ghost use Rattle.std.specs.Prelude.{◌≡◌, ℕ, IfOk, OnOk, Contains};
+ghost use Rattle.std.specs.List.Sorted.{IsStrictlySortedBy};
+ghost use Rattle.std.specs.Ordering.{nat_cmp};
+ghost use Rattle.drafting.specs.Exploring.{Grows, IsExplored, IsFollowed, IsFound};
+ghost use Rattle.drafting.specs.Reach.{CallsTo, IsClosed};
+
 use crate::ways::{called, push_ways};
 use loader::Image;
 use std::alloc::{AllocError, Global};
@@ -55,40 +61,121 @@ impl Reached {
     }
 }
 
-fn add(seen: &mut BTreeSet<u32>, order: &mut Vec<u32>, at: u32) -> Result<(), AllocError> {
-    if seen.insert(at)? {
-        order.push(at)?;
-    }
-    Ok(())
+// The addresses that are found, and those of them at which a routine begins.
+#[derive(Drop)]
+struct Exploration {
+    // All addresses.
+    seen: BTreeSet<u32>,
+    // The same, in the order in which they were found.
+    order: Vec<u32>,
+    // The entry and the routines that are called.
+    roots: BTreeSet<u32>,
 }
 
-// The addresses that are reached, of which the first are looked at, and those that are called.
-fn explore(
-    alloc: Global,
-    image: &Image,
-    entry: u32,
-) -> Result<(BTreeSet<u32>, BTreeSet<u32>), AllocError> {
-    let mut seen = BTreeSet::new(alloc);
-    let mut roots = BTreeSet::new(alloc);
-    let mut order = Vec::new(alloc);
-    let mut ways = Vec::new(alloc);
-    roots.insert(entry)?;
-    add(&mut seen, &mut order, entry)?;
-    for next in 0..MOST_ADDRESSES {
-        let Some(at) = order.get(next).copied() else {
-            break;
+impl Exploration {
+    // Begins with the entry.
+    fn of(alloc: Global, entry: u32) -> Result<Exploration, AllocError>
+        ensures found { IfOk result (λ x. IsFound x.seen x.order.items) }
+        ensures begun { IfOk result (λ x. Contains x.order.items entry) }
+    {
+        let mut found = Exploration {
+            seen: BTreeSet::new(alloc),
+            order: Vec::new(alloc),
+            roots: BTreeSet::new(alloc),
         };
-        ways.clear();
-        push_ways(&mut ways, image, at)?;
-        for to in &ways {
-            add(&mut seen, &mut order, *to)?;
+        found.add_root(entry)?;
+        Ok(found)
+    }
+
+    // Adds an address, if it is new.
+    fn add(&mut self, at: u32) -> Result<(), AllocError>
+        requires { IsFound self.old.seen self.old.order.items }
+        ensures found { OnOk result (IsFound self.new.seen self.new.order.items) }
+        ensures grows { OnOk result (Grows self.old.order.items self.new.order.items) }
+        ensures added { OnOk result (Contains self.new.order.items at) }
+    {
+        if self.seen.insert(at)? {
+            self.order.push(at)?;
         }
-        if let Some(to) = called(image, at) {
-            roots.insert(to)?;
-            add(&mut seen, &mut order, to)?;
+        Ok(())
+    }
+
+    // Adds an address at which a routine begins.
+    fn add_root(&mut self, at: u32) -> Result<(), AllocError>
+        requires { IsFound self.old.seen self.old.order.items }
+        ensures found { OnOk result (IsFound self.new.seen self.new.order.items) }
+        ensures grows { OnOk result (Grows self.old.order.items self.new.order.items) }
+        ensures added { OnOk result (Contains self.new.order.items at) }
+    {
+        self.roots.insert(at)?;
+        self.add(at)
+    }
+
+    // Adds each of some addresses.
+    fn add_all(&mut self, ways: &[u32]) -> Result<(), AllocError>
+        requires { IsFound self.old.seen self.old.order.items }
+        ensures found { OnOk result (IsFound self.new.seen self.new.order.items) }
+        ensures grows { OnOk result (Grows self.old.order.items self.new.order.items) }
+        ensures added { OnOk result
+            ((to : ℕ) → Contains ways.now to → Contains self.new.order.items to) }
+    {
+        for to in ways {
+            self.add(*to)?;
+        }
+        Ok(())
+    }
+
+    // Adds the routine that the word at an address calls.
+    fn add_called(&mut self, image: &Image, at: u32) -> Result<(), AllocError>
+        requires { IsFound self.old.seen self.old.order.items }
+        ensures found { OnOk result (IsFound self.new.seen self.new.order.items) }
+        ensures grows { OnOk result (Grows self.old.order.items self.new.order.items) }
+        ensures added { OnOk result
+            ((to : ℕ) → CallsTo image.now at to → Contains self.new.order.items to) }
+    {
+        match called(image, at) {
+            Some(to) => self.add_root(to),
+            None => Ok(()),
         }
     }
-    Ok((seen, roots))
+
+    // Adds all to which the word at an address leads, by a list of its steps that is empty before.
+    fn look_at(&mut self, ways: &mut Vec<u32>, image: &Image, at: u32) -> Result<(), AllocError>
+        requires { IsFound self.old.seen self.old.order.items }
+        ensures found { OnOk result (IsFound self.new.seen self.new.order.items) }
+        ensures grows { OnOk result (Grows self.old.order.items self.new.order.items) }
+        ensures followed { OnOk result (IsFollowed image.now self.new.order.items at) }
+    {
+        ways.clear();
+        push_ways(ways, image, at)?;
+        self.add_all(ways)?;
+        self.add_called(image, at)
+    }
+}
+
+// Finds the addresses. The list grows at its end while its next one is looked at, so each is looked at once.
+fn explore(alloc: Global, image: &Image, entry: u32) -> Result<Exploration, AllocError>
+    ensures found { IfOk result (λ x. IsFound x.seen x.order.items) }
+    ensures explored { IfOk result (λ x. IsExplored image.now entry x.order.items) }
+{
+    let mut found = Exploration::of(alloc, entry)?;
+    let mut ways = Vec::new(alloc);
+    for next in 0..MOST_ADDRESSES {
+        if next >= found.order.len() {
+            return Ok(found);
+        }
+        let at = found.order[next];
+        found.look_at(&mut ways, image, at)?;
+    }
+    Ok(found)
+}
+
+// The addresses of a set, ascending.
+fn ascending(alloc: Global, seen: &BTreeSet<u32>) -> Result<Vec<u32>, AllocError>
+    ensures keys { IfOk result (λ addresses. addresses.items ≡ seen.now.keys) }
+    ensures ordered { IfOk result (λ addresses. IsStrictlySortedBy nat_cmp addresses.items) }
+{
+    seen.iter().copied().collect(alloc)
 }
 
 // The steps from each of the addresses.
@@ -115,10 +202,12 @@ fn turned(alloc: Global, pairs: &[(u32, u32)]) -> Result<Vec<(u32, u32)>, AllocE
 }
 
 /// What is reached from an entry.
-pub(crate) fn reach(alloc: Global, image: &Image, entry: u32) -> Result<Reached, AllocError> {
-    let (seen, roots) = explore(alloc, image, entry)?;
-    let addresses: Vec<u32> = seen.iter().copied().collect(alloc)?;
-    let roots: Vec<u32> = roots.iter().copied().collect(alloc)?;
+pub(crate) fn reach(alloc: Global, image: &Image, entry: u32) -> Result<Reached, AllocError>
+    ensures { IfOk result (λ reached. IsClosed image.now entry reached.addresses.items) }
+{
+    let found = explore(alloc, image, entry)?;
+    let addresses = ascending(alloc, &found.seen)?;
+    let roots = ascending(alloc, &found.roots)?;
     let mut leaving = steps_from(alloc, image, &addresses)?;
     leaving.sort()?;
     let mut entering = turned(alloc, &leaving)?;

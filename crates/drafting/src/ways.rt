@@ -1,8 +1,12 @@
-ghost use Rattle.std.specs.Prelude.{◌≡◌, ◌<◌, ◌^◌};
+ghost use Rattle.std.specs.Prelude.{◌≡◌, ℕ, ◌<◌, ◌^◌, true, Some, OnOk, Contains};
+ghost use Rattle.arm2_decode.specs.declared.names.Cond.{Cond};
 ghost use Rattle.arm2_effect.specs.ProgramCounter.{ahead_of};
+ghost use Rattle.drafting.specs.Reach.{CallsTo, GoesOn, IsBranchAt, IsTablePlace, JumpsIntoTable};
+ghost use Rattle.drafting.specs.Reach.{KeepsWayBack, LeadsAway, StepsTo, before, is_table_jump};
+ghost use Rattle.drafting.specs.Reach.{is_way_back, next_of, words_on};
 
-use crate::words::{Reading, Way, instr_at, reading_at};
-use arm2_decode::{Cond, DataRegister, Opcode, Operation, Register, Shift};
+use crate::words::{Reading, Way, instr_at, is_add, is_left, is_link, is_move, reading_at};
+use arm2_decode::{Cond, Operation};
 use bus_ticks::SPACE_END;
 use loader::Image;
 use std::alloc::AllocError;
@@ -19,39 +23,55 @@ pub(crate) fn ahead_of(address: u32, bytes: u32) -> u32
 }
 
 /// The address of the word before.
-pub(crate) fn before(address: u32) -> u32 {
+pub(crate) fn before(address: u32) -> u32
+    ensures { result ≡ before address }
+{
     ahead_of(address, SPACE_END - 4)
 }
 
-fn branch_target(at: u32, offset: u32) -> u32 {
-    ahead_of(ahead_of(at, 8), offset.wrapping_mul(4))
-}
-
-// The address of a branch of the table behind a word, counted from 0.
-fn table_place(at: u32, n: u32) -> u32 {
-    ahead_of(ahead_of(at, 8), n.wrapping_mul(4))
+// The address so many words from 8 bytes on: where a branch leads, and where the places of a table stand.
+fn words_on(at: u32, count: u32) -> u32
+    ensures { result ≡ words_on at count }
+{
+    ahead_of(ahead_of(at, 8), count.wrapping_mul(4))
 }
 
 // Whether it is ADD PC,PC,Rx,LSL #2.
-fn is_table_jump(x: &DataRegister) -> bool {
-    x.opcode == Opcode::Add
-        && x.rn.is_pc()
-        && x.rd.is_pc()
-        && x.shift == Shift::Lsl
-        && x.amount == 2
+fn is_table_jump(operation: &Operation) -> bool
+    ensures { result ≡ is_table_jump operation.now }
+{
+    match operation {
+        Operation::DataRegister(x) => {
+            is_add(x.opcode) && x.rn.is_pc() && x.rd.is_pc() && is_left(x.shift) && x.amount == 2
+        }
+        _ => false,
+    }
 }
 
-fn jumps_into_table(image: &Image, at: u32) -> bool {
+// Whether it is MOV R14,PC.
+fn is_way_back(operation: &Operation) -> bool
+    ensures { result ≡ is_way_back operation.now }
+{
+    match operation {
+        Operation::DataRegister(x) => {
+            is_move(x.opcode) && is_link(x.rd) && x.rm.is_pc() && is_left(x.shift) && x.amount == 0
+        }
+        _ => false,
+    }
+}
+
+fn jumps_into_table(image: &Image, at: u32) -> bool
+    ensures { JumpsIntoTable image.now at → result ≡ true }
+{
     match instr_at(image, at) {
-        Some(instr) => match &instr.operation {
-            Operation::DataRegister(x) => is_table_jump(x),
-            _ => false,
-        },
+        Some(instr) => is_table_jump(&instr.operation),
         None => false,
     }
 }
 
-fn is_branch(image: &Image, at: u32) -> bool {
+fn is_branch(image: &Image, at: u32) -> bool
+    ensures { IsBranchAt image.now at → result ≡ true }
+{
     match reading_at(image, at) {
         Some(reading) => reading.cond == Cond::Al && matches!(reading.way, Way::Branch(_)),
         None => false,
@@ -59,12 +79,14 @@ fn is_branch(image: &Image, at: u32) -> bool {
 }
 
 /// How many branches stand behind a word that jumps into them, from the second word after it on.
-pub(crate) fn table_len(image: &Image, at: u32) -> u32 {
+pub(crate) fn table_len(image: &Image, at: u32) -> u32
+    ensures { (n : ℕ) → IsTablePlace image.now at n → n < result }
+{
     if !jumps_into_table(image, at) {
         return 0;
     }
     for n in 0..MOST_BRANCHES {
-        if !is_branch(image, table_place(at, n)) {
+        if !is_branch(image, words_on(at, n)) {
             return n;
         }
     }
@@ -72,28 +94,31 @@ pub(crate) fn table_len(image: &Image, at: u32) -> u32 {
 }
 
 // Adds the addresses of the branches of the table behind a word.
-fn push_table(out: &mut Vec<u32>, image: &Image, at: u32) -> Result<(), AllocError> {
+fn push_table(out: &mut Vec<u32>, image: &Image, at: u32) -> Result<(), AllocError>
+    ensures kept { OnOk result ((a : ℕ) → Contains out.old.items a → Contains out.new.items a) }
+    ensures places { OnOk result
+        ((n : ℕ) → IsTablePlace image.now at n → Contains out.new.items (words_on at n)) }
+{
     for n in 0..table_len(image, at) {
-        out.push(table_place(at, n))?;
+        out.push(words_on(at, n))?;
     }
     Ok(())
 }
 
 // Whether the word before puts the address of the word after this one into R14.
-fn keeps_way_back(image: &Image, at: u32) -> bool {
+fn keeps_way_back(image: &Image, at: u32) -> bool
+    ensures { KeepsWayBack image.now at → result ≡ true }
+{
     match instr_at(image, before(at)) {
-        Some(instr) => match &instr.operation {
-            Operation::DataRegister(x) => {
-                x.opcode == Opcode::Mov && x.rd == Register::R14 && x.rm.is_pc() && x.amount == 0
-            }
-            _ => false,
-        },
+        Some(instr) => is_way_back(&instr.operation),
         None => false,
     }
 }
 
 // Whether control may go on at the next word.
-fn goes_on(image: &Image, at: u32, reading: Reading) -> bool {
+fn goes_on(image: &Image, at: u32, reading: Reading) -> bool
+    ensures { GoesOn image.now at reading → result ≡ true }
+{
     if reading.cond != Cond::Al {
         return true;
     }
@@ -104,21 +129,34 @@ fn goes_on(image: &Image, at: u32, reading: Reading) -> bool {
     }
 }
 
-/// Adds the addresses at which control goes on from the word at an address inside its routine, as far as the
-/// words show: after a call at the next word, and through a table of branches at each.
-pub(crate) fn push_ways(out: &mut Vec<u32>, image: &Image, at: u32) -> Result<(), AllocError> {
-    let Some(reading) = reading_at(image, at) else {
-        return Ok(());
-    };
+// Adds the next word, where control may go on there.
+fn push_next(out: &mut Vec<u32>, image: &Image, at: u32, reading: Reading) -> Result<(), AllocError>
+    ensures { OnOk result (GoesOn image.now at reading → Contains out.new.items (next_of at)) }
+{
     if goes_on(image, at, reading) {
         out.push(ahead_of(at, 4))?;
     }
+    Ok(())
+}
+
+// Adds the other addresses inside the routine to which a word leads.
+fn push_others(
+    out: &mut Vec<u32>,
+    image: &Image,
+    at: u32,
+    reading: Reading,
+) -> Result<(), AllocError>
+    ensures kept { OnOk result ((a : ℕ) → Contains out.old.items a → Contains out.new.items a) }
+    ensures others { OnOk result
+        ((to : ℕ) → (reading.cond ≡ Cond.Nv → ⊥) → LeadsAway image.now at reading.way to
+        → Contains out.new.items to) }
+{
     if reading.cond == Cond::Nv {
         return Ok(());
     }
     match reading.way {
         Way::Branch(offset) => {
-            out.push(branch_target(at, offset))?;
+            out.push(words_on(at, offset))?;
             Ok(())
         }
         Way::Writer => push_table(out, image, at),
@@ -126,17 +164,28 @@ pub(crate) fn push_ways(out: &mut Vec<u32>, image: &Image, at: u32) -> Result<()
     }
 }
 
+/// Adds the addresses at which control goes on from the word at an address inside its routine, as far as the
+/// words show: after a call at the next word, and through a table of branches at each.
+pub(crate) fn push_ways(out: &mut Vec<u32>, image: &Image, at: u32) -> Result<(), AllocError>
+    ensures { OnOk result ((to : ℕ) → StepsTo image.now at to → Contains out.new.items to) }
+{
+    let Some(reading) = reading_at(image, at) else {
+        return Ok(());
+    };
+    push_next(out, image, at, reading)?;
+    push_others(out, image, at, reading)
+}
+
 /// The routine that the word at an address calls.
-pub(crate) fn called(image: &Image, at: u32) -> Option<u32> {
-    match reading_at(image, at)? {
-        Reading {
-            cond: Cond::Nv,
-            way: _,
-        } => None,
-        Reading {
-            cond: _,
-            way: Way::Call(offset),
-        } => Some(branch_target(at, offset)),
+pub(crate) fn called(image: &Image, at: u32) -> Option<u32>
+    ensures { (to : ℕ) → CallsTo image.now at to → result ≡ Some to }
+{
+    let reading = reading_at(image, at)?;
+    if reading.cond == Cond::Nv {
+        return None;
+    }
+    match reading.way {
+        Way::Call(offset) => Some(words_on(at, offset)),
         _ => None,
     }
 }

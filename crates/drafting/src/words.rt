@@ -1,7 +1,8 @@
 ghost use Rattle.std.specs.Prelude.{◌≡◌, IfSome, Some};
 ghost use Rattle.arm2_decode.specs.declared.instr.Instr.{Instr};
 ghost use Rattle.arm2_decode.specs.Table.{Means};
-ghost use Rattle.drafting.specs.Words.{HasInstr, data_writes_pc, is_link, is_odd_writer, is_move};
+ghost use Rattle.drafting.specs.Words.{HasInstr, data_writes_pc, is_left, is_link, is_odd_writer, is_move};
+ghost use Rattle.drafting.specs.Reach.{is_add, shown, way_of, writer_way};
 ghost use Rattle.drafting.specs.Words.{is_return, is_stack};
 ghost use Rattle.drafting.specs.Words.{is_transfer, moves_link, subtracts_from_link, writes_pc};
 
@@ -59,7 +60,7 @@ pub(crate) fn instr_at(image: &Image, at: u32) -> Option<Instr>
     }
 }
 
-fn is_link(register: Register) -> bool
+pub(crate) fn is_link(register: Register) -> bool
     ensures { result ≡ is_link register }
 {
     register.number() == 14
@@ -71,10 +72,23 @@ fn is_stack(register: Register) -> bool
     register.number() == 13
 }
 
-fn is_move(opcode: Opcode) -> bool
+pub(crate) fn is_move(opcode: Opcode) -> bool
     ensures { result ≡ is_move opcode }
 {
     matches!(opcode, Opcode::Mov)
+}
+
+pub(crate) fn is_add(opcode: Opcode) -> bool
+    ensures { result ≡ is_add opcode }
+{
+    matches!(opcode, Opcode::Add)
+}
+
+// Whether it shifts to the left.
+pub(crate) fn is_left(shift: Shift) -> bool
+    ensures { result ≡ is_left shift }
+{
+    matches!(shift, Shift::Lsl)
 }
 
 fn subtracts_from_link(opcode: Opcode, rn: Register) -> bool
@@ -87,7 +101,7 @@ fn subtracts_from_link(opcode: Opcode, rn: Register) -> bool
 fn moves_link(x: &DataRegister) -> bool
     ensures { result ≡ moves_link x.now }
 {
-    is_move(x.opcode) && is_link(x.rm) && matches!(x.shift, Shift::Lsl) && x.amount == 0
+    is_move(x.opcode) && is_link(x.rm) && is_left(x.shift) && x.amount == 0
 }
 
 // Whether a word that writes R15 does so as returns do: by MOV or SUB from R14, or by a load from the stack.
@@ -153,7 +167,9 @@ pub(crate) fn is_transfer(operation: &Operation) -> bool
     )
 }
 
-fn writer_goes(operation: &Operation) -> Way {
+fn writer_way(operation: &Operation) -> Way
+    ensures { result ≡ writer_way operation.now }
+{
     if !writes_pc(operation) {
         Way::On
     } else if is_return(operation) {
@@ -164,7 +180,9 @@ fn writer_goes(operation: &Operation) -> Way {
 }
 
 /// Where control goes by an operation that is done.
-pub(crate) fn way_of(operation: &Operation) -> Way {
+pub(crate) fn way_of(operation: &Operation) -> Way
+    ensures { result ≡ way_of operation.now }
+{
     match operation {
         Operation::Branch(x) => {
             if x.link {
@@ -177,11 +195,13 @@ pub(crate) fn way_of(operation: &Operation) -> Way {
         | Operation::UndefinedTransfer(_)
         | Operation::CoprocessorTransfer(_)
         | Operation::Coprocessor(_) => Way::Trap,
-        _ => writer_goes(operation),
+        _ => writer_way(operation),
     }
 }
 
-fn reading_of(word: u32) -> Reading {
+fn reading_of(word: u32) -> Reading
+    ensures { (i : Instr) → Means word i → result ≡ shown i }
+{
     match decode(word) {
         Ok(instr) => Reading {
             cond: instr.cond,
@@ -195,8 +215,13 @@ fn reading_of(word: u32) -> Reading {
 }
 
 /// When the word at an address is carried out and where control goes then, if the image has one there.
-pub(crate) fn reading_at(image: &Image, at: u32) -> Option<Reading> {
-    image.word_at(at).map(reading_of)
+pub(crate) fn reading_at(image: &Image, at: u32) -> Option<Reading>
+    ensures { (i : Instr) → HasInstr image.now at i → result ≡ Some (shown i) }
+{
+    match image.word_at(at) {
+        Some(word) => Some(reading_of(word)),
+        None => None,
+    }
 }
 
 fn bit(register: Register) -> u32 {

@@ -1,0 +1,5 @@
+use Rattle.drafting.proofs.Explored.{IsSearch}
+use Rattle.drafting.proofs.reach.explore.Given as goal
+
+abbrev pub invariant-loop-next : goal.invariant-loop-next
+invariant-loop-next l = IsSearch l.image l.entry l.found.seen l.found.order.items l.next

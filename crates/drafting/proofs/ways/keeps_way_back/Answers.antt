@@ -1,0 +1,15 @@
+use Rattle.std.proofs.Common.{◌∙◌, refl, subst, sym}
+use Rattle.drafting.specs.Reach.{is_way_back}
+use Rattle.drafting.specs.Words.{HasInstr}
+use Rattle.drafting.proofs.InstrLaws.{no_test, one_test}
+use Rattle.drafting.proofs.ways.keeps_way_back.Goals as goal
+
+pub returns-in-Some : goal.returns-in-Some
+returns-in-Some c = λ h.
+    let stands = subst (λ a. HasInstr c.args.image.now a h.0) (sym c.before-2.ensures) h.1 in
+    c.is_way_back.ensures ∙ one_test is_way_back c.in-Some.instr h.0 (c.in-Some.ensures.only h.0 stands) h.2
+
+pub returns-in-None : goal.returns-in-None
+returns-in-None c = λ h.
+    let stands = subst (λ a. HasInstr c.args.image.now a h.0) (sym c.before-2.ensures) h.1 in
+    no_test _ h.0 refl (c.in-None.ensures.only h.0 stands)
