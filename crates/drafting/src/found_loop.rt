@@ -1,4 +1,4 @@
-ghost use Rattle.std.specs.Prelude.{◌≤◌};
+ghost use Rattle.std.specs.Prelude.{◌≤◌, ◌↔◌, IsTrue};
 
 /// A loop that can be stated, by the addresses of its header and of its first and last instruction.
 #[derive(Clone, Copy)]
@@ -16,7 +16,9 @@ pub struct FoundLoop {
 
 impl FoundLoop {
     /// Whether an address lies from the first to the last.
-    pub fn holds(&self, at: u32) -> bool {
+    pub fn holds(&self, at: u32) -> bool
+        ensures { IsTrue result ↔ (self.now.first ≤ at × (at ≤ self.now.last)) }
+    {
         self.first <= at && at <= self.last
     }
 }
