@@ -56,9 +56,12 @@ stray_text stated (stray.Stopped why) = codes "stopped " ++ why_name why
 stray_text stated (stray.OtherClass access) = access_text stated access
 stray_text stated (stray.Elsewhere to) = codes "went to " ++ (hex to ++ codes ", which is not stated")
 
+abbrev pub times_text : ℕ → List ℕ
+times_text n = if nat_eq n 1 then codes "once" else decimal n ++ codes " times"
+
 abbrev pub turned_text : (bound : ℕ) → List ℕ
 turned_text bound =
-    codes "turned back " ++ (decimal (bound + 1) ++ (codes " times; " ++ (decimal bound ++ codes " stated")))
+    codes "turned back " ++ (times_text (bound + 1) ++ (codes "; " ++ (decimal bound ++ codes " stated")))
 
 -- of the step at the address
 abbrev pub why_text : Stated → (at : ℕ) → Unkept → List ℕ

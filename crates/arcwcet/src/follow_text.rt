@@ -2,20 +2,20 @@
 
 ghost use Rattle.std.specs.Prelude.{◌≡◌, IfErr, IfOk, MatchOption, string_bytes};
 ghost use Rattle.bus_ticks.specs.Prices.{class_at};
-ghost use Rattle.trace_text.specs.TraceText.{exception_name, why_name};
 ghost use Rattle.arcwcet.specs.FollowText.{HasNoLine, IsLine, IsLineAt, access_name, access_text};
 ghost use Rattle.arcwcet.specs.FollowText.{class_name, has_word, kept_text, less_text, line_text};
-ghost use Rattle.arcwcet.specs.FollowText.{stray_text, strayed_text, turned_text, why_text};
+ghost use Rattle.arcwcet.specs.FollowText.{stray_text, strayed_text, times_text, turned_text};
+ghost use Rattle.arcwcet.specs.FollowText.{why_text};
 ghost use Rattle.arcwcet.specs.Source.{IsSourceFault};
 
 use crate::fault::ReportFault;
-use arm2_exec::{Vector, Why};
 use assembler::{PlacedLine, placed_lines};
 use bus_ticks::{Class, IO_START, ROM_START};
 use flow_graph::Statement;
 use kept_runs::{Access, Stray, Unkept};
 use loader::MAGIC;
 use std::alloc::{AllocError, Global};
+use trace_text::{exception_name, why_name};
 
 // How much less than the bound the ticks are.
 fn less_text(alloc: Global, ticks: u128, bound: u64) -> Result<String, AllocError>
@@ -67,29 +67,6 @@ fn access_name(store: bool) -> &'static str
     if store { "stored to " } else { "loaded from " }
 }
 
-fn exception_name(vector: Vector) -> &'static str
-    ensures { result.now ≡ exception_name vector }
-{
-    match vector {
-        Vector::Undefined => "undefined",
-        Vector::Swi => "swi",
-        Vector::PrefetchAbort => "prefetch",
-        Vector::DataAbort => "abort",
-        Vector::AddressException => "address",
-        Vector::Irq => "irq",
-        Vector::Fiq => "fiq",
-    }
-}
-
-fn why_name(why: Why) -> &'static str
-    ensures { result.now ≡ why_name why }
-{
-    match why {
-        Why::Unallocated => "Unallocated",
-        Why::UnsupportedWrite => "UnsupportedWrite",
-    }
-}
-
 fn access_text(alloc: Global, stated: Class, access: Access) -> Result<String, AllocError>
     ensures { IfOk result (λ text. string_bytes text ≡ access_text stated access) }
 {
@@ -113,12 +90,21 @@ fn stray_text(alloc: Global, stated: Class, stray: Stray) -> Result<String, Allo
     }
 }
 
+fn times_text(alloc: Global, times: u64) -> Result<String, AllocError>
+    ensures { IfOk result (λ text. string_bytes text ≡ times_text times) }
+{
+    if times == 1 {
+        return String::from_str(alloc, "once");
+    }
+    format!(in alloc; "{times} times")
+}
+
 // That a loop turned back once more than its bound.
 fn turned_text(alloc: Global, bound: u32) -> Result<String, AllocError>
     ensures { IfOk result (λ text. string_bytes text ≡ turned_text bound) }
 {
-    let turns = u64::from(bound) + 1;
-    format!(in alloc; "turned back {turns} times; {bound} stated")
+    let times = times_text(alloc, u64::from(bound) + 1)?;
+    format!(in alloc; "turned back {times}; {bound} stated")
 }
 
 /// Why the step at the address does not keep the statement.

@@ -19,7 +19,8 @@ pub fn write_ticks(out: &mut String, ticks: u128, elapsed: u128) -> Result<(), A
     out.push_str(line.as_str())
 }
 
-fn name_of(why: Why) -> &'static str
+/// The name of the reason for which a machine stopped.
+pub fn why_name(why: Why) -> &'static str
     ensures { result.now ≡ why_name why }
 {
     match why {
@@ -35,7 +36,7 @@ pub fn write_stop(out: &mut String, why: Why, address: u32) -> Result<(), AllocE
     ensures { MatchResult result (λ _. string_bytes out.new ≡ string_bytes out.old ++ stop_text why address)
         (λ _. string_bytes out.new ≡ string_bytes out.old) }
 {
-    let name = name_of(why);
+    let name = why_name(why);
     let line = format!(in *out.allocator(); "stopped {name} at {address:X}\n")?;
     out.push_str(line.as_str())
 }

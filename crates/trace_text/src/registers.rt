@@ -1,88 +1,12 @@
 ghost use Rattle.std.specs.Prelude.{◌≡◌, ◌++◌, ◌+◌, ◌<◌, MatchResult, OnOk, string_bytes};
-ghost use Rattle.arm2_effect.specs.Modes.{reg_number, slot_of};
-ghost use Rattle.arm2_effect.specs.declared.modes.Mode.TheVariants.{Fiq, Irq, Svc, User};
 ghost use Rattle.trace_text.specs.TraceText.{four_text, register_text, registers_text};
 
 use crate::figures::hex_word;
 use arm2_effect::{Mode, mode_of};
 use arm2_exec::{Machine, Reg};
+use register_banks::banked;
 use std::alloc::AllocError;
 use std::fmt::Write;
-
-fn user_register(number: u32) -> Reg
-    requires { number < 16 }
-    ensures { reg_number result ≡ slot_of User number }
-{
-    match number {
-        0 => Reg::R0,
-        1 => Reg::R1,
-        2 => Reg::R2,
-        3 => Reg::R3,
-        4 => Reg::R4,
-        5 => Reg::R5,
-        6 => Reg::R6,
-        7 => Reg::R7,
-        8 => Reg::R8,
-        9 => Reg::R9,
-        10 => Reg::R10,
-        11 => Reg::R11,
-        12 => Reg::R12,
-        13 => Reg::R13,
-        14 => Reg::R14,
-        _ => Reg::R15,
-    }
-}
-
-fn fiq_register(number: u32) -> Reg
-    requires { number < 16 }
-    ensures { reg_number result ≡ slot_of Fiq number }
-{
-    match number {
-        8 => Reg::R8Fiq,
-        9 => Reg::R9Fiq,
-        10 => Reg::R10Fiq,
-        11 => Reg::R11Fiq,
-        12 => Reg::R12Fiq,
-        13 => Reg::R13Fiq,
-        14 => Reg::R14Fiq,
-        _ => user_register(number),
-    }
-}
-
-fn irq_register(number: u32) -> Reg
-    requires { number < 16 }
-    ensures { reg_number result ≡ slot_of Irq number }
-{
-    match number {
-        13 => Reg::R13Irq,
-        14 => Reg::R14Irq,
-        _ => user_register(number),
-    }
-}
-
-fn svc_register(number: u32) -> Reg
-    requires { number < 16 }
-    ensures { reg_number result ≡ slot_of Svc number }
-{
-    match number {
-        13 => Reg::R13Svc,
-        14 => Reg::R14Svc,
-        _ => user_register(number),
-    }
-}
-
-// The register that a mode names by a number.
-fn register_of(mode: Mode, number: u32) -> Reg
-    requires { number < 16 }
-    ensures { reg_number result ≡ slot_of mode number }
-{
-    match mode {
-        Mode::User => user_register(number),
-        Mode::Fiq => fiq_register(number),
-        Mode::Irq => irq_register(number),
-        Mode::Svc => svc_register(number),
-    }
-}
 
 // A register and its word, and what ends them.
 fn put_register(
@@ -97,7 +21,7 @@ fn put_register(
         (string_bytes out.new
         ≡ string_bytes out.old ++ (register_text mode machine.now.regs number ++ end.now)) }
 {
-    let word = hex_word(machine.get(register_of(mode, number)));
+    let word = hex_word(machine.get(banked(mode, number)));
     write!(out, "R{number}={word}{end}")
 }
 

@@ -43,7 +43,8 @@ pub fn step_traced(machine: &mut Machine, input: Input) -> Traced
     Traced { told, word }
 }
 
-fn name_of(vector: Vector) -> &'static str
+/// The name of an exception, as a trace has it: lower case, at most 9 letters.
+pub fn exception_name(vector: Vector) -> &'static str
     ensures name { result.now ≡ exception_name vector }
     ensures short { length result.now ≤ 9 }
 {
@@ -125,7 +126,7 @@ pub fn trace_line(traced: &Traced) -> ArrayString<LINE_ROOM>
         Kind::Stopped(_) => ArrayString::new(),
         Kind::Taken(vector) => {
             let mut line = front_of(traced);
-            line.push_str(name_of(vector));
+            line.push_str(exception_name(vector));
             line.push_str("\n");
             line
         }
