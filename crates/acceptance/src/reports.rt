@@ -1,7 +1,7 @@
 //! Each report of one short handler, and what it prints.
 
 use arcwcet::{
-    Explained, MemoryOutput, Output, ReportFault, asm_report, bound_report, check_report,
+    Bursts, Explained, MemoryOutput, Output, ReportFault, asm_report, bound_report, check_report,
     debug_report, draft_report, explain_report, list_report, run_report, tight_report,
     trace_report, visits_report,
 };
@@ -24,6 +24,10 @@ const EXPLAINED: Explained<'static> = Explained {
     source: SOURCE,
     statement: STATEMENT,
     at_most: Some(9),
+    bursts: Bursts {
+        count: None,
+        every: None,
+    },
 };
 
 /// What `visits` prints above both certificates.

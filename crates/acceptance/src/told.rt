@@ -1,8 +1,8 @@
 //! What the reports tell of bytes as one of their inputs.
 
 use arcwcet::{
-    Explained, MemoryOutput, ReportFault, asm_report, bound_report, check_report, draft_report,
-    explain_report, list_report, run_report,
+    Bursts, Explained, MemoryOutput, ReportFault, asm_report, bound_report, check_report,
+    draft_report, explain_report, list_report, run_report,
 };
 use samples::countdown::{SOURCE, STATEMENT};
 use std::alloc::{AllocError, Global};
@@ -31,6 +31,10 @@ fn explained(alloc: Global, statement: &[u8], out: &mut MemoryOutput) -> Result<
         source: SOURCE,
         statement,
         at_most: None,
+        bursts: Bursts {
+            count: None,
+            every: None,
+        },
     };
     explain_report(alloc, explained, None, out)
 }

@@ -2,6 +2,7 @@
 use Rattle.std.proofs.Common.{◌≡◌, ◌≢◌, ◌^◌, ◌<◌, ◌≤◌, ℕ, List, Ok, refl, ap, subst, ⊎_elim, arith}
 use Rattle.std.proofs.lemmas.Bool.{cases_lt}
 use Rattle.bus_ticks.specs.declared.profile.Profile.{Profile}
+use Rattle.explained.specs.declared.bursts.Bursts.{Bursts}
 use Rattle.loader.specs.Image.{Words}
 use Rattle.statement.specs.Stated.{Stated}
 use Rattle.statement.specs.Statement.{Names}
@@ -37,10 +38,11 @@ bound_fits flow tree l is = ⊎_elim
 module _ (source statement : List ℕ) (profile : Profile) (words : Words) (names : Names) (said : source_of source ≡ Ok (words, names))
     (st : Stated) (flow : Flow) (tree : Tree) (loops : HasLoops source statement profile st flow) (of : IsTreeOf flow st.loops tree) where
   -- the table of a greatest walk explains its bound
-  pub explained : (l : Longest) (text : List ℕ) → IsLongest flow tree l → ((f : WalkFault) → f ≢ walk_fault.Memory → IsWalkFault flow tree f → ⊥)
-      → IsTextOf source words st flow l text → IsTotal source loops.graph.words flow l → IsExplanation source statement profile l.bound text
+  pub explained : (bursts : Bursts) (l : Longest) (text : List ℕ) → IsLongest flow tree l → ((f : WalkFault) → f ≢ walk_fault.Memory → IsWalkFault flow tree f → ⊥)
+      → IsTextOf source words st flow l profile.burst bursts text → IsTotal source loops.graph.words flow l
+      → IsExplanation source statement bursts profile l.bound text
   unfolding accepted
-  explained l text is allowed explains total =
+  explained bursts l text is allowed explains total =
       let pairs : (words, names) ≡ (loops.graph.words, loops.graph.names) =
       one_ok (words, names) (loops.graph.words, loops.graph.names) (source_of source) said loops.graph.source_is in
       record {
@@ -51,7 +53,7 @@ module _ (source statement : List ℕ) (profile : Profile) (words : Words) (name
         longest_is = is;
         bound_is = refl;
         greatest = tree_is_greatest flow st.loops tree of.instances l.bound is.greatest;
-        explains = subst (λ (w : Words). IsTextOf source w st flow l text) (ap (λ (p : Said). p.0) pairs) explains;
+        explains = subst (λ (w : Words). IsTextOf source w st flow l profile.burst bursts text) (ap (λ (p : Said). p.0) pairs) explains;
         total = total;
       }
 

@@ -6,7 +6,7 @@ use Rattle.arcwcet.specs.Answers.{Answers, FailsWithin, OfSome}
 use Rattle.arcwcet.specs.Check.{Checks, IsAnswer, IsCheckRefused, IsCheckable}
 use Rattle.arcwcet.specs.Debug.{IsDebugReport}
 use Rattle.arcwcet.specs.Files.{FailsToRead, ReadsAll, Reading, Texts, in_front, Writing}
-use Rattle.command_line.specs.Line.{Asked, asm, list, draft, run, trace, debug, bound, explain, tight, check, visits, follow}
+use Rattle.command_line.specs.Line.{Asked, ExplainOptions, asm, list, draft, run, trace, debug, bound, explain, tight, check, visits, follow}
 use Rattle.arcwcet.specs.ExplainReport.{IsExplainReport}
 use Rattle.arcwcet.specs.FollowReport.{FollowsRun, IsFollowRefused, IsFollowReport, IsFollowable}
 use Rattle.arcwcet.specs.Machine.{Front, IsMachineReport, IsRunRefused, IsRunnable, ShowsRegisters, ShowsSteps}
@@ -16,7 +16,7 @@ use Rattle.arcwcet.specs.DraftReport.{IsDraftRefused, IsDraftReport}
 use Rattle.arcwcet.specs.ListReport.{IsListReport}
 use Rattle.arcwcet.specs.Report.{IsAccepted, IsRefused, IsReport}
 use Rattle.arcwcet.specs.Run.{HasNoFollowed, HasNoReport, HasNoRun, HasNoTightReportOf, HasNoVerdict, HasNoVisitsReport, HasHeard, HasPrinted, IsAnswerOf, IsExplanationOf, IsFollowedOf, HasNoText, IsReportOf, IsTextOf, IsRunOf, IsSessionOf, IsTightReportOf, IsVisitsReportOf, OfThree, OfTwo}
-use Rattle.arcwcet.specs.Run.{Runs, RunsAsked, RunsAsm, RunsCheck, RunsDebug, RunsExplain, RunsFollow, RunsMachine, RunsVisits, answer_status, done_status, report_status, store_status}
+use Rattle.arcwcet.specs.Run.{Runs, RunsAsked, RunsAsm, RunsCheck, RunsDebug, RunsExplain, RunsFollow, RunsMachine, RunsVisits, answer_status, bursts_of, done_status, report_status, store_status}
 use Rattle.arcwcet.specs.VisitsReport.{AreAccepted, AreRefused, IsVisitsReport, ReportsVisits}
 use Rattle.arcwcet.specs.declared.fault.ReportFault.{ReportFault}
 use Rattle.arcwcet.specs.declared.fault.ReportFault.TheVariants.{Memory, Source, Image, Statement, Graph, Loops, Walk, MachineFile, Load, Cert, Device}
@@ -279,13 +279,13 @@ module _ {S O : Type 0} (reads : Reading S) (taken : O → Option (List ℕ)) (f
       (λ x text b. of_two (λ f s m. ByProfile f (λ p. IsMachineReport Shows s m p x text)) file one two b)
       (λ fault k. of_two (λ f s m. PricedFault f (λ p e. IsRunRefused s m p e) fault) file one two k)
 
-  pub explain_ran : (at_most : Option ℕ) (result : Result Bool ReportFault)
-      → Priced file (λ p. Answers taken failures (IsExplainReport one two at_most p) (IsAccepted one two p) (IsRefused one two p) before after result) before after result
-      → (status : ℕ) → status ≡ answer_status result → RunsExplain reads taken failures profile source second at_most old new before after status
-  explain_ran at_most =
-      priced_ran reads taken failures (IsExplanationOf at_most) (HasNoReport IsRefused) (in_front profile (source ∷ second ∷ [])) old new before after (in_front file (one ∷ two ∷ [])) read
-      file (λ p. IsExplainReport one two at_most p) (λ p. IsAccepted one two p) (λ p. IsRefused one two p)
-      (λ x text b. of_two (λ f s t. ByProfile f (λ p. IsExplainReport s t at_most p x text)) file one two b)
+  pub explain_ran : (options : ExplainOptions) (result : Result Bool ReportFault)
+      → Priced file (λ p. Answers taken failures (IsExplainReport one two options.at_most (bursts_of options) p) (IsAccepted one two p) (IsRefused one two p) before after result) before after result
+      → (status : ℕ) → status ≡ answer_status result → RunsExplain reads taken failures profile source second options old new before after status
+  explain_ran options =
+      priced_ran reads taken failures (IsExplanationOf options) (HasNoReport IsRefused) (in_front profile (source ∷ second ∷ [])) old new before after (in_front file (one ∷ two ∷ [])) read
+      file (λ p. IsExplainReport one two options.at_most (bursts_of options) p) (λ p. IsAccepted one two p) (λ p. IsRefused one two p)
+      (λ x text b. of_two (λ f s t. ByProfile f (λ p. IsExplainReport s t options.at_most (bursts_of options) p x text)) file one two b)
       (λ fault k. of_two (λ f s t. PricedFault f (λ p e. IsRefused s t p e) fault) file one two k)
 
   module _ (Is : List ℕ → List ℕ → Profile → List ℕ → Type 0) (IsFine : List ℕ → List ℕ → Profile → Type 0) (IsFault : List ℕ → List ℕ → Profile → ReportFault → Type 0) where
@@ -404,7 +404,7 @@ module _ {S I O : Type 0} (reads : Reading S) (writes : Writing S) (remaining : 
   starved_asked (list source) = (starved_run (IsTextOf IsListReport) (HasNoText IsSourceRefused) (source ∷ []), refl)
   starved_asked (draft source entry) =
       (starved_run (IsTextOf (λ s text. IsDraftReport s entry text)) (HasNoText (λ s e. IsDraftRefused s entry e)) (source ∷ []), refl)
-  starved_asked (explain n at_most) = (starved_run (IsExplanationOf at_most) (HasNoReport IsRefused) (in_front n.profile (n.first ∷ n.second ∷ [])), refl)
+  starved_asked (explain n options) = (starved_run (IsExplanationOf options) (HasNoReport IsRefused) (in_front n.profile (n.first ∷ n.second ∷ [])), refl)
   starved_asked (debug n) = inr (inr (inr (refl, refl, refl)), refl)
   starved_asked (run n) = (starved_run (IsRunOf ShowsRegisters) HasNoRun (in_front n.profile (n.first ∷ n.second ∷ [])), refl)
   starved_asked (trace n) = (starved_run (IsRunOf ShowsSteps) HasNoRun (in_front n.profile (n.first ∷ n.second ∷ [])), refl)

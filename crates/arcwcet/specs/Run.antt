@@ -8,7 +8,7 @@ use Rattle.arcwcet.specs.Check.{IsAnswer, IsCheckRefused}
 use Rattle.arcwcet.specs.Debug.{IsDebugReport}
 use Rattle.arcwcet.specs.Files.{FailsToRead, ReadsAll, Reading, Texts, Writing, in_front}
 use Rattle.command_line.specs.Line.{Asked, asm, list, draft, run, trace, debug, bound, explain, tight}
-use Rattle.command_line.specs.Line.{check, follow, visits}
+use Rattle.command_line.specs.Line.{ExplainOptions, check, follow, visits}
 use Rattle.arcwcet.specs.DraftReport.{IsDraftRefused, IsDraftReport}
 use Rattle.arcwcet.specs.ExplainReport.{IsExplainReport}
 use Rattle.arcwcet.specs.FollowReport.{IsFollowRefused, IsFollowReport}
@@ -20,6 +20,7 @@ use Rattle.arcwcet.specs.Report.{IsRefused, IsReport}
 use Rattle.arcwcet.specs.TightReport.{IsTightRefused, IsTightReport}
 use Rattle.arcwcet.specs.VisitsReport.{AreRefused, IsVisitsReport}
 use Rattle.bus_ticks.specs.declared.profile.Profile.{Profile}
+use Rattle.explained.specs.declared.bursts.Bursts.{Bursts}
 use Rattle.arcwcet.specs.declared.fault.ReportFault.{ReportFault}
 use Rattle.arcwcet.specs.declared.fault.ReportFault.TheVariants as report_fault
 use Rattle.arcwcet.specs.declared.fault.StoreFault.{StoreFault}
@@ -140,17 +141,20 @@ RunsBound reads taken failures profile source statement old new before after sta
 
 -- ## `explain SOURCE STATEMENT`
 
+abbrev pub bursts_of : ExplainOptions → Bursts
+bursts_of o = record { count = o.bursts; every = o.burst_every }
+
 -- the explanation of a source and a statement by the profile: at 0 the bound is enough, at 1 it is not
-abbrev pub IsExplanationOf : (at_most : Option ℕ) → Bool → Texts → List ℕ → Type 0
-IsExplanationOf at_most enough files text =
+abbrev pub IsExplanationOf : ExplainOptions → Bool → Texts → List ℕ → Type 0
+IsExplanationOf options enough files text =
     OfTwo
     (λ file source statement. ByProfile file
-    (λ p. IsExplainReport source statement at_most p enough text)) files
+    (λ p. IsExplainReport source statement options.at_most (bursts_of options) p enough text)) files
 
 abbrev pub RunsExplain : {S O : Type 0} → Reading S → (O → Option (List ℕ)) → (O → ℕ) → Option (List ℕ)
-    → List ℕ → List ℕ → Option ℕ → S → S → O → O → ℕ → Type 0
-RunsExplain reads taken failures profile source statement at_most old new before after status =
-    Runs reads taken failures (IsExplanationOf at_most) (HasNoReport IsRefused)
+    → List ℕ → List ℕ → ExplainOptions → S → S → O → O → ℕ → Type 0
+RunsExplain reads taken failures profile source statement options old new before after status =
+    Runs reads taken failures (IsExplanationOf options) (HasNoReport IsRefused)
     (in_front profile (source ∷ statement ∷ [])) old new before after status
 
 -- ## `bound --tight N SOURCE STATEMENT`
@@ -405,8 +409,8 @@ RunsAsked reads writes remaining taken failures (bound n) old new heard_old hear
     RunsBound reads taken failures n.profile n.first n.second old new before after status
     × (heard_new ≡ heard_old)
 RunsAsked reads writes remaining taken failures
-    (explain n at_most) old new heard_old heard_new before after status =
-    RunsExplain reads taken failures n.profile n.first n.second at_most old new before after status
+    (explain n options) old new heard_old heard_new before after status =
+    RunsExplain reads taken failures n.profile n.first n.second options old new before after status
     × (heard_new ≡ heard_old)
 RunsAsked reads writes remaining taken failures
     (tight n edge) old new heard_old heard_new before after status =

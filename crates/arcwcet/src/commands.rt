@@ -1,5 +1,5 @@
 ghost use Rattle.std.specs.Prelude.{◌≡◌, ◌≢◌, ◌⊎◌, None, Some, option_map};
-ghost use Rattle.command_line.specs.Line.{Asked, asked_in, asked_of};
+ghost use Rattle.command_line.specs.Line.{Asked, asked_in, asked_of, options_of};
 ghost use Rattle.arcwcet.specs.Run.{RunsAsked, RunsAsm, RunsBound, RunsCheck, RunsDebug, RunsList};
 ghost use Rattle.arcwcet.specs.Run.{RunsMachine};
 ghost use Rattle.arcwcet.specs.Run.{RunsDraft, RunsExplain, RunsFollow, RunsTight, RunsVisits};
@@ -23,6 +23,7 @@ use command_line::{
     AsmNames, CheckNames, DraftNames, ExplainNames, FollowNames, Names, Request, TightNames,
     VisitsNames, request,
 };
+use explained::Bursts;
 use std::alloc::Global;
 use std::io::Read;
 
@@ -245,7 +246,7 @@ fn run_explain<S: Store, O: Output, E: Output>(
 ) -> u8
     ensures ran { RunsExplain S.read_gives O.taken O.failures
         (option_map (λ n. n.now) names.entry.handler.profile) names.entry.handler.first.now
-        names.entry.handler.second.now names.entry.at_most store.old store.new out.old out.new result }
+        names.entry.handler.second.now (options_of names.entry) store.old store.new out.old out.new result }
     ensures silent { result ≡ 0 → err.new ≡ err.old }
 {
     let files = match read_two_files(alloc, names.handler, store) {
@@ -256,6 +257,10 @@ fn run_explain<S: Store, O: Output, E: Output>(
         source: &files.first,
         statement: &files.second,
         at_most: names.at_most,
+        bursts: Bursts {
+            count: names.bursts,
+            every: names.burst_every,
+        },
     };
     let answer = explain_report(alloc, explained, files.profile(), out);
     answer_status(answer, err)

@@ -29,6 +29,7 @@ pub use commands::program;
 pub use debug::debug_report;
 pub use draft::draft_report;
 pub use explain::{Explained, explain_report};
+pub use explained::Bursts;
 pub use fault::{ReportFault, StoreFault};
 pub use files::{HostStore, LIMIT, Store, read_limited};
 pub use follow::{FollowedRun, follow_report};

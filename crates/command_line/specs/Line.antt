@@ -13,6 +13,7 @@ use Rattle.clap.specs.ValueTests.{is_unsigned_in}
 use Rattle.clap.specs.declared.builder.value_parser.ValueParser.TheVariants as parser
 use Rattle.command_line.specs.declared.line.Request.{Request}
 use Rattle.command_line.specs.declared.line.Request.TheVariants as request
+use Rattle.command_line.specs.declared.line.ExplainNames.{ExplainNames}
 use Rattle.command_line.specs.declared.line.Names.{Names}
 
 -- an argument that has to be there, in its place
@@ -70,9 +71,20 @@ bound_command = with_rule (priced_command (codes "bound") (codes "statement")) t
 abbrev pub at_most_rule : Rule
 at_most_rule = numbered (record (new_rule (codes "at-most")) { long = Some (codes "at-most") })
 
--- `explain SOURCE STATEMENT`, with a cycle profile and the most ticks that are wanted
+-- `--bursts N`
+abbrev pub bursts_rule : Rule
+bursts_rule = numbered (record (new_rule (codes "bursts")) { long = Some (codes "bursts") })
+
+-- `--burst-every N`
+abbrev pub burst_every_rule : Rule
+burst_every_rule = numbered (record (new_rule (codes "burst-every")) { long = Some (codes "burst-every") })
+
+-- `explain SOURCE STATEMENT`, with a cycle profile, the most ticks that are wanted, and DMA bursts
 abbrev pub explain_command : App
-explain_command = with_rule (priced_command (codes "explain") (codes "statement")) at_most_rule
+explain_command =
+    with_rule
+    (with_rule (with_rule (priced_command (codes "explain") (codes "statement")) at_most_rule) bursts_rule)
+    burst_every_rule
 
 -- `check SOURCE STATEMENT CERT`, with a cycle profile
 abbrev pub check_command : App
@@ -120,6 +132,12 @@ pub record FileNames : Type 0 where
   pub first : Text
   pub second : Text
 
+-- the numbers of the options of `explain`
+pub record ExplainOptions : Type 0 where
+  pub at_most : Option ℕ
+  pub bursts : Option ℕ
+  pub burst_every : Option ℕ
+
 -- what is asked for, with the names of files
 pub data Asked : Type 0 where
   asm : Text → Text → Asked
@@ -129,7 +147,7 @@ pub data Asked : Type 0 where
   trace : FileNames → Asked
   debug : FileNames → Asked
   bound : FileNames → Asked
-  explain : FileNames → Option ℕ → Asked
+  explain : FileNames → ExplainOptions → Asked
   tight : FileNames → ℕ → Asked
   check : FileNames → Text → Asked
   visits : FileNames → Text → ℕ → Asked
@@ -139,6 +157,9 @@ abbrev pub names_of : Names → FileNames
 names_of n =
     record { profile = option_map (λ s. s.now) n.profile; first = n.first.now; second = n.second.now }
 
+abbrev pub options_of : ExplainNames → ExplainOptions
+options_of n = record { at_most = n.at_most; bursts = n.bursts; burst_every = n.burst_every }
+
 abbrev pub asked_of : Request → Asked
 asked_of (request.Asm names) = asm names.source.now names.image.now
 asked_of (request.List source) = list source.now
@@ -147,7 +168,7 @@ asked_of (request.Run names) = run (names_of names)
 asked_of (request.Trace names) = trace (names_of names)
 asked_of (request.Debug names) = debug (names_of names)
 asked_of (request.Bound names) = bound (names_of names)
-asked_of (request.Explain names) = explain (names_of names.handler) names.at_most
+asked_of (request.Explain names) = explain (names_of names.handler) (options_of names)
 asked_of (request.Tight names) = tight (names_of names.handler) names.edge
 asked_of (request.Check names) = check (names_of names.handler) names.cert.now
 asked_of (request.Visits names) = visits (names_of names.handler) names.fiq_statement.now names.visits
@@ -213,13 +234,20 @@ bound_of None names = bound names
 abbrev pub asked_bound : List Row → Option Asked
 asked_bound rows = option_map (bound_of (number_at (codes "tight") rows)) (names_in (codes "statement") rows)
 
-abbrev pub explain_of : Option ℕ → FileNames → Asked
-explain_of at_most names = explain names at_most
+abbrev pub options_in : List Row → ExplainOptions
+options_in rows =
+    record {
+      at_most = number_at (codes "at-most") rows;
+      bursts = number_at (codes "bursts") rows;
+      burst_every = number_at (codes "burst-every") rows;
+    }
+
+abbrev pub explain_of : ExplainOptions → FileNames → Asked
+explain_of options names = explain names options
 
 -- by the values of `explain`
 abbrev pub asked_explain : List Row → Option Asked
-asked_explain rows =
-    option_map (explain_of (number_at (codes "at-most") rows)) (names_in (codes "statement") rows)
+asked_explain rows = option_map (explain_of (options_in rows)) (names_in (codes "statement") rows)
 
 -- by the values of `check`
 abbrev pub asked_check : List Row → Option Asked

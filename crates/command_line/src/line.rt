@@ -52,11 +52,16 @@ pub struct FollowNames<'a> {
     pub machine: &'a str,
 }
 
-/// The names of a handler's files, its source first, and the most ticks that are wanted of its bound.
+/// The names of a handler's files, its source first, and the numbers of the options.
 #[derive(Clone, Copy)]
 pub struct ExplainNames<'a> {
     pub handler: Names<'a>,
+    /// The most ticks that are wanted of its bound.
     pub at_most: Option<u32>,
+    /// So many DMA bursts.
+    pub bursts: Option<u32>,
+    /// A DMA burst every so many ticks.
+    pub burst_every: Option<u32>,
 }
 
 /// What a line of words asks for, with the names of its files.

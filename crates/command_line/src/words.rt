@@ -9,7 +9,8 @@ ghost use Rattle.command_line.specs.Line.{arcwcet_command, asked_asm, asked_boun
 ghost use Rattle.command_line.specs.Line.{asked_in, asked_of, asked_visits, asm_command, asm_of};
 ghost use Rattle.command_line.specs.Line.{bound_command};
 ghost use Rattle.command_line.specs.Line.{asked_list, check_command, debug_command, list_command, names_in};
-ghost use Rattle.command_line.specs.Line.{asked_draft, asked_explain, at_most_rule, draft_command};
+ghost use Rattle.command_line.specs.Line.{asked_draft, asked_explain, at_most_rule, burst_every_rule};
+ghost use Rattle.command_line.specs.Line.{bursts_rule, draft_command};
 ghost use Rattle.command_line.specs.Line.{asked_follow, explain_command, follow_command, names_of};
 ghost use Rattle.command_line.specs.Line.{number_at};
 ghost use Rattle.command_line.specs.Line.{priced_command, profile_rule, run_command, tight_rule};
@@ -146,7 +147,31 @@ fn at_most<'a>(alloc: Global) -> Arg<'a>
     Arg::new(alloc, "at-most")
         .long("at-most")
         .value_name("N")
-        .help("Status 1 where the bound is more than N ticks")
+        .help("Status 1 where the bound, without bursts, is more than N ticks")
+        .value_parser(value_parser!(u32))
+}
+
+/// `--bursts N`.
+fn bursts<'a>(alloc: Global) -> Arg<'a>
+    ensures rule { rule_of result ≡ bursts_rule }
+    ensures local { result.global ≡ false }
+{
+    Arg::new(alloc, "bursts")
+        .long("bursts")
+        .value_name("N")
+        .help("Print the bound with N DMA bursts too")
+        .value_parser(value_parser!(u32))
+}
+
+/// `--burst-every N`.
+fn burst_every<'a>(alloc: Global) -> Arg<'a>
+    ensures rule { rule_of result ≡ burst_every_rule }
+    ensures local { result.global ≡ false }
+{
+    Arg::new(alloc, "burst-every")
+        .long("burst-every")
+        .value_name("N")
+        .help("Print the bound with a DMA burst every N ticks too")
         .value_parser(value_parser!(u32))
 }
 
@@ -156,7 +181,10 @@ fn explain<'a>(alloc: Global) -> Result<Command<'a>, AllocError>
     ensures no_globals { IfOk result (λ c. (out-Command c).has_globals ≡ false) }
 {
     let summary = "Print where the ticks of a handler's greatest run time go";
-    priced(alloc, "explain", summary, "statement")?.arg(at_most(alloc))
+    priced(alloc, "explain", summary, "statement")?
+        .arg(at_most(alloc))?
+        .arg(bursts(alloc))?
+        .arg(burst_every(alloc))
 }
 
 /// The command `check SOURCE STATEMENT CERT`.
@@ -335,8 +363,12 @@ fn explain_in<'a>(values: &ArgMatches<'a>) -> Option<Request<'a>>
     ensures { option_map asked_of result ≡ asked_explain (rows_of (found_of values.now)) }
 {
     let handler = names_in(values, "statement")?;
-    let at_most = number_at(values, "at-most");
-    Some(Request::Explain(ExplainNames { handler, at_most }))
+    Some(Request::Explain(ExplainNames {
+        handler,
+        at_most: number_at(values, "at-most"),
+        bursts: number_at(values, "bursts"),
+        burst_every: number_at(values, "burst-every"),
+    }))
 }
 
 /// What `check` is asked with.

@@ -1,4 +1,5 @@
 mod AssumedLaws
+mod BurstLaws
 mod ColumnLaws
 mod ImageLaws
 mod RowLaws

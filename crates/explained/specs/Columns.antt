@@ -31,8 +31,10 @@ microseconds_text ticks = decimal (ticks / 8) ++ (codes "." ++ three_digits (tic
 abbrev pub total_row : (total bound : ℕ) → List ℕ
 total_row total bound = codes "    total" ++ (ticks_text total bound ++ codes "\n")
 
+-- a time, up to the end of the line
+abbrev pub time_text : ℕ → List ℕ
+time_text ticks =
+    decimal ticks ++ (codes " ticks, " ++ (microseconds_text ticks ++ codes " microseconds at 8 MHz\n"))
+
 abbrev pub bound_line : ℕ → List ℕ
-bound_line bound =
-    codes "bound "
-    ++ (decimal bound
-    ++ (codes " ticks, " ++ (microseconds_text bound ++ codes " microseconds at 8 MHz\n")))
+bound_line bound = codes "bound " ++ time_text bound

@@ -1,4 +1,5 @@
 pub mod Assumed
+pub mod Bursts
 pub mod Columns
 pub mod Rows
 pub mod Table

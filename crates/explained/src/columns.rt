@@ -1,5 +1,5 @@
 ghost use Rattle.std.specs.Prelude.{◌≡◌, ◌≤◌, ◌++◌, IfOk, OnOk, decimal, string_bytes};
-ghost use Rattle.explained.specs.Columns.{bound_line, in_columns, microseconds_text, share_text, ticks_text};
+ghost use Rattle.explained.specs.Columns.{bound_line, in_columns, share_text, ticks_text, time_text};
 ghost use Rattle.explained.specs.Columns.{total_row};
 
 use itoa::Buffer;
@@ -58,18 +58,26 @@ pub(crate) fn put_ticks(out: &mut Vec<u8>, ticks: u64, bound: u64) -> Result<(),
     put_right(out, share.as_bytes(), 6)
 }
 
-// So many ticks of the 8 MHz processor in microseconds.
-fn microseconds(alloc: Global, ticks: u64) -> Result<String, AllocError>
-    ensures { IfOk result (λ text. string_bytes text ≡ microseconds_text ticks) }
+// So many ticks of the 8 MHz processor, and in microseconds.
+fn time(alloc: Global, ticks: u128) -> Result<String, AllocError>
+    ensures { IfOk result (λ text. string_bytes text ≡ time_text ticks) }
 {
     let rest = ticks % 8 * 125;
     format!(in alloc;
-        "{}.{}{}{}",
+        "{ticks} ticks, {}.{}{}{} microseconds at 8 MHz\n",
         ticks / 8,
         rest / 100,
         rest / 10 % 10,
         rest % 10
     )
+}
+
+/// Adds so many ticks, and in microseconds, up to the end of the line.
+pub(crate) fn put_time(out: &mut Vec<u8>, ticks: u128) -> Result<(), AllocError>
+    ensures { OnOk result (out.new.items ≡ out.old.items ++ time_text ticks) }
+{
+    let time = time(*out.allocator(), ticks)?;
+    put(out, time.as_bytes())
 }
 
 /// Adds the row of the ticks of all rows, and a line that states the bound.
@@ -79,9 +87,5 @@ pub(crate) fn put_end(out: &mut Vec<u8>, total: u64, bound: u64) -> Result<(), A
     put(out, b"    total")?;
     put_ticks(out, total, bound)?;
     put(out, b"\nbound ")?;
-    put_number(out, bound, 0)?;
-    put(out, b" ticks, ")?;
-    let time = microseconds(*out.allocator(), bound)?;
-    put(out, time.as_bytes())?;
-    put(out, b" microseconds at 8 MHz\n")
+    put_time(out, u128::from(bound))
 }

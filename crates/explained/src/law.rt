@@ -1,5 +1,5 @@
-ghost use Rattle.std.specs.Prelude.{◌≡◌, ◌≢◌, ◌↔◌, ◌<◌, ◌^◌, ℕ, false, true, List, None, Some, Ok, Contains};
-ghost use Rattle.std.specs.Prelude.{flat_map, map, sum_by};
+ghost use Rattle.std.specs.Prelude.{◌≡◌, ◌≢◌, ◌↔◌, ◌<◌, ◌≤◌, ◌^◌, ℕ, false, true, List, None, Some, Ok};
+ghost use Rattle.std.specs.Prelude.{Contains, flat_map, map, sum_by};
 ghost use Rattle.bus_ticks.specs.declared.profile.Profile.{Profile};
 ghost use Rattle.assembler.specs.Placed.{ArePlaced};
 ghost use Rattle.assembler.specs.Sweeps.{Names, assembled};
@@ -14,6 +14,7 @@ ghost use Rattle.loop_bounds.specs.Tree.{Tree};
 ghost use Rattle.longest_walk.specs.Folded.{unfolded};
 ghost use Rattle.longest_walk.specs.Longest.{IsWalkOf};
 ghost use Rattle.longest_walk.specs.declared.folded.Item.{Item};
+ghost use Rattle.explained.specs.Bursts.{AreFewest, IsBurstTime, with_bursts};
 ghost use Rattle.explained.specs.Table.{image_ticks, line_taken, source_ticks, words_of};
 ghost use Rattle.explained.specs.Taken.{AreOnWords, StandOnce, cost_at, is_reached, pass_at, taken_at};
 ghost use Rattle.statement.specs.Stated.{Stated};
@@ -69,4 +70,15 @@ pub fn unreached_lines_have_no_place()
     ensures { (flow : Flow) (walk : List Edge) (line : PlacedLine)
         → (line_taken (taken_at flow walk) line ≡ None)
         ↔ ((a : ℕ) → Contains (words_of line) a → is_reached flow.places a ≡ false) }
+{}
+
+/// States that the time with the fewest bursts that are enough is the least that is the bound and a burst for
+/// each stretch of so many ticks that is begun in it, and that there is no such time where no number is
+/// enough. It does nothing.
+pub fn burst_time_is_the_least()
+    ensures some { (price bound every count : ℕ) → 0 < every → AreFewest price bound every (Some count)
+        → IsBurstTime price bound every (with_bursts price bound count)
+        × ((ticks : ℕ) → IsBurstTime price bound every ticks → with_bursts price bound count ≤ ticks) }
+    ensures none { (price bound every : ℕ) → 0 < every → AreFewest price bound every None
+        → (ticks : ℕ) → IsBurstTime price bound every ticks → ⊥ }
 {}

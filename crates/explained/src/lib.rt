@@ -3,6 +3,7 @@
 #![tactic(auto)]
 
 mod assumptions;
+mod bursts;
 mod columns;
 mod image;
 mod law;
@@ -14,9 +15,11 @@ mod source;
 mod tally;
 
 pub use assumptions::{Assumption, assumed};
+pub use bursts::{Bursts, burst_lines};
 pub use image::image_table;
 pub use law::{
-    numbers_are_of_the_walk, places_stand_once, totals_are_the_bound, unreached_lines_have_no_place,
+    burst_time_is_the_least, numbers_are_of_the_walk, places_stand_once, totals_are_the_bound,
+    unreached_lines_have_no_place,
 };
 pub use named::named_lines;
 pub use sections::{StatedGraph, image_assumptions, source_assumptions};

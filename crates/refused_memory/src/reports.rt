@@ -1,7 +1,7 @@
 use crate::explanations::NESTED_LINES;
 use crate::trial::{Answer, Trial};
 use arcwcet::{
-    Explained, MemoryOutput, Output, ReportFault, asm_report, bound_report, check_report,
+    Bursts, Explained, MemoryOutput, Output, ReportFault, asm_report, bound_report, check_report,
     debug_report, draft_report, explain_report, list_report, run_report, tight_report,
     trace_report, visits_report,
 };
@@ -194,6 +194,10 @@ impl Report {
                     source,
                     statement,
                     at_most: Some(50),
+                    bursts: Bursts {
+                        count: None,
+                        every: None,
+                    },
                 };
                 explain_report(alloc, explained, None, out)
             }

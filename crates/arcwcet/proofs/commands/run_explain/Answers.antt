@@ -1,4 +1,5 @@
 use Rattle.std.proofs.Common.{[], ◌∷◌, option_map, sym, subst}
+use Rattle.command_line.specs.Line.{options_of}
 use Rattle.arcwcet.specs.Files.{ReadsAll, Texts, in_front}
 use Rattle.arcwcet.proofs.RunLemmas.{explain_ran}
 use Rattle.arcwcet.proofs.commands.run_explain.Goals as goal
@@ -13,4 +14,4 @@ returns-clause-ran g c =
     (subst (λ (files : Texts). ReadsAll reads c.args.store.now (in_front profile (names.first.now ∷ names.second.now ∷ [])) files c.read_two_files.new.store)
     (λ i. in_front (sym c.profile.ensures i) (sym c.deref.ensures.value i ∷ sym c.deref-2.ensures.value i ∷ []))
     c.in-Ok.ensures.read)
-    c.args.names.at_most c.explain_report-answer.result c.explain_report-answer.ensures c.answer_status.result c.answer_status.ensures.status
+    (options_of c.args.names) c.explain_report-answer.result c.explain_report-answer.ensures c.answer_status.result c.answer_status.ensures.status

@@ -10,23 +10,31 @@ use Rattle.arcwcet.proofs.SourceLemmas.{image_was_read, text_was_assembled}
 use Rattle.arcwcet.proofs.explain.explanation_of.Goals as goal
 
 pub returns-in_err-found-clause-fault : goal.returns-in_err-found-clause-fault
-returns-in_err-found-clause-fault c = λ statement profile names said loops.
+returns-in_err-found-clause-fault c = λ names said loops.
+    let source = c.args.explained.source.now in
+    let statement = c.args.explained.statement.now in
+    let profile = c.args.profile.now in
     let h = c.args.handler.now in
     let f = c.in_err-found.field-0.0 in
-    refused_as c.from_residual.result (of_walk f) (λ e. (e ≢ Device) × IsRefused c.args.source.now statement profile e) c.from_residual.ensures.1
-    (walk_refusal c.args.source.now statement profile h.statement h.graph h.tree loops c.requires.tree f c.in_err-found.ensures.fault)
+    refused_as c.from_residual.result (of_walk f) (λ e. (e ≢ Device) × IsRefused source statement profile e) c.from_residual.ensures.1
+    (walk_refusal source statement profile h.statement h.graph h.tree loops c.requires.tree f c.in_err-found.ensures.fault)
 
 pub returns-in_err-text-clause-fault : goal.returns-in_err-text-clause-fault
-returns-in_err-text-clause-fault c = λ statement profile names said loops.
+returns-in_err-text-clause-fault c = λ names said loops.
+    let source = c.args.explained.source.now in
+    let statement = c.args.explained.statement.now in
+    let profile = c.args.profile.now in
     let e = c.in_err-text.field-0.0 in
-    refused_as c.from_residual-in_err-text.result e (λ e. (e ≢ Device) × IsRefused c.args.source.now statement profile e) c.from_residual-in_err-text.ensures.1
-    (source_unexplained c.args.source.now statement profile e c.in_err-text.ensures.fault)
+    refused_as c.from_residual-in_err-text.result e (λ e. (e ≢ Device) × IsRefused source statement profile e) c.from_residual-in_err-text.ensures.1
+    (source_unexplained source statement profile e c.in_err-text.ensures.fault)
 
 pub returns-clause-explains : goal.returns-clause-explains
-returns-clause-explains c = λ statement profile names said loops.
+returns-clause-explains c = λ names said loops.
+    let source = c.args.explained.source.now in
+    let statement = c.args.explained.statement.now in
+    let profile = c.args.profile.now in
     let h = c.args.handler.now in
     let found = c.in_ok-found.found in
-    let source = c.args.source.now in
     let words = loops.graph.words in
     let walk = c.in_ok-found.ensures.longest.walk_is in
     let formed = c.requires.formed in
@@ -42,4 +50,4 @@ returns-clause-explains c = λ statement profile names said loops.
           (text_was_assembled source words loops.graph.names is loops.graph.source_is) stand on);
     } in
     explained source statement profile c.args.image.now names said h.statement h.graph h.tree loops c.requires.tree
-    found c.in_ok-text.text.items c.in_ok-found.ensures.longest c.in_ok-found.ensures.allowed c.in_ok-text.ensures.text total
+    c.args.explained.bursts found c.in_ok-text.text.items c.in_ok-found.ensures.longest c.in_ok-found.ensures.allowed c.in_ok-text.ensures.text total

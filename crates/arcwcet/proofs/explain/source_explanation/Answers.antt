@@ -9,8 +9,8 @@ use Rattle.arcwcet.proofs.explain.source_explanation.Goals as goal
 
 pub returns-in_err-said-clause-fault : goal.returns-in_err-said-clause-fault
 returns-in_err-said-clause-fault c =
-    let source = c.args.source.now in
-    let statement = c.args.statement.now in
+    let source = c.args.explained.source.now in
+    let statement = c.args.explained.statement.now in
     let profile = c.args.profile.now in
     let e = c.in_err-said.field-0.0 in
     refused_as c.from_residual.result e (λ x. (x ≢ Device) × IsRefused source statement profile x) c.from_residual.ensures.1
@@ -18,8 +18,8 @@ returns-in_err-said-clause-fault c =
 
 pub returns-in_err-handler-clause-fault : goal.returns-in_err-handler-clause-fault
 returns-in_err-handler-clause-fault c =
-    let source = c.args.source.now in
-    let statement = c.args.statement.now in
+    let source = c.args.explained.source.now in
+    let statement = c.args.explained.statement.now in
     let profile = c.args.profile.now in
     let e = c.in_err-handler.field-0.0 in
     refused_as c.from_residual-in_err-handler.result e (λ x. (x ≢ Device) × IsRefused source statement profile x) c.from_residual-in_err-handler.ensures.1
@@ -28,11 +28,11 @@ returns-in_err-handler-clause-fault c =
 pub returns-clause-explains : goal.returns-clause-explains
 returns-clause-explains c =
     let said = c.in_ok-said.said in
-    c.explanation_of.ensures.explains c.args.statement.now c.args.profile.now (address_of said.labels) c.in_ok-said.ensures.said
-    (c.in_ok-handler.ensures.loops c.args.source.now c.in_ok-said.ensures.said)
+    c.explanation_of.ensures.explains (address_of said.labels) c.in_ok-said.ensures.said
+    (c.in_ok-handler.ensures.loops c.args.explained.source.now c.in_ok-said.ensures.said)
 
 pub returns-clause-fault : goal.returns-clause-fault
 returns-clause-fault c =
     let said = c.in_ok-said.said in
-    c.explanation_of.ensures.fault c.args.statement.now c.args.profile.now (address_of said.labels) c.in_ok-said.ensures.said
-    (c.in_ok-handler.ensures.loops c.args.source.now c.in_ok-said.ensures.said)
+    c.explanation_of.ensures.fault (address_of said.labels) c.in_ok-said.ensures.said
+    (c.in_ok-handler.ensures.loops c.args.explained.source.now c.in_ok-said.ensures.said)
