@@ -155,7 +155,9 @@ impl Report {
 
     fn write(self, alloc: Global, out: &mut MemoryOutput) -> Result<bool, ReportFault> {
         match self {
-            Report::Asm | Report::List | Report::Draft => self.write_of_source(alloc, out),
+            Report::Asm | Report::List | Report::Draft | Report::Graph => {
+                self.write_of_source(alloc, out)
+            }
             Report::Run | Report::Trace | Report::Debug => self.write_of_machine(alloc, out),
             _ => self.write_of_handler(alloc, out),
         }
@@ -166,6 +168,7 @@ impl Report {
         match self {
             Report::List => list_report(alloc, source, out)?,
             Report::Draft => draft_report(alloc, source, b"start", out)?,
+            Report::Graph => graph_report(alloc, source, countdown::STATEMENT, None, out)?,
             _ => asm_report(alloc, source, out)?,
         }
         Ok(true)
@@ -205,11 +208,6 @@ impl Report {
             Report::Tight => {
                 let (source, statement) = (countdown::SOURCE, countdown::STATEMENT);
                 tight_report(alloc, source, statement, EDGE, None, out)?;
-                Ok(true)
-            }
-            Report::Graph => {
-                let (source, statement) = (countdown::SOURCE, countdown::STATEMENT);
-                graph_report(alloc, source, statement, None, out)?;
                 Ok(true)
             }
             // Its bound is exactly as much as it may be.
