@@ -19,6 +19,7 @@ MET_BY = {
     "draft": (*OF_SOURCE, DRAFTS),
     "bound": (*OF_HANDLER, PATH),
     "explain": (*OF_HANDLER, PATH),
+    "graph": (*OF_HANDLER, PATH),
     "check": (*OF_HANDLER, CERTIFICATES),
     "visits": (*OF_HANDLER, PATH, VISITS),
     "follow": (*OF_HANDLER, PATH, MACHINES),

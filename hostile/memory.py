@@ -98,7 +98,8 @@ def larger(bench):
     yield bound
     files = {**bound.files, "handler.cert": bound.told.out}
     yield worked.command(bench, "check handler.s handler.toml handler.cert", files)
-    for line in ("list handler.s", "explain handler.s handler.toml", "draft handler.s irq"):
+    of_handler = ("explain handler.s handler.toml", "graph handler.s handler.toml")
+    for line in ("list handler.s", *of_handler, "draft handler.s irq"):
         yield worked.command(bench, line, bound.files)
 
 

@@ -140,6 +140,7 @@ def priced(bench, words, files):
         command(bench, f"explain {words} handler.toml", bound.files),
         # The bound is more than that, so the status is 1.
         command(bench, f"explain --at-most 20 {words} handler.toml", bound.files),
+        command(bench, f"graph {words} handler.toml", bound.files),
         command(bench, f"check {words} handler.toml handler.cert", judged),
         command(bench, f"visits {words} handler.toml fiq.toml 2", {**bound.files, "fiq.toml": FIQ}),
         command(bench, f"follow {words} handler.toml machine.toml", followed),

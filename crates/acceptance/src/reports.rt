@@ -2,8 +2,8 @@
 
 use arcwcet::{
     Bursts, Explained, MemoryOutput, Output, ReportFault, asm_report, bound_report, check_report,
-    debug_report, draft_report, explain_report, list_report, run_report, tight_report,
-    trace_report, visits_report,
+    debug_report, draft_report, explain_report, graph_report, list_report, run_report,
+    tight_report, trace_report, visits_report,
 };
 use samples::lone_return::{CERTIFICATE, SOURCE, STATEMENT};
 use std::alloc::{AllocError, Global};
@@ -46,6 +46,16 @@ entry = 0x0000001C  # line 2:  SUBS PC,R14,#4
 # leave = \"ram\"  # where it returns to, if always to one: \"ram\", \"rom\" or \"io\"
 ";
 
+const DRAWING: &[u8] = b"digraph handler {
+node [shape=box, fontname=\"Courier\"];
+edge [fontname=\"Courier\"];
+graph [fontname=\"Courier\"];
+n0 [label=\"0000001C   SUBS PC,R14,#4\\lpasses 1, ticks in all 9\\l\", style=bold];
+n0 -> n1 [label=\"do, passes 1, ticks each 9\", style=bold];
+n1 [label=\"Exit\", shape=oval];
+}
+";
+
 const REGISTERS: &[u8] = b"R0=00000000 R1=00000000 R2=00000000 R3=00000000
 R4=00000000 R5=00000000 R6=00000000 R7=00000000
 R8=00000000 R9=00000000 R10=00000000 R11=00000000
@@ -64,6 +74,7 @@ pub(crate) enum Report {
     Bound,
     Visits,
     Explain,
+    Graph,
     Draft,
     Tight,
     Check,
@@ -73,12 +84,13 @@ pub(crate) enum Report {
 }
 
 /// The reports, and the parts of their texts; of an edge's machine file the first line alone.
-pub(crate) const REPORTS: [(Report, &[&[u8]]); 11] = [
+pub(crate) const REPORTS: [(Report, &[&[u8]]); 12] = [
     (Report::Asm, &[SIZE]),
     (Report::List, &[LINES, SIZE]),
     (Report::Bound, &[CERTIFICATE]),
     (Report::Visits, &[SUMMARY, CERTIFICATE, CERTIFICATE]),
     (Report::Explain, &[TABLE]),
+    (Report::Graph, &[DRAWING]),
     (Report::Draft, &[DRAFT]),
     (Report::Tight, &[b"# edge 1C do exit 9\n"]),
     (Report::Check, &[b"yes\n"]),
@@ -98,6 +110,7 @@ impl Report {
                 visits_report(alloc, SOURCE, STATEMENT, STATEMENT, 1, None, out).and(Ok(true))
             }
             Report::Explain => explain_report(alloc, EXPLAINED, None, out),
+            Report::Graph => graph_report(alloc, SOURCE, STATEMENT, None, out).and(Ok(true)),
             Report::Draft => draft_report(alloc, SOURCE, b"28", out).and(Ok(true)),
             Report::Tight => tight_report(alloc, SOURCE, STATEMENT, 0, None, out).and(Ok(true)),
             Report::Check => check_report(alloc, SOURCE, STATEMENT, CERTIFICATE, None, out),

@@ -6,7 +6,7 @@ use Rattle.arcwcet.specs.Answers.{Answers, FailsWithin, OfSome}
 use Rattle.arcwcet.specs.Check.{Checks, IsAnswer, IsCheckRefused, IsCheckable}
 use Rattle.arcwcet.specs.Debug.{IsDebugReport}
 use Rattle.arcwcet.specs.Files.{FailsToRead, ReadsAll, Reading, Texts, in_front, Writing}
-use Rattle.command_line.specs.Line.{Asked, ExplainOptions, asm, list, draft, run, trace, debug, bound, explain, tight, check, visits, follow}
+use Rattle.command_line.specs.Line.{Asked, ExplainOptions, asm, list, draft, run, trace, debug, bound, explain, tight, check, visits, follow, graph}
 use Rattle.arcwcet.specs.ExplainReport.{IsExplainReport}
 use Rattle.arcwcet.specs.FollowReport.{FollowsRun, IsFollowRefused, IsFollowReport, IsFollowable}
 use Rattle.arcwcet.specs.Machine.{Front, IsMachineReport, IsRunRefused, IsRunnable, ShowsRegisters, ShowsSteps}
@@ -14,6 +14,7 @@ use Rattle.arcwcet.specs.Priced.{ByProfile, HasNoProfile, Priced, PricedFault}
 use Rattle.arcwcet.specs.Assembly.{IsSourceRefused}
 use Rattle.arcwcet.specs.DraftReport.{IsDraftRefused, IsDraftReport}
 use Rattle.arcwcet.specs.ListReport.{IsListReport}
+use Rattle.arcwcet.specs.GraphReport.{IsGraphReport}
 use Rattle.arcwcet.specs.Report.{IsAccepted, IsRefused, IsReport}
 use Rattle.arcwcet.specs.Run.{HasNoFollowed, HasNoReport, HasNoRun, HasNoTightReportOf, HasNoVerdict, HasNoVisitsReport, HasHeard, HasPrinted, IsAnswerOf, IsExplanationOf, IsFollowedOf, HasNoText, IsReportOf, IsTextOf, IsRunOf, IsSessionOf, IsTightReportOf, IsVisitsReportOf, OfThree, OfTwo}
 use Rattle.arcwcet.specs.Run.{Runs, RunsAsked, RunsAsm, RunsCheck, RunsDebug, RunsExplain, RunsFollow, RunsMachine, RunsVisits, answer_status, bursts_of, done_status, report_status, store_status}
@@ -408,6 +409,7 @@ module _ {S I O : Type 0} (reads : Reading S) (writes : Writing S) (remaining : 
   starved_asked (debug n) = inr (inr (inr (refl, refl, refl)), refl)
   starved_asked (run n) = (starved_run (IsRunOf ShowsRegisters) HasNoRun (in_front n.profile (n.first ∷ n.second ∷ [])), refl)
   starved_asked (trace n) = (starved_run (IsRunOf ShowsSteps) HasNoRun (in_front n.profile (n.first ∷ n.second ∷ [])), refl)
+  starved_asked (graph n) = (starved_run (IsReportOf IsGraphReport) (HasNoReport IsRefused) (in_front n.profile (n.first ∷ n.second ∷ [])), refl)
   starved_asked (bound n) = (starved_run (IsReportOf IsReport) (HasNoReport IsRefused) (in_front n.profile (n.first ∷ n.second ∷ [])), refl)
   starved_asked (tight n edge) = (starved_run (IsReportOf (IsTightReportOf edge)) (HasNoReport (HasNoTightReportOf edge)) (in_front n.profile (n.first ∷ n.second ∷ [])), refl)
   starved_asked (check n cert) = (starved_run IsAnswerOf HasNoVerdict (in_front n.profile (n.first ∷ n.second ∷ cert ∷ [])), refl)

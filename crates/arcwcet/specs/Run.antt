@@ -8,10 +8,11 @@ use Rattle.arcwcet.specs.Check.{IsAnswer, IsCheckRefused}
 use Rattle.arcwcet.specs.Debug.{IsDebugReport}
 use Rattle.arcwcet.specs.Files.{FailsToRead, ReadsAll, Reading, Texts, Writing, in_front}
 use Rattle.command_line.specs.Line.{Asked, asm, list, draft, run, trace, debug, bound, explain, tight}
-use Rattle.command_line.specs.Line.{ExplainOptions, check, follow, visits}
+use Rattle.command_line.specs.Line.{ExplainOptions, check, follow, graph, visits}
 use Rattle.arcwcet.specs.DraftReport.{IsDraftRefused, IsDraftReport}
 use Rattle.arcwcet.specs.ExplainReport.{IsExplainReport}
 use Rattle.arcwcet.specs.FollowReport.{IsFollowRefused, IsFollowReport}
+use Rattle.arcwcet.specs.GraphReport.{IsGraphReport}
 use Rattle.arcwcet.specs.ListReport.{IsListReport}
 use Rattle.arcwcet.specs.Machine.{Front, IsMachineReport, IsRunRefused, ShowsRegisters, ShowsSteps}
 use Rattle.arcwcet.specs.Output.{TakesFront, FailsSince}
@@ -137,6 +138,14 @@ abbrev pub RunsBound : {S O : Type 0} → Reading S → (O → Option (List ℕ)
     → List ℕ → S → S → O → O → ℕ → Type 0
 RunsBound reads taken failures profile source statement old new before after status =
     Runs reads taken failures (IsReportOf IsReport) (HasNoReport IsRefused)
+    (in_front profile (source ∷ statement ∷ [])) old new before after status
+
+-- ## `graph SOURCE STATEMENT`
+
+abbrev pub RunsGraph : {S O : Type 0} → Reading S → (O → Option (List ℕ)) → (O → ℕ) → Option (List ℕ) → List ℕ
+    → List ℕ → S → S → O → O → ℕ → Type 0
+RunsGraph reads taken failures profile source statement old new before after status =
+    Runs reads taken failures (IsReportOf IsGraphReport) (HasNoReport IsRefused)
     (in_front profile (source ∷ statement ∷ [])) old new before after status
 
 -- ## `explain SOURCE STATEMENT`
@@ -407,6 +416,9 @@ RunsAsked reads writes remaining taken failures (debug n) old new heard_old hear
     after status
 RunsAsked reads writes remaining taken failures (bound n) old new heard_old heard_new before after status =
     RunsBound reads taken failures n.profile n.first n.second old new before after status
+    × (heard_new ≡ heard_old)
+RunsAsked reads writes remaining taken failures (graph n) old new heard_old heard_new before after status =
+    RunsGraph reads taken failures n.profile n.first n.second old new before after status
     × (heard_new ≡ heard_old)
 RunsAsked reads writes remaining taken failures
     (explain n options) old new heard_old heard_new before after status =

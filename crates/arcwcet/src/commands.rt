@@ -2,7 +2,8 @@ ghost use Rattle.std.specs.Prelude.{◌≡◌, ◌≢◌, ◌⊎◌, None, Some,
 ghost use Rattle.command_line.specs.Line.{Asked, asked_in, asked_of, options_of};
 ghost use Rattle.arcwcet.specs.Run.{RunsAsked, RunsAsm, RunsBound, RunsCheck, RunsDebug, RunsList};
 ghost use Rattle.arcwcet.specs.Run.{RunsMachine};
-ghost use Rattle.arcwcet.specs.Run.{RunsDraft, RunsExplain, RunsFollow, RunsTight, RunsVisits};
+ghost use Rattle.arcwcet.specs.Run.{RunsDraft, RunsExplain, RunsFollow, RunsGraph, RunsTight};
+ghost use Rattle.arcwcet.specs.Run.{RunsVisits};
 
 use crate::assembly::image_written;
 use crate::bound::bound_report;
@@ -13,6 +14,7 @@ use crate::explain::{Explained, explain_report};
 use crate::fault::ReportFault;
 use crate::files::{Store, read_limited, read_three_files, read_two_files};
 use crate::follow::{FollowedRun, follow_report};
+use crate::graph::graph_report;
 use crate::list::list_report;
 use crate::machine::{Front, Registers, Steps, machine_report};
 use crate::output::{Output, write_whole};
@@ -52,6 +54,7 @@ fn obey<S: Store, I: Read, O: Output, E: Output>(
         Request::Check(names) => run_check(alloc, names, store, out, err),
         Request::Visits(names) => run_visits(alloc, names, store, out, err),
         Request::Follow(names) => run_follow(alloc, names, store, out, err),
+        Request::Graph(names) => run_graph(alloc, names, store, out, err),
     }
 }
 
@@ -233,6 +236,27 @@ fn run_bound<S: Store, O: Output, E: Output>(
         Err(fault) => return store_status(fault, err),
     };
     let done = bound_report(alloc, &files.first, &files.second, files.profile(), out);
+    done_status(done, err)
+}
+
+/// `graph`: reads the files and prints the drawing.
+fn run_graph<S: Store, O: Output, E: Output>(
+    alloc: Global,
+    names: Names<'_>,
+    store: &mut S,
+    out: &mut O,
+    err: &mut E,
+) -> u8
+    ensures ran { RunsGraph S.read_gives O.taken O.failures
+        (option_map (λ n. n.now) names.entry.profile)
+        names.entry.first.now names.entry.second.now store.old store.new out.old out.new result }
+    ensures silent { result ≡ 0 → err.new ≡ err.old }
+{
+    let files = match read_two_files(alloc, names, store) {
+        Ok(files) => files,
+        Err(fault) => return store_status(fault, err),
+    };
+    let done = graph_report(alloc, &files.first, &files.second, files.profile(), out);
     done_status(done, err)
 }
 

@@ -105,6 +105,10 @@ visits_command =
 abbrev pub follow_command : App
 follow_command = with_rule (priced_command (codes "follow") (codes "statement")) (wanted (codes "machine"))
 
+-- `graph SOURCE STATEMENT`, with a cycle profile
+abbrev pub graph_command : App
+graph_command = priced_command (codes "graph") (codes "statement")
+
 abbrev pub arcwcet_top : App
 arcwcet_top = on_top (λ s. record s { subcommand_required = true }) (new_app (codes "arcwcet"))
 
@@ -121,10 +125,11 @@ arcwcet_command =
     (with_subcommand
     (with_subcommand
     (with_subcommand
+    (with_subcommand
     (with_subcommand arcwcet_top
     asm_command.top) list_command.top) draft_command.top) run_command.top) trace_command.top)
     debug_command.top) bound_command.top)
-    check_command.top) visits_command.top) explain_command.top) follow_command.top
+    check_command.top) visits_command.top) explain_command.top) follow_command.top) graph_command.top
 
 -- the names of two files, and of a cycle profile's
 pub record FileNames : Type 0 where
@@ -152,6 +157,7 @@ pub data Asked : Type 0 where
   check : FileNames → Text → Asked
   visits : FileNames → Text → ℕ → Asked
   follow : FileNames → Text → Asked
+  graph : FileNames → Asked
 
 abbrev pub names_of : Names → FileNames
 names_of n =
@@ -173,6 +179,7 @@ asked_of (request.Tight names) = tight (names_of names.handler) names.edge
 asked_of (request.Check names) = check (names_of names.handler) names.cert.now
 asked_of (request.Visits names) = visits (names_of names.handler) names.fiq_statement.now names.visits
 asked_of (request.Follow names) = follow (names_of names.handler) names.machine.now
+asked_of (request.Graph names) = graph (names_of names)
 
 -- nothing where the image would be written over its source
 abbrev pub asm_of : Option Text → Option Text → Option Asked
@@ -276,7 +283,9 @@ asked_by p =
     else (if bytes_eq p.0 (codes "visits") then asked_visits p.1
     else (if bytes_eq p.0 (codes "explain") then asked_explain p.1
     else (if bytes_eq p.0 (codes "draft") then asked_draft p.1
-    else (if bytes_eq p.0 (codes "follow") then asked_follow p.1 else None))))))))))
+    else (if bytes_eq p.0 (codes "follow") then asked_follow p.1
+    else (if bytes_eq p.0 (codes "graph") then option_map graph (names_in (codes "statement") p.1)
+    else None)))))))))))
 
 -- only where there is no fault
 abbrev pub unless_refused : Kinds → Option Asked → Option Asked

@@ -91,6 +91,8 @@ pub enum Request<'a> {
     Visits(VisitsNames<'a>),
     /// Whether a machine's run through that handler keeps the statement.
     Follow(FollowNames<'a>),
+    /// That handler's flow graph, with what its longest run takes of it.
+    Graph(Names<'a>),
 }
 
 /// Why a line of words asks for nothing.

@@ -12,7 +12,7 @@ ghost use Rattle.command_line.specs.Line.{asked_list, check_command, debug_comma
 ghost use Rattle.command_line.specs.Line.{asked_draft, asked_explain, at_most_rule, burst_every_rule};
 ghost use Rattle.command_line.specs.Line.{bursts_rule, draft_command};
 ghost use Rattle.command_line.specs.Line.{asked_follow, explain_command, follow_command, names_of};
-ghost use Rattle.command_line.specs.Line.{number_at};
+ghost use Rattle.command_line.specs.Line.{graph_command, number_at};
 ghost use Rattle.command_line.specs.Line.{priced_command, profile_rule, run_command, tight_rule};
 ghost use Rattle.command_line.specs.Line.{trace_command};
 ghost use Rattle.command_line.specs.Line.{visits_command, visits_rule, wanted};
@@ -228,6 +228,15 @@ fn follow<'a>(alloc: Global) -> Result<Command<'a>, AllocError>
     priced(alloc, "follow", summary, "statement")?.arg(machine)
 }
 
+/// The command `graph SOURCE STATEMENT`.
+fn graph<'a>(alloc: Global) -> Result<Command<'a>, AllocError>
+    ensures shape { IfOk result (λ c. app_of c ≡ graph_command) }
+    ensures no_globals { IfOk result (λ c. (out-Command c).has_globals ≡ false) }
+{
+    let summary = "Print a handler's flow graph in DOT, the language of Graphviz";
+    priced(alloc, "graph", summary, "statement")
+}
+
 /// A command with one more, or the failure to make that one.
 fn with<'a>(
     command: Command<'a>,
@@ -286,7 +295,8 @@ fn arcwcet<'a>(alloc: Global) -> Result<Command<'a>, AllocError>
     let command = with(command, draft(alloc))?;
     let command = with_machine(alloc, command)?;
     let command = with_analysis(alloc, command)?;
-    with(command, follow(alloc))
+    let command = with(command, follow(alloc))?;
+    with(command, graph(alloc))
 }
 
 /// The names of a profile's file, if there is one, and of two others.
@@ -440,6 +450,9 @@ fn request_in<'a>(matches: &ArgMatches<'a>) -> Option<Request<'a>>
     }
     if name == "follow" {
         return follow_in(values);
+    }
+    if name == "graph" {
+        return Some(Request::Graph(names_in(values, "statement")?));
     }
     None
 }

@@ -111,6 +111,7 @@ pub(crate) const CALLS: &[(&str, Call)] = &[
     ("visits_report", Call::Report(Report::Visits, ROOM)),
     ("tight_report", Call::Report(Report::Tight, ROOM)),
     ("explain_report", Call::Report(Report::Explain, ROOM)),
+    ("graph_report", Call::Report(Report::Graph, ROOM)),
     ("draft_report", Call::Report(Report::Draft, ROOM)),
     ("program-bound", Call::Program(Line::Bound)),
     ("program-asm", Call::Program(Line::Asm)),

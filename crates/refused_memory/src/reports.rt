@@ -2,8 +2,8 @@ use crate::explanations::NESTED_LINES;
 use crate::trial::{Answer, Trial};
 use arcwcet::{
     Bursts, Explained, MemoryOutput, Output, ReportFault, asm_report, bound_report, check_report,
-    debug_report, draft_report, explain_report, list_report, run_report, tight_report,
-    trace_report, visits_report,
+    debug_report, draft_report, explain_report, graph_report, list_report, run_report,
+    tight_report, trace_report, visits_report,
 };
 use samples::{countdown, nested_countdown};
 use std::alloc::Global;
@@ -40,6 +40,23 @@ header = \"again\"  # line 2: again SUBS R0,R0,#1
 first = \"again\"  # line 2: again SUBS R0,R0,#1
 last = \"turn\"  # line 3: turn BNE again
 bound = 2  # counted
+";
+
+const DRAWN: &[u8] = b"digraph handler {
+node [shape=box, fontname=\"Courier\"];
+edge [fontname=\"Courier\"];
+graph [fontname=\"Courier\"];
+n0 [label=\"00008000  start MOV R0,#3\\lpasses 1, ticks in all 1\\l\", style=bold];
+n0 -> n1 [label=\"do, passes 1, ticks each 1\", style=bold];
+subgraph cluster_loop_1 { label=\"loop at 00008004, at most 2 back edges\"; \
+n1 [label=\"00008004  again SUBS R0,R0,#1\\l00008008  turn BNE again\\l\
+passes 3, ticks in all 15\\l\", style=bold];}
+n1 -> n3 [label=\"skip, passes 1, ticks each 2\", style=bold];
+n1 -> n1 [label=\"do, passes 2, ticks each 5\", style=bold];
+n3 [label=\"0000800C   SUBS PC,R14,#4\\lpasses 1, ticks in all 9\\l\", style=bold];
+n3 -> n4 [label=\"do, passes 1, ticks each 9\", style=bold];
+n4 [label=\"Exit\", shape=oval];
+}
 ";
 
 const COMMANDS: &[u8] = b"step\nticks\nmem &8004 1\nfrob\nstep x\nmem &80000 1\n";
@@ -113,6 +130,7 @@ pub(crate) enum Report {
     Visits,
     Tight,
     Explain,
+    Graph,
     Draft,
 }
 
@@ -130,13 +148,16 @@ impl Report {
             Report::Visits => VISITED,
             Report::Tight => EDGE_LINE,
             Report::Explain => NESTED_LINES,
+            Report::Graph => DRAWN,
             Report::Draft => DRAFTED,
         }
     }
 
     fn write(self, alloc: Global, out: &mut MemoryOutput) -> Result<bool, ReportFault> {
         match self {
-            Report::Asm | Report::List | Report::Draft => self.write_of_source(alloc, out),
+            Report::Asm | Report::List | Report::Draft | Report::Graph => {
+                self.write_of_source(alloc, out)
+            }
             Report::Run | Report::Trace | Report::Debug => self.write_of_machine(alloc, out),
             _ => self.write_of_handler(alloc, out),
         }
@@ -147,6 +168,7 @@ impl Report {
         match self {
             Report::List => list_report(alloc, source, out)?,
             Report::Draft => draft_report(alloc, source, b"start", out)?,
+            Report::Graph => graph_report(alloc, source, countdown::STATEMENT, None, out)?,
             _ => asm_report(alloc, source, out)?,
         }
         Ok(true)
