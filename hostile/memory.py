@@ -30,6 +30,11 @@ def settings(bench, at, goes_on=False, row=1):
     }
 
 
+def short_form(told):
+    """The answer without what `explain` says of a refusal after its one line, for which there may be no memory."""
+    return dataclasses.replace(told, err=b"".join(told.err.splitlines(keepends=True)[:1]))
+
+
 @dataclasses.dataclass(frozen=True)
 class Starved:
     """The right answer, or the refusal, and the file of an image as it was or whole."""
@@ -43,7 +48,8 @@ class Starved:
         requests, refused = counts(folder)
         if self.is_within != (refused > 0):
             return f"{refused} of {requests} requests were refused"
-        if told != self.right and not (refused and told.status == 3):
+        is_short = refused and self.right.status == 1 and told == short_form(self.right)
+        if told != self.right and not is_short and not (refused and told.status == 3):
             return f"{told}; {refused} of {requests} requests were refused"
         if told.status == 3 and (told.out or told.err not in (b"", b"refused: Memory\n")):
             return str(told)
