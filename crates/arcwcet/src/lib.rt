@@ -7,6 +7,7 @@ mod bound;
 mod check;
 mod commands;
 mod debug;
+mod diagnose;
 mod draft;
 mod explain;
 mod fault;

@@ -1,0 +1,127 @@
+//! What the one line of a refusal has no room for.
+
+use crate::explain::Explained;
+use crate::fault::ReportFault;
+use crate::handler::{StatedGraph, profile_of, read_graph, read_source};
+use crate::output::{Output, write_whole};
+use assembler::{Assembly, PlacedLine, placed_lines};
+use diagnosis::{
+    Program, Words, cycle_text, entry_text, extent_of, faulty_lines, faulty_text, mid_entry,
+    statement_text, unbounded_cycle, words_of,
+};
+use flow_graph::StatementFault;
+use loader::MAGIC;
+use loop_bounds::NestFault;
+use std::alloc::{AllocError, Global};
+
+// Where the lines of a source stand. An image has none.
+fn placed_in(alloc: Global, source: &[u8]) -> Result<Vec<PlacedLine>, ReportFault> {
+    if source.starts_with(&MAGIC) {
+        return Ok(Vec::new(alloc));
+    }
+    let placed = placed_lines(alloc, source)?;
+    Ok(placed)
+}
+
+// Of loops that are refused, the places that show why.
+fn loops_text(
+    alloc: Global,
+    words: &Words<'_>,
+    stated: &StatedGraph,
+    fault: NestFault,
+) -> Result<Vec<u8>, AllocError> {
+    let loops = stated.statement.loops();
+    match fault {
+        NestFault::UnboundedCycle => {
+            let Some(cycle) = unbounded_cycle(alloc, &stated.graph, loops)? else {
+                return Ok(Vec::new(alloc));
+            };
+            match extent_of(&cycle) {
+                Some(extent) => cycle_text(alloc, words, &cycle, &extent),
+                None => Ok(Vec::new(alloc)),
+            }
+        }
+        NestFault::EntersMidLoop => match mid_entry(&stated.graph, loops) {
+            Some(entry) => entry_text(alloc, words, &entry),
+            None => Ok(Vec::new(alloc)),
+        },
+        _ => Ok(Vec::new(alloc)),
+    }
+}
+
+// The same, of a source that was read.
+fn nest_text(
+    alloc: Global,
+    explained: Explained<'_>,
+    said: &Assembly,
+    stated: &StatedGraph,
+    fault: NestFault,
+) -> Result<Vec<u8>, ReportFault> {
+    let placed = placed_in(alloc, explained.source)?;
+    let program = Program {
+        source: explained.source,
+        placed: &placed,
+        image: &said.image,
+        labels: &said.labels,
+    };
+    let words = words_of(alloc, &program)?;
+    let text = loops_text(alloc, &words, stated, fault)?;
+    Ok(text)
+}
+
+// Of loops that are refused, what shows why.
+fn refused_loops(
+    alloc: Global,
+    explained: Explained<'_>,
+    profile: Option<&[u8]>,
+    fault: NestFault,
+) -> Result<Vec<u8>, ReportFault> {
+    let profile = profile_of(alloc, profile)?;
+    let said = read_source(alloc, explained.source)?;
+    let stated = read_graph(alloc, &said, explained.statement, &profile)?;
+    nest_text(alloc, explained, &said, &stated, fault)
+}
+
+// Of a statement that is refused, the lines that show why.
+fn refused_statement(
+    alloc: Global,
+    explained: Explained<'_>,
+    fault: StatementFault,
+) -> Result<Vec<u8>, ReportFault> {
+    let said = read_source(alloc, explained.source)?;
+    let text = statement_text(alloc, explained.statement, &said.labels, fault)?;
+    Ok(text)
+}
+
+// What shows why a handler is refused; nothing where only its one line does.
+fn refusal_text(
+    alloc: Global,
+    explained: Explained<'_>,
+    profile: Option<&[u8]>,
+    fault: ReportFault,
+) -> Result<Vec<u8>, ReportFault> {
+    match fault {
+        ReportFault::Loops(fault) => refused_loops(alloc, explained, profile, fault),
+        ReportFault::Statement(fault) => refused_statement(alloc, explained, fault),
+        ReportFault::Source(_) => {
+            let lines = faulty_lines(alloc, explained.source)?;
+            let text = faulty_text(alloc, &lines)?;
+            Ok(text)
+        }
+        _ => Ok(Vec::new(alloc)),
+    }
+}
+
+/// Prints what shows why a handler that was to be explained is refused. Nothing is printed where memory is
+/// wanting, and failures of the output change nothing.
+pub(crate) fn print_refusal<E: Output>(
+    alloc: Global,
+    explained: Explained<'_>,
+    profile: Option<&[u8]>,
+    fault: ReportFault,
+    err: &mut E,
+) {
+    if let Ok(text) = refusal_text(alloc, explained, profile, fault) {
+        let _ = write_whole(err, &text);
+    }
+}

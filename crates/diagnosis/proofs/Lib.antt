@@ -1,0 +1,5 @@
+mod CycleLemmas
+mod EntryLemmas
+mod ExtentLemmas
+mod RowLaws
+mod TextLaws

@@ -1,0 +1,7 @@
+use Rattle.std.proofs.Common.{sym, subst, ℕ, Option}
+use Rattle.std.proofs.lemmas.Result.{on_ok_weaker}
+use Rattle.diagnosis.specs.Rows.{Appends, IsImageRow}
+use Rattle.diagnosis.proofs.rows.put_image_row.Goals as goal
+
+pub returns-in-Some : goal.returns-in-Some
+returns-in-Some c = rw c.in-Some.is c.put_word.ensures

@@ -1,0 +1,20 @@
+use Rattle.std.proofs.Common.{subst}
+use Rattle.flow_graph.specs.declared.edges.Edge.{Edge}
+use Rattle.diagnosis.specs.Rows.{Appends}
+use Rattle.diagnosis.specs.Texts.{IsStartRow}
+use Rattle.diagnosis.proofs.RowLaws.{so_far_all, so_far_none, so_far_one}
+use Rattle.diagnosis.proofs.texts.put_starts.Goals as goal
+
+pub loop-edge-init : goal.loop-edge-init
+loop-edge-init c = so_far_none (IsStartRow c.args.words.now) c.args.cycle.now c.args.out.now.items
+
+pub loop-edge-preserved : goal.loop-edge-preserved
+loop-edge-preserved c =
+    so_far_one (IsStartRow c.args.words.now) c.args.cycle.now c.loop-edge.edge-index c.edge-item.result c.args.out.now.items c.loop-edge.out.items
+    c.put_place.new.out.items c.loop-edge.invariant c.loop-edge-test.true
+    (subst (λ (e : Edge). Appends (IsStartRow c.args.words.now e) c.loop-edge.out.items c.put_place.new.out.items) c.edge-item.is c.in_ok-put_place.ensures)
+
+pub returns : goal.returns
+returns c =
+    so_far_all (IsStartRow c.args.words.now) c.args.cycle.now c.loop-edge.edge-index c.args.out.now.items c.loop-edge.out.items
+    c.loop-edge.invariant c.loop-edge-test.false

@@ -1,0 +1,61 @@
+-- What is printed of a cycle and of an entry. Our own format.
+use Rattle.std.specs.Prelude.{◌≡◌, ℕ, List, ◌++◌, codes, Option, Some, None}
+use Rattle.std.specs.BTreeMap.{BTreeMap}
+use Rattle.flow_graph.specs.declared.edges.Edge.{Edge}
+use Rattle.flow_graph.specs.declared.places.Place.{Place}
+use Rattle.diagnosis.specs.Lines.{line_at}
+use Rattle.diagnosis.specs.Rows.{AreRows, IsPlaceRow, IsRow, name_text}
+use Rattle.diagnosis.specs.declared.entries.MidEntry.{MidEntry}
+use Rattle.diagnosis.specs.declared.extents.Extent.{Extent}
+use Rattle.diagnosis.specs.declared.words.SourceLine.{SourceLine}
+use Rattle.diagnosis.specs.declared.words.Words.{Words}
+
+-- ## A cycle
+
+abbrev pub key_text : BTreeMap ℕ SourceLine → List ℕ → ℕ → List ℕ
+key_text lines key at = codes "  " ++ (key ++ (codes " = " ++ (name_text (line_at lines at) at ++ codes "\n")))
+
+-- a loop of a statement, with a question mark for its bound
+abbrev pub loop_text : BTreeMap ℕ SourceLine → Extent → List ℕ
+loop_text lines extent =
+    codes "  [[loop]]\n"
+    ++ (key_text lines (codes "header") extent.header
+    ++ (key_text lines (codes "first") extent.first
+    ++ (key_text lines (codes "last") extent.last ++ codes "  bound = \"?\"\n")))
+
+-- the row of the place where an edge begins
+abbrev pub IsStartRow : Words → Edge → List ℕ → Type 0
+IsStartRow words e row = IsPlaceRow words e.from row
+
+-- the rows of the cycle's places, and then its loop
+pub record IsCycleText (words : Words) (cycle : List Edge) (extent : Extent) (text : List ℕ) : Type 0 where
+  pub rows : List ℕ
+  pub are_rows : AreRows (IsStartRow words) cycle rows
+  pub text_is : text
+      ≡ codes "This cycle has no [[loop]]:\n"
+      ++ (rows
+      ++ (codes "For its statement, with the most times that it turns back for the question mark:\n"
+      ++ loop_text words.lines extent))
+
+-- ## An entry
+
+-- the row of a place under a line
+abbrev pub IsUnder : Words → List ℕ → Place → List ℕ → Type 0
+IsUnder words heading place text = (row : List ℕ) × IsPlaceRow words place row × (text ≡ heading ++ row)
+
+-- where the edge leads from and to, or where the handler begins
+abbrev pub IsEntryFront : Words → Place → Option Edge → List ℕ → Type 0
+IsEntryFront words place None text =
+    IsUnder words (codes "The handler begins in a loop elsewhere than at its header. Here:\n") place text
+IsEntryFront words place (Some e) text =
+    (from to : List ℕ)
+    × IsUnder words (codes "A loop is entered elsewhere than at its header. From here:\n") e.from from
+    × IsUnder words (codes "To here:\n") place to × (text ≡ from ++ to)
+
+-- and then the loop's header
+pub record IsEntryText (words : Words) (entry : MidEntry) (text : List ℕ) : Type 0 where
+  pub front : List ℕ
+  pub row : List ℕ
+  pub is_front : IsEntryFront words entry.place entry.edge front
+  pub is_row : IsRow words entry.instance.stated.header row
+  pub text_is : text ≡ front ++ (codes "The loop's header:\n" ++ row)

@@ -1,0 +1,114 @@
+ghost use Rattle.std.specs.Prelude.{◌≡◌, ◌++◌, IfOk, OnOk};
+ghost use Rattle.diagnosis.specs.Rows.{Appends, AreRows};
+ghost use Rattle.diagnosis.specs.Texts.{IsCycleText, IsEntryFront, IsEntryText, IsStartRow, IsUnder};
+ghost use Rattle.diagnosis.specs.Texts.{key_text, loop_text};
+
+use crate::entries::MidEntry;
+use crate::extents::Extent;
+use crate::rows::put;
+use crate::words::Words;
+use flow_graph::{Edge, Place};
+use std::alloc::{AllocError, Global};
+
+const ENTERED: &[u8] = b"A loop is entered elsewhere than at its header. From here:\n";
+
+const TO_HERE: &[u8] = b"To here:\n";
+
+const BEGINS: &[u8] = b"The handler begins in a loop elsewhere than at its header. Here:\n";
+
+// Adds a key of a loop, with an address.
+fn put_key(out: &mut Vec<u8>, words: &Words<'_>, key: &[u8], at: u32) -> Result<(), AllocError>
+    ensures { OnOk result (out.new.items ≡ out.old.items ++ key_text words.now.lines key.now at) }
+{
+    put(out, b"  ")?;
+    put(out, key)?;
+    put(out, b" = ")?;
+    words.put_name(out, at)?;
+    put(out, b"\n")
+}
+
+// Adds a loop as a statement has it, with a question mark for its bound.
+fn put_loop(out: &mut Vec<u8>, words: &Words<'_>, extent: &Extent) -> Result<(), AllocError>
+    ensures { OnOk result (out.new.items ≡ out.old.items ++ loop_text words.now.lines extent.now) }
+{
+    put(out, b"  [[loop]]\n")?;
+    put_key(out, words, b"header", extent.header)?;
+    put_key(out, words, b"first", extent.first)?;
+    put_key(out, words, b"last", extent.last)?;
+    put(out, b"  bound = \"?\"\n")
+}
+
+// Adds the rows of the places where the edges begin.
+fn put_starts(out: &mut Vec<u8>, words: &Words<'_>, cycle: &[Edge]) -> Result<(), AllocError>
+    ensures { OnOk result (Appends (AreRows (IsStartRow words.now) cycle.now) out.old.items out.new.items) }
+{
+    for edge in cycle {
+        words.put_place(out, &edge.from)?;
+    }
+    Ok(())
+}
+
+/// A cycle that no loop bounds, place by place, and a loop with its extent to be put into the statement.
+///
+/// # Errors
+///
+/// An allocation failed.
+pub fn cycle_text(
+    alloc: Global,
+    words: &Words<'_>,
+    cycle: &[Edge],
+    extent: &Extent,
+) -> Result<Vec<u8>, AllocError>
+    ensures { IfOk result (λ text. IsCycleText words.now cycle.now extent.now text.items) }
+{
+    let mut out = Vec::from_slice(alloc, b"This cycle has no [[loop]]:\n")?;
+    put_starts(&mut out, words, cycle)?;
+    put(
+        &mut out,
+        b"For its statement, with the most times that it turns back for the question mark:\n",
+    )?;
+    put_loop(&mut out, words, extent)?;
+    Ok(out)
+}
+
+// Adds a line, and under it the row of a place.
+fn put_under(
+    out: &mut Vec<u8>,
+    words: &Words<'_>,
+    heading: &[u8],
+    place: &Place,
+) -> Result<(), AllocError>
+    ensures { OnOk result (Appends (IsUnder words.now heading.now place.now) out.old.items out.new.items) }
+{
+    put(out, heading)?;
+    words.put_place(out, place)
+}
+
+// Adds how the loop is entered.
+fn put_entry(out: &mut Vec<u8>, words: &Words<'_>, entry: &MidEntry) -> Result<(), AllocError>
+    ensures { OnOk result
+        (Appends (IsEntryFront words.now entry.now.place entry.now.edge) out.old.items out.new.items) }
+{
+    match &entry.edge {
+        Some(edge) => {
+            put_under(out, words, ENTERED, &edge.from)?;
+            put_under(out, words, TO_HERE, &entry.place)
+        }
+        None => put_under(out, words, BEGINS, &entry.place),
+    }
+}
+
+/// Where a loop is entered elsewhere than at its header, and that header.
+///
+/// # Errors
+///
+/// An allocation failed.
+pub fn entry_text(alloc: Global, words: &Words<'_>, entry: &MidEntry) -> Result<Vec<u8>, AllocError>
+    ensures { IfOk result (λ text. IsEntryText words.now entry.now text.items) }
+{
+    let mut out = Vec::new(alloc);
+    put_entry(&mut out, words, entry)?;
+    put(&mut out, b"The loop's header:\n")?;
+    words.put_row(&mut out, entry.instance.stated.header)?;
+    Ok(out)
+}
