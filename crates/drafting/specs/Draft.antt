@@ -5,23 +5,26 @@ use Rattle.bus_ticks.specs.declared.profile.Class.{Class}
 use Rattle.loader.specs.Image.{Words}
 use Rattle.loader.specs.Labels.{Names}
 use Rattle.drafting.specs.DraftText.{draft_text}
-use Rattle.drafting.specs.Found.{addresses_of}
+use Rattle.drafting.specs.Ends.{AreEnds}
 use Rattle.drafting.specs.Named.{AreNamed, Lines}
 use Rattle.drafting.specs.Picks.{Picks}
 use Rattle.drafting.specs.Reach.{IsClosed}
-use Rattle.drafting.specs.Words.{IsOddWriter, IsTransfer}
+use Rattle.drafting.specs.Targets.{AreTargets}
+use Rattle.drafting.specs.Words.{IsTransfer}
 use Rattle.drafting.specs.declared.ends.End.{End}
 use Rattle.drafting.specs.declared.found_loop.FoundLoop.{FoundLoop}
 use Rattle.drafting.specs.declared.writers.FoundTarget.{FoundTarget}
 
--- what was found at addresses that hold all to which control goes from the entry on: exactly those of them
--- whose words load or store, and those whose words write R15 and have not the shape of a return
-pub record AreFound (words : Words) (entry : ℕ) (accesses : List (ℕ × Class)) (targets : List FoundTarget)
-    : Type 0 where
+-- what was found at addresses that hold all to which control goes from the entry on: those of them at which
+-- the handler cannot go on, those whose words load or store, and those whose words write R15 and have not the
+-- shape of a return
+pub record AreFound (words : Words) (entry : ℕ) (ends : List (ℕ × End)) (accesses : List (ℕ × Class))
+    (targets : List FoundTarget) : Type 0 where
   pub addresses : List ℕ
   pub closed : IsClosed words entry addresses
+  pub ends_are : AreEnds words addresses ends
   pub accesses_are : Picks (IsTransfer words) addresses (keys_of accesses)
-  pub targets_are : Picks (IsOddWriter words) addresses (addresses_of targets)
+  pub targets_are : AreTargets words addresses targets
 
 -- the text of what was found, with labels that stand for the addresses
 pub record IsDraft (words : Words) (names : Names) (entry : ℕ) (text : List ℕ) : Type 0 where
@@ -32,5 +35,5 @@ pub record IsDraft (words : Words) (names : Names) (entry : ℕ) (text : List �
   pub accesses : List (ℕ × Class)
   pub loops : List FoundLoop
   pub targets : List FoundTarget
-  pub found : AreFound words entry accesses targets
+  pub found : AreFound words entry ends accesses targets
   pub text_is : text ≡ draft_text lines entry ends cycles accesses loops targets

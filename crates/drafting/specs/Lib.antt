@@ -1,9 +1,11 @@
 pub mod Draft
 pub mod DraftText
+pub mod Ends
 pub mod Exploring
 pub mod Found
 pub mod Named
 pub mod Picks
 pub mod Reach
 pub mod Rows
+pub mod Targets
 pub mod Words

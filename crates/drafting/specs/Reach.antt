@@ -1,14 +1,17 @@
 -- Where control goes from the words of a handler, as far as they show it. Source: the VL86C010 data sheet;
 -- which shapes are tables of branches and ways back is our own choice.
-use Rattle.std.specs.Prelude.{◌≡◌, ◌⊎◌, ℕ, ◌+◌, ◌-◌, ◌*◌, ◌^◌, ◌<◌, ◌≤◌, Bool, true, false, ◌&&◌}
-use Rattle.std.specs.Prelude.{◌==◌, if◌then◌else◌, List, length, Contains}
+use Rattle.std.specs.Prelude.{◌≡◌, ◌⊎◌, ◌↔◌, ℕ, ◌+◌, ◌-◌, ◌*◌, ◌^◌, ◌<◌, ◌≤◌, Bool, true, false, ◌&&◌}
+use Rattle.std.specs.Prelude.{◌==◌, if◌then◌else◌, List, length, Contains, Some}
 use Rattle.std.specs.List.Sorted.{IsStrictlySortedBy}
 use Rattle.std.specs.Ordering.{nat_cmp}
 use Rattle.arm2_decode.specs.Names.{is_pc}
+use Rattle.arm2_decode.specs.Table.{IsUnallocated, Means}
 use Rattle.arm2_decode.specs.declared.instr.Instr.{Instr}
 use Rattle.arm2_decode.specs.declared.instr.Operation.{Operation}
 use Rattle.arm2_decode.specs.declared.instr.Operation.TheVariants as operation
-use Rattle.arm2_decode.specs.declared.names.Cond.TheVariants.{Al, Nv}
+use Rattle.arm2_decode.specs.declared.instr.Unallocated.{Unallocated}
+use Rattle.arm2_decode.specs.declared.names.Cond.{Cond}
+use Rattle.arm2_decode.specs.declared.names.Cond.TheVariants as cond
 use Rattle.arm2_decode.specs.declared.names.Opcode.{Opcode}
 use Rattle.arm2_decode.specs.declared.names.Opcode.TheVariants as opcode
 use Rattle.arm2_effect.specs.ProgramCounter.{ahead_of}
@@ -16,7 +19,7 @@ use Rattle.drafting.specs.Words.{HasInstr, is_left, is_link, is_move, is_return,
 use Rattle.drafting.specs.declared.words.Reading.{Reading}
 use Rattle.drafting.specs.declared.words.Way.{Way}
 use Rattle.drafting.specs.declared.words.Way.TheVariants as way
-use Rattle.loader.specs.Image.{Words}
+use Rattle.loader.specs.Image.{Words, word_of}
 
 -- ## Operations
 
@@ -33,9 +36,28 @@ way_of (operation.CoprocessorTransfer x) = way.Trap
 way_of (operation.Coprocessor x) = way.Trap
 way_of o = writer_way o
 
+-- the condition that always holds, and the one that never does
+abbrev pub is_always : Cond → Bool
+is_always cond.Al = true
+is_always _ = false
+
+abbrev pub is_never : Cond → Bool
+is_never cond.Nv = true
+is_never _ = false
+
 -- when an instruction is carried out, and where control goes then
-abbrev pub shown : Instr → Reading
-shown i = record { cond = i.cond; way = way_of i.operation }
+abbrev pub instr_reading : Instr → Reading
+instr_reading i = record { cond = i.cond; way = way_of i.operation }
+
+-- a word that is no instruction has a condition too
+abbrev pub unallocated_reading : Unallocated → Reading
+unallocated_reading u = record { cond = u.cond; way = way.Unallocated }
+
+-- what a word shows: it is an instruction or unallocated
+abbrev pub IsReading : ℕ → Reading → Type 0
+IsReading word r =
+    ((i : Instr) × Means word i × (r ≡ instr_reading i))
+    ⊎ ((u : Unallocated) × IsUnallocated word u × (r ≡ unallocated_reading u))
 
 abbrev pub is_add : Opcode → Bool
 is_add opcode.Add = true
@@ -69,13 +91,19 @@ words_on at count = ahead_of (at + 8) (4 * count)
 -- ## Words of an image
 
 module _ (words : Words) where
+  -- the image has a word at the address, which shows this
+  pub record HasReading (at : ℕ) (r : Reading) : Type 0 where
+    pub word : ℕ
+    pub stands : word_of words at ≡ Some word
+    pub shows : IsReading word r
+
   -- a branch without link stands there, which is always carried out
   pub record IsBranchAt (at : ℕ) : Type 0 where
-    pub i : Instr
-    pub stands : HasInstr words at i
-    pub always : i.cond ≡ Al
+    pub reading : Reading
+    pub has : HasReading at reading
+    pub always : is_always reading.cond ≡ true
     pub offset : ℕ
-    pub branches : way_of i.operation ≡ way.Branch offset
+    pub branches : reading.way ≡ way.Branch offset
 
   -- a jump into a table of branches stands there
   abbrev pub JumpsIntoTable : ℕ → Type 0
@@ -91,7 +119,11 @@ module _ (words : Words) where
     pub few : n < 64
     pub branches : (m : ℕ) → m ≤ n → IsBranchAt (words_on at m)
 
-  -- an instruction that is carried out lets control come to the next word
+  -- so many places the table has
+  abbrev pub HasPlaces : ℕ → ℕ → Type 0
+  HasPlaces at count = (n : ℕ) → (n < count) ↔ IsTablePlace at n
+
+  -- a word that is carried out lets control come to the next one
   abbrev pub ComesPast : ℕ → Way → Type 0
   ComesPast at way.On = Unit {0}
   ComesPast at (way.Call offset) = Unit {0}
@@ -100,9 +132,9 @@ module _ (words : Words) where
 
   -- so does one that may be passed over
   abbrev pub GoesOn : ℕ → Reading → Type 0
-  GoesOn at r = (r.cond ≡ Al → ⊥) ⊎ ComesPast at r.way
+  GoesOn at r = (is_always r.cond ≡ false) ⊎ ComesPast at r.way
 
-  -- an instruction that is carried out leads elsewhere inside the routine
+  -- a word that is carried out leads elsewhere inside the routine
   abbrev pub LeadsAway : ℕ → Way → ℕ → Type 0
   LeadsAway at (way.Branch offset) to = to ≡ words_on at offset
   LeadsAway at way.Writer to = (n : ℕ) × IsTablePlace at n × (to ≡ words_on at n)
@@ -115,15 +147,15 @@ module _ (words : Words) where
 
   -- a step inside a routine
   abbrev pub Steps : ℕ → Reading → ℕ → Type 0
-  Steps at r to = (GoesOn at r × (to ≡ next_of at)) ⊎ ((r.cond ≡ Nv → ⊥) × LeadsAway at r.way to)
+  Steps at r to = (GoesOn at r × (to ≡ next_of at)) ⊎ ((is_never r.cond ≡ false) × LeadsAway at r.way to)
 
   abbrev pub StepsTo : ℕ → ℕ → Type 0
-  StepsTo at to = (i : Instr) × HasInstr words at i × Steps at (shown i) to
+  StepsTo at to = (r : Reading) × HasReading at r × Steps at r to
 
   abbrev pub CallsTo : ℕ → ℕ → Type 0
-  CallsTo at to = (i : Instr) × HasInstr words at i × (i.cond ≡ Nv → ⊥) × Calls at (way_of i.operation) to
+  CallsTo at to = (r : Reading) × HasReading at r × (is_never r.cond ≡ false) × Calls at r.way to
 
-  -- an instruction stands there, and by it control may go to the other address
+  -- a word stands there, and by it control may go to the other address
   abbrev pub LeadsTo : ℕ → ℕ → Type 0
   LeadsTo at to = StepsTo at to ⊎ CallsTo at to
 

@@ -25,7 +25,8 @@ pub struct Found {
 }
 
 fn find(alloc: Global, image: &Image, entry: u32) -> Result<Found, AllocError>
-    ensures { IfOk result (λ found. AreFound image.now entry found.accesses.items found.targets.items) }
+    ensures { IfOk result
+        (λ found. AreFound image.now entry found.ends.items found.accesses.items found.targets.items) }
 {
     let reach = reach(alloc, image, entry)?;
     let addresses = reach.addresses.as_slice();
@@ -93,12 +94,13 @@ fn draft_by_lines(
 /// stores, and the words that write R15 and are no returns by their shape, with the lines of the source as
 /// comments.
 ///
-/// The clause says what the text is, that each label in it stands for its address, that each loop's header
-/// lies from its first to its last instruction, and that exactly the loads and stores and the writers of R15
-/// are named among certain addresses: these hold the entry and, where they are 16,384 at most, every address
-/// to which an instruction at one of them leads, by going on, a branch, a call or a table of branches. So
-/// none that is reached by such steps is left out. That no others are looked at, that the loops are those of
-/// the handler, and what is written of classes and of counted loops, is tested only.
+/// The clause says what the text is, that each label in it stands for its address, and that each loop's
+/// header lies from its first to its last instruction. It says that among certain addresses exactly those
+/// are named at which the handler cannot go on, the loads and stores, and the writers of R15 with their
+/// tables of branches. These addresses hold the entry and, where they are 16,384 at most, every address to
+/// which the word at one of them leads by going on, a branch, a call or a table of branches: so nothing that
+/// is reached by such steps is left out. That no others are looked at, that the loops are those of the
+/// handler, and what is written of classes and of counted loops, is tested only.
 ///
 /// # Errors
 ///

@@ -1,5 +1,10 @@
-use crate::words::{Way, reading_at};
-use arm2_decode::Cond;
+ghost use Rattle.std.specs.Prelude.{◌≡◌, All, IfOk, IfSome, OnOk, Some};
+ghost use Rattle.std.specs.Map.{keys_of};
+ghost use Rattle.drafting.specs.Ends.{AreEnds, Ends, IsEnd, reading_end};
+ghost use Rattle.drafting.specs.Picks.{Keeps};
+ghost use Rattle.drafting.specs.declared.ends.End.{End};
+
+use crate::words::{Reading, Way, is_never, reading_at};
 use loader::Image;
 use std::alloc::{AllocError, Global};
 
@@ -14,18 +19,42 @@ pub enum End {
     Trap,
 }
 
-fn end_at(image: &Image, at: u32) -> Option<End> {
-    let Some(reading) = reading_at(image, at) else {
-        return Some(End::NoWord);
-    };
-    if reading.cond == Cond::Nv {
+fn reading_end(reading: Reading) -> Option<End>
+    ensures { result ≡ reading_end reading }
+{
+    if is_never(reading.cond) {
         return None;
     }
     match reading.way {
         Way::Trap => Some(End::Trap),
         Way::Unallocated => Some(End::Unallocated),
-        _ => None,
+        Way::On | Way::Branch(_) | Way::Call(_) | Way::Return | Way::Writer => None,
     }
+}
+
+fn end_at(image: &Image, at: u32) -> Option<End>
+    ensures some { IfSome result (IsEnd image.now at) }
+    ensures only { (end : End) → IsEnd image.now at end → result ≡ Some end }
+{
+    match reading_at(image, at) {
+        Some(reading) => reading_end(reading),
+        None => Some(End::NoWord),
+    }
+}
+
+// Takes an address at which a handler cannot go on.
+fn keep_end(found: &mut Vec<(u32, End)>, image: &Image, at: u32) -> Result<(), AllocError>
+    ensures kept { OnOk result
+        (Keeps (Ends image.now) at (keys_of found.old.items) (keys_of found.new.items)) }
+    ensures why { OnOk result
+        (All (λ e. IsEnd image.now e.0 e.1) found.old.items
+        → All (λ e. IsEnd image.now e.0 e.1) found.new.items) }
+{
+    let Some(end) = end_at(image, at) else {
+        return Ok(());
+    };
+    found.push((at, end))?;
+    Ok(())
 }
 
 /// Those of the addresses at which a handler cannot go on, and why.
@@ -33,12 +62,12 @@ pub fn find_ends(
     alloc: Global,
     image: &Image,
     addresses: &[u32],
-) -> Result<Vec<(u32, End)>, AllocError> {
+) -> Result<Vec<(u32, End)>, AllocError>
+    ensures { IfOk result (λ found. AreEnds image.now addresses.now found.items) }
+{
     let mut found = Vec::new(alloc);
     for at in addresses {
-        if let Some(end) = end_at(image, *at) {
-            found.push((*at, end))?;
-        }
+        keep_end(&mut found, image, *at)?;
     }
     Ok(found)
 }

@@ -1,12 +1,13 @@
-ghost use Rattle.std.specs.Prelude.{◌≡◌, ℕ, ◌<◌, ◌^◌, true, Some, OnOk, Contains};
-ghost use Rattle.arm2_decode.specs.declared.names.Cond.{Cond};
+ghost use Rattle.std.specs.Prelude.{◌≡◌, ℕ, ◌<◌, ◌^◌, true, false, Some, OnOk, Contains};
 ghost use Rattle.arm2_effect.specs.ProgramCounter.{ahead_of};
-ghost use Rattle.drafting.specs.Reach.{CallsTo, GoesOn, IsBranchAt, IsTablePlace, JumpsIntoTable};
-ghost use Rattle.drafting.specs.Reach.{KeepsWayBack, LeadsAway, StepsTo, before, is_table_jump};
+ghost use Rattle.drafting.specs.Reach.{CallsTo, GoesOn, HasPlaces, IsBranchAt, IsTablePlace, JumpsIntoTable};
+ghost use Rattle.drafting.specs.Reach.{KeepsWayBack, LeadsAway, StepsTo, before, is_never, is_table_jump};
 ghost use Rattle.drafting.specs.Reach.{is_way_back, next_of, words_on};
 
-use crate::words::{Reading, Way, instr_at, is_add, is_left, is_link, is_move, reading_at};
-use arm2_decode::{Cond, Operation};
+use crate::words::{
+    Reading, Way, instr_at, is_add, is_always, is_left, is_link, is_move, is_never, reading_at,
+};
+use arm2_decode::Operation;
 use bus_ticks::SPACE_END;
 use loader::Image;
 use std::alloc::AllocError;
@@ -61,7 +62,8 @@ fn is_way_back(operation: &Operation) -> bool
 }
 
 fn jumps_into_table(image: &Image, at: u32) -> bool
-    ensures { JumpsIntoTable image.now at → result ≡ true }
+    ensures yes { result ≡ true → JumpsIntoTable image.now at }
+    ensures no { JumpsIntoTable image.now at → result ≡ true }
 {
     match instr_at(image, at) {
         Some(instr) => is_table_jump(&instr.operation),
@@ -70,17 +72,18 @@ fn jumps_into_table(image: &Image, at: u32) -> bool
 }
 
 fn is_branch(image: &Image, at: u32) -> bool
-    ensures { IsBranchAt image.now at → result ≡ true }
+    ensures yes { result ≡ true → IsBranchAt image.now at }
+    ensures no { IsBranchAt image.now at → result ≡ true }
 {
     match reading_at(image, at) {
-        Some(reading) => reading.cond == Cond::Al && matches!(reading.way, Way::Branch(_)),
+        Some(reading) => is_always(reading.cond) && matches!(reading.way, Way::Branch(_)),
         None => false,
     }
 }
 
 /// How many branches stand behind a word that jumps into them, from the second word after it on.
 pub(crate) fn table_len(image: &Image, at: u32) -> u32
-    ensures { (n : ℕ) → IsTablePlace image.now at n → n < result }
+    ensures { HasPlaces image.now at result }
 {
     if !jumps_into_table(image, at) {
         return 0;
@@ -119,7 +122,7 @@ fn keeps_way_back(image: &Image, at: u32) -> bool
 fn goes_on(image: &Image, at: u32, reading: Reading) -> bool
     ensures { GoesOn image.now at reading → result ≡ true }
 {
-    if reading.cond != Cond::Al {
+    if !is_always(reading.cond) {
         return true;
     }
     match reading.way {
@@ -148,10 +151,10 @@ fn push_others(
 ) -> Result<(), AllocError>
     ensures kept { OnOk result ((a : ℕ) → Contains out.old.items a → Contains out.new.items a) }
     ensures others { OnOk result
-        ((to : ℕ) → (reading.cond ≡ Cond.Nv → ⊥) → LeadsAway image.now at reading.way to
+        ((to : ℕ) → is_never reading.cond ≡ false → LeadsAway image.now at reading.way to
         → Contains out.new.items to) }
 {
-    if reading.cond == Cond::Nv {
+    if is_never(reading.cond) {
         return Ok(());
     }
     match reading.way {
@@ -181,7 +184,7 @@ pub(crate) fn called(image: &Image, at: u32) -> Option<u32>
     ensures { (to : ℕ) → CallsTo image.now at to → result ≡ Some to }
 {
     let reading = reading_at(image, at)?;
-    if reading.cond == Cond::Nv {
+    if is_never(reading.cond) {
         return None;
     }
     match reading.way {

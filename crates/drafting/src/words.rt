@@ -1,10 +1,13 @@
-ghost use Rattle.std.specs.Prelude.{◌≡◌, IfSome, Some};
+ghost use Rattle.std.specs.Prelude.{◌≡◌, IfNone, IfSome, None, Some};
 ghost use Rattle.arm2_decode.specs.declared.instr.Instr.{Instr};
 ghost use Rattle.arm2_decode.specs.Table.{Means};
-ghost use Rattle.drafting.specs.Words.{HasInstr, data_writes_pc, is_left, is_link, is_odd_writer, is_move};
-ghost use Rattle.drafting.specs.Reach.{is_add, shown, way_of, writer_way};
-ghost use Rattle.drafting.specs.Words.{is_return, is_stack};
-ghost use Rattle.drafting.specs.Words.{is_transfer, moves_link, subtracts_from_link, writes_pc};
+ghost use Rattle.drafting.specs.Reach.{HasReading, IsReading, is_add, is_always, is_never, way_of};
+ghost use Rattle.drafting.specs.Reach.{writer_way};
+ghost use Rattle.drafting.specs.Words.{HasInstr, data_writes_pc, is_left, is_link, is_move, is_odd_writer};
+ghost use Rattle.drafting.specs.Words.{is_return, is_stack, is_transfer, moves_link, subtracts_from_link};
+ghost use Rattle.drafting.specs.Words.{writes_pc};
+ghost use Rattle.drafting.specs.declared.words.Reading.{Reading};
+ghost use Rattle.loader.specs.Image.{word_of};
 
 use arm2_decode::{
     Block, Cond, DataRegister, Instr, Opcode, Operation, Register, Shift, decode, decode_encoded,
@@ -199,8 +202,22 @@ pub(crate) fn way_of(operation: &Operation) -> Way
     }
 }
 
+/// Whether a word of the condition is always carried out.
+pub(crate) fn is_always(cond: Cond) -> bool
+    ensures { result ≡ is_always cond }
+{
+    matches!(cond, Cond::Al)
+}
+
+/// Whether a word of the condition is never carried out.
+pub(crate) fn is_never(cond: Cond) -> bool
+    ensures { result ≡ is_never cond }
+{
+    matches!(cond, Cond::Nv)
+}
+
 fn reading_of(word: u32) -> Reading
-    ensures { (i : Instr) → Means word i → result ≡ shown i }
+    ensures { IsReading word result }
 {
     match decode(word) {
         Ok(instr) => Reading {
@@ -216,7 +233,9 @@ fn reading_of(word: u32) -> Reading
 
 /// When the word at an address is carried out and where control goes then, if the image has one there.
 pub(crate) fn reading_at(image: &Image, at: u32) -> Option<Reading>
-    ensures { (i : Instr) → HasInstr image.now at i → result ≡ Some (shown i) }
+    ensures some { IfSome result (HasReading image.now at) }
+    ensures only { (reading : Reading) → HasReading image.now at reading → result ≡ Some reading }
+    ensures none { IfNone result (word_of image.now at ≡ None) }
 {
     match image.word_at(at) {
         Some(word) => Some(reading_of(word)),

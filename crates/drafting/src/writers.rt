@@ -1,6 +1,7 @@
-ghost use Rattle.std.specs.Prelude.{◌≡◌, true, IfOk, OnOk};
+ghost use Rattle.std.specs.Prelude.{◌≡◌, true, All, IfOk, OnOk};
 ghost use Rattle.drafting.specs.Found.{addresses_of};
-ghost use Rattle.drafting.specs.Picks.{Keeps, Picks};
+ghost use Rattle.drafting.specs.Picks.{Keeps};
+ghost use Rattle.drafting.specs.Targets.{AreTargets, HasTable};
 ghost use Rattle.drafting.specs.Words.{IsOddWriter};
 
 use crate::ways::table_len;
@@ -29,8 +30,10 @@ fn is_odd_writer_at(image: &Image, at: u32) -> bool
 
 // Takes an address whose word writes R15 and has not the shape of a return.
 fn keep_target(found: &mut Vec<FoundTarget>, image: &Image, at: u32) -> Result<(), AllocError>
-    ensures { OnOk result
+    ensures kept { OnOk result
         (Keeps (IsOddWriter image.now) at (addresses_of found.old.items) (addresses_of found.new.items)) }
+    ensures tables { OnOk result
+        (All (HasTable image.now) found.old.items → All (HasTable image.now) found.new.items) }
 {
     if !is_odd_writer_at(image, at) {
         return Ok(());
@@ -46,8 +49,7 @@ pub fn find_targets(
     image: &Image,
     addresses: &[u32],
 ) -> Result<Vec<FoundTarget>, AllocError>
-    ensures { IfOk result
-        (λ found. Picks (IsOddWriter image.now) addresses.now (addresses_of found.items)) }
+    ensures { IfOk result (λ found. AreTargets image.now addresses.now found.items) }
 {
     let mut found = Vec::new(alloc);
     for at in addresses {

@@ -11,4 +11,4 @@ loop-n-preserved c =
     c.words_on.ensures c.in_ok-push.ensures.items
 
 pub returns-clause-places : goal.returns-clause-places
-returns-clause-places c = λ n h. c.loop-n.invariant.places n (omega (arith, c.table_len-n-end.ensures n h, c.loop-n-test.false))
+returns-clause-places c = λ n h. c.loop-n.invariant.places n (omega (arith, (c.table_len-n-end.ensures n).1 h, c.loop-n-test.false))

@@ -1,0 +1,25 @@
+use Rattle.std.proofs.Common.{arith, sym, subst}
+use Rattle.drafting.specs.Reach.{IsBranchAt}
+use Rattle.drafting.proofs.WayLaws.{branches_more, branches_none, places_all, places_full}
+use Rattle.drafting.proofs.ways.table_len.Goals as goal
+
+pub loop-n-init : goal.loop-n-init
+loop-n-init c = branches_none _ _
+
+pub loop-n-preserved : goal.loop-n-preserved
+loop-n-preserved c =
+    branches_more c.args.image.now c.args.at c.loop-n.n c.words_on.result c.loop-n.invariant c.words_on.ensures
+    (c.is_branch.ensures.yes c.if-not-is_branch.false)
+
+pub returns-then-not-is_branch : goal.returns-then-not-is_branch
+returns-then-not-is_branch c =
+    places_all c.args.image.now c.args.at c.loop-n.n c.loop-n.invariant
+    (c.jumps_into_table.ensures.yes c.if-not-jumps_into_table.false) c.loop-n.auto.n-end
+    (λ place.
+    let here = subst (IsBranchAt c.args.image.now) (sym c.words_on.ensures) (place.branches c.loop-n.n (omega arith)) in
+    cc (c.is_branch.ensures.no here, c.if-not-is_branch.true))
+
+pub returns : goal.returns
+returns c =
+    places_full c.args.image.now c.args.at c.loop-n.n c.loop-n.invariant
+    (c.jumps_into_table.ensures.yes c.if-not-jumps_into_table.false) c.loop-n-test.false
