@@ -9,7 +9,7 @@ use crate::assembly::image_written;
 use crate::bound::bound_report;
 use crate::check::check_report;
 use crate::debug::debug_report;
-use crate::diagnose::print_refusal;
+use crate::diagnose::explained_status;
 use crate::draft::draft_report;
 use crate::explain::{Explained, explain_report};
 use crate::fault::ReportFault;
@@ -288,11 +288,7 @@ fn run_explain<S: Store, O: Output, E: Output>(
         },
     };
     let answer = explain_report(alloc, explained, files.profile(), out);
-    let status = answer_status(answer, err);
-    if let Err(fault) = answer {
-        print_refusal(alloc, explained, files.profile(), fault, err);
-    }
-    status
+    explained_status(alloc, explained, files.profile(), answer, err)
 }
 
 /// `bound --tight N`: reads the files and prints the report of the edge.

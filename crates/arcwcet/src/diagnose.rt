@@ -1,9 +1,13 @@
 //! What the one line of a refusal has no room for.
 
+ghost use Rattle.std.specs.Prelude.{◌≡◌};
+ghost use Rattle.arcwcet.specs.Run.{answer_status};
+
 use crate::explain::Explained;
 use crate::fault::ReportFault;
 use crate::handler::{StatedGraph, profile_of, read_graph, read_source};
 use crate::output::{Output, write_whole};
+use crate::status::{answer_status, report_status};
 use assembler::{Assembly, PlacedLine, placed_lines};
 use diagnosis::{
     Program, Words, cycle_text, entry_text, extent_of, faulty_lines, faulty_text, mid_entry,
@@ -112,9 +116,9 @@ fn refusal_text(
     }
 }
 
-/// Prints what shows why a handler that was to be explained is refused. Nothing is printed where memory is
-/// wanting, and failures of the output change nothing.
-pub(crate) fn print_refusal<E: Output>(
+// Prints what shows why a handler that was to be explained is refused. Nothing is printed where memory is
+// wanting, and failures of the output change nothing.
+fn print_refusal<E: Output>(
     alloc: Global,
     explained: Explained<'_>,
     profile: Option<&[u8]>,
@@ -124,4 +128,24 @@ pub(crate) fn print_refusal<E: Output>(
     if let Ok(text) = refusal_text(alloc, explained, profile, fault) {
         let _ = write_whole(err, &text);
     }
+}
+
+/// Prints why a handler was not explained, if it was not: the refusal, and then what shows where it comes from.
+/// Answers the exit status.
+pub(crate) fn explained_status<E: Output>(
+    alloc: Global,
+    explained: Explained<'_>,
+    profile: Option<&[u8]>,
+    answer: Result<bool, ReportFault>,
+    err: &mut E,
+) -> u8
+    ensures status { result ≡ answer_status answer }
+    ensures silent { result ≡ 0 → err.new ≡ err.old }
+{
+    let Err(fault) = answer else {
+        return answer_status(answer, err);
+    };
+    let status = report_status(fault, err);
+    print_refusal(alloc, explained, profile, fault, err);
+    status
 }

@@ -30,6 +30,21 @@ fn keys_of(name: &[u8]) -> Option<(&'static [&'static [u8]], usize)> {
     None
 }
 
+// Adds the name of a table, with the brackets that it has in the text.
+fn put_name(out: &mut Vec<u8>, section: &Section<'_>) -> Result<(), AllocError> {
+    if section.name.is_empty() {
+        return put(out, b"the statement");
+    }
+    if !section.is_listed {
+        put(out, b"[")?;
+        put(out, section.name)?;
+        return put(out, b"]");
+    }
+    put(out, b"[[")?;
+    put(out, section.name)?;
+    put(out, b"]]")
+}
+
 // What is found of the lines of a statement's text.
 #[derive(Drop)]
 struct Report<'a> {
@@ -72,13 +87,7 @@ impl<'a> Report<'a> {
         key: &[u8],
     ) -> Result<(), AllocError> {
         if self.begin_line(section.line)? {
-            if section.name.is_empty() {
-                put(&mut self.text, b"the statement")?;
-            } else {
-                put(&mut self.text, b"[[")?;
-                put(&mut self.text, section.name)?;
-                put(&mut self.text, b"]]")?;
-            }
+            put_name(&mut self.text, &section)?;
             put(&mut self.text, words)?;
             put(&mut self.text, key)?;
             put(&mut self.text, b"\n")?;

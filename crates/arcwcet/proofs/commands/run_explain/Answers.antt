@@ -14,4 +14,4 @@ returns-clause-ran g c =
     (subst (λ (files : Texts). ReadsAll reads c.args.store.now (in_front profile (names.first.now ∷ names.second.now ∷ [])) files c.read_two_files.new.store)
     (λ i. in_front (sym c.profile.ensures i) (sym c.deref.ensures.value i ∷ sym c.deref-2.ensures.value i ∷ []))
     c.in-Ok.ensures.read)
-    (options_of c.args.names) c.explain_report-answer.result c.explain_report-answer.ensures c.answer_status.result c.answer_status.ensures.status
+    (options_of c.args.names) c.explain_report-answer.result c.explain_report-answer.ensures c.explained_status.result c.explained_status.ensures.status
