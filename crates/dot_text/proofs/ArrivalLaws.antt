@@ -1,10 +1,14 @@
--- How many elements of a list have each key.
-use Rattle.std.proofs.Common.{◌≡◌, ◌∙◌, ℕ, ◌+◌, ◌<◌, ◌≤◌, eqb, List, length, take, get_or, ⊎_elim, sym, ap, arith, get_or-set_other, get_or-set_same}
-use Rattle.std.specs.Prelude.{count_by}
+-- How many elements of a list have each key, and where edges lead.
+use Rattle.std.proofs.Common.{◌≡◌, ◌∙◌, ℕ, ◌+◌, ◌<◌, ◌≤◌, eqb, List, length, take, get_or, ⊎_elim, sym, ap, subst, arith, get_or-set_other, get_or-set_same}
+use Rattle.std.specs.Prelude.{Contains, count_by}
 use Rattle.std.proofs.Math.ListN.{set}
-use Rattle.std.proofs.lemmas.List.{length-take-le}
+use Rattle.std.proofs.lemmas.List.{get_or_default, length-take-le}
 use Rattle.std.proofs.lemmas.Bool.{cases_lt, eq-eqb, ne_eqb}
 use Rattle.std.proofs.lemmas.List.Sums.{count_by-le-length, count_by_more_yes, count_by_more_no}
+use Rattle.flow_graph.specs.Flow.{Flow}
+use Rattle.loop_bounds.specs.Tree.{IsTree, Tree}
+use Rattle.numbered_walks.specs.Index.{edge_at}
+use Rattle.numbered_walks.specs.declared.span.NumberedEdge.{NumberedEdge}
 
 module _ {X : Type 0} (key : X → ℕ) (xs : List X) (i : ℕ) (d : X) (lt : i < length xs) where
   abbrev pub with_key : ℕ → ℕ → ℕ
@@ -37,3 +41,10 @@ module _ {X : Type 0} (key : X → ℕ) (xs : List X) (i : ℕ) (d : X) (lt : i 
   tally_small n count is =
       let le : i ≤ length xs = omega (arith, lt) in
       omega (arith, lt, is, count_by-le-length (λ e. eqb (key e) n) (take i xs), length-take-le i xs le)
+
+-- ## Edges
+
+pub leads_inside : (flow : Flow) (tree : Tree) → IsTree flow tree → (edges : List NumberedEdge) (i : ℕ) → edges ≡ tree.edges → i < length edges → (edge_at edges i).to ≤ length flow.places
+leads_inside flow tree t edges i same lt =
+    (t.ordered.places (edge_at edges i) (subst (λ (es : List NumberedEdge). Contains es (edge_at edges i)) same
+    (i, lt, get_or_default edges i (edge_at edges i) (record { from = 0; to = 0; cost = 0 }) lt))).1

@@ -1,7 +1,7 @@
 -- One word more with a text, and one line more.
-use Rattle.std.proofs.Common.{◌≡◌, ◌∙◌, ℕ, suc, ◌+◌, ◌<◌, ◌≤◌, Bool, true, false, ◌||◌, if◌then◌else◌, List, [], ◌∷◌, ◌++◌, length, drop, take, get_or, Option, Some, None, Vec, refl, sym, ap, subst}
+use Rattle.std.proofs.Common.{◌≡◌, ◌∙◌, ℕ, suc, ◌+◌, ◌<◌, ◌≤◌, Bool, true, false, ◌||◌, if◌then◌else◌, List, [], ◌∷◌, ◌++◌, length, drop, take, get_or, Option, Some, Vec, refl, sym, ap, subst}
 use Rattle.std.specs.Prelude.{◌==◌, option_map}
-use Rattle.std.specs.BTreeMap.{BTreeMap, get}
+use Rattle.std.specs.BTreeMap.{BTreeMap, Updates, get}
 use Rattle.std.specs.Global.{Global}
 use Rattle.std.specs.Ordering.{nat_cmp}
 use Rattle.std.proofs.Math.ListN.{drop_of_length-le}
@@ -9,6 +9,7 @@ use Rattle.std.specs.List.{AllZip}
 use Rattle.std.proofs.lemmas.List.{drop_more, take_more}
 use Rattle.std.proofs.lemmas.Slice.Zip.{all_zipped_more}
 use Rattle.flow_graph.specs.declared.places.Place.{Place}
+use Rattle.memc.proofs.Rom.{is_at-eqb}
 use Rattle.assembler.specs.declared.placed_line.PlacedLine.{PlacedLine}
 use Rattle.dot_text.specs.Stretches.{address_of}
 use Rattle.dot_text.specs.Labels.{AreLabels, PutsAt, found_text, has_word, text_with}
@@ -21,11 +22,13 @@ either false true v text o is = refl
 either false false v text o is = refl
 
 pub put_more : (at left after : ℕ) (text : List ℕ) (v : Vec ℕ Global) (old mid new : BTreeMap ℕ (Vec ℕ Global)) → left ≡ suc after → v.items ≡ text
-    → ((a : ℕ) → get nat_cmp mid a ≡ (if at == a then Some v else get nat_cmp old a)) → PutsAt (at + 4) after text mid new → PutsAt at left text old new
+    → Updates nat_cmp old mid at (Some v) → PutsAt (at + 4) after text mid new → PutsAt at left text old new
 put_more at left after text v old mid new is v_is puts h =
     subst (λ n. PutsAt at n text old new) (sym is) (λ a.
-    h a ∙ ap (λ (o : Option (Vec ℕ Global)). if has_word (at + 4) after a then Some text else option_map (λ v. v.items) o) (puts a)
-    ∙ either (at == a) (has_word (at + 4) after a) v text (get nat_cmp old a) v_is)
+    let here : get nat_cmp mid a ≡ (if a == at then Some v else get nat_cmp old a) =
+    puts.0 a ∙ ap (λ b. if b then Some v else get nat_cmp old a) (is_at-eqb at a) in
+    h a ∙ ap (λ (o : Option (Vec ℕ Global)). if has_word (at + 4) after a then Some text else option_map (λ v. v.items) o) here
+    ∙ either (a == at) (has_word (at + 4) after a) v text (get nat_cmp old a) v_is)
 
 pub line_more : (now : List (List ℕ)) (line : List ℕ) (lines : List (List ℕ)) (placed : List PlacedLine) (i : ℕ) (d : PlacedLine) (old new : BTreeMap ℕ (Vec ℕ Global)) (a : ℕ) (all : Option (List ℕ))
     → text_with now (drop i placed) (found_text old a) a ≡ all → now ≡ line ∷ lines → i < length placed → PutsAt (get_or placed i d).at (get_or placed i d).words line old new

@@ -1,5 +1,5 @@
 -- Nodes hold each number once, and edges lead to nodes.
-use Rattle.std.proofs.Common.{◌≡◌, ◌∙◌, ℕ, zero, suc, ◌+◌, ◌-◌, ◌<◌, ◌≤◌, ◌⊎◌, inl, inr, ⊎_elim, Bool, true, false, ◌&&◌, cond, eqb, if◌then◌else◌, List, [], ◌∷◌, ◌++◌, length, take, take-take, get_or, append-nil, append_assoc, flat_map, refl, sym, ap, subst, arith}
+use Rattle.std.proofs.Common.{◌≡◌, ◌∙◌, ℕ, zero, suc, ◌+◌, ◌-◌, ◌<◌, ◌≤◌, inl, inr, ⊎_elim, Bool, true, false, ◌&&◌, cond, eqb, if◌then◌else◌, List, [], ◌∷◌, ◌++◌, length, take, take-take, get_or, append-nil, append_assoc, flat_map, refl, sym, ap, subst, arith}
 use Rattle.std.specs.Prelude.{Contains, count_by, nat_lt}
 use Rattle.std.specs.List.{range_with_len}
 use Rattle.std.proofs.lemmas.Bool.{and_parts, cases_Bool, cases_lt, eq-eqb, eqb-true}
@@ -16,8 +16,8 @@ use Rattle.longest_walk.proofs.CarryWalks.{no_edge}
 use Rattle.longest_walk.proofs.PlaceParts.{part_fits}
 use Rattle.numbered_walks.specs.Index.{edge_at}
 use Rattle.dot_text.specs.Nodes.{HasNode, HoldEachOnce, LeadToNodes, numbers_in}
-use Rattle.dot_text.specs.Stretches.{arrivals, between, end_edge, first_edge, first_of, goes_on, leads_on, leaving, stays_inside}
-use Rattle.dot_text.proofs.StretchLaws.{first_kept, first_next}
+use Rattle.dot_text.specs.Stretches.{arrivals, between, end_edge, first_edge, first_of, goes_on, leads_on, stays_inside}
+use Rattle.dot_text.proofs.StretchLaws.{first_kept, first_kept_suc, first_next_suc}
 
 -- ## Ranges
 
@@ -75,15 +75,9 @@ module _ (flow : Flow) (tree : Tree) where
   pub first_le : (n : ℕ) → first_of flow tree n ≤ n
   first_le zero = omega arith
   first_le (suc n) = elim (cases_Bool (goes_on flow tree n)) [
-    | inl on ↦ let same : first_of flow tree (suc n) ≡ first_of flow tree n = ap (λ b. if b then first_of flow tree n else suc n) on in omega (arith, first_le n)
-    | inr off ↦ let same : first_of flow tree (suc n) ≡ suc n = ap (λ b. if b then first_of flow tree n else suc n) off in omega arith
+    | inl on ↦ let same : first_of flow tree (suc n) ≡ first_of flow tree n = first_kept_suc flow tree n on in omega (arith, first_le n)
+    | inr off ↦ let same : first_of flow tree (suc n) ≡ suc n = first_next_suc flow tree n off in omega arith
   ]
-
-  pub first_kept_suc : (n : ℕ) → goes_on flow tree n ≡ true → first_of flow tree (suc n) ≡ first_of flow tree n
-  first_kept_suc n on = ap (λ b. if b then first_of flow tree n else suc n) on
-
-  pub first_next_suc : (n : ℕ) → goes_on flow tree n ≡ false → first_of flow tree (suc n) ≡ suc n
-  first_next_suc n off = ap (λ b. if b then first_of flow tree n else suc n) off
 
   so_far : (n : ℕ) → flat_map (numbers_in flow tree) (range_with_len 0 n) ++ between (first_of flow tree n) n ≡ range_with_len 0 n
   so_far zero = refl
@@ -99,10 +93,10 @@ module _ (flow : Flow) (tree : Tree) where
       elim (cases_Bool (goes_on flow tree n)) [
         | inl on ↦
             let none : here ≡ [] = ap (λ b. if b then [] else between first (n + 1)) on in
-            (λ i. (more ∙ ap (λ ks. seen ++ ks) none ∙ append-nil seen) i ++ between (first_kept_suc n on i) (is i)) ∙ whole
+            (λ i. (more ∙ ap (λ ks. seen ++ ks) none ∙ append-nil seen) i ++ between (first_kept_suc flow tree n on i) (is i)) ∙ whole
         | inr off ↦
             let all : here ≡ between first (n + 1) = ap (λ b. if b then [] else between first (n + 1)) off in
-            (λ i. (more ∙ ap (λ ks. seen ++ ks) all) i ++ (ap (λ a. between a (suc n)) (first_next_suc n off) ∙ between_self (suc n)) i)
+            (λ i. (more ∙ ap (λ ks. seen ++ ks) all) i ++ (ap (λ a. between a (suc n)) (first_next_suc flow tree n off) ∙ between_self (suc n)) i)
             ∙ append-nil (seen ++ between first (n + 1)) ∙ whole
       ]
 
@@ -111,7 +105,7 @@ module _ (flow : Flow) (tree : Tree) where
   once_to (suc m) is =
       let all = flat_map (numbers_in flow tree) (range_with_len 0 (suc m)) in
       let none : between (first_of flow tree (suc m)) (suc m) ≡ [] =
-      ap (λ a. between a (suc m)) (first_next_suc m (past_end m (omega (arith, is)))) ∙ between_self (suc m) in
+      ap (λ a. between a (suc m)) (first_next_suc flow tree m (past_end m (omega (arith, is)))) ∙ between_self (suc m) in
       sym (append-nil all) ∙ ap (λ ks. all ++ ks) (sym none) ∙ so_far (suc m)
 
   pub each_once : HoldEachOnce flow tree
@@ -139,7 +133,7 @@ module _ (flow : Flow) (tree : Tree) where
         let u = get_or tree.order m 0 in
         let v = get_or tree.order n 0 in
         let same : u ≡ v = places_once flow.places well.ordered u v Exit (t.inside m m_in) (t.inside n n_in)
-            (sym (well.part u k no_edge (t.inside m m_in) m_low m_high) ∙ well.part v k no_edge (t.inside n n_in) n_low n_high) in
+        (sym (well.part u k no_edge (t.inside m m_in) m_low m_high) ∙ well.part v k no_edge (t.inside n n_in) n_low n_high) in
         let whole : length tree.order ≡ length flow.places + 1 = t.whole in
         ⊎_elim
         (λ (less : m < n). absurd (t.distinct m n less (omega (arith, n_in, whole)) same))
@@ -157,10 +151,10 @@ module _ (flow : Flow) (tree : Tree) where
     led_to_once m n k n_in low high to_is on =
         let both = and_parts (nat_lt (m + 1) (length flow.places)) (leads_on flow tree m && stays_inside flow tree m) on in
         let leads = (and_parts (leads_on flow tree m) (stays_inside flow tree m) both.1).0 in
-        let tests = and_parts (eqb (end_edge flow tree m) (first_edge flow tree m + 1)) (eqb (edge_at tree.edges (first_edge flow tree m)).to (m + 1) && eqb (arrivals flow tree (m + 1)) 1) leads in
+        let tests = and_parts (eqb (end_edge flow tree m - first_edge flow tree m) 1) (eqb (edge_at tree.edges (first_edge flow tree m)).to (m + 1) && eqb (arrivals flow tree (m + 1)) 1) leads in
         let more = and_parts (eqb (edge_at tree.edges (first_edge flow tree m)).to (m + 1)) (eqb (arrivals flow tree (m + 1)) 1) tests.1 in
         let m_in : m < length flow.places = grind (arith, nat_tests, both.0) in
-        let one : end_edge flow tree m ≡ first_edge flow tree m + 1 = eqb-true (end_edge flow tree m) (first_edge flow tree m + 1) tests.0 in
+        let one : end_edge flow tree m - first_edge flow tree m ≡ 1 = eqb-true (end_edge flow tree m - first_edge flow tree m) 1 tests.0 in
         let alone : arrivals flow tree (m + 1) ≡ 1 = eqb-true (arrivals flow tree (m + 1)) 1 more.1 in
         let mine : first_edge flow tree m < end_edge flow tree m = omega (arith, one) in
         let same : k ≡ first_edge flow tree m =
@@ -175,7 +169,7 @@ module _ (flow : Flow) (tree : Tree) where
           let same : n ≡ m = led_to_once m n k n_in low high (omega (arith, to_is)) on in
           let no : false ≡ true = sym off ∙ ap (goes_on flow tree) same ∙ on in
           absurd cc
-      | inr next ↦ first_next_suc m next
+      | inr next ↦ first_next_suc flow tree m next
     ]
 
     pub lead_to_nodes : LeadToNodes flow tree

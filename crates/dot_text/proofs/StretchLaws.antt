@@ -1,5 +1,5 @@
 -- One cluster more, one stretch more, one edge more.
-use Rattle.std.proofs.Common.{◌≡◌, ◌∙◌, ℕ, suc, ◌+◌, ◌<◌, ◌≤◌, true, false, if◌then◌else◌, List, [], ◌∷◌, ◌++◌, Vec, append-nil, append_assoc, length, drop, get_or, sym, ap, subst, arith}
+use Rattle.std.proofs.Common.{◌≡◌, ◌∙◌, ℕ, suc, ◌+◌, ◌<◌, ◌≤◌, Bool, true, false, ◌&&◌, if◌then◌else◌, List, [], ◌++◌, Vec, append-nil, append_assoc, length, drop, get_or, sym, ap, subst, arith}
 use Rattle.std.specs.Prelude.{max}
 use Rattle.std.specs.Global.{Global}
 use Rattle.std.proofs.Math.ListN.{drop_of_length-le}
@@ -10,6 +10,11 @@ use Rattle.numbered_walks.specs.declared.span.Span.{Span}
 use Rattle.dot_text.specs.Clusters.{clusters, depth_in, loop_text, routines}
 use Rattle.dot_text.specs.Stretches.{first_of, goes_on}
 use Rattle.dot_text.specs.Text.{ended, stretch}
+
+pub inside_told : (a b c d : Bool) → a ≡ true → b ≡ true → d ≡ c → d ≡ (a && (b && c))
+inside_told true true c d calls loops is = is
+inside_told true false c d calls loops is = absurd cc
+inside_told false b c d calls loops is = absurd cc
 
 module _ (flow : Flow) (tree : Tree) where
   -- ## Clusters
@@ -36,15 +41,21 @@ module _ (flow : Flow) (tree : Tree) where
 
   -- ## Stretches
 
+  pub first_kept_suc : (n : ℕ) → goes_on flow tree n ≡ true → first_of flow tree (suc n) ≡ first_of flow tree n
+  first_kept_suc n on = ap (λ b. if b then first_of flow tree n else suc n) on
+
+  pub first_next_suc : (n : ℕ) → goes_on flow tree n ≡ false → first_of flow tree (suc n) ≡ suc n
+  first_next_suc n off = ap (λ b. if b then first_of flow tree n else suc n) off
+
   pub first_kept : (n : ℕ) → goes_on flow tree n ≡ true → first_of flow tree (n + 1) ≡ first_of flow tree n
   first_kept n h =
       let is : n + 1 ≡ suc n = omega arith in
-      ap (first_of flow tree) is ∙ ap (λ b. if b then first_of flow tree n else suc n) h
+      ap (first_of flow tree) is ∙ first_kept_suc n h
 
   pub first_next : (n : ℕ) → goes_on flow tree n ≡ false → first_of flow tree (n + 1) ≡ n + 1
   first_next n h =
       let is : n + 1 ≡ suc n = omega arith in
-      ap (first_of flow tree) is ∙ ap (λ b. if b then first_of flow tree n else suc n) h ∙ sym is
+      ap (first_of flow tree) is ∙ first_next_suc n h ∙ sym is
 
   module _ (counts : List ℕ) (labels : List (Vec ℕ Global)) where
     abbrev at_end : ℕ → List ℕ

@@ -1,11 +1,11 @@
 -- The ticks of all nodes are what the walk costs.
-use Rattle.std.proofs.Common.{◌≡◌, ◌∙◌, ℕ, zero, suc, ◌+◌, ◌-◌, ◌*◌, ◌^◌, ◌<◌, ◌≤◌, min, inl, inr, ⊎_elim, Bool, true, false, cond, eqb, if◌then◌else◌, List, [], ◌∷◌, ◌++◌, length, get_or, refl, sym, ap, subst, arith}
+use Rattle.std.proofs.Common.{◌≡◌, ◌∙◌, ℕ, zero, suc, ◌+◌, ◌-◌, ◌*◌, ◌^◌, ◌<◌, ◌≤◌, inl, inr, ⊎_elim, true, false, cond, eqb, if◌then◌else◌, List, [], ◌∷◌, ◌++◌, length, get_or, refl, sym, ap, subst, arith}
 use Rattle.std.specs.Prelude.{count_by, sum_by}
 use Rattle.std.specs.List.{range_with_len}
 use Rattle.std.proofs.lemmas.Bool.{cases_Bool, cases_lt, eq-eqb, ne_eqb}
 use Rattle.std.proofs.lemmas.List.Elements.{All-from_get_or}
 use Rattle.std.proofs.lemmas.List.FromFn.{get_or-range_with_len, length-range_with_len}
-use Rattle.std.proofs.lemmas.List.Sums.{sum_by-append, sum_by-cons, sum_by-le-sum_by, sum_by_push}
+use Rattle.std.proofs.lemmas.List.Sums.{sum_by-append, sum_by-cons, sum_by_push}
 use Rattle.flow_graph.specs.Flow.{Flow, IsWellFormed}
 use Rattle.loop_bounds.specs.Tree.{IsTree, Tree}
 use Rattle.longest_walk.specs.Built.{step_at}
@@ -16,8 +16,9 @@ use Rattle.walk_counts.specs.Counts.{AreCounts, capped, counted_cost}
 use Rattle.walk_counts.proofs.CountLemmas.{total}
 use Rattle.walk_counts.proofs.SumLemmas.{picked, same_sums, sums_by_number}
 use Rattle.dot_text.specs.Nodes.{all_ticks, node_ticks}
-use Rattle.dot_text.specs.Stretches.{between, edge_ticks, end_edge, first_edge, first_of, goes_on, leaving, stretch_ticks, ticks}
-use Rattle.dot_text.proofs.NodeLaws.{between_last, between_self, first_kept_suc, first_le, first_more, first_next_suc, past_end}
+use Rattle.dot_text.specs.Stretches.{between, edge_ticks, first_of, goes_on, leaving, stretch_ticks, ticks}
+use Rattle.dot_text.proofs.NodeLaws.{between_last, between_self, first_le, first_more, past_end}
+use Rattle.dot_text.proofs.StretchLaws.{first_kept_suc, first_next_suc}
 
 -- ## Ranges
 
@@ -166,9 +167,9 @@ module _ (flow : Flow) (tree : Tree) (counts : List ℕ) where
       let all : get_or flow.firsts exit 0 - 0 ≡ length flow.edges = omega (arith, well.last_all) in
       ordered_sum (λ n. get_or tree.order n 0) exit t.inside t.all
       (λ j k j_in k_in same. ⊎_elim
-          (λ (less : j < k). absurd (t.distinct j k less (omega (arith, k_in, whole)) same))
-          (λ (le : k ≤ j). ⊎_elim (λ (more : k < j). absurd (t.distinct k j more (omega (arith, j_in, whole)) (sym same))) (λ (ge : j ≤ k). omega (arith, le, ge)) (cases_lt k j))
-          (cases_lt j k))
+      (λ (less : j < k). absurd (t.distinct j k less (omega (arith, k_in, whole)) same))
+      (λ (le : k ≤ j). ⊎_elim (λ (more : k < j). absurd (t.distinct k j more (omega (arith, j_in, whole)) (sym same))) (λ (ge : j ≤ k). omega (arith, le, ge)) (cases_lt k j))
+      (cases_lt j k))
       (λ v. sum_by of_edge (between (get_or flow.firsts v 0) (get_or flow.firsts (v + 1) 0)))
       ∙ parts_sum (λ v. get_or flow.firsts v 0) of_edge exit well.first_zero well.rising
       ∙ ap (λ n. sum_by of_edge (range_with_len 0 n)) all

@@ -1,6 +1,6 @@
 -- Clusters of a drawing: one for each list of calls, and one for each instance of a loop. A cluster that is
 -- named again is the same one. Our own choice of what the DOT language offers (Graphviz).
-use Rattle.std.specs.Prelude.{ℕ, ◌+◌, ◌-◌, max, min, List, [], ◌∷◌, ◌++◌, length, take, replicate, reverse}
+use Rattle.std.specs.Prelude.{ℕ, ◌+◌, max, min, List, [], ◌∷◌, ◌++◌, length, take, replicate, reverse}
 use Rattle.std.specs.Prelude.{slice_index, codes, decimal}
 use Rattle.std.specs.List.{flat_map}
 use Rattle.asm_text.specs.Hex.{hex8}
@@ -21,7 +21,8 @@ routine_text calls last =
 
 -- the clusters of the first calls of a list: those with more than one number and at most another
 abbrev pub routines : List ℕ → (from to : ℕ) → List ℕ
-routines calls from to = flat_map (λ d. routine_text (take (d + 1) calls) (slice_index calls d)) (between from to)
+routines calls from to =
+    flat_map (λ d. routine_text (take (d + 1) calls) (slice_index calls d)) (between from to)
 
 module _ (flow : Flow) (tree : Tree) where
   -- how many of these calls a loop is inside of

@@ -1,5 +1,6 @@
 -- What stands in a drawing for the word of each place.
-use Rattle.std.specs.Prelude.{◌≡◌, ℕ, zero, suc, ◌+◌, Bool, false, ◌||◌, ◌==◌, if◌then◌else◌, List, [], ◌∷◌, Vec}
+use Rattle.std.specs.Prelude.{◌≡◌, ℕ, zero, suc, ◌+◌, Bool, false, ◌||◌, ◌==◌, if◌then◌else◌}
+use Rattle.std.specs.Prelude.{List, [], ◌∷◌, Vec}
 use Rattle.std.specs.Prelude.{Option, Some, None, option_map, unwrap_or}
 use Rattle.std.specs.BTreeMap.{BTreeMap, get}
 use Rattle.std.specs.Global.{Global}
@@ -15,7 +16,7 @@ use Rattle.dot_text.specs.Stretches.{address_of}
 -- a line has a word at an address
 abbrev pub has_word : (from count a : ℕ) → Bool
 has_word from zero a = false
-has_word from (suc n) a = from == a || has_word (from + 4) n a
+has_word from (suc n) a = a == from || has_word (from + 4) n a
 
 -- the text of the last line with a word at the address, if a line has one; else what was found before
 abbrev pub text_with : List (List ℕ) → List PlacedLine → Option (List ℕ) → ℕ → Option (List ℕ)
@@ -40,7 +41,8 @@ abbrev pub AreLabels : (ℕ → List ℕ → Type 0) → List Place → List (Ve
 AreLabels IsLabel places labels = AllZip (λ p l. IsLabel (address_of p) l.items) places labels
 
 abbrev pub AreSourceLabels : List ℕ → List PlacedLine → List Place → List (Vec ℕ Global) → Type 0
-AreSourceLabels source placed places labels = AreLabels (λ a text. text ≡ source_label source placed a) places labels
+AreSourceLabels source placed places labels =
+    AreLabels (λ a text. text ≡ source_label source placed a) places labels
 
 abbrev pub AreImageLabels : Words → List Place → List (Vec ℕ Global) → Type 0
 AreImageLabels words places labels = AreLabels (IsImageLabel words) places labels

@@ -1,6 +1,6 @@
 -- The straight stretches of a flow graph, and what a walk takes of them.
 use Rattle.std.specs.Prelude.{◌≡◌, ℕ, zero, suc, ◌+◌, ◌-◌, ◌*◌, ◌≤◌, Bool, ◌&&◌, ◌==◌, if◌then◌else◌, nat_lt}
-use Rattle.std.specs.Prelude.{List, [], length, count_by, sum_by, slice_index, Vec}
+use Rattle.std.specs.Prelude.{List, [], length, count_by, sum_by, slice_index}
 use Rattle.std.specs.Cmp.Lexicographic.{pointwise}
 use Rattle.std.specs.List.{filter, list_all, range_with_len}
 use Rattle.flow_graph.specs.Flow.{Flow}
@@ -58,7 +58,9 @@ module _ (flow : Flow) (tree : Tree) where
 
   -- one edge alone leaves a number, and leads to the next as the only one there
   abbrev pub leads_on : ℕ → Bool
-  leads_on n = end_edge n == first_edge n + 1 && ((edge_at tree.edges (first_edge n)).to == n + 1 && arrivals (n + 1) == 1)
+  leads_on n =
+      end_edge n - first_edge n == 1
+      && ((edge_at tree.edges (first_edge n)).to == n + 1 && arrivals (n + 1) == 1)
 
   -- the next number is inside the same calls and the same loops
   abbrev pub stays_inside : ℕ → Bool

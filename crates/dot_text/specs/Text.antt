@@ -1,5 +1,5 @@
 -- The drawing of a flow graph, with what a greatest walk takes, in the DOT language of Graphviz.
-use Rattle.std.specs.Prelude.{◌≡◌, ℕ, zero, suc, ◌+◌, Bool, ◌==◌, ◌&&◌, nat_le, if◌then◌else◌, List, [], ◌∷◌, ◌++◌}
+use Rattle.std.specs.Prelude.{◌≡◌, ℕ, zero, suc, ◌+◌, ◌==◌, ◌&&◌, nat_le, if◌then◌else◌, List, [], ◌∷◌, ◌++◌}
 use Rattle.std.specs.Prelude.{length, codes, decimal, Vec, Option, Some, None, slice_index}
 use Rattle.std.specs.Global.{Global}
 use Rattle.std.specs.List.{flat_map, range_with_len, slice_get}
@@ -45,7 +45,8 @@ label_of (Some label) = label.items
 
 abbrev pub heading : List ℕ
 heading =
-    codes "digraph handler {\nnode [shape=box, fontname=\"Courier\"];\nedge [fontname=\"Courier\"];\ngraph [fontname=\"Courier\"];\n"
+    codes "digraph handler {\nnode [shape=box, fontname=\"Courier\"];\n"
+    ++ codes "edge [fontname=\"Courier\"];\ngraph [fontname=\"Courier\"];\n"
 
 -- ## The drawing
 

@@ -1,6 +1,6 @@
 ghost use Rattle.std.specs.Prelude.{◌≡◌, ◌≤◌, ◌<◌, ◌^◌, ◌++◌, OnOk, length, replicate};
-ghost use Rattle.dot_text.specs.Clusters.{call_names, closed, clusters, depth_in, loop_text, opened, routine_text};
-ghost use Rattle.dot_text.specs.Clusters.{routines};
+ghost use Rattle.dot_text.specs.Clusters.{call_names, closed, clusters, depth_in, loop_text};
+ghost use Rattle.dot_text.specs.Clusters.{opened, routine_text, routines};
 ghost use Rattle.dot_text.specs.Stretches.{AreTables, address_of};
 
 use crate::pieces::{put, put_address, put_number};

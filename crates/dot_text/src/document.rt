@@ -2,7 +2,7 @@ ghost use Rattle.std.specs.Prelude.{◌≡◌, ◌<◌, ◌≤◌, ◌+◌, ◌+
 ghost use Rattle.std.specs.List.{flat_map, range_with_len};
 ghost use Rattle.loop_bounds.specs.Tree.{IsTree};
 ghost use Rattle.dot_text.specs.Stretches.{AreTables, first_of};
-ghost use Rattle.dot_text.specs.Text.{IsDrawing, ended};
+ghost use Rattle.dot_text.specs.Text.{IsDrawing, drawing, ended};
 
 use crate::nodes::put_stretch;
 use crate::pieces::{put, put_name};
@@ -15,9 +15,10 @@ use numbered_walks::Index;
 use std::alloc::{AllocError, Global};
 use walk_counts::edge_counts;
 
-// The settings of all nodes, edges and clusters.
-const HEADING: &[u8] =
-    b"digraph handler {\nnode [shape=box, fontname=\"Courier\"];\nedge [fontname=\"Courier\"];\ngraph [fontname=\"Courier\"];\n";
+// The settings of all nodes, and those of edges and clusters.
+const HEADING: &[u8] = b"digraph handler {\nnode [shape=box, fontname=\"Courier\"];\n";
+
+const FONTS: &[u8] = b"edge [fontname=\"Courier\"];\ngraph [fontname=\"Courier\"];\n";
 
 // Adds the stretch that ends with a number, if one does, by its first number; the first of the next number's.
 fn put_ended(
@@ -65,11 +66,29 @@ fn put_stretches(out: &mut Vec<u8>, drawn: Drawn<'_>) -> Result<(), AllocError>
     Ok(())
 }
 
-/// The drawing of a flow graph with what a greatest walk takes, in DOT: a node for each straight stretch, with
-/// the address and the label of each of its places, the ticks that the walk takes there and how often it
+// The whole drawing, by its tables.
+fn drawn_text(alloc: Global, drawn: Drawn<'_>) -> Result<Vec<u8>, AllocError>
+    requires tree { IsTree drawn.graph.now drawn.tree.now }
+    requires tables { AreTables drawn.graph.now drawn.tree.now drawn.index.now drawn.arrivals.now }
+    requires counted { length drawn.counts.now ≡ length drawn.graph.now.edges }
+    ensures { IfOk result
+        (λ text. text.items
+        ≡ drawing drawn.entry.graph.now drawn.entry.tree.now drawn.entry.counts.now
+        drawn.entry.labels.now) }
+{
+    let mut out = Vec::from_slice(alloc, HEADING)?;
+    put(&mut out, FONTS)?;
+    put_stretches(&mut out, drawn)?;
+    put_name(&mut out, drawn.graph.places().len())?;
+    put(&mut out, b" [label=\"Exit\", shape=oval];\n}\n")?;
+    Ok(out)
+}
+
+/// The drawing of a flow graph with what a greatest walk takes, in DOT: a node for each straight stretch,
+/// with the address and the label of each of its places, the ticks that the walk takes there and how often it
 /// passes; the edges between stretches with their ticks and how often the walk takes them; and Exit. Nodes
 /// stand in clusters, one for each list of calls and one for each instance of a loop. Bold is what the walk
-/// takes, grey what it does not.
+/// takes, grey what it does not. Numbers are told up to 2^64 - 1.
 ///
 /// The tree is the one that `nest` gave for the graph, and the labels are of its places, in their order.
 ///
@@ -86,9 +105,8 @@ pub fn drawing(
     requires { IsTree graph.now tree.now }
     ensures { IfOk result (λ text. IsDrawing graph.now tree.now longest.now labels.now text.items) }
 {
-    let exit = graph.places().len();
     let counts = edge_counts(alloc, graph, &longest.walk)?;
-    let index = Index::of(alloc, tree.edges(), tree.spans(), exit)?;
+    let index = Index::of(alloc, tree.edges(), tree.spans(), graph.places().len())?;
     let arrivals = arrivals(alloc, graph, tree)?;
     let drawn = Drawn {
         graph,
@@ -98,9 +116,5 @@ pub fn drawing(
         index: &index,
         arrivals: &arrivals,
     };
-    let mut out = Vec::from_slice(alloc, HEADING)?;
-    put_stretches(&mut out, drawn)?;
-    put_name(&mut out, exit)?;
-    put(&mut out, b" [label=\"Exit\", shape=oval];\n}\n")?;
-    Ok(out)
+    drawn_text(alloc, drawn)
 }

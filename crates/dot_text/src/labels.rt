@@ -1,4 +1,4 @@
-ghost use Rattle.std.specs.Prelude.{◌≡◌, ℕ, None, IfOk, OnOk};
+ghost use Rattle.std.specs.Prelude.{◌≡◌, ℕ, [], None, IfOk, OnOk, unwrap_or};
 ghost use Rattle.asm_text.specs.Source.{lines_of};
 ghost use Rattle.dot_text.specs.Labels.{AreImageLabels, AreSourceLabels, IsImageLabel, PutsAt, found_text};
 ghost use Rattle.dot_text.specs.Labels.{text_with};
@@ -50,6 +50,16 @@ fn texts_by_address(
     Ok(texts)
 }
 
+// The text at an address, empty where there is none.
+fn text_at(alloc: Global, texts: &BTreeMap<u32, Vec<u8>>, at: u32) -> Result<Vec<u8>, AllocError>
+    ensures { IfOk result (λ text. text.items ≡ unwrap_or (found_text texts.now at) []) }
+{
+    match texts.get(&at) {
+        Some(text) => Vec::from_slice(alloc, text),
+        None => Ok(Vec::new(alloc)),
+    }
+}
+
 /// For each place of a graph, in their order, the text of the line that its word is of. `placed` says where
 /// the lines of the source stand, in their order.
 ///
@@ -68,11 +78,7 @@ pub fn source_labels(
     let texts = texts_by_address(alloc, source, placed)?;
     let mut labels = Vec::new(alloc);
     for place in graph.places() {
-        let label = match texts.get(&address_of(*place)) {
-            Some(text) => Vec::from_slice(alloc, text)?,
-            None => Vec::new(alloc),
-        };
-        labels.push(label)?;
+        labels.push(text_at(alloc, &texts, address_of(*place))?)?;
     }
     Ok(labels)
 }

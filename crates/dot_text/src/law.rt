@@ -7,8 +7,8 @@ ghost use Rattle.longest_walk.specs.declared.folded.Item.{Item};
 ghost use Rattle.walk_counts.specs.Counts.{AreCounts};
 ghost use Rattle.dot_text.specs.Nodes.{HoldEachOnce, LeadToNodes, all_ticks};
 
-/// States that the nodes of a drawing hold each place of the graph once, and that its edges lead to Exit or to
-/// one of the nodes. It does nothing.
+/// States that the nodes of a drawing hold each place of the graph once, and that its edges lead to Exit or
+/// to one of the nodes. It does nothing.
 pub fn places_are_drawn_once()
     ensures places { (flow : Flow) (tree : Tree) → HoldEachOnce flow tree }
     ensures edges { (flow : Flow) (tree : Tree) → IsWellFormed flow → IsTree flow tree

@@ -1,5 +1,6 @@
-//! The flow graph of a handler as a drawing in DOT, the language of Graphviz, with what a greatest walk takes:
-//! a node for each straight stretch, inside the clusters of its calls and loops, and the edges between them.
+//! The flow graph of a handler as a drawing in DOT, the language of Graphviz, with what a greatest walk
+//! takes: a node for each straight stretch, inside the clusters of its calls and loops, and the edges between
+//! them.
 #![tactic(auto)]
 
 mod clusters;

@@ -28,7 +28,8 @@ fn put_row(out: &mut Vec<u8>, drawn: Drawn<'_>, number: usize) -> Result<(), All
     requires known { number < length drawn.graph.now.places }
     ensures { OnOk result
         (out.new.items ≡ out.old.items
-        ++ row drawn.entry.graph.now drawn.entry.tree.now drawn.entry.counts.now drawn.entry.labels.now number) }
+        ++ row drawn.entry.graph.now drawn.entry.tree.now drawn.entry.counts.now drawn.entry.labels.now
+        number) }
 {
     put_address(out, address_of(drawn.place(number)))?;
     put(out, b"  ")?;
@@ -87,7 +88,8 @@ fn put_node(
     put_style(out, passes)
 }
 
-/// Adds a stretch, by its first and its last number: its node inside its clusters, and the edges that leave it.
+/// Adds a stretch, by its first and its last number: its node inside its clusters, and the edges that leave
+/// it.
 pub(crate) fn put_stretch(
     out: &mut Vec<u8>,
     drawn: Drawn<'_>,

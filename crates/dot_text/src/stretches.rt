@@ -4,8 +4,8 @@ ghost use Rattle.flow_graph.specs.Flow.{IsWellFormed};
 ghost use Rattle.loop_bounds.specs.Tree.{IsTree};
 ghost use Rattle.numbered_walks.specs.Ordered.{is_in};
 ghost use Rattle.walk_counts.specs.Counts.{capped};
-ghost use Rattle.dot_text.specs.Stretches.{AreTables, calls_in, edge_ticks, end_edge, first_edge, goes_on, leads_on};
-ghost use Rattle.dot_text.specs.Stretches.{loops_of, passes, stays_inside, stretch_ticks, ticks};
+ghost use Rattle.dot_text.specs.Stretches.{AreTables, calls_in, edge_ticks, end_edge, first_edge, goes_on};
+ghost use Rattle.dot_text.specs.Stretches.{leads_on, loops_of, passes, stays_inside, stretch_ticks, ticks};
 
 use crate::tables::Drawn;
 use flow_graph::{Calls, Place};
@@ -80,10 +80,9 @@ fn leads_on(drawn: Drawn<'_>, number: usize) -> bool
     requires known { number < length drawn.graph.now.places }
     ensures { result ≡ leads_on drawn.entry.graph.now drawn.entry.tree.now number }
 {
-    let edges = drawn.tree.edges();
     let (first, end) = part(drawn, number);
-    end == first + 1
-        && edges[first].to == number + 1
+    end - first == 1
+        && drawn.tree.edges()[first].to == number + 1
         && drawn.arrivals[number + 1] == 1
 }
 
@@ -94,9 +93,15 @@ fn stays_inside(drawn: Drawn<'_>, number: usize) -> bool
     ensures { result ≡ stays_inside drawn.entry.graph.now drawn.entry.tree.now number }
 {
     let loops = loops_of(drawn, number);
-    calls_in(drawn, number) == calls_in(drawn, number + 1)
-        && loops.len() == loops_of(drawn, number + 1).len()
-        && all_hold(loops, number + 1)
+    let same_calls = calls_in(drawn, number) == calls_in(drawn, number + 1);
+    if !same_calls {
+        return false;
+    }
+    let as_many = loops.len() == loops_of(drawn, number + 1).len();
+    if !as_many {
+        return false;
+    }
+    all_hold(loops, number + 1)
 }
 
 /// Whether the next number belongs to the same stretch.
@@ -165,7 +170,8 @@ pub(crate) fn stretch_ticks(drawn: Drawn<'_>, first: usize, last: usize) -> u64
     requires tables { AreTables drawn.graph.now drawn.tree.now drawn.index.now drawn.arrivals.now }
     requires known { last < length drawn.graph.now.places }
     requires counted { length drawn.counts.now ≡ length drawn.graph.now.edges }
-    ensures { result ≡ stretch_ticks drawn.entry.graph.now drawn.entry.tree.now drawn.entry.counts.now first last }
+    ensures { result
+        ≡ stretch_ticks drawn.entry.graph.now drawn.entry.tree.now drawn.entry.counts.now first last }
 {
     let mut all = 0;
     for number in first..last + 1 {

@@ -29,7 +29,8 @@ pub(crate) fn arrivals(
     requires { IsTree graph.now tree.now }
     ensures { IfOk result
         (λ counted. (length counted.items ≡ length graph.now.places + 1)
-        × ((n : ℕ) → n ≤ length graph.now.places → slice_index counted.items n ≡ arrivals graph.now tree.now n)) }
+        × ((n : ℕ) → n ≤ length graph.now.places
+        → slice_index counted.items n ≡ arrivals graph.now tree.now n)) }
 {
     let mut counted = vec![in alloc; 0; graph.places().len() + 1]?;
     for edge in tree.edges() {

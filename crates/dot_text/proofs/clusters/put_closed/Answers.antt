@@ -1,4 +1,4 @@
-use Rattle.std.proofs.Common.{◌∙◌, ◌+◌, ◌++◌, ℕ, List, ap, length, replicate}
+use Rattle.std.proofs.Common.{◌∙◌, ◌++◌, ℕ, List, ap, length, replicate}
 use Rattle.numbered_walks.specs.declared.span.Span.{Span}
 use Rattle.std.proofs.lemmas.Result.{on_ok_weaker}
 use Rattle.dot_text.specs.Stretches.{calls_in, loops_of}

@@ -1,4 +1,4 @@
-use Rattle.std.proofs.Common.{◌+◌, ◌<◌, ℕ, List, length, sym, subst, take}
+use Rattle.std.proofs.Common.{◌+◌, List, sym, subst, take}
 use Rattle.flow_graph.specs.declared.places.Place.{Place}
 use Rattle.dot_text.specs.Labels.{AreImageLabels, IsImageLabel}
 use Rattle.dot_text.proofs.LabelLaws.{labels_more}

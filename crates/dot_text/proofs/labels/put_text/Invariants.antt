@@ -1,4 +1,4 @@
-use Rattle.std.proofs.Common.{◌≡◌, ◌≤◌, ◌+◌, ◌-◌, ◌*◌, ◌^◌}
+use Rattle.std.proofs.Common.{◌≤◌, ◌+◌, ◌-◌, ◌*◌, ◌^◌}
 use Rattle.dot_text.specs.Labels.{PutsAt}
 use Rattle.dot_text.proofs.labels.put_text.Given as goal
 

@@ -1,4 +1,4 @@
-use Rattle.std.proofs.Common.{◌∙◌, ◌++◌, ap, codes, flat_map}
+use Rattle.std.proofs.Common.{codes, flat_map}
 use Rattle.std.proofs.lemmas.Result.{on_ok_weaker}
 use Rattle.dot_text.specs.Clusters.{closed, opened}
 use Rattle.dot_text.specs.Stretches.{leaving}

@@ -1,4 +1,4 @@
-use Rattle.std.proofs.Common.{◌≡◌, ◌+◌, ◌<◌, ◌≤◌, ℕ, List, get_or, length, sym, subst}
+use Rattle.std.proofs.Common.{◌+◌, ◌≤◌, ℕ, List, get_or, length, sym, subst}
 use Rattle.longest_walk.proofs.PlaceParts.{part_fits}
 use Rattle.dot_text.proofs.StretchLaws.{place_known}
 use Rattle.dot_text.proofs.stretches.part.Goals as goal

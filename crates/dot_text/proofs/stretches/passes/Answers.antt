@@ -1,7 +1,7 @@
-use Rattle.std.proofs.Common.{◌∙◌, ◌+◌, arith, sum_by}
+use Rattle.std.proofs.Common.{◌∙◌, arith, sum_by}
 use Rattle.std.specs.Prelude.{slice_index}
 use Rattle.walk_counts.specs.Counts.{capped}
-use Rattle.dot_text.specs.Stretches.{between, edge_ticks}
+use Rattle.dot_text.specs.Stretches.{between}
 use Rattle.dot_text.proofs.DrawLaws.{sum_end, sum_more}
 use Rattle.dot_text.proofs.stretches.passes.Goals as goal
 

@@ -1,7 +1,7 @@
 use Rattle.std.proofs.Common.{◌≡◌, ◌<◌, ◌+◌, ◌^◌, sum_by}
 use Rattle.std.specs.Prelude.{slice_index}
 use Rattle.walk_counts.specs.Counts.{capped}
-use Rattle.dot_text.specs.Stretches.{between, edge_ticks, passes}
+use Rattle.dot_text.specs.Stretches.{between}
 use Rattle.dot_text.proofs.stretches.passes.Given as goal
 
 abbrev pub invariant-loop-edge : goal.invariant-loop-edge

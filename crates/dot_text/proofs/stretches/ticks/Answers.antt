@@ -1,5 +1,4 @@
-use Rattle.std.proofs.Common.{◌∙◌, ◌+◌, arith, sum_by}
-use Rattle.std.specs.Prelude.{slice_index}
+use Rattle.std.proofs.Common.{◌∙◌, arith, sum_by}
 use Rattle.walk_counts.specs.Counts.{capped}
 use Rattle.dot_text.specs.Stretches.{between, edge_ticks}
 use Rattle.dot_text.proofs.DrawLaws.{sum_end, sum_more}

@@ -1,7 +1,6 @@
 use Rattle.std.proofs.Common.{◌≡◌, ◌<◌, ◌+◌, ◌^◌, sum_by}
-use Rattle.std.specs.Prelude.{slice_index}
 use Rattle.walk_counts.specs.Counts.{capped}
-use Rattle.dot_text.specs.Stretches.{between, edge_ticks, ticks}
+use Rattle.dot_text.specs.Stretches.{between, edge_ticks}
 use Rattle.dot_text.proofs.stretches.ticks.Given as goal
 
 abbrev pub invariant-loop-edge : goal.invariant-loop-edge

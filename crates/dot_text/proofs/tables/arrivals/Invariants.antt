@@ -1,5 +1,5 @@
 use Rattle.std.proofs.Common.{◌≡◌, ◌≤◌, ◌+◌, ℕ, get_or, length, take, eqb}
-use Rattle.std.specs.Prelude.{count_by, slice_index}
+use Rattle.std.specs.Prelude.{count_by}
 use Rattle.dot_text.proofs.tables.arrivals.Given as goal
 
 abbrev pub invariant-loop-edge : goal.invariant-loop-edge
