@@ -1,0 +1,93 @@
+-- One piece more of a text, and one number more of a sum.
+use Rattle.std.proofs.Common.{◌≡◌, ◌∙◌, ℕ, zero, suc, ◌+◌, ◌-◌, ◌^◌, ◌<◌, ◌≤◌, List, [], ◌∷◌, ◌++◌, append-nil, append_assoc, length, drop, get_or, flat_map, replicate, sym, ap, arith}
+use Rattle.std.specs.Prelude.{sum_by}
+use Rattle.std.specs.List.{range_with_len}
+use Rattle.std.proofs.Math.ListN.{drop_of_length-le}
+use Rattle.std.proofs.lemmas.List.{drop_more}
+use Rattle.std.proofs.lemmas.List.Concat.{flat_map-cons}
+use Rattle.std.proofs.lemmas.List.Sums.{sum_by-cons}
+use Rattle.walk_counts.specs.Counts.{capped}
+use Rattle.walk_counts.proofs.SumLemmas.{capped_more}
+use Rattle.dot_text.specs.Stretches.{between}
+
+-- ## Numbers
+
+pub between_more : (n end : ℕ) → n < end → between n end ≡ n ∷ between (n + 1) end
+between_more n end lt =
+    let is : end - n ≡ suc (end - (n + 1)) = omega arith in
+    ap (range_with_len n) is
+
+pub between_none : (n end : ℕ) → end ≤ n → between n end ≡ []
+between_none n end le =
+    let is : end - n ≡ 0 = omega arith in
+    ap (range_with_len n) is
+
+-- ## Texts
+
+-- two pieces, one after the other
+pub joined : (old mid new a b : List ℕ) → mid ≡ old ++ a → new ≡ mid ++ b → new ≡ old ++ (a ++ b)
+joined old mid new a b one two = two ∙ ap (λ xs. xs ++ b) one ∙ append_assoc old a b
+
+pub three : {m1 m2 new : List ℕ} (old p1 p2 p3 : List ℕ) → m1 ≡ old ++ p1 → m2 ≡ m1 ++ p2 → new ≡ m2 ++ p3 → new ≡ old ++ (p1 ++ (p2 ++ p3))
+three {m1} {m2} {new} old p1 p2 p3 e1 e2 e3 = joined old m1 new p1 (p2 ++ p3) e1 (joined m1 m2 new p2 p3 e2 e3)
+
+pub four : {m1 m2 m3 new : List ℕ} (old p1 p2 p3 p4 : List ℕ) → m1 ≡ old ++ p1 → m2 ≡ m1 ++ p2 → m3 ≡ m2 ++ p3 → new ≡ m3 ++ p4 → new ≡ old ++ (p1 ++ (p2 ++ (p3 ++ p4)))
+four {m1} {m2} {m3} {new} old p1 p2 p3 p4 e1 e2 e3 e4 = joined old m1 new p1 (p2 ++ (p3 ++ p4)) e1 (three m1 p2 p3 p4 e2 e3 e4)
+
+pub five : {m1 m2 m3 m4 new : List ℕ} (old p1 p2 p3 p4 p5 : List ℕ) → m1 ≡ old ++ p1 → m2 ≡ m1 ++ p2 → m3 ≡ m2 ++ p3 → m4 ≡ m3 ++ p4 → new ≡ m4 ++ p5 → new ≡ old ++ (p1 ++ (p2 ++ (p3 ++ (p4 ++ p5))))
+five {m1} {m2} {m3} {m4} {new} old p1 p2 p3 p4 p5 e1 e2 e3 e4 e5 = joined old m1 new p1 (p2 ++ (p3 ++ (p4 ++ p5))) e1 (four m1 p2 p3 p4 p5 e2 e3 e4 e5)
+
+pub six : {m1 m2 m3 m4 m5 new : List ℕ} (old p1 p2 p3 p4 p5 p6 : List ℕ) → m1 ≡ old ++ p1 → m2 ≡ m1 ++ p2 → m3 ≡ m2 ++ p3 → m4 ≡ m3 ++ p4 → m5 ≡ m4 ++ p5 → new ≡ m5 ++ p6 → new ≡ old ++ (p1 ++ (p2 ++ (p3 ++ (p4 ++ (p5 ++ p6)))))
+six {m1} {m2} {m3} {m4} {m5} {new} old p1 p2 p3 p4 p5 p6 e1 e2 e3 e4 e5 e6 = joined old m1 new p1 (p2 ++ (p3 ++ (p4 ++ (p5 ++ p6)))) e1 (five m1 p2 p3 p4 p5 p6 e2 e3 e4 e5 e6)
+
+pub seven : {m1 m2 m3 m4 m5 m6 new : List ℕ} (old p1 p2 p3 p4 p5 p6 p7 : List ℕ) → m1 ≡ old ++ p1 → m2 ≡ m1 ++ p2 → m3 ≡ m2 ++ p3 → m4 ≡ m3 ++ p4 → m5 ≡ m4 ++ p5 → m6 ≡ m5 ++ p6 → new ≡ m6 ++ p7 → new ≡ old ++ (p1 ++ (p2 ++ (p3 ++ (p4 ++ (p5 ++ (p6 ++ p7))))))
+seven {m1} {m2} {m3} {m4} {m5} {m6} {new} old p1 p2 p3 p4 p5 p6 p7 e1 e2 e3 e4 e5 e6 e7 = joined old m1 new p1 (p2 ++ (p3 ++ (p4 ++ (p5 ++ (p6 ++ p7))))) e1 (six m1 p2 p3 p4 p5 p6 p7 e2 e3 e4 e5 e6 e7)
+
+pub eight : {m1 m2 m3 m4 m5 m6 m7 new : List ℕ} (old p1 p2 p3 p4 p5 p6 p7 p8 : List ℕ) → m1 ≡ old ++ p1 → m2 ≡ m1 ++ p2 → m3 ≡ m2 ++ p3 → m4 ≡ m3 ++ p4 → m5 ≡ m4 ++ p5 → m6 ≡ m5 ++ p6 → m7 ≡ m6 ++ p7 → new ≡ m7 ++ p8 → new ≡ old ++ (p1 ++ (p2 ++ (p3 ++ (p4 ++ (p5 ++ (p6 ++ (p7 ++ p8)))))))
+eight {m1} {m2} {m3} {m4} {m5} {m6} {m7} {new} old p1 p2 p3 p4 p5 p6 p7 p8 e1 e2 e3 e4 e5 e6 e7 e8 = joined old m1 new p1 (p2 ++ (p3 ++ (p4 ++ (p5 ++ (p6 ++ (p7 ++ p8)))))) e1 (seven m1 p2 p3 p4 p5 p6 p7 p8 e2 e3 e4 e5 e6 e7 e8)
+
+pub nine : {m1 m2 m3 m4 m5 m6 m7 m8 new : List ℕ} (old p1 p2 p3 p4 p5 p6 p7 p8 p9 : List ℕ) → m1 ≡ old ++ p1 → m2 ≡ m1 ++ p2 → m3 ≡ m2 ++ p3 → m4 ≡ m3 ++ p4 → m5 ≡ m4 ++ p5 → m6 ≡ m5 ++ p6 → m7 ≡ m6 ++ p7 → m8 ≡ m7 ++ p8 → new ≡ m8 ++ p9 → new ≡ old ++ (p1 ++ (p2 ++ (p3 ++ (p4 ++ (p5 ++ (p6 ++ (p7 ++ (p8 ++ p9))))))))
+nine {m1} {m2} {m3} {m4} {m5} {m6} {m7} {m8} {new} old p1 p2 p3 p4 p5 p6 p7 p8 p9 e1 e2 e3 e4 e5 e6 e7 e8 e9 = joined old m1 new p1 (p2 ++ (p3 ++ (p4 ++ (p5 ++ (p6 ++ (p7 ++ (p8 ++ p9))))))) e1 (eight m1 p2 p3 p4 p5 p6 p7 p8 p9 e2 e3 e4 e5 e6 e7 e8 e9)
+
+pub ten : {m1 m2 m3 m4 m5 m6 m7 m8 m9 new : List ℕ} (old p1 p2 p3 p4 p5 p6 p7 p8 p9 p10 : List ℕ) → m1 ≡ old ++ p1 → m2 ≡ m1 ++ p2 → m3 ≡ m2 ++ p3 → m4 ≡ m3 ++ p4 → m5 ≡ m4 ++ p5 → m6 ≡ m5 ++ p6 → m7 ≡ m6 ++ p7 → m8 ≡ m7 ++ p8 → m9 ≡ m8 ++ p9 → new ≡ m9 ++ p10 → new ≡ old ++ (p1 ++ (p2 ++ (p3 ++ (p4 ++ (p5 ++ (p6 ++ (p7 ++ (p8 ++ (p9 ++ p10)))))))))
+ten {m1} {m2} {m3} {m4} {m5} {m6} {m7} {m8} {m9} {new} old p1 p2 p3 p4 p5 p6 p7 p8 p9 p10 e1 e2 e3 e4 e5 e6 e7 e8 e9 e10 = joined old m1 new p1 (p2 ++ (p3 ++ (p4 ++ (p5 ++ (p6 ++ (p7 ++ (p8 ++ (p9 ++ p10)))))))) e1 (nine m1 p2 p3 p4 p5 p6 p7 p8 p9 p10 e2 e3 e4 e5 e6 e7 e8 e9 e10)
+
+pub as_many : (m n b : ℕ) → replicate m b ++ replicate n b ≡ replicate (m + n) b
+as_many zero n b = ap (λ k. replicate k b) (omega arith)
+as_many (suc m) n b =
+    let is : suc (m + n) ≡ suc m + n = omega arith in
+    ap (λ xs. b ∷ xs) (as_many m n b) ∙ ap (λ k. replicate k b) is
+
+pub piece_more : {X : Type 0} (f : X → List ℕ) (x : X) (rest : List X) (text new all : List ℕ) → text ++ flat_map f (x ∷ rest) ≡ all → new ≡ text ++ f x → new ++ flat_map f rest ≡ all
+piece_more f x rest text new all h one =
+    ap (λ xs. xs ++ flat_map f rest) one ∙ append_assoc text (f x) (flat_map f rest)
+    ∙ ap (λ xs. text ++ xs) (sym (flat_map-cons f x rest)) ∙ h
+
+pub item_more : {X : Type 0} (f : X → List ℕ) (xs : List X) (i : ℕ) (d : X) (text new all : List ℕ) → text ++ flat_map f (drop i xs) ≡ all → i < length xs → new ≡ text ++ f (get_or xs i d) → new ++ flat_map f (drop (i + 1) xs) ≡ all
+item_more f xs i d text new all h lt one =
+    piece_more f (get_or xs i d) (drop (i + 1) xs) text new all (ap (λ ys. text ++ flat_map f ys) (sym (drop_more xs i d lt)) ∙ h) one
+
+pub items_end : {X : Type 0} (f : X → List ℕ) (xs : List X) (i : ℕ) (text all : List ℕ) → text ++ flat_map f (drop i xs) ≡ all → length xs ≤ i → text ≡ all
+items_end f xs i text all h le =
+    sym (append-nil text) ∙ ap (λ ys. text ++ flat_map f ys) (sym (drop_of_length-le xs le)) ∙ h
+
+pub number_more : (f : ℕ → List ℕ) (n end : ℕ) (text new all : List ℕ) → text ++ flat_map f (between n end) ≡ all → n < end → new ≡ text ++ f n → new ++ flat_map f (between (n + 1) end) ≡ all
+number_more f n end text new all h lt one =
+    piece_more f n (between (n + 1) end) text new all (ap (λ ys. text ++ flat_map f ys) (sym (between_more n end lt)) ∙ h) one
+
+pub numbers_end : (f : ℕ → List ℕ) (n end : ℕ) (text all : List ℕ) → text ++ flat_map f (between n end) ≡ all → end ≤ n → text ≡ all
+numbers_end f n end text all h le =
+    sym (append-nil text) ∙ ap (λ ys. text ++ flat_map f ys) (sym (between_none n end le)) ∙ h
+
+-- ## Sums
+
+pub sum_more : (f : ℕ → ℕ) (n end sum one new all : ℕ) → capped (sum + sum_by f (between n end)) ≡ all → n < end → one ≡ f n → new ≡ capped (sum + one) → capped (new + sum_by f (between (n + 1) end)) ≡ all
+sum_more f n end sum one new all h lt here new_is =
+    let rest = sum_by f (between (n + 1) end) in
+    let parts : sum_by f (between n end) ≡ f n + rest = ap (sum_by f) (between_more n end lt) ∙ sum_by-cons f n (between (n + 1) end) in
+    ap (λ m. capped (m + rest)) new_is ∙ capped_more (2 ^ 64 - 1) sum one rest ∙ ap (λ m. capped (sum + (m + rest))) here ∙ ap (λ m. capped (sum + m)) (sym parts) ∙ h
+
+pub sum_end : (f : ℕ → ℕ) (n end sum all : ℕ) → capped (sum + sum_by f (between n end)) ≡ all → end ≤ n → sum < 2 ^ 64 → sum ≡ all
+sum_end f n end sum all h le small =
+    let same : sum ≡ capped (sum + 0) = omega arith in
+    same ∙ ap (λ ns. capped (sum + sum_by f ns)) (sym (between_none n end le)) ∙ h

@@ -1,0 +1,6 @@
+mod ArrivalLaws
+mod DrawLaws
+mod LabelLaws
+mod NodeLaws
+mod StretchLaws
+mod TotalLaws

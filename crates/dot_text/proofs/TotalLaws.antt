@@ -1,0 +1,207 @@
+-- The ticks of all nodes are what the walk costs.
+use Rattle.std.proofs.Common.{◌≡◌, ◌∙◌, ℕ, zero, suc, ◌+◌, ◌-◌, ◌*◌, ◌^◌, ◌<◌, ◌≤◌, inl, inr, ⊎_elim, true, false, cond, eqb, if◌then◌else◌, List, [], ◌∷◌, ◌++◌, length, get_or, refl, sym, ap, subst, arith}
+use Rattle.std.specs.Prelude.{count_by, sum_by}
+use Rattle.std.specs.List.{range_with_len}
+use Rattle.std.proofs.lemmas.Bool.{cases_Bool, cases_lt, eq-eqb, ne_eqb}
+use Rattle.std.proofs.lemmas.List.Elements.{All-from_get_or}
+use Rattle.std.proofs.lemmas.List.FromFn.{get_or-range_with_len, length-range_with_len}
+use Rattle.std.proofs.lemmas.List.Sums.{sum_by-append, sum_by-cons, sum_by_push}
+use Rattle.flow_graph.specs.Flow.{Flow, IsWellFormed}
+use Rattle.loop_bounds.specs.Tree.{IsTree, Tree}
+use Rattle.longest_walk.specs.Built.{step_at}
+use Rattle.longest_walk.specs.Folded.{unfolded}
+use Rattle.longest_walk.specs.Longest.{IsWalkOf}
+use Rattle.longest_walk.specs.declared.folded.Item.{Item}
+use Rattle.walk_counts.specs.Counts.{AreCounts, capped, counted_cost}
+use Rattle.walk_counts.proofs.CountLemmas.{total}
+use Rattle.walk_counts.proofs.SumLemmas.{picked, same_sums, sums_by_number}
+use Rattle.dot_text.specs.Nodes.{all_ticks, node_ticks}
+use Rattle.dot_text.specs.Stretches.{between, edge_ticks, first_of, goes_on, leaving, stretch_ticks, ticks}
+use Rattle.dot_text.proofs.NodeLaws.{between_last, between_self, first_le, first_more, past_end}
+use Rattle.dot_text.proofs.StretchLaws.{first_kept_suc, first_next_suc}
+
+-- ## Ranges
+
+range_join : (a m n : ℕ) → range_with_len a m ++ range_with_len (a + m) n ≡ range_with_len a (m + n)
+range_join a zero n = let is : a + 0 ≡ a = omega arith in let whole : n ≡ 0 + n = omega arith in (λ i. range_with_len (is i) (whole i))
+range_join a (suc m) n =
+    let is : a + suc m ≡ a + 1 + m = omega arith in
+    let whole : suc (m + n) ≡ suc m + n = omega arith in
+    ap (λ b. a ∷ range_with_len (a + 1) m ++ range_with_len b n) is ∙ ap (λ ks. a ∷ ks) (range_join (a + 1) m n) ∙ ap (range_with_len a) whole
+
+between_join : (a b c : ℕ) → a ≤ b → b ≤ c → between a b ++ between b c ≡ between a c
+between_join a b c low high =
+    let is : b ≡ a + (b - a) = omega arith in
+    let whole : b - a + (c - b) ≡ c - a = omega arith in
+    ap (λ k. between a b ++ range_with_len k (c - b)) is ∙ range_join a (b - a) (c - b) ∙ ap (range_with_len a) whole
+
+-- parts that follow on one another
+parts_sum : (first : ℕ → ℕ) (g : ℕ → ℕ) (n : ℕ) → first 0 ≡ 0 → ((v : ℕ) → v < n → first v ≤ first (v + 1))
+    → (sum_by (λ v. sum_by g (between (first v) (first (v + 1)))) (range_with_len 0 n) ≡ sum_by g (between 0 (first n)))
+parts_sum first g zero starts rises = ap (λ k. sum_by g (between 0 k)) (sym starts)
+parts_sum first g (suc n) starts rises =
+    let part = λ (v : ℕ). sum_by g (between (first v) (first (v + 1))) in
+    let is : n + 1 ≡ suc n = omega arith in
+    let here : first n ≤ first (n + 1) = rises n (omega arith) in
+    ap (sum_by part) (first_more n) ∙ sum_by_push part (range_with_len 0 n) n
+    ∙ ap (λ s. s + part n) (parts_sum first g n starts (λ v lt. rises v (omega arith)))
+    ∙ sym (sum_by-append g (between 0 (first n)) (between (first n) (first (n + 1))))
+    ∙ ap (sum_by g) (between_join 0 (first n) (first (n + 1)) (omega arith) here) ∙ ap (λ k. sum_by g (between 0 (first k))) is
+
+-- ## Orders
+
+-- each number below another is at one place below it
+module _ (at : ℕ → ℕ) (n : ℕ) (inside : (k : ℕ) → k < n → at k < n) (all : (v : ℕ) → v < n → (k : ℕ) × (k < n) × (at k ≡ v))
+    (distinct : (j k : ℕ) → j < n → k < n → at j ≡ at k → j ≡ k) where
+  once : (v : ℕ) → v < n → count_by (λ k. eqb (at k) v) (range_with_len 0 n) ≡ 1
+  once v lt =
+      let w = all v lt in
+      let j = w.0 in
+      same_sums (λ k. cond (eqb (at k) v) 1 0) (λ k. cond (eqb j k) 1 0 * 1) n 0 (λ k low high. same j w.1 w.2 k (omega arith))
+      ∙ picked j (λ k. 1) n 0 (omega arith) (omega (arith, w.1))
+    where
+      same : (j : ℕ) → j < n → at j ≡ v → (k : ℕ) → k < n → cond (eqb (at k) v) 1 0 ≡ cond (eqb j k) 1 0 * 1
+      same j j_in is k k_in = ⊎_elim
+          (λ (less : j < k). other (λ e. absurd (omega (arith, less, e))))
+          (λ (le : k ≤ j). ⊎_elim (λ (more : k < j). other (λ e. absurd (omega (arith, more, e)))) (λ (ge : j ≤ k). here (omega (arith, le, ge))) (cases_lt k j))
+          (cases_lt j k)
+        where
+          here : j ≡ k → cond (eqb (at k) v) 1 0 ≡ cond (eqb j k) 1 0 * 1
+          here e = (λ i. cond (eq-eqb (at k) v (ap at (sym e) ∙ is) i) 1 0) ∙ (λ i. cond (sym (eq-eqb j k e) i) 1 0 * 1)
+
+          other : (j ≡ k → ⊥) → cond (eqb (at k) v) 1 0 ≡ cond (eqb j k) 1 0 * 1
+          other differ =
+              (λ i. cond (ne_eqb (at k) v (λ e. differ (distinct j k j_in k_in (is ∙ sym e))) i) 1 0) ∙ (λ i. cond (sym (ne_eqb j k differ) i) 1 0 * 1)
+
+  ordered_sum : (h : ℕ → ℕ) → sum_by (λ k. h (at k)) (range_with_len 0 n) ≡ sum_by h (range_with_len 0 n)
+  ordered_sum h =
+      sym (sums_by_number at (λ k. h (at k)) h n (range_with_len 0 n)
+      (All-from_get_or (λ k. (at k < n) × (h (at k) ≡ h (at k))) (range_with_len 0 n) 0
+      (λ k lt. let few : k < n = omega (arith, lt, length-range_with_len 0 n) in
+      let is : 0 + k ≡ k = omega arith in
+      let there : k ≡ get_or (range_with_len 0 n) k 0 = sym (get_or-range_with_len 0 n k 0 few ∙ is) in
+      (moved k few (get_or (range_with_len 0 n) k 0) there, refl))))
+      ∙ same_sums (λ v. count_by (λ k. eqb (at k) v) (range_with_len 0 n) * h v) h n 0
+      (λ v low high. ap (λ c. c * h v) (once v (omega arith)) ∙ omega arith)
+    where
+      moved : (k : ℕ) → k < n → (j : ℕ) → k ≡ j → at j < n
+      moved k lt j is = inside j (omega (arith, lt, is))
+
+-- ## Sums told up to a greatest number
+
+-- at most, and told up to the greatest number the same
+abbrev Tells : ℕ → ℕ → Type 0
+Tells m n = (m ≤ n) × (capped m ≡ capped n)
+
+tells_capped : (m n : ℕ) → Tells m n → Tells (capped m) n
+tells_capped m n h =
+    let le : m ≤ n = h.0 in
+    let same : capped m ≡ capped n = h.1 in
+    (omega arith, omega arith)
+
+tells_sum : {X : Type 0} (f g : X → ℕ) → ((x : X) → Tells (f x) (g x)) → (xs : List X) → Tells (sum_by f xs) (sum_by g xs)
+tells_sum f g h [] = (omega arith, refl)
+tells_sum f g h (x ∷ xs) =
+    let here : f x ≤ g x = (h x).0 in
+    let same : capped (f x) ≡ capped (g x) = (h x).1 in
+    let rest = tells_sum f g h xs in
+    let le : sum_by f xs ≤ sum_by g xs = rest.0 in
+    let more : capped (sum_by f xs) ≡ capped (sum_by g xs) = rest.1 in
+    (omega (arith, here, le, sum_by-cons f x xs, sum_by-cons g x xs), omega (arith, same, more, sum_by-cons f x xs, sum_by-cons g x xs))
+
+told : (m n : ℕ) → Tells m n → n < 2 ^ 64 → m ≡ n
+told m n h lt =
+    let le : m ≤ n = h.0 in
+    let same : capped m ≡ capped n = h.1 in
+    omega arith
+
+-- ## All nodes
+
+module _ (flow : Flow) (tree : Tree) (counts : List ℕ) where
+  -- the ticks of an edge, and of all that leave a number
+  abbrev of_edge : ℕ → ℕ
+  of_edge k = get_or counts k 0 * (step_at flow.edges k).cost
+
+  abbrev of_number : ℕ → ℕ
+  of_number n = sum_by of_edge (leaving flow tree n)
+
+  abbrev of_node : ℕ → ℕ
+  of_node n = if goes_on flow tree n then 0 else sum_by of_number (between (first_of flow tree n) (n + 1))
+
+  sums_far : (n : ℕ) → sum_by of_node (range_with_len 0 n) + sum_by of_number (between (first_of flow tree n) n) ≡ sum_by of_number (range_with_len 0 n)
+  sums_far zero = refl
+  sums_far (suc n) =
+      let first = first_of flow tree n in
+      let is : suc n ≡ n + 1 = omega arith in
+      let last : sum_by of_number (between first (n + 1)) ≡ sum_by of_number (between first n) + of_number n =
+      ap (sum_by of_number) (between_last first n (first_le flow tree n)) ∙ sum_by_push of_number (between first n) n in
+      let more : sum_by of_node (range_with_len 0 (suc n)) ≡ sum_by of_node (range_with_len 0 n) + of_node n =
+      ap (sum_by of_node) (first_more n) ∙ sum_by_push of_node (range_with_len 0 n) n in
+      let whole : sum_by of_number (range_with_len 0 (suc n)) ≡ sum_by of_number (range_with_len 0 n) + of_number n =
+      ap (sum_by of_number) (first_more n) ∙ sum_by_push of_number (range_with_len 0 n) n in
+      elim (cases_Bool (goes_on flow tree n)) [
+        | inl on ↦
+            let none : of_node n ≡ 0 = ap (λ b. if b then 0 else sum_by of_number (between first (n + 1))) on in
+            let rest : sum_by of_number (between (first_of flow tree (suc n)) (suc n)) ≡ sum_by of_number (between first (n + 1)) =
+            λ i. sum_by of_number (between (first_kept_suc flow tree n on i) (is i)) in
+            omega (arith, sums_far n, last, more, whole, none, rest)
+        | inr off ↦
+            let all : of_node n ≡ sum_by of_number (between first (n + 1)) = ap (λ b. if b then 0 else sum_by of_number (between first (n + 1))) off in
+            let rest : sum_by of_number (between (first_of flow tree (suc n)) (suc n)) ≡ 0 =
+            ap (sum_by of_number) (ap (λ a. between a (suc n)) (first_next_suc flow tree n off) ∙ between_self (suc n)) in
+            omega (arith, sums_far n, last, more, whole, all, rest)
+      ]
+
+  nodes_to : (n : ℕ) → length flow.places ≡ n → sum_by of_node (range_with_len 0 n) ≡ sum_by of_number (range_with_len 0 n)
+  nodes_to zero is = refl
+  nodes_to (suc m) is =
+      let next = first_next_suc flow tree m (past_end flow tree m (omega (arith, is))) in
+      let rest : sum_by of_number (between (first_of flow tree (suc m)) (suc m)) ≡ 0 = ap (sum_by of_number) (ap (λ a. between a (suc m)) next ∙ between_self (suc m)) in
+      omega (arith, sums_far (suc m), rest)
+
+  -- all edges leave some number
+  numbers_sum : IsWellFormed flow → IsTree flow tree → sum_by of_number (range_with_len 0 (length flow.places)) ≡ counted_cost flow.edges counts
+  numbers_sum well t =
+      let exit = length flow.places in
+      let whole : length tree.order ≡ exit + 1 = t.whole in
+      let all : get_or flow.firsts exit 0 - 0 ≡ length flow.edges = omega (arith, well.last_all) in
+      ordered_sum (λ n. get_or tree.order n 0) exit t.inside t.all
+      (λ j k j_in k_in same. ⊎_elim
+      (λ (less : j < k). absurd (t.distinct j k less (omega (arith, k_in, whole)) same))
+      (λ (le : k ≤ j). ⊎_elim (λ (more : k < j). absurd (t.distinct k j more (omega (arith, j_in, whole)) (sym same))) (λ (ge : j ≤ k). omega (arith, le, ge)) (cases_lt k j))
+      (cases_lt j k))
+      (λ v. sum_by of_edge (between (get_or flow.firsts v 0) (get_or flow.firsts (v + 1) 0)))
+      ∙ parts_sum (λ v. get_or flow.firsts v 0) of_edge exit well.first_zero well.rising
+      ∙ ap (λ n. sum_by of_edge (range_with_len 0 n)) all
+
+  tells_edge : (k : ℕ) → Tells (edge_ticks flow counts k) (of_edge k)
+  tells_edge k = tells_capped (of_edge k) (of_edge k) (omega arith, refl)
+
+  tells_number : (n : ℕ) → Tells (ticks flow tree counts n) (of_number n)
+  tells_number n =
+      tells_capped (sum_by (edge_ticks flow counts) (leaving flow tree n)) (of_number n) (tells_sum (edge_ticks flow counts) of_edge tells_edge (leaving flow tree n))
+
+  tells_stretch : (first last : ℕ) → Tells (stretch_ticks flow tree counts first last) (sum_by of_number (between first (last + 1)))
+  tells_stretch first last =
+      let ns = between first (last + 1) in
+      tells_capped (sum_by (ticks flow tree counts) ns) (sum_by of_number ns) (tells_sum (ticks flow tree counts) of_number tells_number ns)
+
+  tells_node : (n : ℕ) → Tells (node_ticks flow tree counts n) (of_node n)
+  tells_node n =
+      let first = first_of flow tree n in
+      let s = stretch_ticks flow tree counts first n in
+      let u = sum_by of_number (between first (n + 1)) in
+      elim (goes_on flow tree n) as (λ b. Tells (if b then 0 else s) (if b then 0 else u)) [
+        | true ↦ (omega arith, refl)
+        | false ↦ tells_stretch first n
+      ]
+
+pub ticks_in_all : (flow : Flow) (tree : Tree) (cost : ℕ) (items : List Item) (counts : List ℕ) → IsWellFormed flow → IsTree flow tree → IsWalkOf flow tree cost items → cost < 2 ^ 64
+    → AreCounts flow.edges (unfolded items) counts → all_ticks flow tree counts ≡ cost
+ticks_in_all flow tree cost items counts well t walk fits are =
+    let numbers = range_with_len 0 (length flow.places) in
+    let all : sum_by (of_node flow tree counts) numbers ≡ cost =
+    nodes_to flow tree counts (length flow.places) refl ∙ numbers_sum flow tree counts well t ∙ total flow items counts tree cost well are walk fits in
+    told (all_ticks flow tree counts) (sum_by (of_node flow tree counts) numbers) (tells_sum (node_ticks flow tree counts) (of_node flow tree counts) (tells_node flow tree counts) numbers)
+    (subst (λ n. n < 2 ^ 64) (sym all) fits)
+    ∙ all

@@ -1,0 +1,20 @@
+use Rattle.std.proofs.Common.{◌∙◌, ◌++◌, flat_map}
+use Rattle.dot_text.specs.Stretches.{between}
+use Rattle.dot_text.specs.Text.{edge}
+use Rattle.dot_text.proofs.DrawLaws.{number_more, numbers_end}
+use Rattle.dot_text.proofs.edges.put_edges.Goals as goal
+
+pub loop-number-preserved : goal.loop-number-preserved
+loop-number-preserved c =
+    let d = c.args.drawn in
+    let f = edge d.graph.now d.tree.now d.counts.now d.labels.now c.args.first in
+    number_more f c.loop-number.number c.part-begin.result.1 c.loop-number.out.items c.put_edge.new.out.items
+    (c.args.out.now.items ++ flat_map f (between c.part-begin.result.0 c.part-begin.result.1)) c.loop-number.invariant c.loop-number-test.true c.in_ok-put_edge.ensures
+
+pub returns : goal.returns
+returns c =
+    let d = c.args.drawn in
+    let f = edge d.graph.now d.tree.now d.counts.now d.labels.now c.args.first in
+    numbers_end f c.loop-number.number c.part-begin.result.1 c.loop-number.out.items
+    (c.args.out.now.items ++ flat_map f (between c.part-begin.result.0 c.part-begin.result.1)) c.loop-number.invariant c.loop-number-test.false
+    ∙ (λ i. c.args.out.now.items ++ flat_map f (between (c.part-begin.ensures.first i) (c.part-begin.ensures.end i)))

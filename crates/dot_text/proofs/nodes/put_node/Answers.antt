@@ -1,0 +1,21 @@
+use Rattle.std.proofs.Common.{◌∙◌, ◌+◌, ◌++◌, ap, codes, decimal, flat_map}
+use Rattle.std.proofs.lemmas.Result.{on_ok_weaker}
+use Rattle.dot_text.specs.Stretches.{between, passes, stretch_ticks}
+use Rattle.dot_text.specs.Text.{name, row, style}
+use Rattle.dot_text.proofs.DrawLaws.{nine}
+use Rattle.dot_text.proofs.nodes.put_node.Goals as goal
+
+pub returns : goal.returns
+returns c =
+    let d = c.args.drawn in
+    let first = c.args.first in
+    let last = c.args.last in
+    let passed = passes d.graph.now d.tree.now d.counts.now first in
+    on_ok_weaker c.put_style.result
+    (λ style_is. nine c.args.out.now.items (name first) (codes " [label=\"") (flat_map (row d.graph.now d.tree.now d.counts.now d.labels.now) (between first (last + 1)))
+    (codes "passes ") (decimal passed) (codes ", ticks in all ") (decimal (stretch_ticks d.graph.now d.tree.now d.counts.now first last)) (codes "\\l") (style passed)
+    c.in_ok-put_name.ensures c.in_ok-put.ensures c.in_ok-put_rows.ensures c.in_ok-put-2.ensures
+    (c.in_ok-put_number.ensures ∙ ap (λ n. c.put-2.new.out.items ++ decimal n) c.passes-passes.ensures) c.in_ok-put-3.ensures
+    (c.in_ok-put_number-2.ensures ∙ ap (λ n. c.put-3.new.out.items ++ decimal n) c.stretch_ticks.ensures) c.in_ok-put-4.ensures
+    (style_is ∙ ap (λ n. c.put-4.new.out.items ++ style n) c.passes-passes.ensures))
+    c.put_style.ensures

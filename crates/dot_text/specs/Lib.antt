@@ -1,0 +1,5 @@
+pub mod Clusters
+pub mod Labels
+pub mod Nodes
+pub mod Stretches
+pub mod Text

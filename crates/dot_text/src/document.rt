@@ -1,0 +1,120 @@
+ghost use Rattle.std.specs.Prelude.{◌≡◌, ◌<◌, ◌≤◌, ◌+◌, ◌++◌, IfOk, OnOk, length};
+ghost use Rattle.std.specs.List.{flat_map, range_with_len};
+ghost use Rattle.loop_bounds.specs.Tree.{IsTree};
+ghost use Rattle.dot_text.specs.Stretches.{AreTables, first_of};
+ghost use Rattle.dot_text.specs.Text.{IsDrawing, drawing, ended};
+
+use crate::nodes::put_stretch;
+use crate::pieces::{put, put_name};
+use crate::stretches::goes_on;
+use crate::tables::{Drawn, arrivals};
+use flow_graph::Graph;
+use longest_walk::Longest;
+use loop_bounds::LoopTree;
+use numbered_walks::Index;
+use std::alloc::{AllocError, Global};
+use walk_counts::edge_counts;
+
+// The settings of all nodes, and those of edges and clusters.
+const HEADING: &[u8] = b"digraph handler {\nnode [shape=box, fontname=\"Courier\"];\n";
+
+const FONTS: &[u8] = b"edge [fontname=\"Courier\"];\ngraph [fontname=\"Courier\"];\n";
+
+// Adds the stretch that ends with a number, if one does, by its first number; the first of the next number's.
+fn put_ended(
+    out: &mut Vec<u8>,
+    drawn: Drawn<'_>,
+    first: usize,
+    number: usize,
+) -> Result<usize, AllocError>
+    requires tree { IsTree drawn.graph.now drawn.tree.now }
+    requires tables { AreTables drawn.graph.now drawn.tree.now drawn.index.now drawn.arrivals.now }
+    requires counted { length drawn.counts.now ≡ length drawn.graph.now.edges }
+    requires known { number < length drawn.graph.now.places }
+    requires order { first ≤ number }
+    requires first { first ≡ first_of drawn.graph.now drawn.tree.now number }
+    ensures next { IfOk result
+        (λ next. next ≡ first_of drawn.entry.graph.now drawn.entry.tree.now (number + 1)) }
+    ensures order { IfOk result (λ next. next ≤ number + 1) }
+    ensures text { OnOk result
+        (out.new.items ≡ out.old.items
+        ++ ended drawn.entry.graph.now drawn.entry.tree.now drawn.entry.counts.now drawn.entry.labels.now
+        number) }
+{
+    if goes_on(drawn, number) {
+        return Ok(first);
+    }
+    put_stretch(out, drawn, first, number)?;
+    Ok(number + 1)
+}
+
+// Adds all stretches.
+fn put_stretches(out: &mut Vec<u8>, drawn: Drawn<'_>) -> Result<(), AllocError>
+    requires tree { IsTree drawn.graph.now drawn.tree.now }
+    requires tables { AreTables drawn.graph.now drawn.tree.now drawn.index.now drawn.arrivals.now }
+    requires counted { length drawn.counts.now ≡ length drawn.graph.now.edges }
+    ensures { OnOk result
+        (out.new.items ≡ out.old.items
+        ++ flat_map
+        (ended drawn.entry.graph.now drawn.entry.tree.now drawn.entry.counts.now drawn.entry.labels.now)
+        (range_with_len 0 (length drawn.entry.graph.now.places))) }
+{
+    let mut first = 0;
+    for number in 0..drawn.graph.places().len() {
+        first = put_ended(out, drawn, first, number)?;
+    }
+    Ok(())
+}
+
+// The whole drawing, by its tables.
+fn drawn_text(alloc: Global, drawn: Drawn<'_>) -> Result<Vec<u8>, AllocError>
+    requires tree { IsTree drawn.graph.now drawn.tree.now }
+    requires tables { AreTables drawn.graph.now drawn.tree.now drawn.index.now drawn.arrivals.now }
+    requires counted { length drawn.counts.now ≡ length drawn.graph.now.edges }
+    ensures { IfOk result
+        (λ text. text.items
+        ≡ drawing drawn.entry.graph.now drawn.entry.tree.now drawn.entry.counts.now
+        drawn.entry.labels.now) }
+{
+    let mut out = Vec::from_slice(alloc, HEADING)?;
+    put(&mut out, FONTS)?;
+    put_stretches(&mut out, drawn)?;
+    put_name(&mut out, drawn.graph.places().len())?;
+    put(&mut out, b" [label=\"Exit\", shape=oval];\n}\n")?;
+    Ok(out)
+}
+
+/// The drawing of a flow graph with what a greatest walk takes, in DOT: a node for each straight stretch,
+/// with the address and the label of each of its places, the ticks that the walk takes there and how often it
+/// passes; the edges between stretches with their ticks and how often the walk takes them; and Exit. Nodes
+/// stand in clusters, one for each list of calls and one for each instance of a loop. Bold is what the walk
+/// takes, grey what it does not. Numbers are told up to 2^64 - 1.
+///
+/// The tree is the one that `nest` gave for the graph, and the labels are of its places, in their order.
+///
+/// # Errors
+///
+/// An allocation failed.
+pub fn drawing(
+    alloc: Global,
+    graph: &Graph,
+    tree: &LoopTree,
+    longest: &Longest,
+    labels: &[Vec<u8>],
+) -> Result<Vec<u8>, AllocError>
+    requires { IsTree graph.now tree.now }
+    ensures { IfOk result (λ text. IsDrawing graph.now tree.now longest.now labels.now text.items) }
+{
+    let counts = edge_counts(alloc, graph, &longest.walk)?;
+    let index = Index::of(alloc, tree.edges(), tree.spans(), graph.places().len())?;
+    let arrivals = arrivals(alloc, graph, tree)?;
+    let drawn = Drawn {
+        graph,
+        tree,
+        counts: &counts,
+        labels,
+        index: &index,
+        arrivals: &arrivals,
+    };
+    drawn_text(alloc, drawn)
+}

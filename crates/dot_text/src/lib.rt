@@ -1,0 +1,18 @@
+//! The flow graph of a handler as a drawing in DOT, the language of Graphviz, with what a greatest walk
+//! takes: a node for each straight stretch, inside the clusters of its calls and loops, and the edges between
+//! them.
+#![tactic(auto)]
+
+mod clusters;
+mod document;
+mod edges;
+mod labels;
+mod law;
+mod nodes;
+mod pieces;
+mod stretches;
+mod tables;
+
+pub use document::drawing;
+pub use labels::{image_labels, source_labels};
+pub use law::{node_ticks_are_the_bound, places_are_drawn_once};

@@ -1,0 +1,181 @@
+ghost use Rattle.std.specs.Prelude.{◌≡◌, ◌<◌, ◌≤◌, ◌+◌, ◌*◌, length, slice_index};
+ghost use Rattle.std.specs.List.{list_all};
+ghost use Rattle.flow_graph.specs.Flow.{IsWellFormed};
+ghost use Rattle.loop_bounds.specs.Tree.{IsTree};
+ghost use Rattle.numbered_walks.specs.Ordered.{is_in};
+ghost use Rattle.walk_counts.specs.Counts.{capped};
+ghost use Rattle.dot_text.specs.Stretches.{AreTables, calls_in, edge_ticks, end_edge, first_edge, goes_on};
+ghost use Rattle.dot_text.specs.Stretches.{leads_on, loops_of, passes, stays_inside, stretch_ticks, ticks};
+
+use crate::tables::Drawn;
+use flow_graph::{Calls, Place};
+use numbered_walks::Span;
+
+fn capped_sum(sum: u64, more: u64) -> u64
+    ensures { result ≡ capped (sum + more) }
+{
+    sum.saturating_add(more)
+}
+
+fn capped_product(count: u64, cost: u32) -> u64
+    ensures { result ≡ capped (count * cost) }
+{
+    count.saturating_mul(u64::from(cost))
+}
+
+/// Where the edges that leave the place of a number begin in the graph's list, and where they end.
+pub(crate) fn part(drawn: Drawn<'_>, number: usize) -> (usize, usize)
+    requires tree { IsTree drawn.graph.now drawn.tree.now }
+    requires known { number < length drawn.graph.now.places }
+    ensures first { result.0 ≡ first_edge drawn.entry.graph.now drawn.entry.tree.now number }
+    ensures end { result.1 ≡ end_edge drawn.entry.graph.now drawn.entry.tree.now number }
+    ensures order { result.0 ≤ result.1 }
+    ensures fits { result.1 ≤ length drawn.entry.graph.now.edges }
+{
+    let firsts = drawn.graph.firsts();
+    let place = drawn.tree.order()[number];
+    (firsts[place], firsts[place + 1])
+}
+
+/// The calls inside of which the place of a number is.
+pub(crate) fn calls_in(drawn: Drawn<'_>, number: usize) -> Calls
+    ensures { result ≡ calls_in drawn.entry.graph.now drawn.entry.tree.now number }
+{
+    match drawn.place(number) {
+        Place::At(calls, _) => calls,
+        Place::Exit => Calls::new(),
+    }
+}
+
+/// The loops that hold a number, the inner ones first.
+pub(crate) fn loops_of<'a>(drawn: Drawn<'a>, number: usize) -> &'a [Span]
+    requires tables { AreTables drawn.graph.now drawn.tree.now drawn.index.now drawn.arrivals.now }
+    requires known { number ≤ length drawn.graph.now.places }
+    ensures { result.now ≡ loops_of drawn.entry.graph.now drawn.entry.tree.now number }
+{
+    &drawn.index.holders[number]
+}
+
+fn is_in(span: &Span, number: usize) -> bool
+    ensures { result ≡ is_in span.now number }
+{
+    span.header <= number && number <= span.last
+}
+
+fn all_hold(loops: &[Span], number: usize) -> bool
+    ensures { result ≡ list_all (λ s. is_in s number) loops.now }
+{
+    for span in loops {
+        if !is_in(span, number) {
+            return false;
+        }
+    }
+    true
+}
+
+// Whether one edge alone leaves a number, and leads to the next as the only one there.
+fn leads_on(drawn: Drawn<'_>, number: usize) -> bool
+    requires tree { IsTree drawn.graph.now drawn.tree.now }
+    requires tables { AreTables drawn.graph.now drawn.tree.now drawn.index.now drawn.arrivals.now }
+    requires known { number < length drawn.graph.now.places }
+    ensures { result ≡ leads_on drawn.entry.graph.now drawn.entry.tree.now number }
+{
+    let (first, end) = part(drawn, number);
+    end - first == 1
+        && drawn.tree.edges()[first].to == number + 1
+        && drawn.arrivals[number + 1] == 1
+}
+
+// Whether the next number is inside the same calls and the same loops.
+fn stays_inside(drawn: Drawn<'_>, number: usize) -> bool
+    requires tables { AreTables drawn.graph.now drawn.tree.now drawn.index.now drawn.arrivals.now }
+    requires known { number < length drawn.graph.now.places }
+    ensures { result ≡ stays_inside drawn.entry.graph.now drawn.entry.tree.now number }
+{
+    let loops = loops_of(drawn, number);
+    let same_calls = calls_in(drawn, number) == calls_in(drawn, number + 1);
+    if !same_calls {
+        return false;
+    }
+    let as_many = loops.len() == loops_of(drawn, number + 1).len();
+    if !as_many {
+        return false;
+    }
+    all_hold(loops, number + 1)
+}
+
+/// Whether the next number belongs to the same stretch.
+pub(crate) fn goes_on(drawn: Drawn<'_>, number: usize) -> bool
+    requires tree { IsTree drawn.graph.now drawn.tree.now }
+    requires tables { AreTables drawn.graph.now drawn.tree.now drawn.index.now drawn.arrivals.now }
+    requires known { number < length drawn.graph.now.places }
+    ensures { result ≡ goes_on drawn.entry.graph.now drawn.entry.tree.now number }
+{
+    number + 1 < drawn.graph.places().len()
+        && leads_on(drawn, number)
+        && stays_inside(drawn, number)
+}
+
+/// How often the walk takes an edge.
+pub(crate) fn count_of(drawn: Drawn<'_>, edge: usize) -> u64
+    requires known { edge < length drawn.graph.now.edges }
+    requires counted { length drawn.counts.now ≡ length drawn.graph.now.edges }
+    ensures { result ≡ slice_index drawn.entry.counts.now edge }
+{
+    drawn.counts[edge]
+}
+
+/// How often the walk leaves a number.
+pub(crate) fn passes(drawn: Drawn<'_>, number: usize) -> u64
+    requires tree { IsTree drawn.graph.now drawn.tree.now }
+    requires known { number < length drawn.graph.now.places }
+    requires counted { length drawn.counts.now ≡ length drawn.graph.now.edges }
+    ensures { result ≡ passes drawn.entry.graph.now drawn.entry.tree.now drawn.entry.counts.now number }
+{
+    let (first, end) = part(drawn, number);
+    let mut passes = 0;
+    for edge in first..end {
+        passes = capped_sum(passes, count_of(drawn, edge));
+    }
+    passes
+}
+
+// The ticks of an edge, as often as the walk takes it.
+fn edge_ticks(drawn: Drawn<'_>, edge: usize) -> u64
+    requires known { edge < length drawn.graph.now.edges }
+    requires counted { length drawn.counts.now ≡ length drawn.graph.now.edges }
+    ensures { result ≡ edge_ticks drawn.entry.graph.now drawn.entry.counts.now edge }
+{
+    capped_product(count_of(drawn, edge), drawn.graph.edges()[edge].cost)
+}
+
+// The ticks that the walk takes at a number.
+fn ticks(drawn: Drawn<'_>, number: usize) -> u64
+    requires tree { IsTree drawn.graph.now drawn.tree.now }
+    requires known { number < length drawn.graph.now.places }
+    requires counted { length drawn.counts.now ≡ length drawn.graph.now.edges }
+    ensures { result ≡ ticks drawn.entry.graph.now drawn.entry.tree.now drawn.entry.counts.now number }
+{
+    let (first, end) = part(drawn, number);
+    let mut ticks = 0;
+    for edge in first..end {
+        ticks = capped_sum(ticks, edge_ticks(drawn, edge));
+    }
+    ticks
+}
+
+/// The ticks that the walk takes in a stretch, by its first and its last number.
+pub(crate) fn stretch_ticks(drawn: Drawn<'_>, first: usize, last: usize) -> u64
+    requires tree { IsTree drawn.graph.now drawn.tree.now }
+    requires tables { AreTables drawn.graph.now drawn.tree.now drawn.index.now drawn.arrivals.now }
+    requires known { last < length drawn.graph.now.places }
+    requires counted { length drawn.counts.now ≡ length drawn.graph.now.edges }
+    ensures { result
+        ≡ stretch_ticks drawn.entry.graph.now drawn.entry.tree.now drawn.entry.counts.now first last }
+{
+    let mut all = 0;
+    for number in first..last + 1 {
+        all = capped_sum(all, ticks(drawn, number));
+    }
+    all
+}
