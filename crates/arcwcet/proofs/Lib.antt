@@ -5,6 +5,7 @@ pub mod ExplainLemmas
 pub mod FileLemmas
 pub mod FollowLemmas
 pub mod Fronts
+pub mod GraphLemmas
 pub mod HandlerLemmas
 pub mod KeptRun
 pub mod MachineLemmas

@@ -10,6 +10,7 @@ pub mod Files
 pub mod FollowReport
 pub mod FollowText
 pub mod FollowWork
+pub mod GraphReport
 pub mod Keeping
 pub mod Kept
 pub mod ListReport
