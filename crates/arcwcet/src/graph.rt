@@ -1,12 +1,12 @@
 //! The drawing of a handler's flow graph, with what its greatest run time takes.
 
-ghost use Rattle.std.specs.Prelude.{◌≡◌, ◌≢◌, ℕ, List, Ok, IfErr, IfOk, OnOk, option_map};
+ghost use Rattle.std.specs.Prelude.{◌≡◌, ◌≢◌, ℕ, List, Ok, IfErr, IfOk, option_map};
 ghost use Rattle.bus_ticks.specs.declared.profile.Profile.{Profile};
 ghost use Rattle.flow_graph.specs.Flow.{IsWellFormed};
 ghost use Rattle.statement.specs.Statement.{Names};
 ghost use Rattle.arcwcet.specs.GraphReport.{AreLabelsOf, Draws, IsGraphReport};
 ghost use Rattle.arcwcet.specs.Priced.{Priced};
-ghost use Rattle.arcwcet.specs.Report.{HasLoops, IsAccepted, IsRefused, IsTreeOf};
+ghost use Rattle.arcwcet.specs.Report.{HasLoops, IsRefused, IsTreeOf};
 ghost use Rattle.arcwcet.specs.Source.{IsSourceFault, source_of};
 
 use crate::fault::ReportFault;
@@ -101,9 +101,9 @@ fn priced_drawing<O: Output>(
 }
 
 /// Writes the drawing of a handler's flow graph in DOT, the language of Graphviz, by a cycle profile's file or
-/// by the first profile: its straight stretches with their lines of the source, or their words of an image, and
-/// the edges between them, in clusters for calls and loops, with how often a greatest walk takes each and the
-/// ticks of that.
+/// by the first profile: its straight stretches with their lines of the source, or their words of an image,
+/// and the edges between them, in clusters for calls and loops, with how often a greatest walk takes each and
+/// the ticks of that.
 ///
 /// # Errors
 ///
