@@ -105,6 +105,7 @@ pub(crate) const CALLS: &[(&str, Call)] = &[
     ("run_report", Call::Report(Report::Run, ROOM)),
     ("trace_report", Call::Report(Report::Trace, ROOM)),
     ("debug_report", Call::Report(Report::Debug, ROOM)),
+    ("follow_report", Call::Report(Report::Follow, ROOM)),
     ("bound_report", Call::Report(Report::Bound, ROOM)),
     ("bound_report-without-room", Call::Report(Report::Bound, 0)),
     ("check_report", Call::Report(Report::Check, ROOM)),

@@ -1,9 +1,9 @@
 use crate::explanations::NESTED_LINES;
 use crate::trial::{Answer, Trial};
 use arcwcet::{
-    Bursts, Explained, MemoryOutput, Output, ReportFault, asm_report, bound_report, check_report,
-    debug_report, draft_report, explain_report, graph_report, list_report, run_report,
-    tight_report, trace_report, visits_report,
+    Bursts, Explained, FollowedRun, MemoryOutput, Output, ReportFault, asm_report, bound_report,
+    check_report, debug_report, draft_report, explain_report, follow_report, graph_report,
+    list_report, run_report, tight_report, trace_report, visits_report,
 };
 use samples::{countdown, nested_countdown};
 use std::alloc::Global;
@@ -117,6 +117,25 @@ const EDGE_LINE: &[u8] = b"# edge 800C do exit 9\n";
 /// What a run of the edge ends with.
 const EDGE_TICKS: &[u8] = b"ticks 9 elapsed 9\n";
 
+/// What stands under the table where bursts are asked for: 50 ticks, and 6 for each of 3 bursts, or of the 13
+/// that come within 130 ticks.
+const BURST_LINES: &[u8] = b"with 3 bursts 68 ticks, 8.500 microseconds at 8 MHz
+with a burst every 10 ticks 128 ticks, 16.000 microseconds at 8 MHz
+";
+
+const FOLLOWED: &[u8] = b"kept: 21 ticks, 4 less than the bound\n";
+
+/// Its bound is exactly as much as it may be.
+const EXPLAINED: Explained<'static> = Explained {
+    source: nested_countdown::SOURCE,
+    statement: nested_countdown::STATEMENT,
+    at_most: Some(50),
+    bursts: Bursts {
+        count: Some(3),
+        every: Some(10),
+    },
+};
+
 /// A report that takes memory.
 #[derive(Clone, Copy, PartialEq, Eq)]
 pub(crate) enum Report {
@@ -125,6 +144,7 @@ pub(crate) enum Report {
     Run,
     Trace,
     Debug,
+    Follow,
     Bound,
     Check,
     Visits,
@@ -135,7 +155,8 @@ pub(crate) enum Report {
 }
 
 impl Report {
-    // What is written; of a tight edge's report what stands before the machine file.
+    // What is written; of a tight edge's report what stands before the machine file, and of an explanation
+    // what stands before the lines of bursts.
     fn text(self) -> &'static [u8] {
         match self {
             Report::Asm => b"words 4 segments 1\n",
@@ -143,6 +164,7 @@ impl Report {
             Report::Run => countdown::RAN,
             Report::Trace => TRACED,
             Report::Debug => ANSWERED,
+            Report::Follow => FOLLOWED,
             Report::Bound => nested_countdown::CERTIFICATE,
             Report::Check => b"yes\n",
             Report::Visits => VISITED,
@@ -158,7 +180,9 @@ impl Report {
             Report::Asm | Report::List | Report::Draft | Report::Graph => {
                 self.write_of_source(alloc, out)
             }
-            Report::Run | Report::Trace | Report::Debug => self.write_of_machine(alloc, out),
+            Report::Run | Report::Trace | Report::Debug | Report::Follow => {
+                self.write_of_machine(alloc, out)
+            }
             _ => self.write_of_handler(alloc, out),
         }
     }
@@ -179,6 +203,14 @@ impl Report {
         match self {
             Report::Run => run_report(alloc, source, machine, None, out),
             Report::Trace => trace_report(alloc, source, machine, None, out),
+            Report::Follow => {
+                let followed = FollowedRun {
+                    source,
+                    statement: countdown::STATEMENT,
+                    machine,
+                };
+                follow_report(alloc, followed, None, out)
+            }
             _ => {
                 debug_report(alloc, source, machine, COMMANDS, None, out)?;
                 Ok(true)
@@ -210,19 +242,7 @@ impl Report {
                 tight_report(alloc, source, statement, EDGE, None, out)?;
                 Ok(true)
             }
-            // Its bound is exactly as much as it may be.
-            Report::Explain => {
-                let explained = Explained {
-                    source,
-                    statement,
-                    at_most: Some(50),
-                    bursts: Bursts {
-                        count: None,
-                        every: None,
-                    },
-                };
-                explain_report(alloc, explained, None, out)
-            }
+            Report::Explain => explain_report(alloc, EXPLAINED, None, out),
             _ => {
                 bound_report(alloc, source, statement, None, out)?;
                 Ok(true)
@@ -233,6 +253,9 @@ impl Report {
     fn is_written(self, alloc: Global, written: &[u8]) -> Result<bool, ReportFault> {
         if self == Report::Tight {
             return Ok(written.starts_with(EDGE_LINE) && runs_edge(alloc, written)?);
+        }
+        if self == Report::Explain {
+            return Ok(written.strip_prefix(NESTED_LINES) == Some(BURST_LINES));
         }
         Ok(written == self.text())
     }
