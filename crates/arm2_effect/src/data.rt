@@ -148,6 +148,7 @@ impl Registers {
 
     /// Data processing with a byte that is rotated.
     #[tactic(auto, unfolding(crate::specs::Operations::data_immediate_effect))]
+    #[inline(always)]
     pub(crate) fn data_immediate(&mut self, prices: &Prices, fields: &DataImmediate) -> Done
         ensures effect { IsEffect prices.now.profile prices.now.rom result self.new
             (data_immediate_effect fields.now self.old) }
@@ -162,6 +163,7 @@ impl Registers {
 
     /// Data processing with a register that is shifted by an amount in the word.
     #[tactic(auto, unfolding(crate::specs::Operations::data_register_effect))]
+    #[inline(always)]
     pub(crate) fn data_register(&mut self, prices: &Prices, fields: &DataRegister) -> Done
         ensures effect { IsEffect prices.now.profile prices.now.rom result self.new
             (data_register_effect fields.now self.old) }

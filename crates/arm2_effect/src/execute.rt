@@ -65,6 +65,7 @@ impl Registers {
 
     /// B and BL.
     #[tactic(auto, unfolding(crate::specs::Operations::branch_effect))]
+    #[inline(always)]
     fn branch(&mut self, prices: &Prices, branch: &Branch) -> Done
         ensures effect { IsEffect prices.now.profile prices.now.rom result self.new
             (branch_effect branch.now self.old) }
@@ -84,14 +85,19 @@ impl Registers {
     }
 
     /// Whether an instruction of the condition is carried out, by the flags in R15.
+    #[inline(always)]
     pub fn passes(&self, cond: Cond) -> bool
         ensures { result ≡ condition_holds cond (flags_of (r15_in self.now)) }
     {
+        if let Cond::Al = cond {
+            return true;
+        }
         holds(cond, flags_of(self.get(Reg::R15)))
     }
 
     /// Carries out an instruction whose condition holds, and which is no load or store.
     #[tactic(auto, unfolding(crate::specs::Operations::operation_effect))]
+    #[inline(always)]
     pub fn execute(&mut self, prices: &Prices, operation: &Operation) -> Done
         requires { is_transfer operation.now ≡ false }
         ensures effect { IsEffect prices.now.profile prices.now.rom result self.new

@@ -6,6 +6,7 @@ use Rattle.arm2_decode.specs.Table.{Means, IsUnallocated}
 use Rattle.arm2_decode.specs.declared.instr.Instr.{Instr}
 use Rattle.arm2_decode.specs.declared.instr.Unallocated.{Unallocated}
 use Rattle.arm2_decode.proofs.Unique.{one_instr, never_both, one_unallocated}
+use Rattle.ioc.specs.Interrupts as ioc
 use Rattle.arm2_effect.specs.declared.step_end.Done.{Done}
 use Rattle.arm2_effect.specs.declared.step_end.Kind.{Kind}
 use Rattle.arm2_effect.specs.declared.step_end.Kind.TheVariants.{Plain, Taken, Stopped}
@@ -35,13 +36,17 @@ goes_on (Stopped w) not_stopped = absurd (not_stopped w refl)
 module _ (s : State) (i : Input) where
   -- ## The two ways in which a step ends
 
-  unlined : (now : Bus) → now ≡ with_lines i.lines.0 s.bus → record s { bus = record { memc = now.memc; ioc = s.bus.ioc; vidc = now.vidc } } ≡ s
-  unlined now same = ap (λ (b : Bus). let t : State = record { regs = s.regs; bus = record { memc = b.memc; ioc = s.bus.ioc; vidc = b.vidc }; profile = s.profile } in t) same
+  -- IOC with its lines as they were
+  abbrev unlined_ioc : ioc.Controller → ioc.Controller
+  unlined_ioc c = record c { lines = s.bus.ioc.lines; a2_rose = s.bus.ioc.a2_rose }
+
+  unlined : (now : Bus) → now ≡ with_lines i.lines.0 s.bus → record s { bus = record { memc = now.memc; ioc = unlined_ioc now.ioc; vidc = now.vidc } } ≡ s
+  unlined now same = ap (λ (b : Bus). let t : State = record { regs = s.regs; bus = record { memc = b.memc; ioc = unlined_ioc b.ioc; vidc = b.vidc }; profile = s.profile } in t) same
 
   pub stopped_step : (done : Done) (new : List ℕ) (now : Bus)
       → Worked s.profile s.bus.memc.control.rom_times (interrupt_due (with_lines i.lines.0 s.bus) (r15_in s.regs)) i.port s.regs (with_lines i.lines.0 s.bus) done new now
       → is_stopped done.kind ≡ true
-      → Step s i (record { kind = done.kind; ticks = 0; from = address_in s.regs; to = address_in s.regs }) (record { regs = new; bus = record { memc = now.memc; ioc = s.bus.ioc; vidc = now.vidc }; profile = s.profile })
+      → Step s i (record { kind = done.kind; ticks = 0; from = address_in s.regs; to = address_in s.regs }) (record { regs = new; bus = record { memc = now.memc; ioc = record now.ioc { lines = s.bus.ioc.lines; a2_rose = s.bus.ioc.a2_rose }; vidc = now.vidc }; profile = s.profile })
   unfolding answer_of state_after
   stopped_step done new now w stopped =
       let kind : is_stopped w.moved.kind ≡ true = ap is_stopped (sym w.is.kind) ∙ stopped in

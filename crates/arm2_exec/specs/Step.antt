@@ -57,6 +57,11 @@ fetched_at m (Err refused) = None
 abbrev pub fetched : Memory → (r15 : ℕ) → Option ℕ
 fetched m r15 = fetched_at m (located m (address_of r15) (is_user (mode_of r15)) false)
 
+-- an interrupt fetches no word
+abbrev pub word_unless : Option Vector → Option ℕ → Option ℕ
+word_unless (Some interrupt) word = None
+word_unless None word = word
+
 -- ## 4 to 6. A failed condition skips the word; an unallocated one stops the machine; any other is done
 
 abbrev pub instruction_moved : Instr → (port : ℕ) → List ℕ → Bus → Moved
@@ -97,6 +102,12 @@ elapsed ticks bus = record {
 }
 
 -- ## The whole step
+
+-- the word that a step fetches: none where an interrupt is due, and none where the fetch is refused
+abbrev pub traced_word : State → Input → Option ℕ
+traced_word s i =
+    word_unless (interrupt_due (with_lines i.lines.0 s.bus) (r15_in s.regs))
+    (fetched s.bus.memc (r15_in s.regs))
 
 -- the instruction's address
 abbrev pub address_in : List ℕ → ℕ

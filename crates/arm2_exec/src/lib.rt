@@ -5,10 +5,11 @@
 //! profile, shaped on the data sheets of VL86C110, VL86C410 and VL86C310.
 #![tactic(auto)]
 
+mod decoded;
 mod law;
 mod machine;
 mod work;
 
 pub use arm2_effect::{Kind, Reg, Vector, Why};
 pub use law::{exceptions_keep_the_rest, fiq_costs_its_entry};
-pub use machine::{Input, Machine, MachineFault, Ran, Stepped};
+pub use machine::{Input, Machine, MachineFault, Ran, Stepped, Traced};

@@ -3,11 +3,12 @@ ghost use Rattle.std.specs.Borrow.{sem};
 ghost use Rattle.memc.specs.Memory.{shift_of_size};
 ghost use Rattle.arm2_effect.specs.Modes.{r15_in};
 ghost use Rattle.arm2_exec.specs.State.{IsReset, register_of, reset_r15, with_register_of};
-ghost use Rattle.arm2_exec.specs.Step.{HasOneOutcome, Step, fetched, interrupt_due, with_lines};
+ghost use Rattle.arm2_exec.specs.Step.{HasOneOutcome, Step, fetched, interrupt_due, traced_word, with_lines};
 ghost use Rattle.arm2_exec.specs.Run.{Runs};
 ghost use Rattle.arm2_exec.specs.Lent.{LendsIoc, LendsMemc, LendsVidc};
 ghost use Rattle.arm2_effect.specs.declared.modes.Reg.TheVariants.{R15};
 
+use crate::decoded::Decoded;
 use crate::work::{elapse, fetch, interrupt, work};
 use arm2_decode::decode;
 use arm2_effect::{Kind, Prices, Reg, Registers, Vector, Why, address_of};
@@ -15,7 +16,7 @@ use arm2_transfer::{Bus, Inputs};
 use bus_ticks::Profile;
 use ioc::{Ioc, Lines};
 use memc::{Memc, MemcFault, PageSize};
-use std::alloc::Global;
+use std::alloc::{AllocError, Global};
 use std::marker::Model;
 use thiserror::Error;
 use vidc::Vidc;
@@ -35,6 +36,17 @@ impl From<MemcFault> for MachineFault {
     ghost from_gives = { λ _ fault. fault ≡ Memory };
 
     fn from(_refused: MemcFault) -> MachineFault {
+        MachineFault::Memory
+    }
+}
+
+impl From<AllocError> for MachineFault {
+    ghost use Rattle.std.specs.Prelude.{◌≡◌};
+    ghost use Rattle.arm2_exec.specs.declared.machine.MachineFault.TheVariants.{Memory};
+
+    ghost from_gives = { λ _ fault. fault ≡ Memory };
+
+    fn from(_refused: AllocError) -> MachineFault {
         MachineFault::Memory
     }
 }
@@ -62,6 +74,14 @@ pub struct Stepped {
     pub to: u32,
 }
 
+/// A step and the word that it fetched.
+#[derive(Clone, Copy, Debug, PartialEq, Eq)]
+pub struct Traced {
+    pub told: Stepped,
+    /// None where an interrupt was taken, and where the fetch was refused.
+    pub word: Option<u32>,
+}
+
 /// What a run did.
 #[derive(Clone, Copy, Debug, PartialEq, Eq)]
 pub struct Ran {
@@ -82,6 +102,7 @@ pub struct Machine {
     bus: Bus,
     // The port and the time fields of ROM are those of the last step.
     inputs: Inputs,
+    decoded: Decoded,
 }
 
 impl Model for Machine {
@@ -114,6 +135,7 @@ impl Machine {
                 vidc: Vidc::new(),
             },
             inputs: Inputs { port: 0, prices },
+            decoded: Decoded::new(alloc)?,
         };
         machine.reset();
         Ok(machine)
@@ -210,34 +232,49 @@ impl Machine {
 
     /// One step: an interrupt is taken, or the instruction at the address in R15 is carried out or passed
     /// over. It takes constant time and no memory.
-    #[tactic(auto, unfolding(crate::specs::Step::answer_of, crate::specs::Step::state_after))]
+    #[inline(always)]
     pub fn step(&mut self, input: Input) -> Stepped
         ensures step { Step self.old input result self.new }
         ensures bound { result.ticks < 2 ^ 16 }
     {
+        self.step_traced(input).told
+    }
+
+    /// The same, with the word that the step fetches.
+    #[tactic(auto, unfolding(crate::specs::Step::answer_of, crate::specs::Step::state_after))]
+    #[inline(always)]
+    pub fn step_traced(&mut self, input: Input) -> Traced
+        ensures step { Step self.old input result.told self.new }
+        ensures word { result.word ≡ traced_word self.old input }
+        ensures bound { result.told.ticks < 2 ^ 16 }
+    {
         let from = address_of(self.registers.get(Reg::R15));
         self.inputs.port = input.port;
         self.inputs.prices.rom = self.bus.memc.rom_times();
-        let ioc = self.bus.ioc.snapshot();
+        let lines = self.bus.ioc.line_state();
         self.bus.ioc.lines(input.lines);
-        let done = work(&mut self.registers, &mut self.bus, &self.inputs);
-        if let Kind::Stopped(_) = done.kind {
-            self.bus.ioc = ioc;
-            return Stepped {
-                kind: done.kind,
-                ticks: 0,
-                from,
-                to: from,
-            };
+        let made = work(
+            &mut self.registers,
+            &mut self.bus,
+            &self.inputs,
+            &mut self.decoded,
+        );
+        let mut told = Stepped {
+            kind: made.done.kind,
+            ticks: 0,
+            from,
+            to: from,
+        };
+        let word = made.word;
+        if let Kind::Stopped(_) = made.done.kind {
+            self.bus.ioc.set_line_state(lines);
+            return Traced { told, word };
         }
         let stretched = self.inputs.prices.profile.burst_ticks(input.bursts);
-        elapse(&mut self.bus, done.ticks + stretched);
-        Stepped {
-            kind: done.kind,
-            ticks: done.ticks,
-            from,
-            to: address_of(self.registers.get(Reg::R15)),
-        }
+        elapse(&mut self.bus, made.done.ticks + stretched);
+        told.ticks = made.done.ticks;
+        told.to = address_of(self.registers.get(Reg::R15));
+        Traced { told, word }
     }
 
     /// Steps, one for each input, up to the first that is stopped.

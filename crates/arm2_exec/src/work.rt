@@ -2,10 +2,11 @@ ghost use Rattle.std.specs.Prelude.{◌≡◌, ◌<◌, ◌^◌};
 ghost use Rattle.arm2_effect.specs.Modes.{r15_in};
 ghost use Rattle.arm2_transfer.specs.Moved.{IsMoved};
 ghost use Rattle.arm2_exec.specs.Step.{elapsed, fetched, instruction_moved, interrupt_due, interrupt_of};
-ghost use Rattle.arm2_exec.specs.Step.{unallocated_moved};
+ghost use Rattle.arm2_exec.specs.Step.{unallocated_moved, word_unless};
 ghost use Rattle.arm2_exec.specs.Work.{Obeyed, Worked};
 
-use arm2_decode::{Instr, Unallocated, decode};
+use crate::decoded::Decoded;
+use arm2_decode::{Instr, Unallocated};
 use arm2_effect::{
     Done, Mode, Prices, Reg, Registers, Vector, Why, address_of, is_fiq_masked, is_irq_masked,
     mode_of,
@@ -14,7 +15,15 @@ use arm2_transfer::{Bus, Inputs, carry_out};
 use ioc::Ioc;
 use memc::{Memc, Spot};
 
+/// What a step did before time passed, and the word that it fetched.
+#[derive(Clone, Copy)]
+pub(crate) struct Made {
+    pub(crate) done: Done,
+    pub(crate) word: Option<u32>,
+}
+
 // The interrupt that is due: FIQ, or else IRQ, each unless R15 masks it.
+#[inline(always)]
 pub(crate) fn interrupt(ioc: &Ioc, r15: u32) -> Option<Vector>
     ensures { result ≡ interrupt_of ioc.now r15 }
 {
@@ -29,6 +38,7 @@ pub(crate) fn interrupt(ioc: &Ioc, r15: u32) -> Option<Vector>
 }
 
 // The word at the address in R15, if the mode may fetch one there.
+#[inline(always)]
 pub(crate) fn fetch(memc: &Memc, r15: u32) -> Option<u32>
     ensures { result ≡ fetched memc.now r15 }
 {
@@ -40,6 +50,7 @@ pub(crate) fn fetch(memc: &Memc, r15: u32) -> Option<u32>
 }
 
 // Carries out an instruction, or passes over it where its condition fails.
+#[inline(always)]
 fn obey_instruction(
     registers: &mut Registers,
     bus: &mut Bus,
@@ -58,6 +69,7 @@ fn obey_instruction(
 
 // Stops at a word that is no instruction, or passes over it where its condition fails.
 #[tactic(auto, unfolding(arm2_effect::specs::Effects::stopped))]
+#[inline(never)]
 fn obey_unallocated(
     registers: &mut Registers,
     bus: &Bus,
@@ -75,7 +87,14 @@ fn obey_unallocated(
 }
 
 // Does what a word says, or takes the prefetch abort where there is none.
-fn obey(registers: &mut Registers, bus: &mut Bus, inputs: &Inputs, word: Option<u32>) -> Done
+#[inline(always)]
+fn obey(
+    registers: &mut Registers,
+    bus: &mut Bus,
+    inputs: &Inputs,
+    decoded: &mut Decoded,
+    word: Option<u32>,
+) -> Done
     ensures obeyed { Obeyed inputs.now.prices.profile inputs.now.prices.rom word inputs.now.port
         registers.old bus.old result registers.new bus.new }
     ensures bound { result.ticks < 2 ^ 16 }
@@ -83,28 +102,42 @@ fn obey(registers: &mut Registers, bus: &mut Bus, inputs: &Inputs, word: Option<
     let Some(word) = word else {
         return registers.take(&inputs.prices, Vector::PrefetchAbort);
     };
-    match decode(word) {
-        Ok(instr) => obey_instruction(registers, bus, inputs, &instr),
-        Err(unallocated) => obey_unallocated(registers, bus, &inputs.prices, unallocated),
+    let address = address_of(registers.get(Reg::R15));
+    decoded.keep(address, word);
+    match &decoded.row(address).instr {
+        Ok(instr) => obey_instruction(registers, bus, inputs, instr),
+        Err(unallocated) => obey_unallocated(registers, bus, &inputs.prices, *unallocated),
     }
 }
 
 // What a step does before time passes: an interrupt, or the word at the address.
-pub(crate) fn work(registers: &mut Registers, bus: &mut Bus, inputs: &Inputs) -> Done
+#[inline(always)]
+pub(crate) fn work(
+    registers: &mut Registers,
+    bus: &mut Bus,
+    inputs: &Inputs,
+    decoded: &mut Decoded,
+) -> Made
     ensures worked { Worked inputs.now.prices.profile inputs.now.prices.rom
         (interrupt_due bus.old
-        (r15_in registers.old)) inputs.now.port registers.old bus.old result registers.new bus.new }
-    ensures bound { result.ticks < 2 ^ 16 }
+        (r15_in registers.old)) inputs.now.port registers.old bus.old result.done registers.new bus.new }
+    ensures word { result.word
+        ≡ word_unless (interrupt_due bus.old (r15_in registers.old))
+        (fetched bus.old.memc (r15_in registers.old)) }
+    ensures bound { result.done.ticks < 2 ^ 16 }
 {
     let r15 = registers.get(Reg::R15);
     if let Some(vector) = interrupt(&bus.ioc, r15) {
-        return registers.take(&inputs.prices, vector);
+        let done = registers.take(&inputs.prices, vector);
+        return Made { done, word: None };
     }
     let word = fetch(&bus.memc, r15);
-    obey(registers, bus, inputs, word)
+    let done = obey(registers, bus, inputs, decoded, word);
+    Made { done, word }
 }
 
 // Lets time pass for the devices.
+#[inline(always)]
 pub(crate) fn elapse(bus: &mut Bus, ticks: u32)
     ensures { bus.new ≡ elapsed ticks bus.old }
 {

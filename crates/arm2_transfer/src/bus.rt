@@ -16,6 +16,7 @@ pub struct Bus {
 }
 
 // A word is stored at a spot that MEMC located.
+#[inline(always)]
 pub(crate) fn put(bus: &mut Bus, spot: Spot, word: u32)
     requires { Fits bus.old.memc.shift spot }
     ensures put { bus.new ≡ put spot word bus.old }
@@ -32,6 +33,7 @@ pub(crate) fn put(bus: &mut Bus, spot: Spot, word: u32)
 }
 
 // The word at a spot that MEMC located for a load.
+#[inline(always)]
 pub(crate) fn see(bus: &Bus, port: u32, spot: Spot) -> u32
     requires { Fits bus.now.memc.shift spot }
     ensures { result ≡ seen bus.now port spot }
@@ -54,6 +56,7 @@ fn replace_byte(word: u32, lane: usize, byte: u8) -> u32
 }
 
 // A byte is stored at a spot that MEMC located.
+#[inline(never)]
 fn put_byte(bus: &mut Bus, spot: Spot, address: u32, byte: u8)
     requires { Fits bus.old.memc.shift spot }
     ensures put { bus.new ≡ put_byte spot address byte bus.old }
@@ -69,6 +72,7 @@ fn put_byte(bus: &mut Bus, spot: Spot, address: u32, byte: u8)
 }
 
 // A word, or its lowest byte, is stored at a spot that MEMC located for the address.
+#[inline(always)]
 pub(crate) fn put_single(bus: &mut Bus, byte: bool, spot: Spot, address: u32, value: u32)
     requires { Fits bus.old.memc.shift spot }
     ensures { bus.new ≡ put_single byte spot address value bus.old }
@@ -81,6 +85,7 @@ pub(crate) fn put_single(bus: &mut Bus, byte: bool, spot: Spot, address: u32, va
 }
 
 // What a load makes of the word that it sees.
+#[inline(always)]
 pub(crate) fn make(byte: bool, address: u32, word: u32) -> u32
     ensures { result ≡ made_of byte address word }
 {

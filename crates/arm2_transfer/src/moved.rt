@@ -11,6 +11,7 @@ use bus_ticks::{fetch_n, transfer};
 
 /// What comes of a transfer none of whose words is moved.
 #[tactic(auto, unfolding(arm2_effect::specs::Effects::stopped))]
+#[inline(never)]
 pub(crate) fn refuse(
     registers: &mut Registers,
     bus: &Bus,
@@ -41,6 +42,7 @@ pub struct Accesses {
 }
 
 /// The ticks of a load; where it writes R15 it jumps to `to`.
+#[inline(always)]
 pub(crate) fn load_ticks(prices: &Prices, accesses: Accesses, jumps: bool, to: u32) -> u32
     requires from { accesses.from < 2 ^ 26 }
     requires from_aligned { accesses.from % 4 ≡ 0 }
@@ -70,6 +72,7 @@ pub(crate) fn load_ticks(prices: &Prices, accesses: Accesses, jumps: bool, to: u
 }
 
 // The ticks of the fetch after a store by the instruction at `from`: it does not follow the access before it.
+#[inline(always)]
 fn fetch_after(prices: &Prices, from: u32) -> u32
     requires from { from < 2 ^ 26 }
     requires from_aligned { from % 4 ≡ 0 }
@@ -80,6 +83,7 @@ fn fetch_after(prices: &Prices, from: u32) -> u32
 }
 
 /// The ticks of a store.
+#[inline(always)]
 pub(crate) fn store_ticks(prices: &Prices, accesses: Accesses) -> u32
     requires from { accesses.from < 2 ^ 26 }
     requires from_aligned { accesses.from % 4 ≡ 0 }

@@ -31,6 +31,7 @@ pub fn execute(
 }
 
 /// The same, with what it is given in one place.
+#[inline(always)]
 pub fn carry_out(
     registers: &mut Registers,
     bus: &mut Bus,

@@ -5,6 +5,7 @@ ghost use Rattle.arm2_transfer.specs.Registers.{passed, loaded_r15};
 use arm2_decode::Register;
 use arm2_effect::{Mode, Reg, Registers, address_of, advanced, jumped, restored};
 
+#[inline(always)]
 pub(crate) fn is_user(mode: Mode) -> bool
     ensures { result ≡ is_user mode }
 {
@@ -12,6 +13,7 @@ pub(crate) fn is_user(mode: Mode) -> bool
 }
 
 /// A base and an offset, on 32 bits.
+#[inline(always)]
 pub(crate) fn moved_by(up: bool, base: u32, offset: u32) -> u32
     ensures { result ≡ moved_by up base offset }
 {
@@ -23,6 +25,7 @@ pub(crate) fn moved_by(up: bool, base: u32, offset: u32) -> u32
 }
 
 /// What a store takes from a register.
+#[inline(always)]
 pub(crate) fn give(registers: &Registers, mode: Mode, register: Register) -> u32
     ensures { result ≡ given mode register registers.now }
 {
@@ -55,6 +58,7 @@ pub struct Loading {
 }
 
 /// A loaded word enters its register.
+#[inline(always)]
 pub(crate) fn enter(registers: &mut Registers, loading: Loading, register: Register, word: u32)
     ensures { registers.new
         ≡ with_loaded loading.psr loading.mode loading.r15 register word registers.old }
@@ -67,6 +71,7 @@ pub(crate) fn enter(registers: &mut Registers, loading: Loading, register: Regis
 }
 
 /// The base is written back, where it is.
+#[inline(always)]
 pub(crate) fn write_base(
     registers: &mut Registers,
     write_back: bool,
@@ -82,6 +87,7 @@ pub(crate) fn write_base(
 }
 
 /// R15 goes on by one instruction.
+#[inline(always)]
 pub(crate) fn pass(registers: &mut Registers)
     ensures { registers.new ≡ passed registers.old }
 {

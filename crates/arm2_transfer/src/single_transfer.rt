@@ -24,6 +24,7 @@ struct PlacedSingle {
 }
 
 // The accesses of the instruction at an address.
+#[inline(always)]
 fn accesses(single: PlacedSingle, from: u32) -> Accesses
     ensures { result
         ≡ (record { from = from; address = address_for single.transfer single.base; words = 1 }) }
@@ -36,6 +37,7 @@ fn accesses(single: PlacedSingle, from: u32) -> Accesses
 }
 
 #[tactic(auto, unfolding(crate::specs::Single::single_loaded))]
+#[inline(always)]
 fn load_word(registers: &mut Registers, bus: &Bus, port: u32, single: PlacedSingle, spot: Spot)
     requires { Fits bus.now.memc.shift spot }
     ensures { registers.new
@@ -54,6 +56,7 @@ fn load_word(registers: &mut Registers, bus: &Bus, port: u32, single: PlacedSing
 }
 
 #[tactic(auto, unfolding(crate::specs::Single::single_loads))]
+#[inline(always)]
 fn load(
     registers: &mut Registers,
     bus: &Bus,
@@ -79,6 +82,7 @@ fn load(
 }
 
 #[tactic(auto, unfolding(crate::specs::Single::single_stores))]
+#[inline(always)]
 fn store(
     registers: &mut Registers,
     bus: &mut Bus,
@@ -105,6 +109,7 @@ fn store(
 }
 
 #[tactic(auto, unfolding(crate::specs::Single::single_at, crate::specs::Single::single_by))]
+#[inline(always)]
 fn single_at(
     registers: &mut Registers,
     bus: &mut Bus,
@@ -130,6 +135,7 @@ fn single_at(
     }
 }
 
+#[inline(always)]
 fn single(registers: &mut Registers, bus: &mut Bus, inputs: &Inputs, transfer: Single) -> Done
     ensures moved { IsMoved inputs.now.prices.profile inputs.now.prices.rom result registers.new bus.new
         (single_moved transfer inputs.now.port registers.old bus.old) }

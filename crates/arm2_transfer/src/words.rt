@@ -45,6 +45,7 @@ fn all_registers() -> [Register; 16]
 }
 
 /// Whether a list has a register.
+#[inline(always)]
 pub(crate) fn is_listed(list: u32, register: Register) -> bool
     ensures { result ≡ is_listed list register }
 {
@@ -62,6 +63,7 @@ pub(crate) fn count(list: u32) -> u32
 }
 
 /// Where the one word of a transfer goes or comes from.
+#[inline(always)]
 pub(crate) fn locate_word(
     memc: &Memc,
     address: u32,

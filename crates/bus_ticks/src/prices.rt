@@ -87,6 +87,7 @@ pub fn fetch_s(profile: &Profile, address: u32, rom: RomTimes) -> u32
     rom_access(profile, rom, address)
 }
 
+#[inline(never)]
 fn io_access(profile: &Profile, address: u32) -> u32
     ensures price { result ≡ io_price profile.now address }
     ensures small { result < 256 }
@@ -95,6 +96,7 @@ fn io_access(profile: &Profile, address: u32) -> u32
     pick!(field, 0 => profile.slow, 1 => profile.medium, 2 => profile.fast; profile.synchronous)
 }
 
+#[inline(always)]
 fn word_ticks(profile: &Profile, address: u32, first: bool, store: bool, rom: RomTimes) -> u32
     requires { address < SPACE_END }
     ensures price { result ≡ word_price profile.now rom store first address }
@@ -116,14 +118,11 @@ fn word_ticks(profile: &Profile, address: u32, first: bool, store: bool, rom: Ro
     rom_access(profile, rom, address)
 }
 
-/// The ticks of a transfer of 1 to 16 words, each priced by the class of its own address.
-///
-/// The words lie one after another from the word that holds `address`, and wrap at 4000000. A byte
-/// costs as much as the word that holds it.
+// The same, word by word.
 #[tactic(auto, unfolding(crate::specs::Prices::block_price))]
-pub fn transfer(profile: &Profile, address: u32, words: u32, store: bool, rom: RomTimes) -> u32
+#[inline(never)]
+fn block_ticks(profile: &Profile, address: u32, words: u32, store: bool, rom: RomTimes) -> u32
     requires in_space { address < SPACE_END }
-    requires some { 1 ≤ words }
     requires few { words ≤ 16 }
     ensures price { result ≡ block_price profile.now rom store address words }
     ensures small { result ≤ 255 * words }
@@ -133,4 +132,23 @@ pub fn transfer(profile: &Profile, address: u32, words: u32, store: bool, rom: R
         ticks += word_ticks(profile, word_address(address, i), i == 0, store, rom);
     }
     ticks
+}
+
+/// The ticks of a transfer of 1 to 16 words, each priced by the class of its own address.
+///
+/// The words lie one after another from the word that holds `address`, and wrap at 4000000. A byte
+/// costs as much as the word that holds it.
+#[tactic(auto, unfolding(crate::specs::Prices::block_price))]
+#[inline(always)]
+pub fn transfer(profile: &Profile, address: u32, words: u32, store: bool, rom: RomTimes) -> u32
+    requires in_space { address < SPACE_END }
+    requires some { 1 ≤ words }
+    requires few { words ≤ 16 }
+    ensures price { result ≡ block_price profile.now rom store address words }
+    ensures small { result ≤ 255 * words }
+{
+    if words == 1 {
+        return word_ticks(profile, word_address(address, 0), true, store, rom);
+    }
+    block_ticks(profile, address, words, store, rom)
 }

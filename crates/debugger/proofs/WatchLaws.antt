@@ -12,7 +12,7 @@ use Rattle.arm2_exec.specs.Step.{Step}
 use Rattle.arm2_exec.specs.Run.{Ends, Runs, at_rest, counted, why_stopped}
 use Rattle.arm2_exec.proofs.StepLemmas.{stopped_same, stops}
 use Rattle.arm2_exec.proofs.RunLemmas.{added, goes, plus_none, why_of}
-use Rattle.trace_text.specs.declared.trace.Traced.{Traced}
+use Rattle.arm2_exec.specs.declared.machine.Traced.{Traced}
 use Rattle.trace_text.specs.TraceText.{Adds}
 use Rattle.debugger.specs.Stepping.{Counts, IsWithin, Makes, Stops}
 use Rattle.debugger.specs.Watching.{EndsAt, IsLast, UpTo, Watches, inputs_of, is_break}

@@ -13,7 +13,7 @@ use Rattle.arm2_exec.specs.Step.{Step as MachineStep, fetched_at}
 use Rattle.arm2_exec.specs.Run.{Runs, why_stopped}
 use Rattle.assembler.specs.ShownLines.{IsShown}
 use Rattle.asm_text.specs.Hex.{hex8}
-use Rattle.trace_text.specs.declared.trace.Traced.{Traced}
+use Rattle.arm2_exec.specs.declared.machine.Traced.{Traced}
 use Rattle.trace_text.specs.TraceText.{IsTraceLine, TracesRun, registers_text, ticks_text}
 use Rattle.debugger.specs.declared.command.Command.{Command}
 use Rattle.debugger.specs.declared.command.Command.TheVariants.{Step, Run, ListBreaks, Break, Regs, Mem, Dis}

@@ -7,8 +7,8 @@ use Rattle.arm2_exec.specs.declared.machine.Ran.{Ran}
 use Rattle.arm2_exec.specs.declared.machine.Stepped.{Stepped}
 use Rattle.arm2_exec.specs.State.{State}
 use Rattle.arm2_exec.specs.Step.{Step}
-use Rattle.trace_text.specs.declared.trace.Traced.{Traced}
-use Rattle.trace_text.specs.TraceText.{traced_word}
+use Rattle.arm2_exec.specs.declared.machine.Traced.{Traced}
+use Rattle.arm2_exec.specs.Step.{traced_word}
 
 -- it is made, and shown with the word that it fetched
 abbrev pub Makes : State → Input → Traced → State → Type 0

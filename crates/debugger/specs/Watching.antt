@@ -8,7 +8,7 @@ use Rattle.arm2_exec.specs.declared.machine.Ran.{Ran}
 use Rattle.arm2_exec.specs.State.{State}
 use Rattle.arm2_exec.specs.Step.{address_in}
 use Rattle.arm2_exec.specs.Run.{at_rest, counted, why_stopped}
-use Rattle.trace_text.specs.declared.trace.Traced.{Traced}
+use Rattle.arm2_exec.specs.declared.machine.Traced.{Traced}
 use Rattle.debugger.specs.SessionState.{without_bursts}
 use Rattle.debugger.specs.Stepping.{Makes}
 

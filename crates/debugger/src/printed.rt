@@ -5,8 +5,9 @@ ghost use Rattle.assembler.specs.ShownLines.{IsShown};
 ghost use Rattle.asm_text.specs.Hex.{hex8};
 ghost use Rattle.trace_text.specs.TraceText.{Adds, IsTraceLine};
 
+use arm2_exec::Traced;
 use assembler::disassemble;
-use trace_text::{Traced, hex_word, trace_line};
+use trace_text::{hex_word, trace_line};
 
 /// Adds a text.
 pub(crate) fn put(out: &mut Vec<u8>, text: &[u8])

@@ -1,7 +1,7 @@
 ghost use Rattle.std.specs.Prelude.{◌≡◌, ◌+◌, ◌*◌, ◌^◌, ◌≤◌, ℕ, List, None, MatchOption, OnSome, length};
 ghost use Rattle.std.specs.Prelude.{vec_capacity};
 ghost use Rattle.arm2_exec.specs.Run.{Runs, at_rest};
-ghost use Rattle.trace_text.specs.declared.trace.Traced.{Traced};
+ghost use Rattle.arm2_exec.specs.declared.machine.Traced.{Traced};
 ghost use Rattle.trace_text.specs.TraceText.{Adds, TracesRun};
 ghost use Rattle.debugger.specs.SessionState.{without_bursts};
 ghost use Rattle.debugger.specs.Stepping.{Counts, IsWithin, Stops};
@@ -9,8 +9,7 @@ ghost use Rattle.debugger.specs.Watching.{IsLast, Watches, inputs_of, is_break};
 
 use crate::printed::put_trace;
 use arm2_effect::address_of;
-use arm2_exec::{Input, Kind, Machine, Ran, Reg};
-use trace_text::{Traced, step_traced};
+use arm2_exec::{Input, Kind, Machine, Ran, Reg, Traced};
 
 /// What a run told, and the last of its steps.
 #[derive(Clone, Copy)]
@@ -41,6 +40,7 @@ fn is_at_break(breaks: &[u32], machine: &Machine) -> bool
 
 // Makes a step and counts it; its bursts are left out of the input of the next. None where it is stopped,
 // which the run then tells.
+#[inline(always)]
 fn advance(machine: &mut Machine, input: &mut Input, ran: &mut Ran) -> Option<Traced>
     requires { IsWithin (2 ^ 32) ran.old }
     ensures told { MatchOption result (Stops machine.old input.old ran.old ran.new machine.new)
@@ -49,7 +49,7 @@ fn advance(machine: &mut Machine, input: &mut Input, ran: &mut Ran) -> Option<Tr
     ensures bound { (made : ℕ) → IsWithin made ran.old → IsWithin (made + 1) ran.new }
 {
     let stretched = machine.profile().burst_ticks(input.bursts);
-    let traced = step_traced(machine, *input);
+    let traced = machine.step_traced(*input);
     if let Kind::Stopped(why) = traced.told.kind {
         ran.stopped = Some(why);
         return None;

@@ -59,6 +59,13 @@ impl Model for Ioc {
     ghost invariant = { λ i. i.timers.phase < 4 };
 }
 
+/// The lines that come in, and whether A2 rose.
+#[derive(Clone, Copy)]
+pub struct LineState {
+    lines: Lines,
+    a2_rose: bool,
+}
+
 /// Which of the processor's two interrupts IOC asks for.
 #[derive(Clone, Copy, PartialEq, Eq, Debug)]
 pub struct Asserted {
@@ -111,6 +118,27 @@ impl Ioc {
         let rises = lines.contains(Lines::A2) && !self.lines.contains(Lines::A2);
         self.a2_rose = self.a2_rose || rises;
         self.lines = lines;
+    }
+
+    /// What [`Ioc::lines`] changes.
+    #[inline(always)]
+    pub fn line_state(&self) -> LineState
+        ensures lines { result.lines.0 ≡ self.now.lines }
+        ensures a2_rose { result.a2_rose ≡ self.now.a2_rose }
+    {
+        let a2_rose = self.a2_rose;
+        LineState {
+            lines: self.lines,
+            a2_rose,
+        }
+    }
+
+    /// Sets the lines, and whether A2 rose, as they were.
+    pub fn set_line_state(&mut self, state: LineState)
+        ensures { self.new ≡ record self.old { lines = state.lines.0; a2_rose = state.a2_rose } }
+    {
+        self.lines = state.lines;
+        self.a2_rose = state.a2_rose;
     }
 
     /// Latches a flyback, IRQ A bit 3.

@@ -33,8 +33,10 @@ impl Timers {
         let since = self.phase as u32 + ticks % 4;
         let times = ticks / 4 + since / 4;
         self.phase = (since % 4) as u8;
-        self.timer_0.decrement(times);
-        self.timer_1.decrement(times);
+        if times > 0 {
+            self.timer_0.decrement(times);
+            self.timer_1.decrement(times);
+        }
     }
 }
 

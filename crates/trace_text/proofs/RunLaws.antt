@@ -11,8 +11,9 @@ use Rattle.arm2_exec.specs.State.{State}
 use Rattle.arm2_exec.specs.Step.{Step}
 use Rattle.arm2_exec.specs.Run.{Runs, why_stopped}
 use Rattle.arm2_exec.proofs.RunLemmas.{SoFar, ends_with, goes, more_steps, why_of}
-use Rattle.trace_text.specs.declared.trace.Traced.{Traced}
-use Rattle.trace_text.specs.TraceText.{Adds, Goes, IsTraceLine, RefusedRun, TracesRun, traced_word}
+use Rattle.arm2_exec.specs.declared.machine.Traced.{Traced}
+use Rattle.trace_text.specs.TraceText.{Adds, Goes, IsTraceLine, RefusedRun, TracesRun}
+use Rattle.arm2_exec.specs.Step.{traced_word}
 
 -- ---- the text of a step
 

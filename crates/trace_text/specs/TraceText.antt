@@ -16,10 +16,10 @@ use Rattle.arm2_exec.specs.declared.machine.Ran.{Ran}
 use Rattle.arm2_exec.specs.declared.machine.Stepped.{Stepped}
 use Rattle.arm2_exec.specs.Run.{Runs, why_stopped}
 use Rattle.arm2_exec.specs.State.{State}
-use Rattle.arm2_exec.specs.Step.{Step, fetched, interrupt_due, with_lines}
+use Rattle.arm2_exec.specs.Step.{Step, traced_word}
 use Rattle.asm_text.specs.Hex.{hex, hex8}
 use Rattle.assembler.specs.ShownLines.{IsShown}
-use Rattle.trace_text.specs.declared.trace.Traced.{Traced}
+use Rattle.arm2_exec.specs.declared.machine.Traced.{Traced}
 
 -- a text of a kind stands after the old one
 abbrev pub Adds : (Is : List ℕ → Type 0) → (old new : List ℕ) → Type 0
@@ -60,17 +60,6 @@ abbrev pub stop_text : Why → (address : ℕ) → List ℕ
 stop_text why address = codes "stopped " ++ (why_name why ++ (codes " at " ++ (hex address ++ codes "\n")))
 
 -- ---- steps
-
--- an interrupt fetches no word
-abbrev pub word_unless : Option Vector → Option ℕ → Option ℕ
-word_unless (Some interrupt) word = None
-word_unless None word = word
-
--- the word that a step fetches: none where an interrupt is due, and none where the fetch is refused
-abbrev pub traced_word : State → Input → Option ℕ
-traced_word s i =
-    word_unless (interrupt_due (with_lines i.lines.0 s.bus) (r15_in s.regs))
-    (fetched s.bus.memc (r15_in s.regs))
 
 abbrev pub exception_name : Vector → List ℕ
 exception_name Undefined = codes "undefined"

@@ -2,7 +2,7 @@ ghost use Rattle.std.specs.Prelude.{◌≡◌, IfOk, OnErr, OnOk, string_bytes};
 ghost use Rattle.arm2_exec.specs.Run.{Runs};
 ghost use Rattle.trace_text.specs.TraceText.{Adds, RefusedRun, TracesRun};
 
-use crate::trace::{step_traced, write_trace};
+use crate::trace::write_trace;
 use arm2_exec::{Input, Kind, Machine, Ran};
 use std::alloc::AllocError;
 
@@ -30,7 +30,7 @@ pub fn write_run(
     };
     for input in inputs {
         let stretched = machine.profile().burst_ticks(input.bursts);
-        let traced = step_traced(machine, *input);
+        let traced = machine.step_traced(*input);
         if let Kind::Stopped(why) = traced.told.kind {
             ran.stopped = Some(why);
             return Ok(ran);

@@ -1,11 +1,10 @@
 ghost use Rattle.std.specs.Prelude.{◌≡◌, ◌+◌, ◌<◌, ◌≤◌, ◌^◌, MatchResult, length, string_bytes};
-ghost use Rattle.arm2_exec.specs.Step.{Step};
 ghost use Rattle.assembler.specs.ShownLines.{IsShown};
 ghost use Rattle.trace_text.specs.TraceText.{Adds, IsTraceLine, IsWordLine, exception_name, front_text};
-ghost use Rattle.trace_text.specs.TraceText.{traced_word, word_text};
+ghost use Rattle.trace_text.specs.TraceText.{word_text};
 
 use crate::figures::hex_word;
-use arm2_exec::{Input, Kind, Machine, Stepped, Vector};
+use arm2_exec::{Kind, Traced, Vector};
 use arrayvec::ArrayString;
 use assembler::disassemble;
 use itoa::Buffer;
@@ -14,34 +13,6 @@ use std::alloc::AllocError;
 /// The most bytes of a step's line: 29 of its address, its word and its ticks, 64 of its word's line, and the
 /// line's end.
 pub const LINE_ROOM: usize = 94;
-
-/// A step and the word that it fetched.
-#[derive(Clone, Copy, Debug, PartialEq, Eq)]
-pub struct Traced {
-    pub told: Stepped,
-    /// None where an interrupt was taken, and where the fetch was refused.
-    pub word: Option<u32>,
-}
-
-fn word_of_step(machine: &Machine, input: Input) -> Option<u32>
-    ensures { result ≡ traced_word machine.now input }
-{
-    match machine.interrupt_due(input.lines) {
-        Some(_) => None,
-        None => machine.fetched(),
-    }
-}
-
-/// One step of a machine, with the word that it fetches.
-pub fn step_traced(machine: &mut Machine, input: Input) -> Traced
-    ensures step { Step machine.old input result.told machine.new }
-    ensures word { result.word ≡ traced_word machine.old input }
-    ensures bound { result.told.ticks < 2 ^ 16 }
-{
-    let word = word_of_step(machine, input);
-    let told = machine.step(input);
-    Traced { told, word }
-}
 
 /// The name of an exception, as a trace has it: lower case, at most 9 letters.
 pub fn exception_name(vector: Vector) -> &'static str

@@ -2,7 +2,7 @@ use Rattle.std.proofs.Common.{◌≡◌, ℕ, zero, suc, ◌+◌, ◌-◌, ◌*�
 use Rattle.std.proofs.lemmas.Bool.{cases_lt}
 use Rattle.std.proofs.lemmas.Bool.Decides.{nat_tests}
 use Rattle.std.proofs.lemmas.Nat.{mod_below, div_below}
-use Rattle.std.proofs.Math.Nat.{mod-add-mod, mod-eq_of_lt}
+use Rattle.std.proofs.Math.Nat.{add-div_right, add-mod_right, mod-add-mod, mod-eq_of_lt}
 use Rattle.vidc.specs.Frame.{next, position_after, arrivals}
 use Rattle.vidc.proofs.RemainderLemmas.{Next, next_of, Hits, hits_of}
 
@@ -72,6 +72,35 @@ arrivals_are (suc n) w mark from at h =
           let is : position_after (suc n) w from ≡ mark = here ∙ hits.off (sym turned ∙ (following.last l).0) in
           ap (λ (k : ℕ). arrivals n w mark from + k) (count_hit (position_after (suc n) w from) mark is) ∙ ap (λ (k : ℕ). k + 1) (arrivals_are n w mark from at h) ∙ sym (following.last l).1 ∙ ap (λ (k : ℕ). k / w) up
     ]
+
+-- within a frame, a mark that is not ahead is not reached
+pub none_behind : (n w mark from : ℕ) → from + n < w → mark ≤ from → arrivals n w mark from ≡ 0
+none_behind n w mark from within behind =
+    let e : from + (w - mark) ≡ (from - mark) + w = omega arith in
+    let s : since w mark from ≡ from - mark = ap (λ (x : ℕ). x % w) e ∙ add-mod_right (from - mark) w ∙ mod-eq_of_lt (omega arith) in
+    let low : since w mark from + n < 1 * w = omega (arith, s) in
+    omega (arith, arrivals_are n w mark from (omega arith) (omega arith), div_below (since w mark from + n) w 1 (omega arith) low)
+
+ahead : (w mark from : ℕ) → from < mark → mark < w → since w mark from ≡ from + (w - mark)
+ahead w mark from after below = mod-eq_of_lt (omega arith)
+
+-- nor one that is too far ahead
+pub none_before : (n w mark from : ℕ) → from + n < w → from + n < mark → arrivals n w mark from ≡ 0
+none_before n w mark from within before = elim (cases_lt mark w) [
+  | inl below ↦
+      let low : since w mark from + n < 1 * w = omega (arith, ahead w mark from (omega arith) below) in
+      omega (arith, arrivals_are n w mark from (omega arith) below, div_below (since w mark from + n) w 1 (omega arith) low)
+  | inr past ↦ arrivals_none n w mark from (omega arith) past
+]
+
+-- and else it is reached once
+pub one_within : (n w mark from : ℕ) → from + n < w → from < mark → mark ≤ from + n → arrivals n w mark from ≡ 1
+one_within n w mark from within after reached =
+    let below : mark < w = omega arith in
+    let e : since w mark from + n ≡ (from + n - mark) + w = omega (arith, ahead w mark from after below) in
+    let low : from + n - mark < 1 * w = omega arith in
+    let turned = arrivals_are n w mark from (omega arith) below ∙ ap (λ (x : ℕ). x / w) e ∙ add-div_right (from + n - mark) (omega arith) in
+    omega (arith, turned, div_below (from + n - mark) w 1 (omega arith) low)
 
 -- sixths add up
 pub position-add : (a b w from : ℕ) → position_after (a + b) w from ≡ position_after b w (position_after a w from)

@@ -1,7 +1,7 @@
 -- VIDC by four of its registers (our own profile, shaped on the VL86C310 data sheet): horizontal cycle,
 -- vertical cycle, vertical display end and control. Ours alone: which words are taken, where a frame begins
 -- again, and that nothing moves before both cycle registers were written.
-use Rattle.std.specs.Prelude.{ℕ, ◌+◌, ◌*◌, ◌/◌, ◌%◌, ◌<◌, Bool, true, false, ◌==◌, ◌&&◌, if◌then◌else◌}
+use Rattle.std.specs.Prelude.{ℕ, ◌+◌, ◌*◌, ◌/◌, ◌%◌, Bool, true, false, ◌==◌, ◌&&◌, if◌then◌else◌}
 use Rattle.vidc.specs.declared.PixelRate.{PixelRate}
 use Rattle.vidc.specs.declared.PixelRate.TheVariants.{Mhz8, Mhz12, Mhz16, Mhz24}
 use Rattle.vidc.specs.Frame.{arrivals, position_after}
@@ -85,11 +85,3 @@ written word v =
     else if word / 0x100_0000 == 0xB0 then record v { display_end = value_of word; position = 0 }
     else if word / 0x100_0000 == 0xE0 then record v { rate = rate_of (word % 4); position = 0 }
     else v
-
--- the range of each value: ten bits, and a position within the frame
-pub record InRange (horizontal_cycle vertical_cycle display_end : ℕ) (rate : PixelRate)
-    (position : ℕ) : Type 0 where
-  pub horizontal_below : horizontal_cycle < 0x400
-  pub vertical_below : vertical_cycle < 0x400
-  pub display_end_below : display_end < 0x400
-  pub within : position < frame_of horizontal_cycle vertical_cycle rate

@@ -33,6 +33,7 @@ pub(crate) fn rasters(raster: u32, count: u32) -> u32
 }
 
 // The position so many ticks after another.
+#[inline(always)]
 pub(crate) fn position_after(ticks: u32, frame: u32, from: u32) -> u32
     requires { from < frame }
     ensures position { result ≡ position_after (ticks * 6) frame from }
@@ -70,4 +71,19 @@ pub(crate) fn arrivals(ticks: u32, frame: u32, mark: u32, from: u32) -> u32
         return 0;
     }
     (reached / frame as u64) as u32
+}
+
+// The same, where the frame does not end meanwhile.
+#[inline(always)]
+pub(crate) fn arrivals_within(ticks: u32, frame: u32, mark: u32, from: u32) -> u32
+    requires { from + ticks * 6 < frame }
+    ensures { result ≡ arrivals (ticks * 6) frame mark from }
+{
+    if mark <= from {
+        return 0;
+    }
+    if from as u64 + (ticks as u64 * 6) < mark as u64 {
+        return 0;
+    }
+    1
 }

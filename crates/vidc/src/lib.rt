@@ -7,14 +7,16 @@
 
 mod frame;
 mod law;
+mod timing;
 
-ghost use Rattle.std.specs.Prelude.{◌≡◌, ◌≤◌, ◌<◌, ◌^◌};
-ghost use Rattle.vidc.specs.Video.{Video, InRange, fresh, rate_of, value_of, frame};
+ghost use Rattle.std.specs.Prelude.{◌≡◌, ◌≤◌, ◌<◌, true};
+ghost use Rattle.vidc.specs.Video.{Video, fresh, rate_of, value_of};
 ghost use Rattle.vidc.specs.Video.{flyback, runs, written, advanced};
 ghost use Rattle.vidc.specs.Video.{flybacks};
 
 pub use law::ticks_add_up;
 use std::marker::Model;
+use timing::Timing;
 
 /// The rate at which pixels are shown: bits 1:0 of the control register.
 #[derive(Clone, Copy, Debug, PartialEq, Eq)]
@@ -32,11 +34,7 @@ pub enum PixelRate {
 /// VIDC: its frame, and the position in it.
 #[derive(Drop)]
 pub struct Vidc {
-    // Values of ten bits.
-    horizontal_cycle: u32,
-    vertical_cycle: u32,
-    display_end: u32,
-    rate: PixelRate,
+    timing: Timing,
     horizontal_written: bool,
     vertical_written: bool,
     // Sixths of a tick since the frame began.
@@ -47,16 +45,16 @@ impl Model for Vidc {
     ghost Value = { Video };
 
     ghost view = { λ v. record {
-      horizontal_cycle = v.horizontal_cycle;
-      vertical_cycle = v.vertical_cycle;
-      display_end = v.display_end;
-      rate = v.rate;
+      horizontal_cycle = v.timing.horizontal_cycle;
+      vertical_cycle = v.timing.vertical_cycle;
+      display_end = v.timing.display_end;
+      rate = v.timing.rate;
       horizontal_written = v.horizontal_written;
       vertical_written = v.vertical_written;
       position = v.position;
     } };
 
-    ghost invariant = { λ v. InRange v.horizontal_cycle v.vertical_cycle v.display_end v.rate v.position };
+    ghost invariant = { λ v. v.position < v.timing.frame };
 }
 
 impl Vidc {
@@ -65,10 +63,7 @@ impl Vidc {
         ensures { result ≡ fresh }
     {
         Vidc {
-            horizontal_cycle: 0,
-            vertical_cycle: 0,
-            display_end: 0,
-            rate: PixelRate::Mhz8,
+            timing: Timing::new(0, 0, 0, PixelRate::Mhz8),
             horizontal_written: false,
             vertical_written: false,
             position: 0,
@@ -82,41 +77,75 @@ impl Vidc {
     pub fn write(&mut self, word: u32)
         ensures { self.new ≡ written word self.old }
     {
+        let old = self.timing;
         match word / 0x100_0000 {
             0x80 => {
-                self.horizontal_cycle = value(word);
+                let value = value(word);
+                self.begin(Timing::new(value, old.vertical_cycle, old.display_end, old.rate));
                 self.horizontal_written = true;
-                self.position = 0;
             }
             0xA0 => {
-                self.vertical_cycle = value(word);
+                let value = value(word);
+                self.begin(Timing::new(old.horizontal_cycle, value, old.display_end, old.rate));
                 self.vertical_written = true;
-                self.position = 0;
             }
             0xB0 => {
-                self.display_end = value(word);
-                self.position = 0;
+                let value = value(word);
+                self.begin(Timing::new(old.horizontal_cycle, old.vertical_cycle, value, old.rate));
             }
             0xE0 => {
-                self.rate = pixel_rate(word % 4);
-                self.position = 0;
+                let rate = pixel_rate(word % 4);
+                let (horizontal, vertical) = (old.horizontal_cycle, old.vertical_cycle);
+                self.begin(Timing::new(horizontal, vertical, old.display_end, rate));
             }
             _ => {}
         }
     }
 
+    // A new frame begins.
+    fn begin(&mut self, timing: Timing)
+        ensures { self.new ≡ record self.old {
+          horizontal_cycle = timing.horizontal_cycle;
+          vertical_cycle = timing.vertical_cycle;
+          display_end = timing.display_end;
+          rate = timing.rate;
+          position = 0;
+        } }
+    {
+        self.timing = timing;
+        self.position = 0;
+    }
+
     /// Lets `ticks` ticks pass, of any number and in constant time: the number of times that flyback
     /// rises meanwhile. It rises where the raster after the one that vertical display end names begins,
     /// and never where that is no raster of the frame.
+    #[inline(always)]
     pub fn advance(&mut self, ticks: u32) -> u32
         ensures flybacks { result ≡ flybacks ticks self.old }
         ensures never { self.old.vertical_cycle ≤ self.old.display_end → result ≡ 0 }
         ensures advanced { self.new ≡ advanced ticks self.old }
     {
-        let flybacks = self.flybacks(ticks);
-        if self.runs() {
-            self.position = frame::position_after(ticks, self.frame(), self.position);
+        if !self.runs() {
+            return 0;
         }
+        let (frame, from) = (self.timing.frame, self.position);
+        if from as u64 + ticks as u64 * 6 >= frame as u64 {
+            return self.advance_past(ticks);
+        }
+        self.position = frame::position_after(ticks, frame, from);
+        frame::arrivals_within(ticks, frame, self.timing.flyback, from)
+    }
+
+    // The same where a frame ends meanwhile.
+    #[inline(never)]
+    fn advance_past(&mut self, ticks: u32) -> u32
+        requires { runs self.old ≡ true }
+        ensures flybacks { result ≡ flybacks ticks self.old }
+        ensures never { self.old.vertical_cycle ≤ self.old.display_end → result ≡ 0 }
+        ensures advanced { self.new ≡ advanced ticks self.old }
+    {
+        let flybacks = self.flybacks(ticks);
+        self.position = frame::position_after(ticks, self.timing.frame, self.position);
         flybacks
     }
 
@@ -127,16 +156,6 @@ impl Vidc {
         self.horizontal_written && self.vertical_written
     }
 
-    // Sixths of a tick in a frame.
-    fn frame(&self) -> u32
-        ensures size { result ≡ frame self.now }
-        ensures within { self.now.position < result }
-        ensures below { result < 2 ^ 26 }
-    {
-        let raster = frame::raster(self.horizontal_cycle, self.rate);
-        frame::rasters(raster, self.vertical_cycle + 1)
-    }
-
     // The rises of flyback while so many ticks pass.
     fn flybacks(&self, ticks: u32) -> u32
         ensures flybacks { result ≡ flybacks ticks self.now }
@@ -145,12 +164,10 @@ impl Vidc {
         if !self.runs() {
             return 0;
         }
-        if self.vertical_cycle <= self.display_end {
+        if self.timing.vertical_cycle <= self.timing.display_end {
             return 0;
         }
-        let raster = frame::raster(self.horizontal_cycle, self.rate);
-        let flyback = frame::rasters(raster, self.display_end + 1);
-        frame::arrivals(ticks, self.frame(), flyback, self.position)
+        frame::arrivals(ticks, self.timing.frame, self.timing.flyback, self.position)
     }
 }
 

@@ -1,5 +1,7 @@
-use Rattle.std.proofs.Common.{refl, inl, inr}
+use Rattle.std.proofs.Common.{◌≡◌, ◌∙◌, ap, refl, subst, inl, inr}
+use Rattle.arm2_decode.specs.Table.{IsUnallocated, Means}
 use Rattle.arm2_exec.specs.Step.{instruction_moved, unallocated_moved}
+use Rattle.arm2_exec.specs.declared.decoded.Row.{Row}
 use Rattle.arm2_exec.proofs.WorkLemmas.{obeyed_none}
 use Rattle.arm2_exec.proofs.work.obey.Goals as goal
 
@@ -9,8 +11,14 @@ returns-in_default-clause-obeyed c =
 
 pub returns-in-Ok-clause-obeyed : goal.returns-in-Ok-clause-obeyed
 returns-in-Ok-clause-obeyed c =
-    rw c.in-Some.is (record { moved = instruction_moved c.in-Ok.instr c.args.inputs.now.port c.args.registers.now c.args.bus.now; obeys = inl (c.in-Ok.instr, c.in-Ok.ensures.found, refl); is = c.obey_instruction.ensures.moved })
+    let row = c.row.result.now in
+    let of : row.word ≡ c.in-Some.word = ap (λ (r : Row). r.word) (c.row.ensures row) ∙ c.keep.ensures row in
+    let means = subst (λ w. Means w c.in-Ok.instr) of (row.found c.in-Ok.instr c.in-Ok.is) in
+    rw c.in-Some.is (record { moved = instruction_moved c.in-Ok.instr c.args.inputs.now.port c.args.registers.now c.args.bus.now; obeys = inl (c.in-Ok.instr, means, refl); is = c.obey_instruction.ensures.moved })
 
 pub returns-in-Err-clause-obeyed : goal.returns-in-Err-clause-obeyed
 returns-in-Err-clause-obeyed c =
-    rw c.in-Some.is (record { moved = unallocated_moved c.in-Err.unallocated c.args.registers.now c.args.bus.now; obeys = inr (c.in-Err.unallocated, c.in-Err.ensures.unallocated, refl); is = c.obey_unallocated.ensures.moved })
+    let row = c.row.result.now in
+    let of : row.word ≡ c.in-Some.word = ap (λ (r : Row). r.word) (c.row.ensures row) ∙ c.keep.ensures row in
+    let unallocated = subst (λ w. IsUnallocated w c.in-Err.unallocated) of (row.unallocated c.in-Err.unallocated c.in-Err.is) in
+    rw c.in-Some.is (record { moved = unallocated_moved c.in-Err.unallocated c.args.registers.now c.args.bus.now; obeys = inr (c.in-Err.unallocated, unallocated, refl); is = c.obey_unallocated.ensures.moved })

@@ -1,15 +1,27 @@
-use Rattle.std.proofs.Common.{◌∙◌, ap, sym}
+use Rattle.std.proofs.Common.{◌≡◌, ◌∙◌, None, Some, ap, refl, rules, sym}
+use Rattle.arm2_effect.specs.Modes.{r15_in}
 use Rattle.arm2_exec.specs.Step.{fetched, interrupt_due}
 use Rattle.arm2_exec.proofs.WorkLemmas.{worked_interrupt, worked_word}
 use Rattle.arm2_exec.proofs.work.work.Goals as goal
 
-pub returns-in-Some-clause-worked : goal.returns-in-Some-clause-worked
-returns-in-Some-clause-worked c =
-    worked_interrupt c.args.inputs.now.prices.profile c.args.inputs.now.prices.rom c.args.inputs.now.port c.args.registers.now c.args.bus.now c.take.result c.take.new.self _ c.in-Some.vector
-    (ap (interrupt_due c.args.bus.now) (sym c.get-r15.ensures.word) ∙ sym c.interrupt.ensures ∙ c.in-Some.is) c.take.ensures.effect
+pub returns-in-Some : goal.returns-in-Some
+returns-in-Some c =
+    let due : interrupt_due c.args.bus.now (r15_in c.args.registers.now) ≡ Some c.in-Some.vector =
+    ap (interrupt_due c.args.bus.now) (sym c.get-r15.ensures.word) ∙ sym c.interrupt.ensures ∙ c.in-Some.is in
+    record {
+      worked = worked_interrupt c.args.inputs.now.prices.profile c.args.inputs.now.prices.rom c.args.inputs.now.port c.args.registers.now c.args.bus.now c.take-done.result c.take-done.new.self _ c.in-Some.vector due c.take-done.ensures.effect;
+      word = rw due refl;
+      bound = search rules;
+    }
 
-pub returns-clause-worked : goal.returns-clause-worked
-returns-clause-worked c =
-    worked_word c.args.inputs.now.prices.profile c.args.inputs.now.prices.rom c.args.inputs.now.port c.args.registers.now c.args.bus.now c.obey.result c.obey.new.registers _ c.fetch-word.result c.obey.new.bus
-    (ap (interrupt_due c.args.bus.now) (sym c.get-r15.ensures.word) ∙ sym c.interrupt.ensures ∙ c.in_default.is)
-    (c.fetch-word.ensures ∙ ap (fetched c.args.bus.now.memc) c.get-r15.ensures.word) c.obey.ensures.obeyed
+pub returns : goal.returns
+returns c =
+    let none : interrupt_due c.args.bus.now (r15_in c.args.registers.now) ≡ None =
+    ap (interrupt_due c.args.bus.now) (sym c.get-r15.ensures.word) ∙ sym c.interrupt.ensures ∙ c.in_default.is in
+    let word : c.fetch-word.result ≡ fetched c.args.bus.now.memc (r15_in c.args.registers.now) =
+    c.fetch-word.ensures ∙ ap (fetched c.args.bus.now.memc) c.get-r15.ensures.word in
+    record {
+      worked = worked_word c.args.inputs.now.prices.profile c.args.inputs.now.prices.rom c.args.inputs.now.port c.args.registers.now c.args.bus.now c.obey-done.result c.obey-done.new.registers _ c.fetch-word.result c.obey-done.new.bus none word c.obey-done.ensures.obeyed;
+      word = rw none word;
+      bound = c.obey-done.ensures.bound;
+    }

@@ -17,7 +17,7 @@ returns-in-Stopped-clause-runs c =
     let input : Input =
     slice_index_or inputs index (record { bursts = 0; lines = record { 0 = 0 }; port = 0 }) in
     let traced = c.step_traced-traced in
-    at_stop c.args.machine.now inputs c.loop-input.ran c.loop-input.machine traced.new.machine
+    at_stop c.args.machine.now inputs c.loop-input.ran c.loop-input.machine traced.new.self
     (drop index inputs) (drop (index + 1) inputs) input traced.result.told c.in-Stopped.why
     c.loop-input.invariant.0 (drop_more inputs index _ c.loop-input-test.true) traced.ensures.step
     c.in-Stopped.is
@@ -29,7 +29,7 @@ returns-in-Stopped-clause-text c =
     let input : Input =
     slice_index_or inputs index (record { bursts = 0; lines = record { 0 = 0 }; port = 0 }) in
     let traced = c.step_traced-traced in
-    text_stops c.args.machine.now inputs c.loop-input.machine traced.new.machine (drop index inputs)
+    text_stops c.args.machine.now inputs c.loop-input.machine traced.new.self (drop index inputs)
     (drop (index + 1) inputs) input traced.result
     (drop_more inputs index _ c.loop-input-test.true) traced.ensures.step c.in-Stopped.why
     (string_bytes c.args.out.now) (string_bytes c.loop-input.out)
@@ -44,7 +44,7 @@ loop-input-preserved c =
     let traced = c.step_traced-traced in
     let start = c.args.machine.now in
     let now = c.loop-input.machine in
-    let next = traced.new.machine in
+    let next = traced.new.self in
     let at_hand = drop_more inputs index _ c.loop-input-test.true in
     let runs =
     more_steps start inputs c.loop-input.ran now next (drop index inputs) (drop (index + 1) inputs) input
@@ -110,7 +110,7 @@ returns-in_err-write_trace-clause-refused c =
     let here = take_more inputs index _ c.loop-input-test.true in
     let left = drop_more inputs index _ c.loop-input-test.true in
     let law =
-    run_refused c.args.machine.now inputs index c.loop-input.machine traced.new.machine input
+    run_refused c.args.machine.now inputs index c.loop-input.machine traced.new.self input
     traced.result
     here traced.ensures.step c.in_default.not-Stopped (drop (index + 1) inputs) c.loop-input.ran in
     on_err c.from_residual.result _

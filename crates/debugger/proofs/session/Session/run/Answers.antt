@@ -1,5 +1,5 @@
 use Rattle.std.proofs.Common.{◌++◌, ◌∷◌, List, ℕ, [], inr, refl, ap, subst, arith}
-use Rattle.trace_text.specs.declared.trace.Traced.{Traced}
+use Rattle.arm2_exec.specs.declared.machine.Traced.{Traced}
 use Rattle.trace_text.specs.TraceText.{IsTraceLine}
 use Rattle.debugger.specs.Watching.{Watches, inputs_of}
 use Rattle.debugger.proofs.WatchLaws.{added_alone, first_of_watch, none_made, session_on, some_steps, still}
