@@ -1,5 +1,5 @@
 -- A word is its row's fixed bits and its fields; the lowest rotation.
-use Rattle.std.proofs.Common.{ℕ, suc, ◌+◌, ◌-◌, ◌*◌, ◌^◌, ◌<◌, ◌≤◌, ◌≡◌, refl, ap, ◌∙◌, arith, ◌∷◌, Option, Some}
+use Rattle.std.proofs.Common.{ℕ, suc, ◌+◌, ◌-◌, ◌*◌, ◌^◌, ◌<◌, ◌≤◌, ◌≡◌, refl, ap, ◌∙◌, arith, ◌∷◌, Option, Some, Ok, sym}
 use Rattle.std.specs.Int.{w32, rotate_left}
 use Rattle.std.specs.List.{find, range_with_len}
 use Rattle.std.proofs.lemmas.Bool.{lt-ltb, le-ltb}
@@ -7,7 +7,7 @@ use Rattle.arm2_decode.specs.declared.instr.Instr.{Instr}
 use Rattle.arm2_decode.specs.Names.{cond_number}
 use Rattle.arm2_decode.specs.Table.{row_of, operands, Means, word_in}
 use Rattle.arm2_decode.proofs.OnlyLemmas.{word_laid}
-use Rattle.assembler.specs.Codes.{is_byte_by}
+use Rattle.assembler.specs.Codes.{allowed, is_byte_by}
 
 pub means_word : (w : ℕ) (i : Instr) → w < 2 ^ 32 → Means w i → w ≡ word_in (row_of i.operation) (cond_number i.cond ∷ operands i.operation)
 means_word w i below h = word_laid w i.operation below h.fixed ∙ ap (word_in (row_of i.operation)) h.fields
@@ -25,3 +25,8 @@ pub rotation_here : (k n : ℕ) → k < 16 → rotate_left w32 n (2 * k) < 256 �
 rotation_here k n lt small =
     let left : 16 - k ≡ suc (16 - (k + 1)) = omega arith in
     rw (left, lt-ltb (rotate_left w32 n (2 * k)) 256 small) refl
+
+-- ## What a test allows
+
+pub allowed_word : (why barred word is : ℕ) → why ≡ barred → why ≡ 0 → word ≡ is → Ok word ≡ allowed barred is
+allowed_word why barred word is same zero made = ap (λ (w : ℕ). Ok w) made ∙ ap (λ (b : ℕ). allowed b is) (sym zero ∙ same)

@@ -1,6 +1,7 @@
 pub mod CodeLaws
 pub mod SweepLaws
 pub mod ShownLaws
+mod PutLaws
 mod ListedLaws
 pub mod ByteLaws
 mod SayLaws

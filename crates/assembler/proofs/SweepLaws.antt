@@ -1,12 +1,13 @@
 -- Names as a function, segments as pairs, and one value more.
-use Rattle.std.proofs.Common.{◌≡◌, ℕ, ◌+◌, ◌<◌, ◌&&◌, ◌||◌, Bool, List, [], ◌∷◌, Some, cond, map, refl, ap, get_or, drop, length}
+use Rattle.std.proofs.Common.{◌≡◌, ◌∙◌, ℕ, ◌+◌, ◌<◌, ◌≤◌, Result, Ok, sym, ◌&&◌, ◌||◌, Bool, List, [], ◌∷◌, Some, cond, map, refl, ap, get_or, drop, length}
 use Rattle.std.specs.Prelude.{nat_lt}
 use Rattle.std.specs.List.{list_any}
-use Rattle.std.proofs.lemmas.List.{drop_more}
+use Rattle.std.proofs.lemmas.List.{drop_all, drop_more}
 use Rattle.std.specs.Str.{bytes_eq}
 use Rattle.loader.specs.Labels.{Names, address_of}
 use Rattle.assembler.specs.Sweeps.{Names as SpecNames, State, all_placed, filled, filled_on, item_step, line_step, overlaps, placed, swept, swept_on, value_pending, with_name}
 use Rattle.assembler.specs.Views.{item_of, span_of}
+use Rattle.assembler.specs.declared.fault.Fault.{Fault}
 use Rattle.assembler.specs.declared.item.Item.{Item as CodeItem}
 use Rattle.loader.specs.Image.{Words}
 use Rattle.asm_text.specs.Source.{lines_of}
@@ -36,3 +37,17 @@ pub swept_more : (s : State) (k : ℕ) (text line : List ℕ) (rest : List ℕ) 
     → swept s k (lines_of text) ≡ swept_on k (line_step s k (line_of line)) (λ t. swept t (k + 1) (lines_of rest))
 unfolding swept
 swept_more s k text line rest e = rw e refl
+
+-- one item more is put
+pub filled_step : (names : SpecNames) (old new : Words) (items : List CodeItem) (i : ℕ) (item : CodeItem) (whole : Result Words (Fault × ℕ)) → i < length items → item ≡ get_or items i item
+    → item_step names old (item_of item) ≡ Ok new → filled names old (map item_of (drop i items)) ≡ whole → filled names new (map item_of (drop (i + 1) items)) ≡ whole
+filled_step names old new items i item whole lt is put before =
+    let there = ap (λ (x : CodeItem). item_step names old (item_of x)) (sym is) ∙ put in
+    let more = ap (λ (r : Result Words Fault). filled_on (get_or items i item).line r (λ image. filled names image (map item_of (drop (i + 1) items)))) there in
+    sym (filled_more names old items i item lt ∙ more) ∙ before
+
+pub filled_end : (names : SpecNames) (image : Words) (items : List CodeItem) (i : ℕ) (whole : Result Words (Fault × ℕ)) → length items ≤ i
+    → filled names image (map item_of (drop i items)) ≡ whole → whole ≡ Ok image
+unfolding filled
+filled_end names image items i whole le before =
+    sym before ∙ ap (λ (l : List CodeItem). filled names image (map item_of l)) (drop_all i items le)

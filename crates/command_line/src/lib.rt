@@ -1,7 +1,9 @@
 //! What the words of a command line ask of the program.
 #![tactic(auto)]
 
+mod commands;
 mod line;
+mod rows;
 mod words;
 
 pub use line::{

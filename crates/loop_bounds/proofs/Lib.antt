@@ -2,6 +2,7 @@ pub mod Grouped
 pub mod Post
 pub mod Stack
 pub mod Visit
+mod Steps
 pub mod KeyLemmas
 pub mod Moved
 pub mod Positions

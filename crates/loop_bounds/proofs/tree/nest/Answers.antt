@@ -34,3 +34,34 @@ returns-clause-allowed c = λ fault other applies.
     let nesting : IsNesting (length c.args.graph.now.places) positions.edges.items positions.entry positions.extents.items c.in_ok-nesting.nesting = rw (c.places-places.ensures.value, c.deref-4.ensures.value, c.deref-3.ensures.value) at c.in_ok-nesting.ensures.nesting in
     allowed c.args.graph.now c.loops-loops.result.now positions c.places-places.ensures.well_formed c.in_ok-positions.ensures (c.in_ok-shares_header.ensures.apart c.if-branch.false) c.in_ok-nesting.nesting nesting fault other
     (subst (λ (loops : List Loop). Applies c.args.graph.now loops fault) (sym c.loops-loops.ensures.value) applies)
+
+pub shared_fault-requires-clause-listed : goal.shared_fault-requires-clause-listed
+shared_fault-requires-clause-listed c = rw (c.deref.ensures.value, ← c.places-places.ensures.value) c.in_ok-listed.ensures
+
+pub shared_fault-requires-clause-stated : goal.shared_fault-requires-clause-stated
+shared_fault-requires-clause-stated c = c.loops-loops.ensures.within
+
+pub shared_fault-requires-clause-shared : goal.shared_fault-requires-clause-shared
+shared_fault-requires-clause-shared c = c.in_ok-shares_header.ensures.shared c.if-branch.true
+
+pub find_positions-requires-clause-listed : goal.find_positions-requires-clause-listed
+find_positions-requires-clause-listed c = rw (← c.places-places.ensures.value) c.in_ok-listed.ensures
+
+pub find_positions-requires-clause-moved : goal.find_positions-requires-clause-moved
+find_positions-requires-clause-moved c = rw c.deref-2.ensures.value c.in_ok-sorted.ensures.moved
+
+pub find_positions-requires-clause-ascending : goal.find_positions-requires-clause-ascending
+find_positions-requires-clause-ascending c = rw c.deref-2.ensures.value c.in_ok-sorted.ensures.ascending
+
+pub find_positions-requires-clause-stated : goal.find_positions-requires-clause-stated
+find_positions-requires-clause-stated c = c.loops-loops.ensures.within
+
+pub find_positions-requires-clause-apart : goal.find_positions-requires-clause-apart
+find_positions-requires-clause-apart c = c.in_ok-shares_header.ensures.apart c.if-branch.false
+
+pub laid_out-requires-clause-positions : goal.laid_out-requires-clause-positions
+laid_out-requires-clause-positions c = (c.loops-loops.result.now, c.in_ok-positions.ensures)
+
+pub laid_out-requires-clause-nesting : goal.laid_out-requires-clause-nesting
+laid_out-requires-clause-nesting c =
+    rw (← c.places-places.ensures.value, ← c.deref-4.ensures.value, ← c.deref-3.ensures.value) c.in_ok-nesting.ensures.nesting

@@ -1,4 +1,6 @@
+use Rattle.std.proofs.Common.{eqb-true, sym, arith}
 use Rattle.loop_bounds.proofs.Visit.{visit_starts, visit_met, step_nearer}
+use Rattle.loop_bounds.proofs.Steps.{empty, visited}
 use Rattle.loop_bounds.proofs.order.Search.visit.Goals as goal
 
 pub loop-self-init : goal.loop-self-init
@@ -12,3 +14,14 @@ loop-self-init c =
 
 pub loop-self-smaller : goal.loop-self-smaller
 loop-self-smaller c = step_nearer c.args.firsts.now c.args.edges.now c.requires.grouped c.loop-self.self c.step.new.self c.in_ok-step.ensures.searching c.in_ok-step.ensures.step
+
+pub loop-self-preserved : goal.loop-self-preserved
+loop-self-preserved c = record {
+  searching = c.in_ok-step.ensures.searching;
+  met = λ v l white. c.loop-self.invariant.met v l (c.in_ok-step.ensures.step.met v white);
+}
+
+pub returns-clause-searched : goal.returns-clause-searched
+returns-clause-searched c =
+    visited c.args.firsts.now c.args.edges.now c.loop-self.self c.args.node c.loop-self.invariant
+    (empty c.loop-self.self.path.items (omega (arith, eqb-true _ 0 (sym c.loop-self-test.ensures))))
