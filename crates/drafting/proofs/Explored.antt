@@ -1,106 +1,149 @@
 -- The search for addresses goes on.
-use Rattle.std.proofs.Common.{◌≡◌, ℕ, ◌+◌, ◌<◌, ◌≤◌, List, [], ◌++◌, length, get_or, ⊎_elim, sym, ap, ◌∙◌, subst, arith, length-append, append_assoc, append-nil}
-use Rattle.std.specs.Prelude.{Contains}
+use Rattle.std.proofs.Common.{◌≡◌, ℕ, ◌+◌, ◌<◌, ◌≤◌, ◌⊎◌, inl, inr, List, [], ◌∷◌, ◌++◌, length, take, get_or, ⊎_elim, sym, ap, ◌∙◌, subst, arith, length-append, append_assoc, append-nil}
+use Rattle.std.specs.Prelude.{Contains, ◌↔◌}
 use Rattle.std.specs.BTreeSet.{BTreeSet}
 use Rattle.std.specs.Cmp.{nat_cmp_total}
-use Rattle.std.specs.List.Sorted.{IsStrictlySortedBy}
-use Rattle.std.specs.Ordering.{nat_cmp}
-use Rattle.std.proofs.lemmas.Grind.{get_or_default_zero}
-use Rattle.std.proofs.lemmas.List.{get_or_append_left, get_or_read}
-use Rattle.std.proofs.lemmas.List.Elements.{Contains-append_left}
+use Rattle.std.proofs.lemmas.List.{get_or_append_left, get_or_read, take_more}
+use Rattle.std.proofs.lemmas.List.Elements.{Contains-append_left, Contains-push, Contains-push_cases, Contains-get_or}
 use Rattle.std.proofs.lemmas.Map.Lookups.{exact_unsigned}
 use Rattle.std.proofs.lemmas.Map.Views.{btree_set_contains_iff}
 use borrow.Author.Count.{below_more}
-use Rattle.drafting.specs.Exploring.{AreFollowed, Grows, IsExplored, IsFollowed, IsFound}
-use Rattle.drafting.specs.Reach.{CallsTo, IsClosed, LeadsTo, StepsTo}
+use Rattle.drafting.specs.Exploring.{Adds, Grows, IsFound}
+use Rattle.drafting.specs.Reach.{AreReached, LeadsTo, Reaches, begins, leads_on, most_addresses}
 use Rattle.loader.specs.Image.{Words}
 
--- ## Longer lists
+-- ## Lists that grow
 
-pub grows_none : (xs : List ℕ) → Grows xs xs
-grows_none xs = ([], sym (append-nil xs))
+pub kept : {P : ℕ → Type 0} (xs ys : List ℕ) (a : ℕ) → Grows P xs ys → Contains xs a → Contains ys a
+kept xs ys a g h = subst (λ t. Contains t a) (sym g.more.1) (Contains-append_left xs g.more.0 a h)
 
-pub grows_on : (xs ys zs : List ℕ) → Grows xs ys → Grows ys zs → Grows xs zs
-grows_on xs ys zs a b = (a.0 ++ b.0, b.1 ∙ ap (λ t. t ++ b.0) a.1 ∙ append_assoc xs a.0 b.0)
+pub no_shorter : {P : ℕ → Type 0} (xs ys : List ℕ) → Grows P xs ys → length xs ≤ length ys
+no_shorter xs ys g =
+    let longer : length ys ≡ length xs + length g.more.0 = ap length g.more.1 ∙ length-append xs g.more.0 in
+    omega arith
 
-pub kept : (xs ys : List ℕ) (a : ℕ) → Grows xs ys → Contains xs a → Contains ys a
-kept xs ys a g h = subst (λ t. Contains t a) (sym g.1) (Contains-append_left xs g.0 a h)
-
--- ## Addresses that are added
-
--- the search goes on from a list, and the first of some addresses are in it
-pub record HasAdded (old ways : List ℕ) (i : ℕ) (seen : BTreeSet ℕ) (new : List ℕ) : Type 0 where
-  pub found : IsFound seen new
-  pub grows : Grows old new
-  pub added : (k : ℕ) → (to : ℕ) → k < i → Contains new (get_or ways k to)
-
-pub added_none : (ways : List ℕ) (seen : BTreeSet ℕ) (order : List ℕ) → IsFound seen order
-    → HasAdded order ways 0 seen order
-added_none ways seen order found = record { found = found; grows = grows_none order; added = λ k to h. absurd (omega arith) }
-
-pub added_more : (old ways : List ℕ) (i to : ℕ) (seen then : BTreeSet ℕ) (mid new : List ℕ)
-    → HasAdded old ways i seen mid → i < length ways → get_or ways i 0 ≡ to → IsFound then new → Grows mid new
-    → Contains new to → HasAdded old ways (i + 1) then new
-added_more old ways i to seen then mid new h lt is found grows has = record {
-  found = found;
-  grows = grows_on old mid new h.grows grows;
-  added = λ k d l. below_more (λ (j : ℕ). (x : ℕ) → Contains new (get_or ways j x)) i
-      (λ j l x. kept mid new (get_or ways j x) grows (h.added j x l))
-      (λ x. subst (Contains new) (sym (get_or_default_zero ways i x lt ∙ is)) has)
-      k l d;
+pub grows_none : (P : ℕ → Type 0) (xs : List ℕ) → ((a : ℕ) → P a → ⊥) → Grows P xs xs
+grows_none P xs none = record {
+  more = ([], sym (append-nil xs));
+  from = λ a h. inl h;
+  to = λ room a p. absurd (none a p);
 }
 
-pub added_all : (old ways : List ℕ) (i : ℕ) (seen : BTreeSet ℕ) (new : List ℕ) → HasAdded old ways i seen new
-    → length ways ≤ i → (to : ℕ) → Contains ways to → Contains new to
-added_all old ways i seen new h le to has =
-    subst (Contains new) has.2 (h.added has.0 to (omega (arith, has.1)))
+-- one address that is added is the one to be added
+pub grows_one : (P : ℕ → Type 0) (xs : List ℕ) (at : ℕ) (ys : List ℕ) → ((a : ℕ) → P a ↔ (at ≡ a)) → Adds xs at ys
+    → Grows P xs ys
+grows_one P xs at ys one (inl (same, why)) = record {
+  more = ([], same ∙ sym (append-nil xs));
+  from = λ a h. inl (subst (λ t. Contains t a) same h);
+  to = λ room a p.
+      subst (λ t. Contains t a) (sym same) (subst (Contains xs) ((one a).0 p) (⊎_elim (λ there. there)
+      (λ full. let shorter : length ys ≡ length xs = ap length same in absurd (omega (arith, full, room))) why));
+}
+grows_one P xs at ys one (inr new) = record {
+  more = (at ∷ [], new);
+  from = λ a h. ⊎_elim (λ w. inl w) (λ e. inr ((one a).1 e)) (Contains-push_cases xs at a (subst (λ t. Contains t a) new h));
+  to = λ room a p. subst (λ t. Contains t a) (sym new) (subst (Contains (xs ++ at ∷ [])) ((one a).0 p) (Contains-push xs at));
+}
+
+-- first some and then others
+pub grows_on : (P Q R : ℕ → Type 0) (xs ys zs : List ℕ) → ((a : ℕ) → R a ↔ (P a ⊎ Q a)) → Grows P xs ys → Grows Q ys zs
+    → Grows R xs zs
+grows_on P Q R xs ys zs both g h = record {
+  more = (g.more.0 ++ h.more.0, h.more.1 ∙ ap (λ t. t ++ h.more.0) g.more.1 ∙ append_assoc xs g.more.0 h.more.0);
+  from = λ a w. ⊎_elim
+      (λ there. ⊎_elim (λ old. inl old) (λ p. inr ((both a).1 (inl p))) (g.from a there))
+      (λ q. inr ((both a).1 (inr q))) (h.from a w);
+  to = λ room a r. ⊎_elim
+      (λ p. kept ys zs a h (g.to (let longer = no_shorter ys zs h in omega (arith, room, longer)) a p))
+      (λ q. h.to room a q) ((both a).0 r);
+}
+
+-- one of some addresses after the other
+pub grows_more : (ways : List ℕ) (i to : ℕ) (old mid new : List ℕ) → i < length ways → get_or ways i 0 ≡ to
+    → Grows (Contains (take i ways)) old mid → Adds mid to new → Grows (Contains (take (i + 1) ways)) old new
+grows_more ways i to old mid new lt is g adds =
+    let left : take (i + 1) ways ≡ take i ways ++ to ∷ [] = take_more ways i 0 lt ∙ ap (λ x. take i ways ++ x ∷ []) is in
+    grows_on (Contains (take i ways)) (λ a. to ≡ a) (Contains (take (i + 1) ways)) old mid new
+    (λ a. (
+      (λ h. Contains-push_cases (take i ways) to a (subst (λ t. Contains t a) left h)),
+      (λ h. subst (λ t. Contains t a) (sym left)
+          (⊎_elim (λ w. Contains-append_left (take i ways) (to ∷ []) a w)
+          (λ e. subst (Contains (take i ways ++ to ∷ [])) e (Contains-push (take i ways) to)) h)),
+    ))
+    g (grows_one (λ a. to ≡ a) mid to new (λ a. ((λ e. e), (λ e. e))) adds)
 
 -- ## Addresses that were looked at
 
 module _ (words : Words) where
-  pub followed_by : (mid new : List ℕ) (at : ℕ) → Grows mid new
-      → ((to : ℕ) → StepsTo words at to → Contains mid to) → ((to : ℕ) → CallsTo words at to → Contains new to)
-      → IsFollowed words new at
-  followed_by mid new at g steps calls to h = ⊎_elim (λ w. kept mid new to g (steps to w)) (λ w. calls to w) h
+  -- all to which an address leads are in the list, if that is not full
+  abbrev pub IsFollowed : List ℕ → ℕ → Type 0
+  IsFollowed order at = length order < most_addresses → (to : ℕ) → LeadsTo words at to → Contains order to
 
-  pub followed_none : (order : List ℕ) → AreFollowed words order 0
-  followed_none order = record { bound = omega arith; each = λ k d h. absurd (omega arith) }
-
-  pub followed_more : (order new : List ℕ) (next at : ℕ) → AreFollowed words order next → next < length order
-      → at ≡ get_or order next at → Grows order new → IsFollowed words new at → AreFollowed words new (next + 1)
-  followed_more order new next at f lt is g here =
-      let longer : length new ≡ length order + length g.0 = ap length g.1 ∙ length-append order g.0 in
-      record {
-        bound = omega arith;
-        each = λ k d h. rw g.1 (rw (get_or_append_left order g.0 d k (omega arith)) (below_more (λ (j : ℕ). (x : ℕ) → IsFollowed words (order ++ g.0) (get_or order j x)) next
-            (λ j l x. λ to w. Contains-append_left order g.0 to (f.each j x l to w))
-            (λ x. subst (IsFollowed words (order ++ g.0)) (get_or_read order next at lt is x) (subst (λ o. IsFollowed words o at) g.1 here))
-            k h d));
-      }
-
-  -- the search goes on: the entry is found, and all to which the addresses before the next one lead
-  pub record IsSearch (entry : ℕ) (seen : BTreeSet ℕ) (order : List ℕ) (next : ℕ) : Type 0 where
-    pub found : IsFound seen order
+  -- the search goes on: from the entry, where all is reached, and what the addresses before the next one lead to is there
+  pub record IsSearch (entry : ℕ) (order : List ℕ) (next : ℕ) : Type 0 where
     pub begun : Contains order entry
-    pub followed : AreFollowed words order next
+    pub reached : (at : ℕ) → Contains order at → Reaches words entry at
+    pub bound : next ≤ length order
+    pub followed : (k : ℕ) (d : ℕ) → k < next → IsFollowed order (get_or order k d)
 
-  pub explored : (entry : ℕ) (order : List ℕ) (next : ℕ) → Contains order entry → AreFollowed words order next
-      → (length order ≤ 16384 → length order ≤ next) → IsExplored words entry order
-  explored entry order next begun f all = record {
-    begun = begun;
-    followed = λ few at h. λ to w. f.each h.0 at (omega (arith, all few, h.1)) to (subst (λ x. LeadsTo words x to) (sym h.2) w);
+  pub search_begun : (entry : ℕ) (order : List ℕ) → Adds [] entry order → IsSearch entry order 0
+  search_begun entry order (inl (same, why)) = absurd (⊎_elim (λ there. omega (arith, there.1)) (λ full. omega (arith, full)) why)
+  search_begun entry order (inr new) = record {
+    begun = subst (λ t. Contains t entry) (sym new) (Contains-push [] entry);
+    reached = λ at h. ⊎_elim (λ w. absurd (omega (arith, w.1))) (λ e. subst (Reaches words entry) e begins)
+        (Contains-push_cases [] entry at (subst (λ t. Contains t at) new h));
+    bound = omega arith;
+    followed = λ k d h. absurd (omega arith);
   }
 
-  pub closed : (entry : ℕ) (seen : BTreeSet ℕ) (order : List ℕ) (addresses : List ℕ) → IsFound seen order
-      → IsExplored words entry order → addresses ≡ seen.keys → IsStrictlySortedBy nat_cmp addresses
-      → IsClosed words entry addresses
-  closed entry seen order addresses found x is ascend =
+  pub search_more : (entry : ℕ) (order new : List ℕ) (next at : ℕ) → IsSearch entry order next → next < length order
+      → at ≡ get_or order next at → Grows (LeadsTo words at) order new → IsSearch entry new (next + 1)
+  search_more entry order new next at s lt is g =
+      let longer = no_shorter order new g in
+      let here : Reaches words entry at =
+      s.reached at (subst (Contains order) (sym is) (Contains-get_or order next at lt)) in
+      let each : (k : ℕ) → k < next + 1 → (d : ℕ) → IsFollowed new (get_or order k d) =
+      below_more (λ (j : ℕ). (d : ℕ) → IsFollowed new (get_or order j d)) next
+      (λ j l d. λ room to w. kept order new to g (s.followed j d l (omega (arith, room, longer)) to w))
+      (λ d. subst (IsFollowed new) (get_or_read order next at lt is d) (λ room to w. g.to room to w)) in
+      record {
+        begun = kept order new entry g s.begun;
+        reached = λ a h. ⊎_elim (λ w. s.reached a w) (λ w. leads_on at a here w) (g.from a h);
+        bound = omega (arith, longer);
+        followed = λ k d l. subst (IsFollowed new)
+            (sym (ap (λ t. get_or t k d) g.more.1 ∙ get_or_append_left order g.more.0 d k (omega (arith, l, lt))))
+            (each k l d);
+      }
+
+  -- what holds all to which it leads holds all that is reached
+  pub closed : (entry : ℕ) (order : List ℕ) → Contains order entry
+      → ((at to : ℕ) → Contains order at → LeadsTo words at to → Contains order to) → (at : ℕ) → Reaches words entry at
+      → Contains order at
+  closed entry order begun next at begins = begun
+  closed entry order begun next at (leads_on from to r leads) = next from to (closed entry order begun next from r) leads
+
+  pub search_done : (entry : ℕ) (seen : BTreeSet ℕ) (order : List ℕ) (next : ℕ) → IsFound seen order
+      → IsSearch entry order next → length order ≤ next → AreReached words entry order
+  search_done entry seen order next found s all = record {
+    few = found.few;
+    begun = s.begun;
+    reached = s.reached;
+    all = λ room. closed entry order s.begun
+        (λ at to h leads. s.followed h.0 at (omega (arith, h.1, all)) room to (subst (λ x. LeadsTo words x to) (sym h.2) leads));
+  }
+
+  -- the same addresses in another order
+  pub reached_keys : (entry : ℕ) (seen : BTreeSet ℕ) (order addresses : List ℕ) → IsFound seen order
+      → AreReached words entry order → addresses ≡ seen.keys → AreReached words entry addresses
+  reached_keys entry seen order addresses found r is =
       let inside : (a : ℕ) → Contains order a → Contains addresses a = λ a h.
       subst (λ t. Contains t a) (sym is) ((btree_set_contains_iff nat_cmp_total exact_unsigned seen a).0 ((found.same a).1 h)) in
       let back : (a : ℕ) → Contains addresses a → Contains order a = λ a h.
       (found.same a).0 ((btree_set_contains_iff nat_cmp_total exact_unsigned seen a).1 (subst (λ t. Contains t a) is h)) in
+      let same : length addresses ≡ length order = ap length is ∙ sym found.count in
       record {
-        ascend = ascend;
-        begun = inside entry x.begun;
-        followed = λ few at h to w. inside to (x.followed (subst (λ n. n ≤ 16384) (ap length is ∙ sym found.count) few) at (back at h) to w);
+        few = subst (λ n. n ≤ most_addresses) (sym same) r.few;
+        begun = inside entry r.begun;
+        reached = λ at h. r.reached at (back at h);
+        all = λ room at h. inside at (r.all (subst (λ n. n < most_addresses) same room) at h);
       }

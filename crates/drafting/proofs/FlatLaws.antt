@@ -1,13 +1,17 @@
 -- Texts of one part after another.
-use Rattle.std.proofs.Common.{◌≡◌, ◌+◌, ◌<◌, ℕ, suc, List, [], ◌∷◌, ◌++◌, length, drop, codes, sym, ap, replicate, subst, ◌∙◌, append_assoc, get_or}
+use Rattle.std.proofs.Common.{◌≡◌, ◌+◌, ◌-◌, ◌*◌, ◌<◌, ℕ, suc, List, [], ◌∷◌, ◌++◌, length, take, drop, arith, length-append, codes, sym, ap, replicate, subst, ◌∙◌, append_assoc, get_or}
 use Rattle.arm2_effect.specs.ProgramCounter.{ahead_of}
+use Rattle.std.specs.Prelude.{Option}
+use Rattle.drafting.specs.Rows.{remark, row}
+use Rattle.drafting.specs.declared.source_lines.SourceLine.{SourceLine}
 use Rattle.bus_ticks.specs.declared.profile.Class.{Class}
-use Rattle.drafting.specs.DraftText.{accesses_text, cycle_text, destinations_text, draft_text, end_text, head_text, loop_text, target_text, way_text, words_from}
+use Rattle.drafting.specs.DraftText.{accesses_text, bound_text, cycle_text, destinations_text, draft_text, end_text, head_text, loop_text, place_text, target_text, way_text, words_from}
 use Rattle.drafting.specs.declared.ends.End.{End}
 use Rattle.drafting.specs.declared.found_loop.FoundLoop.{FoundLoop}
 use Rattle.drafting.specs.declared.writers.FoundTarget.{FoundTarget}
 use Rattle.drafting.specs.Named.{Lines}
 use Rattle.std.specs.List.{flat_map}
+use Rattle.std.proofs.Math.Seq.{take-append-add}
 use Rattle.std.proofs.lemmas.List.{drop_more}
 
 pub flat_more : {X : Type 0} (f : X → List ℕ) (xs : List X) (i : ℕ) (d : X) (old new all : List ℕ)
@@ -38,12 +42,49 @@ blanks_more left after old new all is h0 more =
 pub two_parts : (old front new one two : List ℕ) → front ≡ old ++ one → new ≡ front ++ two → new ≡ old ++ (one ++ two)
 two_parts old front new one two a b = b ∙ ap (λ t. t ++ two) a ∙ append_assoc old one two
 
+pub three_parts : (old p q new a b c : List ℕ) → p ≡ old ++ a → q ≡ p ++ b → new ≡ q ++ c → new ≡ old ++ (a ++ (b ++ c))
+three_parts old p q new a b c h1 h2 h3 = two_parts old p new a (b ++ c) h1 (two_parts p q new b c h2 h3)
+
+pub four_parts : (old p q r new a b c d : List ℕ) → p ≡ old ++ a → q ≡ p ++ b → r ≡ q ++ c → new ≡ r ++ d
+    → new ≡ old ++ (a ++ (b ++ (c ++ d)))
+four_parts old p q r new a b c d h1 h2 h3 h4 = two_parts old p new a (b ++ (c ++ d)) h1 (three_parts p q r new b c d h2 h3 h4)
+
+-- a row with the comment of its line as far as they fit
+pub row_ended : (line : Option SourceLine) (before text old mid cut new : List ℕ) (start end width room : ℕ)
+    → old ≡ before ++ text → length before ≡ start → end ≡ length old → width ≡ end - start → room ≡ 80 - width
+    → mid ≡ old ++ remark line → cut ≡ take (end + room) mid → new ≡ cut ++ codes "\n" → new ≡ before ++ row text line
+row_ended line before text old mid cut new start end width room is at ends wide left more cut_is last =
+    let long : length old ≡ length before + length text = ap length is ∙ length-append before text in
+    let fits : room ≡ 80 - length text = omega arith in
+    let shorter : cut ≡ old ++ take (80 - length text) (remark line) =
+    cut_is ∙ ap (λ n. take (n + room) mid) ends ∙ ap (take (length old + room)) more
+    ∙ take-append-add old (remark line) room ∙ ap (λ n. old ++ take n (remark line)) fits in
+    three_parts before old cut new text (take (80 - length text) (remark line)) (codes "\n") is shorter last
+
 -- what is to be written of a word that writes R15
 pub way_whole : (lines : Lines) (at table branches : ℕ) (old front new : List ℕ) → table ≡ ahead_of at 8
     → front ≡ old ++ codes "kind = \"?\"  # \"jump\", \"call\", \"return\" or \"leave\"\n"
     → new ≡ front ++ destinations_text lines table branches → new ≡ old ++ way_text lines at branches
 way_whole lines at table branches old front new is a b =
     two_parts old front new _ _ a (b ∙ ap (λ t. front ++ destinations_text lines t branches) is)
+
+-- a loop, part by part
+pub loop_whole : (lines : Lines) (l : FoundLoop) (old p q r s t u new : List ℕ) → p ≡ old ++ codes "\n"
+    → q ≡ p ++ replicate (2 * l.depth) 32 → r ≡ q ++ codes "[[loop]]\n"
+    → s ≡ r ++ place_text lines (2 * l.depth) (codes "header") l.header
+    → t ≡ s ++ place_text lines (2 * l.depth) (codes "first") l.first
+    → u ≡ t ++ place_text lines (2 * l.depth) (codes "last") l.last → new ≡ u ++ bound_text (2 * l.depth) l.turns
+    → new ≡ old ++ loop_text lines l
+loop_whole lines l old p q r s t u new h1 h2 h3 h4 h5 h6 h7 =
+    let a = codes "\n" in
+    let b = replicate (2 * l.depth) 32 in
+    let c = codes "[[loop]]\n" in
+    let d = place_text lines (2 * l.depth) (codes "header") l.header in
+    let e = place_text lines (2 * l.depth) (codes "first") l.first in
+    let f = place_text lines (2 * l.depth) (codes "last") l.last in
+    let g = bound_text (2 * l.depth) l.turns in
+    three_parts old p q new a b (c ++ (d ++ (e ++ (f ++ g)))) h1 h2
+    (three_parts q r s new c d (e ++ (f ++ g)) h3 h4 (three_parts s t u new e f g h5 h6 h7))
 
 -- a whole draft, part by part
 pub draft_whole : (lines : Lines) (entry : ℕ) (ends : List (ℕ × End)) (cycles : List ℕ) (accesses : List (ℕ × Class))

@@ -1,19 +1,20 @@
 -- Where control goes from a word.
-use Rattle.std.proofs.Common.{◌≡◌, ℕ, ◌+◌, ◌<◌, ◌≤◌, List, [], ◌∷◌, ◌++◌, Some, false, Result, Ok, Err, inl, inr, ⊎_elim, arith, refl, sym, ap, ◌∙◌, subst}
-use Rattle.std.specs.Prelude.{Contains, OnOk}
-use Rattle.std.proofs.lemmas.List.Elements.{Contains-append_left, Contains-push}
+use Rattle.std.proofs.Common.{◌≡◌, ℕ, ◌+◌, ◌<◌, ◌≤◌, List, [], ◌∷◌, ◌++◌, Some, inl, inr, ⊎_elim, arith, refl, sym, ap, ◌∙◌, subst}
+use Rattle.std.specs.Prelude.{Contains, ◌↔◌, ◌⊎◌}
+use Rattle.std.proofs.lemmas.List.Elements.{Contains-append_left, Contains-push, Contains-push_cases}
 use Rattle.std.proofs.lemmas.Bool.{cases_lt}
 use Rattle.arm2_decode.proofs.Unique.{never_both, one_instr, one_unallocated}
-use Rattle.drafting.specs.Reach.{Calls, GoesOn, HasPlaces, HasReading, IsBranchAt, IsReading, IsTablePlace, JumpsIntoTable, LeadsAway, Steps, instr_reading, is_never, next_of, unallocated_reading, words_on}
+use Rattle.drafting.specs.Exploring.{Gains}
+use Rattle.drafting.specs.Reach.{Calls, HasPlaces, HasReading, IsBranchAt, IsReading, IsTablePlace, JumpsIntoTable, LeadsAway, Steps, StepsTo, instr_reading, unallocated_reading, words_on}
 use Rattle.drafting.specs.declared.words.Reading.{Reading}
 use Rattle.drafting.specs.declared.words.Way.{Way}
 use Rattle.drafting.specs.declared.words.Way.TheVariants as way
 use Rattle.loader.specs.Image.{Words, word_of}
 use borrow.Author.Count.{below_more, below_none}
 
-pub on_ok_two : {T E P Q R : Type 0} (r : Result T E) → (P → Q → R) → OnOk r P → OnOk r Q → OnOk r R
-on_ok_two (Ok x) f p q = f p q
-on_ok_two (Err e) f p q = p
+-- one of the first so many places of the table behind a word
+abbrev pub IsPlaceBelow : ℕ → ℕ → ℕ → Type 0
+IsPlaceBelow at n a = (k : ℕ) × (k < n) × (a ≡ words_on at k)
 
 -- ## What a word shows
 
@@ -75,29 +76,79 @@ module _ (words : Words) (at : ℕ) where
     (λ place. place.few),
   )
 
-  -- the next word and the other addresses are all to which a word leads inside its routine
-  pub steps_in : (r : Reading) (mid new : List ℕ) (to : ℕ) → (GoesOn words at r → Contains mid (next_of at))
-      → ((a : ℕ) → Contains mid a → Contains new a)
-      → ((a : ℕ) → is_never r.cond ≡ false → LeadsAway words at r.way a → Contains new a) → Steps words at r to
-      → Contains new to
-  steps_in r mid new to next kept others (inl (goes, is)) =
-      kept to (subst (Contains mid) (sym is) (next goes))
-  steps_in r mid new to next kept others (inr (may, away)) = others to may away
+  -- the places of the table behind a word are all others to which it leads
+  pub places_lead : (count n : ℕ) → HasPlaces words at count → count ≤ n → n ≤ count → (to : ℕ)
+      → IsPlaceBelow at n to ↔ LeadsAway words at way.Writer to
+  places_lead count n has all few to = (
+    (λ h. (h.0, (has h.0).0 (omega (arith, h.1, few)), h.2)),
+    (λ h. let place = (has h.0).1 h.1 in (h.0, omega (arith, place, all), h.2)),
+  )
 
--- the list has what it had, and so many places of the table behind a word
-pub record IsPushed (at : ℕ) (old : List ℕ) (n : ℕ) (new : List ℕ) : Type 0 where
-  pub kept : (a : ℕ) → Contains old a → Contains new a
-  pub places : (k : ℕ) → k < n → Contains new (words_on at k)
+  -- a word that is no branch and no other writer of R15 leads nowhere else inside its routine
+  pub leads_nowhere : (w : Way) (to : ℕ) → ((offset : ℕ) → w ≡ way.Branch offset → ⊥) → (w ≡ way.Writer → ⊥)
+      → LeadsAway words at w to → ⊥
+  leads_nowhere way.On to branch writer h = h
+  leads_nowhere (way.Branch offset) to branch writer h = branch offset refl
+  leads_nowhere (way.Call offset) to branch writer h = h
+  leads_nowhere way.Return to branch writer h = h
+  leads_nowhere way.Writer to branch writer h = writer refl
+  leads_nowhere way.Trap to branch writer h = h
+  leads_nowhere way.Unallocated to branch writer h = h
 
-pub places_none : (at : ℕ) (old : List ℕ) → IsPushed at old 0 old
-places_none at old = record { kept = λ a h. h; places = below_none (λ k. Contains old (words_on at k)) }
+  -- the one reading of an address shows all steps from there
+  pub steps_are : (r : Reading) → HasReading words at r → ((s : Reading) → HasReading words at s → r ≡ s) → (to : ℕ)
+      → Steps words at r to ↔ StepsTo words at to
+  steps_are r has only to = (
+    (λ h. (r, has, h)),
+    (λ h. subst (λ s. Steps words at s to) (sym (only h.0 h.1)) h.2),
+  )
 
-pub places_more : (at : ℕ) (old : List ℕ) (n : ℕ) (mid new : List ℕ) (place : ℕ) → IsPushed at old n mid
-    → place ≡ words_on at n → new ≡ mid ++ place ∷ [] → IsPushed at old (n + 1) new
-places_more at old n mid new place h is more = record {
-  kept = λ a w. subst (λ t. Contains t a) (sym more) (Contains-append_left mid (place ∷ []) a (h.kept a w));
-  places = below_more (λ k. Contains new (words_on at k)) n
-      (λ k l. subst (λ t. Contains t (words_on at k)) (sym more)
-      (Contains-append_left mid (place ∷ []) (words_on at k) (h.places k l)))
-      (subst (Contains new) is (subst (λ t. Contains t place) (sym more) (Contains-push mid place)));
-}
+-- ## Lists that gain addresses
+
+pub gains_none : (P : ℕ → Type 0) (xs : List ℕ) → ((a : ℕ) → P a → ⊥) → Gains P xs xs
+gains_none P xs none = λ a. ((λ h. inl h), (λ h. ⊎_elim (λ w. w) (λ p. absurd (none a p)) h))
+
+pub gains_one : (P : ℕ → Type 0) (xs : List ℕ) (x : ℕ) (ys : List ℕ) → ((a : ℕ) → P a ↔ (x ≡ a)) → ys ≡ xs ++ x ∷ []
+    → Gains P xs ys
+gains_one P xs x ys one is = λ a. (
+  (λ h. ⊎_elim (λ w. inl w) (λ e. inr ((one a).1 e)) (Contains-push_cases xs x a (subst (λ t. Contains t a) is h))),
+  (λ h. subst (λ t. Contains t a) (sym is)
+      (⊎_elim (λ w. Contains-append_left xs (x ∷ []) a w)
+      (λ p. subst (Contains (xs ++ x ∷ [])) ((one a).0 p) (Contains-push xs x)) h)),
+)
+
+pub gains_from_none : (P : ℕ → Type 0) (xs ys : List ℕ) → xs ≡ [] → Gains P xs ys → (a : ℕ) → Contains ys a ↔ P a
+gains_from_none P xs ys none g a = (
+  (λ h. ⊎_elim (λ w. let there = subst (λ t. Contains t a) none w in absurd (omega (arith, there.1))) (λ p. p) ((g a).0 h)),
+  (λ p. (g a).1 (inr p)),
+)
+
+-- first some and then others
+pub gains_on : (P Q R : ℕ → Type 0) (xs ys zs : List ℕ) → ((a : ℕ) → R a ↔ (P a ⊎ Q a)) → Gains P xs ys
+    → Gains Q ys zs → Gains R xs zs
+gains_on P Q R xs ys zs both g h = λ a. (
+  (λ w. ⊎_elim (λ there. ⊎_elim (λ old. inl old) (λ p. inr ((both a).1 (inl p))) ((g a).0 there))
+      (λ q. inr ((both a).1 (inr q))) ((h a).0 w)),
+  (λ w. (h a).1 (⊎_elim (λ old. inl ((g a).1 (inl old)))
+      (λ r. ⊎_elim (λ p. inl ((g a).1 (inr p))) (λ q. inr q) ((both a).0 r)) w)),
+)
+
+-- the same by another name
+pub gains_as : (P Q : ℕ → Type 0) (xs ys : List ℕ) → ((a : ℕ) → P a ↔ Q a) → Gains P xs ys → Gains Q xs ys
+gains_as P Q xs ys same g = λ a. (
+  (λ w. ⊎_elim (λ old. inl old) (λ p. inr ((same a).0 p)) ((g a).0 w)),
+  (λ w. (g a).1 (⊎_elim (λ old. inl old) (λ q. inr ((same a).1 q)) w)),
+)
+
+-- one place of a table more
+pub places_more : (at : ℕ) (old : List ℕ) (n : ℕ) (mid new : List ℕ) (place : ℕ) → Gains (IsPlaceBelow at n) old mid
+    → place ≡ words_on at n → new ≡ mid ++ place ∷ [] → Gains (IsPlaceBelow at (n + 1)) old new
+places_more at old n mid new place g is more =
+    gains_on (IsPlaceBelow at n) (λ a. place ≡ a) (IsPlaceBelow at (n + 1)) old mid new
+    (λ a. (
+      (λ h. ⊎_elim (λ lt. inl (h.0, lt, h.2))
+          (λ le. let same : h.0 ≡ n = omega (arith, h.1, le) in inr (is ∙ sym (ap (λ k. words_on at k) same) ∙ sym h.2))
+          (cases_lt h.0 n)),
+      (λ h. ⊎_elim (λ below. (below.0, omega (arith, below.1), below.2)) (λ e. (n, omega arith, sym e ∙ is)) h),
+    ))
+    g (gains_one (λ a. place ≡ a) mid place new (λ a. ((λ e. e), (λ e. e))) more)

@@ -1,6 +1,8 @@
 -- What a draft of a statement is.
 use Rattle.std.specs.Prelude.{◌≡◌, ℕ, List}
+use Rattle.std.specs.List.Sorted.{IsStrictlySortedBy}
 use Rattle.std.specs.Map.{keys_of}
+use Rattle.std.specs.Ordering.{nat_cmp}
 use Rattle.bus_ticks.specs.declared.profile.Class.{Class}
 use Rattle.loader.specs.Image.{Words}
 use Rattle.loader.specs.Labels.{Names}
@@ -8,20 +10,21 @@ use Rattle.drafting.specs.DraftText.{draft_text}
 use Rattle.drafting.specs.Ends.{AreEnds}
 use Rattle.drafting.specs.Named.{AreNamed, Lines}
 use Rattle.drafting.specs.Picks.{Picks}
-use Rattle.drafting.specs.Reach.{IsClosed}
+use Rattle.drafting.specs.Reach.{AreReached}
 use Rattle.drafting.specs.Targets.{AreTargets}
 use Rattle.drafting.specs.Words.{IsTransfer}
 use Rattle.drafting.specs.declared.ends.End.{End}
 use Rattle.drafting.specs.declared.found_loop.FoundLoop.{FoundLoop}
 use Rattle.drafting.specs.declared.writers.FoundTarget.{FoundTarget}
 
--- what was found at addresses that hold all to which control goes from the entry on: those of them at which
--- the handler cannot go on, those whose words load or store, and those whose words write R15 and have not the
+-- what was found at the addresses that are reached from the entry, or at 16,384 of them: those at which the
+-- handler cannot go on, those whose words load or store, and those whose words write R15 and have not the
 -- shape of a return
 pub record AreFound (words : Words) (entry : ℕ) (ends : List (ℕ × End)) (accesses : List (ℕ × Class))
     (targets : List FoundTarget) : Type 0 where
   pub addresses : List ℕ
-  pub closed : IsClosed words entry addresses
+  pub ascend : IsStrictlySortedBy nat_cmp addresses
+  pub reached : AreReached words entry addresses
   pub ends_are : AreEnds words addresses ends
   pub accesses_are : Picks (IsTransfer words) addresses (keys_of accesses)
   pub targets_are : AreTargets words addresses targets

@@ -49,6 +49,10 @@ module _ (lines : Lines) where
   place_text indent key at =
       row (replicate indent 32 ++ (key ++ (codes " = " ++ name_text (lines at) at))) (lines at)
 
+  -- an address between two texts
+  abbrev pub element_text : List ℕ → ℕ → List ℕ → List ℕ
+  element_text front at back = row (front ++ (name_text (lines at) at ++ back)) (lines at)
+
   -- a comment on an address
   abbrev pub comment_text : ℕ → List ℕ → List ℕ
   comment_text at words = row (codes "# " ++ (hex8 at ++ words)) (lines at)
@@ -60,8 +64,7 @@ module _ (lines : Lines) where
   cycle_text at = comment_text at (codes ": a cycle that no loop bounds.")
 
   abbrev pub access_text : ℕ × Class → List ℕ
-  access_text e =
-      row (codes "  {at = " ++ (name_text (lines e.0) e.0 ++ class_text e.1)) (lines e.0)
+  access_text e = element_text (codes "  {at = ") e.0 (class_text e.1)
 
   abbrev pub access_list_text : List (ℕ × Class) → List ℕ
   access_list_text accesses =
@@ -81,7 +84,7 @@ module _ (lines : Lines) where
       ++ (place_text (2 * l.depth) (codes "last") l.last ++ bound_text (2 * l.depth) l.turns)))))
 
   abbrev pub destination_text : ℕ → List ℕ
-  destination_text at = row (codes "  " ++ (name_text (lines at) at ++ codes ",")) (lines at)
+  destination_text at = element_text (codes "  ") at (codes ",")
 
   -- the branches of a table, or what to write
   abbrev pub destinations_text : ℕ → ℕ → List ℕ

@@ -1,29 +1,27 @@
--- What the search for addresses knows on its way.
-use Rattle.std.specs.Prelude.{◌≡◌, ℕ, ◌<◌, ◌≤◌, List, ◌++◌, length, slice_index_or, Contains, IsTrue, ◌↔◌}
+-- What the search for addresses does at each step. No part of what a draft is: it stands here since clauses
+-- of private functions cite it, and a clause may cite definitions of specs/ alone.
+use Rattle.std.specs.Prelude.{◌≡◌, ◌⊎◌, ℕ, ◌<◌, ◌≤◌, List, [], ◌∷◌, ◌++◌, length, Contains, IsTrue, ◌↔◌}
 use Rattle.std.specs.BTreeSet.{BTreeSet, contains, btree_set_len}
 use Rattle.std.specs.Ordering.{nat_cmp}
-use Rattle.drafting.specs.Reach.{LeadsTo}
-use Rattle.loader.specs.Image.{Words}
+use Rattle.drafting.specs.Reach.{most_addresses}
 
--- the set and the list have the same addresses, each once
+-- the set and the list have the same addresses, each once, and as many as are looked at at most
 pub record IsFound (seen : BTreeSet ℕ) (order : List ℕ) : Type 0 where
   pub same : (at : ℕ) → (IsTrue (contains nat_cmp seen at)) ↔ Contains order at
   pub count : length order ≡ btree_set_len seen
+  pub few : length order ≤ most_addresses
 
--- the list is longer, or as it was
-abbrev pub Grows : List ℕ → List ℕ → Type 0
-Grows old new = (more : List ℕ) × (new ≡ old ++ more)
+-- one more address, unless it is there or there is no room for it
+abbrev pub Adds : List ℕ → ℕ → List ℕ → Type 0
+Adds old at new =
+    ((new ≡ old) × (Contains old at ⊎ (most_addresses ≤ length old))) ⊎ (new ≡ old ++ at ∷ [])
 
--- all to which an address leads are in the list
-abbrev pub IsFollowed : Words → List ℕ → ℕ → Type 0
-IsFollowed words order at = (to : ℕ) → LeadsTo words at to → Contains order to
+-- those addresses more and no others: all, or as many as there is room for
+pub record Grows (P : ℕ → Type 0) (old new : List ℕ) : Type 0 where
+  pub more : (rest : List ℕ) × (new ≡ old ++ rest)
+  pub from : (at : ℕ) → Contains new at → Contains old at ⊎ P at
+  pub to : length new < most_addresses → (at : ℕ) → P at → Contains new at
 
--- so it is for those of the list before an index
-pub record AreFollowed (words : Words) (order : List ℕ) (next : ℕ) : Type 0 where
-  pub bound : next ≤ length order
-  pub each : (k : ℕ) (d : ℕ) → k < next → IsFollowed words order (slice_index_or order k d)
-
--- the entry is in the list, and, where that has 16,384 addresses at most, all to which one of them leads
-pub record IsExplored (words : Words) (entry : ℕ) (order : List ℕ) : Type 0 where
-  pub begun : Contains order entry
-  pub followed : length order ≤ 16384 → (at : ℕ) → Contains order at → IsFollowed words order at
+-- all of those addresses more and no others
+abbrev pub Gains : (ℕ → Type 0) → List ℕ → List ℕ → Type 0
+Gains P old new = (at : ℕ) → Contains new at ↔ (Contains old at ⊎ P at)

@@ -2,8 +2,6 @@
 -- which shapes are tables of branches and ways back is our own choice.
 use Rattle.std.specs.Prelude.{◌≡◌, ◌⊎◌, ◌↔◌, ℕ, ◌+◌, ◌-◌, ◌*◌, ◌^◌, ◌<◌, ◌≤◌, Bool, true, false, ◌&&◌}
 use Rattle.std.specs.Prelude.{◌==◌, if◌then◌else◌, List, length, Contains, Some}
-use Rattle.std.specs.List.Sorted.{IsStrictlySortedBy}
-use Rattle.std.specs.Ordering.{nat_cmp}
 use Rattle.arm2_decode.specs.Names.{is_pc}
 use Rattle.arm2_decode.specs.Table.{IsUnallocated, Means}
 use Rattle.arm2_decode.specs.declared.instr.Instr.{Instr}
@@ -88,6 +86,10 @@ before at = ahead_of at (2 ^ 26 - 4)
 abbrev pub words_on : ℕ → ℕ → ℕ
 words_on at count = ahead_of (at + 8) (4 * count)
 
+-- how many addresses are looked at: as many as the flow graph of a handler has places at most
+abbrev pub most_addresses : ℕ
+most_addresses = 16384
+
 -- ## Words of an image
 
 module _ (words : Words) where
@@ -123,24 +125,24 @@ module _ (words : Words) where
   abbrev pub HasPlaces : ℕ → ℕ → Type 0
   HasPlaces at count = (n : ℕ) → (n < count) ↔ IsTablePlace at n
 
-  -- a word that is carried out lets control come to the next one
+  -- control comes to the next word past one that is carried out: at once, or back from where that one leads
   abbrev pub ComesPast : ℕ → Way → Type 0
   ComesPast at way.On = Unit {0}
   ComesPast at (way.Call offset) = Unit {0}
   ComesPast at way.Writer = KeepsWayBack at
   ComesPast at _ = ⊥
 
-  -- so does one that may be passed over
+  -- it comes past that, or the word may be passed over
   abbrev pub GoesOn : ℕ → Reading → Type 0
   GoesOn at r = (is_always r.cond ≡ false) ⊎ ComesPast at r.way
 
-  -- a word that is carried out leads elsewhere inside the routine
+  -- where else inside its routine a word leads that is carried out
   abbrev pub LeadsAway : ℕ → Way → ℕ → Type 0
   LeadsAway at (way.Branch offset) to = to ≡ words_on at offset
   LeadsAway at way.Writer to = (n : ℕ) × IsTablePlace at n × (to ≡ words_on at n)
   LeadsAway at _ to = ⊥
 
-  -- .. or it calls a routine
+  -- the routine that it calls
   abbrev pub Calls : ℕ → Way → ℕ → Type 0
   Calls at (way.Call offset) to = to ≡ words_on at offset
   Calls at _ to = ⊥
@@ -159,9 +161,14 @@ module _ (words : Words) where
   abbrev pub LeadsTo : ℕ → ℕ → Type 0
   LeadsTo at to = StepsTo at to ⊎ CallsTo at to
 
-  -- ascending addresses, with the entry and, where they are 16,384 at most, all to which one of them leads
-  pub record IsClosed (entry : ℕ) (addresses : List ℕ) : Type 0 where
-    pub ascend : IsStrictlySortedBy nat_cmp addresses
+  -- control comes there from an entry: it is the entry, or a word to which control comes leads there
+  pub data Reaches (entry : ℕ) : ℕ → Type 0 where
+    begins : Reaches entry entry
+    leads_on : (at to : ℕ) → Reaches entry at → LeadsTo at to → Reaches entry to
+
+  -- of the addresses that are reached from the entry these: all, or as many as are looked at
+  pub record AreReached (entry : ℕ) (addresses : List ℕ) : Type 0 where
+    pub few : length addresses ≤ most_addresses
     pub begun : Contains addresses entry
-    pub followed : length addresses ≤ 16384 → (at : ℕ) → Contains addresses at → (to : ℕ) → LeadsTo at to
-        → Contains addresses to
+    pub reached : (at : ℕ) → Contains addresses at → Reaches entry at
+    pub all : length addresses < most_addresses → (at : ℕ) → Reaches entry at → Contains addresses at

@@ -61,13 +61,18 @@ impl Constants {
         }
     }
 
+    // The register that an instruction sets, with its word where that is known.
+    fn known_after(&self, at: u32, instr: &Instr) -> Option<(Register, u32)> {
+        match &instr.operation {
+            Operation::DataImmediate(x) => Some((x.rd, self.given(x, at)?)),
+            Operation::DataRegister(x) => Some((x.rd, self.moved(x, at)?)),
+            _ => None,
+        }
+    }
+
     /// Goes past the instruction at an address.
     pub(crate) fn pass(&mut self, at: u32, instr: &Instr) {
-        let known = match &instr.operation {
-            Operation::DataImmediate(x) => self.given(x, at).map(|word| (x.rd, word)),
-            Operation::DataRegister(x) => self.moved(x, at).map(|word| (x.rd, word)),
-            _ => None,
-        };
+        let known = self.known_after(at, instr);
         if instr.cond != Cond::Nv {
             self.forget(changed(&instr.operation));
         }

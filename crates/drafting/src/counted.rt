@@ -1,5 +1,5 @@
 use crate::found_loop::FoundLoop;
-use crate::reach::{Reached, addresses_within};
+use crate::reach::Reached;
 use crate::ways::before;
 use crate::words::{Way, changed, instr_at, reading_at};
 use arm2_decode::{Cond, DataImmediate, Opcode, Operation, Register};
@@ -73,6 +73,39 @@ fn is_entered_from_before(reach: &Reached, header: u32, back: u32) -> bool {
     }
 }
 
+// Whether the step back ends the loop and is taken while the word before it has not counted down to 0.
+fn ends_at_zero(image: &Image, reach: &Reached, found: &FoundLoop, back: u32) -> bool {
+    back == found.last
+        && is_branch_if_not_zero(image, back)
+        && reach.follows_alone(back, before(back))
+        && found.first <= before(back)
+}
+
+// Whether a word of the loop other than the one that counts may write the register.
+fn is_written_elsewhere(
+    image: &Image,
+    reach: &Reached,
+    found: &FoundLoop,
+    count: u32,
+    register: Register,
+) -> bool {
+    for at in &reach.addresses {
+        if found.holds(*at) && *at != count && may_write(image, *at, register) {
+            return true;
+        }
+    }
+    false
+}
+
+// How often a loop turns back whose counter begins with a number.
+fn turns_of(n: u32) -> Option<u32> {
+    if 1 <= n && n <= MOST_TURNS {
+        Some(n - 1)
+    } else {
+        None
+    }
+}
+
 /// How often a loop turns back, where the words show it: a register is set to n before, counted down by 1 in
 /// front of the branch back that ends the loop, and written by nothing else in it, and the loop calls
 /// nothing.
@@ -87,23 +120,14 @@ pub(crate) fn turns_back(
     };
     let count = before(*back);
     let register = counter_at(image, count)?;
-    let ends = *back == found.last
-        && is_branch_if_not_zero(image, *back)
-        && reach.follows_alone(*back, count)
-        && is_entered_from_before(reach, found.header, *back)
-        && found.first <= count;
-    if !ends {
+    if !ends_at_zero(image, reach, found, *back) {
         return None;
     }
-    for at in addresses_within(&reach.addresses, found.first, found.last) {
-        if *at != count && may_write(image, *at, register) {
-            return None;
-        }
+    if !is_entered_from_before(reach, found.header, *back) {
+        return None;
     }
-    let n = set_before(image, reach, before(found.header), register)?;
-    if 1 <= n && n <= MOST_TURNS {
-        Some(n - 1)
-    } else {
-        None
+    if is_written_elsewhere(image, reach, found, count, register) {
+        return None;
     }
+    turns_of(set_before(image, reach, before(found.header), register)?)
 }

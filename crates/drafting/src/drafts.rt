@@ -1,13 +1,16 @@
 ghost use Rattle.std.specs.Prelude.{◌≡◌, ◌++◌, IfOk, OnOk};
+ghost use Rattle.std.specs.List.Sorted.{IsStrictlySortedBy};
+ghost use Rattle.std.specs.Ordering.{nat_cmp};
 ghost use Rattle.drafting.specs.Draft.{AreFound, IsDraft};
 ghost use Rattle.drafting.specs.DraftText.{draft_text};
 ghost use Rattle.drafting.specs.Named.{AreNamed, lines_of};
+ghost use Rattle.drafting.specs.Reach.{AreReached};
 
 use crate::accesses::find_accesses;
 use crate::assembled::Program;
 use crate::ends::{End, find_ends};
 use crate::loops::{Loops, find_loops};
-use crate::reach::reach;
+use crate::reach::{Reached, reach};
 use crate::source_lines::{SourceLines, lines_by_address};
 use crate::statement_text::Sheet;
 use crate::writers::{FoundTarget, find_targets};
@@ -24,22 +27,32 @@ pub struct Found {
     pub targets: Vec<FoundTarget>,
 }
 
-fn find(alloc: Global, image: &Image, entry: u32) -> Result<Found, AllocError>
+// What is found at the addresses that are reached.
+fn find_at(alloc: Global, image: &Image, entry: u32, reach: &Reached) -> Result<Found, AllocError>
+    requires ascend { IsStrictlySortedBy nat_cmp reach.now.addresses.items }
+    requires reached { AreReached image.now entry reach.now.addresses.items }
     ensures { IfOk result
         (λ found. AreFound image.now entry found.ends.items found.accesses.items found.targets.items) }
 {
-    let reach = reach(alloc, image, entry)?;
     let addresses = reach.addresses.as_slice();
     let ends = find_ends(alloc, image, addresses)?;
     let targets = find_targets(alloc, image, addresses)?;
-    let accesses = find_accesses(alloc, image, &reach, addresses)?;
-    let loops = find_loops(alloc, image, &reach, entry)?;
+    let accesses = find_accesses(alloc, image, reach, addresses)?;
+    let loops = find_loops(alloc, image, reach, entry)?;
     Ok(Found {
         ends,
         loops,
         accesses,
         targets,
     })
+}
+
+fn find(alloc: Global, image: &Image, entry: u32) -> Result<Found, AllocError>
+    ensures { IfOk result
+        (λ found. AreFound image.now entry found.ends.items found.accesses.items found.targets.items) }
+{
+    let reach = reach(alloc, image, entry)?;
+    find_at(alloc, image, entry, &reach)
 }
 
 fn put_found(out: &mut Vec<u8>, sheet: &Sheet, entry: u32, found: &Found) -> Result<(), AllocError>
@@ -71,7 +84,7 @@ fn text_of(
         found.now.accesses.items found.now.loops.loops.items found.now.targets.items) }
 {
     let mut out = Vec::new(alloc);
-    put_found(&mut out, &Sheet { alloc, lines }, entry, found)?;
+    put_found(&mut out, &Sheet { lines }, entry, found)?;
     Ok(out)
 }
 
@@ -86,8 +99,7 @@ fn draft_by_lines(
     ensures { IfOk result (λ text. IsDraft program.now.image.now program.now.labels.now entry text.items) }
 {
     let found = find(alloc, program.image, entry)?;
-    let text = text_of(alloc, lines, entry, &found)?;
-    Ok(text)
+    text_of(alloc, lines, entry, &found)
 }
 
 /// A statement of the handler that begins at an address, to be filled in: its entry, the loops, loads and
@@ -95,12 +107,11 @@ fn draft_by_lines(
 /// comments.
 ///
 /// The clause says what the text is, that each label in it stands for its address, and that each loop's
-/// header lies from its first to its last instruction. It says that among certain addresses exactly those
-/// are named at which the handler cannot go on, the loads and stores, and the writers of R15 with their
-/// tables of branches. These addresses hold the entry and, where they are 16,384 at most, every address to
-/// which the word at one of them leads by going on, a branch, a call or a table of branches: so nothing that
-/// is reached by such steps is left out. That no others are looked at, that the loops are those of the
-/// handler, and what is written of classes and of counted loops, is tested only.
+/// header lies from its first to its last instruction. It says that among the addresses that are reached from
+/// the entry, by going on, a branch, a call or a table of branches, exactly those are named at which the
+/// handler cannot go on, the loads and stores, and the writers of R15 with their tables of branches. Where
+/// more than 16,384 are reached, 16,384 of them are looked at. That the loops are those of the handler, and
+/// what is written of classes and of counted loops, is tested only.
 ///
 /// # Errors
 ///

@@ -9,7 +9,7 @@ use loader::Image;
 use std::alloc::{AllocError, Global};
 
 /// Why a handler cannot go on at an address.
-#[derive(Clone, Copy, PartialEq, Eq)]
+#[derive(Clone, Copy)]
 pub enum End {
     /// The image has no word there.
     NoWord,

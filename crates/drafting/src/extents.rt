@@ -1,36 +1,55 @@
 use crate::found_loop::FoundLoop;
 use crate::paths::Descent;
-use crate::reach::{MOST_ADDRESSES, Reached, addresses_within, pairs_within};
+use crate::reach::{MOST_ADDRESSES, Reached};
 use std::alloc::{AllocError, Global};
 use std::collections::BTreeSet;
 
-// Goes from the ends of the steps back to a header against all steps, as far as the header; whether no
-// routine begins on the way.
-fn gather(
-    reach: &Reached,
-    backs: &[(u32, u32)],
-    members: &mut BTreeSet<u32>,
-    order: &mut Vec<u32>,
-) -> Result<bool, AllocError> {
-    for (_, from) in backs {
-        if members.insert(*from)? {
-            order.push(*from)?;
-        }
-    }
-    for next in 0..MOST_ADDRESSES {
-        let Some(at) = order.get(next).copied() else {
-            break;
-        };
-        if reach.is_root(at) {
-            return Ok(false);
-        }
-        for (_, from) in reach.into(at) {
-            if members.insert(*from)? {
-                order.push(*from)?;
+// The members of a loop that are found.
+#[derive(Drop)]
+struct Members {
+    // All.
+    seen: BTreeSet<u32>,
+    // All but the header, in the order in which they were found.
+    order: Vec<u32>,
+    // The first and the last.
+    first: u32,
+    last: u32,
+}
+
+impl Members {
+    // Adds where steps come from, by where they end and where they come from.
+    fn add_sources(&mut self, steps: &[(u32, u32)]) -> Result<(), AllocError> {
+        for (_, from) in steps {
+            if self.seen.insert(*from)? {
+                self.order.push(*from)?;
+                self.first = self.first.min(*from);
+                self.last = self.last.max(*from);
             }
         }
+        Ok(())
     }
-    Ok(true)
+
+    // Goes from the ends of the steps back to a header against all steps, as far as the header; whether no
+    // routine begins on the way.
+    fn gather(
+        &mut self,
+        reach: &Reached,
+        header: u32,
+        backs: &[(u32, u32)],
+    ) -> Result<bool, AllocError> {
+        self.seen.insert(header)?;
+        self.add_sources(backs)?;
+        for next in 0..MOST_ADDRESSES {
+            let Some(at) = self.order.get(next).copied() else {
+                return Ok(true);
+            };
+            if reach.is_root(at) {
+                return Ok(false);
+            }
+            self.add_sources(reach.into(at))?;
+        }
+        Ok(true)
+    }
 }
 
 /// The natural loop of a header and the steps back to it, or None where a way leads into its
@@ -41,18 +60,19 @@ pub(crate) fn natural_loop(
     header: u32,
     backs: &[(u32, u32)],
 ) -> Result<Option<FoundLoop>, AllocError> {
-    let mut members = BTreeSet::new(alloc);
-    let mut order = Vec::new(alloc);
-    members.insert(header)?;
-    if !gather(reach, backs, &mut members, &mut order)? {
+    let mut members = Members {
+        seen: BTreeSet::new(alloc),
+        order: Vec::new(alloc),
+        first: header,
+        last: header,
+    };
+    if !members.gather(reach, header, backs)? {
         return Ok(None);
     }
-    let first = members.first().copied().unwrap_or(header).min(header);
-    let last = members.last().copied().unwrap_or(header).max(header);
     Ok(Some(FoundLoop {
         header,
-        first,
-        last,
+        first: members.first.min(header),
+        last: members.last.max(header),
         depth: 0,
         turns: None,
     }))
@@ -63,16 +83,23 @@ fn are_of_one(descent: &Descent, one: u32, other: u32) -> bool {
     descent.routines.get(&one) == descent.routines.get(&other)
 }
 
+// Whether an address of the header's routine lies from first to last, and is not the header.
+fn is_in_middle(descent: &Descent, found: &FoundLoop, at: u32) -> bool {
+    found.holds(at) && at != found.header && are_of_one(descent, at, found.header)
+}
+
 /// Whether a step from outside the addresses from first to last, or the beginning of a routine, lies at one
 /// of them that is not the header.
 pub(crate) fn is_entered_in_middle(reach: &Reached, descent: &Descent, found: &FoundLoop) -> bool {
-    let stepped = pairs_within(&reach.entering, found.first, found.last)
-        .iter()
-        .any(|(to, from)| {
-            *to != found.header && !found.holds(*from) && are_of_one(descent, *to, found.header)
-        });
-    let begun = addresses_within(&reach.roots, found.first, found.last)
-        .iter()
-        .any(|root| *root != found.header && are_of_one(descent, *root, found.header));
-    stepped || begun
+    for (to, from) in &reach.entering {
+        if is_in_middle(descent, found, *to) && !found.holds(*from) {
+            return true;
+        }
+    }
+    for root in &reach.roots {
+        if is_in_middle(descent, found, *root) {
+            return true;
+        }
+    }
+    false
 }

@@ -2,7 +2,7 @@ use crate::counted::turns_back;
 use crate::extents::{is_entered_in_middle, natural_loop};
 use crate::found_loop::FoundLoop;
 use crate::paths::{Descent, descend};
-use crate::reach::{Reached, pairs_within};
+use crate::reach::{Reached, pairs_at};
 use loader::Image;
 use std::alloc::{AllocError, Global};
 
@@ -17,79 +17,113 @@ pub(crate) struct Loops {
     pub cycles: Vec<u32>,
 }
 
-// The loops, as far as their members tell, and the other cycles.
-fn natural_loops(
-    alloc: Global,
-    reach: &Reached,
-    descent: &Descent,
-) -> Result<(Vec<FoundLoop>, Vec<u32>), AllocError> {
-    let mut loops = Vec::new(alloc);
-    let mut cycles = Vec::new(alloc);
-    let mut done = None;
-    for (header, _) in &descent.backs {
-        if done == Some(*header) {
-            continue;
-        }
-        done = Some(*header);
-        if loops.len() == MOST_LOOPS {
-            cycles.push(*header)?;
-            continue;
-        }
-        let backs = pairs_within(&descent.backs, *header, *header);
-        match natural_loop(alloc, reach, *header, backs)? {
-            Some(found) => loops.push(found)?,
-            None => cycles.push(*header)?,
-        }
-    }
-    Ok((loops, cycles))
-}
-
 // Outer loops first.
 fn order_of(found: &FoundLoop) -> (u32, u32) {
     (found.first, u32::MAX - found.last)
 }
 
-// Goes up from the innermost loop that is open, and lets each end no earlier than a loop inside it.
-fn widen(open: &mut [FoundLoop], last: u32) {
-    for outer in open.iter_mut() {
-        if outer.last < last {
-            outer.last = last;
-        }
-    }
-}
-
-// The loops with how many lie around each. One that ends inside a later one is made to hold it.
-fn nested(alloc: Global, loops: &[FoundLoop]) -> Result<Vec<FoundLoop>, AllocError> {
-    let mut open = Vec::new(alloc);
-    let mut closed = Vec::new(alloc);
-    for found in loops {
-        close(&mut open, &mut closed, found.first)?;
-        widen(&mut open, found.last);
-        let mut inner = *found;
-        inner.depth = open.len().min(MOST_LOOPS) as u32;
-        open.push(inner)?;
-    }
-    close(&mut open, &mut closed, u32::MAX)?;
-    closed.sort_by_key(|found| (order_of(found), found.depth))?;
-    Ok(closed)
-}
-
-// Closes the innermost loops that end before an address.
-fn close(
-    open: &mut Vec<FoundLoop>,
-    closed: &mut Vec<FoundLoop>,
-    at: u32,
-) -> Result<(), AllocError> {
-    for _ in 0..open.len() {
-        match open.last().copied() {
-            Some(inner) if inner.last < at => {
-                closed.push(inner)?;
-                open.pop();
+// Has each of the loops that goes on to where another begins end no earlier than that one. Answers how many
+// they are: these lie around it.
+fn widen(loops: &mut [FoundLoop], inner: &FoundLoop) -> u32 {
+    let mut depth: u32 = 0;
+    for outer in loops {
+        if outer.last >= inner.first {
+            depth = depth.saturating_add(1);
+            if outer.last < inner.last {
+                outer.last = inner.last;
             }
-            _ => return Ok(()),
         }
     }
-    Ok(())
+    depth
+}
+
+// Finds how many loops lie around each, of loops of which the outer ones stand first. One that ends inside a
+// later one is made to hold it.
+fn nest(loops: &mut [FoundLoop]) {
+    for next in 0..loops.len() {
+        let inner = loops[next];
+        let depth = widen(&mut loops[..next], &inner);
+        loops[next].depth = depth;
+    }
+}
+
+impl Loops {
+    // Adds the loop of a header to others, as far as its members tell, or its cycle.
+    fn add_natural(
+        &mut self,
+        natural: &mut Vec<FoundLoop>,
+        alloc: Global,
+        reach: &Reached,
+        backs: &[(u32, u32)],
+    ) -> Result<(), AllocError> {
+        let [(header, _), ..] = backs else {
+            return Ok(());
+        };
+        if natural.len() >= MOST_LOOPS {
+            self.cycles.push(*header)?;
+            return Ok(());
+        }
+        match natural_loop(alloc, reach, *header, backs)? {
+            Some(found) => natural.push(found)?,
+            None => self.cycles.push(*header)?,
+        }
+        Ok(())
+    }
+
+    // The loops, as far as their members tell. Adds the other cycles.
+    fn natural_loops(
+        &mut self,
+        alloc: Global,
+        reach: &Reached,
+        descent: &Descent,
+    ) -> Result<Vec<FoundLoop>, AllocError> {
+        let mut natural = Vec::new(alloc);
+        let mut done = None;
+        for (header, _) in &descent.backs {
+            if done != Some(*header) {
+                done = Some(*header);
+                let backs = pairs_at(&descent.backs, *header);
+                self.add_natural(&mut natural, alloc, reach, backs)?;
+            }
+        }
+        natural.sort_by_key(order_of)?;
+        Ok(natural)
+    }
+
+    // Adds a loop, or its cycle where a way leads into its middle.
+    fn add(
+        &mut self,
+        image: &Image,
+        reach: &Reached,
+        descent: &Descent,
+        found: &FoundLoop,
+    ) -> Result<(), AllocError> {
+        if is_entered_in_middle(reach, descent, found) {
+            self.cycles.push(found.header)?;
+            return Ok(());
+        }
+        let backs = pairs_at(&descent.backs, found.header);
+        let mut counted = *found;
+        counted.turns = turns_back(image, reach, found, backs);
+        self.loops.push(counted)?;
+        Ok(())
+    }
+
+    // Adds the loops and the other cycles among what is reached.
+    fn add_all(
+        &mut self,
+        alloc: Global,
+        image: &Image,
+        reach: &Reached,
+        descent: &Descent,
+    ) -> Result<(), AllocError> {
+        let mut natural = self.natural_loops(alloc, reach, descent)?;
+        nest(&mut natural);
+        for found in &natural {
+            self.add(image, reach, descent, found)?;
+        }
+        self.cycles.sort()
+    }
 }
 
 /// The loops among what is reached.
@@ -100,19 +134,10 @@ pub(crate) fn find_loops(
     entry: u32,
 ) -> Result<Loops, AllocError> {
     let descent = descend(alloc, reach, entry)?;
-    let (mut natural, mut cycles) = natural_loops(alloc, reach, &descent)?;
-    natural.sort_by_key(order_of)?;
-    let mut loops = Vec::new(alloc);
-    for found in &nested(alloc, &natural)? {
-        if is_entered_in_middle(reach, &descent, found) {
-            cycles.push(found.header)?;
-        } else {
-            let backs = pairs_within(&descent.backs, found.header, found.header);
-            let mut counted = *found;
-            counted.turns = turns_back(image, reach, found, backs);
-            loops.push(counted)?;
-        }
-    }
-    cycles.sort()?;
-    Ok(Loops { loops, cycles })
+    let mut found = Loops {
+        loops: Vec::new(alloc),
+        cycles: Vec::new(alloc),
+    };
+    found.add_all(alloc, image, reach, &descent)?;
+    Ok(found)
 }

@@ -1,6 +1,6 @@
-use crate::reach::{Reached, pairs_within};
+use crate::reach::{Reached, pairs_at};
 use std::alloc::{AllocError, Global};
-use std::collections::BTreeMap;
+use std::collections::{BTreeMap, BTreeSet};
 
 /// The routine in which a search came to each address, and the steps that lead back to an address on the
 /// path by which the search came: each by where it ends and where it comes from.
@@ -15,29 +15,22 @@ pub(crate) struct Descent {
 struct Search<'a> {
     leaving: &'a [(u32, u32)],
     descent: Descent,
-    on_path: BTreeMap<u32, bool>,
+    // The addresses that were come to and are no longer on the path.
+    left: BTreeSet<u32>,
+    // The addresses on the path, each with its steps that are not yet taken.
     path: Vec<(u32, &'a [(u32, u32)])>,
 }
 
 impl<'a> Search<'a> {
-    // Goes down to an address.
-    fn enter(&mut self, at: u32, routine: u32) -> Result<(), AllocError> {
-        self.descent.routines.insert(at, routine)?;
-        self.on_path.insert(at, true)?;
-        self.path.push((at, pairs_within(self.leaving, at, at)))?;
-        Ok(())
-    }
-
-    // Takes a step from an address.
+    // Takes a step: goes down to an address that was not come to before.
     fn step(&mut self, from: u32, to: u32, routine: u32) -> Result<(), AllocError> {
-        match self.on_path.get(&to).copied() {
-            None => self.enter(to, routine),
-            Some(true) => {
-                self.descent.backs.push((to, from))?;
-                Ok(())
-            }
-            Some(false) => Ok(()),
+        if !self.descent.routines.contains_key(&to) {
+            self.descent.routines.insert(to, routine)?;
+            self.path.push((to, pairs_at(self.leaving, to)))?;
+        } else if !self.left.contains(&to) {
+            self.descent.backs.push((to, from))?;
         }
+        Ok(())
     }
 
     // Goes on from the end of the path, or back up.
@@ -49,7 +42,7 @@ impl<'a> Search<'a> {
     ) -> Result<(), AllocError> {
         match steps {
             [] => {
-                self.on_path.insert(at, false)?;
+                self.left.insert(at)?;
                 Ok(())
             }
             [(_, to), rest @ ..] => {
@@ -59,12 +52,10 @@ impl<'a> Search<'a> {
         }
     }
 
-    // Searches a routine. Each turn takes a step or goes back up, of which there are far fewer than turns.
+    // Searches a routine that was not come to before. Each turn takes a step or goes back up, of which there are
+    // far fewer than turns. No address is on the path before, so that the first step is none back.
     fn search(&mut self, routine: u32) -> Result<(), AllocError> {
-        if self.on_path.contains_key(&routine) {
-            return Ok(());
-        }
-        self.enter(routine, routine)?;
+        self.step(routine, routine, routine)?;
         for _ in 0..u32::MAX {
             let Some((at, steps)) = self.path.pop() else {
                 return Ok(());
@@ -72,6 +63,15 @@ impl<'a> Search<'a> {
             self.advance(at, steps, routine)?;
         }
         Ok(())
+    }
+
+    // Searches the handler first and then the routines.
+    fn search_all(&mut self, entry: u32, routines: &[u32]) -> Result<(), AllocError> {
+        self.search(entry)?;
+        for routine in routines {
+            self.search(*routine)?;
+        }
+        self.descent.backs.sort()
     }
 }
 
@@ -83,13 +83,9 @@ pub(crate) fn descend(alloc: Global, reach: &Reached, entry: u32) -> Result<Desc
             routines: BTreeMap::new(alloc),
             backs: Vec::new(alloc),
         },
-        on_path: BTreeMap::new(alloc),
+        left: BTreeSet::new(alloc),
         path: Vec::new(alloc),
     };
-    search.search(entry)?;
-    for routine in &reach.roots {
-        search.search(*routine)?;
-    }
-    search.descent.backs.sort()?;
+    search.search_all(entry, &reach.roots)?;
     Ok(search.descent)
 }

@@ -1,8 +1,8 @@
-ghost use Rattle.std.specs.Prelude.{◌≡◌, ℕ, IfOk, OnOk, Contains};
+ghost use Rattle.std.specs.Prelude.{◌≡◌, ◌≤◌, [], length, IfOk, OnOk, Contains};
 ghost use Rattle.std.specs.List.Sorted.{IsStrictlySortedBy};
 ghost use Rattle.std.specs.Ordering.{nat_cmp};
-ghost use Rattle.drafting.specs.Exploring.{Grows, IsExplored, IsFollowed, IsFound};
-ghost use Rattle.drafting.specs.Reach.{CallsTo, IsClosed};
+ghost use Rattle.drafting.specs.Exploring.{Adds, Grows, IsFound};
+ghost use Rattle.drafting.specs.Reach.{AreReached, CallsTo, LeadsTo};
 
 use crate::ways::{called, push_ways};
 use loader::Image;
@@ -25,20 +25,17 @@ pub(crate) struct Reached {
     pub entering: Vec<(u32, u32)>,
 }
 
-/// The pairs whose first address lies from one to another, of pairs that ascend.
-pub(crate) fn pairs_within(pairs: &[(u32, u32)], first: u32, last: u32) -> &[(u32, u32)] {
-    let start = pairs.partition_point(|pair| pair.0 < first);
-    let rest = &pairs[start..];
-    let count = rest.partition_point(|pair| pair.0 <= last);
-    &rest[..count]
+// How many pairs have a first address before this one, of pairs that ascend.
+fn count_before(pairs: &[(u32, u32)], at: u32) -> usize
+    ensures { result ≤ length pairs.now }
+{
+    pairs.partition_point(|pair| pair.0 < at)
 }
 
-/// The addresses from one to another, of addresses that ascend.
-pub(crate) fn addresses_within(addresses: &[u32], first: u32, last: u32) -> &[u32] {
-    let start = addresses.partition_point(|address| *address < first);
-    let rest = &addresses[start..];
-    let count = rest.partition_point(|address| *address <= last);
-    &rest[..count]
+/// The pairs whose first address is this one, of pairs that ascend.
+pub(crate) fn pairs_at(pairs: &[(u32, u32)], at: u32) -> &[(u32, u32)] {
+    let rest = &pairs[count_before(pairs, at)..];
+    &rest[..count_before(rest, at.saturating_add(1))]
 }
 
 impl Reached {
@@ -49,7 +46,7 @@ impl Reached {
 
     /// The steps that end at an address.
     pub(crate) fn into(&self, at: u32) -> &[(u32, u32)] {
-        pairs_within(&self.entering, at, at)
+        pairs_at(&self.entering, at)
     }
 
     /// Whether an address is reached from the word before it alone.
@@ -76,7 +73,7 @@ impl Exploration {
     // Begins with the entry.
     fn of(alloc: Global, entry: u32) -> Result<Exploration, AllocError>
         ensures found { IfOk result (λ x. IsFound x.seen x.order.items) }
-        ensures begun { IfOk result (λ x. Contains x.order.items entry) }
+        ensures begun { IfOk result (λ x. Adds [] entry x.order.items) }
     {
         let mut found = Exploration {
             seen: BTreeSet::new(alloc),
@@ -87,13 +84,15 @@ impl Exploration {
         Ok(found)
     }
 
-    // Adds an address, if it is new.
+    // Adds an address, if it is new and there is room.
     fn add(&mut self, at: u32) -> Result<(), AllocError>
         requires { IsFound self.old.seen self.old.order.items }
         ensures found { OnOk result (IsFound self.new.seen self.new.order.items) }
-        ensures grows { OnOk result (Grows self.old.order.items self.new.order.items) }
-        ensures added { OnOk result (Contains self.new.order.items at) }
+        ensures adds { OnOk result (Adds self.old.order.items at self.new.order.items) }
     {
+        if self.order.len() >= MOST_ADDRESSES {
+            return Ok(());
+        }
         if self.seen.insert(at)? {
             self.order.push(at)?;
         }
@@ -104,8 +103,7 @@ impl Exploration {
     fn add_root(&mut self, at: u32) -> Result<(), AllocError>
         requires { IsFound self.old.seen self.old.order.items }
         ensures found { OnOk result (IsFound self.new.seen self.new.order.items) }
-        ensures grows { OnOk result (Grows self.old.order.items self.new.order.items) }
-        ensures added { OnOk result (Contains self.new.order.items at) }
+        ensures adds { OnOk result (Adds self.old.order.items at self.new.order.items) }
     {
         self.roots.insert(at)?;
         self.add(at)
@@ -115,9 +113,8 @@ impl Exploration {
     fn add_all(&mut self, ways: &[u32]) -> Result<(), AllocError>
         requires { IsFound self.old.seen self.old.order.items }
         ensures found { OnOk result (IsFound self.new.seen self.new.order.items) }
-        ensures grows { OnOk result (Grows self.old.order.items self.new.order.items) }
-        ensures added { OnOk result
-            ((to : ℕ) → Contains ways.now to → Contains self.new.order.items to) }
+        ensures grows { OnOk result
+            (Grows (Contains ways.now) self.old.order.items self.new.order.items) }
     {
         for to in ways {
             self.add(*to)?;
@@ -129,9 +126,8 @@ impl Exploration {
     fn add_called(&mut self, image: &Image, at: u32) -> Result<(), AllocError>
         requires { IsFound self.old.seen self.old.order.items }
         ensures found { OnOk result (IsFound self.new.seen self.new.order.items) }
-        ensures grows { OnOk result (Grows self.old.order.items self.new.order.items) }
-        ensures added { OnOk result
-            ((to : ℕ) → CallsTo image.now at to → Contains self.new.order.items to) }
+        ensures grows { OnOk result
+            (Grows (CallsTo image.now at) self.old.order.items self.new.order.items) }
     {
         match called(image, at) {
             Some(to) => self.add_root(to),
@@ -139,12 +135,12 @@ impl Exploration {
         }
     }
 
-    // Adds all to which the word at an address leads, by a list of its steps that is empty before.
+    // Adds all to which the word at an address leads, by a list for its steps.
     fn look_at(&mut self, ways: &mut Vec<u32>, image: &Image, at: u32) -> Result<(), AllocError>
         requires { IsFound self.old.seen self.old.order.items }
         ensures found { OnOk result (IsFound self.new.seen self.new.order.items) }
-        ensures grows { OnOk result (Grows self.old.order.items self.new.order.items) }
-        ensures followed { OnOk result (IsFollowed image.now self.new.order.items at) }
+        ensures grows { OnOk result
+            (Grows (LeadsTo image.now at) self.old.order.items self.new.order.items) }
     {
         ways.clear();
         push_ways(ways, image, at)?;
@@ -156,7 +152,7 @@ impl Exploration {
 // Finds the addresses. The list grows at its end while its next one is looked at, so each is looked at once.
 fn explore(alloc: Global, image: &Image, entry: u32) -> Result<Exploration, AllocError>
     ensures found { IfOk result (λ x. IsFound x.seen x.order.items) }
-    ensures explored { IfOk result (λ x. IsExplored image.now entry x.order.items) }
+    ensures reached { IfOk result (λ x. AreReached image.now entry x.order.items) }
 {
     let mut found = Exploration::of(alloc, entry)?;
     let mut ways = Vec::new(alloc);
@@ -178,7 +174,22 @@ fn ascending(alloc: Global, seen: &BTreeSet<u32>) -> Result<Vec<u32>, AllocError
     seen.iter().copied().collect(alloc)
 }
 
-// The steps from each of the addresses.
+// Adds the steps from an address, by a list for where they end.
+fn push_steps(
+    steps: &mut Vec<(u32, u32)>,
+    ways: &mut Vec<u32>,
+    image: &Image,
+    at: u32,
+) -> Result<(), AllocError> {
+    ways.clear();
+    push_ways(ways, image, at)?;
+    for to in ways {
+        steps.push((at, *to))?;
+    }
+    Ok(())
+}
+
+// The steps from each of the addresses, ascending.
 fn steps_from(
     alloc: Global,
     image: &Image,
@@ -187,35 +198,44 @@ fn steps_from(
     let mut steps = Vec::new(alloc);
     let mut ways = Vec::new(alloc);
     for at in addresses {
-        ways.clear();
-        push_ways(&mut ways, image, *at)?;
-        for to in &ways {
-            steps.push((*at, *to))?;
-        }
+        push_steps(&mut steps, &mut ways, image, *at)?;
     }
+    steps.sort()?;
     Ok(steps)
 }
 
-// Each pair turned round.
+// Each pair turned round, ascending.
 fn turned(alloc: Global, pairs: &[(u32, u32)]) -> Result<Vec<(u32, u32)>, AllocError> {
-    pairs.iter().map(|pair| (pair.1, pair.0)).collect(alloc)
+    let mut turned = Vec::new(alloc);
+    for (first, second) in pairs {
+        turned.push((*second, *first))?;
+    }
+    turned.sort()?;
+    Ok(turned)
 }
 
-/// What is reached from an entry.
-pub(crate) fn reach(alloc: Global, image: &Image, entry: u32) -> Result<Reached, AllocError>
-    ensures { IfOk result (λ reached. IsClosed image.now entry reached.addresses.items) }
+// What the addresses that were found say of the steps between them.
+fn reached_from(alloc: Global, image: &Image, found: &Exploration) -> Result<Reached, AllocError>
+    ensures keys { IfOk result (λ reached. reached.addresses.items ≡ found.now.seen.keys) }
+    ensures ascend { IfOk result (λ reached. IsStrictlySortedBy nat_cmp reached.addresses.items) }
 {
-    let found = explore(alloc, image, entry)?;
     let addresses = ascending(alloc, &found.seen)?;
     let roots = ascending(alloc, &found.roots)?;
-    let mut leaving = steps_from(alloc, image, &addresses)?;
-    leaving.sort()?;
-    let mut entering = turned(alloc, &leaving)?;
-    entering.sort()?;
+    let leaving = steps_from(alloc, image, &addresses)?;
+    let entering = turned(alloc, &leaving)?;
     Ok(Reached {
         addresses,
         roots,
         leaving,
         entering,
     })
+}
+
+/// What is reached from an entry.
+pub(crate) fn reach(alloc: Global, image: &Image, entry: u32) -> Result<Reached, AllocError>
+    ensures reached { IfOk result (λ reached. AreReached image.now entry reached.addresses.items) }
+    ensures ascend { IfOk result (λ reached. IsStrictlySortedBy nat_cmp reached.addresses.items) }
+{
+    let found = explore(alloc, image, entry)?;
+    reached_from(alloc, image, &found)
 }

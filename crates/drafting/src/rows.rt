@@ -1,11 +1,11 @@
-ghost use Rattle.std.specs.Prelude.{◌≡◌, ◌++◌, IfOk, OnOk, codes, map, replicate, decimal};
+ghost use Rattle.std.specs.Prelude.{◌≡◌, ◌++◌, ℕ, List, OnOk, length, map, replicate, decimal};
 ghost use Rattle.asm_text.specs.Hex.{hex8};
 ghost use Rattle.drafting.specs.Rows.{labelled, name_text, number_text, quoted, remark, row, shown};
 
 use crate::source_lines::SourceLine;
 use asm_text::hex8;
 use itoa::Buffer;
-use std::alloc::{AllocError, Global};
+use std::alloc::AllocError;
 
 /// The most columns of a row that ends in a comment.
 const COLUMNS: usize = 80;
@@ -82,51 +82,44 @@ fn shown(byte: u8) -> u8
     }
 }
 
-fn shown_text(alloc: Global, text: &[u8]) -> Result<Vec<u8>, AllocError>
-    ensures { IfOk result (λ shown_bytes. shown_bytes.items ≡ map shown text.now) }
+// Adds a text as comments have it.
+fn put_shown(out: &mut Vec<u8>, text: &[u8]) -> Result<(), AllocError>
+    ensures { OnOk result (out.new.items ≡ out.old.items ++ map shown text.now) }
 {
-    text.iter().map(|byte| shown(*byte)).collect(alloc)
-}
-
-fn put_line(alloc: Global, out: &mut Vec<u8>, number: usize, text: &[u8]) -> Result<(), AllocError>
-    ensures { OnOk result
-        (out.new.items
-        ≡ out.old.items ++ (codes "  # line " ++ (decimal number ++ (codes ": " ++ map shown text.now)))) }
-{
-    let text = shown_text(alloc, text)?;
-    put(out, b"  # line ")?;
-    put_number(out, number)?;
-    put(out, b": ")?;
-    put(out, &text)
-}
-
-// The comment with the number and the text of a line.
-fn remark(alloc: Global, line: Option<SourceLine>) -> Result<Vec<u8>, AllocError>
-    ensures { IfOk result (λ text. text.items ≡ remark line.entry) }
-{
-    let mut out = Vec::new(alloc);
-    match line {
-        Some(line) => {
-            put_line(alloc, &mut out, line.number, line.text)?;
-            Ok(out)
-        }
-        None => Ok(out),
+    for byte in text {
+        out.push(shown(*byte))?;
     }
+    Ok(())
 }
 
-/// Adds a row: its text, and a comment with the number and the text of a line as far as they fit.
-pub(crate) fn put_row(
-    alloc: Global,
+// Adds the comment with the number and the text of a line.
+fn put_remark(out: &mut Vec<u8>, line: Option<SourceLine>) -> Result<(), AllocError>
+    ensures { OnOk result (out.new.items ≡ out.old.items ++ remark line.entry) }
+{
+    let Some(line) = line else {
+        return Ok(());
+    };
+    put(out, b"  # line ")?;
+    put_number(out, line.number)?;
+    put(out, b": ")?;
+    put_shown(out, line.text)
+}
+
+/// Ends a row whose text begins at a place: by a comment with the number and the text of a line, as far as
+/// they fit.
+pub(crate) fn end_row(
     out: &mut Vec<u8>,
-    text: &[u8],
+    start: usize,
     line: Option<SourceLine>,
 ) -> Result<(), AllocError>
-    ensures { OnOk result (out.new.items ≡ out.old.items ++ row text.now line.entry) }
+    ensures { OnOk result
+        ((before text : List ℕ) → out.old.items ≡ before ++ text → length before ≡ start
+        → out.new.items ≡ before ++ row text line.entry) }
 {
-    let mut remark = remark(alloc, line)?;
-    remark.truncate(COLUMNS.saturating_sub(text.len()));
-    put(out, text)?;
-    put(out, &remark)?;
+    let end = out.len();
+    let room = COLUMNS.saturating_sub(end.saturating_sub(start));
+    put_remark(out, line)?;
+    out.truncate(end + room);
     put(out, b"\n")
 }
 

@@ -1,4 +1,4 @@
-ghost use Rattle.std.specs.Prelude.{◌≡◌, ◌⊎◌, [], IfOk, OnOk, Some};
+ghost use Rattle.std.specs.Prelude.{◌≡◌, ◌≤◌, ◌⊎◌, [], length, IfOk, OnOk, Some};
 ghost use Rattle.drafting.specs.Named.{AreNamed, IsNamed, lines_of};
 
 use crate::assembled::Program;
@@ -21,19 +21,26 @@ pub(crate) struct SourceLine<'a> {
 /// The lines by the addresses of their first words.
 pub(crate) type SourceLines<'a> = BTreeMap<u32, SourceLine<'a>>;
 
+// How many bytes stand in front of the first of some others, or all.
+fn len_before(text: &[u8], ends: &[u8]) -> usize
+    ensures { result ≤ length text.now }
+{
+    for n in 0..text.len() {
+        if ends.contains(&text[n]) {
+            return n;
+        }
+    }
+    text.len()
+}
+
 // What stands in the first column, up to a blank or a comment.
 fn first_word(text: &[u8]) -> &[u8] {
-    let len = text
-        .iter()
-        .take_while(|b| !matches!(**b, b' ' | b'\t' | b';'))
-        .count();
-    &text[..len]
+    &text[..len_before(text, b" \t;")]
 }
 
 // What stands in front of a comment, without the blanks at its end.
 fn without_comment(text: &[u8]) -> &[u8] {
-    let len = text.iter().take_while(|b| **b != b';').count();
-    text[..len].trim_ascii_end()
+    text[..len_before(text, b";")].trim_ascii_end()
 }
 
 // A name, if it is that of the address, else none.
@@ -76,7 +83,35 @@ fn add_line<'a>(
     Ok(())
 }
 
-/// The lines that have words. A label may also stand alone in a line before.
+// Adds the lines that have words. A label may also stand alone in a line before.
+fn add_lines<'a>(lines: &mut SourceLines<'a>, program: &Program<'a>) -> Result<(), AllocError>
+    ensures { OnOk result
+        (AreNamed program.now.labels.now (lines_of lines.old)
+        → AreNamed program.now.labels.now (lines_of lines.new)) }
+{
+    let mut rest = program.source;
+    let mut before: &[u8] = b"";
+    let mut number = 1;
+    for placed in program.placed {
+        let Some((line, after)) = first_line(rest) else {
+            return Ok(());
+        };
+        let label = label_of(program, line, before, placed.at);
+        let text = without_comment(line);
+        let line = SourceLine {
+            number,
+            label,
+            text,
+        };
+        add_line(lines, program, *placed, line)?;
+        before = label;
+        rest = after;
+        number += 1;
+    }
+    Ok(())
+}
+
+/// The lines that have words.
 pub(crate) fn lines_by_address<'a>(
     alloc: Global,
     program: &Program<'a>,
@@ -84,28 +119,6 @@ pub(crate) fn lines_by_address<'a>(
     ensures { IfOk result (λ lines. AreNamed program.now.labels.now (lines_of lines)) }
 {
     let mut lines = BTreeMap::new(alloc);
-    let mut rest = program.source;
-    let mut before: &[u8] = b"";
-    let mut number = 1;
-    for placed in program.placed {
-        let Some((line, after)) = first_line(rest) else {
-            return Ok(lines);
-        };
-        let label = label_of(program, line, before, placed.at);
-        let text = without_comment(line);
-        add_line(
-            &mut lines,
-            program,
-            *placed,
-            SourceLine {
-                number,
-                label,
-                text,
-            },
-        )?;
-        before = label;
-        rest = after;
-        number += 1;
-    }
+    add_lines(&mut lines, program)?;
     Ok(lines)
 }

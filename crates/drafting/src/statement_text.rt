@@ -3,25 +3,24 @@ ghost use Rattle.std.specs.List.{flat_map};
 ghost use Rattle.std.specs.Ordering.{nat_cmp};
 ghost use Rattle.drafting.specs.Named.{lines_of};
 ghost use Rattle.drafting.specs.DraftText.{access_list_text, access_text, accesses_text, bound_text};
-ghost use Rattle.drafting.specs.DraftText.{class_text, class_word};
+ghost use Rattle.drafting.specs.DraftText.{class_text};
 ghost use Rattle.drafting.specs.DraftText.{comment_text, cycle_text, destination_text, destinations_text};
-ghost use Rattle.drafting.specs.DraftText.{end_text};
+ghost use Rattle.drafting.specs.DraftText.{element_text, end_text};
 ghost use Rattle.drafting.specs.DraftText.{end_words, head_text, loop_text, place_text, target_text};
 ghost use Rattle.drafting.specs.DraftText.{way_text, words_from};
 
 use crate::ends::End;
 use crate::found_loop::FoundLoop;
-use crate::rows::{put, put_address, put_blanks, put_name, put_number, put_row};
+use crate::rows::{end_row, put, put_address, put_blanks, put_name, put_number};
 use crate::source_lines::{SourceLine, SourceLines};
 use crate::ways::ahead_of;
 use crate::writers::FoundTarget;
 use bus_ticks::Class;
-use std::alloc::{AllocError, Global};
+use std::alloc::AllocError;
 
-/// What stands at the addresses, and the memory for rows.
-#[derive(Clone, Copy)]
+/// What stands at the addresses.
+#[derive(Drop)]
 pub struct Sheet<'s, 'a> {
-    pub alloc: Global,
     pub lines: &'s SourceLines<'a>,
 }
 
@@ -44,13 +43,13 @@ impl<'a> Sheet<'_, 'a> {
         ensures { OnOk result
             (out.new.items ≡ out.old.items ++ place_text (lines_of self.now.lines.now) indent key.now at) }
     {
+        let start = out.len();
         let line = self.line(at);
-        let mut text = Vec::new(self.alloc);
-        put_blanks(&mut text, indent)?;
-        put(&mut text, key)?;
-        put(&mut text, b" = ")?;
-        put_name(&mut text, line, at)?;
-        put_row(self.alloc, out, &text, line)
+        put_blanks(out, indent)?;
+        put(out, key)?;
+        put(out, b" = ")?;
+        put_name(out, line, at)?;
+        end_row(out, start, line)
     }
 
     // Adds a comment on an address.
@@ -58,23 +57,38 @@ impl<'a> Sheet<'_, 'a> {
         ensures { OnOk result
             (out.new.items ≡ out.old.items ++ comment_text (lines_of self.now.lines.now) at words.now) }
     {
-        let mut text = Vec::new(self.alloc);
-        put(&mut text, b"# ")?;
-        put_address(&mut text, at)?;
-        put(&mut text, words)?;
-        put_row(self.alloc, out, &text, self.line(at))
+        let start = out.len();
+        put(out, b"# ")?;
+        put_address(out, at)?;
+        put(out, words)?;
+        end_row(out, start, self.line(at))
+    }
+
+    // Adds an address between two texts, beside the line that stands there.
+    fn put_element(
+        &self,
+        out: &mut Vec<u8>,
+        front: &[u8],
+        at: u32,
+        back: &[u8],
+    ) -> Result<(), AllocError>
+        ensures { OnOk result
+            (out.new.items
+            ≡ out.old.items ++ element_text (lines_of self.now.lines.now) front.now at back.now) }
+    {
+        let start = out.len();
+        let line = self.line(at);
+        put(out, front)?;
+        put_name(out, line, at)?;
+        put(out, back)?;
+        end_row(out, start, line)
     }
 
     fn put_access(&self, out: &mut Vec<u8>, at: u32, class: Class) -> Result<(), AllocError>
         ensures { OnOk result
             (out.new.items ≡ out.old.items ++ access_text (lines_of self.now.lines.now) (at, class)) }
     {
-        let line = self.line(at);
-        let mut text = Vec::new(self.alloc);
-        put(&mut text, b"  {at = ")?;
-        put_name(&mut text, line, at)?;
-        put_class(&mut text, class)?;
-        put_row(self.alloc, out, &text, line)
+        self.put_element(out, b"  {at = ", at, class_text(class))
     }
 
     fn put_each_access(
@@ -148,18 +162,6 @@ impl<'a> Sheet<'_, 'a> {
         Ok(())
     }
 
-    fn put_destination(&self, out: &mut Vec<u8>, at: u32) -> Result<(), AllocError>
-        ensures { OnOk result
-            (out.new.items ≡ out.old.items ++ destination_text (lines_of self.now.lines.now) at) }
-    {
-        let line = self.line(at);
-        let mut text = Vec::new(self.alloc);
-        put(&mut text, b"  ")?;
-        put_name(&mut text, line, at)?;
-        put(&mut text, b",")?;
-        put_row(self.alloc, out, &text, line)
-    }
-
     fn put_each_destination(
         &self,
         out: &mut Vec<u8>,
@@ -173,7 +175,7 @@ impl<'a> Sheet<'_, 'a> {
     {
         let mut at = table;
         for _ in 0..branches {
-            self.put_destination(out, at)?;
+            self.put_element(out, b"  ", at, b",")?;
             at = ahead_of(at, 4);
         }
         Ok(())
@@ -279,23 +281,16 @@ impl<'a> Sheet<'_, 'a> {
     }
 }
 
-fn class_word(class: Class) -> &'static [u8]
-    ensures { result.now ≡ class_word class }
+// The end of an access.
+fn class_text(class: Class) -> &'static [u8]
+    ensures { result.now ≡ class_text class }
 {
     match class {
-        Class::Any => b"any",
-        Class::Ram => b"ram",
-        Class::Rom => b"rom",
-        Class::Io => b"io",
+        Class::Any => b", class = \"any\"},",
+        Class::Ram => b", class = \"ram\"},",
+        Class::Rom => b", class = \"rom\"},",
+        Class::Io => b", class = \"io\"},",
     }
-}
-
-fn put_class(out: &mut Vec<u8>, class: Class) -> Result<(), AllocError>
-    ensures { OnOk result (out.new.items ≡ out.old.items ++ class_text class) }
-{
-    put(out, b", class = \"")?;
-    put(out, class_word(class))?;
-    put(out, b"\"},")
 }
 
 fn put_bound(out: &mut Vec<u8>, indent: usize, turns: Option<u32>) -> Result<(), AllocError>

@@ -1,8 +1,10 @@
-ghost use Rattle.std.specs.Prelude.{◌≡◌, ℕ, ◌<◌, ◌^◌, true, false, Some, OnOk, Contains};
+ghost use Rattle.std.specs.Prelude.{◌≡◌, ℕ, ◌<◌, ◌^◌, true, false, IfSome, Some, OnOk};
 ghost use Rattle.arm2_effect.specs.ProgramCounter.{ahead_of};
-ghost use Rattle.drafting.specs.Reach.{CallsTo, GoesOn, HasPlaces, IsBranchAt, IsTablePlace, JumpsIntoTable};
+ghost use Rattle.drafting.specs.Exploring.{Gains};
+ghost use Rattle.drafting.specs.Reach.{CallsTo, GoesOn, HasPlaces, IsBranchAt, JumpsIntoTable};
 ghost use Rattle.drafting.specs.Reach.{KeepsWayBack, LeadsAway, StepsTo, before, is_never, is_table_jump};
 ghost use Rattle.drafting.specs.Reach.{is_way_back, next_of, words_on};
+ghost use Rattle.drafting.specs.declared.words.Way.TheVariants.{Writer};
 
 use crate::words::{
     Reading, Way, instr_at, is_add, is_always, is_left, is_link, is_move, is_never, reading_at,
@@ -98,9 +100,7 @@ pub(crate) fn table_len(image: &Image, at: u32) -> u32
 
 // Adds the addresses of the branches of the table behind a word.
 fn push_table(out: &mut Vec<u32>, image: &Image, at: u32) -> Result<(), AllocError>
-    ensures kept { OnOk result ((a : ℕ) → Contains out.old.items a → Contains out.new.items a) }
-    ensures places { OnOk result
-        ((n : ℕ) → IsTablePlace image.now at n → Contains out.new.items (words_on at n)) }
+    ensures { OnOk result (Gains (LeadsAway image.now at Writer) out.old.items out.new.items) }
 {
     for n in 0..table_len(image, at) {
         out.push(words_on(at, n))?;
@@ -110,7 +110,8 @@ fn push_table(out: &mut Vec<u32>, image: &Image, at: u32) -> Result<(), AllocErr
 
 // Whether the word before puts the address of the word after this one into R14.
 fn keeps_way_back(image: &Image, at: u32) -> bool
-    ensures { KeepsWayBack image.now at → result ≡ true }
+    ensures yes { result ≡ true → KeepsWayBack image.now at }
+    ensures no { KeepsWayBack image.now at → result ≡ true }
 {
     match instr_at(image, before(at)) {
         Some(instr) => is_way_back(&instr.operation),
@@ -120,7 +121,8 @@ fn keeps_way_back(image: &Image, at: u32) -> bool
 
 // Whether control may go on at the next word.
 fn goes_on(image: &Image, at: u32, reading: Reading) -> bool
-    ensures { GoesOn image.now at reading → result ≡ true }
+    ensures yes { result ≡ true → GoesOn image.now at reading }
+    ensures no { GoesOn image.now at reading → result ≡ true }
 {
     if !is_always(reading.cond) {
         return true;
@@ -134,7 +136,8 @@ fn goes_on(image: &Image, at: u32, reading: Reading) -> bool
 
 // Adds the next word, where control may go on there.
 fn push_next(out: &mut Vec<u32>, image: &Image, at: u32, reading: Reading) -> Result<(), AllocError>
-    ensures { OnOk result (GoesOn image.now at reading → Contains out.new.items (next_of at)) }
+    ensures { OnOk result
+        (Gains (λ to. GoesOn image.now at reading × (to ≡ next_of at)) out.old.items out.new.items) }
 {
     if goes_on(image, at, reading) {
         out.push(ahead_of(at, 4))?;
@@ -149,10 +152,9 @@ fn push_others(
     at: u32,
     reading: Reading,
 ) -> Result<(), AllocError>
-    ensures kept { OnOk result ((a : ℕ) → Contains out.old.items a → Contains out.new.items a) }
-    ensures others { OnOk result
-        ((to : ℕ) → is_never reading.cond ≡ false → LeadsAway image.now at reading.way to
-        → Contains out.new.items to) }
+    ensures { OnOk result
+        (Gains (λ to. (is_never reading.cond ≡ false) × LeadsAway image.now at reading.way to)
+        out.old.items out.new.items) }
 {
     if is_never(reading.cond) {
         return Ok(());
@@ -170,7 +172,7 @@ fn push_others(
 /// Adds the addresses at which control goes on from the word at an address inside its routine, as far as the
 /// words show: after a call at the next word, and through a table of branches at each.
 pub(crate) fn push_ways(out: &mut Vec<u32>, image: &Image, at: u32) -> Result<(), AllocError>
-    ensures { OnOk result ((to : ℕ) → StepsTo image.now at to → Contains out.new.items to) }
+    ensures { OnOk result (Gains (StepsTo image.now at) out.old.items out.new.items) }
 {
     let Some(reading) = reading_at(image, at) else {
         return Ok(());
@@ -181,7 +183,8 @@ pub(crate) fn push_ways(out: &mut Vec<u32>, image: &Image, at: u32) -> Result<()
 
 /// The routine that the word at an address calls.
 pub(crate) fn called(image: &Image, at: u32) -> Option<u32>
-    ensures { (to : ℕ) → CallsTo image.now at to → result ≡ Some to }
+    ensures some { IfSome result (CallsTo image.now at) }
+    ensures only { (to : ℕ) → CallsTo image.now at to → result ≡ Some to }
 {
     let reading = reading_at(image, at)?;
     if is_never(reading.cond) {

@@ -15,7 +15,7 @@ use arm2_decode::{
 use loader::Image;
 
 /// What a word shows of where control goes.
-#[derive(Clone, Copy, PartialEq, Eq)]
+#[derive(Clone, Copy)]
 pub(crate) enum Way {
     /// On to the next word.
     On,
@@ -297,7 +297,7 @@ fn written(operation: &Operation) -> u32 {
 /// The registers that may differ after an operation, as the bits of their numbers: all after a word that
 /// may call a routine by writing R15.
 pub(crate) fn changed(operation: &Operation) -> u32 {
-    if way_of(operation) == Way::Writer {
+    if is_odd_writer(operation) {
         ALL_REGISTERS
     } else {
         written(operation)

@@ -1,15 +1,19 @@
+use Rattle.std.proofs.lemmas.Result.{IfOk-weaker}
 use Rattle.drafting.specs.Named.{lines_of}
 use Rattle.drafting.proofs.drafts.draft_by_lines.Goals as goal
 
 pub returns : goal.returns
-returns c = record {
-  lines = lines_of c.args.lines.now;
-  named = c.requires;
-  ends = c.in_ok-found.found.ends.items;
-  cycles = c.in_ok-found.found.loops.cycles.items;
-  accesses = c.in_ok-found.found.accesses.items;
-  loops = c.in_ok-found.found.loops.loops.items;
-  targets = c.in_ok-found.found.targets.items;
-  found = c.in_ok-found.ensures;
-  text_is = c.in_ok-text.ensures;
-}
+returns c =
+    IfOk-weaker c.text_of.result _ _
+    (λ text text_is. record {
+      lines = lines_of c.args.lines.now;
+      named = c.requires;
+      ends = c.in_ok-found.found.ends.items;
+      cycles = c.in_ok-found.found.loops.cycles.items;
+      accesses = c.in_ok-found.found.accesses.items;
+      loops = c.in_ok-found.found.loops.loops.items;
+      targets = c.in_ok-found.found.targets.items;
+      found = c.in_ok-found.ensures;
+      text_is = text_is;
+    })
+    c.text_of.ensures

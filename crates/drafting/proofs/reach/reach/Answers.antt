@@ -1,8 +1,10 @@
-use Rattle.drafting.proofs.Explored.{closed}
+use Rattle.std.proofs.lemmas.Result.{IfOk-weaker}
+use Rattle.drafting.proofs.Explored.{reached_keys}
 use Rattle.drafting.proofs.reach.reach.Goals as goal
 
-pub returns : goal.returns
-returns c =
-    closed c.args.image.now c.args.entry c.in_ok-found.found.seen c.in_ok-found.found.order.items
-    c.in_ok-addresses.addresses.items c.in_ok-found.ensures.found c.in_ok-found.ensures.explored
-    c.in_ok-addresses.ensures.keys c.in_ok-addresses.ensures.ordered
+pub returns-clause-reached : goal.returns-clause-reached
+returns-clause-reached c =
+    IfOk-weaker c.reached_from.result _ _
+    (λ reached keys. reached_keys c.args.image.now c.args.entry c.in_ok-found.found.seen c.in_ok-found.found.order.items
+    reached.addresses.items c.in_ok-found.ensures.found c.in_ok-found.ensures.reached keys)
+    c.reached_from.ensures.keys

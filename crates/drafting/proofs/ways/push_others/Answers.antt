@@ -1,15 +1,28 @@
-use Rattle.std.proofs.Common.{subst, sym}
-use Rattle.std.specs.Prelude.{Contains}
+use Rattle.std.proofs.Common.{◌≡◌, false, sym, subst, ◌∙◌}
 use Rattle.std.proofs.lemmas.Result.{on_ok_weaker}
-use Rattle.drafting.specs.Reach.{LeadsAway}
+use Rattle.drafting.specs.Reach.{LeadsAway, is_never}
 use Rattle.drafting.specs.declared.words.Way.TheVariants as way
+use Rattle.drafting.proofs.WayLaws.{gains_as, gains_none, leads_nowhere}
 use Rattle.drafting.proofs.ways.push_others.Goals as goal
 
-pub returns-in-Writer-clause-others : goal.returns-in-Writer-clause-others
-returns-in-Writer-clause-others c =
+pub returns-then-is_never : goal.returns-then-is_never
+returns-then-is_never c =
+    gains_none _ c.args.out.now.items (λ to h. absurd (cc (h.0, c.is_never.ensures, c.if-is_never.true)))
+
+pub returns-in-Writer : goal.returns-in-Writer
+returns-in-Writer c =
+    let may : is_never c.args.reading.cond ≡ false = sym c.is_never.ensures ∙ c.if-is_never.false in
     on_ok_weaker c.push_table.result
-    (λ places. λ to may away.
-    let place : LeadsAway c.args.image.now c.args.at way.Writer to =
-    subst (λ w. LeadsAway c.args.image.now c.args.at w to) c.in-Writer.is away in
-    subst (Contains c.push_table.new.out.items) (sym place.2) (places place.0 place.1))
-    c.push_table.ensures.places
+    (gains_as (LeadsAway c.args.image.now c.args.at way.Writer)
+    (λ to. (is_never c.args.reading.cond ≡ false) × LeadsAway c.args.image.now c.args.at c.args.reading.way to)
+    c.args.out.now.items c.push_table.new.out.items
+    (λ to. (
+      (λ leads. (may, subst (λ w. LeadsAway c.args.image.now c.args.at w to) (sym c.in-Writer.is) leads)),
+      (λ h. subst (λ w. LeadsAway c.args.image.now c.args.at w to) c.in-Writer.is h.1),
+    )))
+    c.push_table.ensures
+
+pub returns-in_default : goal.returns-in_default
+returns-in_default c =
+    gains_none _ c.args.out.now.items
+    (λ to h. absurd (leads_nowhere c.args.image.now c.args.at c.args.reading.way to c.in_default.not-Branch c.in_default.not-Writer h.1))

@@ -1,15 +1,22 @@
-use Rattle.std.proofs.Common.{refl}
-use Rattle.drafting.proofs.Explored.{added_all, added_more, added_none}
+use Rattle.std.proofs.Common.{arith, refl, subst}
+use Rattle.std.specs.Prelude.{Contains}
+use Rattle.std.proofs.lemmas.List.{take_all}
+use Rattle.drafting.specs.Exploring.{Grows}
+use Rattle.drafting.proofs.Explored.{grows_more, grows_none}
 use Rattle.drafting.proofs.reach.Exploration.add_all.Goals as goal
 
 pub loop-to-init : goal.loop-to-init
-loop-to-init c = added_none _ _ _ c.requires
+loop-to-init c = record { found = c.requires; grows = grows_none _ _ (λ a h. absurd (omega (arith, h.1))) }
 
 pub loop-to-preserved : goal.loop-to-preserved
-loop-to-preserved c =
-    added_more c.args.self.now.order.items c.args.ways.now c.loop-to.to-index _ c.loop-to.self.seen c.add.new.self.seen
-    c.loop-to.self.order.items c.add.new.self.order.items c.loop-to.invariant c.loop-to-test.true refl
-    c.in_ok-add.ensures.found c.in_ok-add.ensures.grows c.in_ok-add.ensures.added
+loop-to-preserved c = record {
+  found = c.in_ok-add.ensures.found;
+  grows =
+      grows_more c.args.ways.now c.loop-to.to-index _ c.args.self.now.order.items c.loop-to.self.order.items
+      c.add.new.self.order.items c.loop-to-test.true refl c.loop-to.invariant.grows c.in_ok-add.ensures.adds;
+}
 
-pub returns-clause-added : goal.returns-clause-added
-returns-clause-added c = added_all _ _ _ _ _ c.loop-to.invariant c.loop-to-test.false
+pub returns-clause-grows : goal.returns-clause-grows
+returns-clause-grows c =
+    subst (λ t. Grows (Contains t) c.args.self.now.order.items c.loop-to.self.order.items)
+    (take_all c.loop-to.to-index c.args.ways.now c.loop-to-test.false) c.loop-to.invariant.grows

@@ -1,15 +1,20 @@
-use Rattle.std.proofs.Common.{◌≡◌, subst}
-use Rattle.std.specs.Prelude.{Contains}
+use Rattle.std.proofs.Common.{subst}
 use Rattle.std.proofs.lemmas.Result.{on_ok_weaker}
+use Rattle.drafting.specs.Reach.{CallsTo}
+use Rattle.drafting.proofs.Explored.{grows_none, grows_one}
 use Rattle.drafting.proofs.reach.Exploration.add_called.Goals as goal
 
-pub returns-in-Some-clause-added : goal.returns-in-Some-clause-added
-returns-in-Some-clause-added c =
+pub returns-in-Some-clause-grows : goal.returns-in-Some-clause-grows
+returns-in-Some-clause-grows c =
     on_ok_weaker c.add_root.result
-    (λ added. λ to calls.
-    let same : c.in-Some.to ≡ to = cc (c.in-Some.ensures to calls) in
-    subst (Contains c.add_root.new.self.order.items) same added)
-    c.add_root.ensures.added
+    (grows_one (CallsTo c.args.image.now c.args.at) c.args.self.now.order.items c.in-Some.to c.add_root.new.self.order.items
+    (λ a. (
+      (λ calls. cc (c.in-Some.ensures.only a calls)),
+      (λ same. subst (CallsTo c.args.image.now c.args.at) same c.in-Some.ensures.some),
+    )))
+    c.add_root.ensures.adds
 
-pub returns-in-None-clause-added : goal.returns-in-None-clause-added
-returns-in-None-clause-added c = λ to calls. absurd (cc (c.in-None.ensures to calls))
+pub returns-in-None-clause-grows : goal.returns-in-None-clause-grows
+returns-in-None-clause-grows c =
+    grows_none (CallsTo c.args.image.now c.args.at) c.args.self.now.order.items
+    (λ a calls. absurd (cc (c.in-None.ensures.only a calls)))

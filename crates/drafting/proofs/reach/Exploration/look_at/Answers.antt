@@ -1,14 +1,23 @@
-use Rattle.std.proofs.Common.{subst, sym}
+use Rattle.std.proofs.Common.{inl, inr, subst, ⊎_elim}
 use Rattle.std.specs.Prelude.{Contains}
-use Rattle.drafting.proofs.Explored.{followed_by}
-use Rattle.drafting.proofs.WayLaws.{on_ok_two}
+use Rattle.std.proofs.lemmas.Result.{on_ok_weaker}
+use Rattle.drafting.specs.Exploring.{Grows}
+use Rattle.drafting.specs.Reach.{CallsTo, LeadsTo, StepsTo}
+use Rattle.drafting.proofs.Explored.{grows_on}
+use Rattle.drafting.proofs.WayLaws.{gains_from_none}
 use Rattle.drafting.proofs.reach.Exploration.look_at.Goals as goal
 
-pub returns-clause-followed : goal.returns-clause-followed
-returns-clause-followed c =
-    on_ok_two c.add_called.result
-    (λ grows added. followed_by c.args.image.now c.add_all.new.self.order.items c.add_called.new.self.order.items c.args.at grows
-    (λ to steps. c.in_ok-add_all.ensures.added to
-    (subst (λ xs. Contains xs to) (sym c.deref.ensures.value) (c.in_ok-push_ways.ensures to steps)))
-    added)
-    c.add_called.ensures.grows c.add_called.ensures.added
+pub returns-clause-grows : goal.returns-clause-grows
+returns-clause-grows c =
+    let ways = c.push_ways.new.out.items in
+    let steps = gains_from_none (StepsTo c.args.image.now c.args.at) c.clear.new.self.items ways c.clear.ensures.items c.in_ok-push_ways.ensures in
+    on_ok_weaker c.add_called.result
+    (grows_on (Contains ways) (CallsTo c.args.image.now c.args.at) (LeadsTo c.args.image.now c.args.at)
+    c.args.self.now.order.items c.add_all.new.self.order.items c.add_called.new.self.order.items
+    (λ a. (
+      (λ leads. ⊎_elim (λ w. inl ((steps a).1 w)) (λ w. inr w) leads),
+      (λ leads. ⊎_elim (λ w. inl ((steps a).0 w)) (λ w. inr w) leads),
+    ))
+    (subst (λ t. Grows (Contains t) c.args.self.now.order.items c.add_all.new.self.order.items) c.deref.ensures.value
+    c.in_ok-add_all.ensures.grows))
+    c.add_called.ensures.grows

@@ -9,5 +9,5 @@ loop-preserved c =
     let left = c.args.branches - c.loop.counter in
     let after = c.args.branches - (c.loop.counter + 1) in
     words_more (destination_text (lines_of c.args.self.now.lines.now)) c.loop.at c.ahead_of-at.result left after c.loop.out.items
-    c.put_destination.new.out.items _ (omega (arith, c.loop-test.true)) c.loop.invariant c.in_ok-put_destination.ensures
+    c.put_element.new.out.items _ (omega (arith, c.loop-test.true)) c.loop.invariant c.in_ok-put_element.ensures
     c.ahead_of-at.ensures.sum
