@@ -18,10 +18,6 @@ mod inputs;
 #[cfg(test)]
 mod limits;
 #[cfg(test)]
-mod lines;
-#[cfg(test)]
-mod loading;
-#[cfg(test)]
 mod numbers;
 #[cfg(test)]
 mod odd;

@@ -7,6 +7,8 @@
 #[cfg(test)]
 mod graphs;
 #[cfg(test)]
+mod handlers;
+#[cfg(test)]
 mod nesting;
 #[cfg(test)]
 mod prices_and_chips;

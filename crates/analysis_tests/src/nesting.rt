@@ -1,30 +1,48 @@
-ghost use Rattle.std.specs.Prelude.{◌≡◌};
-
-use assembler::assemble;
-use bus_ticks::Profile;
-use flow_graph::{Graph, Place, Statement, build, read_statement};
+use crate::handlers::{Handler, graph_of, stated};
+use flow_graph::{Graph, Place, Statement};
 use loop_bounds::{Instance, Instances, LoopTree, nest};
 use numbered_walks::{NumberedEdge, Span};
 use samples::{branch, nested_countdown};
 use std::alloc::{AllocError, Global};
 use std::test::Fail;
 
-fn graph_of(alloc: Global, source: &[u8], statement: &[u8]) -> Result<(Graph, Statement), Fail> {
-    let said = assemble(alloc, source)?;
-    let statement = read_statement(alloc, statement, &said.labels)?;
-    let graph = build(alloc, &said.image, &statement, &Profile::one())?;
-    Ok((graph, statement))
+fn tree_of_handler(alloc: Global, handler: &Handler) -> Result<LoopTree, Fail> {
+    let graph = graph_of(alloc, handler)?;
+    let tree = nest(alloc, &graph, &handler.statement);
+    drop(graph);
+    Ok(tree?)
 }
 
 fn tree_of(alloc: Global, source: &[u8], statement: &[u8]) -> Result<LoopTree, Fail> {
-    let (graph, statement) = graph_of(alloc, source, statement)?;
-    Ok(nest(alloc, &graph, &statement)?)
+    let handler = stated(alloc, source, statement)?;
+    let tree = tree_of_handler(alloc, &handler);
+    drop(handler);
+    tree
+}
+
+fn instances_of_graph(
+    alloc: Global,
+    graph: &Graph,
+    statement: &Statement,
+) -> Result<Instances, Fail> {
+    let tree = nest(alloc, graph, statement)?;
+    let instances = tree.nested(alloc, graph);
+    drop(tree);
+    Ok(instances?)
+}
+
+fn instances_of_handler(alloc: Global, handler: &Handler) -> Result<Instances, Fail> {
+    let graph = graph_of(alloc, handler)?;
+    let instances = instances_of_graph(alloc, &graph, &handler.statement);
+    drop(graph);
+    instances
 }
 
 fn instances_of(alloc: Global, source: &[u8], statement: &[u8]) -> Result<Instances, Fail> {
-    let (graph, statement) = graph_of(alloc, source, statement)?;
-    let tree = nest(alloc, &graph, &statement)?;
-    Ok(tree.nested(alloc, &graph)?)
+    let handler = stated(alloc, source, statement)?;
+    let instances = instances_of_handler(alloc, &handler);
+    drop(handler);
+    instances
 }
 
 const NO_LOOPS: &[u8] = b"entry = 0x8000";
@@ -75,79 +93,144 @@ loop = [
   {header = \"one\", first = \"one\", last = \"again\", bound = 2},
 ]";
 
-fn span(header: usize, last: usize, bound: u32) -> Span {
-    Span {
-        header,
-        last,
-        bound,
-    }
+// Of a span its header, its last place and its bound; of an edge its ends and its cost.
+type Three = (usize, usize, u32);
+
+// A source, its statement, and the order and the spans of the tree.
+type Ordered = (
+    &'static [u8],
+    &'static [u8],
+    &'static [usize],
+    &'static [Three],
+);
+
+static ORDERS: [Ordered; 4] = [
+    // Both ways meet at the return, and there is one order.
+    (branch::SOURCE, NO_LOOPS, &[0, 1, 2, 3, 4], &[]),
+    (
+        nested_countdown::SOURCE,
+        nested_countdown::STATEMENT,
+        &[0, 1, 2, 3, 4, 5, 6, 7],
+        &[(2, 3, 2), (1, 5, 1)],
+    ),
+    (
+        CALL_IN_A_LOOP,
+        LOOP_WITH_A_CALL,
+        &[0, 4, 1, 2, 3, 5],
+        &[(0, 3, 3)],
+    ),
+    (
+        CALLED_TWICE,
+        CALLED_LOOP,
+        &[0, 3, 4, 5, 1, 6, 7, 8, 2, 9],
+        &[(1, 2, 5), (5, 6, 5)],
+    ),
+];
+
+static BRANCH_EDGES: [Three; 5] = [(0, 1, 1), (1, 2, 1), (1, 3, 5), (2, 3, 2), (3, 4, 9)];
+
+fn is_span(pair: (&Span, &Three)) -> bool {
+    let (span, wanted) = pair;
+    (span.header, span.last, span.bound) == *wanted
+}
+
+fn is_edge(pair: (&NumberedEdge, &Three)) -> bool {
+    let (edge, wanted) = pair;
+    (edge.from, edge.to, edge.cost) == *wanted
+}
+
+fn has_spans(tree: &LoopTree, wanted: &[Three]) -> bool {
+    tree.spans().len() == wanted.len() && tree.spans().iter().zip(wanted.iter()).all(is_span)
+}
+
+fn has_edges(tree: &LoopTree, wanted: &[Three]) -> bool {
+    tree.edges().len() == wanted.len() && tree.edges().iter().zip(wanted.iter()).all(is_edge)
 }
 
 #[test]
 fn orders_and_spans(rt: HostRuntime) -> Result<(), Fail> {
-    let alloc = rt.alloc();
-    for (source, statement, order, spans) in [
-        // Both ways meet at the return, and there is one order.
-        (
-            branch::SOURCE,
-            NO_LOOPS,
-            [0, 1, 2, 3, 4].as_slice(),
-            [].as_slice(),
-        ),
-        (
-            nested_countdown::SOURCE,
-            nested_countdown::STATEMENT,
-            &[0, 1, 2, 3, 4, 5, 6, 7],
-            &[span(2, 3, 2), span(1, 5, 1)],
-        ),
-        (
-            CALL_IN_A_LOOP,
-            LOOP_WITH_A_CALL,
-            &[0, 4, 1, 2, 3, 5],
-            &[span(0, 3, 3)],
-        ),
-        (
-            CALLED_TWICE,
-            CALLED_LOOP,
-            &[0, 3, 4, 5, 1, 6, 7, 8, 2, 9],
-            &[span(1, 2, 5), span(5, 6, 5)],
-        ),
-    ] {
-        let tree = tree_of(alloc, source, statement)?;
-        assert_eq!(rt; (tree.order(), tree.spans()), (order, spans));
+    for (source, statement, order, spans) in &ORDERS {
+        let tree = tree_of(rt.alloc(), source, statement)?;
+        let is_right = tree.order() == *order && has_spans(&tree, spans);
+        drop(tree);
+        assert!(rt; is_right);
     }
-    let tree = tree_of(alloc, branch::SOURCE, NO_LOOPS)?;
-    let wanted = [(0, 1, 1), (1, 2, 1), (1, 3, 5), (2, 3, 2), (3, 4, 9)].map(|(
-        from,
-        to,
-        cost,
-    )| NumberedEdge { from, to, cost });
-    assert_eq!(rt; tree.edges(), wanted.as_slice());
+    let tree = tree_of(rt.alloc(), branch::SOURCE, NO_LOOPS)?;
+    let has_edges = has_edges(&tree, &BRANCH_EDGES);
+    drop(tree);
+    assert!(rt; has_edges);
     Ok(())
 }
 
 // A loop in a loop and so on: each BNE leads to the MOVNV before that of the one before.
+const SIXTEEN: &[u8] = b"
+ MOVNV R0,R0
+ MOVNV R0,R0
+ MOVNV R0,R0
+ MOVNV R0,R0
+ MOVNV R0,R0
+ MOVNV R0,R0
+ MOVNV R0,R0
+ MOVNV R0,R0
+ MOVNV R0,R0
+ MOVNV R0,R0
+ MOVNV R0,R0
+ MOVNV R0,R0
+ MOVNV R0,R0
+ MOVNV R0,R0
+ MOVNV R0,R0
+ MOVNV R0,R0
+ BNE &803C
+ BNE &8038
+ BNE &8034
+ BNE &8030
+ BNE &802C
+ BNE &8028
+ BNE &8024
+ BNE &8020
+ BNE &801C
+ BNE &8018
+ BNE &8014
+ BNE &8010
+ BNE &800C
+ BNE &8008
+ BNE &8004
+ BNE &8000
+ SUBS PC,R14,#4
+";
+
+const SIXTEEN_LOOPS: &[u8] = b"entry = 0x8000
+loop = [
+  {header = 0x803C, first = 0x803C, last = 0x8040, bound = 7},
+  {header = 0x8038, first = 0x8038, last = 0x8044, bound = 7},
+  {header = 0x8034, first = 0x8034, last = 0x8048, bound = 7},
+  {header = 0x8030, first = 0x8030, last = 0x804C, bound = 7},
+  {header = 0x802C, first = 0x802C, last = 0x8050, bound = 7},
+  {header = 0x8028, first = 0x8028, last = 0x8054, bound = 7},
+  {header = 0x8024, first = 0x8024, last = 0x8058, bound = 7},
+  {header = 0x8020, first = 0x8020, last = 0x805C, bound = 7},
+  {header = 0x801C, first = 0x801C, last = 0x8060, bound = 7},
+  {header = 0x8018, first = 0x8018, last = 0x8064, bound = 7},
+  {header = 0x8014, first = 0x8014, last = 0x8068, bound = 7},
+  {header = 0x8010, first = 0x8010, last = 0x806C, bound = 7},
+  {header = 0x800C, first = 0x800C, last = 0x8070, bound = 7},
+  {header = 0x8008, first = 0x8008, last = 0x8074, bound = 7},
+  {header = 0x8004, first = 0x8004, last = 0x8078, bound = 7},
+  {header = 0x8000, first = 0x8000, last = 0x807C, bound = 7},
+]
+";
+
 #[test]
 fn sixteen_deep(rt: HostRuntime) -> Result<(), Fail> {
-    let alloc = rt.alloc();
-    let mut source = String::new(alloc);
-    let mut statement = String::from_str(alloc, "entry = 0x8000\n")?;
-    for _ in 0..16 {
-        source.push_str(" MOVNV R0,R0\n")?;
-    }
-    for j in 0u32..16 {
-        let (first, last) = (0x803C - 4 * j, 0x8040 + 4 * j);
-        let branch = format!(in alloc; " BNE {first}\n")?;
-        source.push_str(&branch)?;
-        let one = format!(in alloc;
-            "[[loop]]\nheader = {first}\nfirst = {first}\nlast = {last}\nbound = 7\n"
-        )?;
-        statement.push_str(&one)?;
-    }
-    source.push_str(" SUBS PC,R14,#4\n")?;
-    let tree = tree_of(alloc, source.as_bytes(), statement.as_bytes())?;
-    let spans = (tree.spans().len(), tree.spans().first().copied());
-    assert_eq!(rt; spans, (16, Some(span(15, 16, 7))));
+    let tree = tree_of(rt.alloc(), SIXTEEN, SIXTEEN_LOOPS)?;
+    assert!(rt; tree.spans().len() == 16);
+    let inner = Span {
+        header: 15,
+        last: 16,
+        bound: 7,
+    };
+    assert!(rt; tree.spans().first().copied() == Some(inner));
+    drop(tree);
     Ok(())
 }
 
@@ -183,39 +266,47 @@ fn flat(alloc: Global, instances: &Instances) -> Result<Vec<u64>, AllocError> {
     Ok(numbers)
 }
 
+fn numbers_of(alloc: Global, source: &[u8], statement: &[u8]) -> Result<Vec<u64>, Fail> {
+    let instances = instances_of(alloc, source, statement)?;
+    let numbers = flat(alloc, &instances);
+    drop(instances);
+    Ok(numbers?)
+}
+
+// A source, its statement, and the numbers of its instances.
+static INSTANCES: [(&[u8], &[u8], &[u64]); 3] = [
+    (
+        nested_countdown::SOURCE,
+        nested_countdown::STATEMENT,
+        &[
+            0x8004, 1, 0x8004, 0x8008, 0x800C, 0x8010, 0x8014, 1, // outside
+            0x8008, 2, 0x8008, 0x800C, 0, // inside
+        ],
+    ),
+    (
+        SIDE_BY_SIDE,
+        THREE_LOOPS,
+        &[
+            0x8004, 1, 0x8004, 0x8008, 0x800C, 0x8010, 0x8014, 0x8018, 0x801C, 0x8020, 2, 0x8008,
+            2, 0x8008, 0x800C, 0, // one inside
+            0x8014, 3, 0x8014, 0x8018, 0, // and one beside it
+        ],
+    ),
+    (
+        CALLED_TWICE,
+        CALLED_LOOP,
+        &[
+            0x8000, 0x8010, 5, 0x8000, 0x8010, 0x8000, 0x8014, 0, // of the first call
+            0x8004, 0x8010, 5, 0x8004, 0x8010, 0x8004, 0x8014, 0, // and of the second
+        ],
+    ),
+];
+
 #[test]
 fn instances(rt: HostRuntime) -> Result<(), Fail> {
-    let alloc = rt.alloc();
-    for (source, statement, wanted) in [
-        (
-            nested_countdown::SOURCE,
-            nested_countdown::STATEMENT,
-            [
-                0x8004, 1, 0x8004, 0x8008, 0x800C, 0x8010, 0x8014, 1, // outside
-                0x8008, 2, 0x8008, 0x800C, 0, // inside
-            ]
-            .as_slice(),
-        ),
-        (
-            SIDE_BY_SIDE,
-            THREE_LOOPS,
-            &[
-                0x8004, 1, 0x8004, 0x8008, 0x800C, 0x8010, 0x8014, 0x8018, 0x801C, 0x8020, 2,
-                0x8008, 2, 0x8008, 0x800C, 0, // one inside
-                0x8014, 3, 0x8014, 0x8018, 0, // and one beside it
-            ],
-        ),
-        (
-            CALLED_TWICE,
-            CALLED_LOOP,
-            &[
-                0x8000, 0x8010, 5, 0x8000, 0x8010, 0x8000, 0x8014, 0, // of the first call
-                0x8004, 0x8010, 5, 0x8004, 0x8010, 0x8004, 0x8014, 0, // and of the second
-            ],
-        ),
-    ] {
-        let instances = instances_of(alloc, source, statement)?;
-        assert_eq!(rt; flat(alloc, &instances)?.as_slice(), wanted);
+    for (source, statement, wanted) in &INSTANCES {
+        let numbers = numbers_of(rt.alloc(), source, statement)?;
+        assert!(rt; numbers.as_slice() == *wanted);
     }
     Ok(())
 }

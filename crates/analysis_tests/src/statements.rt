@@ -1,18 +1,44 @@
 use bus_ticks::Class;
-use loader::Labels;
+use loader::{LabelFault, Labels};
 use statement::{Loop, Statement, TargetKind, read_statement};
 use std::alloc::Global;
 use std::test::Fail;
 
-// A statement on a source with the label `start` at 8000.
-fn read(alloc: Global, text: &[u8]) -> Result<Statement, Fail> {
+fn labels(alloc: Global) -> Result<Labels, LabelFault> {
     let mut labels = Labels::new(alloc);
     labels.put(alloc, b"start", 0x8000)?;
-    Ok(read_statement(alloc, text, &labels)?)
+    Ok(labels)
+}
+
+// A statement on a source with the label `start` at 8000.
+fn read(alloc: Global, text: &[u8]) -> Result<Statement, Fail> {
+    let labels = labels(alloc)?;
+    let statement = read_statement(alloc, text, &labels);
+    drop(labels);
+    Ok(statement?)
+}
+
+// The entry and what a return leaves to, and how many loops there are.
+fn outline(statement: &Statement) -> (u32, Class, usize) {
+    (
+        statement.entry(),
+        statement.leave(),
+        statement.loops().len(),
+    )
+}
+
+// Whether a call to these addresses is stated there.
+fn is_call(statement: &Statement, at: u32, to: [u32; 2]) -> bool {
+    match statement.target_at(at) {
+        Some(target) => {
+            matches!(target.kind(), TargetKind::Call) && target.to() == to.as_slice()
+        }
+        None => false,
+    }
 }
 
 #[test]
-fn reads_statements(rt: HostRuntime) -> Result<(), Fail> {
+fn reads_entries(rt: HostRuntime) -> Result<(), Fail> {
     for (text, entry, leave) in [
         (
             b"entry = 0x8000\nleave = \"ram\"\n".as_slice(),
@@ -22,39 +48,34 @@ fn reads_statements(rt: HostRuntime) -> Result<(), Fail> {
         (b"entry = 67108860", 0x3FF_FFFC, Class::Any),
     ] {
         let statement = read(rt.alloc(), text)?;
-        let got = (
-            statement.entry(),
-            statement.leave(),
-            statement.loops().len(),
-        );
-        assert_eq!(rt; got, (entry, leave, 0));
+        let outline = outline(&statement);
+        drop(statement);
+        assert!(rt; outline == (entry, leave, 0));
     }
-    let text = b"entry = \"start\"\nleave = \"io\"\n\
-        [[loop]]\nheader = 0x8004\nfirst = \"start\"\nlast = 0x8008\nbound = 1048576\n\
-        [[target]]\nat = 0x8010\nkind = \"call\"\nto = [0x8020, \"start\"]\n\
-        [[target]]\nat = 0x8014\nkind = \"leave\"\n\
-        [[access]]\nat = \"start\"\nclass = \"rom\"\n";
-    let statement = read(rt.alloc(), text)?;
+    Ok(())
+}
+
+const WHOLE: &[u8] = b"entry = \"start\"\nleave = \"io\"\n\
+    [[loop]]\nheader = 0x8004\nfirst = \"start\"\nlast = 0x8008\nbound = 1048576\n\
+    [[target]]\nat = 0x8010\nkind = \"call\"\nto = [0x8020, \"start\"]\n\
+    [[target]]\nat = 0x8014\nkind = \"leave\"\n\
+    [[access]]\nat = \"start\"\nclass = \"rom\"\n";
+
+#[test]
+fn reads_statements(rt: HostRuntime) -> Result<(), Fail> {
+    let statement = read(rt.alloc(), WHOLE)?;
     let stated = Loop {
         header: 0x8004,
         first: 0x8000,
         last: 0x8008,
         bound: 1_048_576,
     };
-    assert_eq!(rt; statement.loops(), [stated].as_slice());
-    let target = statement.target_at(0x8010);
-    let is_call = target.is_some_and(|target| matches!(target.kind(), TargetKind::Call));
-    let leads = target.is_some_and(|target| target.to() == [0x8020, 0x8000].as_slice());
-    let got = (
-        (statement.entry(), statement.leave()),
-        (is_call, leads, statement.target_at(0x8000).is_none()),
-        (statement.class_at(0x8000), statement.class_at(0x8010)),
-    );
-    let wanted = (
-        (0x8000, Class::Io),
-        (true, true, true),
-        (Class::Rom, Class::Any),
-    );
-    assert_eq!(rt; got, wanted);
+    assert!(rt; outline(&statement) == (0x8000, Class::Io, 1));
+    assert!(rt; statement.loops() == [stated].as_slice());
+    assert!(rt; is_call(&statement, 0x8010, [0x8020, 0x8000]));
+    assert!(rt; statement.target_at(0x8000).is_none());
+    let classes = [statement.class_at(0x8000), statement.class_at(0x8010)];
+    assert!(rt; classes == [Class::Rom, Class::Any]);
+    drop(statement);
     Ok(())
 }

@@ -11,7 +11,7 @@ use Rattle.arm2_exec.specs.Run.{at_rest, counted, why_stopped}
 use Rattle.arm2_exec.specs.State.{State}
 use Rattle.arm2_exec.specs.Step.{address_in, fetched, interrupt_due, with_lines}
 use Rattle.arm2_exec.specs.declared.machine.Input.{Input}
-use Rattle.arcwcet.specs.Keeping.{HasKeptRun}
+use Rattle.report_input.specs.Keeping.{HasKeptRun}
 use Rattle.arcwcet.proofs.OneWord as one
 use Rattle.arcwcet.proofs.OneWord.{goes_before}
 

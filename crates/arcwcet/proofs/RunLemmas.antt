@@ -2,26 +2,27 @@
 use Rattle.std.proofs.Common.{◌≡◌, ◌≢◌, ◌∙◌, ◌≤◌, ℕ, Bool, true, false, List, [], ◌∷◌, length, Option, Some, None, Result, Ok, Err, refl, sym, ap, subst, inl, inr, arith}
 use Rattle.std.specs.Io.KnownBytes.{Consumes, IsAtEnd}
 use Rattle.bus_ticks.specs.declared.profile.Profile.{Profile}
-use Rattle.arcwcet.specs.Answers.{Answers, FailsWithin, OfSome}
-use Rattle.arcwcet.specs.Check.{Checks, IsAnswer, IsCheckRefused, IsCheckable}
-use Rattle.arcwcet.specs.Debug.{IsDebugReport}
+use Rattle.report_output.specs.Answers.{Answers, FailsWithin, OfSome}
+use Rattle.bound_reports.specs.Check.{Checks, IsAnswer, IsCheckRefused, IsCheckable}
+use Rattle.machine_reports.specs.Debug.{IsDebugReport}
 use Rattle.arcwcet.specs.Files.{FailsToRead, ReadsAll, Reading, Texts, in_front, Writing}
 use Rattle.command_line.specs.Line.{Asked, ExplainOptions, asm, list, draft, run, trace, debug, bound, explain, tight, check, visits, follow, graph}
-use Rattle.arcwcet.specs.ExplainReport.{IsExplainReport}
-use Rattle.arcwcet.specs.FollowReport.{FollowsRun, IsFollowRefused, IsFollowReport, IsFollowable}
-use Rattle.arcwcet.specs.Machine.{Front, IsMachineReport, IsRunRefused, IsRunnable, ShowsRegisters, ShowsSteps}
-use Rattle.arcwcet.specs.Priced.{ByProfile, HasNoProfile, Priced, PricedFault}
-use Rattle.arcwcet.specs.Assembly.{IsSourceRefused}
-use Rattle.arcwcet.specs.DraftReport.{IsDraftRefused, IsDraftReport}
-use Rattle.arcwcet.specs.ListReport.{IsListReport}
-use Rattle.arcwcet.specs.GraphReport.{IsGraphReport}
-use Rattle.arcwcet.specs.Report.{IsAccepted, IsRefused, IsReport}
+use Rattle.author_reports.specs.ExplainReport.{IsExplainReport}
+use Rattle.author_reports.specs.FollowReport.{FollowsRun, IsFollowRefused, IsFollowReport, IsFollowable}
+use Rattle.report_input.specs.Placing.{IsRunRefused, IsRunnable}
+use Rattle.machine_reports.specs.Machine.{Front, IsMachineReport, ShowsRegisters, ShowsSteps}
+use Rattle.report_input.specs.Priced.{ByProfile, HasNoProfile, Priced, PricedFault}
+use Rattle.machine_reports.specs.Assembly.{IsSourceRefused}
+use Rattle.author_reports.specs.DraftReport.{IsDraftRefused, IsDraftReport}
+use Rattle.machine_reports.specs.ListReport.{IsListReport}
+use Rattle.author_reports.specs.GraphReport.{IsGraphReport}
+use Rattle.report_input.specs.Report.{IsAccepted, IsRefused, IsReport}
 use Rattle.arcwcet.specs.Run.{HasNoFollowed, HasNoReport, HasNoRun, HasNoTightReportOf, HasNoVerdict, HasNoVisitsReport, HasHeard, HasPrinted, IsAnswerOf, IsExplanationOf, IsFollowedOf, HasNoText, IsReportOf, IsTextOf, IsRunOf, IsSessionOf, IsTightReportOf, IsVisitsReportOf, OfThree, OfTwo}
 use Rattle.arcwcet.specs.Run.{Runs, RunsAsked, RunsAsm, RunsCheck, RunsDebug, RunsExplain, RunsFollow, RunsMachine, RunsVisits, answer_status, bursts_of, done_status, report_status, store_status}
 use Rattle.arcwcet.specs.VisitsReport.{AreAccepted, AreRefused, IsVisitsReport, ReportsVisits}
-use Rattle.arcwcet.specs.declared.fault.ReportFault.{ReportFault}
-use Rattle.arcwcet.specs.declared.fault.ReportFault.TheVariants.{Memory, Source, Image, Statement, Graph, Loops, Walk, MachineFile, Load, Cert, Device}
-use Rattle.arcwcet.specs.declared.fault.ReportFault.TheVariants as report_fault
+use Rattle.report_output.specs.declared.fault.ReportFault.{ReportFault}
+use Rattle.report_output.specs.declared.fault.ReportFault.TheVariants.{Memory, Source, Image, Statement, Graph, Loops, Walk, MachineFile, Load, Cert, Device}
+use Rattle.report_output.specs.declared.fault.ReportFault.TheVariants as report_fault
 use Rattle.arcwcet.specs.declared.fault.StoreFault.{StoreFault}
 use Rattle.arcwcet.specs.declared.fault.StoreFault.TheVariants as store_fault
 

@@ -22,7 +22,7 @@ use Rattle.flow_graph.proofs.StepLemmas.{cost, goes_on}
 use Rattle.statement.specs.Stated.{Stated}
 use Rattle.loop_bounds.specs.Bounds.{IsGreatestCost}
 use Rattle.longest_walk.specs.Visits.{visits_bound}
-use Rattle.arcwcet.specs.Keeping.{TakesAtMost}
+use Rattle.report_input.specs.Keeping.{TakesAtMost}
 use Rattle.arcwcet.specs.Visits.{AreVisits, BoundsVisitedRuns, FollowsVisited, IsVisit, MainStep, Visit, inputs_of, visits_before, visits_of}
 
 -- ## Parts of a run

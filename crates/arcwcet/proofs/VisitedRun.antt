@@ -24,7 +24,7 @@ use Rattle.arm2_exec.specs.declared.machine.Input.{Input}
 use Rattle.arm2_exec.specs.declared.machine.Ran.{Ran}
 use Rattle.arm2_exec.specs.declared.machine.Stepped.{Stepped}
 use Rattle.flow_graph.specs.StepLaw.{IsEdgeOf}
-use Rattle.arcwcet.specs.Keeping.{KeepsStatement}
+use Rattle.report_input.specs.Keeping.{KeepsStatement}
 use Rattle.arcwcet.specs.Visits.{HasVisitedRun, IsVisit, KeepsVisited, MainStep, Visit, inputs_of}
 use Rattle.arcwcet.proofs.OneWord as one
 use Rattle.arcwcet.proofs.OneWord.{goes_before}

@@ -13,15 +13,15 @@ use Rattle.statement.specs.declared.faults.StatementFault.TheVariants as stateme
 use Rattle.loop_bounds.specs.Bounds.{IsGreatestCost}
 use Rattle.longest_walk.specs.Visits.{visits_bound}
 use Rattle.numbered_walks.specs.declared.fault.WalkFault.TheVariants as walk_fault
-use Rattle.arcwcet.specs.Faults.{of_statement}
-use Rattle.arcwcet.specs.Report.{IsRefused, IsReport}
-use Rattle.arcwcet.specs.Source.{Said, source_of}
+use Rattle.report_output.specs.Faults.{of_statement}
+use Rattle.report_input.specs.Report.{IsRefused, IsReport}
+use Rattle.report_input.specs.Source.{Said, source_of}
 use Rattle.arcwcet.specs.VisitsReport.{AreAccepted, AreRefused, EntersElsewhere, HasBound, HasFiqBound, HaveReports, IsFiqRefused, IsVisitsReport, summary, total_of}
-use Rattle.arcwcet.specs.declared.fault.ReportFault.{ReportFault}
-use Rattle.arcwcet.specs.declared.fault.ReportFault.TheVariants.{Memory, Source, Image, Statement, Graph, Loops, Walk, MachineFile, Load, Cert, Device, NotFiqEntry}
-use Rattle.arcwcet.specs.declared.fault.ReportFault.TheVariants as report_fault
-use Rattle.arcwcet.proofs.HandlerLemmas.{one_graph, one_ok, same_statement, statement_refusal}
-use Rattle.arcwcet.proofs.ReportLemmas.{accepted_refusals, report_refusal}
+use Rattle.report_output.specs.declared.fault.ReportFault.{ReportFault}
+use Rattle.report_output.specs.declared.fault.ReportFault.TheVariants.{Memory, Source, Image, Statement, Graph, Loops, Walk, MachineFile, Load, Cert, Device, NotFiqEntry}
+use Rattle.report_output.specs.declared.fault.ReportFault.TheVariants as report_fault
+use Rattle.report_input.proofs.HandlerLemmas.{one_graph, one_ok, same_statement, statement_refusal}
+use Rattle.report_input.proofs.ReportLemmas.{accepted_refusals, report_refusal}
 use Rattle.arcwcet.proofs.VisitLemmas.{bounds_visited}
 
 -- two claims on an answer

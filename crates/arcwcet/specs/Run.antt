@@ -2,28 +2,29 @@
 use Rattle.std.specs.Prelude.{◌≡◌, ◌≢◌, ◌⊎◌, ◌≤◌, ℕ, Bool, true, false, if◌then◌else◌, List, [], ◌∷◌, length}
 use Rattle.std.specs.Prelude.{Option, Some, None, Result, Ok, Err}
 use Rattle.std.specs.Io.KnownBytes.{Appends, Consumes, IsAtEnd}
-use Rattle.arcwcet.specs.Answers.{FailsWithin, OfSome, Prints}
-use Rattle.arcwcet.specs.Assembly.{IsSourceRefused, IsWritten}
-use Rattle.arcwcet.specs.Check.{IsAnswer, IsCheckRefused}
-use Rattle.arcwcet.specs.Debug.{IsDebugReport}
+use Rattle.report_output.specs.Answers.{FailsWithin, OfSome, Prints}
+use Rattle.machine_reports.specs.Assembly.{IsSourceRefused, IsWritten}
+use Rattle.bound_reports.specs.Check.{IsAnswer, IsCheckRefused}
+use Rattle.machine_reports.specs.Debug.{IsDebugReport}
 use Rattle.arcwcet.specs.Files.{FailsToRead, ReadsAll, Reading, Texts, Writing, in_front}
 use Rattle.command_line.specs.Line.{Asked, asm, list, draft, run, trace, debug, bound, explain, tight}
 use Rattle.command_line.specs.Line.{ExplainOptions, check, follow, graph, visits}
-use Rattle.arcwcet.specs.DraftReport.{IsDraftRefused, IsDraftReport}
-use Rattle.arcwcet.specs.ExplainReport.{IsExplainReport}
-use Rattle.arcwcet.specs.FollowReport.{IsFollowRefused, IsFollowReport}
-use Rattle.arcwcet.specs.GraphReport.{IsGraphReport}
-use Rattle.arcwcet.specs.ListReport.{IsListReport}
-use Rattle.arcwcet.specs.Machine.{Front, IsMachineReport, IsRunRefused, ShowsRegisters, ShowsSteps}
-use Rattle.arcwcet.specs.Output.{TakesFront, FailsSince}
-use Rattle.arcwcet.specs.Priced.{ByProfile, PricedFault}
-use Rattle.arcwcet.specs.Report.{IsRefused, IsReport}
-use Rattle.arcwcet.specs.TightReport.{IsTightRefused, IsTightReport}
+use Rattle.author_reports.specs.DraftReport.{IsDraftRefused, IsDraftReport}
+use Rattle.author_reports.specs.ExplainReport.{IsExplainReport}
+use Rattle.author_reports.specs.FollowReport.{IsFollowRefused, IsFollowReport}
+use Rattle.author_reports.specs.GraphReport.{IsGraphReport}
+use Rattle.machine_reports.specs.ListReport.{IsListReport}
+use Rattle.report_input.specs.Placing.{IsRunRefused}
+use Rattle.machine_reports.specs.Machine.{Front, IsMachineReport, ShowsRegisters, ShowsSteps}
+use Rattle.report_output.specs.Output.{TakesFront, FailsSince}
+use Rattle.report_input.specs.Priced.{ByProfile, PricedFault}
+use Rattle.report_input.specs.Report.{IsRefused, IsReport}
+use Rattle.machine_reports.specs.TightReport.{IsTightRefused, IsTightReport}
 use Rattle.arcwcet.specs.VisitsReport.{AreRefused, IsVisitsReport}
 use Rattle.bus_ticks.specs.declared.profile.Profile.{Profile}
 use Rattle.explained.specs.declared.bursts.Bursts.{Bursts}
-use Rattle.arcwcet.specs.declared.fault.ReportFault.{ReportFault}
-use Rattle.arcwcet.specs.declared.fault.ReportFault.TheVariants as report_fault
+use Rattle.report_output.specs.declared.fault.ReportFault.{ReportFault}
+use Rattle.report_output.specs.declared.fault.ReportFault.TheVariants as report_fault
 use Rattle.arcwcet.specs.declared.fault.StoreFault.{StoreFault}
 use Rattle.arcwcet.specs.declared.fault.StoreFault.TheVariants as store_fault
 

@@ -15,7 +15,7 @@ use Rattle.flow_graph.specs.Graph.{IsFlowGraph}
 use Rattle.flow_graph.specs.StepLaw.{IsEdgeOf}
 use Rattle.flow_graph.specs.declared.edges.Edge.{Edge}
 use Rattle.statement.specs.Stated.{Stated}
-use Rattle.arcwcet.specs.Keeping.{HasKeptWalk, KeepsStatement, TakesAtMost}
+use Rattle.report_input.specs.Keeping.{HasKeptWalk, KeepsStatement, TakesAtMost}
 
 -- a visit of FIQ's handler, by its inputs: that of the step that takes FIQ, and those of the handler's steps
 pub record Visit : Type 0 where

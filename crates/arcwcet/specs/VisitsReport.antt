@@ -7,12 +7,12 @@ use Rattle.statement.specs.Stated.{Stated}
 use Rattle.statement.specs.Statement.{IsStatement, Names}
 use Rattle.longest_walk.specs.Visits.{visits_bound}
 use Rattle.numbered_walks.specs.declared.fault.WalkFault.TheVariants as walk_fault
-use Rattle.arcwcet.specs.Answers.{Answers}
-use Rattle.arcwcet.specs.Report.{IsAccepted, IsBoundReport, IsRefused, IsReport}
-use Rattle.arcwcet.specs.Source.{source_of}
+use Rattle.report_output.specs.Answers.{Answers}
+use Rattle.report_input.specs.Report.{IsAccepted, IsBoundReport, IsRefused, IsReport}
+use Rattle.report_input.specs.Source.{source_of}
 use Rattle.arcwcet.specs.Visits.{BoundsVisitedRuns}
-use Rattle.arcwcet.specs.declared.fault.ReportFault.{ReportFault}
-use Rattle.arcwcet.specs.declared.fault.ReportFault.TheVariants as report_fault
+use Rattle.report_output.specs.declared.fault.ReportFault.{ReportFault}
+use Rattle.report_output.specs.declared.fault.ReportFault.TheVariants as report_fault
 
 -- the number of visits, the bound of the interrupted handler, that of FIQ's, the price of taking FIQ, and the
 -- total, in ticks

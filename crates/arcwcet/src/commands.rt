@@ -5,28 +5,23 @@ ghost use Rattle.arcwcet.specs.Run.{RunsMachine};
 ghost use Rattle.arcwcet.specs.Run.{RunsDraft, RunsExplain, RunsFollow, RunsGraph, RunsTight};
 ghost use Rattle.arcwcet.specs.Run.{RunsVisits};
 
-use crate::assembly::image_written;
-use crate::bound::bound_report;
-use crate::check::check_report;
-use crate::debug::debug_report;
 use crate::diagnose::explained_status;
-use crate::draft::draft_report;
-use crate::explain::{Explained, explain_report};
-use crate::fault::ReportFault;
 use crate::files::{Store, read_limited, read_three_files, read_two_files};
-use crate::follow::{FollowedRun, follow_report};
-use crate::graph::graph_report;
-use crate::list::list_report;
-use crate::machine::{Front, Registers, Steps, machine_report};
-use crate::output::{Output, write_whole};
 use crate::status::{answer_status, done_status, line_status, report_status, store_status};
-use crate::tight::tight_report;
 use crate::visits::visits_report;
+use author_reports::{
+    Explained, FollowedRun, draft_report, explain_report, follow_report, graph_report,
+};
+use bound_reports::{bound_report, check_report};
 use command_line::{
     AsmNames, CheckNames, DraftNames, ExplainNames, FollowNames, Names, Request, TightNames,
     VisitsNames, request,
 };
 use explained::Bursts;
+use machine_reports::{
+    Front, Registers, Steps, debug_report, image_written, list_report, machine_report, tight_report,
+};
+use report_output::{Output, ReportFault, write_whole};
 use std::alloc::Global;
 use std::io::Read;
 

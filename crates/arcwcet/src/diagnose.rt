@@ -3,19 +3,20 @@
 ghost use Rattle.std.specs.Prelude.{◌≡◌};
 ghost use Rattle.arcwcet.specs.Run.{answer_status};
 
-use crate::explain::Explained;
-use crate::fault::ReportFault;
-use crate::handler::{StatedGraph, profile_of, read_graph, read_source};
-use crate::output::{Output, write_whole};
 use crate::status::{answer_status, report_status};
 use assembler::{Assembly, PlacedLine, placed_lines};
+use author_reports::Explained;
 use diagnosis::{
-    Program, Words, cycle_text, entry_text, extent_of, faulty_lines, faulty_text, mid_entry,
-    statement_text, unbounded_cycle, words_of,
+    Program, Words, calls_text, cycle_text, deep_calls, entry_text, extent_of, faulty_lines,
+    faulty_text, leads_text, mid_entry, statement_text, unbounded_cycle, word_text,
+    words_leading_to, words_of,
 };
-use flow_graph::StatementFault;
+use flow_graph::{BuildFault, Statement, StatementFault, read_statement};
 use loader::MAGIC;
 use loop_bounds::NestFault;
+use machine_reports::{StatedGraph, read_graph};
+use report_input::{profile_of, read_source};
+use report_output::{Output, ReportFault, write_whole};
 use std::alloc::{AllocError, Global};
 
 // Where the lines of a source stand. An image has none.
@@ -97,6 +98,49 @@ fn refused_statement(
     Ok(text)
 }
 
+// Of a handler that has no flow graph, the words that show why.
+fn graph_text(
+    alloc: Global,
+    words: &Words<'_>,
+    statement: &Statement,
+    fault: BuildFault,
+) -> Result<Vec<u8>, AllocError> {
+    match fault {
+        BuildFault::OutsideImage(at) => {
+            let leading = words_leading_to(alloc, words.image, statement, at)?;
+            leads_text(alloc, words, &leading)
+        }
+        BuildFault::UnallocatedWord(at)
+        | BuildFault::TrapInHandler(at)
+        | BuildFault::TargetNotWriter(at) => word_text(alloc, words, at),
+        BuildFault::TooDeep => {
+            let calls = deep_calls(alloc, words.image, statement)?;
+            calls_text(alloc, words, &calls)
+        }
+        BuildFault::Memory | BuildFault::TooManyPlaces => Ok(Vec::new(alloc)),
+    }
+}
+
+// The same, of the texts.
+fn refused_graph(
+    alloc: Global,
+    explained: Explained<'_>,
+    fault: BuildFault,
+) -> Result<Vec<u8>, ReportFault> {
+    let said = read_source(alloc, explained.source)?;
+    let statement = read_statement(alloc, explained.statement, &said.labels)?;
+    let placed = placed_in(alloc, explained.source)?;
+    let program = Program {
+        source: explained.source,
+        placed: &placed,
+        image: &said.image,
+        labels: &said.labels,
+    };
+    let words = words_of(alloc, &program)?;
+    let text = graph_text(alloc, &words, &statement, fault)?;
+    Ok(text)
+}
+
 // What shows why a handler is refused; nothing where only its one line does.
 fn refusal_text(
     alloc: Global,
@@ -107,6 +151,7 @@ fn refusal_text(
     match fault {
         ReportFault::Loops(fault) => refused_loops(alloc, explained, profile, fault),
         ReportFault::Statement(fault) => refused_statement(alloc, explained, fault),
+        ReportFault::Graph(fault) => refused_graph(alloc, explained, fault),
         ReportFault::Source(_) => {
             let lines = faulty_lines(alloc, explained.source)?;
             let text = faulty_text(alloc, &lines)?;

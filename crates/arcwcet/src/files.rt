@@ -1,5 +1,5 @@
 ghost use Rattle.std.specs.Prelude.{◌≡◌, ◌≤◌, ◌+◌, ℕ, List, [], ◌∷◌, length, vec_len, option_map};
-ghost use Rattle.std.specs.Prelude.{Result, IfErr, IfOk, IfSome, IsErrOf, OnErr, OnOk};
+ghost use Rattle.std.specs.Prelude.{Result, IfErr, IfOk, IfSome, IsErrOf, OnOk};
 ghost use Rattle.std.specs.Io.KnownBytes.{Consumes, IsAtEnd};
 ghost use Rattle.arcwcet.specs.Files.{FailsToRead, Reading, ReadsAll, Writing, in_front};
 ghost use Rattle.arcwcet.specs.Store.{bytes_read};

@@ -1,9 +1,9 @@
 ghost use Rattle.std.specs.Prelude.{◌≡◌, ◌≢◌, ◌⊎◌};
 ghost use Rattle.arcwcet.specs.Run.{answer_status, done_status, report_status, store_status};
 
-use crate::fault::{ReportFault, StoreFault};
-use crate::output::{Output, write_whole};
+use crate::fault::StoreFault;
 use command_line::LineFault;
+use report_output::{Output, ReportFault, write_whole};
 use std::fmt;
 use std::fmt::Write;
 

@@ -3,20 +3,19 @@ ghost use Rattle.std.specs.Prelude.{OnOk, option_map};
 ghost use Rattle.loader.specs.Labels.{address_of};
 ghost use Rattle.flow_graph.specs.Flow.{IsWellFormed};
 ghost use Rattle.longest_walk.specs.Visits.{visits_bound};
-ghost use Rattle.arcwcet.specs.Priced.{Priced};
-ghost use Rattle.arcwcet.specs.Report.{HasLoops, IsRefused, IsTreeOf};
-ghost use Rattle.arcwcet.specs.Source.{source_of};
+ghost use Rattle.report_input.specs.Priced.{Priced};
+ghost use Rattle.report_input.specs.Report.{HasLoops, IsRefused, IsTreeOf};
+ghost use Rattle.report_input.specs.Source.{source_of};
 ghost use Rattle.arcwcet.specs.VisitsReport.{AreRefused, HasBound, HasFiqBound, IsFiqRefused};
 ghost use Rattle.arcwcet.specs.VisitsReport.{IsVisitsReport, ReportsVisits, summary};
 
-use crate::bound::{BoundReport, longest_report};
-use crate::fault::ReportFault;
-use crate::handler::{Handler, handler_of, profile_of, read_source, stated_handler};
-use crate::output::{Output, write_whole};
 use assembler::Assembly;
+use bound_reports::{BoundReport, longest_report};
 use bus_ticks::{Profile, fiq_entry};
 use flow_graph::read_statement;
 use longest_walk::{WalkFault, visits_bound};
+use report_input::{Handler, handler_of, profile_of, read_source, stated_handler};
+use report_output::{Output, ReportFault, write_whole};
 use std::alloc::Global;
 use std::fmt::Write;
 

@@ -1,76 +1,117 @@
 -- Entries of loops elsewhere than at their headers.
-use Rattle.std.proofs.Common.{◌≡◌, ℕ, false, true, List, Some, None, refl, sym, ap, ◌∙◌, inl, inr, subst, ⊎_elim}
-use Rattle.std.specs.Prelude.{Contains, Ok, length}
-use Rattle.std.specs.List.Sorted.{IsBinarySearchResult, IsSearchInRange, IsStrictlySortedBy}
-use Rattle.std.proofs.lemmas.Bool.{false≢true}
+use Rattle.std.proofs.Common.{◌≡◌, ℕ, zero, suc, Bool, false, true, cond, List, [], ◌∷◌, ◌+◌, ◌<◌, ◌≤◌, length, get_or, Option, Some, None, refl, sym, ap, ◌∙◌, subst, inl, inr, ⊎_elim, arith}
+use Rattle.std.specs.Prelude.{Contains, not, ◌&&◌}
+use Rattle.std.specs.List.{find}
+use Rattle.std.proofs.lemmas.Bool.{and_parts, and_from, cases_lt, false≢true}
+use Rattle.std.proofs.lemmas.List.{get_or_default}
 use Rattle.flow_graph.specs.declared.places.Place.{Place}
 use Rattle.flow_graph.specs.declared.places.Place.TheVariants.{At, Exit}
 use Rattle.flow_graph.specs.declared.edges.Edge.{Edge}
 use Rattle.flow_graph.specs.Flow.{Flow, HasEdge, IsWellFormed}
-use Rattle.flow_graph.specs.Places.{place_cmp}
-use Rattle.flow_graph.specs.Search.{by_order}
 use Rattle.statement.specs.declared.stated.Loop.{Loop}
-use Rattle.loop_bounds.specs.declared.loop_instances.Found.{Found}
 use Rattle.loop_bounds.specs.Extents.{found_instance}
-use Rattle.loop_bounds.specs.Instance.{IsInstance, instance_of, is_header, is_member}
-use Rattle.loop_bounds.specs.Nest.{HasMidEntry}
-use Rattle.loop_bounds.proofs.Positions.{known}
-use Rattle.diagnosis.specs.Entries.{IsInside, IsMidEntry}
+use Rattle.loop_bounds.specs.Instance.{Instance, IsInstance, instance_of, is_header, is_member}
+use Rattle.loop_bounds.specs.Nest.{HasMidEntry, IsEntered}
+use Rattle.diagnosis.specs.Entries.{AreRightlyEntered, IsEnteredBy, IsMidEntry, IsMidOf, IsRightlyEntered, enters_mid, is_mid}
 use Rattle.diagnosis.specs.declared.entries.MidEntry.{MidEntry}
 
--- a place whose header the graph has
-pub inside : (flow : Flow) (well_formed : IsWellFormed flow) (places : List Place) → places ≡ flow.places → (found : Found) (place : Place) (at : ℕ)
-    → IsSearchInRange (Ok at) (length places) → IsBinarySearchResult (λ y. by_order y (At found.list found.stated.header)) places (Ok at)
-    → is_member (found_instance found) place ≡ true → is_header (found_instance found) place ≡ false → IsInside flow found place
-inside flow well_formed places same found place at range found_at member no_header = record {
-  reached = subst (λ (ps : List Place). Contains ps (At found.list found.stated.header)) same
-      ((known places (At found.list found.stated.header) (Ok at) (subst (IsStrictlySortedBy place_cmp) (sym same) well_formed.ordered) range found_at).0 refl);
-  member = member;
-  no_header = no_header;
-}
+-- what no search finds passes nowhere
+pub find_none : {X : Type 0} (p : X → Bool) (xs : List X) (x : X) → find p xs ≡ None → Contains xs x → p x ≡ false
+find_none p [] x none has = absurd (omega (arith, has.1))
+find_none {X} p (y ∷ ys) x none (zero, lt, same) =
+    elim (p y) as (λ v. p y ≡ v → cond v (Some y) (find p ys) ≡ None → p x ≡ false) [
+      | true ↦ λ passes found. absurd cc
+      | false ↦ λ fails found. subst (λ (z : X). p z ≡ false) same fails
+    ] refl none
+find_none {X} p (y ∷ ys) x none (suc j, lt, same) =
+    elim (p y) as (λ v. p y ≡ v → cond v (Some y) (find p ys) ≡ None → p x ≡ false) [
+      | true ↦ λ passes found. absurd cc
+      | false ↦ λ fails found. find_none p ys x found (j, omega (arith, lt), same)
+    ] refl none
 
-module _ (flow : Flow) (loops : List Loop) (well_formed : IsWellFormed flow) (found : Found) (stated : Loop) (listed : Contains loops stated) (is : found.stated ≡ stated) where
-  instance_is : (place : Place) → IsInside flow found place → IsInstance flow loops (found_instance found)
-  instance_is place inside = record {
-    stated_loop = stated;
-    stated = listed;
-    reached = inside.reached;
-    parts = ap (λ (l : Loop). instance_of l found.list) is;
-  }
+not_true : (b : Bool) → not b ≡ true → b ≡ false
+not_true false is = refl
+not_true true is = absurd (false≢true is)
 
-  -- where the handler begins
-  pub begins : (place : Place) → place ≡ flow.entry → IsInside flow found place → IsMidEntry flow loops (record { edge = None; place = place; instance = found })
-  begins place at inside = record {
-    mid = record {
-      instance = found_instance found;
-      is = instance_is place inside;
-      place = place;
-      has = subst (Contains flow.places) (sym at) well_formed.entry_in;
-      member = inside.member;
-      no_header = inside.no_header;
-      entered = inl at;
-    };
-    instance_is = refl;
-    place_is = refl;
-    entered_by = at;
-  }
+-- what a place is that is entered so
+pub entered_parts : (flow : Flow) (i : Instance) (place : Place) (edge : Option Edge) → IsMidOf flow i place edge → (is_mid i place ≡ true) × IsEnteredBy flow i place edge
+entered_parts flow i place None mid = (mid.1, mid.0)
+entered_parts flow i place (Some e) mid =
+    let parts = and_parts (is_mid i e.to) (not (is_member i e.from)) mid.2 in
+    (subst (λ (p : Place). is_mid i p ≡ true) mid.1 parts.0, (mid.0, mid.1, not_true (is_member i e.from) parts.1))
 
-  -- where an edge leads from no member
-  pub enters : (e : Edge) → HasEdge flow e → IsInside flow found e.to → is_member (found_instance found) e.from ≡ false → IsMidEntry flow loops (record { edge = Some e; place = e.to; instance = found })
-  enters e has inside outside = record {
-    mid = record {
-      instance = found_instance found;
-      is = instance_is e.to inside;
-      place = e.to;
-      has = ⊎_elim
-          (λ (gone : e.to ≡ Exit). absurd (false≢true (ap (is_member (found_instance found)) (sym gone) ∙ inside.member)))
-          (λ (there : Contains flow.places e.to). there)
-          (well_formed.ends e has);
-      member = inside.member;
-      no_header = inside.no_header;
-      entered = inr (e, has, refl, outside);
-    };
-    instance_is = refl;
-    place_is = refl;
-    entered_by = (has, refl, outside);
-  }
+is_entered : (flow : Flow) (i : Instance) (place : Place) (edge : Option Edge) → IsEnteredBy flow i place edge → IsEntered flow i place
+is_entered flow i place None at = inl at
+is_entered flow i place (Some e) by = inr (e, by.0, by.1, by.2)
+
+is_place : (flow : Flow) → IsWellFormed flow → (i : Instance) (place : Place) (edge : Option Edge) → is_member i place ≡ true → IsEnteredBy flow i place edge → Contains flow.places place
+is_place flow well_formed i place None member at = subst (Contains flow.places) (sym at) well_formed.entry_in
+is_place flow well_formed i place (Some e) member by = ⊎_elim
+    (λ (out : e.to ≡ Exit). absurd (false≢true (ap (is_member i) (sym out ∙ by.1) ∙ member)))
+    (λ (there : Contains flow.places e.to). subst (Contains flow.places) by.1 there)
+    (well_formed.ends e by.0)
+
+-- of an instance that is entered so
+pub mid_of : (flow : Flow) (loops : List Loop) → IsWellFormed flow → (i : Instance) → IsInstance flow loops i → (place : Place) (edge : Option Edge) → IsMidOf flow i place edge
+    → (m : HasMidEntry flow loops) × (m.instance ≡ i) × (m.place ≡ place) × IsEnteredBy flow i place edge
+mid_of flow loops well_formed i is place edge mid =
+    let at = entered_parts flow i place edge mid in
+    let parts = and_parts (is_member i place) (not (is_header i place)) at.0 in (
+      record {
+        instance = i;
+        is = is;
+        place = place;
+        has = is_place flow well_formed i place edge parts.0 at.1;
+        member = parts.0;
+        no_header = not_true (is_header i place) parts.1;
+        entered = is_entered flow i place edge at.1;
+      },
+      refl,
+      refl,
+      at.1,
+    )
+
+-- no instance is entered so where those with each header are not
+pub none_entered : (flow : Flow) (loops : List Loop) → ((header : Place) → Contains flow.places header → AreRightlyEntered flow loops header) → HasMidEntry flow loops → ⊥
+none_entered flow loops each m =
+    let i = m.instance in
+    let l = m.is.stated_loop in
+    let h : l.header ≡ i.header = ap (λ (x : Instance). x.header) (sym m.is.parts) in
+    let right : IsRightlyEntered flow (instance_of l i.list) = each (At i.list i.header) m.is.reached l i.list m.is.stated (ap (At i.list) (sym h)) in
+    let rightly : IsRightlyEntered flow i = subst (IsRightlyEntered flow) (sym m.is.parts) right in
+    let mid : is_mid i m.place ≡ true = and_from (is_member i m.place) (not (is_header i m.place)) m.member (ap not m.no_header) in
+    ⊎_elim
+    (λ (begins : m.place ≡ flow.entry). false≢true (sym rightly.entry ∙ ap (is_mid i) (sym begins) ∙ mid))
+    (λ by. false≢true (sym (rightly.edges by.0 by.1) ∙ and_from (is_mid i (by.0).to) (not (is_member i (by.0).from)) (ap (is_mid i) by.2 ∙ mid) (ap not by.3)))
+    m.entered
+
+-- the first element of the rest, or one of those before
+pub one_more : {X : Type 0} (P : X → Type 0) (xs : List X) (i : ℕ) (d : X) → i < length xs → P (get_or xs i d) → ((k : ℕ) (x : X) → k < i → get_or xs k x ≡ x → P x) → (k : ℕ) (x : X) → k < i + 1 → get_or xs k x ≡ x → P x
+one_more P xs i d lt here before k x less is = ⊎_elim
+    (λ (l : k < i). before k x l is)
+    (λ (ge : i ≤ k).
+    let same : k ≡ i = omega (arith, less, ge) in
+    subst P (get_or_default xs i d x lt ∙ ap (λ (n : ℕ). get_or xs n x) (sym same) ∙ is) here)
+    (cases_lt k i)
+
+pub same_at : (list other : List ℕ) (a b : ℕ) → At list a ≡ At other b → (list ≡ other) × (a ≡ b)
+same_at list other a b is = (cc, cc)
+
+-- an entry of an instance with a header
+pub mid_at : (flow : Flow) (loops : List Loop) → IsWellFormed flow → (header : Place) → Contains flow.places header → (list : List ℕ) (address : ℕ) → header ≡ At list address
+    → (l : Loop) → Contains loops l → l.header ≡ address → (m : MidEntry) → m.instance ≡ record { list = list; stated = l } → IsMidOf flow (instance_of l list) m.place m.edge → IsMidEntry flow loops m
+mid_at flow loops well_formed header has list address at l stated header_is m instance entry =
+    let is : IsInstance flow loops (instance_of l list) = record {
+      stated_loop = l;
+      stated = stated;
+      reached = subst (Contains flow.places) (at ∙ ap (At list) (sym header_is)) has;
+      parts = refl;
+    } in
+    let found : instance_of l list ≡ found_instance m.instance = ap found_instance (sym instance) in
+    let mid = mid_of flow loops well_formed (instance_of l list) is m.place m.edge entry in
+    record {
+      mid = mid.0;
+      instance_is = mid.1 ∙ found;
+      place_is = mid.2;
+      entered_by = subst (λ (i : Instance). IsEnteredBy flow i m.place m.edge) found mid.3;
+    }

@@ -1,5 +1,7 @@
 mod CycleLemmas
 mod EntryLemmas
 mod ExtentLemmas
+mod LineLemmas
 mod RowLaws
+mod SearchLemmas
 mod TextLaws

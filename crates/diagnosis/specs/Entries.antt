@@ -1,13 +1,12 @@
 -- An entry of a loop elsewhere than at its header.
-use Rattle.std.specs.Prelude.{◌≡◌, false, true, List, Contains, Option, Some, None}
+use Rattle.std.specs.Prelude.{◌≡◌, ◌&&◌, not, Bool, false, true, ℕ, List, Contains, Option, Some, None}
 use Rattle.flow_graph.specs.declared.places.Place.{Place}
 use Rattle.flow_graph.specs.declared.places.Place.TheVariants.{At}
 use Rattle.flow_graph.specs.declared.edges.Edge.{Edge}
 use Rattle.flow_graph.specs.Flow.{Flow, HasEdge}
 use Rattle.statement.specs.declared.stated.Loop.{Loop}
-use Rattle.loop_bounds.specs.declared.loop_instances.Found.{Found}
 use Rattle.loop_bounds.specs.Extents.{found_instance}
-use Rattle.loop_bounds.specs.Instance.{Instance, is_header, is_member}
+use Rattle.loop_bounds.specs.Instance.{Instance, instance_of, is_header, is_member}
 use Rattle.loop_bounds.specs.Nest.{HasMidEntry}
 use Rattle.diagnosis.specs.declared.entries.MidEntry.{MidEntry}
 
@@ -23,10 +22,28 @@ pub record IsMidEntry (flow : Flow) (loops : List Loop) (m : MidEntry) : Type 0 
   pub place_is : mid.place ≡ m.place
   pub entered_by : IsEnteredBy flow (found_instance m.instance) m.place m.edge
 
--- ## Finding it
+-- ## Of one instance, which clauses of private calls speak of
 
--- the place is a member of the instance but not its header, and the graph has that header
-pub record IsInside (flow : Flow) (found : Found) (place : Place) : Type 0 where
-  pub reached : Contains flow.places (At found.list found.stated.header)
-  pub member : is_member (found_instance found) place ≡ true
-  pub no_header : is_header (found_instance found) place ≡ false
+-- a member elsewhere than at the header
+abbrev pub is_mid : Instance → Place → Bool
+is_mid i p = is_member i p && not (is_header i p)
+
+-- to such a place from no member
+abbrev pub enters_mid : Instance → Edge → Bool
+enters_mid i e = is_mid i e.to && not (is_member i e.from)
+
+-- so the handler begins at the place, or the edge leads to it
+abbrev pub IsMidOf : Flow → Instance → Place → Option Edge → Type 0
+IsMidOf flow i place None = (place ≡ flow.entry) × (is_mid i place ≡ true)
+IsMidOf flow i place (Some e) = HasEdge flow e × (e.to ≡ place) × (enters_mid i e ≡ true)
+
+-- neither the handler's begin nor an edge enters the instance so
+pub record IsRightlyEntered (flow : Flow) (i : Instance) : Type 0 where
+  pub entry : is_mid i flow.entry ≡ false
+  pub edges : (e : Edge) → HasEdge flow e → enters_mid i e ≡ false
+
+-- nor one of the loops' instances whose header is the place
+abbrev pub AreRightlyEntered : Flow → List Loop → Place → Type 0
+AreRightlyEntered flow loops header =
+    (l : Loop) (list : List ℕ) → Contains loops l → header ≡ At list l.header
+    → IsRightlyEntered flow (instance_of l list)

@@ -1,7 +1,7 @@
 -- The extent of a cycle in the routine of its first place.
 use Rattle.std.specs.Prelude.{◌≡◌, ◌⊎◌, ℕ, ◌≤◌, List, [], ◌∷◌, Contains}
 use Rattle.flow_graph.specs.declared.places.Place.{Place}
-use Rattle.flow_graph.specs.declared.places.Place.TheVariants.{At}
+use Rattle.flow_graph.specs.declared.places.Place.TheVariants.{At, Exit}
 use Rattle.flow_graph.specs.declared.edges.Edge.{Edge}
 use Rattle.diagnosis.specs.declared.extents.Extent.{Extent}
 
@@ -21,7 +21,12 @@ pub record IsExtentOf (edges : List Edge) (extent : Extent) : Type 0 where
   pub greatest : IsLeft edges list extent.last
   pub within : (a : ℕ) → IsLeft edges list a → (extent.first ≤ a) × (a ≤ extent.last)
 
--- ## Finding it
+-- there is no edge, or the first begins at Exit
+abbrev pub HasNoStart : List Edge → Type 0
+HasNoStart [] = Unit {0}
+HasNoStart (start ∷ rest) = start.from ≡ Exit
+
+-- ## Edge by edge, which clauses of private calls speak of
 
 -- the extent holds these addresses too, and ends at one of them where it ends elsewhere than before
 pub record WidensTo (IsNew : ℕ → Type 0) (old new : Extent) : Type 0 where

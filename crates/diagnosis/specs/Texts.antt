@@ -1,12 +1,17 @@
 -- What is printed of a cycle and of an entry. Our own format.
-use Rattle.std.specs.Prelude.{◌≡◌, ℕ, List, ◌++◌, codes, Option, Some, None}
+use Rattle.std.specs.Prelude.{◌≡◌, ℕ, List, [], ◌∷◌, ◌++◌, codes, decimal, Option, Some, None}
 use Rattle.std.specs.BTreeMap.{BTreeMap}
+use Rattle.assembler.specs.declared.fault.Fault.{Fault}
+use Rattle.assembler.specs.declared.fault.Fault.TheVariants.{NotText, UnknownWord, BadOperand}
+use Rattle.assembler.specs.declared.fault.Fault.TheVariants.{ImmediateNotRotated, BranchTooFar, LabelTwice}
+use Rattle.assembler.specs.declared.fault.Fault.TheVariants.{LabelMissing, OutOfRange, Unallocated, TooLong}
 use Rattle.flow_graph.specs.declared.edges.Edge.{Edge}
 use Rattle.flow_graph.specs.declared.places.Place.{Place}
 use Rattle.diagnosis.specs.Lines.{line_at}
 use Rattle.diagnosis.specs.Rows.{AreRows, IsPlaceRow, IsRow, name_text}
 use Rattle.diagnosis.specs.declared.entries.MidEntry.{MidEntry}
 use Rattle.diagnosis.specs.declared.extents.Extent.{Extent}
+use Rattle.diagnosis.specs.declared.sources.FaultyLine.{FaultyLine}
 use Rattle.diagnosis.specs.declared.words.SourceLine.{SourceLine}
 use Rattle.diagnosis.specs.declared.words.Words.{Words}
 
@@ -59,3 +64,38 @@ pub record IsEntryText (words : Words) (entry : MidEntry) (text : List ℕ) : Ty
   pub is_front : IsEntryFront words entry.place entry.edge front
   pub is_row : IsRow words entry.instance.stated.header row
   pub text_is : text ≡ front ++ (codes "The loop's header:\n" ++ row)
+
+-- ## Words of a handler without a graph
+
+-- above nine calls
+abbrev pub nine : List ℕ
+nine = codes "Nine calls, each inside the one before it; eight is the most:\n"
+
+-- above words that lead to an address
+abbrev pub leads : List ℕ
+leads = codes "No word stands there. These lead to it:\n"
+
+-- the rows of words under a line; nothing where there are none
+abbrev pub IsListed : Words → List ℕ → List ℕ → List ℕ → Type 0
+IsListed words heading [] text = text ≡ []
+IsListed words heading (at ∷ named) text =
+    (rows : List ℕ) × AreRows (IsRow words) (at ∷ named) rows × (text ≡ heading ++ rows)
+
+-- ## Lines that cannot be assembled
+
+abbrev pub fault_name : Fault → List ℕ
+fault_name NotText = codes "NotText"
+fault_name UnknownWord = codes "UnknownWord"
+fault_name BadOperand = codes "BadOperand"
+fault_name ImmediateNotRotated = codes "ImmediateNotRotated"
+fault_name BranchTooFar = codes "BranchTooFar"
+fault_name LabelTwice = codes "LabelTwice"
+fault_name LabelMissing = codes "LabelMissing"
+fault_name OutOfRange = codes "OutOfRange"
+fault_name Unallocated = codes "Unallocated"
+fault_name TooLong = codes "TooLong"
+
+-- a line of text on such a line: its number, and what is wrong with it
+abbrev pub IsFaultyRow : FaultyLine → List ℕ → Type 0
+IsFaultyRow line row =
+    row ≡ codes "line " ++ (decimal line.number ++ (codes ": " ++ (fault_name line.fault ++ codes "\n")))

@@ -1,6 +1,10 @@
-ghost use Rattle.std.specs.Prelude.{◌≡◌, IfSome};
-ghost use Rattle.flow_graph.specs.Flow.{HasEdge, IsWellFormed};
-ghost use Rattle.diagnosis.specs.Entries.{IsInside, IsMidEntry};
+ghost use Rattle.std.specs.Prelude.{◌≡◌, Contains, IfNone, IfSome, option_map};
+ghost use Rattle.std.specs.List.{find};
+ghost use Rattle.flow_graph.specs.Flow.{IsWellFormed};
+ghost use Rattle.loop_bounds.specs.Extents.{found_instance};
+ghost use Rattle.loop_bounds.specs.Nest.{HasMidEntry};
+ghost use Rattle.diagnosis.specs.Entries.{AreRightlyEntered, IsMidEntry, IsMidOf, IsRightlyEntered};
+ghost use Rattle.diagnosis.specs.Entries.{enters_mid, is_mid};
 
 use crate::members::{is_header, is_member};
 use flow_graph::{Edge, Graph, Loop, Place};
@@ -17,78 +21,77 @@ pub struct MidEntry {
     pub instance: Found,
 }
 
-// The instance of a loop that the place is a member of but for its header, and that has these calls.
-fn instance_at(graph: &Graph, stated: &Loop, place: &Place) -> Option<Found>
-    ensures stated { IfSome result (λ found. found.stated ≡ stated.now) }
-    ensures inside { IfSome result (λ found. IsInside graph.now found place.now) }
+// Whether the place is a member of the instance elsewhere than at its header.
+fn is_mid(instance: &Found, place: &Place) -> bool
+    ensures { result ≡ is_mid (found_instance instance.now) place.now }
 {
-    let Place::At(list, _) = place else {
-        return None;
-    };
-    let found = Found {
-        list: *list,
-        stated: *stated,
-    };
-    if !is_member(&found, place) || is_header(&found, place) {
-        return None;
-    }
-    let header = Place::At(*list, stated.header);
-    match graph.places().binary_search(&header) {
-        Ok(_) => Some(found),
-        Err(_) => None,
-    }
+    is_member(instance, place) && !is_header(instance, place)
 }
 
-// The loop that the handler begins in, elsewhere than at its header.
-fn entry_within(graph: &Graph, loops: &[Loop]) -> Option<MidEntry>
-    ensures { IfSome result (IsMidEntry graph.now loops.now) }
+// The first edge that leads to such a place from no member.
+fn entering<'a>(graph: &'a Graph, instance: &Found) -> Option<&'a Edge>
+    ensures { option_map (λ edge. edge.now) result
+        ≡ find (enters_mid (found_instance instance.now)) graph.now.edges }
+{
+    let edges = graph.edges();
+    edges.iter().find(|edge| is_mid(instance, &edge.to) && !is_member(instance, &edge.from))
+}
+
+// Where the instance is entered elsewhere than at its header.
+fn entry_of(graph: &Graph, instance: Found) -> Option<MidEntry>
+    ensures instance { IfSome result (λ m. m.instance ≡ instance) }
+    ensures entry { IfSome result (λ m. IsMidOf graph.now (found_instance instance) m.place m.edge) }
+    ensures none { IfNone result (IsRightlyEntered graph.now (found_instance instance)) }
 {
     let place = graph.entry();
-    for stated in loops {
-        if let Some(instance) = instance_at(graph, stated, &place) {
-            return Some(MidEntry {
-                edge: None,
-                place,
-                instance,
-            });
-        }
+    if is_mid(&instance, &place) {
+        return Some(MidEntry {
+            edge: None,
+            place,
+            instance,
+        });
     }
-    None
+    let edge = entering(graph, &instance)?;
+    Some(MidEntry {
+        edge: Some(*edge),
+        place: edge.to,
+        instance,
+    })
 }
 
-// The loop that the edge enters elsewhere than at its header.
-fn entered_by(graph: &Graph, loops: &[Loop], edge: &Edge) -> Option<MidEntry>
+// The same of the instances whose header is the place.
+fn entry_at(graph: &Graph, loops: &[Loop], header: &Place) -> Option<MidEntry>
     requires well_formed { IsWellFormed graph.now }
-    requires has { HasEdge graph.now edge.now }
-    ensures { IfSome result (IsMidEntry graph.now loops.now) }
+    requires has { Contains graph.now.places header.now }
+    ensures entry { IfSome result (IsMidEntry graph.now loops.now) }
+    ensures none { IfNone result (AreRightlyEntered graph.now loops.now header.now) }
 {
+    let Place::At(list, address) = header else {
+        return None;
+    };
     for stated in loops {
-        if let Some(instance) = instance_at(graph, stated, &edge.to) {
-            if !is_member(&instance, &edge.from) {
-                return Some(MidEntry {
-                    edge: Some(*edge),
-                    place: edge.to,
-                    instance,
-                });
-            }
+        if stated.header != *address {
+            continue;
+        }
+        let instance = Found {
+            list: *list,
+            stated: *stated,
+        };
+        if let Some(entry) = entry_of(graph, instance) {
+            return Some(entry);
         }
     }
     None
 }
 
 /// Where an instance of a loop is entered elsewhere than at its header: where the handler begins, or by an
-/// edge of the graph.
-///
-/// The clause says that what is answered is such an entry. That one is found wherever there is one is tested
-/// only.
+/// edge of the graph. None where each is entered at its header alone.
 pub fn mid_entry(graph: &Graph, loops: &[Loop]) -> Option<MidEntry>
-    ensures { IfSome result (IsMidEntry graph.now loops.now) }
+    ensures entry { IfSome result (IsMidEntry graph.now loops.now) }
+    ensures none { IfNone result (HasMidEntry graph.now loops.now → ⊥) }
 {
-    if let Some(entry) = entry_within(graph, loops) {
-        return Some(entry);
-    }
-    for edge in graph.edges() {
-        if let Some(entry) = entered_by(graph, loops, edge) {
+    for header in graph.places() {
+        if let Some(entry) = entry_at(graph, loops, header) {
             return Some(entry);
         }
     }

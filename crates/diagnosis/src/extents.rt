@@ -1,6 +1,6 @@
-ghost use Rattle.std.specs.Prelude.{◌≡◌, IfSome};
+ghost use Rattle.std.specs.Prelude.{◌≡◌, IfNone, IfSome};
 ghost use Rattle.flow_graph.specs.declared.places.Place.TheVariants.{At};
-ghost use Rattle.diagnosis.specs.Extents.{IsExtentOf, WidensTo};
+ghost use Rattle.diagnosis.specs.Extents.{HasNoStart, IsExtentOf, WidensTo};
 
 use crate::members::are_same;
 use flow_graph::{Calls, Edge, Place};
@@ -42,7 +42,8 @@ fn widened(extent: Extent, list: Calls, place: &Place) -> Extent
 
 /// The extent of a cycle, whose header is its first place. None where it has no edge, or begins at Exit.
 pub fn extent_of(cycle: &[Edge]) -> Option<Extent>
-    ensures { IfSome result (λ extent. IsExtentOf cycle.now extent) }
+    ensures extent { IfSome result (λ extent. IsExtentOf cycle.now extent) }
+    ensures none { IfNone result (HasNoStart cycle.now) }
 {
     let start = cycle.first()?;
     let Place::At(list, header) = start.from else {

@@ -8,9 +8,9 @@ use flow_graph::{Calls, Edge, Loop, Place, order_of_places};
 use loop_bounds::Found;
 use std::cmp::Ordering;
 
-/// Whether that is so tells that the two are one place.
+/// Whether the two are one place.
 pub(crate) fn is_same(place: &Place, other: &Place) -> bool
-    ensures { result ≡ true → place.now ≡ other.now }
+    ensures { MatchBool result (place.now ≡ other.now) (place.now ≢ other.now) }
 {
     order_of_places();
     match place.cmp(other) {

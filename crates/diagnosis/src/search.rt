@@ -1,163 +1,183 @@
-use crate::members::turns_back;
-use flow_graph::{Graph, Loop, Place};
+ghost use Rattle.std.specs.Prelude.{◌≡◌, ◌+◌, ◌<◌, ◌≤◌, ◌⊎◌, Contains, IfNone, IfOk, IfSome, List};
+ghost use Rattle.std.specs.Prelude.{[], MatchBool, OnOk, length, replicate, slice_index, slice_set, true};
+ghost use Rattle.flow_graph.specs.declared.places.Place.TheVariants.{Exit};
+ghost use Rattle.flow_graph.specs.Flow.{Flow, HasEdge, IsWellFormed};
+ghost use Rattle.flow_graph.specs.Places.{place_at};
+ghost use Rattle.statement.specs.declared.stated.Loop.{Loop};
+ghost use Rattle.loop_bounds.specs.Nest.{IsPlainEdge};
+ghost use Rattle.diagnosis.specs.Cycles.{EndsCleared, IsCleared, IsClosed, IsCycleOf, IsEnded, IsIdle, IsOpen};
+ghost use Rattle.diagnosis.specs.Cycles.{IsSearching, LeadToCleared, steps_left};
+
+use crate::members::{is_same, turns_back};
+use flow_graph::{Edge, Graph, Loop, Place};
 use std::alloc::{AllocError, Global};
 
-/// How far the search is at a place.
-#[derive(Clone, Copy, PartialEq, Eq)]
-enum Colour {
-    /// Not met.
-    White,
-    /// On the path.
-    Grey,
-    /// All that it leads to is met.
-    Black,
-}
-
-/// A place on the path, by its index, and the number of the edge that it follows next.
-#[derive(Clone, Copy)]
-struct Stop {
-    place: usize,
-    next: usize,
-}
-
-// A depth-first search along the edges that are no back edges.
+/// A depth-first search for a cycle, along the edges that are no back edges.
 #[derive(Drop)]
-struct Search<'a> {
-    graph: &'a Graph,
-    loops: &'a [Loop],
-    colours: Vec<Colour>,
-    path: Vec<Stop>,
+pub(crate) struct Search {
+    // of each place, and then of Exit: 0 where no cycle goes through it, 1 on the path, 2 elsewhere
+    marks: Vec<u8>,
+    // where the path begins, and its edges
+    start: Place,
+    path: Vec<Edge>,
+    // the index of the place where it ends
+    at: usize,
 }
 
-impl Search<'_> {
-    fn colour(&self, place: usize) -> Colour {
-        match self.colours.get(place) {
-            Some(colour) => *colour,
-            None => Colour::Black,
-        }
-    }
-
-    fn paint(&mut self, place: usize, colour: Colour) {
-        if let Some(old) = self.colours.get_mut(place) {
-            *old = colour;
-        }
-    }
-
-    // Goes on to a place.
-    fn enter(&mut self, place: usize) -> Result<(), AllocError> {
-        if let Some(first) = self.graph.firsts().get(place) {
-            self.paint(place, Colour::Grey);
-            self.path.push(Stop {
-                place,
-                next: *first,
-            })?;
-        }
-        Ok(())
-    }
-
-    // The place to which the edge of a number leads, by its index, if it is no back edge.
-    fn end_of(&self, number: usize) -> Option<usize> {
-        let edge = self.graph.edges().get(number)?;
-        if turns_back(self.loops, edge) {
-            return None;
-        }
-        self.graph.places().binary_search(&edge.to).ok()
-    }
-
-    // The number after that of the last edge of a place.
-    fn end(&self, place: usize) -> usize {
-        match self.graph.firsts().get(place.saturating_add(1)) {
-            Some(end) => *end,
-            None => 0,
-        }
-    }
-
-    // Follows an edge more of the last place of the path, or leaves that place. The place on the path to which
-    // the edge leads back, if it does.
-    fn step(&mut self) -> Result<Option<usize>, AllocError> {
-        let Some(stop) = self.path.pop() else {
-            return Ok(None);
-        };
-        if stop.next >= self.end(stop.place) {
-            self.paint(stop.place, Colour::Black);
-            return Ok(None);
-        }
-        self.path.push(Stop {
-            place: stop.place,
-            next: stop.next + 1,
-        })?;
-        let Some(to) = self.end_of(stop.next) else {
-            return Ok(None);
-        };
-        match self.colour(to) {
-            Colour::White => {
-                self.enter(to)?;
-                Ok(None)
-            }
-            Colour::Grey => Ok(Some(to)),
-            Colour::Black => Ok(None),
-        }
-    }
-
-    // The numbers of the edges of the path from a place on.
-    fn edges_from(&self, alloc: Global, place: usize) -> Result<Vec<usize>, AllocError> {
-        let mut numbers = Vec::new(alloc);
-        for stop in &self.path {
-            if stop.place == place || !numbers.is_empty() {
-                numbers.push(stop.next.saturating_sub(1))?;
-            }
-        }
-        Ok(numbers)
-    }
-
-    // Visits a place and all to which it leads, in no more steps than that takes. The edges of a cycle, if one
-    // is met, else none.
-    fn visit(&mut self, alloc: Global, root: usize) -> Result<Vec<usize>, AllocError> {
-        let steps = self
-            .graph
-            .edges()
-            .len()
-            .saturating_add(self.graph.places().len());
-        self.enter(root)?;
-        for _ in 0..steps {
-            if self.path.is_empty() {
-                break;
-            }
-            if let Some(place) = self.step()? {
-                return self.edges_from(alloc, place);
-            }
-        }
-        Ok(Vec::new(alloc))
-    }
-}
-
-/// The numbers of the edges of a cycle without a back edge, in their order from the place that the search
-/// comes to first, or none. The search begins at the graph's entry.
-pub(crate) fn cycle_numbers(
-    alloc: Global,
-    graph: &Graph,
-    loops: &[Loop],
-) -> Result<Vec<usize>, AllocError> {
+// The index of a place among the graph's; that of Exit stands after them.
+fn index_of(graph: &Graph, place: &Place) -> usize
+    requires { (place.now ≡ Exit) ⊎ Contains graph.now.places place.now }
+    ensures number { place_at graph.now.places result ≡ place.now }
+    ensures most { result ≤ length graph.now.places }
+    ensures inside { Contains graph.now.places place.now → result < length graph.now.places }
+{
     let places = graph.places();
-    let mut search = Search {
-        graph,
-        loops,
-        colours: vec![in alloc; Colour::White; places.len()]?,
-        path: Vec::new(alloc),
-    };
-    let entry: Place = graph.entry();
-    let first = places.binary_search(&entry).unwrap_or(0);
-    let found = search.visit(alloc, first)?;
-    if !found.is_empty() {
-        return Ok(found);
+    places.binary_search(place).unwrap_or(places.len())
+}
+
+// The index of the place where the edge ends, if that is not cleared and the edge is no back edge.
+fn open_end(graph: &Graph, loops: &[Loop], marks: &[u8], edge: &Edge) -> Option<usize>
+    requires well_formed { IsWellFormed graph.now }
+    requires has { HasEdge graph.now edge.now }
+    requires whole { length marks.now ≡ length graph.now.places + 1 }
+    ensures open { IfSome result (IsOpen graph.now loops.now marks.now edge.now) }
+    ensures cleared { IfNone result
+        (IsPlainEdge graph.now loops.now edge.now → EndsCleared graph.now loops.now marks.now edge.now) }
+{
+    if turns_back(loops, edge) {
+        return None;
     }
-    for root in 0..places.len() {
-        if search.colour(root) == Colour::White {
-            let found = search.visit(alloc, root)?;
-            if !found.is_empty() {
-                return Ok(found);
-            }
+    let to = index_of(graph, &edge.to);
+    if marks[to] == 0 {
+        return None;
+    }
+    Some(to)
+}
+
+// Where the edges of the place of an index begin and end.
+fn part(graph: &Graph, at: usize) -> (usize, usize)
+    requires { at < length graph.now.places }
+    ensures first { result.0 ≡ slice_index graph.now.firsts at }
+    ensures end { result.1 ≡ slice_index graph.now.firsts (at + 1) }
+    ensures fits { result.1 ≤ length graph.now.edges }
+    ensures well_formed { IsWellFormed graph.now }
+{
+    let firsts = graph.firsts();
+    (firsts[at], firsts[at + 1])
+}
+
+// The first such edge of the place of an index, and the index of the place where it ends.
+fn next_of(graph: &Graph, loops: &[Loop], marks: &[u8], at: usize) -> Option<(Edge, usize)>
+    requires inside { at < length graph.now.places }
+    requires whole { length marks.now ≡ length graph.now.places + 1 }
+    ensures open { IfSome result (λ next. IsOpen graph.now loops.now marks.now next.0 next.1) }
+    ensures from { IfSome result (λ next. next.0.from ≡ place_at graph.now.places at) }
+    ensures none { IfNone result
+        (LeadToCleared graph.now loops.now marks.now (place_at graph.now.places at)) }
+    ensures well_formed { IsWellFormed graph.now }
+{
+    let (first, end) = part(graph, at);
+    for number in first..end {
+        let edge = &graph.edges()[number];
+        if let Some(to) = open_end(graph, loops, marks, edge) {
+            return Some((*edge, to));
+        }
+    }
+    None
+}
+
+// The end of a path that is closed: from where an edge of it begins at the place where it ends.
+fn cycle_of(alloc: Global, path: &[Edge], end: &Place) -> Result<Vec<Edge>, AllocError>
+    ensures { IfOk result
+        (λ cycle. (flow : Flow) (loops : List Loop) → IsClosed flow loops path.now end.now
+        → IsCycleOf flow loops cycle.items) }
+{
+    for (k, edge) in path.iter().enumerate() {
+        if is_same(&edge.from, end) {
+            return Vec::from_slice(alloc, &path[k..]);
         }
     }
     Ok(Vec::new(alloc))
+}
+
+impl Search {
+    /// No place is met.
+    pub(crate) fn new(alloc: Global, graph: &Graph) -> Result<Search, AllocError>
+        ensures marks { IfOk result
+            (λ search. search.marks.items
+            ≡ slice_set (replicate (length graph.now.places + 1) 2) (length graph.now.places) 0) }
+        ensures path { IfOk result (λ search. search.path.items ≡ []) }
+    {
+        let count = graph.places().len();
+        let mut marks = vec![in alloc; 2; count + 1]?;
+        marks[count] = 0;
+        Ok(Search {
+            marks,
+            start: Place::Exit,
+            path: Vec::new(alloc),
+            at: 0,
+        })
+    }
+
+    // Follows one edge more, to a place that is not cleared, or else clears the place at hand and goes back.
+    // Whether the search goes on.
+    fn step(&mut self, graph: &Graph, loops: &[Loop]) -> Result<bool, AllocError>
+        requires { IsSearching graph.now loops.now self.old }
+        ensures state { IfOk result
+            (λ goes_on. MatchBool goes_on (IsSearching graph.now loops.now self.new)
+            (IsEnded graph.now loops.now self.new)) }
+        ensures start { OnOk result (self.new.start ≡ self.old.start) }
+        ensures left { OnOk result (steps_left self.new < steps_left self.old + 2) }
+        ensures nearer { IfOk result
+            (λ goes_on. goes_on ≡ true → steps_left self.new < steps_left self.old) }
+    {
+        if let Some((edge, to)) = next_of(graph, loops, &self.marks, self.at) {
+            self.path.push(edge)?;
+            self.at = to;
+            if self.marks[to] == 1 {
+                return Ok(false);
+            }
+            self.marks[to] = 1;
+            return Ok(true);
+        }
+        self.marks[self.at] = 0;
+        let Some(edge) = self.path.pop() else {
+            return Ok(false);
+        };
+        self.at = index_of(graph, &edge.from);
+        Ok(true)
+    }
+
+    /// Searches from a place on. A cycle, or None where the place is cleared.
+    pub(crate) fn visit(
+        &mut self,
+        alloc: Global,
+        graph: &Graph,
+        loops: &[Loop],
+        root: &Place,
+    ) -> Result<Option<Vec<Edge>>, AllocError>
+        requires idle { IsIdle graph.now loops.now self.old }
+        requires has { Contains graph.now.places root.now }
+        ensures cycle { IfOk result
+            (λ found. IfSome found (λ cycle. IsCycleOf graph.now loops.now cycle.items)) }
+        ensures idle { IfOk result (λ found. IfNone found (IsIdle graph.now loops.now self.new)) }
+        ensures cleared { IfOk result (λ found. IfNone found (IsCleared graph.now loops.now root.now)) }
+    {
+        let at = index_of(graph, root);
+        if self.marks[at] == 0 {
+            return Ok(None);
+        }
+        self.at = at;
+        self.start = *root;
+        self.marks[at] = 1;
+        let mut goes_on = true;
+        while goes_on {
+            goes_on = self.step(graph, loops)?;
+        }
+        if self.path.is_empty() {
+            return Ok(None);
+        }
+        let cycle = cycle_of(alloc, &self.path, &graph.places()[self.at])?;
+        Ok(Some(cycle))
+    }
 }

@@ -1,5 +1,8 @@
-ghost use Rattle.std.specs.Prelude.{◌≤◌, IfOk, length};
+ghost use Rattle.std.specs.Prelude.{◌≡◌, ◌≤◌, IfOk, OnOk, length};
+ghost use Rattle.diagnosis.specs.Rows.{Appends, AreRows};
+ghost use Rattle.diagnosis.specs.Texts.{IsFaultyRow, fault_name};
 
+use crate::rows::{put, put_decimal};
 use crate::words::first_word;
 use asm_text::first_line;
 use assembler::{AsmFault, Fault, assemble};
@@ -84,16 +87,45 @@ pub fn faulty_lines(alloc: Global, source: &[u8]) -> Result<Vec<FaultyLine>, All
     Ok(lines)
 }
 
+fn name_of(fault: Fault) -> &'static [u8]
+    ensures { result.now ≡ fault_name fault }
+{
+    match fault {
+        Fault::NotText => b"NotText",
+        Fault::UnknownWord => b"UnknownWord",
+        Fault::BadOperand => b"BadOperand",
+        Fault::ImmediateNotRotated => b"ImmediateNotRotated",
+        Fault::BranchTooFar => b"BranchTooFar",
+        Fault::LabelTwice => b"LabelTwice",
+        Fault::LabelMissing => b"LabelMissing",
+        Fault::OutOfRange => b"OutOfRange",
+        Fault::Unallocated => b"Unallocated",
+        Fault::TooLong => b"TooLong",
+    }
+}
+
+// Adds a line of text on a faulty line.
+fn put_faulty(out: &mut Vec<u8>, line: &FaultyLine) -> Result<(), AllocError>
+    ensures { OnOk result (Appends (IsFaultyRow line.now) out.old.items out.new.items) }
+{
+    put(out, b"line ")?;
+    put_decimal(out, line.number)?;
+    put(out, b": ")?;
+    put(out, name_of(line.fault))?;
+    put(out, b"\n")
+}
+
 /// A line of text for each of the lines, with its number and what is wrong with it.
 ///
 /// # Errors
 ///
 /// An allocation failed.
-pub fn faulty_text(alloc: Global, lines: &[FaultyLine]) -> Result<Vec<u8>, AllocError> {
+pub fn faulty_text(alloc: Global, lines: &[FaultyLine]) -> Result<Vec<u8>, AllocError>
+    ensures { IfOk result (λ text. AreRows IsFaultyRow lines.now text.items) }
+{
     let mut out = Vec::new(alloc);
     for line in lines {
-        let text = format!(in alloc; "line {}: {}\n", line.number, line.fault)?;
-        out.extend_from_slice(text.as_bytes())?;
+        put_faulty(&mut out, line)?;
     }
     Ok(out)
 }

@@ -1,7 +1,7 @@
-ghost use Rattle.std.specs.Prelude.{◌≡◌, ◌++◌, IfOk, OnOk};
-ghost use Rattle.diagnosis.specs.Rows.{Appends, AreRows};
+ghost use Rattle.std.specs.Prelude.{◌≡◌, ◌++◌, [], IfOk, OnOk};
+ghost use Rattle.diagnosis.specs.Rows.{Appends, AreRows, IsRow};
 ghost use Rattle.diagnosis.specs.Texts.{IsCycleText, IsEntryFront, IsEntryText, IsStartRow, IsUnder};
-ghost use Rattle.diagnosis.specs.Texts.{key_text, loop_text};
+ghost use Rattle.diagnosis.specs.Texts.{IsListed, key_text, leads, loop_text, nine};
 
 use crate::entries::MidEntry;
 use crate::extents::Extent;
@@ -11,6 +11,10 @@ use flow_graph::{Edge, Place};
 use std::alloc::{AllocError, Global};
 
 const ENTERED: &[u8] = b"A loop is entered elsewhere than at its header. From here:\n";
+
+const NINE: &[u8] = b"Nine calls, each inside the one before it; eight is the most:\n";
+
+const LEADS: &[u8] = b"No word stands there. These lead to it:\n";
 
 const TO_HERE: &[u8] = b"To here:\n";
 
@@ -110,5 +114,68 @@ pub fn entry_text(alloc: Global, words: &Words<'_>, entry: &MidEntry) -> Result<
     put_entry(&mut out, words, entry)?;
     put(&mut out, b"The loop's header:\n")?;
     words.put_row(&mut out, entry.instance.stated.header)?;
+    Ok(out)
+}
+
+// Adds the rows of words.
+fn put_rows(out: &mut Vec<u8>, words: &Words<'_>, named: &[u32]) -> Result<(), AllocError>
+    ensures { OnOk result (Appends (AreRows (IsRow words.now) named.now) out.old.items out.new.items) }
+{
+    for at in named {
+        words.put_row(out, *at)?;
+    }
+    Ok(())
+}
+
+// A line, and under it the rows of words; nothing where there are none.
+fn listed(
+    alloc: Global,
+    words: &Words<'_>,
+    heading: &[u8],
+    named: &[u32],
+) -> Result<Vec<u8>, AllocError>
+    ensures { IfOk result (λ text. IsListed words.now heading.now named.now text.items) }
+{
+    let mut out = Vec::new(alloc);
+    if named.is_empty() {
+        return Ok(out);
+    }
+    put(&mut out, heading)?;
+    put_rows(&mut out, words, named)?;
+    Ok(out)
+}
+
+/// Nine calls that are one inside another, by the addresses of their words; nothing where there are none.
+///
+/// # Errors
+///
+/// An allocation failed.
+pub fn calls_text(alloc: Global, words: &Words<'_>, calls: &[u32]) -> Result<Vec<u8>, AllocError>
+    ensures { IfOk result (λ text. IsListed words.now nine calls.now text.items) }
+{
+    listed(alloc, words, NINE, calls)
+}
+
+/// The words that lead to an address where none stands; nothing where there are none.
+///
+/// # Errors
+///
+/// An allocation failed.
+pub fn leads_text(alloc: Global, words: &Words<'_>, leading: &[u32]) -> Result<Vec<u8>, AllocError>
+    ensures { IfOk result (λ text. IsListed words.now leads leading.now text.items) }
+{
+    listed(alloc, words, LEADS, leading)
+}
+
+/// The row of the word at an address.
+///
+/// # Errors
+///
+/// An allocation failed.
+pub fn word_text(alloc: Global, words: &Words<'_>, at: u32) -> Result<Vec<u8>, AllocError>
+    ensures { IfOk result (λ text. Appends (IsRow words.now at) [] text.items) }
+{
+    let mut out = Vec::new(alloc);
+    words.put_row(&mut out, at)?;
     Ok(out)
 }

@@ -29,7 +29,8 @@ module _ (flow : Flow) (tree : Tree) where
   abbrev pub depth_in : List ℕ → Span → ℕ
   depth_in calls s = min (length (calls_in flow tree s.header)) (length calls)
 
-  -- the cluster of a loop, by its header's number
+  -- the cluster of a loop, by its header's number: no two loops of a tree have one header, so none share a
+  -- name
   abbrev pub loop_text : Span → List ℕ
   loop_text s =
       codes "subgraph cluster_loop_"

@@ -1,30 +1,38 @@
 use arm2_effect::Reg;
-use arm2_exec::Input;
+use arm2_exec::{Input, Machine};
 use bitflags::Flags;
 use bus_ticks::{Profile, RomTimes};
 use ioc::Lines;
-use machine_file::{Event, MachineFileFault, MappedPage, PsrFlags, read_machine, read_profile};
+use machine_file::{
+    Event, MachineFile, MachineFileFault, MappedPage, PsrFlags, read_machine, read_profile,
+};
 use memc::{Memc, PageSize, Refused, Spot};
 use std::alloc::Global;
 use std::test::Fail;
 
-#[test]
-fn defaults(rt: HostRuntime) -> Result<(), Fail> {
-    let file = read_machine(rt.alloc(), b"pc = 0x8000")?;
-    let numbers = [
+fn numbers(file: &MachineFile) -> [u32; 5] {
+    [
         file.pc(),
         file.low_rom(),
         file.high_rom(),
         file.steps(),
         file.port(),
-    ];
-    assert!(rt; numbers == [0x8000, 0, 0, 65536, 0]);
-    let lengths = [
+    ]
+}
+
+// How many registers, pages and events the file has.
+fn lengths(file: &MachineFile) -> [usize; 3] {
+    [
         file.registers().len(),
         file.pages().len(),
         file.events().len(),
-    ];
-    assert!(rt; lengths == [26, 0, 0]);
+    ]
+}
+
+#[test]
+fn defaults(rt: HostRuntime) -> Result<(), Fail> {
+    let file = read_machine(rt.alloc(), b"pc = 0x8000")?;
+    assert!(rt; (numbers(&file), lengths(&file)) == ([0x8000, 0, 0, 65536, 0], [26, 0, 0]));
     let flags = PsrFlags {
         negative: false,
         zero: false,
@@ -34,6 +42,7 @@ fn defaults(rt: HostRuntime) -> Result<(), Fail> {
         fiq_masked: true,
     };
     assert!(rt; (file.page_size(), file.flags()) == (PageSize::K4, flags));
+    drop(file);
     Ok(())
 }
 
@@ -45,17 +54,33 @@ const WHOLE: &[u8] = b"pc = 0x3FFFFFC\npages = 32\nmode = \"irq\"\nflags = \"FN\
     [[event]]\nstep = 1\nbursts = 3\nlines = [\"A0\", \"IL0\", \"A0\"]\n\
     [[event]]\nstep = 65535\nlines = []\n";
 
+// R0, R8 of FIQ mode, and R14 of IRQ and SVC mode.
+fn registers(file: &MachineFile) -> [Option<u32>; 4] {
+    let words = file.registers();
+    [
+        words.get(0).copied(),
+        words.get(15).copied(),
+        words.get(23).copied(),
+        words.get(25).copied(),
+    ]
+}
+
+// N, F and I.
+fn flags(file: &MachineFile) -> [bool; 3] {
+    let flags = file.flags();
+    [flags.negative, flags.fiq_masked, flags.irq_masked]
+}
+
+fn event_at(file: &MachineFile, step: u32) -> Option<Event> {
+    file.events().get(&step).copied()
+}
+
 #[test]
 fn every_key(rt: HostRuntime) -> Result<(), Fail> {
     let file = read_machine(rt.alloc(), WHOLE)?;
-    let words = file.registers();
-    let found = [words.get(0), words.get(15), words.get(23), words.get(25)];
-    assert!(rt; found == [Some(&7), Some(&8), Some(&0x1010), Some(&0xFFFF_FFFF)]);
-    let flags = file.flags();
-    let set = [flags.negative, flags.fiq_masked, flags.irq_masked];
-    assert!(rt;
-        (file.pc(), file.page_size(), set) == (0x3FF_FFFC, PageSize::K32, [true, true, false])
-    );
+    assert!(rt; registers(&file) == [Some(7), Some(8), Some(0x1010), Some(0xFFFF_FFFF)]);
+    let head = (file.pc(), file.page_size(), flags(&file));
+    assert!(rt; head == (0x3FF_FFFC, PageSize::K32, [true, true, false]));
     let page = MappedPage {
         logical: 1023,
         physical: 127,
@@ -66,30 +91,41 @@ fn every_key(rt: HostRuntime) -> Result<(), Fail> {
         lines: None,
         port: Some(9),
     };
-    assert!(rt; file.pages().get(0).copied() == Some(page));
-    assert!(rt; file.events().get(&2).copied() == Some(event));
+    let found = (file.pages().get(0).copied(), event_at(&file, 2));
+    assert!(rt; found == (Some(page), Some(event)));
+    drop(file);
     Ok(())
+}
+
+fn input(bursts: u16, lines: Lines, port: u32) -> Input {
+    Input {
+        bursts,
+        lines,
+        port,
+    }
+}
+
+fn has_inputs(alloc: Global, file: &MachineFile, wanted: &[Input]) -> bool {
+    match file.inputs(alloc) {
+        Ok(inputs) => inputs.as_slice() == wanted,
+        Err(_) => false,
+    }
 }
 
 #[test]
 fn inputs(rt: HostRuntime) -> Result<(), Fail> {
-    let inputs = read_machine(rt.alloc(), WHOLE)?.inputs(rt.alloc())?;
-    let before = Input {
-        bursts: 0,
-        lines: Lines::empty(),
-        port: 1,
-    };
-    let at_event = Input {
-        bursts: 3,
-        lines: Lines::A0 | Lines::IL0,
-        port: 1,
-    };
-    let after = Input {
-        bursts: 0,
-        lines: Lines::A0 | Lines::IL0,
-        port: 9,
-    };
-    assert!(rt; inputs.as_slice() == [before, at_event, after, after].as_slice());
+    let active = Lines::A0 | Lines::IL0;
+    let after = input(0, active, 9);
+    let wanted = [
+        input(0, Lines::empty(), 1),
+        input(3, active, 1),
+        after,
+        after,
+    ];
+    let file = read_machine(rt.alloc(), WHOLE)?;
+    let has_inputs = has_inputs(rt.alloc(), &file, &wanted);
+    drop(file);
+    assert!(rt; has_inputs);
     Ok(())
 }
 
@@ -100,6 +136,7 @@ fn put_words(rt: HostRuntime) -> Result<(), Fail> {
         b"pc = 0\n[[word]]\nat = 0x3FFFFFC\nvalue = 0xFFFFFFFF\n[[word]]\nvalue = 1\nat = 0x2FFFFFC",
     )?;
     assert!(rt; file.words() == [(0x3FF_FFFC, 0xFFFF_FFFF), (0x2FF_FFFC, 1)].as_slice());
+    drop(file);
     Ok(())
 }
 
@@ -119,48 +156,60 @@ const REFUSED: &[(&[u8], MachineFileFault)] = &[
     ),
 ];
 
+fn refusal(alloc: Global, text: &[u8]) -> Option<MachineFileFault> {
+    read_machine(alloc, text).err()
+}
+
 #[test]
 fn put_words_refused(rt: HostRuntime) {
     for (text, fault) in REFUSED {
-        let refused = read_machine(rt.alloc(), *text).err();
-        assert!(rt; refused == Some(*fault));
+        assert!(rt; refusal(rt.alloc(), text) == Some(*fault));
     }
 }
 
-// What a file's machine has in R15, R0, R8 of FIQ mode and R14 of SVC mode, its ROM times, and where two
-// loads go.
-fn started(
-    alloc: Global,
-    text: &[u8],
-    addresses: [u32; 2],
-) -> Result<([u32; 4], RomTimes, [Result<Spot, Refused>; 2]), Fail> {
-    let machine = read_machine(alloc, text)?.machine(alloc, Profile::one())?;
-    let words = [
+// R15, R0, R8 of FIQ mode and R14 of SVC mode.
+fn words(machine: &Machine) -> [u32; 4] {
+    [
         machine.get(Reg::R15),
         machine.get(Reg::R0),
         machine.get(Reg::R8Fiq),
         machine.get(Reg::R14Svc),
-    ];
-    let [first, second] = addresses;
-    let spots = [
-        loaded_from(machine.memc(), first),
-        loaded_from(machine.memc(), second),
-    ];
-    Ok((words, machine.memc().rom_times(), spots))
+    ]
 }
 
-fn loaded_from(memc: &Memc, address: u32) -> Result<Spot, Refused> {
-    memc.locate(address % 0x400_0000, false, false)
+// Where loads from two addresses go.
+fn spots(memc: &Memc, addresses: [u32; 2]) -> [Result<Spot, Refused>; 2] {
+    let [first, second] = addresses;
+    [
+        memc.locate(first % 0x400_0000, false, false),
+        memc.locate(second % 0x400_0000, false, false),
+    ]
+}
+
+fn machine_of(alloc: Global, text: &[u8]) -> Result<Machine, Fail> {
+    let file = read_machine(alloc, text)?;
+    let machine = file.machine(alloc, Profile::one());
+    drop(file);
+    Ok(machine?)
 }
 
 #[test]
-fn machines(rt: HostRuntime) -> Result<(), Fail> {
-    let (words, rom, spots) = started(rt.alloc(), WHOLE, [8, 0x8000])?;
-    assert!(rt; words == [0x87FF_FFFE, 7, 8, 0xFFFF_FFFF]);
-    assert!(rt; rom == RomTimes { low: 1, high: 3 });
-    assert!(rt; spots == [Ok(Spot::Ram(0x2_8008)), Err(Refused::NoPage)]);
-    let ([r15, _, _, _], _, spots) = started(rt.alloc(), b"pc = 0", [0x7F004; 2])?;
-    assert!(rt; (r15, spots) == (0x0C00_0003, [Ok(Spot::Ram(0x7F004)); 2]));
+fn machine_of_every_key(rt: HostRuntime) -> Result<(), Fail> {
+    let machine = machine_of(rt.alloc(), WHOLE)?;
+    assert!(rt; words(&machine) == [0x87FF_FFFE, 7, 8, 0xFFFF_FFFF]);
+    assert!(rt; machine.memc().rom_times() == RomTimes { low: 1, high: 3 });
+    let wanted = [Ok(Spot::Ram(0x2_8008)), Err(Refused::NoPage)];
+    assert!(rt; spots(machine.memc(), [8, 0x8000]) == wanted);
+    drop(machine);
+    Ok(())
+}
+
+#[test]
+fn machine_of_defaults(rt: HostRuntime) -> Result<(), Fail> {
+    let machine = machine_of(rt.alloc(), b"pc = 0")?;
+    assert!(rt; machine.get(Reg::R15) == 0x0C00_0003);
+    assert!(rt; spots(machine.memc(), [0x7F004; 2]) == [Ok(Spot::Ram(0x7F004)); 2]);
+    drop(machine);
     Ok(())
 }
 

@@ -30,68 +30,75 @@ fn write_to_translator(memc: &mut Memc, address: u32) {
     }
 }
 
+// An address, whether user mode accesses it, whether that is a store, and where it goes.
+type Access = (u32, bool, bool, Result<Spot, Refused>);
+
+// The number of the first access that goes elsewhere.
+fn first_elsewhere(memc: &Memc, accesses: &[Access]) -> Option<usize> {
+    for (number, (address, user, store, wanted)) in accesses.iter().enumerate() {
+        if spot(memc, *address, *user, *store) != *wanted {
+            return Some(number);
+        }
+    }
+    None
+}
+
+static BEFORE_A_WRITE: [Access; 1] = [(0x8101, false, false, Ok(Spot::Ram(0x8100)))];
+
+static AFTER_A_WRITE: [Access; 5] = [
+    (0x380_8105, false, true, Ok(Spot::Translator(0x380_8105))),
+    (0x8000, false, true, Ok(Spot::Ram(0x5000))),
+    (0x8000, true, true, Err(Refused::Protected)),
+    (0x8000, true, false, Ok(Spot::Ram(0x5000))),
+    (0x5000, false, false, Err(Refused::NoPage)),
+];
+
+// Whether a load from the first word of some logical page, of 4 KB, goes to that place.
+fn is_reached(memc: &Memc, place: u32) -> bool {
+    for page in 0u32..8192 {
+        if spot(memc, page * 0x1000, false, false) == Ok(Spot::Ram(place)) {
+            return true;
+        }
+    }
+    false
+}
+
 // The bytes 11, 22, 33, 44 at 8100: an address within the word gives the whole word, not yet rotated. A
 // write to the translator puts logical page 8 on physical page 5 at level 1, where logical page 5 was.
 #[test]
 fn pages_of_4_kb(rt: HostRuntime) -> Result<(), Fail> {
     let mut memc = Memc::new(rt.alloc(), PageSize::K4)?;
     put(&mut memc, 0x8100, 0x4433_2211);
-    let words = [word(&memc, 0x8101), word(&memc, 0x8104)];
-    assert!(rt; words == [Some(0x4433_2211), Some(0)]);
+    assert!(rt; [word(&memc, 0x8101), word(&memc, 0x8104)] == [Some(0x4433_2211), Some(0)]);
     put(&mut memc, 0x5000, 55);
     put(&mut memc, 0x8000, 88);
-    let unaligned = spot(&memc, 0x8101, false, false);
+    let before = first_elsewhere(&memc, &BEFORE_A_WRITE);
     write_to_translator(&mut memc, 0x380_8105);
-    let spots = [
-        unaligned,
-        spot(&memc, 0x380_8105, false, true),
-        spot(&memc, 0x8000, false, true),
-        spot(&memc, 0x8000, true, true),
-        spot(&memc, 0x8000, true, false),
-        spot(&memc, 0x5000, false, false),
-    ];
-    let wanted = [
-        Ok(Spot::Ram(0x8100)),
-        Ok(Spot::Translator(0x380_8105)),
-        Ok(Spot::Ram(0x5000)),
-        Err(Refused::Protected),
-        Ok(Spot::Ram(0x5000)),
-        Err(Refused::NoPage),
-    ];
-    assert!(rt; spots == wanted);
+    assert!(rt; [before, first_elsewhere(&memc, &AFTER_A_WRITE)] == [None; 2]);
     // Physical page 8 holds no logical page, and still has its words.
-    for page in 0u32..8192 {
-        assert!(rt; spot(&memc, page * 0x1000, false, false) != Ok(Spot::Ram(0x8000)));
-    }
-    let words = [word(&memc, 0x8000), word(&memc, 0x200_8000)];
-    assert!(rt; words == [Some(55), Some(88)]);
+    assert!(rt; !is_reached(&memc, 0x8000));
+    assert!(rt; [word(&memc, 0x8000), word(&memc, 0x200_8000)] == [Some(55), Some(88)]);
+    drop(memc);
     Ok(())
 }
+
+static LARGE_PAGES: [Access; 5] = [
+    (0x380_8105, false, true, Err(Refused::UnsupportedWrite)),
+    (0x380_8105, true, true, Err(Refused::Protected)),
+    (0x36E_0000, false, true, Err(Refused::UnsupportedWrite)),
+    (0x36E_00DC, false, true, Ok(Spot::Control(0x36E_00DC))),
+    (0x360_0000, false, true, Ok(Spot::Ignored(0x360_0000))),
+];
 
 #[test]
 fn pages_of_32_kb_and_rom(rt: HostRuntime) -> Result<(), Fail> {
     let mut memc = Memc::new(rt.alloc(), PageSize::K32)?;
-    let spots = [
-        spot(&memc, 0x380_8105, false, true),
-        spot(&memc, 0x380_8105, true, true),
-        spot(&memc, 0x36E_0000, false, true),
-        spot(&memc, 0x36E_00DC, false, true),
-        spot(&memc, 0x360_0000, false, true),
-    ];
-    let wanted = [
-        Err(Refused::UnsupportedWrite),
-        Err(Refused::Protected),
-        Err(Refused::UnsupportedWrite),
-        Ok(Spot::Control(0x36E_00DC)),
-        Ok(Spot::Ignored(0x360_0000)),
-    ];
-    assert!(rt; spots == wanted);
+    assert!(rt; first_elsewhere(&memc, &LARGE_PAGES) == None);
     memc.control(0x36E_00DC);
-    memc.add_rom(rt.alloc(), &[(0x380_0000, 1), (0x380_0000, 0x1234_5678)])?;
-    let words = [word(&memc, 0x380_0000), word(&memc, 0x380_0004)];
-    assert!(rt;
-        (memc.rom_times(), words) == (RomTimes { low: 1, high: 3 }, [Some(0x1234_5678), Some(0)])
-    );
+    let added = memc.add_rom(rt.alloc(), &[(0x380_0000, 1), (0x380_0000, 0x1234_5678)]);
+    assert!(rt; added == Ok(()) && memc.rom_times() == RomTimes { low: 1, high: 3 });
+    assert!(rt; [word(&memc, 0x380_0000), word(&memc, 0x380_0004)] == [Some(0x1234_5678), Some(0)]);
+    drop(memc);
     Ok(())
 }
 
@@ -108,9 +115,11 @@ enum Step {
 // No word, since the logical page lies nowhere.
 const NO: u32 = 99;
 
-// Each step, and the first and last words after it of the logical pages 0, 1 and 127 and of these physical
-// pages, from a plain map of pages by their numbers.
-const SCRIPT: [(Step, [u32; 6], [u32; 6]); 40] = [
+// A step, and after it the first and last words of the logical pages 0, 1 and 127 and of these physical ones.
+type Row = (Step, [u32; 6], [u32; 6]);
+
+// From a plain map of pages by their numbers.
+static SCRIPT: [Row; 40] = [
     (
         Step::Store(0, false, 1),
         [1, 0, 0, 0, 0, 0],
@@ -323,6 +332,17 @@ fn words(memc: &Memc, bytes: u32, base: u32) -> [u32; 6] {
     ]
 }
 
+// The number of the first row after whose step there are other words.
+fn first_wrong(memc: &mut Memc, bytes: u32, script: &[Row]) -> Result<Option<usize>, MapFault> {
+    for (number, (step, logical, physical)) in script.iter().enumerate() {
+        follow(memc, bytes, *step)?;
+        if words(memc, bytes, 0) != *logical || words(memc, bytes, 0x200_0000) != *physical {
+            return Ok(Some(number));
+        }
+    }
+    Ok(None)
+}
+
 #[test]
 fn same_script_all_page_sizes(rt: HostRuntime) -> Result<(), Fail> {
     for (size, bytes) in [
@@ -332,12 +352,10 @@ fn same_script_all_page_sizes(rt: HostRuntime) -> Result<(), Fail> {
         (PageSize::K32, 0x8000),
     ] {
         let mut memc = Memc::new(rt.alloc(), size)?;
-        for (step, logical, physical) in SCRIPT {
-            follow(&mut memc, bytes, step)?;
-            let found = (words(&memc, bytes, 0), words(&memc, bytes, 0x200_0000));
-            assert!(rt; found == (logical, physical), "{bytes:x}");
-        }
+        let wrong = first_wrong(&mut memc, bytes, &SCRIPT);
+        assert!(rt; wrong == Ok(None), "{bytes:x}");
         let refused = [memc.map(128, 0, 0), memc.unmap(128)];
+        drop(memc);
         assert!(rt; refused == [Err(MapFault::OutOfRange); 2]);
     }
     Ok(())

@@ -20,27 +20,48 @@ fn quiet() -> Input {
     }
 }
 
+fn load_source(alloc: Global, machine: &mut Machine, source: &[u8]) -> Result<(), Fail> {
+    let said = assemble(alloc, source)?;
+    let loaded = load(alloc, machine, &said.image);
+    drop(said);
+    Ok(loaded?)
+}
+
 // In SVC mode with IRQ and FIQ masked, at an address, with a source's words.
 fn machine_at(alloc: Global, size: PageSize, address: u32, source: &[u8]) -> Result<Machine, Fail> {
     let mut machine = Machine::new(alloc, size, Profile::one())?;
     machine.set(Reg::R15, SVC | address);
-    load(alloc, &mut machine, &assemble(alloc, source)?.image)?;
-    Ok(machine)
+    match load_source(alloc, &mut machine, source) {
+        Ok(()) => Ok(machine),
+        Err(fault) => {
+            drop(machine);
+            Err(fault)
+        }
+    }
+}
+
+fn words(machine: &Machine, one: Reg, other: Reg) -> [u32; 2] {
+    [machine.get(one), machine.get(other)]
+}
+
+// What a step told: its address and its ticks.
+fn step(machine: &mut Machine, input: Input) -> (u32, u32) {
+    let told = machine.step(input);
+    (told.from, told.ticks)
 }
 
 #[test]
 fn starts_in_the_reset_state(rt: HostRuntime) -> Result<(), Fail> {
     let mut machine = Machine::new(rt.alloc(), PageSize::K32, Profile::one())?;
-    let started = [machine.get(Reg::R15), machine.get(Reg::R14Svc)];
-    let numbers = machine.profile().numbers();
+    let started = words(&machine, Reg::R15, Reg::R14Svc);
+    assert!(rt; machine.profile().numbers() == Profile::one().numbers());
     machine.set(Reg::R0, 7);
     machine.set(Reg::R15, 0x8000);
     machine.reset();
-    let reset = [machine.get(Reg::R15), machine.get(Reg::R0)];
+    assert!(rt; (started, words(&machine, Reg::R15, Reg::R0)) == ([SVC, 0], [SVC, 7]));
     machine.one_outcome(quiet());
     exceptions_keep_the_rest();
-    assert!(rt; (started, reset) == ([SVC, 0], [SVC, 7]));
-    assert!(rt; numbers == Profile::one().numbers());
+    drop(machine);
     Ok(())
 }
 
@@ -55,31 +76,37 @@ fn timer(machine: &mut Machine) -> u32 {
     machine.ioc().read(0x320_0040)
 }
 
-// Two steps, with a burst in the first. Timer 0 with latch 2 requests in the second step.
-// VIDC's registers, of 2 pixels to a raster and 2 rasters, give a flyback each 4 ticks.
-#[test]
-fn bursts_move_the_timer_and_vidc(rt: HostRuntime) -> Result<(), Fail> {
-    let mut machine = machine_at(rt.alloc(), PageSize::K4, 0x8000, b" MOV R0,#3\n MOV R0,#3")?;
+// Timer 0 gets latch 2. VIDC's registers, of 2 pixels to a raster and 2 rasters, give a flyback each 4 ticks.
+fn set_up(machine: &mut Machine) {
     machine.ioc_mut().write(0x320_0040, 0x2_0000);
     machine.ioc_mut().write(0x320_0048, 0);
     for word in [0x8000_0000, 0xA000_4000, 0xB000_0000, 0xE000_0000] {
         machine.vidc_mut().write(word);
     }
     let _vidc = machine.vidc();
+}
+
+// Two steps, with a burst in the first. Timer 0 requests in the second step.
+#[test]
+fn bursts_move_the_timer_and_vidc(rt: HostRuntime) -> Result<(), Fail> {
+    let mut machine = machine_at(rt.alloc(), PageSize::K4, 0x8000, b" MOV R0,#3\n MOV R0,#3")?;
+    set_up(&mut machine);
     let at_start = status(&machine, 8);
-    let told = machine.step(Input {
-        bursts: 1,
-        ..quiet()
-    });
-    let first = (
-        timer(&mut machine),
-        status(&machine, 0x20),
-        status(&machine, 8),
+    let (_, ticks) = step(
+        &mut machine,
+        Input {
+            bursts: 1,
+            ..quiet()
+        },
     );
-    machine.step(quiet());
-    let second = (timer(&mut machine), status(&machine, 0x20));
-    assert!(rt; (told.ticks, at_start) == (1, false));
-    assert!(rt; (first, second) == ((1, false, true), (2, true)));
+    assert!(rt; (ticks, at_start) == (1, false));
+    let count = timer(&mut machine);
+    let found = (count, status(&machine, 0x20), status(&machine, 8));
+    assert!(rt; found == (1, false, true));
+    step(&mut machine, quiet());
+    let count = timer(&mut machine);
+    assert!(rt; (count, status(&machine, 0x20)) == (2, true));
+    drop(machine);
     Ok(())
 }
 
@@ -107,6 +134,7 @@ fn stopped_step_changes_nothing(rt: HostRuntime) -> Result<(), Fail> {
     };
     assert!(rt; told == wanted);
     assert!(rt; !status(&machine, 4));
+    drop(machine);
     Ok(())
 }
 
@@ -122,7 +150,7 @@ on  SUBS   R0,R0,#1
 ";
 
 // The address and the ticks of each step where FIQ is requested at the second one alone.
-const WITH_ONE_FIQ: [(u32, u32); 10] = [
+static WITH_ONE_FIQ: [(u32, u32); 10] = [
     (0x8000, 1),
     (0x8004, 5),
     (0x1C, 4),
@@ -135,19 +163,29 @@ const WITH_ONE_FIQ: [(u32, u32); 10] = [
     (0x800C, 5),
 ];
 
+// The number of the first step of another address or other ticks, where FIQ is requested at the second one
+// alone, and the ticks of all.
+fn steps_with_one_fiq(machine: &mut Machine, wanted: &[(u32, u32)]) -> (Option<usize>, u32) {
+    let mut total = 0u32;
+    for (n, row) in wanted.iter().enumerate() {
+        let lines = if n == 1 { Lines::F0 } else { Lines::empty() };
+        let told = step(machine, Input { lines, ..quiet() });
+        if told != *row {
+            return (Some(n), total);
+        }
+        total = total.wrapping_add(told.1);
+    }
+    (None, total)
+}
+
 #[test]
 fn fiq_in_an_irq_handler(rt: HostRuntime) -> Result<(), Fail> {
     let mut machine = machine_at(rt.alloc(), PageSize::K32, 0x8000, COUNTDOWN_AND_FIQ)?;
     machine.set(Reg::R15, 0x0800_8002);
     machine.set(Reg::R14Irq, 0x1010);
     machine.ioc_mut().write(0x320_0038, 0x1_0000);
-    let mut total = 0u32;
-    for (n, (from, ticks)) in WITH_ONE_FIQ.iter().enumerate() {
-        let lines = if n == 1 { Lines::F0 } else { Lines::empty() };
-        let told = machine.step(Input { lines, ..quiet() });
-        assert!(rt; (told.from, told.ticks) == (*from, *ticks), "step {n}");
-        total = total.wrapping_add(told.ticks);
-    }
-    assert!(rt; (machine.get(Reg::R15), total) == (0x100C, 30));
+    let found = steps_with_one_fiq(&mut machine, &WITH_ONE_FIQ);
+    assert!(rt; (found, machine.get(Reg::R15)) == ((None, 30), 0x100C));
+    drop(machine);
     Ok(())
 }

@@ -31,14 +31,28 @@ pub(crate) struct Stated {
     pub(crate) statement: Statement,
 }
 
+/// The handler of a source and a statement.
+pub(crate) fn handler_of(
+    alloc: Global,
+    source: &[u8],
+    statement: &[u8],
+) -> Result<Stated, ReportFault> {
+    let said = assemble(alloc, source)?;
+    match read_statement(alloc, statement, &said.labels) {
+        Ok(statement) => Ok(Stated {
+            image: said.image,
+            statement,
+        }),
+        Err(fault) => {
+            drop(said);
+            Err(fault.into())
+        }
+    }
+}
+
 /// The nested countdown.
 pub(crate) fn nested(alloc: Global) -> Result<Stated, ReportFault> {
-    let said = assemble(alloc, SOURCE)?;
-    let statement = read_statement(alloc, STATEMENT, &said.labels)?;
-    Ok(Stated {
-        image: said.image,
-        statement,
-    })
+    handler_of(alloc, SOURCE, STATEMENT)
 }
 
 fn is_nested_graph(graph: &Graph) -> bool {
@@ -54,14 +68,14 @@ fn is_nested_graph(graph: &Graph) -> bool {
 
 fn built(alloc: Global, handler: &Stated) -> Answer {
     match build(alloc, &handler.image, &handler.statement, &Profile::one()) {
-        Ok(graph) => Answer::of(is_nested_graph(&graph)),
+        Ok(graph) => Answer::of_value(is_nested_graph(&graph), graph),
         Err(BuildFault::Memory) => Answer::Refused,
         Err(_) => Answer::Wrong,
     }
 }
 
 // Whether the machine's one step takes the edge.
-fn is_tight(mut tight: Tight) -> bool {
+fn is_tight(tight: &mut Tight) -> bool {
     let stepped = tight.machine.step(tight.input);
     let numbers = [stepped.from, stepped.to, stepped.ticks];
     numbers == [0x800C, 0x8008, 4] && tight.file.pc() == 0x800C
@@ -69,16 +83,17 @@ fn is_tight(mut tight: Tight) -> bool {
 
 fn tight(alloc: Global, handler: &Stated) -> Result<Answer, ReportFault> {
     let graph = build(alloc, &handler.image, &handler.statement, &Profile::one())?;
-    if EDGE >= graph.edges().len() {
-        return Ok(Answer::Wrong);
-    }
-    Ok(
+    let answer = if EDGE < graph.edges().len() {
         match tight_state(alloc, &handler.image, &handler.statement, &graph, EDGE) {
-            Ok(tight) => Answer::of(is_tight(tight)),
+            Ok(mut tight) => Answer::of_value(is_tight(&mut tight), tight),
             Err(TightFault::Memory) => Answer::Refused,
             Err(TightFault::NotFree) => Answer::Wrong,
-        },
-    )
+        }
+    } else {
+        Answer::Wrong
+    };
+    drop(graph);
+    Ok(answer)
 }
 
 // The inner instance comes before the outer one.
@@ -94,13 +109,12 @@ fn is_nested_tree(tree: &LoopTree) -> bool {
             .all(|(found, header)| found.stated.header == *header)
 }
 
-fn nest_of(alloc: Global, handler: &Stated) -> Result<Answer, ReportFault> {
-    let graph = build(alloc, &handler.image, &handler.statement, &Profile::one())?;
-    Ok(match nest(alloc, &graph, &handler.statement) {
-        Ok(tree) => Answer::of(is_nested_tree(&tree)),
+fn nest_of(alloc: Global, handler: &Stated, graph: &Graph) -> Answer {
+    match nest(alloc, graph, &handler.statement) {
+        Ok(tree) => Answer::of_value(is_nested_tree(&tree), tree),
         Err(NestFault::Memory) => Answer::Refused,
         Err(_) => Answer::Wrong,
-    })
+    }
 }
 
 fn is_nested_walk(found: &Longest) -> bool {
@@ -116,29 +130,58 @@ fn is_nested_walk(found: &Longest) -> bool {
         && found.potentials.instances.items().len() == 2
 }
 
-fn longest_of(alloc: Global, handler: &Stated) -> Result<Answer, ReportFault> {
-    let graph = build(alloc, &handler.image, &handler.statement, &Profile::one())?;
-    let tree = nest(alloc, &graph, &handler.statement)?;
-    Ok(match longest(alloc, &graph, &tree) {
-        Ok(found) => Answer::of(is_nested_walk(&found)),
+fn longest_of(alloc: Global, handler: &Stated, graph: &Graph) -> Result<Answer, ReportFault> {
+    let tree = nest(alloc, graph, &handler.statement)?;
+    let answer = match longest(alloc, graph, &tree) {
+        Ok(found) => Answer::of_value(is_nested_walk(&found), found),
         Err(WalkFault::Memory) => Answer::Refused,
         Err(_) => Answer::Wrong,
-    })
+    };
+    drop(tree);
+    Ok(answer)
 }
 
-impl Trial for AnalysisCall {
-    fn make(&mut self, alloc: Global) -> Result<Answer, ReportFault> {
-        let handler = nested(alloc)?;
+/// A graph's greatest walk by a handler's loops.
+pub(crate) fn walk_of(
+    alloc: Global,
+    handler: &Stated,
+    graph: &Graph,
+) -> Result<Longest, ReportFault> {
+    let tree = nest(alloc, graph, &handler.statement)?;
+    let found = longest(alloc, graph, &tree);
+    drop(tree);
+    Ok(found?)
+}
+
+/// The flow graph of a handler.
+pub(crate) fn graph_of(alloc: Global, handler: &Stated) -> Result<Graph, ReportFault> {
+    Ok(build(alloc, &handler.image, &handler.statement, &Profile::one())?)
+}
+
+impl AnalysisCall {
+    fn on_graph(self, alloc: Global, handler: &Stated) -> Result<Answer, ReportFault> {
+        let graph = graph_of(alloc, handler)?;
+        let answer = match self {
+            AnalysisCall::Longest => longest_of(alloc, handler, &graph),
+            _ => Ok(nest_of(alloc, handler, &graph)),
+        };
+        drop(graph);
+        answer
+    }
+
+    fn on(self, alloc: Global, handler: &Stated) -> Result<Answer, ReportFault> {
         match self {
-            AnalysisCall::Build => Ok(built(alloc, &handler)),
-            AnalysisCall::Tight => tight(alloc, &handler),
-            AnalysisCall::Nest => nest_of(alloc, &handler),
-            AnalysisCall::Longest => longest_of(alloc, &handler),
+            AnalysisCall::Build => Ok(built(alloc, handler)),
+            AnalysisCall::Tight => tight(alloc, handler),
+            AnalysisCall::Nest | AnalysisCall::Longest => self.on_graph(alloc, handler),
         }
     }
 
-    fn is_unchanged(&mut self, _alloc: Global) -> Result<bool, ReportFault> {
-        Ok(true)
+    pub(crate) fn made(self, alloc: Global) -> Result<Answer, ReportFault> {
+        let handler = nested(alloc)?;
+        let answer = self.on(alloc, &handler);
+        drop(handler);
+        answer
     }
 }
 

@@ -1,10 +1,9 @@
-use crate::analysis::Stated;
-use crate::trial::{Answer, Trial};
+use crate::analysis::{Stated, graph_of, handler_of};
+use crate::trial::Answer;
 use arcwcet::ReportFault;
-use assembler::{assemble, placed_lines};
-use bus_ticks::Profile;
+use assembler::placed_lines;
 use explained::{Assumption, assumed, named_lines};
-use flow_graph::{Graph, build, read_statement};
+use flow_graph::Graph;
 use std::alloc::Global;
 
 /// Transfers for which no class is stated. The second may write R15, and no target is stated for it.
@@ -26,15 +25,6 @@ pub(crate) enum AssumedCall {
     Rows,
 }
 
-fn loose(alloc: Global) -> Result<Stated, ReportFault> {
-    let said = assemble(alloc, SOURCE)?;
-    let statement = read_statement(alloc, STATEMENT, &said.labels)?;
-    Ok(Stated {
-        image: said.image,
-        statement,
-    })
-}
-
 fn addresses(alloc: Global, handler: &Stated, graph: &Graph) -> Answer {
     let (image, statement) = (&handler.image, &handler.statement);
     match assumed(alloc, image, statement, graph, Assumption::LooseTransfer) {
@@ -53,21 +43,19 @@ fn rows(alloc: Global, handler: &Stated, graph: &Graph) -> Result<Answer, Report
 
 impl AssumedCall {
     fn on(self, alloc: Global, handler: &Stated) -> Result<Answer, ReportFault> {
-        let graph = build(alloc, &handler.image, &handler.statement, &Profile::one())?;
-        match self {
+        let graph = graph_of(alloc, handler)?;
+        let answer = match self {
             AssumedCall::Addresses => Ok(addresses(alloc, handler, &graph)),
             AssumedCall::Rows => rows(alloc, handler, &graph),
-        }
-    }
-}
-
-impl Trial for AssumedCall {
-    fn make(&mut self, alloc: Global) -> Result<Answer, ReportFault> {
-        let handler = loose(alloc)?;
-        self.on(alloc, &handler)
+        };
+        drop(graph);
+        answer
     }
 
-    fn is_unchanged(&mut self, _alloc: Global) -> Result<bool, ReportFault> {
-        Ok(true)
+    pub(crate) fn made(self, alloc: Global) -> Result<Answer, ReportFault> {
+        let handler = handler_of(alloc, SOURCE, STATEMENT)?;
+        let answer = self.on(alloc, &handler);
+        drop(handler);
+        answer
     }
 }

@@ -12,30 +12,60 @@ use crate::programs::{Line, Started};
 use crate::reports::{NewOutput, ROOM, Report, Written};
 use crate::sessions::{Command, Obeyed};
 use crate::sources::SourceCall;
-use crate::trial::{Outcome, tried};
+use crate::trial::{Answer, Outcome, Trial, tried};
 use arcwcet::ReportFault;
 use std::alloc::Global;
 
-/// A call that takes memory.
+/// A call that takes memory and changes no value.
 #[derive(Clone, Copy)]
-pub(crate) enum Call {
+pub(crate) enum Pure {
     New(NewCall),
     NewOutput,
-    AddRom,
     MachineFile(MachineFileCall),
     Image(ImageCall),
-    Load,
-    PutWords,
-    PutLabels,
     Source(SourceCall),
     Listing(ListingCall),
     Analysis(AnalysisCall),
-    PushItems,
     Certificate(CertificateCall),
     Explained(ExplainedCall),
     Assumed(AssumedCall),
     Draft,
+    /// It changes the machine, which is made for each call.
     Follow,
+}
+
+impl Trial for Pure {
+    fn make(&mut self, alloc: Global) -> Result<Answer, ReportFault> {
+        match *self {
+            Pure::New(call) => Ok(call.made(alloc)),
+            Pure::NewOutput => NewOutput.made(alloc),
+            Pure::MachineFile(call) => call.made(alloc),
+            Pure::Image(call) => call.made(alloc),
+            Pure::Source(call) => call.made(alloc),
+            Pure::Listing(call) => call.made(alloc),
+            Pure::Analysis(call) => call.made(alloc),
+            Pure::Certificate(call) => call.made(alloc),
+            Pure::Explained(call) => call.made(alloc),
+            Pure::Assumed(call) => call.made(alloc),
+            Pure::Draft => Drafted.made(alloc),
+            Pure::Follow => Follow.made(alloc),
+        }
+    }
+
+    fn is_unchanged(&mut self, _alloc: Global) -> Result<bool, ReportFault> {
+        Ok(true)
+    }
+}
+
+/// A call that takes memory.
+#[derive(Clone, Copy)]
+pub(crate) enum Call {
+    Pure(Pure),
+    AddRom,
+    Load,
+    PutWords,
+    PutLabels,
+    PushItems,
     Command(Command),
     /// A report over an output that has taken memory for so many bytes.
     Report(Report, usize),
@@ -44,54 +74,90 @@ pub(crate) enum Call {
 
 /// All calls, with the words that name them.
 pub(crate) const CALLS: &[(&str, Call)] = &[
-    ("Memc::new", Call::New(NewCall::Memc)),
+    ("Memc::new", Call::Pure(Pure::New(NewCall::Memc))),
     ("Memc::add_rom", Call::AddRom),
-    ("Machine::new", Call::New(NewCall::Machine)),
-    ("read_machine", Call::MachineFile(MachineFileCall::Read)),
+    ("Machine::new", Call::Pure(Pure::New(NewCall::Machine))),
+    (
+        "read_machine",
+        Call::Pure(Pure::MachineFile(MachineFileCall::Read)),
+    ),
     (
         "read_profile",
-        Call::MachineFile(MachineFileCall::ReadProfile),
+        Call::Pure(Pure::MachineFile(MachineFileCall::ReadProfile)),
     ),
-    ("write_machine", Call::MachineFile(MachineFileCall::Write)),
+    (
+        "write_machine",
+        Call::Pure(Pure::MachineFile(MachineFileCall::Write)),
+    ),
     (
         "MachineFile::of_parts",
-        Call::MachineFile(MachineFileCall::OfParts),
+        Call::Pure(Pure::MachineFile(MachineFileCall::OfParts)),
     ),
     (
         "MachineFile::machine",
-        Call::MachineFile(MachineFileCall::Machine),
+        Call::Pure(Pure::MachineFile(MachineFileCall::Machine)),
     ),
     (
         "MachineFile::inputs",
-        Call::MachineFile(MachineFileCall::Inputs),
+        Call::Pure(Pure::MachineFile(MachineFileCall::Inputs)),
     ),
-    ("read_image", Call::Image(ImageCall::Read)),
-    ("write_image", Call::Image(ImageCall::Write)),
-    ("Image::listed", Call::Image(ImageCall::List)),
-    ("page_plan", Call::Image(ImageCall::Plan)),
+    ("read_image", Call::Pure(Pure::Image(ImageCall::Read))),
+    ("write_image", Call::Pure(Pure::Image(ImageCall::Write))),
+    ("Image::listed", Call::Pure(Pure::Image(ImageCall::List))),
+    ("page_plan", Call::Pure(Pure::Image(ImageCall::Plan))),
     ("load", Call::Load),
     ("Image::put", Call::PutWords),
     ("Labels::put", Call::PutLabels),
-    ("assemble", Call::Source(SourceCall::Assemble)),
-    ("placed_lines", Call::Listing(ListingCall::Places)),
-    ("list_source", Call::Listing(ListingCall::Source)),
-    ("list_image", Call::Listing(ListingCall::Image)),
-    ("read_statement", Call::Source(SourceCall::ReadStatement)),
-    ("build", Call::Analysis(AnalysisCall::Build)),
-    ("tight_state", Call::Analysis(AnalysisCall::Tight)),
-    ("nest", Call::Analysis(AnalysisCall::Nest)),
-    ("longest", Call::Analysis(AnalysisCall::Longest)),
+    ("assemble", Call::Pure(Pure::Source(SourceCall::Assemble))),
+    (
+        "placed_lines",
+        Call::Pure(Pure::Listing(ListingCall::Places)),
+    ),
+    (
+        "list_source",
+        Call::Pure(Pure::Listing(ListingCall::Source)),
+    ),
+    ("list_image", Call::Pure(Pure::Listing(ListingCall::Image))),
+    (
+        "read_statement",
+        Call::Pure(Pure::Source(SourceCall::ReadStatement)),
+    ),
+    ("build", Call::Pure(Pure::Analysis(AnalysisCall::Build))),
+    (
+        "tight_state",
+        Call::Pure(Pure::Analysis(AnalysisCall::Tight)),
+    ),
+    ("nest", Call::Pure(Pure::Analysis(AnalysisCall::Nest))),
+    ("longest", Call::Pure(Pure::Analysis(AnalysisCall::Longest))),
     ("FoldedWalk::push", Call::PushItems),
-    ("write_cert", Call::Certificate(CertificateCall::Write)),
-    ("read_cert", Call::Certificate(CertificateCall::Read)),
-    ("check", Call::Certificate(CertificateCall::Check)),
-    ("edge_counts", Call::Explained(ExplainedCall::Counts)),
-    ("source_table", Call::Explained(ExplainedCall::Lines)),
-    ("image_table", Call::Explained(ExplainedCall::Words)),
-    ("assumed", Call::Assumed(AssumedCall::Addresses)),
-    ("named_lines", Call::Assumed(AssumedCall::Rows)),
-    ("draft", Call::Draft),
-    ("follow", Call::Follow),
+    (
+        "write_cert",
+        Call::Pure(Pure::Certificate(CertificateCall::Write)),
+    ),
+    (
+        "read_cert",
+        Call::Pure(Pure::Certificate(CertificateCall::Read)),
+    ),
+    (
+        "check",
+        Call::Pure(Pure::Certificate(CertificateCall::Check)),
+    ),
+    (
+        "edge_counts",
+        Call::Pure(Pure::Explained(ExplainedCall::Counts)),
+    ),
+    (
+        "source_table",
+        Call::Pure(Pure::Explained(ExplainedCall::Lines)),
+    ),
+    (
+        "image_table",
+        Call::Pure(Pure::Explained(ExplainedCall::Words)),
+    ),
+    ("assumed", Call::Pure(Pure::Assumed(AssumedCall::Addresses))),
+    ("named_lines", Call::Pure(Pure::Assumed(AssumedCall::Rows))),
+    ("draft", Call::Pure(Pure::Draft)),
+    ("follow", Call::Pure(Pure::Follow)),
     ("Session::command-step", Call::Command(Command::Step)),
     ("Session::command-run", Call::Command(Command::Run)),
     ("Session::command-regs", Call::Command(Command::Registers)),
@@ -99,7 +165,7 @@ pub(crate) const CALLS: &[(&str, Call)] = &[
     ("Session::command-mem", Call::Command(Command::Words)),
     ("Session::command-dis", Call::Command(Command::Lines)),
     ("Session::command-break", Call::Command(Command::Breaks)),
-    ("MemoryOutput::with_room", Call::NewOutput),
+    ("MemoryOutput::with_room", Call::Pure(Pure::NewOutput)),
     ("asm_report", Call::Report(Report::Asm, ROOM)),
     ("list_report", Call::Report(Report::List, ROOM)),
     ("run_report", Call::Report(Report::Run, ROOM)),
@@ -119,29 +185,60 @@ pub(crate) const CALLS: &[(&str, Call)] = &[
     ("program-usage", Call::Program(Line::Usage)),
 ];
 
+fn try_command(alloc: Global, command: Command) -> Result<Outcome, ReportFault> {
+    let mut obeyed = Obeyed::new(alloc, command)?;
+    let outcome = tried(alloc, &mut obeyed);
+    drop(obeyed);
+    outcome
+}
+
+fn try_report(alloc: Global, report: Report, room: usize) -> Result<Outcome, ReportFault> {
+    let mut written = Written::new(alloc, report, room)?;
+    let outcome = tried(alloc, &mut written);
+    drop(written);
+    outcome
+}
+
+fn try_program(alloc: Global, line: Line) -> Result<Outcome, ReportFault> {
+    let mut started = Started::new(alloc, line)?;
+    let outcome = tried(alloc, &mut started);
+    drop(started);
+    outcome
+}
+
+fn try_load(alloc: Global) -> Result<Outcome, ReportFault> {
+    let mut load = Load::new(alloc)?;
+    let outcome = tried(alloc, &mut load);
+    drop(load);
+    outcome
+}
+
+fn try_rom(alloc: Global) -> Result<Outcome, ReportFault> {
+    let mut add = AddRom::new(alloc)?;
+    let outcome = tried(alloc, &mut add);
+    drop(add);
+    outcome
+}
+
+// Words, labels or items put in turn.
+fn try_put(alloc: Global, call: Call) -> Result<Outcome, ReportFault> {
+    match call {
+        Call::PutWords => tried(alloc, &mut PutWords::new(alloc)),
+        Call::PutLabels => tried(alloc, &mut PutLabels::new(alloc)),
+        _ => tried(alloc, &mut PushItems::new(alloc)),
+    }
+}
+
 impl Call {
     fn tried(self, alloc: Global) -> Result<Outcome, ReportFault> {
         match self {
-            Call::New(mut call) => tried(alloc, &mut call),
-            Call::NewOutput => tried(alloc, &mut NewOutput),
-            Call::AddRom => tried(alloc, &mut AddRom::new(alloc)?),
-            Call::MachineFile(mut call) => tried(alloc, &mut call),
-            Call::Image(mut call) => tried(alloc, &mut call),
-            Call::Load => tried(alloc, &mut Load::new(alloc)?),
-            Call::PutWords => tried(alloc, &mut PutWords::new(alloc)),
-            Call::PutLabels => tried(alloc, &mut PutLabels::new(alloc)),
-            Call::Source(mut call) => tried(alloc, &mut call),
-            Call::Listing(mut call) => tried(alloc, &mut call),
-            Call::Analysis(mut call) => tried(alloc, &mut call),
-            Call::PushItems => tried(alloc, &mut PushItems::new(alloc)),
-            Call::Certificate(mut call) => tried(alloc, &mut call),
-            Call::Explained(mut call) => tried(alloc, &mut call),
-            Call::Assumed(mut call) => tried(alloc, &mut call),
-            Call::Draft => tried(alloc, &mut Drafted),
-            Call::Follow => tried(alloc, &mut Follow),
-            Call::Command(command) => tried(alloc, &mut Obeyed::new(alloc, command)?),
-            Call::Report(report, room) => tried(alloc, &mut Written::new(alloc, report, room)?),
-            Call::Program(line) => tried(alloc, &mut Started::new(alloc, line)?),
+            Call::Pure(mut call) => tried(alloc, &mut call),
+            Call::AddRom => try_rom(alloc),
+            Call::Load => try_load(alloc),
+            Call::PutWords | Call::PutLabels | Call::PushItems => try_put(alloc, self),
+            Call::Command(command) => try_command(alloc, command),
+            Call::Report(report, room) => try_report(alloc, report, room),
+            Call::Program(line) => try_program(alloc, line),
         }
     }
 

@@ -1,11 +1,10 @@
-use crate::analysis::{Stated, nested};
-use crate::trial::{Answer, Trial};
+use crate::analysis::{Stated, graph_of, nested, walk_of};
+use crate::trial::Answer;
 use arcwcet::ReportFault;
-use bus_ticks::Profile;
 use cert_check::{CheckFault, Verdict, check};
 use certificate::{Cert, CertFault, read_cert, write_cert};
-use flow_graph::build;
-use longest_walk::{Longest, longest};
+use flow_graph::Graph;
+use longest_walk::Longest;
 use loop_bounds::nest;
 use samples::nested_countdown::CERTIFICATE;
 use std::alloc::Global;
@@ -18,20 +17,22 @@ pub(crate) enum CertificateCall {
     Check,
 }
 
-fn longest_of(alloc: Global, handler: &Stated) -> Result<Longest, ReportFault> {
-    let graph = build(alloc, &handler.image, &handler.statement, &Profile::one())?;
-    let tree = nest(alloc, &graph, &handler.statement)?;
-    Ok(longest(alloc, &graph, &tree)?)
+fn found(alloc: Global, handler: &Stated) -> Result<Longest, ReportFault> {
+    let graph = graph_of(alloc, handler)?;
+    let found = walk_of(alloc, handler, &graph);
+    drop(graph);
+    found
 }
 
-fn written(alloc: Global) -> Result<Answer, ReportFault> {
-    let handler = nested(alloc)?;
-    let found = longest_of(alloc, &handler)?;
-    Ok(match write_cert(alloc, &found) {
+fn written(alloc: Global, handler: &Stated) -> Result<Answer, ReportFault> {
+    let found = found(alloc, handler)?;
+    let answer = match write_cert(alloc, &found) {
         Ok(text) => Answer::of(text.as_slice() == CERTIFICATE),
         Err(CertFault::Memory) => Answer::Refused,
         Err(_) => Answer::Wrong,
-    })
+    };
+    drop(found);
+    Ok(answer)
 }
 
 fn is_nested(cert: &Cert) -> bool {
@@ -45,35 +46,51 @@ fn is_nested(cert: &Cert) -> bool {
 
 fn read(alloc: Global) -> Answer {
     match read_cert(alloc, CERTIFICATE) {
-        Ok(cert) => Answer::of(is_nested(&cert)),
+        Ok(cert) => Answer::of_value(is_nested(&cert), cert),
         Err(CertFault::Memory) => Answer::Refused,
         Err(_) => Answer::Wrong,
     }
 }
 
-fn checked(alloc: Global, handler: &Stated) -> Result<Answer, ReportFault> {
-    let graph = build(alloc, &handler.image, &handler.statement, &Profile::one())?;
-    let tree = nest(alloc, &graph, &handler.statement)?;
-    let cert = read_cert(alloc, CERTIFICATE)?;
-    Ok(match check(alloc, &graph, &tree, &cert) {
-        Ok(verdict) => Answer::of(verdict == Verdict::Yes),
-        Err(CheckFault::Memory) => Answer::Refused,
-    })
+fn checked_on(alloc: Global, handler: &Stated, graph: &Graph) -> Result<Answer, ReportFault> {
+    let tree = nest(alloc, graph, &handler.statement)?;
+    let answer = match read_cert(alloc, CERTIFICATE) {
+        Ok(cert) => {
+            let verdict = check(alloc, graph, &tree, &cert);
+            drop(cert);
+            Ok(match verdict {
+                Ok(verdict) => Answer::of(verdict == Verdict::Yes),
+                Err(CheckFault::Memory) => Answer::Refused,
+            })
+        }
+        Err(fault) => Err(fault.into()),
+    };
+    drop(tree);
+    answer
 }
 
-impl Trial for CertificateCall {
-    fn make(&mut self, alloc: Global) -> Result<Answer, ReportFault> {
-        match self {
-            CertificateCall::Write => written(alloc),
-            CertificateCall::Read => Ok(read(alloc)),
-            CertificateCall::Check => {
-                let handler = nested(alloc)?;
-                checked(alloc, &handler)
-            }
-        }
+fn checked(alloc: Global, handler: &Stated) -> Result<Answer, ReportFault> {
+    let graph = graph_of(alloc, handler)?;
+    let answer = checked_on(alloc, handler, &graph);
+    drop(graph);
+    answer
+}
+
+impl CertificateCall {
+    fn on_handler(self, alloc: Global) -> Result<Answer, ReportFault> {
+        let handler = nested(alloc)?;
+        let answer = match self {
+            CertificateCall::Check => checked(alloc, &handler),
+            _ => written(alloc, &handler),
+        };
+        drop(handler);
+        answer
     }
 
-    fn is_unchanged(&mut self, _alloc: Global) -> Result<bool, ReportFault> {
-        Ok(true)
+    pub(crate) fn made(self, alloc: Global) -> Result<Answer, ReportFault> {
+        match self {
+            CertificateCall::Read => Ok(read(alloc)),
+            CertificateCall::Write | CertificateCall::Check => self.on_handler(alloc),
+        }
     }
 }

@@ -1,4 +1,4 @@
-use crate::trial::{Answer, Trial};
+use crate::trial::Answer;
 use arcwcet::ReportFault;
 use assembler::{Assembly, assemble, placed_lines};
 use drafting::{Program, draft};
@@ -46,13 +46,11 @@ fn answered(alloc: Global, said: &Assembly) -> Result<Answer, ReportFault> {
     Ok(Answer::of_text(draft(alloc, &program, 0x8000), DRAFT))
 }
 
-impl Trial for Drafted {
-    fn make(&mut self, alloc: Global) -> Result<Answer, ReportFault> {
+impl Drafted {
+    pub(crate) fn made(self, alloc: Global) -> Result<Answer, ReportFault> {
         let said = assemble(alloc, SOURCE)?;
-        answered(alloc, &said)
-    }
-
-    fn is_unchanged(&mut self, _alloc: Global) -> Result<bool, ReportFault> {
-        Ok(true)
+        let answer = answered(alloc, &said);
+        drop(said);
+        answer
     }
 }

@@ -1,12 +1,10 @@
-use crate::analysis::{Stated, nested};
-use crate::trial::{Answer, Trial};
+use crate::analysis::{Stated, graph_of, nested, walk_of};
+use crate::trial::Answer;
 use arcwcet::ReportFault;
 use assembler::placed_lines;
-use bus_ticks::Profile;
 use explained::{image_table, source_table};
-use flow_graph::{Graph, build};
-use longest_walk::{Longest, longest};
-use loop_bounds::nest;
+use flow_graph::Graph;
+use longest_walk::Longest;
 use samples::nested_countdown::SOURCE;
 use std::alloc::Global;
 use walk_counts::edge_counts;
@@ -49,15 +47,6 @@ pub(crate) enum ExplainedCall {
     Counts,
 }
 
-fn graph_of(alloc: Global, handler: &Stated) -> Result<Graph, ReportFault> {
-    Ok(build(alloc, &handler.image, &handler.statement, &Profile::one())?)
-}
-
-fn longest_of(alloc: Global, handler: &Stated, graph: &Graph) -> Result<Longest, ReportFault> {
-    let tree = nest(alloc, graph, &handler.statement)?;
-    Ok(longest(alloc, graph, &tree)?)
-}
-
 fn lines(alloc: Global, graph: &Graph, found: &Longest) -> Result<Answer, ReportFault> {
     let placed = placed_lines(alloc, SOURCE)?;
     let made = source_table(alloc, SOURCE, &placed, graph, found);
@@ -79,24 +68,33 @@ fn counted(alloc: Global, graph: &Graph, found: &Longest) -> Answer {
 }
 
 impl ExplainedCall {
+    fn on_graph(
+        self,
+        alloc: Global,
+        handler: &Stated,
+        graph: &Graph,
+    ) -> Result<Answer, ReportFault> {
+        let found = walk_of(alloc, handler, graph)?;
+        let answer = match self {
+            ExplainedCall::Lines => lines(alloc, graph, &found),
+            ExplainedCall::Words => Ok(words(alloc, handler, graph, &found)),
+            ExplainedCall::Counts => Ok(counted(alloc, graph, &found)),
+        };
+        drop(found);
+        answer
+    }
+
     fn on(self, alloc: Global, handler: &Stated) -> Result<Answer, ReportFault> {
         let graph = graph_of(alloc, handler)?;
-        let found = longest_of(alloc, handler, &graph)?;
-        match self {
-            ExplainedCall::Lines => lines(alloc, &graph, &found),
-            ExplainedCall::Words => Ok(words(alloc, handler, &graph, &found)),
-            ExplainedCall::Counts => Ok(counted(alloc, &graph, &found)),
-        }
+        let answer = self.on_graph(alloc, handler, &graph);
+        drop(graph);
+        answer
     }
-}
 
-impl Trial for ExplainedCall {
-    fn make(&mut self, alloc: Global) -> Result<Answer, ReportFault> {
+    pub(crate) fn made(self, alloc: Global) -> Result<Answer, ReportFault> {
         let handler = nested(alloc)?;
-        self.on(alloc, &handler)
-    }
-
-    fn is_unchanged(&mut self, _alloc: Global) -> Result<bool, ReportFault> {
-        Ok(true)
+        let answer = self.on(alloc, &handler);
+        drop(handler);
+        answer
     }
 }

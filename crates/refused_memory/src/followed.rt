@@ -2,15 +2,14 @@ ghost use Rattle.std.specs.Prelude.{◌≡◌, IfOk, length};
 ghost use Rattle.kept_runs.specs.Judging.{IsMachineFor};
 ghost use Rattle.kept_runs.specs.Keeping.{IsHandler};
 
-use crate::analysis::Stated;
+use crate::analysis::{Stated, handler_of};
 use crate::machine::word_in;
-use crate::trial::{Answer, Trial};
+use crate::trial::Answer;
 use arcwcet::ReportFault;
 use arm2_exec::{Input, Machine, Reg};
-use assembler::assemble;
 use bitflags::Flags;
 use bus_ticks::Profile;
-use flow_graph::{Graph, build, read_statement};
+use flow_graph::{Graph, build};
 use ioc::Lines;
 use kept_runs::{Followed, Handler, follow};
 use loader::{Image, load};
@@ -62,15 +61,6 @@ fn is_kept(found: &Followed) -> bool {
     }
 }
 
-fn countdown(alloc: Global) -> Result<Stated, ReportFault> {
-    let said = assemble(alloc, SOURCE)?;
-    let statement = read_statement(alloc, STATEMENT, &said.labels)?;
-    Ok(Stated {
-        image: said.image,
-        statement,
-    })
-}
-
 fn machine_of(alloc: Global, image: &Image, profile: Profile) -> Result<Machine, ReportFault>
     ensures registers { IfOk result (λ m. length m.regs ≡ 27) }
     ensures prices { IfOk result (λ m. m.profile ≡ profile) }
@@ -105,19 +95,31 @@ fn followed(
         graph,
         tree,
     };
-    Ok(answered(alloc, whole, &mut machine))
+    let answer = answered(alloc, whole, &mut machine);
+    drop(machine);
+    Ok(answer)
 }
 
-impl Trial for Follow {
-    fn make(&mut self, alloc: Global) -> Result<Answer, ReportFault> {
-        let handler = countdown(alloc)?;
-        let graph = build(alloc, &handler.image, &handler.statement, &Profile::one())?;
-        let tree = nest(alloc, &graph, &handler.statement)?;
-        followed(alloc, &handler, &graph, &tree)
+// Each call compares the machine that it was refused.
+impl Follow {
+    pub(crate) fn made(self, alloc: Global) -> Result<Answer, ReportFault> {
+        let handler = handler_of(alloc, SOURCE, STATEMENT)?;
+        let answer = on_handler(alloc, &handler);
+        drop(handler);
+        answer
     }
+}
 
-    // Each call compares the machine that it was refused.
-    fn is_unchanged(&mut self, _alloc: Global) -> Result<bool, ReportFault> {
-        Ok(true)
-    }
+fn on_handler(alloc: Global, handler: &Stated) -> Result<Answer, ReportFault> {
+    let graph = build(alloc, &handler.image, &handler.statement, &Profile::one())?;
+    let answer = match nest(alloc, &graph, &handler.statement) {
+        Ok(tree) => {
+            let answer = followed(alloc, handler, &graph, &tree);
+            drop(tree);
+            answer
+        }
+        Err(fault) => Err(fault.into()),
+    };
+    drop(graph);
+    answer
 }

@@ -45,7 +45,7 @@ fn is_countdown(image: &Image) -> bool {
 
 fn read(alloc: Global) -> Answer {
     match read_image(alloc, &IMAGE) {
-        Ok(image) => Answer::of(is_countdown(&image)),
+        Ok(image) => Answer::of_value(is_countdown(&image), image),
         Err(ReadFault::Memory) => Answer::Refused,
         Err(_) => Answer::Wrong,
     }
@@ -53,11 +53,13 @@ fn read(alloc: Global) -> Answer {
 
 fn written(alloc: Global) -> Result<Answer, ReportFault> {
     let said = assemble(alloc, SOURCE)?;
-    Ok(match write_image(alloc, &said.image) {
+    let answer = match write_image(alloc, &said.image) {
         Ok(bytes) => Answer::of(bytes.as_slice() == IMAGE.as_slice()),
         Err(ImageFault::Memory) => Answer::Refused,
         Err(_) => Answer::Wrong,
-    })
+    };
+    drop(said);
+    Ok(answer)
 }
 
 fn listed(alloc: Global) -> Result<Answer, ReportFault> {
@@ -67,10 +69,12 @@ fn listed(alloc: Global) -> Result<Answer, ReportFault> {
         (0x200_0010, 2),
         (0x380_0000, 0x1234_5678),
     ];
-    Ok(match said.image.listed(alloc) {
+    let answer = match said.image.listed(alloc) {
         Ok(list) => Answer::of(list.as_slice() == words.as_slice()),
         Err(_) => Answer::Refused,
-    })
+    };
+    drop(said);
+    Ok(answer)
 }
 
 // Physical page 0 is taken, logical page 1 gets the next, and the one after that is spare.
@@ -84,24 +88,22 @@ fn is_planned(plan: &PagePlan) -> bool {
 
 fn planned(alloc: Global) -> Result<Answer, ReportFault> {
     let said = assemble(alloc, SCATTERED)?;
-    Ok(match page_plan(alloc, &said.image) {
+    let answer = match page_plan(alloc, &said.image) {
         Ok(plan) => Answer::of(is_planned(&plan)),
         Err(_) => Answer::Refused,
-    })
+    };
+    drop(said);
+    Ok(answer)
 }
 
-impl Trial for ImageCall {
-    fn make(&mut self, alloc: Global) -> Result<Answer, ReportFault> {
+impl ImageCall {
+    pub(crate) fn made(self, alloc: Global) -> Result<Answer, ReportFault> {
         match self {
             ImageCall::Read => Ok(read(alloc)),
             ImageCall::Write => written(alloc),
             ImageCall::List => listed(alloc),
             ImageCall::Plan => planned(alloc),
         }
-    }
-
-    fn is_unchanged(&mut self, _alloc: Global) -> Result<bool, ReportFault> {
-        Ok(true)
     }
 }
 

@@ -1,4 +1,4 @@
-use crate::trial::{Answer, Trial};
+use crate::trial::Answer;
 use arcwcet::ReportFault;
 use assembler::{AsmFault, Assembly, PlacedLine, assemble, placed_lines};
 use listing::{list_image, list_source};
@@ -66,22 +66,21 @@ fn image_rows(alloc: Global, said: &Assembly) -> Answer {
     Answer::of_text(list_image(alloc, &said.image), IMAGE_ROWS)
 }
 
-impl Trial for ListingCall {
-    fn make(&mut self, alloc: Global) -> Result<Answer, ReportFault> {
-        match self {
-            ListingCall::Places => Ok(placed(alloc)),
-            ListingCall::Source => {
-                let said = assemble(alloc, LINES)?;
-                source_rows(alloc, &said)
-            }
-            ListingCall::Image => {
-                let said = assemble(alloc, LINES)?;
-                Ok(image_rows(alloc, &said))
-            }
-        }
+impl ListingCall {
+    fn on_assembly(self, alloc: Global) -> Result<Answer, ReportFault> {
+        let said = assemble(alloc, LINES)?;
+        let answer = match self {
+            ListingCall::Source => source_rows(alloc, &said),
+            _ => Ok(image_rows(alloc, &said)),
+        };
+        drop(said);
+        answer
     }
 
-    fn is_unchanged(&mut self, _alloc: Global) -> Result<bool, ReportFault> {
-        Ok(true)
+    pub(crate) fn made(self, alloc: Global) -> Result<Answer, ReportFault> {
+        match self {
+            ListingCall::Places => Ok(placed(alloc)),
+            ListingCall::Source | ListingCall::Image => self.on_assembly(alloc),
+        }
     }
 }

@@ -41,7 +41,7 @@ fn is_new(memc: &Memc) -> bool {
 
 fn new_memc(alloc: Global) -> Answer {
     match Memc::new(alloc, PageSize::K4) {
-        Ok(memc) => Answer::of(is_new(&memc)),
+        Ok(memc) => Answer::of_value(is_new(&memc), memc),
         Err(MemcFault::Memory) => Answer::Refused,
     }
 }
@@ -58,21 +58,17 @@ fn is_reset(machine: &Machine) -> bool {
 
 fn new_machine(alloc: Global) -> Answer {
     match Machine::new(alloc, PageSize::K4, Profile::one()) {
-        Ok(machine) => Answer::of(is_reset(&machine)),
+        Ok(machine) => Answer::of_value(is_reset(&machine), machine),
         Err(MachineFault::Memory) => Answer::Refused,
     }
 }
 
-impl Trial for NewCall {
-    fn make(&mut self, alloc: Global) -> Result<Answer, ReportFault> {
-        Ok(match self {
+impl NewCall {
+    pub(crate) fn made(self, alloc: Global) -> Answer {
+        match self {
             NewCall::Memc => new_memc(alloc),
             NewCall::Machine => new_machine(alloc),
-        })
-    }
-
-    fn is_unchanged(&mut self, _alloc: Global) -> Result<bool, ReportFault> {
-        Ok(true)
+        }
     }
 }
 

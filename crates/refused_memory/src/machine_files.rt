@@ -1,4 +1,4 @@
-use crate::trial::{Answer, Trial};
+use crate::trial::Answer;
 use arcwcet::ReportFault;
 use arm2_effect::{Mode, Reg};
 use arm2_exec::{Input, Machine};
@@ -64,11 +64,18 @@ fn states_machine(file: &MachineFile) -> bool {
         && file.words() == [WORD].as_slice()
 }
 
+// Whether the file states the machine without events.
+fn states_only(file: &MachineFile) -> bool {
+    states_machine(file) && file.events().is_empty()
+}
+
+fn has_event(file: &MachineFile) -> bool {
+    file.events().get(&1).copied() == Some(EVENT)
+}
+
 fn read(alloc: Global) -> Answer {
     match read_machine(alloc, MACHINE) {
-        Ok(file) => Answer::of(
-            states_machine(&file) && file.events().get(&1).copied() == Some(EVENT),
-        ),
+        Ok(file) => Answer::of_value(states_machine(&file) && has_event(&file), file),
         Err(MachineFileFault::Memory) => Answer::Refused,
         Err(_) => Answer::Wrong,
     }
@@ -119,28 +126,34 @@ fn parts(alloc: Global) -> Result<MachineParts, AllocError> {
 fn of_parts(alloc: Global) -> Result<Answer, ReportFault> {
     let parts = parts(alloc)?;
     Ok(match MachineFile::of_parts(alloc, parts) {
-        Ok(file) => Answer::of(states_machine(&file) && file.events().is_empty()),
+        Ok(file) => Answer::of_value(states_only(&file), file),
         Err(MachineFileFault::Memory) => Answer::Refused,
         Err(_) => Answer::Wrong,
     })
 }
 
 // Whether the text is read back as the machine that was written.
-fn is_machine(alloc: Global, text: &str) -> Result<bool, ReportFault> {
+fn read_back(alloc: Global, text: &str) -> Result<Answer, ReportFault> {
     let file = read_machine(alloc, text.as_bytes())?;
-    Ok(states_machine(&file) && file.events().is_empty())
+    Ok(Answer::of_value(states_only(&file), file))
+}
+
+fn written_file(alloc: Global, file: &MachineFile) -> Result<Answer, ReportFault> {
+    if !file.events().is_empty() {
+        return Ok(Answer::Wrong);
+    }
+    match write_machine(alloc, file) {
+        Ok(text) => read_back(alloc, text.as_str()),
+        Err(_) => Ok(Answer::Refused),
+    }
 }
 
 fn written(alloc: Global) -> Result<Answer, ReportFault> {
     let parts = parts(alloc)?;
     let file = MachineFile::of_parts(alloc, parts)?;
-    if !file.events().is_empty() {
-        return Ok(Answer::Wrong);
-    }
-    match write_machine(alloc, &file) {
-        Ok(text) => Ok(Answer::of(is_machine(alloc, text.as_str())?)),
-        Err(_) => Ok(Answer::Refused),
-    }
+    let answer = written_file(alloc, &file);
+    drop(file);
+    answer
 }
 
 fn is_started(machine: &Machine) -> bool {
@@ -150,10 +163,12 @@ fn is_started(machine: &Machine) -> bool {
 
 fn started(alloc: Global) -> Result<Answer, ReportFault> {
     let file = read_machine(alloc, MACHINE)?;
-    Ok(match file.machine(alloc, Profile::one()) {
-        Ok(machine) => Answer::of(is_started(&machine)),
+    let answer = match file.machine(alloc, Profile::one()) {
+        Ok(machine) => Answer::of_value(is_started(&machine), machine),
         Err(_) => Answer::Refused,
-    })
+    };
+    drop(file);
+    Ok(answer)
 }
 
 fn input(bursts: u16) -> Input {
@@ -166,14 +181,16 @@ fn input(bursts: u16) -> Input {
 
 fn inputs(alloc: Global) -> Result<Answer, ReportFault> {
     let file = read_machine(alloc, MACHINE)?;
-    Ok(match file.inputs(alloc) {
+    let answer = match file.inputs(alloc) {
         Ok(inputs) => Answer::of(inputs.as_slice() == [input(0), input(7), input(0)].as_slice()),
         Err(_) => Answer::Refused,
-    })
+    };
+    drop(file);
+    Ok(answer)
 }
 
-impl Trial for MachineFileCall {
-    fn make(&mut self, alloc: Global) -> Result<Answer, ReportFault> {
+impl MachineFileCall {
+    pub(crate) fn made(self, alloc: Global) -> Result<Answer, ReportFault> {
         match self {
             MachineFileCall::Read => Ok(read(alloc)),
             MachineFileCall::ReadProfile => Ok(priced(alloc)),
@@ -182,9 +199,5 @@ impl Trial for MachineFileCall {
             MachineFileCall::Machine => started(alloc),
             MachineFileCall::Inputs => inputs(alloc),
         }
-    }
-
-    fn is_unchanged(&mut self, _alloc: Global) -> Result<bool, ReportFault> {
-        Ok(true)
     }
 }

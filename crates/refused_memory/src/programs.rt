@@ -76,12 +76,17 @@ pub(crate) struct Started {
     out: MemoryOutput,
 }
 
-fn words(alloc: Global, line: Line) -> Result<Vec<String>, AllocError> {
-    let mut words = Vec::new(alloc);
+fn push_words(alloc: Global, words: &mut Vec<String>, line: Line) -> Result<(), AllocError> {
     words.push(String::from_str(alloc, "arcwcet")?)?;
     for word in line.words() {
         words.push(String::from_str(alloc, word)?)?;
     }
+    Ok(())
+}
+
+fn words(alloc: Global, line: Line) -> Result<Vec<String>, AllocError> {
+    let mut words = Vec::new(alloc);
+    push_words(alloc, &mut words, line)?;
     Ok(words)
 }
 
@@ -96,34 +101,38 @@ impl Started {
         })
     }
 
+    fn run(&mut self, alloc: Global, err: &mut MemoryOutput) -> u8 {
+        let mut input: &[u8] = b"";
+        program(
+            alloc,
+            &self.words,
+            &mut self.files,
+            &mut input,
+            &mut self.out,
+            err,
+        )
+    }
+
     fn is_right(&self, status: u8, told: &[u8]) -> bool {
         let answer = (status, self.out.bytes());
         answer == self.line.answer()
             && self.files.written == self.line.written()
             && told.is_empty() == (status == 0)
     }
+
+    fn answer(&self, status: u8, told: &[u8]) -> Answer {
+        if status != NO_MEMORY {
+            return Answer::of(self.is_right(status, told));
+        }
+        Answer::of_refusal(told == b"refused: Memory\n".as_slice())
+    }
 }
 
 impl Trial for Started {
     fn make(&mut self, alloc: Global) -> Result<Answer, ReportFault> {
         let mut err = MemoryOutput::with_room(alloc, ROOM)?;
-        let mut input: &[u8] = b"";
-        let status = program(
-            alloc,
-            &self.words,
-            &mut self.files,
-            &mut input,
-            &mut self.out,
-            &mut err,
-        );
-        if status != NO_MEMORY {
-            return Ok(Answer::of(self.is_right(status, err.bytes())));
-        }
-        if err.bytes() == b"refused: Memory\n".as_slice() {
-            Ok(Answer::Refused)
-        } else {
-            Ok(Answer::Wrong)
-        }
+        let status = self.run(alloc, &mut err);
+        Ok(self.answer(status, err.bytes()))
     }
 
     fn is_unchanged(&mut self, _alloc: Global) -> Result<bool, ReportFault> {

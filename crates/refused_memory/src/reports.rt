@@ -136,8 +136,14 @@ const EXPLAINED: Explained<'static> = Explained {
     },
 };
 
+const FOLLOWED_RUN: FollowedRun<'static> = FollowedRun {
+    source: countdown::SOURCE,
+    statement: countdown::STATEMENT,
+    machine: countdown::MACHINE,
+};
+
 /// A report that takes memory.
-#[derive(Clone, Copy, PartialEq, Eq)]
+#[derive(Clone, Copy)]
 pub(crate) enum Report {
     Asm,
     List,
@@ -177,88 +183,75 @@ impl Report {
 
     fn write(self, alloc: Global, out: &mut MemoryOutput) -> Result<bool, ReportFault> {
         match self {
-            Report::Asm | Report::List | Report::Draft | Report::Graph => {
-                self.write_of_source(alloc, out)
+            Report::Run | Report::Trace | Report::Follow => self.write_of_machine(alloc, out),
+            Report::Check | Report::Explain => self.write_of_bound(alloc, out),
+            Report::Asm | Report::List | Report::Debug | Report::Draft => {
+                self.write_of_source(alloc, out)?;
+                Ok(true)
             }
-            Report::Run | Report::Trace | Report::Debug | Report::Follow => {
-                self.write_of_machine(alloc, out)
+            _ => {
+                self.write_of_handler(alloc, out)?;
+                Ok(true)
             }
-            _ => self.write_of_handler(alloc, out),
         }
     }
 
-    fn write_of_source(self, alloc: Global, out: &mut MemoryOutput) -> Result<bool, ReportFault> {
+    fn write_of_source(self, alloc: Global, out: &mut MemoryOutput) -> Result<(), ReportFault> {
         let source = countdown::SOURCE;
         match self {
-            Report::List => list_report(alloc, source, out)?,
-            Report::Draft => draft_report(alloc, source, b"start", out)?,
-            Report::Graph => graph_report(alloc, source, countdown::STATEMENT, None, out)?,
-            _ => asm_report(alloc, source, out)?,
+            Report::List => list_report(alloc, source, out),
+            Report::Debug => debug_report(alloc, source, countdown::MACHINE, COMMANDS, None, out),
+            Report::Draft => draft_report(alloc, source, b"start", out),
+            _ => asm_report(alloc, source, out),
         }
-        Ok(true)
     }
 
     fn write_of_machine(self, alloc: Global, out: &mut MemoryOutput) -> Result<bool, ReportFault> {
         let (source, machine) = (countdown::SOURCE, countdown::MACHINE);
         match self {
-            Report::Run => run_report(alloc, source, machine, None, out),
             Report::Trace => trace_report(alloc, source, machine, None, out),
-            Report::Follow => {
-                let followed = FollowedRun {
-                    source,
-                    statement: countdown::STATEMENT,
-                    machine,
-                };
-                follow_report(alloc, followed, None, out)
-            }
-            _ => {
-                debug_report(alloc, source, machine, COMMANDS, None, out)?;
-                Ok(true)
-            }
+            Report::Follow => follow_report(alloc, FOLLOWED_RUN, None, out),
+            _ => run_report(alloc, source, machine, None, out),
         }
     }
 
-    fn write_of_handler(self, alloc: Global, out: &mut MemoryOutput) -> Result<bool, ReportFault> {
+    fn write_of_bound(self, alloc: Global, out: &mut MemoryOutput) -> Result<bool, ReportFault> {
         let (source, statement) = (nested_countdown::SOURCE, nested_countdown::STATEMENT);
+        let certificate = nested_countdown::CERTIFICATE;
         match self {
-            Report::Check => {
-                let certificate = nested_countdown::CERTIFICATE;
-                check_report(alloc, source, statement, certificate, None, out)
-            }
-            Report::Visits => {
-                visits_report(
-                    alloc,
-                    TWO_HANDLERS,
-                    IRQ_STATEMENT,
-                    FIQ_STATEMENT,
-                    2,
-                    None,
-                    out,
-                )?;
-                Ok(true)
-            }
-            Report::Tight => {
-                let (source, statement) = (countdown::SOURCE, countdown::STATEMENT);
-                tight_report(alloc, source, statement, EDGE, None, out)?;
-                Ok(true)
-            }
             Report::Explain => explain_report(alloc, EXPLAINED, None, out),
+            _ => check_report(alloc, source, statement, certificate, None, out),
+        }
+    }
+
+    fn write_of_handler(self, alloc: Global, out: &mut MemoryOutput) -> Result<(), ReportFault> {
+        let (source, statement) = (countdown::SOURCE, countdown::STATEMENT);
+        match self {
+            Report::Visits => {
+                let (irq, fiq) = (IRQ_STATEMENT, FIQ_STATEMENT);
+                visits_report(alloc, TWO_HANDLERS, irq, fiq, 2, None, out)
+            }
+            Report::Tight => tight_report(alloc, source, statement, EDGE, None, out),
+            Report::Graph => graph_report(alloc, source, statement, None, out),
             _ => {
-                bound_report(alloc, source, statement, None, out)?;
-                Ok(true)
+                let (source, statement) = (nested_countdown::SOURCE, nested_countdown::STATEMENT);
+                bound_report(alloc, source, statement, None, out)
             }
         }
     }
 
     fn is_written(self, alloc: Global, written: &[u8]) -> Result<bool, ReportFault> {
-        if self == Report::Tight {
-            return Ok(written.starts_with(EDGE_LINE) && runs_edge(alloc, written)?);
+        match self {
+            Report::Tight => is_tight(alloc, written),
+            Report::Explain => Ok(written.strip_prefix(NESTED_LINES) == Some(BURST_LINES)),
+            _ => Ok(written == self.text()),
         }
-        if self == Report::Explain {
-            return Ok(written.strip_prefix(NESTED_LINES) == Some(BURST_LINES));
-        }
-        Ok(written == self.text())
     }
+}
+
+// Whether the edge's line begins a machine file that runs for the edge's ticks.
+fn is_tight(alloc: Global, written: &[u8]) -> Result<bool, ReportFault> {
+    Ok(written.starts_with(EDGE_LINE) && runs_edge(alloc, written)?)
 }
 
 // Whether a machine file runs for the ticks of the edge.
@@ -322,16 +315,12 @@ fn takes_hundred(out: &mut MemoryOutput) -> bool {
     out.bytes().is_empty() && out.write(&[7; 100]) == Ok(100) && out.bytes() == [7; 100].as_slice()
 }
 
-impl Trial for NewOutput {
-    fn make(&mut self, alloc: Global) -> Result<Answer, ReportFault> {
+impl NewOutput {
+    pub(crate) fn made(self, alloc: Global) -> Result<Answer, ReportFault> {
         match MemoryOutput::with_room(alloc, 100) {
             Ok(mut out) => Ok(Answer::of(takes_hundred(&mut out))),
             Err(ReportFault::Memory) => Ok(Answer::Refused),
             Err(_) => Ok(Answer::Wrong),
         }
-    }
-
-    fn is_unchanged(&mut self, _alloc: Global) -> Result<bool, ReportFault> {
-        Ok(true)
     }
 }

@@ -31,7 +31,7 @@ const ALL_TICKS: &[u8] = b"ticks 2560 elapsed 2602\n";
 const BREAKS: &[u8] = b"00009000\n";
 
 /// A command of the debugger that takes memory.
-#[derive(Clone, Copy, PartialEq, Eq)]
+#[derive(Clone, Copy)]
 pub(crate) enum Command {
     /// 1024 steps.
     Step,
@@ -103,22 +103,45 @@ pub(crate) struct Obeyed {
     command: Command,
 }
 
+fn load_loop(alloc: Global, machine: &mut Machine) -> Result<(), ReportFault> {
+    let said = assemble(alloc, LOOP)?;
+    let loaded = load(alloc, machine, &said.image);
+    drop(said);
+    Ok(loaded?)
+}
+
 fn machine(alloc: Global) -> Result<Machine, ReportFault> {
     let mut machine = Machine::new(alloc, PageSize::K4, Profile::one())?;
-    let said = assemble(alloc, LOOP)?;
-    load(alloc, &mut machine, &said.image)?;
-    machine.set(Reg::R15, 0x0C00_8003);
-    Ok(machine)
+    match load_loop(alloc, &mut machine) {
+        Ok(()) => {
+            machine.set(Reg::R15, 0x0C00_8003);
+            Ok(machine)
+        }
+        Err(fault) => {
+            drop(machine);
+            Err(fault)
+        }
+    }
 }
 
 impl Obeyed {
     pub(crate) fn new(alloc: Global, command: Command) -> Result<Obeyed, ReportFault> {
         let session = Session::new(machine(alloc)?);
         let mut obeyed = Obeyed { session, command };
-        if obeyed.has_answer(alloc, b"burst 7", b"")?
-            && obeyed.has_answer(alloc, b"break &9000", b"")?
+        match obeyed.set_up(alloc) {
+            Ok(()) => Ok(obeyed),
+            Err(fault) => {
+                drop(obeyed);
+                Err(fault)
+            }
+        }
+    }
+
+    fn set_up(&mut self, alloc: Global) -> Result<(), ReportFault> {
+        if self.has_answer(alloc, b"burst 7", b"")?
+            && self.has_answer(alloc, b"break &9000", b"")?
         {
-            Ok(obeyed)
+            Ok(())
         } else {
             Err(ReportFault::Device)
         }
@@ -144,10 +167,10 @@ impl Trial for Obeyed {
         let is_right = match self.session.command(alloc, self.command.line()) {
             Ok(answer) => self.command.is_answered(&answer),
             Err(DebugFault::Memory) => return Ok(Answer::Refused),
-            Err(_) => false,
+            Err(_) => return Ok(Answer::Wrong),
         };
-        let ticks = self.command.ticks_after();
-        Ok(Answer::of(is_right && self.has_answer(alloc, b"ticks", ticks)?))
+        let has_ticks = self.has_answer(alloc, b"ticks", self.command.ticks_after())?;
+        Ok(Answer::of(is_right && has_ticks))
     }
 
     // The bursts show once the command is made again: in what `ticks` answers after it.

@@ -1,4 +1,4 @@
-use crate::trial::{Answer, Trial};
+use crate::trial::Answer;
 use arcwcet::ReportFault;
 use assembler::{AsmFault, Assembly, assemble};
 use flow_graph::{Loop, Statement, StatementFault, read_statement};
@@ -21,7 +21,7 @@ fn is_nested(said: &Assembly) -> bool {
 
 fn assembled(alloc: Global) -> Answer {
     match assemble(alloc, SOURCE) {
-        Ok(said) => Answer::of(is_nested(&said)),
+        Ok(said) => Answer::of_value(is_nested(&said), said),
         Err(AsmFault::Memory) => Answer::Refused,
         Err(_) => Answer::Wrong,
     }
@@ -45,22 +45,20 @@ fn states_nested(statement: &Statement) -> bool {
 
 fn stated(alloc: Global) -> Result<Answer, ReportFault> {
     let said = assemble(alloc, SOURCE)?;
-    Ok(match read_statement(alloc, STATEMENT, &said.labels) {
-        Ok(statement) => Answer::of(states_nested(&statement)),
+    let answer = match read_statement(alloc, STATEMENT, &said.labels) {
+        Ok(statement) => Answer::of_value(states_nested(&statement), statement),
         Err(StatementFault::Memory) => Answer::Refused,
         Err(_) => Answer::Wrong,
-    })
+    };
+    drop(said);
+    Ok(answer)
 }
 
-impl Trial for SourceCall {
-    fn make(&mut self, alloc: Global) -> Result<Answer, ReportFault> {
+impl SourceCall {
+    pub(crate) fn made(self, alloc: Global) -> Result<Answer, ReportFault> {
         match self {
             SourceCall::Assemble => Ok(assembled(alloc)),
             SourceCall::ReadStatement => stated(alloc),
         }
-    }
-
-    fn is_unchanged(&mut self, _alloc: Global) -> Result<bool, ReportFault> {
-        Ok(true)
     }
 }

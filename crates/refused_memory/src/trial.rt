@@ -8,7 +8,7 @@ use std::fmt::Write;
 pub(crate) const IN_TURN: u8 = 64;
 
 /// What a call answered.
-#[derive(Clone, Copy, Debug)]
+#[derive(Clone, Copy)]
 pub(crate) enum Answer {
     Right,
     Wrong,
@@ -24,6 +24,12 @@ impl Answer {
         } else {
             Answer::Wrong
         }
+    }
+
+    /// The answer of a call that gave a value, which is let go.
+    pub(crate) fn of_value<T: Drop>(is_right: bool, value: T) -> Answer {
+        drop(value);
+        Answer::of(is_right)
     }
 
     /// The answer of a call that was refused.
@@ -57,7 +63,7 @@ pub(crate) trait Trial {
 }
 
 /// What a call that is made again after a refusal came to.
-#[derive(Clone, Copy, Debug)]
+#[derive(Clone, Copy)]
 pub(crate) enum Outcome {
     Right,
     Wrong,

@@ -1,6 +1,6 @@
 use Rattle.std.proofs.Common.{◌≢◌, List, ℕ, subst}
-use Rattle.arcwcet.specs.Assembly.{IsSourceRefused}
-use Rattle.arcwcet.specs.declared.fault.ReportFault.TheVariants.{Device}
+use Rattle.machine_reports.specs.Assembly.{IsSourceRefused}
+use Rattle.report_output.specs.declared.fault.ReportFault.TheVariants.{Device}
 use Rattle.arcwcet.proofs.RunLemmas.{asm_refused}
 use Rattle.arcwcet.proofs.commands.run_asm.Goals as goal
 

@@ -1,6 +1,6 @@
 use Rattle.std.proofs.Common.{[], ◌∷◌, option_map, sym, subst}
 use Rattle.arcwcet.specs.Files.{ReadsAll, Texts, in_front}
-use Rattle.arcwcet.specs.Report.{IsAccepted, IsRefused, IsReport}
+use Rattle.report_input.specs.Report.{IsAccepted, IsRefused, IsReport}
 use Rattle.arcwcet.proofs.RunLemmas.{report_ran}
 use Rattle.arcwcet.proofs.commands.run_bound.Goals as goal
 

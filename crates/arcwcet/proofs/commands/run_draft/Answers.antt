@@ -1,6 +1,6 @@
 use Rattle.std.proofs.Common.{◌∙◌, ◌≡◌, List, ℕ, Ok, Result, sym, subst, ap}
-use Rattle.arcwcet.specs.Answers.{Answers}
-use Rattle.arcwcet.specs.DraftReport.{IsDraftRefused, IsDraftReport, IsDraftable}
+use Rattle.report_output.specs.Answers.{Answers}
+use Rattle.author_reports.specs.DraftReport.{IsDraftRefused, IsDraftReport, IsDraftable}
 use Rattle.arcwcet.proofs.RunLemmas.{source_ran}
 use Rattle.arcwcet.proofs.commands.run_draft.Goals as goal
 

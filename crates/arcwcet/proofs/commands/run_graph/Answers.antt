@@ -1,7 +1,7 @@
 use Rattle.std.proofs.Common.{[], ◌∷◌, option_map, sym, subst}
 use Rattle.arcwcet.specs.Files.{ReadsAll, Texts, in_front}
-use Rattle.arcwcet.specs.GraphReport.{IsGraphReport}
-use Rattle.arcwcet.specs.Report.{IsAccepted, IsRefused}
+use Rattle.author_reports.specs.GraphReport.{IsGraphReport}
+use Rattle.report_input.specs.Report.{IsAccepted, IsRefused}
 use Rattle.arcwcet.proofs.RunLemmas.{report_ran}
 use Rattle.arcwcet.proofs.commands.run_graph.Goals as goal
 

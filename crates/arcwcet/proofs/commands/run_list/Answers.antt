@@ -1,6 +1,6 @@
 use Rattle.std.proofs.Common.{List, ℕ, Ok, sym, subst}
-use Rattle.arcwcet.specs.Assembly.{IsSource, IsSourceRefused}
-use Rattle.arcwcet.specs.ListReport.{IsListReport}
+use Rattle.machine_reports.specs.Assembly.{IsSource, IsSourceRefused}
+use Rattle.machine_reports.specs.ListReport.{IsListReport}
 use Rattle.arcwcet.proofs.RunLemmas.{source_ran}
 use Rattle.arcwcet.proofs.commands.run_list.Goals as goal
 

@@ -1,7 +1,7 @@
 use Rattle.std.proofs.Common.{[], ◌∷◌, option_map, sym, subst}
 use Rattle.arcwcet.specs.Files.{ReadsAll, Texts, in_front}
 use Rattle.arcwcet.specs.Run.{HasNoTightReportOf, IsTightReportOf}
-use Rattle.arcwcet.specs.TightReport.{HasTightReport}
+use Rattle.machine_reports.specs.TightReport.{HasTightReport}
 use Rattle.arcwcet.proofs.RunLemmas.{report_ran}
 use Rattle.arcwcet.proofs.commands.run_tight.Goals as goal
 

@@ -2,7 +2,7 @@ use Rattle.std.proofs.Common.{[], ◌∷◌, option_map}
 use Rattle.arcwcet.specs.Files.{FailsToRead, in_front}
 use Rattle.arcwcet.specs.declared.fault.StoreFault.{StoreFault}
 use Rattle.arcwcet.proofs.FileLemmas.{third_fails}
-use Rattle.arcwcet.proofs.HandlerLemmas.{refused_with}
+use Rattle.report_input.proofs.HandlerLemmas.{refused_with}
 use Rattle.arcwcet.proofs.files.read_three_files.Goals as goal
 
 pub returns-in_err-third-clause-fault : goal.returns-in_err-third-clause-fault

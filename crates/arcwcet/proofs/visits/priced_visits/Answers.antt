@@ -1,8 +1,8 @@
 use Rattle.std.proofs.Common.{◌≢◌, refl, rules, inl, inr}
 use Rattle.std.proofs.lemmas.Result.{IfErr-weaker}
 use Rattle.arcwcet.specs.VisitsReport.{AreRefused}
-use Rattle.arcwcet.specs.declared.fault.ReportFault.TheVariants.{Device}
-use Rattle.arcwcet.proofs.HandlerLemmas.{refused_as}
+use Rattle.report_output.specs.declared.fault.ReportFault.TheVariants.{Device}
+use Rattle.report_input.proofs.HandlerLemmas.{refused_as}
 use Rattle.arcwcet.proofs.VisitsReportLemmas.{only_starved}
 use Rattle.arcwcet.proofs.visits.priced_visits.Goals as goal
 

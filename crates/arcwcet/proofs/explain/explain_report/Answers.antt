@@ -1,5 +1,0 @@
-use Rattle.std.proofs.Common.{inl}
-use Rattle.arcwcet.proofs.explain.explain_report.Goals as goal
-
-pub returns : goal.returns
-returns g c = inl (record { profile = c.in_ok-profile.profile; is = c.in_ok-profile.ensures.is; holds = c.priced_explanation.ensures })

@@ -1,0 +1,62 @@
+-- The explanation of a handler's bound.
+use Rattle.std.proofs.Common.{◌≡◌, ◌≢◌, ◌^◌, ◌<◌, ◌≤◌, ℕ, List, Ok, refl, ap, subst, ⊎_elim, arith}
+use Rattle.std.proofs.lemmas.Bool.{cases_lt}
+use Rattle.bus_ticks.specs.declared.profile.Profile.{Profile}
+use Rattle.explained.specs.declared.bursts.Bursts.{Bursts}
+use Rattle.loader.specs.Image.{Words}
+use Rattle.statement.specs.Stated.{Stated}
+use Rattle.statement.specs.Statement.{Names}
+use Rattle.flow_graph.specs.Flow.{Flow}
+use Rattle.flow_graph.specs.declared.places.Place.TheVariants.{Exit}
+use Rattle.longest_walk.specs.Folded.{unfolded}
+use Rattle.loop_bounds.specs.Tree.{Tree}
+use Rattle.longest_walk.specs.Longest.{IsLongest, IsWalkFault}
+use Rattle.longest_walk.specs.declared.folded.Longest.{Longest}
+use Rattle.numbered_walks.specs.declared.fault.WalkFault.{WalkFault}
+use Rattle.numbered_walks.specs.declared.fault.WalkFault.TheVariants as walk_fault
+use Rattle.author_reports.specs.ExplainReport.{IsExplanation, IsTextOf, IsTotal}
+use Rattle.report_input.specs.Report.{HasLoops, IsRefused, IsTreeOf}
+use Rattle.report_input.specs.Source.{IsSourceFault, Said, source_of}
+use Rattle.report_output.specs.declared.fault.ReportFault.{ReportFault}
+use Rattle.report_output.specs.declared.fault.ReportFault.TheVariants.{Device}
+use Rattle.report_input.proofs.HandlerLemmas.{one_ok, source_refusal}
+use Rattle.report_input.proofs.ReportLemmas.{accepted, report_refusal, tree_is_greatest}
+
+-- a greatest walk of 2^63 ticks or more would have been refused
+pub bound_fits : (flow : Flow) (tree : Tree) (l : Longest) → IsLongest flow tree l → l.bound < 2 ^ 64
+bound_fits flow tree l is = ⊎_elim
+    (λ (lt : l.bound < 2 ^ 63). let small : l.bound < 2 ^ 64 = omega (arith, lt) in small)
+    (λ (le : 2 ^ 63 ≤ l.bound). absurd (is.none_too_large (record {
+      place = Exit;
+      walk = unfolded l.walk;
+      leads = is.walk_is.complete;
+      kept = is.walk_is.kept;
+      costs = omega (arith, le, is.walk_is.costs);
+    })))
+    (cases_lt l.bound (2 ^ 63))
+
+module _ (source statement : List ℕ) (profile : Profile) (words : Words) (names : Names) (said : source_of source ≡ Ok (words, names))
+    (st : Stated) (flow : Flow) (tree : Tree) (loops : HasLoops source statement profile st flow) (of : IsTreeOf flow st.loops tree) where
+  -- the table of a greatest walk explains its bound
+  pub explained : (bursts : Bursts) (l : Longest) (text : List ℕ) → IsLongest flow tree l → ((f : WalkFault) → f ≢ walk_fault.Memory → IsWalkFault flow tree f → ⊥)
+      → IsTextOf source words st flow l profile.burst bursts text → IsTotal source loops.graph.words flow l
+      → IsExplanation source statement bursts profile l.bound text
+  unfolding accepted
+  explained bursts l text is allowed explains total =
+      let pairs : (words, names) ≡ (loops.graph.words, loops.graph.names) =
+      one_ok (words, names) (loops.graph.words, loops.graph.names) (source_of source) said loops.graph.source_is in
+      record {
+        accepted = accepted source statement profile st flow tree loops of allowed;
+        tree = tree;
+        longest = l;
+        tree_of = of;
+        longest_is = is;
+        bound_is = refl;
+        greatest = tree_is_greatest flow st.loops tree of.instances l.bound is.greatest;
+        explains = subst (λ (w : Words). IsTextOf source w st flow l profile.burst bursts text) (ap (λ (p : Said). p.0) pairs) explains;
+        total = total;
+      }
+
+-- a fault of the source refuses the explanation
+pub source_unexplained : (source statement : List ℕ) (profile : Profile) (e : ReportFault) → IsSourceFault source e → (e ≢ Device) × IsRefused source statement profile e
+source_unexplained source statement profile e h = report_refusal source statement profile e (source_refusal source statement profile e h)

@@ -1,0 +1,221 @@
+-- A report on a followed run, from what is found of a source, a statement and a machine file.
+use Rattle.std.proofs.Common.{◌≡◌, ◌≢◌, ◌∙◌, ◌⊎◌, ◌++◌, ◌∷◌, [], ℕ, ◌+◌, ◌<◌, ◌≤◌, Bool, false, List, get_or, length, take, Result, Ok, Err, refl, sym, ap, subst, inl, inr, ⊎_elim, arith}
+use Rattle.std.specs.Prelude.{IfErr}
+use Rattle.std.proofs.lemmas.Bool.{cases_lt}
+use Rattle.std.proofs.lemmas.List.{get_or_default, length-append}
+use Rattle.bus_ticks.specs.declared.profile.Profile.{Profile}
+use Rattle.loader.specs.Image.{Words}
+use Rattle.assembler.specs.declared.placed_line.PlacedLine.{PlacedLine}
+use Rattle.statement.specs.Stated.{Stated}
+use Rattle.statement.specs.Statement.{Names}
+use Rattle.arm2_exec.specs.State.{State}
+use Rattle.arm2_exec.specs.declared.machine.Input.{Input}
+use Rattle.flow_graph.specs.Flow.{Flow}
+use Rattle.flow_graph.specs.Graph.{IsFlowGraph}
+use Rattle.flow_graph.specs.StepLaw.{RunLaw}
+use Rattle.loop_bounds.specs.Bounds.{IsGreatestCost}
+use Rattle.loop_bounds.specs.Tree.{Tree}
+use Rattle.longest_walk.specs.Longest.{IsWalkFault}
+use Rattle.numbered_walks.specs.declared.fault.WalkFault.{WalkFault}
+use Rattle.numbered_walks.specs.declared.fault.WalkFault.TheVariants as walk_fault
+use Rattle.machine_file.specs.Started.{r15_in}
+use Rattle.machine_file.specs.Stated as machine_file
+use Rattle.kept_runs.specs.Judging.{IsMachineFor}
+use Rattle.kept_runs.specs.Keeping.{IsFollowed, IsKeptRun, KeepsNone, KeepsTo}
+use Rattle.kept_runs.specs.declared.following.Followed.{Followed}
+use Rattle.kept_runs.specs.declared.following.Followed.TheVariants.{Kept, Strayed}
+use Rattle.author_reports.specs.FollowReport.{IsFollowRefused, IsFollowReport, IsFollowable, KeepsWithin, NoneKeeps, TellsRun}
+use Rattle.author_reports.specs.FollowText.{has_word}
+use Rattle.author_reports.specs.FollowWork.{IsJudgedRun, Tells}
+use Rattle.report_input.specs.Keeping.{KeepsStatement, TakesAtMost}
+use Rattle.report_input.specs.Placing.{IsPlaced, IsRunRefused}
+use Rattle.report_input.specs.Report.{HasLoops, IsAccepted, IsRefused, IsTreeOf}
+use Rattle.report_input.specs.Source.{Said, source_of}
+use Rattle.report_output.specs.declared.fault.ReportFault.{ReportFault}
+use Rattle.report_output.specs.declared.fault.ReportFault.TheVariants.{Memory, Source, Image, Statement, Graph, Loops, Walk, MachineFile, Load, Cert, Device}
+use Rattle.report_output.specs.declared.fault.ReportFault.TheVariants as report_fault
+use Rattle.report_input.proofs.HandlerLemmas.{one_ok}
+use Rattle.report_input.proofs.PlacingLemmas.{runnable_refusals}
+use Rattle.report_input.proofs.ReportLemmas.{accepted, accepted_refusals, bounds_runs, kept_here, kept_there}
+
+-- ## The run
+
+module _ (words : Words) (st : Stated) (flow : Flow) (tree : Tree) (of : IsTreeOf flow st.loops tree) (source : List ℕ) (bound : ℕ) (s : State) (inputs : List Input) where
+  -- the bounds of the tree's instances are those of the stated loops
+  states : (is : List Input) → KeepsTo words st flow tree s is → KeepsStatement words st flow.profile flow s is
+  states is k = record { walk = k.walk; complete = k.complete; kept = kept_here flow st.loops tree of.instances k.walk k.kept; follows = k.follows }
+
+  by_tree : (is : List Input) → KeepsStatement words st flow.profile flow s is → KeepsTo words st flow tree s is
+  by_tree is k = record { walk = k.walk; complete = k.complete; kept = kept_there flow st.loops tree of.instances k.walk k.kept; follows = k.follows }
+
+  within : RunLaw → IsGreatestCost flow st.loops bound → (steps ticks : ℕ) (after : State) → IsKeptRun words st flow tree s inputs steps ticks after → KeepsWithin words st flow.profile flow s inputs bound ticks
+  within law greatest steps ticks after k =
+      let keeps = states (take steps inputs) k.keeps in
+      let most : TakesAtMost flow.profile bound (take steps inputs) k.ran = bounds_runs words flow.profile st flow bound law greatest s (take steps inputs) k.ran after keeps k.runs in
+      record {
+        steps = steps;
+        few = k.few;
+        keeps = keeps;
+        ran = k.ran;
+        after = after;
+        runs = k.runs;
+        ticks_are = k.ticks_are;
+        at_most = subst (λ (n : ℕ). n ≤ bound) k.ticks_are most.ticks;
+      }
+
+  none_keeps : KeepsNone words st flow tree s inputs → NoneKeeps words st flow.profile flow s inputs
+  none_keeps none steps keeps = none steps (by_tree (take steps inputs) keeps)
+
+  -- what is told of a followed run
+  pub told : RunLaw → IsGreatestCost flow st.loops bound → (after : State) (followed : Followed) (kept : Bool) (text : List ℕ)
+      → IsFollowed words st flow tree s inputs after followed → Tells source st bound followed kept text → TellsRun words st flow.profile flow s inputs source tree bound kept text
+  told law greatest after (Kept steps ticks) kept text is tells =
+      subst (λ (b : Bool). TellsRun words st flow.profile flow s inputs source tree bound b text) (sym tells.0)
+      (record { ticks = ticks; keeps = within law greatest steps ticks after is; text_is = tells.1 })
+  told law greatest after (Strayed steps at why) kept text is tells =
+      subst (λ (b : Bool). TellsRun words st flow.profile flow s inputs source tree bound b text) (sym tells.0)
+      (record {
+        steps = steps;
+        at = at;
+        why = why;
+        after = after;
+        line = tells.1.0;
+        none = none_keeps is.none;
+        strays = is;
+        line_is = tells.1.1;
+        text_is = tells.1.2;
+      })
+
+-- the machine that a file states has all its registers, and the prices of the graph
+pub machine_for : (source machine : List ℕ) (profile : Profile) (file : machine_file.Stated) (state : State) (flow : Flow) → flow.profile ≡ profile → length file.processor.registers ≡ 26
+    → IsPlaced source machine profile file state → IsMachineFor flow state
+machine_for source machine profile file state flow same count placed =
+    let all : length (file.processor.registers ++ r15_in file.processor ∷ []) ≡ length file.processor.registers + 1 = length-append file.processor.registers (r15_in file.processor ∷ []) in
+    record {
+      registers = ap (λ (x : State). length x.regs) placed.loaded ∙ ap length placed.started.registers ∙ all ∙ ap (λ (n : ℕ). n + 1) count;
+      prices = ap (λ (x : State). x.profile) placed.loaded ∙ placed.started.prices ∙ sym same;
+    }
+
+-- ## The line of a step
+
+-- no line before the index has a word at the address
+abbrev pub NoneBefore : (address : ℕ) → List PlacedLine → ℕ → Type 0
+NoneBefore address placed n = (k : ℕ) (line : PlacedLine) → k < n → get_or placed k line ≡ line → has_word address line ≡ false
+
+pub none_more : (address : ℕ) (placed : List PlacedLine) (n : ℕ) (line : PlacedLine) → n < length placed → line ≡ get_or placed n line → has_word address line ≡ false
+    → NoneBefore address placed n → NoneBefore address placed (n + 1)
+none_more address placed n line within at other before k next less stands = ⊎_elim
+    (λ (l : k < n). before k next l stands)
+    (λ (m : n ≤ k).
+    let same : n ≡ k = omega (arith, less, m) in
+    let is : line ≡ next = at ∙ get_or_default placed n line next within ∙ ap (λ (j : ℕ). get_or placed j next) same ∙ stands in
+    subst (λ (x : PlacedLine). has_word address x ≡ false) is other)
+    (cases_lt k n)
+
+-- ## The report
+
+module _ (source statement machine : List ℕ) (profile : Profile) (words : Words) (names : Names) (said : source_of source ≡ Ok (words, names))
+    (st : Stated) (flow : Flow) (tree : Tree) (loops : HasLoops source statement profile st flow) (of : IsTreeOf flow st.loops tree) where
+  -- the graph is that of the words that the source says
+  own_words : loops.graph.words ≡ words
+  own_words =
+      ap (λ (p : Said). p.0) (one_ok (loops.graph.words, loops.graph.names) (words, names) (source_of source) loops.graph.source_is said)
+
+  pub own_graph : IsFlowGraph words st flow.profile flow
+  own_graph =
+      subst (λ (p : Profile). IsFlowGraph words st p flow) (sym loops.graph.graph_is.profile_is)
+      (subst (λ (w : Words). IsFlowGraph w st profile flow) own_words loops.graph.graph_is)
+
+  pub followed : (bound : ℕ) (file : machine_file.Stated) (state : State) (kept : Bool) (text : List ℕ)
+      → ((f : WalkFault) → f ≢ walk_fault.Memory → IsWalkFault flow tree f → ⊥) → IsGreatestCost flow st.loops bound → IsPlaced source machine profile file state
+      → IsJudgedRun words st flow tree source bound file state kept text → IsFollowReport source statement machine profile kept text
+  unfolding accepted
+  followed bound file state kept text allowed greatest placed j = record {
+    accepted = accepted source statement profile st flow tree loops of allowed;
+    tree = tree;
+    bound = bound;
+    state = state;
+    inputs = j.inputs;
+    tree_of = of;
+    greatest = greatest;
+    loaded = record { file = file; placed = placed; inputs_are = j.inputs_are };
+    tells =
+        subst (λ (p : Profile). TellsRun loops.graph.words st p flow state j.inputs source tree bound kept text) loops.graph.graph_is.profile_is
+        (subst (λ (w : Words). TellsRun w st flow.profile flow state j.inputs source tree bound kept text) (sym own_words) j.tells);
+  }
+
+-- ## Refusals
+
+module _ (source statement machine : List ℕ) (profile : Profile) where
+  abbrev pub Refused : ReportFault → Type 0
+  Refused e = (e ≢ Device) × IsFollowRefused source statement machine profile e
+
+  -- of the handler
+  handler_refuses : (e : ReportFault) → IsRefused source statement profile e → IsFollowRefused source statement machine profile e
+  handler_refuses Memory h = h
+  handler_refuses Device h = h
+  handler_refuses (Source f) h = h
+  handler_refuses (Image f) h = h
+  handler_refuses (Statement f) h = h
+  handler_refuses (Graph f) h = h
+  handler_refuses (Loops f) h = h
+  handler_refuses (Walk f) h = h
+  handler_refuses (MachineFile f) h = absurd h
+  handler_refuses (Load f) h = absurd h
+  handler_refuses (Cert f) h = h
+  handler_refuses (report_fault.Profile f) h = h
+  handler_refuses report_fault.NotFiqEntry h = h
+  handler_refuses report_fault.NoSuchEntry h = h
+  handler_refuses report_fault.NoSuchEdge h = h
+  handler_refuses (report_fault.NotFree at) h = h
+
+  pub handler_refused : (e : ReportFault) → (e ≢ Device) × IsRefused source statement profile e → Refused e
+  handler_refused e h = (h.0, handler_refuses e h.1)
+
+  -- of the machine
+  machine_refuses : (e : ReportFault) → IsAccepted source statement profile → IsRunRefused source machine profile e → IsFollowRefused source statement machine profile e
+  machine_refuses Memory a h = tt
+  machine_refuses Device a h = tt
+  machine_refuses (Source f) a h = h
+  machine_refuses (Image f) a h = h
+  machine_refuses (Statement f) a h = absurd h
+  machine_refuses (Graph f) a h = absurd h
+  machine_refuses (Loops f) a h = absurd h
+  machine_refuses (Walk f) a h = absurd h
+  machine_refuses (MachineFile f) a h = (a, h)
+  machine_refuses (Load f) a h = (a, h)
+  machine_refuses (Cert f) a h = absurd h
+  machine_refuses (report_fault.Profile f) a h = absurd h
+  machine_refuses report_fault.NotFiqEntry a h = absurd h
+  machine_refuses report_fault.NoSuchEntry a h = absurd h
+  machine_refuses report_fault.NoSuchEdge a h = absurd h
+  machine_refuses (report_fault.NotFree at) a h = absurd h
+
+  pub machine_refused : (e : ReportFault) → IsAccepted source statement profile → (e ≢ Device) × IsRunRefused source machine profile e → Refused e
+  machine_refused e a h = (h.0, machine_refuses e a h.1)
+
+  -- what can be followed is refused for lack of memory alone, or as the output fails
+  follow_refusals : (e : ReportFault) → IsFollowable source statement machine profile → IsFollowRefused source statement machine profile e → (e ≡ Memory) ⊎ (e ≡ Device)
+  follow_refusals Memory a h = accepted_refusals source statement profile Memory a.accepted h
+  follow_refusals Device a h = accepted_refusals source statement profile Device a.accepted h
+  follow_refusals (Source f) a h = accepted_refusals source statement profile (Source f) a.accepted h
+  follow_refusals (Image f) a h = accepted_refusals source statement profile (Image f) a.accepted h
+  follow_refusals (Statement f) a h = accepted_refusals source statement profile (Statement f) a.accepted h
+  follow_refusals (Graph f) a h = accepted_refusals source statement profile (Graph f) a.accepted h
+  follow_refusals (Loops f) a h = accepted_refusals source statement profile (Loops f) a.accepted h
+  follow_refusals (Walk f) a h = accepted_refusals source statement profile (Walk f) a.accepted h
+  follow_refusals (MachineFile f) a h = runnable_refusals source machine profile (MachineFile f) a.runnable h.1
+  follow_refusals (Load f) a h = runnable_refusals source machine profile (Load f) a.runnable h.1
+  follow_refusals (Cert f) a h = accepted_refusals source statement profile (Cert f) a.accepted h
+  follow_refusals (report_fault.Profile f) a h = accepted_refusals source statement profile (report_fault.Profile f) a.accepted h
+  follow_refusals report_fault.NotFiqEntry a h = accepted_refusals source statement profile report_fault.NotFiqEntry a.accepted h
+  follow_refusals report_fault.NoSuchEntry a h = accepted_refusals source statement profile report_fault.NoSuchEntry a.accepted h
+  follow_refusals report_fault.NoSuchEdge a h = accepted_refusals source statement profile report_fault.NoSuchEdge a.accepted h
+  follow_refusals (report_fault.NotFree at) a h = accepted_refusals source statement profile (report_fault.NotFree at) a.accepted h
+
+  pub only_memory : {T : Type 0} (r : Result T ReportFault) → IfErr r Refused → IsFollowable source statement machine profile → IfErr r (λ e. (e ≡ Memory) ⊎ (e ≡ Device))
+  only_memory (Ok x) h a = tt
+  only_memory (Err e) h a = follow_refusals e a h.1
+
+  pub followable : (kept : Bool) (text : List ℕ) → IsFollowReport source statement machine profile kept text → IsFollowable source statement machine profile
+  followable kept text r = record { accepted = r.accepted; runnable = record { file = r.loaded.file; state = r.state; placed = r.loaded.placed } }

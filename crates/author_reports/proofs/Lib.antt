@@ -1,0 +1,3 @@
+pub mod ExplainLemmas
+pub mod FollowLemmas
+pub mod GraphLemmas

@@ -1,0 +1,53 @@
+use Rattle.std.proofs.Common.{◌≢◌}
+use Rattle.report_output.specs.Faults.{of_walk}
+use Rattle.author_reports.specs.ExplainReport.{IsTotal}
+use Rattle.report_input.specs.Report.{IsRefused}
+use Rattle.report_output.specs.declared.fault.ReportFault.TheVariants.{Device}
+use Rattle.author_reports.proofs.ExplainLemmas.{bound_fits, explained, source_unexplained}
+use Rattle.report_input.proofs.HandlerLemmas.{refused_as}
+use Rattle.report_input.proofs.ReportLemmas.{walk_refusal}
+use Rattle.report_input.proofs.SourceLemmas.{image_was_read, text_was_assembled}
+use Rattle.author_reports.proofs.explain.explanation_of.Goals as goal
+
+pub returns-in_err-found-clause-fault : goal.returns-in_err-found-clause-fault
+returns-in_err-found-clause-fault c = λ names said loops.
+    let source = c.args.explained.source.now in
+    let statement = c.args.explained.statement.now in
+    let profile = c.args.profile.now in
+    let h = c.args.handler.now in
+    let f = c.in_err-found.field-0.0 in
+    refused_as c.from_residual.result (of_walk f) (λ e. (e ≢ Device) × IsRefused source statement profile e) c.from_residual.ensures.1
+    (walk_refusal source statement profile h.statement h.graph h.tree loops c.requires.tree f c.in_err-found.ensures.fault)
+
+pub returns-in_err-text-clause-fault : goal.returns-in_err-text-clause-fault
+returns-in_err-text-clause-fault c = λ names said loops.
+    let source = c.args.explained.source.now in
+    let statement = c.args.explained.statement.now in
+    let profile = c.args.profile.now in
+    let e = c.in_err-text.field-0.0 in
+    refused_as c.from_residual-in_err-text.result e (λ e. (e ≢ Device) × IsRefused source statement profile e) c.from_residual-in_err-text.ensures.1
+    (source_unexplained source statement profile e c.in_err-text.ensures.fault)
+
+pub returns-clause-explains : goal.returns-clause-explains
+returns-clause-explains c = λ names said loops.
+    let source = c.args.explained.source.now in
+    let statement = c.args.explained.statement.now in
+    let profile = c.args.profile.now in
+    let h = c.args.handler.now in
+    let found = c.in_ok-found.found in
+    let words = loops.graph.words in
+    let walk = c.in_ok-found.ensures.longest.walk_is in
+    let formed = c.requires.formed in
+    let fits = bound_fits h.graph h.tree found c.in_ok-found.ensures.longest in
+    let on = c.places_stand_once.ensures.words words h.statement profile h.graph loops.graph.graph_is loops.graph.no_fault in
+    let total : IsTotal source words h.graph found = record {
+      of_image = λ is.
+          c.totals_are_the_bound.ensures.image h.graph h.tree found.bound found.walk words formed walk fits
+          (c.places_stand_once.ensures.image source words h.graph formed (image_was_read source words loops.graph.names is loops.graph.source_is) on);
+      of_source = λ is placed stand.
+          c.totals_are_the_bound.ensures.source h.graph h.tree found.bound found.walk placed formed walk fits
+          (c.places_stand_once.ensures.source source words loops.graph.names placed h.graph formed
+          (text_was_assembled source words loops.graph.names is loops.graph.source_is) stand on);
+    } in
+    explained source statement profile c.args.image.now names said h.statement h.graph h.tree loops c.requires.tree
+    c.args.explained.bursts found c.in_ok-text.text.items c.in_ok-found.ensures.longest c.in_ok-found.ensures.allowed c.in_ok-text.ensures.text total

@@ -1,0 +1,13 @@
+use Rattle.std.proofs.Common.{rules}
+use Rattle.author_reports.proofs.explain.image_text.Goals as goal
+
+pub returns : goal.returns
+returns c = record {
+  table = c.in_ok-text.text.items;
+  burst_lines = c.in_ok-rest.rest.items;
+  assumptions = c.in_ok-assumptions.assumptions.items;
+  is_table = c.in_ok-text.ensures;
+  are_burst_lines = c.in_ok-rest.ensures;
+  are_assumptions = c.in_ok-assumptions.ensures;
+  text_is = search rules;
+}

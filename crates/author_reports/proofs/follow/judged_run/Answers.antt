@@ -1,0 +1,27 @@
+use Rattle.std.proofs.Common.{List, subst, sym, string_bytes}
+use Rattle.std.proofs.lemmas.Result.{IfOk-weaker}
+use Rattle.arm2_exec.specs.declared.machine.Input.{Input}
+use Rattle.kept_runs.specs.Keeping.{IsFollowed}
+use Rattle.author_reports.proofs.FollowLemmas.{told}
+use Rattle.author_reports.proofs.follow.judged_run.Goals as goal
+
+pub follow-requires-clause-handler : goal.follow-requires-clause-handler
+follow-requires-clause-handler c = record { graph_is = c.requires.graph; tree_is = c.requires.tree.tree_is }
+
+pub returns-clause-judged : goal.returns-clause-judged
+returns-clause-judged c =
+    let b = c.args.bounded in
+    let h = b.handler.now in
+    let start = c.args.placed.now.machine in
+    let inputs = c.in_ok-inputs.inputs.items in
+    let after = c.follow.new.machine in
+    let f = c.in_ok-followed.followed in
+    let is : IsFollowed b.image.now h.statement h.graph h.tree start inputs after f =
+    subst (λ (is : List Input). IsFollowed b.image.now h.statement h.graph h.tree start is after f) c.deref.ensures.value c.in_ok-followed.ensures.followed in
+    IfOk-weaker c.told.result _ _
+    (λ j tells. record {
+      inputs = inputs;
+      inputs_are = c.in_ok-inputs.ensures;
+      tells = told b.image.now h.statement h.graph h.tree c.requires.tree b.source.now b.bound start inputs c.run_law.ensures c.requires.greatest after f j.kept (string_bytes j.text) is tells;
+    })
+    c.told.ensures.told

@@ -1,0 +1,57 @@
+-- What has to be stated of a handler. Our own format.
+use Rattle.std.specs.Prelude.{◌≡◌, ◌==◌, ◌%◌, ◌&&◌, ℕ, nat_lt, if◌then◌else◌, List, Option, Some, None, Ok}
+use Rattle.std.specs.Prelude.{option_and_then}
+use Rattle.asm_text.specs.Numbers.{run_number}
+use Rattle.bus_ticks.specs.declared.space.TheConstants.{SPACE_END}
+use Rattle.drafting.specs.Draft.{IsDraft}
+use Rattle.loader.specs.Image.{Words}
+use Rattle.loader.specs.Labels as labels
+use Rattle.statement.specs.Statement.{Names}
+use Rattle.report_input.specs.Source.{IsSourceFault, source_of}
+use Rattle.report_output.specs.declared.fault.ReportFault.{ReportFault}
+use Rattle.report_output.specs.declared.fault.ReportFault.TheVariants as report_fault
+
+-- a multiple of 4 in the address space
+abbrev pub word_address : ℕ → Option ℕ
+word_address n = if nat_lt n SPACE_END && n % 4 == 0 then Some n else None
+
+-- decimal, or hexadecimal after `0x`
+abbrev pub address_in : List ℕ → Option ℕ
+address_in text = option_and_then word_address (run_number text)
+
+abbrev pub or_address : List ℕ → Option ℕ → Option ℕ
+or_address text (Some a) = Some a
+or_address text None = address_in text
+
+-- where a handler begins: at a label, else at an address
+abbrev pub entry_of : Names → List ℕ → Option ℕ
+entry_of names text = or_address text (names text)
+
+module _ (source entry : List ℕ) where
+  -- the source has words and labels, and the entry is an address by them
+  pub record IsDraftable : Type 0 where
+    pub words : Words
+    pub names : Names
+    pub source_is : source_of source ≡ Ok (words, names)
+    pub at : ℕ
+    pub entry_is : entry_of names entry ≡ Some at
+
+  -- a draft of the handler that begins there
+  pub record IsDraftReport (text : List ℕ) : Type 0 where
+    pub draftable : IsDraftable
+    pub list : labels.Names
+    pub names_are : draftable.names ≡ labels.address_of list
+    pub is_draft : IsDraft draftable.words list draftable.at text
+
+  -- the source has words and labels, and the entry is no address by them
+  pub record HasNoEntry : Type 0 where
+    pub words : Words
+    pub names : Names
+    pub source_is : source_of source ≡ Ok (words, names)
+    pub entry_is : entry_of names entry ≡ None
+
+  -- when each refusal is answered; an output fails whatever the source
+  abbrev pub IsDraftRefused : ReportFault → Type 0
+  IsDraftRefused report_fault.Device = Unit {0}
+  IsDraftRefused report_fault.NoSuchEntry = HasNoEntry
+  IsDraftRefused fault = IsSourceFault source fault

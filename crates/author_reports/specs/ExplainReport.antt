@@ -1,0 +1,99 @@
+-- Where the ticks of a handler's greatest run time go. Our own format.
+use Rattle.std.specs.Prelude.{◌≡◌, ℕ, Bool, true, false, nat_le, List, ◌++◌, Option, Some, None}
+use Rattle.std.specs.Prelude.{Result}
+use Rattle.bus_ticks.specs.declared.profile.Profile.{Profile}
+use Rattle.loader.specs.Image.{Words}
+use Rattle.statement.specs.Stated.{Stated}
+use Rattle.assembler.specs.Placed.{ArePlaced}
+use Rattle.assembler.specs.declared.placed_line.PlacedLine.{PlacedLine}
+use Rattle.flow_graph.specs.Flow.{Flow}
+use Rattle.loop_bounds.specs.Bounds.{IsGreatestCost}
+use Rattle.loop_bounds.specs.Tree.{Tree}
+use Rattle.longest_walk.specs.Folded.{unfolded}
+use Rattle.longest_walk.specs.Longest.{IsLongest}
+use Rattle.longest_walk.specs.declared.folded.Longest.{Longest}
+use Rattle.explained.specs.Assumed.{AreImageAssumptions, AreSourceAssumptions}
+use Rattle.explained.specs.Bursts.{AreBurstLines}
+use Rattle.explained.specs.declared.bursts.Bursts.{Bursts}
+use Rattle.explained.specs.Table.{IsImageTable, image_ticks, source_table, source_ticks}
+use Rattle.explained.specs.Taken.{taken_at}
+use Rattle.report_output.specs.Answers.{Answers}
+use Rattle.report_input.specs.Report.{IsAccepted, IsRefused, IsTreeOf}
+use Rattle.report_input.specs.Source.{is_image}
+use Rattle.report_output.specs.declared.fault.ReportFault.{ReportFault}
+
+-- ## The explanation
+
+-- by the lines of a text, each where it stands: the table, then what bursts add to the bound, and then what
+-- is taken for granted
+pub record IsSourceText (source : List ℕ) (words : Words) (stated : Stated) (flow : Flow) (longest : Longest)
+    (price : ℕ) (bursts : Bursts) (text : List ℕ) : Type 0 where
+  pub placed : List PlacedLine
+  pub burst_lines : List ℕ
+  pub assumptions : List ℕ
+  pub are_placed : ArePlaced source placed
+  pub are_burst_lines : AreBurstLines price longest.bound bursts burst_lines
+  pub are_assumptions : AreSourceAssumptions source placed words stated flow assumptions
+  pub text_is : text
+      ≡ source_table (taken_at flow (unfolded longest.walk)) longest.bound source placed
+      ++ (burst_lines ++ assumptions)
+
+-- by the words of an image
+pub record IsImageText (words : Words) (stated : Stated) (flow : Flow) (longest : Longest)
+    (price : ℕ) (bursts : Bursts) (text : List ℕ) : Type 0 where
+  pub table : List ℕ
+  pub burst_lines : List ℕ
+  pub assumptions : List ℕ
+  pub is_table : IsImageTable (taken_at flow (unfolded longest.walk)) longest.bound words table
+  pub are_burst_lines : AreBurstLines price longest.bound bursts burst_lines
+  pub are_assumptions : AreImageAssumptions words stated flow assumptions
+  pub text_is : text ≡ table ++ (burst_lines ++ assumptions)
+
+-- of an image by its words, of a text by its lines
+pub record IsTextOf (source : List ℕ) (words : Words) (stated : Stated) (flow : Flow) (longest : Longest)
+    (price : ℕ) (bursts : Bursts) (text : List ℕ) : Type 0 where
+  pub of_image : is_image source ≡ true → IsImageText words stated flow longest price bursts text
+  pub of_source : is_image source ≡ false → IsSourceText source words stated flow longest price bursts text
+
+-- the ticks of all rows of the table are the bound
+pub record IsTotal (source : List ℕ) (words : Words) (flow : Flow) (longest : Longest) : Type 0 where
+  pub of_image : is_image source ≡ true
+      → image_ticks (taken_at flow (unfolded longest.walk)) words ≡ longest.bound
+  pub of_source : is_image source ≡ false → (placed : List PlacedLine) → ArePlaced source placed
+      → source_ticks (taken_at flow (unfolded longest.walk)) placed ≡ longest.bound
+
+-- ## The report
+
+-- of an accepted source and statement: the table of a greatest walk, whose cost is the bound, as the ticks of
+-- all rows are, what bursts add to that, and what is taken for granted of the words that are reached
+pub record IsExplanation (source statement : List ℕ) (bursts : Bursts) (profile : Profile) (bound : ℕ)
+    (text : List ℕ) : Type 0 where
+  pub accepted : IsAccepted source statement profile
+  pub tree : Tree
+  pub longest : Longest
+  pub tree_of : IsTreeOf accepted.flow accepted.stated.loops tree
+  pub longest_is : IsLongest accepted.flow tree longest
+  pub bound_is : longest.bound ≡ bound
+  pub greatest : IsGreatestCost accepted.flow accepted.stated.loops bound
+  pub explains : IsTextOf source accepted.loops.graph.words accepted.stated accepted.flow longest
+      profile.burst bursts text
+  pub total : IsTotal source accepted.loops.graph.words accepted.flow longest
+
+-- no more ticks than are wanted, without bursts; any number where none is
+abbrev pub is_enough : Option ℕ → ℕ → Bool
+is_enough None bound = true
+is_enough (Some most) bound = nat_le bound most
+
+-- with the answer whether the bound is enough
+pub record IsExplainReport (source statement : List ℕ) (at_most : Option ℕ) (bursts : Bursts)
+    (profile : Profile) (answer : Bool) (text : List ℕ) : Type 0 where
+  pub bound : ℕ
+  pub explains : IsExplanation source statement bursts profile bound text
+  pub answer_is : answer ≡ is_enough at_most bound
+
+-- the answer to a source and a statement: their explanation
+abbrev pub Explains : {O : Type 0} → (O → Option (List ℕ)) → (O → ℕ) → List ℕ → List ℕ → Option ℕ → Bursts
+    → Profile → O → O → Result Bool ReportFault → Type 0
+Explains taken failures source statement at_most bursts profile old new result =
+    Answers taken failures (IsExplainReport source statement at_most bursts profile)
+    (IsAccepted source statement profile) (IsRefused source statement profile) old new result

@@ -1,0 +1,110 @@
+-- What is printed of a run that is judged by a statement. Our own format.
+use Rattle.std.specs.Prelude.{◌≡◌, ℕ, ◌+◌, ◌*◌, ◌-◌, ◌<◌, Bool, true, false, ◌&&◌, if◌then◌else◌}
+use Rattle.std.specs.Prelude.{nat_eq, nat_le, nat_lt, List, [], ◌++◌, length, codes, decimal, slice_index_or}
+use Rattle.std.specs.Prelude.{Contains, Option, Some, None, MatchOption}
+use Rattle.bus_ticks.specs.Prices.{class_at}
+use Rattle.bus_ticks.specs.declared.profile.Class.{Class}
+use Rattle.bus_ticks.specs.declared.profile.Class.TheVariants.{Any, Ram, Rom, Io}
+use Rattle.asm_text.specs.Hex.{hex}
+use Rattle.assembler.specs.Placed.{ArePlaced}
+use Rattle.assembler.specs.declared.placed_line.PlacedLine.{PlacedLine}
+use Rattle.statement.specs.Stated.{Stated, class_of}
+use Rattle.trace_text.specs.TraceText.{exception_name, why_name}
+use Rattle.kept_runs.specs.declared.following.Unkept.{Unkept}
+use Rattle.kept_runs.specs.declared.following.Unkept.TheVariants as unkept
+use Rattle.kept_runs.specs.declared.judging.Stray.{Stray}
+use Rattle.kept_runs.specs.declared.judging.Stray.TheVariants as stray
+use Rattle.kept_runs.specs.declared.transfers.Access.{Access}
+use Rattle.report_input.specs.Source.{is_image}
+
+-- ## A run that keeps the statement
+
+-- how much less than the bound the ticks are
+abbrev pub less_text : (ticks bound : ℕ) → List ℕ
+less_text ticks bound =
+    if nat_eq ticks bound then codes "the bound" else decimal (bound - ticks) ++ codes " less than the bound"
+
+abbrev pub kept_text : (ticks bound : ℕ) → List ℕ
+kept_text ticks bound =
+    codes "kept: " ++ (decimal ticks ++ (codes " ticks, " ++ (less_text ticks bound ++ codes "\n")))
+
+-- ## Why a step does not
+
+abbrev pub class_name : Class → List ℕ
+class_name Ram = codes "ram"
+class_name Rom = codes "rom"
+class_name Io = codes "io"
+class_name Any = codes "any"
+
+abbrev pub access_name : (store : Bool) → List ℕ
+access_name true = codes "stored to "
+access_name false = codes "loaded from "
+
+-- which word is transferred, of which class, and the class that is stated
+abbrev pub access_text : Class → Access → List ℕ
+access_text stated a =
+    access_name a.store
+    ++ (hex a.address
+    ++ (codes ", "
+    ++ (class_name (class_at a.address) ++ (codes "; " ++ (class_name stated ++ codes " is stated")))))
+
+-- of a word for which this class is stated
+abbrev pub stray_text : Class → Stray → List ℕ
+stray_text stated stray.OtherWord = codes "fetches another word than the source's"
+stray_text stated (stray.Exception vector) = codes "exception " ++ exception_name vector
+stray_text stated (stray.Stopped why) = codes "stopped " ++ why_name why
+stray_text stated (stray.OtherClass access) = access_text stated access
+stray_text stated (stray.Elsewhere to) = codes "went to " ++ (hex to ++ codes ", which is not stated")
+
+abbrev pub times_text : ℕ → List ℕ
+times_text n = if nat_eq n 1 then codes "once" else decimal n ++ codes " times"
+
+abbrev pub turned_text : (bound : ℕ) → List ℕ
+turned_text bound =
+    codes "turned back " ++ (times_text (bound + 1) ++ (codes "; " ++ (decimal bound ++ codes " stated")))
+
+-- of the step at the address
+abbrev pub why_text : Stated → (at : ℕ) → Unkept → List ℕ
+why_text st at unkept.NotAtEntry = codes "not the entry, which is " ++ hex st.entry
+why_text st at (unkept.Stray stray) = stray_text (class_of st at) stray
+why_text st at (unkept.TurnedBack span) = turned_text span.bound
+why_text st at unkept.Unfinished = codes "the steps end inside the handler"
+
+-- ## The step
+
+abbrev pub line_text : Option ℕ → List ℕ
+line_text None = []
+line_text (Some line) = codes ", line " ++ decimal line
+
+-- its number from 0, as the events of a machine file have it, its address and its line, and why
+abbrev pub strayed_text : (steps at : ℕ) → (line : Option ℕ) → (why : List ℕ) → List ℕ
+strayed_text steps at line why =
+    codes "step "
+    ++ (decimal steps
+    ++ (codes ", " ++ (hex at ++ (line_text line ++ (codes ": " ++ (why ++ codes "\n"))))))
+
+-- ## The line
+
+-- a word of the line stands at the address
+abbrev pub has_word : (address : ℕ) → PlacedLine → Bool
+has_word address line = nat_le line.at address && nat_lt address (line.at + 4 * line.words)
+
+-- no line has
+abbrev pub HasNoLine : (address : ℕ) → List PlacedLine → Type 0
+HasNoLine address placed = (line : PlacedLine) → Contains placed line → has_word address line ≡ false
+
+-- the line of this number has, the first of which is 1
+pub record IsLine (address : ℕ) (placed : List PlacedLine) (number : ℕ) : Type 0 where
+  pub line : PlacedLine
+  pub index : ℕ
+  pub number_is : number ≡ index + 1
+  pub within : index < length placed
+  pub stands : slice_index_or placed index line ≡ line
+  pub has : has_word address line ≡ true
+
+-- of a text; an image has no lines
+pub record IsLineAt (source : List ℕ) (address : ℕ) (line : Option ℕ) : Type 0 where
+  pub of_image : is_image source ≡ true → line ≡ None
+  pub of_text : is_image source ≡ false
+      → (placed : List PlacedLine) × ArePlaced source placed
+      × MatchOption line (HasNoLine address placed) (IsLine address placed)

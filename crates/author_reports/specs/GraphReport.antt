@@ -1,0 +1,54 @@
+-- The drawing of a handler's flow graph, with what its greatest run time takes. Our own format.
+use Rattle.std.specs.Prelude.{◌≡◌, ℕ, true, false, List, Option, Result, Vec}
+use Rattle.std.specs.Global.{Global}
+use Rattle.bus_ticks.specs.declared.profile.Profile.{Profile}
+use Rattle.loader.specs.Image.{Words}
+use Rattle.assembler.specs.Placed.{ArePlaced}
+use Rattle.assembler.specs.declared.placed_line.PlacedLine.{PlacedLine}
+use Rattle.flow_graph.specs.declared.places.Place.{Place}
+use Rattle.loop_bounds.specs.Bounds.{IsGreatestCost}
+use Rattle.loop_bounds.specs.Tree.{Tree}
+use Rattle.longest_walk.specs.Longest.{IsLongest}
+use Rattle.longest_walk.specs.declared.folded.Longest.{Longest}
+use Rattle.dot_text.specs.Labels.{AreImageLabels, AreSourceLabels}
+use Rattle.dot_text.specs.Nodes.{HoldEachOnce, LeadToNodes, all_ticks}
+use Rattle.dot_text.specs.Text.{IsDrawing}
+use Rattle.report_output.specs.Answers.{Answers}
+use Rattle.report_input.specs.Report.{IsAccepted, IsRefused, IsTreeOf}
+use Rattle.report_input.specs.Source.{is_image}
+use Rattle.report_output.specs.declared.fault.ReportFault.{ReportFault}
+
+-- the lines of a text, each where it stands
+pub record AreLineLabels (source : List ℕ) (places : List Place) (labels : List (Vec ℕ Global)) : Type 0 where
+  pub placed : List PlacedLine
+  pub are_placed : ArePlaced source placed
+  pub labels_are : AreSourceLabels source placed places labels
+
+-- places are labelled by the words of an image, and by the lines of a text
+pub record AreLabelsOf (source : List ℕ) (words : Words) (places : List Place)
+    (labels : List (Vec ℕ Global)) : Type 0 where
+  pub of_image : is_image source ≡ true → AreImageLabels words places labels
+  pub of_text : is_image source ≡ false → AreLineLabels source places labels
+
+-- of an accepted source and statement: the drawing of their graph with a greatest walk. Its nodes hold each
+-- place once, its edges lead to nodes, and the ticks of all nodes are the bound.
+pub record IsGraphReport (source statement : List ℕ) (profile : Profile) (text : List ℕ) : Type 0 where
+  pub accepted : IsAccepted source statement profile
+  pub tree : Tree
+  pub longest : Longest
+  pub labels : List (Vec ℕ Global)
+  pub tree_of : IsTreeOf accepted.flow accepted.stated.loops tree
+  pub longest_is : IsLongest accepted.flow tree longest
+  pub greatest : IsGreatestCost accepted.flow accepted.stated.loops longest.bound
+  pub labels_are : AreLabelsOf source accepted.loops.graph.words accepted.flow.places labels
+  pub drawn : IsDrawing accepted.flow tree longest labels text
+  pub once : HoldEachOnce accepted.flow tree
+  pub leads : LeadToNodes accepted.flow tree
+  pub total : all_ticks accepted.flow tree drawn.counts ≡ longest.bound
+
+-- the answer to a source and a statement: the drawing of their graph
+abbrev pub Draws : {O T : Type 0} → (O → Option (List ℕ)) → (O → ℕ) → List ℕ → List ℕ → Profile → O → O
+    → Result T ReportFault → Type 0
+Draws taken failures source statement profile old new result =
+    Answers taken failures (λ _ text. IsGraphReport source statement profile text)
+    (IsAccepted source statement profile) (IsRefused source statement profile) old new result

@@ -1,0 +1,99 @@
+//! What has to be stated of a handler.
+
+ghost use Rattle.std.specs.Prelude.{◌≡◌, ◌≢◌, IfErr, IfOk};
+ghost use Rattle.loader.specs.Labels.{address_of};
+ghost use Rattle.report_output.specs.Answers.{Answers};
+ghost use Rattle.author_reports.specs.DraftReport.{IsDraftRefused, IsDraftReport, IsDraftable, address_in, entry_of};
+ghost use Rattle.report_input.specs.Source.{IsSourceFault};
+ghost use Rattle.drafting.specs.Draft.{IsDraft};
+
+use asm_text::read_number;
+use assembler::{Assembly, placed_lines};
+use bus_ticks::SPACE_END;
+use drafting::{Program, draft};
+use loader::{Labels, MAGIC};
+use report_input::read_source;
+use report_output::{Output, ReportFault, write_whole};
+use std::alloc::Global;
+
+// The address that a number says: decimal, or hexadecimal after `0x`.
+fn address_in(text: &[u8]) -> Option<u32>
+    ensures { result ≡ address_in text.now }
+{
+    let number = read_number(text)?;
+    if number < SPACE_END && number % 4 == 0 {
+        return Some(number);
+    }
+    None
+}
+
+// Where a handler begins, by a label or by its address.
+fn entry_of(labels: &Labels, entry: &[u8]) -> Option<u32>
+    ensures { result ≡ entry_of (address_of labels.now) entry.now }
+{
+    match labels.get(entry) {
+        Some(address) => Some(address),
+        None => address_in(entry),
+    }
+}
+
+// The draft of a handler in a source that was read.
+fn draft_text(
+    alloc: Global,
+    source: &[u8],
+    said: &Assembly,
+    entry: u32,
+) -> Result<Vec<u8>, ReportFault>
+    ensures draft { IfOk result (λ text. IsDraft said.now.image said.now.labels entry text.items) }
+    ensures fault { IfErr result (IsSourceFault source.now) }
+{
+    let placed = if source.starts_with(&MAGIC) {
+        Vec::new(alloc)
+    } else {
+        placed_lines(alloc, source)?
+    };
+    let program = Program {
+        source,
+        placed: &placed,
+        image: &said.image,
+        labels: &said.labels,
+    };
+    let text = draft(alloc, &program, entry)?;
+    Ok(text)
+}
+
+fn source_draft(alloc: Global, source: &[u8], entry: &[u8]) -> Result<Vec<u8>, ReportFault>
+    ensures draft { IfOk result (λ text. IsDraftReport source.now entry.now text.items) }
+    ensures fault { IfErr result (λ e. (e ≢ ReportFault.Device) × IsDraftRefused source.now entry.now e) }
+    ensures only { IsDraftable source.now entry.now → IfErr result (λ e. e ≡ ReportFault.Memory) }
+{
+    let said = read_source(alloc, source)?;
+    let Some(address) = entry_of(&said.labels, entry) else {
+        return Err(ReportFault::NoSuchEntry);
+    };
+    draft_text(alloc, source, &said, address)
+}
+
+/// Writes a statement of the handler that begins at a label or at an address, to be filled in: with all that
+/// the words reached from there show of its loops, of the targets of words that write R15, and of the classes
+/// of its loads and stores. An address is decimal, or hexadecimal after `0x`.
+///
+/// # Errors
+///
+/// `Source` with the line of a text, `Image` of an image, then `NoSuchEntry`; `Memory`. After any but
+/// `Device` nothing was written.
+pub fn draft_report<O: Output>(
+    alloc: Global,
+    source: &[u8],
+    entry: &[u8],
+    out: &mut O,
+) -> Result<(), ReportFault>
+    ensures { Answers O.taken O.failures (λ _ text. IsDraftReport source.now entry.now text)
+        (IsDraftable source.now entry.now) (IsDraftRefused source.now entry.now) out.old out.new result }
+{
+    let text = source_draft(alloc, source, entry)?;
+    match write_whole(out, &text) {
+        Ok(()) => Ok(()),
+        Err(_) => Err(ReportFault::Device),
+    }
+}

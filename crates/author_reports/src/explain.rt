@@ -1,0 +1,223 @@
+//! Where the ticks of a handler's greatest run time go.
+
+ghost use Rattle.std.specs.Prelude.{◌≡◌, ◌≢◌, Ok, IfErr, IfOk, option_map};
+ghost use Rattle.bus_ticks.specs.declared.profile.Profile.{Profile};
+ghost use Rattle.flow_graph.specs.Flow.{IsWellFormed};
+ghost use Rattle.statement.specs.Statement.{Names};
+ghost use Rattle.assembler.specs.Placed.{ArePlaced};
+ghost use Rattle.author_reports.specs.ExplainReport.{Explains, IsExplanation, IsImageText, IsSourceText};
+ghost use Rattle.author_reports.specs.ExplainReport.{IsTextOf, is_enough};
+ghost use Rattle.report_input.specs.Priced.{Priced};
+ghost use Rattle.report_input.specs.Report.{HasLoops, IsRefused, IsTreeOf};
+ghost use Rattle.report_input.specs.Source.{IsSourceFault, source_of};
+
+use assembler::{PlacedLine, placed_lines};
+use bus_ticks::Profile;
+use explained::{
+    Bursts, StatedGraph, burst_lines, image_assumptions, image_table, places_stand_once,
+    source_assumptions, source_table, totals_are_the_bound,
+};
+use loader::{Image, MAGIC};
+use longest_walk::{Longest, longest};
+use report_input::{Handler, handler_of, profile_of, read_source};
+use report_output::{Output, ReportFault, write_whole};
+use std::alloc::{AllocError, Global};
+
+/// A handler whose bound is explained.
+#[derive(Clone, Copy)]
+pub struct Explained<'a> {
+    /// The bytes of its source, a text or an image.
+    pub source: &'a [u8],
+    /// The text of the statement on it.
+    pub statement: &'a [u8],
+    /// The most ticks that its bound, without bursts, may have to be enough; for `None` any bound is.
+    pub at_most: Option<u32>,
+    /// The DMA bursts with which its bound is told too.
+    pub bursts: Bursts,
+}
+
+// A greatest walk, and the bursts that are added to its cost, by the profile's price of one.
+#[derive(Clone, Copy)]
+struct BurstWalk<'a> {
+    longest: &'a Longest,
+    profile: &'a Profile,
+    bursts: Bursts,
+}
+
+/// A bound, in ticks, and the text that explains it.
+#[derive(Drop)]
+struct Explanation {
+    bound: u64,
+    text: Vec<u8>,
+}
+
+fn is_enough(at_most: Option<u32>, bound: u64) -> bool
+    ensures { result ≡ is_enough at_most bound }
+{
+    match at_most {
+        Some(most) => bound <= u64::from(most),
+        None => true,
+    }
+}
+
+// The explanation by the words of an image.
+fn image_text(
+    alloc: Global,
+    stated: StatedGraph<'_>,
+    walk: BurstWalk<'_>,
+) -> Result<Vec<u8>, AllocError>
+    ensures { IfOk result
+        (λ text. IsImageText stated.entry.image.now stated.entry.statement.now stated.entry.graph.now
+        walk.entry.longest.now walk.entry.profile.now.burst walk.entry.bursts text.items) }
+{
+    let mut text = image_table(alloc, stated.image, stated.graph, walk.longest)?;
+    let mut rest = burst_lines(alloc, walk.profile, walk.longest.bound, walk.bursts)?;
+    let assumptions = image_assumptions(alloc, stated)?;
+    rest.extend_from_slice(&assumptions)?;
+    text.extend_from_slice(&rest)?;
+    Ok(text)
+}
+
+// The explanation by the lines of a text, which stand so.
+fn placed_text(
+    alloc: Global,
+    source: &[u8],
+    placed: &[PlacedLine],
+    stated: StatedGraph<'_>,
+    walk: BurstWalk<'_>,
+) -> Result<Vec<u8>, AllocError>
+    requires { ArePlaced source.now placed.now }
+    ensures { IfOk result
+        (λ text. IsSourceText source.now stated.entry.image.now stated.entry.statement.now
+        stated.entry.graph.now walk.entry.longest.now walk.entry.profile.now.burst walk.entry.bursts
+        text.items) }
+{
+    let mut text = source_table(alloc, source, placed, stated.graph, walk.longest)?;
+    let mut rest = burst_lines(alloc, walk.profile, walk.longest.bound, walk.bursts)?;
+    let assumptions = source_assumptions(alloc, stated, source, placed)?;
+    rest.extend_from_slice(&assumptions)?;
+    text.extend_from_slice(&rest)?;
+    Ok(text)
+}
+
+// The explanation by a greatest walk.
+fn text_of(
+    alloc: Global,
+    source: &[u8],
+    stated: StatedGraph<'_>,
+    walk: BurstWalk<'_>,
+) -> Result<Vec<u8>, ReportFault>
+    ensures text { IfOk result
+        (λ text. IsTextOf source.now stated.entry.image.now stated.entry.statement.now
+        stated.entry.graph.now walk.entry.longest.now walk.entry.profile.now.burst walk.entry.bursts
+        text.items) }
+    ensures fault { IfErr result (IsSourceFault source.now) }
+{
+    if source.starts_with(&MAGIC) {
+        let text = image_text(alloc, stated, walk)?;
+        return Ok(text);
+    }
+    let placed = placed_lines(alloc, source)?;
+    let text = placed_text(alloc, source, &placed, stated, walk)?;
+    Ok(text)
+}
+
+// The explanation of a handler that was read.
+fn explanation_of(
+    alloc: Global,
+    explained: Explained<'_>,
+    profile: &Profile,
+    image: &Image,
+    handler: &Handler,
+) -> Result<Explanation, ReportFault>
+    requires formed { IsWellFormed handler.now.graph }
+    requires tree { IsTreeOf handler.now.graph handler.now.statement.loops handler.now.tree }
+    ensures explains { (names : Names)
+        → source_of explained.entry.source.now ≡ Ok (image.now, names)
+        → HasLoops explained.entry.source.now explained.entry.statement.now profile.now
+        handler.now.statement handler.now.graph
+        → IfOk result (λ e. IsExplanation explained.entry.source.now explained.entry.statement.now
+        explained.entry.bursts profile.now e.bound e.text.items) }
+    ensures fault { (names : Names)
+        → source_of explained.entry.source.now ≡ Ok (image.now, names)
+        → HasLoops explained.entry.source.now explained.entry.statement.now profile.now
+        handler.now.statement handler.now.graph
+        → IfErr result (λ e. (e ≢ ReportFault.Device)
+        × IsRefused explained.entry.source.now explained.entry.statement.now profile.now e) }
+{
+    let found = longest(alloc, &handler.graph, &handler.tree)?;
+    places_stand_once();
+    totals_are_the_bound();
+    let stated = StatedGraph {
+        image,
+        statement: &handler.statement,
+        graph: &handler.graph,
+    };
+    let walk = BurstWalk {
+        longest: &found,
+        profile,
+        bursts: explained.bursts,
+    };
+    let text = text_of(alloc, explained.source, stated, walk)?;
+    Ok(Explanation {
+        bound: found.bound,
+        text,
+    })
+}
+
+fn source_explanation(
+    alloc: Global,
+    explained: Explained<'_>,
+    profile: &Profile,
+) -> Result<Explanation, ReportFault>
+    ensures explains { IfOk result
+        (λ e. IsExplanation explained.entry.source.now explained.entry.statement.now explained.entry.bursts
+        profile.now e.bound e.text.items) }
+    ensures fault { IfErr result
+        (λ e. (e ≢ ReportFault.Device)
+        × IsRefused explained.entry.source.now explained.entry.statement.now profile.now e) }
+{
+    let said = read_source(alloc, explained.source)?;
+    let handler = handler_of(alloc, &said, explained.statement, profile)?;
+    explanation_of(alloc, explained, profile, &said.image, &handler)
+}
+
+fn priced_explanation<O: Output>(
+    alloc: Global,
+    explained: Explained<'_>,
+    profile: &Profile,
+    out: &mut O,
+) -> Result<bool, ReportFault>
+    ensures { Explains O.taken O.failures explained.entry.source.now explained.entry.statement.now
+        explained.entry.at_most explained.entry.bursts profile.now out.old out.new result }
+{
+    let found = source_explanation(alloc, explained, profile)?;
+    match write_whole(out, &found.text) {
+        Ok(()) => Ok(is_enough(explained.at_most, found.bound)),
+        Err(_) => Err(ReportFault::Device),
+    }
+}
+
+/// Writes where the ticks of a handler's greatest run time go, by a cycle profile's file or by the first
+/// profile: a table by the lines of the source, or by the words of an image, with how often a greatest walk
+/// passes each and the ticks of that; then the bound, in ticks and in microseconds; then the bound with DMA
+/// bursts, if any are given; and then what is taken for granted: words that count as returns but do not look
+/// like returns, and loads and stores of which no class is stated. Answers whether the bound is enough: without
+/// bursts at most so many ticks as are wanted.
+///
+/// # Errors
+///
+/// Those of [`bound_report`](crate::bound_report). After any but `Device` nothing was written.
+pub fn explain_report<O: Output>(
+    alloc: Global,
+    explained: Explained<'_>,
+    profile: Option<&[u8]>,
+    out: &mut O,
+) -> Result<bool, ReportFault>
+    ensures { Priced (option_map (λ f. f.now) profile.entry)
+        (λ p. Explains O.taken O.failures explained.entry.source.now explained.entry.statement.now
+        explained.entry.at_most explained.entry.bursts p out.old out.new result) out.old out.new result }
+{
+    let profile = profile_of(alloc, profile)?;
+    priced_explanation(alloc, explained, &profile, out)
+}

@@ -1,0 +1,217 @@
+//! Whether a machine's run keeps the statement of its handler.
+
+ghost use Rattle.std.specs.Prelude.{◌≡◌, ◌≢◌, ℕ, List, Ok, IfErr, IfOk, OnOk, length, option_map};
+ghost use Rattle.std.specs.Prelude.{string_bytes};
+ghost use Rattle.bus_ticks.specs.declared.profile.Profile.{Profile};
+ghost use Rattle.flow_graph.specs.Graph.{IsFlowGraph};
+ghost use Rattle.kept_runs.specs.Judging.{IsMachineFor};
+ghost use Rattle.loader.specs.Labels.{address_of};
+ghost use Rattle.longest_walk.specs.Longest.{IsWalkFault};
+ghost use Rattle.loop_bounds.specs.Bounds.{IsGreatestCost};
+ghost use Rattle.numbered_walks.specs.declared.fault.WalkFault.{WalkFault};
+ghost use Rattle.author_reports.specs.FollowReport.{FollowsRun, IsFollowRefused, IsFollowReport};
+ghost use Rattle.author_reports.specs.FollowWork.{IsJudgedRun, Tells};
+ghost use Rattle.report_input.specs.Priced.{Priced};
+ghost use Rattle.report_input.specs.Report.{HasLoops, IsRefused, IsTreeOf};
+ghost use Rattle.report_input.specs.Source.{IsSourceFault, source_of};
+
+use crate::follow_text::{kept_text, line_of, strayed_text, why_text};
+use assembler::Assembly;
+use bus_ticks::Profile;
+use flow_graph::run_law;
+use kept_runs::{Followed, follow};
+use loader::Image;
+use longest_walk::longest;
+use machine_file::MachineFile;
+use report_input::{Handler, Placed, handler_of, place_image, profile_of, read_source};
+use report_output::{Output, ReportFault, write_whole};
+use std::alloc::Global;
+
+/// A handler, and a machine whose run through it is judged.
+#[derive(Clone, Copy)]
+pub struct FollowedRun<'a> {
+    /// The bytes of the handler's source, a text or an image.
+    pub source: &'a [u8],
+    /// The text of the statement on it.
+    pub statement: &'a [u8],
+    /// The text of the machine file.
+    pub machine: &'a [u8],
+}
+
+/// Whether a run keeps the statement, and the text that says so.
+#[derive(Drop)]
+struct Judged {
+    kept: bool,
+    text: String,
+}
+
+/// A handler that was read, with its source and the greatest cost of its walks, in ticks.
+#[derive(Clone, Copy)]
+struct Bounded<'a> {
+    source: &'a [u8],
+    image: &'a Image,
+    handler: &'a Handler,
+    bound: u64,
+}
+
+// The greatest cost of the handler's walks.
+fn bound_of(alloc: Global, handler: &Handler) -> Result<u64, ReportFault>
+    requires { IsTreeOf handler.now.graph handler.now.statement.loops handler.now.tree }
+    ensures greatest { IfOk result (IsGreatestCost handler.now.graph handler.now.statement.loops) }
+    ensures allowed { OnOk result
+        ((fault : WalkFault) → fault ≢ WalkFault.Memory → IsWalkFault handler.now.graph handler.now.tree fault
+        → ⊥) }
+    ensures fault { (source statement : List ℕ) (profile : Profile)
+        → HasLoops source statement profile handler.now.statement handler.now.graph
+        → IfErr result (λ e. (e ≢ ReportFault.Device) × IsRefused source statement profile e) }
+{
+    let found = longest(alloc, &handler.graph, &handler.tree)?;
+    Ok(found.bound)
+}
+
+// The answer on a run that was followed.
+fn told(alloc: Global, bounded: Bounded<'_>, followed: Followed) -> Result<Judged, ReportFault>
+    ensures told { IfOk result
+        (λ j. Tells bounded.entry.source.now bounded.entry.handler.now.statement bounded.entry.bound
+        followed j.kept (string_bytes j.text)) }
+    ensures fault { IfErr result (IsSourceFault bounded.entry.source.now) }
+{
+    match followed {
+        Followed::Kept { ticks, .. } => {
+            let text = kept_text(alloc, ticks, bounded.bound)?;
+            Ok(Judged { kept: true, text })
+        }
+        Followed::Strayed { steps, at, why } => {
+            let line = line_of(alloc, bounded.source, at)?;
+            let why = why_text(alloc, &bounded.handler.statement, at, why)?;
+            let text = strayed_text(alloc, steps, at, line, why.as_str())?;
+            Ok(Judged { kept: false, text })
+        }
+    }
+}
+
+// The answer on the run of a machine that has all its words.
+fn judged_run(
+    alloc: Global,
+    bounded: Bounded<'_>,
+    placed: &mut Placed,
+) -> Result<Judged, ReportFault>
+    requires graph { IsFlowGraph bounded.image.now bounded.handler.now.statement
+        bounded.handler.now.graph.profile bounded.handler.now.graph }
+    requires tree { IsTreeOf bounded.handler.now.graph bounded.handler.now.statement.loops
+        bounded.handler.now.tree }
+    requires greatest { IsGreatestCost bounded.handler.now.graph bounded.handler.now.statement.loops
+        bounded.bound }
+    requires machine { IsMachineFor bounded.handler.now.graph placed.old.machine }
+    ensures judged { IfOk result
+        (λ j. IsJudgedRun bounded.entry.image.now bounded.entry.handler.now.statement
+        bounded.entry.handler.now.graph bounded.entry.handler.now.tree bounded.entry.source.now
+        bounded.entry.bound placed.old.file placed.old.machine j.kept (string_bytes j.text)) }
+    ensures fault { IfErr result (IsSourceFault bounded.entry.source.now) }
+{
+    let inputs = placed.file.inputs(alloc)?;
+    let handler = kept_runs::Handler {
+        image: bounded.image,
+        statement: &bounded.handler.statement,
+        graph: &bounded.handler.graph,
+        tree: &bounded.handler.tree,
+    };
+    run_law();
+    let followed = follow(alloc, handler, &mut placed.machine, &inputs)?;
+    told(alloc, bounded, followed)
+}
+
+// A machine file states all registers but R15.
+fn states_registers(file: &MachineFile)
+    ensures { length file.now.processor.registers ≡ 26 }
+{
+    let _registers = file.registers();
+}
+
+// The answer on a machine's run through a handler that was read.
+fn handler_run(
+    alloc: Global,
+    run: FollowedRun<'_>,
+    said: &Assembly,
+    handler: &Handler,
+    profile: &Profile,
+) -> Result<Judged, ReportFault>
+    requires said { source_of run.source.now ≡ Ok (said.now.image, address_of said.now.labels) }
+    requires loops { HasLoops run.source.now run.statement.now profile.now handler.now.statement
+        handler.now.graph }
+    requires tree { IsTreeOf handler.now.graph handler.now.statement.loops handler.now.tree }
+    ensures judged { IfOk result
+        (λ j. IsFollowReport run.entry.source.now run.entry.statement.now run.entry.machine.now profile.now
+        j.kept (string_bytes j.text)) }
+    ensures fault { IfErr result
+        (λ e. (e ≢ ReportFault.Device) × IsFollowRefused run.entry.source.now run.entry.statement.now
+        run.entry.machine.now profile.now e) }
+{
+    let bound = bound_of(alloc, handler)?;
+    let mut placed = place_image(alloc, said, run.machine, *profile)?;
+    states_registers(&placed.file);
+    let bounded = Bounded {
+        source: run.source,
+        image: &said.image,
+        handler,
+        bound,
+    };
+    judged_run(alloc, bounded, &mut placed)
+}
+
+fn source_run(alloc: Global, run: FollowedRun<'_>, profile: &Profile) -> Result<Judged, ReportFault>
+    ensures judged { IfOk result
+        (λ j. IsFollowReport run.entry.source.now run.entry.statement.now run.entry.machine.now profile.now
+        j.kept (string_bytes j.text)) }
+    ensures fault { IfErr result
+        (λ e. (e ≢ ReportFault.Device) × IsFollowRefused run.entry.source.now run.entry.statement.now
+        run.entry.machine.now profile.now e) }
+{
+    let said = read_source(alloc, run.source)?;
+    let handler = handler_of(alloc, &said, run.statement, profile)?;
+    handler_run(alloc, run, &said, &handler, profile)
+}
+
+fn priced_run<O: Output>(
+    alloc: Global,
+    run: FollowedRun<'_>,
+    profile: &Profile,
+    out: &mut O,
+) -> Result<bool, ReportFault>
+    ensures { FollowsRun O.taken O.failures run.entry.source.now run.entry.statement.now run.entry.machine.now
+        profile.now out.old out.new result }
+{
+    let judged = source_run(alloc, run, profile)?;
+    match write_whole(out, judged.text.as_bytes()) {
+        Ok(()) => Ok(judged.kept),
+        Err(_) => Err(ReportFault::Device),
+    }
+}
+
+/// Runs the machine of a source and a machine file, as [`run_report`](crate::run_report) does, until it
+/// leaves the handler, and judges the run by the handler's statement. The file's steps are the most that it
+/// makes. The prices are those of a cycle profile's file, or of the first profile.
+///
+/// `true` exactly where the run keeps the statement: its steps, some number of the file's, are a walk from
+/// the entry to Exit that keeps the loop bounds. Then its ticks are at most the bound of
+/// [`bound_report`](crate::bound_report), and the line that is written says how many they are, and how much
+/// less. Else the line says which step is the first that does not keep it, by its number from 0, its address
+/// and its line of the source, and why.
+///
+/// # Errors
+///
+/// The first in the order of the work: profile, source, statement, graph, loops, walk, machine file, load;
+/// `Memory`. After any but `Device` nothing was written.
+pub fn follow_report<O: Output>(
+    alloc: Global,
+    run: FollowedRun<'_>,
+    profile: Option<&[u8]>,
+    out: &mut O,
+) -> Result<bool, ReportFault>
+    ensures { Priced (option_map (λ f. f.now) profile.entry)
+        (λ p. FollowsRun O.taken O.failures run.entry.source.now run.entry.statement.now
+        run.entry.machine.now p out.old out.new result) out.old out.new result }
+{
+    let profile = profile_of(alloc, profile)?;
+    priced_run(alloc, run, &profile, out)
+}

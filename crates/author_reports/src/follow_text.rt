@@ -1,0 +1,187 @@
+//! What is printed of a run that is judged by a statement.
+
+ghost use Rattle.std.specs.Prelude.{◌≡◌, IfErr, IfOk, MatchOption, string_bytes};
+ghost use Rattle.bus_ticks.specs.Prices.{class_at};
+ghost use Rattle.author_reports.specs.FollowText.{HasNoLine, IsLine, IsLineAt, access_name, access_text};
+ghost use Rattle.author_reports.specs.FollowText.{class_name, has_word, kept_text, less_text, line_text};
+ghost use Rattle.author_reports.specs.FollowText.{stray_text, strayed_text, times_text, turned_text};
+ghost use Rattle.author_reports.specs.FollowText.{why_text};
+ghost use Rattle.report_input.specs.Source.{IsSourceFault};
+
+use assembler::{PlacedLine, placed_lines};
+use bus_ticks::{Class, IO_START, ROM_START};
+use flow_graph::Statement;
+use kept_runs::{Access, Stray, Unkept};
+use loader::MAGIC;
+use report_output::ReportFault;
+use std::alloc::{AllocError, Global};
+use trace_text::{exception_name, why_name};
+
+// How much less than the bound the ticks are.
+fn less_text(alloc: Global, ticks: u128, bound: u64) -> Result<String, AllocError>
+    ensures { IfOk result (λ text. string_bytes text ≡ less_text ticks bound) }
+{
+    let bound = u128::from(bound);
+    if ticks == bound {
+        return String::from_str(alloc, "the bound");
+    }
+    let less = bound.saturating_sub(ticks);
+    format!(in alloc; "{less} less than the bound")
+}
+
+/// The line on a run that keeps the statement: its ticks, and how much less than the bound they are.
+pub(crate) fn kept_text(alloc: Global, ticks: u128, bound: u64) -> Result<String, AllocError>
+    ensures { IfOk result (λ text. string_bytes text ≡ kept_text ticks bound) }
+{
+    let less = less_text(alloc, ticks, bound)?;
+    format!(in alloc; "kept: {ticks} ticks, {less}\n")
+}
+
+fn class_name(class: Class) -> &'static str
+    ensures { result.now ≡ class_name class }
+{
+    match class {
+        Class::Ram => "ram",
+        Class::Rom => "rom",
+        Class::Io => "io",
+        Class::Any => "any",
+    }
+}
+
+// The class of a word's address.
+fn class_at(address: u32) -> Class
+    ensures { result ≡ class_at address }
+{
+    if address < IO_START {
+        Class::Ram
+    } else if address < ROM_START {
+        Class::Io
+    } else {
+        Class::Rom
+    }
+}
+
+fn access_name(store: bool) -> &'static str
+    ensures { result.now ≡ access_name store }
+{
+    if store { "stored to " } else { "loaded from " }
+}
+
+fn access_text(alloc: Global, stated: Class, access: Access) -> Result<String, AllocError>
+    ensures { IfOk result (λ text. string_bytes text ≡ access_text stated access) }
+{
+    let name = access_name(access.store);
+    let address = access.address;
+    let class = class_name(class_at(address));
+    let stated = class_name(stated);
+    format!(in alloc; "{name}{address:X}, {class}; {stated} is stated")
+}
+
+// How the step of a word strays for which this class is stated.
+fn stray_text(alloc: Global, stated: Class, stray: Stray) -> Result<String, AllocError>
+    ensures { IfOk result (λ text. string_bytes text ≡ stray_text stated stray) }
+{
+    match stray {
+        Stray::OtherWord => String::from_str(alloc, "fetches another word than the source's"),
+        Stray::Exception(vector) => format!(in alloc; "exception {}", exception_name(vector)),
+        Stray::Stopped(why) => format!(in alloc; "stopped {}", why_name(why)),
+        Stray::OtherClass(access) => access_text(alloc, stated, access),
+        Stray::Elsewhere(to) => format!(in alloc; "went to {to:X}, which is not stated"),
+    }
+}
+
+fn times_text(alloc: Global, times: u64) -> Result<String, AllocError>
+    ensures { IfOk result (λ text. string_bytes text ≡ times_text times) }
+{
+    if times == 1 {
+        return String::from_str(alloc, "once");
+    }
+    format!(in alloc; "{times} times")
+}
+
+// That a loop turned back once more than its bound.
+fn turned_text(alloc: Global, bound: u32) -> Result<String, AllocError>
+    ensures { IfOk result (λ text. string_bytes text ≡ turned_text bound) }
+{
+    let times = times_text(alloc, u64::from(bound) + 1)?;
+    format!(in alloc; "turned back {times}; {bound} stated")
+}
+
+/// Why the step at the address does not keep the statement.
+pub(crate) fn why_text(
+    alloc: Global,
+    statement: &Statement,
+    at: u32,
+    why: Unkept,
+) -> Result<String, AllocError>
+    ensures { IfOk result (λ text. string_bytes text ≡ why_text statement.now at why) }
+{
+    match why {
+        Unkept::NotAtEntry => {
+            let entry = statement.entry();
+            format!(in alloc; "not the entry, which is {entry:X}")
+        }
+        Unkept::Stray(stray) => stray_text(alloc, statement.class_at(at), stray),
+        Unkept::TurnedBack(span) => turned_text(alloc, span.bound),
+        Unkept::Unfinished => String::from_str(alloc, "the steps end inside the handler"),
+    }
+}
+
+fn line_text(alloc: Global, line: Option<usize>) -> Result<String, AllocError>
+    ensures { IfOk result (λ text. string_bytes text ≡ line_text line) }
+{
+    match line {
+        Some(line) => format!(in alloc; ", line {line}"),
+        None => Ok(String::new(alloc)),
+    }
+}
+
+/// The line on a run that does not keep the statement: the number of the step that does not, from 0, its
+/// address and its line, and why.
+pub(crate) fn strayed_text(
+    alloc: Global,
+    steps: u64,
+    at: u32,
+    line: Option<usize>,
+    why: &str,
+) -> Result<String, AllocError>
+    ensures { IfOk result (λ text. string_bytes text ≡ strayed_text steps at line why.now) }
+{
+    let line = line_text(alloc, line)?;
+    format!(in alloc; "step {steps}, {at:X}{line}: {why}\n")
+}
+
+// Whether a word of the line stands at the address.
+fn has_word(line: &PlacedLine, address: u32) -> bool
+    ensures { result ≡ has_word address line.now }
+{
+    line.at <= address && (address as usize) < line.at as usize + 4 * line.words
+}
+
+// The number, from 1, of the line that has a word at the address.
+fn line_at(placed: &[PlacedLine], address: u32) -> Option<usize>
+    ensures { MatchOption result (HasNoLine address placed.now) (IsLine address placed.now) }
+{
+    for index in 0..placed.len() {
+        if has_word(&placed[index], address) {
+            return Some(index + 1);
+        }
+    }
+    None
+}
+
+/// The line of a source that has a word at the address; none of an image.
+pub(crate) fn line_of(
+    alloc: Global,
+    source: &[u8],
+    address: u32,
+) -> Result<Option<usize>, ReportFault>
+    ensures line { IfOk result (IsLineAt source.now address) }
+    ensures fault { IfErr result (IsSourceFault source.now) }
+{
+    if source.starts_with(&MAGIC) {
+        return Ok(None);
+    }
+    let placed = placed_lines(alloc, source)?;
+    Ok(line_at(&placed, address))
+}

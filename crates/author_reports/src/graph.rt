@@ -1,0 +1,123 @@
+//! The drawing of a handler's flow graph, with what its greatest run time takes.
+
+ghost use Rattle.std.specs.Prelude.{◌≡◌, ◌≢◌, ℕ, List, Ok, IfErr, IfOk, option_map};
+ghost use Rattle.bus_ticks.specs.declared.profile.Profile.{Profile};
+ghost use Rattle.flow_graph.specs.Flow.{IsWellFormed};
+ghost use Rattle.statement.specs.Statement.{Names};
+ghost use Rattle.author_reports.specs.GraphReport.{AreLabelsOf, Draws, IsGraphReport};
+ghost use Rattle.report_input.specs.Priced.{Priced};
+ghost use Rattle.report_input.specs.Report.{HasLoops, IsRefused, IsTreeOf};
+ghost use Rattle.report_input.specs.Source.{IsSourceFault, source_of};
+
+use assembler::placed_lines;
+use bus_ticks::Profile;
+use dot_text::{
+    drawing, image_labels, node_ticks_are_the_bound, places_are_drawn_once, source_labels,
+};
+use flow_graph::Graph;
+use loader::{Image, MAGIC};
+use longest_walk::longest;
+use report_input::{Handler, handler_of, profile_of, read_source};
+use report_output::{Output, ReportFault, write_whole};
+use std::alloc::Global;
+
+// What stands for the places, by a text's lines or an image's words.
+fn labels_of(
+    alloc: Global,
+    source: &[u8],
+    image: &Image,
+    graph: &Graph,
+) -> Result<Vec<Vec<u8>>, ReportFault>
+    ensures labels { IfOk result
+        (λ labels. AreLabelsOf source.now image.now graph.now.places labels.items) }
+    ensures fault { IfErr result (IsSourceFault source.now) }
+{
+    if source.starts_with(&MAGIC) {
+        let labels = image_labels(alloc, image, graph)?;
+        return Ok(labels);
+    }
+    let placed = placed_lines(alloc, source)?;
+    let labels = source_labels(alloc, source, &placed, graph)?;
+    Ok(labels)
+}
+
+// The drawing of a handler that was read.
+fn drawing_of(
+    alloc: Global,
+    source: &[u8],
+    image: &Image,
+    handler: &Handler,
+) -> Result<Vec<u8>, ReportFault>
+    requires formed { IsWellFormed handler.now.graph }
+    requires tree { IsTreeOf handler.now.graph handler.now.statement.loops handler.now.tree }
+    ensures draws { (statement : List ℕ) (profile : Profile) (names : Names)
+        → source_of source.now ≡ Ok (image.now, names)
+        → HasLoops source.now statement profile handler.now.statement handler.now.graph
+        → IfOk result (λ text. IsGraphReport source.now statement profile text.items) }
+    ensures fault { (statement : List ℕ) (profile : Profile) (names : Names)
+        → source_of source.now ≡ Ok (image.now, names)
+        → HasLoops source.now statement profile handler.now.statement handler.now.graph
+        → IfErr result (λ e. (e ≢ ReportFault.Device) × IsRefused source.now statement profile e) }
+{
+    let found = longest(alloc, &handler.graph, &handler.tree)?;
+    places_are_drawn_once();
+    node_ticks_are_the_bound();
+    let labels = labels_of(alloc, source, image, &handler.graph)?;
+    let text = drawing(alloc, &handler.graph, &handler.tree, &found, &labels)?;
+    Ok(text)
+}
+
+fn source_drawing(
+    alloc: Global,
+    source: &[u8],
+    statement: &[u8],
+    profile: &Profile,
+) -> Result<Vec<u8>, ReportFault>
+    ensures draws { IfOk result
+        (λ text. IsGraphReport source.now statement.now profile.now text.items) }
+    ensures fault { IfErr result
+        (λ e. (e ≢ ReportFault.Device) × IsRefused source.now statement.now profile.now e) }
+{
+    let said = read_source(alloc, source)?;
+    let handler = handler_of(alloc, &said, statement, profile)?;
+    drawing_of(alloc, source, &said.image, &handler)
+}
+
+fn priced_drawing<O: Output>(
+    alloc: Global,
+    source: &[u8],
+    statement: &[u8],
+    profile: &Profile,
+    out: &mut O,
+) -> Result<(), ReportFault>
+    ensures { Draws O.taken O.failures source.now statement.now profile.now out.old out.new result }
+{
+    let text = source_drawing(alloc, source, statement, profile)?;
+    match write_whole(out, &text) {
+        Ok(()) => Ok(()),
+        Err(_) => Err(ReportFault::Device),
+    }
+}
+
+/// Writes the drawing of a handler's flow graph in DOT, the language of Graphviz, by a cycle profile's file or
+/// by the first profile: its straight stretches with their lines of the source, or their words of an image,
+/// and the edges between them, in clusters for calls and loops, with how often a greatest walk takes each and
+/// the ticks of that.
+///
+/// # Errors
+///
+/// Those of [`bound_report`](crate::bound_report). After any but `Device` nothing was written.
+pub fn graph_report<O: Output>(
+    alloc: Global,
+    source: &[u8],
+    statement: &[u8],
+    profile: Option<&[u8]>,
+    out: &mut O,
+) -> Result<(), ReportFault>
+    ensures { Priced (option_map (λ f. f.now) profile.entry)
+        (λ p. Draws O.taken O.failures source.now statement.now p out.old out.new
+        result) out.old out.new result }
+{
+    let profile = profile_of(alloc, profile)?;
+    priced_drawing(alloc, source, statement, &profile, out)
+}

@@ -1,0 +1,118 @@
+-- A verdict and the refusals of a check, from what is found of the three texts.
+use Rattle.std.proofs.Common.{◌≡◌, ◌≢◌, ◌⊎◌, ◌∙◌, ℕ, List, Result, Ok, Err, refl, sym, ap, subst, inl, true, false}
+use Rattle.std.specs.Prelude.{IfErr, IsErrOf}
+use Rattle.bus_ticks.specs.declared.profile.Profile.{Profile}
+use Rattle.walks.specs.Greatest.{IsGreatest}
+use Rattle.flow_graph.specs.declared.places.Place.TheVariants.{Exit}
+use Rattle.flow_graph.specs.Flow.{Flow, HasEdge, edge_shape}
+use Rattle.statement.specs.Stated.{Stated}
+use Rattle.loop_bounds.specs.Tree.{Tree}
+use Rattle.longest_walk.specs.Longest.{KeepsTree}
+use Rattle.certificate.specs.Faults.{EndsEarly, GoesOn, HasBadLine, Reads}
+use Rattle.certificate.specs.Lines.{CanSpell, Said, cert_text, said_by, said_of}
+use Rattle.certificate.specs.declared.cert.Cert.{Cert}
+use Rattle.certificate.specs.declared.fault.CertFault.{CertFault}
+use Rattle.certificate.specs.declared.fault.CertFault.TheVariants as cert_fault
+use Rattle.certificate.proofs.FaultLaws.{one_cert}
+use Rattle.cert_check.specs.Columns.{Ascends}
+use Rattle.cert_check.specs.Verdict.{IsVerdict}
+use Rattle.cert_check.specs.declared.verdict.Verdict.{Verdict}
+use Rattle.cert_check.specs.declared.verdict.Verdict.TheVariants.{Yes, No}
+use Rattle.cert_check.proofs.OneVerdict.{one_verdict}
+use Rattle.report_output.specs.Answers.{OfSome}
+use Rattle.bound_reports.specs.Check.{IsAnswer, IsCheckRefused, IsCheckable, IsJudged, verdict_line}
+use Rattle.report_output.specs.Faults.{of_cert}
+use Rattle.report_input.specs.Report.{HasLoops, IsHandlerRefused, IsReport, IsTreeOf}
+use Rattle.report_output.specs.declared.fault.ReportFault.{ReportFault}
+use Rattle.report_output.specs.declared.fault.ReportFault.TheVariants.{Memory, Source, Image, Statement, Graph, Loops, Walk, MachineFile, Load, Device}
+use Rattle.report_output.specs.declared.fault.ReportFault.TheVariants as report_fault
+use Rattle.report_input.proofs.HandlerLemmas.{handler_refusals, one_graph}
+use Rattle.report_input.proofs.ReportLemmas.{tree_is_greatest}
+
+-- ## Refusals
+
+-- what refuses a source and a statement up to the loops refuses a check
+pub check_refusal : (source statement text : List ℕ) (profile : Profile) (e : ReportFault) → IsHandlerRefused source statement profile e → (e ≢ Device) × IsCheckRefused source statement text profile e
+check_refusal source statement text profile Memory h = (λ e. cc e, tt)
+check_refusal source statement text profile Device h = absurd h
+check_refusal source statement text profile (report_fault.Cert f) h = absurd h
+check_refusal source statement text profile (Source f) h = (λ e. cc e, h)
+check_refusal source statement text profile (Image f) h = (λ e. cc e, h)
+check_refusal source statement text profile (MachineFile f) h = (λ e. cc e, h)
+check_refusal source statement text profile (Load f) h = (λ e. cc e, h)
+check_refusal source statement text profile (report_fault.Profile f) h = (λ e. cc e, h)
+check_refusal source statement text profile report_fault.NotFiqEntry h = (λ e. cc e, h)
+check_refusal source statement text profile report_fault.NoSuchEntry h = (λ e. cc e, h)
+check_refusal source statement text profile report_fault.NoSuchEdge h = (λ e. cc e, h)
+check_refusal source statement text profile (report_fault.NotFree a) h = (λ e. cc e, h)
+check_refusal source statement text profile (Statement f) h = (λ e. cc e, h)
+check_refusal source statement text profile (Graph f) h = (λ e. cc e, h)
+check_refusal source statement text profile (Loops f) h = (λ e. cc e, h)
+check_refusal source statement text profile (Walk f) h = (λ e. cc e, h)
+
+-- .. but not where the three texts can be checked
+pub checkable_refusal : (source statement text : List ℕ) (profile : Profile) (e : ReportFault) → IsHandlerRefused source statement profile e → IsCheckable source statement text profile → e ≡ Memory
+checkable_refusal source statement text profile e h a = handler_refusals source statement profile a.stated a.flow e a.loops h
+
+-- a fault of the text
+pub cert_refusal : (source statement text : List ℕ) (profile : Profile) (st : Stated) (flow : Flow) (f : CertFault) → HasLoops source statement profile st flow
+    → ((n : ℕ) → IsErrOf {T = Cert} (Err f) (cert_fault.BadLine n) → HasBadLine text n) → (IsErrOf {T = Cert} (Err f) cert_fault.Truncated → EndsEarly text) → (IsErrOf {T = Cert} (Err f) cert_fault.TrailingBytes → GoesOn text)
+    → (of_cert f ≢ Device) × IsCheckRefused source statement text profile (of_cert f)
+cert_refusal source statement text profile st flow cert_fault.Memory loops bad early on = (λ e. cc e, tt)
+cert_refusal source statement text profile st flow (cert_fault.BadLine n) loops bad early on = (λ e. cc e, record { stated = st; flow = flow; loops = loops; not_memory = λ e. cc e; holds = bad n refl })
+cert_refusal source statement text profile st flow cert_fault.Truncated loops bad early on = (λ e. cc e, record { stated = st; flow = flow; loops = loops; not_memory = λ e. cc e; holds = early refl })
+cert_refusal source statement text profile st flow cert_fault.TrailingBytes loops bad early on = (λ e. cc e, record { stated = st; flow = flow; loops = loops; not_memory = λ e. cc e; holds = on refl })
+
+-- .. but not where it is a certificate
+pub readable_refusal : (source statement text : List ℕ) (profile : Profile) (f : CertFault) → ((said : Said) → CanSpell said → text ≡ cert_text said → Reads said (Err f)) → IsCheckable source statement text profile → of_cert f ≡ Memory
+readable_refusal source statement text profile f only a = ap of_cert (only a.said a.can_spell a.spelled)
+
+-- ## The verdict
+
+pub ascends : (cert : Cert) → CanSpell (said_by cert) → Ascends cert
+ascends cert spell = record { places = spell.places_ascend; instances = spell.instances_ascend }
+
+pub judged : (source statement text : List ℕ) (profile : Profile) (st : Stated) (flow : Flow) (tree : Tree) (cert : Cert) (v : Verdict) → HasLoops source statement profile st flow → IsTreeOf flow st.loops tree
+    → CanSpell (said_by cert) × (text ≡ cert_text (said_by cert)) → IsVerdict flow tree cert v → (v ≡ Yes → IsGreatest edge_shape (HasEdge flow) (KeepsTree tree) flow.entry Exit cert.bound)
+    → IsJudged source statement text profile v
+judged source statement text profile st flow tree cert v loops of read is greatest = record {
+  stated = st;
+  flow = flow;
+  tree = tree;
+  cert = cert;
+  loops = loops;
+  tree_of = of;
+  can_spell = read.0;
+  spelled = read.1;
+  verdict_is = is;
+  greatest = λ yes. tree_is_greatest flow st.loops tree of.instances cert.bound (greatest yes);
+}
+
+-- what is judged can be checked
+pub checkable : (source statement text : List ℕ) (profile : Profile) (v : Verdict) → IsJudged source statement text profile v → IsCheckable source statement text profile
+checkable source statement text profile v j = record { stated = j.stated; flow = j.flow; said = said_by j.cert; loops = j.loops; can_spell = j.can_spell; spelled = j.spelled }
+
+-- the text of a report can be checked, ..
+pub report_is_checkable : (source statement text : List ℕ) (profile : Profile) → IsReport source statement profile text → IsCheckable source statement text profile
+report_is_checkable source statement text profile r =
+    record { stated = r.accepted.stated; flow = r.accepted.flow; said = said_of r.longest; loops = r.accepted.loops; can_spell = r.can_spell; spelled = r.spelled }
+
+-- .. and is judged Yes: both speak of the same graph, the text says one thing, and there is one verdict
+pub report_gets_yes : (source statement text : List ℕ) (profile : Profile) (v : Verdict) → IsReport source statement profile text → IsJudged source statement text profile v → v ≡ Yes
+report_gets_yes source statement text profile v r j =
+    let a = r.accepted in
+    let same = one_graph source statement profile j.stated a.stated j.flow a.flow j.loops.graph a.loops.graph in
+    let said : said_by j.cert ≡ said_of r.longest = one_cert (said_by j.cert) (said_of r.longest) j.can_spell r.can_spell (sym j.spelled ∙ r.spelled) in
+    let of : IsTreeOf a.flow a.stated.loops j.tree = subst (λ (s : Stated). IsTreeOf a.flow s.loops j.tree) same.same_stated (subst (λ (w : Flow). IsTreeOf w j.stated.loops j.tree) same.same_flow j.tree_of) in
+    let verdict : IsVerdict a.flow j.tree j.cert v = subst (λ (w : Flow). IsVerdict w j.tree j.cert v) same.same_flow j.verdict_is in
+    one_verdict a.flow j.tree j.cert v Yes verdict (r.judged j.tree of j.cert said)
+
+-- a verdict's line is that of one of the answers
+pub of_some : (source statement text : List ℕ) (profile : Profile) (v : Verdict) (line : List ℕ) → IsJudged source statement text profile v → line ≡ verdict_line v → OfSome (IsAnswer source statement text profile) line
+of_some source statement text profile Yes line j e = (true, record { verdict = Yes; judged = j; answer_is = (λ t. refl, λ e. refl); line_is = e })
+of_some source statement text profile (No o) line j e = (false, record { verdict = No o; judged = j; answer_is = (λ t. absurd (cc t), λ e. absurd (cc e)); line_is = e })
+
+-- the same of an answer
+pub only_memory : {T : Type 0} (r : Result T ReportFault) → IfErr r (λ e. e ≡ Memory) → IfErr r (λ e. (e ≡ Memory) ⊎ (e ≡ Device))
+only_memory (Ok x) h = tt
+only_memory (Err e) h = inl h

@@ -1,0 +1,29 @@
+use Rattle.std.proofs.Common.{◌≢◌}
+use Rattle.report_output.specs.Faults.{of_walk}
+use Rattle.report_input.specs.Report.{IsRefused}
+use Rattle.report_output.specs.declared.fault.ReportFault.TheVariants.{Device}
+use Rattle.report_input.proofs.HandlerLemmas.{refused_as}
+use Rattle.report_input.proofs.ReportLemmas.{accepted, longest_by_each, reported_bound, walk_refusal}
+use Rattle.bound_reports.proofs.bound.longest_report.Goals as goal
+
+pub returns-in_err-found-clause-fault : goal.returns-in_err-found-clause-fault
+returns-in_err-found-clause-fault c = λ source statement profile loops.
+    let h = c.args.handler.now in
+    let f = c.in_err-found.field-0.0 in
+    refused_as c.from_residual.result (of_walk f) (λ e. (e ≢ Device) × IsRefused source statement profile e) c.from_residual.ensures.1
+    (walk_refusal source statement profile h.statement h.graph h.tree loops c.requires.tree f c.in_err-found.ensures.fault)
+
+pub returns-clause-report : goal.returns-clause-report
+returns-clause-report c = λ source statement profile loops.
+    let h = c.args.handler.now in
+    let graph = loops.graph in
+    reported_bound source statement profile h.statement h.graph h.tree loops c.requires.tree
+    c.in_ok-found.found c.in_ok-text.text.items c.run_law.ensures c.requires.formed c.in_ok-found.ensures.longest c.in_ok-found.ensures.allowed
+    (λ other of cert said. c.longest_gets_yes.ensures graph.words h.statement profile h.graph other c.in_ok-found.found cert graph.graph_is c.requires.formed
+    of.tree_is (longest_by_each h.graph h.statement.loops h.tree other c.requires.tree of c.in_ok-found.found c.in_ok-found.ensures.longest) said)
+    c.in_ok-text.ensures.text
+
+pub returns-clause-accepted : goal.returns-clause-accepted
+returns-clause-accepted c = λ source statement profile loops.
+    let h = c.args.handler.now in
+    accepted source statement profile h.statement h.graph h.tree loops c.requires.tree c.in_ok-found.ensures.allowed

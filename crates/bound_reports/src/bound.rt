@@ -1,0 +1,102 @@
+ghost use Rattle.std.specs.Prelude.{◌≢◌, List, ℕ, IfErr, IfOk, OnOk, option_map};
+ghost use Rattle.bus_ticks.specs.declared.profile.Profile.{Profile};
+ghost use Rattle.flow_graph.specs.Flow.{IsWellFormed};
+ghost use Rattle.bound_reports.specs.Bound.{Reports};
+ghost use Rattle.report_input.specs.Priced.{Priced};
+ghost use Rattle.report_input.specs.Report.{HasLoops, IsAccepted, IsBoundReport, IsRefused, IsReport, IsTreeOf};
+
+use bus_ticks::Profile;
+use cert_check::longest_gets_yes;
+use certificate::write_cert;
+use flow_graph::run_law;
+use longest_walk::longest;
+use report_input::{Handler, profile_of, read_handler};
+use report_output::{Output, ReportFault, write_whole};
+use std::alloc::Global;
+
+fn text_of(
+    alloc: Global,
+    source: &[u8],
+    statement: &[u8],
+    profile: &Profile,
+) -> Result<Vec<u8>, ReportFault>
+    ensures report { IfOk result (λ v. IsReport source.now statement.now profile.now v.items) }
+    ensures accepted { OnOk result (IsAccepted source.now statement.now profile.now) }
+    ensures fault { IfErr result
+        (λ e. (e ≢ ReportFault.Device) × IsRefused source.now statement.now profile.now e) }
+{
+    let handler = read_handler(alloc, source, statement, profile)?;
+    let report = longest_report(alloc, &handler)?;
+    Ok(report.text)
+}
+
+/// The bound of a report, in ticks, and its text.
+#[derive(Drop)]
+pub struct BoundReport {
+    pub bound: u64,
+    pub text: Vec<u8>,
+}
+
+/// The report of a handler that was read.
+pub fn longest_report(alloc: Global, handler: &Handler) -> Result<BoundReport, ReportFault>
+    requires formed { IsWellFormed handler.now.graph }
+    requires tree { IsTreeOf handler.now.graph handler.now.statement.loops handler.now.tree }
+    ensures report { (source statement : List ℕ) (profile : Profile)
+        → HasLoops source statement profile handler.now.statement handler.now.graph
+        → IfOk result
+        (λ r. IsBoundReport source statement profile handler.now.statement r.bound r.text.items) }
+    ensures accepted { (source statement : List ℕ) (profile : Profile)
+        → HasLoops source statement profile handler.now.statement handler.now.graph
+        → OnOk result (IsAccepted source statement profile) }
+    ensures fault { (source statement : List ℕ) (profile : Profile)
+        → HasLoops source statement profile handler.now.statement handler.now.graph
+        → IfErr result (λ e. (e ≢ ReportFault.Device) × IsRefused source statement profile e) }
+{
+    let found = longest(alloc, &handler.graph, &handler.tree)?;
+    run_law();
+    longest_gets_yes();
+    let text = write_cert(alloc, &found)?;
+    Ok(BoundReport {
+        bound: found.bound,
+        text,
+    })
+}
+
+/// Writes the report of a source and a statement by a cycle profile's file, or by the first profile, the
+/// certificate of a greatest walk: the greatest cost, in ticks, of a complete walk of the handler's flow
+/// graph that keeps the bounds, such a walk, and the numbers that prove it greatest. Whatever text says the
+/// same is judged `yes` by [`check_report`](crate::check_report). No run of the machine that keeps the
+/// statement takes more ticks, but for the profile's burst price for each DMA burst.
+///
+/// Nothing is written until the report is finished. Of several faults the first in the order of the work is
+/// answered: profile, source, statement, graph, loops, walk. After any but `Device` nothing was written.
+pub fn bound_report<O: Output>(
+    alloc: Global,
+    source: &[u8],
+    statement: &[u8],
+    profile: Option<&[u8]>,
+    out: &mut O,
+) -> Result<(), ReportFault>
+    ensures { Priced (option_map (λ f. f.now) profile.entry)
+        (λ p. Reports O.taken O.failures source.now statement.now p out.old out.new
+        result) out.old out.new result }
+{
+    let profile = profile_of(alloc, profile)?;
+    priced_report(alloc, source, statement, &profile, out)
+}
+
+fn priced_report<O: Output>(
+    alloc: Global,
+    source: &[u8],
+    statement: &[u8],
+    profile: &Profile,
+    out: &mut O,
+) -> Result<(), ReportFault>
+    ensures { Reports O.taken O.failures source.now statement.now profile.now out.old out.new result }
+{
+    let text = text_of(alloc, source, statement, profile)?;
+    match write_whole(out, &text) {
+        Ok(()) => Ok(()),
+        Err(_) => Err(ReportFault::Device),
+    }
+}

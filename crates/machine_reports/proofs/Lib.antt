@@ -1,0 +1,3 @@
+pub mod CommentLemmas
+pub mod MachineLemmas
+pub mod TightLemmas

@@ -1,0 +1,18 @@
+-- What is shown of a run.
+use Rattle.std.proofs.Common.{◌≡◌, ℕ, Bool, true, false, List, Option, Some, None, refl}
+use Rattle.std.specs.Prelude.{◌↔◌, IsTrue, is_some, not}
+use Rattle.arm2_effect.specs.declared.step_end.Why.{Why}
+use Rattle.bus_ticks.specs.declared.profile.Profile.{Profile}
+use Rattle.report_input.specs.Placing.{IsRunnable}
+use Rattle.machine_reports.specs.Machine.{Front, IsMachineReport}
+
+-- what is shown could be run
+pub runnable : (Shows : Front) (source machine : List ℕ) (profile : Profile) (done : Bool) (text : List ℕ) → IsMachineReport Shows source machine profile done text → IsRunnable source machine profile
+runnable Shows source machine profile done text h =
+    record { file = h.loaded.file; state = h.state; placed = h.loaded.placed }
+
+pub none_is : (stopped : Option Why) (done : Bool) → is_some stopped ≡ not done → IsTrue done ↔ (stopped ≡ None)
+none_is None true is = (λ t. refl, λ e. refl)
+none_is None false is = absurd (cc is)
+none_is (Some why) true is = absurd (cc is)
+none_is (Some why) false is = (λ t. absurd (cc t), λ e. absurd (cc e))

@@ -1,0 +1,47 @@
+-- What the reports of a machine's run print.
+use Rattle.std.specs.Prelude.{◌≡◌, ◌↔◌, ◌++◌, ℕ, Bool, IsTrue, List, [], Option}
+use Rattle.std.specs.Prelude.{Some, None}
+use Rattle.bus_ticks.specs.declared.profile.Profile.{Profile}
+use Rattle.arm2_effect.specs.declared.step_end.Why.{Why}
+use Rattle.arm2_effect.specs.Modes.{r15_in}
+use Rattle.arm2_effect.specs.ProgramCounter.{address_of}
+use Rattle.arm2_exec.specs.Run.{Runs}
+use Rattle.arm2_exec.specs.State.{State}
+use Rattle.arm2_exec.specs.declared.machine.Input.{Input}
+use Rattle.arm2_exec.specs.declared.machine.Ran.{Ran}
+use Rattle.trace_text.specs.TraceText.{TracesRun, registers_text, stop_text, ticks_text}
+use Rattle.report_input.specs.Placing.{IsLoaded}
+
+-- ## The texts
+
+-- where and why a machine stopped, if it did
+abbrev pub stopped_text : Option Why → (r15 : ℕ) → List ℕ
+stopped_text None r15 = []
+stopped_text (Some why) r15 = stop_text why (address_of r15)
+
+abbrev pub end_text : Ran → State → List ℕ
+end_text ran after = stopped_text ran.stopped (r15_in after.regs) ++ ticks_text ran.ticks ran.elapsed
+
+-- what stands in front of a report's end: of the machine before the run, its inputs, and the machine after it
+abbrev pub Front : Type 1
+Front = State → List Input → State → List ℕ → Type 0
+
+abbrev pub ShowsRegisters : Front
+ShowsRegisters state inputs after front = front ≡ registers_text after.regs
+
+abbrev pub ShowsSteps : Front
+ShowsSteps state inputs after front = TracesRun state inputs front
+
+-- the report of the run, and whether it did all its steps
+pub record IsMachineReport (Shows : Front) (source machine : List ℕ) (profile : Profile) (done : Bool)
+    (text : List ℕ) : Type 0 where
+  pub state : State
+  pub inputs : List Input
+  pub ran : Ran
+  pub after : State
+  pub front : List ℕ
+  pub loaded : IsLoaded source machine profile state inputs
+  pub runs : Runs state inputs ran after
+  pub shows : Shows state inputs after front
+  pub done_is : IsTrue done ↔ (ran.stopped ≡ None)
+  pub text_is : text ≡ front ++ end_text ran after

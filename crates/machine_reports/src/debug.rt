@@ -1,0 +1,89 @@
+ghost use Rattle.std.specs.Prelude.{◌≡◌, ◌≢◌, IfErr, IfOk, option_map};
+ghost use Rattle.report_output.specs.Answers.{Answers};
+ghost use Rattle.machine_reports.specs.Debug.{IsDebugReport};
+ghost use Rattle.report_input.specs.Placing.{IsRunRefused, IsRunnable};
+ghost use Rattle.report_input.specs.Priced.{Priced};
+
+use bus_ticks::Profile;
+use debugger::converse;
+use report_input::{place, profile_of};
+use report_output::{Output, ReportFault, write_whole};
+use std::alloc::Global;
+
+/// The bytes of a source, a machine file and a session's commands.
+#[derive(Clone, Copy)]
+struct SessionInputs<'a> {
+    source: &'a [u8],
+    machine: &'a [u8],
+    commands: &'a [u8],
+}
+
+// What the session prints.
+fn session_text(
+    alloc: Global,
+    inputs: SessionInputs<'_>,
+    profile: Profile,
+) -> Result<Vec<u8>, ReportFault>
+    ensures session { IfOk result
+        (λ text. IsDebugReport inputs.entry.source.now inputs.entry.machine.now inputs.entry.commands.now
+        profile text.items) }
+    ensures fault { IfErr result
+        (λ e. (e ≢ ReportFault.Device)
+        × IsRunRefused inputs.entry.source.now inputs.entry.machine.now profile e) }
+    ensures only { IsRunnable inputs.entry.source.now inputs.entry.machine.now profile
+        → IfErr result (λ e. e ≡ ReportFault.Memory) }
+{
+    let placed = place(alloc, inputs.source, inputs.machine, profile)?;
+    let port = placed.file.port();
+    let text = converse(alloc, placed.machine, port, inputs.commands)?;
+    Ok(text)
+}
+
+/// Writes a session of the debugger on the machine of a source and a machine file, by a cycle profile's file
+/// or the first profile: the answers to the commands, a line each, up to their end or `quit`. A command's
+/// refusal stands in its place as `refused: NAME`, and the session goes on. The port begins with the file's
+/// word; its `steps` and events are not used.
+///
+/// Nothing is written until the session has ended. Of several faults the first in the order of the work is
+/// answered: profile, source, machine file, load. After any but `Device` nothing was written.
+pub fn debug_report<O: Output>(
+    alloc: Global,
+    source: &[u8],
+    machine: &[u8],
+    commands: &[u8],
+    profile: Option<&[u8]>,
+    out: &mut O,
+) -> Result<(), ReportFault>
+    ensures { Priced (option_map (λ f. f.now) profile.entry)
+        (λ p. Answers O.taken O.failures
+        (λ _ text. IsDebugReport source.now machine.now commands.now p text)
+        (IsRunnable source.now machine.now p)
+        (IsRunRefused source.now machine.now p) out.old out.new result) out.old out.new result }
+{
+    let profile = profile_of(alloc, profile)?;
+    let inputs = SessionInputs {
+        source,
+        machine,
+        commands,
+    };
+    priced_session(alloc, inputs, profile, out)
+}
+
+fn priced_session<O: Output>(
+    alloc: Global,
+    inputs: SessionInputs<'_>,
+    profile: Profile,
+    out: &mut O,
+) -> Result<(), ReportFault>
+    ensures { Answers O.taken O.failures
+        (λ _ text. IsDebugReport inputs.entry.source.now inputs.entry.machine.now inputs.entry.commands.now
+        profile text)
+        (IsRunnable inputs.entry.source.now inputs.entry.machine.now profile)
+        (IsRunRefused inputs.entry.source.now inputs.entry.machine.now profile) out.old out.new result }
+{
+    let text = session_text(alloc, inputs, profile)?;
+    match write_whole(out, &text) {
+        Ok(()) => Ok(()),
+        Err(_) => Err(ReportFault::Device),
+    }
+}

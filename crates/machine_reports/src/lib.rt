@@ -1,0 +1,17 @@
+//! Reports of a source and of its machine: size, listing, runs, traces, sessions, and the machine that takes an
+//! edge of a flow graph at its price.
+#![tactic(auto)]
+
+mod assembly;
+mod debug;
+mod list;
+mod machine;
+mod stated_graph;
+mod tight;
+
+pub use assembly::{Written, asm_report, image_written};
+pub use debug::debug_report;
+pub use list::list_report;
+pub use machine::{Front, Registers, Steps, machine_report, run_report, trace_report};
+pub use stated_graph::{StatedGraph, read_graph};
+pub use tight::tight_report;

@@ -1,0 +1,212 @@
+ghost use Rattle.std.specs.Prelude.{◌≡◌, ◌≢◌, ◌++◌, List, ℕ, Ok, IfErr, IfOk, OnOk, false, option_map};
+ghost use Rattle.std.specs.Prelude.{string_bytes};
+ghost use Rattle.std.specs.Io.KnownBytes.{Appends};
+ghost use Rattle.bus_ticks.specs.declared.profile.Profile.{Profile};
+ghost use Rattle.arm2_exec.specs.Run.{Runs};
+ghost use Rattle.trace_text.specs.TraceText.{Adds};
+ghost use Rattle.report_output.specs.Answers.{Answers};
+ghost use Rattle.report_input.specs.Placing.{IsPlaced, IsRunRefused, IsRunnable};
+ghost use Rattle.machine_reports.specs.Machine.{Front, IsMachineReport, ShowsRegisters, ShowsSteps, end_text};
+ghost use Rattle.report_output.specs.Output.{FailsSince, TakesFront};
+ghost use Rattle.report_input.specs.Priced.{Priced};
+
+use arm2_effect::address_of;
+use arm2_exec::{Input, Machine, Ran, Reg};
+use bus_ticks::Profile;
+use report_input::{Placed, place, profile_of};
+use report_output::{Output, ReportFault, write_whole};
+use std::alloc::{AllocError, Global};
+use trace_text::{write_registers, write_run, write_stop, write_ticks};
+
+/// A report's text, and whether the run did all its steps.
+#[derive(Drop)]
+struct Shown {
+    text: String,
+    done: bool,
+}
+
+// Why and where the machine stopped, if it did, and the ticks of the run.
+fn put_end(out: &mut String, machine: &Machine, ran: &Ran) -> Result<(), AllocError>
+    ensures { OnOk result (string_bytes out.new ≡ string_bytes out.old ++ end_text ran.now machine.now) }
+{
+    if let Some(why) = ran.stopped {
+        write_stop(out, why, address_of(machine.get(Reg::R15)))?;
+    }
+    write_ticks(out, ran.ticks, ran.elapsed)
+}
+
+/// What the report of a run prints in front of its end.
+pub trait Front {
+    /// The text, of the machine before the run, its inputs and the machine after it.
+    ghost shows: { Front };
+
+    /// Runs the machine and adds the text.
+    fn write_front(
+        out: &mut String,
+        machine: &mut Machine,
+        inputs: &[Input],
+    ) -> Result<Ran, AllocError>
+        ensures runs { IfOk result (λ ran. Runs machine.old inputs.now ran machine.new) }
+        ensures text { OnOk result
+            (Adds (shows machine.old inputs.now machine.new) (string_bytes out.old) (string_bytes out.new)) };
+}
+
+/// The registers in which the run ends.
+pub struct Registers;
+
+impl Front for Registers {
+    ghost shows = { ShowsRegisters };
+
+    fn write_front(
+        out: &mut String,
+        machine: &mut Machine,
+        inputs: &[Input],
+    ) -> Result<Ran, AllocError> {
+        let ran = machine.run(inputs);
+        write_registers(out, machine)?;
+        Ok(ran)
+    }
+}
+
+/// A line for each step.
+pub struct Steps;
+
+impl Front for Steps {
+    ghost shows = { ShowsSteps };
+
+    fn write_front(
+        out: &mut String,
+        machine: &mut Machine,
+        inputs: &[Input],
+    ) -> Result<Ran, AllocError> {
+        write_run(out, machine, inputs)
+    }
+}
+
+fn report_of<F: Front>(
+    alloc: Global,
+    source: &[u8],
+    machine: &[u8],
+    profile: Profile,
+) -> Result<Shown, ReportFault>
+    ensures shown { IfOk result
+        (λ s. IsMachineReport F.shows source.now machine.now profile s.done (string_bytes s.text)) }
+    ensures fault { IfErr result
+        (λ e. (e ≢ ReportFault.Device) × IsRunRefused source.now machine.now profile e) }
+    ensures only { IsRunnable source.now machine.now profile → IfErr result (λ e. e ≡ ReportFault.Memory) }
+{
+    let mut placed = place(alloc, source, machine, profile)?;
+    placed_report::<F>(alloc, &mut placed)
+}
+
+// The report of a machine that has all its words.
+fn placed_report<F: Front>(alloc: Global, placed: &mut Placed) -> Result<Shown, ReportFault>
+    ensures shown { (source machine : List ℕ) (profile : Profile)
+        → IsPlaced source machine profile placed.old.file placed.old.machine
+        → IfOk result (λ s. IsMachineReport F.shows source machine profile s.done (string_bytes s.text)) }
+    ensures memory { IfErr result (λ e. e ≡ ReportFault.Memory) }
+{
+    let inputs = placed.file.inputs(alloc)?;
+    let mut text = String::new(alloc);
+    let ran = F::write_front(&mut text, &mut placed.machine, &inputs)?;
+    put_end(&mut text, &placed.machine, &ran)?;
+    Ok(Shown {
+        text,
+        done: ran.stopped.is_none(),
+    })
+}
+
+// Prints the text, and answers whether the run did all its steps.
+fn print<O: Output>(shown: &Shown, out: &mut O) -> Result<bool, ReportFault>
+    ensures ok { IfOk result
+        (λ done. (done ≡ shown.now.done)
+        × Appends (O.taken out.old) (O.taken out.new) (string_bytes shown.now.text)) }
+    ensures device { IfErr result
+        (λ e. (e ≡ ReportFault.Device)
+        × (TakesFront (O.taken out.old) (O.taken out.new) (string_bytes shown.now.text)
+        × FailsSince (O.failures out.old) (O.failures out.new))) }
+{
+    match write_whole(out, shown.text.as_bytes()) {
+        Ok(()) => Ok(shown.done),
+        Err(_) => Err(ReportFault::Device),
+    }
+}
+
+fn priced<F: Front, O: Output>(
+    alloc: Global,
+    source: &[u8],
+    machine: &[u8],
+    profile: Profile,
+    out: &mut O,
+) -> Result<bool, ReportFault>
+    ensures { Answers O.taken O.failures (IsMachineReport F.shows source.now machine.now profile)
+        (IsRunnable source.now machine.now profile)
+        (IsRunRefused source.now machine.now profile) out.old out.new result }
+{
+    let shown = report_of::<F>(alloc, source, machine, profile)?;
+    print(&shown, out)
+}
+
+/// Runs the machine of a source and a machine file by a cycle profile's file or the first profile, prints the
+/// report, and answers whether the run did all its steps.
+pub fn machine_report<F: Front, O: Output>(
+    alloc: Global,
+    source: &[u8],
+    machine: &[u8],
+    profile: Option<&[u8]>,
+    out: &mut O,
+) -> Result<bool, ReportFault>
+    ensures { Priced (option_map (λ f. f.now) profile.entry)
+        (λ p. Answers O.taken O.failures (IsMachineReport F.shows source.now machine.now p)
+        (IsRunnable source.now machine.now p)
+        (IsRunRefused source.now machine.now p) out.old out.new result) out.old out.new result }
+{
+    let profile = profile_of(alloc, profile)?;
+    priced::<F, O>(alloc, source, machine, profile, out)
+}
+
+/// Runs the machine of a source and a machine file ([`read_machine`](machine_file::read_machine)), with the
+/// source's words and then the file's put into its memory, for the file's steps, 65,536 at most, by a cycle
+/// profile's file or the first profile. Writes the registers of the mode that it ends in, where it stopped
+/// (if it did), and the ticks of the processor and those that passed, bursts and all. `false`: it stopped
+/// before its steps were done.
+///
+/// # Errors
+///
+/// The first in the order of the work: profile, source, machine file, load. Nothing is written until the run
+/// has ended, so after any fault but `Device` nothing was.
+pub fn run_report<O: Output>(
+    alloc: Global,
+    source: &[u8],
+    machine: &[u8],
+    profile: Option<&[u8]>,
+    out: &mut O,
+) -> Result<bool, ReportFault>
+    ensures { Priced (option_map (λ f. f.now) profile.entry)
+        (λ p. Answers O.taken O.failures (IsMachineReport ShowsRegisters source.now machine.now p)
+        (IsRunnable source.now machine.now p)
+        (IsRunRefused source.now machine.now p) out.old out.new result) out.old out.new result }
+{
+    machine_report::<Registers, O>(alloc, source, machine, profile, out)
+}
+
+/// Runs the machine as [`run_report`] does, and writes the line of each step (the instruction's address,
+/// word, ticks and text) in place of the registers, with the same end.
+///
+/// # Errors
+///
+/// Those of [`run_report`], in the same order.
+pub fn trace_report<O: Output>(
+    alloc: Global,
+    source: &[u8],
+    machine: &[u8],
+    profile: Option<&[u8]>,
+    out: &mut O,
+) -> Result<bool, ReportFault>
+    ensures { Priced (option_map (λ f. f.now) profile.entry)
+        (λ p. Answers O.taken O.failures (IsMachineReport ShowsSteps source.now machine.now p)
+        (IsRunnable source.now machine.now p)
+        (IsRunRefused source.now machine.now p) out.old out.new result) out.old out.new result }
+{
+    machine_report::<Steps, O>(alloc, source, machine, profile, out)
+}

@@ -1,0 +1,43 @@
+ghost use Rattle.std.specs.Prelude.{◌≡◌, ◌≢◌, List, ℕ, Ok, IfErr, IfOk};
+ghost use Rattle.loader.specs.Labels.{address_of};
+ghost use Rattle.flow_graph.specs.Graph.{IsBuildFault, IsFlowGraph};
+ghost use Rattle.flow_graph.specs.declared.faults.BuildFault.{BuildFault};
+ghost use Rattle.statement.specs.Statement.{IsStatement};
+ghost use Rattle.report_input.specs.Source.{source_of};
+ghost use Rattle.machine_reports.specs.TightReport.{IsTightRefused};
+
+use assembler::Assembly;
+use bus_ticks::Profile;
+use flow_graph::{Graph, Statement, build, read_statement};
+use report_output::ReportFault;
+use std::alloc::Global;
+
+/// A handler's statement and its flow graph.
+#[derive(Drop)]
+pub struct StatedGraph {
+    pub statement: Statement,
+    pub graph: Graph,
+}
+
+/// The flow graph of a statement, of a source that was read.
+pub fn read_graph(
+    alloc: Global,
+    said: &Assembly,
+    text: &[u8],
+    profile: &Profile,
+) -> Result<StatedGraph, ReportFault>
+    ensures statement { IfOk result
+        (λ g. IsStatement text.now (address_of said.now.labels) (Ok g.statement)) }
+    ensures graph { IfOk result (λ g. IsFlowGraph said.now.image g.statement profile.now g.graph) }
+    ensures allowed { IfOk result
+        (λ g. (fault : BuildFault) → fault ≢ BuildFault.Memory
+        → IsBuildFault said.now.image g.statement profile.now fault → ⊥) }
+    ensures fault { (source : List ℕ) (number : ℕ)
+        → source_of source ≡ Ok (said.now.image, address_of said.now.labels)
+        → IfErr result (λ fault. (fault ≢ ReportFault.Device)
+        × IsTightRefused source text.now number profile.now fault) }
+{
+    let statement = read_statement(alloc, text, &said.labels)?;
+    let graph = build(alloc, &said.image, &statement, profile)?;
+    Ok(StatedGraph { statement, graph })
+}

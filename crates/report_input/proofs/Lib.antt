@@ -1,0 +1,4 @@
+pub mod HandlerLemmas
+pub mod PlacingLemmas
+pub mod ReportLemmas
+pub mod SourceLemmas

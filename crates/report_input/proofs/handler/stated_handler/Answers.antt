@@ -1,0 +1,47 @@
+use Rattle.std.proofs.Common.{rules, subst}
+use Rattle.loader.specs.Labels.{address_of}
+use Rattle.flow_graph.specs.Flow.{IsWellFormed}
+use Rattle.report_output.specs.Faults.{of_graph, of_loops}
+use Rattle.report_input.specs.Report.{HasGraph, IsHandlerRefused}
+use Rattle.report_input.proofs.HandlerLemmas.{graph_refusal, loops_refusal, refused_as}
+use Rattle.report_input.proofs.handler.stated_handler.Goals as goal
+
+pub returns-in_err-graph-clause-fault : goal.returns-in_err-graph-clause-fault
+returns-in_err-graph-clause-fault c = λ source text is read.
+    let said = c.args.said.now in
+    let f = c.in_err-graph.field-0.0 in
+    refused_as c.from_residual.result (of_graph f) (IsHandlerRefused source text c.args.profile.now) c.from_residual.ensures.1
+    (graph_refusal source text c.args.profile.now said.image (address_of said.labels) is c.args.statement read f (search rules))
+
+pub returns-in_err-tree-clause-fault : goal.returns-in_err-tree-clause-fault
+returns-in_err-tree-clause-fault c = λ source text is read.
+    let said = c.args.said.now in
+    let f = c.in_err-tree.field-0.0 in
+    let graph : HasGraph source text c.args.profile.now c.args.statement c.in_ok-graph.graph = record {
+      words = said.image;
+      names = address_of said.labels;
+      source_is = is;
+      statement_is = read;
+      no_fault = c.in_ok-graph.ensures.allowed;
+      graph_is = c.in_ok-graph.ensures.graph;
+    } in
+    refused_as c.from_residual-in_err-tree.result (of_loops f) (IsHandlerRefused source text c.args.profile.now) c.from_residual-in_err-tree.ensures.1
+    (loops_refusal source text c.args.profile.now c.args.statement c.in_ok-graph.graph f graph (search rules))
+
+pub returns-clause-loops : goal.returns-clause-loops
+returns-clause-loops c = λ source text is read.
+    let said = c.args.said.now in
+    record {
+      graph = record {
+        words = said.image;
+        names = address_of said.labels;
+        source_is = is;
+        statement_is = read;
+        no_fault = c.in_ok-graph.ensures.allowed;
+        graph_is = c.in_ok-graph.ensures.graph;
+      };
+      no_fault = c.in_ok-tree.ensures.allowed;
+    }
+
+pub returns-clause-formed : goal.returns-clause-formed
+returns-clause-formed c = subst IsWellFormed c.graph.view_is c.graph.invariant

@@ -1,0 +1,5 @@
+pub mod Keeping
+pub mod Placing
+pub mod Priced
+pub mod Report
+pub mod Source

@@ -1,0 +1,43 @@
+-- What a source says: an image where it begins as one, which names no addresses, else a text.
+use Rattle.std.specs.Prelude.{◌≡◌, ℕ, Bool, List, None, Result, Ok, Err, nat_eq, if◌then◌else◌}
+use Rattle.std.specs.List.{starts_with}
+use Rattle.loader.specs.Image.{Words}
+use Rattle.loader.specs.ImageBytes.{image_read, magic}
+use Rattle.loader.specs.declared.reading.ReadFault.{ReadFault}
+use Rattle.statement.specs.Statement.{Names}
+use Rattle.assembler.specs.Sweeps.{assembled}
+use Rattle.assembler.specs.declared.fault.AsmFault.TheVariants.{Line}
+use Rattle.assembler.specs.declared.fault.Fault.{Fault}
+use Rattle.report_output.specs.declared.fault.ReportFault.{ReportFault}
+use Rattle.report_output.specs.declared.fault.ReportFault.TheVariants.{Memory, Source, Image}
+
+-- the words by their addresses, and the addresses of the labels
+abbrev pub Said : Type 0
+Said = Words × Names
+
+abbrev pub is_image : List ℕ → Bool
+is_image source = starts_with nat_eq source magic
+
+abbrev pub no_names : Names
+no_names name = None
+
+abbrev pub said_by_image : Result Words ReadFault → Result Said ReportFault
+said_by_image (Ok words) = Ok (words, no_names)
+said_by_image (Err fault) = Err (Image fault)
+
+-- a fault tells its line
+abbrev pub said_by_text : Result Said (Fault × ℕ) → Result Said ReportFault
+said_by_text (Ok said) = Ok said
+said_by_text (Err fault) = Err (Source (Line fault.0 fault.1))
+
+-- what a source says, or its fault
+unfoldable pub source_of : List ℕ → Result Said ReportFault
+source_of source =
+    if is_image source then said_by_image (image_read source) else said_by_text (assembled source)
+
+-- when each refusal of a source is answered; an allocation may fail whatever it says
+abbrev pub IsSourceFault : List ℕ → ReportFault → Type 0
+IsSourceFault source Memory = Unit {0}
+IsSourceFault source (Source fault) = source_of source ≡ Err (Source fault)
+IsSourceFault source (Image fault) = source_of source ≡ Err (Image fault)
+IsSourceFault source fault = ⊥

@@ -1,0 +1,53 @@
+-- The three ways in which a report ends.
+use Rattle.std.proofs.Common.{◌≡◌, ◌≢◌, ℕ, List, Option, Result, Ok, Err, refl, sym, subst, inl, inr}
+use Rattle.std.specs.Prelude.{IfOk, IfErr}
+use Rattle.std.specs.Io.KnownBytes.{Appends}
+use Rattle.report_output.specs.Answers.{Answers}
+use Rattle.report_output.specs.Output.{TakesFront, FailsSince}
+use Rattle.report_output.specs.declared.fault.ReportFault.{ReportFault}
+use Rattle.report_output.specs.declared.fault.ReportFault.TheVariants.{Memory, Device}
+
+module _ {O T : Type 0} (taken : O → Option (List ℕ)) (failures : O → ℕ) (IsText : T → List ℕ → Type 0) (IsFine : Type 0) (IsFault : ReportFault → Type 0) where
+  abbrev pub Ends : O → O → Result T ReportFault → Type 0
+  Ends old new result = Answers taken failures IsText IsFine IsFault old new result
+
+  -- before anything was written
+  pub ends_refused : (old : O) (e : ReportFault) → (e ≢ Device) × IsFault e → (IsFine → e ≡ Memory) → Ends old old (Err e)
+  ends_refused old e h only = record {
+    printed = tt;
+    accepted = tt;
+    only = λ a. inl (only a);
+    fault = h.1;
+    quiet = λ other. refl;
+    device = λ d. absurd (h.0 (cc d));
+  }
+
+  -- once all was written
+  pub ends_told : (old new : O) (x : T) (text : List ℕ) → IsText x text → IsFine → Appends (taken old) (taken new) text → Ends old new (Ok x)
+  ends_told old new x text is fine printed = record {
+    printed = record { text = text; is_text = is; printed = printed };
+    accepted = fine;
+    only = λ a. tt;
+    fault = tt;
+    quiet = tt;
+    device = λ d. cc d;
+  }
+
+  -- within the text
+  pub ends_failed : (old new : O) (x : T) (text : List ℕ) → IsText x text → IsFault Device → TakesFront (taken old) (taken new) text → FailsSince (failures old) (failures new) → Ends old new (Err Device)
+  ends_failed old new x text is fails front failed = record {
+    printed = tt;
+    accepted = tt;
+    only = λ a. inr refl;
+    fault = fails;
+    quiet = λ other. absurd (other refl);
+    device = λ d. record { text = text; is_text = (x, is); taken = front; failed = failed };
+  }
+
+  -- by what the output answered
+  pub ends_printed : (old new : O) (x : T) (text : List ℕ) (r : Result T ReportFault) → IsText x text → IsFine → IsFault Device → IfOk r (λ y. (y ≡ x) × Appends (taken old) (taken new) text)
+      → IfErr r (λ e. (e ≡ Device) × (TakesFront (taken old) (taken new) text × FailsSince (failures old) (failures new))) → Ends old new r
+  ends_printed old new x text (Ok y) is fine fails ok err =
+      subst (λ (z : T). Ends old new (Ok z)) (sym ok.0) (ends_told old new x text is fine ok.1)
+  ends_printed old new x text (Err e) is fine fails ok err =
+      subst (λ (f : ReportFault). Ends old new (Err f)) (sym err.0) (ends_failed old new x text is fails err.1.0 err.1.1)

@@ -1,0 +1,168 @@
+ghost use Rattle.std.specs.Prelude.{◌≡◌, ◌≤◌, ◌<◌, ◌+◌, ◌^◌, ℕ, List, [], length, take, Option, Some};
+ghost use Rattle.std.specs.Prelude.{Ok, IfErr, IfOk, OnErr, OnOk};
+ghost use Rattle.std.specs.Io.KnownBytes.{Appends, WriteAppends};
+ghost use Rattle.report_output.specs.Output.{FailsSince, TakesFront, failures_after};
+
+use crate::fault::ReportFault;
+use std::alloc::Global;
+use std::io::Write;
+use std::marker::Model;
+use thiserror::Error;
+
+/// Why an output took nothing.
+#[derive(Clone, Copy, Debug, PartialEq, Eq, Drop, Error)]
+pub enum OutputFault {
+    /// The write failed.
+    #[error("the output failed")]
+    Failed,
+}
+
+/// What takes a program's bytes, and counts its failures.
+pub trait Output {
+    /// The bytes taken so far, where the output states them.
+    ghost taken: { Self → Option (List ℕ) };
+
+    /// How many writes failed so far; the count stays at its greatest value, 2^64 - 1.
+    ghost failures: { Self → ℕ };
+
+    /// Takes a front of the bytes and answers how many. A write that takes nothing of a slice that
+    /// is not empty is a failure.
+    fn write(&mut self, bytes: &[u8]) -> Result<usize, OutputFault>
+        ensures bound { IfOk result (λ n. n ≤ length bytes.now) }
+        ensures bytes { WriteAppends (taken self.old) (taken self.new) result bytes.now }
+        ensures failures { failures self.new ≡ failures_after result bytes.now (failures self.old) };
+}
+
+/// Writes the text to its end, over writes that take a part.
+pub fn write_whole<O: Output>(out: &mut O, text: &[u8]) -> Result<(), OutputFault>
+    ensures ok { OnOk result (Appends (O.taken out.old) (O.taken out.new) text.now) }
+    ensures quiet { OnOk result (O.failures out.new ≡ O.failures out.old) }
+    ensures front { OnErr result (TakesFront (O.taken out.old) (O.taken out.new) text.now) }
+    ensures failed { OnErr result (FailsSince (O.failures out.old) (O.failures out.new)) }
+{
+    let mut at = 0;
+    while at < text.len() {
+        let n = out.write(&text[at..])?;
+        if n == 0 {
+            return Err(OutputFault::Failed);
+        }
+        at += n;
+    }
+    Ok(())
+}
+
+/// An output that keeps what it takes.
+#[derive(Drop)]
+pub struct MemoryOutput {
+    bytes: Vec<u8>,
+    room: usize,
+    failures: u64,
+}
+
+impl Model for MemoryOutput {
+    ghost use Rattle.std.specs.Prelude.{◌≤◌, vec_capacity};
+    ghost use Rattle.report_output.specs.Kept.{Kept};
+
+    ghost Value = { Kept };
+
+    ghost view = { λ m. record { bytes = m.bytes.items; room = m.room; failures = m.failures } };
+
+    ghost invariant = { λ m. m.room ≤ vec_capacity m.bytes };
+}
+
+impl MemoryOutput {
+    /// An empty output that has taken memory for `room` bytes. The only refusal is `Memory`.
+    pub fn with_room(alloc: Global, room: usize) -> Result<MemoryOutput, ReportFault>
+        ensures empty { IfOk result (λ m. m.bytes ≡ []) }
+        ensures room { IfOk result (λ m. m.room ≡ room) }
+        ensures failures { IfOk result (λ m. m.failures ≡ 0) }
+        ensures memory { IfErr result (λ e. e ≡ ReportFault.Memory) }
+    {
+        let bytes = Vec::with_capacity(alloc, room)?;
+        Ok(MemoryOutput {
+            bytes,
+            room,
+            failures: 0,
+        })
+    }
+
+    /// What was taken.
+    pub fn bytes(&self) -> &[u8]
+        ensures { result.now ≡ self.now.bytes }
+    {
+        self.bytes.as_slice()
+    }
+}
+
+impl Output for MemoryOutput {
+    ghost taken = { λ m. Some m.bytes };
+
+    ghost failures = { λ m. m.failures };
+
+    // A write within the room takes the whole slice; past it, a failed allocation is a failure.
+    fn write(&mut self, bytes: &[u8]) -> Result<usize, OutputFault>
+        ensures bound { IfOk result (λ n. n ≤ length bytes.now) }
+        ensures bytes { WriteAppends (Some self.old.bytes) (Some self.new.bytes) result bytes.now }
+        ensures failures { self.new.failures ≡ failures_after result bytes.now self.old.failures }
+        ensures room { self.new.room ≡ self.old.room }
+        ensures fits { length self.old.bytes + length bytes.now ≤ self.old.room
+            → result ≡ Ok (length bytes.now) }
+    {
+        match self.bytes.extend_from_slice(bytes) {
+            Ok(()) => Ok(bytes.len()),
+            Err(_) => {
+                self.failures = self.failures.saturating_add(1);
+                Err(OutputFault::Failed)
+            }
+        }
+    }
+}
+
+/// An output over a writer.
+#[derive(Drop)]
+pub struct StreamOutput<W: Write> {
+    writer: W,
+    failures: u64,
+}
+
+impl<W: Write> Model for StreamOutput<W> {
+    ghost use Rattle.report_output.specs.Kept.{Sent};
+
+    ghost Value = { Sent };
+
+    ghost view = { λ s. record { written = W.contents s.writer; failures = s.failures } };
+}
+
+impl<W: Write> StreamOutput<W> {
+    /// An output over the writer, with no failure yet.
+    pub fn new(writer: W) -> Self
+        ensures written { result.written ≡ W.contents writer }
+        ensures failures { result.failures ≡ 0 }
+    {
+        StreamOutput {
+            writer,
+            failures: 0,
+        }
+    }
+}
+
+impl<W: Write> Output for StreamOutput<W> {
+    ghost taken = { λ s. s.written };
+
+    ghost failures = { λ s. s.failures };
+
+    fn write(&mut self, bytes: &[u8]) -> Result<usize, OutputFault> {
+        match self.writer.write(bytes) {
+            Ok(n) => {
+                if n == 0 && !bytes.is_empty() {
+                    self.failures = self.failures.saturating_add(1);
+                }
+                Ok(n)
+            }
+            Err(_) => {
+                self.failures = self.failures.saturating_add(1);
+                Err(OutputFault::Failed)
+            }
+        }
+    }
+}
