@@ -16,8 +16,6 @@ mod forgeries;
 #[cfg(test)]
 mod inputs;
 #[cfg(test)]
-mod limits;
-#[cfg(test)]
 mod numbers;
 #[cfg(test)]
 mod odd;
