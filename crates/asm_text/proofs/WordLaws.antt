@@ -1,5 +1,7 @@
 -- What is read is spelled so, and what is spelled so is read.
-use Rattle.std.specs.Prelude.{IfSome, IfOk}
+use Rattle.std.specs.Prelude.{IfSome, IfOk, ◌==◌, ◌&&◌, ◌||◌, map}
+use Rattle.std.specs.Char.{to_ascii_lowercase, to_ascii_uppercase}
+use Rattle.std.specs.List.{list_all}
 use Rattle.std.proofs.Common.{◌≡◌, ◌<◌, length-take, ℕ, Bool, true, false, cond, List, [], ◌∷◌, ◌++◌, length, take, drop, Option, Some, None, Result, Ok, Err, codes, refl, sym, ap, subst, ◌∙◌, inl, inr, ◌⊎◌, arith}
 use Rattle.std.specs.Str.{bytes_eq}
 use Rattle.std.proofs.lemmas.List.{take-append-drop}
@@ -384,3 +386,25 @@ ok_found text (Err e) is = tt
 pub ok_only : {E : Type 0} (text : List ℕ) (r : Result (Option Word) E) → IfOk r (λ o. o ≡ spelled_word_of text) → IfOk r (λ o. (w : Word) → IsSpelling text w → o ≡ Some w)
 ok_only text (Ok o) is = λ w h. is ∙ spelled_again text w h
 ok_only text (Err e) is = tt
+
+-- ---- case
+
+-- a text is what a function makes of it exactly where that keeps each of its bytes
+same_as_mapped : (f : ℕ → ℕ) (text : List ℕ) → list_all (λ b. b == f b) text ≡ bytes_eq text (map f text)
+same_as_mapped f [] = refl
+same_as_mapped f (b ∷ text) = ap (λ rest. (b == f b) && rest) (same_as_mapped f text)
+
+-- a text in upper case spells what it says as it stands
+pub upper_spells : (text : List ℕ) → list_all (λ b. b == to_ascii_uppercase b) text ≡ true → word_of text ≡ spelled_word_of text
+upper_spells text all =
+    let equal : bytes_eq text (upper text) ≡ true = sym (same_as_mapped to_ascii_uppercase text) ∙ all in
+    let one : is_one_case text ≡ true = ap (λ x. x || bytes_eq text (map to_ascii_lowercase text)) equal in
+    ap word_of (equal_bytes text (upper text) equal) ∙ sym (ap (λ x. cond x (word_of (upper text)) None) one)
+
+-- a text in lower case spells what it says in upper case
+pub lower_spells : (text : List ℕ) (is : Bool) → list_all (λ b. b == to_ascii_lowercase b) text ≡ is → list_all (λ b. b == to_ascii_uppercase b) text ≡ false → spelled_word_of text ≡ cond is (word_of (upper text)) None
+lower_spells text is all not_upper =
+    let lower : bytes_eq text (map to_ascii_lowercase text) ≡ is = sym (same_as_mapped to_ascii_lowercase text) ∙ all in
+    let upper_is : bytes_eq text (upper text) ≡ false = sym (same_as_mapped to_ascii_uppercase text) ∙ not_upper in
+    let one : is_one_case text ≡ is = ap (λ x. x || bytes_eq text (map to_ascii_lowercase text)) upper_is ∙ lower in
+    ap (λ x. cond x (word_of (upper text)) None) one

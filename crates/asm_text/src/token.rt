@@ -8,6 +8,9 @@ ghost use Rattle.asm_text.specs.Statements.{word_ends};
 
 use std::alloc::{AllocError, Global};
 
+/// How many pieces most lines have at most.
+const USUAL: usize = 16;
+
 /// A byte that is no letter, digit, `_`, blank or comma.
 #[derive(Clone, Copy)]
 pub enum Mark {
@@ -175,7 +178,7 @@ pub fn tokens(alloc: Global, line: &[u8]) -> Result<Vec<Token<'_>>, AllocError>
 fn read_tokens(alloc: Global, line: &[u8]) -> Result<Vec<Token<'_>>, AllocError>
     ensures exact { IfOk result (λ v. map piece_of v.items ≡ pieces line.now) }
 {
-    let mut found = Vec::new(alloc);
+    let mut found = Vec::with_capacity(alloc, USUAL)?;
     let mut rest = line;
     while let Some((token, after)) = next(rest) {
         found.push(token)?;

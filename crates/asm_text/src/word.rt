@@ -1,9 +1,9 @@
-ghost use Rattle.std.specs.Prelude.{◌≡◌, ℕ, List, Some, IfSome, IfOk};
+ghost use Rattle.std.specs.Prelude.{◌≡◌, ◌==◌, ℕ, List, Some, IfSome, IfOk};
 ghost use Rattle.asm_text.specs.Words.{IsSpelling, IsWord, branch_of, plain_of, spelled_word_of, whole_cond};
-ghost use Rattle.asm_text.specs.Words.{with_suffix, is_one_case, word_of};
+ghost use Rattle.asm_text.specs.Words.{with_suffix, word_of};
 ghost use Rattle.asm_text.specs.Names.{suffix_of};
-ghost use Rattle.std.specs.Prelude.{◌||◌};
-ghost use Rattle.std.specs.Str.{bytes_eq};
+ghost use Rattle.std.specs.Char.{to_ascii_lowercase, to_ascii_uppercase};
+ghost use Rattle.std.specs.List.{list_all};
 ghost use Rattle.asm_text.specs.declared.word.Word.{Word};
 
 use crate::names::{Head, Suffix, may_have, named_cond, named_head, named_suffix};
@@ -96,23 +96,32 @@ pub(crate) fn read_word(text: &[u8]) -> Option<Word>
     }
 }
 
-// Whether no two letters differ in case; the first slice is the text in upper case, the second in lower case.
-fn is_one_case(text: &[u8], upper: &[u8], lower: &[u8]) -> bool
-    ensures { result ≡ (bytes_eq text.now upper.now || bytes_eq text.now lower.now) }
+// Whether the text is the same in upper case.
+fn is_upper(text: &[u8]) -> bool
+    ensures { result ≡ list_all (λ b. b == to_ascii_uppercase b) text.now }
 {
-    text == upper || text == lower
+    text.iter().all(|b| *b == b.to_ascii_uppercase())
+}
+
+// Whether the text is the same in lower case.
+fn is_lower(text: &[u8]) -> bool
+    ensures { result ≡ list_all (λ b. b == to_ascii_lowercase b) text.now }
+{
+    text.iter().all(|b| *b == b.to_ascii_lowercase())
 }
 
 fn read_spelling(alloc: Global, text: &[u8]) -> Result<Option<Word>, AllocError>
     ensures { IfOk result (λ word. word ≡ spelled_word_of text.now) }
 {
-    let upper = text.to_ascii_uppercase(alloc)?;
-    let lower = text.to_ascii_lowercase(alloc)?;
-    if is_one_case(text, &upper, &lower) {
-        Ok(read_word(&upper))
-    } else {
-        Ok(None)
+    // Most sources are in upper case, whose words need no copy.
+    if is_upper(text) {
+        return Ok(read_word(text));
     }
+    if !is_lower(text) {
+        return Ok(None);
+    }
+    let upper = text.to_ascii_uppercase(alloc)?;
+    Ok(read_word(&upper))
 }
 
 /// The word that a text spells, wholly in upper or in lower case. No text spells two. Refused where memory

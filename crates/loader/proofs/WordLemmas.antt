@@ -4,7 +4,10 @@ use Rattle.std.specs.Prelude.{IsTrue, IsSome, is_some, nat_le, nat_lt, not, ◌|
 use Rattle.std.specs.List.{AllByRecursion}
 use Rattle.std.specs.Map.{lookup}
 use Rattle.std.specs.BTreeMap.{insert_entry, is_at}
-use Rattle.std.specs.Ordering.{nat_cmp}
+use Rattle.std.specs.Ordering.{is_lt, nat_cmp}
+use Rattle.std.specs.Prelude.{All, map}
+use Rattle.std.proofs.lemmas.List.Elements.{All-head, All-tail}
+use Rattle.std.proofs.lemmas.Map.Keys.{ge_from_not_lt}
 use Rattle.std.proofs.lemmas.Bool.{cases_lt, cases_eq, le-ltb, lt-ltb, ltb-false, ne_eqb, eq-eqb, eqb-false}
 use Rattle.std.proofs.lemmas.Bool.Decides.{nat_tests}
 use mir.Val.{bool_byte}
@@ -201,14 +204,31 @@ quads [] all = tt
 quads (e ∷ rest) all = (quad e.0 all.0, quads rest all.1)
 
 -- what the code counts for the word beside
-pub has_counted : (words : Words) (a : ℕ) (found : Bool) (n : ℕ) → found ≡ is_some (lookup (is_at (nat_cmp a)) words) → n ≡ bool_byte found → n ≡ has words a
+pub has_counted : (words : Words) (a : ℕ) (found : Bool) (n : ℕ) → found ≡ is_some (word_of words a) → n ≡ bool_byte found → n ≡ has words a
 has_counted words a found n is counted =
-    let same : found ≡ is_some (word_of words a) = is ∙ ap is_some (lookup-word_of words a) in
-    counted ∙ ap bool_byte same ∙ as_number (is_some (word_of words a))
+    counted ∙ ap bool_byte is ∙ as_number (is_some (word_of words a))
   where
     as_number : (b : Bool) → bool_byte b ≡ cond {A = ℕ} b 1 0
     as_number true = refl
     as_number false = refl
+
+-- ## The last word
+
+-- no address above all words holds one
+none_above : (words : Words) (last a : ℕ) → All (λ q. is_lt (nat_cmp last q) ≡ false) (map (λ (e : ℕ × ℕ). e.0) words) → last < a → word_of words a ≡ None
+none_above [] last a all above = refl
+none_above (e ∷ rest) last a all above =
+    let below : e.0 ≤ last = ge_from_not_lt last e.0 (All-head (λ q. is_lt (nat_cmp last q) ≡ false) e.0 (map (λ (f : ℕ × ℕ). f.0) rest) all) in
+    rw (ne_eqb e.0 a (λ same. let no : ⊥ = omega (arith, below, above, same) in no))
+    (none_above rest last a (All-tail (λ q. is_lt (nat_cmp last q) ≡ false) e.0 (map (λ (f : ℕ × ℕ). f.0) rest) all) above)
+
+-- from the last word on, an address holds a word where it is the last one's
+pub held_at_end : (words : Words) (last a w : ℕ) → All (λ q. is_lt (nat_cmp last q) ≡ false) (map (λ (e : ℕ × ℕ). e.0) words)
+    → lookup (is_at (nat_cmp last)) words ≡ Some w → last ≤ a → eqb last a ≡ is_some (word_of words a)
+held_at_end words last a w all found le = elim (cases_eq last a) [
+  | inl same ↦ eq-eqb last a same ∙ sym (ap is_some (sym (lookup-word_of words a) ∙ subst (λ x. lookup (is_at (nat_cmp x)) words ≡ Some w) same found))
+  | inr other ↦ ne_eqb last a other ∙ sym (ap is_some (none_above words last a all (omega (arith, le, other))))
+]
 
 pub length_with_word : (words : Words) (a w : ℕ) → length (with_word words a w) ≡ suc (length words)
 length_with_word [] a w = refl
@@ -222,17 +242,6 @@ length_with_word (e ∷ rest) a w = longer (nat_lt a e.0) (length_with_word rest
 
 abbrev pub fault_by : (may is_held full long : Bool) → Option ImageFault
 fault_by may is_held full long = cond (not may || is_held) (Some OutOfRange) (cond (full || long) (Some TooLong) None)
-
-pub fault_held : (may full long : Bool) → fault_by may true full long ≡ Some OutOfRange
-fault_held true full long = refl
-fault_held false full long = refl
-
-pub fault_full : (long : Bool) → fault_by true false true long ≡ Some TooLong
-fault_full long = refl
-
-pub fault_long : (full : Bool) → fault_by true false full true ≡ Some TooLong
-fault_long true = refl
-fault_long false = refl
 
 pub none_held : (o : Option ℕ) → is_some o ≡ false → o ≡ None
 none_held None e = refl

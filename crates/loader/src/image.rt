@@ -1,4 +1,5 @@
 ghost use Rattle.std.specs.Prelude.{◌≡◌, ◌≤◌, ◌⊎◌, ◌↔◌, ◌/◌, ◌^◌, [], All, IsTrue, IsSome, IfOk, OnOk};
+ghost use Rattle.std.specs.Prelude.{is_some};
 ghost use Rattle.std.specs.Prelude.{OnErr, IfErr, length, map, not};
 ghost use Rattle.std.specs.List.{list_all, slice_get};
 ghost use Rattle.loader.specs.ImageBytes.{segments_of};
@@ -166,14 +167,27 @@ impl Image {
         Ok(pages)
     }
 
+    // Whether a word stands at the address. Words mostly come ascending, so the last one is looked at first.
+    fn holds(&self, address: u32) -> bool
+        ensures { result ≡ is_some (word_of self.now address) }
+    {
+        let Some((last, _)) = self.words.last_key_value() else {
+            return false;
+        };
+        if *last <= address {
+            return *last == address;
+        }
+        self.words.contains_key(&address)
+    }
+
     // The number of runs with one more word, which joins the runs beside it.
     fn runs_with(&self, address: u32, word: u32) -> usize
         requires free { word_of self.now address ≡ None }
         requires place { IsTrue (may_hold address) }
         ensures { result ≡ runs_of (with_word self.now address word) }
     {
-        let before = self.words.contains_key(&address.saturating_sub(4));
-        let after = self.words.contains_key(&(address + 4));
+        let before = self.holds(address.saturating_sub(4));
+        let after = self.holds(address + 4);
         self.runs + 1 - usize::from(before) - usize::from(after)
     }
 
@@ -184,7 +198,7 @@ impl Image {
         if !may_hold(address) {
             return Some(ImageFault::OutOfRange);
         }
-        if self.words.contains_key(&address) {
+        if self.holds(address) {
             return Some(ImageFault::OutOfRange);
         }
         if self.words.len() >= MOST_WORDS {

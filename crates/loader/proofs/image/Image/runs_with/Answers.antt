@@ -12,8 +12,8 @@ whole c =
     let words = c.self.inside.words.entries in
     let a = c.args.address in
     let free : word_of words a ≡ None = rw c.self.view_is c.requires.free in
-    let before : c.from.result ≡ has words (a - 4) = has_counted words (a - 4) c.contains_key-before.result _ (rw (← c.saturating_sub.ensures) c.contains_key-before.ensures) c.from.ensures in
-    let after : c.from-2.result ≡ has words (a + 4) = has_counted words (a + 4) c.contains_key-after.result _ c.contains_key-after.ensures c.from-2.ensures in
+    let before : c.from.result ≡ has words (a - 4) = has_counted words (a - 4) c.holds-before.result _ (rw (← c.saturating_sub.ensures, c.self.view_is) c.holds-before.ensures) c.from.ensures in
+    let after : c.from-2.result ≡ has words (a + 4) = has_counted words (a + 4) c.holds-after.result _ (rw c.self.view_is c.holds-after.ensures) c.from-2.ensures in
     let counted = runs_of-with_word words a c.args.word (quad a c.requires.place) (quads words c.self.invariant.may_stand) c.self.invariant.ascends free in
     omega (arith, before, after, counted, c.self.invariant.counted)
 
