@@ -6,6 +6,7 @@ pub mod WorkLemmas
 pub mod EdgeLemmas
 pub mod StrayLemmas
 pub mod BuildLemmas
+mod FaultyLemmas
 pub mod TurnLemmas
 pub mod FlowLemmas
 pub mod Unique

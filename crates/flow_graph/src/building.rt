@@ -19,16 +19,16 @@ use statement::Statement;
 use std::alloc::Global;
 use std::collections::BTreeSet;
 
-// Where a walk starts.
-fn start(statement: &Statement) -> Place
+/// Where a walk starts.
+pub(crate) fn start(statement: &Statement) -> Place
     ensures value { result ≡ start_of statement.now }
     ensures is_stated { IsStated statement.now }
 {
     Place::At(Calls::new(), statement.entry())
 }
 
-// The edges of the place.
-fn edges_at(
+/// The edges of the place.
+pub(crate) fn edges_at(
     alloc: Global,
     image: &Image,
     statement: &Statement,
