@@ -1,5 +1,4 @@
 mod Explored
 mod FlatLaws
-mod InstrLaws
 mod Picked
 mod WayLaws

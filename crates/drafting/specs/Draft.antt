@@ -12,21 +12,22 @@ use Rattle.drafting.specs.Named.{AreNamed, Lines}
 use Rattle.drafting.specs.Picks.{Picks}
 use Rattle.drafting.specs.Reach.{AreReached}
 use Rattle.drafting.specs.Targets.{AreTargets}
-use Rattle.drafting.specs.Words.{IsTransfer}
 use Rattle.drafting.specs.declared.ends.End.{End}
 use Rattle.drafting.specs.declared.found_loop.FoundLoop.{FoundLoop}
 use Rattle.drafting.specs.declared.writers.FoundTarget.{FoundTarget}
+use Rattle.arm2_effect.specs.Operations.{is_transfer}
+use Rattle.word_shapes.specs.Words.{HasShape}
 
 -- what was found at the addresses that are reached from the entry, or at 16,384 of them: those at which the
--- handler cannot go on, those whose words load or store, and those whose words write R15 and have not the
--- shape of a return
+-- handler cannot go on, those whose words load or store, and those whose words write R15 and do not
+-- look like returns
 pub record AreFound (words : Words) (entry : ℕ) (ends : List (ℕ × End)) (accesses : List (ℕ × Class))
     (targets : List FoundTarget) : Type 0 where
   pub addresses : List ℕ
   pub ascend : IsStrictlySortedBy nat_cmp addresses
   pub reached : AreReached words entry addresses
   pub ends_are : AreEnds words addresses ends
-  pub accesses_are : Picks (IsTransfer words) addresses (keys_of accesses)
+  pub accesses_are : Picks (HasShape is_transfer words) addresses (keys_of accesses)
   pub targets_are : AreTargets words addresses targets
 
 -- the text of what was found, with labels that stand for the addresses

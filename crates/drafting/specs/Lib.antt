@@ -8,4 +8,3 @@ pub mod Picks
 pub mod Reach
 pub mod Rows
 pub mod Targets
-pub mod Words

@@ -1,23 +1,19 @@
--- Where control goes from the words of a handler, as far as they show it. Source: the VL86C010 data sheet;
--- which shapes are tables of branches and ways back is our own choice.
-use Rattle.std.specs.Prelude.{◌≡◌, ◌⊎◌, ◌↔◌, ℕ, ◌+◌, ◌-◌, ◌*◌, ◌^◌, ◌<◌, ◌≤◌, Bool, true, false, ◌&&◌}
-use Rattle.std.specs.Prelude.{◌==◌, if◌then◌else◌, List, length, Contains, Some}
-use Rattle.arm2_decode.specs.Names.{is_pc}
+-- Where control goes from the words of a handler, as far as they show it. Source: the VL86C010 data sheet, and our
+-- own choice of shapes.
+use Rattle.std.specs.Prelude.{◌≡◌, ◌⊎◌, ◌↔◌, ℕ, ◌+◌, ◌-◌, ◌*◌, ◌^◌, ◌<◌, ◌≤◌, true, false}
+use Rattle.std.specs.Prelude.{if◌then◌else◌, List, length, Contains, Some}
 use Rattle.arm2_decode.specs.Table.{IsUnallocated, Means}
 use Rattle.arm2_decode.specs.declared.instr.Instr.{Instr}
 use Rattle.arm2_decode.specs.declared.instr.Operation.{Operation}
 use Rattle.arm2_decode.specs.declared.instr.Operation.TheVariants as operation
 use Rattle.arm2_decode.specs.declared.instr.Unallocated.{Unallocated}
-use Rattle.arm2_decode.specs.declared.names.Cond.{Cond}
-use Rattle.arm2_decode.specs.declared.names.Cond.TheVariants as cond
-use Rattle.arm2_decode.specs.declared.names.Opcode.{Opcode}
-use Rattle.arm2_decode.specs.declared.names.Opcode.TheVariants as opcode
 use Rattle.arm2_effect.specs.ProgramCounter.{ahead_of}
-use Rattle.drafting.specs.Words.{HasInstr, is_left, is_link, is_move, is_return, writes_pc}
 use Rattle.drafting.specs.declared.words.Reading.{Reading}
 use Rattle.drafting.specs.declared.words.Way.{Way}
 use Rattle.drafting.specs.declared.words.Way.TheVariants as way
 use Rattle.loader.specs.Image.{Words, word_of}
+use Rattle.word_shapes.specs.Shapes.{is_always, is_never, is_return, is_table_jump, is_way_back, writes_pc}
+use Rattle.word_shapes.specs.Words.{HasShape}
 
 -- ## Operations
 
@@ -34,15 +30,6 @@ way_of (operation.CoprocessorTransfer x) = way.Trap
 way_of (operation.Coprocessor x) = way.Trap
 way_of o = writer_way o
 
--- the condition that always holds, and the one that never does
-abbrev pub is_always : Cond → Bool
-is_always cond.Al = true
-is_always _ = false
-
-abbrev pub is_never : Cond → Bool
-is_never cond.Nv = true
-is_never _ = false
-
 -- when an instruction is carried out, and where control goes then
 abbrev pub instr_reading : Instr → Reading
 instr_reading i = record { cond = i.cond; way = way_of i.operation }
@@ -56,22 +43,6 @@ abbrev pub IsReading : ℕ → Reading → Type 0
 IsReading word r =
     ((i : Instr) × Means word i × (r ≡ instr_reading i))
     ⊎ ((u : Unallocated) × IsUnallocated word u × (r ≡ unallocated_reading u))
-
-abbrev pub is_add : Opcode → Bool
-is_add opcode.Add = true
-is_add _ = false
-
--- ADD PC,PC,Rx,LSL #2
-abbrev pub is_table_jump : Operation → Bool
-is_table_jump (operation.DataRegister x) =
-    is_add x.opcode && is_pc x.rn && is_pc x.rd && is_left x.shift && (x.amount == 2)
-is_table_jump _ = false
-
--- MOV R14,PC
-abbrev pub is_way_back : Operation → Bool
-is_way_back (operation.DataRegister x) =
-    is_move x.opcode && is_link x.rd && is_pc x.rm && is_left x.shift && (x.amount == 0)
-is_way_back _ = false
 
 -- ## Places
 
@@ -109,11 +80,11 @@ module _ (words : Words) where
 
   -- a jump into a table of branches stands there
   abbrev pub JumpsIntoTable : ℕ → Type 0
-  JumpsIntoTable at = (i : Instr) × HasInstr words at i × (is_table_jump i.operation ≡ true)
+  JumpsIntoTable at = HasShape is_table_jump words at
 
   -- the word before puts the address of the word after this one into R14
   abbrev pub KeepsWayBack : ℕ → Type 0
-  KeepsWayBack at = (i : Instr) × HasInstr words (before at) i × (is_way_back i.operation ≡ true)
+  KeepsWayBack at = HasShape is_way_back words (before at)
 
   -- a place of the table behind a jump, from 0 on: up to it all are branches, and a table has 64 at most
   pub record IsTablePlace (at n : ℕ) : Type 0 where

@@ -1,16 +1,17 @@
-ghost use Rattle.std.specs.Prelude.{◌≡◌, true, IfOk, OnOk};
+ghost use Rattle.std.specs.Prelude.{IfOk, OnOk};
 ghost use Rattle.std.specs.Map.{keys_of};
 ghost use Rattle.drafting.specs.Picks.{Keeps, Picks};
-ghost use Rattle.drafting.specs.Words.{IsTransfer};
+ghost use Rattle.arm2_effect.specs.Operations.{is_transfer};
+ghost use Rattle.word_shapes.specs.Words.{HasShape};
 
 use crate::constants::Constants;
 use crate::reach::Reached;
 use crate::ways::before;
-use crate::words::{instr_at, is_transfer};
 use arm2_decode::{Block, Operation, SingleImmediate};
 use bus_ticks::{Class, SPACE_END, class_of};
 use loader::Image;
 use std::alloc::{AllocError, Global};
+use word_shapes::{instr_at, is_transfer_at};
 
 // The class of both addresses, where they are of one.
 fn class_from(first: u32, last: u32) -> Class {
@@ -60,17 +61,6 @@ fn class_shown(known: &Constants, at: u32, operation: &Operation) -> Class {
     }
 }
 
-// Whether the image has a word there that loads or stores.
-fn is_transfer_at(image: &Image, at: u32) -> bool
-    ensures yes { result ≡ true → IsTransfer image.now at }
-    ensures no { IsTransfer image.now at → result ≡ true }
-{
-    match instr_at(image, at) {
-        Some(instr) => is_transfer(&instr.operation),
-        None => false,
-    }
-}
-
 fn class_at(image: &Image, known: &Constants, at: u32) -> Class {
     match instr_at(image, at) {
         Some(instr) => class_shown(known, at, &instr.operation),
@@ -86,7 +76,7 @@ fn keep_access(
     at: u32,
 ) -> Result<(), AllocError>
     ensures { OnOk result
-        (Keeps (IsTransfer image.now) at (keys_of found.old.items) (keys_of found.new.items)) }
+        (Keeps (HasShape is_transfer image.now) at (keys_of found.old.items) (keys_of found.new.items)) }
 {
     if !is_transfer_at(image, at) {
         return Ok(());
@@ -114,7 +104,7 @@ pub fn find_accesses(
     addresses: &[u32],
 ) -> Result<Vec<(u32, Class)>, AllocError>
     ensures { IfOk result
-        (λ found. Picks (IsTransfer image.now) addresses.now (keys_of found.items)) }
+        (λ found. Picks (HasShape is_transfer image.now) addresses.now (keys_of found.items)) }
 {
     let mut found = Vec::new(alloc);
     let mut known = Constants::none();

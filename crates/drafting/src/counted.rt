@@ -1,9 +1,10 @@
 use crate::found_loop::FoundLoop;
 use crate::reach::Reached;
 use crate::ways::before;
-use crate::words::{Way, changed, instr_at, reading_at};
+use crate::words::{Way, changed, reading_at};
 use arm2_decode::{Cond, DataImmediate, Opcode, Operation, Register};
 use loader::Image;
+use word_shapes::instr_at;
 
 /// How many words before a loop are looked at for the one that sets its counter.
 const WORDS_BEFORE: u32 = 16;

@@ -4,9 +4,10 @@ ghost use Rattle.drafting.specs.Ends.{AreEnds, Ends, IsEnd, reading_end};
 ghost use Rattle.drafting.specs.Picks.{Keeps};
 ghost use Rattle.drafting.specs.declared.ends.End.{End};
 
-use crate::words::{Reading, Way, is_never, reading_at};
+use crate::words::{Reading, Way, reading_at};
 use loader::Image;
 use std::alloc::{AllocError, Global};
+use word_shapes::is_never;
 
 /// Why a handler cannot go on at an address.
 #[derive(Clone, Copy)]

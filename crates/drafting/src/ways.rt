@@ -1,18 +1,16 @@
-ghost use Rattle.std.specs.Prelude.{◌≡◌, ℕ, ◌<◌, ◌^◌, true, false, IfSome, Some, OnOk};
+ghost use Rattle.std.specs.Prelude.{◌≡◌, ◌↔◌, ℕ, ◌<◌, ◌^◌, true, false, IfSome, IsTrue, Some, OnOk};
 ghost use Rattle.arm2_effect.specs.ProgramCounter.{ahead_of};
 ghost use Rattle.drafting.specs.Exploring.{Gains};
-ghost use Rattle.drafting.specs.Reach.{CallsTo, GoesOn, HasPlaces, IsBranchAt, JumpsIntoTable};
-ghost use Rattle.drafting.specs.Reach.{KeepsWayBack, LeadsAway, StepsTo, before, is_never, is_table_jump};
-ghost use Rattle.drafting.specs.Reach.{is_way_back, next_of, words_on};
+ghost use Rattle.drafting.specs.Reach.{CallsTo, GoesOn, HasPlaces, IsBranchAt, KeepsWayBack, LeadsAway};
+ghost use Rattle.drafting.specs.Reach.{StepsTo, before, next_of, words_on};
 ghost use Rattle.drafting.specs.declared.words.Way.TheVariants.{Writer};
+ghost use Rattle.word_shapes.specs.Shapes.{is_never};
 
-use crate::words::{
-    Reading, Way, instr_at, is_add, is_always, is_left, is_link, is_move, is_never, reading_at,
-};
-use arm2_decode::Operation;
+use crate::words::{Reading, Way, reading_at};
 use bus_ticks::SPACE_END;
 use loader::Image;
 use std::alloc::AllocError;
+use word_shapes::{is_always, is_never, is_table_jump_at, is_way_back_at};
 
 /// The most destinations of a target.
 const MOST_BRANCHES: u32 = 64;
@@ -39,40 +37,6 @@ fn words_on(at: u32, count: u32) -> u32
     ahead_of(ahead_of(at, 8), count.wrapping_mul(4))
 }
 
-// Whether it is ADD PC,PC,Rx,LSL #2.
-fn is_table_jump(operation: &Operation) -> bool
-    ensures { result ≡ is_table_jump operation.now }
-{
-    match operation {
-        Operation::DataRegister(x) => {
-            is_add(x.opcode) && x.rn.is_pc() && x.rd.is_pc() && is_left(x.shift) && x.amount == 2
-        }
-        _ => false,
-    }
-}
-
-// Whether it is MOV R14,PC.
-fn is_way_back(operation: &Operation) -> bool
-    ensures { result ≡ is_way_back operation.now }
-{
-    match operation {
-        Operation::DataRegister(x) => {
-            is_move(x.opcode) && is_link(x.rd) && x.rm.is_pc() && is_left(x.shift) && x.amount == 0
-        }
-        _ => false,
-    }
-}
-
-fn jumps_into_table(image: &Image, at: u32) -> bool
-    ensures yes { result ≡ true → JumpsIntoTable image.now at }
-    ensures no { JumpsIntoTable image.now at → result ≡ true }
-{
-    match instr_at(image, at) {
-        Some(instr) => is_table_jump(&instr.operation),
-        None => false,
-    }
-}
-
 fn is_branch(image: &Image, at: u32) -> bool
     ensures yes { result ≡ true → IsBranchAt image.now at }
     ensures no { IsBranchAt image.now at → result ≡ true }
@@ -87,7 +51,7 @@ fn is_branch(image: &Image, at: u32) -> bool
 pub(crate) fn table_len(image: &Image, at: u32) -> u32
     ensures { HasPlaces image.now at result }
 {
-    if !jumps_into_table(image, at) {
+    if !is_table_jump_at(image, at) {
         return 0;
     }
     for n in 0..MOST_BRANCHES {
@@ -110,13 +74,9 @@ fn push_table(out: &mut Vec<u32>, image: &Image, at: u32) -> Result<(), AllocErr
 
 // Whether the word before puts the address of the word after this one into R14.
 fn keeps_way_back(image: &Image, at: u32) -> bool
-    ensures yes { result ≡ true → KeepsWayBack image.now at }
-    ensures no { KeepsWayBack image.now at → result ≡ true }
+    ensures { IsTrue result ↔ KeepsWayBack image.now at }
 {
-    match instr_at(image, before(at)) {
-        Some(instr) => is_way_back(&instr.operation),
-        None => false,
-    }
+    is_way_back_at(image, before(at))
 }
 
 // Whether control may go on at the next word.

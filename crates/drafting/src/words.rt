@@ -1,18 +1,11 @@
 ghost use Rattle.std.specs.Prelude.{◌≡◌, IfNone, IfSome, None, Some};
-ghost use Rattle.arm2_decode.specs.declared.instr.Instr.{Instr};
-ghost use Rattle.arm2_decode.specs.Table.{Means};
-ghost use Rattle.drafting.specs.Reach.{HasReading, IsReading, is_add, is_always, is_never, way_of};
-ghost use Rattle.drafting.specs.Reach.{writer_way};
-ghost use Rattle.drafting.specs.Words.{HasInstr, data_writes_pc, is_left, is_link, is_move, is_odd_writer};
-ghost use Rattle.drafting.specs.Words.{is_return, is_stack, is_transfer, moves_link, subtracts_from_link};
-ghost use Rattle.drafting.specs.Words.{writes_pc};
+ghost use Rattle.drafting.specs.Reach.{HasReading, IsReading, way_of, writer_way};
 ghost use Rattle.drafting.specs.declared.words.Reading.{Reading};
 ghost use Rattle.loader.specs.Image.{word_of};
 
-use arm2_decode::{
-    Block, Cond, DataRegister, Instr, Opcode, Operation, Register, Shift, decode, decode_encoded,
-};
+use arm2_decode::{Block, Cond, Opcode, Operation, Register, decode};
 use loader::Image;
+use word_shapes::{is_odd_writer, is_return, writes_pc};
 
 /// What a word shows of where control goes.
 #[derive(Clone, Copy)]
@@ -23,7 +16,7 @@ pub(crate) enum Way {
     Branch(u32),
     /// To a routine, by such a number, and then on.
     Call(u32),
-    /// It writes R15 and has the shape of a return.
+    /// It writes R15 and looks like a return.
     Return,
     /// It writes R15 in another way.
     Writer,
@@ -38,136 +31,6 @@ pub(crate) enum Way {
 pub(crate) struct Reading {
     pub cond: Cond,
     pub way: Way,
-}
-
-// The instruction of a word.
-fn decoded(word: u32) -> Option<Instr>
-    ensures some { IfSome result (Means word) }
-    ensures only { (i : Instr) → Means word i → result ≡ Some i }
-{
-    decode_encoded();
-    match decode(word) {
-        Ok(instr) => Some(instr),
-        Err(_) => None,
-    }
-}
-
-/// The instruction at an address, if the image has one there.
-pub(crate) fn instr_at(image: &Image, at: u32) -> Option<Instr>
-    ensures some { IfSome result (HasInstr image.now at) }
-    ensures only { (i : Instr) → HasInstr image.now at i → result ≡ Some i }
-{
-    match image.word_at(at) {
-        Some(word) => decoded(word),
-        None => None,
-    }
-}
-
-pub(crate) fn is_link(register: Register) -> bool
-    ensures { result ≡ is_link register }
-{
-    register.number() == 14
-}
-
-fn is_stack(register: Register) -> bool
-    ensures { result ≡ is_stack register }
-{
-    register.number() == 13
-}
-
-pub(crate) fn is_move(opcode: Opcode) -> bool
-    ensures { result ≡ is_move opcode }
-{
-    matches!(opcode, Opcode::Mov)
-}
-
-pub(crate) fn is_add(opcode: Opcode) -> bool
-    ensures { result ≡ is_add opcode }
-{
-    matches!(opcode, Opcode::Add)
-}
-
-// Whether it shifts to the left.
-pub(crate) fn is_left(shift: Shift) -> bool
-    ensures { result ≡ is_left shift }
-{
-    matches!(shift, Shift::Lsl)
-}
-
-fn subtracts_from_link(opcode: Opcode, rn: Register) -> bool
-    ensures { result ≡ subtracts_from_link opcode rn }
-{
-    matches!(opcode, Opcode::Sub) && is_link(rn)
-}
-
-// Whether it is R14 as it is.
-fn moves_link(x: &DataRegister) -> bool
-    ensures { result ≡ moves_link x.now }
-{
-    is_move(x.opcode) && is_link(x.rm) && is_left(x.shift) && x.amount == 0
-}
-
-// Whether a word that writes R15 does so as returns do: by MOV or SUB from R14, or by a load from the stack.
-pub(crate) fn is_return(operation: &Operation) -> bool
-    ensures { result ≡ is_return operation.now }
-{
-    match operation {
-        Operation::DataRegister(x) => moves_link(x) || subtracts_from_link(x.opcode, x.rn),
-        Operation::DataRegisterShift(x) => subtracts_from_link(x.opcode, x.rn),
-        Operation::DataImmediate(x) => subtracts_from_link(x.opcode, x.rn),
-        Operation::SingleImmediate(x) => is_stack(x.rn),
-        Operation::SingleRegister(x) => is_stack(x.rn),
-        Operation::Block(x) => is_stack(x.rn),
-        Operation::Multiply(_)
-        | Operation::Branch(_)
-        | Operation::Swi(_)
-        | Operation::UndefinedTransfer(_)
-        | Operation::CoprocessorTransfer(_)
-        | Operation::Coprocessor(_) => false,
-    }
-}
-
-fn data_writes_pc(opcode: Opcode, rd: Register) -> bool
-    ensures { result ≡ data_writes_pc opcode rd }
-{
-    rd.is_pc() && !opcode.is_compare()
-}
-
-/// Whether an operation writes R15, other than a branch or a call.
-pub(crate) fn writes_pc(operation: &Operation) -> bool
-    ensures { result ≡ writes_pc operation.now }
-{
-    match operation {
-        Operation::DataRegister(x) => data_writes_pc(x.opcode, x.rd),
-        Operation::DataRegisterShift(x) => data_writes_pc(x.opcode, x.rd),
-        Operation::DataImmediate(x) => data_writes_pc(x.opcode, x.rd),
-        Operation::SingleImmediate(x) => x.load && x.rd.is_pc(),
-        Operation::SingleRegister(x) => x.load && x.rd.is_pc(),
-        Operation::Block(x) => x.load && x.list >= 0x8000,
-        Operation::Multiply(_)
-        | Operation::Branch(_)
-        | Operation::Swi(_)
-        | Operation::UndefinedTransfer(_)
-        | Operation::CoprocessorTransfer(_)
-        | Operation::Coprocessor(_) => false,
-    }
-}
-
-/// Whether an operation writes R15 and has not the shape of a return.
-pub(crate) fn is_odd_writer(operation: &Operation) -> bool
-    ensures { result ≡ is_odd_writer operation.now }
-{
-    writes_pc(operation) && !is_return(operation)
-}
-
-/// Whether an operation loads or stores.
-pub(crate) fn is_transfer(operation: &Operation) -> bool
-    ensures { result ≡ is_transfer operation.now }
-{
-    matches!(
-        operation,
-        Operation::SingleImmediate(_) | Operation::SingleRegister(_) | Operation::Block(_)
-    )
 }
 
 fn writer_way(operation: &Operation) -> Way
@@ -200,20 +63,6 @@ pub(crate) fn way_of(operation: &Operation) -> Way
         | Operation::Coprocessor(_) => Way::Trap,
         _ => writer_way(operation),
     }
-}
-
-/// Whether a word of the condition is always carried out.
-pub(crate) fn is_always(cond: Cond) -> bool
-    ensures { result ≡ is_always cond }
-{
-    matches!(cond, Cond::Al)
-}
-
-/// Whether a word of the condition is never carried out.
-pub(crate) fn is_never(cond: Cond) -> bool
-    ensures { result ≡ is_never cond }
-{
-    matches!(cond, Cond::Nv)
 }
 
 fn reading_of(word: u32) -> Reading

@@ -1,15 +1,16 @@
-ghost use Rattle.std.specs.Prelude.{◌≡◌, true, All, IfOk, OnOk};
+ghost use Rattle.std.specs.Prelude.{All, IfOk, OnOk};
 ghost use Rattle.drafting.specs.Found.{addresses_of};
 ghost use Rattle.drafting.specs.Picks.{Keeps};
 ghost use Rattle.drafting.specs.Targets.{AreTargets, HasTable};
-ghost use Rattle.drafting.specs.Words.{IsOddWriter};
+ghost use Rattle.word_shapes.specs.Shapes.{is_odd_writer};
+ghost use Rattle.word_shapes.specs.Words.{HasShape};
 
 use crate::ways::table_len;
-use crate::words::{instr_at, is_odd_writer};
 use loader::Image;
 use std::alloc::{AllocError, Global};
+use word_shapes::is_odd_writer_at;
 
-/// A word that writes R15 and has not the shape of a return.
+/// A word that writes R15 and does not look like a return.
 #[derive(Clone, Copy)]
 pub struct FoundTarget {
     pub at: u32,
@@ -17,21 +18,10 @@ pub struct FoundTarget {
     pub branches: u32,
 }
 
-// Whether the image has a word there that writes R15 and has not the shape of a return.
-fn is_odd_writer_at(image: &Image, at: u32) -> bool
-    ensures yes { result ≡ true → IsOddWriter image.now at }
-    ensures no { IsOddWriter image.now at → result ≡ true }
-{
-    match instr_at(image, at) {
-        Some(instr) => is_odd_writer(&instr.operation),
-        None => false,
-    }
-}
-
-// Takes an address whose word writes R15 and has not the shape of a return.
+// Takes an address whose word writes R15 and does not look like a return.
 fn keep_target(found: &mut Vec<FoundTarget>, image: &Image, at: u32) -> Result<(), AllocError>
     ensures kept { OnOk result
-        (Keeps (IsOddWriter image.now) at (addresses_of found.old.items) (addresses_of found.new.items)) }
+        (Keeps (HasShape is_odd_writer image.now) at (addresses_of found.old.items) (addresses_of found.new.items)) }
     ensures tables { OnOk result
         (All (HasTable image.now) found.old.items → All (HasTable image.now) found.new.items) }
 {
@@ -43,7 +33,7 @@ fn keep_target(found: &mut Vec<FoundTarget>, image: &Image, at: u32) -> Result<(
     Ok(())
 }
 
-/// Those of the addresses whose words write R15 and have not the shape of a return, in their order.
+/// Those of the addresses whose words write R15 and do not look like returns, in their order.
 pub fn find_targets(
     alloc: Global,
     image: &Image,

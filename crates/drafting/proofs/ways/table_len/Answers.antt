@@ -14,7 +14,7 @@ loop-n-preserved c =
 pub returns-then-not-is_branch : goal.returns-then-not-is_branch
 returns-then-not-is_branch c =
     places_all c.args.image.now c.args.at c.loop-n.n c.loop-n.invariant
-    (c.jumps_into_table.ensures.yes c.if-not-jumps_into_table.false) c.loop-n.auto.n-end
+    (c.is_table_jump_at.ensures.0 c.if-not-is_table_jump_at.false) c.loop-n.auto.n-end
     (λ place.
     let here = subst (IsBranchAt c.args.image.now) (sym c.words_on.ensures) (place.branches c.loop-n.n (omega arith)) in
     cc (c.is_branch.ensures.no here, c.if-not-is_branch.true))
@@ -22,4 +22,4 @@ returns-then-not-is_branch c =
 pub returns : goal.returns
 returns c =
     places_full c.args.image.now c.args.at c.loop-n.n c.loop-n.invariant
-    (c.jumps_into_table.ensures.yes c.if-not-jumps_into_table.false) c.loop-n-test.false
+    (c.is_table_jump_at.ensures.0 c.if-not-is_table_jump_at.false) c.loop-n-test.false

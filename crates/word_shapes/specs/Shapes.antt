@@ -1,21 +1,30 @@
--- What words show of where control goes, and which of them load and store. Source: the VL86C010 data sheet,
--- by the table of instruction words; which shapes are returns is our own choice.
-use Rattle.std.specs.Prelude.{◌≡◌, ℕ, Bool, true, false, not, ◌&&◌, ◌||◌, ◌==◌, nat_le, Some}
+-- Shapes of words. Source: the VL86C010 data sheet, by the table of instruction words; which shapes are returns,
+-- jumps into tables of branches and ways back is our own choice.
+use Rattle.std.specs.Prelude.{ℕ, Bool, true, false, not, ◌&&◌, ◌||◌, ◌==◌, nat_le}
 use Rattle.arm2_decode.specs.Names.{is_compare, is_pc, register_number}
-use Rattle.arm2_decode.specs.Table.{Means}
 use Rattle.arm2_decode.specs.declared.instr.DataRegister.{DataRegister}
-use Rattle.arm2_decode.specs.declared.instr.Instr.{Instr}
 use Rattle.arm2_decode.specs.declared.instr.Operation.{Operation}
 use Rattle.arm2_decode.specs.declared.instr.Operation.TheVariants as operation
+use Rattle.arm2_decode.specs.declared.names.Cond.{Cond}
+use Rattle.arm2_decode.specs.declared.names.Cond.TheVariants as cond
 use Rattle.arm2_decode.specs.declared.names.Opcode.{Opcode}
 use Rattle.arm2_decode.specs.declared.names.Opcode.TheVariants as opcode
 use Rattle.arm2_decode.specs.declared.names.Register.{Register}
 use Rattle.arm2_decode.specs.declared.names.Shift.{Shift}
 use Rattle.arm2_decode.specs.declared.names.Shift.TheVariants as shift
-use Rattle.loader.specs.Image.{Words, word_of}
 
--- ## Operations
+-- ## Parts of a word
 
+-- the condition that always holds, and the one that never does
+abbrev pub is_always : Cond → Bool
+is_always cond.Al = true
+is_always _ = false
+
+abbrev pub is_never : Cond → Bool
+is_never cond.Nv = true
+is_never _ = false
+
+-- R14 keeps the way back, and R13 points to the stack
 abbrev pub is_link : Register → Bool
 is_link r = register_number r == 14
 
@@ -26,25 +35,36 @@ abbrev pub is_move : Opcode → Bool
 is_move opcode.Mov = true
 is_move _ = false
 
+abbrev pub is_add : Opcode → Bool
+is_add opcode.Add = true
+is_add _ = false
+
 abbrev pub is_subtraction : Opcode → Bool
 is_subtraction opcode.Sub = true
 is_subtraction _ = false
 
-abbrev pub is_left : Shift → Bool
-is_left shift.Lsl = true
-is_left _ = false
+abbrev pub is_lsl : Shift → Bool
+is_lsl shift.Lsl = true
+is_lsl _ = false
 
--- R14 as it is
-abbrev pub moves_link : DataRegister → Bool
-moves_link x = is_move x.opcode && is_link x.rm && is_left x.shift && (x.amount == 0)
+-- the operand is shifted to the left by so many bits; by none, it is the register as it stands
+abbrev pub is_lsl_by : ℕ → DataRegister → Bool
+is_lsl_by amount x = is_lsl x.shift && (x.amount == amount)
 
+-- ## Returns
+
+-- MOV of R14 as it stands
+abbrev pub copies_link : DataRegister → Bool
+copies_link x = is_move x.opcode && is_link x.rm && is_lsl_by 0 x
+
+-- SUB from R14
 abbrev pub subtracts_from_link : Opcode → Register → Bool
-subtracts_from_link opcode rn = is_subtraction opcode && is_link rn
+subtracts_from_link o rn = is_subtraction o && is_link rn
 
--- of a word that writes R15: a move of R14, R14 less something, or a load from R13 on
+-- what a word that writes R15 to return looks like: MOV or SUB from R14, or a load from R13
 abbrev pub is_return : Operation → Bool
 is_return (operation.Multiply x) = false
-is_return (operation.DataRegister x) = moves_link x || subtracts_from_link x.opcode x.rn
+is_return (operation.DataRegister x) = copies_link x || subtracts_from_link x.opcode x.rn
 is_return (operation.DataRegisterShift x) = subtracts_from_link x.opcode x.rn
 is_return (operation.DataImmediate x) = subtracts_from_link x.opcode x.rn
 is_return (operation.SingleImmediate x) = is_stack x.rn
@@ -56,10 +76,12 @@ is_return (operation.UndefinedTransfer x) = false
 is_return (operation.CoprocessorTransfer x) = false
 is_return (operation.Coprocessor x) = false
 
+-- ## Writers of R15
+
 abbrev pub data_writes_pc : Opcode → Register → Bool
 data_writes_pc o rd = is_pc rd && not (is_compare o)
 
--- it writes R15, other than a branch or a call; bit 15 of a list stands for R15
+-- it writes R15, other than a branch or a call; bit 15 of a list, the highest, stands for R15
 abbrev pub writes_pc : Operation → Bool
 writes_pc (operation.Multiply x) = false
 writes_pc (operation.DataRegister x) = data_writes_pc x.opcode x.rd
@@ -74,29 +96,16 @@ writes_pc (operation.UndefinedTransfer x) = false
 writes_pc (operation.CoprocessorTransfer x) = false
 writes_pc (operation.Coprocessor x) = false
 
--- it writes R15, and has not the shape of a return
+-- it writes R15, other than a branch or a call, and does not look like a return
 abbrev pub is_odd_writer : Operation → Bool
 is_odd_writer o = writes_pc o && not (is_return o)
 
--- it loads or stores
-abbrev pub is_transfer : Operation → Bool
-is_transfer (operation.SingleImmediate x) = true
-is_transfer (operation.SingleRegister x) = true
-is_transfer (operation.Block x) = true
-is_transfer _ = false
+-- ADD PC,PC,Rx,LSL #2: a table of branches follows it
+abbrev pub is_table_jump : Operation → Bool
+is_table_jump (operation.DataRegister x) = is_add x.opcode && is_pc x.rn && is_pc x.rd && is_lsl_by 2 x
+is_table_jump _ = false
 
--- ## Words of an image
-
--- the image has a word at the address, which is this instruction
-pub record HasInstr (words : Words) (at : ℕ) (i : Instr) : Type 0 where
-  pub word : ℕ
-  pub stands : word_of words at ≡ Some word
-  pub means : Means word i
-
--- an instruction there writes R15, and has not the shape of a return
-abbrev pub IsOddWriter : Words → ℕ → Type 0
-IsOddWriter words at = (i : Instr) × HasInstr words at i × (is_odd_writer i.operation ≡ true)
-
--- an instruction there loads or stores
-abbrev pub IsTransfer : Words → ℕ → Type 0
-IsTransfer words at = (i : Instr) × HasInstr words at i × (is_transfer i.operation ≡ true)
+-- MOV R14,PC: control comes back to the second word after it
+abbrev pub is_way_back : Operation → Bool
+is_way_back (operation.DataRegister x) = is_move x.opcode && is_link x.rd && is_pc x.rm && is_lsl_by 0 x
+is_way_back _ = false

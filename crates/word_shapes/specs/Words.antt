@@ -1,0 +1,16 @@
+-- Instructions of an image, and their shapes.
+use Rattle.std.specs.Prelude.{◌≡◌, ℕ, Bool, true, Some}
+use Rattle.arm2_decode.specs.Table.{Means}
+use Rattle.arm2_decode.specs.declared.instr.Instr.{Instr}
+use Rattle.arm2_decode.specs.declared.instr.Operation.{Operation}
+use Rattle.loader.specs.Image.{Words, word_of}
+
+-- the image has a word at the address, which is this instruction
+pub record HasInstr (words : Words) (at : ℕ) (i : Instr) : Type 0 where
+  pub word : ℕ
+  pub stands : word_of words at ≡ Some word
+  pub means : Means word i
+
+-- the image has an instruction at the address, and its operation has the shape
+abbrev pub HasShape : (Operation → Bool) → Words → ℕ → Type 0
+HasShape shape words at = (i : Instr) × HasInstr words at i × (shape i.operation ≡ true)

@@ -1,0 +1,12 @@
+//! Shapes of words: which load or store, which write R15, and which look like a return, a jump into a table of
+//! branches, or the word that keeps the way back.
+#![tactic(auto)]
+
+mod shapes;
+mod words;
+
+pub use shapes::{
+    is_always, is_never, is_odd_writer, is_return, is_table_jump, is_transfer, is_way_back,
+    writes_pc,
+};
+pub use words::{instr_at, is_odd_writer_at, is_table_jump_at, is_transfer_at, is_way_back_at};

@@ -1,0 +1,159 @@
+ghost use Rattle.std.specs.Prelude.{◌≡◌};
+ghost use Rattle.arm2_effect.specs.Operations.{is_transfer};
+ghost use Rattle.word_shapes.specs.Shapes.{copies_link, data_writes_pc, is_add, is_always, is_link, is_lsl_by};
+ghost use Rattle.word_shapes.specs.Shapes.{is_move, is_never, is_odd_writer, is_return, is_stack};
+ghost use Rattle.word_shapes.specs.Shapes.{is_subtraction, is_table_jump, is_way_back, subtracts_from_link};
+ghost use Rattle.word_shapes.specs.Shapes.{writes_pc};
+
+use arm2_decode::{Cond, DataRegister, Opcode, Operation, Register, Shift};
+
+/// Whether a word of the condition is always carried out.
+pub fn is_always(cond: Cond) -> bool
+    ensures { result ≡ is_always cond }
+{
+    matches!(cond, Cond::Al)
+}
+
+/// Whether a word of the condition is never carried out.
+pub fn is_never(cond: Cond) -> bool
+    ensures { result ≡ is_never cond }
+{
+    matches!(cond, Cond::Nv)
+}
+
+fn is_link(register: Register) -> bool
+    ensures { result ≡ is_link register }
+{
+    register.number() == 14
+}
+
+fn is_stack(register: Register) -> bool
+    ensures { result ≡ is_stack register }
+{
+    register.number() == 13
+}
+
+fn is_move(opcode: Opcode) -> bool
+    ensures { result ≡ is_move opcode }
+{
+    matches!(opcode, Opcode::Mov)
+}
+
+fn is_add(opcode: Opcode) -> bool
+    ensures { result ≡ is_add opcode }
+{
+    matches!(opcode, Opcode::Add)
+}
+
+fn is_subtraction(opcode: Opcode) -> bool
+    ensures { result ≡ is_subtraction opcode }
+{
+    matches!(opcode, Opcode::Sub)
+}
+
+// Whether the operand is shifted by LSL, and by this amount.
+fn is_lsl_by(amount: u32, x: &DataRegister) -> bool
+    ensures { result ≡ is_lsl_by amount x.now }
+{
+    matches!(x.shift, Shift::Lsl) && x.amount == amount
+}
+
+// Whether the operand is R14 as it stands, and moved.
+fn copies_link(x: &DataRegister) -> bool
+    ensures { result ≡ copies_link x.now }
+{
+    is_move(x.opcode) && is_link(x.rm) && is_lsl_by(0, x)
+}
+
+fn subtracts_from_link(opcode: Opcode, rn: Register) -> bool
+    ensures { result ≡ subtracts_from_link opcode rn }
+{
+    is_subtraction(opcode) && is_link(rn)
+}
+
+/// Whether an operation that writes R15 does so as returns do: by MOV or SUB from R14, or by a load from R13.
+pub fn is_return(operation: &Operation) -> bool
+    ensures { result ≡ is_return operation.now }
+{
+    match operation {
+        Operation::DataRegister(x) => copies_link(x) || subtracts_from_link(x.opcode, x.rn),
+        Operation::DataRegisterShift(x) => subtracts_from_link(x.opcode, x.rn),
+        Operation::DataImmediate(x) => subtracts_from_link(x.opcode, x.rn),
+        Operation::SingleImmediate(x) => is_stack(x.rn),
+        Operation::SingleRegister(x) => is_stack(x.rn),
+        Operation::Block(x) => is_stack(x.rn),
+        Operation::Multiply(_)
+        | Operation::Branch(_)
+        | Operation::Swi(_)
+        | Operation::UndefinedTransfer(_)
+        | Operation::CoprocessorTransfer(_)
+        | Operation::Coprocessor(_) => false,
+    }
+}
+
+fn data_writes_pc(opcode: Opcode, rd: Register) -> bool
+    ensures { result ≡ data_writes_pc opcode rd }
+{
+    rd.is_pc() && !opcode.is_compare()
+}
+
+/// Whether an operation writes R15, other than a branch or a call.
+pub fn writes_pc(operation: &Operation) -> bool
+    ensures { result ≡ writes_pc operation.now }
+{
+    match operation {
+        Operation::DataRegister(x) => data_writes_pc(x.opcode, x.rd),
+        Operation::DataRegisterShift(x) => data_writes_pc(x.opcode, x.rd),
+        Operation::DataImmediate(x) => data_writes_pc(x.opcode, x.rd),
+        Operation::SingleImmediate(x) => x.load && x.rd.is_pc(),
+        Operation::SingleRegister(x) => x.load && x.rd.is_pc(),
+        Operation::Block(x) => x.load && x.list >= 0x8000,
+        Operation::Multiply(_)
+        | Operation::Branch(_)
+        | Operation::Swi(_)
+        | Operation::UndefinedTransfer(_)
+        | Operation::CoprocessorTransfer(_)
+        | Operation::Coprocessor(_) => false,
+    }
+}
+
+/// Whether an operation writes R15, other than a branch or a call, and does not look like a return.
+pub fn is_odd_writer(operation: &Operation) -> bool
+    ensures { result ≡ is_odd_writer operation.now }
+{
+    writes_pc(operation) && !is_return(operation)
+}
+
+/// Whether an operation loads or stores.
+pub fn is_transfer(operation: &Operation) -> bool
+    ensures { result ≡ is_transfer operation.now }
+{
+    matches!(
+        operation,
+        Operation::SingleImmediate(_) | Operation::SingleRegister(_) | Operation::Block(_)
+    )
+}
+
+/// Whether an operation jumps into a table of branches that follows it: ADD PC,PC,Rx,LSL #2.
+pub fn is_table_jump(operation: &Operation) -> bool
+    ensures { result ≡ is_table_jump operation.now }
+{
+    match operation {
+        Operation::DataRegister(x) => {
+            is_add(x.opcode) && x.rn.is_pc() && x.rd.is_pc() && is_lsl_by(2, x)
+        }
+        _ => false,
+    }
+}
+
+/// Whether an operation keeps the address of the second word after it as the way back: MOV R14,PC.
+pub fn is_way_back(operation: &Operation) -> bool
+    ensures { result ≡ is_way_back operation.now }
+{
+    match operation {
+        Operation::DataRegister(x) => {
+            is_move(x.opcode) && is_link(x.rd) && x.rm.is_pc() && is_lsl_by(0, x)
+        }
+        _ => false,
+    }
+}

@@ -1,0 +1,73 @@
+ghost use Rattle.std.specs.Prelude.{◌≡◌, ◌↔◌, IfSome, IsTrue, Some};
+ghost use Rattle.arm2_decode.specs.Table.{Means};
+ghost use Rattle.arm2_decode.specs.declared.instr.Instr.{Instr};
+ghost use Rattle.arm2_effect.specs.Operations.{is_transfer};
+ghost use Rattle.word_shapes.specs.Shapes.{is_odd_writer, is_table_jump, is_way_back};
+ghost use Rattle.word_shapes.specs.Words.{HasInstr, HasShape};
+
+use crate::shapes::{is_odd_writer, is_table_jump, is_transfer, is_way_back};
+use arm2_decode::{Instr, decode};
+use loader::Image;
+
+// The instruction of a word.
+fn decoded(word: u32) -> Option<Instr>
+    ensures some { IfSome result (Means word) }
+    ensures only { (i : Instr) → Means word i → result ≡ Some i }
+{
+    match decode(word) {
+        Ok(instr) => Some(instr),
+        Err(_) => None,
+    }
+}
+
+/// The instruction at an address, if the image has one there.
+pub fn instr_at(image: &Image, at: u32) -> Option<Instr>
+    ensures some { IfSome result (HasInstr image.now at) }
+    ensures only { (i : Instr) → HasInstr image.now at i → result ≡ Some i }
+{
+    match image.word_at(at) {
+        Some(word) => decoded(word),
+        None => None,
+    }
+}
+
+/// Whether the image has a word at an address that loads or stores.
+pub fn is_transfer_at(image: &Image, at: u32) -> bool
+    ensures { IsTrue result ↔ HasShape is_transfer image.now at }
+{
+    match instr_at(image, at) {
+        Some(instr) => is_transfer(&instr.operation),
+        None => false,
+    }
+}
+
+/// Whether the image has a word at an address that writes R15, other than a branch or a call, and does not
+/// look like a return.
+pub fn is_odd_writer_at(image: &Image, at: u32) -> bool
+    ensures { IsTrue result ↔ HasShape is_odd_writer image.now at }
+{
+    match instr_at(image, at) {
+        Some(instr) => is_odd_writer(&instr.operation),
+        None => false,
+    }
+}
+
+/// Whether the image has a word at an address that jumps into a table of branches.
+pub fn is_table_jump_at(image: &Image, at: u32) -> bool
+    ensures { IsTrue result ↔ HasShape is_table_jump image.now at }
+{
+    match instr_at(image, at) {
+        Some(instr) => is_table_jump(&instr.operation),
+        None => false,
+    }
+}
+
+/// Whether the image has a word at an address that keeps the way back.
+pub fn is_way_back_at(image: &Image, at: u32) -> bool
+    ensures { IsTrue result ↔ HasShape is_way_back image.now at }
+{
+    match instr_at(image, at) {
+        Some(instr) => is_way_back(&instr.operation),
+        None => false,
+    }
+}
