@@ -132,16 +132,20 @@ module _ (exit : ℕ) (edges : List NumberedEdge) (tree : List Span) (c : Tables
       sum_by-same_all (λ i. cond (is_in i exit) (stay_of c i) 0) (λ i. 0) tree (λ i i_in. rw (exit_outside i i_in exit (eq-eqb exit exit refl)) refl) in
       omega (arith, none, sum_zero tree, closes)
 
-  pub is_greatest : IsGreatest exit edges tree c.bound
-  is_greatest =
-      let w : WalkTo exit = walk_to exit (omega arith) in
+  -- no walk to a number that keeps the bounds costs more than its total, and one costs as much
+  pub greatest_to : (p : ℕ) → p < exit + 1 → IsGreatest p edges tree (total_of tree c p)
+  greatest_to p placed =
+      let w : WalkTo p = walk_to p placed in
       record {
         walk = w.walk;
         complete = w.leads;
         kept = w.kept;
-        costs = w.costs ∙ total-exit;
-        upper = λ other complete keeps. omega (arith, walk-le exit other complete keeps, total-exit);
+        costs = w.costs;
+        upper = λ other leads keeps. walk-le p other leads keeps;
       }
+
+  pub is_greatest : IsGreatest exit edges tree c.bound
+  is_greatest = subst (λ (n : ℕ). IsGreatest exit edges tree n) total-exit (greatest_to exit (omega arith))
 
   end_within : (p q : ℕ) (walk : List NumberedEdge) → p < exit + 1 → Leads edges p walk q → q < exit + 1
   end_within p q [] small is = omega arith

@@ -17,7 +17,7 @@ mod trace;
 pub use fault::WalkFault;
 pub use graph::NumberedGraph;
 pub use index::Index;
-pub use potentials::find_tables;
+pub use potentials::{find_tables, greatest_cost_to};
 pub use span::{NumberedEdge, Span};
 pub use tables::Tables;
 pub use trace::{entering_edge, turning_edge};

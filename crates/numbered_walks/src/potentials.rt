@@ -1,7 +1,8 @@
 ghost use Rattle.std.specs.Prelude.{◌≡◌, ◌+◌, ◌^◌, ◌<◌, ◌≤◌, ◌↔◌, ℕ, IsTrue, false, length, Contains};
-ghost use Rattle.std.specs.Prelude.{MatchResult};
+ghost use Rattle.std.specs.Prelude.{MatchOption, MatchResult};
 ghost use Rattle.numbered_walks.specs.declared.span.NumberedEdge.{NumberedEdge};
 ghost use Rattle.numbered_walks.specs.Index.{IsNumberedGraph};
+ghost use Rattle.numbered_walks.specs.Ordered.{IsGreatest};
 ghost use Rattle.numbered_walks.specs.Tables.{total_of};
 ghost use Rattle.numbered_walks.specs.Found.{AreFound, IsWalkFault};
 
@@ -19,11 +20,12 @@ fn is_exit_reached(edges: &[NumberedEdge], exit: usize) -> bool
     edges.iter().any(|edge| edge.to == exit)
 }
 
-// Whether the greatest walk to the number costs less than 2^63.
-fn total_fits(graph: NumberedGraph<'_>, tables: &Tables, place: usize) -> bool
+// What the greatest walk to the number costs; None from 2^64 on.
+fn total(graph: NumberedGraph<'_>, tables: &Tables, place: usize) -> Option<u64>
     requires graph { IsNumberedGraph graph.exit graph.edges.now graph.spans.now graph.index.now }
     requires known { place ≤ graph.exit }
-    ensures { IsTrue result ↔ total_of graph.entry.spans.now tables.now place < 2 ^ 63 }
+    ensures { MatchOption result (2 ^ 64 ≤ total_of graph.entry.spans.now tables.now place)
+        (λ n. n ≡ total_of graph.entry.spans.now tables.now place) }
 {
     // An edge of no cost to Exit leaves all instances that hold the place.
     let way_out = NumberedEdge {
@@ -31,7 +33,16 @@ fn total_fits(graph: NumberedGraph<'_>, tables: &Tables, place: usize) -> bool
         to: graph.exit,
         cost: 0,
     };
-    match needed_in(graph, tables, &way_out) {
+    needed_in(graph, tables, &way_out)
+}
+
+// Whether the greatest walk to the number costs less than 2^63.
+fn total_fits(graph: NumberedGraph<'_>, tables: &Tables, place: usize) -> bool
+    requires graph { IsNumberedGraph graph.exit graph.edges.now graph.spans.now graph.index.now }
+    requires known { place ≤ graph.exit }
+    ensures { IsTrue result ↔ total_of graph.entry.spans.now tables.now place < 2 ^ 63 }
+{
+    match total(graph, tables, place) {
         None => false,
         Some(total) => total < 1 << 63,
     }
@@ -81,4 +92,20 @@ pub fn find_tables(alloc: Global, graph: NumberedGraph<'_>) -> Result<Tables, Wa
         return Err(WalkFault::BoundTooLarge);
     }
     Ok(tables)
+}
+
+/// The greatest cost, in ticks, of a walk from the number 0 to this one that keeps the bounds.
+///
+/// The tables are those that [`find_tables`] found for the graph.
+pub fn greatest_cost_to(graph: NumberedGraph<'_>, tables: &Tables, place: usize) -> u64
+    requires graph { IsNumberedGraph graph.exit graph.edges.now graph.spans.now graph.index.now }
+    requires found { AreFound graph.exit graph.edges.now graph.spans.now tables.now }
+    requires known { place ≤ graph.exit }
+    ensures { IsGreatest place graph.entry.edges.now graph.entry.spans.now result }
+{
+    match total(graph, tables, place) {
+        Some(total) => total,
+        // No walk that keeps the bounds costs 2^63.
+        None => 0,
+    }
 }
