@@ -11,7 +11,7 @@ use Rattle.arm2_decode.specs.declared.names.Register.{Register}
 use Rattle.arm2_transfer.specs.Words.{all_registers, is_listed, registers_in}
 
 -- registers whose numbers count up from n
-abbrev Counted : ℕ → List Register → Type 0
+abbrev pub Counted : ℕ → List Register → Type 0
 Counted n [] = Unit {0}
 Counted n (r ∷ rest) = (register_number r ≡ n) × Counted (suc n) rest
 
@@ -44,11 +44,11 @@ bits_kept list n (r ∷ rest) h =
     ∙ ap (λ m. list / 2 ^ n % 2 + count_ones m) (sym (halved list n))
     ∙ sym (ones_step (list / 2 ^ n))
 
-all_counted : Counted 0 all_registers
+pub all_counted : Counted 0 all_registers
 unfolding all_registers
 all_counted = (refl, (refl, (refl, (refl, (refl, (refl, (refl, (refl, (refl, (refl, (refl, (refl, (refl, (refl, (refl, (refl, tt))))))))))))))))
 
-sixteen : length all_registers ≡ 16
+pub sixteen : length all_registers ≡ 16
 unfolding all_registers
 sixteen = refl
 

@@ -12,6 +12,7 @@ use Rattle.arm2_decode.specs.Names.{register_number}
 use Rattle.bus_ticks.specs.Prices.{word_address}
 use Rattle.memc.specs.Memory.{Memory, located, Fits}
 use Rattle.memc.specs.declared.spots.Spot.{Spot}
+use Rattle.memc.specs.declared.spots.Spot.TheVariants.{Ram}
 use Rattle.memc.specs.declared.spots.Refused.{Refused}
 use Rattle.memc.specs.declared.spots.Refused.TheVariants.{NoPage, Protected, UnsupportedWrite}
 use Rattle.arm2_transfer.specs.declared.words.Move.{Move}
@@ -64,6 +65,12 @@ verdict_of words =
     if list_any (λ (word : Word). is_abort word.1) words then Err fault.DataAbort
     else (if list_any (λ (word : Word). is_unsupported word.1) words then Err fault.UnsupportedWrite
     else Ok (moves_of words))
+
+-- the moves of some registers, one word of RAM after another from a place on
+abbrev pub moves_along : (place : ℕ) → List Register → List Move
+moves_along place [] = []
+moves_along place (register ∷ rest) =
+    record { register = register; spot = Ram place } ∷ moves_along (place + 4) rest
 
 -- the one word of a single transfer
 abbrev pub or_fault : Result Spot Refused → Result Spot TransferFault

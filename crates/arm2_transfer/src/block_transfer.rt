@@ -1,10 +1,10 @@
-ghost use Rattle.std.specs.Prelude.{◌≡◌, true, false, ◌<◌, ◌≤◌, ◌^◌};
-ghost use Rattle.arm2_effect.specs.Effects.{is_stopped};
+ghost use Rattle.std.specs.Prelude.{◌≡◌, true, false, ◌+◌, ◌*◌, ◌<◌, ◌≤◌, ◌^◌, length};
+ghost use Rattle.arm2_effect.specs.Effects.{is_stopped, ticks_of};
 ghost use Rattle.arm2_effect.specs.Modes.{r15_in, register_in};
-ghost use Rattle.arm2_transfer.specs.Words.{AllFit};
-ghost use Rattle.arm2_transfer.specs.Moved.{ChangesNothing, IsMoved};
-ghost use Rattle.arm2_effect.specs.ProgramCounter.{mode_of};
-ghost use Rattle.arm2_transfer.specs.Registers.{with_base};
+ghost use Rattle.arm2_transfer.specs.Words.{AllFit, is_listed, registers_in, moves_along};
+ghost use Rattle.arm2_transfer.specs.Moved.{ChangesNothing, IsMoved, load_accesses};
+ghost use Rattle.arm2_effect.specs.ProgramCounter.{address_of, mode_of};
+ghost use Rattle.arm2_transfer.specs.Registers.{passed, with_base};
 ghost use Rattle.arm2_transfer.specs.Block.{lowest_of, span_of, mode_for, all_put, block_put, all_loaded};
 ghost use Rattle.arm2_transfer.specs.Block.{block_loads, block_stores, block_carried_out, block_at};
 ghost use Rattle.arm2_transfer.specs.Block.{block_moved};
@@ -13,10 +13,12 @@ use crate::bus::{Bus, put, see};
 use crate::inputs::Inputs;
 use crate::moved::{Accesses, load_ticks, refuse, store_ticks};
 use crate::registers::{Loading, enter, give, is_user, moved_by, pass, write_base};
+use crate::run::{load_along, put_along};
 use crate::span::Span;
-use crate::words::{Move, count, is_listed, locate_block};
+use crate::words::{Move, count, is_listed, locate_block, split_lowest};
 use arm2_decode::{Block, Register};
 use arm2_effect::{Done, Kind, Mode, Prices, Reg, Registers, Vector, address_of, mode_of};
+use memc::Spot;
 
 fn lowest(transfer: &Block, base: u32, words: u32) -> u32
     requires { words ≤ 16 }
@@ -119,6 +121,84 @@ fn put_block(registers: &mut Registers, bus: &mut Bus, block: PlacedBlock, moves
     }
 }
 
+// The same, at the words from a place of RAM on.
+#[tactic(auto, unfolding(crate::specs::Block::block_put))]
+#[inline(always)]
+fn put_run(registers: &mut Registers, bus: &mut Bus, block: PlacedBlock, place: u32)
+    requires some { 1 ≤ length (registers_in block.transfer.list) }
+    requires fit { place + 4 * length (registers_in block.transfer.list) ≤ 128 * 2 ^ bus.old.memc.shift }
+    requires room { place + 4 * length (registers_in block.transfer.list) ≤ 2 ^ 22 }
+    ensures bus { bus.new
+        ≡ block_put (mode_for block.transfer (mode_of (r15_in registers.old))) registers.old
+        (with_base block.transfer.write_back (mode_of (r15_in registers.old)) block.transfer.rn
+        block.span.base registers.old)
+        (moves_along place (registers_in block.transfer.list)) bus.old }
+    ensures registers { registers.new
+        ≡ with_base block.transfer.write_back (mode_of (r15_in registers.old)) block.transfer.rn
+        block.span.base registers.old }
+{
+    let (transfer, base) = (block.transfer, block.span.base);
+    let own = mode_of(registers.get(Reg::R15));
+    let mode = mode_for(transfer, own);
+    let (register, rest) = split_lowest(transfer.list);
+    put(bus, Spot::Ram(place), give(registers, mode, register));
+    write_base(registers, transfer.write_back, own, transfer.rn, base);
+    put_along(registers, bus, mode, rest, place + 4);
+}
+
+// R15 goes on and the base is written back, before any word is loaded.
+#[inline(always)]
+fn begin_load(registers: &mut Registers, block: PlacedBlock) -> Loading
+    ensures loading { result
+        ≡ (record {
+          psr = block.transfer.user;
+          mode = mode_for block.transfer (mode_of (r15_in registers.old));
+          r15 = r15_in registers.old;
+        }) }
+    ensures registers { registers.new
+        ≡ with_base block.transfer.write_back (mode_of (r15_in registers.old)) block.transfer.rn
+        block.span.base (passed registers.old) }
+{
+    let transfer = block.transfer;
+    let r15 = registers.get(Reg::R15);
+    let mode = mode_of(r15);
+    pass(registers);
+    write_base(
+        registers,
+        transfer.write_back,
+        mode,
+        transfer.rn,
+        block.span.base,
+    );
+    Loading {
+        psr: transfer.user,
+        mode: mode_for(transfer, mode),
+        r15,
+    }
+}
+
+// What a load answers once its words are in the registers; R15 was `r15` before it.
+#[inline(always)]
+fn end_load(registers: &Registers, prices: &Prices, block: PlacedBlock, r15: u32) -> Done
+    requires below { block.span.lowest < 2 ^ 26 }
+    requires some { 1 ≤ block.span.words }
+    requires few { block.span.words ≤ 16 }
+    ensures kind { result.kind ≡ Kind.Plain }
+    ensures ticks { result.ticks
+        ≡ ticks_of prices.now.profile prices.now.rom
+        (load_accesses (address_of r15) block.span.lowest block.span.words
+        (is_listed block.transfer.list Register.R15)
+        (address_of (r15_in registers.now))) }
+    ensures bound { result.ticks < 2 ^ 16 }
+{
+    let to = address_of(registers.get(Reg::R15));
+    let jumps = is_listed(block.transfer.list, Register::R15);
+    Done {
+        kind: Kind::Plain,
+        ticks: load_ticks(prices, accesses(block, address_of(r15)), jumps, to),
+    }
+}
+
 #[tactic(auto, unfolding(crate::specs::Block::block_loads))]
 fn load(
     registers: &mut Registers,
@@ -136,23 +216,34 @@ fn load(
     ensures bound { result.ticks < 2 ^ 16 }
     ensures goes_on { is_stopped result.kind ≡ false }
 {
-    let (transfer, span) = (block.transfer, block.span);
-    let r15 = registers.get(Reg::R15);
-    let mode = mode_of(r15);
-    pass(registers);
-    write_base(registers, transfer.write_back, mode, transfer.rn, span.base);
-    let loading = Loading {
-        psr: transfer.user,
-        mode: mode_for(transfer, mode),
-        r15,
-    };
+    let loading = begin_load(registers, block);
     load_all(registers, bus, inputs.port, loading, moves);
-    let to = address_of(registers.get(Reg::R15));
-    let jumps = is_listed(transfer.list, Register::R15);
-    Done {
-        kind: Kind::Plain,
-        ticks: load_ticks(&inputs.prices, accesses(block, address_of(r15)), jumps, to),
-    }
+    end_load(registers, &inputs.prices, block, loading.r15)
+}
+
+// The same, of the words from a place of RAM on.
+#[tactic(auto, unfolding(crate::specs::Block::block_loads))]
+fn load_run(
+    registers: &mut Registers,
+    bus: &Bus,
+    inputs: &Inputs,
+    block: PlacedBlock,
+    place: u32,
+) -> Done
+    requires fit { place + 4 * length (registers_in block.transfer.list) ≤ 128 * 2 ^ bus.now.memc.shift }
+    requires room { place + 4 * length (registers_in block.transfer.list) ≤ 2 ^ 22 }
+    requires below { block.span.lowest < 2 ^ 26 }
+    requires some { 1 ≤ block.span.words }
+    requires few { block.span.words ≤ 16 }
+    ensures moved { IsMoved inputs.now.prices.profile inputs.now.prices.rom result registers.new bus.now
+        (block_loads block.transfer block.span inputs.now.port
+        (moves_along place (registers_in block.transfer.list)) registers.old bus.now) }
+    ensures bound { result.ticks < 2 ^ 16 }
+    ensures goes_on { is_stopped result.kind ≡ false }
+{
+    let loading = begin_load(registers, block);
+    load_along(registers, bus, loading, block.transfer.list, place);
+    end_load(registers, &inputs.prices, block, loading.r15)
 }
 
 #[tactic(auto, unfolding(crate::specs::Block::block_stores))]
@@ -181,8 +272,46 @@ fn store(
     }
 }
 
+// The same, to the words from a place of RAM on.
+#[tactic(auto, unfolding(crate::specs::Block::block_stores))]
+fn store_run(
+    registers: &mut Registers,
+    bus: &mut Bus,
+    prices: &Prices,
+    block: PlacedBlock,
+    place: u32,
+) -> Done
+    requires listed { 1 ≤ length (registers_in block.transfer.list) }
+    requires fit { place + 4 * length (registers_in block.transfer.list) ≤ 128 * 2 ^ bus.old.memc.shift }
+    requires room { place + 4 * length (registers_in block.transfer.list) ≤ 2 ^ 22 }
+    requires below { block.span.lowest < 2 ^ 26 }
+    requires some { 1 ≤ block.span.words }
+    requires few { block.span.words ≤ 16 }
+    ensures moved { IsMoved prices.now.profile prices.now.rom result registers.new bus.new
+        (block_stores block.transfer block.span
+        (moves_along place (registers_in block.transfer.list)) registers.old bus.old) }
+    ensures bound { result.ticks < 2 ^ 16 }
+    ensures goes_on { is_stopped result.kind ≡ false }
+{
+    let r15 = registers.get(Reg::R15);
+    put_run(registers, bus, block, place);
+    pass(registers);
+    Done {
+        kind: Kind::Plain,
+        ticks: store_ticks(prices, accesses(block, address_of(r15))),
+    }
+}
+
+// A transfer whose words do not lie on one page of RAM, or that is refused: each word is located by itself.
 #[tactic(auto, unfolding(crate::specs::Block::block_at, crate::specs::Block::block_by))]
-fn block_at(registers: &mut Registers, bus: &mut Bus, inputs: &Inputs, block: PlacedBlock) -> Done
+#[inline(never)]
+fn word_by_word(
+    registers: &mut Registers,
+    bus: &mut Bus,
+    inputs: &Inputs,
+    block: PlacedBlock,
+) -> Done
+    requires below { block.span.lowest < 2 ^ 26 }
     requires some { 1 ≤ block.span.words }
     requires few { block.span.words ≤ 16 }
     ensures moved { IsMoved inputs.now.prices.profile inputs.now.prices.rom result registers.new bus.new
@@ -192,14 +321,35 @@ fn block_at(registers: &mut Registers, bus: &mut Bus, inputs: &Inputs, block: Pl
         → ChangesNothing result registers.old registers.new bus.old bus.new }
 {
     let (list, lowest) = (block.transfer.list, block.span.lowest);
-    if lowest >= 0x400_0000 {
-        return registers.take(&inputs.prices, Vector::AddressException);
-    }
     let user = is_user(mode_of(registers.get(Reg::R15)));
     match locate_block(&bus.memc, list, lowest, user, !block.transfer.load) {
         Err(fault) => refuse(registers, bus, &inputs.prices, fault),
         Ok(moves) if block.transfer.load => load(registers, bus, inputs, block, moves.as_slice()),
         Ok(moves) => store(registers, bus, &inputs.prices, block, moves.as_slice()),
+    }
+}
+
+#[tactic(auto, unfolding(crate::specs::Block::block_at, crate::specs::Block::block_by))]
+#[inline(always)]
+fn block_at(registers: &mut Registers, bus: &mut Bus, inputs: &Inputs, block: PlacedBlock) -> Done
+    requires some { 1 ≤ block.span.words }
+    requires few { block.span.words ≤ 16 }
+    requires counted { block.span.words ≡ length (registers_in block.transfer.list) }
+    ensures moved { IsMoved inputs.now.prices.profile inputs.now.prices.rom result registers.new bus.new
+        (block_at block.transfer block.span inputs.now.port registers.old bus.old) }
+    ensures bound { result.ticks < 2 ^ 16 }
+    ensures stopped { is_stopped result.kind ≡ true
+        → ChangesNothing result registers.old registers.new bus.old bus.new }
+{
+    let (span, load) = (block.span, block.transfer.load);
+    if span.lowest >= 0x400_0000 {
+        return registers.take(&inputs.prices, Vector::AddressException);
+    }
+    let user = is_user(mode_of(registers.get(Reg::R15)));
+    match bus.memc.locate_run(span.lowest, span.words, user, !load) {
+        Some(place) if load => load_run(registers, bus, inputs, block, place),
+        Some(place) => store_run(registers, bus, &inputs.prices, block, place),
+        None => word_by_word(registers, bus, inputs, block),
     }
 }
 

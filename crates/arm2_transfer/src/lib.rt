@@ -14,6 +14,7 @@ mod law;
 mod moved;
 mod operations;
 mod registers;
+mod run;
 mod single_fields;
 mod single_transfer;
 mod span;

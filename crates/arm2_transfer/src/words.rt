@@ -1,4 +1,4 @@
-ghost use Rattle.std.specs.Prelude.{◌≡◌, ◌<◌, ◌≤◌, ◌^◌, length, Ok, Err, IfOk, MatchResult};
+ghost use Rattle.std.specs.Prelude.{◌≡◌, ◌<◌, ◌≤◌, ◌^◌, ◌∷◌, length, Ok, Err, IfOk, MatchResult};
 ghost use Rattle.memc.specs.Memory.{Fits, located};
 ghost use Rattle.arm2_transfer.specs.Words.{all_registers, is_listed, registers_in, or_fault, words_from};
 ghost use Rattle.arm2_transfer.specs.Words.{verdict_of, AllFit};
@@ -60,6 +60,18 @@ pub(crate) fn count(list: u32) -> u32
     ensures few { result ≤ 16 }
 {
     list.count_ones()
+}
+
+/// The lowest register of a list that has some, and the list of the others.
+#[inline(always)]
+pub(crate) fn split_lowest(list: u32) -> (Register, u32)
+    requires some { 1 ≤ list }
+    requires fits { list < 2 ^ 16 }
+    ensures split { registers_in list ≡ result.0 ∷ registers_in result.1 }
+    ensures less { result.1 < list }
+{
+    let lowest = list.trailing_zeros();
+    (Register::of(lowest), list & !(1 << lowest))
 }
 
 /// Where the one word of a transfer goes or comes from.

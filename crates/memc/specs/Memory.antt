@@ -13,6 +13,7 @@ use Rattle.memc.specs.declared.spots.PageSize.{PageSize}
 use Rattle.memc.specs.declared.spots.PageSize.TheVariants.{K4, K8, K16, K32}
 use Rattle.memc.specs.declared.spots.Spot.{Spot}
 use Rattle.memc.specs.declared.spots.Spot.TheVariants.{Ram, Rom, Io, Vidc, Control, Translator, Ignored}
+use Rattle.bus_ticks.specs.Prices.{word_address}
 use Rattle.bus_ticks.specs.declared.space.TheConstants.{IO_START, ROM_START}
 use Rattle.memc.specs.declared.spots.Refused.{Refused}
 use Rattle.memc.specs.declared.spots.Refused.TheVariants.{NoPage, Protected, UnsupportedWrite}
@@ -79,6 +80,24 @@ located m address user store =
     else (if user && (store || nat_lt address ROM_START) then Err Protected
     else (if nat_lt address ROM_START then Ok (Io address)
     else (if store then written_at m.shift address else Ok (Rom address)))))
+
+-- whether so many words, from the one that an address names on, are on one page of 2 ^ shift bytes
+abbrev pub IsOnOnePage : ℕ → (address words : ℕ) → Type 0
+IsOnOnePage shift address words = address % 2 ^ shift / 4 * 4 + 4 * words ≤ 2 ^ shift
+
+-- a run: words on one page of logical RAM. Where the first stands at a place, word i does at the place + 4 i
+pub record IsRun (m : Memory) (address words : ℕ) (user store : Bool) (place : ℕ) : Type 0 where
+  pub logical : address < 0x2000000
+  pub on_one_page : IsOnOnePage m.shift address words
+  pub fitted : place + 4 * words ≤ 128 * 2 ^ m.shift
+  pub each : (i : ℕ) → i < words → located m (word_address address i) user store ≡ Ok (Ram (place + 4 * i))
+
+-- why words are no run: the first lies past logical RAM, or they reach past its page, or its access is refused
+abbrev pub HasNoRun : Memory → (address words : ℕ) → (user store : Bool) → Type 0
+HasNoRun m address words user store =
+    (0x2000000 ≤ address)
+    ⊎ ((2 ^ m.shift < address % 2 ^ m.shift / 4 * 4 + 4 * words)
+    ⊎ ((refused : Refused) × (located m address user store ≡ Err refused)))
 
 -- what is true of every spot that an access reaches: a word of RAM is fitted, and the translator has pages of
 -- 4 KB

@@ -1,9 +1,10 @@
 ghost use Rattle.std.specs.Prelude.{◌≡◌, ℕ, ◌*◌, ◌/◌, ◌^◌, ◌<◌, ◌≤◌, IfOk, ◌↔◌, OnErr, OnOk, IfSome};
+ghost use Rattle.std.specs.Prelude.{MatchOption};
 ghost use Rattle.memc.specs.Paged.{page_at, place_of, IsWhole};
 ghost use Rattle.memc.specs.Memory.{located, logical_at, physical_at, written_at, shift_of_size, IsStart};
 ghost use Rattle.memc.specs.Memory.{IsOutOfRange, IsMemorySpot, IsRamSpot, Fits, word_at, stored, with_map};
 ghost use Rattle.memc.specs.Memory.{without_page, translated, with_control, with_rom, rom_word, last_word};
-ghost use Rattle.memc.specs.Memory.{control_of, allowed};
+ghost use Rattle.memc.specs.Memory.{control_of, allowed, HasNoRun, IsOnOnePage, IsRun};
 
 use crate::pages::{Entry, Pages};
 use crate::spots::{MapFault, MemcFault, PageSize, Refused, Spot};
@@ -75,6 +76,31 @@ impl Memc {
             return self.logical(address, user, store);
         }
         self.beyond(address, user, store)
+    }
+
+    /// The place of the first of so many words, from the one that an address below 2^26 names on, where one
+    /// page of logical RAM has them all and the access is granted: word `i` is then at the place + 4 `i`.
+    ///
+    /// None: the address is past logical RAM, the words reach past its page, or the access is refused.
+    #[inline(always)]
+    pub fn locate_run(&self, address: u32, words: u32, user: bool, store: bool) -> Option<u32>
+        requires below { address < 2 ^ 26 }
+        requires few { words ≤ 16 }
+        ensures run { MatchOption result (HasNoRun self.now address words user store)
+            (λ place. IsRun self.now address words user store place) }
+        ensures whole { IsWhole self.now.shift self.now.paged }
+    {
+        let size = self.page_size();
+        if address >= PHYSICAL_RAM {
+            return None;
+        }
+        if address % size / 4 * 4 + 4 * words > size {
+            return None;
+        }
+        match self.logical(address, user, store) {
+            Ok(Spot::Ram(place)) => Some(place),
+            _ => None,
+        }
     }
 
     // Where an access past logical RAM goes.
@@ -266,6 +292,15 @@ impl Memc {
         ensures whole { IsWhole self.now.shift self.now.paged }
     {
         self.pages.limit()
+    }
+
+    #[inline(always)]
+    fn page_size(&self) -> u32
+        ensures bytes { result ≡ 2 ^ self.now.shift }
+        ensures bounds { (4096 ≤ result) × (result ≤ 32768) }
+        ensures whole { IsWhole self.now.shift self.now.paged }
+    {
+        self.pages.page_size()
     }
 
     #[inline(always)]

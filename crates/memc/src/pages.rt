@@ -108,6 +108,16 @@ impl Pages {
         self.table[(address >> self.shift) as usize]
     }
 
+    /// The bytes of a page.
+    #[inline(always)]
+    pub fn page_size(&self) -> u32
+        ensures bytes { result ≡ 2 ^ self.now.shift }
+        ensures bounds { (4096 ≤ result) × (result ≤ 32768) }
+        ensures whole { IsWhole self.now.shift self.now.paged }
+    {
+        1 << self.shift
+    }
+
     /// The place of the word that a logical address names, on a physical page.
     #[inline(always)]
     pub fn place(&self, physical: u8, address: u32) -> u32

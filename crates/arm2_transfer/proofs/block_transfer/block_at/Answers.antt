@@ -1,15 +1,16 @@
-use Rattle.std.proofs.Common.{Ok, ◌∙◌, ap, sym}
+use Rattle.arm2_transfer.specs.Words.{registers_in}
 use Rattle.arm2_transfer.proofs.Chosen.{block_at-moves}
+use Rattle.arm2_transfer.proofs.RunLemmas.{run_verdict}
 use Rattle.arm2_transfer.proofs.block_transfer.block_at.Goals as goal
 
-pub returns-in-Ok-clause-moved : goal.returns-in-Ok-clause-moved
-returns-in-Ok-clause-moved c =
+pub returns-in-Some-clause-moved : goal.returns-in-Some-clause-moved
+returns-in-Some-clause-moved c =
     rw
-    (block_at-moves c.args.block.transfer c.args.block.span c.args.inputs.now.port c.is_user-user.result _ c.mode_of.result c.get.result c.as_slice.result.now c.args.registers.now c.args.bus.now c.get.ensures.word c.mode_of.ensures c.is_user-user.ensures c.if-lowest-ge67108864.false c.if-block.true (c.in-Ok.ensures.verdict ∙ ap Ok (sym c.as_slice.ensures.value)))
-    c.load.ensures.moved
+    (block_at-moves c.args.block.transfer c.args.block.span c.args.inputs.now.port c.is_user-user.result _ c.mode_of.result c.get.result _ c.args.registers.now c.args.bus.now c.get.ensures.word c.mode_of.ensures c.is_user-user.ensures c.if-span-ge67108864.false c.if-load.true (run_verdict c.args.bus.now.memc c.is_user-user.result _ c.args.block.span.lowest c.args.block.span.words c.in-Some.place (registers_in c.args.block.transfer.list) c.requires.counted c.in-Some.ensures.run))
+    c.load_run.ensures.moved
 
-pub returns-in-Ok-2-clause-moved : goal.returns-in-Ok-2-clause-moved
-returns-in-Ok-2-clause-moved c =
+pub returns-in-Some-2-clause-moved : goal.returns-in-Some-2-clause-moved
+returns-in-Some-2-clause-moved c =
     rw
-    (block_at-moves c.args.block.transfer c.args.block.span c.args.inputs.now.port c.is_user-user.result _ c.mode_of.result c.get.result c.as_slice-in-Ok-2.result.now c.args.registers.now c.args.bus.now c.get.ensures.word c.mode_of.ensures c.is_user-user.ensures c.if-lowest-ge67108864.false c.if-block.false (c.in-Ok.ensures.verdict ∙ ap Ok (sym c.as_slice-in-Ok-2.ensures.value)))
-    c.store.ensures.moved
+    (block_at-moves c.args.block.transfer c.args.block.span c.args.inputs.now.port c.is_user-user.result _ c.mode_of.result c.get.result _ c.args.registers.now c.args.bus.now c.get.ensures.word c.mode_of.ensures c.is_user-user.ensures c.if-span-ge67108864.false c.if-load.false (run_verdict c.args.bus.now.memc c.is_user-user.result _ c.args.block.span.lowest c.args.block.span.words c.in-Some.place (registers_in c.args.block.transfer.list) c.requires.counted c.in-Some.ensures.run))
+    c.store_run.ensures.moved

@@ -1,0 +1,9 @@
+use Rattle.std.proofs.Common.{◌≡◌, [], ap, ◌∙◌}
+use Rattle.arm2_transfer.specs.Words.{registers_in}
+use Rattle.arm2_transfer.proofs.Lowest.{none_listed}
+use Rattle.arm2_transfer.proofs.run.put_along.Goals as goal
+
+pub returns : goal.returns
+returns c =
+    let none : registers_in c.loop-left.left ≡ [] = ap registers_in c.loop-left-test.false ∙ none_listed in
+    rw none at c.loop-left.invariant.rest

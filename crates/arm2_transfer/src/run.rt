@@ -1,0 +1,55 @@
+// Blocks whose words lie one after another in RAM, at places that MEMC located at once.
+
+ghost use Rattle.std.specs.Prelude.{◌≡◌, ℕ, ◌+◌, ◌*◌, ◌<◌, ◌≤◌, ◌^◌, length};
+ghost use Rattle.arm2_transfer.specs.Words.{registers_in, moves_along};
+ghost use Rattle.arm2_transfer.specs.Block.{all_loaded, all_put};
+
+use crate::bus::{Bus, put, see};
+use crate::registers::{Loading, enter, give};
+use crate::words::split_lowest;
+use arm2_effect::{Mode, Registers};
+use memc::Spot;
+
+/// The words from a place on are loaded into the registers of a list.
+#[inline(always)]
+pub(crate) fn load_along(
+    registers: &mut Registers,
+    bus: &Bus,
+    loading: Loading,
+    list: u32,
+    place: u32,
+)
+    requires list { list < 2 ^ 16 }
+    requires fit { place + 4 * length (registers_in list) ≤ 128 * 2 ^ bus.now.memc.shift }
+    requires room { place + 4 * length (registers_in list) ≤ 2 ^ 22 }
+    ensures { (port : ℕ)
+        → registers.new
+        ≡ all_loaded loading.psr loading.mode loading.r15 bus.now port
+        (moves_along place (registers_in list)) registers.old }
+{
+    let (mut left, mut next) = (list, place);
+    while left != 0 {
+        let (register, rest) = split_lowest(left);
+        let word = see(bus, 0, Spot::Ram(next));
+        enter(registers, loading, register, word);
+        left = rest;
+        next += 4;
+    }
+}
+
+/// The registers of a list, as a mode names them, are stored at the words from a place on.
+#[inline(always)]
+pub(crate) fn put_along(registers: &Registers, bus: &mut Bus, mode: Mode, list: u32, place: u32)
+    requires list { list < 2 ^ 16 }
+    requires fit { place + 4 * length (registers_in list) ≤ 128 * 2 ^ bus.old.memc.shift }
+    requires room { place + 4 * length (registers_in list) ≤ 2 ^ 22 }
+    ensures { bus.new ≡ all_put mode registers.now (moves_along place (registers_in list)) bus.old }
+{
+    let (mut left, mut next) = (list, place);
+    while left != 0 {
+        let (register, rest) = split_lowest(left);
+        put(bus, Spot::Ram(next), give(registers, mode, register));
+        left = rest;
+        next += 4;
+    }
+}
