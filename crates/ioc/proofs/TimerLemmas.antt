@@ -6,6 +6,7 @@ use Rattle.std.proofs.Math.Nat.{add-mod_right, zero-mod}
 use Rattle.ioc.specs.declared.timers.Timer.{Timer}
 use Rattle.ioc.specs.declared.timers.Timers.{Timers}
 use Rattle.ioc.specs.Interrupts.{Controller}
+use Rattle.ioc.specs.Countdown.{SameRequests}
 use Rattle.ioc.specs.Law.{TicksAddUp}
 use Rattle.ioc.specs.Timers.{decremented, after_decrements, tick, ticked}
 
@@ -93,6 +94,22 @@ by_decrements (suc n) s h =
           ap tick (by_decrements n s h) ∙ tick_last (at s ((s.phase + n) / 4) ((s.phase + n) % 4)) (omega arith)
           ∙ ap (λ (k : ℕ). at s (suc ((s.phase + n) / 4)) k) p ∙ ap (λ (k : ℕ). at s k ((s.phase + suc n) % 4)) d
     ]
+
+-- no request rises before either timer has run out
+pub same_requests : (s : Timers) (counts ticks : ℕ) → s.phase < 4 → ticks < 4 * counts - s.phase
+    → ((d : ℕ) → d < counts → (after_decrements d s.timer_0).request ≡ s.timer_0.request)
+    → ((d : ℕ) → d < counts → (after_decrements d s.timer_1).request ≡ s.timer_1.request) → SameRequests s ticks
+same_requests s counts ticks phase below first second =
+    let few : (s.phase + ticks) / 4 < counts = omega arith in
+    let is = by_decrements ticks s phase in
+    record {
+      first = ap (λ (t : Timers). t.timer_0.request) is ∙ first ((s.phase + ticks) / 4) few;
+      second = ap (λ (t : Timers). t.timer_1.request) is ∙ second ((s.phase + ticks) / 4) few;
+    }
+
+-- ticks keep the phase below 4
+pub phase_below : (n : ℕ) (s : Timers) → s.phase < 4 → (ticked n s).phase < 4
+phase_below n s h = omega (arith, ap (λ (t : Timers). t.phase) (by_decrements n s h))
 
 -- the law
 pub ticked-add : (a b : ℕ) (s : Timers) → ticked (a + b) s ≡ ticked b (ticked a s)

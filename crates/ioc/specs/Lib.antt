@@ -3,3 +3,4 @@ pub mod Interrupts
 pub mod Registers
 pub mod Law
 pub mod LineNames
+pub mod Countdown

@@ -4,6 +4,7 @@
 //! call takes constant time.
 #![tactic(auto)]
 
+mod countdown;
 mod law;
 mod lines;
 mod timers;
@@ -15,6 +16,7 @@ ghost use Rattle.ioc.specs.Interrupts.{shares, with_lines, with_flyback, advance
 ghost use Rattle.ioc.specs.Registers.{read_at, read_of, write_at, write_of, is_register};
 
 use bitflags::Flags;
+use countdown::Countdown;
 pub use law::ticks_add_up;
 pub use lines::Lines;
 use std::marker::Model;
@@ -40,7 +42,7 @@ pub struct Ioc {
     mask_a: u8,
     mask_b: u8,
     mask_f: u8,
-    timers: Timers,
+    timers: Countdown,
 }
 
 impl Model for Ioc {
@@ -55,8 +57,6 @@ impl Model for Ioc {
       mask_f = i.mask_f;
       timers = i.timers;
     } };
-
-    ghost invariant = { λ i. i.timers.phase < 4 };
 }
 
 /// The lines that come in, and whether A2 rose.
@@ -86,11 +86,11 @@ impl Ioc {
             mask_a: 0,
             mask_b: 0,
             mask_f: 0,
-            timers: Timers {
+            timers: Countdown::new(Timers {
                 phase: 0,
                 timer_0: Timer::new(),
                 timer_1: Timer::new(),
-            },
+            }),
         }
     }
 
@@ -105,7 +105,7 @@ impl Ioc {
             mask_a: self.mask_a,
             mask_b: self.mask_b,
             mask_f: self.mask_f,
-            timers: self.timers,
+            timers: Countdown::new(self.timers.current()),
         }
     }
 
@@ -197,10 +197,10 @@ impl Ioc {
             0x30 => u32::from(self.status_f()),
             0x34 => u32::from(self.status_f() & self.mask_f),
             0x38 => u32::from(self.mask_f),
-            0x40 => self.timers.timer_0.output as u32 % 0x100,
-            0x44 => self.timers.timer_0.output as u32 / 0x100,
-            0x50 => self.timers.timer_1.output as u32 % 0x100,
-            0x54 => self.timers.timer_1.output as u32 / 0x100,
+            0x40 => self.timers.current().timer_0.output as u32 % 0x100,
+            0x44 => self.timers.current().timer_0.output as u32 / 0x100,
+            0x50 => self.timers.current().timer_1.output as u32 % 0x100,
+            0x54 => self.timers.current().timer_1.output as u32 / 0x100,
             _ => 0,
         }
     }
@@ -216,26 +216,46 @@ impl Ioc {
             return;
         }
         let byte = (word / 0x1_0000 % 0x100) as u8;
+        let timers = self.timers.current();
+        let (timer_0, timer_1) = (timers.timer_0, timers.timer_1);
         match address / 4 % 0x20 * 4 {
             0x14 => {
                 self.a2_rose = false;
                 self.flyback_rose = false;
-                self.timers.timer_0 = self.timers.timer_0.cleared();
-                self.timers.timer_1 = self.timers.timer_1.cleared();
+                let (timer_0, timer_1) = (timer_0.cleared(), timer_1.cleared());
+                self.timers.set(Timers {
+                    timer_0,
+                    timer_1,
+                    ..timers
+                });
             }
             0x18 => self.mask_a = byte,
             0x28 => self.mask_b = byte,
             0x38 => self.mask_f = byte,
-            0x40 => self.timers.timer_0 = self.timers.timer_0.with_low(byte),
-            0x44 => self.timers.timer_0 = self.timers.timer_0.with_high(byte),
-            0x48 => self.timers.timer_0 = self.timers.timer_0.started(),
-            0x4C => self.timers.timer_0 = self.timers.timer_0.sampled(),
-            0x50 => self.timers.timer_1 = self.timers.timer_1.with_low(byte),
-            0x54 => self.timers.timer_1 = self.timers.timer_1.with_high(byte),
-            0x58 => self.timers.timer_1 = self.timers.timer_1.started(),
-            0x5C => self.timers.timer_1 = self.timers.timer_1.sampled(),
+            0x40 => self.set_timer_0(timer_0.with_low(byte)),
+            0x44 => self.set_timer_0(timer_0.with_high(byte)),
+            0x48 => self.set_timer_0(timer_0.started()),
+            0x4C => self.set_timer_0(timer_0.sampled()),
+            0x50 => self.set_timer_1(timer_1.with_low(byte)),
+            0x54 => self.set_timer_1(timer_1.with_high(byte)),
+            0x58 => self.set_timer_1(timer_1.started()),
+            0x5C => self.set_timer_1(timer_1.sampled()),
             _ => {}
         }
+    }
+
+    fn set_timer_0(&mut self, timer_0: Timer)
+        ensures { self.new ≡ record self.old { timers = record self.old.timers { timer_0 = timer_0 } } }
+    {
+        let timers = self.timers.current();
+        self.timers.set(Timers { timer_0, ..timers });
+    }
+
+    fn set_timer_1(&mut self, timer_1: Timer)
+        ensures { self.new ≡ record self.old { timers = record self.old.timers { timer_1 = timer_1 } } }
+    {
+        let timers = self.timers.current();
+        self.timers.set(Timers { timer_1, ..timers });
     }
 
     fn status_a(&self) -> u8
@@ -244,8 +264,8 @@ impl Ioc {
         let lines = (self.lines.bits() % 4) as u8;
         let a2 = bit_where(self.a2_rose, A2);
         let flyback = bit_where(self.flyback_rose, FLYBACK);
-        let timer_0 = bit_where(self.timers.timer_0.request, TIMER_0);
-        let timer_1 = bit_where(self.timers.timer_1.request, TIMER_1);
+        let timer_0 = bit_where(self.timers.requests_0(), TIMER_0);
+        let timer_1 = bit_where(self.timers.requests_1(), TIMER_1);
         lines + a2 + flyback + timer_0 + timer_1 + ALWAYS
     }
 

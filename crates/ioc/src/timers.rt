@@ -1,6 +1,6 @@
 // The two timers: each fourth tick is a decrement of both.
 
-ghost use Rattle.std.specs.Prelude.{◌≡◌, ◌<◌};
+ghost use Rattle.std.specs.Prelude.{◌≡◌, ◌<◌, ◌≤◌, ℕ};
 ghost use Rattle.ioc.specs.Timers.{after_decrements, ticked};
 ghost use Rattle.ioc.specs.Interrupts.{still};
 ghost use Rattle.ioc.specs.Registers.{with_low, with_high, started, sampled, cleared};
@@ -51,6 +51,22 @@ impl Timer {
             output: 0,
             request: false,
         }
+    }
+
+    // How many decrements there are up to the one that raises the request, at most 65,536: as many of a timer
+    // that rests.
+    pub(crate) fn counts_left(self) -> u32
+        ensures some { 1 ≤ result }
+        ensures most { result ≤ 65536 }
+        ensures quiet { (times : ℕ) → times < result → (after_decrements times self).request ≡ self.request }
+    {
+        if self.count == 0 {
+            return 65536;
+        }
+        if self.latch == 0 {
+            return 65536;
+        }
+        self.count as u32
     }
 
     // So many decrements, in constant time.
