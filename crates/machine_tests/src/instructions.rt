@@ -39,7 +39,25 @@ fn row_of(instr: &Instr) -> (usize, [u32; 11]) {
     }
 }
 
-// Each word of the tables is decoded to the row's fields, and encoded again.
+// Whether the word is decoded to the row of that kind, and encoded again.
+fn is_right(kind: usize, row: &Row) -> bool {
+    let (word, fields) = row;
+    match decode(*word) {
+        Ok(instr) => (row_of(&instr), encode(&instr)) == ((kind, *fields), *word),
+        Err(_) => false,
+    }
+}
+
+// The first word of a table of that kind that is another instruction.
+fn first_wrong(kind: usize, table: &[Row]) -> Option<u32> {
+    for row in table {
+        if !is_right(kind, row) {
+            return Some(row.0);
+        }
+    }
+    None
+}
+
 #[test]
 fn words_of_each_kind(rt: HostRuntime) {
     let tables: [&[Row]; 12] = [
@@ -57,61 +75,68 @@ fn words_of_each_kind(rt: HostRuntime) {
         &COPROCESSOR,
     ];
     for (kind, table) in tables.iter().enumerate() {
-        for (word, wanted) in table.iter() {
-            let found = match decode(*word) {
-                Ok(instr) => Some((row_of(&instr), encode(&instr))),
-                Err(_) => None,
-            };
-            assert!(rt; found == Some(((kind, *wanted), *word)), "{word}");
-        }
+        assert!(rt; first_wrong(kind, table) == None, "kind {kind}");
+    }
+}
+
+// The number of the condition and of the reason for which the word is no instruction.
+fn refusal(word: u32) -> Option<[u32; 2]> {
+    match decode(word) {
+        Ok(_) => None,
+        Err(Unallocated { cond, why }) => Some([cond.number(), why]),
     }
 }
 
 #[test]
 fn unallocated_words(rt: HostRuntime) {
-    for (word, wanted) in UNALLOCATED.iter() {
-        let found = match decode(*word) {
-            Ok(_) => None,
-            Err(Unallocated { cond, why }) => Some([cond.number(), why]),
-        };
-        assert!(rt; found == Some(*wanted), "{word}");
+    for (word, wanted) in &UNALLOCATED {
+        assert!(rt; refusal(*word) == Some(*wanted), "{word}");
     }
+}
+
+// A condition, and whether it holds with flags: bit 8N + 4Z + 2C + V.
+static CONDITIONS: [(Cond, u32); 16] = [
+    (Cond::Eq, 0xF0F0),
+    (Cond::Ne, 0x0F0F),
+    (Cond::Cs, 0xCCCC),
+    (Cond::Cc, 0x3333),
+    (Cond::Mi, 0xFF00),
+    (Cond::Pl, 0x00FF),
+    (Cond::Vs, 0xAAAA),
+    (Cond::Vc, 0x5555),
+    (Cond::Hi, 0x0C0C),
+    (Cond::Ls, 0xF3F3),
+    (Cond::Ge, 0xAA55),
+    (Cond::Lt, 0x55AA),
+    (Cond::Gt, 0x0A05),
+    (Cond::Le, 0xF5FA),
+    (Cond::Al, 0xFFFF),
+    (Cond::Nv, 0x0000),
+];
+
+// The flags of a number from 0 to 15.
+fn flags_of(number: u32) -> Flags {
+    Flags {
+        negative: number >= 8,
+        zero: number / 4 % 2 == 1,
+        carry: number / 2 % 2 == 1,
+        overflow: number % 2 == 1,
+    }
+}
+
+// The first flags with which the condition holds and is not to, or the other way round.
+fn first_wrong_flags(cond: Cond, wanted: u32) -> Option<u32> {
+    for number in 0u32..16 {
+        if holds(cond, flags_of(number)) != ((wanted >> number) % 2 == 1) {
+            return Some(number);
+        }
+    }
+    None
 }
 
 #[test]
 fn conditions(rt: HostRuntime) {
-    // Bit 8N + 4Z + 2C + V of the number says whether the condition holds with these flags.
-    for (cond, wanted) in [
-        (Cond::Eq, 0xF0F0),
-        (Cond::Ne, 0x0F0F),
-        (Cond::Cs, 0xCCCC),
-        (Cond::Cc, 0x3333),
-        (Cond::Mi, 0xFF00),
-        (Cond::Pl, 0x00FF),
-        (Cond::Vs, 0xAAAA),
-        (Cond::Vc, 0x5555),
-        (Cond::Hi, 0x0C0C),
-        (Cond::Ls, 0xF3F3),
-        (Cond::Ge, 0xAA55),
-        (Cond::Lt, 0x55AA),
-        (Cond::Gt, 0x0A05),
-        (Cond::Le, 0xF5FA),
-        (Cond::Al, 0xFFFF),
-        (Cond::Nv, 0x0000),
-    ] {
-        let mut left = wanted;
-        for flags in 0..16 {
-            let flags = Flags {
-                negative: flags >= 8,
-                zero: flags / 4 % 2 == 1,
-                carry: flags / 2 % 2 == 1,
-                overflow: flags % 2 == 1,
-            };
-            assert!(rt;
-                holds(cond, flags) == (left % 2 == 1),
-                "{cond:?} with {flags:?}"
-            );
-            left /= 2;
-        }
+    for (cond, wanted) in &CONDITIONS {
+        assert!(rt; first_wrong_flags(*cond, *wanted) == None, "{cond:?}");
     }
 }

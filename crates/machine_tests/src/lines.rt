@@ -22,18 +22,38 @@ fn shown(text: &[u8]) -> Option<Option<u32>> {
     }
 }
 
+// A line and what stands behind it.
+type Lines = Option<(&'static [u8], &'static [u8])>;
+
+static LINES: [(&[u8], Lines); 3] = [
+    (b"a\r\nb", Some((b"a", b"b"))),
+    (b"b\r", Some((b"b\r", b""))),
+    (b"", None),
+];
+
 #[test]
-fn lines_and_their_pieces(rt: HostRuntime) -> Result<(), Fail> {
+fn first_lines(rt: HostRuntime) {
+    for (text, wanted) in &LINES {
+        assert!(rt; first_line(text) == *wanted);
+    }
+}
+
+static SHOWN: [(&[u8], Option<Option<u32>>); 4] = [
+    (b"MOV R0,#3", Some(None)),
+    (b"B &8000", Some(Some(0x8000))),
+    (b"mov R0,#3", None),
+    (b"DCD 0", None),
+];
+
+#[test]
+fn shown_lines(rt: HostRuntime) {
+    for (text, wanted) in &SHOWN {
+        assert!(rt; shown(text) == *wanted);
+    }
+}
+
+#[test]
+fn pieces_of_a_line(rt: HostRuntime) -> Result<(), Fail> {
     assert!(rt; pieces(rt.alloc(), b" B R1 , [ ")? == (6, true, true));
-    let lines = [first_line(b"a\r\nb"), first_line(b"b\r"), first_line(b"")];
-    let wanted = [
-        Some((b"a".as_slice(), b"b".as_slice())),
-        Some((b"b\r".as_slice(), b"".as_slice())),
-        None,
-    ];
-    assert!(rt; lines == wanted);
-    let code = [shown(b"MOV R0,#3"), shown(b"B &8000")];
-    let none = [shown(b"mov R0,#3"), shown(b"DCD 0")];
-    assert!(rt; (code, none) == ([Some(None), Some(Some(0x8000))], [None; 2]));
     Ok(())
 }

@@ -29,20 +29,32 @@ fn lengths(file: &MachineFile) -> [usize; 3] {
     ]
 }
 
+const RESET_FLAGS: PsrFlags = PsrFlags {
+    negative: false,
+    zero: false,
+    carry: false,
+    overflow: false,
+    irq_masked: true,
+    fiq_masked: true,
+};
+
+fn set_up(file: &MachineFile) -> (PageSize, PsrFlags) {
+    (file.page_size(), file.flags())
+}
+
 #[test]
 fn defaults(rt: HostRuntime) -> Result<(), Fail> {
     let file = read_machine(rt.alloc(), b"pc = 0x8000")?;
-    assert!(rt; (numbers(&file), lengths(&file)) == ([0x8000, 0, 0, 65536, 0], [26, 0, 0]));
-    let flags = PsrFlags {
-        negative: false,
-        zero: false,
-        carry: false,
-        overflow: false,
-        irq_masked: true,
-        fiq_masked: true,
-    };
-    assert!(rt; (file.page_size(), file.flags()) == (PageSize::K4, flags));
+    let found = (numbers(&file), lengths(&file), set_up(&file));
     drop(file);
+    assert!(rt;
+        found
+            == (
+                [0x8000, 0, 0, 65536, 0],
+                [26, 0, 0],
+                (PageSize::K4, RESET_FLAGS)
+            )
+    );
     Ok(())
 }
 
@@ -75,25 +87,34 @@ fn event_at(file: &MachineFile, step: u32) -> Option<Event> {
     file.events().get(&step).copied()
 }
 
+// The last page that the processor has, and the event of the third step.
+const PAGE: MappedPage = MappedPage {
+    logical: 1023,
+    physical: 127,
+    level: 3,
+};
+
+const EVENT: Event = Event {
+    bursts: 0,
+    lines: None,
+    port: Some(9),
+};
+
+// Whether the registers, the pages and the events are the stated ones.
+fn has_every_key(file: &MachineFile) -> bool {
+    let words = [Some(7), Some(8), Some(0x1010), Some(0xFFFF_FFFF)];
+    let page = file.pages().get(0).copied();
+    registers(file) == words && (page, event_at(file, 2)) == (Some(PAGE), Some(EVENT))
+}
+
 #[test]
 fn every_key(rt: HostRuntime) -> Result<(), Fail> {
     let file = read_machine(rt.alloc(), WHOLE)?;
-    assert!(rt; registers(&file) == [Some(7), Some(8), Some(0x1010), Some(0xFFFF_FFFF)]);
     let head = (file.pc(), file.page_size(), flags(&file));
-    assert!(rt; head == (0x3FF_FFFC, PageSize::K32, [true, true, false]));
-    let page = MappedPage {
-        logical: 1023,
-        physical: 127,
-        level: 3,
-    };
-    let event = Event {
-        bursts: 0,
-        lines: None,
-        port: Some(9),
-    };
-    let found = (file.pages().get(0).copied(), event_at(&file, 2));
-    assert!(rt; found == (Some(page), Some(event)));
+    let has_every_key = has_every_key(&file);
     drop(file);
+    assert!(rt; head == (0x3FF_FFFC, PageSize::K32, [true, true, false]));
+    assert!(rt; has_every_key);
     Ok(())
 }
 
@@ -135,12 +156,13 @@ fn put_words(rt: HostRuntime) -> Result<(), Fail> {
         rt.alloc(),
         b"pc = 0\n[[word]]\nat = 0x3FFFFFC\nvalue = 0xFFFFFFFF\n[[word]]\nvalue = 1\nat = 0x2FFFFFC",
     )?;
-    assert!(rt; file.words() == [(0x3FF_FFFC, 0xFFFF_FFFF), (0x2FF_FFFC, 1)].as_slice());
+    let has_words = file.words() == [(0x3FF_FFFC, 0xFFFF_FFFF), (0x2FF_FFFC, 1)].as_slice();
     drop(file);
+    assert!(rt; has_words);
     Ok(())
 }
 
-const REFUSED: &[(&[u8], MachineFileFault)] = &[
+static REFUSED: [(&[u8], MachineFileFault); 4] = [
     (
         b"pc = 2\n[[word]]\nat = 0\nvalue = 0\nlabel = \"a\"",
         MachineFileFault::UnknownKey,
@@ -160,11 +182,19 @@ fn refusal(alloc: Global, text: &[u8]) -> Option<MachineFileFault> {
     read_machine(alloc, text).err()
 }
 
+/// The number of the first text that is refused in another way, or not.
+fn first_wrong(alloc: Global, rows: &[(&[u8], MachineFileFault)]) -> Option<usize> {
+    for (number, (text, fault)) in rows.iter().enumerate() {
+        if refusal(alloc, text) != Some(*fault) {
+            return Some(number);
+        }
+    }
+    None
+}
+
 #[test]
 fn put_words_refused(rt: HostRuntime) {
-    for (text, fault) in REFUSED {
-        assert!(rt; refusal(rt.alloc(), text) == Some(*fault));
-    }
+    assert!(rt; first_wrong(rt.alloc(), &REFUSED) == None);
 }
 
 // R15, R0, R8 of FIQ mode and R14 of SVC mode.
@@ -196,20 +226,21 @@ fn machine_of(alloc: Global, text: &[u8]) -> Result<Machine, Fail> {
 #[test]
 fn machine_of_every_key(rt: HostRuntime) -> Result<(), Fail> {
     let machine = machine_of(rt.alloc(), WHOLE)?;
-    assert!(rt; words(&machine) == [0x87FF_FFFE, 7, 8, 0xFFFF_FFFF]);
-    assert!(rt; machine.memc().rom_times() == RomTimes { low: 1, high: 3 });
-    let wanted = [Ok(Spot::Ram(0x2_8008)), Err(Refused::NoPage)];
-    assert!(rt; spots(machine.memc(), [8, 0x8000]) == wanted);
+    let spots = spots(machine.memc(), [8, 0x8000]);
+    let (words, times) = (words(&machine), machine.memc().rom_times());
     drop(machine);
+    assert!(rt; words == [0x87FF_FFFE, 7, 8, 0xFFFF_FFFF]);
+    assert!(rt; times == RomTimes { low: 1, high: 3 });
+    assert!(rt; spots == [Ok(Spot::Ram(0x2_8008)), Err(Refused::NoPage)]);
     Ok(())
 }
 
 #[test]
 fn machine_of_defaults(rt: HostRuntime) -> Result<(), Fail> {
     let machine = machine_of(rt.alloc(), b"pc = 0")?;
-    assert!(rt; machine.get(Reg::R15) == 0x0C00_0003);
-    assert!(rt; spots(machine.memc(), [0x7F004; 2]) == [Ok(Spot::Ram(0x7F004)); 2]);
+    let found = (machine.get(Reg::R15), spots(machine.memc(), [0x7F004; 2]));
     drop(machine);
+    assert!(rt; found == (0x0C00_0003, [Ok(Spot::Ram(0x7F004)); 2]));
     Ok(())
 }
 

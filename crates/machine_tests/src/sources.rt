@@ -211,12 +211,17 @@ fn all_come_back(alloc: Global, word: u32) -> Result<bool, AllocError> {
     Ok(true)
 }
 
-/// The first line that has another word at 8000, or whose word is lost.
-fn first_wrong<'a>(alloc: Global, lines: &[(&'a str, u32)]) -> Result<Option<&'a str>, AllocError> {
-    for (line, word) in lines {
-        let is_right = word_of(alloc, line.as_bytes(), 0x8000) == Some(*word);
-        if !is_right || !all_come_back(alloc, *word)? {
-            return Ok(Some(*line));
+/// Whether the line has that word at 8000, which is not lost.
+fn is_right(alloc: Global, line: &str, word: u32) -> Result<bool, AllocError> {
+    let has_word = word_of(alloc, line.as_bytes(), 0x8000) == Some(word);
+    Ok(has_word && all_come_back(alloc, word)?)
+}
+
+/// The number of the first line that has another word at 8000, or whose word is lost.
+fn first_wrong(alloc: Global, lines: &[(&str, u32)]) -> Result<Option<usize>, AllocError> {
+    for (number, (line, word)) in lines.iter().enumerate() {
+        if !is_right(alloc, line, *word)? {
+            return Ok(Some(number));
         }
     }
     Ok(None)
@@ -224,7 +229,8 @@ fn first_wrong<'a>(alloc: Global, lines: &[(&'a str, u32)]) -> Result<Option<&'a
 
 #[test]
 fn lines_and_their_words(rt: HostRuntime) -> Result<(), Fail> {
-    assert_eq!(rt; first_wrong(rt.alloc(), &WORDS)?, None);
+    let wrong = first_wrong(rt.alloc(), &WORDS)?;
+    assert!(rt; wrong.is_none(), "line {wrong:?}");
     Ok(())
 }
 
@@ -248,27 +254,28 @@ fn lines_are_assembled_back(rt: HostRuntime) -> Result<(), Fail> {
     Ok(())
 }
 
-/// How many words so many lines have that are a word each, or why they are refused.
-fn words_of(alloc: Global, lines: u32) -> Result<Result<u32, AsmFault>, AllocError> {
-    let mut source = Vec::new(alloc);
-    for _ in 0..lines {
-        source.extend_from_slice(b" DCD 0\n")?;
-    }
-    Ok(match assemble(alloc, &source) {
-        Ok(said) => {
-            let words = said.image.words();
-            drop(said);
-            Ok(words)
-        }
-        Err(fault) => Err(fault),
-    })
+/// How many words a source has, or why it is refused.
+fn words_of(alloc: Global, source: &[u8]) -> Result<u32, AsmFault> {
+    let said = assemble(alloc, source)?;
+    let words = said.image.words();
+    drop(said);
+    Ok(words)
+}
+
+/// The same of so many lines that are a word each.
+fn words_of_lines(alloc: Global, lines: usize) -> Result<Result<u32, AsmFault>, AllocError> {
+    let source = b" DCD 0\n".repeat(alloc, lines)?;
+    Ok(words_of(alloc, &source))
 }
 
 #[test]
 fn too_many_words(rt: HostRuntime) -> Result<(), Fail> {
-    assert!(rt; words_of(rt.alloc(), 65_536)? == Ok(65_536));
-    let refused = words_of(rt.alloc(), 65_537)?;
-    assert!(rt; refused == Err(AsmFault::Line(Fault::TooLong, 65_537)));
+    let words = [
+        words_of_lines(rt.alloc(), 65_536)?,
+        words_of_lines(rt.alloc(), 65_537)?,
+    ];
+    let refused = AsmFault::Line(Fault::TooLong, 65_537);
+    assert!(rt; words == [Ok(65_536), Err(refused)]);
     Ok(())
 }
 
