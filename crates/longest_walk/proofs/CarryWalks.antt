@@ -263,24 +263,28 @@ module _ (flow : Flow) (tree : Tree) (well : IsWellFormed flow) (t : IsTree flow
 
   -- ## The greatest cost
 
-  pub greatest_up : (n : ℕ) → O.IsGreatest (length flow.places) tree.edges tree.spans n → G.IsGreatest edge_shape (HasEdge flow) (KeepsTree tree) flow.entry Exit n
-  greatest_up n g =
-      let u = walk_up g.walk exit g.complete in
+  -- the greatest cost of a walk to a number is that of one to its place
+  pub greatest_at : (p n : ℕ) → p ≤ length flow.places → O.IsGreatest p tree.edges tree.spans n → G.IsGreatest edge_shape (HasEdge flow) (KeepsTree tree) flow.entry (place_in flow tree p) n
+  greatest_at p n p_in g =
+      let u = walk_up g.walk p g.complete in
       let cost_is : O.cost_of (edges_of tree.edges u.numbers) ≡ O.cost_of g.walk = ap (λ (w : List NumberedEdge). O.cost_of w) u.walk_is in
       record {
         walk = steps_of flow.edges u.numbers;
-        complete = subst (λ (x : Place). Leads edge_shape (HasEdge flow) flow.entry (steps_of flow.edges u.numbers) x) exit_place u.leads;
+        complete = u.leads;
         kept = keeps_up u.numbers u.inside (subst (λ (w : List NumberedEdge). O.KeepsBounds tree.spans w) (sym u.walk_is) g.kept);
         costs = costs_same u.numbers u.inside ∙ cost_is ∙ g.costs;
-        upper = λ other complete kept.
-            let d = walk_down other Exit complete in
-            let there : O.Leads tree.edges 0 (edges_of tree.edges d.numbers) exit = subst (λ (m : ℕ). O.Leads tree.edges 0 (edges_of tree.edges d.numbers) m) (exit_is d.last d.last_in d.last_is) d.leads in
+        upper = λ other leads kept.
+            let d = walk_down other (place_in flow tree p) leads in
+            let there : O.Leads tree.edges 0 (edges_of tree.edges d.numbers) p = subst (λ (m : ℕ). O.Leads tree.edges 0 (edges_of tree.edges d.numbers) m) (number_is d.last p d.last_in p_in d.last_is) d.leads in
             let keeps : O.KeepsBounds tree.spans (edges_of tree.edges d.numbers) = keeps_down d.numbers d.inside (subst (λ (w : List Edge). KeepsTree tree w) (sym d.walk_is) kept) in
             let most : O.cost_of (edges_of tree.edges d.numbers) ≤ n = g.upper (edges_of tree.edges d.numbers) there keeps in
             let same : cost_of edge_shape (steps_of flow.edges d.numbers) ≡ O.cost_of (edges_of tree.edges d.numbers) = costs_same d.numbers d.inside in
             let other_is : cost_of edge_shape (steps_of flow.edges d.numbers) ≡ cost_of edge_shape other = ap (λ (w : List Edge). cost_of edge_shape w) d.walk_is in
             omega arith;
       }
+
+  pub greatest_up : (n : ℕ) → O.IsGreatest (length flow.places) tree.edges tree.spans n → G.IsGreatest edge_shape (HasEdge flow) (KeepsTree tree) flow.entry Exit n
+  greatest_up n g = subst (λ (p : Place). G.IsGreatest edge_shape (HasEdge flow) (KeepsTree tree) flow.entry p n) exit_place (greatest_at exit n (omega arith) g)
 
   pub too_large_down : TreeTooLarge flow tree → O.TooLarge (length flow.places) tree.edges tree.spans
   too_large_down large =

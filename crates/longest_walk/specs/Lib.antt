@@ -1,6 +1,7 @@
 pub mod Folded
 pub mod Rows
 pub mod Longest
+pub mod Starts
 pub mod Built
 pub mod Parts
 pub mod Ways

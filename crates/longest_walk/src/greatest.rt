@@ -14,8 +14,8 @@ use loop_bounds::LoopTree;
 use numbered_walks::{Index, NumberedGraph, Tables, WalkFault, find_tables};
 use std::alloc::Global;
 
-// The numbers of the greatest walk, and the edges and spans by number.
-fn numbers_of_walk(
+/// The numbers of the greatest walk, and the edges and spans by number.
+pub(crate) fn numbers_of_walk(
     alloc: Global,
     graph: &Graph,
     tree: &LoopTree,

@@ -8,6 +8,7 @@ mod greatest;
 mod listing;
 mod rounds;
 mod rows;
+mod starts;
 mod trace;
 mod visits;
 
@@ -15,4 +16,5 @@ pub use folded::{FoldedWalk, Item, Longest};
 pub use greatest::longest;
 pub use numbered_walks::WalkFault;
 pub use rows::{InstanceRow, PlaceRow, Potentials, Rows};
+pub use starts::worst_starts;
 pub use visits::visits_bound;

@@ -12,8 +12,12 @@ use loop_bounds::{Found, LoopTree};
 use numbered_walks::{Span, Tables};
 use std::alloc::{AllocError, Global};
 
-// The number of each place, by its index among the places.
-fn numbers(alloc: Global, graph: &Graph, tree: &LoopTree) -> Result<Vec<usize>, AllocError>
+/// The number of each place, by its index among the places.
+pub(crate) fn numbers(
+    alloc: Global,
+    graph: &Graph,
+    tree: &LoopTree,
+) -> Result<Vec<usize>, AllocError>
     requires { IsTree graph.now tree.now }
     ensures { IfOk result (λ numbers. AreNumbers tree.now.order numbers.items (length tree.now.order)) }
 {
