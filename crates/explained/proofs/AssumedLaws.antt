@@ -1,5 +1,5 @@
 -- Which addresses are named.
-use Rattle.std.proofs.Common.{◌≡◌, ◌∙◌, ℕ, ◌+◌, ◌<◌, ◌≤◌, Bool, true, false, ◌||◌, eqb, List, [], length, get_or, take, Result, Ok, Err, Option, Some, None, ◌⊎◌, inl, inr, ⊎_elim, refl, sym, ap, subst, arith}
+use Rattle.std.proofs.Common.{◌≡◌, ◌∙◌, ℕ, ◌+◌, ◌<◌, ◌≤◌, Bool, true, false, ◌||◌, eqb, List, [], length, get_or, take, Result, Ok, Err, Option, Some, None, inl, inr, ⊎_elim, refl, sym, ap, subst, arith}
 use Rattle.std.specs.Prelude.{◌↔◌, Contains, IsTrue, is_some, not, option_map}
 use Rattle.std.specs.BTreeSet.{BTreeSet, contains}
 use Rattle.std.specs.List.{list_any}
@@ -18,21 +18,17 @@ use Rattle.std.proofs.lemmas.Map.Keys.{Less-from_sorted}
 use Rattle.std.proofs.lemmas.Map.Lookups.{exact_unsigned}
 use Rattle.std.proofs.lemmas.Map.Views.{btree_set_contains_iff}
 use Rattle.arm2_decode.specs.declared.instr.Instr.{Instr}
-use Rattle.bus_ticks.specs.declared.profile.Class.{Class}
-use Rattle.bus_ticks.specs.declared.profile.Class.TheVariants.{Any}
 use Rattle.flow_graph.specs.declared.places.Place.{Place}
 use Rattle.flow_graph.specs.Flow.{Flow}
 use Rattle.loader.specs.Image.{Words}
-use Rattle.statement.specs.Stated.{Stated, Target, class_of, target_of}
-use Rattle.explained.specs.Assumed.{AreAssumed, Assumes, IsInstrAt, IsLooseTransfer, IsTakenForReturn, Notes, is_odd_writer, is_transfer}
+use Rattle.statement.specs.Stated.{Stated, Target, target_of}
+use Rattle.word_shapes.specs.Words.{HasInstr}
+use Rattle.explained.specs.Assumed.{AreAssumed, Assumes, IsTakenForReturn, Notes, may_write_oddly}
 use Rattle.explained.specs.Taken.{is_at, is_reached}
+use Rattle.explained.proofs.AnyLaws.{or_last, or_parts}
 use Rattle.explained.specs.declared.assumptions.Assumption.{Assumption}
 
 -- ## One word
-
--- the one instruction at an address
-abbrev pub IsOnlyInstr : Words → ℕ → Instr → Type 0
-IsOnlyInstr image a i = IsInstrAt image a i × ((j : Instr) → IsInstrAt image a j → j ≡ i)
 
 none_told : {A B : Type 0} (f : A → B) (found : Option A) (t : Option B) (r : Bool) → option_map f found ≡ t → is_some found ≡ not r → (r ≡ true) ↔ (t ≡ None)
 none_told f None t true is some = (λ e. sym is, λ h. refl)
@@ -41,35 +37,26 @@ none_told f (Some x) t true is some = absurd (false≢true (sym some))
 none_told f (Some x) t false is some = (λ e. absurd (false≢true e), λ h. absurd (let both : Some (f x) ≡ None = is ∙ h in cc))
 
 module _ (image : Words) (st : Stated) (a : ℕ) where
-  pub no_transfer : ((i : Instr) → IsInstrAt image a i → ⊥) → IsTrue false ↔ IsLooseTransfer image st a
-  no_transfer none = (λ e. absurd (false≢true e), λ h. absurd (none h.instr h.there))
+  pub no_writer : ((i : Instr) → HasInstr image a i → None ≡ Some i) → IsTrue false ↔ IsTakenForReturn image st a
+  no_writer none = (
+    λ e. absurd (false≢true e),
+    λ h. absurd (let both : None ≡ Some h.instr = none h.instr h.there in cc),
+  )
 
-  pub no_writer : ((i : Instr) → IsInstrAt image a i → ⊥) → IsTrue false ↔ IsTakenForReturn image st a
-  no_writer none = (λ e. absurd (false≢true e), λ h. absurd (none h.instr h.there))
+  module _ (i : Instr) (there : HasInstr image a i) (only : (j : Instr) → HasInstr image a j → Some i ≡ Some j) where
+    the_one : (j : Instr) → HasInstr image a j → i ≡ j
+    the_one j h = let both : Some i ≡ Some j = only j h in cc
 
-  module _ (i : Instr) (only : IsOnlyInstr image a i) where
-    pub other_word : (b : Bool) → b ≡ is_transfer i.operation → b ≡ false → IsTrue b ↔ IsLooseTransfer image st a
-    other_word b is none = (
-      λ e. absurd (false≢true (sym none ∙ e)),
-      λ h. absurd (false≢true (sym none ∙ is ∙ ap (λ (j : Instr). is_transfer j.operation) (sym (only.1 h.instr h.there)) ∙ h.transfers)),
-    )
-
-    pub transfer_told : (b r : Bool) (class : Class) → b ≡ is_transfer i.operation → b ≡ true → class ≡ class_of st a → IsTrue r ↔ (class ≡ Any) → IsTrue r ↔ IsLooseTransfer image st a
-    transfer_told b r class is does class_is told = (
-      λ e. record { instr = i; there = only.0; transfers = sym is ∙ does; loose = sym class_is ∙ told.0 e },
-      λ h. told.1 (class_is ∙ h.loose),
-    )
-
-    pub plain_word : (b : Bool) → b ≡ is_odd_writer i → b ≡ false → IsTrue b ↔ IsTakenForReturn image st a
+    pub plain_word : (b : Bool) → b ≡ may_write_oddly i → b ≡ false → IsTrue b ↔ IsTakenForReturn image st a
     plain_word b is none = (
       λ e. absurd (false≢true (sym none ∙ e)),
-      λ h. absurd (false≢true (sym none ∙ is ∙ ap is_odd_writer (sym (only.1 h.instr h.there)) ∙ h.odd)),
+      λ h. absurd (false≢true (sym none ∙ is ∙ ap may_write_oddly (the_one h.instr h.there) ∙ h.odd)),
     )
 
-    pub writer_told : {A : Type 0} (f : A → Target) (found : Option A) (b r : Bool) → b ≡ is_odd_writer i → b ≡ true → option_map f found ≡ target_of st a → is_some found ≡ not r → IsTrue r ↔ IsTakenForReturn image st a
+    pub writer_told : {A : Type 0} (f : A → Target) (found : Option A) (b r : Bool) → b ≡ may_write_oddly i → b ≡ true → option_map f found ≡ target_of st a → is_some found ≡ not r → IsTrue r ↔ IsTakenForReturn image st a
     writer_told f found b r is does target some =
         let told = none_told f found (target_of st a) r target some in (
-          λ e. record { instr = i; there = only.0; odd = sym is ∙ does; unstated = told.0 e },
+          λ e. record { instr = i; there = there; odd = sym is ∙ does; unstated = told.0 e },
           λ h. told.1 h.unstated,
         )
 
@@ -89,14 +76,6 @@ module _ (Holds : ℕ → Type 0) where
             ((notes a).0 h),
         λ h. (notes a).1 (⊎_elim (λ was. inl ((before a).1 (was, h.1))) (λ here. inr (here, h.1)) (or_parts (is_reached (take k places) a) (is_at a p) (sym step ∙ h.0))),
       )
-    where
-      or_last : (b c : Bool) → c ≡ true → (b || c) ≡ true
-      or_last true c e = refl
-      or_last false c e = e
-
-      or_parts : (b c : Bool) → (b || c) ≡ true → (b ≡ true) ⊎ (c ≡ true)
-      or_parts true c e = inl refl
-      or_parts false c e = inr e
 
   pub none_noted : (set : BTreeSet ℕ) (a : ℕ) → set.keys ≡ [] → (contains nat_cmp set a ≡ true) ↔ ((is_reached [] a ≡ true) × Holds a)
   none_noted set a empty = (

@@ -1,6 +1,8 @@
+mod AnyLaws
 mod AssumedLaws
 mod BurstLaws
 mod ColumnLaws
+mod IdleLaws
 mod ImageLaws
 mod RowLaws
 mod StandLaws

@@ -1,107 +1,44 @@
 -- What a bound takes for granted of words that its handler reaches.
-use Rattle.std.specs.Prelude.{◌≡◌, ◌↔◌, ℕ, zero, suc, ◌+◌, ◌==◌, Bool, true, false, not, ◌&&◌, ◌||◌, List}
+use Rattle.std.specs.Prelude.{◌≡◌, ◌↔◌, ℕ, zero, suc, ◌+◌, ◌==◌, Bool, true, false, not, ◌&&◌, List}
 use Rattle.std.specs.Prelude.{[], ◌∷◌, ◌++◌, codes, decimal}
-use Rattle.std.specs.Prelude.{if◌then◌else◌, Contains, Some, None, ◌⊎◌}
+use Rattle.std.specs.Prelude.{if◌then◌else◌, Contains, None, ◌⊎◌}
 use Rattle.std.specs.List.{list_any}
 use Rattle.std.specs.List.Sorted.{IsStrictlySortedBy}
 use Rattle.std.specs.Ordering.{nat_cmp}
-use Rattle.arm2_decode.specs.Table.{Means}
-use Rattle.arm2_decode.specs.declared.instr.DataRegister.{DataRegister}
 use Rattle.arm2_decode.specs.declared.instr.Instr.{Instr}
-use Rattle.arm2_decode.specs.declared.instr.Operation.{Operation}
-use Rattle.arm2_decode.specs.declared.instr.Operation.TheVariants as operation
-use Rattle.arm2_decode.specs.declared.names.Opcode.{Opcode}
-use Rattle.arm2_decode.specs.declared.names.Opcode.TheVariants.{Mov, Sub}
-use Rattle.arm2_decode.specs.declared.names.Register.{Register}
-use Rattle.arm2_decode.specs.declared.names.Register.TheVariants.{R13, R14}
-use Rattle.arm2_decode.specs.declared.names.Shift.{Shift}
-use Rattle.arm2_decode.specs.declared.names.Shift.TheVariants.{Lsl}
+use Rattle.arm2_effect.specs.Operations.{is_transfer}
 use Rattle.asm_text.specs.Hex.{hex8}
 use Rattle.asm_text.specs.Source.{lines_of}
 use Rattle.assembler.specs.declared.placed_line.PlacedLine.{PlacedLine}
 use Rattle.bus_ticks.specs.declared.profile.Class.TheVariants.{Any}
 use Rattle.flow_graph.specs.Flow.{Flow}
-use Rattle.flow_graph.specs.Kinds.{is_never, is_writer, kind_of}
-use Rattle.loader.specs.Image.{Words, word_of}
+use Rattle.loader.specs.Image.{Words}
 use Rattle.statement.specs.Stated.{Stated, class_of, target_of}
+use Rattle.word_shapes.specs.Shapes.{is_never, is_odd_writer}
+use Rattle.word_shapes.specs.Words.{HasInstr, HasShape}
 use Rattle.flow_graph.specs.declared.places.Place.{Place}
 use Rattle.explained.specs.Columns.{in_columns}
-use Rattle.explained.specs.Rows.{AreRows, IsShownRow}
+use Rattle.explained.specs.Rows.{AreRows, IsShownRow, section}
 use Rattle.explained.specs.Taken.{is_at, is_reached}
 use Rattle.explained.specs.declared.assumptions.Assumption.{Assumption}
 use Rattle.explained.specs.declared.assumptions.Assumption.TheVariants.{LooseTransfer, TakenForReturn}
 
--- ## Shapes of words
-
--- loads and stores
-abbrev pub is_transfer : Operation → Bool
-is_transfer (operation.SingleImmediate x) = true
-is_transfer (operation.SingleRegister x) = true
-is_transfer (operation.Block x) = true
-is_transfer _ = false
-
-abbrev pub is_link : Register → Bool
-is_link R14 = true
-is_link _ = false
-
-abbrev pub is_stack : Register → Bool
-is_stack R13 = true
-is_stack _ = false
-
-abbrev pub is_mov : Opcode → Bool
-is_mov Mov = true
-is_mov _ = false
-
-abbrev pub is_sub : Opcode → Bool
-is_sub Sub = true
-is_sub _ = false
-
-abbrev pub is_lsl : Shift → Bool
-is_lsl Lsl = true
-is_lsl _ = false
-
--- MOV of R14 as it stands
-abbrev pub is_link_moved : DataRegister → Bool
-is_link_moved x = is_mov x.opcode && (is_link x.rm && (is_lsl x.shift && x.amount == 0))
-
--- SUB from R14
-abbrev pub is_link_less : Opcode → Register → Bool
-is_link_less o rn = is_sub o && is_link rn
-
--- what a word that writes R15 to return looks like: MOV or SUB from R14, or a load from R13
-abbrev pub is_return : Operation → Bool
-is_return (operation.DataRegister x) = is_link_moved x || is_link_less x.opcode x.rn
-is_return (operation.DataRegisterShift x) = is_link_less x.opcode x.rn
-is_return (operation.DataImmediate x) = is_link_less x.opcode x.rn
-is_return (operation.SingleImmediate x) = is_stack x.rn
-is_return (operation.SingleRegister x) = is_stack x.rn
-is_return (operation.Block x) = is_stack x.rn
-is_return _ = false
-
--- it may write R15, other than a branch or a call, and does not look like a return; NV words never do
-abbrev pub is_odd_writer : Instr → Bool
-is_odd_writer i = not (is_never i.cond) && (is_writer (kind_of i.operation) && not (is_return i.operation))
-
 -- ## What is assumed
-
--- the image has an instruction at the address
-pub record IsInstrAt (image : Words) (a : ℕ) (i : Instr) : Type 0 where
-  pub word : ℕ
-  pub stands : word_of image a ≡ Some word
-  pub means : Means word i
 
 -- a load or a store that may be to any address, as far as the statement says
 pub record IsLooseTransfer (image : Words) (st : Stated) (a : ℕ) : Type 0 where
-  pub instr : Instr
-  pub there : IsInstrAt image a instr
-  pub transfers : is_transfer instr.operation ≡ true
+  pub transfers : HasShape is_transfer image a
   pub loose : class_of st a ≡ Any
+
+-- it may be carried out, and writes R15 as no branch, call or return does
+abbrev pub may_write_oddly : Instr → Bool
+may_write_oddly i = not (is_never i.cond) && is_odd_writer i.operation
 
 -- a word that counts as a return but does not look like one, since nothing is stated of it
 pub record IsTakenForReturn (image : Words) (st : Stated) (a : ℕ) : Type 0 where
   pub instr : Instr
-  pub there : IsInstrAt image a instr
-  pub odd : is_odd_writer instr ≡ true
+  pub there : HasInstr image a instr
+  pub odd : may_write_oddly instr ≡ true
   pub unstated : target_of st a ≡ None
 
 -- what is assumed of the word at an address
@@ -157,11 +94,6 @@ heading_of TakenForReturn =
     codes "\nWARNING: these count as returns but do not look like returns (see [[target]]):\n"
 heading_of LooseTransfer = codes "\nLoads and stores that may be anywhere (see [[access]]):\n"
 
--- the rows under their heading; nothing where there are none
-abbrev pub section : Assumption → List ℕ → List ℕ
-section what [] = []
-section what (byte ∷ rows) = heading_of what ++ (byte ∷ rows)
-
 -- of exactly the words of which that is assumed, the rows of named words being such
 pub record IsSection (AreRowsOf : (named rows : List ℕ) → Type 0) (image : Words) (st : Stated) (flow : Flow)
     (what : Assumption) (text : List ℕ) : Type 0 where
@@ -169,7 +101,7 @@ pub record IsSection (AreRowsOf : (named rows : List ℕ) → Type 0) (image : W
   pub rows : List ℕ
   pub are_assumed : AreAssumed image st flow what named
   pub are_rows : AreRowsOf named rows
-  pub text_is : text ≡ section what rows
+  pub text_is : text ≡ section (heading_of what) rows
 
 -- the words that count as returns come first
 pub record AreAssumptions (AreRowsOf : (named rows : List ℕ) → Type 0) (image : Words) (st : Stated)

@@ -13,6 +13,11 @@ AreRows IsRow (e ∷ es) text =
 abbrev pub Appends : (List ℕ → Type 0) → (old new : List ℕ) → Type 0
 Appends Is old new = (text : List ℕ) × Is text × (new ≡ old ++ text)
 
+-- rows under their heading; nothing where there are none
+abbrev pub section : List ℕ → List ℕ → List ℕ
+section heading [] = []
+section heading (byte ∷ rows) = heading ++ (byte ∷ rows)
+
 -- the row of an image's word: its address, the word and its line
 abbrev pub IsShownRow : ℕ × ℕ → List ℕ → Type 0
 IsShownRow e row =

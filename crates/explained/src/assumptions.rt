@@ -4,13 +4,15 @@ ghost use Rattle.std.specs.List.Sorted.{IsStrictlySortedBy};
 ghost use Rattle.std.specs.Ordering.{nat_cmp};
 ghost use Rattle.bus_ticks.specs.declared.profile.Class.{Class};
 ghost use Rattle.explained.specs.Assumed.{AreAssumed, Assumes, IsLooseTransfer, IsTakenForReturn, Notes};
+ghost use Rattle.explained.specs.Assumed.{may_write_oddly};
 
-use crate::shapes::{instr_at, is_odd_writer, is_transfer};
+use arm2_decode::Instr;
 use bus_ticks::Class;
 use flow_graph::{Graph, Place, Statement};
 use loader::Image;
 use std::alloc::{AllocError, Global};
 use std::collections::BTreeSet;
+use word_shapes::{instr_at, is_never, is_odd_writer, is_transfer_at};
 
 /// What a bound takes for granted of a word that its handler reaches.
 #[derive(Clone, Copy)]
@@ -30,17 +32,20 @@ fn is_any(class: Class) -> bool
 fn is_loose_transfer(image: &Image, statement: &Statement, at: u32) -> bool
     ensures { IsTrue result ↔ IsLooseTransfer image.now statement.now at }
 {
-    match instr_at(image, at) {
-        Some(instr) => is_transfer(&instr.operation) && is_any(statement.class_at(at)),
-        None => false,
-    }
+    is_transfer_at(image, at) && is_any(statement.class_at(at))
+}
+
+fn may_write_oddly(instr: &Instr) -> bool
+    ensures { result ≡ may_write_oddly instr.now }
+{
+    !is_never(instr.cond) && is_odd_writer(&instr.operation)
 }
 
 fn is_taken_for_return(image: &Image, statement: &Statement, at: u32) -> bool
     ensures { IsTrue result ↔ IsTakenForReturn image.now statement.now at }
 {
     match instr_at(image, at) {
-        Some(instr) => is_odd_writer(&instr) && statement.target_at(at).is_none(),
+        Some(instr) => may_write_oddly(&instr) && statement.target_at(at).is_none(),
         None => false,
     }
 }

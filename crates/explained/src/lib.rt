@@ -5,17 +5,18 @@
 mod assumptions;
 mod bursts;
 mod columns;
+mod idle;
 mod image;
 mod law;
 mod lines;
 mod named;
 mod sections;
-mod shapes;
 mod source;
 mod tally;
 
 pub use assumptions::{Assumption, assumed};
 pub use bursts::{Bursts, burst_lines};
+pub use idle::idle_entries;
 pub use image::image_table;
 pub use law::{
     burst_time_is_the_least, numbers_are_of_the_walk, places_stand_once, totals_are_the_bound,

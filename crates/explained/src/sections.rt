@@ -1,8 +1,8 @@
 ghost use Rattle.std.specs.Prelude.{◌≡◌, IfOk};
 ghost use Rattle.asm_text.specs.Source.{lines_of};
 ghost use Rattle.explained.specs.Assumed.{AreImageAssumptions, AreSourceAssumptions, IsNamedRow, IsSection};
-ghost use Rattle.explained.specs.Assumed.{heading_of, named_rows, section};
-ghost use Rattle.explained.specs.Rows.{AreRows};
+ghost use Rattle.explained.specs.Assumed.{heading_of, named_rows};
+ghost use Rattle.explained.specs.Rows.{AreRows, section};
 
 use crate::assumptions::{Assumption, assumed};
 use crate::columns::put;
@@ -35,15 +35,15 @@ fn heading(what: Assumption) -> &'static [u8]
     }
 }
 
-// The rows under their heading, or nothing where there are none.
-fn section(alloc: Global, what: Assumption, rows: &[u8]) -> Result<Vec<u8>, AllocError>
-    ensures { IfOk result (λ text. text.items ≡ section what rows.now) }
+/// The rows under their heading, or nothing where there are none.
+pub(crate) fn section(alloc: Global, heading: &[u8], rows: &[u8]) -> Result<Vec<u8>, AllocError>
+    ensures { IfOk result (λ text. text.items ≡ section heading.now rows.now) }
 {
     let mut out = Vec::new(alloc);
     if let [] = rows {
         return Ok(out);
     }
-    put(&mut out, heading(what))?;
+    put(&mut out, heading)?;
     put(&mut out, rows)?;
     Ok(out)
 }
@@ -61,7 +61,7 @@ fn source_section(
 {
     let named = assumed(alloc, handler.image, handler.statement, handler.graph, what)?;
     let rows = named_lines(alloc, source, placed, &named)?;
-    section(alloc, what, &rows)
+    section(alloc, heading(what), &rows)
 }
 
 fn image_section(
@@ -75,7 +75,7 @@ fn image_section(
 {
     let named = assumed(alloc, handler.image, handler.statement, handler.graph, what)?;
     let rows = named_words(alloc, handler.image, &named)?;
-    section(alloc, what, &rows)
+    section(alloc, heading(what), &rows)
 }
 
 /// What a bound takes for granted of the words that its handler reaches, by the lines of its source: those

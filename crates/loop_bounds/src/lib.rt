@@ -19,6 +19,7 @@ mod fault;
 mod handler_positions;
 mod layout;
 mod loop_instances;
+mod members;
 mod nested;
 mod nesting;
 mod numbering;

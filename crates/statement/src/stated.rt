@@ -124,6 +124,13 @@ impl Statement {
         &self.targets
     }
 
+    /// The classes that are stated by the addresses of the words that transfer, in the order of the text.
+    pub fn accesses(&self) -> &IndexMap<u32, Class>
+        ensures { result.now.entries ≡ self.now.accesses }
+    {
+        &self.accesses
+    }
+
     /// The class that is stated for what the word at an address transfers: any where none is stated.
     pub fn class_at(&self, address: u32) -> Class
         ensures { result ≡ class_of self.now address }

@@ -1,0 +1,104 @@
+-- The entries of a statement without effect on a bound. Our own rules, and our own format.
+use Rattle.std.specs.Prelude.{◌≡◌, ℕ, Bool, true, false, ◌&&◌, List, [], ◌++◌, codes}
+use Rattle.std.specs.List.{list_any}
+use Rattle.std.specs.Map.{keys_of}
+use Rattle.arm2_effect.specs.Operations.{is_transfer}
+use Rattle.asm_text.specs.Hex.{hex8}
+use Rattle.flow_graph.specs.Flow.{Flow, edge_shape}
+use Rattle.flow_graph.specs.declared.edges.Edge.{Edge}
+use Rattle.flow_graph.specs.declared.edges.Label.{Label}
+use Rattle.flow_graph.specs.declared.edges.Label.TheVariants.{Do, Skip}
+use Rattle.flow_graph.specs.declared.places.Place.{Place}
+use Rattle.flow_graph.specs.declared.places.Place.TheVariants.{At, Exit}
+use Rattle.loader.specs.Image.{Words}
+use Rattle.loop_bounds.specs.Instance.{instance_of, place_loops}
+use Rattle.statement.specs.Stated.{Stated}
+use Rattle.statement.specs.declared.stated.Loop.{Loop}
+use Rattle.walks.specs.Greatest.{is_back_edge}
+use Rattle.word_shapes.specs.Words.{HasShape}
+use Rattle.explained.specs.Rows.{AreRows, section}
+use Rattle.explained.specs.Taken.{is_at}
+
+-- ## Which entries have an effect
+
+-- a word is carried out, or passed over
+abbrev pub is_done : Label → Bool
+is_done Do = true
+is_done Skip = false
+
+-- the edge carries out the word at the address
+abbrev pub carries_out : ℕ → Edge → Bool
+carries_out a e = is_done e.label && is_at a e.from
+
+-- one of the edges does
+abbrev pub is_carried_out : List Edge → ℕ → Bool
+is_carried_out edges a = list_any (carries_out a) edges
+
+-- a back edge of the loop, inside the calls of the place to which it leads
+abbrev pub turns_to : Loop → Edge → Place → Bool
+turns_to l e (At list a) = is_back_edge edge_shape place_loops (instance_of l list) e
+turns_to l e Exit = false
+
+abbrev pub turns_in : Loop → Edge → Bool
+turns_in l e = turns_to l e e.to
+
+-- a loop has an effect on a bound where an edge of the graph turns back in it
+abbrev pub LoopCounts : Flow → Loop → Type 0
+LoopCounts flow l = list_any (turns_in l) flow.edges ≡ true
+
+-- a target, where the word is carried out
+abbrev pub TargetCounts : (ℕ → Bool) → ℕ → Type 0
+TargetCounts done a = done a ≡ true
+
+-- a class, where such a word loads or stores
+abbrev pub AccessCounts : Words → (ℕ → Bool) → ℕ → Type 0
+AccessCounts words done a = (done a ≡ true) × HasShape is_transfer words a
+
+-- ## Rows
+
+-- an entry, by the address that it names, between two texts
+abbrev pub entry_row : List ℕ → ℕ → List ℕ → List ℕ
+entry_row front a back = front ++ (hex8 a ++ back)
+
+abbrev pub loop_row : ℕ → List ℕ
+loop_row header = entry_row (codes "  loop    ") header (codes "  nothing turns back to the header\n")
+
+abbrev pub target_row : ℕ → List ℕ
+target_row a = entry_row (codes "  target  ") a (codes "  no word is carried out there\n")
+
+abbrev pub access_row : ℕ → List ℕ
+access_row a = entry_row (codes "  access  ") a (codes "  no word loads or stores there\n")
+
+-- the row of an entry without effect; one with an effect has none
+pub record IsIdleRow (Counts : Type 0) (shown row : List ℕ) : Type 0 where
+  pub without : (Counts → ⊥) → row ≡ shown
+  pub with_one : Counts → row ≡ []
+
+abbrev pub IsLoopRow : Flow → Loop → List ℕ → Type 0
+IsLoopRow flow l = IsIdleRow (LoopCounts flow l) (loop_row l.header)
+
+abbrev pub IsTargetRow : (ℕ → Bool) → ℕ → List ℕ → Type 0
+IsTargetRow done a = IsIdleRow (TargetCounts done a) (target_row a)
+
+abbrev pub IsAccessRow : Words → (ℕ → Bool) → ℕ → List ℕ → Type 0
+IsAccessRow words done a = IsIdleRow (AccessCounts words done a) (access_row a)
+
+-- ## The text
+
+-- the rows of exactly the loops, the targets and the accesses without effect, in the statement's order
+pub record AreIdleRows (words : Words) (st : Stated) (flow : Flow) (rows : List ℕ) : Type 0 where
+  pub loops : List ℕ
+  pub targets : List ℕ
+  pub accesses : List ℕ
+  pub are_loops : AreRows (IsLoopRow flow) st.loops loops
+  pub are_targets : AreRows (IsTargetRow (is_carried_out flow.edges)) (keys_of st.targets) targets
+  pub are_accesses : AreRows (IsAccessRow words (is_carried_out flow.edges)) (keys_of st.accesses) accesses
+  pub rows_are : rows ≡ loops ++ (targets ++ accesses)
+
+abbrev pub idle_heading : List ℕ
+idle_heading = codes "\nEntries of the statement without effect:\n"
+
+-- those rows under their heading; nothing where there are none
+abbrev pub AreIdleEntries : Words → Stated → Flow → List ℕ → Type 0
+AreIdleEntries words st flow text =
+    (rows : List ℕ) × AreIdleRows words st flow rows × (text ≡ section idle_heading rows)
