@@ -6,12 +6,12 @@ ghost use Rattle.arcwcet.specs.Run.{answer_status};
 use crate::status::{answer_status, report_status};
 use assembler::{Assembly, PlacedLine, placed_lines};
 use author_reports::Explained;
+use bus_ticks::Profile;
 use diagnosis::{
-    Program, Words, calls_text, cycle_text, deep_calls, entry_text, extent_of, faulty_lines,
-    faulty_text, leads_text, mid_entry, statement_text, unbounded_cycle, word_text,
-    words_leading_to, words_of,
+    Program, Words, cycle_text, entry_text, extent_of, faulty_lines, faulty_text, mid_entry,
+    place_text, shared_header, shared_text, statement_text, unbounded_cycle, word_text, words_of,
 };
-use flow_graph::{BuildFault, Statement, StatementFault, read_statement};
+use flow_graph::{BuildFault, Statement, StatementFault, faulty_place, read_statement};
 use loader::MAGIC;
 use loop_bounds::NestFault;
 use machine_reports::{StatedGraph, read_graph};
@@ -46,6 +46,10 @@ fn loops_text(
                 None => Ok(Vec::new(alloc)),
             }
         }
+        NestFault::SharedHeader => match shared_header(loops) {
+            Some((one, other)) => shared_text(alloc, words, &one, &other),
+            None => Ok(Vec::new(alloc)),
+        },
         NestFault::EntersMidLoop => match mid_entry(&stated.graph, loops) {
             Some(entry) => entry_text(alloc, words, &entry),
             None => Ok(Vec::new(alloc)),
@@ -103,31 +107,28 @@ fn graph_text(
     alloc: Global,
     words: &Words<'_>,
     statement: &Statement,
-    fault: BuildFault,
-) -> Result<Vec<u8>, AllocError> {
-    match fault {
-        BuildFault::OutsideImage(at) => {
-            let leading = words_leading_to(alloc, words.image, statement, at)?;
-            leads_text(alloc, words, &leading)
-        }
-        BuildFault::UnallocatedWord(at)
-        | BuildFault::TrapInHandler(at)
-        | BuildFault::TargetNotWriter(at) => word_text(alloc, words, at),
-        BuildFault::TooDeep => {
-            let calls = deep_calls(alloc, words.image, statement)?;
-            calls_text(alloc, words, &calls)
-        }
-        BuildFault::Memory | BuildFault::TooManyPlaces => Ok(Vec::new(alloc)),
-    }
-}
-
-// The same, of the texts.
-fn refused_graph(
-    alloc: Global,
-    explained: Explained<'_>,
+    profile: &Profile,
     fault: BuildFault,
 ) -> Result<Vec<u8>, ReportFault> {
-    let said = read_source(alloc, explained.source)?;
+    if let BuildFault::TargetNotWriter(at) = fault {
+        let text = word_text(alloc, words, at)?;
+        return Ok(text);
+    }
+    let Some(faulty) = faulty_place(alloc, words.image, statement, profile)? else {
+        return Ok(Vec::new(alloc));
+    };
+    let text = place_text(alloc, words, &faulty)?;
+    Ok(text)
+}
+
+// The same, of a source that was read.
+fn build_text(
+    alloc: Global,
+    explained: Explained<'_>,
+    profile: &Profile,
+    said: &Assembly,
+    fault: BuildFault,
+) -> Result<Vec<u8>, ReportFault> {
     let statement = read_statement(alloc, explained.statement, &said.labels)?;
     let placed = placed_in(alloc, explained.source)?;
     let program = Program {
@@ -137,8 +138,19 @@ fn refused_graph(
         labels: &said.labels,
     };
     let words = words_of(alloc, &program)?;
-    let text = graph_text(alloc, &words, &statement, fault)?;
-    Ok(text)
+    graph_text(alloc, &words, &statement, profile, fault)
+}
+
+// The same, of the texts.
+fn refused_graph(
+    alloc: Global,
+    explained: Explained<'_>,
+    profile: Option<&[u8]>,
+    fault: BuildFault,
+) -> Result<Vec<u8>, ReportFault> {
+    let profile = profile_of(alloc, profile)?;
+    let said = read_source(alloc, explained.source)?;
+    build_text(alloc, explained, &profile, &said, fault)
 }
 
 // What shows why a handler is refused; nothing where only its one line does.
@@ -151,7 +163,7 @@ fn refusal_text(
     match fault {
         ReportFault::Loops(fault) => refused_loops(alloc, explained, profile, fault),
         ReportFault::Statement(fault) => refused_statement(alloc, explained, fault),
-        ReportFault::Graph(fault) => refused_graph(alloc, explained, fault),
+        ReportFault::Graph(fault) => refused_graph(alloc, explained, profile, fault),
         ReportFault::Source(_) => {
             let lines = faulty_lines(alloc, explained.source)?;
             let text = faulty_text(alloc, &lines)?;

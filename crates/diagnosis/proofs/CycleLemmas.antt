@@ -1,24 +1,22 @@
 -- Edges that turn back nowhere, and cycles of them.
-use Rattle.std.proofs.Common.{◌≡◌, ℕ, ◌+◌, ◌-◌, ◌<◌, ◌≤◌, zero, suc, Bool, true, false, eqb, List, [], ◌∷◌, ◌++◌, length, get_or, drop, refl, sym, ap, ◌∙◌, subst, ⊎_elim, arith}
-use Rattle.std.specs.Prelude.{Contains, ◌==◌, ◌&&◌}
+use Rattle.std.proofs.Common.{◌≡◌, ℕ, ◌<◌, zero, suc, Bool, true, false, eqb, List, [], ◌∷◌, length, get_or, drop, refl, sym, ap, ◌∙◌, subst, ⊎_elim, arith}
+use Rattle.std.specs.Prelude.{Contains, ◌&&◌}
 use Rattle.std.specs.List.{list_any}
 use Rattle.std.specs.Cmp.Lexicographic.{pointwise}
 use Rattle.std.proofs.lemmas.Bool.{and_from, and_parts, cases_Bool, eqb-true, false≢true}
 use Rattle.std.proofs.lemmas.Cmp.{nat_list_eq_equiv}
 use Rattle.std.proofs.lemmas.List.{length-drop}
 use Rattle.std.proofs.lemmas.List.Folds.{Any-from_list_any, list_any_at}
-use Rattle.walks.specs.Walk.{Leads}
 use Rattle.walks.specs.Greatest.{is_back_edge}
-use Rattle.walks.proofs.Leading.{Leads-append}
 use Rattle.flow_graph.specs.declared.places.Place.{Place}
 use Rattle.flow_graph.specs.declared.places.Place.TheVariants.{At, Exit}
 use Rattle.flow_graph.specs.declared.edges.Edge.{Edge}
 use Rattle.flow_graph.specs.Flow.{Flow, HasEdge, IsWellFormed, edge_shape}
 use Rattle.statement.specs.declared.stated.Loop.{Loop}
 use Rattle.loop_bounds.specs.Instance.{Instance, IsInstance, instance_of, is_header, is_member, place_loops}
-use Rattle.loop_bounds.specs.Nest.{HasUnboundedCycle, IsPlainEdge}
+use Rattle.loop_bounds.specs.Nest.{IsPlainEdge}
 use Rattle.loop_bounds.proofs.ExtentOf.{same_list}
-use Rattle.diagnosis.specs.Cycles.{IsCleared, IsClosed, IsCycleOf, IsPath, turns_at, turns_back, turns_to}
+use Rattle.diagnosis.specs.Cycles.{IsClosed, IsCycleOf, IsPath, turns_at, turns_back, turns_to}
 
 -- ## Edges that turn back
 

@@ -1,18 +1,18 @@
 -- Entries of loops elsewhere than at their headers.
 use Rattle.std.proofs.Common.{◌≡◌, ℕ, zero, suc, Bool, false, true, cond, List, [], ◌∷◌, ◌+◌, ◌<◌, ◌≤◌, length, get_or, Option, Some, None, refl, sym, ap, ◌∙◌, subst, inl, inr, ⊎_elim, arith}
-use Rattle.std.specs.Prelude.{Contains, not, ◌&&◌}
+use Rattle.std.specs.Prelude.{Contains, not}
 use Rattle.std.specs.List.{find}
 use Rattle.std.proofs.lemmas.Bool.{and_parts, and_from, cases_lt, false≢true}
 use Rattle.std.proofs.lemmas.List.{get_or_default}
 use Rattle.flow_graph.specs.declared.places.Place.{Place}
 use Rattle.flow_graph.specs.declared.places.Place.TheVariants.{At, Exit}
 use Rattle.flow_graph.specs.declared.edges.Edge.{Edge}
-use Rattle.flow_graph.specs.Flow.{Flow, HasEdge, IsWellFormed}
+use Rattle.flow_graph.specs.Flow.{Flow, IsWellFormed}
 use Rattle.statement.specs.declared.stated.Loop.{Loop}
 use Rattle.loop_bounds.specs.Extents.{found_instance}
 use Rattle.loop_bounds.specs.Instance.{Instance, IsInstance, instance_of, is_header, is_member}
 use Rattle.loop_bounds.specs.Nest.{HasMidEntry, IsEntered}
-use Rattle.diagnosis.specs.Entries.{AreRightlyEntered, IsEnteredBy, IsMidEntry, IsMidOf, IsRightlyEntered, enters_mid, is_mid}
+use Rattle.diagnosis.specs.Entries.{AreRightlyEntered, IsEnteredBy, IsMidEntry, IsMidOf, IsRightlyEntered, is_mid}
 use Rattle.diagnosis.specs.declared.entries.MidEntry.{MidEntry}
 
 -- what no search finds passes nowhere

@@ -53,6 +53,10 @@ pub five_parts : (old p1 p2 p3 p4 p5 a b c d new : List ℕ) → a ≡ old ++ p1
 five_parts old p1 p2 p3 p4 p5 a b c d new ia ib ic id inew =
     inew ∙ ap (λ xs. xs ++ p5) (id ∙ ap (λ xs. xs ++ p4) (ic ∙ ap (λ xs. xs ++ p3) (ib ∙ ap (λ xs. xs ++ p2) ia))) ∙ simp append_assoc
 
+pub four_parts : (old p1 p2 p3 p4 a b c new : List ℕ) → a ≡ old ++ p1 → b ≡ a ++ p2 → c ≡ b ++ p3 → new ≡ c ++ p4 → new ≡ old ++ (p1 ++ (p2 ++ (p3 ++ p4)))
+four_parts old p1 p2 p3 p4 a b c new ia ib ic inew =
+    inew ∙ ap (λ xs. xs ++ p4) (ic ∙ ap (λ xs. xs ++ p3) (ib ∙ ap (λ xs. xs ++ p2) ia)) ∙ simp append_assoc
+
 -- the row of an image's word
 pub word_row : (at word : ℕ) (line old a b c d e f new : List ℕ) → IsShown word at line
     → a ≡ old ++ codes "  " → b ≡ a ++ hex8 at → c ≡ b ++ codes "  " → d ≡ c ++ hex8 word → e ≡ d ++ codes "  " → f ≡ e ++ line → new ≡ f ++ codes "\n"

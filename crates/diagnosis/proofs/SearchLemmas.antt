@@ -1,5 +1,5 @@
 -- The search for a cycle, step by step.
-use Rattle.std.proofs.Common.{◌≡◌, ◌≢◌, ◌⊎◌, ℕ, ◌+◌, ◌*◌, ◌-◌, ◌<◌, ◌≤◌, zero, suc, List, [], ◌∷◌, ◌++◌, length, get_or, set, replicate, sum_by, refl, sym, ap, ◌∙◌, subst, inl, inr, ⊎_elim, Result, arith, add-one}
+use Rattle.std.proofs.Common.{◌≡◌, ◌⊎◌, ℕ, ◌+◌, ◌-◌, ◌<◌, ◌≤◌, zero, suc, List, [], ◌∷◌, ◌++◌, length, get_or, set, replicate, sum_by, refl, sym, ap, ◌∙◌, subst, inl, inr, ⊎_elim, Result, arith, add-one}
 use Rattle.std.specs.Prelude.{Contains}
 use Rattle.std.specs.List.Sorted.{IsBinarySearchResult, IsSearchInRange, IsStrictlySortedBy}
 use Rattle.std.specs.Result.{result_unwrap_or}
@@ -18,7 +18,7 @@ use Rattle.statement.specs.declared.stated.Loop.{Loop}
 use Rattle.loop_bounds.specs.Nest.{HasUnboundedCycle, IsPlainEdge}
 use Rattle.loop_bounds.proofs.Grouped.{rises_to}
 use Rattle.loop_bounds.proofs.Positions.{index_found, index_inside, places_once}
-use Rattle.diagnosis.specs.Cycles.{AreMarks, EndsCleared, IsCleared, IsClosed, IsIdle, IsOn, IsOpen, IsPath, IsPathTo, LeadToCleared}
+use Rattle.diagnosis.specs.Cycles.{AreMarks, IsCleared, IsClosed, IsIdle, IsOn, IsOpen, IsPath, IsPathTo, LeadToCleared}
 use Rattle.diagnosis.specs.declared.search.Search.{Search}
 
 -- ## Sums of marks

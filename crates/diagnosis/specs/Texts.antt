@@ -6,7 +6,12 @@ use Rattle.assembler.specs.declared.fault.Fault.TheVariants.{NotText, UnknownWor
 use Rattle.assembler.specs.declared.fault.Fault.TheVariants.{ImmediateNotRotated, BranchTooFar, LabelTwice}
 use Rattle.assembler.specs.declared.fault.Fault.TheVariants.{LabelMissing, OutOfRange, Unallocated, TooLong}
 use Rattle.flow_graph.specs.declared.edges.Edge.{Edge}
+use Rattle.flow_graph.specs.declared.faults.BuildFault.{BuildFault}
+use Rattle.flow_graph.specs.declared.faults.BuildFault.TheVariants as build
+use Rattle.flow_graph.specs.declared.faulty.FaultyPlace.{FaultyPlace}
 use Rattle.flow_graph.specs.declared.places.Place.{Place}
+use Rattle.flow_graph.specs.declared.places.Place.TheVariants.{At, Exit}
+use Rattle.statement.specs.declared.stated.Loop.{Loop}
 use Rattle.diagnosis.specs.Lines.{line_at}
 use Rattle.diagnosis.specs.Rows.{AreRows, IsPlaceRow, IsRow, name_text}
 use Rattle.diagnosis.specs.declared.entries.MidEntry.{MidEntry}
@@ -20,13 +25,16 @@ use Rattle.diagnosis.specs.declared.words.Words.{Words}
 abbrev pub key_text : BTreeMap ℕ SourceLine → List ℕ → ℕ → List ℕ
 key_text lines key at = codes "  " ++ (key ++ (codes " = " ++ (name_text (line_at lines at) at ++ codes "\n")))
 
--- a loop of a statement, with a question mark for its bound
-abbrev pub loop_text : BTreeMap ℕ SourceLine → Extent → List ℕ
-loop_text lines extent =
+-- a loop of a statement without its bound
+abbrev pub addresses_text : BTreeMap ℕ SourceLine → Extent → List ℕ
+addresses_text lines extent =
     codes "  [[loop]]\n"
     ++ (key_text lines (codes "header") extent.header
-    ++ (key_text lines (codes "first") extent.first
-    ++ (key_text lines (codes "last") extent.last ++ codes "  bound = \"?\"\n")))
+    ++ (key_text lines (codes "first") extent.first ++ key_text lines (codes "last") extent.last))
+
+-- with a question mark for its bound
+abbrev pub loop_text : BTreeMap ℕ SourceLine → Extent → List ℕ
+loop_text lines extent = addresses_text lines extent ++ codes "  bound = \"?\"\n"
 
 -- the row of the place where an edge begins
 abbrev pub IsStartRow : Words → Edge → List ℕ → Type 0
@@ -65,21 +73,50 @@ pub record IsEntryText (words : Words) (entry : MidEntry) (text : List ℕ) : Ty
   pub is_row : IsRow words entry.instance.stated.header row
   pub text_is : text ≡ front ++ (codes "The loop's header:\n" ++ row)
 
--- ## Words of a handler without a graph
+-- ## Loops
+
+-- a loop as a statement has it
+abbrev pub stated_text : BTreeMap ℕ SourceLine → Loop → List ℕ
+stated_text lines l =
+    addresses_text lines (record { header = l.header; first = l.first; last = l.last })
+    ++ (codes "  bound = " ++ (decimal l.bound ++ codes "\n"))
+
+abbrev pub shared_text : BTreeMap ℕ SourceLine → (one other : Loop) → List ℕ
+shared_text lines one other =
+    codes "These two loops have one header:\n" ++ (stated_text lines one ++ stated_text lines other)
+
+-- ## A place without edges
 
 -- above nine calls
 abbrev pub nine : List ℕ
 nine = codes "Nine calls, each inside the one before it; eight is the most:\n"
 
--- above words that lead to an address
+-- above a word that leads to an address
 abbrev pub leads : List ℕ
-leads = codes "No word stands there. These lead to it:\n"
+leads = codes "No word stands there. This leads to it:\n"
 
--- the rows of words under a line; nothing where there are none
-abbrev pub IsListed : Words → List ℕ → List ℕ → List ℕ → Type 0
-IsListed words heading [] text = text ≡ []
-IsListed words heading (at ∷ named) text =
-    (rows : List ℕ) × AreRows (IsRow words) (at ∷ named) rows × (text ≡ heading ++ rows)
+-- the addresses of the calls that a place is inside of, the outermost first, and then its own
+abbrev pub chain_of : Place → List ℕ
+chain_of (At calls address) = calls ++ address ∷ []
+chain_of Exit = []
+
+abbrev pub IsChainText : Words → Place → List ℕ → Type 0
+IsChainText words place text =
+    (rows : List ℕ) × AreRows (IsRow words) (chain_of place) rows × (text ≡ nine ++ rows)
+
+-- the word where the edge begins; nothing where the handler begins at the place
+abbrev pub IsLeadText : Words → Option Edge → List ℕ → Type 0
+IsLeadText words None text = text ≡ []
+IsLeadText words (Some e) text = IsUnder words leads e.from text
+
+abbrev pub IsRowText : Words → Place → List ℕ → Type 0
+IsRowText words place text = IsPlaceRow words place text
+
+-- what shows why the place has no edges
+abbrev pub IsFaultText : Words → FaultyPlace → BuildFault → List ℕ → Type 0
+IsFaultText words faulty build.TooDeep text = IsChainText words faulty.place text
+IsFaultText words faulty (build.OutsideImage at) text = IsLeadText words faulty.edge text
+IsFaultText words faulty _ text = IsRowText words faulty.place text
 
 -- ## Lines that cannot be assembled
 

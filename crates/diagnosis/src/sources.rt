@@ -1,14 +1,16 @@
-ghost use Rattle.std.specs.Prelude.{◌≡◌, ◌≤◌, IfOk, OnOk, length};
+ghost use Rattle.std.specs.Prelude.{◌≡◌, IfOk, MatchOption, OnOk};
+ghost use Rattle.diagnosis.specs.FaultyLines.{AreFaults, AreFaultyLines, IsAssembled, IsFaultOf};
+ghost use Rattle.diagnosis.specs.FaultyLines.{keeps_label, label_left, left_after, line_left, without};
 ghost use Rattle.diagnosis.specs.Rows.{Appends, AreRows};
 ghost use Rattle.diagnosis.specs.Texts.{IsFaultyRow, fault_name};
 
 use crate::rows::{put, put_decimal};
 use crate::words::first_word;
-use asm_text::first_line;
+use asm_text::{TextFault, first_line, read_line};
 use assembler::{AsmFault, Fault, assemble};
 use std::alloc::{AllocError, Global};
 
-/// How many faulty lines are named at most.
+/// How many faults of a source are named at most.
 const MOST_LINES: usize = 20;
 
 /// A line that cannot be assembled.
@@ -20,69 +22,114 @@ pub struct FaultyLine {
     pub fault: Fault,
 }
 
-// The source with the word 0 on the line of the number, after its label where that is kept.
-fn replaced(
+// Whether the label of a line with the fault is not itself at fault.
+fn keeps_label(fault: Fault) -> bool
+    ensures { result ≡ keeps_label fault }
+{
+    match fault {
+        Fault::LabelTwice => false,
+        _ => true,
+    }
+}
+
+// What stays of a line with the fault: its label.
+fn label_left(alloc: Global, fault: Fault, line: &[u8]) -> Result<&[u8], AllocError>
+    ensures { IfOk result (λ text. text.now ≡ label_left fault line.now) }
+{
+    if !keeps_label(fault) {
+        return Ok(b"");
+    }
+    let label = first_word(line);
+    match read_line(alloc, label) {
+        Ok(_) => Ok(label),
+        Err(TextFault::Memory) => Err(AllocError),
+        Err(_) => Ok(b""),
+    }
+}
+
+// What stays of the line of the number.
+fn line_left<'a>(
     alloc: Global,
-    source: &[u8],
+    faulty: FaultyLine,
     number: usize,
-    keeps_label: bool,
-) -> Result<Vec<u8>, AllocError> {
+    line: &'a [u8],
+) -> Result<&'a [u8], AllocError>
+    ensures { IfOk result (λ text. text.now ≡ line_left faulty number line.now) }
+{
+    if number == faulty.number {
+        return label_left(alloc, faulty.fault, line);
+    }
+    Ok(line)
+}
+
+// The source with only the label of the faulty line.
+#[tactic(auto, unfolding(crate::specs::FaultyLines::lines_left))]
+fn without(alloc: Global, faulty: FaultyLine, source: &[u8]) -> Result<Vec<u8>, AllocError>
+    ensures { IfOk result (λ text. text.items ≡ without faulty source.now) }
+{
     let mut out = Vec::new(alloc);
     let mut rest = source;
-    for at in 1..usize::MAX {
-        let Some((text, after)) = first_line(rest) else {
-            break;
-        };
-        if at != number {
-            out.extend_from_slice(text)?;
-        } else {
-            if keeps_label {
-                out.extend_from_slice(first_word(text))?;
-            }
-            out.extend_from_slice(b" DCD 0")?;
-        }
-        out.extend_from_slice(b"\n")?;
+    let mut number = 1;
+    while let Some((line, after)) = first_line(rest) {
+        put(&mut out, line_left(alloc, faulty, number, line)?)?;
+        put(&mut out, b"\n")?;
         rest = after;
+        number += 1;
     }
     Ok(out)
 }
 
-// Adds a faulty line, if there is no such line yet and there is room. Whether it was added.
-fn add(lines: &mut Vec<FaultyLine>, line: FaultyLine) -> Result<bool, AllocError>
-    requires { length lines.old.items ≤ 20 }
-    ensures { length lines.new.items ≤ 20 }
+// Why the source cannot be assembled, and where; None where it can.
+fn fault_of(alloc: Global, source: &[u8]) -> Result<Option<FaultyLine>, AllocError>
+    ensures { IfOk result (λ found. MatchOption found (IsAssembled source.now) (IsFaultOf source.now)) }
 {
-    if lines.iter().any(|other| other.number == line.number) || lines.len() == MOST_LINES {
-        return Ok(false);
+    match assemble(alloc, source) {
+        Ok(_) => Ok(None),
+        Err(AsmFault::Memory) => Err(AllocError),
+        Err(AsmFault::Line(fault, number)) => Ok(Some(FaultyLine { number, fault })),
     }
-    lines.push(line)?;
-    Ok(true)
 }
 
-/// The lines of a source that cannot be assembled, at most twenty, in their order. Each but the first is one
-/// that was found once the word 0 stood in place of what was found before.
+// How many faults are looked for after this one.
+fn left_after(fault: Fault, left: usize) -> usize
+    ensures { result ≡ left_after fault left }
+{
+    match fault {
+        Fault::TooLong => 0,
+        _ => left.saturating_sub(1),
+    }
+}
+
+// The faults of a source in the order in which they are found.
+fn faults_of(alloc: Global, source: &[u8]) -> Result<Vec<FaultyLine>, AllocError>
+    ensures { IfOk result (λ found. AreFaults MOST_LINES source.now found.items) }
+{
+    let mut found = Vec::new(alloc);
+    let mut text = Vec::from_slice(alloc, source)?;
+    let mut left = MOST_LINES;
+    while left > 0 {
+        let Some(faulty) = fault_of(alloc, &text)? else {
+            return Ok(found);
+        };
+        found.push(faulty)?;
+        text = without(alloc, faulty, &text)?;
+        left = left_after(faulty.fault, left);
+    }
+    Ok(found)
+}
+
+/// Why a source cannot be assembled: its faults, at most twenty, by their lines. The first that the assembler
+/// answers is found first, and each further one once of the lines found before it only the labels stand: their
+/// labels serve the other lines, and a line whose label is at fault too is named again. Nothing is looked for
+/// after TooLong.
 ///
 /// # Errors
 ///
 /// An allocation failed.
 pub fn faulty_lines(alloc: Global, source: &[u8]) -> Result<Vec<FaultyLine>, AllocError>
-    ensures { IfOk result (λ lines. length lines.items ≤ 20) }
+    ensures { IfOk result (λ lines. AreFaultyLines source.now lines.items) }
 {
-    let mut lines = Vec::new(alloc);
-    let mut text = Vec::from_slice(alloc, source)?;
-    for _ in 0..2 * MOST_LINES {
-        let (fault, number) = match assemble(alloc, &text) {
-            Ok(_) => break,
-            Err(AsmFault::Memory) => return Err(AllocError),
-            Err(AsmFault::Line(fault, number)) => (fault, number),
-        };
-        let is_new = add(&mut lines, FaultyLine { number, fault })?;
-        if fault == Fault::TooLong || lines.len() == MOST_LINES {
-            break;
-        }
-        let keeps_label = is_new && fault != Fault::LabelTwice;
-        text = replaced(alloc, &text, number, keeps_label)?;
-    }
+    let mut lines = faults_of(alloc, source)?;
     lines.sort_by_key(|line| line.number)?;
     Ok(lines)
 }

@@ -1,20 +1,21 @@
 ghost use Rattle.std.specs.Prelude.{◌≡◌, ◌++◌, [], IfOk, OnOk};
 ghost use Rattle.diagnosis.specs.Rows.{Appends, AreRows, IsRow};
 ghost use Rattle.diagnosis.specs.Texts.{IsCycleText, IsEntryFront, IsEntryText, IsStartRow, IsUnder};
-ghost use Rattle.diagnosis.specs.Texts.{IsListed, key_text, leads, loop_text, nine};
+ghost use Rattle.diagnosis.specs.Texts.{IsChainText, IsFaultText, IsLeadText, IsRowText, addresses_text};
+ghost use Rattle.diagnosis.specs.Texts.{chain_of, key_text, loop_text, shared_text, stated_text};
 
 use crate::entries::MidEntry;
 use crate::extents::Extent;
-use crate::rows::put;
+use crate::rows::{put, put_decimal};
 use crate::words::Words;
-use flow_graph::{Edge, Place};
+use flow_graph::{BuildFault, Edge, FaultyPlace, Loop, Place};
 use std::alloc::{AllocError, Global};
 
 const ENTERED: &[u8] = b"A loop is entered elsewhere than at its header. From here:\n";
 
 const NINE: &[u8] = b"Nine calls, each inside the one before it; eight is the most:\n";
 
-const LEADS: &[u8] = b"No word stands there. These lead to it:\n";
+const LEADS: &[u8] = b"No word stands there. This leads to it:\n";
 
 const TO_HERE: &[u8] = b"To here:\n";
 
@@ -31,14 +32,37 @@ fn put_key(out: &mut Vec<u8>, words: &Words<'_>, key: &[u8], at: u32) -> Result<
     put(out, b"\n")
 }
 
-// Adds a loop as a statement has it, with a question mark for its bound.
-fn put_loop(out: &mut Vec<u8>, words: &Words<'_>, extent: &Extent) -> Result<(), AllocError>
-    ensures { OnOk result (out.new.items ≡ out.old.items ++ loop_text words.now.lines extent.now) }
+// Adds the addresses of a loop as a statement has it.
+fn put_addresses(out: &mut Vec<u8>, words: &Words<'_>, extent: &Extent) -> Result<(), AllocError>
+    ensures { OnOk result
+        (out.new.items ≡ out.old.items ++ addresses_text words.now.lines extent.now) }
 {
     put(out, b"  [[loop]]\n")?;
     put_key(out, words, b"header", extent.header)?;
     put_key(out, words, b"first", extent.first)?;
-    put_key(out, words, b"last", extent.last)?;
+    put_key(out, words, b"last", extent.last)
+}
+
+// Adds a loop as a statement has it.
+fn put_stated(out: &mut Vec<u8>, words: &Words<'_>, stated: &Loop) -> Result<(), AllocError>
+    ensures { OnOk result (out.new.items ≡ out.old.items ++ stated_text words.now.lines stated.now) }
+{
+    let extent = Extent {
+        header: stated.header,
+        first: stated.first,
+        last: stated.last,
+    };
+    put_addresses(out, words, &extent)?;
+    put(out, b"  bound = ")?;
+    put_decimal(out, stated.bound as usize)?;
+    put(out, b"\n")
+}
+
+// Adds a loop as a statement has it, with a question mark for its bound.
+fn put_loop(out: &mut Vec<u8>, words: &Words<'_>, extent: &Extent) -> Result<(), AllocError>
+    ensures { OnOk result (out.new.items ≡ out.old.items ++ loop_text words.now.lines extent.now) }
+{
+    put_addresses(out, words, extent)?;
     put(out, b"  bound = \"?\"\n")
 }
 
@@ -117,6 +141,25 @@ pub fn entry_text(alloc: Global, words: &Words<'_>, entry: &MidEntry) -> Result<
     Ok(out)
 }
 
+/// Two loops with one header.
+///
+/// # Errors
+///
+/// An allocation failed.
+pub fn shared_text(
+    alloc: Global,
+    words: &Words<'_>,
+    one: &Loop,
+    other: &Loop,
+) -> Result<Vec<u8>, AllocError>
+    ensures { IfOk result (λ text. text.items ≡ shared_text words.now.lines one.now other.now) }
+{
+    let mut out = Vec::from_slice(alloc, b"These two loops have one header:\n")?;
+    put_stated(&mut out, words, one)?;
+    put_stated(&mut out, words, other)?;
+    Ok(out)
+}
+
 // Adds the rows of words.
 fn put_rows(out: &mut Vec<u8>, words: &Words<'_>, named: &[u32]) -> Result<(), AllocError>
     ensures { OnOk result (Appends (AreRows (IsRow words.now) named.now) out.old.items out.new.items) }
@@ -127,44 +170,68 @@ fn put_rows(out: &mut Vec<u8>, words: &Words<'_>, named: &[u32]) -> Result<(), A
     Ok(())
 }
 
-// A line, and under it the rows of words; nothing where there are none.
-fn listed(
-    alloc: Global,
-    words: &Words<'_>,
-    heading: &[u8],
-    named: &[u32],
-) -> Result<Vec<u8>, AllocError>
-    ensures { IfOk result (λ text. IsListed words.now heading.now named.now text.items) }
+// The addresses of the calls that a place is inside of, and then its own; none of Exit.
+fn chain_of(alloc: Global, place: &Place) -> Result<Vec<u32>, AllocError>
+    ensures { IfOk result (λ chain. chain.items ≡ chain_of place.now) }
 {
-    let mut out = Vec::new(alloc);
-    if named.is_empty() {
-        return Ok(out);
+    match place {
+        Place::At(calls, address) => {
+            let mut chain = Vec::from_slice(alloc, calls.as_slice())?;
+            chain.push(*address)?;
+            Ok(chain)
+        }
+        Place::Exit => Ok(Vec::new(alloc)),
     }
-    put(&mut out, heading)?;
-    put_rows(&mut out, words, named)?;
+}
+
+// The calls that a place is inside of, and its own.
+fn chain_text(alloc: Global, words: &Words<'_>, place: &Place) -> Result<Vec<u8>, AllocError>
+    ensures { IfOk result (λ text. IsChainText words.now place.now text.items) }
+{
+    let chain = chain_of(alloc, place)?;
+    let mut out = Vec::from_slice(alloc, NINE)?;
+    put_rows(&mut out, words, &chain)?;
     Ok(out)
 }
 
-/// Nine calls that are one inside another, by the addresses of their words; nothing where there are none.
-///
-/// # Errors
-///
-/// An allocation failed.
-pub fn calls_text(alloc: Global, words: &Words<'_>, calls: &[u32]) -> Result<Vec<u8>, AllocError>
-    ensures { IfOk result (λ text. IsListed words.now nine calls.now text.items) }
+// The word where the edge begins.
+fn lead_text(alloc: Global, words: &Words<'_>, edge: &Option<Edge>) -> Result<Vec<u8>, AllocError>
+    ensures { IfOk result (λ text. IsLeadText words.now edge.now text.items) }
 {
-    listed(alloc, words, NINE, calls)
+    let mut out = Vec::new(alloc);
+    if let Some(edge) = edge {
+        put_under(&mut out, words, LEADS, &edge.from)?;
+    }
+    Ok(out)
 }
 
-/// The words that lead to an address where none stands; nothing where there are none.
+// The row of a place.
+fn row_text(alloc: Global, words: &Words<'_>, place: &Place) -> Result<Vec<u8>, AllocError>
+    ensures { IfOk result (λ text. IsRowText words.now place.now text.items) }
+{
+    let mut out = Vec::new(alloc);
+    words.put_place(&mut out, place)?;
+    Ok(out)
+}
+
+/// Why a place has no edges: the nine calls that are one inside another, the word that leads to a place where
+/// none stands, or else the word of the place.
 ///
 /// # Errors
 ///
 /// An allocation failed.
-pub fn leads_text(alloc: Global, words: &Words<'_>, leading: &[u32]) -> Result<Vec<u8>, AllocError>
-    ensures { IfOk result (λ text. IsListed words.now leads leading.now text.items) }
+pub fn place_text(
+    alloc: Global,
+    words: &Words<'_>,
+    faulty: &FaultyPlace,
+) -> Result<Vec<u8>, AllocError>
+    ensures { IfOk result (λ text. IsFaultText words.now faulty.now faulty.now.fault text.items) }
 {
-    listed(alloc, words, LEADS, leading)
+    match faulty.fault {
+        BuildFault::TooDeep => chain_text(alloc, words, &faulty.place),
+        BuildFault::OutsideImage(_) => lead_text(alloc, words, &faulty.edge),
+        _ => row_text(alloc, words, &faulty.place),
+    }
 }
 
 /// The row of the word at an address.

@@ -1,4 +1,4 @@
-use Rattle.std.proofs.Common.{◌≡◌, ◌<◌, ◌≤◌, List, get_or, length, subst, sym, arith}
+use Rattle.std.proofs.Common.{◌≡◌, ◌<◌, ◌≤◌, List, get_or, length, subst, arith}
 use Rattle.flow_graph.specs.declared.places.Place.{Place}
 use Rattle.diagnosis.specs.Entries.{AreRightlyEntered}
 use Rattle.diagnosis.proofs.EntryLemmas.{none_entered, one_more}

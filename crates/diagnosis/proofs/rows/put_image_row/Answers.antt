@@ -1,6 +1,3 @@
-use Rattle.std.proofs.Common.{sym, subst, ℕ, Option}
-use Rattle.std.proofs.lemmas.Result.{on_ok_weaker}
-use Rattle.diagnosis.specs.Rows.{Appends, IsImageRow}
 use Rattle.diagnosis.proofs.rows.put_image_row.Goals as goal
 
 pub returns-in-Some : goal.returns-in-Some

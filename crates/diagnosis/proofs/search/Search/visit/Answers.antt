@@ -6,7 +6,7 @@ use Rattle.flow_graph.specs.declared.edges.Edge.{Edge}
 use Rattle.flow_graph.specs.declared.places.Place.{Place}
 use Rattle.flow_graph.specs.declared.places.Place.TheVariants.{Exit}
 use Rattle.flow_graph.specs.Places.{place_at}
-use Rattle.diagnosis.specs.Cycles.{IsClosed, IsCycleOf, IsEnded, IsSearching}
+use Rattle.diagnosis.specs.Cycles.{IsClosed, IsEnded, IsSearching}
 use Rattle.diagnosis.proofs.search.Search.visit.Goals as goal
 
 pub returns-clause-cycle : goal.returns-clause-cycle
