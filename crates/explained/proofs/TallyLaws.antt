@@ -1,10 +1,10 @@
 -- An edge more in a tally.
-use Rattle.std.proofs.Common.{◌≡◌, ◌∙◌, ℕ, zero, suc, ◌+◌, ◌-◌, ◌*◌, ◌^◌, ◌<◌, min, true, false, cond, List, [], ◌∷◌, ◌++◌, length, get_or, Some, None, unwrap_or, ⊎_elim, sym, ap, arith, add-one}
-use Rattle.std.specs.Prelude.{Contains, if◌then◌else◌, sum_by}
+use Rattle.std.proofs.Common.{◌≡◌, ◌∙◌, ℕ, zero, suc, ◌+◌, ◌-◌, ◌*◌, ◌^◌, ◌<◌, ◌≤◌, min, true, false, cond, List, [], ◌∷◌, ◌++◌, length, get_or, Some, None, unwrap_or, ⊎_elim, sym, ap, arith, add-one}
+use Rattle.std.specs.Prelude.{Contains, Option, ◌&&◌, ◌==◌, if◌then◌else◌, nat_lt, sum_by}
 use Rattle.std.specs.BTreeMap.{get}
 use Rattle.std.specs.List.{range_with_len}
 use Rattle.std.specs.Ordering.{nat_cmp}
-use Rattle.std.proofs.lemmas.Bool.{cases_Bool}
+use Rattle.std.proofs.lemmas.Bool.{cases_Bool, cases_lt, eq-eqb, le-ltb, lt-ltb, ne_eqb}
 use Rattle.std.proofs.lemmas.List.{get_or_default}
 use Rattle.std.proofs.lemmas.List.Folds.{list_any_at}
 use Rattle.std.proofs.lemmas.List.Sums.{sum_by_push}
@@ -15,13 +15,11 @@ use Rattle.longest_walk.specs.Built.{step_at}
 use Rattle.longest_walk.proofs.CarryWalks.{no_edge}
 use Rattle.walk_counts.specs.Counts.{capped, occurrences}
 use Rattle.walk_counts.proofs.SumLemmas.{capped_times}
-use Rattle.explained.specs.Taken.{Adds, HasAdded, Starts, cost_at, in_all, is_at, is_reached, more, nothing, pass_at, taken_by, taken_of}
+use Rattle.explained.specs.Taken.{Adds, HasAdded, Starts, cost_at, costs_from, in_all, is_at, is_reached, is_taken_from, more, nothing, pass_at, range_of, taken_by, taken_of, widened}
+use Rattle.explained.proofs.RangeLaws.{range_kept, range_left, range_push}
+use Rattle.explained.specs.declared.tally.Costs.{Costs}
 use Rattle.explained.specs.declared.tally.Taken.{Taken}
 use Rattle.explained.specs.declared.tally.Tally.{Tally}
-
-range_push : (n a : ℕ) → range_with_len a (suc n) ≡ range_with_len a n ++ (a + n) ∷ []
-range_push zero a = ap (λ k. k ∷ []) (omega arith)
-range_push (suc n) a = ap (λ ks. a ∷ ks) (range_push n (a + 1) ∙ ap (λ k. range_with_len (a + 1) n ++ k ∷ []) (omega arith))
 
 zero_more : (m x : ℕ) → min x m ≡ min (0 + x) m
 zero_more m x = omega arith
@@ -31,8 +29,8 @@ in_all_more edges walk i number =
     let term = λ (k : ℕ). occurrences edges walk k * number (step_at edges k) in
     ap (λ n. sum_by term (range_with_len 0 n)) (add-one i) ∙ ap (sum_by term) (range_push i 0) ∙ sum_by_push term (range_with_len 0 i) (0 + i) ∙ ap (λ k. sum_by term (range_with_len 0 i) + term k) (omega arith)
 
-pub same_taken : (s t : Taken) → s.passes ≡ t.passes → s.ticks ≡ t.ticks → s ≡ t
-same_taken s t passes ticks = λ i. record { passes = passes i; ticks = ticks i }
+pub same_taken : (s t : Taken) → s.passes ≡ t.passes → s.ticks ≡ t.ticks → s.costs ≡ t.costs → s ≡ t
+same_taken s t passes ticks costs = λ i. record { passes = passes i; ticks = ticks i; costs = costs i }
 
 -- the place of an edge is reached
 pub reached : (places : List Place) (p : Place) (a : ℕ) → Contains places p → is_at a p ≡ true → is_reached places a ≡ true
@@ -41,7 +39,7 @@ reached places p a has at = list_any_at (is_at a) places has.0 p has.1 (ap (is_a
 module _ (edges walk : List Edge) (i : ℕ) (e : Edge) (count : ℕ) (e_is : e ≡ step_at edges i) (count_is : count ≡ capped (occurrences edges walk i)) where
   -- an edge that leaves the address
   leaving : (a : ℕ) → is_at a e.from ≡ true → more (taken_of edges walk i a) e count ≡ taken_of edges walk (i + 1) a
-  leaving a at = same_taken (more (taken_of edges walk i a) e count) (taken_of edges walk (i + 1) a) passes ticks
+  leaving a at = same_taken (more (taken_of edges walk i a) e count) (taken_of edges walk (i + 1) a) passes ticks costs
     where
       n : ℕ
       n = occurrences edges walk i
@@ -69,9 +67,27 @@ module _ (edges walk : List Edge) (i : ℕ) (e : Edge) (count : ℕ) (e_is : e �
           ap (λ c. capped (capped s + capped (c * e.cost))) count_is ∙ ap (λ c. capped (capped s + c)) once ∙ sum
           ∙ ap (λ m. capped (s + m)) (sym all) ∙ ap capped (sym (in_all_more edges walk i (cost_at a)))
 
+      before : Option Costs
+      before = range_of (costs_from edges walk i a)
+
+      costs : (if count == 0 then before else widened before e.cost) ≡ range_of (costs_from edges walk (i + 1) a)
+      costs = ⊎_elim
+          (λ (some : 0 < n).
+          let counted : (count == 0) ≡ false = ne_eqb count 0 (λ none. absurd (let both : capped n ≡ 0 = sym count_is ∙ none in omega arith)) in
+          let met : is_taken_from edges walk a i ≡ true = ap (λ b. b && nat_lt 0 n) here ∙ lt-ltb 0 n some in
+          ap (λ b. if b then before else widened before e.cost) counted ∙ ap (λ c. widened before c) (sym cost)
+          ∙ sym (range_kept (is_taken_from edges walk a) (λ k. (step_at edges k).cost) i met))
+          (λ (none : n ≤ 0).
+          let counted : (count == 0) ≡ true = eq-eqb count 0 (let e : capped n ≡ 0 = omega arith in count_is ∙ e) in
+          let unmet : is_taken_from edges walk a i ≡ false = ap (λ b. b && nat_lt 0 n) here ∙ le-ltb 0 n none in
+          ap (λ b. if b then before else widened before e.cost) counted
+          ∙ sym (range_left (is_taken_from edges walk a) (λ k. (step_at edges k).cost) i unmet))
+          (cases_lt 0 n)
+
   -- one that does not
   passing : (a : ℕ) → is_at a e.from ≡ false → taken_of edges walk i a ≡ taken_of edges walk (i + 1) a
   passing a at = same_taken (taken_of edges walk i a) (taken_of edges walk (i + 1) a) (kept (pass_at a) (ap (λ b. cond b 1 0) here)) (kept (cost_at a) (ap (λ b. cond b (step_at edges i).cost 0) here))
+      (sym (range_left (is_taken_from edges walk a) (λ k. (step_at edges k).cost) i (ap (λ b. b && nat_lt 0 (occurrences edges walk i)) here)))
     where
       here : is_at a (step_at edges i).from ≡ false
       here = ap (λ (x : Edge). is_at a x.from) (sym e_is) ∙ at

@@ -1,8 +1,8 @@
 -- The numbers of a walk of the graph are exact, and add up to what it costs.
-use Rattle.std.proofs.Common.{◌≡◌, ◌∙◌, ℕ, ◌-◌, ◌*◌, ◌^◌, ◌<◌, ◌≤◌, Bool, true, false, cond, List, [], ◌∷◌, length, flat_map, map, Option, Some, None, ⊎_elim, sym, ap, subst, arith}
-use Rattle.std.specs.Prelude.{◌↔◌, All, Contains, if◌then◌else◌, is_some, sum_by}
-use Rattle.std.proofs.lemmas.Bool.{both_ways, cases_Bool}
-use Rattle.std.proofs.lemmas.List.Elements.{All-contains_itself, All-head, All-tail, All-weaker}
+use Rattle.std.proofs.Common.{◌≡◌, ◌∙◌, refl, ℕ, ◌-◌, ◌*◌, ◌^◌, ◌<◌, ◌≤◌, Bool, true, false, cond, List, [], ◌∷◌, length, flat_map, map, Option, Some, None, ⊎_elim, sym, ap, subst, arith}
+use Rattle.std.specs.Prelude.{◌↔◌, ◌&&◌, ◌==◌, All, Contains, if◌then◌else◌, is_some, nat_lt, sum_by}
+use Rattle.std.proofs.lemmas.Bool.{and_parts, both_ways, cases_Bool, eq-eqb, eqb-true, lt-ltb, ltb-true}
+use Rattle.std.proofs.lemmas.List.Elements.{All-contains, All-contains_itself, All-head, All-tail, All-weaker}
 use Rattle.std.proofs.lemmas.List.Folds.{list_any_at, list_any_none}
 use Rattle.std.proofs.lemmas.List.Sums.{sum_by-cons}
 use Rattle.assembler.specs.declared.placed_line.PlacedLine.{PlacedLine}
@@ -16,13 +16,15 @@ use Rattle.longest_walk.specs.Folded.{unfolded}
 use Rattle.longest_walk.specs.Longest.{IsWalkOf}
 use Rattle.longest_walk.specs.declared.folded.Item.{Item}
 use Rattle.walks.specs.Walk.{cost_of}
-use Rattle.walk_counts.specs.Counts.{capped, number_of}
+use Rattle.walk_counts.specs.Counts.{capped, number_of, occurrences}
 use Rattle.walk_counts.proofs.CountLemmas.{along}
 use Rattle.walk_counts.proofs.NumberLemmas.{known_edge}
 use Rattle.walk_counts.proofs.SumLemmas.{sum_none, sums_by_number}
-use Rattle.explained.specs.Table.{image_ticks, is_any_reached, line_taken, passes_of, source_ticks, ticks_in, ticks_of, words_of}
-use Rattle.explained.specs.Taken.{StandOnce, cost_at, in_all, is_at, is_reached, pass_at, taken_at, taken_of}
+use Rattle.explained.specs.Table.{each_of, image_ticks, is_any_reached, line_taken, passes_of, source_ticks, ticks_in, ticks_of, words_of}
+use Rattle.explained.specs.Taken.{AreCostsAt, IsCostAt, StandOnce, cost_at, costs_from, in_all, is_at, is_reached, is_taken_from, pass_at, range_of, taken_at, taken_of}
+use Rattle.explained.specs.declared.tally.Costs.{Costs}
 use Rattle.explained.specs.declared.tally.Taken.{Taken}
+use Rattle.explained.proofs.RangeLaws.{HasCost, IsRange, is_counted, range_is, some_counted}
 use Rattle.explained.proofs.SumLaws.{capped_sums, counted_sum, exchanged, same_terms, sum-flat_map, sum-map_terms}
 use Rattle.explained.proofs.TallyLaws.{reached, same_taken}
 
@@ -58,12 +60,65 @@ module _ (flow : Flow) (walk : List Edge) (well : IsWellFormed flow) (on : All (
   ticks_is : (a : ℕ) → capped (in_all flow.edges walk (length flow.edges) (cost_at a)) ≡ sum_by (cost_at a) walk
   ticks_is a = part_of_cost (cost_at a) (λ e some. within (is_at a e.from) e.cost e.cost (omega arith))
 
-  exact_taken : (a : ℕ) → taken_of flow.edges walk (length flow.edges) a ≡ record { passes = sum_by (pass_at a) walk; ticks = sum_by (cost_at a) walk }
-  exact_taken a = same_taken (taken_of flow.edges walk (length flow.edges) a) (record { passes = sum_by (pass_at a) walk; ticks = sum_by (cost_at a) walk }) (passes_is a) (ticks_is a)
+  abbrev pub costs_here : ℕ → Option Costs
+  costs_here a = range_of (costs_from flow.edges walk (length flow.edges) a)
 
-  pub taken_is : (a : ℕ) → is_reached flow.places a ≡ true → taken_at flow walk a ≡ Some (record { passes = sum_by (pass_at a) walk; ticks = sum_by (cost_at a) walk })
+  exact_taken : (a : ℕ) → taken_of flow.edges walk (length flow.edges) a ≡ record { passes = sum_by (pass_at a) walk; ticks = sum_by (cost_at a) walk; costs = costs_here a }
+  exact_taken a =
+      same_taken (taken_of flow.edges walk (length flow.edges) a)
+      (record { passes = sum_by (pass_at a) walk; ticks = sum_by (cost_at a) walk; costs = costs_here a }) (passes_is a) (ticks_is a) refl
+
+  taken_is : (a : ℕ) → is_reached flow.places a ≡ true → taken_at flow walk a ≡ Some (record { passes = sum_by (pass_at a) walk; ticks = sum_by (cost_at a) walk; costs = costs_here a })
   taken_is a known =
       ap (λ b. if b then Some (taken_of flow.edges walk (length flow.edges) a) else None) known ∙ ap (λ (t : Taken). Some t) (exact_taken a)
+
+  -- ## The costs of the walk's edges
+
+  module _ (a : ℕ) where
+    abbrev pub Has : ℕ → Type 0
+    Has = HasCost (is_taken_from flow.edges walk a) (λ k. (step_at flow.edges k).cost) (length flow.edges)
+
+    -- an edge that is taken is one of the walk
+    of_walk : (n : ℕ) → Has n → IsCostAt a walk n
+    of_walk n h =
+        let parts = and_parts (is_at a (step_at flow.edges h.number).from) (nat_lt 0 (occurrences flow.edges walk h.number)) h.passes in
+        let found = some_counted (λ e. number_of flow.edges e == h.number) walk (ltb-true 0 (occurrences flow.edges walk h.number) parts.1) in
+        let number : number_of flow.edges found.0 ≡ h.number = eqb-true (number_of flow.edges found.0) h.number found.2 in
+        let known = known_edge flow.edges found.0 (All-contains (HasEdge flow) walk found.0 on found.1) in
+        let same : step_at flow.edges h.number ≡ found.0 = ap (step_at flow.edges) (sym number) ∙ known.1 in
+        record {
+          edge = found.0;
+          taken = found.1;
+          leaves = ap (λ (e : Edge). is_at a e.from) (sym same) ∙ parts.0;
+          costs = ap (λ (e : Edge). e.cost) (sym same) ∙ h.costs;
+        }
+
+    -- and the other way round
+    is_taken : (n : ℕ) → IsCostAt a walk n → Has n
+    is_taken n c =
+        let k = number_of flow.edges c.edge in
+        let known = known_edge flow.edges c.edge (All-contains (HasEdge flow) walk c.edge on c.taken) in
+        let some : 0 < occurrences flow.edges walk k = is_counted (λ e. number_of flow.edges e == k) walk c.edge c.taken (eq-eqb k k refl) in
+        record {
+          number = k;
+          below = known.0;
+          passes = ap (λ b. b && nat_lt 0 (occurrences flow.edges walk k)) (ap (λ (e : Edge). is_at a e.from) known.1 ∙ c.leaves) ∙ lt-ltb 0 (occurrences flow.edges walk k) some;
+          costs = ap (λ (e : Edge). e.cost) known.1 ∙ c.costs;
+        }
+
+    are_costs : (r : Option Costs) → IsRange (is_taken_from flow.edges walk a) (λ k. (step_at flow.edges k).cost) (length flow.edges) r → AreCostsAt a walk r
+    are_costs None none = λ n c. none n (is_taken n c)
+    are_costs (Some c) all = (of_walk c.least all.0, of_walk c.greatest all.1, λ n h. all.2 n (is_taken n h))
+
+  pub numbers_are : (a : ℕ) → is_reached flow.places a ≡ true
+      → (costs : Option Costs) × AreCostsAt a walk costs × (taken_at flow walk a ≡ Some (record { passes = sum_by (pass_at a) walk; ticks = sum_by (cost_at a) walk; costs = costs }))
+  numbers_are a known = (
+    costs_here a,
+    are_costs a (costs_here a) (range_is (is_taken_from flow.edges walk a) (λ k. (step_at flow.edges k).cost) (length flow.edges)),
+    taken_is a known,
+  )
+
+  -- ## Sums
 
   -- no edge leaves an address that is not reached
   none_leaves : (a : ℕ) → is_reached flow.places a ≡ false → sum_by (cost_at a) walk ≡ 0
@@ -113,9 +168,10 @@ fitting : (flow : Flow) (tree : Tree) (cost : ℕ) (items : List Item) → IsWal
 fitting flow tree cost items walk fits = subst (λ n. n < 2 ^ 64) (sym walk.costs) fits
 
 pub numbers_of_walk : (flow : Flow) (tree : Tree) (cost : ℕ) (items : List Item) (a : ℕ) → IsWellFormed flow → IsWalkOf flow tree cost items → cost < 2 ^ 64 → is_reached flow.places a ≡ true
-    → taken_at flow (unfolded items) a ≡ Some (record { passes = sum_by (pass_at a) (unfolded items); ticks = sum_by (cost_at a) (unfolded items) })
+    → (costs : Option Costs) × AreCostsAt a (unfolded items) costs
+    × (taken_at flow (unfolded items) a ≡ Some (record { passes = sum_by (pass_at a) (unfolded items); ticks = sum_by (cost_at a) (unfolded items); costs = costs }))
 numbers_of_walk flow tree cost items a well walk fits known =
-    taken_is flow (unfolded items) well (on_graph flow tree cost items walk) (fitting flow tree cost items walk fits) a known
+    numbers_are flow (unfolded items) well (on_graph flow tree cost items walk) (fitting flow tree cost items walk fits) a known
 
 pub source_sum : (flow : Flow) (tree : Tree) (cost : ℕ) (items : List Item) (placed : List PlacedLine) → IsWellFormed flow → IsWalkOf flow tree cost items → cost < 2 ^ 64
     → StandOnce flow.places (flat_map words_of placed) → source_ticks (taken_at flow (unfolded items)) placed ≡ cost
@@ -147,7 +203,7 @@ unreached flow walk line = (
     taken = taken_at flow walk
 
     found : Taken
-    found = record { passes = passes_of (taken line.at); ticks = ticks_in taken line.at line.words }
+    found = record { passes = passes_of (taken line.at); ticks = ticks_in taken line.at line.words; costs = each_of (taken line.at) }
 
     not_any : line_taken taken line ≡ None → is_any_reached taken line.at line.words ≡ false
     not_any none = ⊎_elim

@@ -29,7 +29,7 @@ abbrev pub microseconds_text : ℕ → List ℕ
 microseconds_text ticks = decimal (ticks / 8) ++ (codes "." ++ three_digits (ticks % 8 * 125))
 
 abbrev pub total_row : (total bound : ℕ) → List ℕ
-total_row total bound = codes "    total" ++ (ticks_text total bound ++ codes "\n")
+total_row total bound = in_columns 18 (codes "total") ++ (ticks_text total bound ++ codes "\n")
 
 -- a time, up to the end of the line
 abbrev pub time_text : ℕ → List ℕ

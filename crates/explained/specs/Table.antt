@@ -8,6 +8,7 @@ use Rattle.loader.specs.Image.{Words}
 use Rattle.walk_counts.specs.Counts.{capped}
 use Rattle.explained.specs.Columns.{bound_line, in_columns, ticks_text, total_row}
 use Rattle.explained.specs.Rows.{AreRows, IsShownRow}
+use Rattle.explained.specs.declared.tally.Costs.{Costs}
 use Rattle.explained.specs.declared.tally.Taken.{Taken}
 
 -- ## Lines
@@ -24,6 +25,10 @@ abbrev pub passes_of : Option Taken → ℕ
 passes_of None = 0
 passes_of (Some t) = t.passes
 
+abbrev pub each_of : Option Taken → Option Costs
+each_of None = None
+each_of (Some t) = t.costs
+
 abbrev pub ticks_of : Option Taken → ℕ
 ticks_of None = 0
 ticks_of (Some t) = t.ticks
@@ -38,11 +43,16 @@ module _ (taken : ℕ → Option Taken) where
   abbrev pub ticks_in : (from count : ℕ) → ℕ
   ticks_in from count = capped (sum_by (λ a. ticks_of (taken a)) (addresses from count))
 
-  -- the passes of the first word, and the ticks of all words; None where no place is on the line
+  -- the passes of the first word and the ticks of each, and the ticks of all words; None where no place is on
+  -- the line
   abbrev pub line_taken : PlacedLine → Option Taken
   line_taken line =
       if is_any_reached line.at line.words
-      then Some (record { passes = passes_of (taken line.at); ticks = ticks_in line.at line.words }) else None
+      then Some (record {
+        passes = passes_of (taken line.at);
+        ticks = ticks_in line.at line.words;
+        costs = each_of (taken line.at);
+      }) else None
 
   -- the ticks of all lines
   abbrev pub source_ticks : List PlacedLine → ℕ
@@ -54,10 +64,17 @@ module _ (taken : ℕ → Option Taken) where
 
 -- ## Rows
 
--- how often, and the ticks; or that no walk ever comes there
+-- the ticks of a pass: one number, or from the least to the greatest; nothing is told where the walk never passes
+abbrev pub each_text : Option Costs → List ℕ
+each_text None = codes "-"
+each_text (Some c) =
+    if c.least == c.greatest then decimal c.least else decimal c.least ++ (codes "-" ++ decimal c.greatest)
+
+-- how often, the ticks each time, and those of all times; or that no walk ever comes there
 abbrev pub columns_text : ℕ → Option Taken → List ℕ
-columns_text bound None = in_columns 27 (codes "never reached")
-columns_text bound (Some t) = in_columns 9 (decimal t.passes) ++ ticks_text t.ticks bound
+columns_text bound None = in_columns 36 (codes "never reached")
+columns_text bound (Some t) =
+    in_columns 9 (decimal t.passes) ++ (in_columns 9 (each_text t.costs) ++ ticks_text t.ticks bound)
 
 -- with the number of a line and its text
 abbrev pub line_row : ℕ → Option Taken → ℕ → List ℕ → List ℕ
@@ -80,7 +97,7 @@ IsWordRow taken bound e row =
 -- ## Tables
 
 abbrev pub heading : List ℕ
-heading = codes "   passes      ticks  share  line  text\n"
+heading = codes "   passes     each      ticks  share  line  text\n"
 
 abbrev pub table_end : (total bound : ℕ) → List ℕ
 table_end total bound = total_row total bound ++ bound_line bound
@@ -92,7 +109,7 @@ source_table taken bound source placed =
     ++ (source_rows taken bound 1 (lines_of source) placed ++ table_end (source_ticks taken placed) bound)
 
 abbrev pub image_heading : List ℕ
-image_heading = codes "   passes      ticks  share   address      word  text\n"
+image_heading = codes "   passes     each      ticks  share   address      word  text\n"
 
 -- of an image
 abbrev pub IsImageTable : (ℕ → Option Taken) → ℕ → Words → List ℕ → Type 0

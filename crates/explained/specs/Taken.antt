@@ -1,7 +1,8 @@
 -- What a walk takes at an address.
-use Rattle.std.specs.Prelude.{◌≡◌, ℕ, ◌+◌, ◌*◌, Bool, false, ◌==◌, cond, if◌then◌else◌, List, Option, Some}
+use Rattle.std.specs.Prelude.{◌≡◌, ℕ, ◌+◌, ◌*◌, ◌≤◌, Bool, false, ◌==◌, cond, if◌then◌else◌, List, Option, Some}
 use Rattle.std.specs.Prelude.{None}
-use Rattle.std.specs.Prelude.{length, count_by, is_some, sum_by, true, unwrap_or, Contains}
+use Rattle.std.specs.Prelude.{◌&&◌, length, count_by, filter, fold, is_some, map, max, min, nat_lt, sum_by, true}
+use Rattle.std.specs.Prelude.{unwrap_or, Contains}
 use Rattle.std.specs.BTreeMap.{get}
 use Rattle.std.specs.List.{list_any, range_with_len}
 use Rattle.std.specs.Ordering.{nat_cmp}
@@ -12,6 +13,7 @@ use Rattle.flow_graph.specs.Flow.{Flow}
 use Rattle.loader.specs.Image.{Words, word_of}
 use Rattle.longest_walk.specs.Built.{step_at}
 use Rattle.walk_counts.specs.Counts.{capped, occurrences}
+use Rattle.explained.specs.declared.tally.Costs.{Costs}
 use Rattle.explained.specs.declared.tally.Taken.{Taken}
 use Rattle.explained.specs.declared.tally.Tally.{Tally}
 
@@ -25,6 +27,31 @@ is_at a Exit = false
 -- the graph has a place at the address
 abbrev pub is_reached : List Place → ℕ → Bool
 is_reached places a = list_any (is_at a) places
+
+-- ## Ranges
+
+-- a cost more
+abbrev pub widened : Option Costs → ℕ → Option Costs
+widened None cost = Some (record { least = cost; greatest = cost })
+widened (Some c) cost = Some (record { least = min c.least cost; greatest = max c.greatest cost })
+
+-- the least and the greatest of some costs, if there are any
+abbrev pub range_of : List ℕ → Option Costs
+range_of costs = fold widened None costs
+
+-- an edge of the walk leaves the address and costs so much
+pub record IsCostAt (a : ℕ) (walk : List Edge) (n : ℕ) : Type 0 where
+  pub edge : Edge
+  pub taken : Contains walk edge
+  pub leaves : is_at a edge.from ≡ true
+  pub costs : edge.cost ≡ n
+
+-- the least and the greatest of such costs; None where no edge of the walk leaves the address
+abbrev pub AreCostsAt : ℕ → List Edge → Option Costs → Type 0
+AreCostsAt a walk None = (n : ℕ) → IsCostAt a walk n → ⊥
+AreCostsAt a walk (Some c) =
+    IsCostAt a walk c.least × IsCostAt a walk c.greatest
+    × ((n : ℕ) → IsCostAt a walk n → (c.least ≤ n) × (n ≤ c.greatest))
 
 -- ## Numbers
 
@@ -40,27 +67,38 @@ abbrev pub in_all : (edges walk : List Edge) → (count : ℕ) → (Edge → ℕ
 in_all edges walk count number =
     sum_by (λ k. occurrences edges walk k * number (step_at edges k)) (range_with_len 0 count)
 
--- how often the walk takes those of them that leave the address, and the ticks of that
+-- the edge with the number leaves the address, and the walk takes it
+abbrev pub is_taken_from : (edges walk : List Edge) → (a k : ℕ) → Bool
+is_taken_from edges walk a k = is_at a (step_at edges k).from && nat_lt 0 (occurrences edges walk k)
+
+-- the costs of those of the first edges of which that holds
+abbrev pub costs_from : (edges walk : List Edge) → (count a : ℕ) → List ℕ
+costs_from edges walk count a =
+    map (λ k. (step_at edges k).cost) (filter (is_taken_from edges walk a) (range_with_len 0 count))
+
+-- how often the walk takes those of them that leave the address, the ticks of that, and the least and the
+-- greatest cost of one that it takes
 abbrev pub taken_of : (edges walk : List Edge) → (count a : ℕ) → Taken
 taken_of edges walk count a =
     record {
       passes = capped (in_all edges walk count (pass_at a));
       ticks = capped (in_all edges walk count (cost_at a));
+      costs = range_of (costs_from edges walk count a);
     }
 
 abbrev pub taken_by : Flow → List Edge → (count a : ℕ) → Option Taken
 taken_by flow walk count a =
     if is_reached flow.places a then Some (taken_of flow.edges walk count a) else None
 
--- what the walk takes at the address: how often it leaves it, and the ticks of that; None where the graph has
--- no place
+-- what the walk takes at the address: how often it leaves it, the ticks of that, and from how many to how many
+-- at a time; None where the graph has no place
 abbrev pub taken_at : Flow → List Edge → ℕ → Option Taken
 taken_at flow walk a = taken_by flow walk (length flow.edges) a
 
 -- ## Tallies
 
 abbrev pub nothing : Taken
-nothing = record { passes = 0; ticks = 0 }
+nothing = record { passes = 0; ticks = 0; costs = None }
 
 -- what is taken at the place's address is set
 abbrev pub Puts : Place → Taken → (old new : Tally) → Type 0
@@ -71,7 +109,11 @@ Puts place taken old new =
 -- an edge more, taken so many times
 abbrev pub more : Taken → Edge → ℕ → Taken
 more t e count =
-    record { passes = capped (t.passes + count); ticks = capped (t.ticks + capped (count * e.cost)) }
+    record {
+      passes = capped (t.passes + count);
+      ticks = capped (t.ticks + capped (count * e.cost));
+      costs = if count == 0 then t.costs else widened t.costs e.cost;
+    }
 
 -- a tally of the places, before any edge
 abbrev pub Starts : List Place → Tally → Type 0

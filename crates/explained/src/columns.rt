@@ -6,13 +6,14 @@ use itoa::Buffer;
 use std::alloc::{AllocError, Global};
 
 // As many blanks as the widest column has.
-const BLANKS: &[u8] = b"                           ";
+const BLANKS: &[u8] = b"                                    ";
 
 /// The names of the columns.
-pub(crate) const HEADING: &[u8] = b"   passes      ticks  share  line  text\n";
+pub(crate) const HEADING: &[u8] = b"   passes     each      ticks  share  line  text\n";
 
 /// The names of the columns of an image.
-pub(crate) const IMAGE_HEADING: &[u8] = b"   passes      ticks  share   address      word  text\n";
+pub(crate) const IMAGE_HEADING: &[u8] =
+    b"   passes     each      ticks  share   address      word  text\n";
 
 /// Adds a text.
 pub(crate) fn put(out: &mut Vec<u8>, text: &[u8]) -> Result<(), AllocError>
@@ -23,7 +24,7 @@ pub(crate) fn put(out: &mut Vec<u8>, text: &[u8]) -> Result<(), AllocError>
 
 /// Adds a text that ends so many columns on.
 pub(crate) fn put_right(out: &mut Vec<u8>, text: &[u8], width: usize) -> Result<(), AllocError>
-    requires { width ≤ 27 }
+    requires { width ≤ 36 }
     ensures { OnOk result (out.new.items ≡ out.old.items ++ in_columns width text.now) }
 {
     put(out, &BLANKS[..width.saturating_sub(text.len())])?;
@@ -32,7 +33,7 @@ pub(crate) fn put_right(out: &mut Vec<u8>, text: &[u8], width: usize) -> Result<
 
 /// Adds a number in decimal that ends so many columns on.
 pub(crate) fn put_number(out: &mut Vec<u8>, number: u64, width: usize) -> Result<(), AllocError>
-    requires { width ≤ 27 }
+    requires { width ≤ 36 }
     ensures { OnOk result (out.new.items ≡ out.old.items ++ in_columns width (decimal number)) }
 {
     let mut buffer = Buffer::new();
@@ -84,7 +85,7 @@ pub(crate) fn put_time(out: &mut Vec<u8>, ticks: u128) -> Result<(), AllocError>
 pub(crate) fn put_end(out: &mut Vec<u8>, total: u64, bound: u64) -> Result<(), AllocError>
     ensures { OnOk result (out.new.items ≡ out.old.items ++ (total_row total bound ++ bound_line bound)) }
 {
-    put(out, b"    total")?;
+    put_right(out, b"total", 18)?;
     put_ticks(out, total, bound)?;
     put(out, b"\nbound ")?;
     put_time(out, u128::from(bound))

@@ -1,4 +1,4 @@
-ghost use Rattle.std.specs.Prelude.{◌≡◌, ◌≢◌, ◌↔◌, ◌<◌, ◌≤◌, ◌^◌, ℕ, false, true, List, None, Some, Ok};
+ghost use Rattle.std.specs.Prelude.{◌≡◌, ◌≢◌, ◌↔◌, ◌<◌, ◌≤◌, ◌^◌, ℕ, false, true, List, None, Some, Ok, Option};
 ghost use Rattle.std.specs.Prelude.{Contains, flat_map, map, sum_by};
 ghost use Rattle.bus_ticks.specs.declared.profile.Profile.{Profile};
 ghost use Rattle.assembler.specs.Placed.{ArePlaced};
@@ -16,21 +16,28 @@ ghost use Rattle.longest_walk.specs.Longest.{IsWalkOf};
 ghost use Rattle.longest_walk.specs.declared.folded.Item.{Item};
 ghost use Rattle.explained.specs.Bursts.{AreFewest, IsBurstTime, with_bursts};
 ghost use Rattle.explained.specs.Table.{image_ticks, line_taken, source_ticks, words_of};
-ghost use Rattle.explained.specs.Taken.{AreOnWords, StandOnce, cost_at, is_reached, pass_at, taken_at};
+ghost use Rattle.explained.specs.Taken.{AreCostsAt, AreOnWords, StandOnce, cost_at, is_reached, pass_at};
+ghost use Rattle.explained.specs.Taken.{taken_at};
+ghost use Rattle.explained.specs.declared.tally.Costs.{Costs};
 ghost use Rattle.statement.specs.Stated.{Stated};
 
 use asm_text::lines_are_spelled;
 use assembler::sources_are_assembled;
 
 /// States that of a walk of the graph that costs less than 2^64 ticks the numbers at an address are exact:
-/// how often the walk leaves the address, and the ticks of that. It does nothing.
+/// how often the walk leaves the address, the ticks of that, and the least and the greatest cost of an edge on
+/// which it does. It does nothing.
 pub fn numbers_are_of_the_walk()
     ensures { (flow : Flow) (tree : Tree) (cost : ℕ) (items : List Item) (a : ℕ)
         → IsWellFormed flow → IsWalkOf flow tree cost items → cost < 2 ^ 64
         → is_reached flow.places a ≡ true
-        → taken_at flow (unfolded items) a
-        ≡ Some (record
-        { passes = sum_by (pass_at a) (unfolded items); ticks = sum_by (cost_at a) (unfolded items) }) }
+        → (costs : Option Costs) × AreCostsAt a (unfolded items) costs
+        × (taken_at flow (unfolded items) a
+        ≡ Some (record {
+          passes = sum_by (pass_at a) (unfolded items);
+          ticks = sum_by (cost_at a) (unfolded items);
+          costs = costs;
+        })) }
 {}
 
 /// States that the ticks of all rows are what the walk costs, if each place of the graph stands at one word

@@ -1,13 +1,15 @@
-ghost use Rattle.std.specs.Prelude.{◌≡◌, ◌+◌, ◌*◌, ◌^◌, ◌≤◌, ◌++◌, OnOk};
+ghost use Rattle.std.specs.Prelude.{◌≡◌, ◌+◌, ◌*◌, ◌^◌, ◌≤◌, ◌++◌, IfOk, OnOk, string_bytes};
 ghost use Rattle.std.specs.BTreeMap.{get};
 ghost use Rattle.std.specs.Ordering.{nat_cmp};
-ghost use Rattle.explained.specs.Table.{columns_text, is_any_reached, line_taken, passes_of};
+ghost use Rattle.explained.specs.Columns.{in_columns};
+ghost use Rattle.explained.specs.Table.{columns_text, each_of, each_text, is_any_reached, line_taken};
+ghost use Rattle.explained.specs.Table.{passes_of};
 ghost use Rattle.explained.specs.Table.{ticks_in, ticks_of};
 
 use crate::columns::{put_number, put_right, put_ticks};
-use crate::tally::{Taken, Tally, capped_sum};
+use crate::tally::{Costs, Taken, Tally, capped_sum};
 use assembler::PlacedLine;
-use std::alloc::AllocError;
+use std::alloc::{AllocError, Global};
 
 // Whether the graph has a place at one of so many words from an address on.
 fn is_any_reached(tally: &Tally, from: u32, count: usize) -> bool
@@ -43,6 +45,15 @@ fn passes_at(tally: &Tally, at: u32) -> u64
     }
 }
 
+fn costs_at(tally: &Tally, at: u32) -> Option<Costs>
+    ensures { result ≡ each_of (get nat_cmp tally.now.by_address at) }
+{
+    match tally.at(at) {
+        Some(taken) => taken.costs,
+        None => None,
+    }
+}
+
 /// The ticks that the walk takes at so many words from an address on.
 pub(crate) fn ticks_in(tally: &Tally, from: u32, count: usize) -> u64
     requires { from + 4 * count ≤ 2 ^ 26 }
@@ -68,7 +79,28 @@ pub(crate) fn line_taken(tally: &Tally, line: PlacedLine) -> Option<Taken>
     Some(Taken {
         passes: passes_at(tally, line.at),
         ticks: ticks_in(tally, line.at, line.words),
+        costs: costs_at(tally, line.at),
     })
+}
+
+// The ticks of a pass.
+fn each(alloc: Global, costs: Option<Costs>) -> Result<String, AllocError>
+    ensures { IfOk result (λ text. string_bytes text ≡ each_text costs) }
+{
+    let Some(costs) = costs else {
+        return format!(in alloc; "-");
+    };
+    if costs.least == costs.greatest {
+        return format!(in alloc; "{}", costs.least);
+    }
+    format!(in alloc; "{}-{}", costs.least, costs.greatest)
+}
+
+fn put_each(out: &mut Vec<u8>, costs: Option<Costs>) -> Result<(), AllocError>
+    ensures { OnOk result (out.new.items ≡ out.old.items ++ in_columns 9 (each_text costs)) }
+{
+    let each = each(*out.allocator(), costs)?;
+    put_right(out, each.as_bytes(), 9)
 }
 
 /// Adds what is taken and what part of the bound that is, or that nothing ever can be.
@@ -82,8 +114,9 @@ pub(crate) fn put_taken(
     match taken {
         Some(taken) => {
             put_number(out, taken.passes, 9)?;
+            put_each(out, taken.costs)?;
             put_ticks(out, taken.ticks, bound)
         }
-        None => put_right(out, b"never reached", 27),
+        None => put_right(out, b"never reached", 36),
     }
 }

@@ -3,7 +3,7 @@ ghost use Rattle.std.specs.BTreeMap.{get};
 ghost use Rattle.std.specs.Ordering.{nat_cmp};
 ghost use Rattle.longest_walk.specs.Folded.{unfolded};
 ghost use Rattle.walk_counts.specs.Counts.{capped};
-ghost use Rattle.explained.specs.Taken.{Adds, IsTally, Puts, Starts};
+ghost use Rattle.explained.specs.Taken.{Adds, IsTally, Puts, Starts, more, widened};
 
 use flow_graph::{Edge, Graph, Place};
 use longest_walk::FoldedWalk;
@@ -11,11 +11,20 @@ use std::alloc::{AllocError, Global};
 use std::collections::BTreeMap;
 use walk_counts::edge_counts;
 
-/// How often a walk passes an instruction, and what that costs in ticks, each told up to 2^64 - 1.
+/// The least and the greatest cost in ticks of the edges that a walk takes from an instruction.
+#[derive(Clone, Copy)]
+pub(crate) struct Costs {
+    pub(crate) least: u32,
+    pub(crate) greatest: u32,
+}
+
+/// How often a walk passes an instruction, and what that costs in ticks, each told up to 2^64 - 1; and what it
+/// costs each time, unless the walk never passes it.
 #[derive(Clone, Copy)]
 pub(crate) struct Taken {
     pub(crate) passes: u64,
     pub(crate) ticks: u64,
+    pub(crate) costs: Option<Costs>,
 }
 
 /// What a walk takes at each address where the graph has a place.
@@ -36,11 +45,38 @@ fn capped_product(count: u64, cost: u32) -> u64
     count.saturating_mul(u64::from(cost))
 }
 
+// A cost more.
+fn widened(costs: Option<Costs>, cost: u32) -> Option<Costs>
+    ensures { result ≡ widened costs cost }
+{
+    match costs {
+        None => Some(Costs {
+            least: cost,
+            greatest: cost,
+        }),
+        Some(costs) => Some(Costs {
+            least: costs.least.min(cost),
+            greatest: costs.greatest.max(cost),
+        }),
+    }
+}
+
 impl Taken {
     const NOTHING: Taken = Taken {
         passes: 0,
         ticks: 0,
+        costs: None,
     };
+
+    // The costs with an edge's, if that is taken.
+    fn costs_with(self, edge: &Edge, count: u64) -> Option<Costs>
+        ensures { result ≡ (more self edge.now count).costs }
+    {
+        if count == 0 {
+            return self.costs;
+        }
+        widened(self.costs, edge.cost)
+    }
 }
 
 impl Tally {
@@ -79,6 +115,7 @@ impl Tally {
         let after = Taken {
             passes: capped_sum(before.passes, count),
             ticks: capped_sum(before.ticks, capped_product(count, edge.cost)),
+            costs: before.costs_with(edge, count),
         };
         self.put(&edge.from, after)
     }
