@@ -1,5 +1,5 @@
--- The lines of a source that cannot be assembled. Our own rule: each is what the assembler refuses once of the
--- lines found before it only the labels stand.
+-- The lines of a source that cannot be assembled. Our own rule: each is what the assembler refuses once only
+-- the labels stand of the lines that were found before it.
 use Rattle.std.specs.Prelude.{◌≡◌, ◌⊎◌, ◌<◌, ◌-◌, ◌+◌, ◌==◌, ℕ, Bool, true, false, List, [], ◌∷◌, ◌++◌}
 use Rattle.std.specs.Prelude.{Result, Ok, Err, if◌then◌else◌, IsPermutation, IsSortedByKey}
 use Rattle.std.specs.List.Sorted.{IsStableByKey}
@@ -28,7 +28,8 @@ if_read (Err fault) text = []
 
 -- what stays of a line with the fault: its label, if that can be read and is not itself at fault
 abbrev pub label_left : Fault → List ℕ → List ℕ
-label_left fault line = if keeps_label fault then if_read (line_of (first_word line)) (first_word line) else []
+label_left fault line =
+    if keeps_label fault then if_read (line_of (first_word line)) (first_word line) else []
 
 -- what stays of the line of a number: all of it, but of the faulty one the label
 abbrev pub line_left : FaultyLine → ℕ → List ℕ → List ℕ
@@ -61,7 +62,8 @@ left_after _ left = left - 1
 abbrev pub AreFaults : ℕ → List ℕ → List FaultyLine → Type 0
 AreFaults left source [] = (left ≡ 0) ⊎ IsAssembled source
 AreFaults left source (faulty ∷ more) =
-    (0 < left) × IsFaultOf source faulty × AreFaults (left_after faulty.fault left) (without faulty source) more
+    (0 < left) × IsFaultOf source faulty
+    × AreFaults (left_after faulty.fault left) (without faulty source) more
 
 -- the faults, twenty at most, by their lines
 pub record AreFaultyLines (source : List ℕ) (lines : List FaultyLine) : Type 0 where

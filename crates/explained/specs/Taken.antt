@@ -1,8 +1,7 @@
 -- What a walk takes at an address.
-use Rattle.std.specs.Prelude.{◌≡◌, ℕ, ◌+◌, ◌*◌, ◌≤◌, Bool, false, ◌==◌, cond, if◌then◌else◌, List, Option, Some}
-use Rattle.std.specs.Prelude.{None}
-use Rattle.std.specs.Prelude.{◌&&◌, length, count_by, filter, fold, is_some, map, max, min, nat_lt, sum_by, true}
-use Rattle.std.specs.Prelude.{unwrap_or, Contains}
+use Rattle.std.specs.Prelude.{◌≡◌, ℕ, ◌+◌, ◌*◌, ◌≤◌, Bool, true, false, ◌==◌, ◌&&◌, nat_lt, cond, min, max}
+use Rattle.std.specs.Prelude.{if◌then◌else◌, List, length, map, filter, fold, count_by, sum_by, Contains}
+use Rattle.std.specs.Prelude.{Option, Some, None, is_some, unwrap_or}
 use Rattle.std.specs.BTreeMap.{get}
 use Rattle.std.specs.List.{list_any, range_with_len}
 use Rattle.std.specs.Ordering.{nat_cmp}
@@ -90,8 +89,8 @@ abbrev pub taken_by : Flow → List Edge → (count a : ℕ) → Option Taken
 taken_by flow walk count a =
     if is_reached flow.places a then Some (taken_of flow.edges walk count a) else None
 
--- what the walk takes at the address: how often it leaves it, the ticks of that, and from how many to how many
--- at a time; None where the graph has no place
+-- what the walk takes at the address: how often it leaves it, the ticks of that, and the least and the
+-- greatest of a time; None where the graph has no place
 abbrev pub taken_at : Flow → List Edge → ℕ → Option Taken
 taken_at flow walk a = taken_by flow walk (length flow.edges) a
 
@@ -117,7 +116,8 @@ more t e count =
 
 -- a tally of the places, before any edge
 abbrev pub Starts : List Place → Tally → Type 0
-Starts places t = (a : ℕ) → get nat_cmp t.by_address a ≡ (if is_reached places a then Some nothing else None)
+Starts places t =
+    (a : ℕ) → get nat_cmp t.by_address a ≡ (if is_reached places a then Some nothing else None)
 
 -- an edge is added, taken so many times
 abbrev pub Adds : Edge → ℕ → (old new : Tally) → Type 0
@@ -139,4 +139,5 @@ StandOnce places all = (p : Place) → Contains places p → count_by (λ a. is_
 
 -- each of the places is at a word of the image
 abbrev pub AreOnWords : Words → List Place → Type 0
-AreOnWords words places = (calls : List ℕ) (a : ℕ) → Contains places (At calls a) → is_some (word_of words a) ≡ true
+AreOnWords words places =
+    (calls : List ℕ) (a : ℕ) → Contains places (At calls a) → is_some (word_of words a) ≡ true

@@ -1,0 +1,6 @@
+; counts down from 3
+start    MOV    R0,#3
+again    SUBS   R0,R0,#1
+turn     BNE    again
+         SUBS   PC,R14,#4
+far      MOV    PC,R14
