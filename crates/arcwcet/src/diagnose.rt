@@ -8,8 +8,9 @@ use assembler::{Assembly, PlacedLine, placed_lines};
 use author_reports::Explained;
 use bus_ticks::Profile;
 use diagnosis::{
-    Program, Words, cycle_text, entry_text, extent_of, faulty_lines, faulty_text, mid_entry,
-    place_text, shared_header, shared_text, statement_text, unbounded_cycle, word_text, words_of,
+    Program, Words, crossing_text, cycle_text, entry_text, extent_of, faulty_lines, faulty_text,
+    loops_that_cross, mid_entry, place_text, shared_header, shared_text, statement_text,
+    unbounded_cycle, word_text, words_of,
 };
 use flow_graph::{BuildFault, Statement, StatementFault, faulty_place, read_statement};
 use loader::MAGIC;
@@ -46,6 +47,10 @@ fn loops_text(
                 None => Ok(Vec::new(alloc)),
             }
         }
+        NestFault::LoopsCross => match loops_that_cross(&stated.graph, loops) {
+            Some(crossing) => crossing_text(alloc, words, &crossing),
+            None => Ok(Vec::new(alloc)),
+        },
         NestFault::SharedHeader => match shared_header(loops) {
             Some((one, other)) => shared_text(alloc, words, &one, &other),
             None => Ok(Vec::new(alloc)),

@@ -29,7 +29,7 @@ find_none {X} p (y ∷ ys) x none (suc j, lt, same) =
       | false ↦ λ fails found. find_none p ys x found (j, omega (arith, lt), same)
     ] refl none
 
-not_true : (b : Bool) → not b ≡ true → b ≡ false
+pub not_true : (b : Bool) → not b ≡ true → b ≡ false
 not_true false is = refl
 not_true true is = absurd (false≢true is)
 

@@ -1,3 +1,4 @@
+mod CrossingLemmas
 mod CycleLemmas
 mod EntryLemmas
 mod ExtentLemmas

@@ -1,3 +1,4 @@
+pub mod Crossings
 pub mod Cycles
 pub mod Entries
 pub mod Extents

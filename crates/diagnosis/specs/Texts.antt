@@ -14,6 +14,7 @@ use Rattle.flow_graph.specs.declared.places.Place.TheVariants.{At, Exit}
 use Rattle.statement.specs.declared.stated.Loop.{Loop}
 use Rattle.diagnosis.specs.Lines.{line_at}
 use Rattle.diagnosis.specs.Rows.{AreRows, IsPlaceRow, IsRow, name_text}
+use Rattle.diagnosis.specs.declared.crossings.Crossing.{Crossing}
 use Rattle.diagnosis.specs.declared.entries.MidEntry.{MidEntry}
 use Rattle.diagnosis.specs.declared.extents.Extent.{Extent}
 use Rattle.diagnosis.specs.declared.sources.FaultyLine.{FaultyLine}
@@ -81,9 +82,24 @@ stated_text lines l =
     addresses_text lines (record { header = l.header; first = l.first; last = l.last })
     ++ (codes "  bound = " ++ (decimal l.bound ++ codes "\n"))
 
+-- a line, and under it two loops
+abbrev pub two_loops : BTreeMap ℕ SourceLine → List ℕ → (one other : Loop) → List ℕ
+two_loops lines heading one other = heading ++ (stated_text lines one ++ stated_text lines other)
+
 abbrev pub shared_text : BTreeMap ℕ SourceLine → (one other : Loop) → List ℕ
-shared_text lines one other =
-    codes "These two loops have one header:\n" ++ (stated_text lines one ++ stated_text lines other)
+shared_text lines = two_loops lines (codes "These two loops have one header:\n")
+
+-- the two loops, a word of both, and one that each has alone
+pub record IsCrossingText (words : Words) (c : Crossing) (text : List ℕ) : Type 0 where
+  pub shared : List ℕ
+  pub one_has : List ℕ
+  pub other_has : List ℕ
+  pub is_shared : IsUnder words (codes "Both have this word:\n") c.shared shared
+  pub is_one : IsUnder words (codes "The first alone has this one:\n") c.one_has one_has
+  pub is_other : IsUnder words (codes "The second alone has this one:\n") c.other_has other_has
+  pub text_is : text
+      ≡ two_loops words.lines (codes "These two loops cross:\n") (c.one).stated (c.other).stated
+      ++ (shared ++ (one_has ++ other_has))
 
 -- ## A place without edges
 

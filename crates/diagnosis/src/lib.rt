@@ -3,6 +3,7 @@
 //! stand.
 #![tactic(auto)]
 
+mod crossings;
 mod cycles;
 mod entries;
 mod extents;
@@ -19,6 +20,7 @@ mod tokens;
 mod values;
 mod words;
 
+pub use crossings::{Crossing, loops_that_cross};
 pub use cycles::unbounded_cycle;
 pub use entries::{MidEntry, mid_entry};
 pub use extents::{Extent, extent_of};
@@ -26,5 +28,5 @@ pub use program::Program;
 pub use shared::shared_header;
 pub use sources::{FaultyLine, faulty_lines, faulty_text};
 pub use statements::statement_text;
-pub use texts::{cycle_text, entry_text, place_text, shared_text, word_text};
+pub use texts::{crossing_text, cycle_text, entry_text, place_text, shared_text, word_text};
 pub use words::{SourceLine, Words, words_of};

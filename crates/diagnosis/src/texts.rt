@@ -2,8 +2,10 @@ ghost use Rattle.std.specs.Prelude.{◌≡◌, ◌++◌, [], IfOk, OnOk};
 ghost use Rattle.diagnosis.specs.Rows.{Appends, AreRows, IsRow};
 ghost use Rattle.diagnosis.specs.Texts.{IsCycleText, IsEntryFront, IsEntryText, IsStartRow, IsUnder};
 ghost use Rattle.diagnosis.specs.Texts.{IsChainText, IsFaultText, IsLeadText, IsRowText, addresses_text};
-ghost use Rattle.diagnosis.specs.Texts.{chain_of, key_text, loop_text, shared_text, stated_text};
+ghost use Rattle.diagnosis.specs.Texts.{IsCrossingText, chain_of, key_text, loop_text, shared_text};
+ghost use Rattle.diagnosis.specs.Texts.{stated_text, two_loops};
 
+use crate::crossings::Crossing;
 use crate::entries::MidEntry;
 use crate::extents::Extent;
 use crate::rows::{put, put_decimal};
@@ -18,6 +20,16 @@ const NINE: &[u8] = b"Nine calls, each inside the one before it; eight is the mo
 const LEADS: &[u8] = b"No word stands there. This leads to it:\n";
 
 const TO_HERE: &[u8] = b"To here:\n";
+
+const ONE_HEADER: &[u8] = b"These two loops have one header:\n";
+
+const CROSS: &[u8] = b"These two loops cross:\n";
+
+const BOTH: &[u8] = b"Both have this word:\n";
+
+const FIRST: &[u8] = b"The first alone has this one:\n";
+
+const SECOND: &[u8] = b"The second alone has this one:\n";
 
 const BEGINS: &[u8] = b"The handler begins in a loop elsewhere than at its header. Here:\n";
 
@@ -141,6 +153,23 @@ pub fn entry_text(alloc: Global, words: &Words<'_>, entry: &MidEntry) -> Result<
     Ok(out)
 }
 
+// A line, and under it two loops.
+fn two_loops(
+    alloc: Global,
+    words: &Words<'_>,
+    heading: &[u8],
+    one: &Loop,
+    other: &Loop,
+) -> Result<Vec<u8>, AllocError>
+    ensures { IfOk result
+        (λ text. text.items ≡ two_loops words.now.lines heading.now one.now other.now) }
+{
+    let mut out = Vec::from_slice(alloc, heading)?;
+    put_stated(&mut out, words, one)?;
+    put_stated(&mut out, words, other)?;
+    Ok(out)
+}
+
 /// Two loops with one header.
 ///
 /// # Errors
@@ -154,9 +183,27 @@ pub fn shared_text(
 ) -> Result<Vec<u8>, AllocError>
     ensures { IfOk result (λ text. text.items ≡ shared_text words.now.lines one.now other.now) }
 {
-    let mut out = Vec::from_slice(alloc, b"These two loops have one header:\n")?;
-    put_stated(&mut out, words, one)?;
-    put_stated(&mut out, words, other)?;
+    two_loops(alloc, words, ONE_HEADER, one, other)
+}
+
+/// Two loops that cross, a word of both, and one that each has alone.
+///
+/// # Errors
+///
+/// An allocation failed.
+pub fn crossing_text(
+    alloc: Global,
+    words: &Words<'_>,
+    crossing: &Crossing,
+) -> Result<Vec<u8>, AllocError>
+    ensures { IfOk result (λ text. IsCrossingText words.now crossing.now text.items) }
+{
+    let one = &crossing.one.stated;
+    let other = &crossing.other.stated;
+    let mut out = two_loops(alloc, words, CROSS, one, other)?;
+    put_under(&mut out, words, BOTH, &crossing.shared)?;
+    put_under(&mut out, words, FIRST, &crossing.one_has)?;
+    put_under(&mut out, words, SECOND, &crossing.other_has)?;
     Ok(out)
 }
 
