@@ -15,7 +15,8 @@ use Rattle.longest_walk.specs.declared.folded.Longest.{Longest}
 use Rattle.explained.specs.Assumed.{AreImageAssumptions, AreSourceAssumptions}
 use Rattle.explained.specs.Bursts.{AreBurstLines}
 use Rattle.explained.specs.declared.bursts.Bursts.{Bursts}
-use Rattle.explained.specs.Table.{IsImageTable, image_ticks, source_table, source_ticks}
+use Rattle.explained.specs.Idle.{AreIdleEntries}
+use Rattle.explained.specs.Table.{IsImageTable, IsSourceTable, image_ticks, source_ticks}
 use Rattle.explained.specs.Taken.{taken_at}
 use Rattle.report_output.specs.Answers.{Answers}
 use Rattle.report_input.specs.Report.{IsAccepted, IsRefused, IsTreeOf}
@@ -24,19 +25,21 @@ use Rattle.report_output.specs.declared.fault.ReportFault.{ReportFault}
 
 -- ## The explanation
 
--- by the lines of a text, each where it stands: the table, then what bursts add to the bound, and then what
--- is taken for granted
+-- by the lines of a text, each where it stands: the table, then what bursts add to the bound, then what is taken
+-- for granted, and then the entries of the statement without effect
 pub record IsSourceText (source : List ℕ) (words : Words) (stated : Stated) (flow : Flow) (longest : Longest)
     (price : ℕ) (bursts : Bursts) (text : List ℕ) : Type 0 where
   pub placed : List PlacedLine
+  pub table : List ℕ
   pub burst_lines : List ℕ
   pub assumptions : List ℕ
+  pub idle : List ℕ
   pub are_placed : ArePlaced source placed
+  pub is_table : IsSourceTable words stated flow (unfolded longest.walk) longest.bound source placed table
   pub are_burst_lines : AreBurstLines price longest.bound bursts burst_lines
   pub are_assumptions : AreSourceAssumptions source placed words stated flow assumptions
-  pub text_is : text
-      ≡ source_table (taken_at flow (unfolded longest.walk)) longest.bound source placed
-      ++ (burst_lines ++ assumptions)
+  pub are_idle : AreIdleEntries words stated flow idle
+  pub text_is : text ≡ table ++ (burst_lines ++ assumptions ++ idle)
 
 -- by the words of an image
 pub record IsImageText (words : Words) (stated : Stated) (flow : Flow) (longest : Longest)
@@ -44,10 +47,12 @@ pub record IsImageText (words : Words) (stated : Stated) (flow : Flow) (longest 
   pub table : List ℕ
   pub burst_lines : List ℕ
   pub assumptions : List ℕ
-  pub is_table : IsImageTable (taken_at flow (unfolded longest.walk)) longest.bound words table
+  pub idle : List ℕ
+  pub is_table : IsImageTable words stated flow (unfolded longest.walk) longest.bound table
   pub are_burst_lines : AreBurstLines price longest.bound bursts burst_lines
   pub are_assumptions : AreImageAssumptions words stated flow assumptions
-  pub text_is : text ≡ table ++ (burst_lines ++ assumptions)
+  pub are_idle : AreIdleEntries words stated flow idle
+  pub text_is : text ≡ table ++ (burst_lines ++ assumptions ++ idle)
 
 -- of an image by its words, of a text by its lines
 pub record IsTextOf (source : List ℕ) (words : Words) (stated : Stated) (flow : Flow) (longest : Longest)
@@ -65,7 +70,8 @@ pub record IsTotal (source : List ℕ) (words : Words) (flow : Flow) (longest : 
 -- ## The report
 
 -- of an accepted source and statement: the table of a greatest walk, whose cost is the bound, as the ticks of
--- all rows are, what bursts add to that, and what is taken for granted of the words that are reached
+-- all rows are, what bursts add to that, what is taken for granted of the words that are reached, and the entries of
+-- the statement without effect
 pub record IsExplanation (source statement : List ℕ) (bursts : Bursts) (profile : Profile) (bound : ℕ)
     (text : List ℕ) : Type 0 where
   pub accepted : IsAccepted source statement profile

@@ -14,8 +14,8 @@ ghost use Rattle.report_input.specs.Source.{IsSourceFault, source_of};
 use assembler::{PlacedLine, placed_lines};
 use bus_ticks::Profile;
 use explained::{
-    Bursts, StatedGraph, burst_lines, image_assumptions, image_table, places_stand_once,
-    source_assumptions, source_table, totals_are_the_bound,
+    Bursts, StatedGraph, burst_lines, idle_entries, image_assumptions, image_table,
+    places_stand_once, source_assumptions, source_table, totals_are_the_bound,
 };
 use loader::{Image, MAGIC};
 use longest_walk::{Longest, longest};
@@ -70,10 +70,12 @@ fn image_text(
         (λ text. IsImageText stated.entry.image.now stated.entry.statement.now stated.entry.graph.now
         walk.entry.longest.now walk.entry.profile.now.burst walk.entry.bursts text.items) }
 {
-    let mut text = image_table(alloc, stated.image, stated.graph, walk.longest)?;
+    let mut text = image_table(alloc, stated, walk.longest)?;
     let mut rest = burst_lines(alloc, walk.profile, walk.longest.bound, walk.bursts)?;
     let assumptions = image_assumptions(alloc, stated)?;
     rest.extend_from_slice(&assumptions)?;
+    let idle = idle_entries(alloc, stated)?;
+    rest.extend_from_slice(&idle)?;
     text.extend_from_slice(&rest)?;
     Ok(text)
 }
@@ -92,10 +94,12 @@ fn placed_text(
         stated.entry.graph.now walk.entry.longest.now walk.entry.profile.now.burst walk.entry.bursts
         text.items) }
 {
-    let mut text = source_table(alloc, source, placed, stated.graph, walk.longest)?;
+    let mut text = source_table(alloc, stated, source, placed, walk.longest)?;
     let mut rest = burst_lines(alloc, walk.profile, walk.longest.bound, walk.bursts)?;
     let assumptions = source_assumptions(alloc, stated, source, placed)?;
     rest.extend_from_slice(&assumptions)?;
+    let idle = idle_entries(alloc, stated)?;
+    rest.extend_from_slice(&idle)?;
     text.extend_from_slice(&rest)?;
     Ok(text)
 }
@@ -200,10 +204,11 @@ fn priced_explanation<O: Output>(
 
 /// Writes where the ticks of a handler's greatest run time go, by a cycle profile's file or by the first
 /// profile: a table by the lines of the source, or by the words of an image, with how often a greatest walk
-/// passes each and the ticks of that; then the bound, in ticks and in microseconds; then the bound with DMA
-/// bursts, if any are given; and then what is taken for granted: words that count as returns but do not look
-/// like returns, and loads and stores of which no class is stated. Answers whether the bound is enough: without
-/// bursts at most so many ticks as are wanted.
+/// passes each, the ticks of a pass and of all, and what the price takes for granted; then the bound, in ticks and
+/// in microseconds; then the bound with DMA bursts, if any are given; then what is taken for granted: words that
+/// count as returns but do not look like returns, and loads and stores of which no class is stated; and then the
+/// entries of the statement without effect. Answers whether the bound is enough: without bursts at most so many
+/// ticks as are wanted.
 ///
 /// # Errors
 ///

@@ -8,7 +8,8 @@ use Rattle.walk_counts.specs.Counts.{capped}
 use Rattle.assembler.specs.ShownLines.{IsShown}
 use Rattle.loader.specs.Image.{Words}
 use Rattle.explained.specs.Rows.{Appends, AreRows, IsShownRow}
-use Rattle.explained.specs.Table.{IsImageTable, IsWordRow, columns_text, heading, image_heading, image_ticks, source_rows, source_table, source_ticks, table_end, ticks_of}
+use Rattle.explained.specs.Table.{AreImageRows, IsWordRow, columns_text, heading, image_heading, image_ticks, source_rows, source_table, source_ticks, table_end, ticks_of}
+use Rattle.explained.specs.declared.pricing.Pricing.{Pricing}
 use Rattle.explained.specs.declared.tally.Taken.{Taken}
 
 -- parts put one after another
@@ -29,11 +30,12 @@ shown_row at word line old a b c d e f new shown ia ib ic id ie jf inew = (
 )
 
 -- with what is taken there
-pub word_row : (taken : ℕ → Option Taken) (bound at word : ℕ) (here : Option Taken) (old a new : List ℕ) → here ≡ taken at → a ≡ old ++ columns_text bound here
-    → Appends (IsShownRow (at, word)) a new → Appends (IsWordRow taken bound (at, word)) old new
-word_row taken bound at word here old a new same first adds =
-    let columns = columns_text bound (taken at) in
-    let begins : a ≡ old ++ columns = first ∙ ap (λ (o : Option Taken). old ++ columns_text bound o) same in
+pub word_row : (taken : ℕ → Option Taken) (priced : ℕ → Option Pricing) (bound at word : ℕ) (here : Option Taken) (price : Option Pricing) (old a new : List ℕ) → here ≡ taken at → price ≡ priced at
+    → a ≡ old ++ columns_text bound here price → Appends (IsShownRow (at, word)) a new → Appends (IsWordRow taken priced bound (at, word)) old new
+word_row taken priced bound at word here price old a new same is first adds =
+    let columns = columns_text bound (taken at) (priced at) in
+    let begins : a ≡ old ++ columns =
+    first ∙ ap (λ (o : Option Taken). old ++ columns_text bound o price) same ∙ ap (λ (p : Option Pricing). old ++ columns_text bound (taken at) p) is in
     (columns ++ adds.0, (adds.0, adds.1, refl), adds.2 ∙ ap (λ xs. xs ++ adds.0) begins ∙ append_assoc old columns adds.0)
 
 -- the ticks of a word more
@@ -46,24 +48,24 @@ image_more taken words i d ticks one new lt before here sum_is =
     sum_is ∙ ap (λ n. capped (n + one)) before ∙ once ∙ ap capped (sym all)
 
 -- the heading, the rows and the end
-pub image_whole : (taken lookup : ℕ → Option Taken) (bound total : ℕ) (words listed : Words) (start rows new : List ℕ) → lookup ≡ taken → listed ≡ words → start ≡ image_heading
-    → Appends (AreRows (IsWordRow lookup bound) listed) start rows → total ≡ image_ticks lookup listed → new ≡ rows ++ table_end total bound → IsImageTable taken bound words new
-image_whole taken lookup bound total words listed start rows new same are heading_is adds total_is last =
-    let table : IsImageTable lookup bound listed new = (
+pub image_whole : (taken lookup : ℕ → Option Taken) (priced : ℕ → Option Pricing) (bound total : ℕ) (words listed : Words) (start rows new : List ℕ) → lookup ≡ taken → listed ≡ words → start ≡ image_heading
+    → Appends (AreRows (IsWordRow lookup priced bound) listed) start rows → total ≡ image_ticks lookup listed → new ≡ rows ++ table_end total bound → AreImageRows taken priced bound words new
+image_whole taken lookup priced bound total words listed start rows new same are heading_is adds total_is last =
+    let table : AreImageRows lookup priced bound listed new = (
       adds.0,
       adds.1,
       last ∙ ap (λ n. rows ++ table_end n bound) total_is
           ∙ ap (λ xs. xs ++ table_end (image_ticks lookup listed) bound) (adds.2 ∙ ap (λ xs. xs ++ adds.0) heading_is)
           ∙ append_assoc image_heading adds.0 (table_end (image_ticks lookup listed) bound),
     ) in
-    subst (λ ws. IsImageTable taken bound ws new) are (subst (λ f. IsImageTable f bound listed new) same table)
+    subst (λ ws. AreImageRows taken priced bound ws new) are (subst (λ f. AreImageRows f priced bound listed new) same table)
 
-pub source_whole : (taken lookup : ℕ → Option Taken) (bound total : ℕ) (source : List ℕ) (placed : List PlacedLine) (start rows new : List ℕ) → lookup ≡ taken → start ≡ heading
-    → rows ≡ start ++ source_rows lookup bound 1 (lines_of source) placed → total ≡ source_ticks lookup placed → new ≡ rows ++ table_end total bound → new ≡ source_table taken bound source placed
-source_whole taken lookup bound total source placed start rows new same heading_is rows_are total_is last =
-    let lines = source_rows lookup bound 1 (lines_of source) placed in
-    let table : new ≡ source_table lookup bound source placed =
+pub source_whole : (taken lookup : ℕ → Option Taken) (priced : ℕ → Option Pricing) (bound total : ℕ) (source : List ℕ) (placed : List PlacedLine) (start rows new : List ℕ) → lookup ≡ taken → start ≡ heading
+    → rows ≡ start ++ source_rows lookup priced bound 1 (lines_of source) placed → total ≡ source_ticks lookup placed → new ≡ rows ++ table_end total bound → new ≡ source_table taken priced bound source placed
+source_whole taken lookup priced bound total source placed start rows new same heading_is rows_are total_is last =
+    let lines = source_rows lookup priced bound 1 (lines_of source) placed in
+    let table : new ≡ source_table lookup priced bound source placed =
     last ∙ ap (λ n. rows ++ table_end n bound) total_is
     ∙ ap (λ xs. xs ++ table_end (source_ticks lookup placed) bound) (rows_are ∙ ap (λ xs. xs ++ lines) heading_is)
     ∙ append_assoc heading lines (table_end (source_ticks lookup placed) bound) in
-    table ∙ ap (λ (f : ℕ → Option Taken). source_table f bound source placed) same
+    table ∙ ap (λ (f : ℕ → Option Taken). source_table f priced bound source placed) same

@@ -4,6 +4,7 @@ mod BurstLaws
 mod ColumnLaws
 mod IdleLaws
 mod ImageLaws
+mod PricingLaws
 mod RangeLaws
 mod RowLaws
 mod StandLaws

@@ -1,6 +1,6 @@
 -- The least and the greatest of some costs.
 use Rattle.std.proofs.Common.{◌≡◌, ◌∙◌, ℕ, zero, suc, ◌+◌, ◌<◌, ◌≤◌, min, max, Bool, true, false, cond, List, [], ◌∷◌, ◌++◌, Option, Some, None, ◌⊎◌, inl, inr, ⊎_elim, append-nil, map, refl, sym, ap, subst, arith, add-one}
-use Rattle.std.specs.Prelude.{Contains, count_by, filter, fold}
+use Rattle.std.specs.Prelude.{Contains, count_by, filter}
 use Rattle.std.specs.List.{range_with_len}
 use Rattle.std.proofs.lemmas.Bool.{cases_Bool, cases_lt, false≢true}
 use Rattle.std.proofs.lemmas.List.{map-append}

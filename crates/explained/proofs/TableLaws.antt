@@ -7,6 +7,7 @@ use Rattle.assembler.specs.declared.placed_line.PlacedLine.{PlacedLine}
 use Rattle.walk_counts.specs.Counts.{capped}
 use Rattle.explained.specs.Assumed.{named_rows, row_if_named, word_rows}
 use Rattle.explained.specs.Table.{addresses, is_any_reached, source_rows}
+use Rattle.explained.specs.declared.pricing.Pricing.{Pricing}
 use Rattle.explained.specs.declared.tally.Taken.{Taken}
 
 -- ## Words
@@ -31,16 +32,16 @@ ticks_end f at left ticks all none small h =
 
 -- ## Rows
 
-no_places : (taken : ℕ → Option Taken) (bound n : ℕ) (lines : List (List ℕ)) → source_rows taken bound n lines [] ≡ []
-no_places taken bound n [] = refl
-no_places taken bound n (line ∷ lines) = refl
+no_places : (taken : ℕ → Option Taken) (priced : ℕ → Option Pricing) (bound n : ℕ) (lines : List (List ℕ)) → source_rows taken priced bound n lines [] ≡ []
+no_places taken priced bound n [] = refl
+no_places taken priced bound n (line ∷ lines) = refl
 
-pub places_end : (taken : ℕ → Option Taken) (bound n : ℕ) (lines : List (List ℕ)) (placed : List PlacedLine) (i : ℕ) (text all : List ℕ)
-    → length placed ≤ i → text ++ source_rows taken bound n lines (drop i placed) ≡ all → text ≡ all
-places_end taken bound n lines placed i text all le h =
+pub places_end : (taken : ℕ → Option Taken) (priced : ℕ → Option Pricing) (bound n : ℕ) (lines : List (List ℕ)) (placed : List PlacedLine) (i : ℕ) (text all : List ℕ)
+    → length placed ≤ i → text ++ source_rows taken priced bound n lines (drop i placed) ≡ all → text ≡ all
+places_end taken priced bound n lines placed i text all le h =
     let none : drop i placed ≡ [] = drop_of_length-le placed le in
-    sym (append-nil text) ∙ ap (λ xs. text ++ xs) (sym (no_places taken bound n lines))
-    ∙ ap (λ ps. text ++ source_rows taken bound n lines ps) (sym none) ∙ h
+    sym (append-nil text) ∙ ap (λ xs. text ++ xs) (sym (no_places taken priced bound n lines))
+    ∙ ap (λ ps. text ++ source_rows taken priced bound n lines ps) (sym none) ∙ h
 
 -- ## Named words
 

@@ -1,5 +1,5 @@
 -- An edge more in a tally.
-use Rattle.std.proofs.Common.{◌≡◌, ◌∙◌, ℕ, zero, suc, ◌+◌, ◌-◌, ◌*◌, ◌^◌, ◌<◌, ◌≤◌, min, true, false, cond, List, [], ◌∷◌, ◌++◌, length, get_or, Some, None, unwrap_or, ⊎_elim, sym, ap, arith, add-one}
+use Rattle.std.proofs.Common.{◌≡◌, ◌∙◌, ℕ, ◌+◌, ◌-◌, ◌*◌, ◌^◌, ◌<◌, ◌≤◌, min, true, false, cond, List, length, get_or, Some, None, unwrap_or, ⊎_elim, sym, ap, arith, add-one}
 use Rattle.std.specs.Prelude.{Contains, Option, ◌&&◌, ◌==◌, if◌then◌else◌, nat_lt, sum_by}
 use Rattle.std.specs.BTreeMap.{get}
 use Rattle.std.specs.List.{range_with_len}

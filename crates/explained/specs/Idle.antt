@@ -1,13 +1,11 @@
 -- The entries of a statement without effect on a bound. Our own rules, and our own format.
-use Rattle.std.specs.Prelude.{◌≡◌, ℕ, Bool, true, false, ◌&&◌, List, [], ◌++◌, codes}
+use Rattle.std.specs.Prelude.{◌≡◌, ℕ, Bool, true, false, List, [], ◌++◌, codes}
 use Rattle.std.specs.List.{list_any}
 use Rattle.std.specs.Map.{keys_of}
 use Rattle.arm2_effect.specs.Operations.{is_transfer}
 use Rattle.asm_text.specs.Hex.{hex8}
 use Rattle.flow_graph.specs.Flow.{Flow, edge_shape}
 use Rattle.flow_graph.specs.declared.edges.Edge.{Edge}
-use Rattle.flow_graph.specs.declared.edges.Label.{Label}
-use Rattle.flow_graph.specs.declared.edges.Label.TheVariants.{Do, Skip}
 use Rattle.flow_graph.specs.declared.places.Place.{Place}
 use Rattle.flow_graph.specs.declared.places.Place.TheVariants.{At, Exit}
 use Rattle.loader.specs.Image.{Words}
@@ -17,22 +15,14 @@ use Rattle.statement.specs.declared.stated.Loop.{Loop}
 use Rattle.walks.specs.Greatest.{is_back_edge}
 use Rattle.word_shapes.specs.Words.{HasShape}
 use Rattle.explained.specs.Rows.{AreRows, section}
-use Rattle.explained.specs.Taken.{is_at}
+use Rattle.explained.specs.Leaving.{is_left_on}
+use Rattle.explained.specs.declared.leaving.EdgeKind.TheVariants.{CarriesOut}
 
 -- ## Which entries have an effect
 
--- a word is carried out, or passed over
-abbrev pub is_done : Label → Bool
-is_done Do = true
-is_done Skip = false
-
--- the edge carries out the word at the address
-abbrev pub carries_out : ℕ → Edge → Bool
-carries_out a e = is_done e.label && is_at a e.from
-
--- one of the edges does
+-- one of the edges carries out the word at the address
 abbrev pub is_carried_out : List Edge → ℕ → Bool
-is_carried_out edges a = list_any (carries_out a) edges
+is_carried_out = is_left_on CarriesOut
 
 -- a back edge of the loop, inside the calls of the place to which it leads
 abbrev pub turns_to : Loop → Edge → Place → Bool
@@ -67,7 +57,7 @@ abbrev pub target_row : ℕ → List ℕ
 target_row a = entry_row (codes "  target  ") a (codes "  no word is carried out there\n")
 
 abbrev pub access_row : ℕ → List ℕ
-access_row a = entry_row (codes "  access  ") a (codes "  no word loads or stores there\n")
+access_row a = entry_row (codes "  access  ") a (codes "  no load or store is carried out there\n")
 
 -- the row of an entry without effect; one with an effect has none
 pub record IsIdleRow (Counts : Type 0) (shown row : List ℕ) : Type 0 where

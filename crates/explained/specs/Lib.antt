@@ -2,6 +2,9 @@ pub mod Assumed
 pub mod Bursts
 pub mod Columns
 pub mod Idle
+pub mod Leaving
+pub mod Pricing
+pub mod PricingParts
 pub mod Rows
 pub mod Table
 pub mod Taken

@@ -1,17 +1,18 @@
-ghost use Rattle.std.specs.Prelude.{◌≡◌, ◌↔◌, ◌⊎◌, ◌++◌, ℕ, true, IfOk, IsTrue, OnOk};
-ghost use Rattle.std.specs.BTreeSet.{BTreeSet, contains};
+ghost use Rattle.std.specs.Prelude.{◌≡◌, ◌↔◌, ◌++◌, IfOk, IsTrue, OnOk};
+ghost use Rattle.std.specs.BTreeSet.{contains};
 ghost use Rattle.std.specs.List.{list_any};
 ghost use Rattle.std.specs.Map.{keys_of};
 ghost use Rattle.std.specs.Ordering.{nat_cmp};
 ghost use Rattle.explained.specs.Idle.{AccessCounts, AreIdleEntries, AreIdleRows, IsAccessRow, IsLoopRow};
 ghost use Rattle.explained.specs.Idle.{IsTargetRow};
-ghost use Rattle.explained.specs.Idle.{carries_out, entry_row, is_carried_out, is_done, turns_in};
+ghost use Rattle.explained.specs.Idle.{entry_row, turns_in};
 ghost use Rattle.explained.specs.Rows.{Appends, AreRows};
 
 use crate::columns::put;
+use crate::leaving::{EdgeKind, addresses_left};
 use crate::sections::{StatedGraph, section};
 use asm_text::hex8;
-use flow_graph::{Edge, Graph, Label, Loop, Place};
+use flow_graph::{Edge, Graph, Loop, Place};
 use indexmap::IndexMap;
 use loader::Image;
 use loop_bounds::Found;
@@ -20,43 +21,6 @@ use std::collections::BTreeSet;
 use word_shapes::is_transfer_at;
 
 const HEADING: &[u8] = b"\nEntries of the statement without effect:\n";
-
-fn is_done(label: Label) -> bool
-    ensures { result ≡ is_done label }
-{
-    match label {
-        Label::Do => true,
-        Label::Skip => false,
-    }
-}
-
-// Adds the address of the word that the edge carries out.
-fn note_done(done: &mut BTreeSet<u32>, edge: &Edge) -> Result<(), AllocError>
-    ensures { OnOk result
-        ((a : ℕ) → (contains nat_cmp done.new a ≡ true)
-        ↔ ((contains nat_cmp done.old a ≡ true) ⊎ (carries_out a edge.now ≡ true))) }
-{
-    if !is_done(edge.label) {
-        return Ok(());
-    }
-    let Place::At(_, address) = edge.from else {
-        return Ok(());
-    };
-    done.insert(address)?;
-    Ok(())
-}
-
-// The addresses whose words are carried out on an edge of the graph.
-fn carried_out(alloc: Global, graph: &Graph) -> Result<BTreeSet<u32>, AllocError>
-    ensures { IfOk result
-        (λ done. (a : ℕ) → contains nat_cmp done a ≡ is_carried_out graph.now.edges a) }
-{
-    let mut done = BTreeSet::new(alloc);
-    for edge in graph.edges() {
-        note_done(&mut done, edge)?;
-    }
-    Ok(done)
-}
 
 // Whether the edge is a back edge of the loop, inside the calls of the place to which it leads.
 fn turns_in(stated: &Loop, edge: &Edge) -> bool
@@ -139,7 +103,7 @@ fn access_counts(image: &Image, done: &BTreeSet<u32>, at: u32) -> bool
     done.contains(&at) && is_transfer_at(image, at)
 }
 
-// Adds the row of an access, if no word is carried out at its address that loads or stores.
+// Adds the row of an access, if no load or store is carried out at its address.
 fn put_access(
     out: &mut Vec<u8>,
     image: &Image,
@@ -152,7 +116,12 @@ fn put_access(
     if access_counts(image, done, at) {
         return Ok(());
     }
-    put_entry(out, b"  access  ", at, b"  no word loads or stores there\n")
+    put_entry(
+        out,
+        b"  access  ",
+        at,
+        b"  no load or store is carried out there\n",
+    )
 }
 
 fn put_accesses(
@@ -184,7 +153,7 @@ fn idle_rows(alloc: Global, handler: StatedGraph<'_>) -> Result<Vec<u8>, AllocEr
         (λ rows. AreIdleRows handler.entry.image.now handler.entry.statement.now handler.entry.graph.now
         rows.items) }
 {
-    let done = carried_out(alloc, handler.graph)?;
+    let done = addresses_left(alloc, handler.graph, EdgeKind::CarriesOut)?;
     let targets = addresses(alloc, handler.statement.targets())?;
     let accesses = addresses(alloc, handler.statement.accesses())?;
     let mut rows = Vec::new(alloc);

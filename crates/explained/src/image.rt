@@ -4,15 +4,14 @@ ghost use Rattle.std.specs.Ordering.{nat_cmp};
 ghost use Rattle.longest_walk.specs.Folded.{unfolded};
 ghost use Rattle.explained.specs.Rows.{Appends, AreRows, IsShownRow};
 ghost use Rattle.explained.specs.Table.{IsImageTable, IsWordRow, image_ticks};
-ghost use Rattle.explained.specs.Taken.{taken_at};
 
 use crate::columns::{IMAGE_HEADING, put, put_end};
-use crate::lines::{put_taken, ticks_at};
+use crate::lines::{Columns, Costing, put_columns, ticks_at};
+use crate::pricing::priced;
+use crate::sections::StatedGraph;
 use crate::tally::{Tally, capped_sum};
 use asm_text::hex8;
 use assembler::disassemble;
-use flow_graph::Graph;
-use loader::Image;
 use longest_walk::Longest;
 use std::alloc::{AllocError, Global};
 
@@ -31,33 +30,28 @@ pub(crate) fn put_shown_row(out: &mut Vec<u8>, at: u32, word: u32) -> Result<(),
 }
 
 // Adds the row of a word, with what is taken there.
-fn put_row(
-    out: &mut Vec<u8>,
-    tally: &Tally,
-    bound: u64,
-    at: u32,
-    word: u32,
-) -> Result<(), AllocError>
+fn put_row(out: &mut Vec<u8>, costing: Costing<'_>, at: u32, word: u32) -> Result<(), AllocError>
     ensures { OnOk result
-        (Appends (IsWordRow (get nat_cmp tally.now.by_address) bound (at, word)) out.old.items out.new.items) }
+        (Appends (IsWordRow (get nat_cmp costing.entry.tally.now.by_address)
+        (get nat_cmp costing.entry.prices.now) costing.entry.bound (at, word)) out.old.items out.new.items) }
 {
-    put_taken(out, tally.at(at), bound)?;
+    let columns = Columns {
+        taken: costing.tally.at(at),
+        pricing: costing.prices.get(&at).copied(),
+        bound: costing.bound,
+    };
+    put_columns(out, columns)?;
     put_shown_row(out, at, word)
 }
 
 // Adds the rows of the words.
-fn put_rows(
-    out: &mut Vec<u8>,
-    tally: &Tally,
-    bound: u64,
-    words: &[(u32, u32)],
-) -> Result<(), AllocError>
+fn put_rows(out: &mut Vec<u8>, costing: Costing<'_>, words: &[(u32, u32)]) -> Result<(), AllocError>
     ensures { OnOk result
-        (Appends (AreRows (IsWordRow (get nat_cmp tally.now.by_address) bound) words.now) out.old.items
-        out.new.items) }
+        (Appends (AreRows (IsWordRow (get nat_cmp costing.entry.tally.now.by_address)
+        (get nat_cmp costing.entry.prices.now) costing.entry.bound) words.now) out.old.items out.new.items) }
 {
     for (at, word) in words {
-        put_row(out, tally, bound, *at, *word)?;
+        put_row(out, costing, *at, *word)?;
     }
     Ok(())
 }
@@ -75,7 +69,7 @@ fn image_ticks(tally: &Tally, words: &[(u32, u32)]) -> u64
 
 /// Where the ticks of a greatest walk go in an image: a row for each of its words, with how often the walk
 /// passes it, the ticks of a pass (from the least to the greatest, where they differ), all ticks there, what part
-/// of the bound those are, the address, the word and the line that
+/// of the bound those are, what its price takes for granted, the address, the word and the line that
 /// [`disassemble`] shows; then the ticks of all rows, and the bound in ticks and in microseconds.
 ///
 /// Where the graph has no place at a word, the row says so in place of the numbers.
@@ -85,18 +79,23 @@ fn image_ticks(tally: &Tally, words: &[(u32, u32)]) -> u64
 /// An allocation failed.
 pub fn image_table(
     alloc: Global,
-    image: &Image,
-    graph: &Graph,
+    handler: StatedGraph<'_>,
     longest: &Longest,
 ) -> Result<Vec<u8>, AllocError>
     ensures { IfOk result
-        (λ text. IsImageTable (taken_at graph.now (unfolded longest.now.walk)) longest.now.bound image.now
-        text.items) }
+        (λ text. IsImageTable handler.entry.image.now handler.entry.statement.now handler.entry.graph.now
+        (unfolded longest.now.walk) longest.now.bound text.items) }
 {
-    let tally = Tally::of_walk(alloc, graph, &longest.walk)?;
-    let words = image.listed(alloc)?;
+    let tally = Tally::of_walk(alloc, handler.graph, &longest.walk)?;
+    let prices = priced(alloc, handler)?;
+    let costing = Costing {
+        tally: &tally,
+        prices: &prices,
+        bound: longest.bound,
+    };
+    let words = handler.image.listed(alloc)?;
     let mut out = Vec::from_slice(alloc, IMAGE_HEADING)?;
-    put_rows(&mut out, &tally, longest.bound, &words)?;
+    put_rows(&mut out, costing, &words)?;
     put_end(&mut out, image_ticks(&tally, &words), longest.bound)?;
     Ok(out)
 }

@@ -2,14 +2,36 @@ ghost use Rattle.std.specs.Prelude.{◌≡◌, ◌+◌, ◌*◌, ◌^◌, ◌≤
 ghost use Rattle.std.specs.BTreeMap.{get};
 ghost use Rattle.std.specs.Ordering.{nat_cmp};
 ghost use Rattle.explained.specs.Columns.{in_columns};
-ghost use Rattle.explained.specs.Table.{columns_text, each_of, each_text, is_any_reached, line_taken};
+ghost use Rattle.explained.specs.Table.{columns_text, taken_text, each_of, each_text, is_any_reached, line_taken};
 ghost use Rattle.explained.specs.Table.{passes_of};
 ghost use Rattle.explained.specs.Table.{ticks_in, ticks_of};
 
 use crate::columns::{put_number, put_right, put_ticks};
+use crate::pricing::{Pricing, put_pricing};
 use crate::tally::{Costs, Taken, Tally, capped_sum};
 use assembler::PlacedLine;
 use std::alloc::{AllocError, Global};
+use std::collections::BTreeMap;
+
+/// What stands in the columns of a row.
+#[derive(Clone, Copy)]
+pub(crate) struct Columns {
+    /// What the walk takes there; None where the graph has no place.
+    pub(crate) taken: Option<Taken>,
+    /// What the price takes for granted; None where the graph has no place.
+    pub(crate) pricing: Option<Pricing>,
+    /// The bound, of which the ticks are a part.
+    pub(crate) bound: u64,
+}
+
+/// What the rows of a table are made of.
+#[derive(Clone, Copy)]
+pub(crate) struct Costing<'a> {
+    pub(crate) tally: &'a Tally,
+    /// By the addresses where the graph has a place.
+    pub(crate) prices: &'a BTreeMap<u32, Pricing>,
+    pub(crate) bound: u64,
+}
 
 // Whether the graph has a place at one of so many words from an address on.
 fn is_any_reached(tally: &Tally, from: u32, count: usize) -> bool
@@ -103,13 +125,9 @@ fn put_each(out: &mut Vec<u8>, costs: Option<Costs>) -> Result<(), AllocError>
     put_right(out, each.as_bytes(), 9)
 }
 
-/// Adds what is taken and what part of the bound that is, or that nothing ever can be.
-pub(crate) fn put_taken(
-    out: &mut Vec<u8>,
-    taken: Option<Taken>,
-    bound: u64,
-) -> Result<(), AllocError>
-    ensures { OnOk result (out.new.items ≡ out.old.items ++ columns_text bound taken) }
+// Adds what is taken and what part of the bound that is, or that nothing ever can be.
+fn put_taken(out: &mut Vec<u8>, taken: Option<Taken>, bound: u64) -> Result<(), AllocError>
+    ensures { OnOk result (out.new.items ≡ out.old.items ++ taken_text bound taken) }
 {
     match taken {
         Some(taken) => {
@@ -119,4 +137,13 @@ pub(crate) fn put_taken(
         }
         None => put_right(out, b"never reached", 36),
     }
+}
+
+/// Adds the columns of numbers, and what the price takes for granted.
+pub(crate) fn put_columns(out: &mut Vec<u8>, columns: Columns) -> Result<(), AllocError>
+    ensures { OnOk result
+        (out.new.items ≡ out.old.items ++ columns_text columns.bound columns.taken columns.pricing) }
+{
+    put_taken(out, columns.taken, columns.bound)?;
+    put_pricing(out, columns.pricing)
 }

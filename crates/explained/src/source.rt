@@ -3,29 +3,25 @@ ghost use Rattle.std.specs.BTreeMap.{get};
 ghost use Rattle.std.specs.Ordering.{nat_cmp};
 ghost use Rattle.longest_walk.specs.Folded.{unfolded};
 ghost use Rattle.asm_text.specs.Source.{lines_of};
-ghost use Rattle.explained.specs.Table.{line_row, source_rows, source_table, source_ticks};
-ghost use Rattle.explained.specs.Taken.{taken_at};
+ghost use Rattle.explained.specs.Table.{IsSourceTable, line_row, line_taken, source_rows, source_ticks};
 
 use crate::columns::{HEADING, put, put_end, put_number};
-use crate::lines::{line_taken, put_taken, ticks_in};
-use crate::tally::{Taken, Tally, capped_sum};
+use crate::lines::{Columns, Costing, line_taken, put_columns, ticks_in};
+use crate::pricing::priced;
+use crate::sections::StatedGraph;
+use crate::tally::{Tally, capped_sum};
 use asm_text::first_line;
 use assembler::PlacedLine;
-use flow_graph::Graph;
 use longest_walk::Longest;
 use std::alloc::{AllocError, Global};
 
 // Adds the row of a line, if it has words.
-fn put_line(
-    out: &mut Vec<u8>,
-    taken: Option<Taken>,
-    bound: u64,
-    number: u64,
-    text: &[u8],
-) -> Result<(), AllocError>
-    ensures { OnOk result (out.new.items ≡ out.old.items ++ line_row bound taken number text.now) }
+fn put_line(out: &mut Vec<u8>, columns: Columns, number: u64, text: &[u8]) -> Result<(), AllocError>
+    ensures { OnOk result
+        (out.new.items
+        ≡ out.old.items ++ line_row columns.bound columns.taken columns.pricing number text.now) }
 {
-    put_taken(out, taken, bound)?;
+    put_columns(out, columns)?;
     put(out, b" ")?;
     put_number(out, number, 5)?;
     put(out, b"  ")?;
@@ -33,17 +29,31 @@ fn put_line(
     put(out, b"\n")
 }
 
+// What stands in the columns of a line's row.
+fn line_columns(costing: Costing<'_>, line: PlacedLine) -> Columns
+    ensures taken { result.taken ≡ line_taken (get nat_cmp costing.entry.tally.now.by_address) line }
+    ensures pricing { result.pricing ≡ get nat_cmp costing.entry.prices.now line.at }
+    ensures bound { result.bound ≡ costing.entry.bound }
+{
+    Columns {
+        taken: line_taken(costing.tally, line),
+        pricing: costing.prices.get(&line.at).copied(),
+        bound: costing.bound,
+    }
+}
+
 // Adds the rows of the lines that have words.
 fn put_lines(
     out: &mut Vec<u8>,
-    tally: &Tally,
-    bound: u64,
+    costing: Costing<'_>,
     source: &[u8],
     placed: &[PlacedLine],
 ) -> Result<(), AllocError>
     ensures { OnOk result
-        (out.new.items ≡ out.old.items
-        ++ source_rows (get nat_cmp tally.now.by_address) bound 1 (lines_of source.now) placed.now) }
+        (out.new.items
+        ≡ out.old.items
+        ++ source_rows (get nat_cmp costing.entry.tally.now.by_address) (get nat_cmp costing.entry.prices.now)
+        costing.entry.bound 1 (lines_of source.now) placed.now) }
 {
     let mut rest = source;
     let mut number = 1;
@@ -52,7 +62,7 @@ fn put_lines(
             return Ok(());
         };
         if line.words != 0 {
-            put_line(out, line_taken(tally, *line), bound, number, text)?;
+            put_line(out, line_columns(costing, *line), number, text)?;
         }
         rest = after;
         number += 1;
@@ -73,7 +83,12 @@ fn source_ticks(tally: &Tally, placed: &[PlacedLine]) -> u64
 
 /// Where the ticks of a greatest walk go: a row for each line of the source that has words, with how often
 /// the walk passes the line's first word, the ticks of such a pass (from the least to the greatest, where they
-/// differ), the ticks at its words, what part of the bound those are, the number of the line and its text; then the ticks of all rows, and the bound in ticks and in microseconds.
+/// differ), the ticks at its words, what part of the bound those are, what the price of its first word takes for
+/// granted, the number of the line and its text; then the ticks of all rows, and the bound in ticks and in
+/// microseconds.
+///
+/// The price of a load or a store takes the class of what it transfers for granted, that of a multiply its most
+/// cycles (m = 16), and that of a way out of the handler the class of the addresses to which it leaves.
 ///
 /// `placed` says where the lines stand, in their order; the rows end with the lines, or with the places.
 /// Where no place of the graph is on a line, the row says so in place of the numbers.
@@ -83,19 +98,24 @@ fn source_ticks(tally: &Tally, placed: &[PlacedLine]) -> u64
 /// An allocation failed.
 pub fn source_table(
     alloc: Global,
+    handler: StatedGraph<'_>,
     source: &[u8],
     placed: &[PlacedLine],
-    graph: &Graph,
     longest: &Longest,
 ) -> Result<Vec<u8>, AllocError>
     ensures { IfOk result
-        (λ text. text.items
-        ≡ source_table (taken_at graph.now (unfolded longest.now.walk)) longest.now.bound source.now
-        placed.now) }
+        (λ text. IsSourceTable handler.entry.image.now handler.entry.statement.now handler.entry.graph.now
+        (unfolded longest.now.walk) longest.now.bound source.now placed.now text.items) }
 {
-    let tally = Tally::of_walk(alloc, graph, &longest.walk)?;
+    let tally = Tally::of_walk(alloc, handler.graph, &longest.walk)?;
+    let prices = priced(alloc, handler)?;
+    let costing = Costing {
+        tally: &tally,
+        prices: &prices,
+        bound: longest.bound,
+    };
     let mut out = Vec::from_slice(alloc, HEADING)?;
-    put_lines(&mut out, &tally, longest.bound, source, placed)?;
+    put_lines(&mut out, costing, source, placed)?;
     put_end(&mut out, source_ticks(&tally, placed), longest.bound)?;
     Ok(out)
 }

@@ -6,8 +6,10 @@ returns c = record {
   table = c.in_ok-text.text.items;
   burst_lines = c.in_ok-rest.rest.items;
   assumptions = c.in_ok-assumptions.assumptions.items;
+  idle = c.in_ok-idle.idle.items;
   is_table = c.in_ok-text.ensures;
   are_burst_lines = c.in_ok-rest.ensures;
   are_assumptions = c.in_ok-assumptions.ensures;
+  are_idle = c.in_ok-idle.ensures;
   text_is = search rules;
 }

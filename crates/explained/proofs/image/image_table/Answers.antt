@@ -9,8 +9,11 @@ use Rattle.explained.proofs.image.image_table.Goals as goal
 
 pub returns : goal.returns
 returns c =
-    let lookup = get nat_cmp c.in_ok-tally.tally.by_address in
-    image_whole (taken_at c.args.graph.now (unfolded c.args.longest.now.walk)) lookup c.args.longest.now.bound c.image_ticks.result c.args.image.now c.deref.result.now
-    c.in_ok-out.out.items c.put_rows.new.out.items c.put_end.new.out.items (λ i a. c.in_ok-tally.ensures a i) (c.deref.ensures.value ∙ c.in_ok-words.ensures.words)
-    c.in_ok-out.ensures.items c.in_ok-put_rows.ensures (c.image_ticks.ensures ∙ ap (image_ticks lookup) (c.deref-2.ensures.value ∙ sym c.deref.ensures.value))
-    c.in_ok-put_end.ensures
+    let lookup = get nat_cmp c.in_ok-tally.tally.by_address in (
+      get nat_cmp c.in_ok-prices.prices,
+      c.in_ok-prices.ensures,
+      image_whole (taken_at c.args.handler.graph.now (unfolded c.args.longest.now.walk)) lookup (get nat_cmp c.in_ok-prices.prices) c.args.longest.now.bound c.image_ticks.result c.args.handler.image.now c.deref.result.now
+          c.in_ok-out.out.items c.put_rows.new.out.items c.put_end.new.out.items (λ i a. c.in_ok-tally.ensures a i) (c.deref.ensures.value ∙ c.in_ok-words.ensures.words)
+          c.in_ok-out.ensures.items c.in_ok-put_rows.ensures (c.image_ticks.ensures ∙ ap (image_ticks lookup) (c.deref-2.ensures.value ∙ sym c.deref.ensures.value))
+          c.in_ok-put_end.ensures,
+    )

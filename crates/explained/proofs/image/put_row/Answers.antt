@@ -1,3 +1,4 @@
+use Rattle.std.proofs.Common.{◌∙◌}
 use Rattle.std.proofs.lemmas.Result.{on_ok_weaker}
 use Rattle.std.specs.BTreeMap.{get}
 use Rattle.std.specs.Ordering.{nat_cmp}
@@ -7,6 +8,6 @@ use Rattle.explained.proofs.image.put_row.Goals as goal
 pub returns : goal.returns
 returns c =
     on_ok_weaker c.put_shown_row.result
-    (word_row (get nat_cmp c.args.tally.now.by_address) c.args.bound c.args.at c.args.word c.at.result c.args.out.now.items c.put_taken.new.out.items
-    c.put_shown_row.new.out.items c.at.ensures c.in_ok-put_taken.ensures)
+    (word_row (get nat_cmp c.args.costing.tally.now.by_address) (get nat_cmp c.args.costing.prices.now) c.args.costing.bound c.args.at c.args.word c.at.result c.copied.result c.args.out.now.items
+    c.put_columns.new.out.items c.put_shown_row.new.out.items c.at.ensures (c.copied.ensures ∙ c.get.ensures.value) c.in_ok-put_columns.ensures)
     c.put_shown_row.ensures

@@ -8,7 +8,8 @@ use Rattle.explained.proofs.source.put_lines.Goals as goal
 
 pub returns : goal.returns
 returns c =
-    let taken = get nat_cmp c.args.tally.now.by_address in
-    places_end taken c.args.bound c.loop-line.number (lines_of c.loop-line.rest.now) c.args.placed.now c.loop-line.line-index
-    c.loop-line.out.items (c.args.out.now.items ++ source_rows taken c.args.bound 1 (lines_of c.args.source.now) c.args.placed.now)
+    let taken = get nat_cmp c.args.costing.tally.now.by_address in
+    let priced = get nat_cmp c.args.costing.prices.now in
+    places_end taken priced c.args.costing.bound c.loop-line.number (lines_of c.loop-line.rest.now) c.args.placed.now c.loop-line.line-index
+    c.loop-line.out.items (c.args.out.now.items ++ source_rows taken priced c.args.costing.bound 1 (lines_of c.args.source.now) c.args.placed.now)
     c.loop-line-test.false c.loop-line.invariant.same
