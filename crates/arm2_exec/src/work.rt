@@ -27,11 +27,14 @@ pub(crate) struct Made {
 pub(crate) fn interrupt(ioc: &Ioc, r15: u32) -> Option<Vector>
     ensures { result ≡ interrupt_of ioc.now r15 }
 {
-    let asserted = ioc.asserted();
-    if asserted.fiq && !is_fiq_masked(r15) {
+    if ioc.asserts_fiq() && !is_fiq_masked(r15) {
         return Some(Vector::Fiq);
     }
-    if asserted.irq && !is_irq_masked(r15) {
+    // The mask comes first: the requests take longer to find.
+    if is_irq_masked(r15) {
+        return None;
+    }
+    if ioc.asserts_irq() {
         return Some(Vector::Irq);
     }
     None

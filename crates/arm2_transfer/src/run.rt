@@ -4,7 +4,7 @@ ghost use Rattle.std.specs.Prelude.{◌≡◌, ℕ, ◌+◌, ◌*◌, ◌<◌, �
 ghost use Rattle.arm2_transfer.specs.Words.{registers_in, moves_along};
 ghost use Rattle.arm2_transfer.specs.Block.{all_loaded, all_put};
 
-use crate::bus::{Bus, put, see};
+use crate::bus::{Bus, put};
 use crate::registers::{Loading, enter, give};
 use crate::words::split_lowest;
 use arm2_effect::{Mode, Registers};
@@ -30,7 +30,7 @@ pub(crate) fn load_along(
     let (mut left, mut next) = (list, place);
     while left != 0 {
         let (register, rest) = split_lowest(left);
-        let word = see(bus, 0, Spot::Ram(next));
+        let word = bus.memc.load(Spot::Ram(next));
         enter(registers, loading, register, word);
         left = rest;
         next += 4;

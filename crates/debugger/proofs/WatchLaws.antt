@@ -13,9 +13,11 @@ use Rattle.arm2_exec.specs.Run.{Ends, Runs, at_rest, counted, why_stopped}
 use Rattle.arm2_exec.proofs.StepLemmas.{stopped_same, stops}
 use Rattle.arm2_exec.proofs.RunLemmas.{added, goes, plus_none, why_of}
 use Rattle.arm2_exec.specs.declared.machine.Traced.{Traced}
-use Rattle.trace_text.specs.TraceText.{Adds}
+use Rattle.trace_text.specs.TraceText.{Adds, IsLineOf, IsTraceLine}
+use Rattle.arm2_effect.specs.declared.step_end.Kind.{Kind}
+use Rattle.arm2_effect.specs.declared.step_end.Kind.TheVariants.{Plain, Taken, Stopped}
 use Rattle.debugger.specs.Stepping.{Counts, IsWithin, Makes, Stops}
-use Rattle.debugger.specs.Watching.{EndsAt, IsLast, UpTo, Watches, inputs_of, is_break}
+use Rattle.debugger.specs.Watching.{EndsAt, IsLast, UpTo, Watches, as_shown, inputs_of, is_break}
 use Rattle.debugger.specs.SessionState.{SessionState, without_bursts}
 use Rattle.debugger.specs.Answers.{RunsFirst}
 
@@ -166,18 +168,18 @@ module _ (breaks : List ℕ) (start : State) (inputs : List Input) (now next : S
     still_going = ap (λ (r : Ran). r.stopped) counts.2 ∙ so_far.going
 
     -- it went on
-    pub run_goes : is_break breaks next ≡ false → SoFar breaks start inputs next rest told (Some traced)
+    pub run_goes : is_break breaks next ≡ false → SoFar breaks start inputs next rest told (Some (as_shown traced))
     run_goes clear = record {
       made = so_far.made ++ traced ∷ [];
       whole = λ later more after on. passes later more after
           (subst (λ (b : Bool). UpTo b next later more after (Watches breaks next rest later more after))
           (sym clear) on);
-      ends = (so_far.made, refl);
+      ends = (so_far.made, traced, refl, refl);
       going = still_going;
     }
 
     -- it came to a breakpoint
-    pub run_breaks : is_break breaks next ≡ true → Done breaks start inputs told (Some traced) next
+    pub run_breaks : is_break breaks next ≡ true → Done breaks start inputs told (Some (as_shown traced)) next
     run_breaks at =
         let Up : Bool → Type 0 =
         λ b. UpTo b next [] (at_rest None) next (Watches breaks next rest [] (at_rest None) next) in
@@ -190,7 +192,7 @@ module _ (breaks : List ℕ) (start : State) (inputs : List Input) (now next : S
         let P : List Traced → Type 0 =
         λ ts. Watches breaks start inputs ts (added told (at_rest None)) next in
         let Q : Ran → Type 0 = λ r. Watches breaks start inputs made r next in
-        (made, subst Q same (subst P (append-nil made) all), (so_far.made, refl))
+        (made, subst Q same (subst P (append-nil made) all), (so_far.made, traced, refl, refl))
 
 -- ---- what a watched run is
 
@@ -341,8 +343,17 @@ none_made made (Some t) none is = absurd (none t refl)
 
 -- with the last one at hand
 pub with_last : (made : List Traced) (o : Option Traced) (last : Traced) → o ≡ Some last → IsLast made o
-    → (before : List Traced) × (made ≡ before ++ last ∷ [])
+    → (before : List Traced) × (step : Traced) × (made ≡ before ++ step ∷ []) × (last ≡ as_shown step)
 with_last made o last is ends = subst (IsLast made) is ends
+
+-- which has the line of the step itself
+pub same_line : (step last : Traced) (line : List ℕ) → last ≡ as_shown step → IsTraceLine last line → IsTraceLine step line
+same_line step last line is shown = by_kind step.told.kind (subst (λ (t : Traced). IsTraceLine t line) is shown)
+  where
+    by_kind : (kind : Kind) → IsLineOf kind (as_shown step) line → IsLineOf kind step line
+    by_kind (Stopped why) h = h
+    by_kind (Taken vector) h = h
+    by_kind Plain h = h
 
 -- what is added to nothing
 pub added_alone : (Is : List ℕ → Type 0) (old new : List ℕ) → old ≡ [] → Adds Is old new → Is new

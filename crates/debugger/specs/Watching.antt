@@ -46,7 +46,12 @@ Watches breaks s (i ∷ rest) made ran after =
     × (made ≡ traced ∷ later) × (ran ≡ counted s.profile.burst i traced.told more)
     × UpTo (is_break breaks next) next later more after (Watches breaks next rest later more after))
 
--- the last of the steps; none where none is made
+-- a step without the address of the next, which its line does not show
+abbrev pub as_shown : Traced → Traced
+as_shown t = record t { told = record t.told { to = 0 } }
+
+-- the last of the steps, as its line shows it; none where none is made
 abbrev pub IsLast : (made : List Traced) → Option Traced → Type 0
 IsLast made None = made ≡ []
-IsLast made (Some last) = (before : List Traced) × (made ≡ before ++ last ∷ [])
+IsLast made (Some last) =
+    (before : List Traced) × (step : Traced) × (made ≡ before ++ step ∷ []) × (last ≡ as_shown step)

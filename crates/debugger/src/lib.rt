@@ -14,6 +14,7 @@ mod reading;
 mod rows;
 mod session;
 mod stepping;
+mod tally;
 mod words;
 
 pub use conversation::converse;

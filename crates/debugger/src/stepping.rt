@@ -1,34 +1,23 @@
-ghost use Rattle.std.specs.Prelude.{◌≡◌, ◌+◌, ◌*◌, ◌^◌, ◌≤◌, ℕ, List, None, MatchOption, OnSome, length};
+ghost use Rattle.std.specs.Prelude.{◌≡◌, ◌+◌, ◌*◌, ◌^◌, ◌≤◌, ℕ, List, MatchOption, OnSome, length};
 ghost use Rattle.std.specs.Prelude.{vec_capacity};
-ghost use Rattle.arm2_exec.specs.Run.{Runs, at_rest};
+ghost use Rattle.arm2_exec.specs.Run.{Runs};
 ghost use Rattle.arm2_exec.specs.declared.machine.Traced.{Traced};
 ghost use Rattle.trace_text.specs.TraceText.{Adds, TracesRun};
 ghost use Rattle.debugger.specs.SessionState.{without_bursts};
 ghost use Rattle.debugger.specs.Stepping.{Counts, IsWithin, Stops};
-ghost use Rattle.debugger.specs.Watching.{IsLast, Watches, inputs_of, is_break};
+ghost use Rattle.debugger.specs.Watching.{IsLast, Watches, as_shown, inputs_of, is_break};
 
 use crate::printed::put_trace;
+use crate::tally::Tally;
 use arm2_effect::address_of;
-use arm2_exec::{Input, Kind, Machine, Ran, Reg, Traced};
+use arm2_exec::{Input, Kind, Machine, Ran, Reg, Stepped, Traced};
 
-/// What a run told, and the last of its steps.
+/// What a run told, and the last of its steps, as its line shows it.
 #[derive(Clone, Copy)]
 pub(crate) struct Watched {
     pub(crate) ran: Ran,
     /// None where no step was made.
     pub(crate) last: Option<Traced>,
-}
-
-// What a run tells before its first step.
-fn nothing_ran() -> Ran
-    ensures { result ≡ at_rest None }
-{
-    Ran {
-        steps: 0,
-        ticks: 0,
-        elapsed: 0,
-        stopped: None,
-    }
 }
 
 fn is_at_break(breaks: &[u32], machine: &Machine) -> bool
@@ -41,23 +30,19 @@ fn is_at_break(breaks: &[u32], machine: &Machine) -> bool
 // Makes a step and counts it; its bursts are left out of the input of the next. None where it is stopped,
 // which the run then tells.
 #[inline(always)]
-fn advance(machine: &mut Machine, input: &mut Input, ran: &mut Ran) -> Option<Traced>
+fn advance(machine: &mut Machine, input: &mut Input, ran: &mut Tally) -> Option<Traced>
     requires { IsWithin (2 ^ 32) ran.old }
     ensures told { MatchOption result (Stops machine.old input.old ran.old ran.new machine.new)
         (λ traced. Counts machine.old input.old ran.old traced ran.new machine.new) }
     ensures input { OnSome result (input.new ≡ without_bursts input.old) }
     ensures bound { (made : ℕ) → IsWithin made ran.old → IsWithin (made + 1) ran.new }
 {
-    let stretched = machine.profile().burst_ticks(input.bursts);
     let traced = machine.step_traced(*input);
     if let Kind::Stopped(why) = traced.told.kind {
-        ran.stopped = Some(why);
+        ran.stop(why);
         return None;
     }
-    let ticks = u128::from(traced.told.ticks);
-    ran.steps += 1;
-    ran.ticks += ticks;
-    ran.elapsed += ticks + u128::from(stretched);
+    ran.count(machine, *input, traced.told);
     input.bursts = 0;
     Some(traced)
 }
@@ -69,15 +54,37 @@ pub(crate) fn put_steps(out: &mut Vec<u8>, machine: &mut Machine, first: Input, 
     ensures runs { Runs machine.old (inputs_of first steps) result machine.new }
     ensures text { Adds (TracesRun machine.old (inputs_of first steps)) out.old.items out.new.items }
 {
-    let mut ran = nothing_ran();
+    let mut ran = Tally::new();
     let mut input = first;
     for made in 0..steps {
         let Some(traced) = advance(machine, &mut input, &mut ran) else {
-            return ran;
+            return ran.told();
         };
         put_trace(out, &traced);
     }
-    ran
+    ran.told()
+}
+
+// What the line of a step shows: less is kept of each step.
+fn as_shown(traced: Traced) -> Traced
+    ensures { result ≡ as_shown traced }
+{
+    Traced {
+        told: Stepped {
+            to: 0,
+            ..traced.told
+        },
+        ..traced
+    }
+}
+
+fn ended(ran: &Tally, last: Option<Traced>) -> Watched
+    ensures { result ≡ (record { ran = ran.now; last = last }) }
+{
+    Watched {
+        ran: ran.told(),
+        last,
+    }
 }
 
 /// Steps a machine up to so many times: up to a step that is stopped, and after each step to a breakpoint.
@@ -92,17 +99,17 @@ pub(crate) fn run_watched(
         × Watches breaks.now machine.old (inputs_of first steps) made result.ran machine.new
         × IsLast made result.last }
 {
-    let mut ran = nothing_ran();
+    let mut ran = Tally::new();
     let mut last = None;
     let mut input = first;
     for made in 0..steps {
         let Some(traced) = advance(machine, &mut input, &mut ran) else {
-            return Watched { ran, last };
+            return ended(&ran, last);
         };
-        last = Some(traced);
+        last = Some(as_shown(traced));
         if is_at_break(breaks, machine) {
-            return Watched { ran, last };
+            return ended(&ran, last);
         }
     }
-    Watched { ran, last }
+    ended(&ran, last)
 }

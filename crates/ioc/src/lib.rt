@@ -164,10 +164,28 @@ impl Ioc {
         ensures fiq { result.fiq ≡ fiq_of self.now }
         ensures irq { result.irq ≡ irq_of self.now }
     {
-        let fiq = share_a_bit(self.status_f(), self.mask_f);
+        Asserted {
+            fiq: self.asserts_fiq(),
+            irq: self.asserts_irq(),
+        }
+    }
+
+    /// Whether FIQ is asserted.
+    #[inline(always)]
+    pub fn asserts_fiq(&self) -> bool
+        ensures { result ≡ fiq_of self.now }
+    {
+        share_a_bit(self.status_f(), self.mask_f)
+    }
+
+    /// Whether IRQ is asserted, by one of its two banks.
+    #[inline(always)]
+    pub fn asserts_irq(&self) -> bool
+        ensures { result ≡ irq_of self.now }
+    {
         let a = share_a_bit(self.status_a(), self.mask_a);
         let b = share_a_bit(self.status_b(), self.mask_b);
-        Asserted { fiq, irq: a || b }
+        a || b
     }
 
     /// Whether an address is a register's: 3200000 to 320007F. Bits 1:0 choose no other register.

@@ -18,7 +18,7 @@ returns-in_default-clause-runs c =
     let start = c.args.machine.now in
     let inputs = inputs_of c.args.first steps in
     let (traced, why, makes, is, told) = c.in_default.ensures.told in
-    subst (λ (r : Ran). Runs start inputs r c.advance.new.machine) (sym told)
+    subst (λ (r : Ran). Runs start inputs r c.advance.new.machine) (sym (c.told.ensures ∙ told))
     (at_stop start inputs c.loop-made.ran c.loop-made.machine c.advance.new.machine
     (inputs_of i (steps - made)) (inputs_of (without_bursts i) (steps - (made + 1))) i traced.told why
     c.loop-made.invariant.0 (at_hand i steps made c.loop-made-test.true) makes.0 is)
@@ -73,9 +73,11 @@ loop-made-preserved c =
 pub returns-clause-runs : goal.returns-clause-runs
 returns-clause-runs c =
     let i = c.loop-made.input in
-    at_end c.args.machine.now (inputs_of c.args.first c.args.steps) c.loop-made.ran c.loop-made.machine
+    let inputs = inputs_of c.args.first c.args.steps in
+    subst (λ (r : Ran). Runs c.args.machine.now inputs r c.loop-made.machine) (sym c.told-2.ensures)
+    (at_end c.args.machine.now (inputs_of c.args.first c.args.steps) c.loop-made.ran c.loop-made.machine
     (inputs_of i (c.args.steps - c.loop-made.made)) c.loop-made.invariant.0
-    (none_left i c.args.steps c.loop-made.made c.loop-made-test.false) c.loop-made.invariant.3
+    (none_left i c.args.steps c.loop-made.made c.loop-made-test.false) c.loop-made.invariant.3)
 
 pub returns-clause-text : goal.returns-clause-text
 returns-clause-text c =

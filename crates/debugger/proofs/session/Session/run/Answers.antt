@@ -3,7 +3,7 @@ use Rattle.arm2_exec.specs.declared.machine.Traced.{Traced}
 use Rattle.trace_text.specs.TraceText.{IsTraceLine}
 use Rattle.debugger.specs.Watching.{Watches, inputs_of}
 use Rattle.debugger.proofs.WatchLaws.{added_alone, first_of_watch, none_made, session_on, some_steps, still}
-use Rattle.debugger.proofs.WatchLaws.{with_last}
+use Rattle.debugger.proofs.WatchLaws.{same_line, with_last}
 use Rattle.debugger.proofs.session.Session.run.Goals as goal
 
 pub returns-in_default-clause-err : goal.returns-in_default-clause-err
@@ -37,13 +37,14 @@ returns-clause-ok c =
     let inputs = inputs_of s.next c.args.steps in
     let last = c.in-Some.last in
     let (made, watches, ends) = watched.ensures in
-    let (before, is) = with_last made watched.result.last last c.in-Some.is ends in
+    let (before, step, is, shown) = with_last made watched.result.last last c.in-Some.is ends in
     let same = c.as_slice-breaks.ensures.value in
     let on = subst (λ (breaks : List ℕ). Watches breaks s.machine inputs made ran machine) same watches in
     let whole = subst (λ (ts : List Traced). Watches s.breaks.items s.machine inputs ts ran machine) is on in
-    let first = first_of_watch s.breaks.items s.machine inputs (before ++ last ∷ []) ran machine whole in
-    let some = some_steps s.breaks.items s.machine inputs before last ran machine whole in
+    let first = first_of_watch s.breaks.items s.machine inputs (before ++ step ∷ []) ran machine whole in
+    let some = some_steps s.breaks.items s.machine inputs before step ran machine whole in
     let line =
-    added_alone (IsTraceLine last) c.in_ok-answer.answer.items c.put_trace.new.out.items
-    c.in_ok-answer.ensures.items c.put_trace.ensures.text in
-    rw (← c.self.view_is) (ran, machine, first, some, before, last, whole, line, c.settle.ensures)
+    same_line step last c.put_trace.new.out.items shown
+    (added_alone (IsTraceLine last) c.in_ok-answer.answer.items c.put_trace.new.out.items
+    c.in_ok-answer.ensures.items c.put_trace.ensures.text) in
+    rw (← c.self.view_is) (ran, machine, first, some, before, step, whole, line, c.settle.ensures)
