@@ -55,7 +55,7 @@ const STATEMENT_FRONTS: Fronts = &[
     (79, TAKEN),
 ];
 
-static CUTS: [Cut; 11] = [
+const CUTS: [Cut; 11] = [
     (Input::Source, lone_return::SOURCE, SOURCE_FRONTS),
     (Input::Listed, lone_return::SOURCE, SOURCE_FRONTS),
     (Input::Drafted, lone_return::SOURCE, SOURCE_FRONTS),
@@ -124,7 +124,7 @@ static CUTS: [Cut; 11] = [
 const VALUES: [u8; 3] = [0x00, 0x7F, 0xFF];
 
 /// What is told of the image with a byte made each of these: each row up to so many bytes in front.
-static CHANGES: [(usize, [&str; 3]); 10] = [
+const CHANGES: [(usize, [&str; 3]); 10] = [
     // What begins an image, in front of a text that is none.
     (
         7,
@@ -187,30 +187,18 @@ fn are_told(alloc: Global, at: usize, wanted: &[&str; 3]) -> Result<bool, AllocE
     Ok(true)
 }
 
-/// The place of the first byte of the image of which something else is told.
-fn first_wrong_byte(alloc: Global) -> Result<Option<usize>, AllocError> {
-    for at in 0..IMAGE.len() {
-        let Some(wanted) = row_at(&CHANGES, at) else {
-            return Ok(Some(at));
-        };
-        if !are_told(alloc, at, &wanted)? {
-            return Ok(Some(at));
-        }
-    }
-    Ok(None)
-}
-
 #[test]
-fn cut_inputs(rt: HostRuntime) -> Result<(), Fail> {
+fn cut_and_changed_inputs(rt: HostRuntime) -> Result<(), Fail> {
+    let alloc = rt.alloc();
     for (number, cut) in CUTS.iter().enumerate() {
-        let wrong = first_wrong_cut(rt.alloc(), cut)?;
-        assert!(rt; wrong.is_none(), "input {number}: {wrong:?}");
+        assert_eq!(rt; first_wrong_cut(alloc, cut)?, None, "input {number}");
     }
-    Ok(())
-}
-
-#[test]
-fn changed_images(rt: HostRuntime) -> Result<(), Fail> {
-    assert_eq!(rt; first_wrong_byte(rt.alloc())?, None);
+    for at in 0..IMAGE.len() {
+        let is_right = match row_at(&CHANGES, at) {
+            Some(wanted) => are_told(alloc, at, &wanted)?,
+            None => false,
+        };
+        assert!(rt; is_right, "byte {at}");
+    }
     Ok(())
 }

@@ -40,16 +40,14 @@ impl Store for Files {
     }
 }
 
-/// The program's words.
-pub(crate) fn line(alloc: Global, words: &[&str]) -> Result<Vec<String>, AllocError> {
+/// The program's words for a command, with its options, on the files `source` and `second`.
+pub(crate) fn line(alloc: Global, command: &[&str]) -> Result<Vec<String>, AllocError> {
     let mut line = Vec::new(alloc);
-    push_words(alloc, &mut line, words)?;
-    Ok(line)
-}
-
-fn push_words(alloc: Global, line: &mut Vec<String>, words: &[&str]) -> Result<(), AllocError> {
-    for word in words {
+    line.push(String::from_str(alloc, "arcwcet")?)?;
+    for word in command {
         line.push(String::from_str(alloc, word)?)?;
     }
-    Ok(())
+    line.push(String::from_str(alloc, "source")?)?;
+    line.push(String::from_str(alloc, "second")?)?;
+    Ok(line)
 }

@@ -10,7 +10,7 @@ use std::test::Fail;
 /// A source, its statement and its certificate.
 type Handler = (&'static [u8], &'static [u8], &'static [u8]);
 
-static HANDLERS: [Handler; 4] = [
+const HANDLERS: [Handler; 4] = [
     (branch::SOURCE, branch::STATEMENT, branch::CERTIFICATE),
     (
         countdown::SOURCE,
@@ -33,7 +33,7 @@ static HANDLERS: [Handler; 4] = [
 const FORGERIES: u32 = 2000;
 
 /// The verdicts No. There is none for other prices, which no changed line brings in.
-static OBJECTIONS: [&[u8]; 9] = [
+const OBJECTIONS: [&[u8]; 9] = [
     b"no: MissingPlace\n",
     b"no: ExtraPlace\n",
     b"no: NumberTooLarge\n",
@@ -88,25 +88,15 @@ fn forge_digit(numbers: &mut Numbers, text: &mut [u8]) {
     }
 }
 
-fn forge_lines(numbers: &mut Numbers, lines: &mut Vec<&[u8]>) -> Result<(), AllocError> {
-    for _ in 0..numbers.below(3) {
-        forge_line(numbers, lines)?;
-    }
-    Ok(())
-}
-
-fn joined(alloc: Global, lines: &[&[u8]]) -> Result<Vec<u8>, AllocError> {
-    let mut text = Vec::new(alloc);
-    for line in lines {
-        text.extend_from_slice(line)?;
-    }
-    Ok(text)
-}
-
 fn forged(alloc: Global, numbers: &mut Numbers, text: &[u8]) -> Result<Vec<u8>, AllocError> {
     let mut lines = lines_of(alloc, text)?;
-    forge_lines(numbers, &mut lines)?;
-    let mut forged = joined(alloc, &lines)?;
+    for _ in 0..numbers.below(3) {
+        forge_line(numbers, &mut lines)?;
+    }
+    let mut forged = Vec::new(alloc);
+    for line in &lines {
+        forged.extend_from_slice(line)?;
+    }
     for _ in 0..numbers.below(6) {
         forge_digit(numbers, &mut forged);
     }
@@ -124,21 +114,17 @@ enum Answer {
     Wrong,
 }
 
-fn judged(alloc: Global, handler: &Handler, text: &[u8], out: &mut MemoryOutput) -> Answer {
+fn answer_to(alloc: Global, handler: &Handler, text: &[u8]) -> Result<Answer, ReportFault> {
     let (source, statement, _) = handler;
-    let found = check_report(alloc, source, statement, text, None, out);
+    let mut out = MemoryOutput::with_room(alloc, 0)?;
+    let found = check_report(alloc, source, statement, text, None, &mut out);
     let said = out.bytes();
-    match found {
+    Ok(match found {
         Ok(true) if said == b"yes\n".as_slice() => Answer::Yes,
         Ok(false) if OBJECTIONS.contains(&said) => Answer::No,
         Err(ReportFault::Cert(_)) if said.is_empty() => Answer::Refused,
         _ => Answer::Wrong,
-    }
-}
-
-fn answer_to(alloc: Global, handler: &Handler, text: &[u8]) -> Result<Answer, ReportFault> {
-    let mut out = MemoryOutput::with_room(alloc, 0)?;
-    Ok(judged(alloc, handler, text, &mut out))
+    })
 }
 
 // The second line, which has the bound.
@@ -147,7 +133,7 @@ fn bound_line(text: &[u8]) -> Option<&[u8]> {
 }
 
 /// How often the checker answers what, and the first forgery to which its answer is wrong.
-#[derive(Clone, Copy)]
+#[derive(Clone, Copy, Debug)]
 struct Answers {
     yes: u32,
     no: u32,
@@ -170,23 +156,9 @@ impl Answers {
     }
 }
 
-// The answer to the next forgery; none where it is the right certificate.
-fn answer_to_next(
-    alloc: Global,
-    handler: &Handler,
-    numbers: &mut Numbers,
-) -> Result<Option<(Answer, bool)>, ReportFault> {
-    let (_, _, right) = handler;
-    let text = forged(alloc, numbers, right)?;
-    if text.as_slice() == *right {
-        return Ok(None);
-    }
-    let has_bound = bound_line(&text) == bound_line(right);
-    Ok(Some((answer_to(alloc, handler, &text)?, has_bound)))
-}
-
 // The answers to the forgeries that are another text than the right certificate.
 fn answers_to_forgeries(alloc: Global, handler: &Handler) -> Result<Answers, ReportFault> {
+    let (_, _, right) = handler;
     let mut numbers = Numbers::new(23);
     let mut answers = Answers {
         yes: 0,
@@ -195,36 +167,44 @@ fn answers_to_forgeries(alloc: Global, handler: &Handler) -> Result<Answers, Rep
         first_wrong: None,
     };
     for number in 0..FORGERIES {
-        if let Some((answer, has_bound)) = answer_to_next(alloc, handler, &mut numbers)? {
-            answers.add(number, answer, has_bound);
+        let text = forged(alloc, &mut numbers, right)?;
+        if text.as_slice() != *right {
+            let has_bound = bound_line(&text) == bound_line(right);
+            answers.add(number, answer_to(alloc, handler, &text)?, has_bound);
         }
     }
     Ok(answers)
 }
 
-// Whether the right certificate is what is printed.
-fn is_printed(alloc: Global, handler: &Handler) -> Result<bool, ReportFault> {
+// Whether the right certificate is what is printed, and is accepted.
+fn is_right(alloc: Global, handler: &Handler) -> Result<bool, ReportFault> {
     let (source, statement, right) = handler;
     let mut out = MemoryOutput::with_room(alloc, 0)?;
     bound_report(alloc, source, statement, None, &mut out)?;
-    Ok(out.bytes() == *right)
+    let is_accepted = matches!(answer_to(alloc, handler, right)?, Answer::Yes);
+    Ok(out.bytes() == *right && is_accepted)
 }
 
-// Whether the right certificate is printed and accepted.
-fn is_right(alloc: Global, handler: &Handler) -> Result<bool, ReportFault> {
-    let is_accepted = matches!(answer_to(alloc, handler, handler.2)?, Answer::Yes);
-    Ok(is_accepted && is_printed(alloc, handler)?)
+// Of each handler whether its certificate is right, and the answers to its forgeries.
+fn judged(alloc: Global, handlers: &[Handler]) -> Result<Vec<(bool, Answers)>, Fail> {
+    let mut judged = Vec::new(alloc);
+    for handler in handlers {
+        let row = (
+            is_right(alloc, handler)?,
+            answers_to_forgeries(alloc, handler)?,
+        );
+        judged.push(row)?;
+    }
+    Ok(judged)
 }
 
 #[test]
 fn forged_certificates(rt: HostRuntime) -> Result<(), Fail> {
-    for (number, handler) in HANDLERS.iter().enumerate() {
-        assert!(rt; is_right(rt.alloc(), handler)?, "handler {number}");
-        let answers = answers_to_forgeries(rt.alloc(), handler)?;
+    let judged = judged(rt.alloc(), &HANDLERS)?;
+    for (number, (is_right, answers)) in judged.iter().enumerate() {
         assert!(rt;
-            answers.are_right(),
-            "handler {number}: {:?}",
-            answers.first_wrong
+            *is_right && answers.are_right(),
+            "handler {number}: {answers:?}"
         );
     }
     Ok(())

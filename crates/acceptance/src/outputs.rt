@@ -4,9 +4,10 @@ ghost use Rattle.std.specs.Prelude.{Some};
 
 use crate::files::{Files, line};
 use crate::reports::{REPORTS, Report, on_room};
-use arcwcet::{MemoryOutput, Output, OutputFault, ReportFault, program, write_whole};
+use arcwcet::{MemoryOutput, Output, OutputFault, program, write_whole};
 use samples::lone_return::{SOURCE, STATEMENT};
 use std::alloc::Global;
+use std::process::Abort;
 use std::test::Fail;
 
 /// How an output fails.
@@ -65,22 +66,17 @@ impl Output for Narrow {
     }
 }
 
-/// Whether an output in memory takes the whole of the text.
-fn memory_takes_all(alloc: Global, text: &[u8]) -> Result<bool, ReportFault> {
+/// Whether outputs take the whole of the text.
+fn take_all(alloc: Global, text: &[u8]) -> Result<bool, Fail> {
     let mut memory = MemoryOutput::with_room(alloc, 3)?;
-    let written = write_whole(&mut memory, text);
-    Ok(written == Ok(()) && memory.bytes() == text)
-}
-
-/// Whether one that takes a byte a write does.
-fn slow_takes_all(alloc: Global, text: &[u8]) -> bool {
+    write_whole(&mut memory, text)?;
     let mut slow = Narrow::new(alloc, 1, 9, Failure::Error);
-    let written = write_whole(&mut slow, text);
-    written == Ok(()) && slow.bytes.as_slice() == text && slow.failures == 0
+    write_whole(&mut slow, text)?;
+    Ok(memory.bytes() == text && slow.bytes.as_slice() == text && slow.failures == 0)
 }
 
 /// How many bytes an output takes a write, and how it fails.
-static KINDS: [(usize, Failure); 3] = [
+const KINDS: [(usize, Failure); 3] = [
     (1, Failure::TakesNothing),
     (7, Failure::TakesNothing),
     (7, Failure::Error),
@@ -117,68 +113,53 @@ fn first_wrong(alloc: Global, report: Report, text: &[u8]) -> Option<usize> {
 #[test]
 fn reports_at_each_cut(rt: HostRuntime) -> Result<(), Fail> {
     let alloc = rt.alloc();
-    assert!(rt; memory_takes_all(alloc, b"abc")? && slow_takes_all(alloc, b"abc"));
+    assert!(rt; take_all(alloc, b"abc")?);
     for (number, (report, parts)) in REPORTS.iter().enumerate() {
         let text = report.text(alloc)?;
         assert!(rt; report.is_of(&text, parts), "report {number}");
-        let wrong = first_wrong(alloc, *report, &text);
-        assert!(rt; wrong.is_none(), "report {number}: {wrong:?}");
+        assert_eq!(rt; first_wrong(alloc, *report, &text), None, "report {number}");
     }
     Ok(())
 }
 
-/// Whether the program ends as it has to, on an output of that room that takes up to seven bytes a write.
-fn is_cut_program(alloc: Global, words: &[String], report: &[u8], room: usize) -> bool {
-    let mut out = Narrow::new(alloc, 7, room, Failure::TakesNothing);
-    // What standard error takes changes no status.
-    let mut err = Narrow::new(alloc, 1, 0, Failure::Error);
-    let mut files = Files {
-        source: (SOURCE, 0),
-        second: (STATEMENT, 0),
-        profile: (b"", 0),
-    };
-    let mut input: &[u8] = b"";
-    let status = program(alloc, words, &mut files, &mut input, &mut out, &mut err);
-    match on_room(report, room) {
-        (Ok(_), text) => status == 0 && out.bytes.as_slice() == text,
-        (Err(_), front) => status == 4 && out.bytes.as_slice() == front,
-    }
-}
-
-/// The room at which the program does not end as it has to, if there is one up to the report's length.
-fn first_wrong_program(alloc: Global, words: &[String], report: &[u8]) -> Option<usize> {
-    for room in 0..=report.len() {
-        if !is_cut_program(alloc, words, report, room) {
-            return Some(room);
-        }
-    }
-    None
-}
-
-/// Reports that the program prints, and its words.
-static COMMANDS: [(Report, &[&str]); 3] = [
-    (Report::Bound, &["arcwcet", "bound", "source", "second"]),
-    (Report::Explain, &["arcwcet", "explain", "source", "second"]),
-    (
-        Report::Visits,
-        &["arcwcet", "visits", "source", "second", "second", "1"],
-    ),
-];
-
-fn first_wrong_command(
+/// Runs the program on an output of each room up to the report's length.
+fn program_at_cuts(
+    rt: &impl Abort,
     alloc: Global,
-    report: Report,
-    words: &[&str],
-) -> Result<Option<usize>, ReportFault> {
-    let words = line(alloc, words)?;
-    let text = report.text(alloc)?;
-    Ok(first_wrong_program(alloc, &words, &text))
+    words: &[String],
+    report: &[u8],
+) -> Result<(), Fail> {
+    for left in 0..=report.len() {
+        let status = if left < report.len() { 4 } else { 0 };
+        let mut out = Narrow::new(alloc, 7, left, Failure::TakesNothing);
+        // What standard error takes changes no status.
+        let mut err = Narrow::new(alloc, 1, 0, Failure::Error);
+        let mut files = Files {
+            source: (SOURCE, 0),
+            second: (STATEMENT, 0),
+            profile: (b"", 0),
+        };
+        let mut input: &[u8] = b"";
+        let found = program(alloc, words, &mut files, &mut input, &mut out, &mut err);
+        assert_eq!(rt;
+            (found, out.bytes.as_slice()),
+            (status, &report[..left]),
+            "at {left}"
+        );
+    }
+    Ok(())
 }
 
 #[test]
 fn program_at_outputs_that_fail(rt: HostRuntime) -> Result<(), Fail> {
-    for (report, words) in &COMMANDS {
-        assert_eq!(rt; first_wrong_command(rt.alloc(), *report, words)?, None);
-    }
-    Ok(())
+    let alloc = rt.alloc();
+    let bound = Report::Bound.text(alloc)?;
+    program_at_cuts(&rt, alloc, &line(alloc, &["bound"])?, &bound)?;
+    let explain = Report::Explain.text(alloc)?;
+    program_at_cuts(&rt, alloc, &line(alloc, &["explain"])?, &explain)?;
+    let mut words = line(alloc, &["visits"])?;
+    words.push(String::from_str(alloc, "second")?)?;
+    words.push(String::from_str(alloc, "1")?)?;
+    let visits = Report::Visits.text(alloc)?;
+    program_at_cuts(&rt, alloc, &words, &visits)
 }

@@ -33,9 +33,9 @@ const EXPLAINED: Explained<'static> = Explained {
 /// What `visits` prints above both certificates.
 const SUMMARY: &[u8] = b"arcwcet visits\nvisits 1\nirq 9\nfiq 9\nentry 8\ntotal 26\n";
 
-const TABLE: &[u8] = b"   passes      ticks  share  line  text
-        1          9 100.0%     2   SUBS PC,R14,#4
-    total          9 100.0%
+const TABLE: &[u8] = b"   passes     each      ticks  share      priced as  line  text
+        1        9          9 100.0%      leave any     2   SUBS PC,R14,#4
+             total          9 100.0%
 bound 9 ticks, 1.125 microseconds at 8 MHz
 ";
 
@@ -84,7 +84,7 @@ pub(crate) enum Report {
 }
 
 /// The reports, and the parts of their texts; of an edge's machine file the first line alone.
-pub(crate) static REPORTS: [(Report, &[&[u8]]); 12] = [
+pub(crate) const REPORTS: [(Report, &[&[u8]]); 12] = [
     (Report::Asm, &[SIZE]),
     (Report::List, &[LINES, SIZE]),
     (Report::Bound, &[CERTIFICATE]),
@@ -103,36 +103,22 @@ impl Report {
     /// Prints the report, and answers what it answers: `true` where it answers nothing.
     pub(crate) fn print<O: Output>(self, alloc: Global, out: &mut O) -> Result<bool, ReportFault> {
         match self {
+            Report::Asm => asm_report(alloc, SOURCE, out).and(Ok(true)),
+            Report::List => list_report(alloc, SOURCE, out).and(Ok(true)),
+            Report::Bound => bound_report(alloc, SOURCE, STATEMENT, None, out).and(Ok(true)),
+            Report::Visits => {
+                visits_report(alloc, SOURCE, STATEMENT, STATEMENT, 1, None, out).and(Ok(true))
+            }
             Report::Explain => explain_report(alloc, EXPLAINED, None, out),
+            Report::Graph => graph_report(alloc, SOURCE, STATEMENT, None, out).and(Ok(true)),
+            Report::Draft => draft_report(alloc, SOURCE, b"28", out).and(Ok(true)),
+            Report::Tight => tight_report(alloc, SOURCE, STATEMENT, 0, None, out).and(Ok(true)),
             Report::Check => check_report(alloc, SOURCE, STATEMENT, CERTIFICATE, None, out),
             Report::Run => run_report(alloc, SOURCE, MACHINE, None, out),
             Report::Trace => trace_report(alloc, SOURCE, MACHINE, None, out),
-            Report::Asm | Report::List | Report::Draft | Report::Debug => {
-                self.print_of_source(alloc, out)?;
-                Ok(true)
+            Report::Debug => {
+                debug_report(alloc, SOURCE, MACHINE, SESSION, None, out).and(Ok(true))
             }
-            _ => {
-                self.print_of_handler(alloc, out)?;
-                Ok(true)
-            }
-        }
-    }
-
-    fn print_of_source<O: Output>(self, alloc: Global, out: &mut O) -> Result<(), ReportFault> {
-        match self {
-            Report::List => list_report(alloc, SOURCE, out),
-            Report::Draft => draft_report(alloc, SOURCE, b"28", out),
-            Report::Debug => debug_report(alloc, SOURCE, MACHINE, SESSION, None, out),
-            _ => asm_report(alloc, SOURCE, out),
-        }
-    }
-
-    fn print_of_handler<O: Output>(self, alloc: Global, out: &mut O) -> Result<(), ReportFault> {
-        match self {
-            Report::Visits => visits_report(alloc, SOURCE, STATEMENT, STATEMENT, 1, None, out),
-            Report::Graph => graph_report(alloc, SOURCE, STATEMENT, None, out),
-            Report::Tight => tight_report(alloc, SOURCE, STATEMENT, 0, None, out),
-            _ => bound_report(alloc, SOURCE, STATEMENT, None, out),
         }
     }
 

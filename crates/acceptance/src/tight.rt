@@ -8,7 +8,7 @@ use std::test::Fail;
 /// The number of an edge, the line that shows it, and what its run ends with.
 type Row = (u32, &'static str, &'static str);
 
-static EDGES: [Row; 5] = [
+const EDGES: [Row; 5] = [
     (0, "# edge 8000 do 8004 1\n", "ticks 1 elapsed 1\n"),
     (1, "# edge 8004 do 8008 1\n", "ticks 1 elapsed 1\n"),
     (2, "# edge 8008 skip 800C 2\n", "ticks 2 elapsed 2\n"),
@@ -16,25 +16,21 @@ static EDGES: [Row; 5] = [
     (4, "# edge 800C do exit 9\n", "ticks 9 elapsed 9\n"),
 ];
 
-/// Whether the machine file runs to such an end.
-fn runs_so(alloc: Global, file: &[u8], end: &str) -> Result<bool, ReportFault> {
-    let mut report = MemoryOutput::with_room(alloc, 0)?;
-    let done = run_report(alloc, SOURCE, file, None, &mut report)?;
-    Ok(done && report.bytes().ends_with(end.as_bytes()))
-}
-
 /// Whether the edge's report begins with the line, and its run ends so.
-fn is_right(alloc: Global, row: &Row) -> Result<bool, ReportFault> {
+fn runs_so(alloc: Global, row: &Row) -> Result<bool, ReportFault> {
     let (number, line, end) = row;
     let mut file = MemoryOutput::with_room(alloc, 0)?;
     tight_report(alloc, SOURCE, STATEMENT, *number, None, &mut file)?;
-    Ok(file.bytes().starts_with(line.as_bytes()) && runs_so(alloc, file.bytes(), end)?)
+    let mut report = MemoryOutput::with_room(alloc, 0)?;
+    let done = run_report(alloc, SOURCE, file.bytes(), None, &mut report)?;
+    let begins = file.bytes().starts_with(line.as_bytes());
+    Ok(done && begins && report.bytes().ends_with(end.as_bytes()))
 }
 
 #[test]
 fn edges_run_at_their_cost(rt: HostRuntime) -> Result<(), Fail> {
-    for row in &EDGES {
-        assert!(rt; is_right(rt.alloc(), row)?, "edge {}", row.0);
+    for (number, row) in EDGES.iter().enumerate() {
+        assert!(rt; runs_so(rt.alloc(), row)?, "edge {number}");
     }
     Ok(())
 }

@@ -39,29 +39,21 @@ fn explained(alloc: Global, statement: &[u8], out: &mut MemoryOutput) -> Result<
     explain_report(alloc, explained, None, out)
 }
 
-fn read_on(
-    alloc: Global,
-    input: Input,
-    bytes: &[u8],
-    out: &mut MemoryOutput,
-) -> Result<bool, ReportFault> {
-    match input {
-        Input::Source => asm_report(alloc, bytes, out)?,
-        Input::Listed => list_report(alloc, bytes, out)?,
-        Input::Drafted => draft_report(alloc, bytes, b"0x8000", out)?,
-        Input::Explained => return explained(alloc, bytes, out),
-        Input::Statement => bound_report(alloc, SOURCE, bytes, None, out)?,
-        Input::Machine => return run_report(alloc, SOURCE, bytes, None, out),
-        Input::Profile => bound_report(alloc, SOURCE, STATEMENT, Some(bytes), out)?,
-        Input::Certificate => return check_report(alloc, SOURCE, STATEMENT, bytes, None, out),
-    }
-    Ok(true)
-}
-
 /// Reads the bytes as that input.
 fn read(alloc: Global, input: Input, bytes: &[u8]) -> Result<bool, ReportFault> {
     let mut out = MemoryOutput::with_room(alloc, 0)?;
-    read_on(alloc, input, bytes, &mut out)
+    match input {
+        Input::Source => asm_report(alloc, bytes, &mut out).and(Ok(true)),
+        Input::Listed => list_report(alloc, bytes, &mut out).and(Ok(true)),
+        Input::Drafted => draft_report(alloc, bytes, b"0x8000", &mut out).and(Ok(true)),
+        Input::Explained => explained(alloc, bytes, &mut out),
+        Input::Statement => bound_report(alloc, SOURCE, bytes, None, &mut out).and(Ok(true)),
+        Input::Machine => run_report(alloc, SOURCE, bytes, None, &mut out),
+        Input::Profile => {
+            bound_report(alloc, SOURCE, STATEMENT, Some(bytes), &mut out).and(Ok(true))
+        }
+        Input::Certificate => check_report(alloc, SOURCE, STATEMENT, bytes, None, &mut out),
+    }
 }
 
 /// Whether that is told of the bytes as that input.

@@ -58,7 +58,7 @@ type Row = (
     &'static [u8],
 );
 
-static ROWS: [Row; 5] = [
+const ROWS: [Row; 5] = [
     (9, None, Ok(3), b"abc"),
     (2, None, Ok(2), b"ab"),
     (0, None, Ok(0), b""),
@@ -86,7 +86,7 @@ fn writes(alloc: Global, row: &Row) -> bool {
 
 /// How many bytes a writer takes a write, and how it fails once it is full. An interrupted write has failed;
 /// it is not tried again.
-static KINDS: [(usize, Option<ErrorKind>); 3] = [
+const KINDS: [(usize, Option<ErrorKind>); 3] = [
     (1, None),
     (7, Some(ErrorKind::BrokenPipe)),
     (7, Some(ErrorKind::Interrupted)),
@@ -121,18 +121,13 @@ fn first_wrong(alloc: Global, report: Report, text: &[u8]) -> Option<usize> {
 
 #[test]
 fn writers_take_what_they_are_given(rt: HostRuntime) -> Result<(), Fail> {
+    let alloc = rt.alloc();
     for (number, row) in ROWS.iter().enumerate() {
-        assert!(rt; writes(rt.alloc(), row), "row {number}");
+        assert!(rt; writes(alloc, row), "row {number}");
     }
-    Ok(())
-}
-
-#[test]
-fn reports_over_writers(rt: HostRuntime) -> Result<(), Fail> {
     for (number, (report, _)) in REPORTS.iter().enumerate() {
-        let text = report.text(rt.alloc())?;
-        let wrong = first_wrong(rt.alloc(), *report, &text);
-        assert!(rt; wrong.is_none(), "report {number}: {wrong:?}");
+        let text = report.text(alloc)?;
+        assert_eq!(rt; first_wrong(alloc, *report, &text), None, "report {number}");
     }
     Ok(())
 }
