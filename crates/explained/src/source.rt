@@ -82,13 +82,13 @@ fn source_ticks(tally: &Tally, placed: &[PlacedLine]) -> u64
 }
 
 /// Where the ticks of a greatest walk go: a row for each line of the source that has words, with how often
-/// the walk passes the line's first word, the ticks of such a pass (from the least to the greatest, where they
-/// differ), the ticks at its words, what part of the bound those are, what the price of its first word takes for
-/// granted, the number of the line and its text; then the ticks of all rows, and the bound in ticks and in
-/// microseconds.
+/// the walk passes the line's first word, the ticks of such a pass (from the least to the greatest, where
+/// they differ), the ticks at its words, what part of the bound those are, what the price of its first word
+/// takes for granted, the number of the line and its text; then the ticks of all rows, and the bound in ticks
+/// and in microseconds.
 ///
-/// The price of a load or a store takes the class of what it transfers for granted, that of a multiply its most
-/// cycles (m = 16), and that of a way out of the handler the class of the addresses to which it leaves.
+/// The price of a load or a store takes the class of what it transfers for granted, that of a multiply its
+/// most cycles (m = 16), and that of a way out of the handler the class of the addresses to which it leaves.
 ///
 /// `placed` says where the lines stand, in their order; the rows end with the lines, or with the places.
 /// Where no place of the graph is on a line, the row says so in place of the numbers.
