@@ -12,7 +12,9 @@ use diagnosis::{
     loops_that_cross, mid_entry, place_text, shared_header, shared_text, statement_text,
     unbounded_cycle, word_text, words_of,
 };
-use flow_graph::{BuildFault, Statement, StatementFault, faulty_place, read_statement};
+use flow_graph::{
+    BuildFault, FaultyPlace, Statement, StatementFault, faulty_place, read_statement,
+};
 use loader::MAGIC;
 use loop_bounds::NestFault;
 use machine_reports::{StatedGraph, read_graph};
@@ -107,6 +109,32 @@ fn refused_statement(
     Ok(text)
 }
 
+// What shows why a place has no edges; nothing where there is no such place.
+fn shown_place(
+    alloc: Global,
+    words: &Words<'_>,
+    found: Option<FaultyPlace>,
+) -> Result<Vec<u8>, AllocError> {
+    match found {
+        Some(faulty) => place_text(alloc, words, &faulty),
+        None => Ok(Vec::new(alloc)),
+    }
+}
+
+// The place at which a handler's flow graph fails, with the words that show why.
+fn unbuilt_text(
+    alloc: Global,
+    words: &Words<'_>,
+    statement: &Statement,
+    profile: &Profile,
+) -> Result<Vec<u8>, AllocError> {
+    match faulty_place(alloc, words.image, statement, profile) {
+        Ok(found) => shown_place(alloc, words, found),
+        // Out of memory, or too many places: the one line says all there is to say.
+        Err(_) => Ok(Vec::new(alloc)),
+    }
+}
+
 // Of a handler that has no flow graph, the words that show why.
 fn graph_text(
     alloc: Global,
@@ -114,16 +142,11 @@ fn graph_text(
     statement: &Statement,
     profile: &Profile,
     fault: BuildFault,
-) -> Result<Vec<u8>, ReportFault> {
-    if let BuildFault::TargetNotWriter(at) = fault {
-        let text = word_text(alloc, words, at)?;
-        return Ok(text);
+) -> Result<Vec<u8>, AllocError> {
+    match fault {
+        BuildFault::TargetNotWriter(at) => word_text(alloc, words, at),
+        _ => unbuilt_text(alloc, words, statement, profile),
     }
-    let Some(faulty) = faulty_place(alloc, words.image, statement, profile)? else {
-        return Ok(Vec::new(alloc));
-    };
-    let text = place_text(alloc, words, &faulty)?;
-    Ok(text)
 }
 
 // The same, of a source that was read.
@@ -143,7 +166,8 @@ fn build_text(
         labels: &said.labels,
     };
     let words = words_of(alloc, &program)?;
-    graph_text(alloc, &words, &statement, profile, fault)
+    let text = graph_text(alloc, &words, &statement, profile, fault)?;
+    Ok(text)
 }
 
 // The same, of the texts.
