@@ -16,7 +16,7 @@ use Rattle.author_reports.specs.GraphReport.{IsGraphReport}
 use Rattle.machine_reports.specs.ListReport.{IsListReport}
 use Rattle.report_input.specs.Placing.{IsRunRefused}
 use Rattle.machine_reports.specs.Machine.{Front, IsMachineReport, ShowsRegisters, ShowsSteps}
-use Rattle.report_output.specs.Output.{TakesFront, FailsSince}
+use Rattle.outputs.specs.Output.{TakesFront, FailsSince}
 use Rattle.report_input.specs.Priced.{ByProfile, PricedFault}
 use Rattle.report_input.specs.Report.{IsRefused, IsReport}
 use Rattle.machine_reports.specs.TightReport.{IsTightRefused, IsTightReport}

@@ -2,32 +2,55 @@ ghost use Rattle.std.specs.Prelude.{◌≢◌, List, ℕ, IfErr, IfOk, OnOk, opt
 ghost use Rattle.bus_ticks.specs.declared.profile.Profile.{Profile};
 ghost use Rattle.flow_graph.specs.Flow.{IsWellFormed};
 ghost use Rattle.bound_reports.specs.Bound.{Reports};
+ghost use Rattle.certificate.specs.Lines.{cert_text, said_of};
 ghost use Rattle.report_input.specs.Priced.{Priced};
 ghost use Rattle.report_input.specs.Report.{HasLoops, IsAccepted, IsBoundReport, IsRefused, IsReport, IsTreeOf};
 
 use bus_ticks::Profile;
 use cert_check::longest_gets_yes;
-use certificate::write_cert;
+use certificate::{print_cert, write_cert};
 use flow_graph::run_law;
-use longest_walk::longest;
+use longest_walk::{Longest, longest};
 use report_input::{Handler, profile_of, read_handler};
-use report_output::{Output, ReportFault, write_whole};
+use report_output::{Output, ReportFault};
 use std::alloc::Global;
 
-fn text_of(
+// The greatest walk of a handler.
+fn read_longest(
     alloc: Global,
     source: &[u8],
     statement: &[u8],
     profile: &Profile,
-) -> Result<Vec<u8>, ReportFault>
-    ensures report { IfOk result (λ v. IsReport source.now statement.now profile.now v.items) }
+) -> Result<Longest, ReportFault>
+    ensures report { IfOk result
+        (λ found. IsReport source.now statement.now profile.now (cert_text (said_of found))) }
     ensures accepted { OnOk result (IsAccepted source.now statement.now profile.now) }
     ensures fault { IfErr result
         (λ e. (e ≢ ReportFault.Device) × IsRefused source.now statement.now profile.now e) }
 {
     let handler = read_handler(alloc, source, statement, profile)?;
-    let report = longest_report(alloc, &handler)?;
-    Ok(report.text)
+    longest_of(alloc, &handler)
+}
+
+// The greatest walk of a handler that was read.
+fn longest_of(alloc: Global, handler: &Handler) -> Result<Longest, ReportFault>
+    requires formed { IsWellFormed handler.now.graph }
+    requires tree { IsTreeOf handler.now.graph handler.now.statement.loops handler.now.tree }
+    ensures report { (source statement : List ℕ) (profile : Profile)
+        → HasLoops source statement profile handler.now.statement handler.now.graph
+        → IfOk result (λ found. IsBoundReport source statement profile handler.now.statement found.bound
+        (cert_text (said_of found))) }
+    ensures accepted { (source statement : List ℕ) (profile : Profile)
+        → HasLoops source statement profile handler.now.statement handler.now.graph
+        → OnOk result (IsAccepted source statement profile) }
+    ensures fault { (source statement : List ℕ) (profile : Profile)
+        → HasLoops source statement profile handler.now.statement handler.now.graph
+        → IfErr result (λ e. (e ≢ ReportFault.Device) × IsRefused source statement profile e) }
+{
+    let found = longest(alloc, &handler.graph, &handler.tree)?;
+    run_law();
+    longest_gets_yes();
+    Ok(found)
 }
 
 /// The bound of a report, in ticks, and its text.
@@ -52,9 +75,7 @@ pub fn longest_report(alloc: Global, handler: &Handler) -> Result<BoundReport, R
         → HasLoops source statement profile handler.now.statement handler.now.graph
         → IfErr result (λ e. (e ≢ ReportFault.Device) × IsRefused source statement profile e) }
 {
-    let found = longest(alloc, &handler.graph, &handler.tree)?;
-    run_law();
-    longest_gets_yes();
+    let found = longest_of(alloc, handler)?;
     let text = write_cert(alloc, &found)?;
     Ok(BoundReport {
         bound: found.bound,
@@ -68,7 +89,8 @@ pub fn longest_report(alloc: Global, handler: &Handler) -> Result<BoundReport, R
 /// same is judged `yes` by [`check_report`](crate::check_report). No run of the machine that keeps the
 /// statement takes more ticks, but for the profile's burst price for each DMA burst.
 ///
-/// Nothing is written until the report is finished. Of several faults the first in the order of the work is
+/// The text goes to the output piece by piece, and takes no memory: nothing is written before all that can be
+/// refused but the output itself is done. Of several faults the first in the order of the work is
 /// answered: profile, source, statement, graph, loops, walk. After any but `Device` nothing was written.
 pub fn bound_report<O: Output>(
     alloc: Global,
@@ -94,8 +116,8 @@ fn priced_report<O: Output>(
 ) -> Result<(), ReportFault>
     ensures { Reports O.taken O.failures source.now statement.now profile.now out.old out.new result }
 {
-    let text = text_of(alloc, source, statement, profile)?;
-    match write_whole(out, &text) {
+    let found = read_longest(alloc, source, statement, profile)?;
+    match print_cert(&found, out) {
         Ok(()) => Ok(()),
         Err(_) => Err(ReportFault::Device),
     }

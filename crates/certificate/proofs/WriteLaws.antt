@@ -1,5 +1,6 @@
 -- The text of a certificate, section by section.
-use Rattle.std.proofs.Common.{◌≡◌, ◌∙◌, ◌==◌, ℕ, List, [], ◌∷◌, ◌++◌, Bool, false, Vec, codes, map, refl, sym, ap, append_assoc, append-nil, Result, Ok, Err, OnOk, is_ok, ◌<◌, ◌≤◌, length, take, get_or, arith, take_all, if◌then◌else◌}
+use Rattle.std.proofs.Common.{◌≡◌, ◌∙◌, ◌==◌, ℕ, List, [], ◌∷◌, ◌++◌, Bool, true, Vec, codes, map, refl, sym, ap, append_assoc, append-nil, Result, Ok, Err, OnOk, ◌<◌, ◌≤◌, length, take, drop, take-append-drop, get_or, arith, take_all, if◌then◌else◌}
+use Rattle.std.specs.Prelude.{MatchResult, OnErr, false}
 use Rattle.certificate.specs.declared.line.Version.TheVariants.{One, Two}
 use Rattle.certificate.proofs.NumberLaws.{after_first, after_first_is}
 use Rattle.std.specs.declared.rc.Rc.{Rc}
@@ -39,15 +40,6 @@ pub text-repeat : (k : ℕ) (body : Rc (Vec Item Global) Global) → walk_text (
 text-repeat k body =
     ap walk_text (ap (fold-Item (List WalkLine) item_step) (sym (rolls-Repeat k body)) ∙ fold-roll-Item (List WalkLine) item_step (Item-F.Repeat k body) ∙ ap (repeated_lines k) (flat_map-joined item_lines body.value.items))
     ∙ ap (λ (t : List ℕ). ended (codes "repeat " ++ decimal k) ++ t) (flat_map-append (λ x. ended (walk_words x)) (walk_lines body.value.items) (w.End ∷ []))
-
--- what a push adds
-pub push_done : {T E : Type 0} (r : Result T E) (old new added : List ℕ) (Q : Type 0) → new ≡ (if is_ok r then old ++ added else old) → (new ≡ old ++ added → Q) → OnOk r Q
-push_done (Ok x) old new added Q e q = q e
-push_done (Err f) old new added Q e q = tt
-
-pub by_items : (items : List Item) → flat_map (λ i. walk_text (item_lines i)) items ≡ walk_text (walk_lines items)
-by_items [] = refl
-by_items (i ∷ items) = ap (λ (t : List ℕ). walk_text (item_lines i) ++ t) (by_items items) ∙ sym (flat_map-append (λ x. ended (walk_words x)) (item_lines i) (walk_lines items))
 
 -- ## Calls and prices
 
@@ -93,7 +85,29 @@ head_other (x ∷ ns) n other =
     ap (λ (b : Bool). text_of (if b then l.Title One ∷ [] else l.Title Two ∷ l.Profile (x ∷ ns) ∷ [])) other
     ∙ ap (λ (t : List ℕ). codes "arcwcet certificate 2\nprofile " ++ t) (append-nil (join_with_byte 32 (map decimal (x ∷ ns)) ++ codes "\n") ∙ ap (λ (t : List ℕ). t ++ codes "\n") (joined_after 32 decimal x ns))
 
-pub seven : (o h b w c p i s : List ℕ) → ((((((o ++ h) ++ b) ++ w) ++ c) ++ p) ++ i) ++ s ≡ o ++ (h ++ (b ++ (w ++ (c ++ (p ++ (i ++ s))))))
-seven o h b w c p i s =
-    append_assoc (((((o ++ h) ++ b) ++ w) ++ c) ++ p) i s ∙ append_assoc ((((o ++ h) ++ b) ++ w) ++ c) p (i ++ s) ∙ append_assoc (((o ++ h) ++ b) ++ w) c (p ++ (i ++ s))
-    ∙ append_assoc ((o ++ h) ++ b) w (c ++ (p ++ (i ++ s))) ∙ append_assoc (o ++ h) b (w ++ (c ++ (p ++ (i ++ s)))) ∙ append_assoc o h (b ++ (w ++ (c ++ (p ++ (i ++ s)))))
+-- ## On the way to an output
+
+pub head_one : (ns : List ℕ) → pointwise ◌==◌ ns profile_one ≡ true → codes "arcwcet certificate 1\n" ≡ head_text ns
+head_one ns same = sym (ap (λ (b : Bool). text_of (if b then l.Title One ∷ [] else l.Title Two ∷ l.Profile ns ∷ [])) same)
+
+-- a walk's text is that of its first items, and then that of the others
+pub walk_parts : (items : List Item) (i : ℕ) → walk_text (walk_lines (take i items)) ++ walk_text (walk_lines (drop i items)) ≡ walk_text (walk_lines items)
+walk_parts items i =
+    sym (flat_map-append (λ w. ended (walk_words w)) (walk_lines (take i items)) (walk_lines (drop i items)))
+    ∙ ap walk_text (sym (flat_map-append item_lines (take i items) (drop i items)) ∙ ap walk_lines (take-append-drop i items))
+
+pub ok_first : {T E : Type 0} (r : Result T E) (P Q R S : Type 0) → MatchResult r (λ _. P × Q) (λ _. R × S) → OnOk r P
+ok_first (Ok x) P Q R S m = m.0
+ok_first (Err e) P Q R S m = tt
+
+pub ok_second : {T E : Type 0} (r : Result T E) (P Q R S : Type 0) → MatchResult r (λ _. P × Q) (λ _. R × S) → OnOk r Q
+ok_second (Ok x) P Q R S m = m.1
+ok_second (Err e) P Q R S m = tt
+
+pub err_first : {T E : Type 0} (r : Result T E) (P Q R S : Type 0) → MatchResult r (λ _. P × Q) (λ _. R × S) → OnErr r R
+err_first (Ok x) P Q R S m = tt
+err_first (Err e) P Q R S m = m.0
+
+pub err_second : {T E : Type 0} (r : Result T E) (P Q R S : Type 0) → MatchResult r (λ _. P × Q) (λ _. R × S) → OnErr r S
+err_second (Ok x) P Q R S m = tt
+err_second (Err e) P Q R S m = m.1

@@ -1,5 +1,5 @@
 //! The text of a certificate: the bound, a walk written with repeats, and the numbers that prove the bound.
-//! Each certificate has one spelling, which [`write_cert`] writes and [`read_cert`] reads.
+//! Each certificate has one spelling, which [`print_cert`] writes and [`read_cert`] reads.
 #![tactic(auto)]
 
 mod cert;
@@ -9,6 +9,7 @@ mod fields;
 mod law;
 mod line;
 mod line_reading;
+mod line_text;
 mod numbers;
 mod open_walk;
 mod reading;
@@ -20,7 +21,8 @@ pub use cert::Cert;
 pub use fault::CertFault;
 pub use law::{longest_can_be_spelled, one_text_each};
 pub use line::WalkLine;
+pub use line_text::address_of;
 pub use longest_walk::{InstanceRow, PlaceRow, Rows};
 pub use reading::read_cert;
 pub use walk::{CertItem, CertWalk, StepLine, To};
-pub use writing::{address_of, write_cert, write_edge};
+pub use writing::{print_cert, write_cert, write_edge};

@@ -1,68 +1,64 @@
-ghost use Rattle.std.specs.Prelude.{◌≡◌, ◌++◌, OnOk, MatchResult, IfOk, IfErr, string_bytes};
+ghost use Rattle.std.specs.Prelude.{◌≡◌, ◌++◌, ◌∷◌, decimal, MatchResult, IfOk, IfErr, OnErr, OnOk, string_bytes};
+ghost use Rattle.std.specs.Io.KnownBytes.{Appends};
+ghost use Rattle.outputs.specs.OnTheWay.{Adds};
+ghost use Rattle.outputs.specs.Output.{FailsSince, TakesFront};
 ghost use Rattle.certificate.specs.Lines.{cert_text, said_of};
-ghost use Rattle.certificate.specs.Walk.{address_of, item_lines, step_of, walk_lines};
+ghost use Rattle.certificate.specs.Walk.{item_lines, step_of, walk_lines};
 ghost use Rattle.certificate.specs.Words.{edge_words, ended, instance_words, list_words, place_words};
 ghost use Rattle.certificate.specs.Words.{step_words};
 ghost use Rattle.bus_ticks.specs.Numbers.{numbers_of};
-ghost use Rattle.certificate.specs.Written.{head_text, instances_text, places_text, walk_text};
+ghost use Rattle.certificate.specs.Written.{head_text, instances_text, places_text, prices_text, walk_text};
 
 use crate::fault::CertFault;
+use crate::line_text::{edge_text, hex_text, instance_text, number_text, place_text};
 use bus_ticks::Profile;
-use flow_graph::{Calls, Edge, Label, Place};
+use flow_graph::{Calls, Edge};
+use itoa::Buffer;
 use longest_walk::{InstanceRow, Item, Longest, PlaceRow};
+use outputs::{Output, OutputFault, Page, VecOutput};
 use std::alloc::{AllocError, Global};
-use std::fmt::Write;
 
-fn put_head(out: &mut String, profile: &Profile) -> Result<(), AllocError>
-    ensures { OnOk result
-        (string_bytes out.new ≡ string_bytes out.old ++ head_text (numbers_of profile.now)) }
+// Puts a number of a profile, after a blank.
+fn put_price<O: Output>(out: &mut O, page: &mut Page, number: u32)
+    ensures { Adds O.taken O.failures out.old page.old out.new page.new (32 ∷ decimal number) }
+{
+    page.put(out, b" ");
+    page.put(out, Buffer::new().format(number).as_bytes());
+}
+
+fn put_prices<O: Output>(out: &mut O, page: &mut Page, numbers: &[u32])
+    ensures { Adds O.taken O.failures out.old page.old out.new page.new (prices_text numbers.now) }
+{
+    for number in numbers {
+        put_price(out, page, *number);
+    }
+}
+
+fn put_head<O: Output>(out: &mut O, page: &mut Page, profile: &Profile)
+    ensures { Adds O.taken O.failures out.old page.old out.new page.new
+        (head_text (numbers_of profile.now)) }
 {
     let numbers = profile.numbers();
     if numbers == Profile::one().numbers() {
-        return out.push_str("arcwcet certificate 1\n");
+        page.put(out, b"arcwcet certificate 1\n");
+        return;
     }
-    out.push_str("arcwcet certificate 2\nprofile")?;
-    for number in &numbers {
-        write!(out, " {number}")?;
-    }
-    out.push_str("\n")
+    page.put(out, b"arcwcet certificate 2\nprofile");
+    put_prices(out, page, &numbers);
+    page.put(out, b"\n");
 }
 
-fn put_calls(out: &mut String, calls: &Calls) -> Result<(), AllocError>
-    ensures { OnOk result (string_bytes out.new ≡ string_bytes out.old ++ list_words calls.now) }
+fn put_calls<O: Output>(out: &mut O, page: &mut Page, calls: &Calls)
+    ensures { Adds O.taken O.failures out.old page.old out.new page.new (list_words calls.now) }
 {
     let [first, rest @ ..] = calls.as_slice() else {
-        return out.push_str("-");
+        page.put(out, b"-");
+        return;
     };
-    write!(out, "{first:X}")?;
+    page.put(out, hex_text(*first).as_str().as_bytes());
     for call in rest {
-        write!(out, "/{call:X}")?;
-    }
-    Ok(())
-}
-
-/// The address by which a place is shown, in bytes: 0 for Exit, from which no edge leads.
-pub fn address_of(place: &Place) -> u32
-    ensures { result ≡ address_of place.now }
-{
-    match place {
-        Place::At(_, address) => *address,
-        Place::Exit => 0,
-    }
-}
-
-fn put_edge(out: &mut String, edge: &Edge) -> Result<(), AllocError>
-    ensures { OnOk result
-        (string_bytes out.new ≡ string_bytes out.old ++ ended (edge_words (step_of edge.now))) }
-{
-    let address = address_of(&edge.from);
-    let label = match edge.label {
-        Label::Skip => "skip",
-        Label::Do => "do",
-    };
-    match edge.to {
-        Place::At(_, to) => write!(out, "{address:X} {label} {to:X} {}\n", edge.cost),
-        Place::Exit => write!(out, "{address:X} {label} exit {}\n", edge.cost),
+        page.put(out, b"/");
+        page.put(out, hex_text(*call).as_str().as_bytes());
     }
 }
 
@@ -74,100 +70,119 @@ pub fn write_edge(out: &mut String, edge: &Edge) -> Result<(), AllocError>
         (λ _. string_bytes out.new ≡ string_bytes out.old ++ ended (edge_words (step_of edge.now)))
         (λ _. string_bytes out.new ≡ string_bytes out.old) }
 {
-    let mut line = String::new(*out.allocator());
-    put_edge(&mut line, edge)?;
-    out.push_str(line.as_str())
+    let text = edge_text(edge);
+    out.push_str(text.as_str())
 }
 
-fn put_step(out: &mut String, edge: &Edge) -> Result<(), AllocError>
-    ensures { OnOk result
-        (string_bytes out.new ≡ string_bytes out.old ++ ended (step_words (step_of edge.now))) }
+fn put_step<O: Output>(out: &mut O, page: &mut Page, edge: &Edge)
+    ensures { Adds O.taken O.failures out.old page.old out.new page.new
+        (ended (step_words (step_of edge.now))) }
 {
-    out.push_str("step ")?;
-    put_edge(out, edge)
+    page.put(out, b"step ");
+    page.put(out, edge_text(edge).as_str().as_bytes());
 }
 
 #[cycle(walk)]
-fn put_item(out: &mut String, item: &Item) -> Result<(), AllocError>
-    ensures { OnOk result (string_bytes out.new ≡ string_bytes out.old ++ walk_text (item_lines item.now)) }
+fn put_item<O: Output>(out: &mut O, page: &mut Page, item: &Item)
+    ensures { Adds O.taken O.failures out.old page.old out.new page.new (walk_text (item_lines item.now)) }
 {
     match item {
-        Item::Step(edge) => put_step(out, edge),
+        Item::Step(edge) => put_step(out, page, edge),
         Item::Repeat(count, body) => {
-            write!(out, "repeat {count}\n")?;
-            put_items(out, body)?;
-            out.push_str("end\n")
+            page.put(out, b"repeat ");
+            page.put(out, number_text(u64::from(*count)).as_str().as_bytes());
+            put_items(out, page, body);
+            page.put(out, b"end\n");
         }
     }
 }
 
 #[cycle(walk)]
-fn put_items(out: &mut String, items: &[Item]) -> Result<(), AllocError>
-    ensures { OnOk result (string_bytes out.new ≡ string_bytes out.old ++ walk_text (walk_lines items.now)) }
+fn put_items<O: Output>(out: &mut O, page: &mut Page, items: &[Item])
+    ensures { Adds O.taken O.failures out.old page.old out.new page.new (walk_text (walk_lines items.now)) }
 {
     for item in items {
-        put_item(out, item)?;
+        // A walk may have millions of lines, none of which is wanted after a failure.
+        if page.has_failed() {
+            return;
+        }
+        put_item(out, page, item);
     }
-    Ok(())
 }
 
-fn put_place(out: &mut String, row: &PlaceRow) -> Result<(), AllocError>
-    ensures { OnOk result (string_bytes out.new ≡ string_bytes out.old ++ ended (place_words row.now)) }
+fn put_place<O: Output>(out: &mut O, page: &mut Page, row: &PlaceRow)
+    ensures { Adds O.taken O.failures out.old page.old out.new page.new (ended (place_words row.now)) }
 {
-    out.push_str("place ")?;
-    put_calls(out, &row.list)?;
-    write!(out, " {:X} {}\n", row.address, row.distance)
+    page.put(out, b"place ");
+    put_calls(out, page, &row.list);
+    page.put(out, place_text(row).as_str().as_bytes());
 }
 
-fn put_instance(out: &mut String, row: &InstanceRow) -> Result<(), AllocError>
-    ensures { OnOk result (string_bytes out.new ≡ string_bytes out.old ++ ended (instance_words row.now)) }
+fn put_instance<O: Output>(out: &mut O, page: &mut Page, row: &InstanceRow)
+    ensures { Adds O.taken O.failures out.old page.old out.new page.new (ended (instance_words row.now)) }
 {
-    out.push_str("instance ")?;
-    put_calls(out, &row.list)?;
-    write!(out, " {:X} {} {}\n", row.header, row.arrival, row.round)
+    page.put(out, b"instance ");
+    put_calls(out, page, &row.list);
+    page.put(out, instance_text(row).as_str().as_bytes());
 }
 
-fn put_places(out: &mut String, rows: &[PlaceRow]) -> Result<(), AllocError>
-    ensures { OnOk result (string_bytes out.new ≡ string_bytes out.old ++ places_text rows.now) }
+fn put_places<O: Output>(out: &mut O, page: &mut Page, rows: &[PlaceRow])
+    ensures { Adds O.taken O.failures out.old page.old out.new page.new (places_text rows.now) }
 {
     for row in rows {
-        put_place(out, row)?;
+        put_place(out, page, row);
     }
-    Ok(())
 }
 
-fn put_instances(out: &mut String, rows: &[InstanceRow]) -> Result<(), AllocError>
-    ensures { OnOk result (string_bytes out.new ≡ string_bytes out.old ++ instances_text rows.now) }
+fn put_instances<O: Output>(out: &mut O, page: &mut Page, rows: &[InstanceRow])
+    ensures { Adds O.taken O.failures out.old page.old out.new page.new (instances_text rows.now) }
 {
     for row in rows {
-        put_instance(out, row)?;
+        put_instance(out, page, row);
     }
-    Ok(())
 }
 
-fn put_cert(out: &mut String, longest: &Longest) -> Result<(), AllocError>
-    ensures { OnOk result (string_bytes out.new ≡ string_bytes out.old ++ cert_text (said_of longest.now)) }
+fn put_cert<O: Output>(out: &mut O, page: &mut Page, longest: &Longest)
+    ensures { Adds O.taken O.failures out.old page.old out.new page.new (cert_text (said_of longest.now)) }
 {
-    put_head(out, &longest.profile)?;
-    write!(out, "bound {}\n", longest.bound)?;
-    put_items(out, longest.walk.items())?;
-    out.push_str("close\n")?;
-    put_places(out, longest.potentials.places.items())?;
-    put_instances(out, longest.potentials.instances.items())?;
-    out.push_str("stop\n")
+    put_head(out, page, &longest.profile);
+    page.put(out, b"bound ");
+    page.put(out, number_text(longest.bound).as_str().as_bytes());
+    put_items(out, page, longest.walk.items());
+    page.put(out, b"close\n");
+    put_places(out, page, longest.potentials.places.items());
+    put_instances(out, page, longest.potentials.instances.items());
+    page.put(out, b"stop\n");
 }
 
-/// The text of a greatest walk's certificate, in time linear in its length. A body that several repeats share
-/// is written at each of them.
+/// Writes the text of a greatest walk's certificate to an output, in time linear in its length. A body that several
+/// repeats share is written at each of them. It takes no memory, however long the text is.
+///
+/// # Errors
+///
+/// `Failed`: the output failed. It took a front of the text then.
+pub fn print_cert<O: Output>(longest: &Longest, out: &mut O) -> Result<(), OutputFault>
+    ensures ok { OnOk result (Appends (O.taken out.old) (O.taken out.new) (cert_text (said_of longest.now))) }
+    ensures quiet { OnOk result (O.failures out.new ≡ O.failures out.old) }
+    ensures front { OnErr result
+        (TakesFront (O.taken out.old) (O.taken out.new) (cert_text (said_of longest.now))) }
+    ensures failed { OnErr result (FailsSince (O.failures out.old) (O.failures out.new)) }
+{
+    let mut page = Page::new();
+    put_cert(out, &mut page, longest);
+    page.finish(out)
+}
+
+/// The text of a greatest walk's certificate, in time linear in its length, as [`print_cert`] writes it.
 ///
 /// `Memory`: an allocation failed.
 pub fn write_cert(alloc: Global, longest: &Longest) -> Result<Vec<u8>, CertFault>
     ensures text { IfOk result (λ text. text.items ≡ cert_text (said_of longest.now)) }
     ensures memory { IfErr result (λ fault. fault ≡ CertFault.Memory) }
 {
-    let mut text = String::new(alloc);
-    match put_cert(&mut text, longest) {
-        Ok(()) => Ok(text.into_bytes()),
+    let mut out = VecOutput::new(alloc);
+    match print_cert(longest, &mut out) {
+        Ok(()) => Ok(out.into_bytes()),
         Err(_) => Err(CertFault::Memory),
     }
 }

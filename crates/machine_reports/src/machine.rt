@@ -7,7 +7,7 @@ ghost use Rattle.trace_text.specs.TraceText.{Adds};
 ghost use Rattle.report_output.specs.Answers.{Answers};
 ghost use Rattle.report_input.specs.Placing.{IsPlaced, IsRunRefused, IsRunnable};
 ghost use Rattle.machine_reports.specs.Machine.{Front, IsMachineReport, ShowsRegisters, ShowsSteps, end_text};
-ghost use Rattle.report_output.specs.Output.{FailsSince, TakesFront};
+ghost use Rattle.outputs.specs.Output.{FailsSince, TakesFront};
 ghost use Rattle.report_input.specs.Priced.{Priced};
 
 use arm2_effect::address_of;

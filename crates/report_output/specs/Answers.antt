@@ -1,7 +1,7 @@
 -- What a call that prints one text answers.
 use Rattle.std.specs.Prelude.{◌≡◌, ◌≢◌, ◌⊎◌, ℕ, List, Option, Result, Err, OnOk, IfOk, IfErr}
 use Rattle.std.specs.Io.KnownBytes.{Appends}
-use Rattle.report_output.specs.Output.{TakesFront, FailsSince}
+use Rattle.outputs.specs.Output.{TakesFront, FailsSince}
 use Rattle.report_output.specs.declared.fault.ReportFault.{ReportFault}
 use Rattle.report_output.specs.declared.fault.ReportFault.TheVariants.{Memory, Device}
 

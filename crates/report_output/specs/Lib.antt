@@ -1,4 +1,3 @@
 pub mod Answers
 pub mod Faults
 pub mod Kept
-pub mod Output

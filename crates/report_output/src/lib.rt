@@ -6,4 +6,5 @@ mod fault;
 mod output;
 
 pub use fault::ReportFault;
-pub use output::{MemoryOutput, Output, OutputFault, StreamOutput, write_whole};
+pub use output::{MemoryOutput, StreamOutput};
+pub use outputs::{Output, OutputFault, write_whole};

@@ -1,31 +1,42 @@
-use Rattle.std.proofs.Common.{rules, ◌≡◌, ◌∙◌, ◌++◌, ◌≤◌, ℕ, List, flat_map, ap, length, sym, append_assoc, codes, string_bytes}
-use Rattle.std.proofs.lemmas.List.{take_all}
+use Rattle.std.proofs.Common.{rules, ◌≡◌, ◌∙◌, ◌++◌, ℕ, List, ap, sym, true, take, drop, append_assoc, codes}
 use Rattle.std.specs.Fmt.{decimal}
 use Rattle.longest_walk.specs.declared.folded.Item.{Item}
 use Rattle.longest_walk.specs.declared.folded.Item.TheVariants.{Repeat}
+use Rattle.outputs.proofs.PageLaws.{adds_both, adds_none, adds_same}
 use Rattle.certificate.specs.Walk.{item_lines, walk_lines}
 use Rattle.certificate.specs.Words.{ended}
 use Rattle.certificate.specs.Written.{walk_text}
-use Rattle.certificate.proofs.WriteLaws.{by_items, push_done, text-repeat}
+use Rattle.certificate.proofs.WriteLaws.{text-repeat, walk_parts}
 use Rattle.certificate.proofs.writing.+walk.Goals as goal
 
-pub put_items-returns : goal.put_items-returns
-put_items-returns t c =
-    let done : length c.args.items.now ≤ c.loop-item.item-index = search rules in
-    c.loop-item.invariant
-    ∙ ap (λ (xs : List Item). string_bytes c.args.out.now ++ flat_map (λ i. walk_text (item_lines i)) xs) (take_all c.loop-item.item-index c.args.items.now done)
-    ∙ ap (λ (x : List ℕ). string_bytes c.args.out.now ++ x) (by_items c.args.items.now)
+pub put_items-returns-then-has_failed : goal.put_items-returns-then-has_failed
+put_items-returns-then-has_failed g t c =
+    let taken = g.O.Output.taken in
+    let failures = g.O.Output.failures in
+    let out = c.loop-item.out in
+    let page = c.loop-item.page in
+    let first = walk_text (walk_lines (take c.loop-item.item-index c.args.items.now)) in
+    let others = walk_text (walk_lines (drop c.loop-item.item-index c.args.items.now)) in
+    let failed : page.failed ≡ true = search rules in
+    adds_same taken failures c.args.out.now out c.args.page.now page _ _ (walk_parts c.args.items.now c.loop-item.item-index)
+    (adds_both taken failures c.args.out.now out out c.args.page.now page page first others c.loop-item.invariant
+    (adds_none taken failures out page page others failed failed))
 
-pub put_item-returns-in_ok-put_items-in-Repeat : goal.put_item-returns-in_ok-put_items-in-Repeat
-put_item-returns-in_ok-put_items-in-Repeat t c =
-    let out = string_bytes c.args.out.now in
-    let head = ended (codes "repeat " ++ decimal c.in-Repeat.count) in
+pub put_item-returns-in-Repeat : goal.put_item-returns-in-Repeat
+put_item-returns-in-Repeat g t c =
+    let taken = g.O.Output.taken in
+    let failures = g.O.Output.failures in
+    let head = codes "repeat " in
+    let number = ended (decimal c.in-Repeat.count) in
     let body = walk_text (walk_lines c.in-Repeat.body.value.items) in
-    let wrote : string_bytes c.write.new.self ≡ out ++ head = search rules in
-    let inner : string_bytes c.put_items.new.out ≡ string_bytes c.write.new.self ++ body = search rules in
+    let end = codes "end\n" in
+    let is_number : c.as_bytes.result.now ≡ number = search rules in
+    let is_body : walk_text (walk_lines c.deref-in-Repeat.result.now) ≡ body = ap (λ xs. walk_text (walk_lines xs)) (search rules) in
     let is : c.args.item.now ≡ Repeat c.in-Repeat.count c.in-Repeat.body = search rules in
-    push_done c.push_str.result (string_bytes c.put_items.new.out) (string_bytes c.push_str.new.self) (codes "end\n") _ c.push_str.ensures.bytes (λ e.
-    e ∙ ap (λ (x : List ℕ). x ++ codes "end\n") (inner ∙ ap (λ (x : List ℕ). x ++ body) wrote)
-    ∙ append_assoc (out ++ head) body (codes "end\n") ∙ append_assoc out head (body ++ codes "end\n")
-    ∙ ap (λ (x : List ℕ). out ++ x) (sym (text-repeat c.in-Repeat.count c.in-Repeat.body))
-    ∙ ap (λ (i : Item). out ++ walk_text (item_lines i)) (sym is))
+    let count = adds_same taken failures c.put.new.out c.put-in-Repeat.new.out c.put.new.self c.put-in-Repeat.new.self _ number is_number c.put-in-Repeat.ensures in
+    let inner = adds_same taken failures c.put-in-Repeat.new.out c.put_items.new.out c.put-in-Repeat.new.self c.put_items.new.page _ body is_body c.put_items.ensures in
+    adds_same taken failures c.args.out.now c.put-in-Repeat-2.new.out c.args.page.now c.put-in-Repeat-2.new.self _ _
+    (sym (text-repeat c.in-Repeat.count c.in-Repeat.body) ∙ ap (λ i. walk_text (item_lines i)) (sym is))
+    (adds_both taken failures c.args.out.now c.put.new.out c.put-in-Repeat-2.new.out c.args.page.now c.put.new.self c.put-in-Repeat-2.new.self head (number ++ (body ++ end)) c.put.ensures
+    (adds_both taken failures c.put.new.out c.put-in-Repeat.new.out c.put-in-Repeat-2.new.out c.put.new.self c.put-in-Repeat.new.self c.put-in-Repeat-2.new.self number (body ++ end) count
+    (adds_both taken failures c.put-in-Repeat.new.out c.put_items.new.out c.put-in-Repeat-2.new.out c.put-in-Repeat.new.self c.put_items.new.page c.put-in-Repeat-2.new.self body end inner c.put-in-Repeat-2.ensures)))

@@ -1,16 +1,18 @@
-use Rattle.std.proofs.Common.{rules, ◌≡◌, ◌∙◌, ◌++◌, ◌∷◌, ◌≤◌, ℕ, List, flat_map, ap, length, take, get_or, sym, append_assoc, string_bytes, arith}
+use Rattle.std.proofs.Common.{rules, ◌≡◌, ◌∙◌, ◌++◌, ◌∷◌, ◌≤◌, ℕ, List, flat_map, ap, length, take, get_or, sym, arith}
 use Rattle.asm_text.specs.Hex.{hex}
+use Rattle.outputs.proofs.PageLaws.{adds_same}
 use Rattle.certificate.specs.Words.{list_words}
 use Rattle.certificate.proofs.NumberLaws.{after_first}
 use Rattle.certificate.proofs.WriteLaws.{listed}
 use Rattle.certificate.proofs.writing.put_calls.Goals as goal
 
 pub returns : goal.returns
-returns c =
-    let out = string_bytes c.args.out.now in
+returns g c =
     let slice = c.as_slice.result.now in
-    let wrote : string_bytes c.write.new.self ≡ out ++ hex (get_or slice 0 0) = search rules in
-    let done : length (after_first slice) ≤ c.loop-call.call-index = search rules in
-    let rest = flat_map (λ x. 47 ∷ hex x) (take c.loop-call.call-index (after_first slice)) in
-    c.loop-call.invariant ∙ ap (λ (x : List ℕ). x ++ rest) wrote ∙ append_assoc out (hex (get_or slice 0 0)) rest
-    ∙ ap (λ (x : List ℕ). out ++ x) (sym (listed slice c.loop-call.call-index (omega (arith, c.in-len1-up.len_at_least)) done) ∙ ap list_words c.as_slice.ensures.value)
+    let is = c.as_slice.ensures.value in
+    let n = c.loop-call.call-index in
+    let done : length (after_first slice) ≤ n = search rules in
+    let text = λ (xs : List ℕ). hex (get_or xs 0 0) ++ flat_map (λ x. 47 ∷ hex x) (take n (after_first slice)) in
+    adds_same g.O.Output.taken g.O.Output.failures c.args.out.now c.loop-call.out c.args.page.now c.loop-call.page _ _
+    (ap text (sym is) ∙ sym (listed slice n (omega (arith, c.in-len1-up.len_at_least)) done) ∙ ap list_words is)
+    c.loop-call.invariant

@@ -1,6 +1,9 @@
-use Rattle.std.proofs.Common.{◌≡◌, ◌∷◌, ◌++◌, take, flat_map, string_bytes}
+use Rattle.std.proofs.Common.{◌++◌, ◌∷◌, flat_map, get_or, take}
 use Rattle.asm_text.specs.Hex.{hex}
+use Rattle.outputs.specs.OnTheWay.{Adds}
 use Rattle.certificate.proofs.writing.put_calls.Given as goal
 
 abbrev pub invariant-loop-call : goal.invariant-loop-call
-invariant-loop-call l = string_bytes l.out ≡ string_bytes l.initial.out ++ flat_map (λ c. 47 ∷ hex c) (take l.call-index l.rest)
+invariant-loop-call g l =
+    Adds g.O.Output.taken g.O.Output.failures l.fn.out l.fn.page l.out l.page
+    (hex (get_or l.fn.calls 0 0) ++ flat_map (λ c. 47 ∷ hex c) (take l.call-index l.rest))

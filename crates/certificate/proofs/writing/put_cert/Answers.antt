@@ -1,26 +1,34 @@
-use Rattle.std.proofs.Common.{rules, ◌≡◌, ◌∙◌, ◌++◌, ℕ, List, codes, ap, sym, string_bytes}
+use Rattle.std.proofs.Common.{rules, ◌≡◌, ◌++◌, ℕ, List, codes, sym, refl}
 use Rattle.std.specs.Fmt.{decimal}
+use Rattle.outputs.proofs.PageLaws.{adds_both, adds_same}
 use Rattle.certificate.specs.Lines.{said_of}
 use Rattle.certificate.specs.Words.{ended}
 use Rattle.certificate.specs.Written.{head_text, instances_text, places_text, walk_text}
-use Rattle.certificate.proofs.WriteLaws.{push_done, sections, seven}
+use Rattle.certificate.proofs.WriteLaws.{sections}
 use Rattle.certificate.proofs.writing.put_cert.Goals as goal
 
 pub returns : goal.returns
-returns c =
+returns g c =
+    let taken = g.O.Output.taken in
+    let failures = g.O.Output.failures in
     let said = said_of c.args.longest.now in
-    let out = string_bytes c.args.out.now in
     let h = head_text said.numbers in
-    let b = ended (codes "bound " ++ decimal said.bound) in
+    let b = codes "bound " in
+    let n = ended (decimal said.bound) in
     let w = walk_text said.walk in
+    let k = codes "close\n" in
     let p = places_text said.places in
     let i = instances_text said.instances in
-    let head : string_bytes c.put_head.new.out ≡ out ++ h = search rules in
-    let bound : string_bytes c.write.new.self ≡ string_bytes c.put_head.new.out ++ b = search rules in
-    let walk : string_bytes c.put_items.new.out ≡ string_bytes c.write.new.self ++ w = search rules in
-    let close : string_bytes c.push_str.new.self ≡ string_bytes c.put_items.new.out ++ codes "close\n" = search rules in
-    let places : string_bytes c.put_places.new.out ≡ string_bytes c.push_str.new.self ++ p = search rules in
-    let instances : string_bytes c.put_instances.new.out ≡ string_bytes c.put_places.new.out ++ i = search rules in
-    push_done c.push_str-2.result (string_bytes c.put_instances.new.out) (string_bytes c.push_str-2.new.self) (codes "stop\n") _ c.push_str-2.ensures.bytes (λ e.
-    e ∙ ap (λ (x : List ℕ). x ++ codes "stop\n") (instances ∙ ap (λ (x : List ℕ). x ++ i) (places ∙ ap (λ (x : List ℕ). x ++ p) (close ∙ ap (λ (x : List ℕ). x ++ codes "close\n") (walk ∙ ap (λ (x : List ℕ). x ++ w) (bound ∙ ap (λ (x : List ℕ). x ++ b) head)))))
-    ∙ seven out h b w (codes "close\n") p i (codes "stop\n") ∙ ap (λ (x : List ℕ). out ++ x) (sym (sections said)))
+    let s = codes "stop\n" in
+    let end = c.put-4.new.out in
+    let last = c.put-4.new.self in
+    let is_number : c.as_bytes.result.now ≡ n = search rules in
+    let number = adds_same taken failures c.put.new.out c.put-2.new.out c.put.new.self c.put-2.new.self _ n is_number c.put-2.ensures in
+    let instances = adds_both taken failures c.put_places.new.out c.put_instances.new.out end c.put_places.new.page c.put_instances.new.page last i s (search rules) c.put-4.ensures in
+    let places = adds_both taken failures c.put-3.new.out c.put_places.new.out end c.put-3.new.self c.put_places.new.page last p (i ++ s) (search rules) instances in
+    let close = adds_both taken failures c.put_items.new.out c.put-3.new.out end c.put_items.new.page c.put-3.new.self last k (p ++ (i ++ s)) c.put-3.ensures places in
+    let walk = adds_both taken failures c.put-2.new.out c.put_items.new.out end c.put-2.new.self c.put_items.new.page last w (k ++ (p ++ (i ++ s))) (search rules) close in
+    let bound = adds_both taken failures c.put.new.out c.put-2.new.out end c.put.new.self c.put-2.new.self last n (w ++ (k ++ (p ++ (i ++ s)))) number walk in
+    let line = adds_both taken failures c.put_head.new.out c.put.new.out end c.put_head.new.page c.put.new.self last b (n ++ (w ++ (k ++ (p ++ (i ++ s))))) c.put.ensures bound in
+    let whole = adds_both taken failures c.args.out.now c.put_head.new.out end c.args.page.now c.put_head.new.page last h (b ++ (n ++ (w ++ (k ++ (p ++ (i ++ s)))))) c.put_head.ensures line in
+    adds_same taken failures c.args.out.now end c.args.page.now last _ _ (sym (sections said)) whole

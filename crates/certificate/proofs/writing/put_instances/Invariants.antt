@@ -1,6 +1,9 @@
-use Rattle.std.proofs.Common.{◌≡◌, ◌++◌, take, string_bytes}
+use Rattle.std.proofs.Common.{take}
+use Rattle.outputs.specs.OnTheWay.{Adds}
 use Rattle.certificate.specs.Written.{instances_text}
 use Rattle.certificate.proofs.writing.put_instances.Given as goal
 
 abbrev pub invariant-loop-row : goal.invariant-loop-row
-invariant-loop-row l = string_bytes l.out ≡ string_bytes l.initial.out ++ instances_text (take l.row-index l.rows)
+invariant-loop-row g l =
+    Adds g.O.Output.taken g.O.Output.failures l.fn.out l.fn.page l.out l.page
+    (instances_text (take l.row-index l.rows))

@@ -1,8 +1,8 @@
 use Rattle.std.proofs.Common.{subst, rules, ◌∙◌}
 use Rattle.std.proofs.KnownBytes.{Appends-trans}
 use Rattle.std.specs.Io.KnownBytes.{Appends}
-use Rattle.report_output.proofs.Fronts.{take-rest, no_failure}
-use Rattle.report_output.proofs.output.write_whole.Goals as goal
+use Rattle.outputs.proofs.Fronts.{take-rest, no_failure}
+use Rattle.outputs.proofs.output.write_whole.Goals as goal
 
 pub loop-at-preserved : goal.loop-at-preserved
 loop-at-preserved g c =

@@ -1,10 +1,11 @@
-use Rattle.std.proofs.Common.{◌≢◌}
+use Rattle.std.proofs.Common.{◌≢◌, refl}
 use Rattle.report_output.specs.Faults.{of_walk}
+use Rattle.certificate.specs.Lines.{cert_text, said_of}
 use Rattle.report_input.specs.Report.{IsRefused}
 use Rattle.report_output.specs.declared.fault.ReportFault.TheVariants.{Device}
 use Rattle.report_input.proofs.HandlerLemmas.{refused_as}
 use Rattle.report_input.proofs.ReportLemmas.{accepted, longest_by_each, reported_bound, walk_refusal}
-use Rattle.bound_reports.proofs.bound.longest_report.Goals as goal
+use Rattle.bound_reports.proofs.bound.longest_of.Goals as goal
 
 pub returns-in_err-found-clause-fault : goal.returns-in_err-found-clause-fault
 returns-in_err-found-clause-fault c = λ source statement profile loops.
@@ -18,10 +19,10 @@ returns-clause-report c = λ source statement profile loops.
     let h = c.args.handler.now in
     let graph = loops.graph in
     reported_bound source statement profile h.statement h.graph h.tree loops c.requires.tree
-    c.in_ok-found.found c.in_ok-text.text.items c.run_law.ensures c.requires.formed c.in_ok-found.ensures.longest c.in_ok-found.ensures.allowed
+    c.in_ok-found.found (cert_text (said_of c.in_ok-found.found)) c.run_law.ensures c.requires.formed c.in_ok-found.ensures.longest c.in_ok-found.ensures.allowed
     (λ other of cert said. c.longest_gets_yes.ensures graph.words h.statement profile h.graph other c.in_ok-found.found cert graph.graph_is c.requires.formed
     of.tree_is (longest_by_each h.graph h.statement.loops h.tree other c.requires.tree of c.in_ok-found.found c.in_ok-found.ensures.longest) said)
-    c.in_ok-text.ensures.text
+    refl
 
 pub returns-clause-accepted : goal.returns-clause-accepted
 returns-clause-accepted c = λ source statement profile loops.

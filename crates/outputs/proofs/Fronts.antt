@@ -3,7 +3,7 @@ use Rattle.std.proofs.Common.{◌≡◌, ℕ, eqb, false, Result, Ok, ◌+◌, �
 use Rattle.std.proofs.lemmas.List.{take-append-drop, length-take, length-drop, take_all}
 use Rattle.std.proofs.lemmas.Bool.{ne_eqb}
 use Rattle.std.proofs.Math.Seq.{take-append-add}
-use Rattle.report_output.specs.Output.{failures_after}
+use Rattle.outputs.specs.Output.{failures_after}
 
 -- a front, and a front of what is left
 take-more : (xs : List ℕ) (a n : ℕ) → a ≤ length xs → take a xs ++ take n (drop a xs) ≡ take (a + n) xs
