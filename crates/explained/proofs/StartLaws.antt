@@ -102,8 +102,8 @@ all_most F r [] most = most_like F (λ n. F n ⊎ Contains {X = ℕ} [] n) (λ n
 all_most F r (x ∷ xs) most =
     most_like (λ n. (F n ⊎ (x ≡ n)) ⊎ Contains xs n) (λ n. F n ⊎ Contains (x ∷ xs) n)
     (λ n. (
-    λ h. ⊎_elim (λ f. ⊎_elim (λ old. inl old) (λ (e : x ≡ n). inr (subst (Contains (x ∷ xs)) e (has_first x xs))) f) (λ has. inr (has_rest x xs n has)) h,
-    λ h. ⊎_elim (λ old. inl (inl old)) (λ has. ⊎_elim (λ e. inl (inr e)) (λ more. inr more) (first_or x xs n has)) h,
+      λ h. ⊎_elim (λ f. ⊎_elim (λ old. inl old) (λ (e : x ≡ n). inr (subst (Contains (x ∷ xs)) e (has_first x xs))) f) (λ has. inr (has_rest x xs n has)) h,
+      λ h. ⊎_elim (λ old. inl (inl old)) (λ has. ⊎_elim (λ e. inl (inr e)) (λ more. inr more) (first_or x xs n has)) h,
     ))
     (fold later (later r x) xs) (all_most (λ n. F n ⊎ (x ≡ n)) (later r x) xs (one_most F r x most))
 
@@ -146,11 +146,14 @@ module _ (R : Place → ℕ → Type 0) (a : ℕ) where
       (λ (same : q ≡ p). (s, subst (λ (o : Place). R o s) same all.0, subst (λ xs. Contains xs s) (sym (kept q ps s ss (ap (is_at a) same ∙ there))) (has_first s (starts_at ps ss a))))
       (Contains-push_cases [] q p first))
       (λ later_one.
-      let w = has_start ps ss all.1 p later_one there in
-      (w.0, w.1, ⊎_elim
-      (λ here. subst (λ xs. Contains xs w.0) (sym (kept q ps s ss here)) (has_rest s (starts_at ps ss a) w.0 w.2))
-      (λ apart. subst (λ xs. Contains xs w.0) (sym (left q ps s ss apart)) w.2)
-      (cases_Bool (is_at a q))))
+      let w = has_start ps ss all.1 p later_one there in (
+        w.0,
+        w.1,
+        ⊎_elim
+            (λ here. subst (λ xs. Contains xs w.0) (sym (kept q ps s ss here)) (has_rest s (starts_at ps ss a) w.0 w.2))
+            (λ apart. subst (λ xs. Contains xs w.0) (sym (left q ps s ss apart)) w.2)
+            (cases_Bool (is_at a q)),
+      ))
       (Contains-append_cases (q ∷ []) ps p has)
 
 -- ## Walks
@@ -175,7 +178,7 @@ module _ (flow : Flow) (well : IsWellFormed flow) where
     by_most None none = λ n comes. let w = its_start n comes in none w.0 w.2
     by_most (Some m) most = (
       let w = of_place (IsWorstStart flow tree) a flow.places starts are m most.0 in
-      record { place = w.0; there = w.1; walk = w.2.walk; leads = w.2.complete; kept = w.2.kept; costs = w.2.costs },
+          record { place = w.0; there = w.1; walk = w.2.walk; leads = w.2.complete; kept = w.2.kept; costs = w.2.costs },
       λ n comes.
           let w = its_start n comes in
           let upper = w.1.upper comes.walk comes.leads comes.kept in

@@ -27,11 +27,7 @@ fn later(latest: Option<u64>, start: u64) -> u64
 }
 
 // Adds a place with its start.
-fn put_start(
-    latest: &mut BTreeMap<u32, u64>,
-    place: &Place,
-    start: u64,
-) -> Result<(), AllocError>
+fn put_start(latest: &mut BTreeMap<u32, u64>, place: &Place, start: u64) -> Result<(), AllocError>
     ensures { OnOk result
         (Begins place.now start (get nat_cmp latest.old) (get nat_cmp latest.new)) }
 {
