@@ -39,9 +39,9 @@ pub struct Explained<'a> {
 // A greatest walk with the worst starts of its places, and the bursts that are added to its cost, by the profile's
 // price of one.
 #[derive(Clone, Copy)]
-struct BurstWalk<'a> {
-    timed: TimedWalk<'a>,
-    profile: &'a Profile,
+struct BurstWalk<'w, 'p> {
+    timed: TimedWalk<'w>,
+    profile: &'p Profile,
     bursts: Bursts,
 }
 
@@ -65,7 +65,7 @@ fn is_enough(at_most: Option<u32>, bound: u64) -> bool
 fn image_text(
     alloc: Global,
     stated: StatedGraph<'_>,
-    walk: BurstWalk<'_>,
+    walk: BurstWalk<'_, '_>,
 ) -> Result<Vec<u8>, AllocError>
     ensures { IfOk result
         (λ text. IsImageText stated.entry.image.now stated.entry.statement.now stated.entry.graph.now
@@ -88,7 +88,7 @@ fn placed_text(
     source: &[u8],
     placed: &[PlacedLine],
     stated: StatedGraph<'_>,
-    walk: BurstWalk<'_>,
+    walk: BurstWalk<'_, '_>,
 ) -> Result<Vec<u8>, AllocError>
     requires { ArePlaced source.now placed.now }
     ensures { IfOk result
@@ -111,7 +111,7 @@ fn text_of(
     alloc: Global,
     source: &[u8],
     stated: StatedGraph<'_>,
-    walk: BurstWalk<'_>,
+    walk: BurstWalk<'_, '_>,
 ) -> Result<Vec<u8>, ReportFault>
     ensures text { IfOk result
         (λ text. IsTextOf source.now stated.entry.image.now stated.entry.statement.now
