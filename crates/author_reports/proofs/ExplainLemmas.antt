@@ -11,6 +11,7 @@ use Rattle.flow_graph.specs.declared.places.Place.TheVariants.{Exit}
 use Rattle.longest_walk.specs.Folded.{unfolded}
 use Rattle.loop_bounds.specs.Tree.{Tree}
 use Rattle.longest_walk.specs.Longest.{IsLongest, IsWalkFault}
+use Rattle.longest_walk.specs.Starts.{AreWorstStarts}
 use Rattle.longest_walk.specs.declared.folded.Longest.{Longest}
 use Rattle.numbered_walks.specs.declared.fault.WalkFault.{WalkFault}
 use Rattle.numbered_walks.specs.declared.fault.WalkFault.TheVariants as walk_fault
@@ -38,22 +39,24 @@ bound_fits flow tree l is = ⊎_elim
 module _ (source statement : List ℕ) (profile : Profile) (words : Words) (names : Names) (said : source_of source ≡ Ok (words, names))
     (st : Stated) (flow : Flow) (tree : Tree) (loops : HasLoops source statement profile st flow) (of : IsTreeOf flow st.loops tree) where
   -- the table of a greatest walk explains its bound
-  pub explained : (bursts : Bursts) (l : Longest) (text : List ℕ) → IsLongest flow tree l → ((f : WalkFault) → f ≢ walk_fault.Memory → IsWalkFault flow tree f → ⊥)
-      → IsTextOf source words st flow l profile.burst bursts text → IsTotal source loops.graph.words flow l
+  pub explained : (bursts : Bursts) (l : Longest) (starts text : List ℕ) → IsLongest flow tree l → AreWorstStarts flow tree starts → ((f : WalkFault) → f ≢ walk_fault.Memory → IsWalkFault flow tree f → ⊥)
+      → IsTextOf source words st flow l starts profile.burst bursts text → IsTotal source loops.graph.words flow l
       → IsExplanation source statement bursts profile l.bound text
   unfolding accepted
-  explained bursts l text is allowed explains total =
+  explained bursts l starts text is are allowed explains total =
       let pairs : (words, names) ≡ (loops.graph.words, loops.graph.names) =
       one_ok (words, names) (loops.graph.words, loops.graph.names) (source_of source) said loops.graph.source_is in
       record {
         accepted = accepted source statement profile st flow tree loops of allowed;
         tree = tree;
         longest = l;
+        starts = starts;
         tree_of = of;
         longest_is = is;
+        starts_are = are;
         bound_is = refl;
         greatest = tree_is_greatest flow st.loops tree of.instances l.bound is.greatest;
-        explains = subst (λ (w : Words). IsTextOf source w st flow l profile.burst bursts text) (ap (λ (p : Said). p.0) pairs) explains;
+        explains = subst (λ (w : Words). IsTextOf source w st flow l starts profile.burst bursts text) (ap (λ (p : Said). p.0) pairs) explains;
         total = total;
       }
 

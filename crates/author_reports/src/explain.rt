@@ -14,11 +14,11 @@ ghost use Rattle.report_input.specs.Source.{IsSourceFault, source_of};
 use assembler::{PlacedLine, placed_lines};
 use bus_ticks::Profile;
 use explained::{
-    Bursts, StatedGraph, burst_lines, idle_entries, image_assumptions, image_table,
+    Bursts, StatedGraph, TimedWalk, burst_lines, idle_entries, image_assumptions, image_table,
     places_stand_once, source_assumptions, source_table, totals_are_the_bound,
 };
 use loader::{Image, MAGIC};
-use longest_walk::{Longest, longest};
+use longest_walk::{longest, worst_starts};
 use report_input::{Handler, handler_of, profile_of, read_source};
 use report_output::{Output, ReportFault, write_whole};
 use std::alloc::{AllocError, Global};
@@ -36,11 +36,12 @@ pub struct Explained<'a> {
     pub bursts: Bursts,
 }
 
-// A greatest walk, and the bursts that are added to its cost, by the profile's price of one.
+// A greatest walk with the worst starts of its places, and the bursts that are added to its cost, by the profile's
+// price of one.
 #[derive(Clone, Copy)]
-struct BurstWalk<'a> {
-    longest: &'a Longest,
-    profile: &'a Profile,
+struct BurstWalk<'w, 'p> {
+    timed: TimedWalk<'w>,
+    profile: &'p Profile,
     bursts: Bursts,
 }
 
@@ -64,14 +65,15 @@ fn is_enough(at_most: Option<u32>, bound: u64) -> bool
 fn image_text(
     alloc: Global,
     stated: StatedGraph<'_>,
-    walk: BurstWalk<'_>,
+    walk: BurstWalk<'_, '_>,
 ) -> Result<Vec<u8>, AllocError>
     ensures { IfOk result
         (λ text. IsImageText stated.entry.image.now stated.entry.statement.now stated.entry.graph.now
-        walk.entry.longest.now walk.entry.profile.now.burst walk.entry.bursts text.items) }
+        walk.entry.timed.longest.now walk.entry.timed.starts.now walk.entry.profile.now.burst
+        walk.entry.bursts text.items) }
 {
-    let mut text = image_table(alloc, stated, walk.longest)?;
-    let mut rest = burst_lines(alloc, walk.profile, walk.longest.bound, walk.bursts)?;
+    let mut text = image_table(alloc, stated, walk.timed)?;
+    let mut rest = burst_lines(alloc, walk.profile, walk.timed.longest.bound, walk.bursts)?;
     let assumptions = image_assumptions(alloc, stated)?;
     rest.extend_from_slice(&assumptions)?;
     let idle = idle_entries(alloc, stated)?;
@@ -86,16 +88,16 @@ fn placed_text(
     source: &[u8],
     placed: &[PlacedLine],
     stated: StatedGraph<'_>,
-    walk: BurstWalk<'_>,
+    walk: BurstWalk<'_, '_>,
 ) -> Result<Vec<u8>, AllocError>
     requires { ArePlaced source.now placed.now }
     ensures { IfOk result
         (λ text. IsSourceText source.now stated.entry.image.now stated.entry.statement.now
-        stated.entry.graph.now walk.entry.longest.now walk.entry.profile.now.burst walk.entry.bursts
-        text.items) }
+        stated.entry.graph.now walk.entry.timed.longest.now walk.entry.timed.starts.now
+        walk.entry.profile.now.burst walk.entry.bursts text.items) }
 {
-    let mut text = source_table(alloc, stated, source, placed, walk.longest)?;
-    let mut rest = burst_lines(alloc, walk.profile, walk.longest.bound, walk.bursts)?;
+    let mut text = source_table(alloc, stated, source, placed, walk.timed)?;
+    let mut rest = burst_lines(alloc, walk.profile, walk.timed.longest.bound, walk.bursts)?;
     let assumptions = source_assumptions(alloc, stated, source, placed)?;
     rest.extend_from_slice(&assumptions)?;
     let idle = idle_entries(alloc, stated)?;
@@ -109,12 +111,12 @@ fn text_of(
     alloc: Global,
     source: &[u8],
     stated: StatedGraph<'_>,
-    walk: BurstWalk<'_>,
+    walk: BurstWalk<'_, '_>,
 ) -> Result<Vec<u8>, ReportFault>
     ensures text { IfOk result
         (λ text. IsTextOf source.now stated.entry.image.now stated.entry.statement.now
-        stated.entry.graph.now walk.entry.longest.now walk.entry.profile.now.burst walk.entry.bursts
-        text.items) }
+        stated.entry.graph.now walk.entry.timed.longest.now walk.entry.timed.starts.now
+        walk.entry.profile.now.burst walk.entry.bursts text.items) }
     ensures fault { IfErr result (IsSourceFault source.now) }
 {
     if source.starts_with(&MAGIC) {
@@ -150,6 +152,7 @@ fn explanation_of(
         × IsRefused explained.entry.source.now explained.entry.statement.now profile.now e) }
 {
     let found = longest(alloc, &handler.graph, &handler.tree)?;
+    let starts = worst_starts(alloc, &handler.graph, &handler.tree)?;
     places_stand_once();
     totals_are_the_bound();
     let stated = StatedGraph {
@@ -158,7 +161,10 @@ fn explanation_of(
         graph: &handler.graph,
     };
     let walk = BurstWalk {
-        longest: &found,
+        timed: TimedWalk {
+            longest: &found,
+            starts: &starts,
+        },
         profile,
         bursts: explained.bursts,
     };
@@ -204,8 +210,8 @@ fn priced_explanation<O: Output>(
 
 /// Writes where the ticks of a handler's greatest run time go, by a cycle profile's file or by the first
 /// profile: a table by the lines of the source, or by the words of an image, with how often a greatest walk
-/// passes each, the ticks of a pass and of all, and what the price takes for granted; then the bound, in
-/// ticks and in microseconds; then the bound with DMA bursts, if any are given; then what is taken for
+/// passes each, the ticks of a pass and of all, the tick by which it begins, and what the price takes for granted;
+/// then the bound, in ticks and in microseconds; then the bound with DMA bursts, if any are given; then what is taken for
 /// granted: words that count as returns but do not look like returns, and loads and stores of which no class
 /// is stated; and then the entries of the statement without effect. Answers whether the bound is enough:
 /// without bursts at most so many ticks as are wanted.

@@ -30,12 +30,13 @@ shown_row at word line old a b c d e f new shown ia ib ic id ie jf inew = (
 )
 
 -- with what is taken there
-pub word_row : (taken : ℕ → Option Taken) (priced : ℕ → Option Pricing) (bound at word : ℕ) (here : Option Taken) (price : Option Pricing) (old a new : List ℕ) → here ≡ taken at → price ≡ priced at
-    → a ≡ old ++ columns_text bound here price → Appends (IsShownRow (at, word)) a new → Appends (IsWordRow taken priced bound (at, word)) old new
-word_row taken priced bound at word here price old a new same is first adds =
-    let columns = columns_text bound (taken at) (priced at) in
+pub word_row : (taken : ℕ → Option Taken) (latest : ℕ → Option ℕ) (priced : ℕ → Option Pricing) (bound at word : ℕ) (here : Option Taken) (start : Option ℕ) (price : Option Pricing) (old a new : List ℕ) → here ≡ taken at → start ≡ latest at → price ≡ priced at
+    → a ≡ old ++ columns_text bound here start price → Appends (IsShownRow (at, word)) a new → Appends (IsWordRow taken latest priced bound (at, word)) old new
+word_row taken latest priced bound at word here start price old a new same last is first adds =
+    let columns = columns_text bound (taken at) (latest at) (priced at) in
     let begins : a ≡ old ++ columns =
-    first ∙ ap (λ (o : Option Taken). old ++ columns_text bound o price) same ∙ ap (λ (p : Option Pricing). old ++ columns_text bound (taken at) p) is in
+    first ∙ ap (λ (o : Option Taken). old ++ columns_text bound o start price) same ∙ ap (λ (s : Option ℕ). old ++ columns_text bound (taken at) s price) last
+    ∙ ap (λ (p : Option Pricing). old ++ columns_text bound (taken at) (latest at) p) is in
     (columns ++ adds.0, (adds.0, adds.1, refl), adds.2 ∙ ap (λ xs. xs ++ adds.0) begins ∙ append_assoc old columns adds.0)
 
 -- the ticks of a word more
@@ -48,24 +49,27 @@ image_more taken words i d ticks one new lt before here sum_is =
     sum_is ∙ ap (λ n. capped (n + one)) before ∙ once ∙ ap capped (sym all)
 
 -- the heading, the rows and the end
-pub image_whole : (taken lookup : ℕ → Option Taken) (priced : ℕ → Option Pricing) (bound total : ℕ) (words listed : Words) (start rows new : List ℕ) → lookup ≡ taken → listed ≡ words → start ≡ image_heading
-    → Appends (AreRows (IsWordRow lookup priced bound) listed) start rows → total ≡ image_ticks lookup listed → new ≡ rows ++ table_end total bound → AreImageRows taken priced bound words new
-image_whole taken lookup priced bound total words listed start rows new same are heading_is adds total_is last =
-    let table : AreImageRows lookup priced bound listed new = (
+pub image_whole : (taken lookup : ℕ → Option Taken) (latest starts : ℕ → Option ℕ) (priced : ℕ → Option Pricing) (bound total : ℕ) (words listed : Words) (start rows new : List ℕ) → lookup ≡ taken → starts ≡ latest → listed ≡ words → start ≡ image_heading
+    → Appends (AreRows (IsWordRow lookup starts priced bound) listed) start rows → total ≡ image_ticks lookup listed → new ≡ rows ++ table_end total bound → AreImageRows taken latest priced bound words new
+image_whole taken lookup latest starts priced bound total words listed start rows new same told are heading_is adds total_is last =
+    let table : AreImageRows lookup starts priced bound listed new = (
       adds.0,
       adds.1,
       last ∙ ap (λ n. rows ++ table_end n bound) total_is
           ∙ ap (λ xs. xs ++ table_end (image_ticks lookup listed) bound) (adds.2 ∙ ap (λ xs. xs ++ adds.0) heading_is)
           ∙ append_assoc image_heading adds.0 (table_end (image_ticks lookup listed) bound),
     ) in
-    subst (λ ws. AreImageRows taken priced bound ws new) are (subst (λ f. AreImageRows f priced bound listed new) same table)
+    subst (λ ws. AreImageRows taken latest priced bound ws new) are
+    (subst (λ (g : ℕ → Option ℕ). AreImageRows taken g priced bound listed new) told
+    (subst (λ (f : ℕ → Option Taken). AreImageRows f starts priced bound listed new) same table))
 
-pub source_whole : (taken lookup : ℕ → Option Taken) (priced : ℕ → Option Pricing) (bound total : ℕ) (source : List ℕ) (placed : List PlacedLine) (start rows new : List ℕ) → lookup ≡ taken → start ≡ heading
-    → rows ≡ start ++ source_rows lookup priced bound 1 (lines_of source) placed → total ≡ source_ticks lookup placed → new ≡ rows ++ table_end total bound → new ≡ source_table taken priced bound source placed
-source_whole taken lookup priced bound total source placed start rows new same heading_is rows_are total_is last =
-    let lines = source_rows lookup priced bound 1 (lines_of source) placed in
-    let table : new ≡ source_table lookup priced bound source placed =
+pub source_whole : (taken lookup : ℕ → Option Taken) (latest starts : ℕ → Option ℕ) (priced : ℕ → Option Pricing) (bound total : ℕ) (source : List ℕ) (placed : List PlacedLine) (start rows new : List ℕ) → lookup ≡ taken → starts ≡ latest → start ≡ heading
+    → rows ≡ start ++ source_rows lookup starts priced bound 1 (lines_of source) placed → total ≡ source_ticks lookup placed → new ≡ rows ++ table_end total bound → new ≡ source_table taken latest priced bound source placed
+source_whole taken lookup latest starts priced bound total source placed start rows new same told heading_is rows_are total_is last =
+    let lines = source_rows lookup starts priced bound 1 (lines_of source) placed in
+    let table : new ≡ source_table lookup starts priced bound source placed =
     last ∙ ap (λ n. rows ++ table_end n bound) total_is
     ∙ ap (λ xs. xs ++ table_end (source_ticks lookup placed) bound) (rows_are ∙ ap (λ xs. xs ++ lines) heading_is)
     ∙ append_assoc heading lines (table_end (source_ticks lookup placed) bound) in
-    table ∙ ap (λ (f : ℕ → Option Taken). source_table f priced bound source placed) same
+    table ∙ ap (λ (f : ℕ → Option Taken). source_table f starts priced bound source placed) same
+    ∙ ap (λ (g : ℕ → Option ℕ). source_table taken g priced bound source placed) told

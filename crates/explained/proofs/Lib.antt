@@ -8,6 +8,7 @@ mod PricingLaws
 mod RangeLaws
 mod RowLaws
 mod StandLaws
+mod StartLaws
 mod SumLaws
 mod TableLaws
 mod TallyLaws

@@ -32,16 +32,16 @@ ticks_end f at left ticks all none small h =
 
 -- ## Rows
 
-no_places : (taken : ℕ → Option Taken) (priced : ℕ → Option Pricing) (bound n : ℕ) (lines : List (List ℕ)) → source_rows taken priced bound n lines [] ≡ []
-no_places taken priced bound n [] = refl
-no_places taken priced bound n (line ∷ lines) = refl
+no_places : (taken : ℕ → Option Taken) (latest : ℕ → Option ℕ) (priced : ℕ → Option Pricing) (bound n : ℕ) (lines : List (List ℕ)) → source_rows taken latest priced bound n lines [] ≡ []
+no_places taken latest priced bound n [] = refl
+no_places taken latest priced bound n (line ∷ lines) = refl
 
-pub places_end : (taken : ℕ → Option Taken) (priced : ℕ → Option Pricing) (bound n : ℕ) (lines : List (List ℕ)) (placed : List PlacedLine) (i : ℕ) (text all : List ℕ)
-    → length placed ≤ i → text ++ source_rows taken priced bound n lines (drop i placed) ≡ all → text ≡ all
-places_end taken priced bound n lines placed i text all le h =
+pub places_end : (taken : ℕ → Option Taken) (latest : ℕ → Option ℕ) (priced : ℕ → Option Pricing) (bound n : ℕ) (lines : List (List ℕ)) (placed : List PlacedLine) (i : ℕ) (text all : List ℕ)
+    → length placed ≤ i → text ++ source_rows taken latest priced bound n lines (drop i placed) ≡ all → text ≡ all
+places_end taken latest priced bound n lines placed i text all le h =
     let none : drop i placed ≡ [] = drop_of_length-le placed le in
-    sym (append-nil text) ∙ ap (λ xs. text ++ xs) (sym (no_places taken priced bound n lines))
-    ∙ ap (λ ps. text ++ source_rows taken priced bound n lines ps) (sym none) ∙ h
+    sym (append-nil text) ∙ ap (λ xs. text ++ xs) (sym (no_places taken latest priced bound n lines))
+    ∙ ap (λ ps. text ++ source_rows taken latest priced bound n lines ps) (sym none) ∙ h
 
 -- ## Named words
 

@@ -6,5 +6,6 @@ pub mod Leaving
 pub mod Pricing
 pub mod PricingParts
 pub mod Rows
+pub mod Starts
 pub mod Table
 pub mod Taken

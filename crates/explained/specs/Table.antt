@@ -12,6 +12,7 @@ use Rattle.walk_counts.specs.Counts.{capped}
 use Rattle.explained.specs.Columns.{bound_line, in_columns, ticks_text, total_row}
 use Rattle.explained.specs.Rows.{AreRows, IsShownRow}
 use Rattle.explained.specs.Pricing.{ArePriced, pricing_text}
+use Rattle.explained.specs.Starts.{latest_at}
 use Rattle.explained.specs.Taken.{taken_at}
 use Rattle.explained.specs.declared.pricing.Pricing.{Pricing}
 use Rattle.explained.specs.declared.tally.Costs.{Costs}
@@ -82,61 +83,72 @@ taken_text bound None = in_columns 36 (codes "never reached")
 taken_text bound (Some t) =
     in_columns 9 (decimal t.passes) ++ (in_columns 9 (each_text t.costs) ++ ticks_text t.ticks bound)
 
--- and what the price takes for granted
-abbrev pub columns_text : ℕ → Option Taken → Option Pricing → List ℕ
-columns_text bound taken pricing = taken_text bound taken ++ in_columns 15 (pricing_text pricing)
+-- the tick by which it begins; nothing where no place is
+abbrev pub latest_text : Option ℕ → List ℕ
+latest_text None = []
+latest_text (Some ticks) = decimal ticks
+
+-- what is taken, when it begins at the latest, and what the price takes for granted
+abbrev pub columns_text : ℕ → Option Taken → (latest : Option ℕ) → Option Pricing → List ℕ
+columns_text bound taken latest pricing =
+    taken_text bound taken ++ (in_columns 11 (latest_text latest) ++ in_columns 15 (pricing_text pricing))
 
 -- with the number of a line and its text
-abbrev pub line_row : ℕ → Option Taken → Option Pricing → ℕ → List ℕ → List ℕ
-line_row bound taken pricing n text =
-    columns_text bound taken pricing
+abbrev pub line_row : ℕ → Option Taken → (latest : Option ℕ) → Option Pricing → ℕ → List ℕ → List ℕ
+line_row bound taken latest pricing n text =
+    columns_text bound taken latest pricing
     ++ (codes " " ++ (in_columns 5 (decimal n) ++ (codes "  " ++ (text ++ codes "\n"))))
 
--- the rows of the lines that have words, with numbers from one on; the price is that of a line's first word
-abbrev pub source_rows : (ℕ → Option Taken) → (ℕ → Option Pricing) → ℕ → ℕ → List (List ℕ)
-    → List PlacedLine → List ℕ
-source_rows taken priced bound n (text ∷ lines) (p ∷ placed) =
-    (if p.words == 0 then [] else line_row bound (line_taken taken p) (priced p.at) n text)
-    ++ source_rows taken priced bound (n + 1) lines placed
-source_rows taken priced bound n _ _ = []
+-- the rows of the lines that have words, with numbers from one on; the latest start and the price are those of
+-- a line's first word
+abbrev pub source_rows : (ℕ → Option Taken) → (latest : ℕ → Option ℕ) → (ℕ → Option Pricing) → ℕ → ℕ
+    → List (List ℕ) → List PlacedLine → List ℕ
+source_rows taken latest priced bound n (text ∷ lines) (p ∷ placed) =
+    (if p.words == 0 then [] else line_row bound (line_taken taken p) (latest p.at) (priced p.at) n text)
+    ++ source_rows taken latest priced bound (n + 1) lines placed
+source_rows taken latest priced bound n _ _ = []
 
 -- with the address, the word and its line
-abbrev pub IsWordRow : (ℕ → Option Taken) → (ℕ → Option Pricing) → ℕ → ℕ × ℕ → List ℕ → Type 0
-IsWordRow taken priced bound e row =
+abbrev pub IsWordRow : (ℕ → Option Taken) → (latest : ℕ → Option ℕ) → (ℕ → Option Pricing) → ℕ → ℕ × ℕ
+    → List ℕ → Type 0
+IsWordRow taken latest priced bound e row =
     (shown : List ℕ) × IsShownRow e shown
-    × (row ≡ columns_text bound (taken e.0) (priced e.0) ++ shown)
+    × (row ≡ columns_text bound (taken e.0) (latest e.0) (priced e.0) ++ shown)
 
 -- ## Tables
 
 abbrev pub heading : List ℕ
-heading = codes "   passes     each      ticks  share      priced as  line  text\n"
+heading = codes "   passes     each      ticks  share  begins by      priced as  line  text\n"
 
 abbrev pub table_end : (total bound : ℕ) → List ℕ
 table_end total bound = total_row total bound ++ bound_line bound
 
 -- of a source whose lines stand so
-abbrev pub source_table : (ℕ → Option Taken) → (ℕ → Option Pricing) → ℕ → List ℕ → List PlacedLine → List ℕ
-source_table taken priced bound source placed =
+abbrev pub source_table : (ℕ → Option Taken) → (latest : ℕ → Option ℕ) → (ℕ → Option Pricing) → ℕ → List ℕ
+    → List PlacedLine → List ℕ
+source_table taken latest priced bound source placed =
     heading
-    ++ (source_rows taken priced bound 1 (lines_of source) placed
+    ++ (source_rows taken latest priced bound 1 (lines_of source) placed
     ++ table_end (source_ticks taken placed) bound)
 
 abbrev pub image_heading : List ℕ
-image_heading = codes "   passes     each      ticks  share      priced as   address      word  text\n"
+image_heading = codes "   passes     each      ticks  share  begins by      priced as   address      word  text\n"
 
 -- of an image
-abbrev pub AreImageRows : (ℕ → Option Taken) → (ℕ → Option Pricing) → ℕ → Words → List ℕ → Type 0
-AreImageRows taken priced bound words text =
-    (rows : List ℕ) × AreRows (IsWordRow taken priced bound) words rows
+abbrev pub AreImageRows : (ℕ → Option Taken) → (latest : ℕ → Option ℕ) → (ℕ → Option Pricing) → ℕ → Words
+    → List ℕ → Type 0
+AreImageRows taken latest priced bound words text =
+    (rows : List ℕ) × AreRows (IsWordRow taken latest priced bound) words rows
     × (text ≡ image_heading ++ (rows ++ table_end (image_ticks taken words) bound))
 
--- of a walk that costs so much, by the words, the statement and the flow graph
-abbrev pub IsSourceTable : Words → Stated → Flow → List Edge → ℕ → List ℕ → List PlacedLine → List ℕ → Type 0
-IsSourceTable words st flow walk bound source placed text =
+-- of a walk that costs so much, by the words, the statement, the flow graph and the starts of its places
+abbrev pub IsSourceTable : Words → Stated → Flow → List Edge → (starts : List ℕ) → ℕ → List ℕ
+    → List PlacedLine → List ℕ → Type 0
+IsSourceTable words st flow walk starts bound source placed text =
     (priced : ℕ → Option Pricing) × ArePriced words st flow priced
-    × (text ≡ source_table (taken_at flow walk) priced bound source placed)
+    × (text ≡ source_table (taken_at flow walk) (latest_at flow.places starts) priced bound source placed)
 
-abbrev pub IsImageTable : Words → Stated → Flow → List Edge → ℕ → List ℕ → Type 0
-IsImageTable words st flow walk bound text =
+abbrev pub IsImageTable : Words → Stated → Flow → List Edge → (starts : List ℕ) → ℕ → List ℕ → Type 0
+IsImageTable words st flow walk starts bound text =
     (priced : ℕ → Option Pricing) × ArePriced words st flow priced
-    × AreImageRows (taken_at flow walk) priced bound words text
+    × AreImageRows (taken_at flow walk) (latest_at flow.places starts) priced bound words text

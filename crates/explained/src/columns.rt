@@ -10,11 +10,11 @@ const BLANKS: &[u8] = b"                                    ";
 
 /// The names of the columns.
 pub(crate) const HEADING: &[u8] =
-    b"   passes     each      ticks  share      priced as  line  text\n";
+    b"   passes     each      ticks  share  begins by      priced as  line  text\n";
 
 /// The names of the columns of an image.
 pub(crate) const IMAGE_HEADING: &[u8] =
-    b"   passes     each      ticks  share      priced as   address      word  text\n";
+    b"   passes     each      ticks  share  begins by      priced as   address      word  text\n";
 
 /// Adds a text.
 pub(crate) fn put(out: &mut Vec<u8>, text: &[u8]) -> Result<(), AllocError>

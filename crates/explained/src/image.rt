@@ -9,10 +9,10 @@ use crate::columns::{IMAGE_HEADING, put, put_end};
 use crate::lines::{Columns, Costing, put_columns, ticks_at};
 use crate::pricing::priced;
 use crate::sections::StatedGraph;
+use crate::starts::{TimedWalk, latest_starts};
 use crate::tally::{Tally, capped_sum};
 use asm_text::hex8;
 use assembler::disassemble;
-use longest_walk::Longest;
 use std::alloc::{AllocError, Global};
 
 /// Adds the row of a word: its address, the word and its line.
@@ -33,10 +33,12 @@ pub(crate) fn put_shown_row(out: &mut Vec<u8>, at: u32, word: u32) -> Result<(),
 fn put_row(out: &mut Vec<u8>, costing: Costing<'_>, at: u32, word: u32) -> Result<(), AllocError>
     ensures { OnOk result
         (Appends (IsWordRow (get nat_cmp costing.entry.tally.now.by_address)
-        (get nat_cmp costing.entry.prices.now) costing.entry.bound (at, word)) out.old.items out.new.items) }
+        (get nat_cmp costing.entry.latest.now) (get nat_cmp costing.entry.prices.now) costing.entry.bound
+        (at, word)) out.old.items out.new.items) }
 {
     let columns = Columns {
         taken: costing.tally.at(at),
+        latest: costing.latest.get(&at).copied(),
         pricing: costing.prices.get(&at).copied(),
         bound: costing.bound,
     };
@@ -48,7 +50,8 @@ fn put_row(out: &mut Vec<u8>, costing: Costing<'_>, at: u32, word: u32) -> Resul
 fn put_rows(out: &mut Vec<u8>, costing: Costing<'_>, words: &[(u32, u32)]) -> Result<(), AllocError>
     ensures { OnOk result
         (Appends (AreRows (IsWordRow (get nat_cmp costing.entry.tally.now.by_address)
-        (get nat_cmp costing.entry.prices.now) costing.entry.bound) words.now) out.old.items out.new.items) }
+        (get nat_cmp costing.entry.latest.now) (get nat_cmp costing.entry.prices.now) costing.entry.bound)
+        words.now) out.old.items out.new.items) }
 {
     for (at, word) in words {
         put_row(out, costing, *at, *word)?;
@@ -69,8 +72,9 @@ fn image_ticks(tally: &Tally, words: &[(u32, u32)]) -> u64
 
 /// Where the ticks of a greatest walk go in an image: a row for each of its words, with how often the walk
 /// passes it, the ticks of a pass (from the least to the greatest, where they differ), all ticks there, what part
-/// of the bound those are, what its price takes for granted, the address, the word and the line that
-/// [`disassemble`] shows; then the ticks of all rows, and the bound in ticks and in microseconds.
+/// of the bound those are, the tick by which it begins (the greatest of the starts of the places there), what its
+/// price takes for granted, the address, the word and the line that [`disassemble`] shows; then the ticks of all
+/// rows, and the bound in ticks and in microseconds.
 ///
 /// Where the graph has no place at a word, the row says so in place of the numbers.
 ///
@@ -80,16 +84,19 @@ fn image_ticks(tally: &Tally, words: &[(u32, u32)]) -> u64
 pub fn image_table(
     alloc: Global,
     handler: StatedGraph<'_>,
-    longest: &Longest,
+    walk: TimedWalk<'_>,
 ) -> Result<Vec<u8>, AllocError>
     ensures { IfOk result
         (λ text. IsImageTable handler.entry.image.now handler.entry.statement.now handler.entry.graph.now
-        (unfolded longest.now.walk) longest.now.bound text.items) }
+        (unfolded walk.entry.longest.now.walk) walk.entry.starts.now walk.entry.longest.now.bound text.items) }
 {
+    let longest = walk.longest;
     let tally = Tally::of_walk(alloc, handler.graph, &longest.walk)?;
+    let latest = latest_starts(alloc, handler.graph, walk.starts)?;
     let prices = priced(alloc, handler)?;
     let costing = Costing {
         tally: &tally,
+        latest: &latest,
         prices: &prices,
         bound: longest.bound,
     };

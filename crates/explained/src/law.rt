@@ -15,6 +15,8 @@ ghost use Rattle.longest_walk.specs.Folded.{unfolded};
 ghost use Rattle.longest_walk.specs.Longest.{IsWalkOf};
 ghost use Rattle.longest_walk.specs.declared.folded.Item.{Item};
 ghost use Rattle.explained.specs.Bursts.{AreFewest, IsBurstTime, with_bursts};
+ghost use Rattle.longest_walk.specs.Starts.{AreWorstStarts};
+ghost use Rattle.explained.specs.Starts.{IsLatestStart, latest_at};
 ghost use Rattle.explained.specs.Table.{image_ticks, line_taken, source_ticks, words_of};
 ghost use Rattle.explained.specs.Taken.{AreCostsAt, AreOnWords, StandOnce, cost_at, is_reached, pass_at};
 ghost use Rattle.explained.specs.Taken.{taken_at};
@@ -70,6 +72,14 @@ pub fn places_stand_once()
     lines_are_spelled();
     sources_are_assembled();
 }
+
+/// States that by the worst starts of a graph's places the greatest start at an address is when its word begins at
+/// the latest: a walk from the entry that keeps the bounds of the loops comes there after so many ticks, and none
+/// after more. Where no place is at the address, none comes there. It does nothing.
+pub fn latest_starts_are_of_walks()
+    ensures { (flow : Flow) (tree : Tree) (starts : List ℕ) (a : ℕ) → IsWellFormed flow
+        → AreWorstStarts flow tree starts → IsLatestStart flow tree a (latest_at flow.places starts a) }
+{}
 
 /// States which lines a table says nothing can ever reach: those at whose words the graph has no place. It
 /// does nothing.

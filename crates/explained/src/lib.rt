@@ -14,6 +14,7 @@ mod named;
 mod pricing;
 mod sections;
 mod source;
+mod starts;
 mod tally;
 
 pub use assumptions::{Assumption, assumed};
@@ -21,9 +22,10 @@ pub use bursts::{Bursts, burst_lines};
 pub use idle::idle_entries;
 pub use image::image_table;
 pub use law::{
-    burst_time_is_the_least, numbers_are_of_the_walk, places_stand_once, totals_are_the_bound,
-    unreached_lines_have_no_place,
+    burst_time_is_the_least, latest_starts_are_of_walks, numbers_are_of_the_walk,
+    places_stand_once, totals_are_the_bound, unreached_lines_have_no_place,
 };
 pub use named::named_lines;
 pub use sections::{StatedGraph, image_assumptions, source_assumptions};
 pub use source::source_table;
+pub use starts::TimedWalk;

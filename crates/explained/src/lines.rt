@@ -2,7 +2,7 @@ ghost use Rattle.std.specs.Prelude.{◌≡◌, ◌+◌, ◌*◌, ◌^◌, ◌≤
 ghost use Rattle.std.specs.BTreeMap.{get};
 ghost use Rattle.std.specs.Ordering.{nat_cmp};
 ghost use Rattle.explained.specs.Columns.{in_columns};
-ghost use Rattle.explained.specs.Table.{columns_text, taken_text, each_of, each_text, is_any_reached, line_taken};
+ghost use Rattle.explained.specs.Table.{columns_text, latest_text, taken_text, each_of, each_text, is_any_reached, line_taken};
 ghost use Rattle.explained.specs.Table.{passes_of};
 ghost use Rattle.explained.specs.Table.{ticks_in, ticks_of};
 
@@ -18,6 +18,8 @@ use std::collections::BTreeMap;
 pub(crate) struct Columns {
     /// What the walk takes there; None where the graph has no place.
     pub(crate) taken: Option<Taken>,
+    /// When it begins at the latest, in ticks; None where the graph has no place.
+    pub(crate) latest: Option<u64>,
     /// What the price takes for granted; None where the graph has no place.
     pub(crate) pricing: Option<Pricing>,
     /// The bound, of which the ticks are a part.
@@ -28,6 +30,8 @@ pub(crate) struct Columns {
 #[derive(Clone, Copy)]
 pub(crate) struct Costing<'a> {
     pub(crate) tally: &'a Tally,
+    /// When the words begin at the latest, by the addresses where the graph has a place.
+    pub(crate) latest: &'a BTreeMap<u32, u64>,
     /// By the addresses where the graph has a place.
     pub(crate) prices: &'a BTreeMap<u32, Pricing>,
     pub(crate) bound: u64,
@@ -139,11 +143,23 @@ fn put_taken(out: &mut Vec<u8>, taken: Option<Taken>, bound: u64) -> Result<(), 
     }
 }
 
+// Adds the tick by which a word begins, or blanks where the graph has no place.
+fn put_latest(out: &mut Vec<u8>, latest: Option<u64>) -> Result<(), AllocError>
+    ensures { OnOk result (out.new.items ≡ out.old.items ++ in_columns 11 (latest_text latest)) }
+{
+    match latest {
+        Some(ticks) => put_number(out, ticks, 11),
+        None => put_right(out, b"", 11),
+    }
+}
+
 /// Adds the columns of numbers, and what the price takes for granted.
 pub(crate) fn put_columns(out: &mut Vec<u8>, columns: Columns) -> Result<(), AllocError>
     ensures { OnOk result
-        (out.new.items ≡ out.old.items ++ columns_text columns.bound columns.taken columns.pricing) }
+        (out.new.items ≡ out.old.items
+        ++ columns_text columns.bound columns.taken columns.latest columns.pricing) }
 {
     put_taken(out, columns.taken, columns.bound)?;
+    put_latest(out, columns.latest)?;
     put_pricing(out, columns.pricing)
 }

@@ -9,17 +9,17 @@ use crate::columns::{HEADING, put, put_end, put_number};
 use crate::lines::{Columns, Costing, line_taken, put_columns, ticks_in};
 use crate::pricing::priced;
 use crate::sections::StatedGraph;
+use crate::starts::{TimedWalk, latest_starts};
 use crate::tally::{Tally, capped_sum};
 use asm_text::first_line;
 use assembler::PlacedLine;
-use longest_walk::Longest;
 use std::alloc::{AllocError, Global};
 
 // Adds the row of a line, if it has words.
 fn put_line(out: &mut Vec<u8>, columns: Columns, number: u64, text: &[u8]) -> Result<(), AllocError>
     ensures { OnOk result
         (out.new.items
-        ≡ out.old.items ++ line_row columns.bound columns.taken columns.pricing number text.now) }
+        ≡ out.old.items ++ line_row columns.bound columns.taken columns.latest columns.pricing number text.now) }
 {
     put_columns(out, columns)?;
     put(out, b" ")?;
@@ -32,11 +32,13 @@ fn put_line(out: &mut Vec<u8>, columns: Columns, number: u64, text: &[u8]) -> Re
 // What stands in the columns of a line's row.
 fn line_columns(costing: Costing<'_>, line: PlacedLine) -> Columns
     ensures taken { result.taken ≡ line_taken (get nat_cmp costing.entry.tally.now.by_address) line }
+    ensures latest { result.latest ≡ get nat_cmp costing.entry.latest.now line.at }
     ensures pricing { result.pricing ≡ get nat_cmp costing.entry.prices.now line.at }
     ensures bound { result.bound ≡ costing.entry.bound }
 {
     Columns {
         taken: line_taken(costing.tally, line),
+        latest: costing.latest.get(&line.at).copied(),
         pricing: costing.prices.get(&line.at).copied(),
         bound: costing.bound,
     }
@@ -52,8 +54,8 @@ fn put_lines(
     ensures { OnOk result
         (out.new.items
         ≡ out.old.items
-        ++ source_rows (get nat_cmp costing.entry.tally.now.by_address) (get nat_cmp costing.entry.prices.now)
-        costing.entry.bound 1 (lines_of source.now) placed.now) }
+        ++ source_rows (get nat_cmp costing.entry.tally.now.by_address) (get nat_cmp costing.entry.latest.now)
+        (get nat_cmp costing.entry.prices.now) costing.entry.bound 1 (lines_of source.now) placed.now) }
 {
     let mut rest = source;
     let mut number = 1;
@@ -83,9 +85,12 @@ fn source_ticks(tally: &Tally, placed: &[PlacedLine]) -> u64
 
 /// Where the ticks of a greatest walk go: a row for each line of the source that has words, with how often
 /// the walk passes the line's first word, the ticks of such a pass (from the least to the greatest, where
-/// they differ), the ticks at its words, what part of the bound those are, what the price of its first word
-/// takes for granted, the number of the line and its text; then the ticks of all rows, and the bound in ticks
-/// and in microseconds.
+/// they differ), the ticks at its words, what part of the bound those are, the tick by which its first word
+/// begins, what the price of that word takes for granted, the number of the line and its text; then the ticks
+/// of all rows, and the bound in ticks and in microseconds.
+///
+/// A word begins by the greatest of the starts of the places at its address, counted from the handler's
+/// beginning.
 ///
 /// The price of a load or a store takes the class of what it transfers for granted, that of a multiply its
 /// most cycles (m = 16), and that of a way out of the handler the class of the addresses to which it leaves.
@@ -101,16 +106,20 @@ pub fn source_table(
     handler: StatedGraph<'_>,
     source: &[u8],
     placed: &[PlacedLine],
-    longest: &Longest,
+    walk: TimedWalk<'_>,
 ) -> Result<Vec<u8>, AllocError>
     ensures { IfOk result
         (λ text. IsSourceTable handler.entry.image.now handler.entry.statement.now handler.entry.graph.now
-        (unfolded longest.now.walk) longest.now.bound source.now placed.now text.items) }
+        (unfolded walk.entry.longest.now.walk) walk.entry.starts.now walk.entry.longest.now.bound source.now
+        placed.now text.items) }
 {
+    let longest = walk.longest;
     let tally = Tally::of_walk(alloc, handler.graph, &longest.walk)?;
+    let latest = latest_starts(alloc, handler.graph, walk.starts)?;
     let prices = priced(alloc, handler)?;
     let costing = Costing {
         tally: &tally,
+        latest: &latest,
         prices: &prices,
         bound: longest.bound,
     };

@@ -2,7 +2,7 @@ use crate::analysis::{Stated, graph_of, nested, walk_of};
 use crate::trial::Answer;
 use arcwcet::ReportFault;
 use assembler::placed_lines;
-use explained::{StatedGraph, image_table, source_table};
+use explained::{StatedGraph, TimedWalk, image_table, source_table};
 use flow_graph::Graph;
 use longest_walk::Longest;
 use samples::nested_countdown::SOURCE;
@@ -11,31 +11,34 @@ use walk_counts::edge_counts;
 
 /// The bound of the nested countdown, by the lines of its source.
 pub(crate) const NESTED_LINES: &[u8] =
-    b"   passes     each      ticks  share      priced as  line  text
-        1        1          1   2.0%                    1  start MOV R1,#2
-        2        1          2   4.0%                    2  outer MOV R0,#3
-        6        2         12  24.0%                    3  inner SUBS R0,R0,#1
-        6      1-4         18  36.0%                    4  turn BNE inner
-        2        1          2   4.0%                    5   SUBS R1,R1,#1
-        2      1-4          5  10.0%                    6  back BNE outer
-        1       10         10  20.0%      leave any     7   SUBS PC,R14,#4
+    b"   passes     each      ticks  share  begins by      priced as  line  text
+        1        1          1   2.0%          0                    1  start MOV R1,#2
+        2        1          2   4.0%         22                    2  outer MOV R0,#3
+        6        2         12  24.0%         35                    3  inner SUBS R0,R0,#1
+        6      1-4         18  36.0%         37                    4  turn BNE inner
+        2        1          2   4.0%         38                    5   SUBS R1,R1,#1
+        2      1-4          5  10.0%         39                    6  back BNE outer
+        1       10         10  20.0%         40      leave any     7   SUBS PC,R14,#4
              total         50 100.0%
 bound 50 ticks, 6.250 microseconds at 8 MHz
 ";
 
 /// The same by its words.
 const NESTED_WORDS: &[u8] =
-    b"   passes     each      ticks  share      priced as   address      word  text
-        1        1          1   2.0%                 00008000  E3A01002  MOV R1,#2
-        2        1          2   4.0%                 00008004  E3A00003  MOV R0,#3
-        6        2         12  24.0%                 00008008  E2500001  SUBS R0,R0,#1
-        6      1-4         18  36.0%                 0000800C  1AFFFFFD  BNE &8008
-        2        1          2   4.0%                 00008010  E2511001  SUBS R1,R1,#1
-        2      1-4          5  10.0%                 00008014  1AFFFFFA  BNE &8004
-        1       10         10  20.0%      leave any  00008018  E25EF004  SUBS R15,R14,#4
+    b"   passes     each      ticks  share  begins by      priced as   address      word  text
+        1        1          1   2.0%          0                 00008000  E3A01002  MOV R1,#2
+        2        1          2   4.0%         22                 00008004  E3A00003  MOV R0,#3
+        6        2         12  24.0%         35                 00008008  E2500001  SUBS R0,R0,#1
+        6      1-4         18  36.0%         37                 0000800C  1AFFFFFD  BNE &8008
+        2        1          2   4.0%         38                 00008010  E2511001  SUBS R1,R1,#1
+        2      1-4          5  10.0%         39                 00008014  1AFFFFFA  BNE &8004
+        1       10         10  20.0%         40      leave any  00008018  E25EF004  SUBS R15,R14,#4
              total         50 100.0%
 bound 50 ticks, 6.250 microseconds at 8 MHz
 ";
+
+/// The worst starts of its places, in ticks.
+const NESTED_STARTS: [u64; 7] = [0, 22, 35, 37, 38, 39, 40];
 
 /// How often its greatest walk takes each edge: of a branch first the one that goes on.
 const NESTED_COUNTS: [u64; 9] = [1, 2, 6, 2, 4, 2, 1, 1, 1];
@@ -49,14 +52,18 @@ pub(crate) enum ExplainedCall {
     Counts,
 }
 
-fn lines(alloc: Global, handler: StatedGraph<'_>, found: &Longest) -> Result<Answer, ReportFault> {
+fn lines(
+    alloc: Global,
+    handler: StatedGraph<'_>,
+    walk: TimedWalk<'_>,
+) -> Result<Answer, ReportFault> {
     let placed = placed_lines(alloc, SOURCE)?;
-    let made = source_table(alloc, handler, SOURCE, &placed, found);
+    let made = source_table(alloc, handler, SOURCE, &placed, walk);
     Ok(Answer::of_text(made, NESTED_LINES))
 }
 
-fn words(alloc: Global, handler: StatedGraph<'_>, found: &Longest) -> Answer {
-    Answer::of_text(image_table(alloc, handler, found), NESTED_WORDS)
+fn words(alloc: Global, handler: StatedGraph<'_>, walk: TimedWalk<'_>) -> Answer {
+    Answer::of_text(image_table(alloc, handler, walk), NESTED_WORDS)
 }
 
 fn counted(alloc: Global, graph: &Graph, found: &Longest) -> Answer {
@@ -79,9 +86,13 @@ impl ExplainedCall {
             statement: &handler.statement,
             graph,
         };
+        let timed = TimedWalk {
+            longest: &found,
+            starts: NESTED_STARTS.as_slice(),
+        };
         let answer = match self {
-            ExplainedCall::Lines => lines(alloc, stated, &found),
-            ExplainedCall::Words => Ok(words(alloc, stated, &found)),
+            ExplainedCall::Lines => lines(alloc, stated, timed),
+            ExplainedCall::Words => Ok(words(alloc, stated, timed)),
             ExplainedCall::Counts => Ok(counted(alloc, graph, &found)),
         };
         drop(found);

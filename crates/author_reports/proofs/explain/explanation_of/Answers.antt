@@ -1,4 +1,5 @@
-use Rattle.std.proofs.Common.{◌≢◌}
+use Rattle.std.proofs.Common.{◌≢◌, subst, sym}
+use Rattle.longest_walk.specs.Starts.{AreWorstStarts}
 use Rattle.report_output.specs.Faults.{of_walk}
 use Rattle.author_reports.specs.ExplainReport.{IsTotal}
 use Rattle.report_input.specs.Report.{IsRefused}
@@ -18,6 +19,16 @@ returns-in_err-found-clause-fault c = λ names said loops.
     let f = c.in_err-found.field-0.0 in
     refused_as c.from_residual.result (of_walk f) (λ e. (e ≢ Device) × IsRefused source statement profile e) c.from_residual.ensures.1
     (walk_refusal source statement profile h.statement h.graph h.tree loops c.requires.tree f c.in_err-found.ensures.fault)
+
+pub returns-in_err-starts-clause-fault : goal.returns-in_err-starts-clause-fault
+returns-in_err-starts-clause-fault c = λ names said loops.
+    let source = c.args.explained.source.now in
+    let statement = c.args.explained.statement.now in
+    let profile = c.args.profile.now in
+    let h = c.args.handler.now in
+    let f = c.in_err-starts.field-0.0 in
+    refused_as c.from_residual-in_err-starts.result (of_walk f) (λ e. (e ≢ Device) × IsRefused source statement profile e) c.from_residual-in_err-starts.ensures.1
+    (walk_refusal source statement profile h.statement h.graph h.tree loops c.requires.tree f c.in_err-starts.ensures.fault)
 
 pub returns-in_err-text-clause-fault : goal.returns-in_err-text-clause-fault
 returns-in_err-text-clause-fault c = λ names said loops.
@@ -50,4 +61,5 @@ returns-clause-explains c = λ names said loops.
           (text_was_assembled source words loops.graph.names is loops.graph.source_is) stand on);
     } in
     explained source statement profile c.args.image.now names said h.statement h.graph h.tree loops c.requires.tree
-    c.args.explained.bursts found c.in_ok-text.text.items c.in_ok-found.ensures.longest c.in_ok-found.ensures.allowed c.in_ok-text.ensures.text total
+    c.args.explained.bursts found c.deref.result.now c.in_ok-text.text.items c.in_ok-found.ensures.longest
+    (subst (AreWorstStarts h.graph h.tree) (sym c.deref.ensures.value) c.in_ok-starts.ensures.starts) c.in_ok-found.ensures.allowed c.in_ok-text.ensures.text total
