@@ -9,8 +9,8 @@ use Rattle.savings.specs.Carried.{times_done}
 use Rattle.savings.specs.Parts.{AreParts, Extends}
 use Rattle.savings.specs.Savings.{AreFound, IsWordGain, IsWordSaved, leave_saved, saved}
 use Rattle.savings.specs.declared.gains.Gain.{Gain}
-use Rattle.savings.specs.declared.savings.Saving.{Saving}
-use Rattle.savings.specs.declared.savings.Subject.TheVariants.{Leave, Word}
+use Rattle.savings.specs.declared.found.Saving.{Saving}
+use Rattle.savings.specs.declared.found.Subject.TheVariants.{Leave, Word}
 
 pub word_more : (st : Stated) (profile : Profile) (times : ℕ → ℕ) (at word n : ℕ) (gain : Option Gain) (old new : List Saving)
     → n ≡ times at → IsWordGain st profile at word gain → new ≡ old ++ saved (Word at word) n gain

@@ -2,8 +2,8 @@
 use Rattle.std.proofs.Common.{◌≡◌, ◌∙◌, ℕ, List, ◌++◌, append_assoc, refl, ap, subst}
 use Rattle.savings.specs.Parts.{AreParts, Extends}
 use Rattle.savings.specs.Sections.{IsSavingRow, front_text}
-use Rattle.savings.specs.declared.savings.Saving.{Saving}
-use Rattle.savings.specs.declared.savings.Subject.{Subject}
+use Rattle.savings.specs.declared.found.Saving.{Saving}
+use Rattle.savings.specs.declared.found.Subject.{Subject}
 
 pub whole_row : (IsEnd : Subject → List ℕ → Type 0) (s : Saving) (old mid new : List ℕ) → mid ≡ old ++ front_text s → Extends (IsEnd s.subject) mid new → Extends (IsSavingRow IsEnd s) old new
 whole_row IsEnd s old mid new front adds =

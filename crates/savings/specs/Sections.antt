@@ -22,9 +22,9 @@ use Rattle.savings.specs.Savings.{AreSavings}
 use Rattle.savings.specs.declared.classes.ClassChange.{ClassChange}
 use Rattle.savings.specs.declared.gains.Refinement.{Refinement}
 use Rattle.savings.specs.declared.gains.Refinement.TheVariants.{Addresses, Multiplier}
-use Rattle.savings.specs.declared.savings.Saving.{Saving}
-use Rattle.savings.specs.declared.savings.Subject.{Subject}
-use Rattle.savings.specs.declared.savings.Subject.TheVariants.{Leave, Word}
+use Rattle.savings.specs.declared.found.Saving.{Saving}
+use Rattle.savings.specs.declared.found.Subject.{Subject}
+use Rattle.savings.specs.declared.found.Subject.TheVariants.{Leave, Word}
 
 -- ## The line of an address
 

@@ -4,14 +4,14 @@
 
 mod carried;
 mod classes;
+mod found;
 mod gains;
 mod law;
 mod lines;
-mod savings;
 mod sections;
 
 pub use classes::ClassChange;
+pub use found::{Saving, Subject, savings};
 pub use gains::Refinement;
 pub use law::times_are_of_the_walk;
-pub use savings::{Saving, Subject, savings};
 pub use sections::{image_savings, source_savings};

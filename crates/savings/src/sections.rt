@@ -6,7 +6,7 @@ ghost use Rattle.savings.specs.Sections.{entry_text, front_text, line_at, line_r
 
 use crate::gains::Refinement;
 use crate::lines::lines_by_address;
-use crate::savings::{Saving, Subject, savings};
+use crate::found::{Saving, Subject, savings};
 use asm_text::hex8;
 use assembler::PlacedLine;
 use explained::{

@@ -3,9 +3,9 @@ use Rattle.longest_walk.specs.Folded.{unfolded}
 use Rattle.savings.specs.Carried.{times_in}
 use Rattle.savings.specs.Savings.{saved}
 use Rattle.savings.specs.declared.gains.Gain.{Gain}
-use Rattle.savings.specs.declared.savings.Subject.TheVariants.{Leave}
+use Rattle.savings.specs.declared.found.Subject.TheVariants.{Leave}
 use Rattle.savings.proofs.FoundLaws.{all_found}
-use Rattle.savings.proofs.savings.found_savings.Goals as goal
+use Rattle.savings.proofs.found.found_savings.Goals as goal
 
 pub returns : goal.returns
 returns c =

@@ -6,7 +6,7 @@ use Rattle.flow_graph.proofs.WorkLemmas.{action_fits}
 use Rattle.flow_graph.specs.Kinds.{instr_action}
 use Rattle.statement.specs.Stated.{class_of}
 use Rattle.savings.specs.Gains.{operation_gain}
-use Rattle.savings.proofs.savings.word_gain.Goals as goal
+use Rattle.savings.proofs.found.word_gain.Goals as goal
 
 pub operation_gain-requires : goal.operation_gain-requires
 operation_gain-requires c = action_fits c.args.word (instr_action c.in-Ok.instr) (inl (c.in-Ok.instr, c.in-Ok.ensures.found, refl))

@@ -1,7 +1,7 @@
 use Rattle.std.proofs.lemmas.Result.{on_ok_weaker}
 use Rattle.savings.specs.Carried.{times_in}
 use Rattle.savings.proofs.FoundLaws.{word_more}
-use Rattle.savings.proofs.savings.push_word.Goals as goal
+use Rattle.savings.proofs.found.push_word.Goals as goal
 
 pub returns : goal.returns
 returns c =

@@ -1,7 +1,7 @@
 use Rattle.savings.specs.Carried.{times_in}
 use Rattle.savings.specs.Savings.{IsWordSaved}
 use Rattle.savings.proofs.PartLaws.{all_parts, so_far_one}
-use Rattle.savings.proofs.savings.saved_at.Goals as goal
+use Rattle.savings.proofs.found.saved_at.Goals as goal
 
 pub loop-at-preserved : goal.loop-at-preserved
 loop-at-preserved c =

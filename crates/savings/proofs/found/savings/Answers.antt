@@ -1,7 +1,7 @@
 use Rattle.std.proofs.Common.{rules}
 use Rattle.std.proofs.lemmas.Fn.{always_returns_same}
-use Rattle.savings.specs.declared.savings.Saving.{Saving}
-use Rattle.savings.proofs.savings.savings.Goals as goal
+use Rattle.savings.specs.declared.found.Saving.{Saving}
+use Rattle.savings.proofs.found.savings.Goals as goal
 
 pub returns : goal.returns
 returns c = record {
