@@ -29,11 +29,7 @@ fn is_named(named: &[u32], at: u32) -> bool
 
 /// Adds the row of a line's word: its address, and the number and the text of the line. An error says that an
 /// allocation failed.
-pub fn put_named_row(
-    out: &mut Vec<u8>,
-    line: NumberedLine<'_>,
-    at: u32,
-) -> Result<(), AllocError>
+pub fn put_named_row(out: &mut Vec<u8>, line: NumberedLine<'_>, at: u32) -> Result<(), AllocError>
     ensures { OnOk result
         (out.new.items ≡ out.old.items ++ named_row at line.entry.number line.entry.text.now) }
 {

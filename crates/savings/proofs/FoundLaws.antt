@@ -1,5 +1,5 @@
 -- What is saved at words, and all of it.
-use Rattle.std.proofs.Common.{◌≡◌, ◌∙◌, ℕ, List, ◌++◌, Option, refl, sym, ap, subst}
+use Rattle.std.proofs.Common.{◌≡◌, ◌∙◌, ℕ, List, ◌++◌, Option, ap, subst}
 use Rattle.bus_ticks.specs.declared.profile.Profile.{Profile}
 use Rattle.flow_graph.specs.Flow.{Flow}
 use Rattle.flow_graph.specs.declared.edges.Edge.{Edge}
@@ -10,7 +10,7 @@ use Rattle.savings.specs.Parts.{AreParts, Extends}
 use Rattle.savings.specs.Savings.{AreFound, IsWordGain, IsWordSaved, leave_saved, saved}
 use Rattle.savings.specs.declared.gains.Gain.{Gain}
 use Rattle.savings.specs.declared.found.Saving.{Saving}
-use Rattle.savings.specs.declared.found.Subject.TheVariants.{Leave, Word}
+use Rattle.savings.specs.declared.found.Subject.TheVariants.{Word}
 
 pub word_more : (st : Stated) (profile : Profile) (times : ℕ → ℕ) (at word n : ℕ) (gain : Option Gain) (old new : List Saving)
     → n ≡ times at → IsWordGain st profile at word gain → new ≡ old ++ saved (Word at word) n gain

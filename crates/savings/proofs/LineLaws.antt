@@ -1,14 +1,17 @@
 -- One word more with a line, and one line more.
-use Rattle.std.proofs.Common.{◌≡◌, ◌∙◌, ℕ, suc, ◌+◌, ◌<◌, ◌≤◌, Bool, true, false, ◌||◌, if◌then◌else◌, List, [], ◌∷◌, length, drop, get_or, Option, Some, None, refl, sym, ap, subst}
+use Rattle.std.proofs.Common.{◌≡◌, ◌∙◌, ℕ, suc, ◌+◌, ◌<◌, ◌≤◌, Bool, true, false, ◌||◌, if◌then◌else◌, List, [], ◌∷◌, length, drop, get_or, Option, Some, refl, sym, ap, subst, arith, eqb}
 use Rattle.std.specs.Prelude.{◌==◌, option_map}
-use Rattle.std.specs.BTreeMap.{BTreeMap, Updates, get}
+use Rattle.std.specs.BTreeMap.{BTreeMap, Updates, get, is_at}
 use Rattle.std.specs.Ordering.{nat_cmp}
 use Rattle.std.proofs.Math.ListN.{drop_of_length-le}
+use Rattle.std.proofs.lemmas.Bool.Decides.{nat_tests}
 use Rattle.std.proofs.lemmas.List.{drop_more}
 use Rattle.assembler.specs.declared.placed_line.PlacedLine.{PlacedLine}
 use Rattle.explained.specs.declared.named.NumberedLine.{NumberedLine}
-use Rattle.memc.proofs.Rom.{is_at-eqb}
 use Rattle.savings.specs.Sections.{PutsAt, has_word, line_at, line_with, numbered}
+
+is_at-eqb : (a b : ℕ) → is_at (nat_cmp a) b ≡ eqb b a
+is_at-eqb a b = grind (arith, nat_tests)
 
 either : (here later : Bool) (line : NumberedLine) (o : Option NumberedLine)
     → (if later then Some (numbered line) else option_map numbered (if here then Some line else o)) ≡ (if here || later then Some (numbered line) else option_map numbered o)

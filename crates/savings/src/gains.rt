@@ -52,11 +52,7 @@ fn transfer_gain(profile: &Profile, class: Class, load: bool, words: u32) -> Opt
 
 /// What the next better class of what it transfers takes off an operation's price, or of a multiply one cycle
 /// less. None where nothing does.
-pub(crate) fn operation_gain(
-    profile: &Profile,
-    class: Class,
-    operation: &Operation,
-) -> Option<Gain>
+pub(crate) fn operation_gain(profile: &Profile, class: Class, operation: &Operation) -> Option<Gain>
     requires { IsWork (work_of operation.now) }
     ensures { result ≡ operation_gain profile.now class operation.now }
 {

@@ -4,9 +4,9 @@ ghost use Rattle.savings.specs.Parts.{AreParts, Extends};
 ghost use Rattle.savings.specs.Sections.{AreImageSavings, AreSourceSavings, IsImageEnd, IsSavingRow, IsSourceEnd};
 ghost use Rattle.savings.specs.Sections.{entry_text, front_text, line_at, line_row, refinement_text};
 
+use crate::found::{Saving, Subject, savings};
 use crate::gains::Refinement;
 use crate::lines::lines_by_address;
-use crate::found::{Saving, Subject, savings};
 use asm_text::hex8;
 use assembler::PlacedLine;
 use explained::{

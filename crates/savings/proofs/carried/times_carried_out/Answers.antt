@@ -1,8 +1,8 @@
-use Rattle.std.proofs.Common.{◌∙◌, ◌<◌, ◌≡◌, List, ap, arith, get_or, length, subst, sym}
+use Rattle.std.proofs.Common.{◌∙◌, ◌<◌, List, ap, arith, get_or, length, subst}
 use Rattle.std.proofs.lemmas.List.{get_or_default}
 use Rattle.flow_graph.specs.declared.edges.Edge.{Edge}
 use Rattle.longest_walk.specs.Folded.{unfolded}
-use Rattle.savings.proofs.CarriedLaws.{all_added, one_added}
+use Rattle.savings.proofs.CarriedLaws.{one_added}
 use Rattle.savings.proofs.carried.times_carried_out.Goals as goal
 
 pub loop-number-preserved : goal.loop-number-preserved

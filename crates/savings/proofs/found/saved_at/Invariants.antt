@@ -1,4 +1,3 @@
-use Rattle.std.proofs.Common.{[]}
 use Rattle.savings.specs.Carried.{times_in}
 use Rattle.savings.specs.Savings.{IsWordSaved}
 use Rattle.savings.proofs.PartLaws.{SoFar}

@@ -1,6 +1,5 @@
-use Rattle.std.proofs.Common.{◌≡◌, ◌∙◌, inl, None, Result, Ok, Err, ap, refl}
+use Rattle.std.proofs.Common.{◌≡◌, ◌∙◌, inl, Ok, Err, ap, refl}
 use Rattle.arm2_decode.specs.declared.instr.Instr.{Instr}
-use Rattle.arm2_decode.specs.declared.instr.Unallocated.{Unallocated}
 use Rattle.bus_ticks.specs.declared.profile.Class.{Class}
 use Rattle.flow_graph.proofs.WorkLemmas.{action_fits}
 use Rattle.flow_graph.specs.Kinds.{instr_action}
