@@ -16,15 +16,15 @@ pub(crate) const HEADING: &[u8] =
 pub(crate) const IMAGE_HEADING: &[u8] =
     b"   passes     each      ticks  share  begins by      priced as   address      word  text\n";
 
-/// Adds a text.
-pub(crate) fn put(out: &mut Vec<u8>, text: &[u8]) -> Result<(), AllocError>
+/// Adds a text. An error says that an allocation failed.
+pub fn put(out: &mut Vec<u8>, text: &[u8]) -> Result<(), AllocError>
     ensures { OnOk result (out.new.items ≡ out.old.items ++ text.now) }
 {
     out.extend_from_slice(text)
 }
 
-/// Adds a text that ends so many columns on.
-pub(crate) fn put_right(out: &mut Vec<u8>, text: &[u8], width: usize) -> Result<(), AllocError>
+/// Adds a text that ends so many columns on. An error says that an allocation failed.
+pub fn put_right(out: &mut Vec<u8>, text: &[u8], width: usize) -> Result<(), AllocError>
     requires { width ≤ 36 }
     ensures { OnOk result (out.new.items ≡ out.old.items ++ in_columns width text.now) }
 {
@@ -32,8 +32,8 @@ pub(crate) fn put_right(out: &mut Vec<u8>, text: &[u8], width: usize) -> Result<
     put(out, text)
 }
 
-/// Adds a number in decimal that ends so many columns on.
-pub(crate) fn put_number(out: &mut Vec<u8>, number: u64, width: usize) -> Result<(), AllocError>
+/// Adds a number in decimal that ends so many columns on. An error says that an allocation failed.
+pub fn put_number(out: &mut Vec<u8>, number: u64, width: usize) -> Result<(), AllocError>
     requires { width ≤ 36 }
     ensures { OnOk result (out.new.items ≡ out.old.items ++ in_columns width (decimal number)) }
 {

@@ -15,8 +15,8 @@ use asm_text::hex8;
 use assembler::disassemble;
 use std::alloc::{AllocError, Global};
 
-/// Adds the row of a word: its address, the word and its line.
-pub(crate) fn put_shown_row(out: &mut Vec<u8>, at: u32, word: u32) -> Result<(), AllocError>
+/// Adds the row of a word: its address, the word and its line. An error says that an allocation failed.
+pub fn put_shown_row(out: &mut Vec<u8>, at: u32, word: u32) -> Result<(), AllocError>
     ensures { OnOk result (Appends (IsShownRow (at, word)) out.old.items out.new.items) }
 {
     put(out, b"  ")?;

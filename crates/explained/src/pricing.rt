@@ -130,7 +130,8 @@ pub(crate) fn priced(
     Ok(prices)
 }
 
-fn class_name(class: Class) -> &'static [u8]
+/// The name of a class as a statement has it.
+pub fn class_name(class: Class) -> &'static [u8]
     ensures { result.now ≡ class_name class }
 {
     match class {

@@ -1,0 +1,5 @@
+mod CarriedLaws
+mod FoundLaws
+mod LineLaws
+mod PartLaws
+mod RowLaws

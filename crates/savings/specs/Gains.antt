@@ -1,0 +1,89 @@
+-- What the next better entry of a statement takes off a price, in ticks. Our own rules.
+use Rattle.std.specs.Prelude.{ℕ, ◌-◌, ◌*◌, max, nat_lt, count_ones, ◌==◌, if◌then◌else◌, Option, Some, None}
+use Rattle.arm2_decode.specs.declared.instr.Operation.{Operation}
+use Rattle.arm2_decode.specs.declared.instr.Operation.TheVariants as operation
+use Rattle.bus_ticks.specs.declared.profile.Class.{Class}
+use Rattle.bus_ticks.specs.declared.profile.Class.TheVariants.{Ram, Rom, Io}
+use Rattle.bus_ticks.specs.declared.profile.Profile.{Profile}
+use Rattle.bus_ticks.specs.Worst.{worst_leave_of}
+use Rattle.flow_graph.specs.Edges.{work_ticks}
+use Rattle.flow_graph.specs.Kinds.{transfer}
+use Rattle.flow_graph.specs.declared.kinds.Work.{Work}
+use Rattle.savings.specs.declared.classes.ClassPrices.{ClassPrices}
+use Rattle.savings.specs.declared.gains.Gain.{Gain}
+use Rattle.savings.specs.declared.gains.Refinement.TheVariants.{Addresses, Multiplier}
+
+-- ## The next better class
+
+-- a price, if it is less than the present one, else 0, which is no price
+abbrev pub if_less : (present price : ℕ) → ℕ
+if_less present price = if nat_lt price present then price else 0
+
+-- the greatest price of a class that is less than the present one, 0 where there is none
+abbrev pub next_price : ClassPrices → ℕ
+next_price p = max (if_less p.present p.ram) (max (if_less p.present p.rom) (if_less p.present p.io))
+
+-- the first class of that price
+abbrev pub next_class : ClassPrices → (next : ℕ) → Class
+next_class p next = if p.ram == next then Ram else (if p.rom == next then Rom else Io)
+
+-- what it takes off the present price
+abbrev pub next_gain : ClassPrices → (next : ℕ) → Gain
+next_gain p next =
+    record {
+      refinement = Addresses (record { present = p.class; better = next_class p next });
+      ticks = p.present - next;
+    }
+
+-- None where no class costs less
+abbrev pub class_gain : ClassPrices → Option Gain
+class_gain p = if next_price p == 0 then None else Some (next_gain p (next_price p))
+
+-- ## What a word and a way out gain
+
+-- what a transfer costs besides its fetches, by the class of its addresses
+abbrev pub transfer_prices : Profile → Class → Work → ClassPrices
+transfer_prices p class w =
+    record {
+      class = class;
+      present = work_ticks p class w;
+      ram = work_ticks p Ram w;
+      rom = work_ticks p Rom w;
+      io = work_ticks p Io w;
+    }
+
+abbrev pub transfer_gain : Profile → Class → Work → Option Gain
+transfer_gain p class w = class_gain (transfer_prices p class w)
+
+-- a multiply is priced at 16 internal cycles, and with the next better multiplier takes 15
+abbrev pub multiply_gain : Profile → Gain
+multiply_gain p = record { refinement = Multiplier; ticks = 16 * p.internal - 15 * p.internal }
+
+-- what takes neither is priced by no entry
+abbrev pub operation_gain : Profile → Class → Operation → Option Gain
+operation_gain p class (operation.Multiply x) = Some (multiply_gain p)
+operation_gain p class (operation.DataRegister x) = None
+operation_gain p class (operation.DataRegisterShift x) = None
+operation_gain p class (operation.DataImmediate x) = None
+operation_gain p class (operation.SingleImmediate x) = transfer_gain p class (transfer x.load 1)
+operation_gain p class (operation.SingleRegister x) = transfer_gain p class (transfer x.load 1)
+operation_gain p class (operation.Block x) = transfer_gain p class (transfer x.load (count_ones x.list))
+operation_gain p class (operation.Branch x) = None
+operation_gain p class (operation.Swi x) = None
+operation_gain p class (operation.UndefinedTransfer x) = None
+operation_gain p class (operation.CoprocessorTransfer x) = None
+operation_gain p class (operation.Coprocessor x) = None
+
+-- of the two fetches after the handler leaves, by the class of the addresses to which it does
+abbrev pub leave_prices : Profile → Class → ClassPrices
+leave_prices p class =
+    record {
+      class = class;
+      present = worst_leave_of p class;
+      ram = worst_leave_of p Ram;
+      rom = worst_leave_of p Rom;
+      io = worst_leave_of p Io;
+    }
+
+abbrev pub leave_gain : Profile → Class → Option Gain
+leave_gain p class = class_gain (leave_prices p class)

@@ -1,0 +1,114 @@
+-- What better entries of a statement would save, as text. Our own format.
+use Rattle.std.specs.Prelude.{◌≡◌, ℕ, ◌+◌, ◌==◌, Bool, if◌then◌else◌, List, ◌∷◌, ◌++◌, codes, decimal}
+use Rattle.std.specs.Prelude.{Option, Some, None, option_map}
+use Rattle.std.specs.BTreeMap.{BTreeMap, get}
+use Rattle.std.specs.List.{list_any}
+use Rattle.std.specs.Ordering.{nat_cmp}
+use Rattle.asm_text.specs.Hex.{hex8}
+use Rattle.asm_text.specs.Source.{lines_of}
+use Rattle.assembler.specs.declared.placed_line.PlacedLine.{PlacedLine}
+use Rattle.explained.specs.Assumed.{named_row}
+use Rattle.explained.specs.Columns.{in_columns}
+use Rattle.explained.specs.Pricing.{class_name}
+use Rattle.explained.specs.Rows.{IsShownRow, section}
+use Rattle.explained.specs.Table.{addresses}
+use Rattle.explained.specs.declared.named.NumberedLine.{NumberedLine}
+use Rattle.flow_graph.specs.Flow.{Flow}
+use Rattle.flow_graph.specs.declared.edges.Edge.{Edge}
+use Rattle.loader.specs.Image.{Words}
+use Rattle.statement.specs.Stated.{Stated}
+use Rattle.savings.specs.Parts.{AreParts}
+use Rattle.savings.specs.Savings.{AreSavings}
+use Rattle.savings.specs.declared.classes.ClassChange.{ClassChange}
+use Rattle.savings.specs.declared.gains.Refinement.{Refinement}
+use Rattle.savings.specs.declared.gains.Refinement.TheVariants.{Addresses, Multiplier}
+use Rattle.savings.specs.declared.found.Saving.{Saving}
+use Rattle.savings.specs.declared.found.Subject.{Subject}
+use Rattle.savings.specs.declared.found.Subject.TheVariants.{Leave, Word}
+
+-- ## The line of an address
+
+-- the words from one on include the address
+abbrev pub has_word : (from count a : ℕ) → Bool
+has_word from count a = list_any (λ b. a == b) (addresses from count)
+
+-- the number and the text of the last line with a word at the address, where the first line has the number; if
+-- none has one, what was found before
+abbrev pub line_with : ℕ → List (List ℕ) → List PlacedLine → Option (ℕ × List ℕ) → ℕ → Option (ℕ × List ℕ)
+line_with n (text ∷ lines) (p ∷ placed) found a =
+    line_with (n + 1) lines placed (if has_word p.at p.words a then Some (n, text) else found) a
+line_with n _ _ found a = found
+
+-- by a source's lines, with numbers from one on
+abbrev pub line_of : (source : List ℕ) → List PlacedLine → ℕ → Option (ℕ × List ℕ)
+line_of source placed a = line_with 1 (lines_of source) placed None a
+
+-- the lines by the addresses of words
+abbrev pub numbered : NumberedLine → ℕ × List ℕ
+numbered line = (line.number, line.text.now)
+
+abbrev pub line_at : BTreeMap ℕ NumberedLine → ℕ → Option (ℕ × List ℕ)
+line_at lines a = option_map numbered (get nat_cmp lines a)
+
+-- a line is put at each of so many words from an address on
+abbrev pub PutsAt : (from count : ℕ) → ℕ × List ℕ → (old new : BTreeMap ℕ NumberedLine) → Type 0
+PutsAt from count line old new =
+    (a : ℕ) → line_at new a ≡ (if has_word from count a then Some line else line_at old a)
+
+-- ## Rows
+
+-- one class in place of another
+abbrev pub change_text : ClassChange → List ℕ
+change_text change = class_name change.better ++ (codes " for " ++ class_name change.present)
+
+abbrev pub refinement_text : Refinement → List ℕ
+refinement_text Multiplier = codes "m = 15"
+refinement_text (Addresses change) = change_text change
+
+abbrev pub entry_text : Subject → Refinement → List ℕ
+entry_text (Word at word) refinement = refinement_text refinement
+entry_text Leave refinement = codes "leave " ++ refinement_text refinement
+
+-- the ticks, and what the entry would be
+abbrev pub front_text : Saving → List ℕ
+front_text s = in_columns 9 (decimal s.ticks) ++ in_columns 19 (entry_text s.subject s.refinement)
+
+-- up to the end of the line
+abbrev pub IsSavingRow : (Subject → List ℕ → Type 0) → Saving → List ℕ → Type 0
+IsSavingRow IsEnd s row = (end : List ℕ) × IsEnd s.subject end × (row ≡ front_text s ++ end)
+
+-- the address, and the number and the text of its line
+abbrev pub line_row : ℕ → Option (ℕ × List ℕ) → List ℕ
+line_row at None = codes "  " ++ (hex8 at ++ codes "\n")
+line_row at (Some line) = named_row at line.0 line.1
+
+abbrev pub IsSourceEnd : (ℕ → Option (ℕ × List ℕ)) → Subject → List ℕ → Type 0
+IsSourceEnd line (Word at word) end = end ≡ line_row at (line at)
+IsSourceEnd line Leave end = end ≡ codes "\n"
+
+-- the address, the word and its line
+abbrev pub IsImageEnd : Subject → List ℕ → Type 0
+IsImageEnd (Word at word) end = IsShownRow (at, word) end
+IsImageEnd Leave end = end ≡ codes "\n"
+
+-- ## The section
+
+abbrev pub heading : List ℕ
+heading = codes "\nWhat would save most, in ticks at most (state only what is true):\n"
+
+-- a row for each saving under the heading, and nothing where there are none
+pub record IsSavingsText (IsEnd : Subject → List ℕ → Type 0) (words : Words) (st : Stated) (flow : Flow)
+    (walk : List Edge) (text : List ℕ) : Type 0 where
+  pub list : List Saving
+  pub rows : List ℕ
+  pub are_savings : AreSavings words st flow walk list
+  pub are_rows : AreParts (IsSavingRow IsEnd) list rows
+  pub text_is : text ≡ section heading rows
+
+-- by the lines of a source
+abbrev pub AreSourceSavings : List ℕ → List PlacedLine → Words → Stated → Flow → List Edge → List ℕ → Type 0
+AreSourceSavings source placed = IsSavingsText (IsSourceEnd (line_of source placed))
+
+-- by the words of an image
+abbrev pub AreImageSavings : Words → Stated → Flow → List Edge → List ℕ → Type 0
+AreImageSavings = IsSavingsText IsImageEnd

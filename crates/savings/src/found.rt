@@ -1,0 +1,159 @@
+ghost use Rattle.std.specs.Prelude.{◌≡◌, ◌++◌, IfOk, OnOk};
+ghost use Rattle.longest_walk.specs.Folded.{unfolded};
+ghost use Rattle.savings.specs.Carried.{times_in};
+ghost use Rattle.savings.specs.Parts.{AreParts, Extends};
+ghost use Rattle.savings.specs.Savings.{AreFound, AreSavings, IsWordGain, IsWordSaved, saved};
+
+use crate::carried::{times_at, times_carried_out};
+use crate::gains::{Gain, Refinement, leave_gain, operation_gain};
+use arm2_decode::decode;
+use bus_ticks::Profile;
+use explained::StatedGraph;
+use flow_graph::Statement;
+use longest_walk::Longest;
+use std::alloc::{AllocError, Global};
+use std::cmp::Reverse;
+use std::collections::BTreeMap;
+
+/// What a statement may say better.
+#[derive(Clone, Copy)]
+pub enum Subject {
+    /// Something of a word: its address, and the word.
+    Word(u32, u32),
+    /// The class of the addresses to which the handler leaves.
+    Leave,
+}
+
+/// What a better entry of a statement would save.
+#[derive(Clone, Copy)]
+pub struct Saving {
+    pub subject: Subject,
+    pub refinement: Refinement,
+    /// In all, told up to 2^64 - 1.
+    pub ticks: u64,
+}
+
+// What the prices of words take for granted, and how often the words are carried out, by their addresses.
+#[derive(Clone, Copy)]
+struct Carried<'a> {
+    statement: &'a Statement,
+    profile: &'a Profile,
+    times: &'a BTreeMap<u32, u64>,
+}
+
+// Adds what is saved by what is gained so many times, if that is not 0.
+fn push_saved(
+    found: &mut Vec<Saving>,
+    subject: Subject,
+    times: u64,
+    gain: Option<Gain>,
+) -> Result<(), AllocError>
+    ensures { OnOk result (found.new.items ≡ found.old.items ++ saved subject times gain) }
+{
+    let Some(gain) = gain else {
+        return Ok(());
+    };
+    let ticks = times.saturating_mul(u64::from(gain.ticks));
+    if ticks == 0 {
+        return Ok(());
+    }
+    found.push(Saving {
+        subject,
+        refinement: gain.refinement,
+        ticks,
+    })?;
+    Ok(())
+}
+
+// What is gained each time that the word is carried out.
+fn word_gain(statement: &Statement, profile: &Profile, at: u32, word: u32) -> Option<Gain>
+    ensures { IsWordGain statement.now profile.now at word result }
+{
+    match decode(word) {
+        Ok(instr) => operation_gain(profile, statement.class_at(at), &instr.operation),
+        Err(_) => None,
+    }
+}
+
+// Adds what is saved at a word.
+fn push_word(
+    found: &mut Vec<Saving>,
+    carried: Carried<'_>,
+    at: u32,
+    word: u32,
+) -> Result<(), AllocError>
+    ensures { OnOk result
+        (Extends (IsWordSaved carried.entry.statement.now carried.entry.profile.now
+        (times_in carried.entry.times.now) (at, word)) found.old.items found.new.items) }
+{
+    let gain = word_gain(carried.statement, carried.profile, at, word);
+    let times = times_at(carried.times, at);
+    push_saved(found, Subject::Word(at, word), times, gain)
+}
+
+// What is saved at each of the words.
+fn saved_at(
+    alloc: Global,
+    carried: Carried<'_>,
+    words: &[(u32, u32)],
+) -> Result<Vec<Saving>, AllocError>
+    ensures { IfOk result
+        (λ found. AreParts (IsWordSaved carried.entry.statement.now carried.entry.profile.now
+        (times_in carried.entry.times.now)) words.now found.items) }
+{
+    let mut found = Vec::new(alloc);
+    for (at, word) in words {
+        push_word(&mut found, carried, *at, *word)?;
+    }
+    Ok(found)
+}
+
+// What is saved at each word, and then on the way out.
+fn found_savings(
+    alloc: Global,
+    handler: StatedGraph<'_>,
+    longest: &Longest,
+) -> Result<Vec<Saving>, AllocError>
+    ensures { IfOk result
+        (λ found. AreFound handler.entry.image.now handler.entry.statement.now handler.entry.graph.now
+        (unfolded longest.now.walk) found.items) }
+{
+    let times = times_carried_out(alloc, handler.graph, &longest.walk)?;
+    let words = handler.image.listed(alloc)?;
+    let profile = handler.graph.profile();
+    let carried = Carried {
+        statement: handler.statement,
+        profile: &profile,
+        times: &times,
+    };
+    let mut found = saved_at(alloc, carried, &words)?;
+    let gain = leave_gain(&profile, handler.statement.leave());
+    push_saved(&mut found, Subject::Leave, 1, gain)?;
+    Ok(found)
+}
+
+/// What better entries of a statement would save by a greatest walk: each class of what a load or a store
+/// transfers if it were the next better, each multiply if it took 15 cycles, and the class of the addresses to
+/// which the handler leaves if it were the next better. The next better class is the one whose price is the
+/// greatest below the present one's. Another walk may then be the greatest, so the bound would be less by that
+/// at most.
+///
+/// Those that save most come first; of equals the lowest address, and the way out last. What saves nothing is
+/// not there.
+///
+/// # Errors
+///
+/// An allocation failed.
+pub fn savings(
+    alloc: Global,
+    handler: StatedGraph<'_>,
+    longest: &Longest,
+) -> Result<Vec<Saving>, AllocError>
+    ensures { IfOk result
+        (λ list. AreSavings handler.entry.image.now handler.entry.statement.now handler.entry.graph.now
+        (unfolded longest.now.walk) list.items) }
+{
+    let mut list = found_savings(alloc, handler, longest)?;
+    list.sort_by_key(|saving| Reverse(saving.ticks))?;
+    Ok(list)
+}

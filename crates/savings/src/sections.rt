@@ -1,0 +1,193 @@
+ghost use Rattle.std.specs.Prelude.{◌≡◌, ◌++◌, IfOk, OnOk};
+ghost use Rattle.longest_walk.specs.Folded.{unfolded};
+ghost use Rattle.savings.specs.Parts.{AreParts, Extends};
+ghost use Rattle.savings.specs.Sections.{AreImageSavings, AreSourceSavings, IsImageEnd, IsSavingRow, IsSourceEnd};
+ghost use Rattle.savings.specs.Sections.{entry_text, front_text, line_at, line_row, refinement_text};
+
+use crate::found::{Saving, Subject, savings};
+use crate::gains::Refinement;
+use crate::lines::lines_by_address;
+use asm_text::hex8;
+use assembler::PlacedLine;
+use explained::{
+    NumberedLine, StatedGraph, class_name, put, put_named_row, put_number, put_right,
+    put_shown_row, section,
+};
+use longest_walk::Longest;
+use std::alloc::{AllocError, Global};
+use std::collections::BTreeMap;
+
+const HEADING: &[u8] = b"\nWhat would save most, in ticks at most (state only what is true):\n";
+
+// Adds what the better entry says, and of what in place of what.
+fn put_refinement(out: &mut Vec<u8>, refinement: Refinement) -> Result<(), AllocError>
+    ensures { OnOk result (out.new.items ≡ out.old.items ++ refinement_text refinement) }
+{
+    match refinement {
+        Refinement::Multiplier => put(out, b"m = 15"),
+        Refinement::Addresses(change) => {
+            put(out, class_name(change.better))?;
+            put(out, b" for ")?;
+            put(out, class_name(change.present))
+        }
+    }
+}
+
+fn entry_text(
+    alloc: Global,
+    subject: Subject,
+    refinement: Refinement,
+) -> Result<Vec<u8>, AllocError>
+    ensures { IfOk result (λ text. text.items ≡ entry_text subject refinement) }
+{
+    let mut text = Vec::new(alloc);
+    if let Subject::Leave = subject {
+        put(&mut text, b"leave ")?;
+    }
+    put_refinement(&mut text, refinement)?;
+    Ok(text)
+}
+
+// Adds the ticks, and what the entry would be.
+fn put_front(out: &mut Vec<u8>, saving: &Saving) -> Result<(), AllocError>
+    ensures { OnOk result (out.new.items ≡ out.old.items ++ front_text saving.now) }
+{
+    put_number(out, saving.ticks, 9)?;
+    let text = entry_text(*out.allocator(), saving.subject, saving.refinement)?;
+    put_right(out, &text, 19)
+}
+
+// Adds an address, and the number and the text of its line, if it has one.
+fn put_line(
+    out: &mut Vec<u8>,
+    lines: &BTreeMap<u32, NumberedLine<'_>>,
+    at: u32,
+) -> Result<(), AllocError>
+    ensures { OnOk result (out.new.items ≡ out.old.items ++ line_row at (line_at lines.now at)) }
+{
+    match lines.get(&at) {
+        Some(line) => put_named_row(out, *line, at),
+        None => {
+            put(out, b"  ")?;
+            put(out, &hex8(at))?;
+            put(out, b"\n")
+        }
+    }
+}
+
+// Adds what stands after the entry, by the lines of a source.
+fn put_source_end(
+    out: &mut Vec<u8>,
+    lines: &BTreeMap<u32, NumberedLine<'_>>,
+    subject: Subject,
+) -> Result<(), AllocError>
+    ensures { OnOk result
+        (Extends (IsSourceEnd (line_at lines.now) subject) out.old.items out.new.items) }
+{
+    match subject {
+        Subject::Word(at, _) => put_line(out, lines, at),
+        Subject::Leave => put(out, b"\n"),
+    }
+}
+
+// Adds what stands after the entry, by the words of an image.
+fn put_image_end(out: &mut Vec<u8>, subject: Subject) -> Result<(), AllocError>
+    ensures { OnOk result (Extends (IsImageEnd subject) out.old.items out.new.items) }
+{
+    match subject {
+        Subject::Word(at, word) => put_shown_row(out, at, word),
+        Subject::Leave => put(out, b"\n"),
+    }
+}
+
+fn put_source_row(
+    out: &mut Vec<u8>,
+    lines: &BTreeMap<u32, NumberedLine<'_>>,
+    saving: &Saving,
+) -> Result<(), AllocError>
+    ensures { OnOk result
+        (Extends (IsSavingRow (IsSourceEnd (line_at lines.now)) saving.now) out.old.items out.new.items) }
+{
+    put_front(out, saving)?;
+    put_source_end(out, lines, saving.subject)
+}
+
+fn put_image_row(out: &mut Vec<u8>, saving: &Saving) -> Result<(), AllocError>
+    ensures { OnOk result
+        (Extends (IsSavingRow IsImageEnd saving.now) out.old.items out.new.items) }
+{
+    put_front(out, saving)?;
+    put_image_end(out, saving.subject)
+}
+
+fn source_rows(
+    alloc: Global,
+    lines: &BTreeMap<u32, NumberedLine<'_>>,
+    list: &[Saving],
+) -> Result<Vec<u8>, AllocError>
+    ensures { IfOk result
+        (λ rows. AreParts (IsSavingRow (IsSourceEnd (line_at lines.now))) list.now rows.items) }
+{
+    let mut out = Vec::new(alloc);
+    for saving in list {
+        put_source_row(&mut out, lines, saving)?;
+    }
+    Ok(out)
+}
+
+fn image_rows(alloc: Global, list: &[Saving]) -> Result<Vec<u8>, AllocError>
+    ensures { IfOk result (λ rows. AreParts (IsSavingRow IsImageEnd) list.now rows.items) }
+{
+    let mut out = Vec::new(alloc);
+    for saving in list {
+        put_image_row(&mut out, saving)?;
+    }
+    Ok(out)
+}
+
+/// What better entries of a statement would save by a greatest walk, by the lines of a source: under a heading a
+/// row for each of the [`savings`], with the ticks, the better entry, and the address, the number and the text of
+/// its line. Nothing where there are no savings.
+///
+/// `placed` says where the lines stand, in their order.
+///
+/// # Errors
+///
+/// An allocation failed.
+pub fn source_savings(
+    alloc: Global,
+    handler: StatedGraph<'_>,
+    source: &[u8],
+    placed: &[PlacedLine],
+    longest: &Longest,
+) -> Result<Vec<u8>, AllocError>
+    ensures { IfOk result
+        (λ text. AreSourceSavings source.now placed.now handler.entry.image.now
+        handler.entry.statement.now handler.entry.graph.now (unfolded longest.now.walk) text.items) }
+{
+    let list = savings(alloc, handler, longest)?;
+    let lines = lines_by_address(alloc, source, placed)?;
+    let rows = source_rows(alloc, &lines, &list)?;
+    section(alloc, HEADING, &rows)
+}
+
+/// What better entries of a statement would save by a greatest walk, by the words of an image: under a heading a
+/// row for each of the [`savings`], with the ticks, the better entry, and the address, the word and the line that
+/// [`disassemble`](assembler::disassemble) shows. Nothing where there are no savings.
+///
+/// # Errors
+///
+/// An allocation failed.
+pub fn image_savings(
+    alloc: Global,
+    handler: StatedGraph<'_>,
+    longest: &Longest,
+) -> Result<Vec<u8>, AllocError>
+    ensures { IfOk result
+        (λ text. AreImageSavings handler.entry.image.now handler.entry.statement.now
+        handler.entry.graph.now (unfolded longest.now.walk) text.items) }
+{
+    let list = savings(alloc, handler, longest)?;
+    let rows = image_rows(alloc, &list)?;
+    section(alloc, HEADING, &rows)
+}
