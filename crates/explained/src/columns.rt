@@ -17,7 +17,7 @@ pub(crate) const IMAGE_HEADING: &[u8] =
     b"   passes     each      ticks  share      priced as   address      word  text\n";
 
 /// Adds a text.
-pub(crate) fn put(out: &mut Vec<u8>, text: &[u8]) -> Result<(), AllocError>
+pub fn put(out: &mut Vec<u8>, text: &[u8]) -> Result<(), AllocError>
     ensures { OnOk result (out.new.items ≡ out.old.items ++ text.now) }
 {
     out.extend_from_slice(text)
@@ -33,7 +33,7 @@ pub(crate) fn put_right(out: &mut Vec<u8>, text: &[u8], width: usize) -> Result<
 }
 
 /// Adds a number in decimal that ends so many columns on.
-pub(crate) fn put_number(out: &mut Vec<u8>, number: u64, width: usize) -> Result<(), AllocError>
+pub fn put_number(out: &mut Vec<u8>, number: u64, width: usize) -> Result<(), AllocError>
     requires { width ≤ 36 }
     ensures { OnOk result (out.new.items ≡ out.old.items ++ in_columns width (decimal number)) }
 {

@@ -16,7 +16,7 @@ use longest_walk::Longest;
 use std::alloc::{AllocError, Global};
 
 /// Adds the row of a word: its address, the word and its line.
-pub(crate) fn put_shown_row(out: &mut Vec<u8>, at: u32, word: u32) -> Result<(), AllocError>
+pub fn put_shown_row(out: &mut Vec<u8>, at: u32, word: u32) -> Result<(), AllocError>
     ensures { OnOk result (Appends (IsShownRow (at, word)) out.old.items out.new.items) }
 {
     put(out, b"  ")?;

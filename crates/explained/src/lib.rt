@@ -18,12 +18,14 @@ mod tally;
 
 pub use assumptions::{Assumption, assumed};
 pub use bursts::{Bursts, burst_lines};
+pub use columns::{put, put_number};
 pub use idle::idle_entries;
-pub use image::image_table;
+pub use image::{image_table, put_shown_row};
 pub use law::{
     burst_time_is_the_least, numbers_are_of_the_walk, places_stand_once, totals_are_the_bound,
     unreached_lines_have_no_place,
 };
-pub use named::named_lines;
-pub use sections::{StatedGraph, image_assumptions, source_assumptions};
+pub use named::{NumberedLine, named_lines, put_named_row};
+pub use sections::{StatedGraph, image_assumptions, section, source_assumptions};
 pub use source::source_table;
+pub use tally::{Costs, Taken, Tally};

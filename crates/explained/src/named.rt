@@ -13,11 +13,11 @@ use assembler::PlacedLine;
 use loader::Image;
 use std::alloc::{AllocError, Global};
 
-// A line of a source and its number, from 1.
+/// A line of a source and its number, from 1.
 #[derive(Clone, Copy)]
-struct NumberedLine<'a> {
-    number: u64,
-    text: &'a [u8],
+pub struct NumberedLine<'a> {
+    pub number: u64,
+    pub text: &'a [u8],
 }
 
 fn is_named(named: &[u32], at: u32) -> bool
@@ -27,7 +27,8 @@ fn is_named(named: &[u32], at: u32) -> bool
     named.binary_search(&at).is_ok()
 }
 
-fn put_named_row(out: &mut Vec<u8>, line: NumberedLine<'_>, at: u32) -> Result<(), AllocError>
+/// Adds the row of a word: its address, and the number and the text of its line.
+pub fn put_named_row(out: &mut Vec<u8>, line: NumberedLine<'_>, at: u32) -> Result<(), AllocError>
     ensures { OnOk result
         (out.new.items ≡ out.old.items ++ named_row at line.entry.number line.entry.text.now) }
 {

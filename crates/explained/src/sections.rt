@@ -36,7 +36,7 @@ fn heading(what: Assumption) -> &'static [u8]
 }
 
 /// The rows under their heading, or nothing where there are none.
-pub(crate) fn section(alloc: Global, heading: &[u8], rows: &[u8]) -> Result<Vec<u8>, AllocError>
+pub fn section(alloc: Global, heading: &[u8], rows: &[u8]) -> Result<Vec<u8>, AllocError>
     ensures { IfOk result (λ text. text.items ≡ section heading.now rows.now) }
 {
     let mut out = Vec::new(alloc);

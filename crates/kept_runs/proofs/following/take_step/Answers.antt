@@ -72,3 +72,4 @@ returns c =
     (ap (λ (es : List NumberedEdge). (edge_at es c.in-Ok.taken.edge).to) c.edges.ensures)
     refl
     (ap (λ (n : ℕ). c.args.follower.now.ticks + n) c.from.ensures)
+    ?tally
