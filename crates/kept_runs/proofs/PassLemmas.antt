@@ -4,6 +4,7 @@ use Rattle.std.specs.Prelude.{count_by, sum_by}
 use Rattle.std.proofs.Math.ListN.{length-set}
 use Rattle.std.proofs.lemmas.Bool.{cases_eq, eq-eqb, ne_eqb}
 use Rattle.std.proofs.lemmas.List.{get_or-replicate, length-replicate}
+use Rattle.std.proofs.lemmas.List.Elements.{All-nil, All-push}
 use Rattle.std.proofs.lemmas.List.Sums.{sum_by_push}
 use Rattle.flow_graph.specs.Flow.{Flow}
 use Rattle.kept_runs.specs.declared.following.Follower.{Follower}
@@ -24,7 +25,7 @@ module _ (flow : Flow) (by_place : List Passed) (n : ℕ) (is : by_place ≡ rep
   none_each k lt = ap (λ (xs : List Passed). get_or xs k nothing) is ∙ get_or-replicate n k nothing nothing (omega (arith, lt, same))
 
   pub none_passed : IsTally flow [] by_place
-  none_passed = record { whole = none_long; each = none_each }
+  none_passed = record { inside = All-nil (λ p. p.place < length flow.places); whole = none_long; each = none_each }
 
 pub fresh_tally : (flow : Flow) (x : Follower) (n : ℕ) → x.by_place.items ≡ replicate n nothing → n ≡ length flow.places → IsTallyOf flow x
 fresh_tally flow x n is same = record {
@@ -72,6 +73,7 @@ module _ (flow : Flow) (old new : List Passed) (place ticks : ℕ) (whole : leng
 
   pub one_passed : (passes : List Pass) → IsTally flow passes old → IsTally flow (passes ++ record { place = place; ticks = ticks } ∷ []) new
   one_passed passes t = record {
+    inside = All-push (λ p. p.place < length flow.places) passes (record { place = place; ticks = ticks }) t.inside known;
     whole = new_long;
     each = λ k lt. ⊎_elim
         (λ (own : k ≡ place).

@@ -1,6 +1,6 @@
 -- What a run does at each place of its flow graph.
 use Rattle.std.specs.Prelude.{◌≡◌, ℕ, ◌+◌, ◌<◌, ◌==◌, cond, List, [], ◌∷◌, length, slice_index_or, slice_set}
-use Rattle.std.specs.Prelude.{count_by, sum_by}
+use Rattle.std.specs.Prelude.{All, count_by, sum_by}
 use Rattle.arm2_exec.specs.State.{State}
 use Rattle.arm2_exec.specs.Step.{Step}
 use Rattle.arm2_exec.specs.declared.machine.Input.{Input}
@@ -46,8 +46,9 @@ passed_at passes place =
       ticks = sum_by (λ p. cond (p.place == place) p.ticks 0) passes;
     }
 
--- of each place of the graph
+-- of each place of the graph, where all the steps begin
 pub record IsTally (flow : Flow) (passes : List Pass) (by_place : List Passed) : Type 0 where
+  pub inside : All (λ p. p.place < length flow.places) passes
   pub whole : length by_place ≡ length flow.places
   pub each : (place : ℕ) → place < length flow.places
       → slice_index_or by_place place nothing ≡ passed_at passes place
