@@ -40,15 +40,15 @@ split_term true false w s = omega arith
 split_term false true w s = omega arith
 split_term false false w s = omega arith
 
-none_there : (at : Bool) → cond at 0 0 ≡ 0
-none_there true = refl
-none_there false = refl
+none_there : (at : Bool) (n : ℕ) → n ≡ 0 → cond at n 0 ≡ 0
+none_there true n is = is
+none_there false n is = refl
 
 -- what the steps are at each place that is met, is what the steps that are met are
 by_places : (at : ℕ → Bool) (weight : Pass → ℕ) (n : ℕ) (passes : List Pass) → All (λ p. p.place < n) passes
     → sum_by (λ k. cond (at k) (sum_by (λ p. cond (eqb p.place k) (weight p) 0) passes) 0) (range_with_len 0 n) ≡ sum_by (λ p. cond (at p.place) (weight p) 0) passes
 by_places at weight n [] inside =
-    same_sums (λ k. cond (at k) 0 0) (λ k. 0) n 0 (λ k low high. none_there (at k)) ∙ sum_none (range_with_len 0 n)
+    same_sums (λ k. cond (at k) 0 0) (λ k. 0) n 0 (λ k low high. none_there (at k) 0 refl) ∙ sum_none (range_with_len 0 n)
 by_places at weight n (p ∷ passes) inside =
     let here : p.place < n = All-head (λ q. q.place < n) p passes inside in
     let rest = by_places at weight n passes (All-tail (λ q. q.place < n) p passes inside) in
@@ -76,7 +76,7 @@ module _ (flow : Flow) (passes : List Pass) (by_place : List Passed) (t : RunTal
   all_of number a =
       same_sums (λ k. cond (is_at a (place_at flow.places k)) (number (get_or by_place k passing.nothing)) 0)
       (λ k. cond (is_at a (place_at flow.places k)) (number (passed_at passes k)) 0) (length flow.places) 0
-      (λ k low high. ap (λ p. cond (is_at a (place_at flow.places k)) (number p) 0) (tally.each k high))
+      (λ k low high. ap (λ p. cond (is_at a (place_at flow.places k)) (number p) 0) (tally.each k (omega (arith, high))))
 
   pub run_told : (a : ℕ) → tallied t a ≡ run_at flow passes a
   run_told a =
@@ -111,26 +111,27 @@ in_all_more : (places : List Place) (by_place : List Passed) (number : Passed �
 in_all_more places by_place number i a =
     let term = λ (k : ℕ). cond (is_at a (place_at places k)) (number (get_or by_place k passing.nothing)) 0 in
     ap (λ n. sum_by term (range_with_len 0 n)) (add-one i) ∙ ap (sum_by term) (range_push i 0) ∙ sum_by_push term (range_with_len 0 i) (0 + i)
+    ∙ ap (λ k. sum_by term (range_with_len 0 i) + term k) (omega arith)
 
 capped_on : (s m : ℕ) → capped (capped s + m) ≡ capped (s + m)
 capped_on s m = omega arith
 
-pub place_added : (places : List Place) (by_place : List Passed) (i : ℕ) (place : Place) (p : Passed) (old new : RunTally) → i < length places → i < length by_place
-    → place ≡ get_or places i place → p ≡ get_or by_place i p → HasAdded places by_place i old → Adds place p old new → HasAdded places by_place (i + 1) new
-place_added places by_place i place p old new in_places in_tally place_is p_is h adds a = ⊎_elim here elsewhere (cases_Bool (is_at a place))
+pub place_added : (places : List Place) (by_place : List Passed) (i : ℕ) (place : Place) (p : Passed) (old new : RunTally) → i < length places → place ≡ get_or places i place
+    → p ≡ get_or by_place i passing.nothing → HasAdded places by_place i old → Adds place p old new → HasAdded places by_place (i + 1) new
+place_added places by_place i place p old new in_places place_is p_is h adds a = ⊎_elim here elsewhere (cases_Bool (is_at a place))
   where
+    sums_at : ℕ → Numbers
+    sums_at n = record { passes = capped (in_all places by_place (λ q. q.passes) n a); ticks = capped (in_all places by_place (λ q. q.ticks) n a) }
+
     own : place ≡ place_at places i
     own = place_is ∙ get_or_default places i place Exit in_places
-
-    passed : p ≡ get_or by_place i passing.nothing
-    passed = p_is ∙ get_or_default by_place i p passing.nothing in_tally
 
     number_more : (number : Passed → ℕ) → is_at a place ≡ true → in_all places by_place number (i + 1) a ≡ in_all places by_place number i a + number p
     number_more number at =
         in_all_more places by_place number i a
         ∙ ap (λ (q : Place). in_all places by_place number i a + cond (is_at a q) (number (get_or by_place i passing.nothing)) 0) (sym own)
         ∙ ap (λ (b : Bool). in_all places by_place number i a + cond b (number (get_or by_place i passing.nothing)) 0) at
-        ∙ ap (λ (q : Passed). in_all places by_place number i a + number q) (sym passed)
+        ∙ ap (λ (q : Passed). in_all places by_place number i a + number q) (sym p_is)
 
     number_same : (number : Passed → ℕ) → is_at a place ≡ false → in_all places by_place number (i + 1) a ≡ in_all places by_place number i a
     number_same number out =
@@ -139,18 +140,18 @@ place_added places by_place i place p old new in_places in_tally place_is p_is h
         ∙ ap (λ (b : Bool). in_all places by_place number i a + cond b (number (get_or by_place i passing.nothing)) 0) out
         ∙ omega arith
 
-    here : is_at a place ≡ true → tallied new a ≡ _
+    here : is_at a place ≡ true → tallied new a ≡ sums_at (i + 1)
     here at =
         adds a ∙ ap (λ (b : Bool). if b then with_place (tallied old a) p else tallied old a) at
         ∙ ap (λ (n : Numbers). with_place n p) (h a)
-        ∙ same_numbers _ _
+        ∙ same_numbers _ (sums_at (i + 1))
         (capped_on (in_all places by_place (λ q. q.passes) i a) p.passes ∙ ap capped (sym (number_more (λ q. q.passes) at)))
         (capped_on (in_all places by_place (λ q. q.ticks) i a) p.ticks ∙ ap capped (sym (number_more (λ q. q.ticks) at)))
 
-    elsewhere : is_at a place ≡ false → tallied new a ≡ _
+    elsewhere : is_at a place ≡ false → tallied new a ≡ sums_at (i + 1)
     elsewhere out =
         adds a ∙ ap (λ (b : Bool). if b then with_place (tallied old a) p else tallied old a) out ∙ h a
-        ∙ same_numbers _ _
+        ∙ same_numbers _ (sums_at (i + 1))
         (ap capped (sym (number_same (λ q. q.passes) out)))
         (ap capped (sym (number_same (λ q. q.ticks) out)))
 

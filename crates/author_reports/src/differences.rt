@@ -146,7 +146,7 @@ impl Compared {
 
 impl Tallies<'_> {
     fn at(self, address: u32) -> Compared
-        ensures { result ≡ compared_in self.run.now self.walk.now address }
+        ensures { result ≡ compared_in self.entry.run.now self.entry.walk.now address }
     {
         let bound = match self.walk.at(address) {
             Some(taken) => Numbers {
@@ -317,11 +317,11 @@ pub(crate) fn differences(
         (compared_at graph.now passes (unfolded walk.now)) text.items) }
     ensures fault { IfErr result (IsSourceFault words.entry.source.now) }
 {
-    let run = RunTally::of_places(alloc, graph, by_place)?;
-    let walk = Tally::of_walk(alloc, graph, walk)?;
+    let run_tally = RunTally::of_places(alloc, graph, by_place)?;
+    let walk_tally = Tally::of_walk(alloc, graph, walk)?;
     let tallies = Tallies {
-        run: &run,
-        walk: &walk,
+        run: &run_tally,
+        walk: &walk_tally,
     };
     table_by(alloc, words, tallies)
 }
