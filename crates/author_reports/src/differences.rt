@@ -14,9 +14,7 @@ ghost use Rattle.report_input.specs.Source.{IsSourceFault};
 
 use asm_text::first_line;
 use assembler::{PlacedLine, placed_lines};
-use explained::{
-    NumberedLine, Tally, put, put_named_row, put_number, put_shown_row, section,
-};
+use explained::{NumberedLine, Tally, put, put_named_row, put_number, put_shown_row, section};
 use flow_graph::{Graph, Place};
 use kept_runs::Passed;
 use loader::{Image, MAGIC};
@@ -106,7 +104,10 @@ impl RunTally {
     fn at(&self, address: u32) -> Numbers
         ensures { result ≡ tallied self.now address }
     {
-        self.by_address.get(&address).copied().unwrap_or(Numbers::NONE)
+        self.by_address
+            .get(&address)
+            .copied()
+            .unwrap_or(Numbers::NONE)
     }
 
     // Adds what is done at a place.
@@ -243,12 +244,7 @@ fn line_rows(
 }
 
 // Adds the row of an image's word, if run and walk differ there.
-fn put_word(
-    out: &mut Vec<u8>,
-    tallies: Tallies<'_>,
-    at: u32,
-    word: u32,
-) -> Result<(), AllocError>
+fn put_word(out: &mut Vec<u8>, tallies: Tallies<'_>, at: u32, word: u32) -> Result<(), AllocError>
     ensures { OnOk result
         (Appends (IsRowIfApart (compared_in tallies.entry.run.now tallies.entry.walk.now) (at, word))
         out.old.items out.new.items) }
@@ -262,11 +258,7 @@ fn put_word(
 }
 
 // The rows of those of an image's words.
-fn image_rows(
-    alloc: Global,
-    tallies: Tallies<'_>,
-    image: &Image,
-) -> Result<Vec<u8>, AllocError>
+fn image_rows(alloc: Global, tallies: Tallies<'_>, image: &Image) -> Result<Vec<u8>, AllocError>
     ensures { IfOk result
         (λ rows. AreRows (IsRowIfApart (compared_in tallies.entry.run.now tallies.entry.walk.now)) image.now
         rows.items) }
@@ -280,11 +272,7 @@ fn image_rows(
 }
 
 // The table by the tallies.
-fn table_by(
-    alloc: Global,
-    words: Words<'_>,
-    tallies: Tallies<'_>,
-) -> Result<Vec<u8>, ReportFault>
+fn table_by(alloc: Global, words: Words<'_>, tallies: Tallies<'_>) -> Result<Vec<u8>, ReportFault>
     ensures table { IfOk result
         (λ text. IsTable words.entry.source.now words.entry.image.now
         (compared_in tallies.entry.run.now tallies.entry.walk.now) text.items) }

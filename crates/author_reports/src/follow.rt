@@ -126,7 +126,9 @@ fn told(alloc: Global, bounded: Bounded<'_>, followed: &Followed) -> Result<Judg
 {
     match followed {
         Followed::Kept {
-            ticks, by_place, ..
+            ticks,
+            by_place,
+            ..
         } => {
             let text = kept_run(alloc, bounded, *ticks, by_place)?;
             Ok(Judged { kept: true, text })

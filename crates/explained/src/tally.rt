@@ -122,11 +122,7 @@ impl Tally {
 
     /// What the walk takes at the graph's places, in time linear in the walk as it is folded.
     /// `AllocError`: an allocation failed.
-    pub fn of_walk(
-        alloc: Global,
-        graph: &Graph,
-        walk: &FoldedWalk,
-    ) -> Result<Tally, AllocError>
+    pub fn of_walk(alloc: Global, graph: &Graph, walk: &FoldedWalk) -> Result<Tally, AllocError>
         ensures { IfOk result (IsTally graph.now (unfolded walk.now)) }
     {
         let counts = edge_counts(alloc, graph, walk)?;
