@@ -15,7 +15,9 @@ use Rattle.flow_graph.specs.Graph.{IsFlowGraph}
 use Rattle.flow_graph.specs.StepLaw.{RunLaw}
 use Rattle.loop_bounds.specs.Bounds.{IsGreatestCost}
 use Rattle.loop_bounds.specs.Tree.{Tree}
-use Rattle.longest_walk.specs.Longest.{IsWalkFault}
+use Rattle.longest_walk.specs.Longest.{IsLongest, IsWalkFault}
+use Rattle.longest_walk.specs.declared.folded.Longest.{Longest}
+use Rattle.kept_runs.specs.declared.tally.Passed.{Passed}
 use Rattle.numbered_walks.specs.declared.fault.WalkFault.{WalkFault}
 use Rattle.numbered_walks.specs.declared.fault.WalkFault.TheVariants as walk_fault
 use Rattle.machine_file.specs.Started.{r15_in}
@@ -26,7 +28,7 @@ use Rattle.kept_runs.specs.declared.following.Followed.{Followed}
 use Rattle.kept_runs.specs.declared.following.Followed.TheVariants.{Kept, Strayed}
 use Rattle.author_reports.specs.FollowReport.{IsFollowRefused, IsFollowReport, IsFollowable, KeepsWithin, NoneKeeps, TellsRun}
 use Rattle.author_reports.specs.FollowText.{has_word}
-use Rattle.author_reports.specs.FollowWork.{IsJudgedRun, Tells}
+use Rattle.author_reports.specs.FollowWork.{HasAllPlaces, IsJudgedRun, Tells}
 use Rattle.report_input.specs.Keeping.{KeepsStatement, TakesAtMost}
 use Rattle.report_input.specs.Placing.{IsPlaced, IsRunRefused}
 use Rattle.report_input.specs.Report.{HasLoops, IsAccepted, IsRefused, IsTreeOf}
@@ -40,40 +42,53 @@ use Rattle.report_input.proofs.ReportLemmas.{accepted, accepted_refusals, bounds
 
 -- ## The run
 
-module _ (words : Words) (st : Stated) (flow : Flow) (tree : Tree) (of : IsTreeOf flow st.loops tree) (source : List ℕ) (bound : ℕ) (s : State) (inputs : List Input) where
+module _ (words : Words) (st : Stated) (flow : Flow) (tree : Tree) (of : IsTreeOf flow st.loops tree) (source : List ℕ) (longest : Longest) (s : State) (inputs : List Input) where
   -- the bounds of the tree's instances are those of the stated loops
-  states : (is : List Input) → KeepsTo words st flow tree s is → KeepsStatement words st flow.profile flow s is
+  abbrev states : (is : List Input) → KeepsTo words st flow tree s is → KeepsStatement words st flow.profile flow s is
   states is k = record { walk = k.walk; complete = k.complete; kept = kept_here flow st.loops tree of.instances k.walk k.kept; follows = k.follows }
 
   by_tree : (is : List Input) → KeepsStatement words st flow.profile flow s is → KeepsTo words st flow tree s is
   by_tree is k = record { walk = k.walk; complete = k.complete; kept = kept_there flow st.loops tree of.instances k.walk k.kept; follows = k.follows }
 
-  within : RunLaw → IsGreatestCost flow st.loops bound → (steps ticks : ℕ) (after : State) → IsKeptRun words st flow tree s inputs steps ticks after → KeepsWithin words st flow.profile flow s inputs bound ticks
-  within law greatest steps ticks after k =
-      let keeps = states (take steps inputs) k.keeps in
-      let most : TakesAtMost flow.profile bound (take steps inputs) k.ran = bounds_runs words flow.profile st flow bound law greatest s (take steps inputs) k.ran after keeps k.runs in
-      record {
-        steps = steps;
-        few = k.few;
-        keeps = keeps;
-        ran = k.ran;
-        after = after;
-        runs = k.runs;
-        ticks_are = k.ticks_are;
-        at_most = subst (λ (n : ℕ). n ≤ bound) k.ticks_are most.ticks;
-      }
+  at_most : RunLaw → IsGreatestCost flow st.loops longest.bound → (steps ticks : ℕ) (by_place : List Passed) (after : State)
+      → IsKeptRun words st flow tree s inputs steps ticks by_place after → ticks ≤ longest.bound
+  at_most law greatest steps ticks by_place after k =
+      let most : TakesAtMost flow.profile longest.bound (take steps inputs) k.ran =
+      bounds_runs words flow.profile st flow longest.bound law greatest s (take steps inputs) k.ran after (states (take steps inputs) k.keeps) k.runs in
+      subst (λ (n : ℕ). n ≤ longest.bound) k.ticks_are most.ticks
+
+  abbrev within : RunLaw → IsGreatestCost flow st.loops longest.bound → (steps ticks : ℕ) (by_place : List Passed) (after : State)
+      → IsKeptRun words st flow tree s inputs steps ticks by_place after → KeepsWithin words st flow.profile flow s inputs longest.bound ticks
+  within law greatest steps ticks by_place after k = record {
+    steps = steps;
+    few = k.few;
+    keeps = states (take steps inputs) k.keeps;
+    ran = k.ran;
+    after = after;
+    runs = k.runs;
+    ticks_are = k.ticks_are;
+    at_most = at_most law greatest steps ticks by_place after k;
+  }
 
   none_keeps : KeepsNone words st flow tree s inputs → NoneKeeps words st flow.profile flow s inputs
   none_keeps none steps keeps = none steps (by_tree (take steps inputs) keeps)
 
   -- what is told of a followed run
-  pub told : RunLaw → IsGreatestCost flow st.loops bound → (after : State) (followed : Followed) (kept : Bool) (text : List ℕ)
-      → IsFollowed words st flow tree s inputs after followed → Tells source st bound followed kept text → TellsRun words st flow.profile flow s inputs source tree bound kept text
-  told law greatest after (Kept steps ticks) kept text is tells =
-      subst (λ (b : Bool). TellsRun words st flow.profile flow s inputs source tree bound b text) (sym tells.0)
-      (record { ticks = ticks; keeps = within law greatest steps ticks after is; text_is = tells.1 })
+  pub told : RunLaw → IsGreatestCost flow st.loops longest.bound → (after : State) (followed : Followed) (kept : Bool) (text : List ℕ)
+      → IsFollowed words st flow tree s inputs after followed → Tells source words st flow longest followed kept text → TellsRun words st flow.profile flow s inputs source tree longest kept text
+  told law greatest after (Kept steps ticks by_place) kept text is tells =
+      subst (λ (b : Bool). TellsRun words st flow.profile flow s inputs source tree longest b text) (sym tells.0)
+      (record {
+        ticks = ticks;
+        keeps = within law greatest steps ticks by_place.items after is;
+        passes = is.passes;
+        passes_are = is.passes_are;
+        table = tells.1.table;
+        table_is = tells.1.table_is is.passes is.tally_is;
+        text_is = tells.1.text_is;
+      })
   told law greatest after (Strayed steps at why) kept text is tells =
-      subst (λ (b : Bool). TellsRun words st flow.profile flow s inputs source tree bound b text) (sym tells.0)
+      subst (λ (b : Bool). TellsRun words st flow.profile flow s inputs source tree longest b text) (sym tells.0)
       (record {
         steps = steps;
         at = at;
@@ -85,6 +100,12 @@ module _ (words : Words) (st : Stated) (flow : Flow) (tree : Tree) (of : IsTreeO
         line_is = tells.1.1;
         text_is = tells.1.2;
       })
+
+-- a kept run is told of each place
+pub all_places : (words : Words) (st : Stated) (flow : Flow) (tree : Tree) (s : State) (inputs : List Input) (after : State) (followed : Followed)
+    → IsFollowed words st flow tree s inputs after followed → HasAllPlaces flow followed
+all_places words st flow tree s inputs after (Kept steps ticks by_place) is = is.tally_is.whole
+all_places words st flow tree s inputs after (Strayed steps at why) is = tt
 
 -- the machine that a file states has all its registers, and the prices of the graph
 pub machine_for : (source machine : List ℕ) (profile : Profile) (file : machine_file.Stated) (state : State) (flow : Flow) → flow.profile ≡ profile → length file.processor.registers ≡ 26
@@ -126,22 +147,23 @@ module _ (source statement machine : List ℕ) (profile : Profile) (words : Word
       subst (λ (p : Profile). IsFlowGraph words st p flow) (sym loops.graph.graph_is.profile_is)
       (subst (λ (w : Words). IsFlowGraph w st profile flow) own_words loops.graph.graph_is)
 
-  pub followed : (bound : ℕ) (file : machine_file.Stated) (state : State) (kept : Bool) (text : List ℕ)
-      → ((f : WalkFault) → f ≢ walk_fault.Memory → IsWalkFault flow tree f → ⊥) → IsGreatestCost flow st.loops bound → IsPlaced source machine profile file state
-      → IsJudgedRun words st flow tree source bound file state kept text → IsFollowReport source statement machine profile kept text
+  pub followed : (longest : Longest) (file : machine_file.Stated) (state : State) (kept : Bool) (text : List ℕ)
+      → ((f : WalkFault) → f ≢ walk_fault.Memory → IsWalkFault flow tree f → ⊥) → IsLongest flow tree longest → IsGreatestCost flow st.loops longest.bound
+      → IsPlaced source machine profile file state → IsJudgedRun words st flow tree source longest file state kept text → IsFollowReport source statement machine profile kept text
   unfolding accepted
-  followed bound file state kept text allowed greatest placed j = record {
+  followed longest file state kept text allowed is_longest greatest placed j = record {
     accepted = accepted source statement profile st flow tree loops of allowed;
     tree = tree;
-    bound = bound;
+    longest = longest;
     state = state;
     inputs = j.inputs;
     tree_of = of;
+    longest_is = is_longest;
     greatest = greatest;
     loaded = record { file = file; placed = placed; inputs_are = j.inputs_are };
     tells =
-        subst (λ (p : Profile). TellsRun loops.graph.words st p flow state j.inputs source tree bound kept text) loops.graph.graph_is.profile_is
-        (subst (λ (w : Words). TellsRun w st flow.profile flow state j.inputs source tree bound kept text) (sym own_words) j.tells);
+        subst (λ (p : Profile). TellsRun loops.graph.words st p flow state j.inputs source tree longest kept text) loops.graph.graph_is.profile_is
+        (subst (λ (w : Words). TellsRun w st flow.profile flow state j.inputs source tree longest kept text) (sym own_words) j.tells);
   }
 
 -- ## Refusals

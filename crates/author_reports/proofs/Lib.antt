@@ -1,3 +1,4 @@
+pub mod DifferenceLemmas
 pub mod ExplainLemmas
 pub mod FollowLemmas
 pub mod GraphLemmas

@@ -1,5 +1,5 @@
 -- Whether a machine's run keeps the statement of its handler, and where it does not. Our own format.
-use Rattle.std.specs.Prelude.{◌≡◌, ℕ, ◌≤◌, Bool, true, false, List, length, take, Option, Result}
+use Rattle.std.specs.Prelude.{◌≡◌, ℕ, ◌≤◌, Bool, true, false, List, ◌++◌, length, take, Option, Result}
 use Rattle.bus_ticks.specs.declared.profile.Profile.{Profile}
 use Rattle.loader.specs.Image.{Words}
 use Rattle.statement.specs.Stated.{Stated}
@@ -10,9 +10,14 @@ use Rattle.arm2_exec.specs.declared.machine.Ran.{Ran}
 use Rattle.flow_graph.specs.Flow.{Flow}
 use Rattle.loop_bounds.specs.Bounds.{IsGreatestCost}
 use Rattle.loop_bounds.specs.Tree.{Tree}
+use Rattle.longest_walk.specs.Folded.{unfolded}
+use Rattle.longest_walk.specs.Longest.{IsLongest}
+use Rattle.longest_walk.specs.declared.folded.Longest.{Longest}
 use Rattle.kept_runs.specs.Keeping.{IsStrayedRun}
+use Rattle.kept_runs.specs.Passing.{ArePasses, Pass}
 use Rattle.kept_runs.specs.declared.following.Unkept.{Unkept}
 use Rattle.report_output.specs.Answers.{Answers}
+use Rattle.author_reports.specs.Differences.{IsTable, compared_at}
 use Rattle.author_reports.specs.FollowText.{IsLineAt, kept_text, strayed_text, why_text}
 use Rattle.report_input.specs.Keeping.{KeepsStatement}
 use Rattle.report_input.specs.Placing.{IsFileRefused, IsLoadRefused, IsLoaded, IsRunnable}
@@ -39,11 +44,16 @@ module _ (words : Words) (stated : Stated) (profile : Profile) (flow : Flow) (st
   abbrev pub NoneKeeps : Type 0
   NoneKeeps = (steps : ℕ) → KeepsStatement words stated profile flow state (take steps inputs) → ⊥
 
-  module _ (source : List ℕ) (tree : Tree) (bound : ℕ) where
+  module _ (source : List ℕ) (tree : Tree) (longest : Longest) where
+    -- how many ticks the run takes, and where it and the greatest walk differ
     pub record TellsKept (text : List ℕ) : Type 0 where
       pub ticks : ℕ
-      pub keeps : KeepsWithin bound ticks
-      pub text_is : text ≡ kept_text ticks bound
+      pub keeps : KeepsWithin longest.bound ticks
+      pub passes : List Pass
+      pub passes_are : ArePasses flow state (take keeps.steps inputs) keeps.keeps.walk passes
+      pub table : List ℕ
+      pub table_is : IsTable source words (compared_at flow passes (unfolded longest.walk)) table
+      pub text_is : text ≡ kept_text ticks longest.bound ++ table
 
     -- after how many steps, where and why the first one strays
     pub record TellsStrayed (text : List ℕ) : Type 0 where
@@ -69,14 +79,15 @@ pub record IsFollowReport (source statement machine : List ℕ) (profile : Profi
     (text : List ℕ) : Type 0 where
   pub accepted : IsAccepted source statement profile
   pub tree : Tree
-  pub bound : ℕ
+  pub longest : Longest
   pub state : State
   pub inputs : List Input
   pub tree_of : IsTreeOf accepted.flow accepted.stated.loops tree
-  pub greatest : IsGreatestCost accepted.flow accepted.stated.loops bound
+  pub longest_is : IsLongest accepted.flow tree longest
+  pub greatest : IsGreatestCost accepted.flow accepted.stated.loops longest.bound
   pub loaded : IsLoaded source machine profile state inputs
   pub tells : TellsRun accepted.loops.graph.words accepted.stated profile accepted.flow state inputs source
-      tree bound kept text
+      tree longest kept text
 
 -- ## Refusals
 

@@ -1,3 +1,4 @@
+pub mod Differences
 pub mod DraftReport
 pub mod ExplainReport
 pub mod FollowReport

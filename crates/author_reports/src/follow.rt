@@ -1,27 +1,28 @@
 //! Whether a machine's run keeps the statement of its handler.
 
-ghost use Rattle.std.specs.Prelude.{◌≡◌, ◌≢◌, ℕ, List, Ok, IfErr, IfOk, OnOk, length, option_map};
-ghost use Rattle.std.specs.Prelude.{string_bytes};
+ghost use Rattle.std.specs.Prelude.{◌≡◌, ◌≢◌, ℕ, List, Ok, IfErr, IfOk, OnOk, Option, length, option_map};
 ghost use Rattle.bus_ticks.specs.declared.profile.Profile.{Profile};
 ghost use Rattle.flow_graph.specs.Graph.{IsFlowGraph};
 ghost use Rattle.kept_runs.specs.Judging.{IsMachineFor};
 ghost use Rattle.loader.specs.Labels.{address_of};
-ghost use Rattle.longest_walk.specs.Longest.{IsWalkFault};
+ghost use Rattle.longest_walk.specs.Longest.{IsLongest, IsWalkFault};
 ghost use Rattle.loop_bounds.specs.Bounds.{IsGreatestCost};
 ghost use Rattle.numbered_walks.specs.declared.fault.WalkFault.{WalkFault};
 ghost use Rattle.author_reports.specs.FollowReport.{FollowsRun, IsFollowRefused, IsFollowReport};
-ghost use Rattle.author_reports.specs.FollowWork.{IsJudgedRun, Tells};
+ghost use Rattle.author_reports.specs.FollowText.{IsLineAt, strayed_text, why_text};
+ghost use Rattle.author_reports.specs.FollowWork.{HasAllPlaces, IsJudgedRun, Tells, TellsKeptRun};
 ghost use Rattle.report_input.specs.Priced.{Priced};
 ghost use Rattle.report_input.specs.Report.{HasLoops, IsRefused, IsTreeOf};
 ghost use Rattle.report_input.specs.Source.{IsSourceFault, source_of};
 
+use crate::differences::{Words, differences};
 use crate::follow_text::{kept_text, line_of, strayed_text, why_text};
 use assembler::Assembly;
 use bus_ticks::Profile;
 use flow_graph::run_law;
-use kept_runs::{Followed, follow};
+use kept_runs::{Followed, Passed, Unkept, follow};
 use loader::Image;
-use longest_walk::longest;
+use longest_walk::{Longest, longest};
 use machine_file::MachineFile;
 use report_input::{Handler, Placed, handler_of, place_image, profile_of, read_source};
 use report_output::{Output, ReportFault, write_whole};
@@ -42,22 +43,24 @@ pub struct FollowedRun<'a> {
 #[derive(Drop)]
 struct Judged {
     kept: bool,
-    text: String,
+    text: Vec<u8>,
 }
 
-/// A handler that was read, with its source and the greatest cost of its walks, in ticks.
+/// A handler that was read, with its source and its greatest walk.
 #[derive(Clone, Copy)]
 struct Bounded<'a> {
     source: &'a [u8],
     image: &'a Image,
     handler: &'a Handler,
-    bound: u64,
+    longest: &'a Longest,
 }
 
-// The greatest cost of the handler's walks.
-fn bound_of(alloc: Global, handler: &Handler) -> Result<u64, ReportFault>
+// The greatest of the handler's walks.
+fn longest_of(alloc: Global, handler: &Handler) -> Result<Longest, ReportFault>
     requires { IsTreeOf handler.now.graph handler.now.statement.loops handler.now.tree }
-    ensures greatest { IfOk result (IsGreatestCost handler.now.graph handler.now.statement.loops) }
+    ensures longest { IfOk result (IsLongest handler.now.graph handler.now.tree) }
+    ensures greatest { IfOk result
+        (λ l. IsGreatestCost handler.now.graph handler.now.statement.loops l.bound) }
     ensures allowed { OnOk result
         ((fault : WalkFault) → fault ≢ WalkFault.Memory → IsWalkFault handler.now.graph handler.now.tree fault
         → ⊥) }
@@ -66,25 +69,72 @@ fn bound_of(alloc: Global, handler: &Handler) -> Result<u64, ReportFault>
         → IfErr result (λ e. (e ≢ ReportFault.Device) × IsRefused source statement profile e) }
 {
     let found = longest(alloc, &handler.graph, &handler.tree)?;
-    Ok(found.bound)
+    Ok(found)
+}
+
+// The text on a run that is kept.
+fn kept_run(
+    alloc: Global,
+    bounded: Bounded<'_>,
+    ticks: u128,
+    by_place: &[Passed],
+) -> Result<Vec<u8>, ReportFault>
+    requires { length by_place.now ≡ length bounded.handler.now.graph.places }
+    ensures told { IfOk result
+        (λ text. TellsKeptRun bounded.entry.source.now bounded.entry.image.now
+        bounded.entry.handler.now.graph bounded.entry.longest.now ticks by_place.now text.items) }
+    ensures fault { IfErr result (IsSourceFault bounded.entry.source.now) }
+{
+    let words = Words {
+        source: bounded.source,
+        image: bounded.image,
+    };
+    let graph = &bounded.handler.graph;
+    let table = differences(alloc, words, graph, by_place, &bounded.longest.walk)?;
+    let line = kept_text(alloc, ticks, bounded.longest.bound)?;
+    let mut text = Vec::from_slice(alloc, line.as_bytes())?;
+    text.extend_from_slice(&table)?;
+    Ok(text)
+}
+
+// The text on a run whose step after so many strays.
+fn strayed_run(
+    alloc: Global,
+    bounded: Bounded<'_>,
+    steps: u64,
+    at: u32,
+    why: Unkept,
+) -> Result<Vec<u8>, ReportFault>
+    ensures told { IfOk result
+        (λ text. (line : Option ℕ) × IsLineAt bounded.entry.source.now at line
+        × (text.items ≡ strayed_text steps at line (why_text bounded.entry.handler.now.statement at why))) }
+    ensures fault { IfErr result (IsSourceFault bounded.entry.source.now) }
+{
+    let line = line_of(alloc, bounded.source, at)?;
+    let why = why_text(alloc, &bounded.handler.statement, at, why)?;
+    let text = strayed_text(alloc, steps, at, line, why.as_str())?;
+    Ok(Vec::from_slice(alloc, text.as_bytes())?)
 }
 
 // The answer on a run that was followed.
-fn told(alloc: Global, bounded: Bounded<'_>, followed: Followed) -> Result<Judged, ReportFault>
+fn told(alloc: Global, bounded: Bounded<'_>, followed: &Followed) -> Result<Judged, ReportFault>
+    requires { HasAllPlaces bounded.handler.now.graph followed.now }
     ensures told { IfOk result
-        (λ j. Tells bounded.entry.source.now bounded.entry.handler.now.statement bounded.entry.bound
-        followed j.kept (string_bytes j.text)) }
+        (λ j. Tells bounded.entry.source.now bounded.entry.image.now bounded.entry.handler.now.statement
+        bounded.entry.handler.now.graph bounded.entry.longest.now followed.now j.kept j.text.items) }
     ensures fault { IfErr result (IsSourceFault bounded.entry.source.now) }
 {
     match followed {
-        Followed::Kept { ticks, .. } => {
-            let text = kept_text(alloc, ticks, bounded.bound)?;
+        Followed::Kept {
+            ticks,
+            by_place,
+            ..
+        } => {
+            let text = kept_run(alloc, bounded, *ticks, by_place)?;
             Ok(Judged { kept: true, text })
         }
         Followed::Strayed { steps, at, why } => {
-            let line = line_of(alloc, bounded.source, at)?;
-            let why = why_text(alloc, &bounded.handler.statement, at, why)?;
-            let text = strayed_text(alloc, steps, at, line, why.as_str())?;
+            let text = strayed_run(alloc, bounded, *steps, *at, *why)?;
             Ok(Judged { kept: false, text })
         }
     }
@@ -101,12 +151,12 @@ fn judged_run(
     requires tree { IsTreeOf bounded.handler.now.graph bounded.handler.now.statement.loops
         bounded.handler.now.tree }
     requires greatest { IsGreatestCost bounded.handler.now.graph bounded.handler.now.statement.loops
-        bounded.bound }
+        bounded.longest.now.bound }
     requires machine { IsMachineFor bounded.handler.now.graph placed.old.machine }
     ensures judged { IfOk result
         (λ j. IsJudgedRun bounded.entry.image.now bounded.entry.handler.now.statement
         bounded.entry.handler.now.graph bounded.entry.handler.now.tree bounded.entry.source.now
-        bounded.entry.bound placed.old.file placed.old.machine j.kept (string_bytes j.text)) }
+        bounded.entry.longest.now placed.old.file placed.old.machine j.kept j.text.items) }
     ensures fault { IfErr result (IsSourceFault bounded.entry.source.now) }
 {
     let inputs = placed.file.inputs(alloc)?;
@@ -118,7 +168,7 @@ fn judged_run(
     };
     run_law();
     let followed = follow(alloc, handler, &mut placed.machine, &inputs)?;
-    told(alloc, bounded, followed)
+    told(alloc, bounded, &followed)
 }
 
 // A machine file states all registers but R15.
@@ -142,19 +192,19 @@ fn handler_run(
     requires tree { IsTreeOf handler.now.graph handler.now.statement.loops handler.now.tree }
     ensures judged { IfOk result
         (λ j. IsFollowReport run.entry.source.now run.entry.statement.now run.entry.machine.now profile.now
-        j.kept (string_bytes j.text)) }
+        j.kept j.text.items) }
     ensures fault { IfErr result
         (λ e. (e ≢ ReportFault.Device) × IsFollowRefused run.entry.source.now run.entry.statement.now
         run.entry.machine.now profile.now e) }
 {
-    let bound = bound_of(alloc, handler)?;
+    let longest = longest_of(alloc, handler)?;
     let mut placed = place_image(alloc, said, run.machine, *profile)?;
     states_registers(&placed.file);
     let bounded = Bounded {
         source: run.source,
         image: &said.image,
         handler,
-        bound,
+        longest: &longest,
     };
     judged_run(alloc, bounded, &mut placed)
 }
@@ -162,7 +212,7 @@ fn handler_run(
 fn source_run(alloc: Global, run: FollowedRun<'_>, profile: &Profile) -> Result<Judged, ReportFault>
     ensures judged { IfOk result
         (λ j. IsFollowReport run.entry.source.now run.entry.statement.now run.entry.machine.now profile.now
-        j.kept (string_bytes j.text)) }
+        j.kept j.text.items) }
     ensures fault { IfErr result
         (λ e. (e ≢ ReportFault.Device) × IsFollowRefused run.entry.source.now run.entry.statement.now
         run.entry.machine.now profile.now e) }
@@ -182,7 +232,7 @@ fn priced_run<O: Output>(
         profile.now out.old out.new result }
 {
     let judged = source_run(alloc, run, profile)?;
-    match write_whole(out, judged.text.as_bytes()) {
+    match write_whole(out, &judged.text) {
         Ok(()) => Ok(judged.kept),
         Err(_) => Err(ReportFault::Device),
     }
@@ -194,9 +244,10 @@ fn priced_run<O: Output>(
 ///
 /// `true` exactly where the run keeps the statement: its steps, some number of the file's, are a walk from
 /// the entry to Exit that keeps the loop bounds. Then its ticks are at most the bound of
-/// [`bound_report`](crate::bound_report), and the line that is written says how many they are, and how much
-/// less. Else the line says which step is the first that does not keep it, by its number from 0, its address
-/// and its line of the source, and why.
+/// [`bound_report`](crate::bound_report), and the first line that is written says how many they are, and how
+/// much less. A table follows of the words at which the run and a greatest walk differ, in how often they pass
+/// or in the ticks that they take there, if they differ. Else the line says which step is the first that does
+/// not keep it, by its number from 0, its address and its line of the source, and why.
 ///
 /// # Errors
 ///

@@ -2,6 +2,7 @@
 //! are followed.
 #![tactic(auto)]
 
+mod differences;
 mod draft;
 mod explain;
 mod follow;

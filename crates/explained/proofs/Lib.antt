@@ -5,8 +5,8 @@ mod ColumnLaws
 mod IdleLaws
 mod ImageLaws
 mod PricingLaws
-mod RangeLaws
-mod RowLaws
+pub mod RangeLaws
+pub mod RowLaws
 mod StandLaws
 mod StartLaws
 mod SumLaws

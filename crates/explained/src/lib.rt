@@ -31,3 +31,4 @@ pub use pricing::class_name;
 pub use sections::{StatedGraph, image_assumptions, section, source_assumptions};
 pub use source::source_table;
 pub use starts::TimedWalk;
+pub use tally::{Costs, Taken, Tally};

@@ -13,23 +13,23 @@ use walk_counts::edge_counts;
 
 /// The least and the greatest cost in ticks of the edges that a walk takes from an instruction.
 #[derive(Clone, Copy)]
-pub(crate) struct Costs {
-    pub(crate) least: u32,
-    pub(crate) greatest: u32,
+pub struct Costs {
+    pub least: u32,
+    pub greatest: u32,
 }
 
 /// How often a walk passes an instruction, and what that costs in ticks, each told up to 2^64 - 1; and what it
 /// costs each time, unless the walk never passes it.
 #[derive(Clone, Copy)]
-pub(crate) struct Taken {
-    pub(crate) passes: u64,
-    pub(crate) ticks: u64,
-    pub(crate) costs: Option<Costs>,
+pub struct Taken {
+    pub passes: u64,
+    pub ticks: u64,
+    pub costs: Option<Costs>,
 }
 
 /// What a walk takes at each address where the graph has a place.
 #[derive(Drop)]
-pub(crate) struct Tally {
+pub struct Tally {
     by_address: BTreeMap<u32, Taken>,
 }
 
@@ -122,11 +122,7 @@ impl Tally {
 
     /// What the walk takes at the graph's places, in time linear in the walk as it is folded.
     /// `AllocError`: an allocation failed.
-    pub(crate) fn of_walk(
-        alloc: Global,
-        graph: &Graph,
-        walk: &FoldedWalk,
-    ) -> Result<Tally, AllocError>
+    pub fn of_walk(alloc: Global, graph: &Graph, walk: &FoldedWalk) -> Result<Tally, AllocError>
         ensures { IfOk result (IsTally graph.now (unfolded walk.now)) }
     {
         let counts = edge_counts(alloc, graph, walk)?;
@@ -138,7 +134,7 @@ impl Tally {
     }
 
     /// What the walk takes at the address; None where the graph has no place.
-    pub(crate) fn at(&self, address: u32) -> Option<Taken>
+    pub fn at(&self, address: u32) -> Option<Taken>
         ensures { result ≡ get nat_cmp self.now.by_address address }
     {
         self.by_address.get(&address).copied()

@@ -59,7 +59,8 @@ pub(crate) fn follow_run(alloc: Global, files: &Files) -> Result<Followed, Unjud
     };
     let mut told = MemoryOutput::with_room(alloc, 0)?;
     let kept = follow_report(alloc, run, None, &mut told)?;
-    let line = str::from_utf8(told.bytes()).map_err(|_| Unjudged::Text)?;
+    let text = str::from_utf8(told.bytes()).map_err(|_| Unjudged::Text)?;
+    let line = text.lines().next().ok_or(Unjudged::Text)?;
     if kept {
         return kept_in(line).ok_or(Unjudged::Text);
     }

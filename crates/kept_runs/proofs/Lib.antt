@@ -6,4 +6,5 @@ pub mod PlaceEdges
 pub mod StayLemmas
 pub mod OneStep
 pub mod StepTaken
+pub mod PassLemmas
 pub mod SoFar

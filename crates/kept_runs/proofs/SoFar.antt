@@ -47,7 +47,9 @@ use Rattle.kept_runs.specs.Judging.{IsMachineFor, IsPlaceFor}
 use Rattle.kept_runs.specs.Keeping.{ComesTo, IsHandler, IsKeptRun, IsStrayedRun, IsUnkept, KeepsNone, StandsAfter}
 use Rattle.kept_runs.specs.Stays.{Tells}
 use Rattle.kept_runs.proofs.OneStep.{lands, one_edge_of}
-use Rattle.kept_runs.proofs.StepTaken.{leaves_number, leaves_place}
+use Rattle.kept_runs.specs.Passing.{ArePasses, IsPass, IsTally, Pass}
+use Rattle.kept_runs.proofs.PassLemmas.{fresh_tally, none_passed, one_passed, tally_more}
+use Rattle.kept_runs.proofs.StepTaken.{index_in, leaves_number, leaves_place, place_is}
 
 -- ## Lists
 
@@ -91,6 +93,10 @@ module _ (words : Words) (st : Stated) (flow : Flow) (tree : Tree) where
     pub told : Tells tree.spans x.turns.items x.number (edges_of tree.edges numbers)
     pub follows : (rest : List Input) (more : List Edge) → Follows words st flow.profile now rest more
         → Follows words st flow.profile start (take n inputs ++ rest) (steps_of flow.edges numbers ++ more)
+    pub passes : List Pass
+    pub passed : (rest : List Input) (more : List Edge) (later : List Pass) → ArePasses flow now rest more later
+        → ArePasses flow start (take n inputs ++ rest) (steps_of flow.edges numbers ++ more) (passes ++ later)
+    pub tally_is : IsTally flow passes x.by_place.items
     pub ran : Ran
     pub runs : (rest : List Input) → R.SoFar start (take n inputs ++ rest) ran now rest
     pub going : ran.stopped ≡ None
@@ -130,6 +136,9 @@ module _ (words : Words) (st : Stated) (flow : Flow) (tree : Tree) (well : IsWel
       kept = λ s has. none_in s;
     };
     follows = λ rest more follows. subst (λ (is : List Input). Follows words st flow.profile start is more) (sym (front rest)) follows;
+    passes = [];
+    passed = λ rest more later are. subst (λ (is : List Input). ArePasses flow start is more later) (sym (front rest)) are;
+    tally_is = none_passed flow x.by_place.items (length flow.places) fresh.tally_is refl;
     ran = record { steps = 0; ticks = 0; elapsed = 0; stopped = None };
     runs = λ rest more after runs.
         subst (λ (is : List Input). Runs start is (R.added (record { steps = 0; ticks = 0; elapsed = 0; stopped = None }) more) after) (sym (front rest))
@@ -157,6 +166,7 @@ module _ (words : Words) (st : Stated) (flow : Flow) (tree : Tree) (well : IsWel
         known = omega (arith, some, number);
         at = ([], ap (place_in flow tree) number ∙ t.entry_first ∙ handler.graph_is.entry_is ∙ ap (λ (a : ℕ). At [] a) (sym at));
         room = ap length fresh.turns_are ∙ length-replicate (exit + 1) 0 ∙ ap (λ (n : ℕ). n + 1) same;
+        tally = fresh_tally flow x exit fresh.tally_is same;
       }
 
   -- ## How far it has come
@@ -180,6 +190,13 @@ module _ (words : Words) (st : Stated) (flow : Flow) (tree : Tree) (well : IsWel
         subst (λ (is : List Input). Follows words st flow.profile start is (steps_of flow.edges so_far.numbers)) all_is
         (subst (λ (v : List Edge). Follows words st flow.profile start (take n inputs ++ []) v) (append-nil (steps_of flow.edges so_far.numbers))
         (so_far.follows [] [] tt))
+
+    come_passed : ArePasses flow start (take x.steps inputs) (steps_of flow.edges so_far.numbers) so_far.passes
+    come_passed =
+        subst (λ (is : List Input). ArePasses flow start is (steps_of flow.edges so_far.numbers) so_far.passes) all_is
+        (subst (λ (v : List Edge). ArePasses flow start (take n inputs ++ []) v so_far.passes) (append-nil (steps_of flow.edges so_far.numbers))
+        (subst (λ (ps : List Pass). ArePasses flow start (take n inputs ++ []) (steps_of flow.edges so_far.numbers ++ []) ps) (append-nil so_far.passes)
+        (so_far.passed [] [] [] refl)))
 
     come_runs : Runs start (take x.steps inputs) so_far.ran now
     come_runs = subst (λ (is : List Input). Runs start is so_far.ran now) all_is (R.at_end start (take n inputs ++ []) so_far.ran now [] (so_far.runs []) refl so_far.going)
@@ -336,6 +353,20 @@ module _ (words : Words) (st : Stated) (flow : Flow) (tree : Tree) (well : IsWel
       ends : (step_at flow.edges goes.edge).to ≡ place_in flow tree y.number
       ends = sym (edge_same flow tree well t goes.edge goes.next.known).to_is ∙ ap (place_in flow tree) (sym goes.number_is)
 
+      -- the step, by the place where it begins
+      abbrev pass : Pass
+      pass = record { place = get_or tree.order x.number 0; ticks = goes.told.ticks }
+
+      place_known : get_or tree.order x.number 0 < length flow.places
+      place_known = index_in words st flow tree well t x now can
+
+      is_pass : IsPass flow (step_at flow.edges goes.edge) goes.told pass
+      is_pass = record {
+        known = place_known;
+        begins = sym (leaves_place words st flow tree well t x now can goes.edge goes.next.known goes.next.from ∙ place_is words st flow tree well t x now can);
+        ticks_are = refl;
+      }
+
       not_stopped : (w : Why) → goes.told.kind ≡ Stopped w → ⊥
       not_stopped w is = let both : Plain ≡ Stopped w = sym goes.next.is_edge_of.executes.plain ∙ is in cc
 
@@ -370,6 +401,17 @@ module _ (words : Words) (st : Stated) (flow : Flow) (tree : Tree) (well : IsWel
             (subst (λ (v : List Edge). Follows words st flow.profile start (take n inputs ++ i ∷ rest) v)
             (sym (next_to (steps_of flow.edges so_far.numbers) (step_at flow.edges goes.edge) more) ∙ ap (λ (v : List Edge). v ++ more) (sym step_up))
             (so_far.follows (i ∷ rest) (step_at flow.edges goes.edge ∷ more) (goes.told, after, goes.next.is_edge_of, follows)));
+        passes = so_far.passes ++ pass ∷ [];
+        passed = λ rest more later are.
+            subst (λ (is : List Input). ArePasses flow start is (steps_of flow.edges (so_far.numbers ++ goes.edge ∷ []) ++ more) ((so_far.passes ++ pass ∷ []) ++ later)) (sym (more_is rest))
+            (subst (λ (v : List Edge). ArePasses flow start (take n inputs ++ i ∷ rest) v ((so_far.passes ++ pass ∷ []) ++ later))
+            (sym (next_to (steps_of flow.edges so_far.numbers) (step_at flow.edges goes.edge) more) ∙ ap (λ (v : List Edge). v ++ more) (sym step_up))
+            (subst (λ (ps : List Pass). ArePasses flow start (take n inputs ++ i ∷ rest) (steps_of flow.edges so_far.numbers ++ step_at flow.edges goes.edge ∷ more) ps)
+            (sym (next_to so_far.passes pass later))
+            (so_far.passed (i ∷ rest) (step_at flow.edges goes.edge ∷ more) (pass ∷ later)
+            (goes.told, after, goes.next.is_edge_of.executes.step, (pass, later, is_pass, are, refl)))));
+        tally_is =
+            one_passed flow x.by_place.items y.by_place.items (get_or tree.order x.number 0) goes.told.ticks can.tally.whole place_known goes.tally_is so_far.passes so_far.tally_is;
         ran = record { steps = so_far.ran.steps + 1; ticks = so_far.ran.ticks + goes.told.ticks; elapsed = so_far.ran.elapsed + (goes.told.ticks + now.profile.burst * i.bursts); stopped = so_far.ran.stopped };
         runs = λ rest.
             subst (λ (is : List Input). R.SoFar start is (record { steps = so_far.ran.steps + 1; ticks = so_far.ran.ticks + goes.told.ticks; elapsed = so_far.ran.elapsed + (goes.told.ticks + now.profile.burst * i.bursts); stopped = so_far.ran.stopped }) after rest) (sym (more_is rest))
@@ -398,11 +440,12 @@ module _ (words : Words) (st : Stated) (flow : Flow) (tree : Tree) (well : IsWel
             at = subst (λ (p : Place). IsPlaceFor p after) ends
                 (at_place (step_at flow.edges goes.edge).to refl goes.next.is_edge_of.taken.to (λ exit. inner (sym ends ∙ exit)));
             room = goes.room;
+            tally = tally_more flow x y (get_or tree.order x.number 0) goes.told.ticks place_known can.tally goes.tally_is goes.steps_are goes.ticks_are;
           }
 
   -- ## The end
 
-  pub left : (n : ℕ) (x : Follower) (now : State) → SoFar words st flow tree start inputs n x now → n ≤ length inputs → x.number ≡ length flow.places → IsKeptRun words st flow tree start inputs x.steps x.ticks now
+  pub left : (n : ℕ) (x : Follower) (now : State) → SoFar words st flow tree start inputs n x now → n ≤ length inputs → x.number ≡ length flow.places → IsKeptRun words st flow tree start inputs x.steps x.ticks x.by_place.items now
   left n x now so_far few at_exit =
       let end : place_in flow tree x.number ≡ Exit = ap (place_in flow tree) at_exit ∙ exit_place flow tree well t in
       record {
@@ -417,6 +460,9 @@ module _ (words : Words) (st : Stated) (flow : Flow) (tree : Tree) (well : IsWel
         runs = come_runs n x now so_far;
         steps_are = so_far.steps_are;
         ticks_are = so_far.ticks_are;
+        passes = so_far.passes;
+        passes_are = come_passed n x now so_far;
+        tally_is = so_far.tally_is;
       }
 
   -- the inputs end inside the handler

@@ -26,6 +26,7 @@ use Rattle.kept_runs.specs.declared.following.Unkept.TheVariants.{TurnedBack}
 use Rattle.kept_runs.specs.declared.judging.Stray.{Stray}
 use Rattle.kept_runs.specs.Following.{AreHeadersOf, CanGo, CannotGo, Goes, IsNext, Keeps, Halts}
 use Rattle.kept_runs.specs.Judging.{StandsAt, Strays, Takes, TakesNone}
+use Rattle.kept_runs.specs.Passing.{counted}
 use Rattle.kept_runs.specs.Stays.{IsOver, Tells, Turns, header_at, turned}
 use Rattle.kept_runs.proofs.OneStep.{one_edge_of}
 use Rattle.kept_runs.proofs.StayLemmas.{over, told_on}
@@ -126,14 +127,16 @@ module _ (words : Words) (st : Stated) (flow : Flow) (tree : Tree) (well : IsWel
           let known = are.are.known (edge_at tree.edges taken.edge).to span is_over.header in
           record { cannot = over_goes span is_over; is = (taken.stepped, taken.edge, next, known.0, sym known.1) }
 
-      pub goes : (new : Follower) → Turns headers (edge_at tree.edges taken.edge) x.turns.items new.turns.items → new.number ≡ (edge_at tree.edges taken.edge).to → new.steps ≡ x.steps + 1 → new.ticks ≡ x.ticks + taken.stepped.ticks → Goes words st flow tree x new s i after
-      goes new turns number steps ticks = record {
+      pub goes : (new : Follower) → Turns headers (edge_at tree.edges taken.edge) x.turns.items new.turns.items → new.number ≡ (edge_at tree.edges taken.edge).to → new.steps ≡ x.steps + 1 → new.ticks ≡ x.ticks + taken.stepped.ticks
+          → new.by_place.items ≡ counted x.by_place.items (get_or tree.order x.number 0) taken.stepped.ticks → Goes words st flow tree x new s i after
+      goes new turns number steps ticks tally = record {
         edge = taken.edge;
         told = taken.stepped;
         next = next;
         number_is = number;
         steps_are = steps;
         ticks_are = ticks;
+        tally_is = tally;
         small = takes.small;
         machine = takes.machine;
         room = ap length turns.turns_are ∙ turned_length (header_at headers (edge_at tree.edges taken.edge).to) (edge_at tree.edges taken.edge) x.turns.items ∙ can.room;

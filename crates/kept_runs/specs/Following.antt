@@ -1,6 +1,6 @@
 -- Where a run stands that is followed, and one step of it.
 use Rattle.std.specs.Prelude.{◌≡◌, ℕ, ◌+◌, ◌<◌, ◌≤◌, ◌^◌, List, [], ◌∷◌, ◌++◌, length, replicate, Option}
-use Rattle.std.specs.Prelude.{Contains}
+use Rattle.std.specs.Prelude.{Contains, slice_index, slice_index_or}
 use Rattle.loader.specs.Image.{Words}
 use Rattle.statement.specs.Stated.{Stated}
 use Rattle.arm2_exec.specs.State.{State}
@@ -19,6 +19,7 @@ use Rattle.kept_runs.specs.declared.following.Unkept.{Unkept}
 use Rattle.kept_runs.specs.declared.following.Unkept.TheVariants as unkept
 use Rattle.kept_runs.specs.declared.following.Unkept.TheVariants.{NotAtEntry, TurnedBack, Unfinished}
 use Rattle.kept_runs.specs.Judging.{IsMachineFor, IsPlaceFor, Strays}
+use Rattle.kept_runs.specs.Passing.{counted, nothing}
 use Rattle.kept_runs.specs.Stays.{Tells}
 
 -- the span that begins at each number of a place, and at that of Exit
@@ -32,6 +33,15 @@ pub record IsFresh (exit : ℕ) (x : Follower) : Type 0 where
   pub turns_are : x.turns.items ≡ replicate (exit + 1) 0
   pub steps_are : x.steps ≡ 0
   pub ticks_are : x.ticks ≡ 0
+  pub tally_is : x.by_place.items ≡ replicate exit nothing
+
+-- the tally has each place of the graph, and no more passes and ticks of one than of all
+pub record IsTallyOf (flow : Flow) (x : Follower) : Type 0 where
+  pub whole : length x.by_place.items ≡ length flow.places
+  pub passes : (place : ℕ) → place < length flow.places
+      → (slice_index_or x.by_place.items place nothing).passes ≤ x.steps
+  pub ticks : (place : ℕ) → place < length flow.places
+      → (slice_index_or x.by_place.items place nothing).ticks ≤ x.ticks
 
 -- a step may be made: the run stands at a place of the graph, at the machine's address
 pub record CanGo (flow : Flow) (tree : Tree) (x : Follower) (s : State) : Type 0 where
@@ -39,6 +49,7 @@ pub record CanGo (flow : Flow) (tree : Tree) (x : Follower) (s : State) : Type 0
   pub known : x.number < length flow.places
   pub at : IsPlaceFor (place_in flow tree x.number) s
   pub room : length x.turns.items ≡ length flow.places + 1
+  pub tally : IsTallyOf flow x
 
 -- a walk that stays within the bounds
 abbrev pub Keeps : Tree → List NumberedEdge → Type 0
@@ -60,6 +71,8 @@ module _ (words : Words) (st : Stated) (flow : Flow) (tree : Tree) where
     pub number_is : new.number ≡ (edge_at tree.edges edge).to
     pub steps_are : new.steps ≡ old.steps + 1
     pub ticks_are : new.ticks ≡ old.ticks + told.ticks
+    pub tally_is : new.by_place.items
+        ≡ counted old.by_place.items (slice_index tree.order old.number) told.ticks
     pub small : told.ticks < 2 ^ 16
     pub machine : IsMachineFor flow after
     pub room : length new.turns.items ≡ length flow.places + 1

@@ -24,7 +24,9 @@ use Rattle.kept_runs.specs.declared.following.Unkept.{Unkept}
 use Rattle.kept_runs.specs.declared.following.Unkept.TheVariants as unkept
 use Rattle.kept_runs.specs.declared.following.Unkept.TheVariants.{NotAtEntry, TurnedBack, Unfinished}
 use Rattle.kept_runs.specs.declared.judging.Stray.{Stray}
+use Rattle.kept_runs.specs.declared.tally.Passed.{Passed}
 use Rattle.kept_runs.specs.Judging.{IsPlaceFor, Strays}
+use Rattle.kept_runs.specs.Passing.{ArePasses, IsTally, Pass}
 
 -- the graph is that of the words and the statement, and the tree that of its loops
 pub record IsHandler (words : Words) (st : Stated) (flow : Flow) (tree : Tree) : Type 0 where
@@ -46,14 +48,18 @@ module _ (words : Words) (st : Stated) (flow : Flow) (tree : Tree) where
     pub kept : KeepsTree tree walk
     pub follows : Follows words st flow.profile s inputs walk
 
-  -- so many of the inputs make such a run, of so many ticks
-  pub record IsKeptRun (s : State) (inputs : List Input) (steps ticks : ℕ) (after : State) : Type 0 where
+  -- so many of the inputs make such a run, of so many ticks, which does this at each place
+  pub record IsKeptRun (s : State) (inputs : List Input) (steps ticks : ℕ) (by_place : List Passed)
+      (after : State) : Type 0 where
     pub few : steps ≤ length inputs
     pub keeps : KeepsTo s (take steps inputs)
     pub ran : Ran
     pub runs : Runs s (take steps inputs) ran after
     pub steps_are : ran.steps ≡ steps
     pub ticks_are : ran.ticks ≡ ticks
+    pub passes : List Pass
+    pub passes_are : ArePasses flow s (take steps inputs) keeps.walk passes
+    pub tally_is : IsTally flow passes by_place
 
   -- ## Runs that do not
 
@@ -119,5 +125,6 @@ module _ (words : Words) (st : Stated) (flow : Flow) (tree : Tree) where
     pub is : IsUnkept s inputs steps after why
 
   abbrev pub IsFollowed : State → List Input → State → Followed → Type 0
-  IsFollowed s inputs after (Kept steps ticks) = IsKeptRun s inputs steps ticks after
+  IsFollowed s inputs after (Kept steps ticks by_place) =
+      IsKeptRun s inputs steps ticks by_place.items after
   IsFollowed s inputs after (Strayed steps at why) = IsStrayedRun s inputs steps at why after

@@ -5,3 +5,4 @@ pub mod Judging
 pub mod Stays
 pub mod Following
 pub mod Keeping
+pub mod Passing

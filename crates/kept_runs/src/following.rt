@@ -8,6 +8,7 @@ ghost use Rattle.kept_runs.specs.Keeping.{IsFollowed, IsHandler};
 use crate::handler::Handler;
 use crate::judging::{Stray, judge_step};
 use crate::stays::{headers, turn};
+use crate::tally::{Passed, count};
 use arm2_effect::address_of;
 use arm2_exec::{Input, Machine, Reg};
 use numbered_walks::Span;
@@ -27,7 +28,7 @@ pub enum Unkept {
 }
 
 /// Whether a run keeps the statement of its handler.
-#[derive(Clone, Copy)]
+#[derive(Drop)]
 pub enum Followed {
     /// It goes along a walk from the entry to Exit that keeps the loop bounds.
     Kept {
@@ -35,6 +36,8 @@ pub enum Followed {
         steps: u64,
         /// Their processor ticks, without those of DMA bursts.
         ticks: u128,
+        /// What it does at each place of the graph, in the order of `graph.places()`.
+        by_place: Vec<Passed>,
     },
     /// It does not.
     Strayed {
@@ -56,6 +59,8 @@ pub(crate) struct Follower {
     pub(crate) steps: u64,
     /// Their processor ticks.
     pub(crate) ticks: u128,
+    /// What it did at each place.
+    pub(crate) by_place: Vec<Passed>,
 }
 
 // Where the machine stands, in bytes.
@@ -75,6 +80,7 @@ fn start(alloc: Global, exit: usize) -> Result<Follower, AllocError>
         turns: vec![in alloc; 0; exit + 1]?,
         steps: 0,
         ticks: 0,
+        by_place: vec![in alloc; Passed::NOTHING; exit]?,
     })
 }
 
@@ -110,33 +116,50 @@ fn take_step(
     follower.number = edge.to;
     follower.steps += 1;
     follower.ticks += u128::from(taken.stepped.ticks);
+    count(&mut follower.by_place, place, taken.stepped.ticks);
     None
+}
+
+// A run that has left the handler.
+fn kept(follower: Follower) -> Followed
+    ensures { result ≡ Followed.Kept follower.steps follower.ticks follower.by_place }
+{
+    let Follower {
+        steps,
+        ticks,
+        by_place,
+        ..
+    } = follower;
+    Followed::Kept {
+        steps,
+        ticks,
+        by_place,
+    }
 }
 
 // Steps, one for each input, until the handler is left.
 fn follow_from(
     handler: Handler<'_>,
     headers: &[Option<Span>],
-    follower: &mut Follower,
+    mut follower: Follower,
     machine: &mut Machine,
     inputs: &[Input],
 ) -> Followed
     requires handler { IsHandler handler.image.now handler.statement.now handler.graph.now handler.tree.now }
     requires headers { AreHeadersOf handler.graph.now handler.tree.now headers.now }
-    requires fresh { IsFresh (length handler.graph.now.places) follower.old }
-    requires can { CanGo handler.graph.now handler.tree.now follower.old machine.old }
+    requires fresh { IsFresh (length handler.graph.now.places) follower }
+    requires can { CanGo handler.graph.now handler.tree.now follower machine.old }
     ensures { IsFollowed handler.entry.image.now handler.entry.statement.now handler.entry.graph.now
         handler.entry.tree.now machine.old inputs.now machine.new result }
 {
     let exit = handler.graph.places().len();
     for input in inputs {
         let (steps, at) = (follower.steps, address(machine));
-        if let Some(why) = take_step(handler, headers, follower, machine, *input) {
+        if let Some(why) = take_step(handler, headers, &mut follower, machine, *input) {
             return Followed::Strayed { steps, at, why };
         }
         if follower.number == exit {
-            let (steps, ticks) = (follower.steps, follower.ticks);
-            return Followed::Kept { steps, ticks };
+            return kept(follower);
         }
     }
     Followed::Strayed {
@@ -174,7 +197,7 @@ pub fn follow(
 {
     let exit = handler.graph.places().len();
     let headers = headers(alloc, handler.tree.spans(), exit)?;
-    let mut follower = start(alloc, exit)?;
+    let follower = start(alloc, exit)?;
     let at = address(machine);
     if at != handler.statement.entry() {
         return Ok(Followed::Strayed {
@@ -183,5 +206,5 @@ pub fn follow(
             why: Unkept::NotAtEntry,
         });
     }
-    Ok(follow_from(handler, &headers, &mut follower, machine, inputs))
+    Ok(follow_from(handler, &headers, follower, machine, inputs))
 }

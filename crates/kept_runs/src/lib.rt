@@ -11,9 +11,11 @@ mod judging;
 mod reading;
 mod registers;
 mod stays;
+mod tally;
 mod transfers;
 
 pub use following::{Followed, Unkept, follow};
 pub use handler::Handler;
 pub use judging::{Stray, Taken, judge_step};
+pub use tally::Passed;
 pub use transfers::Access;

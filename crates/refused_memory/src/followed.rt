@@ -56,7 +56,7 @@ fn inputs() -> [Input; 12] {
 
 fn is_kept(found: &Followed) -> bool {
     match found {
-        Followed::Kept { steps, ticks } => (*steps, *ticks) == KEPT,
+        Followed::Kept { steps, ticks, .. } => (*steps, *ticks) == KEPT,
         Followed::Strayed { .. } => false,
     }
 }

@@ -1,4 +1,3 @@
-use Rattle.std.proofs.Common.{string_bytes}
 use Rattle.std.proofs.lemmas.Result.{IfErr-weaker, IfOk-weaker}
 use Rattle.loader.specs.Labels.{address_of}
 use Rattle.author_reports.proofs.ExplainLemmas.{source_unexplained}
@@ -7,13 +6,13 @@ use Rattle.report_input.proofs.HandlerLemmas.{refused_as}
 use Rattle.report_input.proofs.ReportLemmas.{accepted}
 use Rattle.author_reports.proofs.follow.handler_run.Goals as goal
 
-pub returns-in_err-bound-clause-fault : goal.returns-in_err-bound-clause-fault
-returns-in_err-bound-clause-fault c =
+pub returns-in_err-longest-clause-fault : goal.returns-in_err-longest-clause-fault
+returns-in_err-longest-clause-fault c =
     let r = c.args.run in
     let profile = c.args.profile.now in
-    let e = c.in_err-bound.field-0.0 in
+    let e = c.in_err-longest.field-0.0 in
     refused_as c.from_residual.result e (Refused r.source.now r.statement.now r.machine.now profile) c.from_residual.ensures.1
-    (handler_refused r.source.now r.statement.now r.machine.now profile e (c.in_err-bound.ensures.fault r.source.now r.statement.now profile c.requires.loops))
+    (handler_refused r.source.now r.statement.now r.machine.now profile e (c.in_err-longest.ensures.fault r.source.now r.statement.now profile c.requires.loops))
 
 pub returns-in_err-placed-clause-fault : goal.returns-in_err-placed-clause-fault
 returns-in_err-placed-clause-fault c =
@@ -23,7 +22,7 @@ returns-in_err-placed-clause-fault c =
     let e = c.in_err-placed.field-0.0 in
     refused_as c.from_residual-in_err-placed.result e (Refused r.source.now r.statement.now r.machine.now profile) c.from_residual-in_err-placed.ensures.1
     (machine_refused r.source.now r.statement.now r.machine.now profile e
-    (accepted r.source.now r.statement.now profile h.statement h.graph h.tree c.requires.loops c.requires.tree c.in_ok-bound.ensures.allowed)
+    (accepted r.source.now r.statement.now profile h.statement h.graph h.tree c.requires.loops c.requires.tree c.in_ok-longest.ensures.allowed)
     (c.in_err-placed.ensures.fault r.source.now c.requires.said))
 
 pub judged_run-requires-clause-graph : goal.judged_run-requires-clause-graph
@@ -48,7 +47,7 @@ returns-clause-judged c =
     let placed = c.in_ok-placed.placed in
     IfOk-weaker c.judged_run.result _ _
     (λ j is. followed r.source.now r.statement.now r.machine.now c.args.profile.now said.image (address_of said.labels) c.requires.said h.statement h.graph h.tree c.requires.loops c.requires.tree
-    c.in_ok-bound.bound placed.file placed.machine j.kept (string_bytes j.text) c.in_ok-bound.ensures.allowed c.in_ok-bound.ensures.greatest (c.in_ok-placed.ensures.placed r.source.now c.requires.said) is)
+    c.in_ok-longest.longest placed.file placed.machine j.kept j.text.items c.in_ok-longest.ensures.allowed c.in_ok-longest.ensures.longest c.in_ok-longest.ensures.greatest (c.in_ok-placed.ensures.placed r.source.now c.requires.said) is)
     c.judged_run.ensures.judged
 
 pub returns-clause-fault : goal.returns-clause-fault

@@ -1,12 +1,18 @@
-use Rattle.std.proofs.Common.{List, subst, sym, string_bytes}
+use Rattle.std.proofs.Common.{List, subst}
 use Rattle.std.proofs.lemmas.Result.{IfOk-weaker}
 use Rattle.arm2_exec.specs.declared.machine.Input.{Input}
 use Rattle.kept_runs.specs.Keeping.{IsFollowed}
-use Rattle.author_reports.proofs.FollowLemmas.{told}
+use Rattle.author_reports.proofs.FollowLemmas.{all_places, told}
 use Rattle.author_reports.proofs.follow.judged_run.Goals as goal
 
 pub follow-requires-clause-handler : goal.follow-requires-clause-handler
 follow-requires-clause-handler c = record { graph_is = c.requires.graph; tree_is = c.requires.tree.tree_is }
+
+pub told-requires : goal.told-requires
+told-requires c =
+    let b = c.args.bounded in
+    let h = b.handler.now in
+    all_places b.image.now h.statement h.graph h.tree c.args.placed.now.machine c.deref.result.now c.follow.new.machine c.in_ok-followed.followed c.in_ok-followed.ensures.followed
 
 pub returns-clause-judged : goal.returns-clause-judged
 returns-clause-judged c =
@@ -22,6 +28,6 @@ returns-clause-judged c =
     (λ j tells. record {
       inputs = inputs;
       inputs_are = c.in_ok-inputs.ensures;
-      tells = told b.image.now h.statement h.graph h.tree c.requires.tree b.source.now b.bound start inputs c.run_law.ensures c.requires.greatest after f j.kept (string_bytes j.text) is tells;
+      tells = told b.image.now h.statement h.graph h.tree c.requires.tree b.source.now b.longest.now start inputs c.run_law.ensures c.requires.greatest after f j.kept j.text.items is tells;
     })
     c.told.ensures.told

@@ -1,4 +1,4 @@
-use Rattle.std.proofs.Common.{rules, refl, inr, string_bytes}
+use Rattle.std.proofs.Common.{rules, refl, inr}
 use Rattle.author_reports.proofs.FollowLemmas.{followable, only_memory}
 use Rattle.author_reports.proofs.follow.priced_run.Goals as goal
 
@@ -17,8 +17,8 @@ returns-in-Ok g c =
     let j = c.in_ok-judged.judged in
     let is = c.in_ok-judged.ensures.judged in
     record {
-      printed = record { text = string_bytes j.text; is_text = is; printed = search rules };
-      accepted = followable c.args.run.source.now c.args.run.statement.now c.args.run.machine.now c.args.profile.now j.kept (string_bytes j.text) is;
+      printed = record { text = j.text.items; is_text = is; printed = search rules };
+      accepted = followable c.args.run.source.now c.args.run.statement.now c.args.run.machine.now c.args.profile.now j.kept j.text.items is;
       only = λ a. tt;
       fault = tt;
       quiet = tt;
@@ -34,5 +34,5 @@ returns g c =
       only = λ a. inr refl;
       fault = tt;
       quiet = λ other. absurd (other refl);
-      device = λ d. record { text = string_bytes j.text; is_text = (j.kept, c.in_ok-judged.ensures.judged); taken = search rules; failed = search rules };
+      device = λ d. record { text = j.text.items; is_text = (j.kept, c.in_ok-judged.ensures.judged); taken = search rules; failed = search rules };
     }

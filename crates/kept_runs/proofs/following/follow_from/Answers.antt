@@ -1,6 +1,8 @@
-use Rattle.std.proofs.Common.{◌+◌, ◌∙◌, ap, arith, get_or, length, sym}
+use Rattle.std.proofs.Common.{◌+◌, ◌∙◌, ap, arith, get_or, length, subst, sym}
 use Rattle.std.proofs.lemmas.List.{get_or_default}
 use Rattle.arm2_exec.specs.declared.machine.Input.{Input}
+use Rattle.kept_runs.specs.Keeping.{IsFollowed}
+use Rattle.kept_runs.specs.declared.following.Followed.{Followed}
 use Rattle.kept_runs.proofs.SoFar.{begins, can_more, left, more, strays, unfinished}
 use Rattle.kept_runs.proofs.following.follow_from.Goals as goal
 
@@ -12,7 +14,7 @@ loop-input-init c =
     let fresh = c.requires.fresh in
     let steps = fresh.steps_are in
     let ticks = fresh.ticks_are in (
-      begins c.args.handler.image.now c.args.handler.statement.now c.args.handler.graph.now c.args.handler.tree.now c.places-exit.ensures.well_formed c.requires.handler c.args.machine.now c.args.inputs.now c.args.follower.now fresh c.requires.can,
+      begins c.args.handler.image.now c.args.handler.statement.now c.args.handler.graph.now c.args.handler.tree.now c.places-exit.ensures.well_formed c.requires.handler c.args.machine.now c.args.inputs.now c.args.follower fresh c.requires.can,
       c.requires.can,
       omega (arith, steps),
       omega (arith, ticks),
@@ -43,13 +45,14 @@ returns-then-follower-exit c =
     let n = c.loop-input.input-index in
     let inputs = c.args.inputs.now in
     let lt = c.loop-input-test.true in
-    left c.args.handler.image.now c.args.handler.statement.now c.args.handler.graph.now c.args.handler.tree.now c.places-exit.ensures.well_formed c.requires.handler c.args.machine.now c.args.inputs.now
+    subst (λ (f : Followed). IsFollowed c.args.handler.image.now c.args.handler.statement.now c.args.handler.graph.now c.args.handler.tree.now c.args.machine.now c.args.inputs.now c.take_step.new.machine f) (sym c.kept.ensures)
+    (left c.args.handler.image.now c.args.handler.statement.now c.args.handler.graph.now c.args.handler.tree.now c.places-exit.ensures.well_formed c.requires.handler c.args.machine.now c.args.inputs.now
     (c.loop-input.input-index + 1) c.take_step.new.follower c.take_step.new.machine
     (more c.args.handler.image.now c.args.handler.statement.now c.args.handler.graph.now c.args.handler.tree.now c.places-exit.ensures.well_formed c.requires.handler c.args.machine.now c.args.inputs.now
     c.loop-input.input-index (get_or inputs n none) c.loop-input-test.true (get_or_default inputs n (get_or inputs n none) none c.loop-input-test.true)
     c.loop-input.follower c.loop-input.machine c.loop-input.invariant.1 c.loop-input.invariant.0 c.take_step.new.follower c.take_step.new.machine c.in_default.ensures)
     (omega (arith, lt))
-    (c.if-follower-exit.true ∙ ap length c.places-exit.ensures.value)
+    (c.if-follower-exit.true ∙ ap length c.places-exit.ensures.value))
 
 pub loop-input-preserved : goal.loop-input-preserved
 loop-input-preserved c =

@@ -1,8 +1,9 @@
-use Rattle.std.proofs.Common.{◌+◌, ◌<◌, ℕ, List, ap, arith, get_or, length, refl, subst, sym}
+use Rattle.std.proofs.Common.{◌+◌, ◌^◌, ◌∙◌, ◌<◌, ℕ, List, ap, arith, get_or, length, refl, subst, sym}
 use Rattle.flow_graph.specs.Places.{place_at}
 use Rattle.numbered_walks.specs.Index.{edge_at}
 use Rattle.numbered_walks.specs.declared.span.NumberedEdge.{NumberedEdge}
 use Rattle.kept_runs.specs.Judging.{StandsAt, Strays, Takes}
+use Rattle.kept_runs.specs.Passing.{counted, nothing}
 use Rattle.kept_runs.specs.Stays.{IsOver, Turns}
 use Rattle.kept_runs.proofs.StepTaken.{goes, index_in, room, stands, strays, to_in, turns_back}
 use Rattle.kept_runs.proofs.following.take_step.Goals as goal
@@ -61,6 +62,27 @@ returns-in-Some c =
     c.in-Some.span
     (subst (λ (es : List NumberedEdge). IsOver c.args.headers.now (edge_at es c.in-Ok.taken.edge) c.args.follower.now.turns.items c.in-Some.span) c.edges.ensures c.in-Some.ensures)
 
+pub count-requires-clause-known : goal.count-requires-clause-known
+count-requires-clause-known c =
+    let whole = c.requires.can.tally.whole in
+    let inside = index_in c.args.handler.image.now c.args.handler.statement.now c.args.handler.graph.now c.args.handler.tree.now c.requires.well_formed c.requires.handler.tree_is c.args.follower.now c.args.machine.now c.requires.can in
+    subst (λ (xs : List ℕ). get_or xs c.args.follower.now.number 0 < length c.args.follower.now.by_place.items) (sym c.order.ensures) (omega (arith, whole, inside))
+
+pub count-requires-clause-few : goal.count-requires-clause-few
+count-requires-clause-few c =
+    let inside = index_in c.args.handler.image.now c.args.handler.statement.now c.args.handler.graph.now c.args.handler.tree.now c.requires.well_formed c.requires.handler.tree_is c.args.follower.now c.args.machine.now c.requires.can in
+    let most = c.requires.can.tally.passes (get_or c.args.handler.tree.now.order c.args.follower.now.number 0) inside in
+    let few = c.requires.few in
+    subst (λ (xs : List ℕ). (get_or c.args.follower.now.by_place.items (get_or xs c.args.follower.now.number 0) nothing).passes + 1 < 2 ^ 64) (sym c.order.ensures) (omega (arith, most, few))
+
+pub count-requires-clause-small : goal.count-requires-clause-small
+count-requires-clause-small c =
+    let inside = index_in c.args.handler.image.now c.args.handler.statement.now c.args.handler.graph.now c.args.handler.tree.now c.requires.well_formed c.requires.handler.tree_is c.args.follower.now c.args.machine.now c.requires.can in
+    let most = c.requires.can.tally.ticks (get_or c.args.handler.tree.now.order c.args.follower.now.number 0) inside in
+    let spent = c.requires.small in
+    let small = c.in-Ok.ensures.small in
+    subst (λ (xs : List ℕ). (get_or c.args.follower.now.by_place.items (get_or xs c.args.follower.now.number 0) nothing).ticks + c.in-Ok.taken.stepped.ticks < 2 ^ 128) (sym c.order.ensures) (omega (arith, most, spent, small))
+
 pub returns : goal.returns
 returns c =
     let k = c.in-Ok.taken.edge in
@@ -72,3 +94,4 @@ returns c =
     (ap (λ (es : List NumberedEdge). (edge_at es c.in-Ok.taken.edge).to) c.edges.ensures)
     refl
     (ap (λ (n : ℕ). c.args.follower.now.ticks + n) c.from.ensures)
+    (c.count.ensures ∙ ap (λ (xs : List ℕ). counted c.args.follower.now.by_place.items (get_or xs c.args.follower.now.number 0) c.in-Ok.taken.stepped.ticks) c.order.ensures)

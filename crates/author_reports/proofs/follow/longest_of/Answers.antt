@@ -4,7 +4,7 @@ use Rattle.report_input.specs.Report.{IsRefused}
 use Rattle.report_output.specs.declared.fault.ReportFault.TheVariants.{Device}
 use Rattle.report_input.proofs.HandlerLemmas.{refused_as}
 use Rattle.report_input.proofs.ReportLemmas.{tree_is_greatest, walk_refusal}
-use Rattle.author_reports.proofs.follow.bound_of.Goals as goal
+use Rattle.author_reports.proofs.follow.longest_of.Goals as goal
 
 pub returns-in_err-found-clause-fault : goal.returns-in_err-found-clause-fault
 returns-in_err-found-clause-fault c = λ source statement profile loops.

@@ -1,0 +1,190 @@
+-- What a run does at each address, and the rows where it and a walk differ.
+use Rattle.std.proofs.Common.{◌≡◌, ◌∙◌, ℕ, zero, suc, ◌+◌, ◌*◌, ◌<◌, ◌≤◌, Bool, true, false, cond, eqb, List, [], ◌∷◌, ◌++◌, append-nil, append_assoc, length, drop, get_or, ⊎_elim, refl, sym, ap, subst, arith, add-one}
+use Rattle.std.specs.Prelude.{All, Option, sum_by, if◌then◌else◌}
+use Rattle.std.specs.BTreeMap.{get}
+use Rattle.std.specs.List.{range_with_len}
+use Rattle.std.specs.Ordering.{nat_cmp}
+use Rattle.std.proofs.Math.ListN.{drop_of_length-le}
+use Rattle.std.proofs.lemmas.Bool.{cases_Bool, false≢true}
+use Rattle.std.proofs.lemmas.List.{get_or_default}
+use Rattle.std.proofs.lemmas.List.Elements.{All-head, All-tail}
+use Rattle.std.proofs.lemmas.List.Sums.{sum_by-cons, sum_by_push}
+use Rattle.assembler.specs.declared.placed_line.PlacedLine.{PlacedLine}
+use Rattle.explained.specs.Rows.{Appends, IsShownRow}
+use Rattle.explained.specs.Taken.{IsTally as IsWalkTally, is_at, taken_at}
+use Rattle.explained.specs.Table.{passes_of, ticks_of}
+use Rattle.explained.specs.declared.tally.Taken.{Taken}
+use Rattle.explained.specs.declared.tally.Tally.{Tally}
+use Rattle.explained.proofs.RangeLaws.{range_push}
+use Rattle.flow_graph.specs.Flow.{Flow}
+use Rattle.flow_graph.specs.Places.{place_at}
+use Rattle.flow_graph.specs.declared.edges.Edge.{Edge}
+use Rattle.flow_graph.specs.declared.places.Place.{Place}
+use Rattle.flow_graph.specs.declared.places.Place.TheVariants.{Exit}
+use Rattle.kept_runs.specs.Passing as passing
+use Rattle.kept_runs.specs.Passing.{IsTally, Pass, passed_at}
+use Rattle.kept_runs.specs.declared.tally.Passed.{Passed}
+use Rattle.loader.specs.Image.{Words}
+use Rattle.walk_counts.specs.Counts.{capped}
+use Rattle.walk_counts.proofs.SumLemmas.{picked, same_sums, sum_both, sum_none}
+use Rattle.author_reports.specs.declared.differences.Compared.{Compared}
+use Rattle.author_reports.specs.declared.differences.Numbers.{Numbers}
+use Rattle.author_reports.specs.declared.differences.RunTally.{RunTally}
+use Rattle.author_reports.specs.Differences.{Adds, HasAdded, IsRowIfApart, IsTable, agree, compared_at, compared_in, compared_text, in_all, line_rows, numbers_in, row_if_apart, run_at, tallied, walk_at, with_place, word_rows}
+
+-- ## Sums over places
+
+split_term : (at own : Bool) (w s : ℕ) → cond at (cond own w 0 + s) 0 ≡ cond own 1 0 * cond at w 0 + cond at s 0
+split_term true true w s = omega arith
+split_term true false w s = omega arith
+split_term false true w s = omega arith
+split_term false false w s = omega arith
+
+none_there : (at : Bool) (n : ℕ) → n ≡ 0 → cond at n 0 ≡ 0
+none_there true n is = is
+none_there false n is = refl
+
+-- what the steps are at each place that is met, is what the steps that are met are
+by_places : (at : ℕ → Bool) (weight : Pass → ℕ) (n : ℕ) (passes : List Pass) → All (λ p. p.place < n) passes
+    → sum_by (λ k. cond (at k) (sum_by (λ p. cond (eqb p.place k) (weight p) 0) passes) 0) (range_with_len 0 n) ≡ sum_by (λ p. cond (at p.place) (weight p) 0) passes
+by_places at weight n [] inside =
+    same_sums (λ k. cond (at k) 0 0) (λ k. 0) n 0 (λ k low high. none_there (at k) 0 refl) ∙ sum_none (range_with_len 0 n)
+by_places at weight n (p ∷ passes) inside =
+    let here : p.place < n = All-head (λ q. q.place < n) p passes inside in
+    let rest = by_places at weight n passes (All-tail (λ q. q.place < n) p passes inside) in
+    let own = λ (k : ℕ). cond (eqb p.place k) 1 0 * cond (at k) (weight p) 0 in
+    let others = λ (k : ℕ). cond (at k) (sum_by (λ q. cond (eqb q.place k) (weight q) 0) passes) 0 in
+    let split : sum_by (λ k. cond (at k) (sum_by (λ q. cond (eqb q.place k) (weight q) 0) (p ∷ passes)) 0) (range_with_len 0 n) ≡ sum_by (λ k. own k + others k) (range_with_len 0 n) =
+    same_sums (λ k. cond (at k) (sum_by (λ q. cond (eqb q.place k) (weight q) 0) (p ∷ passes)) 0) (λ k. own k + others k) n 0
+    (λ k low high.
+    ap (λ s. cond (at k) s 0) (sum_by-cons (λ q. cond (eqb q.place k) (weight q) 0) p passes)
+    ∙ split_term (at k) (eqb p.place k) (weight p) (sum_by (λ q. cond (eqb q.place k) (weight q) 0) passes)) in
+    split ∙ sum_both own others (range_with_len 0 n)
+    ∙ (λ i. picked p.place (λ k. cond (at k) (weight p) 0) n 0 (omega arith) (omega (arith, here)) i + rest i)
+    ∙ sym (sum_by-cons (λ q. cond (at q.place) (weight q) 0) p passes)
+
+-- ## Tallies
+
+same_numbers : (m n : Numbers) → m.passes ≡ n.passes → m.ticks ≡ n.ticks → m ≡ n
+same_numbers m n passes ticks = λ i. record { passes = passes i; ticks = ticks i }
+
+module _ (flow : Flow) (passes : List Pass) (by_place : List Passed) (t : RunTally) (added : HasAdded flow.places by_place (length flow.places) t) (tally : IsTally flow passes by_place) where
+  -- a number of each place, as the steps have it
+  all_of : (number : Passed → ℕ) (a : ℕ)
+      → in_all flow.places by_place number (length flow.places) a
+      ≡ sum_by (λ k. cond (is_at a (place_at flow.places k)) (number (passed_at passes k)) 0) (range_with_len 0 (length flow.places))
+  all_of number a =
+      same_sums (λ k. cond (is_at a (place_at flow.places k)) (number (get_or by_place k passing.nothing)) 0)
+      (λ k. cond (is_at a (place_at flow.places k)) (number (passed_at passes k)) 0) (length flow.places) 0
+      (λ k low high. ap (λ p. cond (is_at a (place_at flow.places k)) (number p) 0) (tally.each k (omega (arith, high))))
+
+  pub run_told : (a : ℕ) → tallied t a ≡ run_at flow passes a
+  run_told a =
+      added a
+      ∙ same_numbers _ (run_at flow passes a)
+      (ap capped (all_of (λ p. p.passes) a ∙ by_places (λ k. is_at a (place_at flow.places k)) (λ p. 1) (length flow.places) passes tally.inside))
+      (ap capped (all_of (λ p. p.ticks) a ∙ by_places (λ k. is_at a (place_at flow.places k)) (λ p. p.ticks) (length flow.places) passes tally.inside))
+
+same_compared : (c d : Compared) → c.run ≡ d.run → c.bound ≡ d.bound → c ≡ d
+same_compared c d run bound = λ i. record { run = run i; bound = bound i }
+
+-- the table by the tallies is the one by the run and the walk
+pub table_told : (source : List ℕ) (words : Words) (flow : Flow) (walk : List Edge) (by_place : List Passed) (run : RunTally) (of_walk : Tally) (text : List ℕ)
+    → HasAdded flow.places by_place (length flow.places) run → IsWalkTally flow walk of_walk → IsTable source words (compared_in run of_walk) text
+    → (passes : List Pass) → IsTally flow passes by_place → IsTable source words (compared_at flow passes walk) text
+table_told source words flow walk by_place run of_walk text added taken table passes tally =
+    subst (λ (f : ℕ → Compared). IsTable source words f text) same table
+  where
+    at : (a : ℕ) → compared_in run of_walk a ≡ compared_at flow passes walk a
+    at a = same_compared (compared_in run of_walk a) (compared_at flow passes walk a)
+        (run_told flow passes by_place run added tally a)
+        (same_numbers (numbers_in of_walk a) (walk_at flow walk a)
+        (ap (λ (o : Option Taken). passes_of o) (taken a)) (ap (λ (o : Option Taken). ticks_of o) (taken a)))
+
+    same : compared_in run of_walk ≡ compared_at flow passes walk
+    same = λ i a. at a i
+
+-- ## A place more
+
+in_all_more : (places : List Place) (by_place : List Passed) (number : Passed → ℕ) (i a : ℕ)
+    → in_all places by_place number (i + 1) a ≡ in_all places by_place number i a + cond (is_at a (place_at places i)) (number (get_or by_place i passing.nothing)) 0
+in_all_more places by_place number i a =
+    let term = λ (k : ℕ). cond (is_at a (place_at places k)) (number (get_or by_place k passing.nothing)) 0 in
+    ap (λ n. sum_by term (range_with_len 0 n)) (add-one i) ∙ ap (sum_by term) (range_push i 0) ∙ sum_by_push term (range_with_len 0 i) (0 + i)
+    ∙ ap (λ k. sum_by term (range_with_len 0 i) + term k) (omega arith)
+
+capped_on : (s m : ℕ) → capped (capped s + m) ≡ capped (s + m)
+capped_on s m = omega arith
+
+pub place_added : (places : List Place) (by_place : List Passed) (i : ℕ) (place : Place) (p : Passed) (old new : RunTally) → i < length places → place ≡ get_or places i place
+    → p ≡ get_or by_place i passing.nothing → HasAdded places by_place i old → Adds place p old new → HasAdded places by_place (i + 1) new
+place_added places by_place i place p old new in_places place_is p_is h adds a = ⊎_elim here elsewhere (cases_Bool (is_at a place))
+  where
+    sums_at : ℕ → Numbers
+    sums_at n = record { passes = capped (in_all places by_place (λ q. q.passes) n a); ticks = capped (in_all places by_place (λ q. q.ticks) n a) }
+
+    own : place ≡ place_at places i
+    own = place_is ∙ get_or_default places i place Exit in_places
+
+    number_more : (number : Passed → ℕ) → is_at a place ≡ true → in_all places by_place number (i + 1) a ≡ in_all places by_place number i a + number p
+    number_more number at =
+        in_all_more places by_place number i a
+        ∙ ap (λ (q : Place). in_all places by_place number i a + cond (is_at a q) (number (get_or by_place i passing.nothing)) 0) (sym own)
+        ∙ ap (λ (b : Bool). in_all places by_place number i a + cond b (number (get_or by_place i passing.nothing)) 0) at
+        ∙ ap (λ (q : Passed). in_all places by_place number i a + number q) (sym p_is)
+
+    number_same : (number : Passed → ℕ) → is_at a place ≡ false → in_all places by_place number (i + 1) a ≡ in_all places by_place number i a
+    number_same number out =
+        in_all_more places by_place number i a
+        ∙ ap (λ (q : Place). in_all places by_place number i a + cond (is_at a q) (number (get_or by_place i passing.nothing)) 0) (sym own)
+        ∙ ap (λ (b : Bool). in_all places by_place number i a + cond b (number (get_or by_place i passing.nothing)) 0) out
+        ∙ omega arith
+
+    here : is_at a place ≡ true → tallied new a ≡ sums_at (i + 1)
+    here at =
+        adds a ∙ ap (λ (b : Bool). if b then with_place (tallied old a) p else tallied old a) at
+        ∙ ap (λ (n : Numbers). with_place n p) (h a)
+        ∙ same_numbers _ (sums_at (i + 1))
+        (capped_on (in_all places by_place (λ q. q.passes) i a) p.passes ∙ ap capped (sym (number_more (λ q. q.passes) at)))
+        (capped_on (in_all places by_place (λ q. q.ticks) i a) p.ticks ∙ ap capped (sym (number_more (λ q. q.ticks) at)))
+
+    elsewhere : is_at a place ≡ false → tallied new a ≡ sums_at (i + 1)
+    elsewhere out =
+        adds a ∙ ap (λ (b : Bool). if b then with_place (tallied old a) p else tallied old a) out ∙ h a
+        ∙ same_numbers _ (sums_at (i + 1))
+        (ap capped (sym (number_same (λ q. q.passes) out)))
+        (ap capped (sym (number_same (λ q. q.ticks) out)))
+
+-- ## Rows
+
+module _ (compared : ℕ → Compared) where
+  pub words_more : (n : ℕ) (line : List ℕ) (at left after : ℕ) (old new all : List ℕ) → left ≡ suc after
+      → old ++ word_rows compared n line at left ≡ all → new ≡ old ++ row_if_apart compared n line at → new ++ word_rows compared n line (at + 4) after ≡ all
+  words_more n line at left after old new all is h one =
+      ap (λ xs. xs ++ word_rows compared n line (at + 4) after) one
+      ∙ append_assoc old (row_if_apart compared n line at) (word_rows compared n line (at + 4) after)
+      ∙ ap (λ k. old ++ word_rows compared n line at k) (sym is) ∙ h
+
+  no_lines : (n : ℕ) (lines : List (List ℕ)) → line_rows compared n lines [] ≡ []
+  no_lines n [] = refl
+  no_lines n (line ∷ lines) = refl
+
+  pub lines_end : (n : ℕ) (lines : List (List ℕ)) (placed : List PlacedLine) (i : ℕ) (text all : List ℕ)
+      → length placed ≤ i → text ++ line_rows compared n lines (drop i placed) ≡ all → text ≡ all
+  lines_end n lines placed i text all le h =
+      let none : drop i placed ≡ [] = drop_of_length-le placed le in
+      sym (append-nil text) ∙ ap (λ xs. text ++ xs) (sym (no_lines n lines))
+      ∙ ap (λ ps. text ++ line_rows compared n lines ps) (sym none) ∙ h
+
+  -- a word where the two agree has no row
+  pub no_row : (e : ℕ × ℕ) (text : List ℕ) → agree (compared e.0) ≡ true → Appends (IsRowIfApart compared e) text text
+  no_row e text same = ([], record { apart = λ apart. absurd (false≢true (sym apart ∙ same)); same = λ s. refl }, sym (append-nil text))
+
+  -- one where they differ has its own
+  pub its_row : (e : ℕ × ℕ) (old mid new : List ℕ) → agree (compared e.0) ≡ false → mid ≡ old ++ compared_text (compared e.0) → Appends (IsShownRow e) mid new
+      → Appends (IsRowIfApart compared e) old new
+  its_row e old mid new apart numbers adds = (
+    compared_text (compared e.0) ++ adds.0,
+    record { apart = λ a. (adds.0, adds.1, refl); same = λ same. absurd (false≢true (sym apart ∙ same)) },
+    adds.2 ∙ ap (λ xs. xs ++ adds.0) numbers ∙ append_assoc old (compared_text (compared e.0)) adds.0,
+  )

@@ -1,0 +1,21 @@
+use Rattle.std.proofs.Common.{◌≡◌, ◌∙◌, ◌++◌, ap, false, sym, true}
+use Rattle.std.proofs.lemmas.Result.{on_ok_weaker}
+use Rattle.author_reports.specs.Differences.{agree, compared_in, compared_text}
+use Rattle.author_reports.specs.declared.differences.Compared.{Compared}
+use Rattle.author_reports.proofs.DifferenceLemmas.{its_row, no_row}
+use Rattle.author_reports.proofs.differences.put_word.Goals as goal
+
+pub returns-then-agree : goal.returns-then-agree
+returns-then-agree c =
+    let compared = compared_in c.args.tallies.run.now c.args.tallies.walk.now in
+    let same : agree (compared c.args.at) ≡ true = ap agree (sym c.at-compared.ensures) ∙ sym c.agree.ensures ∙ c.if-agree.true in
+    no_row compared (c.args.at, c.args.word) c.args.out.now.items same
+
+pub returns : goal.returns
+returns c =
+    let compared = compared_in c.args.tallies.run.now c.args.tallies.walk.now in
+    let apart : agree (compared c.args.at) ≡ false = ap agree (sym c.at-compared.ensures) ∙ sym c.agree.ensures ∙ c.if-agree.false in
+    on_ok_weaker c.put_shown_row.result
+    (its_row compared (c.args.at, c.args.word) c.args.out.now.items c.put_compared.new.out.items c.put_shown_row.new.out.items apart
+    (c.in_ok-put_compared.ensures ∙ ap (λ (x : Compared). c.args.out.now.items ++ compared_text x) c.at-compared.ensures))
+    c.put_shown_row.ensures

@@ -1,0 +1,315 @@
+//! Where a run that keeps its statement and a greatest walk differ.
+
+ghost use Rattle.std.specs.Prelude.{◌≡◌, ◌+◌, ◌++◌, IfErr, IfOk, List, OnOk, length};
+ghost use Rattle.asm_text.specs.Source.{lines_of};
+ghost use Rattle.explained.specs.Rows.{Appends, AreRows};
+ghost use Rattle.kept_runs.specs.Passing.{IsTally, Pass};
+ghost use Rattle.longest_walk.specs.Folded.{unfolded};
+ghost use Rattle.walk_counts.specs.Counts.{capped};
+ghost use Rattle.author_reports.specs.Differences.{Adds, HasAdded, IsRowIfApart, IsTable, agree};
+ghost use Rattle.author_reports.specs.Differences.{compared_at, compared_in, compared_text};
+ghost use Rattle.author_reports.specs.Differences.{line_rows, numbers_text};
+ghost use Rattle.author_reports.specs.Differences.{row_if_apart, tallied, with_place, word_rows};
+ghost use Rattle.report_input.specs.Source.{IsSourceFault};
+
+use asm_text::first_line;
+use assembler::{PlacedLine, placed_lines};
+use explained::{NumberedLine, Tally, put, put_named_row, put_number, put_shown_row, section};
+use flow_graph::{Graph, Place};
+use kept_runs::Passed;
+use loader::{Image, MAGIC};
+use longest_walk::FoldedWalk;
+use report_output::ReportFault;
+use std::alloc::{AllocError, Global};
+use std::collections::BTreeMap;
+
+// The names of the columns, of a text's rows and of an image's.
+const HEADING: &[u8] = b"                 run               bound
+   passes      ticks   passes      ticks   address  line  text
+";
+
+const IMAGE_HEADING: &[u8] = b"                 run               bound
+   passes      ticks   passes      ticks   address      word  text
+";
+
+/// How often an address is passed, and the ticks there, each told up to 2^64 - 1.
+#[derive(Clone, Copy)]
+struct Numbers {
+    passes: u64,
+    ticks: u64,
+}
+
+/// What a run and a greatest walk do at an address.
+#[derive(Clone, Copy)]
+struct Compared {
+    run: Numbers,
+    bound: Numbers,
+}
+
+/// What a run does at each address.
+#[derive(Drop)]
+struct RunTally {
+    by_address: BTreeMap<u32, Numbers>,
+}
+
+/// What a run and a greatest walk do at each address.
+#[derive(Clone, Copy)]
+struct Tallies<'a> {
+    run: &'a RunTally,
+    walk: &'a Tally,
+}
+
+/// A handler's source and its words.
+#[derive(Clone, Copy)]
+pub(crate) struct Words<'a> {
+    pub(crate) source: &'a [u8],
+    pub(crate) image: &'a Image,
+}
+
+fn capped_sum(sum: u64, more: u64) -> u64
+    ensures { result ≡ capped (sum + more) }
+{
+    sum.saturating_add(more)
+}
+
+fn capped_ticks(ticks: u64, more: u128) -> u64
+    ensures { result ≡ capped (ticks + more) }
+{
+    let most = u64::MAX;
+    let left = most - ticks;
+    if more > u128::from(left) {
+        return most;
+    }
+    ticks + more as u64
+}
+
+impl Numbers {
+    const NONE: Numbers = Numbers {
+        passes: 0,
+        ticks: 0,
+    };
+
+    // What is done at a place more.
+    fn with_place(self, passed: Passed) -> Numbers
+        ensures { result ≡ with_place self passed }
+    {
+        Numbers {
+            passes: capped_sum(self.passes, passed.passes),
+            ticks: capped_ticks(self.ticks, passed.ticks),
+        }
+    }
+}
+
+impl RunTally {
+    fn at(&self, address: u32) -> Numbers
+        ensures { result ≡ tallied self.now address }
+    {
+        self.by_address
+            .get(&address)
+            .copied()
+            .unwrap_or(Numbers::NONE)
+    }
+
+    // Adds what is done at a place.
+    fn add(&mut self, place: &Place, passed: Passed) -> Result<(), AllocError>
+        ensures { OnOk result (Adds place.now passed self.old self.new) }
+    {
+        let Place::At(_, address) = place else {
+            return Ok(());
+        };
+        let more = self.at(*address).with_place(passed);
+        self.by_address.insert(*address, more)?;
+        Ok(())
+    }
+
+    // What is done at the places, in their order.
+    fn of_places(alloc: Global, graph: &Graph, by_place: &[Passed]) -> Result<RunTally, AllocError>
+        requires { length by_place.now ≡ length graph.now.places }
+        ensures { IfOk result (HasAdded graph.now.places by_place.now (length graph.now.places)) }
+    {
+        let mut tally = RunTally {
+            by_address: BTreeMap::new(alloc),
+        };
+        for index in 0..graph.places().len() {
+            tally.add(&graph.places()[index], by_place[index])?;
+        }
+        Ok(tally)
+    }
+}
+
+impl Compared {
+    fn agree(self) -> bool
+        ensures { result ≡ agree self }
+    {
+        self.run.passes == self.bound.passes && self.run.ticks == self.bound.ticks
+    }
+}
+
+impl Tallies<'_> {
+    fn at(self, address: u32) -> Compared
+        ensures { result ≡ compared_in self.entry.run.now self.entry.walk.now address }
+    {
+        let bound = match self.walk.at(address) {
+            Some(taken) => Numbers {
+                passes: taken.passes,
+                ticks: taken.ticks,
+            },
+            None => Numbers::NONE,
+        };
+        Compared {
+            run: self.run.at(address),
+            bound,
+        }
+    }
+}
+
+fn put_numbers(out: &mut Vec<u8>, numbers: Numbers) -> Result<(), AllocError>
+    ensures { OnOk result (out.new.items ≡ out.old.items ++ numbers_text numbers) }
+{
+    put_number(out, numbers.passes, 9)?;
+    put_number(out, numbers.ticks, 11)
+}
+
+fn put_compared(out: &mut Vec<u8>, compared: Compared) -> Result<(), AllocError>
+    ensures { OnOk result (out.new.items ≡ out.old.items ++ compared_text compared) }
+{
+    put_numbers(out, compared.run)?;
+    put_numbers(out, compared.bound)
+}
+
+// Adds the row of a line's word, if run and walk differ there.
+fn put_if_apart(
+    out: &mut Vec<u8>,
+    tallies: Tallies<'_>,
+    line: NumberedLine<'_>,
+    at: u32,
+) -> Result<(), AllocError>
+    ensures { OnOk result
+        (out.new.items ≡ out.old.items
+        ++ row_if_apart (compared_in tallies.entry.run.now tallies.entry.walk.now) line.entry.number
+        line.entry.text.now at) }
+{
+    let compared = tallies.at(at);
+    if compared.agree() {
+        return Ok(());
+    }
+    put_compared(out, compared)?;
+    put_named_row(out, line, at)
+}
+
+// Adds the rows of those of a line's words.
+fn put_words(
+    out: &mut Vec<u8>,
+    tallies: Tallies<'_>,
+    line: NumberedLine<'_>,
+    placed: PlacedLine,
+) -> Result<(), AllocError>
+    ensures { OnOk result
+        (out.new.items ≡ out.old.items
+        ++ word_rows (compared_in tallies.entry.run.now tallies.entry.walk.now) line.entry.number
+        line.entry.text.now placed.at placed.words) }
+{
+    let mut at = placed.at;
+    for _ in 0..placed.words {
+        put_if_apart(out, tallies, line, at)?;
+        at += 4;
+    }
+    Ok(())
+}
+
+// The rows of those of a source's words.
+fn line_rows(
+    alloc: Global,
+    tallies: Tallies<'_>,
+    source: &[u8],
+    placed: &[PlacedLine],
+) -> Result<Vec<u8>, AllocError>
+    ensures { IfOk result
+        (λ rows. rows.items
+        ≡ line_rows (compared_in tallies.entry.run.now tallies.entry.walk.now) 1 (lines_of source.now)
+        placed.now) }
+{
+    let mut out = Vec::new(alloc);
+    let mut rest = source;
+    let mut number = 1;
+    for line in placed {
+        let Some((text, after)) = first_line(rest) else {
+            return Ok(out);
+        };
+        put_words(&mut out, tallies, NumberedLine { number, text }, *line)?;
+        rest = after;
+        number += 1;
+    }
+    Ok(out)
+}
+
+// Adds the row of an image's word, if run and walk differ there.
+fn put_word(out: &mut Vec<u8>, tallies: Tallies<'_>, at: u32, word: u32) -> Result<(), AllocError>
+    ensures { OnOk result
+        (Appends (IsRowIfApart (compared_in tallies.entry.run.now tallies.entry.walk.now) (at, word))
+        out.old.items out.new.items) }
+{
+    let compared = tallies.at(at);
+    if compared.agree() {
+        return Ok(());
+    }
+    put_compared(out, compared)?;
+    put_shown_row(out, at, word)
+}
+
+// The rows of those of an image's words.
+fn image_rows(alloc: Global, tallies: Tallies<'_>, image: &Image) -> Result<Vec<u8>, AllocError>
+    ensures { IfOk result
+        (λ rows. AreRows (IsRowIfApart (compared_in tallies.entry.run.now tallies.entry.walk.now)) image.now
+        rows.items) }
+{
+    let words = image.listed(alloc)?;
+    let mut out = Vec::new(alloc);
+    for (at, word) in &words {
+        put_word(&mut out, tallies, *at, *word)?;
+    }
+    Ok(out)
+}
+
+// The table by the tallies.
+fn table_by(alloc: Global, words: Words<'_>, tallies: Tallies<'_>) -> Result<Vec<u8>, ReportFault>
+    ensures table { IfOk result
+        (λ text. IsTable words.entry.source.now words.entry.image.now
+        (compared_in tallies.entry.run.now tallies.entry.walk.now) text.items) }
+    ensures fault { IfErr result (IsSourceFault words.entry.source.now) }
+{
+    if words.source.starts_with(&MAGIC) {
+        let rows = image_rows(alloc, tallies, words.image)?;
+        return Ok(section(alloc, IMAGE_HEADING, &rows)?);
+    }
+    let placed = placed_lines(alloc, words.source)?;
+    let rows = line_rows(alloc, tallies, words.source, &placed)?;
+    Ok(section(alloc, HEADING, &rows)?)
+}
+
+/// Where a run and a walk of the graph differ: of each word of a source's lines, or of an image, where one
+/// passes more often or takes other ticks than the other, a row with how often the run passes it and its
+/// ticks there, and those of the walk. `by_place` says what the run does at each place of the graph, in their
+/// order. No text where the two nowhere differ.
+pub(crate) fn differences(
+    alloc: Global,
+    words: Words<'_>,
+    graph: &Graph,
+    by_place: &[Passed],
+    walk: &FoldedWalk,
+) -> Result<Vec<u8>, ReportFault>
+    requires { length by_place.now ≡ length graph.now.places }
+    ensures table { (passes : List Pass) → IsTally graph.now passes by_place.now
+        → IfOk result
+        (λ text. IsTable words.entry.source.now words.entry.image.now
+        (compared_at graph.now passes (unfolded walk.now)) text.items) }
+    ensures fault { IfErr result (IsSourceFault words.entry.source.now) }
+{
+    let run_tally = RunTally::of_places(alloc, graph, by_place)?;
+    let walk_tally = Tally::of_walk(alloc, graph, walk)?;
+    let tallies = Tallies {
+        run: &run_tally,
+        walk: &walk_tally,
+    };
+    table_by(alloc, words, tallies)
+}

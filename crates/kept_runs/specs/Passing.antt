@@ -1,0 +1,64 @@
+-- What a run does at each place of its flow graph.
+use Rattle.std.specs.Prelude.{◌≡◌, ℕ, ◌+◌, ◌<◌, ◌==◌, cond, List, [], ◌∷◌, length, slice_index_or, slice_set}
+use Rattle.std.specs.Prelude.{All, count_by, sum_by}
+use Rattle.arm2_exec.specs.State.{State}
+use Rattle.arm2_exec.specs.Step.{Step}
+use Rattle.arm2_exec.specs.declared.machine.Input.{Input}
+use Rattle.arm2_exec.specs.declared.machine.Stepped.{Stepped}
+use Rattle.flow_graph.specs.declared.edges.Edge.{Edge}
+use Rattle.flow_graph.specs.Flow.{Flow}
+use Rattle.flow_graph.specs.Places.{place_at}
+use Rattle.kept_runs.specs.declared.tally.Passed.{Passed}
+
+-- ## The steps
+
+-- a step of a run: which of the graph's places it begins at, and its ticks
+pub record Pass : Type 0 where
+  pub place : ℕ
+  pub ticks : ℕ
+
+-- the step along the edge begins where the edge does, and takes these ticks
+pub record IsPass (flow : Flow) (e : Edge) (told : Stepped) (pass : Pass) : Type 0 where
+  pub known : pass.place < length flow.places
+  pub begins : place_at flow.places pass.place ≡ e.from
+  pub ticks_are : pass.ticks ≡ told.ticks
+
+-- the steps of a run by the inputs along the walk, in their order
+abbrev pub ArePasses : Flow → State → List Input → List Edge → List Pass → Type 0
+ArePasses flow s [] [] passes = passes ≡ []
+ArePasses flow s [] (e ∷ walk) passes = ⊥
+ArePasses flow s (i ∷ inputs) [] passes = ⊥
+ArePasses flow s (i ∷ inputs) (e ∷ walk) passes =
+    (told : Stepped) × (next : State) × Step s i told next
+    × ((pass : Pass) × (rest : List Pass) × IsPass flow e told pass
+    × ArePasses flow next inputs walk rest × (passes ≡ pass ∷ rest))
+
+-- ## By places
+
+abbrev pub nothing : Passed
+nothing = record { passes = 0; ticks = 0 }
+
+-- how many of the steps begin at the place, and their ticks
+abbrev pub passed_at : List Pass → ℕ → Passed
+passed_at passes place =
+    record {
+      passes = count_by (λ p. p.place == place) passes;
+      ticks = sum_by (λ p. cond (p.place == place) p.ticks 0) passes;
+    }
+
+-- of each place of the graph, where all the steps begin
+pub record IsTally (flow : Flow) (passes : List Pass) (by_place : List Passed) : Type 0 where
+  pub inside : All (λ p. p.place < length flow.places) passes
+  pub whole : length by_place ≡ length flow.places
+  pub each : (place : ℕ) → place < length flow.places
+      → slice_index_or by_place place nothing ≡ passed_at passes place
+
+-- ## A step more
+
+abbrev pub with_step : Passed → ℕ → Passed
+with_step p ticks = record { passes = p.passes + 1; ticks = p.ticks + ticks }
+
+-- one that begins at the place
+abbrev pub counted : List Passed → (place ticks : ℕ) → List Passed
+counted by_place place ticks =
+    slice_set by_place place (with_step (slice_index_or by_place place nothing) ticks)
