@@ -19,6 +19,7 @@ use Rattle.explained.specs.declared.bursts.Bursts.{Bursts}
 use Rattle.explained.specs.Idle.{AreIdleEntries}
 use Rattle.explained.specs.Table.{IsImageTable, IsSourceTable, image_ticks, source_ticks}
 use Rattle.explained.specs.Taken.{taken_at}
+use Rattle.savings.specs.Sections.{AreImageSavings, AreSourceSavings}
 use Rattle.report_output.specs.Answers.{Answers}
 use Rattle.report_input.specs.Report.{IsAccepted, IsRefused, IsTreeOf}
 use Rattle.report_input.specs.Source.{is_image}
@@ -27,7 +28,7 @@ use Rattle.report_output.specs.declared.fault.ReportFault.{ReportFault}
 -- ## The explanation
 
 -- by the lines of a text, each where it stands: the table, then what bursts add to the bound, then what is taken
--- for granted, and then the entries of the statement without effect
+-- for granted, then the entries of the statement without effect, and then what better entries would save
 pub record IsSourceText (source : List ℕ) (words : Words) (stated : Stated) (flow : Flow) (longest : Longest)
     (starts : List ℕ) (price : ℕ) (bursts : Bursts) (text : List ℕ) : Type 0 where
   pub placed : List PlacedLine
@@ -35,12 +36,14 @@ pub record IsSourceText (source : List ℕ) (words : Words) (stated : Stated) (f
   pub burst_lines : List ℕ
   pub assumptions : List ℕ
   pub idle : List ℕ
+  pub savings : List ℕ
   pub are_placed : ArePlaced source placed
   pub is_table : IsSourceTable words stated flow (unfolded longest.walk) starts longest.bound source placed table
   pub are_burst_lines : AreBurstLines price longest.bound bursts burst_lines
   pub are_assumptions : AreSourceAssumptions source placed words stated flow assumptions
   pub are_idle : AreIdleEntries words stated flow idle
-  pub text_is : text ≡ table ++ (burst_lines ++ assumptions ++ idle)
+  pub are_savings : AreSourceSavings source placed words stated flow (unfolded longest.walk) savings
+  pub text_is : text ≡ table ++ (burst_lines ++ assumptions ++ idle ++ savings)
 
 -- by the words of an image
 pub record IsImageText (words : Words) (stated : Stated) (flow : Flow) (longest : Longest)
@@ -49,11 +52,13 @@ pub record IsImageText (words : Words) (stated : Stated) (flow : Flow) (longest 
   pub burst_lines : List ℕ
   pub assumptions : List ℕ
   pub idle : List ℕ
+  pub savings : List ℕ
   pub is_table : IsImageTable words stated flow (unfolded longest.walk) starts longest.bound table
   pub are_burst_lines : AreBurstLines price longest.bound bursts burst_lines
   pub are_assumptions : AreImageAssumptions words stated flow assumptions
   pub are_idle : AreIdleEntries words stated flow idle
-  pub text_is : text ≡ table ++ (burst_lines ++ assumptions ++ idle)
+  pub are_savings : AreImageSavings words stated flow (unfolded longest.walk) savings
+  pub text_is : text ≡ table ++ (burst_lines ++ assumptions ++ idle ++ savings)
 
 -- of an image by its words, of a text by its lines
 pub record IsTextOf (source : List ℕ) (words : Words) (stated : Stated) (flow : Flow) (longest : Longest)
@@ -72,7 +77,7 @@ pub record IsTotal (source : List ℕ) (words : Words) (flow : Flow) (longest : 
 
 -- of an accepted source and statement: the table of a greatest walk, whose cost is the bound, as the ticks of
 -- all rows are, with the worst times until its words begin; what bursts add to the bound; what is taken for granted
--- of the words that are reached; and the entries of the statement without effect
+-- of the words that are reached; the entries of the statement without effect; and what better entries would save
 pub record IsExplanation (source statement : List ℕ) (bursts : Bursts) (profile : Profile) (bound : ℕ)
     (text : List ℕ) : Type 0 where
   pub accepted : IsAccepted source statement profile

@@ -21,6 +21,7 @@ use loader::{Image, MAGIC};
 use longest_walk::{longest, worst_starts};
 use report_input::{Handler, handler_of, profile_of, read_source};
 use report_output::{Output, ReportFault, write_whole};
+use savings::{image_savings, source_savings};
 use std::alloc::{AllocError, Global};
 
 /// A handler whose bound is explained.
@@ -78,6 +79,8 @@ fn image_text(
     rest.extend_from_slice(&assumptions)?;
     let idle = idle_entries(alloc, stated)?;
     rest.extend_from_slice(&idle)?;
+    let saved = image_savings(alloc, stated, walk.timed.longest)?;
+    rest.extend_from_slice(&saved)?;
     text.extend_from_slice(&rest)?;
     Ok(text)
 }
@@ -102,6 +105,8 @@ fn placed_text(
     rest.extend_from_slice(&assumptions)?;
     let idle = idle_entries(alloc, stated)?;
     rest.extend_from_slice(&idle)?;
+    let saved = source_savings(alloc, stated, source, placed, walk.timed.longest)?;
+    rest.extend_from_slice(&saved)?;
     text.extend_from_slice(&rest)?;
     Ok(text)
 }

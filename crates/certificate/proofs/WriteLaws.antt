@@ -1,5 +1,5 @@
 -- The text of a certificate, section by section.
-use Rattle.std.proofs.Common.{◌≡◌, ◌∙◌, ◌==◌, ℕ, List, [], ◌∷◌, ◌++◌, Bool, true, Vec, codes, map, refl, sym, ap, append_assoc, append-nil, Result, Ok, Err, OnOk, ◌<◌, ◌≤◌, length, take, drop, take-append-drop, get_or, arith, take_all, if◌then◌else◌}
+use Rattle.std.proofs.Common.{◌≡◌, ◌∙◌, ◌==◌, ℕ, List, [], ◌∷◌, ◌++◌, Bool, true, Vec, codes, map, refl, sym, ap, append-nil, Result, Ok, Err, OnOk, ◌<◌, ◌≤◌, length, take, drop, take-append-drop, get_or, arith, take_all, if◌then◌else◌}
 use Rattle.std.specs.Prelude.{MatchResult, OnErr, false}
 use Rattle.certificate.specs.declared.line.Version.TheVariants.{One, Two}
 use Rattle.certificate.proofs.NumberLaws.{after_first, after_first_is}

@@ -2,8 +2,8 @@ use Rattle.std.proofs.Common.{rules}
 use Rattle.report_input.proofs.ReportLemmas.{only_memory}
 use Rattle.bound_reports.proofs.bound.priced_report.Goals as goal
 
-pub returns-in_err-text : goal.returns-in_err-text
-returns-in_err-text g c = record {
+pub returns-in_err-found : goal.returns-in_err-found
+returns-in_err-found g c = record {
   printed = search rules;
   accepted = search rules;
   only = only_memory c.args.source.now c.args.statement.now c.args.profile.now c.from_residual.result (search rules);

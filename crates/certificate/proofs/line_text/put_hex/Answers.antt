@@ -1,4 +1,4 @@
-use Rattle.std.proofs.Common.{◌<◌, ◌^◌, ◌∙◌, ap, length, length-append, arith, rules}
+use Rattle.std.proofs.Common.{◌<◌, ◌^◌, ◌∙◌, ap, length, length-append, arith}
 use Rattle.asm_text.specs.Hex.{hex}
 use Rattle.asm_text.proofs.HexLaws.{hex_room}
 use Rattle.certificate.proofs.line_text.put_hex.Goals as goal

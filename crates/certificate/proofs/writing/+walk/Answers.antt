@@ -1,6 +1,5 @@
-use Rattle.std.proofs.Common.{rules, ◌≡◌, ◌∙◌, ◌++◌, ℕ, List, ap, sym, true, take, drop, append_assoc, codes}
+use Rattle.std.proofs.Common.{rules, ◌≡◌, ◌∙◌, ◌++◌, ap, sym, true, take, drop, codes}
 use Rattle.std.specs.Fmt.{decimal}
-use Rattle.longest_walk.specs.declared.folded.Item.{Item}
 use Rattle.longest_walk.specs.declared.folded.Item.TheVariants.{Repeat}
 use Rattle.outputs.proofs.PageLaws.{adds_both, adds_none, adds_same}
 use Rattle.certificate.specs.Walk.{item_lines, walk_lines}

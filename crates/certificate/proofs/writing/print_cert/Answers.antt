@@ -1,4 +1,4 @@
-use Rattle.std.proofs.Common.{◌≡◌, []}
+use Rattle.std.proofs.Common.{[]}
 use Rattle.outputs.proofs.PageLaws.{on_from_start}
 use Rattle.certificate.specs.Lines.{cert_text, said_of}
 use Rattle.certificate.proofs.WriteLaws.{err_first, err_second, ok_first, ok_second}

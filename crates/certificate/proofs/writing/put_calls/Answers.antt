@@ -1,4 +1,4 @@
-use Rattle.std.proofs.Common.{rules, ◌≡◌, ◌∙◌, ◌++◌, ◌∷◌, ◌≤◌, ℕ, List, flat_map, ap, length, take, get_or, sym, arith}
+use Rattle.std.proofs.Common.{rules, ◌∙◌, ◌++◌, ◌∷◌, ◌≤◌, ℕ, List, flat_map, ap, length, take, get_or, sym, arith}
 use Rattle.asm_text.specs.Hex.{hex}
 use Rattle.outputs.proofs.PageLaws.{adds_same}
 use Rattle.certificate.specs.Words.{list_words}

@@ -1,4 +1,4 @@
-use Rattle.std.proofs.Common.{rules, ◌≡◌, ◌++◌, ℕ, List, codes, sym, refl}
+use Rattle.std.proofs.Common.{rules, ◌≡◌, ◌++◌, codes, sym}
 use Rattle.std.specs.Fmt.{decimal}
 use Rattle.outputs.proofs.PageLaws.{adds_both, adds_same}
 use Rattle.certificate.specs.Lines.{said_of}
