@@ -1,5 +1,6 @@
 mod CarriedLaws
 mod FoundLaws
+mod GainLaws
 mod LineLaws
 mod PartLaws
 mod RowLaws

@@ -1,4 +1,16 @@
-ghost use Rattle.std.specs.Prelude.{◌≡◌, ◌<◌, ◌^◌, ℕ, List, count_by};
+ghost use Rattle.std.specs.Prelude.{◌≡◌, ◌+◌, ◌<◌, ◌^◌, ℕ, List, Some, count_by};
+ghost use Rattle.arm2_decode.specs.declared.instr.Instr.{Instr};
+ghost use Rattle.bus_ticks.specs.declared.profile.Profile.{Profile};
+ghost use Rattle.flow_graph.specs.Edges.{do_ticks, jump_ticks};
+ghost use Rattle.flow_graph.specs.Kinds.{instr_action};
+ghost use Rattle.flow_graph.specs.declared.places.Place.{Place};
+ghost use Rattle.flow_graph.specs.declared.places.Place.TheVariants.{Exit};
+ghost use Rattle.statement.specs.Stated.{Stated, class_of};
+ghost use Rattle.savings.specs.Changed.{with_access, with_leave};
+ghost use Rattle.savings.specs.Gains.{leave_gain, operation_gain};
+ghost use Rattle.savings.specs.declared.classes.ClassChange.{ClassChange};
+ghost use Rattle.savings.specs.declared.gains.Gain.{Gain};
+ghost use Rattle.savings.specs.declared.gains.Refinement.TheVariants.{Addresses};
 ghost use Rattle.flow_graph.specs.Flow.{Flow, IsWellFormed};
 ghost use Rattle.longest_walk.specs.Folded.{unfolded};
 ghost use Rattle.longest_walk.specs.Longest.{IsWalkOf};
@@ -12,4 +24,19 @@ pub fn times_are_of_the_walk()
     ensures { (flow : Flow) (tree : Tree) (cost : ℕ) (items : List Item) (a : ℕ)
         → IsWellFormed flow → IsWalkOf flow tree cost items → cost < 2 ^ 64
         → times_done flow.edges (unfolded items) a ≡ count_by (carries_out a) (unfolded items) }
+{}
+
+/// States that a gain is the difference of two prices: by the statement with the better class, in front of its
+/// accesses or for its way out, each edge on which the word is carried out, and the way out, cost so many ticks
+/// less. It does nothing.
+pub fn gains_are_of_the_prices()
+    ensures access { (st : Stated) (profile : Profile) (a : ℕ) (i : Instr) (to : Place) (gain : Gain)
+        (change : ClassChange) → operation_gain profile (class_of st a) i.operation ≡ Some gain
+        → gain.refinement ≡ Addresses change
+        → do_ticks (with_access st a change.better) profile a (instr_action i) to + gain.ticks
+        ≡ do_ticks st profile a (instr_action i) to }
+    ensures leave { (st : Stated) (profile : Profile) (gain : Gain) (change : ClassChange)
+        → leave_gain profile st.leave ≡ Some gain → gain.refinement ≡ Addresses change
+        → jump_ticks (with_leave st change.better).leave profile Exit + gain.ticks
+        ≡ jump_ticks st.leave profile Exit }
 {}

@@ -1,0 +1,140 @@
+-- What a gain is: the difference of two prices.
+use Rattle.std.proofs.Common.{◌≡◌, ◌≢◌, ◌∙◌, ℕ, ◌+◌, ◌-◌, ◌<◌, ◌≤◌, true, false, count_ones, eqb, Some, None, ◌⊎◌, inl, inr, ⊎_elim, refl, sym, ap, arith}
+use Rattle.std.specs.Prelude.{if◌then◌else◌, unwrap_or}
+use Rattle.std.specs.Map.{lookup}
+use Rattle.std.proofs.lemmas.Bool.{cases_Bool, cases_lt, eq-eqb, eqb-true, le-ltb, lt-ltb}
+use Rattle.arm2_decode.specs.declared.instr.Instr.{Instr}
+use Rattle.arm2_decode.specs.declared.instr.Operation.{Operation}
+use Rattle.arm2_decode.specs.declared.instr.Operation.TheVariants as operation
+use Rattle.arm2_decode.specs.declared.names.Cond.{Cond}
+use Rattle.bus_ticks.specs.declared.profile.Class.{Class}
+use Rattle.bus_ticks.specs.declared.profile.Class.TheVariants.{Any, Io, Ram, Rom}
+use Rattle.bus_ticks.specs.declared.profile.Profile.{Profile}
+use Rattle.bus_ticks.specs.Worst.{worst_leave_of}
+use Rattle.flow_graph.specs.declared.kinds.Action.{Action}
+use Rattle.flow_graph.specs.declared.places.Place.{Place}
+use Rattle.flow_graph.specs.declared.places.Place.TheVariants.{Exit}
+use Rattle.flow_graph.specs.Edges.{arrival_ticks, do_ticks, fetch_ticks, jump_ticks, work_ticks}
+use Rattle.flow_graph.specs.Kinds.{action, instr_action, kind_of, transfer, work_of}
+use Rattle.statement.specs.Stated.{Stated, class_of}
+use Rattle.savings.specs.Changed.{with_access, with_leave}
+use Rattle.savings.specs.Gains.{class_gain, if_less, leave_gain, leave_prices, multiply_gain, next_class, next_gain, next_price, operation_gain, transfer_prices}
+use Rattle.savings.specs.declared.classes.ClassChange.{ClassChange}
+use Rattle.savings.specs.declared.classes.ClassPrices.{ClassPrices}
+use Rattle.savings.specs.declared.gains.Gain.{Gain}
+use Rattle.savings.specs.declared.gains.Refinement.TheVariants.{Addresses, Multiplier}
+
+-- ## The next better class
+
+one_of : (present price : ℕ) → ((if_less present price ≡ price) × (price < present)) ⊎ (if_less present price ≡ 0)
+one_of present price = ⊎_elim
+    (λ (less : price < present). inl (ap (λ b. if b then price else 0) (lt-ltb price present less), less))
+    (λ (le : present ≤ price). inr (ap (λ b. if b then price else 0) (le-ltb price present le)))
+    (cases_lt price present)
+
+not_more : (present price : ℕ) → if_less present price ≤ present
+not_more present price = ⊎_elim
+    (λ less. let same : if_less present price ≡ price = less.0 in let lt : price < present = less.1 in let goal : if_less present price ≤ present = omega arith in goal)
+    (λ (none : if_less present price ≡ 0). let goal : if_less present price ≤ present = omega arith in goal)
+    (one_of present price)
+
+module _ (p : ClassPrices) where
+  at_most : next_price p ≤ p.present
+  at_most = omega (arith, not_more p.present p.ram, not_more p.present p.rom, not_more p.present p.io)
+
+  its_own : (price : ℕ) → if_less p.present price ≡ next_price p → 0 < next_price p → price ≡ next_price p
+  its_own price is some = ⊎_elim
+      (λ less. sym less.0 ∙ is)
+      (λ (none : if_less p.present price ≡ 0). absurd (let zero_is : 0 ≡ next_price p = sym none ∙ is in omega arith))
+      (one_of p.present price)
+
+  last_one : p.ram ≢ next_price p → p.rom ≢ next_price p → 0 < next_price p → p.io ≡ next_price p
+  last_one not_ram not_rom some =
+      let r : if_less p.present p.ram ≢ next_price p = λ is. not_ram (its_own p.ram is some) in
+      let o : if_less p.present p.rom ≢ next_price p = λ is. not_rom (its_own p.rom is some) in
+      let i : if_less p.present p.io ≡ next_price p = omega arith in
+      its_own p.io i some
+
+  module _ (price : Class → ℕ) (ram : price Ram ≡ p.ram) (rom : price Rom ≡ p.rom) (io : price Io ≡ p.io) where
+    class_price : 0 < next_price p → price (next_class p (next_price p)) ≡ next_price p
+    class_price some = ⊎_elim
+        (λ (is : eqb p.ram (next_price p) ≡ true). ap (λ b. price (if b then Ram else (if eqb p.rom (next_price p) then Rom else Io))) is ∙ ram ∙ eqb-true p.ram (next_price p) is)
+        (λ (differs : eqb p.ram (next_price p) ≡ false).
+        ap (λ b. price (if b then Ram else (if eqb p.rom (next_price p) then Rom else Io))) differs
+        ∙ ⊎_elim
+        (λ (is : eqb p.rom (next_price p) ≡ true). ap (λ b. price (if b then Rom else Io)) is ∙ rom ∙ eqb-true p.rom (next_price p) is)
+        (λ (other : eqb p.rom (next_price p) ≡ false).
+        ap (λ b. price (if b then Rom else Io)) other ∙ io ∙ last_one (apart p.ram differs) (apart p.rom other) some)
+        (cases_Bool (eqb p.rom (next_price p))))
+        (cases_Bool (eqb p.ram (next_price p)))
+      where
+        apart : (n : ℕ) → eqb n (next_price p) ≡ false → n ≢ next_price p
+        apart n differs same = absurd (let both : true ≡ false = sym (eq-eqb n (next_price p) same) ∙ differs in cc)
+
+    -- the price by the better class, and the gain, are the present price
+    pub falls : (g : Gain) (change : ClassChange) → class_gain p ≡ Some g → g.refinement ≡ Addresses change → price change.better + g.ticks ≡ p.present
+    falls g change gain is = ⊎_elim
+        (λ (none : eqb (next_price p) 0 ≡ true).
+        absurd (let both : None ≡ Some g = sym (ap (λ b. if b then None else Some (next_gain p (next_price p))) none) ∙ gain in cc))
+        (λ (some : eqb (next_price p) 0 ≡ false).
+        let both : Some (next_gain p (next_price p)) ≡ Some g = sym (ap (λ b. if b then None else Some (next_gain p (next_price p))) some) ∙ gain in
+        let same : next_gain p (next_price p) ≡ g = cc in
+        let changed : Addresses (record { present = p.class; better = next_class p (next_price p) }) ≡ Addresses change = ap (λ (x : Gain). x.refinement) same ∙ is in
+        let change_is : record { present = p.class; better = next_class p (next_price p) } ≡ change = cc in
+        let better : price (next_class p (next_price p)) ≡ price change.better = ap (λ (x : ClassChange). price x.better) change_is in
+        let ticks : p.present - next_price p ≡ g.ticks = ap (λ (x : Gain). x.ticks) same in
+        let positive : 0 < next_price p = ⊎_elim (λ (z : next_price p < 1). absurd (let zero_is : next_price p ≡ 0 = omega arith in let t : true ≡ false = sym (eq-eqb (next_price p) 0 zero_is) ∙ some in cc)) (λ (le : 1 ≤ next_price p). let goal : 0 < next_price p = omega arith in goal) (cases_lt (next_price p) 1) in
+        let own : price (next_class p (next_price p)) ≡ next_price p = class_price positive in
+        let goal : price change.better + g.ticks ≡ p.present = omega (arith, at_most) in goal)
+        (cases_Bool (eqb (next_price p) 0))
+
+-- ## Edges
+
+-- the class that stands first is the stated one
+first_class : (st : Stated) (a : ℕ) (class : Class) → class_of (with_access st a class) a ≡ class
+first_class st a class = ap (λ b. unwrap_or (if b then Some class else lookup (eqb a) st.accesses) Any) (eq-eqb a a refl)
+
+by_work : (st : Stated) (profile : Profile) (a : ℕ) (action : Action) (to : Place) (g : Gain) (change : ClassChange)
+    → class_gain (transfer_prices profile (class_of st a) action.work) ≡ Some g → g.refinement ≡ Addresses change
+    → do_ticks (with_access st a change.better) profile a action to + g.ticks ≡ do_ticks st profile a action to
+by_work st profile a action to g change gain is =
+    let less = falls (transfer_prices profile (class_of st a) action.work) (λ c. work_ticks profile c action.work) refl refl refl g change gain is in
+    let fetch = fetch_ticks profile a action.work in
+    let arrival = arrival_ticks st.leave profile action.kind to in
+    ap (λ (c : Class). fetch + work_ticks profile c action.work + arrival + g.ticks) (first_class st a change.better) ∙ omega (arith, less)
+
+module _ (st : Stated) (profile : Profile) (a : ℕ) (c : Cond) (to : Place) (g : Gain) (change : ClassChange) (is : g.refinement ≡ Addresses change) where
+  abbrev pub Falls : Operation → Type 0
+  Falls o = do_ticks (with_access st a change.better) profile a (action c (kind_of o) (work_of o)) to + g.ticks ≡ do_ticks st profile a (action c (kind_of o) (work_of o)) to
+
+  not_none : None ≡ Some g → ⊥
+  not_none gain = cc
+
+  not_multiplier : Some (multiply_gain profile) ≡ Some g → ⊥
+  not_multiplier gain =
+      let same : multiply_gain profile ≡ g = cc in
+      let both : Multiplier ≡ Addresses change = ap (λ (x : Gain). x.refinement) same ∙ is in
+      cc
+
+  of_operation : (o : Operation) → operation_gain profile (class_of st a) o ≡ Some g → Falls o
+  of_operation (operation.Multiply x) gain = absurd (not_multiplier gain)
+  of_operation (operation.DataRegister x) gain = absurd (not_none gain)
+  of_operation (operation.DataRegisterShift x) gain = absurd (not_none gain)
+  of_operation (operation.DataImmediate x) gain = absurd (not_none gain)
+  of_operation (operation.SingleImmediate x) gain = by_work st profile a (action c (kind_of (operation.SingleImmediate x)) (transfer x.load 1)) to g change gain is
+  of_operation (operation.SingleRegister x) gain = by_work st profile a (action c (kind_of (operation.SingleRegister x)) (transfer x.load 1)) to g change gain is
+  of_operation (operation.Block x) gain = by_work st profile a (action c (kind_of (operation.Block x)) (transfer x.load (count_ones x.list))) to g change gain is
+  of_operation (operation.Branch x) gain = absurd (not_none gain)
+  of_operation (operation.Swi x) gain = absurd (not_none gain)
+  of_operation (operation.UndefinedTransfer x) gain = absurd (not_none gain)
+  of_operation (operation.CoprocessorTransfer x) gain = absurd (not_none gain)
+  of_operation (operation.Coprocessor x) gain = absurd (not_none gain)
+
+pub access_gains : (st : Stated) (profile : Profile) (a : ℕ) (i : Instr) (to : Place) (g : Gain) (change : ClassChange)
+    → operation_gain profile (class_of st a) i.operation ≡ Some g → g.refinement ≡ Addresses change
+    → do_ticks (with_access st a change.better) profile a (instr_action i) to + g.ticks ≡ do_ticks st profile a (instr_action i) to
+access_gains st profile a i to g change gain is = of_operation st profile a i.cond to g change is i.operation gain
+
+pub leave_gains : (st : Stated) (profile : Profile) (g : Gain) (change : ClassChange) → leave_gain profile st.leave ≡ Some g → g.refinement ≡ Addresses change
+    → jump_ticks (with_leave st change.better).leave profile Exit + g.ticks ≡ jump_ticks st.leave profile Exit
+leave_gains st profile g change gain is = falls (leave_prices profile st.leave) (worst_leave_of profile) refl refl refl g change gain is
