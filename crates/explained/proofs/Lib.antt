@@ -10,5 +10,5 @@ pub mod RowLaws
 mod StandLaws
 mod SumLaws
 mod TableLaws
-mod TallyLaws
-mod TotalLaws
+pub mod TallyLaws
+pub mod TotalLaws
