@@ -10,9 +10,9 @@ use Rattle.statement.specs.Stated.{Stated}
 use Rattle.statement.specs.Statement.{Names}
 use Rattle.arm2_exec.specs.State.{State}
 use Rattle.arm2_exec.specs.declared.machine.Input.{Input}
-use Rattle.flow_graph.specs.Flow.{Flow}
+use Rattle.flow_graph.specs.Flow.{Flow, IsWellFormed}
 use Rattle.flow_graph.specs.Graph.{IsFlowGraph}
-use Rattle.flow_graph.specs.StepLaw.{RunLaw}
+use Rattle.flow_graph.specs.StepLaw.{RunLaw, StepCost}
 use Rattle.loop_bounds.specs.Bounds.{IsGreatestCost}
 use Rattle.loop_bounds.specs.Tree.{Tree}
 use Rattle.longest_walk.specs.Longest.{IsLongest, IsWalkFault}
@@ -36,6 +36,7 @@ use Rattle.report_input.specs.Source.{Said, source_of}
 use Rattle.report_output.specs.declared.fault.ReportFault.{ReportFault}
 use Rattle.report_output.specs.declared.fault.ReportFault.TheVariants.{Memory, Source, Image, Statement, Graph, Loops, Walk, MachineFile, Load, Cert, Device}
 use Rattle.report_output.specs.declared.fault.ReportFault.TheVariants as report_fault
+use Rattle.author_reports.proofs.ExactLemmas.{table_exact}
 use Rattle.report_input.proofs.HandlerLemmas.{one_ok}
 use Rattle.report_input.proofs.PlacingLemmas.{runnable_refusals}
 use Rattle.report_input.proofs.ReportLemmas.{accepted, accepted_refusals, bounds_runs, kept_here, kept_there}
@@ -74,9 +75,9 @@ module _ (words : Words) (st : Stated) (flow : Flow) (tree : Tree) (of : IsTreeO
   none_keeps none steps keeps = none steps (by_tree (take steps inputs) keeps)
 
   -- what is told of a followed run
-  pub told : RunLaw → IsGreatestCost flow st.loops longest.bound → (after : State) (followed : Followed) (kept : Bool) (text : List ℕ)
+  pub told : IsWellFormed flow → StepCost → RunLaw → IsLongest flow tree longest → IsGreatestCost flow st.loops longest.bound → (after : State) (followed : Followed) (kept : Bool) (text : List ℕ)
       → IsFollowed words st flow tree s inputs after followed → Tells source words st flow longest followed kept text → TellsRun words st flow.profile flow s inputs source tree longest kept text
-  told law greatest after (Kept steps ticks by_place) kept text is tells =
+  told well cost law longest_is greatest after (Kept steps ticks by_place) kept text is tells =
       subst (λ (b : Bool). TellsRun words st flow.profile flow s inputs source tree longest b text) (sym tells.0)
       (record {
         ticks = ticks;
@@ -84,10 +85,13 @@ module _ (words : Words) (st : Stated) (flow : Flow) (tree : Tree) (of : IsTreeO
         passes = is.passes;
         passes_are = is.passes_are;
         table = tells.1.table;
-        table_is = tells.1.table_is is.passes is.tally_is;
+        table_is =
+            let keeps = states (take steps inputs) is.keeps in
+            table_exact source words st flow tree longest s (take steps inputs) is.keeps.walk is.passes tells.1.table well cost longest_is is.keeps.complete is.keeps.follows is.passes_are
+            (greatest.upper keeps.walk keeps.complete keeps.kept) (tells.1.table_is is.passes is.tally_is);
         text_is = tells.1.text_is;
       })
-  told law greatest after (Strayed steps at why) kept text is tells =
+  told well cost law longest_is greatest after (Strayed steps at why) kept text is tells =
       subst (λ (b : Bool). TellsRun words st flow.profile flow s inputs source tree longest b text) (sym tells.0)
       (record {
         steps = steps;

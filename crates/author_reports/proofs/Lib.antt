@@ -1,4 +1,5 @@
 pub mod DifferenceLemmas
 pub mod ExplainLemmas
+pub mod ExactLemmas
 pub mod FollowLemmas
 pub mod GraphLemmas

@@ -12,7 +12,7 @@ use Rattle.explained.specs.Assumed.{named_row}
 use Rattle.explained.specs.Columns.{in_columns}
 use Rattle.explained.specs.Rows.{AreRows, IsShownRow, section}
 use Rattle.explained.specs.Table.{passes_of, ticks_of}
-use Rattle.explained.specs.Taken.{is_at, taken_at}
+use Rattle.explained.specs.Taken.{cost_at, is_at, pass_at, taken_at}
 use Rattle.explained.specs.declared.tally.Tally.{Tally}
 use Rattle.flow_graph.specs.Flow.{Flow}
 use Rattle.flow_graph.specs.Places.{place_at}
@@ -34,17 +34,16 @@ use Rattle.author_reports.specs.declared.differences.RunTally.{RunTally}
 abbrev pub run_at : Flow → List Pass → ℕ → Numbers
 run_at flow passes a =
     record {
-      passes = capped (count_by (λ p. is_at a (place_at flow.places p.place)) passes);
-      ticks = capped (sum_by (λ p. cond (is_at a (place_at flow.places p.place)) p.ticks 0) passes);
+      passes = count_by (λ p. is_at a (place_at flow.places p.place)) passes;
+      ticks = sum_by (λ p. cond (is_at a (place_at flow.places p.place)) p.ticks 0) passes;
     }
 
 -- how often the walk leaves the address, and the ticks of that
-abbrev pub walk_at : Flow → List Edge → ℕ → Numbers
-walk_at flow walk a =
-    record { passes = passes_of (taken_at flow walk a); ticks = ticks_of (taken_at flow walk a) }
+abbrev pub walk_at : List Edge → ℕ → Numbers
+walk_at walk a = record { passes = sum_by (pass_at a) walk; ticks = sum_by (cost_at a) walk }
 
 abbrev pub compared_at : Flow → List Pass → List Edge → ℕ → Compared
-compared_at flow passes walk a = record { run = run_at flow passes a; bound = walk_at flow walk a }
+compared_at flow passes walk a = record { run = run_at flow passes a; bound = walk_at walk a }
 
 -- ## Rows
 
@@ -103,6 +102,17 @@ pub record IsTable (source : List ℕ) (words : Words) (compared : ℕ → Compa
       × (text ≡ section image_heading rows)
 
 -- ## Tallies
+
+-- the same, told up to 2^64 - 1
+abbrev pub told_at : Flow → List Pass → List Edge → ℕ → Compared
+told_at flow passes walk a =
+    record {
+      run = record {
+        passes = capped (run_at flow passes a).passes;
+        ticks = capped (run_at flow passes a).ticks;
+      };
+      bound = record { passes = passes_of (taken_at flow walk a); ticks = ticks_of (taken_at flow walk a) };
+    }
 
 abbrev pub none : Numbers
 none = record { passes = 0; ticks = 0 }

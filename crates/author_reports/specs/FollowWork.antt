@@ -14,16 +14,17 @@ use Rattle.kept_runs.specs.declared.following.Followed.{Followed}
 use Rattle.kept_runs.specs.declared.following.Followed.TheVariants.{Kept, Strayed}
 use Rattle.machine_file.specs.Inputs.{AreInputs}
 use Rattle.machine_file.specs.Stated.{Stated}
-use Rattle.author_reports.specs.Differences.{IsTable, compared_at}
+use Rattle.author_reports.specs.Differences.{IsTable, told_at}
 use Rattle.author_reports.specs.FollowReport.{TellsRun}
 use Rattle.author_reports.specs.FollowText.{IsLineAt, kept_text, strayed_text, why_text}
 
--- the answer on a run that is kept: its ticks, and where it and the walk differ, whatever its steps are
+-- the answer on a run that is kept: its ticks, and where it and the walk differ, whatever its steps are, by
+-- numbers that are told up to 2^64 - 1
 pub record TellsKeptRun (source : List ℕ) (words : Words) (flow : Flow) (longest : Longest) (ticks : ℕ)
     (by_place : List Passed) (text : List ℕ) : Type 0 where
   pub table : List ℕ
   pub table_is : (passes : List Pass) → IsTally flow passes by_place
-      → IsTable source words (compared_at flow passes (unfolded longest.walk)) table
+      → IsTable source words (told_at flow passes (unfolded longest.walk)) table
   pub text_is : text ≡ kept_text ticks longest.bound ++ table
 
 -- what is told of a kept run is told of each place

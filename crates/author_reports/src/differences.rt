@@ -7,9 +7,9 @@ ghost use Rattle.kept_runs.specs.Passing.{IsTally, Pass};
 ghost use Rattle.longest_walk.specs.Folded.{unfolded};
 ghost use Rattle.walk_counts.specs.Counts.{capped};
 ghost use Rattle.author_reports.specs.Differences.{Adds, HasAdded, IsRowIfApart, IsTable, agree};
-ghost use Rattle.author_reports.specs.Differences.{compared_at, compared_in, compared_text};
+ghost use Rattle.author_reports.specs.Differences.{compared_in, compared_text};
 ghost use Rattle.author_reports.specs.Differences.{line_rows, numbers_text};
-ghost use Rattle.author_reports.specs.Differences.{row_if_apart, tallied, with_place, word_rows};
+ghost use Rattle.author_reports.specs.Differences.{row_if_apart, tallied, told_at, with_place, word_rows};
 ghost use Rattle.report_input.specs.Source.{IsSourceFault};
 
 use asm_text::first_line;
@@ -302,7 +302,7 @@ pub(crate) fn differences(
     ensures table { (passes : List Pass) → IsTally graph.now passes by_place.now
         → IfOk result
         (λ text. IsTable words.entry.source.now words.entry.image.now
-        (compared_at graph.now passes (unfolded walk.now)) text.items) }
+        (told_at graph.now passes (unfolded walk.now)) text.items) }
     ensures fault { IfErr result (IsSourceFault words.entry.source.now) }
 {
     let run_tally = RunTally::of_places(alloc, graph, by_place)?;

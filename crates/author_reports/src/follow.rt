@@ -2,6 +2,7 @@
 
 ghost use Rattle.std.specs.Prelude.{◌≡◌, ◌≢◌, ℕ, List, Ok, IfErr, IfOk, OnOk, Option, length, option_map};
 ghost use Rattle.bus_ticks.specs.declared.profile.Profile.{Profile};
+ghost use Rattle.flow_graph.specs.Flow.{IsWellFormed};
 ghost use Rattle.flow_graph.specs.Graph.{IsFlowGraph};
 ghost use Rattle.kept_runs.specs.Judging.{IsMachineFor};
 ghost use Rattle.loader.specs.Labels.{address_of};
@@ -19,7 +20,7 @@ use crate::differences::{Words, differences};
 use crate::follow_text::{kept_text, line_of, strayed_text, why_text};
 use assembler::Assembly;
 use bus_ticks::Profile;
-use flow_graph::run_law;
+use flow_graph::{Graph, run_law, step_law};
 use kept_runs::{Followed, Passed, Unkept, follow};
 use loader::Image;
 use longest_walk::{Longest, longest};
@@ -140,6 +141,13 @@ fn told(alloc: Global, bounded: Bounded<'_>, followed: &Followed) -> Result<Judg
     }
 }
 
+// A graph is well formed.
+fn is_well_formed(graph: &Graph)
+    ensures { IsWellFormed graph.now }
+{
+    let _places = graph.places();
+}
+
 // The answer on the run of a machine that has all its words.
 fn judged_run(
     alloc: Global,
@@ -150,6 +158,7 @@ fn judged_run(
         bounded.handler.now.graph.profile bounded.handler.now.graph }
     requires tree { IsTreeOf bounded.handler.now.graph bounded.handler.now.statement.loops
         bounded.handler.now.tree }
+    requires longest { IsLongest bounded.handler.now.graph bounded.handler.now.tree bounded.longest.now }
     requires greatest { IsGreatestCost bounded.handler.now.graph bounded.handler.now.statement.loops
         bounded.longest.now.bound }
     requires machine { IsMachineFor bounded.handler.now.graph placed.old.machine }
@@ -167,6 +176,8 @@ fn judged_run(
         tree: &bounded.handler.tree,
     };
     run_law();
+    step_law();
+    is_well_formed(&bounded.handler.graph);
     let followed = follow(alloc, handler, &mut placed.machine, &inputs)?;
     told(alloc, bounded, &followed)
 }
@@ -245,9 +256,10 @@ fn priced_run<O: Output>(
 /// `true` exactly where the run keeps the statement: its steps, some number of the file's, are a walk from
 /// the entry to Exit that keeps the loop bounds. Then its ticks are at most the bound of
 /// [`bound_report`](crate::bound_report), and the first line that is written says how many they are, and how
-/// much less. A table follows of the words at which the run and a greatest walk differ, in how often they pass
-/// or in the ticks that they take there, if they differ. Else the line says which step is the first that does
-/// not keep it, by its number from 0, its address and its line of the source, and why.
+/// much less. A table follows of the words at which the run and a greatest walk differ, in how often they
+/// pass or in the ticks that they take there; nothing follows where they nowhere differ. Else the line says
+/// which step is the first that does not keep it, by its number from 0, its address and its line of the
+/// source, and why.
 ///
 /// # Errors
 ///

@@ -11,5 +11,5 @@ mod StandLaws
 mod StartLaws
 mod SumLaws
 mod TableLaws
-mod TallyLaws
-mod TotalLaws
+pub mod TallyLaws
+pub mod TotalLaws

@@ -28,6 +28,6 @@ returns-clause-judged c =
     (λ j tells. record {
       inputs = inputs;
       inputs_are = c.in_ok-inputs.ensures;
-      tells = told b.image.now h.statement h.graph h.tree c.requires.tree b.source.now b.longest.now start inputs c.run_law.ensures c.requires.greatest after f j.kept j.text.items is tells;
+      tells = told b.image.now h.statement h.graph h.tree c.requires.tree b.source.now b.longest.now start inputs c.is_well_formed.ensures c.step_law.ensures.cost c.run_law.ensures c.requires.longest c.requires.greatest after f j.kept j.text.items is tells;
     })
     c.told.ensures.told
