@@ -30,7 +30,6 @@ use Rattle.walk_counts.specs.Counts.{capped}
 use Rattle.author_reports.proofs.DifferenceLemmas.{same_compared, same_numbers}
 use Rattle.author_reports.proofs.ExplainLemmas.{bound_fits}
 use Rattle.author_reports.specs.declared.differences.Compared.{Compared}
-use Rattle.author_reports.specs.declared.differences.Numbers.{Numbers}
 use Rattle.author_reports.specs.Differences.{IsTable, compared_at, run_at, told_at, walk_at}
 
 capped_is : (n : ℕ) → n < 2 ^ 64 → capped n ≡ n

@@ -1,6 +1,6 @@
 -- Where a run that keeps its statement and a greatest walk differ. Our own format.
 use Rattle.std.specs.Prelude.{◌≡◌, ℕ, zero, suc, ◌+◌, ◌==◌, ◌&&◌, Bool, true, false, cond, if◌then◌else◌, List}
-use Rattle.std.specs.Prelude.{[], ◌∷◌, ◌++◌, codes, decimal, count_by, sum_by, unwrap_or, length}
+use Rattle.std.specs.Prelude.{[], ◌∷◌, ◌++◌, codes, decimal, count_by, sum_by, unwrap_or}
 use Rattle.std.specs.Prelude.{slice_index_or}
 use Rattle.std.specs.BTreeMap.{get}
 use Rattle.std.specs.List.{range_with_len}
