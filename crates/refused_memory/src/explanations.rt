@@ -86,9 +86,10 @@ impl ExplainedCall {
             statement: &handler.statement,
             graph,
         };
+        let starts = NESTED_STARTS;
         let timed = TimedWalk {
             longest: &found,
-            starts: NESTED_STARTS.as_slice(),
+            starts: starts.as_slice(),
         };
         let answer = match self {
             ExplainedCall::Lines => lines(alloc, stated, timed),
