@@ -118,12 +118,20 @@ const EDGE_LINE: &[u8] = b"# edge 800C do exit 9\n";
 const EDGE_TICKS: &[u8] = b"ticks 9 elapsed 9\n";
 
 /// What stands under the table where bursts are asked for: 50 ticks, and 6 for each of 3 bursts, or of the 13
-/// that come within 130 ticks.
-const BURST_LINES: &[u8] = b"with 3 bursts 68 ticks, 8.500 microseconds at 8 MHz
+/// that come within 130 ticks. A return to a device's address costs 6 ticks where one to anywhere costs 8.
+const UNDER_TABLE: &[u8] = b"with 3 bursts 68 ticks, 8.500 microseconds at 8 MHz
 with a burst every 10 ticks 128 ticks, 16.000 microseconds at 8 MHz
+
+What would save most, in ticks at most (state only what is true):
+        2   leave io for any
 ";
 
-const FOLLOWED: &[u8] = b"kept: 21 ticks, 4 less than the bound\n";
+/// A return to RAM costs 4 ticks, and one to anywhere 8.
+const FOLLOWED: &[u8] = b"kept: 21 ticks, 4 less than the bound
+                 run               bound
+   passes      ticks   passes      ticks   address  line  text
+        1          5        1          9  0000800C     4   SUBS PC,R14,#4
+";
 
 /// Its bound is exactly as much as it may be.
 const EXPLAINED: Explained<'static> = Explained {
@@ -243,7 +251,7 @@ impl Report {
     fn is_written(self, alloc: Global, written: &[u8]) -> Result<bool, ReportFault> {
         match self {
             Report::Tight => is_tight(alloc, written),
-            Report::Explain => Ok(written.strip_prefix(NESTED_LINES) == Some(BURST_LINES)),
+            Report::Explain => Ok(written.strip_prefix(NESTED_LINES) == Some(UNDER_TABLE)),
             _ => Ok(written == self.text()),
         }
     }

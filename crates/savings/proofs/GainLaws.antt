@@ -1,5 +1,5 @@
 -- What a gain is: the difference of two prices.
-use Rattle.std.proofs.Common.{◌≡◌, ◌≢◌, ◌∙◌, ℕ, ◌+◌, ◌-◌, ◌<◌, ◌≤◌, true, false, count_ones, eqb, Some, None, ◌⊎◌, inl, inr, ⊎_elim, refl, sym, ap, arith}
+use Rattle.std.proofs.Common.{◌≡◌, ◌≢◌, ◌∙◌, ℕ, ◌+◌, ◌-◌, ◌<◌, ◌≤◌, max, Bool, true, false, count_ones, eqb, Some, None, ◌⊎◌, inl, inr, ⊎_elim, refl, sym, ap, arith}
 use Rattle.std.specs.Prelude.{if◌then◌else◌, unwrap_or}
 use Rattle.std.specs.Map.{lookup}
 use Rattle.std.proofs.lemmas.Bool.{cases_Bool, cases_lt, eq-eqb, eqb-true, le-ltb, lt-ltb}
@@ -12,13 +12,14 @@ use Rattle.bus_ticks.specs.declared.profile.Class.TheVariants.{Any, Io, Ram, Rom
 use Rattle.bus_ticks.specs.declared.profile.Profile.{Profile}
 use Rattle.bus_ticks.specs.Worst.{worst_leave_of}
 use Rattle.flow_graph.specs.declared.kinds.Action.{Action}
+use Rattle.flow_graph.specs.declared.kinds.Work.{Work}
 use Rattle.flow_graph.specs.declared.places.Place.{Place}
 use Rattle.flow_graph.specs.declared.places.Place.TheVariants.{Exit}
 use Rattle.flow_graph.specs.Edges.{arrival_ticks, do_ticks, fetch_ticks, jump_ticks, work_ticks}
 use Rattle.flow_graph.specs.Kinds.{action, instr_action, kind_of, transfer, work_of}
 use Rattle.statement.specs.Stated.{Stated, class_of}
 use Rattle.savings.specs.Changed.{with_access, with_leave}
-use Rattle.savings.specs.Gains.{class_gain, if_less, leave_gain, leave_prices, multiply_gain, next_class, next_gain, next_price, operation_gain, transfer_prices}
+use Rattle.savings.specs.Gains.{IsDearestBelow, class_gain, if_less, leave_gain, leave_prices, multiply_gain, next_class, next_gain, next_price, operation_gain, transfer_gain, transfer_prices}
 use Rattle.savings.specs.declared.classes.ClassChange.{ClassChange}
 use Rattle.savings.specs.declared.classes.ClassPrices.{ClassPrices}
 use Rattle.savings.specs.declared.gains.Gain.{Gain}
@@ -37,6 +38,15 @@ not_more present price = ⊎_elim
     (λ less. let same : if_less present price ≡ price = less.0 in let lt : price < present = less.1 in let goal : if_less present price ≤ present = omega arith in goal)
     (λ (none : if_less present price ≡ 0). let goal : if_less present price ≤ present = omega arith in goal)
     (one_of present price)
+
+under : (present price : ℕ) → if_less present price < max present 1
+under present price = ⊎_elim
+    (λ less. let same : if_less present price ≡ price = less.0 in let lt : price < present = less.1 in let goal : if_less present price < max present 1 = omega arith in goal)
+    (λ (none : if_less present price ≡ 0). let goal : if_less present price < max present 1 = omega arith in goal)
+    (one_of present price)
+
+includes : (present price : ℕ) → price < present → price ≤ if_less present price
+includes present price less = let same : if_less present price ≡ price = ap (λ b. if b then price else 0) (lt-ltb price present less) in omega arith
 
 module _ (p : ClassPrices) where
   at_most : next_price p ≤ p.present
@@ -71,9 +81,15 @@ module _ (p : ClassPrices) where
         apart : (n : ℕ) → eqb n (next_price p) ≡ false → n ≢ next_price p
         apart n differs same = absurd (let both : true ≡ false = sym (eq-eqb n (next_price p) same) ∙ differs in cc)
 
-    -- the price by the better class, and the gain, are the present price
-    pub falls : (g : Gain) (change : ClassChange) → class_gain p ≡ Some g → g.refinement ≡ Addresses change → price change.better + g.ticks ≡ p.present
-    falls g change gain is = ⊎_elim
+    -- a gain by another class
+    pub record IsNextClass (g : Gain) (change : ClassChange) : Type 0 where
+      pub some : 0 < next_price p
+      pub class : change.better ≡ next_class p (next_price p)
+      pub better : price change.better ≡ next_price p
+      pub ticks : g.ticks ≡ p.present - next_price p
+
+    pub next_is : (g : Gain) (change : ClassChange) → class_gain p ≡ Some g → g.refinement ≡ Addresses change → IsNextClass g change
+    next_is g change gain is = ⊎_elim
         (λ (none : eqb (next_price p) 0 ≡ true).
         absurd (let both : None ≡ Some g = sym (ap (λ b. if b then None else Some (next_gain p (next_price p))) none) ∙ gain in cc))
         (λ (some : eqb (next_price p) 0 ≡ false).
@@ -81,12 +97,44 @@ module _ (p : ClassPrices) where
         let same : next_gain p (next_price p) ≡ g = cc in
         let changed : Addresses (record { present = p.class; better = next_class p (next_price p) }) ≡ Addresses change = ap (λ (x : Gain). x.refinement) same ∙ is in
         let change_is : record { present = p.class; better = next_class p (next_price p) } ≡ change = cc in
-        let better : price (next_class p (next_price p)) ≡ price change.better = ap (λ (x : ClassChange). price x.better) change_is in
-        let ticks : p.present - next_price p ≡ g.ticks = ap (λ (x : Gain). x.ticks) same in
-        let positive : 0 < next_price p = ⊎_elim (λ (z : next_price p < 1). absurd (let zero_is : next_price p ≡ 0 = omega arith in let t : true ≡ false = sym (eq-eqb (next_price p) 0 zero_is) ∙ some in cc)) (λ (le : 1 ≤ next_price p). let goal : 0 < next_price p = omega arith in goal) (cases_lt (next_price p) 1) in
-        let own : price (next_class p (next_price p)) ≡ next_price p = class_price positive in
-        let goal : price change.better + g.ticks ≡ p.present = omega (arith, at_most) in goal)
+        let class_is : change.better ≡ next_class p (next_price p) = sym (ap (λ (x : ClassChange). x.better) change_is) in
+        let positive : 0 < next_price p = ⊎_elim
+        (λ (z : next_price p < 1). absurd (let zero_is : next_price p ≡ 0 = omega arith in let t : true ≡ false = sym (eq-eqb (next_price p) 0 zero_is) ∙ some in cc))
+        (λ (le : 1 ≤ next_price p). let goal : 0 < next_price p = omega arith in goal)
+        (cases_lt (next_price p) 1) in
+        record {
+          some = positive;
+          class = class_is;
+          better = ap price class_is ∙ class_price positive;
+          ticks = sym (ap (λ (x : Gain). x.ticks) same);
+        })
         (cases_Bool (eqb (next_price p) 0))
+
+    -- the price by the better class, and the gain, are the present price
+    pub falls : (g : Gain) (change : ClassChange) → class_gain p ≡ Some g → g.refinement ≡ Addresses change → price change.better + g.ticks ≡ p.present
+    falls g change gain is = let n = next_is g change gain is in omega (arith, at_most, n.better, n.ticks)
+
+    -- it is the dearest of the cheaper classes
+    pub dearest : (g : Gain) (change : ClassChange) → class_gain p ≡ Some g → g.refinement ≡ Addresses change → IsDearestBelow price p.present change.better
+    dearest g change gain is =
+        let n = next_is g change gain is in
+        let below : next_price p < p.present = omega (arith, n.some, under p.present p.ram, under p.present p.rom, under p.present p.io) in
+        record {
+          named = λ any. named (eqb p.ram (next_price p)) (eqb p.rom (next_price p)) (sym n.class ∙ any);
+          less = omega (arith, n.better, below);
+          next = λ other is_named cheaper. let le = no_more other is_named cheaper in let same = n.better in omega (arith, le, same);
+        }
+      where
+        named : (b c : Bool) → (if b then Ram else (if c then Rom else Io)) ≡ Any → ⊥
+        named true c any = cc
+        named false true any = cc
+        named false false any = cc
+
+        no_more : (other : Class) → other ≢ Any → price other < p.present → price other ≤ next_price p
+        no_more Ram is_named cheaper = let lt : p.ram < p.present = omega (arith, ram, cheaper) in omega (arith, ram, includes p.present p.ram lt)
+        no_more Rom is_named cheaper = let lt : p.rom < p.present = omega (arith, rom, cheaper) in omega (arith, rom, includes p.present p.rom lt)
+        no_more Io is_named cheaper = let lt : p.io < p.present = omega (arith, io, cheaper) in omega (arith, io, includes p.present p.io lt)
+        no_more Any is_named cheaper = absurd (is_named refl)
 
 -- ## Edges
 
@@ -138,3 +186,13 @@ access_gains st profile a i to g change gain is = of_operation st profile a i.co
 pub leave_gains : (st : Stated) (profile : Profile) (g : Gain) (change : ClassChange) → leave_gain profile st.leave ≡ Some g → g.refinement ≡ Addresses change
     → jump_ticks (with_leave st change.better).leave profile Exit + g.ticks ≡ jump_ticks st.leave profile Exit
 leave_gains st profile g change gain is = falls (leave_prices profile st.leave) (worst_leave_of profile) refl refl refl g change gain is
+
+-- ## Which class is next
+
+pub next_access : (profile : Profile) (class : Class) (work : Work) (g : Gain) (change : ClassChange) → transfer_gain profile class work ≡ Some g → g.refinement ≡ Addresses change
+    → IsDearestBelow (λ c. work_ticks profile c work) (work_ticks profile class work) change.better
+next_access profile class work g change gain is = dearest (transfer_prices profile class work) (λ c. work_ticks profile c work) refl refl refl g change gain is
+
+pub next_leave : (profile : Profile) (class : Class) (g : Gain) (change : ClassChange) → leave_gain profile class ≡ Some g → g.refinement ≡ Addresses change
+    → IsDearestBelow (worst_leave_of profile) (worst_leave_of profile class) change.better
+next_leave profile class g change gain is = dearest (leave_prices profile class) (worst_leave_of profile) refl refl refl g change gain is

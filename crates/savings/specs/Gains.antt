@@ -1,9 +1,10 @@
 -- What the next better entry of a statement takes off a price, in ticks. Our own rules.
-use Rattle.std.specs.Prelude.{ℕ, ◌-◌, ◌*◌, max, nat_lt, count_ones, ◌==◌, if◌then◌else◌, Option, Some, None}
+use Rattle.std.specs.Prelude.{◌≢◌, ℕ, ◌-◌, ◌*◌, ◌<◌, ◌≤◌, ◌==◌, max, nat_lt, count_ones, if◌then◌else◌}
+use Rattle.std.specs.Prelude.{Option, Some, None}
 use Rattle.arm2_decode.specs.declared.instr.Operation.{Operation}
 use Rattle.arm2_decode.specs.declared.instr.Operation.TheVariants as operation
 use Rattle.bus_ticks.specs.declared.profile.Class.{Class}
-use Rattle.bus_ticks.specs.declared.profile.Class.TheVariants.{Ram, Rom, Io}
+use Rattle.bus_ticks.specs.declared.profile.Class.TheVariants.{Any, Ram, Rom, Io}
 use Rattle.bus_ticks.specs.declared.profile.Profile.{Profile}
 use Rattle.bus_ticks.specs.Worst.{worst_leave_of}
 use Rattle.flow_graph.specs.Edges.{work_ticks}
@@ -38,6 +39,12 @@ next_gain p next =
 -- None where no class costs less
 abbrev pub class_gain : ClassPrices → Option Gain
 class_gain p = if next_price p == 0 then None else Some (next_gain p (next_price p))
+
+-- a class that a statement may name is below the present price, and none that is below it is dearer
+pub record IsDearestBelow (price : Class → ℕ) (present : ℕ) (class : Class) : Type 0 where
+  pub named : class ≢ Any
+  pub less : price class < present
+  pub next : (other : Class) → other ≢ Any → price other < present → price other ≤ price class
 
 -- ## What a word and a way out gain
 

@@ -1,5 +1,5 @@
--- What each better entry of a statement would save by a walk, in ticks. Another walk may then cost more, so a bound
--- would be less by that at most.
+-- What each better entry of a statement would save by a walk, in ticks. Another walk may then cost more, so a
+-- bound would be less by that at most.
 use Rattle.std.specs.Prelude.{◌≡◌, ℕ, ◌*◌, ◌==◌, if◌then◌else◌, List, [], ◌∷◌, ◌++◌, Option, Some, None}
 use Rattle.std.specs.List.Sorted.{IsPermutation, IsSortedByKey, IsStableByKey}
 use Rattle.std.specs.Ordering.{nat_cmp}

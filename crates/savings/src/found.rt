@@ -15,16 +15,16 @@ use std::alloc::{AllocError, Global};
 use std::cmp::Reverse;
 use std::collections::BTreeMap;
 
-/// What a statement may say better.
+/// Whose price would be less.
 #[derive(Clone, Copy)]
 pub enum Subject {
-    /// Something of a word: its address, and the word.
+    /// That of the word at an address: the address, and the word.
     Word(u32, u32),
-    /// The class of the addresses to which the handler leaves.
+    /// That of the way out of the handler.
     Leave,
 }
 
-/// What a better entry of a statement would save.
+/// What a greatest walk would cost less by a better entry of a statement, or a better multiplier.
 #[derive(Clone, Copy)]
 pub struct Saving {
     pub subject: Subject,

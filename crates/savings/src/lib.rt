@@ -13,5 +13,5 @@ mod sections;
 pub use classes::ClassChange;
 pub use found::{Saving, Subject, savings};
 pub use gains::Refinement;
-pub use law::{gains_are_of_the_prices, times_are_of_the_walk};
+pub use law::{gains_are_of_the_prices, next_class_is_the_dearest_below, times_are_of_the_walk};
 pub use sections::{image_savings, source_savings};

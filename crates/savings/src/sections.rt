@@ -145,9 +145,9 @@ fn image_rows(alloc: Global, list: &[Saving]) -> Result<Vec<u8>, AllocError>
     Ok(out)
 }
 
-/// What better entries of a statement would save by a greatest walk, by the lines of a source: under a heading a
-/// row for each of the [`savings`], with the ticks, the better entry, and the address, the number and the text of
-/// its line. Nothing where there are no savings.
+/// What better entries of a statement would save by a greatest walk, by the lines of a source: under a heading
+/// a row for each of the [`savings`], with the ticks, the better entry, and the address, the number and the
+/// text of its line. Nothing where there are no savings.
 ///
 /// `placed` says where the lines stand, in their order.
 ///
@@ -171,9 +171,9 @@ pub fn source_savings(
     section(alloc, HEADING, &rows)
 }
 
-/// What better entries of a statement would save by a greatest walk, by the words of an image: under a heading a
-/// row for each of the [`savings`], with the ticks, the better entry, and the address, the word and the line that
-/// [`disassemble`](assembler::disassemble) shows. Nothing where there are no savings.
+/// What better entries of a statement would save by a greatest walk, by the words of an image: under a heading
+/// a row for each of the [`savings`], with the ticks, the better entry, and the address, the word and the line
+/// that [`disassemble`](assembler::disassemble) shows. Nothing where there are no savings.
 ///
 /// # Errors
 ///
