@@ -37,6 +37,9 @@ const TABLE: &[u8] = b"   passes     each      ticks  share  begins by      pric
         1        9          9 100.0%          0      leave any     2   SUBS PC,R14,#4
              total          9 100.0%
 bound 9 ticks, 1.125 microseconds at 8 MHz
+
+What would save most, in ticks at most (state only what is true):
+        2   leave io for any
 ";
 
 const DRAFT: &[u8] = b"\
