@@ -3,6 +3,7 @@ mod CycleLemmas
 mod EntryLemmas
 mod ExtentLemmas
 mod LineLemmas
+mod OutlineLemmas
 mod RowLaws
 mod SearchLemmas
 mod TextLaws

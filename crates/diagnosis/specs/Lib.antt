@@ -4,6 +4,7 @@ pub mod Entries
 pub mod Extents
 pub mod FaultyLines
 pub mod Lines
+pub mod Outline
 pub mod Rows
 pub mod SharedHeaders
 pub mod Texts

@@ -8,7 +8,7 @@ mod cycles;
 mod entries;
 mod extents;
 mod members;
-mod pairs;
+mod outline;
 mod program;
 mod rows;
 mod search;
@@ -17,7 +17,6 @@ mod sources;
 mod statements;
 mod texts;
 mod tokens;
-mod values;
 mod words;
 
 pub use crossings::{Crossing, loops_that_cross};
