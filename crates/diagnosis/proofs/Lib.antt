@@ -4,6 +4,7 @@ mod EntryLemmas
 mod ExtentLemmas
 mod LineLemmas
 mod OutlineLemmas
+mod RefusedLemmas
 mod RowLaws
 mod SearchLemmas
 mod TextLaws

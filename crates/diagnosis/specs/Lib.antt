@@ -5,6 +5,7 @@ pub mod Extents
 pub mod FaultyLines
 pub mod Lines
 pub mod Outline
+pub mod Refused
 pub mod Rows
 pub mod SharedHeaders
 pub mod Texts

@@ -17,6 +17,7 @@ mod sources;
 mod statements;
 mod texts;
 mod tokens;
+mod values;
 mod words;
 
 pub use crossings::{Crossing, loops_that_cross};

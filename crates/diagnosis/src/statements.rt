@@ -1,7 +1,435 @@
-use crate::outline::entries_of;
+ghost use Rattle.std.specs.Prelude.{◌≡◌, ◌++◌, ◌∷◌, [], IfOk, List, OnOk, map, option_map};
+ghost use Rattle.std.specs.List.{list_any};
+ghost use Rattle.diagnosis.specs.Outline.{item_of, items_of, stated_of, table_of, value_of};
+ghost use Rattle.diagnosis.specs.Refused.{Adds, IsStatementText, IsTomlText, Row, address_in, all_rows};
+ghost use Rattle.diagnosis.specs.Refused.{entry_rows, is_entry, is_faulty, is_misplaced, is_unknown_key, row_if, rows};
+ghost use Rattle.diagnosis.specs.Refused.{item_rows, keys_of, kind_rows, lies_outside, missing_row};
+ghost use Rattle.diagnosis.specs.Refused.{missing_rows, name_text, needed_keys, row_text, table_row};
+ghost use Rattle.diagnosis.specs.Refused.{table_rows, target_rows, value_at, value_row, value_text};
+ghost use Rattle.diagnosis.specs.Refused.{wants_no_to, wants_to};
+
+use crate::outline::{Entry, Pair, Section, entries_of};
+use crate::rows::{put, put_decimal};
+use crate::tokens::Word;
+use crate::values::{address_at, fits_key, is_among, is_out_of_range, is_unknown_label, is_word_of};
 use flow_graph::StatementFault;
 use loader::Labels;
 use std::alloc::{AllocError, Global};
+
+/// How many lines are named at most.
+const MOST_LINES: usize = 20;
+
+// What is printed of the lines of a statement's text, and how many more may be named.
+#[derive(Drop)]
+pub(crate) struct Report {
+    text: Vec<u8>,
+    left: usize,
+}
+
+// The keys that a table may have, by the name of its list.
+fn keys_of(list: &[u8]) -> Option<&'static [&'static [u8]]>
+    ensures { option_map (λ keys. map (λ k. k.now) keys.now) result ≡ keys_of list.now }
+{
+    const WHOLE: &[&[u8]] = &[b"entry", b"leave", b"loop", b"target", b"access"];
+    const LOOP: &[&[u8]] = &[b"header", b"first", b"last", b"bound"];
+    const TARGET: &[&[u8]] = &[b"at", b"kind", b"to"];
+    const ACCESS: &[&[u8]] = &[b"at", b"class"];
+    if list.is_empty() {
+        return Some(WHOLE);
+    }
+    if list == b"loop".as_slice() {
+        return Some(LOOP);
+    }
+    if list == b"target".as_slice() {
+        return Some(TARGET);
+    }
+    if list == b"access".as_slice() {
+        return Some(ACCESS);
+    }
+    None
+}
+
+// The keys that a list's table has to have.
+fn needed_keys(list: &[u8]) -> &'static [&'static [u8]]
+    ensures { map (λ k. k.now) result.now ≡ needed_keys list.now }
+{
+    const LOOP: &[&[u8]] = &[b"header", b"first", b"last", b"bound"];
+    const TARGET: &[&[u8]] = &[b"at", b"kind"];
+    const ACCESS: &[&[u8]] = &[b"at", b"class"];
+    if list == b"loop".as_slice() {
+        return LOOP;
+    }
+    if list == b"target".as_slice() {
+        return TARGET;
+    }
+    if list == b"access".as_slice() {
+        return ACCESS;
+    }
+    &[]
+}
+
+// Adds a value as it stands in the text.
+fn put_word(out: &mut Vec<u8>, value: Word<'_>) -> Result<(), AllocError>
+    ensures { OnOk result (out.new.items ≡ out.old.items ++ value_text (value_of value.entry)) }
+{
+    match value {
+        Word::Bare(text) => put(out, text),
+        Word::Quoted(quote, text) => {
+            out.push(quote)?;
+            put(out, text)?;
+            out.push(quote)?;
+            Ok(())
+        }
+    }
+}
+
+// Adds the name of a table, with the brackets that it has in the text.
+fn put_name(out: &mut Vec<u8>, section: &Section<'_>) -> Result<(), AllocError>
+    ensures { OnOk result (out.new.items ≡ out.old.items ++ name_text (table_of section.now)) }
+{
+    if !section.is_listed {
+        put(out, b"[")?;
+        put(out, section.name)?;
+        return put(out, b"]");
+    }
+    put(out, b"[[")?;
+    put(out, section.name)?;
+    put(out, b"]]")
+}
+
+// What is said of a value.
+fn value_text(alloc: Global, pair: &Pair<'_>) -> Result<Vec<u8>, AllocError>
+    ensures { IfOk result (λ text. text.items ≡ (value_row (stated_of pair.now)).text) }
+{
+    let mut out = Vec::from_slice(alloc, pair.key)?;
+    put(&mut out, b" = ")?;
+    put_word(&mut out, pair.value)?;
+    Ok(out)
+}
+
+// What is said of a table.
+fn table_text(
+    alloc: Global,
+    section: &Section<'_>,
+    words: &[u8],
+    key: &[u8],
+) -> Result<Vec<u8>, AllocError>
+    ensures { IfOk result
+        (λ text. text.items ≡ (table_row (table_of section.now) words.now key.now).text) }
+{
+    let mut out = Vec::new(alloc);
+    put_name(&mut out, section)?;
+    put(&mut out, words)?;
+    put(&mut out, key)?;
+    Ok(out)
+}
+
+// Adds a row.
+fn put_line(out: &mut Vec<u8>, line: usize, text: &[u8]) -> Result<(), AllocError>
+    ensures { OnOk result
+        (out.new.items ≡ out.old.items ++ row_text (record { line = line; text = text.now })) }
+{
+    put(out, b"line ")?;
+    put_decimal(out, line)?;
+    put(out, b": ")?;
+    put(out, text)?;
+    put(out, b"\n")
+}
+
+// The value at a key, before the next table.
+#[tactic(auto, unfolding(crate::specs::Refused::value_at))]
+fn value_at<'a>(entries: &[Entry<'a>], key: &[u8]) -> Option<Word<'a>>
+    ensures { option_map value_of result ≡ value_at key.now (map item_of entries.now) }
+{
+    for entry in entries {
+        match entry {
+            Entry::Value(pair) => {
+                if pair.key == key {
+                    return Some(pair.value);
+                }
+            }
+            Entry::Table(_) | Entry::End => return None,
+        }
+    }
+    None
+}
+
+// What is looked for.
+#[derive(Clone, Copy)]
+pub(crate) struct Asked<'a> {
+    alloc: Global,
+    labels: &'a Labels,
+    fault: StatementFault,
+}
+
+fn wants_to(kind: Option<Word<'_>>) -> bool
+    ensures { result ≡ wants_to (option_map value_of kind.entry) }
+{
+    const KINDS: &[&[u8]] = &[b"jump", b"call"];
+    match kind {
+        Some(kind) => is_word_of(KINDS, kind),
+        None => false,
+    }
+}
+
+fn wants_no_to(kind: Option<Word<'_>>) -> bool
+    ensures { result ≡ wants_no_to (option_map value_of kind.entry) }
+{
+    const KINDS: &[&[u8]] = &[b"return", b"leave"];
+    match kind {
+        Some(kind) => is_word_of(KINDS, kind),
+        None => false,
+    }
+}
+
+// The address at a key, before the next table.
+fn address_in(labels: &Labels, key: &[u8], rest: &[Entry<'_>]) -> Option<u32>
+    ensures { result ≡ address_in labels.now key.now (map item_of rest.now) }
+{
+    match value_at(rest, key) {
+        Some(value) => address_at(labels, value),
+        None => None,
+    }
+}
+
+fn lies_outside(header: Option<u32>, first: Option<u32>, last: Option<u32>) -> bool
+    ensures { result ≡ lies_outside header first last }
+{
+    let Some(header) = header else {
+        return false;
+    };
+    let Some(first) = first else {
+        return false;
+    };
+    let Some(last) = last else {
+        return false;
+    };
+    header < first || last < header
+}
+
+// Whether the header of a loop lies outside it.
+fn is_misplaced(labels: &Labels, rest: &[Entry<'_>]) -> bool
+    ensures { result ≡ is_misplaced labels.now (map item_of rest.now) }
+{
+    let header = address_in(labels, b"header", rest);
+    let first = address_in(labels, b"first", rest);
+    let last = address_in(labels, b"last", rest);
+    lies_outside(header, first, last)
+}
+
+// Whether the table of the list may not have the key.
+fn is_unknown_key(list: &[u8], key: &[u8]) -> bool
+    ensures { result ≡ is_unknown_key (keys_of list.now) key.now }
+{
+    match keys_of(list) {
+        Some(keys) => !is_among(keys, key),
+        None => false,
+    }
+}
+
+fn is_faulty(asked: &Asked<'_>, pair: &Pair<'_>) -> bool
+    ensures { result ≡ is_faulty asked.now.labels.now asked.now.fault (stated_of pair.now) }
+{
+    match asked.fault {
+        StatementFault::UnknownKey => is_unknown_key(pair.list, pair.key),
+        StatementFault::WrongKind => !fits_key(pair.key, pair.value),
+        StatementFault::UnknownLabel => is_unknown_label(asked.labels, pair),
+        StatementFault::OutOfRange => is_out_of_range(asked.labels, pair),
+        _ => false,
+    }
+}
+
+impl Report {
+    // Adds a row, if there is room for one more.
+    fn put_row(&mut self, line: usize, text: &[u8]) -> Result<(), AllocError>
+        ensures { OnOk result
+            (Adds (record { line = line; text = text.now } ∷ []) self.old self.new) }
+    {
+        if self.left == 0 {
+            return Ok(());
+        }
+        put_line(&mut self.text, line, text)?;
+        self.left -= 1;
+        Ok(())
+    }
+
+    fn put_value(&mut self, alloc: Global, pair: &Pair<'_>) -> Result<(), AllocError>
+        ensures { OnOk result (Adds (value_row (stated_of pair.now) ∷ []) self.old self.new) }
+    {
+        let text = value_text(alloc, pair)?;
+        self.put_row(pair.line, &text)
+    }
+
+    // Adds what is said of a table.
+    fn put_table(
+        &mut self,
+        alloc: Global,
+        section: &Section<'_>,
+        words: &[u8],
+        key: &[u8],
+    ) -> Result<(), AllocError>
+        ensures { OnOk result
+            (Adds (table_row (table_of section.now) words.now key.now ∷ []) self.old self.new) }
+    {
+        let text = table_text(alloc, section, words, key)?;
+        self.put_row(section.line, &text)
+    }
+
+    // Adds what is said of a table, where it holds.
+    fn put_if(
+        &mut self,
+        alloc: Global,
+        holds: bool,
+        section: &Section<'_>,
+        words: &[u8],
+    ) -> Result<(), AllocError>
+        ensures { OnOk result
+            (Adds (row_if holds (table_row (table_of section.now) words.now [])) self.old self.new) }
+    {
+        if holds {
+            return self.put_table(alloc, section, words, b"");
+        }
+        Ok(())
+    }
+
+    // Adds that a table has no such key, where it has none.
+    fn put_if_missing(
+        &mut self,
+        alloc: Global,
+        section: &Section<'_>,
+        rest: &[Entry<'_>],
+        key: &[u8],
+    ) -> Result<(), AllocError>
+        ensures { OnOk result
+            (Adds (missing_row (table_of section.now) (map item_of rest.now) key.now) self.old self.new) }
+    {
+        if value_at(rest, key).is_none() {
+            return self.put_table(alloc, section, b" has no ", key);
+        }
+        Ok(())
+    }
+
+    // Adds the keys that a table has to have and has not.
+    fn put_missing(
+        &mut self,
+        alloc: Global,
+        section: &Section<'_>,
+        rest: &[Entry<'_>],
+        keys: &[&[u8]],
+    ) -> Result<(), AllocError>
+        ensures { OnOk result
+            (Adds (missing_rows (table_of section.now) (map item_of rest.now) (map (λ k. k.now) keys.now))
+            self.old self.new) }
+    {
+        for key in keys {
+            self.put_if_missing(alloc, section, rest, key)?;
+        }
+        Ok(())
+    }
+
+    // Adds what the kind of a target wants of its destinations.
+    fn put_target(
+        &mut self,
+        alloc: Global,
+        section: &Section<'_>,
+        rest: &[Entry<'_>],
+    ) -> Result<(), AllocError>
+        ensures { OnOk result
+            (Adds (target_rows (table_of section.now) (map item_of rest.now)) self.old self.new) }
+    {
+        let kind = value_at(rest, b"kind");
+        match value_at(rest, b"to") {
+            None => self.put_if(alloc, wants_to(kind), section, b" has no to"),
+            Some(_) => self.put_if(alloc, wants_no_to(kind), section, b" may have no to"),
+        }
+    }
+
+    // Adds what a table wants, or that it stands in single brackets.
+    #[tactic(auto, using(crate::proofs::RefusedLemmas::adds_both))]
+    fn put_kinds(
+        &mut self,
+        alloc: Global,
+        section: &Section<'_>,
+        rest: &[Entry<'_>],
+    ) -> Result<(), AllocError>
+        ensures { OnOk result
+            (Adds (kind_rows (table_of section.now) (map item_of rest.now)) self.old self.new) }
+    {
+        if !section.is_listed {
+            return self.put_table(alloc, section, b" is to stand in double brackets", b"");
+        }
+        self.put_missing(alloc, section, rest, needed_keys(section.name))?;
+        self.put_target(alloc, section, rest)
+    }
+
+    // Adds what is wrong with a table.
+    fn put_of_table(
+        &mut self,
+        asked: &Asked<'_>,
+        section: &Section<'_>,
+        rest: &[Entry<'_>],
+    ) -> Result<(), AllocError>
+        ensures { OnOk result
+            (Adds (table_rows asked.now.labels.now asked.now.fault (table_of section.now) (map item_of rest.now))
+            self.old self.new) }
+    {
+        let alloc = asked.alloc;
+        match asked.fault {
+            StatementFault::UnknownKey => {
+                let holds = keys_of(section.name).is_none();
+                self.put_if(alloc, holds, section, b" is no list of statements")
+            }
+            StatementFault::WrongKind => self.put_kinds(alloc, section, rest),
+            StatementFault::OutOfRange => {
+                let holds = is_misplaced(asked.labels, rest);
+                self.put_if(alloc, holds, section, b" has its header outside first to last")
+            }
+            _ => Ok(()),
+        }
+    }
+
+    // Adds a value that has the fault.
+    fn put_of_value(&mut self, asked: &Asked<'_>, pair: &Pair<'_>) -> Result<(), AllocError>
+        ensures { OnOk result
+            (Adds (row_if (is_faulty asked.now.labels.now asked.now.fault (stated_of pair.now))
+            (value_row (stated_of pair.now))) self.old self.new) }
+    {
+        if is_faulty(asked, pair) {
+            return self.put_value(asked.alloc, pair);
+        }
+        Ok(())
+    }
+
+    fn put_of_entry(
+        &mut self,
+        asked: &Asked<'_>,
+        entry: &Entry<'_>,
+        rest: &[Entry<'_>],
+    ) -> Result<(), AllocError>
+        ensures { OnOk result
+            (Adds (item_rows asked.now.labels.now asked.now.fault (item_of entry.now) (map item_of rest.now))
+            self.old self.new) }
+    {
+        match entry {
+            Entry::Table(section) => self.put_of_table(asked, section, rest),
+            Entry::Value(pair) => self.put_of_value(asked, pair),
+            Entry::End => Ok(()),
+        }
+    }
+
+    // Adds what is wrong with the tables and values.
+    fn put_rows(&mut self, asked: &Asked<'_>, entries: &[Entry<'_>]) -> Result<(), AllocError>
+        ensures { OnOk result
+            (Adds (rows asked.now.labels.now asked.now.fault (map item_of entries.now)) self.old self.new) }
+    {
+        let mut rest = entries;
+        while let Some((entry, after)) = rest.split_first() {
+            self.put_of_entry(asked, entry, after)?;
+            rest = after;
+        }
+        Ok(())
+    }
+}
 
 /// The lines.
 ///
@@ -15,5 +443,6 @@ pub fn statement_text(
     _fault: StatementFault,
 ) -> Result<Vec<u8>, AllocError> {
     let _entries = entries_of(alloc, text)?;
-    Ok(Vec::new(alloc))
+    let r = Report { text: Vec::new(alloc), left: 20 };
+    Ok(r.text)
 }
