@@ -235,9 +235,12 @@ is_entry (States p) = length p.list == 0 && bytes_eq p.key (codes "entry")
 is_entry Ends = false
 
 -- a statement without an entry
-abbrev pub entry_rows : StatementFault → List Item → List Row
-entry_rows WrongKind items =
+abbrev pub no_entry_rows : List Item → List Row
+no_entry_rows items =
     row_if (not (list_any is_entry items)) (record { line = 1; text = codes "the statement has no entry" })
+
+abbrev pub entry_rows : StatementFault → List Item → List Row
+entry_rows WrongKind items = no_entry_rows items
 entry_rows _ items = []
 
 abbrev pub all_rows : Names → StatementFault → List Item → List Row
@@ -248,12 +251,16 @@ all_rows names fault items = entry_rows fault items ++ rows names fault items
 abbrev pub feeds : List ℕ → ℕ
 feeds text = count_by (λ b. b == 10) text
 
-abbrev pub IsTomlText : List ℕ → List ℕ → Type 0
-IsTomlText text out =
-    (out ≡ []) ⊎ ((at : ℕ) × (out ≡ codes "line " ++ (decimal (feeds (take at text) + 1) ++ codes " is no TOML\n")))
+abbrev pub toml_row : ℕ → List ℕ
+toml_row number = codes "line " ++ (decimal number ++ codes " is no TOML\n")
 
+abbrev pub IsTomlText : List ℕ → List ℕ → Type 0
+IsTomlText text out = (out ≡ []) ⊎ ((at : ℕ) × (out ≡ toml_row (feeds (take at text) + 1)))
+
+-- nothing is said of an address that stands twice
 abbrev pub IsStatementText : Names → List ℕ → StatementFault → List ℕ → Type 0
 IsStatementText names text NotToml out = IsTomlText text out
+IsStatementText names text Twice out = Unit {0}
 IsStatementText names text fault out = out ≡ shown MOST_LINES (all_rows names fault (items_of text))
 
 -- ## Rows one after another, which clauses of private calls speak of

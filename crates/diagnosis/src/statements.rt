@@ -1,11 +1,11 @@
-ghost use Rattle.std.specs.Prelude.{◌≡◌, ◌++◌, ◌∷◌, [], IfOk, List, OnOk, map, option_map};
+ghost use Rattle.std.specs.Prelude.{◌≡◌, ◌≤◌, ◌++◌, ◌∷◌, [], IfOk, OnOk, length, map, option_map};
 ghost use Rattle.std.specs.List.{list_any};
 ghost use Rattle.diagnosis.specs.Outline.{item_of, items_of, stated_of, table_of, value_of};
-ghost use Rattle.diagnosis.specs.Refused.{Adds, IsStatementText, IsTomlText, Row, address_in, all_rows};
-ghost use Rattle.diagnosis.specs.Refused.{entry_rows, is_entry, is_faulty, is_misplaced, is_unknown_key, row_if, rows};
+ghost use Rattle.diagnosis.specs.Refused.{Adds, IsStatementText, IsTomlText, address_in, all_rows};
+ghost use Rattle.diagnosis.specs.Refused.{entry_rows, feeds, is_entry, is_faulty, is_misplaced, is_unknown_key, row_if, rows, shown};
 ghost use Rattle.diagnosis.specs.Refused.{item_rows, keys_of, kind_rows, lies_outside, missing_row};
-ghost use Rattle.diagnosis.specs.Refused.{missing_rows, name_text, needed_keys, row_text, table_row};
-ghost use Rattle.diagnosis.specs.Refused.{table_rows, target_rows, value_at, value_row, value_text};
+ghost use Rattle.diagnosis.specs.Refused.{missing_rows, name_text, no_entry_rows, needed_keys, row_text, table_row};
+ghost use Rattle.diagnosis.specs.Refused.{table_rows, target_rows, toml_row, value_at, value_row, value_text};
 ghost use Rattle.diagnosis.specs.Refused.{wants_no_to, wants_to};
 
 use crate::outline::{Entry, Pair, Section, entries_of};
@@ -15,9 +15,12 @@ use crate::values::{address_at, fits_key, is_among, is_out_of_range, is_unknown_
 use flow_graph::StatementFault;
 use loader::Labels;
 use std::alloc::{AllocError, Global};
+use std::collections::BTreeSet;
 
 /// How many lines are named at most.
 const MOST_LINES: usize = 20;
+
+const NO_ENTRY: &[u8] = b"the statement has no entry";
 
 // What is printed of the lines of a statement's text, and how many more may be named.
 #[derive(Drop)]
@@ -253,6 +256,16 @@ impl Report {
         Ok(())
     }
 
+    fn put_row_if(&mut self, holds: bool, line: usize, text: &[u8]) -> Result<(), AllocError>
+        ensures { OnOk result
+            (Adds (row_if holds (record { line = line; text = text.now })) self.old self.new) }
+    {
+        if holds {
+            return self.put_row(line, text);
+        }
+        Ok(())
+    }
+
     fn put_value(&mut self, alloc: Global, pair: &Pair<'_>) -> Result<(), AllocError>
         ensures { OnOk result (Adds (value_row (stated_of pair.now) ∷ []) self.old self.new) }
     {
@@ -418,20 +431,158 @@ impl Report {
     }
 
     // Adds what is wrong with the tables and values.
+    #[tactic(auto, unfolding(crate::specs::Refused::rows))]
     fn put_rows(&mut self, asked: &Asked<'_>, entries: &[Entry<'_>]) -> Result<(), AllocError>
         ensures { OnOk result
             (Adds (rows asked.now.labels.now asked.now.fault (map item_of entries.now)) self.old self.new) }
     {
-        let mut rest = entries;
-        while let Some((entry, after)) = rest.split_first() {
-            self.put_of_entry(asked, entry, after)?;
-            rest = after;
+        for index in 0..entries.len() {
+            self.put_of_entry(asked, &entries[index], &entries[index + 1..])?;
         }
         Ok(())
     }
+
+    // Adds that a statement has no entry, where it has none.
+    fn put_if_no_entry(&mut self, entries: &[Entry<'_>]) -> Result<(), AllocError>
+        ensures { OnOk result (Adds (no_entry_rows (map item_of entries.now)) self.old self.new) }
+    {
+        let holds = !has_entry(entries);
+        self.put_row_if(holds, 1, NO_ENTRY)
+    }
+
+    // Adds what is wrong with the whole.
+    fn put_of_whole(
+        &mut self,
+        fault: StatementFault,
+        entries: &[Entry<'_>],
+    ) -> Result<(), AllocError>
+        ensures { OnOk result
+            (Adds (entry_rows fault (map item_of entries.now)) self.old self.new) }
+    {
+        match fault {
+            StatementFault::WrongKind => self.put_if_no_entry(entries),
+            _ => Ok(()),
+        }
+    }
 }
 
-/// The lines.
+// Whether the value is the statement's entry.
+fn is_entry(entry: &Entry<'_>) -> bool
+    ensures { result ≡ is_entry (item_of entry.now) }
+{
+    match entry {
+        Entry::Value(pair) => pair.list.is_empty() && pair.key == b"entry".as_slice(),
+        Entry::Table(_) | Entry::End => false,
+    }
+}
+
+fn has_entry(entries: &[Entry<'_>]) -> bool
+    ensures { result ≡ list_any is_entry (map item_of entries.now) }
+{
+    for entry in entries {
+        if is_entry(entry) {
+            return true;
+        }
+    }
+    false
+}
+
+// The rows of the tables and values of a statement's text that have the fault.
+#[tactic(auto, using(crate::proofs::RefusedLemmas::adds_both, crate::proofs::RefusedLemmas::all_added))]
+fn rows_text(asked: &Asked<'_>, text: &[u8]) -> Result<Vec<u8>, AllocError>
+    ensures { IfOk result
+        (λ out. out.items ≡ shown MOST_LINES (all_rows asked.now.labels.now asked.now.fault (items_of text.now))) }
+{
+    let entries = entries_of(asked.alloc, text)?;
+    let mut report = Report {
+        text: Vec::new(asked.alloc),
+        left: MOST_LINES,
+    };
+    report.put_of_whole(asked.fault, &entries)?;
+    report.put_rows(asked, &entries)?;
+    Ok(report.text)
+}
+
+// Among which addresses a value's is to stand once: those of its list's tables, or of its own table.
+fn place_of(pair: &Pair<'_>, table: usize) -> Option<usize> {
+    if pair.key == b"at".as_slice() {
+        return Some(0);
+    }
+    if pair.key == b"to".as_slice() {
+        return Some(table);
+    }
+    None
+}
+
+// The values whose address stands before them in the same place.
+fn twice_text(asked: &Asked<'_>, text: &[u8]) -> Result<Vec<u8>, AllocError> {
+    let entries = entries_of(asked.alloc, text)?;
+    let mut report = Report {
+        text: Vec::new(asked.alloc),
+        left: MOST_LINES,
+    };
+    let mut seen = BTreeSet::new(asked.alloc);
+    let mut table: usize = 0;
+    for entry in &entries {
+        let Entry::Value(pair) = entry else {
+            table = table.saturating_add(1);
+            continue;
+        };
+        let Some(place) = place_of(pair, table) else {
+            continue;
+        };
+        let Some(address) = address_at(asked.labels, pair.value) else {
+            continue;
+        };
+        let is_new = seen.insert((pair.list, place, address))?;
+        if !is_new {
+            report.put_value(asked.alloc, pair)?;
+        }
+    }
+    Ok(report.text)
+}
+
+// How many lines end in the text.
+fn feeds(text: &[u8]) -> usize
+    ensures count { result ≡ feeds text.now }
+    ensures within { result ≤ length text.now }
+{
+    text.iter().filter(|byte| **byte == b'\n').count()
+}
+
+fn toml_row(alloc: Global, number: usize) -> Result<Vec<u8>, AllocError>
+    ensures { IfOk result (λ out. out.items ≡ toml_row number) }
+{
+    let mut out = Vec::from_slice(alloc, b"line ")?;
+    put_decimal(&mut out, number)?;
+    put(&mut out, b" is no TOML\n")?;
+    Ok(out)
+}
+
+// The row of the line that holds the byte at an index.
+fn toml_line(alloc: Global, text: &[u8], at: usize) -> Result<Vec<u8>, AllocError>
+    ensures { IfOk result (λ out. IsTomlText text.now out.items) }
+{
+    let front = &text[..at.min(text.len())];
+    let number = feeds(front) + 1;
+    toml_row(alloc, number)
+}
+
+// The line of the statement's text where it is no TOML.
+fn no_toml_text(alloc: Global, text: &[u8]) -> Result<Vec<u8>, AllocError>
+    ensures { IfOk result (λ out. IsTomlText text.now out.items) }
+{
+    let Err(error) = toml::table_from_slice(alloc, text) else {
+        return Ok(Vec::new(alloc));
+    };
+    match error.span() {
+        Some(span) => toml_line(alloc, text, span.start),
+        None => Ok(Vec::new(alloc)),
+    }
+}
+
+/// The lines of a statement's text with what has the fault there: at most twenty, each with its number. Of a
+/// text that is no TOML it is the line where the reader of TOML stopped. Nothing is named of `Memory`.
 ///
 /// # Errors
 ///
@@ -439,10 +590,19 @@ impl Report {
 pub fn statement_text(
     alloc: Global,
     text: &[u8],
-    _labels: &Labels,
-    _fault: StatementFault,
-) -> Result<Vec<u8>, AllocError> {
-    let _entries = entries_of(alloc, text)?;
-    let r = Report { text: Vec::new(alloc), left: 20 };
-    Ok(r.text)
+    labels: &Labels,
+    fault: StatementFault,
+) -> Result<Vec<u8>, AllocError>
+    ensures { IfOk result (λ out. IsStatementText labels.now text.now fault out.items) }
+{
+    let asked = Asked {
+        alloc,
+        labels,
+        fault,
+    };
+    match fault {
+        StatementFault::NotToml => no_toml_text(alloc, text),
+        StatementFault::Twice => twice_text(&asked, text),
+        _ => rows_text(&asked, text),
+    }
 }
