@@ -35,9 +35,9 @@ adds_none r = record { same = λ more. refl }
 pub adds_both : (xs ys : List Row) (a b c : Report) → Adds xs a b → Adds ys b c → Adds (xs ++ ys) a c
 adds_both xs ys a b c first then_rest = record {
   same = λ more.
-    then_rest.same more
-    ∙ (first.same (ys ++ more)
-    ∙ ap (λ rows. a.text.items ++ shown a.left rows) (sym (append_assoc xs ys more)));
+      then_rest.same more
+      ∙ (first.same (ys ++ more)
+      ∙ ap (λ rows. a.text.items ++ shown a.left rows) (sym (append_assoc xs ys more)));
 }
 
 pub all_added : (rows : List Row) (a b : Report) → Adds rows a b → b.text.items ≡ a.text.items ++ shown a.left rows

@@ -11,7 +11,9 @@ ghost use Rattle.diagnosis.specs.Refused.{wants_no_to, wants_to};
 use crate::outline::{Entry, Pair, Section, entries_of};
 use crate::rows::{put, put_decimal};
 use crate::tokens::Word;
-use crate::values::{address_at, fits_key, is_among, is_out_of_range, is_unknown_label, is_word_of};
+use crate::values::{
+    address_at, fits_key, is_among, is_out_of_range, is_unknown_label, is_word_of,
+};
 use flow_graph::StatementFault;
 use loader::Labels;
 use std::alloc::{AllocError, Global};
@@ -395,7 +397,12 @@ impl Report {
             StatementFault::WrongKind => self.put_kinds(alloc, section, rest),
             StatementFault::OutOfRange => {
                 let holds = is_misplaced(asked.labels, rest);
-                self.put_if(alloc, holds, section, b" has its header outside first to last")
+                self.put_if(
+                    alloc,
+                    holds,
+                    section,
+                    b" has its header outside first to last",
+                )
             }
             _ => Ok(()),
         }

@@ -37,12 +37,7 @@ fn is_blank(byte: u8) -> bool
 fn is_gap(byte: u8) -> bool
     ensures { result ≡ is_gap byte }
 {
-    is_blank(byte)
-        || byte == b'\r'
-        || byte == b'='
-        || byte == b','
-        || byte == b'['
-        || byte == b']'
+    is_blank(byte) || byte == b'\r' || byte == b'=' || byte == b',' || byte == b'[' || byte == b']'
 }
 
 fn is_quote(byte: u8) -> bool

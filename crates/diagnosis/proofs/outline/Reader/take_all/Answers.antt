@@ -11,7 +11,7 @@ loop-preserved c =
     record {
       last = refl;
       same =
-        ap (λ r. all_taken c.args.line r (pieces (length c.args.text.now - (c.loop.counter + 1)) c.in-Some.after.now)) took
-        ∙ (sym (more_pieces c.args.line (reading_of c.loop.self) (length c.args.text.now) c.loop.counter c.loop.rest.now (Some (in_pieces (c.in-Some.token, c.in-Some.after))) c.loop-test.true found)
-        ∙ c.loop.invariant.same);
+          ap (λ r. all_taken c.args.line r (pieces (length c.args.text.now - (c.loop.counter + 1)) c.in-Some.after.now)) took
+          ∙ (sym (more_pieces c.args.line (reading_of c.loop.self) (length c.args.text.now) c.loop.counter c.loop.rest.now (Some (in_pieces (c.in-Some.token, c.in-Some.after))) c.loop-test.true found)
+          ∙ c.loop.invariant.same);
     }
