@@ -3,6 +3,8 @@ mod CycleLemmas
 mod EntryLemmas
 mod ExtentLemmas
 mod LineLemmas
+mod OutlineLemmas
+mod RefusedLemmas
 mod RowLaws
 mod SearchLemmas
 mod TextLaws

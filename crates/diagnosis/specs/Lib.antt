@@ -4,6 +4,8 @@ pub mod Entries
 pub mod Extents
 pub mod FaultyLines
 pub mod Lines
+pub mod Outline
+pub mod Refused
 pub mod Rows
 pub mod SharedHeaders
 pub mod Texts

@@ -8,7 +8,7 @@ mod cycles;
 mod entries;
 mod extents;
 mod members;
-mod pairs;
+mod outline;
 mod program;
 mod rows;
 mod search;

@@ -1,40 +1,97 @@
-use crate::pairs::{Outline, Pair, Section, outline_of};
+ghost use Rattle.std.specs.Prelude.{◌≡◌, ◌≤◌, ◌++◌, ◌∷◌, [], IfOk, OnOk, length, map, option_map};
+ghost use Rattle.std.specs.List.{list_any};
+ghost use Rattle.diagnosis.specs.Outline.{item_of, items_of, stated_of, table_of, value_of};
+ghost use Rattle.diagnosis.specs.Refused.{Adds, IsStatementText, IsTomlText, address_in, all_rows};
+ghost use Rattle.diagnosis.specs.Refused.{entry_rows, feeds, is_entry, is_faulty, is_misplaced, is_unknown_key, row_if, rows, shown};
+ghost use Rattle.diagnosis.specs.Refused.{item_rows, keys_of, kind_rows, lies_outside, missing_row};
+ghost use Rattle.diagnosis.specs.Refused.{missing_rows, name_text, no_entry_rows, needed_keys, row_text, table_row};
+ghost use Rattle.diagnosis.specs.Refused.{table_rows, target_rows, toml_row, value_at, value_row, value_text};
+ghost use Rattle.diagnosis.specs.Refused.{wants_no_to, wants_to};
+
+use crate::outline::{Entry, Pair, Section, entries_of};
 use crate::rows::{put, put_decimal};
-use crate::values::{address_of, is_out_of_range, is_unknown_label, is_wrong_kind};
+use crate::tokens::Word;
+use crate::values::{
+    address_at, fits_key, is_among, is_out_of_range, is_unknown_label, is_word_of,
+};
 use flow_graph::StatementFault;
 use loader::Labels;
 use std::alloc::{AllocError, Global};
-use std::collections::{BTreeMap, BTreeSet};
+use std::collections::BTreeSet;
 
 /// How many lines are named at most.
 const MOST_LINES: usize = 20;
 
-// The keys that a table may have, by the name of its list, and of these how many it has to have.
-fn keys_of(name: &[u8]) -> Option<(&'static [&'static [u8]], usize)> {
+const NO_ENTRY: &[u8] = b"the statement has no entry";
+
+// What is printed of the lines of a statement's text, and how many more may be named.
+#[derive(Drop)]
+pub(crate) struct Report {
+    text: Vec<u8>,
+    left: usize,
+}
+
+// The keys that a table may have, by the name of its list.
+fn keys_of(list: &[u8]) -> Option<&'static [&'static [u8]]>
+    ensures { option_map (λ keys. map (λ k. k.now) keys.now) result ≡ keys_of list.now }
+{
     const WHOLE: &[&[u8]] = &[b"entry", b"leave", b"loop", b"target", b"access"];
     const LOOP: &[&[u8]] = &[b"header", b"first", b"last", b"bound"];
     const TARGET: &[&[u8]] = &[b"at", b"kind", b"to"];
     const ACCESS: &[&[u8]] = &[b"at", b"class"];
-    if name.is_empty() {
-        return Some((WHOLE, 1));
+    if list.is_empty() {
+        return Some(WHOLE);
     }
-    if name == b"loop".as_slice() {
-        return Some((LOOP, 4));
+    if list == b"loop".as_slice() {
+        return Some(LOOP);
     }
-    if name == b"target".as_slice() {
-        return Some((TARGET, 2));
+    if list == b"target".as_slice() {
+        return Some(TARGET);
     }
-    if name == b"access".as_slice() {
-        return Some((ACCESS, 2));
+    if list == b"access".as_slice() {
+        return Some(ACCESS);
     }
     None
 }
 
-// Adds the name of a table, with the brackets that it has in the text.
-fn put_name(out: &mut Vec<u8>, section: &Section<'_>) -> Result<(), AllocError> {
-    if section.name.is_empty() {
-        return put(out, b"the statement");
+// The keys that a list's table has to have.
+fn needed_keys(list: &[u8]) -> &'static [&'static [u8]]
+    ensures { map (λ k. k.now) result.now ≡ needed_keys list.now }
+{
+    const LOOP: &[&[u8]] = &[b"header", b"first", b"last", b"bound"];
+    const TARGET: &[&[u8]] = &[b"at", b"kind"];
+    const ACCESS: &[&[u8]] = &[b"at", b"class"];
+    if list == b"loop".as_slice() {
+        return LOOP;
     }
+    if list == b"target".as_slice() {
+        return TARGET;
+    }
+    if list == b"access".as_slice() {
+        return ACCESS;
+    }
+    &[]
+}
+
+// Adds a value as it stands in the text.
+fn put_word(out: &mut Vec<u8>, value: Word<'_>) -> Result<(), AllocError>
+    ensures { OnOk result (out.new.items ≡ out.old.items ++ value_text (value_of value.entry)) }
+{
+    match value {
+        Word::Bare(text) => put(out, text),
+        Word::Quoted(quote, text) => {
+            out.push(quote)?;
+            put(out, text)?;
+            out.push(quote)?;
+            Ok(())
+        }
+    }
+}
+
+// Adds the name of a table, with the brackets that it has in the text.
+fn put_name(out: &mut Vec<u8>, section: &Section<'_>) -> Result<(), AllocError>
+    ensures { OnOk result (out.new.items ≡ out.old.items ++ name_text (table_of section.now)) }
+{
     if !section.is_listed {
         put(out, b"[")?;
         put(out, section.name)?;
@@ -45,239 +102,494 @@ fn put_name(out: &mut Vec<u8>, section: &Section<'_>) -> Result<(), AllocError> 
     put(out, b"]]")
 }
 
-// What is found of the lines of a statement's text.
-#[derive(Drop)]
-struct Report<'a> {
-    labels: &'a Labels,
-    outline: Outline<'a>,
-    // the values by table and key
-    values: BTreeMap<(usize, &'a [u8]), Pair<'a>>,
-    text: Vec<u8>,
-    lines: usize,
+// What is said of a value.
+fn value_text(alloc: Global, pair: &Pair<'_>) -> Result<Vec<u8>, AllocError>
+    ensures { IfOk result (λ text. text.items ≡ (value_row (stated_of pair.now)).text) }
+{
+    let mut out = Vec::from_slice(alloc, pair.key)?;
+    put(&mut out, b" = ")?;
+    put_word(&mut out, pair.value)?;
+    Ok(out)
 }
 
-impl<'a> Report<'a> {
-    // Adds the front of a line, if there is room for one more. Whether there is.
-    fn begin_line(&mut self, number: usize) -> Result<bool, AllocError> {
-        if self.lines >= MOST_LINES {
-            return Ok(false);
+// What is said of a table.
+fn table_text(
+    alloc: Global,
+    section: &Section<'_>,
+    words: &[u8],
+    key: &[u8],
+) -> Result<Vec<u8>, AllocError>
+    ensures { IfOk result
+        (λ text. text.items ≡ (table_row (table_of section.now) words.now key.now).text) }
+{
+    let mut out = Vec::new(alloc);
+    put_name(&mut out, section)?;
+    put(&mut out, words)?;
+    put(&mut out, key)?;
+    Ok(out)
+}
+
+// Adds a row.
+fn put_line(out: &mut Vec<u8>, line: usize, text: &[u8]) -> Result<(), AllocError>
+    ensures { OnOk result
+        (out.new.items ≡ out.old.items ++ row_text (record { line = line; text = text.now })) }
+{
+    put(out, b"line ")?;
+    put_decimal(out, line)?;
+    put(out, b": ")?;
+    put(out, text)?;
+    put(out, b"\n")
+}
+
+// The value at a key, before the next table.
+#[tactic(auto, unfolding(crate::specs::Refused::value_at))]
+fn value_at<'a>(entries: &[Entry<'a>], key: &[u8]) -> Option<Word<'a>>
+    ensures { option_map value_of result ≡ value_at key.now (map item_of entries.now) }
+{
+    for entry in entries {
+        match entry {
+            Entry::Value(pair) => {
+                if pair.key == key {
+                    return Some(pair.value);
+                }
+            }
+            Entry::Table(_) | Entry::End => return None,
         }
-        self.lines += 1;
-        put(&mut self.text, b"line ")?;
-        put_decimal(&mut self.text, number)?;
-        put(&mut self.text, b": ")?;
-        Ok(true)
+    }
+    None
+}
+
+// What is looked for.
+#[derive(Clone, Copy)]
+pub(crate) struct Asked<'a> {
+    alloc: Global,
+    labels: &'a Labels,
+    fault: StatementFault,
+}
+
+fn wants_to(kind: Option<Word<'_>>) -> bool
+    ensures { result ≡ wants_to (option_map value_of kind.entry) }
+{
+    const KINDS: &[&[u8]] = &[b"jump", b"call"];
+    match kind {
+        Some(kind) => is_word_of(KINDS, kind),
+        None => false,
+    }
+}
+
+fn wants_no_to(kind: Option<Word<'_>>) -> bool
+    ensures { result ≡ wants_no_to (option_map value_of kind.entry) }
+{
+    const KINDS: &[&[u8]] = &[b"return", b"leave"];
+    match kind {
+        Some(kind) => is_word_of(KINDS, kind),
+        None => false,
+    }
+}
+
+// The address at a key, before the next table.
+fn address_in(labels: &Labels, key: &[u8], rest: &[Entry<'_>]) -> Option<u32>
+    ensures { result ≡ address_in labels.now key.now (map item_of rest.now) }
+{
+    match value_at(rest, key) {
+        Some(value) => address_at(labels, value),
+        None => None,
+    }
+}
+
+fn lies_outside(header: Option<u32>, first: Option<u32>, last: Option<u32>) -> bool
+    ensures { result ≡ lies_outside header first last }
+{
+    let Some(header) = header else {
+        return false;
+    };
+    let Some(first) = first else {
+        return false;
+    };
+    let Some(last) = last else {
+        return false;
+    };
+    header < first || last < header
+}
+
+// Whether the header of a loop lies outside it.
+fn is_misplaced(labels: &Labels, rest: &[Entry<'_>]) -> bool
+    ensures { result ≡ is_misplaced labels.now (map item_of rest.now) }
+{
+    let header = address_in(labels, b"header", rest);
+    let first = address_in(labels, b"first", rest);
+    let last = address_in(labels, b"last", rest);
+    lies_outside(header, first, last)
+}
+
+// Whether the table of the list may not have the key.
+fn is_unknown_key(list: &[u8], key: &[u8]) -> bool
+    ensures { result ≡ is_unknown_key (keys_of list.now) key.now }
+{
+    match keys_of(list) {
+        Some(keys) => !is_among(keys, key),
+        None => false,
+    }
+}
+
+fn is_faulty(asked: &Asked<'_>, pair: &Pair<'_>) -> bool
+    ensures { result ≡ is_faulty asked.now.labels.now asked.now.fault (stated_of pair.now) }
+{
+    match asked.fault {
+        StatementFault::UnknownKey => is_unknown_key(pair.list, pair.key),
+        StatementFault::WrongKind => !fits_key(pair.key, pair.value),
+        StatementFault::UnknownLabel => is_unknown_label(asked.labels, pair),
+        StatementFault::OutOfRange => is_out_of_range(asked.labels, pair),
+        _ => false,
+    }
+}
+
+impl Report {
+    // Adds a row, if there is room for one more.
+    fn put_row(&mut self, line: usize, text: &[u8]) -> Result<(), AllocError>
+        ensures { OnOk result
+            (Adds (record { line = line; text = text.now } ∷ []) self.old self.new) }
+    {
+        if self.left == 0 {
+            return Ok(());
+        }
+        put_line(&mut self.text, line, text)?;
+        self.left -= 1;
+        Ok(())
     }
 
-    fn put_pair(&mut self, pair: Pair<'a>) -> Result<(), AllocError> {
-        if self.begin_line(pair.line)? {
-            put(&mut self.text, pair.key)?;
-            put(&mut self.text, b" = ")?;
-            put(&mut self.text, pair.value)?;
-            put(&mut self.text, b"\n")?;
+    fn put_row_if(&mut self, holds: bool, line: usize, text: &[u8]) -> Result<(), AllocError>
+        ensures { OnOk result
+            (Adds (row_if holds (record { line = line; text = text.now })) self.old self.new) }
+    {
+        if holds {
+            return self.put_row(line, text);
         }
         Ok(())
     }
 
-    // Adds a line on a table.
-    fn put_section(
+    fn put_value(&mut self, alloc: Global, pair: &Pair<'_>) -> Result<(), AllocError>
+        ensures { OnOk result (Adds (value_row (stated_of pair.now) ∷ []) self.old self.new) }
+    {
+        let text = value_text(alloc, pair)?;
+        self.put_row(pair.line, &text)
+    }
+
+    // Adds what is said of a table.
+    fn put_table(
         &mut self,
-        section: Section<'a>,
+        alloc: Global,
+        section: &Section<'_>,
         words: &[u8],
         key: &[u8],
-    ) -> Result<(), AllocError> {
-        if self.begin_line(section.line)? {
-            put_name(&mut self.text, &section)?;
-            put(&mut self.text, words)?;
-            put(&mut self.text, key)?;
-            put(&mut self.text, b"\n")?;
+    ) -> Result<(), AllocError>
+        ensures { OnOk result
+            (Adds (table_row (table_of section.now) words.now key.now ∷ []) self.old self.new) }
+    {
+        let text = table_text(alloc, section, words, key)?;
+        self.put_row(section.line, &text)
+    }
+
+    // Adds what is said of a table, where it holds.
+    fn put_if(
+        &mut self,
+        alloc: Global,
+        holds: bool,
+        section: &Section<'_>,
+        words: &[u8],
+    ) -> Result<(), AllocError>
+        ensures { OnOk result
+            (Adds (row_if holds (table_row (table_of section.now) words.now [])) self.old self.new) }
+    {
+        if holds {
+            return self.put_table(alloc, section, words, b"");
         }
         Ok(())
     }
 
-    fn value(&self, section: usize, key: &'a [u8]) -> Option<Pair<'a>> {
-        self.values.get(&(section, key)).copied()
-    }
-
-    fn section(&self, index: usize) -> Option<Section<'a>> {
-        self.outline.sections.get(index).copied()
-    }
-
-    // Adds the pairs whose key their table may not have, and the tables that there are none of.
-    fn put_unknown_keys(&mut self) -> Result<(), AllocError> {
-        for index in 0..self.outline.sections.len() {
-            if let Some(section) = self.section(index) {
-                if keys_of(section.name).is_none() {
-                    self.put_section(section, b" is no list of statements", b"")?;
-                }
-            }
-        }
-        for index in 0..self.outline.pairs.len() {
-            if let Some(pair) = self.outline.pairs.get(index).copied() {
-                if self.is_unknown_key(&pair) {
-                    self.put_pair(pair)?;
-                }
-            }
+    // Adds that a table has no such key, where it has none.
+    fn put_if_missing(
+        &mut self,
+        alloc: Global,
+        section: &Section<'_>,
+        rest: &[Entry<'_>],
+        key: &[u8],
+    ) -> Result<(), AllocError>
+        ensures { OnOk result
+            (Adds (missing_row (table_of section.now) (map item_of rest.now) key.now) self.old self.new) }
+    {
+        if value_at(rest, key).is_none() {
+            return self.put_table(alloc, section, b" has no ", key);
         }
         Ok(())
     }
 
-    fn is_unknown_key(&self, pair: &Pair<'a>) -> bool {
-        let Some(section) = self.section(pair.section) else {
-            return false;
-        };
-        match keys_of(section.name) {
-            Some((keys, _)) => !keys.iter().any(|key| *key == pair.key),
-            None => false,
-        }
-    }
-
-    // Adds the pairs whose values are of another kind, and the tables that want a key.
-    fn put_wrong_kinds(&mut self) -> Result<(), AllocError> {
-        for index in 0..self.outline.pairs.len() {
-            if let Some(pair) = self.outline.pairs.get(index).copied() {
-                if is_wrong_kind(pair.key, pair.value) {
-                    self.put_pair(pair)?;
-                }
-            }
-        }
-        for index in 0..self.outline.sections.len() {
-            if let Some(section) = self.section(index) {
-                self.put_wants(index, section)?;
-            }
+    // Adds the keys that a table has to have and has not.
+    fn put_missing(
+        &mut self,
+        alloc: Global,
+        section: &Section<'_>,
+        rest: &[Entry<'_>],
+        keys: &[&[u8]],
+    ) -> Result<(), AllocError>
+        ensures { OnOk result
+            (Adds (missing_rows (table_of section.now) (map item_of rest.now) (map (λ k. k.now) keys.now))
+            self.old self.new) }
+    {
+        for key in keys {
+            self.put_if_missing(alloc, section, rest, key)?;
         }
         Ok(())
     }
 
-    fn put_wants(&mut self, index: usize, section: Section<'a>) -> Result<(), AllocError> {
+    // Adds what the kind of a target wants of its destinations.
+    fn put_target(
+        &mut self,
+        alloc: Global,
+        section: &Section<'_>,
+        rest: &[Entry<'_>],
+    ) -> Result<(), AllocError>
+        ensures { OnOk result
+            (Adds (target_rows (table_of section.now) (map item_of rest.now)) self.old self.new) }
+    {
+        let kind = value_at(rest, b"kind");
+        match value_at(rest, b"to") {
+            None => self.put_if(alloc, wants_to(kind), section, b" has no to"),
+            Some(_) => self.put_if(alloc, wants_no_to(kind), section, b" may have no to"),
+        }
+    }
+
+    // Adds what a table wants, or that it stands in single brackets.
+    #[tactic(auto, using(crate::proofs::RefusedLemmas::adds_both))]
+    fn put_kinds(
+        &mut self,
+        alloc: Global,
+        section: &Section<'_>,
+        rest: &[Entry<'_>],
+    ) -> Result<(), AllocError>
+        ensures { OnOk result
+            (Adds (kind_rows (table_of section.now) (map item_of rest.now)) self.old self.new) }
+    {
         if !section.is_listed {
-            return self.put_section(section, b" is to stand in double brackets", b"");
+            return self.put_table(alloc, section, b" is to stand in double brackets", b"");
         }
-        if let Some((keys, needed)) = keys_of(section.name) {
-            for key in keys.iter().take(needed) {
-                if self.value(index, key).is_none() {
-                    self.put_section(section, b" has no ", key)?;
-                }
-            }
-        }
-        self.put_want_of_target(index, section)
+        self.put_missing(alloc, section, rest, needed_keys(section.name))?;
+        self.put_target(alloc, section, rest)
     }
 
-    // Adds a line where a jump or a call has no destination, or another target has one.
-    fn put_want_of_target(&mut self, index: usize, section: Section<'a>) -> Result<(), AllocError> {
-        let Some(kind) = self.value(index, b"kind") else {
-            return Ok(());
-        };
-        let goes = matches!(kind.value, [_, b'j' | b'c', ..]);
-        match self.value(index, b"to") {
-            Some(to) if !goes => self.put_pair(to),
-            None if goes => self.put_section(section, b" has no ", b"to"),
+    // Adds what is wrong with a table.
+    fn put_of_table(
+        &mut self,
+        asked: &Asked<'_>,
+        section: &Section<'_>,
+        rest: &[Entry<'_>],
+    ) -> Result<(), AllocError>
+        ensures { OnOk result
+            (Adds (table_rows asked.now.labels.now asked.now.fault (table_of section.now) (map item_of rest.now))
+            self.old self.new) }
+    {
+        let alloc = asked.alloc;
+        match asked.fault {
+            StatementFault::UnknownKey => {
+                let holds = keys_of(section.name).is_none();
+                self.put_if(alloc, holds, section, b" is no list of statements")
+            }
+            StatementFault::WrongKind => self.put_kinds(alloc, section, rest),
+            StatementFault::OutOfRange => {
+                let holds = is_misplaced(asked.labels, rest);
+                self.put_if(
+                    alloc,
+                    holds,
+                    section,
+                    b" has its header outside first to last",
+                )
+            }
             _ => Ok(()),
         }
     }
 
-    fn put_unknown_labels(&mut self) -> Result<(), AllocError> {
-        for index in 0..self.outline.pairs.len() {
-            if let Some(pair) = self.outline.pairs.get(index).copied() {
-                if is_unknown_label(self.labels, pair.key, pair.value) {
-                    self.put_pair(pair)?;
-                }
-            }
+    // Adds a value that has the fault.
+    fn put_of_value(&mut self, asked: &Asked<'_>, pair: &Pair<'_>) -> Result<(), AllocError>
+        ensures { OnOk result
+            (Adds (row_if (is_faulty asked.now.labels.now asked.now.fault (stated_of pair.now))
+            (value_row (stated_of pair.now))) self.old self.new) }
+    {
+        if is_faulty(asked, pair) {
+            return self.put_value(asked.alloc, pair);
         }
         Ok(())
     }
 
-    fn put_out_of_range(&mut self) -> Result<(), AllocError> {
-        for index in 0..self.outline.pairs.len() {
-            if let Some(pair) = self.outline.pairs.get(index).copied() {
-                if is_out_of_range(self.labels, pair.key, pair.value) || self.is_outside(&pair) {
-                    self.put_pair(pair)?;
-                }
-            }
+    fn put_of_entry(
+        &mut self,
+        asked: &Asked<'_>,
+        entry: &Entry<'_>,
+        rest: &[Entry<'_>],
+    ) -> Result<(), AllocError>
+        ensures { OnOk result
+            (Adds (item_rows asked.now.labels.now asked.now.fault (item_of entry.now) (map item_of rest.now))
+            self.old self.new) }
+    {
+        match entry {
+            Entry::Table(section) => self.put_of_table(asked, section, rest),
+            Entry::Value(pair) => self.put_of_value(asked, pair),
+            Entry::End => Ok(()),
+        }
+    }
+
+    // Adds what is wrong with the tables and values.
+    #[tactic(auto, unfolding(crate::specs::Refused::rows))]
+    fn put_rows(&mut self, asked: &Asked<'_>, entries: &[Entry<'_>]) -> Result<(), AllocError>
+        ensures { OnOk result
+            (Adds (rows asked.now.labels.now asked.now.fault (map item_of entries.now)) self.old self.new) }
+    {
+        for index in 0..entries.len() {
+            self.put_of_entry(asked, &entries[index], &entries[index + 1..])?;
         }
         Ok(())
     }
 
-    // Whether the pair is a header that does not lie in its loop.
-    fn is_outside(&self, pair: &Pair<'a>) -> bool {
-        if pair.key != b"header".as_slice() {
-            return false;
-        }
-        let header = address_of(self.labels, pair.value);
-        let first = self.address(pair.section, b"first");
-        let last = self.address(pair.section, b"last");
-        match (header, first, last) {
-            (Some(header), Some(first), Some(last)) => header < first || last < header,
-            _ => false,
-        }
+    // Adds that a statement has no entry, where it has none.
+    fn put_if_no_entry(&mut self, entries: &[Entry<'_>]) -> Result<(), AllocError>
+        ensures { OnOk result (Adds (no_entry_rows (map item_of entries.now)) self.old self.new) }
+    {
+        let holds = !has_entry(entries);
+        self.put_row_if(holds, 1, NO_ENTRY)
     }
 
-    fn address(&self, section: usize, key: &'a [u8]) -> Option<u32> {
-        address_of(self.labels, self.value(section, key)?.value)
-    }
-
-    // Adds the pairs that state an address again: of a list's tables, or of a target's destinations.
-    fn put_twice(&mut self, alloc: Global) -> Result<(), AllocError> {
-        let mut seen = BTreeSet::new(alloc);
-        for index in 0..self.outline.pairs.len() {
-            let Some(pair) = self.outline.pairs.get(index).copied() else {
-                continue;
-            };
-            let name = match self.section(pair.section) {
-                Some(section) => section.name,
-                None => b"",
-            };
-            let Some(address) = address_of(self.labels, pair.value) else {
-                continue;
-            };
-            let is_new = if pair.key == b"at".as_slice() {
-                seen.insert((name, 0, address))?
-            } else if pair.key == b"to".as_slice() {
-                seen.insert((name, pair.section, address))?
-            } else {
-                true
-            };
-            if !is_new {
-                self.put_pair(pair)?;
-            }
-        }
-        Ok(())
-    }
-
-    fn put_fault(&mut self, alloc: Global, fault: StatementFault) -> Result<(), AllocError> {
+    // Adds what is wrong with the whole.
+    fn put_of_whole(
+        &mut self,
+        fault: StatementFault,
+        entries: &[Entry<'_>],
+    ) -> Result<(), AllocError>
+        ensures { OnOk result
+            (Adds (entry_rows fault (map item_of entries.now)) self.old self.new) }
+    {
         match fault {
-            StatementFault::UnknownKey => self.put_unknown_keys(),
-            StatementFault::WrongKind => self.put_wrong_kinds(),
-            StatementFault::UnknownLabel => self.put_unknown_labels(),
-            StatementFault::OutOfRange => self.put_out_of_range(),
-            StatementFault::Twice => self.put_twice(alloc),
-            StatementFault::Memory | StatementFault::NotToml => Ok(()),
+            StatementFault::WrongKind => self.put_if_no_entry(entries),
+            _ => Ok(()),
         }
     }
 }
 
-// The line of the statement's text where it is no TOML.
-fn no_toml_text(alloc: Global, text: &[u8]) -> Result<Vec<u8>, AllocError> {
-    let mut out = Vec::new(alloc);
-    let Err(error) = toml::table_from_slice(alloc, text) else {
-        return Ok(out);
+// Whether the value is the statement's entry.
+fn is_entry(entry: &Entry<'_>) -> bool
+    ensures { result ≡ is_entry (item_of entry.now) }
+{
+    match entry {
+        Entry::Value(pair) => pair.list.is_empty() && pair.key == b"entry".as_slice(),
+        Entry::Table(_) | Entry::End => false,
+    }
+}
+
+fn has_entry(entries: &[Entry<'_>]) -> bool
+    ensures { result ≡ list_any is_entry (map item_of entries.now) }
+{
+    for entry in entries {
+        if is_entry(entry) {
+            return true;
+        }
+    }
+    false
+}
+
+// The rows of the tables and values of a statement's text that have the fault.
+#[tactic(auto, using(crate::proofs::RefusedLemmas::adds_both, crate::proofs::RefusedLemmas::all_added))]
+fn rows_text(asked: &Asked<'_>, text: &[u8]) -> Result<Vec<u8>, AllocError>
+    ensures { IfOk result
+        (λ out. out.items ≡ shown MOST_LINES (all_rows asked.now.labels.now asked.now.fault (items_of text.now))) }
+{
+    let entries = entries_of(asked.alloc, text)?;
+    let mut report = Report {
+        text: Vec::new(asked.alloc),
+        left: MOST_LINES,
     };
-    let Some(span) = error.span() else {
-        return Ok(out);
+    report.put_of_whole(asked.fault, &entries)?;
+    report.put_rows(asked, &entries)?;
+    Ok(report.text)
+}
+
+// Among which addresses a value's is to stand once: those of its list's tables, or of its own table.
+fn place_of(pair: &Pair<'_>, table: usize) -> Option<usize> {
+    if pair.key == b"at".as_slice() {
+        return Some(0);
+    }
+    if pair.key == b"to".as_slice() {
+        return Some(table);
+    }
+    None
+}
+
+// The values whose address stands before them in the same place.
+fn twice_text(asked: &Asked<'_>, text: &[u8]) -> Result<Vec<u8>, AllocError> {
+    let entries = entries_of(asked.alloc, text)?;
+    let mut report = Report {
+        text: Vec::new(asked.alloc),
+        left: MOST_LINES,
     };
-    let lines = text
-        .iter()
-        .take(span.start)
-        .filter(|byte| **byte == b'\n')
-        .count();
-    put(&mut out, b"line ")?;
-    put_decimal(&mut out, lines.saturating_add(1))?;
+    let mut seen = BTreeSet::new(asked.alloc);
+    let mut table: usize = 0;
+    for entry in &entries {
+        let Entry::Value(pair) = entry else {
+            table = table.saturating_add(1);
+            continue;
+        };
+        let Some(place) = place_of(pair, table) else {
+            continue;
+        };
+        let Some(address) = address_at(asked.labels, pair.value) else {
+            continue;
+        };
+        let is_new = seen.insert((pair.list, place, address))?;
+        if !is_new {
+            report.put_value(asked.alloc, pair)?;
+        }
+    }
+    Ok(report.text)
+}
+
+// How many lines end in the text.
+fn feeds(text: &[u8]) -> usize
+    ensures count { result ≡ feeds text.now }
+    ensures within { result ≤ length text.now }
+{
+    text.iter().filter(|byte| **byte == b'\n').count()
+}
+
+fn toml_row(alloc: Global, number: usize) -> Result<Vec<u8>, AllocError>
+    ensures { IfOk result (λ out. out.items ≡ toml_row number) }
+{
+    let mut out = Vec::from_slice(alloc, b"line ")?;
+    put_decimal(&mut out, number)?;
     put(&mut out, b" is no TOML\n")?;
     Ok(out)
 }
 
-/// The lines of a statement's text with what is refused there, as far as they can be found: at most twenty,
-/// each with its number, the key and the value.
+// The row of the line that holds the byte at an index.
+fn toml_line(alloc: Global, text: &[u8], at: usize) -> Result<Vec<u8>, AllocError>
+    ensures { IfOk result (λ out. IsTomlText text.now out.items) }
+{
+    let front = &text[..at.min(text.len())];
+    let number = feeds(front) + 1;
+    toml_row(alloc, number)
+}
+
+// The line of the statement's text where it is no TOML.
+fn no_toml_text(alloc: Global, text: &[u8]) -> Result<Vec<u8>, AllocError>
+    ensures { IfOk result (λ out. IsTomlText text.now out.items) }
+{
+    let Err(error) = toml::table_from_slice(alloc, text) else {
+        return Ok(Vec::new(alloc));
+    };
+    match error.span() {
+        Some(span) => toml_line(alloc, text, span.start),
+        None => Ok(Vec::new(alloc)),
+    }
+}
+
+/// The lines of a statement's text with what has the fault there: at most twenty, each with its number. Of a
+/// text that is no TOML it is the line where the reader of TOML stopped. Nothing is named of `Memory`.
 ///
 /// # Errors
 ///
@@ -287,22 +599,17 @@ pub fn statement_text(
     text: &[u8],
     labels: &Labels,
     fault: StatementFault,
-) -> Result<Vec<u8>, AllocError> {
-    if fault == StatementFault::NotToml {
-        return no_toml_text(alloc, text);
-    }
-    let outline = outline_of(alloc, text)?;
-    let mut values = BTreeMap::new(alloc);
-    for pair in &outline.pairs {
-        values.insert((pair.section, pair.key), *pair)?;
-    }
-    let mut report = Report {
+) -> Result<Vec<u8>, AllocError>
+    ensures { IfOk result (λ out. IsStatementText labels.now text.now fault out.items) }
+{
+    let asked = Asked {
+        alloc,
         labels,
-        outline,
-        values,
-        text: Vec::new(alloc),
-        lines: 0,
+        fault,
     };
-    report.put_fault(alloc, fault)?;
-    Ok(report.text)
+    match fault {
+        StatementFault::NotToml => no_toml_text(alloc, text),
+        StatementFault::Twice => twice_text(&asked, text),
+        _ => rows_text(&asked, text),
+    }
 }

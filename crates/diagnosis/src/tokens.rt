@@ -1,97 +1,176 @@
-ghost use Rattle.std.specs.Prelude.{◌≤◌, length};
+ghost use Rattle.std.specs.Prelude.{◌≡◌, ◌≤◌, drop, false, length, option_map, take};
+ghost use Rattle.std.specs.List.{prefix_len};
+ghost use Rattle.diagnosis.specs.Outline.{bare_at, first_piece, in_pieces, is_bare, is_blank, is_gap, is_quote};
+ghost use Rattle.diagnosis.specs.Outline.{past_blanks, piece_of, quoted_at, quoted_len};
+ghost use Rattle.diagnosis.specs.Outline.{starts_equals, text_of, told, value_of};
 
-/// A part of a statement's text.
-#[derive(Clone, Copy, PartialEq, Eq)]
-pub(crate) enum Token<'a> {
-    /// The end of a line.
-    Line,
-    /// Blanks, or a comment.
-    Blank,
-    /// `=`.
-    Equals,
-    /// `,`.
-    Comma,
-    /// `[`.
-    Open,
-    /// `]`.
-    Close,
-    /// `{`.
-    OpenTable,
-    /// `}`.
-    CloseTable,
-    /// A bare word, or a text with its quotes.
-    Word(&'a [u8]),
+/// A word of a statement's text.
+#[derive(Clone, Copy)]
+pub(crate) enum Word<'a> {
+    /// A bare one.
+    Bare(&'a [u8]),
+    /// A text, and the quote that stands before and after it.
+    Quoted(u8, &'a [u8]),
 }
 
-// How many bytes a quoted text has, behind its first quote and up to the last, or up to the line's end.
-fn quoted_len(text: &[u8], quote: u8) -> usize
-    ensures { result ≤ length text.now }
+/// A part of a line of a statement's text.
+#[derive(Clone, Copy)]
+pub(crate) enum Token<'a> {
+    /// What stands between the others: a blank, a mark, or a comment.
+    Gap,
+    /// `{`.
+    Opens,
+    /// `}`.
+    Closes,
+    /// A word before `=`.
+    Key(&'a [u8]),
+    /// Any other word.
+    Told(Word<'a>),
+}
+
+fn is_blank(byte: u8) -> bool
+    ensures { result ≡ is_blank byte }
+{
+    byte == b' ' || byte == b'\t'
+}
+
+fn is_gap(byte: u8) -> bool
+    ensures { result ≡ is_gap byte }
+{
+    is_blank(byte) || byte == b'\r' || byte == b'=' || byte == b',' || byte == b'[' || byte == b']'
+}
+
+fn is_quote(byte: u8) -> bool
+    ensures { result ≡ is_quote byte }
+{
+    byte == b'"' || byte == b'\''
+}
+
+fn is_bare(byte: u8) -> bool
+    ensures { result ≡ is_bare byte }
+{
+    !(is_gap(byte) || is_quote(byte) || byte == b'{' || byte == b'}' || byte == b'#')
+}
+
+fn blanks_len(text: &[u8]) -> usize
+    ensures len { result ≡ prefix_len is_blank text.now }
+    ensures within { result ≤ length text.now }
+{
+    text.iter().take_while(|byte| is_blank(**byte)).count()
+}
+
+fn bare_len(text: &[u8]) -> usize
+    ensures len { result ≡ prefix_len is_bare text.now }
+    ensures within { result ≤ length text.now }
+{
+    text.iter().take_while(|byte| is_bare(**byte)).count()
+}
+
+/// What stands after the blanks at the front.
+pub(crate) fn past_blanks(text: &[u8]) -> &[u8]
+    ensures { result.now ≡ past_blanks text.now }
+{
+    &text[blanks_len(text)..]
+}
+
+/// The bare word at the front.
+pub(crate) fn bare_front(text: &[u8]) -> &[u8]
+    ensures { result.now ≡ take (prefix_len is_bare text.now) text.now }
+{
+    &text[..bare_len(text)]
+}
+
+// How many bytes stand before the quote that ends a text, or before the line's end.
+#[tactic(auto, unfolding(crate::specs::Outline::quoted_len))]
+fn quoted_len(quote: u8, text: &[u8]) -> usize
+    ensures len { result ≡ quoted_len quote false text.now }
+    ensures within { result ≤ length text.now }
 {
     let mut is_escaped = false;
-    for (k, byte) in text.iter().enumerate() {
-        if *byte == b'\n' {
-            return k;
-        }
+    let mut len = 0;
+    for byte in text {
         if *byte == quote && !is_escaped {
-            return k + 1;
+            return len;
         }
         is_escaped = *byte == b'\\' && quote == b'"' && !is_escaped;
+        len += 1;
     }
-    text.len()
+    len
 }
 
-// How many bytes of a comment stand before the line's end.
-fn comment_len(text: &[u8]) -> usize
-    ensures { result ≤ length text.now }
+// What stands after the first bytes, if there are more.
+fn after(text: &[u8], len: usize) -> &[u8]
+    ensures { result.now ≡ drop len text.now }
 {
-    text.iter().take_while(|byte| **byte != b'\n').count()
+    if len < text.len() { &text[len..] } else { b"" }
 }
 
-fn is_mark(byte: u8) -> bool {
-    matches!(
-        byte,
-        b'=' | b',' | b'[' | b']' | b'{' | b'}' | b'#' | b'"' | b'\''
-    )
-}
-
-fn word_len(text: &[u8]) -> usize
-    ensures { result ≤ length text.now }
+fn starts_equals(text: &[u8]) -> bool
+    ensures { result ≡ starts_equals text.now }
 {
-    text.iter()
-        .take_while(|byte| !is_mark(**byte) && !byte.is_ascii_whitespace())
-        .count()
-}
-
-// The token that a mark is, but for words.
-fn mark(byte: u8) -> Option<Token<'static>> {
-    match byte {
-        b'\n' => Some(Token::Line),
-        b' ' | b'\t' | b'\r' => Some(Token::Blank),
-        b'=' => Some(Token::Equals),
-        b',' => Some(Token::Comma),
-        b'[' => Some(Token::Open),
-        b']' => Some(Token::Close),
-        b'{' => Some(Token::OpenTable),
-        b'}' => Some(Token::CloseTable),
-        _ => None,
+    match text {
+        [] => false,
+        [byte, ..] => *byte == b'=',
     }
 }
 
-/// The first token of a text, and what stands after it, or None at its end.
-pub(crate) fn next_token(text: &[u8]) -> Option<(Token<'_>, &[u8])> {
+fn text_of<'a>(word: Word<'a>) -> &'a [u8]
+    ensures { result.now ≡ text_of (value_of word.entry) }
+{
+    match word {
+        Word::Bare(text) => text,
+        Word::Quoted(_, text) => text,
+    }
+}
+
+// The token that a word is.
+fn told<'a>(word: Word<'a>, after: &[u8]) -> Token<'a>
+    ensures { piece_of result ≡ told (value_of word.entry) after.now }
+{
+    if starts_equals(past_blanks(after)) {
+        return Token::Key(text_of(word));
+    }
+    Token::Told(word)
+}
+
+// The token of a text in quotes, behind its first quote, and what stands after it.
+fn quoted_at(quote: u8, rest: &[u8]) -> (Token<'_>, &[u8])
+    ensures { in_pieces result ≡ quoted_at quote rest.now }
+{
+    let len = quoted_len(quote, rest);
+    let after = after(rest, len + 1);
+    (told(Word::Quoted(quote, &rest[..len]), after), after)
+}
+
+// The token of a bare word, and what stands after it.
+fn bare_at(text: &[u8]) -> (Token<'_>, &[u8])
+    ensures { in_pieces result ≡ bare_at text.now }
+{
+    let len = bare_len(text);
+    let after = &text[len..];
+    (told(Word::Bare(&text[..len]), after), after)
+}
+
+/// The first token of a line's text, and what stands after it, or None at its end.
+pub(crate) fn next_token(text: &[u8]) -> Option<(Token<'_>, &[u8])>
+    ensures { option_map in_pieces result ≡ first_piece text.now }
+{
     let (first, rest) = text.split_first()?;
-    if let Some(token) = mark(*first) {
-        return Some((token, rest));
+    let byte = *first;
+    if byte == b'#' {
+        return Some((Token::Gap, b""));
     }
-    match *first {
-        b'#' => Some((Token::Blank, &rest[comment_len(rest)..])),
-        b'"' | b'\'' => {
-            let len = quoted_len(rest, *first);
-            Some((Token::Word(&text[..len + 1]), &rest[len..]))
-        }
-        _ => {
-            let len = word_len(rest);
-            Some((Token::Word(&text[..len + 1]), &rest[len..]))
-        }
+    if is_gap(byte) {
+        return Some((Token::Gap, rest));
     }
+    if byte == b'{' {
+        return Some((Token::Opens, rest));
+    }
+    if byte == b'}' {
+        return Some((Token::Closes, rest));
+    }
+    if is_quote(byte) {
+        return Some(quoted_at(byte, rest));
+    }
+    Some(bare_at(text))
 }

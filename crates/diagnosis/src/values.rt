@@ -1,3 +1,12 @@
+ghost use Rattle.std.specs.Prelude.{◌≡◌, map};
+ghost use Rattle.diagnosis.specs.Outline.{stated_of, value_of};
+ghost use Rattle.diagnosis.specs.Refused.{address_at, class_words, fits_key, is_among, is_negative, is_number};
+ghost use Rattle.diagnosis.specs.Refused.{is_number_outside, is_out_of_range, is_outside, is_text};
+ghost use Rattle.diagnosis.specs.Refused.{is_unknown_label, is_word_of, kind_words, starts_digit};
+ghost use Rattle.diagnosis.specs.Refused.{starts_number, takes_address};
+
+use crate::outline::Pair;
+use crate::tokens::Word;
 use asm_text::read_number;
 use bus_ticks::SPACE_END;
 use loader::Labels;
@@ -5,80 +14,153 @@ use loader::Labels;
 /// The highest bound of a loop.
 const MOST_ROUNDS: u32 = 1_048_576;
 
-/// The text between quotes, if the value is one.
-pub(crate) fn quoted(value: &[u8]) -> Option<&[u8]> {
-    match value {
-        [b'"', text @ .., b'"'] => Some(text),
-        [b'\'', text @ .., b'\''] => Some(text),
-        _ => None,
-    }
+/// Whether the word is one of those.
+pub(crate) fn is_among(words: &[&[u8]], word: &[u8]) -> bool
+    ensures { result ≡ is_among (map (λ w. w.now) words.now) word.now }
+{
+    words.contains(&word)
 }
 
-/// Whether the value begins as a number does.
-pub(crate) fn is_number(value: &[u8]) -> bool {
-    match value {
-        [b'+' | b'-', first, ..] => first.is_ascii_digit(),
-        [first, ..] => first.is_ascii_digit(),
+fn starts_digit(text: &[u8]) -> bool
+    ensures { result ≡ starts_digit text.now }
+{
+    match text {
         [] => false,
+        [byte, ..] => byte.is_ascii_digit(),
     }
 }
 
-/// Whether the key takes an address.
-pub(crate) fn takes_address(key: &[u8]) -> bool {
+// Whether the text begins as a number does.
+fn starts_number(text: &[u8]) -> bool
+    ensures { result ≡ starts_number text.now }
+{
+    match text {
+        [] => false,
+        [byte, rest @ ..] => {
+            if *byte == b'+' || *byte == b'-' {
+                return starts_digit(rest);
+            }
+            byte.is_ascii_digit()
+        }
+    }
+}
+
+fn is_number(value: Word<'_>) -> bool
+    ensures { result ≡ is_number (value_of value.entry) }
+{
+    match value {
+        Word::Bare(text) => starts_number(text),
+        Word::Quoted(_, _) => false,
+    }
+}
+
+fn is_negative(value: Word<'_>) -> bool
+    ensures { result ≡ is_negative (value_of value.entry) }
+{
+    match value {
+        Word::Bare([byte, ..]) => *byte == b'-',
+        _ => false,
+    }
+}
+
+fn is_text(value: Word<'_>) -> bool
+    ensures { result ≡ is_text (value_of value.entry) }
+{
+    match value {
+        Word::Bare(_) => false,
+        Word::Quoted(_, _) => true,
+    }
+}
+
+/// Whether the value is one of these words in quotes.
+pub(crate) fn is_word_of(words: &[&[u8]], value: Word<'_>) -> bool
+    ensures { result ≡ is_word_of (map (λ w. w.now) words.now) (value_of value.entry) }
+{
+    match value {
+        Word::Bare(_) => false,
+        Word::Quoted(_, text) => is_among(words, text),
+    }
+}
+
+// Whether the values of the key are addresses.
+fn takes_address(key: &[u8]) -> bool
+    ensures { result ≡ takes_address key.now }
+{
     const KEYS: &[&[u8]] = &[b"entry", b"header", b"first", b"last", b"at", b"to"];
-    KEYS.iter().any(|known| *known == key)
+    is_among(KEYS, key)
+}
+
+// Whether the value is a class.
+fn is_class(value: Word<'_>) -> bool
+    ensures { result ≡ is_word_of class_words (value_of value.entry) }
+{
+    const CLASSES: &[&[u8]] = &[b"any", b"ram", b"rom", b"io"];
+    is_word_of(CLASSES, value)
+}
+
+// Whether the value is a kind of target.
+fn is_kind(value: Word<'_>) -> bool
+    ensures { result ≡ is_word_of kind_words (value_of value.entry) }
+{
+    const KINDS: &[&[u8]] = &[b"jump", b"call", b"return", b"leave"];
+    is_word_of(KINDS, value)
+}
+
+/// Whether the value is of a kind that the key takes.
+pub(crate) fn fits_key(key: &[u8], value: Word<'_>) -> bool
+    ensures { result ≡ fits_key key.now (value_of value.entry) }
+{
+    if takes_address(key) {
+        return is_text(value) || is_number(value);
+    }
+    if key == b"bound".as_slice() {
+        return is_number(value);
+    }
+    if key == b"leave".as_slice() || key == b"class".as_slice() {
+        return is_class(value);
+    }
+    if key == b"kind".as_slice() {
+        return is_kind(value);
+    }
+    true
 }
 
 /// The address that a value means: a label's, or a number's in decimal or after `0x`.
-pub(crate) fn address_of(labels: &Labels, value: &[u8]) -> Option<u32> {
-    match quoted(value) {
-        Some(name) => labels.get(name),
-        None => read_number(value),
-    }
-}
-
-/// Whether the value is of another kind than the key takes, or another word.
-pub(crate) fn is_wrong_kind(key: &[u8], value: &[u8]) -> bool {
-    const CLASSES: &[&[u8]] = &[b"any", b"ram", b"rom", b"io"];
-    const KINDS: &[&[u8]] = &[b"jump", b"call", b"return", b"leave"];
-    if takes_address(key) {
-        return quoted(value).is_none() && !is_number(value);
-    }
-    if key == b"bound".as_slice() {
-        return !is_number(value);
-    }
-    if key == b"leave".as_slice() || key == b"class".as_slice() {
-        return !is_among(CLASSES, value);
-    }
-    key == b"kind".as_slice() && !is_among(KINDS, value)
-}
-
-// Whether the value is one of these words in quotes.
-fn is_among(words: &[&[u8]], value: &[u8]) -> bool {
-    match quoted(value) {
-        Some(text) => words.iter().any(|word| *word == text),
-        None => false,
+pub(crate) fn address_at(labels: &Labels, value: Word<'_>) -> Option<u32>
+    ensures { result ≡ address_at labels.now (value_of value.entry) }
+{
+    match value {
+        Word::Bare(text) => read_number(text),
+        Word::Quoted(_, name) => labels.get(name),
     }
 }
 
 /// Whether a text in place of an address names no label.
-pub(crate) fn is_unknown_label(labels: &Labels, key: &[u8], value: &[u8]) -> bool {
-    match quoted(value) {
-        Some(name) => takes_address(key) && labels.get(name).is_none(),
-        None => false,
+pub(crate) fn is_unknown_label(labels: &Labels, pair: &Pair<'_>) -> bool
+    ensures { result ≡ is_unknown_label labels.now (stated_of pair.now) }
+{
+    takes_address(pair.key) && is_text(pair.value) && address_at(labels, pair.value).is_none()
+}
+
+// Whether the number is none that the key takes.
+fn is_outside(key: &[u8], number: u32) -> bool
+    ensures { result ≡ is_outside key.now number }
+{
+    if takes_address(key) {
+        return !(number % 4 == 0 && number < SPACE_END);
     }
+    key == b"bound".as_slice() && MOST_ROUNDS < number
 }
 
 /// Whether a number is none that the key takes, as far as it is written in decimal or after `0x`.
-pub(crate) fn is_out_of_range(labels: &Labels, key: &[u8], value: &[u8]) -> bool {
-    if value.starts_with(b"-") {
+pub(crate) fn is_out_of_range(labels: &Labels, pair: &Pair<'_>) -> bool
+    ensures { result ≡ is_out_of_range labels.now (stated_of pair.now) }
+{
+    if is_negative(pair.value) {
         return true;
     }
-    let Some(number) = address_of(labels, value) else {
-        return false;
-    };
-    if takes_address(key) {
-        return number >= SPACE_END || number % 4 != 0;
+    match address_at(labels, pair.value) {
+        Some(number) => is_outside(pair.key, number),
+        None => false,
     }
-    key == b"bound".as_slice() && number > MOST_ROUNDS
 }

@@ -1,0 +1,49 @@
+-- Rows one after another.
+use Rattle.std.proofs.Common.{◌≡◌, ◌<◌, ◌-◌, ◌+◌, ◌||◌, ◌++◌, zero, suc, ℕ, Bool, List, [], ◌∷◌, map, refl, sym, ap, ◌∙◌, append_assoc, append-nil, arith}
+use Rattle.std.specs.List.{list_any}
+use Rattle.diagnosis.specs.Refused.{Adds, Row, row_text, shown}
+use Rattle.diagnosis.specs.declared.statements.Report.{Report}
+
+pub list_any-map : {A B : Type 0} (test : B → Bool) (f : A → B) (xs : List A) → list_any (λ x. test (f x)) xs ≡ list_any test (map f xs)
+list_any-map test f [] = refl
+list_any-map test f (x ∷ xs) = ap (λ b. test (f x) || b) (list_any-map test f xs)
+
+shown_more : (n : ℕ) (row : Row) (more : List Row) → shown (suc n) (row ∷ more) ≡ row_text row ++ shown n more
+unfolding shown
+shown_more n row more = refl
+
+pub no_room : (rows : List Row) → shown 0 rows ≡ []
+unfolding shown
+no_room rows = refl
+
+pub no_rows : (left : ℕ) → shown left [] ≡ []
+unfolding shown
+no_rows zero = refl
+no_rows (suc n) = refl
+
+pub put_one : (old new : List ℕ) (left : ℕ) (row : Row) (more : List Row) → 0 < left → new ≡ old ++ row_text row
+    → new ++ shown (left - 1) more ≡ old ++ shown left (row ∷ more)
+put_one old new left row more some is =
+    let n : left ≡ suc (left - 1) = omega (arith, some) in
+    ap (λ t. t ++ shown (left - 1) more) is
+    ∙ (append_assoc old (row_text row) (shown (left - 1) more)
+    ∙ ap (λ t. old ++ t) (sym (shown_more (left - 1) row more) ∙ ap (λ m. shown m (row ∷ more)) (sym n)))
+
+pub adds_none : (r : Report) → Adds [] r r
+adds_none r = record { same = λ more. refl }
+
+pub adds_both : (xs ys : List Row) (a b c : Report) → Adds xs a b → Adds ys b c → Adds (xs ++ ys) a c
+adds_both xs ys a b c first then_rest = record {
+  same = λ more.
+      then_rest.same more
+      ∙ (first.same (ys ++ more)
+      ∙ ap (λ rows. a.text.items ++ shown a.left rows) (sym (append_assoc xs ys more)));
+}
+
+pub all_added : (rows : List Row) (a b : Report) → Adds rows a b → b.text.items ≡ a.text.items ++ shown a.left rows
+all_added rows a b adds =
+    sym (append-nil b.text.items) ∙ (ap (λ t. b.text.items ++ t) (sym (no_rows b.left))
+    ∙ (adds.same [] ∙ ap (λ r. a.text.items ++ shown a.left r) (append-nil rows)))
+
+pub full : (old : List ℕ) (left : ℕ) (xs ys : List Row) → left ≡ 0 → old ++ shown left xs ≡ old ++ shown left ys
+full old left xs ys is = ap (λ t. old ++ t) (ap (λ n. shown n xs) is ∙ (no_room xs ∙ (sym (no_room ys) ∙ ap (λ n. shown n ys) (sym is))))

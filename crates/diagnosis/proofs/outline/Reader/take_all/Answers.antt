@@ -1,0 +1,17 @@
+use Rattle.std.proofs.Common.{◌≡◌, ◌-◌, ◌+◌, Option, Some, refl, sym, ap, ◌∙◌, length, rules, arith}
+use Rattle.std.specs.Prelude.{option_map}
+use Rattle.diagnosis.specs.Outline.{all_taken, first_piece, in_pieces, piece_of, pieces, reading_of, taken}
+use Rattle.diagnosis.proofs.OutlineLemmas.{more_pieces}
+use Rattle.diagnosis.proofs.outline.Reader.take_all.Goals as goal
+
+pub loop-preserved : goal.loop-preserved
+loop-preserved c =
+    let found : Some (in_pieces (c.in-Some.token, c.in-Some.after)) ≡ first_piece c.loop.rest.now = search rules in
+    let took : reading_of c.take.new.self ≡ taken c.args.line (reading_of c.loop.self) (piece_of c.in-Some.token) = search rules in
+    record {
+      last = refl;
+      same =
+          ap (λ r. all_taken c.args.line r (pieces (length c.args.text.now - (c.loop.counter + 1)) c.in-Some.after.now)) took
+          ∙ (sym (more_pieces c.args.line (reading_of c.loop.self) (length c.args.text.now) c.loop.counter c.loop.rest.now (Some (in_pieces (c.in-Some.token, c.in-Some.after))) c.loop-test.true found)
+          ∙ c.loop.invariant.same);
+    }

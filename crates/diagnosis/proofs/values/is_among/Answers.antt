@@ -1,0 +1,7 @@
+use Rattle.std.proofs.Common.{◌∙◌}
+use Rattle.std.specs.Str.{bytes_eq}
+use Rattle.diagnosis.proofs.RefusedLemmas.{list_any-map}
+use Rattle.diagnosis.proofs.values.is_among.Goals as goal
+
+pub returns : goal.returns
+returns c = c.contains.ensures.value ∙ list_any-map (λ w. bytes_eq w c.args.word.now) (λ w. w.now) c.args.words.now

@@ -1,0 +1,241 @@
+-- The tables and the values of a statement's text, line by line, as its words tell. Our own reading: it takes
+-- each key and each text in quotes to end on its line, as they do in the statements that we print.
+use Rattle.std.specs.Prelude.{◌==◌, ◌&&◌, ◌||◌, ◌+◌, not, zero, suc, Bool, true, false, ℕ, List, [], ◌∷◌, ◌++◌}
+use Rattle.std.specs.Prelude.{length, take, drop, map, Option, Some, None, if◌then◌else◌}
+use Rattle.std.specs.Borrow.{Bor}
+use Rattle.std.specs.List.{prefix_len}
+use Rattle.asm_text.specs.Source.{lines_of}
+use Rattle.diagnosis.specs.declared.outline.Entry.{Entry}
+use Rattle.diagnosis.specs.declared.outline.Entry.TheVariants as entry
+use Rattle.diagnosis.specs.declared.outline.Pair.{Pair}
+use Rattle.diagnosis.specs.declared.outline.Reader.{Reader}
+use Rattle.diagnosis.specs.declared.outline.Section.{Section}
+use Rattle.diagnosis.specs.declared.tokens.Token.{Token}
+use Rattle.diagnosis.specs.declared.tokens.Token.TheVariants as token
+use Rattle.diagnosis.specs.declared.tokens.Word.{Word}
+use Rattle.diagnosis.specs.declared.tokens.Word.TheVariants as word
+
+-- ## The words of a line
+
+abbrev pub is_blank : ℕ → Bool
+is_blank b = b == 32 || b == 9
+
+-- what stands between words: a blank, a CR, = , [ or ]
+abbrev pub is_gap : ℕ → Bool
+is_gap b = is_blank b || (b == 13 || (b == 61 || (b == 44 || (b == 91 || b == 93))))
+
+abbrev pub is_quote : ℕ → Bool
+is_quote b = b == 34 || b == 39
+
+-- no such byte, no quote, no brace and no #
+abbrev pub is_bare : ℕ → Bool
+is_bare b = not (is_gap b || (is_quote b || (b == 123 || (b == 125 || b == 35))))
+
+-- a bare word, or a text with the quote before and after it
+pub data Value : Type 0 where
+  Bare : List ℕ → Value
+  Quoted : (quote : ℕ) → List ℕ → Value
+
+abbrev pub text_of : Value → List ℕ
+text_of (Bare w) = w
+text_of (Quoted quote w) = w
+
+-- a brace, a key, a value, or what stands between them
+pub data Piece : Type 0 where
+  Gap : Piece
+  Opens : Piece
+  Closes : Piece
+  Key : List ℕ → Piece
+  Told : Value → Piece
+
+-- how many bytes stand before the quote that ends a text; between two " a quote after \ does not
+unfoldable pub quoted_len : (quote : ℕ) → (escaped : Bool) → List ℕ → ℕ
+quoted_len quote escaped [] = 0
+quoted_len quote escaped (b ∷ bs) =
+    if b == quote && not escaped then 0
+    else quoted_len quote (b == 92 && (quote == 34 && not escaped)) bs + 1
+
+abbrev pub starts_equals : List ℕ → Bool
+starts_equals [] = false
+starts_equals (b ∷ bs) = b == 61
+
+abbrev pub past_blanks : List ℕ → List ℕ
+past_blanks text = drop (prefix_len is_blank text) text
+
+-- a word is a key where = stands next, else a value
+abbrev pub told : Value → List ℕ → Piece
+told value after = if starts_equals (past_blanks after) then Key (text_of value) else Told value
+
+-- with what stands after it
+abbrev pub word_at : Value → List ℕ → Piece × List ℕ
+word_at value after = (told value after, after)
+
+abbrev pub bare_at : List ℕ → Piece × List ℕ
+bare_at text = word_at (Bare (take (prefix_len is_bare text) text)) (drop (prefix_len is_bare text) text)
+
+abbrev pub quoted_at : ℕ → List ℕ → Piece × List ℕ
+quoted_at quote rest =
+    word_at (Quoted quote (take (quoted_len quote false rest) rest)) (drop (quoted_len quote false rest + 1) rest)
+
+-- what a byte begins, and what stands after that; # begins a comment
+abbrev pub piece_at : ℕ → List ℕ → Piece × List ℕ
+piece_at b rest =
+    if b == 35 then (Gap, [])
+    else (if is_gap b then (Gap, rest)
+    else (if b == 123 then (Opens, rest)
+    else (if b == 125 then (Closes, rest)
+    else (if is_quote b then quoted_at b rest else bare_at (b ∷ rest)))))
+
+abbrev pub first_piece : List ℕ → Option (Piece × List ℕ)
+first_piece [] = None
+first_piece (b ∷ rest) = Some (piece_at b rest)
+
+-- as many pieces at most
+unfoldable pub pieces : ℕ → List ℕ → List Piece
+pieces zero text = []
+pieces (suc n) [] = []
+pieces (suc n) (b ∷ rest) = (piece_at b rest).0 ∷ pieces n (piece_at b rest).1
+
+-- ## The tables and values
+
+-- a table begins: the line, the name of its list, and whether it is one of a list, as after [[ or in braces
+pub record Table : Type 0 where
+  pub line : ℕ
+  pub name : List ℕ
+  pub is_listed : Bool
+
+-- a value: its line, the name of its table's list, empty for the statement itself, and its key
+pub record Stated : Type 0 where
+  pub line : ℕ
+  pub list : List ℕ
+  pub key : List ℕ
+  pub value : Value
+
+-- the end of a table in braces
+pub data Item : Type 0 where
+  Begins : Table → Item
+  States : Stated → Item
+  Ends : Item
+
+-- the name of a table's list, and the last key
+pub record Spot : Type 0 where
+  pub list : List ℕ
+  pub key : List ℕ
+
+-- what was read, the spot at hand, and the one around the last brace
+pub record Reading : Type 0 where
+  pub at : Spot
+  pub around : Spot
+  pub items : List Item
+
+abbrev pub in_list : List ℕ → Spot
+in_list name = record { list = name; key = [] }
+
+abbrev pub item : Reading → Item → Reading
+item r i = record { at = r.at; around = r.around; items = r.items ++ (i ∷ []) }
+
+-- the list of a table in braces is that of its key
+abbrev pub opened : ℕ → Reading → Reading
+opened line r =
+    record {
+      at = in_list (r.at).key;
+      around = r.at;
+      items = r.items ++ (Begins (record { line = line; name = (r.at).key; is_listed = true }) ∷ []);
+    }
+
+abbrev pub closed : Reading → Reading
+closed r = record { at = r.around; around = r.around; items = r.items ++ (Ends ∷ []) }
+
+abbrev pub keyed : Reading → List ℕ → Reading
+keyed r key =
+    record { at = record { list = (r.at).list; key = key }; around = r.around; items = r.items }
+
+abbrev pub valued : ℕ → Reading → Value → Reading
+valued line r value =
+    item r (States (record { line = line; list = (r.at).list; key = (r.at).key; value = value }))
+
+abbrev pub taken : ℕ → Reading → Piece → Reading
+taken line r Gap = r
+taken line r Opens = opened line r
+taken line r Closes = closed r
+taken line r (Key key) = keyed r key
+taken line r (Told value) = valued line r value
+
+unfoldable pub all_taken : ℕ → Reading → List Piece → Reading
+all_taken line r [] = r
+all_taken line r (p ∷ ps) = all_taken line (taken line r p) ps
+
+-- ## Lines
+
+-- the first word, if it is a bare one
+abbrev pub bare_word : List ℕ → List ℕ
+bare_word text = take (prefix_len is_bare (past_blanks text)) (past_blanks text)
+
+abbrev pub after_bracket : ℕ → List ℕ → Option Table
+after_bracket line [] = Some (record { line = line; name = []; is_listed = false })
+after_bracket line (b ∷ rest) =
+    if b == 91 then Some (record { line = line; name = bare_word rest; is_listed = true })
+    else Some (record { line = line; name = bare_word (b ∷ rest); is_listed = false })
+
+-- a line that begins with [ or [[ begins a table
+abbrev pub header_at : ℕ → List ℕ → Option Table
+header_at line [] = None
+header_at line (b ∷ rest) = if b == 91 then after_bracket line rest else None
+
+abbrev pub header_of : ℕ → List ℕ → Option Table
+header_of line text = header_at line (past_blanks text)
+
+abbrev pub begun : Reading → Table → Reading
+begun r t = record { at = in_list t.name; around = in_list t.name; items = r.items ++ (Begins t ∷ []) }
+
+abbrev pub line_read : ℕ → Reading → List ℕ → Option Table → Reading
+line_read line r text (Some t) = begun r t
+line_read line r text None = all_taken line r (pieces (length text) text)
+
+-- the lines, the first of which has the number
+unfoldable pub lines_read : ℕ → Reading → List (List ℕ) → Reading
+lines_read line r [] = r
+lines_read line r (text ∷ texts) = lines_read (line + 1) (line_read line r text (header_of line text)) texts
+
+abbrev pub nothing_read : Reading
+nothing_read = record { at = in_list []; around = in_list []; items = [] }
+
+-- the tables and values of a text, in its order
+abbrev pub items_of : List ℕ → List Item
+items_of text = (lines_read 1 nothing_read (lines_of text)).items
+
+-- ## As the code has them
+
+abbrev pub value_of : Word → Value
+value_of (word.Bare w) = Bare w.now
+value_of (word.Quoted quote w) = Quoted quote w.now
+
+abbrev pub piece_of : Token → Piece
+piece_of token.Gap = Gap
+piece_of token.Opens = Opens
+piece_of token.Closes = Closes
+piece_of (token.Key w) = Key w.now
+piece_of (token.Told w) = Told (value_of w)
+
+-- with what stands after it
+abbrev pub in_pieces : Token × Bor (List ℕ) → Piece × List ℕ
+in_pieces f = (piece_of f.0, f.1.now)
+
+abbrev pub table_of : Section → Table
+table_of t = record { line = t.line; name = t.name.now; is_listed = t.is_listed }
+
+abbrev pub stated_of : Pair → Stated
+stated_of p = record { line = p.line; list = p.list.now; key = p.key.now; value = value_of p.value }
+
+abbrev pub item_of : Entry → Item
+item_of (entry.Table t) = Begins (table_of t)
+item_of (entry.Value p) = States (stated_of p)
+item_of entry.End = Ends
+
+abbrev pub reading_of : Reader → Reading
+reading_of r =
+    record {
+      at = record { list = (r.at).list.now; key = (r.at).key.now };
+      around = record { list = (r.around).list.now; key = (r.around).key.now };
+      items = map item_of r.entries.items;
+    }

@@ -1,0 +1,211 @@
+ghost use Rattle.std.specs.Prelude.{◌≡◌, IfOk, OnOk, length, map, option_map};
+ghost use Rattle.diagnosis.specs.Outline.{begun, header_of, item_of, items_of, line_read, piece_of, reading_of};
+ghost use Rattle.diagnosis.specs.Outline.{all_taken, bare_word, closed, opened, pieces, table_of, taken};
+ghost use Rattle.diagnosis.specs.Outline.{value_of, valued};
+
+use crate::tokens::{Token, Word, bare_front, next_token, past_blanks};
+use asm_text::first_line;
+use std::alloc::{AllocError, Global};
+
+/// Where a table of a statement's text begins.
+#[derive(Clone, Copy)]
+pub(crate) struct Section<'a> {
+    /// The number of its line, from 1.
+    pub line: usize,
+    /// The name of its list.
+    pub name: &'a [u8],
+    /// Whether it is one of a list, as after `[[` or in braces.
+    pub is_listed: bool,
+}
+
+/// A value of a statement's text.
+#[derive(Clone, Copy)]
+pub(crate) struct Pair<'a> {
+    /// The number of its line, from 1.
+    pub line: usize,
+    /// The name of its table's list, empty for the statement itself.
+    pub list: &'a [u8],
+    pub key: &'a [u8],
+    pub value: Word<'a>,
+}
+
+/// What a part of a statement's text says.
+#[derive(Clone, Copy)]
+pub(crate) enum Entry<'a> {
+    /// A table begins.
+    Table(Section<'a>),
+    /// A value.
+    Value(Pair<'a>),
+    /// A table in braces ends.
+    End,
+}
+
+// Of a table at hand.
+#[derive(Clone, Copy)]
+pub(crate) struct Spot<'a> {
+    // the name of its list
+    list: &'a [u8],
+    // the last key
+    key: &'a [u8],
+}
+
+// What was read of a statement's text.
+#[derive(Drop)]
+pub(crate) struct Reader<'a> {
+    at: Spot<'a>,
+    // the spot outside the last brace
+    around: Spot<'a>,
+    entries: Vec<Entry<'a>>,
+}
+
+impl<'a> Reader<'a> {
+    fn begin(&mut self, section: Section<'a>) -> Result<(), AllocError>
+        ensures { OnOk result (reading_of self.new ≡ begun (reading_of self.old) (table_of section.entry)) }
+    {
+        self.entries.push(Entry::Table(section))?;
+        self.at = Spot {
+            list: section.name,
+            key: b"",
+        };
+        self.around = self.at;
+        Ok(())
+    }
+
+    // Begins a table in braces.
+    fn open(&mut self, line: usize) -> Result<(), AllocError>
+        ensures { OnOk result (reading_of self.new ≡ opened line (reading_of self.old)) }
+    {
+        let name = self.at.key;
+        self.entries.push(Entry::Table(Section {
+            line,
+            name,
+            is_listed: true,
+        }))?;
+        self.around = self.at;
+        self.at = Spot {
+            list: name,
+            key: b"",
+        };
+        Ok(())
+    }
+
+    // Ends a table in braces.
+    fn close(&mut self) -> Result<(), AllocError>
+        ensures { OnOk result (reading_of self.new ≡ closed (reading_of self.old)) }
+    {
+        self.entries.push(Entry::End)?;
+        self.at = self.around;
+        Ok(())
+    }
+
+    fn value(&mut self, line: usize, value: Word<'a>) -> Result<(), AllocError>
+        ensures { OnOk result (reading_of self.new ≡ valued line (reading_of self.old) (value_of value.entry)) }
+    {
+        self.entries.push(Entry::Value(Pair {
+            line,
+            list: self.at.list,
+            key: self.at.key,
+            value,
+        }))?;
+        Ok(())
+    }
+
+    fn take(&mut self, line: usize, token: Token<'a>) -> Result<(), AllocError>
+        ensures { OnOk result
+            (reading_of self.new ≡ taken line (reading_of self.old) (piece_of token.entry)) }
+    {
+        match token {
+            Token::Gap => Ok(()),
+            Token::Opens => self.open(line),
+            Token::Closes => self.close(),
+            Token::Key(key) => {
+                self.at.key = key;
+                Ok(())
+            }
+            Token::Told(value) => self.value(line, value),
+        }
+    }
+
+    // Reads a line that begins no table.
+    #[tactic(auto, unfolding(crate::specs::Outline::all_taken, crate::specs::Outline::pieces))]
+    fn take_all(&mut self, line: usize, text: &'a [u8]) -> Result<(), AllocError>
+        ensures { OnOk result
+            (reading_of self.new
+            ≡ all_taken line (reading_of self.old) (pieces (length text.now) text.now)) }
+    {
+        let mut rest = text;
+        for _ in 0..text.len() {
+            let Some((token, after)) = next_token(rest) else {
+                return Ok(());
+            };
+            self.take(line, token)?;
+            rest = after;
+        }
+        Ok(())
+    }
+
+    fn read_line(&mut self, line: usize, text: &'a [u8]) -> Result<(), AllocError>
+        ensures { OnOk result
+            (reading_of self.new
+            ≡ line_read line (reading_of self.old) text.now (header_of line text.now)) }
+    {
+        match header_of(line, text) {
+            Some(section) => self.begin(section),
+            None => self.take_all(line, text),
+        }
+    }
+}
+
+// The bare word that stands first.
+fn bare_word(text: &[u8]) -> &[u8]
+    ensures { result.now ≡ bare_word text.now }
+{
+    bare_front(past_blanks(text))
+}
+
+// The table that a line begins, if it begins one.
+fn header_of(line: usize, text: &[u8]) -> Option<Section<'_>>
+    ensures { option_map table_of result ≡ header_of line text.now }
+{
+    match past_blanks(text) {
+        [b'[', b'[', rest @ ..] => Some(Section {
+            line,
+            name: bare_word(rest),
+            is_listed: true,
+        }),
+        [b'[', rest @ ..] => Some(Section {
+            line,
+            name: bare_word(rest),
+            is_listed: false,
+        }),
+        _ => None,
+    }
+}
+
+/// The tables and values of a statement's text, as its words tell.
+///
+/// # Errors
+///
+/// An allocation failed.
+#[tactic(auto, unfolding(crate::specs::Outline::lines_read))]
+pub(crate) fn entries_of(alloc: Global, text: &[u8]) -> Result<Vec<Entry<'_>>, AllocError>
+    ensures { IfOk result (λ entries. map item_of entries.items ≡ items_of text.now) }
+{
+    let nowhere = Spot {
+        list: b"",
+        key: b"",
+    };
+    let mut reader = Reader {
+        at: nowhere,
+        around: nowhere,
+        entries: Vec::new(alloc),
+    };
+    let mut rest = text;
+    let mut line = 1;
+    while let Some((first, after)) = first_line(rest) {
+        reader.read_line(line, first)?;
+        rest = after;
+        line += 1;
+    }
+    Ok(reader.entries)
+}
