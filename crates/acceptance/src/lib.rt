@@ -10,6 +10,8 @@ mod cuts;
 #[cfg(test)]
 mod enumeration;
 #[cfg(test)]
+mod failures;
+#[cfg(test)]
 mod files;
 #[cfg(test)]
 mod forgeries;
@@ -21,8 +23,6 @@ mod limits;
 mod numbers;
 #[cfg(test)]
 mod odd;
-#[cfg(test)]
-mod outputs;
 #[cfg(test)]
 mod reports;
 #[cfg(test)]
