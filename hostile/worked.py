@@ -130,6 +130,8 @@ def priced(bench, words, files):
     """The commands that have prices, over these words for profile and source."""
     bound = command(bench, f"bound {words} handler.toml", {**files, "handler.toml": STATEMENT})
     judged = {**bound.files, "handler.cert": bound.told.out}
+    # Of another bound, so that the status is 1.
+    forged = {**bound.files, "handler.cert": bound.told.out.replace(b"bound ", b"bound 1", 1)}
     machine = {**files, "machine.toml": MACHINE}
     followed = {**bound.files, "machine.toml": MACHINE}
     # A limit of two steps, which end inside the handler: the status is 1.
@@ -142,6 +144,8 @@ def priced(bench, words, files):
         command(bench, f"explain --at-most 20 {words} handler.toml", bound.files),
         command(bench, f"graph {words} handler.toml", bound.files),
         command(bench, f"check {words} handler.toml handler.cert", judged),
+        command(bench, f"explain --certificate handler.cert {words} handler.toml", judged),
+        command(bench, f"explain --certificate handler.cert {words} handler.toml", forged),
         command(bench, f"visits {words} handler.toml fiq.toml 2", {**bound.files, "fiq.toml": FIQ}),
         command(bench, f"follow {words} handler.toml machine.toml", followed),
         command(bench, f"follow {words} handler.toml machine.toml", short),

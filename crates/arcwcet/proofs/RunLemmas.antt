@@ -3,12 +3,13 @@ use Rattle.std.proofs.Common.{◌≡◌, ◌≢◌, ◌∙◌, ◌≤◌, ℕ, B
 use Rattle.std.specs.Io.KnownBytes.{Consumes, IsAtEnd}
 use Rattle.bus_ticks.specs.declared.profile.Profile.{Profile}
 use Rattle.report_output.specs.Answers.{Answers, FailsWithin, OfSome}
-use Rattle.bound_reports.specs.Check.{Checks, IsAnswer, IsCheckRefused, IsCheckable}
+use Rattle.bound_reports.specs.Check.{IsAnswer, IsCheckRefused}
+use Rattle.bound_reports.specs.Verdict.{IsVerdictReport}
 use Rattle.machine_reports.specs.Debug.{IsDebugReport}
 use Rattle.arcwcet.specs.Files.{FailsToRead, ReadsAll, Reading, Texts, in_front, Writing}
-use Rattle.command_line.specs.Line.{Asked, ExplainOptions, asm, list, draft, run, trace, debug, bound, explain, tight, check, visits, follow, graph}
+use Rattle.command_line.specs.Line.{Asked, ExplainOptions, asm, list, draft, run, trace, debug, bound, explain, tight, check, explain_verdict, visits, follow, graph}
 use Rattle.author_reports.specs.ExplainReport.{IsExplainReport}
-use Rattle.author_reports.specs.FollowReport.{FollowsRun, IsFollowRefused, IsFollowReport, IsFollowable}
+use Rattle.author_reports.specs.FollowReport.{IsFollowRefused, IsFollowReport}
 use Rattle.report_input.specs.Placing.{IsRunRefused, IsRunnable}
 use Rattle.machine_reports.specs.Machine.{Front, IsMachineReport, ShowsRegisters, ShowsSteps}
 use Rattle.report_input.specs.Priced.{ByProfile, HasNoProfile, Priced, PricedFault}
@@ -17,8 +18,8 @@ use Rattle.author_reports.specs.DraftReport.{IsDraftRefused, IsDraftReport}
 use Rattle.machine_reports.specs.ListReport.{IsListReport}
 use Rattle.author_reports.specs.GraphReport.{IsGraphReport}
 use Rattle.report_input.specs.Report.{IsAccepted, IsRefused, IsReport}
-use Rattle.arcwcet.specs.Run.{HasNoFollowed, HasNoReport, HasNoRun, HasNoTightReportOf, HasNoVerdict, HasNoVisitsReport, HasHeard, HasPrinted, IsAnswerOf, IsExplanationOf, IsFollowedOf, HasNoText, IsReportOf, IsTextOf, IsRunOf, IsSessionOf, IsTightReportOf, IsVisitsReportOf, OfThree, OfTwo}
-use Rattle.arcwcet.specs.Run.{Runs, RunsAsked, RunsAsm, RunsCheck, RunsDebug, RunsExplain, RunsFollow, RunsMachine, RunsVisits, answer_status, bursts_of, done_status, report_status, store_status}
+use Rattle.arcwcet.specs.Run.{HasNoAnswer, HasNoReport, HasNoRun, HasNoTightReportOf, HasNoVisitsReport, HasHeard, HasPrinted, IsAnswerOf, IsExplanationOf, HasNoText, IsReportOf, IsTextOf, IsRunOf, IsSessionOf, IsTightReportOf, IsVisitsReportOf, OfThree, OfTwo}
+use Rattle.arcwcet.specs.Run.{Runs, RunsAsked, RunsAsm, RunsDebug, RunsExplain, RunsMachine, RunsVisits, answer_status, bursts_of, done_status, report_status, store_status}
 use Rattle.arcwcet.specs.VisitsReport.{AreAccepted, AreRefused, IsVisitsReport, ReportsVisits}
 use Rattle.report_output.specs.declared.fault.ReportFault.{ReportFault}
 use Rattle.report_output.specs.declared.fault.ReportFault.TheVariants.{Memory, Source, Image, Statement, Graph, Loops, Walk, MachineFile, Load, Cert, Device}
@@ -308,25 +309,17 @@ module _ {S O : Type 0} (reads : Reading S) (taken : O → Option (List ℕ)) (f
         priced_done {T = T} reads taken failures (IsReportOf Is) (HasNoReport IsFault) (in_front profile (source ∷ second ∷ [])) old new before after (in_front file (one ∷ two ∷ [])) read
         file (λ p y text. Is one two p text) (λ p. IsFine one two p) (λ p. IsFault one two p) (λ y. true) report_text report_fault_of (λ y. refl)
 
-pub check_ran : {S O : Type 0} (reads : Reading S) (taken : O → Option (List ℕ)) (failures : O → ℕ) (profile : Option (List ℕ)) (source statement cert : List ℕ) (file : Option (List ℕ)) (one two three : List ℕ)
-    (old new : S) (before after : O) → ReadsAll reads old (in_front profile (source ∷ statement ∷ cert ∷ [])) (in_front file (one ∷ two ∷ three ∷ [])) new
-    → (result : Result Bool ReportFault) → Priced file (λ p. Checks taken failures one two three p before after result) before after result
-    → (status : ℕ) → status ≡ answer_status result → RunsCheck reads taken failures profile source statement cert old new before after status
-check_ran reads taken failures profile source statement cert file one two three old new before after read =
-    priced_ran reads taken failures IsAnswerOf HasNoVerdict (in_front profile (source ∷ statement ∷ cert ∷ [])) old new before after (in_front file (one ∷ two ∷ three ∷ [])) read
-    file (λ p. IsAnswer one two three p) (λ p. IsCheckable one two three p) (λ p. IsCheckRefused one two three p)
-    (λ x text b. of_three (λ f s t u. ByProfile f (λ p. IsAnswer s t u p x text)) file one two three b)
-    (λ fault k. of_three (λ f s t u. PricedFault f (λ p e. IsCheckRefused s t u p e) fault) file one two three k)
-
-pub follow_ran : {S O : Type 0} (reads : Reading S) (taken : O → Option (List ℕ)) (failures : O → ℕ) (profile : Option (List ℕ)) (source statement machine : List ℕ) (file : Option (List ℕ)) (one two three : List ℕ)
-    (old new : S) (before after : O) → ReadsAll reads old (in_front profile (source ∷ statement ∷ machine ∷ [])) (in_front file (one ∷ two ∷ three ∷ [])) new
-    → (result : Result Bool ReportFault) → Priced file (λ p. FollowsRun taken failures one two three p before after result) before after result
-    → (status : ℕ) → status ≡ answer_status result → RunsFollow reads taken failures profile source statement machine old new before after status
-follow_ran reads taken failures profile source statement machine file one two three old new before after read =
-    priced_ran reads taken failures IsFollowedOf HasNoFollowed (in_front profile (source ∷ statement ∷ machine ∷ [])) old new before after (in_front file (one ∷ two ∷ three ∷ [])) read
-    file (λ p. IsFollowReport one two three p) (λ p. IsFollowable one two three p) (λ p. IsFollowRefused one two three p)
-    (λ x text b. of_three (λ f s t u. ByProfile f (λ p. IsFollowReport s t u p x text)) file one two three b)
-    (λ fault k. of_three (λ f s t u. PricedFault f (λ p e. IsFollowRefused s t u p e) fault) file one two three k)
+-- of a source, a statement and a third file
+module _ (Is : List ℕ → List ℕ → List ℕ → Profile → Bool → List ℕ → Type 0) (IsFine : List ℕ → List ℕ → List ℕ → Profile → Type 0) (IsFault : List ℕ → List ℕ → List ℕ → Profile → ReportFault → Type 0) where
+  pub answer_ran : {S O : Type 0} (reads : Reading S) (taken : O → Option (List ℕ)) (failures : O → ℕ) (profile : Option (List ℕ)) (source statement third : List ℕ) (file : Option (List ℕ)) (one two three : List ℕ)
+      (old new : S) (before after : O) → ReadsAll reads old (in_front profile (source ∷ statement ∷ third ∷ [])) (in_front file (one ∷ two ∷ three ∷ [])) new
+      → (result : Result Bool ReportFault) → Priced file (λ p. Answers taken failures (Is one two three p) (IsFine one two three p) (IsFault one two three p) before after result) before after result
+      → (status : ℕ) → status ≡ answer_status result → Runs reads taken failures (IsAnswerOf Is) (HasNoAnswer IsFault) (in_front profile (source ∷ statement ∷ third ∷ [])) old new before after status
+  answer_ran reads taken failures profile source statement third file one two three old new before after read =
+      priced_ran reads taken failures (IsAnswerOf Is) (HasNoAnswer IsFault) (in_front profile (source ∷ statement ∷ third ∷ [])) old new before after (in_front file (one ∷ two ∷ three ∷ [])) read
+      file (λ p. Is one two three p) (λ p. IsFine one two three p) (λ p. IsFault one two three p)
+      (λ x text b. of_three (λ f s t u. ByProfile f (λ p. Is s t u p x text)) file one two three b)
+      (λ fault k. of_three (λ f s t u. PricedFault f (λ p e. IsFault s t u p e) fault) file one two three k)
 
 module _ {S O : Type 0} (reads : Reading S) (taken : O → Option (List ℕ)) (failures : O → ℕ) (profile : Option (List ℕ)) (source irq fiq : List ℕ) (k : ℕ) (file : Option (List ℕ))
     (one two three : List ℕ) (old new : S) (before after : O) (read : ReadsAll reads old (in_front profile (source ∷ irq ∷ fiq ∷ [])) (in_front file (one ∷ two ∷ three ∷ [])) new) where
@@ -413,6 +406,7 @@ module _ {S I O : Type 0} (reads : Reading S) (writes : Writing S) (remaining : 
   starved_asked (graph n) = (starved_run (IsReportOf IsGraphReport) (HasNoReport IsRefused) (in_front n.profile (n.first ∷ n.second ∷ [])), refl)
   starved_asked (bound n) = (starved_run (IsReportOf IsReport) (HasNoReport IsRefused) (in_front n.profile (n.first ∷ n.second ∷ [])), refl)
   starved_asked (tight n edge) = (starved_run (IsReportOf (IsTightReportOf edge)) (HasNoReport (HasNoTightReportOf edge)) (in_front n.profile (n.first ∷ n.second ∷ [])), refl)
-  starved_asked (check n cert) = (starved_run IsAnswerOf HasNoVerdict (in_front n.profile (n.first ∷ n.second ∷ cert ∷ [])), refl)
+  starved_asked (check n cert) = (starved_run (IsAnswerOf IsAnswer) (HasNoAnswer IsCheckRefused) (in_front n.profile (n.first ∷ n.second ∷ cert ∷ [])), refl)
+  starved_asked (explain_verdict n cert) = (starved_run (IsAnswerOf IsVerdictReport) (HasNoAnswer IsCheckRefused) (in_front n.profile (n.first ∷ n.second ∷ cert ∷ [])), refl)
   starved_asked (visits n fiq k) = (starved_run (IsVisitsReportOf k) (HasNoVisitsReport k) (in_front n.profile (n.first ∷ n.second ∷ fiq ∷ [])), refl)
-  starved_asked (follow n machine) = (starved_run IsFollowedOf HasNoFollowed (in_front n.profile (n.first ∷ n.second ∷ machine ∷ [])), refl)
+  starved_asked (follow n machine) = (starved_run (IsAnswerOf IsFollowReport) (HasNoAnswer IsFollowRefused) (in_front n.profile (n.first ∷ n.second ∷ machine ∷ [])), refl)

@@ -1,4 +1,5 @@
 pub mod Files
+pub mod ReadFailures
 pub mod Run
 pub mod Store
 pub mod Visits

@@ -5,10 +5,11 @@ use Rattle.std.specs.Io.KnownBytes.{Appends, Consumes, IsAtEnd}
 use Rattle.report_output.specs.Answers.{FailsWithin, OfSome, Prints}
 use Rattle.machine_reports.specs.Assembly.{IsSourceRefused, IsWritten}
 use Rattle.bound_reports.specs.Check.{IsAnswer, IsCheckRefused}
+use Rattle.bound_reports.specs.Verdict.{IsVerdictReport}
 use Rattle.machine_reports.specs.Debug.{IsDebugReport}
 use Rattle.arcwcet.specs.Files.{FailsToRead, ReadsAll, Reading, Texts, Writing, in_front}
 use Rattle.command_line.specs.Line.{Asked, asm, list, draft, run, trace, debug, bound, explain, tight}
-use Rattle.command_line.specs.Line.{ExplainOptions, check, follow, graph, visits}
+use Rattle.command_line.specs.Line.{ExplainOptions, check, explain_verdict, follow, graph, visits}
 use Rattle.author_reports.specs.DraftReport.{IsDraftRefused, IsDraftReport}
 use Rattle.author_reports.specs.ExplainReport.{IsExplainReport}
 use Rattle.author_reports.specs.FollowReport.{IsFollowRefused, IsFollowReport}
@@ -181,46 +182,42 @@ RunsTight reads taken failures profile source statement n old new before after s
     Runs reads taken failures (IsReportOf (IsTightReportOf n)) (HasNoReport (HasNoTightReportOf n))
     (in_front profile (source ∷ statement ∷ [])) old new before after status
 
--- ## `check SOURCE STATEMENT CERT`
+-- ## Of a source, a statement and a third file
 
--- the verdict's line on a certificate of a source and a statement by the profile: of Yes at 0, of No at 1
-abbrev pub IsAnswerOf : Bool → Texts → List ℕ → Type 0
-IsAnswerOf answer files line =
-    OfThree
-    (λ file source statement cert. ByProfile file (λ p. IsAnswer source statement cert p answer line)) files
+-- such a text of the three by the profile: of yes at 0, of no at 1
+abbrev pub IsAnswerOf : (List ℕ → List ℕ → List ℕ → Profile → Bool → List ℕ → Type 0) → Bool → Texts → List ℕ
+    → Type 0
+IsAnswerOf Is answer files text =
+    OfThree (λ file source statement third. ByProfile file (λ p. Is source statement third p answer text)) files
 
-abbrev pub HasNoVerdict : Texts → ReportFault → Type 0
-HasNoVerdict files fault =
+abbrev pub HasNoAnswer : (List ℕ → List ℕ → List ℕ → Profile → ReportFault → Type 0) → Texts → ReportFault
+    → Type 0
+HasNoAnswer IsFault files fault =
     OfThree
-    (λ file source statement cert. PricedFault file
-    (λ p f. IsCheckRefused source statement cert p f) fault) files
+    (λ file source statement third. PricedFault file (λ p f. IsFault source statement third p f) fault) files
+
+-- ## `check SOURCE STATEMENT CERT`: the verdict's line
 
 abbrev pub RunsCheck : {S O : Type 0} → Reading S → (O → Option (List ℕ)) → (O → ℕ) → Option (List ℕ) → List ℕ
     → List ℕ → List ℕ → S → S → O → O → ℕ → Type 0
 RunsCheck reads taken failures profile source statement cert old new before after status =
-    Runs reads taken failures IsAnswerOf HasNoVerdict
+    Runs reads taken failures (IsAnswerOf IsAnswer) (HasNoAnswer IsCheckRefused)
     (in_front profile (source ∷ statement ∷ cert ∷ [])) old new before after status
 
--- ## `follow SOURCE STATEMENT MACHINE`
+-- ## `explain --certificate CERT SOURCE STATEMENT`: that line, and what fails
 
--- the answer on the run of a machine through a handler by the profile: at 0 it keeps the statement, at 1 it
--- does not
-abbrev pub IsFollowedOf : Bool → Texts → List ℕ → Type 0
-IsFollowedOf kept files text =
-    OfThree
-    (λ file source statement machine. ByProfile file
-    (λ p. IsFollowReport source statement machine p kept text)) files
+abbrev pub RunsExplainVerdict : {S O : Type 0} → Reading S → (O → Option (List ℕ)) → (O → ℕ) → Option (List ℕ)
+    → List ℕ → List ℕ → List ℕ → S → S → O → O → ℕ → Type 0
+RunsExplainVerdict reads taken failures profile source statement cert old new before after status =
+    Runs reads taken failures (IsAnswerOf IsVerdictReport) (HasNoAnswer IsCheckRefused)
+    (in_front profile (source ∷ statement ∷ cert ∷ [])) old new before after status
 
-abbrev pub HasNoFollowed : Texts → ReportFault → Type 0
-HasNoFollowed files fault =
-    OfThree
-    (λ file source statement machine. PricedFault file
-    (λ p f. IsFollowRefused source statement machine p f) fault) files
+-- ## `follow SOURCE STATEMENT MACHINE`: whether the run of the machine keeps the statement
 
 abbrev pub RunsFollow : {S O : Type 0} → Reading S → (O → Option (List ℕ)) → (O → ℕ) → Option (List ℕ)
     → List ℕ → List ℕ → List ℕ → S → S → O → O → ℕ → Type 0
 RunsFollow reads taken failures profile source statement machine old new before after status =
-    Runs reads taken failures IsFollowedOf HasNoFollowed
+    Runs reads taken failures (IsAnswerOf IsFollowReport) (HasNoAnswer IsFollowRefused)
     (in_front profile (source ∷ statement ∷ machine ∷ [])) old new before after status
 
 -- ## `visits SOURCE STATEMENT FIQSTATEMENT K`
@@ -432,6 +429,10 @@ RunsAsked reads writes remaining taken failures
 RunsAsked reads writes remaining taken failures
     (check n cert) old new heard_old heard_new before after status =
     RunsCheck reads taken failures n.profile n.first n.second cert old new before after status
+    × (heard_new ≡ heard_old)
+RunsAsked reads writes remaining taken failures
+    (explain_verdict n cert) old new heard_old heard_new before after status =
+    RunsExplainVerdict reads taken failures n.profile n.first n.second cert old new before after status
     × (heard_new ≡ heard_old)
 RunsAsked reads writes remaining taken failures
     (visits n fiq k) old new heard_old heard_new before after status =

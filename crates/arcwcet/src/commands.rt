@@ -3,16 +3,18 @@ ghost use Rattle.command_line.specs.Line.{Asked, asked_in, asked_of, options_of}
 ghost use Rattle.arcwcet.specs.Run.{RunsAsked, RunsAsm, RunsBound, RunsCheck, RunsDebug, RunsList};
 ghost use Rattle.arcwcet.specs.Run.{RunsMachine};
 ghost use Rattle.arcwcet.specs.Run.{RunsDraft, RunsExplain, RunsFollow, RunsGraph, RunsTight};
-ghost use Rattle.arcwcet.specs.Run.{RunsVisits};
+ghost use Rattle.arcwcet.specs.Run.{RunsExplainVerdict, RunsVisits};
 
 use crate::diagnose::explained_status;
-use crate::files::{Store, read_limited, read_three_files, read_two_files};
-use crate::status::{answer_status, done_status, line_status, report_status, store_status};
+use crate::files::{Store, Unread, read_handler, read_limited, read_three_files, read_two_files};
+use crate::status::{
+    answer_status, done_status, line_status, report_status, store_status, unread_status,
+};
 use crate::visits::visits_report;
 use author_reports::{
     Explained, FollowedRun, draft_report, explain_report, follow_report, graph_report,
 };
-use bound_reports::{bound_report, check_report};
+use bound_reports::{CheckInputs, bound_report, check_report, verdict_report};
 use command_line::{
     AsmNames, CheckNames, DraftNames, ExplainNames, FollowNames, Names, Request, TightNames,
     VisitsNames, request,
@@ -48,6 +50,7 @@ fn obey<S: Store, I: Read, O: Output, E: Output>(
         Request::Explain(names) => run_explain(alloc, names, store, out, err),
         Request::Tight(names) => run_tight(alloc, names, store, out, err),
         Request::Check(names) => run_check(alloc, names, store, out, err),
+        Request::ExplainVerdict(names) => run_explain_verdict(alloc, names, store, out, err),
         Request::Visits(names) => run_visits(alloc, names, store, out, err),
         Request::Follow(names) => run_follow(alloc, names, store, out, err),
         Request::Graph(names) => run_graph(alloc, names, store, out, err),
@@ -58,10 +61,10 @@ fn obey<S: Store, I: Read, O: Output, E: Output>(
 /// work is refused, a certificate's verdict is No, a machine stopped, or a run does not keep its statement; 2
 /// for wrong usage; 3 for lack of memory; 4 where a file, a stream or the output fails.
 ///
-/// A refusal is one line on `err`, whose failures change no status. The work begins once everything is read:
-/// a cycle profile's file, the others as the words name them, then for `debug` alone standard input, each up
-/// to [`LIMIT`](crate::LIMIT) bytes; a longer one is refused with status 1. No memory is taken once the words
-/// are refused.
+/// A refusal is one line on `err`, after which `explain` alone prints what shows why; failures of `err`
+/// change no status. The work begins once everything is read: a cycle profile's file, the others as the
+/// words name them, then for `debug` alone standard input, each up to [`LIMIT`](crate::LIMIT) bytes; a longer
+/// one is refused with status 1. No memory is taken once the words are refused.
 pub fn program<S: Store, I: Read, O: Output, E: Output>(
     alloc: Global,
     words: &[String],
@@ -256,7 +259,7 @@ fn run_graph<S: Store, O: Output, E: Output>(
     done_status(done, err)
 }
 
-/// `explain`: reads the files and prints the explanation.
+/// `explain`: reads the files and prints the explanation, or which file was not read.
 fn run_explain<S: Store, O: Output, E: Output>(
     alloc: Global,
     names: ExplainNames<'_>,
@@ -269,9 +272,9 @@ fn run_explain<S: Store, O: Output, E: Output>(
         names.entry.handler.second.now (options_of names.entry) store.old store.new out.old out.new result }
     ensures silent { result ≡ 0 → err.new ≡ err.old }
 {
-    let files = match read_two_files(alloc, names.handler, store) {
+    let files = match read_handler(alloc, names.handler, store) {
         Ok(files) => files,
-        Err(fault) => return store_status(fault, err),
+        Err(Unread { name, fault }) => return unread_status(name, fault, &*store, err),
     };
     let explained = Explained {
         source: &files.first,
@@ -341,6 +344,34 @@ fn run_check<S: Store, O: Output, E: Output>(
         handler.profile(),
         out,
     );
+    answer_status(answer, err)
+}
+
+/// `explain --certificate CERT`: reads the files and prints the verdict and what fails.
+fn run_explain_verdict<S: Store, O: Output, E: Output>(
+    alloc: Global,
+    names: CheckNames<'_>,
+    store: &mut S,
+    out: &mut O,
+    err: &mut E,
+) -> u8
+    ensures ran { RunsExplainVerdict S.read_gives O.taken O.failures
+        (option_map (λ n. n.now) names.entry.handler.profile)
+        names.entry.handler.first.now names.entry.handler.second.now names.entry.cert.now store.old store.new
+        out.old out.new result }
+    ensures silent { result ≡ 0 → err.new ≡ err.old }
+{
+    let files = match read_three_files(alloc, names.handler, names.cert, store) {
+        Ok(files) => files,
+        Err(fault) => return store_status(fault, err),
+    };
+    let handler = &files.handler;
+    let inputs = CheckInputs {
+        source: &handler.first,
+        statement: &handler.second,
+        cert: &files.third,
+    };
+    let answer = verdict_report(alloc, inputs, handler.profile(), out);
     answer_status(answer, err)
 }
 

@@ -8,9 +8,9 @@ use assembler::{Assembly, PlacedLine, placed_lines};
 use author_reports::Explained;
 use bus_ticks::Profile;
 use diagnosis::{
-    Program, Words, crossing_text, cycle_text, entry_text, extent_of, faulty_lines, faulty_text,
-    loops_that_cross, mid_entry, place_text, shared_header, shared_text, statement_text,
-    unbounded_cycle, word_text, words_of,
+    Program, Words, crossing_text, cycle_text, deep_place, deep_text, entry_text, extent_of,
+    faulty_lines, faulty_text, loops_that_cross, mid_entry, place_text, shared_header, shared_text,
+    statement_text, unbounded_cycle, word_text, words_of,
 };
 use flow_graph::{
     BuildFault, FaultyPlace, Statement, StatementFault, faulty_place, read_statement,
@@ -61,7 +61,11 @@ fn loops_text(
             Some(entry) => entry_text(alloc, words, &entry),
             None => Ok(Vec::new(alloc)),
         },
-        _ => Ok(Vec::new(alloc)),
+        NestFault::NestedTooDeep => match deep_place(alloc, &stated.graph, loops)? {
+            Some(deep) => deep_text(alloc, words, &deep),
+            None => Ok(Vec::new(alloc)),
+        },
+        NestFault::Memory => Ok(Vec::new(alloc)),
     }
 }
 
@@ -216,8 +220,8 @@ fn print_refusal<E: Output>(
     }
 }
 
-/// Prints why a handler was not explained, if it was not: the refusal, and then what shows where it comes from.
-/// Answers the exit status.
+/// Prints why a handler was not explained, if it was not: the refusal, and then what shows where it comes
+/// from. Answers the exit status.
 pub(crate) fn explained_status<E: Output>(
     alloc: Global,
     explained: Explained<'_>,

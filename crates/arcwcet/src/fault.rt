@@ -13,3 +13,20 @@ pub enum StoreFault {
     #[error("InputTooLong")]
     InputTooLong,
 }
+
+/// Why a file cannot be read.
+#[derive(Clone, Copy, Debug, PartialEq, Eq, Drop, Error)]
+pub enum ReadFailure {
+    /// No file has the name.
+    #[error("no such file")]
+    NotFound,
+    /// The file may not be read.
+    #[error("permission denied")]
+    PermissionDenied,
+    /// The name is that of a directory.
+    #[error("is a directory")]
+    IsADirectory,
+    /// Why is not known.
+    #[error("cannot be read")]
+    Other,
+}

@@ -1,16 +1,18 @@
 ghost use Rattle.std.specs.Prelude.{◌≡◌, ◌≤◌, ◌+◌, ℕ, List, [], ◌∷◌, length, vec_len, option_map};
 ghost use Rattle.std.specs.Prelude.{Result, IfErr, IfOk, IfSome, IsErrOf, OnOk};
 ghost use Rattle.std.specs.Io.KnownBytes.{Consumes, IsAtEnd};
+ghost use Rattle.std.specs.IoError.{error_kind};
 ghost use Rattle.arcwcet.specs.Files.{FailsToRead, Reading, ReadsAll, Writing, in_front};
+ghost use Rattle.arcwcet.specs.ReadFailures.{failure_of};
 ghost use Rattle.arcwcet.specs.Store.{bytes_read};
 ghost use Rattle.arcwcet.specs.declared.fault.StoreFault.{StoreFault};
 
-use crate::fault::StoreFault;
+use crate::fault::{ReadFailure, StoreFault};
 use command_line::Names;
 use std::alloc::Global;
-use std::fs;
-use std::io::{Read, Write};
+use std::io::{ErrorKind, Read, Write};
 use std::rt::Files;
+use std::{fs, io};
 
 /// Where the program's files lie.
 pub trait Store {
@@ -29,6 +31,12 @@ pub trait Store {
     fn write(&mut self, name: &str, bytes: &[u8]) -> Result<(), StoreFault>
         ensures gives { write_gives self.old name.now bytes.now result self.new }
         ensures device { IfErr result (λ e. e ≡ StoreFault.Device) };
+
+    /// Why the file cannot be read, as far as the store can tell: for a message, after a read that was
+    /// refused with `Device`. No contract says what it answers, since files may change meanwhile.
+    fn failure(&self, _name: &str) -> ReadFailure {
+        ReadFailure::Other
+    }
 }
 
 /// The files of the system.
@@ -62,6 +70,32 @@ impl<R: Files> Store for HostStore<'_, R> {
                 Err(StoreFault::Device)
             }
         }
+    }
+
+    fn failure(&self, name: &str) -> ReadFailure {
+        match read_byte(self.rt, name) {
+            Ok(()) => ReadFailure::Other,
+            Err(error) => failure_of(error),
+        }
+    }
+}
+
+// Reads the first byte of a file. A directory can be opened, and not read.
+fn read_byte<R: Files>(rt: &R, name: &str) -> io::Result<()> {
+    let mut file = fs::open(rt, name)?;
+    let mut byte = [0u8; 1];
+    file.read(&mut byte)?;
+    Ok(())
+}
+
+fn failure_of(error: io::Error) -> ReadFailure
+    ensures { result ≡ failure_of (error_kind error) }
+{
+    match error.kind() {
+        ErrorKind::NotFound => ReadFailure::NotFound,
+        ErrorKind::PermissionDenied => ReadFailure::PermissionDenied,
+        ErrorKind::IsADirectory => ReadFailure::IsADirectory,
+        _ => ReadFailure::Other,
     }
 }
 
@@ -125,22 +159,70 @@ impl TwoFiles {
     }
 }
 
-fn read_if_named<S: Store>(
+/// A file that was not read.
+#[derive(Clone, Copy)]
+pub(crate) struct Unread<'a> {
+    pub(crate) name: &'a str,
+    pub(crate) fault: StoreFault,
+}
+
+fn read_named<'a, S: Store>(
     alloc: Global,
-    name: Option<&str>,
+    name: &'a str,
     store: &mut S,
-) -> Result<Option<Vec<u8>>, StoreFault>
+) -> Result<Vec<u8>, Unread<'a>>
+    ensures read { IfOk result (λ v. S.read_gives store.old name.now (Ok v.items) store.new) }
+    ensures fault { IfErr result (λ u. S.read_gives store.old name.now (Err u.fault) store.new) }
+    ensures name { IfErr result (λ u. u.name.now ≡ name.now) }
+{
+    match store.read(alloc, name) {
+        Ok(bytes) => Ok(bytes),
+        Err(fault) => Err(Unread { name, fault }),
+    }
+}
+
+fn read_if_named<'a, S: Store>(
+    alloc: Global,
+    name: Option<&'a str>,
+    store: &mut S,
+) -> Result<Option<Vec<u8>>, Unread<'a>>
     ensures read { IfOk result
         (λ f. ReadsAll S.read_gives store.old (in_front (option_map (λ n. n.now) name.entry) [])
         (in_front (option_map (λ v. v.items) f) []) store.new) }
     ensures fault { IfErr result
-        (λ e. FailsToRead S.read_gives store.old
-        (in_front (option_map (λ n. n.now) name.entry) []) e store.new) }
+        (λ u. FailsToRead S.read_gives store.old
+        (in_front (option_map (λ n. n.now) name.entry) []) u.fault store.new) }
 {
     match name {
-        Some(name) => Ok(Some(store.read(alloc, name)?)),
+        Some(name) => Ok(Some(read_named(alloc, name, store)?)),
         None => Ok(None),
     }
+}
+
+/// Reads the profile's file first, and then the other two, and tells which was not read.
+pub(crate) fn read_handler<'a, S: Store>(
+    alloc: Global,
+    names: Names<'a>,
+    store: &mut S,
+) -> Result<TwoFiles, Unread<'a>>
+    ensures read { IfOk result
+        (λ f. ReadsAll S.read_gives store.old
+        (in_front (option_map (λ n. n.now) names.entry.profile)
+        (names.entry.first.now ∷ names.entry.second.now ∷ []))
+        (in_front (option_map (λ v. v.items) f.profile) (f.first.items ∷ f.second.items ∷ [])) store.new) }
+    ensures fault { IfErr result
+        (λ u. FailsToRead S.read_gives store.old
+        (in_front (option_map (λ n. n.now) names.entry.profile)
+        (names.entry.first.now ∷ names.entry.second.now ∷ [])) u.fault store.new) }
+{
+    let profile = read_if_named(alloc, names.profile, store)?;
+    let first = read_named(alloc, names.first, store)?;
+    let second = read_named(alloc, names.second, store)?;
+    Ok(TwoFiles {
+        profile,
+        first,
+        second,
+    })
 }
 
 /// Reads the profile's file first, and then the other two.
@@ -159,14 +241,10 @@ pub(crate) fn read_two_files<S: Store>(
         (in_front (option_map (λ n. n.now) names.entry.profile)
         (names.entry.first.now ∷ names.entry.second.now ∷ [])) e store.new) }
 {
-    let profile = read_if_named(alloc, names.profile, store)?;
-    let first = store.read(alloc, names.first)?;
-    let second = store.read(alloc, names.second)?;
-    Ok(TwoFiles {
-        profile,
-        first,
-        second,
-    })
+    match read_handler(alloc, names, store) {
+        Ok(files) => Ok(files),
+        Err(unread) => Err(unread.fault),
+    }
 }
 
 /// The bytes of a source and a statement, of a cycle profile where one is named, and of a third file.

@@ -13,10 +13,12 @@ mod visits;
 pub use author_reports::{
     Explained, FollowedRun, draft_report, explain_report, follow_report, graph_report,
 };
-pub use bound_reports::{bound_report, certificates_are_accepted, check_report};
+pub use bound_reports::{
+    CheckInputs, bound_report, certificates_are_accepted, check_report, verdict_report,
+};
 pub use commands::program;
 pub use explained::Bursts;
-pub use fault::StoreFault;
+pub use fault::{ReadFailure, StoreFault};
 pub use files::{HostStore, LIMIT, Store, read_limited};
 pub use law::{some_run_has_visits, some_run_keeps};
 pub use machine_file::{MachineFile, read_machine, read_profile};

@@ -2,6 +2,7 @@ ghost use Rattle.std.specs.Prelude.{◌≡◌, ◌≢◌, ◌⊎◌};
 ghost use Rattle.arcwcet.specs.Run.{answer_status, done_status, report_status, store_status};
 
 use crate::fault::StoreFault;
+use crate::files::{LIMIT, Store};
 use command_line::LineFault;
 use report_output::{Output, ReportFault, write_whole};
 use std::fmt;
@@ -54,6 +55,35 @@ pub(crate) fn store_status<E: Output>(fault: StoreFault, err: &mut E) -> u8
         StoreFault::Device => 4,
         StoreFault::InputTooLong => 1,
     }
+}
+
+// Prints the name of a file that was not read, and why it was not.
+fn print_unread<S: Store, E: Output>(name: &str, fault: StoreFault, store: &S, err: &mut E) {
+    let mut text = Text { out: err };
+    match fault {
+        StoreFault::Memory => {}
+        StoreFault::Device => {
+            let failure = store.failure(name);
+            let _ = writeln!(text, "{name}: {failure}");
+        }
+        StoreFault::InputTooLong => {
+            let _ = writeln!(text, "{name}: more than {LIMIT} bytes");
+        }
+    }
+}
+
+/// Prints which file was not read and why, and answers the exit status.
+pub(crate) fn unread_status<S: Store, E: Output>(
+    name: &str,
+    fault: StoreFault,
+    store: &S,
+    err: &mut E,
+) -> u8
+    ensures { result ≡ store_status fault }
+{
+    let status = store_status(fault, err);
+    print_unread(name, fault, store, err);
+    status
 }
 
 /// Prints why there is no report, and answers the exit status.

@@ -13,3 +13,5 @@ mod SpelledAddresses
 mod SpelledLists
 pub mod WordEnds
 mod SpelledLines
+pub mod BodyLaws
+pub mod FeedLaws

@@ -1,8 +1,8 @@
-ghost use Rattle.std.specs.Prelude.{◌≡◌, ◌∷◌, [], ◌<◌, ◌≤◌, ◌⊎◌, MatchOption, IfOk, IfErr, Ok, Err, drop};
-ghost use Rattle.std.specs.Prelude.{length, map};
-ghost use Rattle.std.specs.List.{list_all};
+ghost use Rattle.std.specs.Prelude.{◌≡◌, ◌==◌, ◌&&◌, ◌∷◌, [], ◌<◌, ◌≤◌, ◌⊎◌, MatchOption, IfOk, IfErr};
+ghost use Rattle.std.specs.Prelude.{Ok, Err, true, false, not, drop, length, map};
+ghost use Rattle.std.specs.List.{list_all, prefix_len};
 ghost use Rattle.asm_text.specs.Pieces.{piece_of};
-ghost use Rattle.asm_text.specs.Statements.{after_label, body_len};
+ghost use Rattle.asm_text.specs.Statements.{after_label, body};
 ghost use Rattle.asm_text.specs.Statements.{is_comment_text, is_text, is_text_line, line_of};
 ghost use Rattle.asm_text.specs.Statements.{parsed};
 ghost use Rattle.asm_text.specs.Source.{feed_len, line_view, lines_of, no_return};
@@ -10,6 +10,7 @@ ghost use Rattle.asm_text.specs.Source.{feed_len, line_view, lines_of, no_return
 use crate::statement::{TextFault, is_label, read_statement};
 use crate::syntax::Statement;
 use crate::token::{Token, tokens, word_ends};
+use memchr::memchr;
 use std::alloc::Global;
 
 /// What a line says.
@@ -18,13 +19,6 @@ pub struct Line<'a> {
     /// The label in its first column.
     pub label: Option<&'a [u8]>,
     pub statement: Option<Statement<'a>>,
-}
-
-fn body_len(text: &[u8]) -> usize
-    ensures len { result ≡ body_len text.now }
-    ensures within { result ≤ length text.now }
-{
-    text.iter().take_while(|b| **b != b';').count()
 }
 
 fn is_text_byte(b: u8) -> bool
@@ -39,10 +33,14 @@ fn is_comment_byte(b: u8) -> bool
     is_text_byte(b) || b >= 0x80
 }
 
-fn are_text_bytes(text: &[u8]) -> bool
-    ensures { result ≡ list_all is_text text.now }
+// The bytes in front of the first that begins a comment or is no text.
+fn plain_len(text: &[u8]) -> usize
+    ensures len { result ≡ prefix_len (λ b. is_text b && not (b == 59)) text.now }
+    ensures within { result ≤ length text.now }
 {
-    text.iter().all(|b| is_text_byte(*b))
+    text.iter()
+        .take_while(|b| is_text_byte(**b) && **b != b';')
+        .count()
 }
 
 fn are_comment_bytes(text: &[u8]) -> bool
@@ -51,11 +49,23 @@ fn are_comment_bytes(text: &[u8]) -> bool
     text.iter().all(|b| is_comment_byte(*b))
 }
 
-fn is_text_line(text: &[u8]) -> bool
-    ensures { result ≡ is_text_line text.now }
+// The line without its comment, where both are text.
+fn text_body(line: &[u8]) -> Option<&[u8]>
+    ensures { MatchOption result (is_text_line line.now ≡ false)
+        (λ plain. (is_text_line line.now ≡ true) × (plain.now ≡ body line.now)) }
 {
-    let (body, comment) = text.split_at(body_len(text));
-    are_text_bytes(body) && are_comment_bytes(comment)
+    let (plain, comment) = line.split_at(plain_len(line));
+    if comment.is_empty() {
+        return Some(plain);
+    }
+    if comment[0] != b';' {
+        return None;
+    }
+    if are_comment_bytes(comment) {
+        Some(plain)
+    } else {
+        None
+    }
 }
 
 fn after_label<'a>(
@@ -124,15 +134,21 @@ pub fn read_line<'a>(alloc: Global, text: &'a [u8]) -> Result<Line<'a>, TextFaul
     ensures ok { IfOk result (λ line. line_of text.now ≡ Ok (line_view line)) }
     ensures err { IfErr result (λ fault. (fault ≡ TextFault.Memory) ⊎ (line_of text.now ≡ Err fault)) }
 {
-    if !is_text_line(text) {
+    let Some(body) = text_body(text) else {
         return Err(TextFault::NotText);
-    }
-    let body = &text[..body_len(text)];
-    if !word_ends(body) {
-        return Err(TextFault::UnknownWord);
-    }
+    };
     let tokens = tokens(alloc, body)?;
-    parse(alloc, &tokens)
+    match parse(alloc, &tokens) {
+        Ok(line) => Ok(line),
+        // Pieces do not say whether a blank stands in front of a comma.
+        Err(fault) => {
+            if word_ends(body) {
+                Err(fault)
+            } else {
+                Err(TextFault::UnknownWord)
+            }
+        }
+    }
 }
 
 // The bytes before the first line feed.
@@ -140,7 +156,10 @@ fn line_len(text: &[u8]) -> usize
     ensures len { result ≡ feed_len text.now }
     ensures within { result ≤ length text.now }
 {
-    text.iter().take_while(|b| **b != b'\n').count()
+    match memchr(b'\n', text) {
+        Some(len) => len,
+        None => text.len(),
+    }
 }
 
 fn after(text: &[u8], start: usize) -> &[u8]

@@ -3,10 +3,20 @@ ghost use Rattle.std.specs.List.{find};
 ghost use Rattle.std.specs.Str.{bytes_eq};
 ghost use Rattle.asm_text.specs.Registers.{found, name_of};
 
+// Whether a text is a name. Most names differ in their last byte.
+fn is_name(text: &[u8], name: &[u8]) -> bool
+    ensures { result ≡ bytes_eq text.now name.now }
+{
+    if text.last() != name.last() {
+        return false;
+    }
+    text == name
+}
+
 fn first_row<'a, 'b, T>(table: &'a [(&'b [u8], T)], text: &[u8]) -> Option<&'a (&'b [u8], T)>
     ensures { option_map (λ row. row.now) result ≡ find (λ row. bytes_eq text.now row.0.now) table.now }
 {
-    table.iter().find(|row| text == row.0)
+    table.iter().find(|row| is_name(text, row.0))
 }
 
 /// What a text names in a table of names.

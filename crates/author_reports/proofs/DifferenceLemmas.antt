@@ -8,7 +8,7 @@ use Rattle.std.proofs.lemmas.List.{get_or_default}
 use Rattle.std.proofs.lemmas.List.Elements.{All-head, All-tail}
 use Rattle.std.proofs.lemmas.List.Sums.{sum_by-cons, sum_by_push}
 use Rattle.assembler.specs.declared.placed_line.PlacedLine.{PlacedLine}
-use Rattle.explained.specs.Rows.{Appends, IsShownRow}
+use Rattle.text_rows.specs.Rows.{Appends, IsShownRow}
 use Rattle.explained.specs.Taken.{IsTally as IsWalkTally, is_at, taken_at}
 use Rattle.explained.specs.Table.{passes_of, ticks_of}
 use Rattle.explained.specs.declared.tally.Taken.{Taken}

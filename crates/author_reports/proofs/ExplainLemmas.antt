@@ -1,7 +1,8 @@
 -- The explanation of a handler's bound.
-use Rattle.std.proofs.Common.{◌≡◌, ◌≢◌, ◌^◌, ◌<◌, ◌≤◌, ℕ, List, Ok, refl, ap, subst, ⊎_elim, arith}
+use Rattle.std.proofs.Common.{◌≡◌, ◌≢◌, ◌^◌, ◌<◌, ◌≤◌, ℕ, List, Ok, Option, refl, ap, subst, ⊎_elim, arith}
 use Rattle.std.proofs.lemmas.Bool.{cases_lt}
 use Rattle.bus_ticks.specs.declared.profile.Profile.{Profile}
+use Rattle.explained.specs.Starts.{IsLatestStart}
 use Rattle.explained.specs.declared.bursts.Bursts.{Bursts}
 use Rattle.loader.specs.Image.{Words}
 use Rattle.statement.specs.Stated.{Stated}
@@ -11,7 +12,6 @@ use Rattle.flow_graph.specs.declared.places.Place.TheVariants.{Exit}
 use Rattle.longest_walk.specs.Folded.{unfolded}
 use Rattle.loop_bounds.specs.Tree.{Tree}
 use Rattle.longest_walk.specs.Longest.{IsLongest, IsWalkFault}
-use Rattle.longest_walk.specs.Starts.{AreWorstStarts}
 use Rattle.longest_walk.specs.declared.folded.Longest.{Longest}
 use Rattle.numbered_walks.specs.declared.fault.WalkFault.{WalkFault}
 use Rattle.numbered_walks.specs.declared.fault.WalkFault.TheVariants as walk_fault
@@ -39,24 +39,24 @@ bound_fits flow tree l is = ⊎_elim
 module _ (source statement : List ℕ) (profile : Profile) (words : Words) (names : Names) (said : source_of source ≡ Ok (words, names))
     (st : Stated) (flow : Flow) (tree : Tree) (loops : HasLoops source statement profile st flow) (of : IsTreeOf flow st.loops tree) where
   -- the table of a greatest walk explains its bound
-  pub explained : (bursts : Bursts) (l : Longest) (starts text : List ℕ) → IsLongest flow tree l → AreWorstStarts flow tree starts → ((f : WalkFault) → f ≢ walk_fault.Memory → IsWalkFault flow tree f → ⊥)
-      → IsTextOf source words st flow l starts profile.burst bursts text → IsTotal source loops.graph.words flow l
+  pub explained : (bursts : Bursts) (l : Longest) (latest : ℕ → Option ℕ) (text : List ℕ) → IsLongest flow tree l → ((a : ℕ) → IsLatestStart flow tree a (latest a)) → ((f : WalkFault) → f ≢ walk_fault.Memory → IsWalkFault flow tree f → ⊥)
+      → IsTextOf source words st flow l latest profile.burst bursts text → IsTotal source loops.graph.words flow l
       → IsExplanation source statement bursts profile l.bound text
   unfolding accepted
-  explained bursts l starts text is are allowed explains total =
+  explained bursts l latest text is are allowed explains total =
       let pairs : (words, names) ≡ (loops.graph.words, loops.graph.names) =
       one_ok (words, names) (loops.graph.words, loops.graph.names) (source_of source) said loops.graph.source_is in
       record {
         accepted = accepted source statement profile st flow tree loops of allowed;
         tree = tree;
         longest = l;
-        starts = starts;
+        latest = latest;
         tree_of = of;
         longest_is = is;
-        starts_are = are;
+        latest_is = are;
         bound_is = refl;
         greatest = tree_is_greatest flow st.loops tree of.instances l.bound is.greatest;
-        explains = subst (λ (w : Words). IsTextOf source w st flow l starts profile.burst bursts text) (ap (λ (p : Said). p.0) pairs) explains;
+        explains = subst (λ (w : Words). IsTextOf source w st flow l latest profile.burst bursts text) (ap (λ (p : Said). p.0) pairs) explains;
         total = total;
       }
 

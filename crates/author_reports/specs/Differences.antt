@@ -1,5 +1,6 @@
 -- Where a run that keeps its statement and a greatest walk differ. Our own format.
-use Rattle.std.specs.Prelude.{◌≡◌, ℕ, zero, suc, ◌+◌, ◌==◌, ◌&&◌, Bool, true, false, cond, if◌then◌else◌, List}
+use Rattle.std.specs.Prelude.{◌≡◌, ℕ, zero, suc, ◌+◌, ◌==◌, ◌&&◌, Bool, true, false, cond}
+use Rattle.std.specs.Prelude.{if◌then◌else◌, List}
 use Rattle.std.specs.Prelude.{[], ◌∷◌, ◌++◌, codes, decimal, count_by, sum_by, unwrap_or}
 use Rattle.std.specs.Prelude.{slice_index_or}
 use Rattle.std.specs.BTreeMap.{get}
@@ -9,8 +10,8 @@ use Rattle.asm_text.specs.Source.{lines_of}
 use Rattle.assembler.specs.Placed.{ArePlaced}
 use Rattle.assembler.specs.declared.placed_line.PlacedLine.{PlacedLine}
 use Rattle.explained.specs.Assumed.{named_row}
-use Rattle.explained.specs.Columns.{in_columns}
-use Rattle.explained.specs.Rows.{AreRows, IsShownRow, section}
+use Rattle.text_rows.specs.Columns.{in_columns}
+use Rattle.text_rows.specs.Rows.{AreRows, IsShownRow, section}
 use Rattle.explained.specs.Table.{passes_of, ticks_of}
 use Rattle.explained.specs.Taken.{cost_at, is_at, pass_at, taken_at}
 use Rattle.explained.specs.declared.tally.Tally.{Tally}
@@ -50,8 +51,10 @@ compared_at flow passes walk a = record { run = run_at flow passes a; bound = wa
 abbrev pub agree : Compared → Bool
 agree c = (c.run.passes == c.bound.passes) && (c.run.ticks == c.bound.ticks)
 
+-- each number with a blank in front
 abbrev pub numbers_text : Numbers → List ℕ
-numbers_text n = in_columns 9 (decimal n.passes) ++ in_columns 11 (decimal n.ticks)
+numbers_text n =
+    codes " " ++ (in_columns 8 (decimal n.passes) ++ (codes " " ++ in_columns 10 (decimal n.ticks)))
 
 abbrev pub compared_text : Compared → List ℕ
 compared_text c = numbers_text c.run ++ numbers_text c.bound
@@ -92,7 +95,8 @@ abbrev pub image_heading : List ℕ
 image_heading =
     upper_heading ++ codes "   passes      ticks   passes      ticks   address      word  text\n"
 
--- a row for each word of a source's lines, or of an image, where the two differ; no text where they nowhere do
+-- a row for each word of a source's lines, or of an image, where the two differ; no text where they nowhere
+-- do
 pub record IsTable (source : List ℕ) (words : Words) (compared : ℕ → Compared) (text : List ℕ) : Type 0 where
   pub of_text : is_image source ≡ false
       → (placed : List PlacedLine) × ArePlaced source placed

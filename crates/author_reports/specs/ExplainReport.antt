@@ -11,12 +11,12 @@ use Rattle.loop_bounds.specs.Bounds.{IsGreatestCost}
 use Rattle.loop_bounds.specs.Tree.{Tree}
 use Rattle.longest_walk.specs.Folded.{unfolded}
 use Rattle.longest_walk.specs.Longest.{IsLongest}
-use Rattle.longest_walk.specs.Starts.{AreWorstStarts}
 use Rattle.longest_walk.specs.declared.folded.Longest.{Longest}
 use Rattle.explained.specs.Assumed.{AreImageAssumptions, AreSourceAssumptions}
 use Rattle.explained.specs.Bursts.{AreBurstLines}
 use Rattle.explained.specs.declared.bursts.Bursts.{Bursts}
 use Rattle.explained.specs.Idle.{AreIdleEntries}
+use Rattle.explained.specs.Starts.{IsLatestStart}
 use Rattle.explained.specs.Table.{IsImageTable, IsSourceTable, image_ticks, source_ticks}
 use Rattle.explained.specs.Taken.{taken_at}
 use Rattle.savings.specs.Sections.{AreImageSavings, AreSourceSavings}
@@ -27,10 +27,12 @@ use Rattle.report_output.specs.declared.fault.ReportFault.{ReportFault}
 
 -- ## The explanation
 
--- by the lines of a text, each where it stands: the table, then what bursts add to the bound, then what is taken
--- for granted, then the entries of the statement without effect, and then what better entries would save
-pub record IsSourceText (source : List ℕ) (words : Words) (stated : Stated) (flow : Flow) (longest : Longest)
-    (starts : List ℕ) (price : ℕ) (bursts : Bursts) (text : List ℕ) : Type 0 where
+-- by the lines of a text, each where it stands: the table, then what bursts add to the bound, then what is
+-- taken for granted, then the entries of the statement without effect, and then what better entries would
+-- save
+pub record IsSourceText (source : List ℕ) (words : Words) (stated : Stated) (flow : Flow)
+    (longest : Longest) (latest : ℕ → Option ℕ) (price : ℕ) (bursts : Bursts) (text : List ℕ)
+    : Type 0 where
   pub placed : List PlacedLine
   pub table : List ℕ
   pub burst_lines : List ℕ
@@ -38,7 +40,8 @@ pub record IsSourceText (source : List ℕ) (words : Words) (stated : Stated) (f
   pub idle : List ℕ
   pub savings : List ℕ
   pub are_placed : ArePlaced source placed
-  pub is_table : IsSourceTable words stated flow (unfolded longest.walk) starts longest.bound source placed table
+  pub is_table : IsSourceTable words stated flow (unfolded longest.walk) latest longest.bound source
+      placed table
   pub are_burst_lines : AreBurstLines price longest.bound bursts burst_lines
   pub are_assumptions : AreSourceAssumptions source placed words stated flow assumptions
   pub are_idle : AreIdleEntries words stated flow idle
@@ -47,13 +50,13 @@ pub record IsSourceText (source : List ℕ) (words : Words) (stated : Stated) (f
 
 -- by the words of an image
 pub record IsImageText (words : Words) (stated : Stated) (flow : Flow) (longest : Longest)
-    (starts : List ℕ) (price : ℕ) (bursts : Bursts) (text : List ℕ) : Type 0 where
+    (latest : ℕ → Option ℕ) (price : ℕ) (bursts : Bursts) (text : List ℕ) : Type 0 where
   pub table : List ℕ
   pub burst_lines : List ℕ
   pub assumptions : List ℕ
   pub idle : List ℕ
   pub savings : List ℕ
-  pub is_table : IsImageTable words stated flow (unfolded longest.walk) starts longest.bound table
+  pub is_table : IsImageTable words stated flow (unfolded longest.walk) latest longest.bound table
   pub are_burst_lines : AreBurstLines price longest.bound bursts burst_lines
   pub are_assumptions : AreImageAssumptions words stated flow assumptions
   pub are_idle : AreIdleEntries words stated flow idle
@@ -62,9 +65,11 @@ pub record IsImageText (words : Words) (stated : Stated) (flow : Flow) (longest 
 
 -- of an image by its words, of a text by its lines
 pub record IsTextOf (source : List ℕ) (words : Words) (stated : Stated) (flow : Flow) (longest : Longest)
-    (starts : List ℕ) (price : ℕ) (bursts : Bursts) (text : List ℕ) : Type 0 where
-  pub of_image : is_image source ≡ true → IsImageText words stated flow longest starts price bursts text
-  pub of_source : is_image source ≡ false → IsSourceText source words stated flow longest starts price bursts text
+    (latest : ℕ → Option ℕ) (price : ℕ) (bursts : Bursts) (text : List ℕ) : Type 0 where
+  pub of_image : is_image source ≡ true
+      → IsImageText words stated flow longest latest price bursts text
+  pub of_source : is_image source ≡ false
+      → IsSourceText source words stated flow longest latest price bursts text
 
 -- the ticks of all rows of the table are the bound
 pub record IsTotal (source : List ℕ) (words : Words) (flow : Flow) (longest : Longest) : Type 0 where
@@ -75,21 +80,22 @@ pub record IsTotal (source : List ℕ) (words : Words) (flow : Flow) (longest : 
 
 -- ## The report
 
--- of an accepted source and statement: the table of a greatest walk, whose cost is the bound, as the ticks of
--- all rows are, with the worst times until its words begin; what bursts add to the bound; what is taken for granted
--- of the words that are reached; the entries of the statement without effect; and what better entries would save
+-- of an accepted source and statement: the table of a greatest walk, whose cost is the bound, as the ticks
+-- of all rows are, with when each word begins at the latest on any walk; what bursts add to the bound; what
+-- is taken for granted of the words that are reached; the entries of the statement without effect; and what
+-- better entries would save
 pub record IsExplanation (source statement : List ℕ) (bursts : Bursts) (profile : Profile) (bound : ℕ)
     (text : List ℕ) : Type 0 where
   pub accepted : IsAccepted source statement profile
   pub tree : Tree
   pub longest : Longest
-  pub starts : List ℕ
+  pub latest : ℕ → Option ℕ
   pub tree_of : IsTreeOf accepted.flow accepted.stated.loops tree
   pub longest_is : IsLongest accepted.flow tree longest
-  pub starts_are : AreWorstStarts accepted.flow tree starts
+  pub latest_is : (a : ℕ) → IsLatestStart accepted.flow tree a (latest a)
   pub bound_is : longest.bound ≡ bound
   pub greatest : IsGreatestCost accepted.flow accepted.stated.loops bound
-  pub explains : IsTextOf source accepted.loops.graph.words accepted.stated accepted.flow longest starts
+  pub explains : IsTextOf source accepted.loops.graph.words accepted.stated accepted.flow longest latest
       profile.burst bursts text
   pub total : IsTotal source accepted.loops.graph.words accepted.flow longest
 

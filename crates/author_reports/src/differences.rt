@@ -2,7 +2,7 @@
 
 ghost use Rattle.std.specs.Prelude.{◌≡◌, ◌+◌, ◌++◌, IfErr, IfOk, List, OnOk, length};
 ghost use Rattle.asm_text.specs.Source.{lines_of};
-ghost use Rattle.explained.specs.Rows.{Appends, AreRows};
+ghost use Rattle.text_rows.specs.Rows.{Appends, AreRows};
 ghost use Rattle.kept_runs.specs.Passing.{IsTally, Pass};
 ghost use Rattle.longest_walk.specs.Folded.{unfolded};
 ghost use Rattle.walk_counts.specs.Counts.{capped};
@@ -14,7 +14,7 @@ ghost use Rattle.report_input.specs.Source.{IsSourceFault};
 
 use asm_text::first_line;
 use assembler::{PlacedLine, placed_lines};
-use explained::{NumberedLine, Tally, put, put_named_row, put_number, put_shown_row, section};
+use explained::{NumberedLine, Tally, put_named_row};
 use flow_graph::{Graph, Place};
 use kept_runs::Passed;
 use loader::{Image, MAGIC};
@@ -22,6 +22,7 @@ use longest_walk::FoldedWalk;
 use report_output::ReportFault;
 use std::alloc::{AllocError, Global};
 use std::collections::BTreeMap;
+use text_rows::{put, put_number, put_shown_row, section};
 
 // The names of the columns, of a text's rows and of an image's.
 const HEADING: &[u8] = b"                 run               bound
@@ -166,8 +167,10 @@ impl Tallies<'_> {
 fn put_numbers(out: &mut Vec<u8>, numbers: Numbers) -> Result<(), AllocError>
     ensures { OnOk result (out.new.items ≡ out.old.items ++ numbers_text numbers) }
 {
-    put_number(out, numbers.passes, 9)?;
-    put_number(out, numbers.ticks, 11)
+    put(out, b" ")?;
+    put_number(out, numbers.passes, 8)?;
+    put(out, b" ")?;
+    put_number(out, numbers.ticks, 10)
 }
 
 fn put_compared(out: &mut Vec<u8>, compared: Compared) -> Result<(), AllocError>

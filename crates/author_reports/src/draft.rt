@@ -3,7 +3,8 @@
 ghost use Rattle.std.specs.Prelude.{◌≡◌, ◌≢◌, IfErr, IfOk};
 ghost use Rattle.loader.specs.Labels.{address_of};
 ghost use Rattle.report_output.specs.Answers.{Answers};
-ghost use Rattle.author_reports.specs.DraftReport.{IsDraftRefused, IsDraftReport, IsDraftable, address_in, entry_of};
+ghost use Rattle.author_reports.specs.DraftReport.{IsDraftRefused, IsDraftReport, IsDraftable};
+ghost use Rattle.author_reports.specs.DraftReport.{address_in, entry_of};
 ghost use Rattle.report_input.specs.Source.{IsSourceFault};
 ghost use Rattle.drafting.specs.Draft.{IsDraft};
 

@@ -2,6 +2,7 @@
 
 ghost use Rattle.std.specs.Prelude.{◌≡◌, ◌≢◌, Ok, IfErr, IfOk, option_map};
 ghost use Rattle.bus_ticks.specs.declared.profile.Profile.{Profile};
+ghost use Rattle.explained.specs.Starts.{latest_at};
 ghost use Rattle.flow_graph.specs.Flow.{IsWellFormed};
 ghost use Rattle.statement.specs.Statement.{Names};
 ghost use Rattle.assembler.specs.Placed.{ArePlaced};
@@ -15,7 +16,8 @@ use assembler::{PlacedLine, placed_lines};
 use bus_ticks::Profile;
 use explained::{
     Bursts, StatedGraph, TimedWalk, burst_lines, idle_entries, image_assumptions, image_table,
-    places_stand_once, source_assumptions, source_table, totals_are_the_bound,
+    latest_starts_are_of_walks, places_stand_once, source_assumptions, source_table,
+    totals_are_the_bound,
 };
 use loader::{Image, MAGIC};
 use longest_walk::{longest, worst_starts};
@@ -37,8 +39,8 @@ pub struct Explained<'a> {
     pub bursts: Bursts,
 }
 
-// A greatest walk with the worst starts of its places, and the bursts that are added to its cost, by the profile's
-// price of one.
+// A greatest walk with the worst starts of its places, and the bursts that are added to its cost, by the
+// profile's price of one.
 #[derive(Clone, Copy)]
 struct BurstWalk<'w, 'p> {
     timed: TimedWalk<'w>,
@@ -70,8 +72,9 @@ fn image_text(
 ) -> Result<Vec<u8>, AllocError>
     ensures { IfOk result
         (λ text. IsImageText stated.entry.image.now stated.entry.statement.now stated.entry.graph.now
-        walk.entry.timed.longest.now walk.entry.timed.starts.now walk.entry.profile.now.burst
-        walk.entry.bursts text.items) }
+        walk.entry.timed.longest.now
+        (latest_at stated.entry.graph.now.places walk.entry.timed.starts.now)
+        walk.entry.profile.now.burst walk.entry.bursts text.items) }
 {
     let mut text = image_table(alloc, stated, walk.timed)?;
     let mut rest = burst_lines(alloc, walk.profile, walk.timed.longest.bound, walk.bursts)?;
@@ -96,7 +99,8 @@ fn placed_text(
     requires { ArePlaced source.now placed.now }
     ensures { IfOk result
         (λ text. IsSourceText source.now stated.entry.image.now stated.entry.statement.now
-        stated.entry.graph.now walk.entry.timed.longest.now walk.entry.timed.starts.now
+        stated.entry.graph.now walk.entry.timed.longest.now
+        (latest_at stated.entry.graph.now.places walk.entry.timed.starts.now)
         walk.entry.profile.now.burst walk.entry.bursts text.items) }
 {
     let mut text = source_table(alloc, stated, source, placed, walk.timed)?;
@@ -120,7 +124,8 @@ fn text_of(
 ) -> Result<Vec<u8>, ReportFault>
     ensures text { IfOk result
         (λ text. IsTextOf source.now stated.entry.image.now stated.entry.statement.now
-        stated.entry.graph.now walk.entry.timed.longest.now walk.entry.timed.starts.now
+        stated.entry.graph.now walk.entry.timed.longest.now
+        (latest_at stated.entry.graph.now.places walk.entry.timed.starts.now)
         walk.entry.profile.now.burst walk.entry.bursts text.items) }
     ensures fault { IfErr result (IsSourceFault source.now) }
 {
@@ -160,6 +165,7 @@ fn explanation_of(
     let starts = worst_starts(alloc, &handler.graph, &handler.tree)?;
     places_stand_once();
     totals_are_the_bound();
+    latest_starts_are_of_walks();
     let stated = StatedGraph {
         image,
         statement: &handler.statement,
@@ -215,11 +221,12 @@ fn priced_explanation<O: Output>(
 
 /// Writes where the ticks of a handler's greatest run time go, by a cycle profile's file or by the first
 /// profile: a table by the lines of the source, or by the words of an image, with how often a greatest walk
-/// passes each, the ticks of a pass and of all, the tick by which it begins, and what the price takes for granted;
-/// then the bound, in ticks and in microseconds; then the bound with DMA bursts, if any are given; then what is taken for
-/// granted: words that count as returns but do not look like returns, and loads and stores of which no class
-/// is stated; and then the entries of the statement without effect. Answers whether the bound is enough:
-/// without bursts at most so many ticks as are wanted.
+/// passes each, the ticks of a pass and of all, the tick by which it begins, and what the price takes for
+/// granted; then the bound, in ticks and in microseconds; then the bound with DMA bursts, if any are given;
+/// then what is taken for granted: words that count as returns but do not look like returns, words that
+/// return by R14 after a call has overwritten it, and loads and stores of which no class is stated; then the
+/// entries of the statement without effect; and then what better entries would save. Answers whether the
+/// bound is enough: without bursts at most so many ticks as are wanted.
 ///
 /// # Errors
 ///

@@ -99,10 +99,10 @@ fn priced_drawing<O: Output>(
     }
 }
 
-/// Writes the drawing of a handler's flow graph in DOT, the language of Graphviz, by a cycle profile's file or
-/// by the first profile: its straight stretches with their lines of the source, or their words of an image,
-/// and the edges between them, in clusters for calls and loops, with how often a greatest walk takes each and
-/// the ticks of that.
+/// Writes the drawing of a handler's flow graph in DOT, the language of Graphviz, by a cycle profile's file
+/// or by the first profile: its straight stretches with their lines of the source, or their words of an
+/// image, and the edges between them, in clusters for calls and loops, with how often a greatest walk takes
+/// each and the ticks of that.
 ///
 /// # Errors
 ///

@@ -1,2 +1,3 @@
 pub mod Bound
 pub mod Check
+pub mod Verdict

@@ -29,7 +29,8 @@ fn objected(objection: Objection) -> &'static [u8]
     }
 }
 
-fn line_of(verdict: Verdict) -> &'static [u8]
+/// The line of a verdict, with its end.
+pub(crate) fn line_of(verdict: Verdict) -> &'static [u8]
     ensures { result.now ≡ verdict_line verdict }
 {
     match verdict {
@@ -49,10 +50,10 @@ fn is_yes(verdict: Verdict) -> bool
 
 /// The bytes of a source, a statement and a certificate.
 #[derive(Clone, Copy)]
-struct CheckInputs<'a> {
-    source: &'a [u8],
-    statement: &'a [u8],
-    cert: &'a [u8],
+pub struct CheckInputs<'a> {
+    pub source: &'a [u8],
+    pub statement: &'a [u8],
+    pub cert: &'a [u8],
 }
 
 fn verdict_of(

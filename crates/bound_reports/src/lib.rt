@@ -4,7 +4,9 @@
 mod bound;
 mod check;
 mod law;
+mod verdict;
 
 pub use bound::{BoundReport, bound_report, longest_report};
-pub use check::check_report;
+pub use check::{CheckInputs, check_report};
 pub use law::certificates_are_accepted;
+pub use verdict::verdict_report;

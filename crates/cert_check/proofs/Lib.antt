@@ -20,3 +20,7 @@ pub mod WalkVerdict
 pub mod SameMembers
 pub mod OtherTree
 pub mod OneVerdict
+pub mod FrontLemmas
+pub mod FailingLemmas
+pub mod RowNumbers
+pub mod StrayLemmas

@@ -73,7 +73,7 @@ module _ (flow : Flow) (tree : Tree) (well : IsWellFormed flow) (t : IsTree flow
       let inside : span.header < exit = omega (arith, shape.0, shape.1) in
       (inside, header_place (get_or tree.instances k i) (place_in flow tree span.header) (span_is.headers span.header (omega (arith, inside)) ∙ eq-eqb span.header span.header refl))
 
-  same : AreSame flow tree well t (potentials cert) (T.potentials_of c)
+  pub same : AreSame flow tree well t (potentials cert) (T.potentials_of c)
   same = record {
     bound_is = sym are.bound;
     distances = λ n lt. sym (are.distances.each n lt);
@@ -92,7 +92,7 @@ module _ (flow : Flow) (tree : Tree) (well : IsWellFormed flow) (t : IsTree flow
     abbrev number : NumberedEdge
     number = edge_at tree.edges k
 
-    abbrev alike : SameRow edge_shape place_loops is_exit (potentials cert) number_shape span_loops (T.is_exit exit) (T.potentials_of c) tree.instances tree.spans edge number
+    abbrev pub alike : SameRow edge_shape place_loops is_exit (potentials cert) number_shape span_loops (T.is_exit exit) (T.potentials_of c) tree.instances tree.spans edge number
     alike = same_row flow tree well t (potentials cert) (T.potentials_of c) same k lt
 
     -- the same the other way round
@@ -111,7 +111,7 @@ module _ (flow : Flow) (tree : Tree) (well : IsWellFormed flow) (t : IsTree flow
           };
         }
 
-    holds_up : NumberHolds exit tree.spans c number → RowHolds tree cert edge
+    pub holds_up : NumberHolds exit tree.spans c number → RowHolds tree cert edge
     holds_up = row_back edge_shape place_loops is_exit (potentials cert) number_shape span_loops (T.is_exit exit) (T.potentials_of c) tree.instances tree.spans edge number alike
 
     holds_down : RowHolds tree cert edge → NumberHolds exit tree.spans c number
@@ -120,7 +120,7 @@ module _ (flow : Flow) (tree : Tree) (well : IsWellFormed flow) (t : IsTree flow
     fits_up : NumberFits exit tree.spans c number → RowFits tree cert edge
     fits_up = fit_back edge_shape place_loops is_exit (potentials cert) number_shape span_loops (T.is_exit exit) (T.potentials_of c) tree.instances tree.spans edge number alike
 
-    fits_down : RowFits tree cert edge → NumberFits exit tree.spans c number
+    pub fits_down : RowFits tree cert edge → NumberFits exit tree.spans c number
     fits_down = fit_back number_shape span_loops (T.is_exit exit) (T.potentials_of c) edge_shape place_loops is_exit (potentials cert) tree.spans tree.instances number edge turned
 
     out_same : goes_out tree edge ≡ leaves tree.spans number
@@ -162,3 +162,7 @@ one_more P n all here k lt = ⊎_elim
 
 pub every_edge : (edges : List Edge) (P : Edge → Type 0) (n : ℕ) → length edges ≤ n → ((k : ℕ) → k < n → P (step_at edges k)) → (e : Edge) → Contains edges e → P e
 every_edge edges P n le all e (k, lt, at) = subst P (get_or_default edges k no_edge e lt ∙ at) (all k (omega (arith, lt, le)))
+
+-- what holds of three values holds of values that are equal to them
+pub carried : {X Y Z : Type 0} (P : X → Y → Z → Type 0) (m n : X) (ss ts : Y) (es fs : Z) → m ≡ n → ss ≡ ts → es ≡ fs → P m ss es → P n ts fs
+carried {X} {Y} {Z} P m n ss ts es fs one two three p = subst (λ (x : X). P x ts fs) one (subst (λ (y : Y). P m y fs) two (subst (λ (z : Z). P m ss z) three p))

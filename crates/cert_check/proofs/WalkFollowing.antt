@@ -30,6 +30,21 @@ use Rattle.cert_check.specs.Followed.{Followed, edge_named, follow_both, follow_
 use Rattle.cert_check.specs.Walking.{AreRounds, CanFollow, EndsIn, Follows, IsRefused, IsTaken, Tells}
 use Rattle.cert_check.proofs.WalkParts.{All-left, All-right, leads_left, leads_right, map_some}
 
+-- the walk of a row is that of its first lines, and that of the others from where it ends
+pub record InRow (first : Place → Option Followed) (rest : List (Place → Option Followed)) (p : Place) (f : Followed) : Type 0 where
+  pub front : Followed
+  pub back : Followed
+  pub front_is : first p ≡ Some front
+  pub back_is : follow_row rest front.at ≡ Some back
+  pub both_is : follow_both front.opened back ≡ f
+
+pub in_row : (first : Place → Option Followed) (rest : List (Place → Option Followed)) (p : Place) (f : Followed) → follow_row (first ∷ rest) p ≡ Some f → InRow first rest p f
+in_row first rest p f is =
+    option_and_then_some (λ (g : Followed). option_map (follow_both g.opened) (follow_row rest g.at)) (first p) f is
+    (λ front front_is more.
+    let back = map_some (follow_both front.opened) (follow_row rest front.at) f more in
+    record { front = front; back = back.0; front_is = front_is; back_is = back.1; both_is = back.2 })
+
 module _ (flow : Flow) (tree : Tree) (index : Index) (well : IsWellFormed flow) where
   abbrev exit : ℕ
   exit = length flow.places
@@ -87,21 +102,6 @@ module _ (flow : Flow) (tree : Tree) (index : Index) (well : IsWellFormed flow) 
             subst (λ (v : List NumberedEdge). Tells tree.spans z v) (append_assoc w (edges_of tree.edges a.numbers) (edges_of tree.edges b.numbers) ∙ ap (λ (v : List NumberedEdge). w ++ v) (sym both)) (b.told (w ++ edges_of tree.edges a.numbers) (a.told w t));
         ready = b.ready;
       }
-
-  -- the walk of a row is that of its first lines, and that of the others from where it ends
-  record InRow (first : Place → Option Followed) (rest : List (Place → Option Followed)) (p : Place) (f : Followed) : Type 0 where
-    front : Followed
-    back : Followed
-    front_is : first p ≡ Some front
-    back_is : follow_row rest front.at ≡ Some back
-    both_is : follow_both front.opened back ≡ f
-
-  in_row : (first : Place → Option Followed) (rest : List (Place → Option Followed)) (p : Place) (f : Followed) → follow_row (first ∷ rest) p ≡ Some f → InRow first rest p f
-  in_row first rest p f is =
-      option_and_then_some (λ (g : Followed). option_map (follow_both g.opened) (follow_row rest g.at)) (first p) f is
-      (λ front front_is more.
-      let back = map_some (follow_both front.opened) (follow_row rest front.at) f more in
-      record { front = front; back = back.0; front_is = front_is; back_is = back.1; both_is = back.2 })
 
   module _ (within : Span) (levels n : ℕ) (first : Place → Option Followed) (rest : List (Place → Option Followed)) where
     pub refused_first : IsRefused flow tree within levels first n → IsRefused flow tree within levels (follow_row (first ∷ rest)) n

@@ -1,6 +1,8 @@
 -- What is told of a walk, with an edge more, and with the rounds of a repeat in place of one.
-use Rattle.std.proofs.Common.{◌≡◌, ◌≢◌, ◌∙◌, ℕ, zero, suc, ◌+◌, ◌-◌, ◌*◌, ◌<◌, ◌≤◌, ◌^◌, min, max, Bool, true, false, cond, ◌&&◌, List, [], ◌∷◌, ◌++◌, length, get_or, slice_set, All, Contains, Option, Some, None, ⊎_elim, refl, sym, ap, subst, arith, append-nil, get_or-set_same, get_or-set_other}
-use Rattle.std.proofs.lemmas.Bool.{and_from, cases_Bool, cases_eq, cases_lt, eq-eqb, lt-ltb, ltb-true, ne_eqb, or_cases, true≢false, or_parts}
+use Rattle.std.proofs.Common.{◌≡◌, ◌≢◌, ◌∙◌, ℕ, zero, suc, ◌+◌, ◌-◌, ◌*◌, ◌<◌, ◌≤◌, ◌^◌, min, max, Bool, true, false, cond, ◌&&◌, List, [], ◌∷◌, ◌++◌, length, get_or, slice_set, All, Contains, Option, Some, None, ◌⊎◌, inl, inr, ⊎_elim, refl, sym, ap, subst, arith, append-nil, get_or-set_same, get_or-set_other}
+use Rattle.std.proofs.lemmas.Bool.{and_from, cases_Bool, cases_eq, cases_lt, eq-eqb, le-ltb, lt-ltb, ltb-true, ne_eqb, or_cases, true≢false, or_parts}
+use Rattle.std.specs.Option.{option_or}
+use Rattle.std.proofs.lemmas.Option.{none-some, same_Some}
 use Rattle.std.proofs.lemmas.List.Elements.{All-head, All-tail, All-weaker}
 use Rattle.std.proofs.lemmas.List.Sums.{sum_by-cons}
 use Rattle.walks.specs.Segments.{count, head, most, repeated, tail, whole}
@@ -15,7 +17,7 @@ use Rattle.numbered_walks.specs.Reach.{most_in}
 use Rattle.numbered_walks.proofs.Members.{header_in, member_header}
 use Rattle.numbered_walks.proofs.Nesting.{same_header}
 use Rattle.cert_check.specs.declared.walker.Walker.{Walker}
-use Rattle.cert_check.specs.Walking.{Adds, Arrives, Tells, breaks, capped, gained, header_at, turns_after, turns_at_end}
+use Rattle.cert_check.specs.Walking.{Adds, Arrives, Tells, broken_by, capped, gained, header_at, turns_after, turns_at_end}
 
 -- ## Numbers
 
@@ -40,13 +42,34 @@ gained-exact limit a b k some = ⊎_elim
 pub gained_is : (a b k : ℕ) → 0 < k → gained (capped a) (capped (a + b)) k ≡ capped (a + k * b)
 gained_is a b k some = gained-exact (2 ^ 64) a b k some
 
-breaks_some : (o : Option Span) (turns : ℕ) → breaks o turns ≡ true → (s : Span) × (o ≡ Some s) × (s.bound < turns)
-breaks_some None turns is = absurd (true≢false (sym is))
-breaks_some (Some s) turns is = (s, refl, ltb-true s.bound turns is)
+-- the first of two, if there is one
+or_some : (a b : Option Span) (s : Span) → option_or a b ≡ Some s → (a ≡ Some s) ⊎ ((a ≡ None) × (b ≡ Some s))
+or_some None b s is = inr (refl, is)
+or_some (Some t) b s is = inl is
 
-breaks_none : (o : Option Span) (turns : ℕ) (s : Span) → o ≡ Some s → breaks o turns ≡ false → turns ≤ s.bound
-breaks_none o turns s at is = ⊎_elim
-    (λ (more : s.bound < turns). absurd (true≢false (sym (ap (λ (x : Option Span). breaks x turns) at ∙ lt-ltb s.bound turns more) ∙ is)))
+or_none : (a b : Option Span) → option_or a b ≡ None → (a ≡ None) × (b ≡ None)
+or_none None b is = (refl, is)
+or_none (Some t) b is = absurd (none-some t (sym is))
+
+module _ (s : Span) (turns : ℕ) where
+  broken_more : s.bound < turns → broken_by (Some s) turns ≡ Some s
+  broken_more more = ap (λ (b : Bool). cond {A = Option Span} b (Some s) None) (lt-ltb s.bound turns more)
+
+  broken_few : turns ≤ s.bound → broken_by (Some s) turns ≡ None
+  broken_few few = ap (λ (b : Bool). cond {A = Option Span} b (Some s) None) (le-ltb s.bound turns few)
+
+broken_some : (o : Option Span) (turns : ℕ) (s : Span) → broken_by o turns ≡ Some s → (o ≡ Some s) × (s.bound < turns)
+broken_some None turns s is = absurd (none-some s is)
+broken_some (Some t) turns s is = ⊎_elim
+    (λ (more : t.bound < turns).
+    let same : t ≡ s = same_Some t s (sym (broken_more t turns more) ∙ is) in
+    (ap (λ (x : Span). Some x) same, subst (λ (x : Span). x.bound < turns) same more))
+    (λ (few : turns ≤ t.bound). absurd (none-some s (sym (broken_few t turns few) ∙ is)))
+    (cases_lt t.bound turns)
+
+broken_none : (o : Option Span) (turns : ℕ) (s : Span) → o ≡ Some s → broken_by o turns ≡ None → turns ≤ s.bound
+broken_none o turns s at is = ⊎_elim
+    (λ (more : s.bound < turns). absurd (none-some s (sym is ∙ ap (λ (x : Option Span). broken_by x turns) at ∙ broken_more s turns more)))
     (λ few. few)
     (cases_lt s.bound turns)
 
@@ -151,24 +174,24 @@ module _ (exit : ℕ) (edges : List NumberedEdge) (spans : List Span) (order : I
         ap (λ (xs : List ℕ). get_or xs s.header 0) goes.turns_are ∙ get_or-set_other old.turns.items to s.header turns 0 other ∙ told.turns_are s has stay.0 ∙ ap capped (sym stay.1))
         (cases_eq s.header to)
 
-    broken_told : new.over ≡ true → (s : Span) × Contains spans s × (s.bound < most_in s w)
-    broken_told is = ⊎_elim
-        (λ before. let s = told.broken before in (s.0, s.1, omega (arith, s.2, no_less s.0 s.1)))
+    broken_told : (s : Span) → new.over ≡ Some s → Contains spans s × (s.bound < most_in s w)
+    broken_told s is = ⊎_elim
+        (λ before. let b = told.broken s before in (b.0, omega (arith, b.1, no_less s b.0)))
         (λ now.
-        let s = breaks_some (header_at headers to) turns now in
-        let known = all.known to s.0 s.1 in
-        let t : turns ≡ capped (turns_at_end s.0 w) = turns_is s.0 known.0 known.1 in
-        (s.0, known.0, omega (arith, s.2, t, change.there s.0 known.0 known.1)))
-        (or_cases old.over (breaks (header_at headers to) turns) (sym goes.over_is ∙ is))
+        let found = broken_some (header_at headers to) turns s now.1 in
+        let known = all.known to s found.0 in
+        let t : turns ≡ capped (turns_at_end s w) = turns_is s known.0 known.1 in
+        (known.0, omega (arith, found.1, t, change.there s known.0 known.1)))
+        (or_some old.over (broken_by (header_at headers to) turns) s (sym goes.over_is ∙ is))
 
-    kept_told : new.over ≡ false → (s : Span) → Contains spans s → most_in s w ≤ s.bound
+    kept_told : new.over ≡ None → (s : Span) → Contains spans s → most_in s w ≤ s.bound
     kept_told is s has =
-        let parts = or_parts old.over (breaks (header_at headers to) turns) (sym goes.over_is ∙ is) in
+        let parts = or_none old.over (broken_by (header_at headers to) turns) (sym goes.over_is ∙ is) in
         let before : most_in s v ≤ s.bound = told.kept parts.0 s has in
         ⊎_elim
         (λ (at : s.header ≡ to).
         let t : turns ≡ capped (turns_at_end s w) = turns_is s has at in
-        let few : turns ≤ s.bound = breaks_none (header_at headers to) turns s (span_there to s has at) parts.1 in
+        let few : turns ≤ s.bound = broken_none (header_at headers to) turns s (span_there to s has at) parts.1 in
         let small : s.bound ≤ 1048576 = (order.shape s has).2 in
         omega (arith, t, few, small, before, change.there s has at))
         (λ (other : s.header ≢ to). omega (arith, before, change.elsewhere s has other))

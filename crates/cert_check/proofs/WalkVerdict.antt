@@ -1,8 +1,9 @@
 -- The verdict on a walk, from what following its lines told.
-use Rattle.std.proofs.Common.{◌≡◌, ◌≢◌, ◌∙◌, ℕ, ◌+◌, ◌<◌, ◌≤◌, ◌^◌, true, false, List, [], ◌∷◌, inr, length, get_or, sym, ap, subst, arith}
+use Rattle.std.proofs.Common.{◌≡◌, ◌≢◌, ◌∙◌, ℕ, ◌+◌, ◌<◌, ◌≤◌, ◌^◌, true, false, List, [], ◌∷◌, Option, inr, Some, None, length, get_or, refl, sym, ap, subst, arith}
 use Rattle.std.proofs.lemmas.List.{get_or-replicate, length-replicate}
-use Rattle.std.proofs.lemmas.Bool.{false≢true}
-use Rattle.std.proofs.lemmas.Option.{same_Some}
+use Rattle.std.specs.Option.{is_some}
+use Rattle.std.proofs.lemmas.Bool.{true≢false}
+use Rattle.std.proofs.lemmas.Option.{none-some, same_Some}
 use Rattle.walks.specs.Walk.{Leads, cost_of}
 use Rattle.walks.proofs.Joins.{keeps_from_most, most_from_keeps}
 use Rattle.flow_graph.specs.declared.places.Place.{Place}
@@ -31,6 +32,14 @@ use Rattle.cert_check.specs.Walking.{CanFollow, IsFresh, IsRefused, IsTaken, Tel
 use Rattle.cert_check.proofs.WalkFollowing.{leads_of}
 use Rattle.cert_check.proofs.WalkParts.{ends_same}
 
+pub some_value : (o : Option Span) → is_some o ≡ true → (s : Span) × (o ≡ Some s)
+some_value None is = absurd (true≢false (sym is))
+some_value (Some s) is = (s, refl)
+
+pub no_value : (o : Option Span) → is_some o ≡ false → o ≡ None
+no_value None is = refl
+no_value (Some s) is = absurd (true≢false is)
+
 module _ (flow : Flow) (tree : Tree) (index : Index) (well : IsWellFormed flow) (t : IsTree flow tree) (indexed : IsIndex (length flow.places) tree.spans index) (x : Walker) (fresh : IsFresh (length flow.places) x) where
   abbrev exit : ℕ
   exit = length flow.places
@@ -38,7 +47,7 @@ module _ (flow : Flow) (tree : Tree) (index : Index) (well : IsWellFormed flow) 
   abbrev place : ℕ → Place
   place = place_in flow tree
 
-  at_entry : place_in flow tree x.number ≡ flow.entry
+  pub at_entry : place_in flow tree x.number ≡ flow.entry
   at_entry = ap place fresh.number_is ∙ t.entry_first
 
   pub ready : CanFollow flow tree index (graph_span flow) x
@@ -61,7 +70,7 @@ module _ (flow : Flow) (tree : Tree) (index : Index) (well : IsWellFormed flow) 
         let shape = t.ordered.shape s s_in in
         let none : get_or x.turns.items s.header 0 ≡ 0 = ap (λ (xs : List ℕ). get_or xs s.header 0) fresh.turns_are ∙ get_or-replicate (exit + 1) s.header 0 0 (omega (arith, shape.0, shape.1)) in
         omega (arith, none);
-    broken = λ is. absurd (false≢true (sym fresh.over_is ∙ is));
+    broken = λ s is. absurd (none-some s (sym fresh.over_is ∙ is));
     kept = λ is s s_in. omega arith;
   }
 
@@ -97,27 +106,26 @@ module _ (flow : Flow) (tree : Tree) (index : Index) (well : IsWellFormed flow) 
           shallow = a.rounds.shallow;
         }
 
-        told : Tells tree.spans y (edges_of tree.edges a.numbers)
+        pub told : Tells tree.spans y (edges_of tree.edges a.numbers)
         told = a.told [] nothing_told
 
-        pub over_bound : y.over ≡ true → KeepsAll flow tree cert → ⊥
-        over_bound over keeps =
-            let s = told.broken over in
-            let span : Span = s.0 in
+        pub over_bound : (s : Span) → y.over ≡ Some s → KeepsAll flow tree cert → ⊥
+        over_bound s over keeps =
+            let more = told.broken s over in
             let kept : KeepsTree tree (steps_of flow.edges a.numbers) = subst (λ (w : List Edge). KeepsTree tree w) a.edges_are (keeps a.walk finished) in
-            let few : most_in span (edges_of tree.edges a.numbers) ≤ span.bound = most_from_keeps (O.is_inside span) (O.ends_at_header span) span.bound (edges_of tree.edges a.numbers) (keeps_down flow tree well t a.numbers a.inside kept span s.1) in
-            omega (arith, few, s.2)
+            let few : most_in s (edges_of tree.edges a.numbers) ≤ s.bound = most_from_keeps (O.is_inside s) (O.ends_at_header s) s.bound (edges_of tree.edges a.numbers) (keeps_down flow tree well t a.numbers a.inside kept s more.0) in
+            omega (arith, few, more.1)
 
-        pub within_bounds : y.over ≡ false → KeepsAll flow tree cert
+        pub within_bounds : y.over ≡ None → KeepsAll flow tree cert
         within_bounds fine f is =
             let kept : KeepsTree tree (steps_of flow.edges a.numbers) = keeps_up flow tree well t a.numbers a.inside (λ s s_in. keeps_from_most (O.is_inside s) (O.ends_at_header s) s.bound (edges_of tree.edges a.numbers) (told.kept fine s s_in)) in
             subst (λ (g : Followed). KeepsTree tree g.opened.walk) (is_walk f is) (subst (λ (w : List Edge). KeepsTree tree w) (sym a.edges_are) kept)
 
-        cost_told : y.cost ≡ capped (cost_of edge_shape a.walk.opened.walk)
+        pub cost_told : y.cost ≡ capped (cost_of edge_shape a.walk.opened.walk)
         cost_told = told.cost_is ∙ ap capped (sym (ap (λ (w : List Edge). cost_of edge_shape w) a.edges_are ∙ costs_same flow tree well t a.numbers a.inside))
 
         -- of a walk within the bounds the cost alone is left to judge
-        pub cost_left : (v : Verdict) → y.over ≡ false → IsFirstOf flow tree cert (WalkCost ∷ []) v → IsFirstOf flow tree cert walk_objections v
+        pub cost_left : (v : Verdict) → y.over ≡ None → IsFirstOf flow tree cert (WalkCost ∷ []) v → IsFirstOf flow tree cert walk_objections v
         cost_left v fine rest = inr ((a.walk, finished), inr (within_bounds fine, rest))
 
         pub other_cost : cert.bound < 2 ^ 64 → y.cost ≢ cert.bound → CostsBound flow tree cert → ⊥

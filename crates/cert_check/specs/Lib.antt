@@ -5,3 +5,5 @@ pub mod Index
 pub mod Weighing
 pub mod Presence
 pub mod Walking
+pub mod Failing
+pub mod Straying

@@ -1,7 +1,8 @@
 -- What following a certificate's walk tells of it.
 use Rattle.std.specs.Prelude.{◌≡◌, ℕ, ◌+◌, ◌-◌, ◌*◌, ◌<◌, ◌≤◌, ◌^◌, min, Bool, true, false, cond, nat_lt}
-use Rattle.std.specs.Prelude.{◌||◌, List, ◌++◌, length, replicate, slice_index, slice_index_or, slice_set}
+use Rattle.std.specs.Prelude.{List, ◌++◌, length, replicate, slice_index, slice_index_or, slice_set}
 use Rattle.std.specs.Prelude.{All, Contains, Option, Some, None}
+use Rattle.std.specs.Option.{option_or}
 use Rattle.walks.specs.Walk.{Leads}
 use Rattle.walks.specs.Segments.{tail}
 use Rattle.flow_graph.specs.declared.places.Place.{Place}
@@ -33,14 +34,14 @@ capped n = min n (2 ^ 64)
 abbrev pub turns_at_end : Span → List NumberedEdge → ℕ
 turns_at_end s walk = tail (is_inside s) (ends_at_header s) walk
 
--- its cost; the back edges of its stay in each instance where it stands; and whether a stay has more of them
--- than the bound
+-- its cost; the back edges of its stay in each instance where it stands; and an instance in which a stay has
+-- more of them than the bound, if there is one
 pub record Tells (spans : List Span) (x : Walker) (walk : List NumberedEdge) : Type 0 where
   pub cost_is : x.cost ≡ capped (O.cost_of walk)
   pub turns_are : (s : Span) → Contains spans s → is_in s x.number ≡ true
       → slice_index x.turns.items s.header ≡ capped (turns_at_end s walk)
-  pub broken : x.over ≡ true → (s : Span) × Contains spans s × (s.bound < most_in s walk)
-  pub kept : x.over ≡ false → (s : Span) → Contains spans s → most_in s walk ≤ s.bound
+  pub broken : (s : Span) → x.over ≡ Some s → Contains spans s × (s.bound < most_in s walk)
+  pub kept : x.over ≡ None → (s : Span) → Contains spans s → most_in s walk ≤ s.bound
 
 -- what was told of any walk is told of it with this one after it
 abbrev pub Adds : List Span → Walker → Walker → List NumberedEdge → Type 0
@@ -51,7 +52,7 @@ pub record IsFresh (exit : ℕ) (x : Walker) : Type 0 where
   pub number_is : x.number ≡ 0
   pub cost_is : x.cost ≡ 0
   pub turns_are : x.turns.items ≡ replicate (exit + 1) 0
-  pub over_is : x.over ≡ false
+  pub over_is : x.over ≡ None
 
 -- ## What an edge, and the rounds of a repeat, change
 
@@ -59,10 +60,10 @@ pub record IsFresh (exit : ℕ) (x : Walker) : Type 0 where
 abbrev pub header_at : List (Option Span) → ℕ → Option Span
 header_at headers n = slice_index_or headers n None
 
--- more back edges than the bound of the instance
-abbrev pub breaks : Option Span → ℕ → Bool
-breaks None turns = false
-breaks (Some s) turns = nat_lt s.bound turns
+-- the instance, if these are more back edges than its bound
+abbrev pub broken_by : Option Span → ℕ → Option Span
+broken_by None turns = None
+broken_by (Some s) turns = cond (nat_lt s.bound turns) (Some s) None
 
 -- the back edges of the stay at the header after an edge from this number: one more, or none where the edge
 -- enters
@@ -80,7 +81,7 @@ pub record Arrives (headers : List (Option Span)) (number cost turns : ℕ) (old
   pub number_is : new.number ≡ number
   pub cost_is : new.cost ≡ cost
   pub turns_are : new.turns.items ≡ slice_set old.turns.items number turns
-  pub over_is : new.over ≡ (old.over || breaks (header_at headers number) turns)
+  pub over_is : new.over ≡ option_or old.over (broken_by (header_at headers number) turns)
 
 -- ## Following the lines
 

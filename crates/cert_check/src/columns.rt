@@ -35,8 +35,8 @@ fn arrival_and_round(rows: &[InstanceRow], header: &Place) -> (u64, u64)
     }
 }
 
-// The place of a number.
-fn place_of(graph: &Graph, tree: &LoopTree, number: usize) -> Place
+/// The place of a number.
+pub(crate) fn place_of(graph: &Graph, tree: &LoopTree, number: usize) -> Place
     requires tree { IsTree graph.now tree.now }
     requires inside { number < length graph.now.places }
     ensures { result ≡ place_in graph.now tree.now number }

@@ -11,7 +11,9 @@ ghost use Rattle.longest_walk.specs.Longest.{IsLongest, KeepsTree};
 ghost use Rattle.certificate.specs.declared.cert.Cert.{Cert};
 ghost use Rattle.certificate.specs.Lines.{said_by, said_of};
 ghost use Rattle.cert_check.specs.declared.verdict.Verdict.TheVariants.{Yes};
-ghost use Rattle.cert_check.specs.Verdict.{IsVerdict};
+ghost use Rattle.cert_check.specs.declared.failing.FailingRow.{FailingRow};
+ghost use Rattle.cert_check.specs.Failing.{IsFailing, objection_of};
+ghost use Rattle.cert_check.specs.Verdict.{IsVerdict, Passes};
 ghost use Rattle.std.specs.Prelude.{◌≡◌};
 
 /// States that the verdict Yes on a certificate, whoever wrote it, means that its bound is the greatest cost
@@ -30,4 +32,12 @@ pub fn longest_gets_yes()
         (cert : Cert)
         → IsFlowGraph words stated profile flow → IsWellFormed flow → IsTree flow tree
         → IsLongest flow tree l → said_by cert ≡ said_of l → IsVerdict flow tree cert Yes }
+{}
+
+/// States that what fails in a certificate, whoever wrote it, does not pass what the check asks for its
+/// objection. It does nothing.
+#[tactic(auto, using(crate::proofs::FailingLemmas::failing_refutes))]
+pub fn failing_row_refutes()
+    ensures { (flow : Flow) (tree : Tree) (cert : Cert) (row : FailingRow) → IsFailing flow tree cert row
+        → Passes flow tree cert (objection_of row) → ⊥ }
 {}

@@ -6,14 +6,19 @@
 
 mod checking;
 mod columns;
+mod explaining;
+mod failing;
 mod fault;
 mod finding;
 mod handler;
+mod heavy;
 mod index;
 mod law;
+mod listed;
 mod presence;
 mod row_check;
 mod row_tests;
+mod straying;
 mod verdict;
 mod walk_check;
 mod walk_trace;
@@ -21,6 +26,8 @@ mod walker;
 mod weighing;
 
 pub use checking::check;
+pub use explaining::failing_row;
+pub use failing::{FailingRow, HeavyRow};
 pub use fault::CheckFault;
-pub use law::{longest_gets_yes, yes_means_greatest};
+pub use law::{failing_row_refutes, longest_gets_yes, yes_means_greatest};
 pub use verdict::{Objection, Verdict};

@@ -21,15 +21,15 @@ struct Listing {
     headers: Vec<Place>,
 }
 
-// Whether the prices are those of the handler's graph.
-fn has_its_prices(cert: &Cert, graph: &Graph) -> bool
+/// Whether the prices are those of the handler's graph.
+pub(crate) fn has_its_prices(cert: &Cert, graph: &Graph) -> bool
     ensures { IsTrue result ↔ (cert.now.profile ≡ graph.now.profile) }
 {
     cert.profile == graph.profile()
 }
 
-// The places that the rows are about.
-fn places_of(alloc: Global, rows: &[PlaceRow]) -> Result<Vec<Place>, AllocError>
+/// The places that the rows are about.
+pub(crate) fn places_of(alloc: Global, rows: &[PlaceRow]) -> Result<Vec<Place>, AllocError>
     ensures { IfOk result (λ places. places.items ≡ map place_of_row rows.now) }
 {
     rows.iter()
@@ -37,8 +37,8 @@ fn places_of(alloc: Global, rows: &[PlaceRow]) -> Result<Vec<Place>, AllocError>
         .collect(alloc)
 }
 
-// The headers of the instances that the rows are about.
-fn headers_of(alloc: Global, rows: &[InstanceRow]) -> Result<Vec<Place>, AllocError>
+/// The headers of the instances that the rows are about.
+pub(crate) fn headers_of(alloc: Global, rows: &[InstanceRow]) -> Result<Vec<Place>, AllocError>
     ensures { IfOk result (λ headers. headers.items ≡ map header_of_row rows.now) }
 {
     rows.iter()
@@ -46,8 +46,8 @@ fn headers_of(alloc: Global, rows: &[InstanceRow]) -> Result<Vec<Place>, AllocEr
         .collect(alloc)
 }
 
-// The headers of the instances.
-fn found_headers(alloc: Global, instances: &[Found]) -> Result<Vec<Place>, AllocError>
+/// The headers of the instances.
+pub(crate) fn found_headers(alloc: Global, instances: &[Found]) -> Result<Vec<Place>, AllocError>
     ensures { IfOk result (λ headers. headers.items ≡ map (λ f. header_of (found_instance f)) instances.now) }
 {
     instances
@@ -56,8 +56,8 @@ fn found_headers(alloc: Global, instances: &[Found]) -> Result<Vec<Place>, Alloc
         .collect(alloc)
 }
 
-// The headers of the instances, ascending.
-fn sorted_headers(alloc: Global, tree: &LoopTree) -> Result<Vec<Place>, AllocError>
+/// The headers of the instances, ascending.
+pub(crate) fn sorted_headers(alloc: Global, tree: &LoopTree) -> Result<Vec<Place>, AllocError>
     ensures { IfOk result (λ headers. Lists (map header_of tree.now.instances) headers.items) }
 {
     let mut headers = found_headers(alloc, tree.instances())?;
@@ -65,8 +65,8 @@ fn sorted_headers(alloc: Global, tree: &LoopTree) -> Result<Vec<Place>, AllocErr
     Ok(headers)
 }
 
-// Whether the place is among those given.
-fn is_among(given: &[Place], place: &Place) -> bool
+/// Whether the place is among those given.
+pub(crate) fn is_among(given: &[Place], place: &Place) -> bool
     requires ascending { IsSorted place_cmp given.now }
     ensures { IsTrue result ↔ Contains given.now place.now }
 {

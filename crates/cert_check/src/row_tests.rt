@@ -12,8 +12,8 @@ use crate::weighing::{RowTest, Weighing, passes};
 use certificate::Cert;
 use numbered_walks::Tables;
 
-// Whether the row of the edge with this number passes the test.
-fn edge_passes(
+/// Whether the row of the edge with this number passes the test.
+pub(crate) fn edge_passes(
     handler: Handler<'_>,
     cert: &Cert,
     tables: &Tables,

@@ -16,11 +16,11 @@ use loop_bounds::LoopTree;
 use numbered_walks::Span;
 use std::alloc::{AllocError, Global};
 
-// How deep repeats may stand.
-const LEVELS: u32 = 16;
+/// How deep repeats may stand.
+pub(crate) const LEVELS: u32 = 16;
 
-// At the entry, before a walk.
-fn start(alloc: Global, graph: &Graph) -> Result<Walker, AllocError>
+/// At the entry, before a walk.
+pub(crate) fn start(alloc: Global, graph: &Graph) -> Result<Walker, AllocError>
     ensures { IfOk result (IsFresh (length graph.now.places)) }
 {
     let size = graph.places().len() + 1;
@@ -28,7 +28,7 @@ fn start(alloc: Global, graph: &Graph) -> Result<Walker, AllocError>
         number: 0,
         cost: 0,
         turns: vec![in alloc; 0; size]?,
-        over: false,
+        over: None,
     })
 }
 
@@ -78,7 +78,7 @@ fn verdict_on_walk(
     if walker.number != exit {
         return Verdict::No(Objection::BrokenWalk);
     }
-    if walker.over {
+    if walker.over.is_some() {
         return Verdict::No(Objection::WalkOverBound);
     }
     if walker.cost != u128::from(bound) {

@@ -127,9 +127,9 @@ fn begin(
     }
 }
 
-// Follows one item: a repeat's body once, inside the instance that begins where the walker stands.
+/// Follows one item: a repeat's body once, inside the instance that begins where the walker stands.
 #[cycle(walk)]
-fn follow_one(
+pub(crate) fn follow_one(
     handler: Handler<'_>,
     within: &Span,
     levels: u32,

@@ -1,5 +1,5 @@
 ghost use Rattle.std.specs.Prelude.{◌≡◌, ◌+◌, ◌<◌, length, slice_index};
-ghost use Rattle.cert_check.specs.Walking.{Arrives, breaks, capped, gained, header_at, turns_after};
+ghost use Rattle.cert_check.specs.Walking.{Arrives, broken_by, capped, gained, header_at, turns_after};
 
 use crate::weighing::holds;
 use numbered_walks::{NumberedEdge, Span};
@@ -17,8 +17,8 @@ pub(crate) struct Walker {
     /// By the numbers of headers, the back edges of its stay in each instance where it stands, told up to
     /// 2^64. What is told of other instances means nothing.
     pub(crate) turns: Vec<u128>,
-    /// Whether some stay took more back edges than the bound.
-    pub(crate) over: bool,
+    /// The first instance in which some stay took more back edges than the bound.
+    pub(crate) over: Option<Span>,
 }
 
 /// Where a repeat begins.
@@ -51,14 +51,20 @@ fn gain(before: u128, after: u128, count: u32) -> u128
     (start + u128::from(count) * once).min(LIMIT)
 }
 
-// Whether these are more back edges than the bound of the instance that begins at the number.
-fn is_over(headers: &[Option<Span>], number: usize, turns: u128) -> bool
+// The instance that begins at the number, if these are more back edges than its bound.
+fn broken_at(headers: &[Option<Span>], number: usize, turns: u128) -> Option<Span>
     requires { number < length headers.now }
-    ensures { result ≡ breaks (header_at headers.now number) turns }
+    ensures { result ≡ broken_by (header_at headers.now number) turns }
 {
     match headers[number] {
-        Some(span) => u128::from(span.bound) < turns,
-        None => false,
+        Some(span) => {
+            if u128::from(span.bound) < turns {
+                Some(span)
+            } else {
+                None
+            }
+        }
+        None => None,
     }
 }
 
@@ -91,7 +97,7 @@ impl Walker {
         self.number = number;
         self.cost = cost;
         self.turns[number] = turns;
-        self.over = self.over || is_over(headers, number, turns);
+        self.over = self.over.or(broken_at(headers, number, turns));
     }
 
     /// Follows an edge from where it stands.

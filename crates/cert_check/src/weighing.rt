@@ -159,6 +159,21 @@ fn row_holds(weighing: Weighing<'_>, edge: &NumberedEdge) -> bool
     }
 }
 
+/// What the edge's row asks for, and the number that it is about, in ticks, where it does not hold.
+pub(crate) fn weight(weighing: Weighing<'_>, edge: &NumberedEdge) -> (u64, u64)
+    requires can_weigh { CanWeigh weighing.spans.now weighing.index.now edge.now }
+    requires fits { NumberFits weighing.exit weighing.spans.now weighing.tables.now edge.now }
+    requires fails { NumberHolds weighing.exit weighing.spans.now weighing.tables.now edge.now → ⊥ }
+    ensures needed { result.0 ≡ needed weighing.entry.spans.now weighing.entry.tables.now edge.now }
+    ensures stated { limit_of number_shape span_loops weighing.entry.spans.now
+        (potentials_of weighing.entry.tables.now) (is_exit weighing.entry.exit) edge.now ≡ Some result.1 }
+    ensures less { result.1 < result.0 }
+{
+    let stated = limit(weighing, edge).unwrap_or(0);
+    let needed = needed_at(weighing.spans, weighing.index, weighing.tables, edge).unwrap_or(0);
+    (needed, stated)
+}
+
 // Whether the number lies outside one of these.
 fn is_outside(spans: &[Span], number: usize) -> bool
     ensures { result ≡ list_any (λ s. not (is_in s number)) spans.now }

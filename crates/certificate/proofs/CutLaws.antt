@@ -1,6 +1,5 @@
 -- Where a text is cut at a byte, it is cut in one way.
-use Rattle.std.proofs.Common.{◌≡◌, ◌∙◌, ◌&&◌, Bool, true, false, not, eqb, true≢false, eq-eqb, ℕ, zero, suc, List, [], ◌∷◌, ◌++◌, length, take, drop, ◌+◌, ◌==◌, Option, Some, None, MatchOption, refl, sym, ap, ap₂, take-append-drop, arith}
-use Rattle.std.specs.Cmp.Lexicographic.{bytes_decides, pointwise}
+use Rattle.std.proofs.Common.{◌≡◌, ◌∙◌, ◌&&◌, Bool, true, false, not, eqb, true≢false, eq-eqb, ℕ, zero, suc, List, [], ◌∷◌, ◌++◌, length, refl, sym, ap, arith}
 use Rattle.std.specs.List.{list_all}
 use Rattle.certificate.specs.Words.{Lacks}
 
@@ -40,18 +39,3 @@ pub Lacks-tested : (c : ℕ) (bs : List ℕ) → list_all (λ b. not (eqb b c)) 
 Lacks-tested c [] t k lt = absurd (omega arith)
 Lacks-tested c (x ∷ bs) t zero lt = λ e. true≢false (sym (both-left _ _ t) ∙ ap not (eq-eqb x c e))
 Lacks-tested c (x ∷ bs) t (suc k) lt = Lacks-tested c bs (both-right (not (eqb x c)) _ t) k (omega arith)
-
-front_taken : (front rest : List ℕ) → take (length front) (front ++ rest) ≡ front
-front_taken [] rest = refl
-front_taken (x ∷ front) rest = ap (λ (xs : List ℕ). x ∷ xs) (front_taken front rest)
-
--- what stands after a front, by a test of the front's length of bytes
-pub after_front_is : {A : Type 0} (now : A → List ℕ) (r : Option A) (words front : List ℕ)
-    → MatchOption r (pointwise ◌==◌ (take (length front) words) front ≡ false) (λ x. (pointwise ◌==◌ (take (length front) words) front ≡ true) × (now x ≡ drop (length front) words) × (length (now x) + length front ≡ length words))
-    → MatchOption r ((rest : List ℕ) → words ≡ front ++ rest → ⊥) (λ x. words ≡ front ++ now x)
-after_front_is now None words front e = λ rest is.
-    let same : take (length front) words ≡ front = ap (take (length front)) is ∙ front_taken front rest in
-    true≢false (sym ((bytes_decides (take (length front) words) front).1 same) ∙ e)
-after_front_is now (Some x) words front e =
-    let same : take (length front) words ≡ front = (bytes_decides (take (length front) words) front).0 e.0 in
-    sym (take-append-drop (length front) words) ∙ ap₂ (λ (a b : List ℕ). a ++ b) same (sym e.1)

@@ -14,3 +14,4 @@ pub mod ReadLaws
 pub mod FaultLaws
 pub mod LongestLaws
 pub mod LeastLaws
+pub mod DecimalLaws

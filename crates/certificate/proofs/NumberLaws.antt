@@ -1,21 +1,13 @@
 -- What the spellings of numbers are made of.
-use Rattle.std.proofs.Common.{◌≡◌, ◌∙◌, ℕ, ◌+◌, ◌*◌, ◌/◌, ◌%◌, ◌<◌, ◌^◌, ◌≤◌, true, List, [], ◌∷◌, ◌++◌, length, Result, Ok, refl, sym, ap, ap₂, subst, arith, zero, suc, inl, inr, append_assoc, length-append, take, drop, get_or, take-append-drop, drop-cons, take_all, take-suc, length-take, ◌-◌}
+use Rattle.std.proofs.Common.{◌≡◌, ◌∙◌, ℕ, ◌+◌, ◌*◌, ◌/◌, ◌%◌, ◌<◌, ◌^◌, ◌≤◌, true, List, [], ◌∷◌, ◌++◌, length, refl, sym, ap, ap₂, subst, arith, zero, suc, inl, inr, append_assoc, length-append, take, drop, get_or, take-append-drop, drop-cons, take_all, take-suc, length-take, ◌-◌}
 use Rattle.std.specs.Char.{digit_value}
-use Rattle.std.specs.Str.{IsUtf8}
 use Rattle.std.specs.Str.Parse.{AllDigits, IsNumeral, digits_value}
 use Rattle.std.specs.Fmt.{decimal, digit_glyph}
 use Rattle.std.proofs.lemmas.Bool.{cases_lt}
-use Rattle.std.proofs.lemmas.Fmt.{digits_is_IsNumeral, decimal_injective, decimal_is_IsNumeral, hex_one_digit, IsAscii-decimal}
-use Rattle.std.proofs.lemmas.Str.{IsUtf8-from_ascii}
+use Rattle.std.proofs.lemmas.Fmt.{digits_is_IsNumeral, decimal_injective, decimal_is_IsNumeral, hex_one_digit}
 use Rattle.asm_text.specs.Hex.{hex}
 use Rattle.asm_text.proofs.HexLaws.{hex_step}
 use Rattle.certificate.specs.Words.{Lacks}
-
-pub decimal-IsUtf8 : (n : ℕ) → n < 2 ^ 63 → IsUtf8 (decimal n)
-decimal-IsUtf8 n h = IsUtf8-from_ascii (decimal n) (IsAscii-decimal n (omega arith))
-
-pub same_Ok : {E : Type 0} (m n : ℕ) (r : Result ℕ E) → r ≡ Ok m → r ≡ Ok n → m ≡ n
-same_Ok m n r p q = cc
 
 hex_is_IsNumeral : (n : ℕ) → n < 2 ^ 26 → IsNumeral 16 (hex n) × (digits_value 16 (hex n) ≡ n)
 hex_is_IsNumeral n h = digits_is_IsNumeral 16 true (omega arith) (omega arith) n (omega arith)

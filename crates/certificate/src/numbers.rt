@@ -2,35 +2,28 @@ ghost use Rattle.std.specs.Prelude.{◌≡◌, ◌<◌, ◌^◌, ℕ, MatchOptio
 ghost use Rattle.std.specs.Fmt.{decimal};
 ghost use Rattle.asm_text.specs.Hex.{hex, hex_digit};
 
-use itoa::Buffer;
-
-fn decimal_in(text: &str) -> Option<u64>
-    ensures { MatchOption result ((n : ℕ) → n < 2 ^ 63 → text.now ≡ decimal n → ⊥)
-        (λ n. (n < 2 ^ 63) × (text.now ≡ decimal n)) }
-{
-    match text.parse::<u64>() {
-        Ok(number) => {
-            if number >= 1 << 63 {
-                return None;
-            }
-            // A sign or a leading zero is no part of the one spelling.
-            if Buffer::new().format(number) != text {
-                return None;
-            }
-            Some(number)
-        }
-        Err(_) => None,
-    }
-}
-
 /// The number below 2^63 that the bytes spell in decimal.
 pub(crate) fn decimal_at(word: &[u8]) -> Option<u64>
     ensures { MatchOption result ((n : ℕ) → n < 2 ^ 63 → word.now ≡ decimal n → ⊥)
         (λ n. (n < 2 ^ 63) × (word.now ≡ decimal n)) }
 {
-    match std::str::from_utf8(word) {
-        Ok(text) => decimal_in(text),
-        Err(_) => None,
+    let mut number: u64 = 0;
+    for byte in word {
+        // With one more digit it is too large.
+        if number >= 1 << 60 {
+            return None;
+        }
+        let digit = char::from(*byte).to_digit(10)?;
+        number = number * 10 + u64::from(digit);
+    }
+    if number >= 1 << 63 {
+        return None;
+    }
+    // A leading zero is no part of the one spelling.
+    match word {
+        [] => None,
+        [b'0', _, ..] => None,
+        _ => Some(number),
     }
 }
 

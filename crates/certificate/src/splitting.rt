@@ -19,5 +19,10 @@ pub(crate) fn after_front<'a>(words: &'a [u8], front: &[u8]) -> Option<&'a [u8]>
     ensures { MatchOption result ((rest : List ℕ) → words.now ≡ front.now ++ rest → ⊥)
         (λ rest. words.now ≡ front.now ++ rest.now) }
 {
-    words.strip_prefix(front)
+    let len = front.len();
+    if words.len() < len {
+        return None;
+    }
+    let (head, rest) = words.split_at(len);
+    if head == front { Some(rest) } else { None }
 }

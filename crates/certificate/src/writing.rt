@@ -1,4 +1,5 @@
-ghost use Rattle.std.specs.Prelude.{◌≡◌, ◌++◌, ◌∷◌, decimal, MatchResult, IfOk, IfErr, OnErr, OnOk, string_bytes};
+ghost use Rattle.std.specs.Prelude.{◌≡◌, ◌++◌, ◌∷◌, decimal, MatchResult, IfOk, IfErr};
+ghost use Rattle.std.specs.Prelude.{OnErr, OnOk, string_bytes};
 ghost use Rattle.std.specs.Io.KnownBytes.{Appends};
 ghost use Rattle.outputs.specs.OnTheWay.{Adds};
 ghost use Rattle.outputs.specs.Output.{FailsSince, TakesFront};
@@ -62,7 +63,8 @@ fn put_calls<O: Output>(out: &mut O, page: &mut Page, calls: &Calls)
     }
 }
 
-/// Adds an edge as the lines of a walk show it, `ADDRESS skip|do TO COST`, and ends the line. The cost is in ticks.
+/// Adds an edge as the lines of a walk show it, `ADDRESS skip|do TO COST`, and ends the line. The cost is in
+/// ticks.
 ///
 /// An error says that an allocation failed; the text is then as it was.
 pub fn write_edge(out: &mut String, edge: &Edge) -> Result<(), AllocError>
@@ -155,8 +157,8 @@ fn put_cert<O: Output>(out: &mut O, page: &mut Page, longest: &Longest)
     page.put(out, b"stop\n");
 }
 
-/// Writes the text of a greatest walk's certificate to an output, in time linear in its length. A body that several
-/// repeats share is written at each of them. It takes no memory, however long the text is.
+/// Writes the text of a greatest walk's certificate to an output, in time linear in its length. A body that
+/// several repeats share is written at each of them. It takes no memory, however long the text is.
 ///
 /// # Errors
 ///

@@ -79,12 +79,19 @@ bursts_rule = numbered (record (new_rule (codes "bursts")) { long = Some (codes 
 abbrev pub burst_every_rule : Rule
 burst_every_rule = numbered (record (new_rule (codes "burst-every")) { long = Some (codes "burst-every") })
 
--- `explain SOURCE STATEMENT`, with a cycle profile, the most ticks that are wanted, and DMA bursts
+-- `--certificate FILE`
+abbrev pub certificate_rule : Rule
+certificate_rule =
+    record (new_rule (codes "certificate")) { long = Some (codes "certificate"); value_names = 1 }
+
+-- `explain SOURCE STATEMENT`, with a cycle profile, the most ticks that are wanted, DMA bursts, and a certificate
 abbrev pub explain_command : App
 explain_command =
     with_rule
+    (with_rule
     (with_rule (with_rule (priced_command (codes "explain") (codes "statement")) at_most_rule) bursts_rule)
-    burst_every_rule
+    burst_every_rule)
+    certificate_rule
 
 -- `check SOURCE STATEMENT CERT`, with a cycle profile
 abbrev pub check_command : App
@@ -155,6 +162,7 @@ pub data Asked : Type 0 where
   explain : FileNames → ExplainOptions → Asked
   tight : FileNames → ℕ → Asked
   check : FileNames → Text → Asked
+  explain_verdict : FileNames → Text → Asked
   visits : FileNames → Text → ℕ → Asked
   follow : FileNames → Text → Asked
   graph : FileNames → Asked
@@ -177,6 +185,7 @@ asked_of (request.Bound names) = bound (names_of names)
 asked_of (request.Explain names) = explain (names_of names.handler) (options_of names)
 asked_of (request.Tight names) = tight (names_of names.handler) names.edge
 asked_of (request.Check names) = check (names_of names.handler) names.cert.now
+asked_of (request.ExplainVerdict names) = explain_verdict (names_of names.handler) names.cert.now
 asked_of (request.Visits names) = visits (names_of names.handler) names.fiq_statement.now names.visits
 asked_of (request.Follow names) = follow (names_of names.handler) names.machine.now
 asked_of (request.Graph names) = graph (names_of names)
@@ -249,12 +258,16 @@ options_in rows =
       burst_every = number_at (codes "burst-every") rows;
     }
 
-abbrev pub explain_of : ExplainOptions → FileNames → Asked
-explain_of options names = explain names options
+-- the verdict on a certificate where one is named, else the explanation
+abbrev pub explain_of : (cert : Option Text) → ExplainOptions → FileNames → Asked
+explain_of (Some cert) options names = explain_verdict names cert
+explain_of None options names = explain names options
 
 -- by the values of `explain`
 abbrev pub asked_explain : List Row → Option Asked
-asked_explain rows = option_map (explain_of (options_in rows)) (names_in (codes "statement") rows)
+asked_explain rows =
+    option_map (explain_of (first_of (codes "certificate") rows) (options_in rows))
+    (names_in (codes "statement") rows)
 
 -- by the values of `check`
 abbrev pub asked_check : List Row → Option Asked

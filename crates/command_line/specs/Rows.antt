@@ -16,7 +16,7 @@ use Rattle.command_line.specs.declared.rows.Kind.TheVariants as kind
 abbrev pub rule_as : Form → Text → Rule
 rule_as form.Placed id = wanted id
 rule_as form.Counted id = numbered (wanted id)
-rule_as form.Profile id = record (new_rule id) { long = Some (codes "profile"); value_names = 1 }
+rule_as form.Named id = record (new_rule id) { long = Some id; value_names = 1 }
 rule_as form.Numbered id = numbered (record (new_rule id) { long = Some id })
 
 -- a command with the arguments of the rows

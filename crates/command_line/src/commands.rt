@@ -21,7 +21,7 @@ fn argument<'a>(alloc: Global, row: &ArgumentRow) -> Arg<'a>
             .required(true)
             .value_name("K")
             .value_parser(value_parser!(u32)),
-        Form::Profile => arg.long("profile").value_name("FILE"),
+        Form::Named => arg.long(row.id).value_name("FILE"),
         Form::Numbered => arg
             .long(row.id)
             .value_name("N")

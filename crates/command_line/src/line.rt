@@ -87,6 +87,8 @@ pub enum Request<'a> {
     Tight(TightNames<'a>),
     /// The verdict on a certificate of that.
     Check(CheckNames<'a>),
+    /// That verdict, and what fails in the certificate.
+    ExplainVerdict(CheckNames<'a>),
     /// The longest run time of that handler with up to so many visits of FIQ's.
     Visits(VisitsNames<'a>),
     /// Whether a machine's run through that handler keeps the statement.

@@ -6,8 +6,8 @@ pub(crate) enum Form {
     Placed,
     /// A whole number, in its place.
     Counted,
-    /// By `--profile FILE`.
-    Profile,
+    /// By an option of its name, with a file's name.
+    Named,
     /// By an option of its name, with a whole number.
     Numbered,
 }
@@ -44,7 +44,7 @@ pub(crate) struct CommandRow {
 
 const PROFILE: ArgumentRow = ArgumentRow {
     id: "profile",
-    form: Form::Profile,
+    form: Form::Named,
     help: "Cycle profile file [default: the first profile]",
 };
 
@@ -100,6 +100,12 @@ const BURST_EVERY: ArgumentRow = ArgumentRow {
     id: "burst-every",
     form: Form::Numbered,
     help: "Print the bound with a DMA burst every N ticks too",
+};
+
+const CERTIFICATE: ArgumentRow = ArgumentRow {
+    id: "certificate",
+    form: Form::Named,
+    help: "Print instead the verdict on this certificate, and what fails in it",
 };
 
 const CERT: ArgumentRow = ArgumentRow {
@@ -170,7 +176,15 @@ pub(crate) const COMMANDS: [CommandRow; 12] = [
     CommandRow {
         name: "explain",
         summary: "Print where the ticks of a handler's greatest run time go",
-        arguments: &[PROFILE, SOURCE, STATEMENT, AT_MOST, BURSTS, BURST_EVERY],
+        arguments: &[
+            PROFILE,
+            SOURCE,
+            STATEMENT,
+            AT_MOST,
+            BURSTS,
+            BURST_EVERY,
+            CERTIFICATE,
+        ],
     },
     CommandRow {
         name: "follow",

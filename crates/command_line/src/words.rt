@@ -93,6 +93,9 @@ fn explain_in<'a>(values: &ArgMatches<'a>) -> Option<Request<'a>>
     ensures { option_map asked_of result ≡ asked_explain (rows_of (found_of values.now)) }
 {
     let handler = names_in(values, "statement")?;
+    if let Some(cert) = values.get_str("certificate") {
+        return Some(Request::ExplainVerdict(CheckNames { handler, cert }));
+    }
     Some(Request::Explain(ExplainNames {
         handler,
         at_most: number_at(values, "at-most"),

@@ -3,8 +3,11 @@ mod CycleLemmas
 mod EntryLemmas
 mod ExtentLemmas
 mod LineLemmas
+mod NestedLemmas
 mod OutlineLemmas
+mod PlainLemmas
 mod RefusedLemmas
+mod RepeatLemmas
 mod RowLaws
 mod SearchLemmas
 mod TextLaws

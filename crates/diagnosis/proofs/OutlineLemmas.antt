@@ -1,12 +1,12 @@
 -- A line's pieces taken one by one.
-use Rattle.std.proofs.Common.{◌≡◌, ◌<◌, ◌-◌, ◌+◌, zero, suc, ℕ, List, [], ◌∷◌, Option, Some, None, refl, sym, ap, ◌∙◌, arith}
+use Rattle.std.proofs.Common.{◌≡◌, ◌<◌, ◌-◌, ◌+◌, suc, ℕ, List, [], ◌∷◌, Option, Some, None, refl, sym, ap, ◌∙◌, arith}
 use Rattle.diagnosis.specs.Outline.{Piece, Reading, all_taken, first_piece, pieces, taken}
 
-abbrev after_first : ℕ → Reading → ℕ → Option (Piece × List ℕ) → Reading
+abbrev pub after_first : ℕ → Reading → ℕ → Option (Piece × List ℕ) → Reading
 after_first line r n None = r
 after_first line r n (Some f) = all_taken line (taken line r f.0) (pieces n f.1)
 
-one_piece : (line : ℕ) (r : Reading) (n : ℕ) (text : List ℕ) → all_taken line r (pieces (suc n) text) ≡ after_first line r n (first_piece text)
+pub one_piece : (line : ℕ) (r : Reading) (n : ℕ) (text : List ℕ) → all_taken line r (pieces (suc n) text) ≡ after_first line r n (first_piece text)
 unfolding all_taken pieces
 one_piece line r n [] = refl
 one_piece line r n (b ∷ rest) = refl

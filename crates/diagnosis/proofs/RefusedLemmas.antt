@@ -1,7 +1,11 @@
 -- Rows one after another.
-use Rattle.std.proofs.Common.{◌≡◌, ◌<◌, ◌-◌, ◌+◌, ◌||◌, ◌++◌, zero, suc, ℕ, Bool, List, [], ◌∷◌, map, refl, sym, ap, ◌∙◌, append_assoc, append-nil, arith}
+use Rattle.std.proofs.Common.{◌≡◌, ◌<◌, ◌-◌, ◌+◌, ◌||◌, ◌++◌, zero, suc, ℕ, Bool, List, [], ◌∷◌, length, get_or, drop, map, refl, sym, ap, ◌∙◌, append_assoc, append-nil, arith}
 use Rattle.std.specs.List.{list_any}
-use Rattle.diagnosis.specs.Refused.{Adds, Row, row_text, shown}
+use Rattle.std.proofs.lemmas.List.{drop_more}
+use Rattle.loader.specs.Labels.{Names}
+use Rattle.diagnosis.specs.Outline.{Item, item_of}
+use Rattle.diagnosis.specs.Refused.{Adds, Row, is_twice, item_row_if, row_text, shown, twice_rows}
+use Rattle.diagnosis.specs.declared.outline.Entry.{Entry}
 use Rattle.diagnosis.specs.declared.statements.Report.{Report}
 
 pub list_any-map : {A B : Type 0} (test : B → Bool) (f : A → B) (xs : List A) → list_any (λ x. test (f x)) xs ≡ list_any test (map f xs)
@@ -47,3 +51,20 @@ all_added rows a b adds =
 
 pub full : (old : List ℕ) (left : ℕ) (xs ys : List Row) → left ≡ 0 → old ++ shown left xs ≡ old ++ shown left ys
 full old left xs ys is = ap (λ t. old ++ t) (ap (λ n. shown n xs) is ∙ (no_room xs ∙ (sym (no_room ys) ∙ ap (λ n. shown n ys) (sym is))))
+
+-- rows are added that stand first
+pub adds_first : (rows rest whole : List Row) (a b : Report) → Adds rows a b → whole ≡ rows ++ rest → (more : List Row) → b.text.items ++ shown b.left (rest ++ more) ≡ a.text.items ++ shown a.left (whole ++ more)
+adds_first rows rest whole a b adds is more = adds.same (rest ++ more) ∙ ap (λ r. a.text.items ++ shown a.left r) (sym (append_assoc rows rest more) ∙ ap (λ w. w ++ more) (sym is))
+
+one_row : (names : Names) (before items : List Item) (i : Item) → twice_rows names before (i ∷ items) ≡ item_row_if (is_twice names before i) i ++ twice_rows names (i ∷ before) items
+unfolding twice_rows
+one_row names before items i = refl
+
+-- the row of the entry at an index, if its address stands before it
+pub twice_more : (names : Names) (before : List Item) (entries : List Entry) (k : ℕ) (d : Entry) (holds : Bool) → k < length entries → holds ≡ is_twice names before (item_of (get_or entries k d))
+    → twice_rows names before (map item_of (drop k entries)) ≡ item_row_if holds (item_of (get_or entries k d)) ++ twice_rows names (item_of (get_or entries k d) ∷ before) (map item_of (drop (k + 1) entries))
+twice_more names before entries k d holds inside told =
+    let i = item_of (get_or entries k d) in
+    let rest = map item_of (drop (k + 1) entries) in
+    ap (λ (es : List Entry). twice_rows names before (map item_of es)) (drop_more entries k d inside)
+    ∙ (one_row names before rest i ∙ ap (λ b. item_row_if b i ++ twice_rows names (i ∷ before) rest) (sym told))

@@ -31,8 +31,8 @@ turns_to e l = turns_at e.from e.to l
 abbrev pub turns_back : List Loop → Edge → Bool
 turns_back loops e = list_any (turns_to e) loops
 
--- Each place has a mark, and Exit the last one: 0 where the search has shown that no cycle without a back edge
--- goes through it, 1 on the path at hand, 2 elsewhere.
+-- Each place has a mark, and Exit the last one: 0 where the search has shown that no cycle without a back
+-- edge goes through it, 1 on the path at hand, 2 elsewhere.
 module _ (flow : Flow) (loops : List Loop) where
   abbrev pub IsPath : Place → List Edge → Place → Type 0
   IsPath = Leads edge_shape (IsPlainEdge flow loops)

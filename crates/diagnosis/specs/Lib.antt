@@ -4,7 +4,9 @@ pub mod Entries
 pub mod Extents
 pub mod FaultyLines
 pub mod Lines
+pub mod Nested
 pub mod Outline
+pub mod PlainLines
 pub mod Refused
 pub mod Rows
 pub mod SharedHeaders

@@ -1,7 +1,9 @@
 -- The tables and the values of a statement's text, line by line, as its words tell. Our own reading: it takes
--- each key and each text in quotes to end on its line, as they do in the statements that we print.
-use Rattle.std.specs.Prelude.{◌==◌, ◌&&◌, ◌||◌, ◌+◌, not, zero, suc, Bool, true, false, ℕ, List, [], ◌∷◌, ◌++◌}
-use Rattle.std.specs.Prelude.{length, take, drop, map, Option, Some, None, if◌then◌else◌}
+-- each key and each text in quotes to end on its line, as they do in the statements that we print. What it
+-- comes to for plain lines is said by `PlainLines`.
+use Rattle.std.specs.Prelude.{◌==◌, ◌&&◌, ◌||◌, ◌+◌, not, zero, suc, Bool, true, false, ℕ}
+use Rattle.std.specs.Prelude.{List, [], ◌∷◌, ◌++◌, length, take, drop, map}
+use Rattle.std.specs.Prelude.{Option, Some, None, if◌then◌else◌}
 use Rattle.std.specs.Borrow.{Bor}
 use Rattle.std.specs.List.{prefix_len}
 use Rattle.asm_text.specs.Source.{lines_of}
@@ -75,7 +77,9 @@ bare_at text = word_at (Bare (take (prefix_len is_bare text) text)) (drop (prefi
 
 abbrev pub quoted_at : ℕ → List ℕ → Piece × List ℕ
 quoted_at quote rest =
-    word_at (Quoted quote (take (quoted_len quote false rest) rest)) (drop (quoted_len quote false rest + 1) rest)
+    word_at
+    (Quoted quote (take (quoted_len quote false rest) rest))
+    (drop (quoted_len quote false rest + 1) rest)
 
 -- what a byte begins, and what stands after that; # begins a comment
 abbrev pub piece_at : ℕ → List ℕ → Piece × List ℕ

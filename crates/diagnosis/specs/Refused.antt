@@ -1,19 +1,25 @@
 -- What is named of a statement that is refused: of each fault the values and the tables that have it, in the
 -- order of the text, twenty at most. Our own format.
-use Rattle.std.specs.Prelude.{◌≡◌, ◌≤◌, ◌⊎◌, ◌==◌, ◌&&◌, ◌||◌, ◌%◌, ◌+◌, ◌^◌, not, nat_lt, nat_le, zero, suc}
-use Rattle.std.specs.Prelude.{Bool, true, false, ℕ, List, [], ◌∷◌, ◌++◌, length, take, codes, decimal, count_by}
-use Rattle.std.specs.Prelude.{Option, Some, None, is_none, if◌then◌else◌}
+use Rattle.std.specs.Prelude.{◌≡◌, ◌≤◌, ◌⊎◌, ◌==◌, ◌&&◌, ◌||◌, ◌%◌, ◌+◌, ◌^◌, not, nat_lt}
+use Rattle.std.specs.Prelude.{zero, suc, Bool, true, false, ℕ}
+use Rattle.std.specs.Prelude.{List, [], ◌∷◌, ◌++◌, length, take, codes, decimal, count_by}
+use Rattle.std.specs.Prelude.{Option, Some, None, IsSome, IsUtf8, is_none, if◌then◌else◌}
+use Rattle.std.specs.BTreeSet.{contains}
 use Rattle.std.specs.Char.{is_digit}
 use Rattle.std.specs.List.{list_any}
 use Rattle.std.specs.Option.{option_and_then}
+use Rattle.std.specs.Ordering.{nat_cmp}
 use Rattle.std.specs.Str.{bytes_eq}
 use Rattle.asm_text.specs.Numbers.{run_number}
 use Rattle.loader.specs.Labels.{Names, address_of}
+use Rattle.toml.specs.Parse.{parse_document}
+use Rattle.diagnosis.specs.Lines.{is_at}
 use Rattle.statement.specs.Statement.{access_keys, loop_keys, statement_keys, target_keys}
 use Rattle.statement.specs.declared.faults.StatementFault.{StatementFault}
-use Rattle.statement.specs.declared.faults.StatementFault.TheVariants.{Memory, NotToml, UnknownKey, WrongKind}
+use Rattle.statement.specs.declared.faults.StatementFault.TheVariants.{NotToml, UnknownKey, WrongKind}
 use Rattle.statement.specs.declared.faults.StatementFault.TheVariants.{UnknownLabel, OutOfRange, Twice}
 use Rattle.diagnosis.specs.Outline.{Item, Begins, States, Ends, Stated, Table, Value, Bare, Quoted, items_of}
+use Rattle.diagnosis.specs.declared.repeats.Taken.{Taken}
 use Rattle.diagnosis.specs.declared.statements.Report.{Report}
 use Rattle.diagnosis.specs.declared.statements.TheConstants.{MOST_LINES}
 
@@ -186,7 +192,8 @@ wants_no_to (Some kind) = is_word_of (codes "return" ∷ codes "leave" ∷ []) k
 
 abbrev pub target_rows : Table → List Item → List Row
 target_rows t items =
-    if is_none (value_at (codes "to") items) then row_if (wants_to (value_at (codes "kind") items)) (table_row t (codes " has no to") [])
+    if is_none (value_at (codes "to") items)
+    then row_if (wants_to (value_at (codes "kind") items)) (table_row t (codes " has no to") [])
     else row_if (wants_no_to (value_at (codes "kind") items)) (table_row t (codes " may have no to") [])
 
 -- what the table wants, or that it stands in single brackets
@@ -246,7 +253,50 @@ entry_rows _ items = []
 abbrev pub all_rows : Names → StatementFault → List Item → List Row
 all_rows names fault items = entry_rows fault items ++ rows names fault items
 
--- ## Of a text that is no TOML: a line of it, where the reader of TOML says which
+-- ## Of an address that stands twice, by the items before, the nearest of them first
+
+-- the address of a value at the key in a table of the list
+abbrev pub address_as : Names → (list key : List ℕ) → Item → Option ℕ
+address_as names list key (States p) =
+    if bytes_eq p.list list && bytes_eq p.key key then address_at names p.value else None
+address_as names list key _ = None
+
+-- one of the items has the address there
+abbrev pub stands_among : Names → (list key : List ℕ) → List Item → ℕ → Bool
+stands_among names list key items a = list_any (λ i. is_at (address_as names list key i) a) items
+
+abbrev pub passes : (ℕ → Bool) → Option ℕ → Bool
+passes test None = false
+passes test (Some a) = test a
+
+-- the item's address there is that of one of the items before
+abbrev pub repeats : Names → (list key : List ℕ) → (before : List Item) → Item → Bool
+repeats names list key before i = passes (stands_among names list key before) (address_as names list key i)
+
+-- the items since a table began or ended
+unfoldable pub of_table : (before : List Item) → List Item
+of_table [] = []
+of_table (Begins t ∷ before) = []
+of_table (States p ∷ before) = States p ∷ of_table before
+of_table (Ends ∷ before) = []
+
+-- a second target or access at an address, or a destination that its target has already
+abbrev pub is_twice : Names → (before : List Item) → Item → Bool
+is_twice names before i =
+    repeats names (codes "target") (codes "at") before i
+    || (repeats names (codes "access") (codes "at") before i
+    || repeats names (codes "target") (codes "to") (of_table before) i)
+
+abbrev pub item_row_if : Bool → Item → List Row
+item_row_if holds (States p) = row_if holds (value_row p)
+item_row_if holds _ = []
+
+unfoldable pub twice_rows : Names → (before items : List Item) → List Row
+twice_rows names before [] = []
+twice_rows names before (i ∷ items) =
+    item_row_if (is_twice names before i) i ++ twice_rows names (i ∷ before) items
+
+-- ## Of a text that is no TOML: a line of it
 
 abbrev pub feeds : List ℕ → ℕ
 feeds text = count_by (λ b. b == 10) text
@@ -254,13 +304,26 @@ feeds text = count_by (λ b. b == 10) text
 abbrev pub toml_row : ℕ → List ℕ
 toml_row number = codes "line " ++ (decimal number ++ codes " is no TOML\n")
 
-abbrev pub IsTomlText : List ℕ → List ℕ → Type 0
-IsTomlText text out = (out ≡ []) ⊎ ((at : ℕ) × (out ≡ toml_row (feeds (take at text) + 1)))
+-- the line that holds a byte of the text, or its end. Which byte is not said: the contract of the kit's
+-- reader of TOML says of the place where it stopped that it lies in the text, and no more.
+pub record IsTomlFaultText (text out : List ℕ) : Type 0 where
+  pub no_toml : IsUtf8 text → parse_document text ≡ None
+  pub at : ℕ
+  pub inside : at ≤ length text
+  pub out_is : out ≡ toml_row (feeds (take at text) + 1)
 
--- nothing is said of an address that stands twice
+-- of a document nothing
+pub record IsNoFaultText (text out : List ℕ) : Type 0 where
+  pub utf8 : IsUtf8 text
+  pub parsed : IsSome (parse_document text)
+  pub out_is : out ≡ []
+
+abbrev pub IsTomlText : List ℕ → List ℕ → Type 0
+IsTomlText text out = IsTomlFaultText text out ⊎ IsNoFaultText text out
+
 abbrev pub IsStatementText : Names → List ℕ → StatementFault → List ℕ → Type 0
 IsStatementText names text NotToml out = IsTomlText text out
-IsStatementText names text Twice out = Unit {0}
+IsStatementText names text Twice out = out ≡ shown MOST_LINES (twice_rows names [] (items_of text))
 IsStatementText names text fault out = out ≡ shown MOST_LINES (all_rows names fault (items_of text))
 
 -- ## Rows one after another, which clauses of private calls speak of
@@ -269,3 +332,14 @@ IsStatementText names text fault out = out ≡ shown MOST_LINES (all_rows names 
 pub record Adds (rows : List Row) (old new : Report) : Type 0 where
   pub same : (more : List Row)
       → new.text.items ++ shown new.left more ≡ old.text.items ++ shown old.left (rows ++ more)
+
+-- ## Addresses come to, which clauses of private calls speak of
+
+-- of the items before: the addresses of targets and of accesses, and the destinations of the table at hand
+pub record AreTaken (names : Names) (before : List Item) (taken : Taken) : Type 0 where
+  pub targets : (a : ℕ) → contains nat_cmp taken.targets a
+      ≡ stands_among names (codes "target") (codes "at") before a
+  pub accesses : (a : ℕ) → contains nat_cmp taken.accesses a
+      ≡ stands_among names (codes "access") (codes "at") before a
+  pub destinations : (a : ℕ) → contains nat_cmp taken.destinations a
+      ≡ stands_among names (codes "target") (codes "to") (of_table before) a

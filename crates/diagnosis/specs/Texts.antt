@@ -1,5 +1,5 @@
 -- What is printed of a cycle and of an entry. Our own format.
-use Rattle.std.specs.Prelude.{◌≡◌, ℕ, List, [], ◌∷◌, ◌++◌, codes, decimal, Option, Some, None}
+use Rattle.std.specs.Prelude.{◌≡◌, ℕ, List, [], ◌∷◌, ◌++◌, codes, decimal, length, Option, Some, None}
 use Rattle.std.specs.BTreeMap.{BTreeMap}
 use Rattle.assembler.specs.declared.fault.Fault.{Fault}
 use Rattle.assembler.specs.declared.fault.Fault.TheVariants.{NotText, UnknownWord, BadOperand}
@@ -11,12 +11,14 @@ use Rattle.flow_graph.specs.declared.faults.BuildFault.TheVariants as build
 use Rattle.flow_graph.specs.declared.faulty.FaultyPlace.{FaultyPlace}
 use Rattle.flow_graph.specs.declared.places.Place.{Place}
 use Rattle.flow_graph.specs.declared.places.Place.TheVariants.{At, Exit}
+use Rattle.loop_bounds.specs.declared.loop_instances.Found.{Found}
 use Rattle.statement.specs.declared.stated.Loop.{Loop}
 use Rattle.diagnosis.specs.Lines.{line_at}
 use Rattle.diagnosis.specs.Rows.{AreRows, IsPlaceRow, IsRow, name_text}
 use Rattle.diagnosis.specs.declared.crossings.Crossing.{Crossing}
 use Rattle.diagnosis.specs.declared.entries.MidEntry.{MidEntry}
 use Rattle.diagnosis.specs.declared.extents.Extent.{Extent}
+use Rattle.diagnosis.specs.declared.nested.DeepPlace.{DeepPlace}
 use Rattle.diagnosis.specs.declared.sources.FaultyLine.{FaultyLine}
 use Rattle.diagnosis.specs.declared.words.SourceLine.{SourceLine}
 use Rattle.diagnosis.specs.declared.words.Words.{Words}
@@ -24,7 +26,8 @@ use Rattle.diagnosis.specs.declared.words.Words.{Words}
 -- ## A cycle
 
 abbrev pub key_text : BTreeMap ℕ SourceLine → List ℕ → ℕ → List ℕ
-key_text lines key at = codes "  " ++ (key ++ (codes " = " ++ (name_text (line_at lines at) at ++ codes "\n")))
+key_text lines key at =
+    codes "  " ++ (key ++ (codes " = " ++ (name_text (line_at lines at) at ++ codes "\n")))
 
 -- a loop of a statement without its bound
 abbrev pub addresses_text : BTreeMap ℕ SourceLine → Extent → List ℕ
@@ -100,6 +103,22 @@ pub record IsCrossingText (words : Words) (c : Crossing) (text : List ℕ) : Typ
   pub text_is : text
       ≡ two_loops words.lines (codes "These two loops cross:\n") (c.one).stated (c.other).stated
       ++ (shared ++ (one_has ++ other_has))
+
+-- the row of an instance's header
+abbrev pub IsHeaderRow : Words → Found → List ℕ → Type 0
+IsHeaderRow words found row = IsRow words found.stated.header row
+
+-- above a place in so many loops
+abbrev pub in_loops : ℕ → List ℕ
+in_loops n = codes "This word is in " ++ (decimal n ++ codes " loops; 16 is the most:\n")
+
+-- the place, and then the loops' headers
+pub record IsDeepText (words : Words) (d : DeepPlace) (text : List ℕ) : Type 0 where
+  pub place : List ℕ
+  pub rows : List ℕ
+  pub is_place : IsUnder words (in_loops (length d.instances.items)) d.place place
+  pub are_rows : AreRows (IsHeaderRow words) d.instances.items rows
+  pub text_is : text ≡ place ++ (codes "Their headers, the outermost loop's first:\n" ++ rows)
 
 -- ## A place without edges
 

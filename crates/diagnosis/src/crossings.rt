@@ -78,7 +78,8 @@ fn crossing_of(graph: &Graph, one: &Found, other: &Found) -> Option<Crossing>
     })
 }
 
-fn has_place(graph: &Graph, place: &Place) -> bool
+/// Whether the graph has the place.
+pub(crate) fn has_place(graph: &Graph, place: &Place) -> bool
     ensures yes { result ≡ true → Contains graph.now.places place.now }
     ensures no { result ≡ false → Contains graph.now.places place.now → ⊥ }
 {

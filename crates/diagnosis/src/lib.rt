@@ -7,9 +7,12 @@ mod crossings;
 mod cycles;
 mod entries;
 mod extents;
+mod law;
 mod members;
+mod nested;
 mod outline;
 mod program;
+mod repeats;
 mod rows;
 mod search;
 mod shared;
@@ -24,9 +27,13 @@ pub use crossings::{Crossing, loops_that_cross};
 pub use cycles::unbounded_cycle;
 pub use entries::{MidEntry, mid_entry};
 pub use extents::{Extent, extent_of};
+pub use law::plain_lines_are_seen;
+pub use nested::{DeepPlace, deep_place};
 pub use program::Program;
 pub use shared::shared_header;
 pub use sources::{FaultyLine, faulty_lines, faulty_text};
 pub use statements::statement_text;
-pub use texts::{crossing_text, cycle_text, entry_text, place_text, shared_text, word_text};
+pub use texts::{
+    crossing_text, cycle_text, deep_text, entry_text, place_text, shared_text, word_text,
+};
 pub use words::{SourceLine, Words, words_of};

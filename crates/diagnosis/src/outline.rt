@@ -1,7 +1,7 @@
 ghost use Rattle.std.specs.Prelude.{◌≡◌, IfOk, OnOk, length, map, option_map};
-ghost use Rattle.diagnosis.specs.Outline.{begun, header_of, item_of, items_of, line_read, piece_of, reading_of};
-ghost use Rattle.diagnosis.specs.Outline.{all_taken, bare_word, closed, opened, pieces, table_of, taken};
-ghost use Rattle.diagnosis.specs.Outline.{value_of, valued};
+ghost use Rattle.diagnosis.specs.Outline.{begun, header_of, item_of, items_of, line_read, piece_of};
+ghost use Rattle.diagnosis.specs.Outline.{all_taken, bare_word, closed, opened, pieces, reading_of};
+ghost use Rattle.diagnosis.specs.Outline.{table_of, taken, value_of, valued};
 
 use crate::tokens::{Token, Word, bare_front, next_token, past_blanks};
 use asm_text::first_line;
@@ -99,7 +99,8 @@ impl<'a> Reader<'a> {
     }
 
     fn value(&mut self, line: usize, value: Word<'a>) -> Result<(), AllocError>
-        ensures { OnOk result (reading_of self.new ≡ valued line (reading_of self.old) (value_of value.entry)) }
+        ensures { OnOk result
+            (reading_of self.new ≡ valued line (reading_of self.old) (value_of value.entry)) }
     {
         self.entries.push(Entry::Value(Pair {
             line,

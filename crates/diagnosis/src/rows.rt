@@ -118,8 +118,8 @@ fn put_label(out: &mut Vec<u8>, label: &[u8], at: u32) -> Result<(), AllocError>
 }
 
 impl Words<'_> {
-    /// Adds the row of what stands at an address: the address, and the number and the text of its line, or the
-    /// word and the line that [`disassemble`] shows.
+    /// Adds the row of what stands at an address: the address, and the number and the text of its line, or
+    /// the word and the line that [`disassemble`] shows.
     pub(crate) fn put_row(&self, out: &mut Vec<u8>, at: u32) -> Result<(), AllocError>
         ensures { OnOk result (Appends (IsRow self.now at) out.old.items out.new.items) }
     {

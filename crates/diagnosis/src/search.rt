@@ -5,7 +5,8 @@ ghost use Rattle.flow_graph.specs.Flow.{Flow, HasEdge, IsWellFormed};
 ghost use Rattle.flow_graph.specs.Places.{place_at};
 ghost use Rattle.statement.specs.declared.stated.Loop.{Loop};
 ghost use Rattle.loop_bounds.specs.Nest.{IsPlainEdge};
-ghost use Rattle.diagnosis.specs.Cycles.{EndsCleared, IsCleared, IsClosed, IsCycleOf, IsEnded, IsIdle, IsOpen};
+ghost use Rattle.diagnosis.specs.Cycles.{EndsCleared, IsCleared, IsClosed, IsCycleOf, IsEnded};
+ghost use Rattle.diagnosis.specs.Cycles.{IsIdle, IsOpen};
 ghost use Rattle.diagnosis.specs.Cycles.{IsSearching, LeadToCleared, steps_left};
 
 use crate::members::{is_same, turns_back};

@@ -1,14 +1,17 @@
-ghost use Rattle.std.specs.Prelude.{◌≡◌, ◌≤◌, ◌++◌, ◌∷◌, [], IfOk, OnOk, length, map, option_map};
+ghost use Rattle.std.specs.Prelude.{◌≡◌, ◌≤◌, ◌+◌, ◌++◌, ◌∷◌, [], IfOk, OnOk, length, map, option_map, take};
 ghost use Rattle.std.specs.List.{list_any};
 ghost use Rattle.diagnosis.specs.Outline.{item_of, items_of, stated_of, table_of, value_of};
 ghost use Rattle.diagnosis.specs.Refused.{Adds, IsStatementText, IsTomlText, address_in, all_rows};
-ghost use Rattle.diagnosis.specs.Refused.{entry_rows, feeds, is_entry, is_faulty, is_misplaced, is_unknown_key, row_if, rows, shown};
+ghost use Rattle.diagnosis.specs.Refused.{entry_rows, feeds, is_entry, is_faulty, is_misplaced};
+ghost use Rattle.diagnosis.specs.Refused.{is_unknown_key, item_row_if, row_if, rows, shown, twice_rows};
 ghost use Rattle.diagnosis.specs.Refused.{item_rows, keys_of, kind_rows, lies_outside, missing_row};
-ghost use Rattle.diagnosis.specs.Refused.{missing_rows, name_text, no_entry_rows, needed_keys, row_text, table_row};
+ghost use Rattle.diagnosis.specs.Refused.{missing_rows, name_text, needed_keys, no_entry_rows};
+ghost use Rattle.diagnosis.specs.Refused.{row_text, table_row};
 ghost use Rattle.diagnosis.specs.Refused.{table_rows, target_rows, toml_row, value_at, value_row, value_text};
 ghost use Rattle.diagnosis.specs.Refused.{wants_no_to, wants_to};
 
 use crate::outline::{Entry, Pair, Section, entries_of};
+use crate::repeats::Taken;
 use crate::rows::{put, put_decimal};
 use crate::tokens::Word;
 use crate::values::{
@@ -17,7 +20,6 @@ use crate::values::{
 use flow_graph::StatementFault;
 use loader::Labels;
 use std::alloc::{AllocError, Global};
-use std::collections::BTreeSet;
 
 /// How many lines are named at most.
 const MOST_LINES: usize = 20;
@@ -385,8 +387,8 @@ impl Report {
         rest: &[Entry<'_>],
     ) -> Result<(), AllocError>
         ensures { OnOk result
-            (Adds (table_rows asked.now.labels.now asked.now.fault (table_of section.now) (map item_of rest.now))
-            self.old self.new) }
+            (Adds (table_rows asked.now.labels.now asked.now.fault (table_of section.now)
+            (map item_of rest.now)) self.old self.new) }
     {
         let alloc = asked.alloc;
         match asked.fault {
@@ -449,6 +451,37 @@ impl Report {
         Ok(())
     }
 
+    // Adds an entry that is a value, where it holds.
+    fn put_entry_if(
+        &mut self,
+        alloc: Global,
+        holds: bool,
+        entry: &Entry<'_>,
+    ) -> Result<(), AllocError>
+        ensures { OnOk result (Adds (item_row_if holds (item_of entry.now)) self.old self.new) }
+    {
+        if let Entry::Value(pair) = entry {
+            if holds {
+                return self.put_value(alloc, pair);
+            }
+        }
+        Ok(())
+    }
+
+    // Adds the values whose address stands before them.
+    #[tactic(auto, unfolding(crate::specs::Refused::twice_rows))]
+    fn put_twice(&mut self, asked: &Asked<'_>, entries: &[Entry<'_>]) -> Result<(), AllocError>
+        ensures { OnOk result
+            (Adds (twice_rows asked.now.labels.now [] (map item_of entries.now)) self.old self.new) }
+    {
+        let mut taken = Taken::new(asked.alloc);
+        for entry in entries {
+            let holds = taken.take(asked.labels, entry)?;
+            self.put_entry_if(asked.alloc, holds, entry)?;
+        }
+        Ok(())
+    }
+
     // Adds that a statement has no entry, where it has none.
     fn put_if_no_entry(&mut self, entries: &[Entry<'_>]) -> Result<(), AllocError>
         ensures { OnOk result (Adds (no_entry_rows (map item_of entries.now)) self.old self.new) }
@@ -498,7 +531,8 @@ fn has_entry(entries: &[Entry<'_>]) -> bool
 #[tactic(auto, using(crate::proofs::RefusedLemmas::adds_both, crate::proofs::RefusedLemmas::all_added))]
 fn rows_text(asked: &Asked<'_>, text: &[u8]) -> Result<Vec<u8>, AllocError>
     ensures { IfOk result
-        (λ out. out.items ≡ shown MOST_LINES (all_rows asked.now.labels.now asked.now.fault (items_of text.now))) }
+        (λ out. out.items
+        ≡ shown MOST_LINES (all_rows asked.now.labels.now asked.now.fault (items_of text.now))) }
 {
     let entries = entries_of(asked.alloc, text)?;
     let mut report = Report {
@@ -510,42 +544,18 @@ fn rows_text(asked: &Asked<'_>, text: &[u8]) -> Result<Vec<u8>, AllocError>
     Ok(report.text)
 }
 
-// Among which addresses a value's is to stand once: those of its list's tables, or of its own table.
-fn place_of(pair: &Pair<'_>, table: usize) -> Option<usize> {
-    if pair.key == b"at".as_slice() {
-        return Some(0);
-    }
-    if pair.key == b"to".as_slice() {
-        return Some(table);
-    }
-    None
-}
-
-// The values whose address stands before them in the same place.
-fn twice_text(asked: &Asked<'_>, text: &[u8]) -> Result<Vec<u8>, AllocError> {
+// The rows of the values whose address stands twice.
+#[tactic(auto, using(crate::proofs::RefusedLemmas::all_added))]
+fn twice_text(asked: &Asked<'_>, text: &[u8]) -> Result<Vec<u8>, AllocError>
+    ensures { IfOk result
+        (λ out. out.items ≡ shown MOST_LINES (twice_rows asked.now.labels.now [] (items_of text.now))) }
+{
     let entries = entries_of(asked.alloc, text)?;
     let mut report = Report {
         text: Vec::new(asked.alloc),
         left: MOST_LINES,
     };
-    let mut seen = BTreeSet::new(asked.alloc);
-    let mut table: usize = 0;
-    for entry in &entries {
-        let Entry::Value(pair) = entry else {
-            table = table.saturating_add(1);
-            continue;
-        };
-        let Some(place) = place_of(pair, table) else {
-            continue;
-        };
-        let Some(address) = address_at(asked.labels, pair.value) else {
-            continue;
-        };
-        let is_new = seen.insert((pair.list, place, address))?;
-        if !is_new {
-            report.put_value(asked.alloc, pair)?;
-        }
-    }
+    report.put_twice(asked, &entries)?;
     Ok(report.text)
 }
 
@@ -566,12 +576,12 @@ fn toml_row(alloc: Global, number: usize) -> Result<Vec<u8>, AllocError>
     Ok(out)
 }
 
-// The row of the line that holds the byte at an index.
+// The row of the line that holds the byte at an index, or the end of the text.
 fn toml_line(alloc: Global, text: &[u8], at: usize) -> Result<Vec<u8>, AllocError>
-    ensures { IfOk result (λ out. IsTomlText text.now out.items) }
+    requires { at ≤ length text.now }
+    ensures { IfOk result (λ out. out.items ≡ toml_row (feeds (take at text.now) + 1)) }
 {
-    let front = &text[..at.min(text.len())];
-    let number = feeds(front) + 1;
+    let number = feeds(&text[..at]) + 1;
     toml_row(alloc, number)
 }
 
@@ -584,7 +594,7 @@ fn no_toml_text(alloc: Global, text: &[u8]) -> Result<Vec<u8>, AllocError>
     };
     match error.span() {
         Some(span) => toml_line(alloc, text, span.start),
-        None => Ok(Vec::new(alloc)),
+        None => Err(AllocError),
     }
 }
 

@@ -3,14 +3,16 @@ ghost use Rattle.diagnosis.specs.Rows.{Appends, AreRows, IsRow};
 ghost use Rattle.diagnosis.specs.Texts.{IsCycleText, IsEntryFront, IsEntryText, IsStartRow, IsUnder};
 ghost use Rattle.diagnosis.specs.Texts.{IsChainText, IsFaultText, IsLeadText, IsRowText, addresses_text};
 ghost use Rattle.diagnosis.specs.Texts.{IsCrossingText, chain_of, key_text, loop_text, shared_text};
-ghost use Rattle.diagnosis.specs.Texts.{stated_text, two_loops};
+ghost use Rattle.diagnosis.specs.Texts.{IsDeepText, IsHeaderRow, in_loops, stated_text, two_loops};
 
 use crate::crossings::Crossing;
 use crate::entries::MidEntry;
 use crate::extents::Extent;
+use crate::nested::DeepPlace;
 use crate::rows::{put, put_decimal};
 use crate::words::Words;
 use flow_graph::{BuildFault, Edge, FaultyPlace, Loop, Place};
+use loop_bounds::Found;
 use std::alloc::{AllocError, Global};
 
 const ENTERED: &[u8] = b"A loop is entered elsewhere than at its header. From here:\n";
@@ -204,6 +206,44 @@ pub fn crossing_text(
     put_under(&mut out, words, BOTH, &crossing.shared)?;
     put_under(&mut out, words, FIRST, &crossing.one_has)?;
     put_under(&mut out, words, SECOND, &crossing.other_has)?;
+    Ok(out)
+}
+
+// What stands above a place in so many loops.
+fn in_loops(alloc: Global, count: usize) -> Result<Vec<u8>, AllocError>
+    ensures { IfOk result (λ text. text.items ≡ in_loops count) }
+{
+    let mut out = Vec::from_slice(alloc, b"This word is in ")?;
+    put_decimal(&mut out, count)?;
+    put(&mut out, b" loops; 16 is the most:\n")?;
+    Ok(out)
+}
+
+// Adds the rows of the headers of instances.
+fn put_headers(out: &mut Vec<u8>, words: &Words<'_>, found: &[Found]) -> Result<(), AllocError>
+    ensures { OnOk result
+        (Appends (AreRows (IsHeaderRow words.now) found.now) out.old.items out.new.items) }
+{
+    for one in found {
+        words.put_row(out, one.stated.header)?;
+    }
+    Ok(())
+}
+
+/// A word that is in more than sixteen loops, and the headers of those.
+///
+/// # Errors
+///
+/// An allocation failed.
+pub fn deep_text(alloc: Global, words: &Words<'_>, deep: &DeepPlace) -> Result<Vec<u8>, AllocError>
+    ensures { IfOk result (λ text. IsDeepText words.now deep.now text.items) }
+{
+    let found = deep.instances.as_slice();
+    let heading = in_loops(alloc, found.len())?;
+    let mut out = Vec::new(alloc);
+    put_under(&mut out, words, &heading, &deep.place)?;
+    put(&mut out, b"Their headers, the outermost loop's first:\n")?;
+    put_headers(&mut out, words, found)?;
     Ok(out)
 }
 

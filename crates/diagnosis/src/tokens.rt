@@ -1,6 +1,7 @@
 ghost use Rattle.std.specs.Prelude.{◌≡◌, ◌≤◌, drop, false, length, option_map, take};
 ghost use Rattle.std.specs.List.{prefix_len};
-ghost use Rattle.diagnosis.specs.Outline.{bare_at, first_piece, in_pieces, is_bare, is_blank, is_gap, is_quote};
+ghost use Rattle.diagnosis.specs.Outline.{bare_at, first_piece, in_pieces, is_bare, is_blank, is_gap};
+ghost use Rattle.diagnosis.specs.Outline.{is_quote};
 ghost use Rattle.diagnosis.specs.Outline.{past_blanks, piece_of, quoted_at, quoted_len};
 ghost use Rattle.diagnosis.specs.Outline.{starts_equals, text_of, told, value_of};
 

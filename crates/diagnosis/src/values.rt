@@ -1,7 +1,7 @@
 ghost use Rattle.std.specs.Prelude.{◌≡◌, map};
 ghost use Rattle.diagnosis.specs.Outline.{stated_of, value_of};
-ghost use Rattle.diagnosis.specs.Refused.{address_at, class_words, fits_key, is_among, is_negative, is_number};
-ghost use Rattle.diagnosis.specs.Refused.{is_number_outside, is_out_of_range, is_outside, is_text};
+ghost use Rattle.diagnosis.specs.Refused.{address_at, class_words, fits_key, is_among, is_negative};
+ghost use Rattle.diagnosis.specs.Refused.{is_number, is_number_outside, is_out_of_range, is_outside, is_text};
 ghost use Rattle.diagnosis.specs.Refused.{is_unknown_label, is_word_of, kind_words, starts_digit};
 ghost use Rattle.diagnosis.specs.Refused.{starts_number, takes_address};
 

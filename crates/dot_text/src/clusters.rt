@@ -3,12 +3,13 @@ ghost use Rattle.dot_text.specs.Clusters.{call_names, closed, clusters, depth_in
 ghost use Rattle.dot_text.specs.Clusters.{opened, routine_text, routines};
 ghost use Rattle.dot_text.specs.Stretches.{AreTables, address_of};
 
-use crate::pieces::{put, put_address, put_number};
+use crate::pieces::put_address;
 use crate::stretches::{calls_in, loops_of};
 use crate::tables::Drawn;
 use flow_graph::Place;
 use numbered_walks::Span;
 use std::alloc::AllocError;
+use text_rows::{put, put_decimal};
 
 // Adds what the name of a routine's cluster has of its calls.
 fn put_call_names(out: &mut Vec<u8>, calls: &[u32]) -> Result<(), AllocError>
@@ -69,11 +70,11 @@ fn put_loop(out: &mut Vec<u8>, drawn: Drawn<'_>, span: &Span) -> Result<(), Allo
         (out.new.items ≡ out.old.items ++ loop_text drawn.entry.graph.now drawn.entry.tree.now span.now) }
 {
     put(out, b"subgraph cluster_loop_")?;
-    put_number(out, span.header as u64)?;
+    put_decimal(out, span.header as u64)?;
     put(out, b" { label=\"loop at ")?;
     put_address(out, address_of(drawn.place(span.header)))?;
     put(out, b", at most ")?;
-    put_number(out, u64::from(span.bound))?;
+    put_decimal(out, u64::from(span.bound))?;
     put(out, b" back edges\"; ")
 }
 

@@ -5,7 +5,7 @@ ghost use Rattle.dot_text.specs.Stretches.{AreTables, first_of};
 ghost use Rattle.dot_text.specs.Text.{IsDrawing, drawing, ended};
 
 use crate::nodes::put_stretch;
-use crate::pieces::{put, put_name};
+use crate::pieces::put_name;
 use crate::stretches::goes_on;
 use crate::tables::{Drawn, arrivals};
 use flow_graph::Graph;
@@ -13,6 +13,7 @@ use longest_walk::Longest;
 use loop_bounds::LoopTree;
 use numbered_walks::Index;
 use std::alloc::{AllocError, Global};
+use text_rows::put;
 use walk_counts::edge_counts;
 
 // The settings of all nodes, and those of edges and clusters.

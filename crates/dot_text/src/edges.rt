@@ -6,11 +6,12 @@ ghost use Rattle.numbered_walks.specs.Index.{edge_at};
 ghost use Rattle.dot_text.specs.Stretches.{leaving};
 ghost use Rattle.dot_text.specs.Text.{edge};
 
-use crate::pieces::{put, put_edge_name, put_name, put_number, put_style};
+use crate::pieces::{put_edge_name, put_name, put_style};
 use crate::stretches::{count_of, part};
 use crate::tables::Drawn;
 use flow_graph::Edge;
 use std::alloc::AllocError;
+use text_rows::{put, put_decimal};
 
 // An edge, and the number that it leads to.
 fn edge_of(drawn: Drawn<'_>, number: usize) -> (Edge, usize)
@@ -44,9 +45,9 @@ fn put_edge(
     put_name(out, to)?;
     put(out, b" [label=\"")?;
     put_edge_name(out, edge.label)?;
-    put_number(out, count)?;
+    put_decimal(out, count)?;
     put(out, b", ticks each ")?;
-    put_number(out, u64::from(edge.cost))?;
+    put_decimal(out, u64::from(edge.cost))?;
     put_style(out, count)?;
     put(out, b"\n")
 }

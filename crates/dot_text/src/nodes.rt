@@ -6,10 +6,11 @@ ghost use Rattle.dot_text.specs.Text.{escaped, label_of, node, row, stretch};
 
 use crate::clusters::{address_of, put_closed, put_opened};
 use crate::edges::put_edges;
-use crate::pieces::{put, put_address, put_escaped, put_name, put_number, put_style};
+use crate::pieces::{put_address, put_escaped, put_name, put_style};
 use crate::stretches::{passes, stretch_ticks};
 use crate::tables::Drawn;
 use std::alloc::AllocError;
+use text_rows::{put, put_decimal};
 
 // Adds the label of a place, by its position among the graph's places.
 fn put_label(out: &mut Vec<u8>, labels: &[Vec<u8>], place: usize) -> Result<(), AllocError>
@@ -81,9 +82,9 @@ fn put_node(
     put(out, b" [label=\"")?;
     put_rows(out, drawn, first, last)?;
     put(out, b"passes ")?;
-    put_number(out, passes)?;
+    put_decimal(out, passes)?;
     put(out, b", ticks in all ")?;
-    put_number(out, stretch_ticks(drawn, first, last))?;
+    put_decimal(out, stretch_ticks(drawn, first, last))?;
     put(out, b"\\l")?;
     put_style(out, passes)
 }

@@ -1,26 +1,11 @@
-ghost use Rattle.std.specs.Prelude.{◌≡◌, ◌++◌, OnOk, decimal};
+ghost use Rattle.std.specs.Prelude.{◌≡◌, ◌++◌, OnOk};
 ghost use Rattle.asm_text.specs.Hex.{hex8};
 ghost use Rattle.dot_text.specs.Text.{edge_name, escape, escaped, name, style};
 
 use asm_text::hex8;
 use flow_graph::Label;
-use itoa::Buffer;
 use std::alloc::AllocError;
-
-/// Adds a text.
-pub(crate) fn put(out: &mut Vec<u8>, text: &[u8]) -> Result<(), AllocError>
-    ensures { OnOk result (out.new.items ≡ out.old.items ++ text.now) }
-{
-    out.extend_from_slice(text)
-}
-
-/// Adds a number in decimal.
-pub(crate) fn put_number(out: &mut Vec<u8>, number: u64) -> Result<(), AllocError>
-    ensures { OnOk result (out.new.items ≡ out.old.items ++ decimal number) }
-{
-    let mut buffer = Buffer::new();
-    put(out, buffer.format(number).as_bytes())
-}
+use text_rows::{put, put_decimal};
 
 /// Adds an address, in eight digits.
 pub(crate) fn put_address(out: &mut Vec<u8>, address: u32) -> Result<(), AllocError>
@@ -34,7 +19,7 @@ pub(crate) fn put_name(out: &mut Vec<u8>, number: usize) -> Result<(), AllocErro
     ensures { OnOk result (out.new.items ≡ out.old.items ++ name number) }
 {
     put(out, b"n")?;
-    put_number(out, number as u64)
+    put_decimal(out, number as u64)
 }
 
 /// Adds how what a walk takes so often is drawn, and ends the node or the edge.

@@ -1,60 +1,20 @@
-ghost use Rattle.std.specs.Prelude.{◌≡◌, ◌++◌, ℕ, List, OnOk, length, map, replicate, decimal};
+ghost use Rattle.std.specs.Prelude.{◌≡◌, ◌++◌, ℕ, List, OnOk, length, map, replicate};
 ghost use Rattle.asm_text.specs.Hex.{hex8};
-ghost use Rattle.drafting.specs.Rows.{labelled, name_text, number_text, quoted, remark, row, shown};
+ghost use Rattle.drafting.specs.Rows.{name_text, remark, row, shown};
 
 use crate::source_lines::SourceLine;
 use asm_text::hex8;
-use itoa::Buffer;
 use std::alloc::AllocError;
+use text_rows::{put, put_decimal, put_labelled};
 
 /// The most columns of a row that ends in a comment.
 const COLUMNS: usize = 80;
-
-/// Adds a text.
-pub(crate) fn put(out: &mut Vec<u8>, text: &[u8]) -> Result<(), AllocError>
-    ensures { OnOk result (out.new.items ≡ out.old.items ++ text.now) }
-{
-    out.extend_from_slice(text)
-}
-
-/// Adds a number in decimal.
-pub(crate) fn put_number(out: &mut Vec<u8>, number: usize) -> Result<(), AllocError>
-    ensures { OnOk result (out.new.items ≡ out.old.items ++ decimal number) }
-{
-    let mut buffer = Buffer::new();
-    put(out, buffer.format(number).as_bytes())
-}
 
 /// Adds an address in eight hexadecimal digits.
 pub(crate) fn put_address(out: &mut Vec<u8>, at: u32) -> Result<(), AllocError>
     ensures { OnOk result (out.new.items ≡ out.old.items ++ hex8 at) }
 {
     put(out, &hex8(at))
-}
-
-// Adds an address as a number of TOML.
-fn put_hex(out: &mut Vec<u8>, at: u32) -> Result<(), AllocError>
-    ensures { OnOk result (out.new.items ≡ out.old.items ++ number_text at) }
-{
-    put(out, b"0x")?;
-    put_address(out, at)
-}
-
-fn put_quoted(out: &mut Vec<u8>, label: &[u8]) -> Result<(), AllocError>
-    ensures { OnOk result (out.new.items ≡ out.old.items ++ quoted label.now) }
-{
-    put(out, b"\"")?;
-    put(out, label)?;
-    put(out, b"\"")
-}
-
-fn put_label(out: &mut Vec<u8>, label: &[u8], at: u32) -> Result<(), AllocError>
-    ensures { OnOk result (out.new.items ≡ out.old.items ++ labelled label.now at) }
-{
-    if label.is_empty() {
-        return put_hex(out, at);
-    }
-    put_quoted(out, label)
 }
 
 /// Adds an address as a statement has it: its label in quotes, or a number.
@@ -66,8 +26,8 @@ pub(crate) fn put_name(
     ensures { OnOk result (out.new.items ≡ out.old.items ++ name_text line.entry at) }
 {
     match line {
-        Some(line) => put_label(out, line.label, at),
-        None => put_hex(out, at),
+        Some(line) => put_labelled(out, line.label, at),
+        None => put_labelled(out, b"", at),
     }
 }
 
@@ -100,7 +60,7 @@ fn put_remark(out: &mut Vec<u8>, line: Option<SourceLine>) -> Result<(), AllocEr
         return Ok(());
     };
     put(out, b"  # line ")?;
-    put_number(out, line.number)?;
+    put_decimal(out, line.number as u64)?;
     put(out, b": ")?;
     put_shown(out, line.text)
 }

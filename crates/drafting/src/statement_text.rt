@@ -11,12 +11,13 @@ ghost use Rattle.drafting.specs.DraftText.{way_text, words_from};
 
 use crate::ends::End;
 use crate::found_loop::FoundLoop;
-use crate::rows::{end_row, put, put_address, put_blanks, put_name, put_number};
+use crate::rows::{end_row, put_address, put_blanks, put_name};
 use crate::source_lines::{SourceLine, SourceLines};
 use crate::ways::ahead_of;
 use crate::writers::FoundTarget;
 use bus_ticks::Class;
 use std::alloc::AllocError;
+use text_rows::{put, put_decimal};
 
 /// What stands at the addresses.
 #[derive(Drop)]
@@ -300,7 +301,7 @@ fn put_bound(out: &mut Vec<u8>, indent: usize, turns: Option<u32>) -> Result<(),
     match turns {
         Some(turns) => {
             put(out, b"bound = ")?;
-            put_number(out, turns as usize)?;
+            put_decimal(out, u64::from(turns))?;
             put(out, b"  # counted\n")
         }
         None => put(out, b"bound = \"?\"\n"),

@@ -7,27 +7,10 @@ use Rattle.assembler.specs.declared.placed_line.PlacedLine.{PlacedLine}
 use Rattle.walk_counts.specs.Counts.{capped}
 use Rattle.assembler.specs.ShownLines.{IsShown}
 use Rattle.loader.specs.Image.{Words}
-use Rattle.explained.specs.Rows.{Appends, AreRows, IsShownRow}
+use Rattle.text_rows.specs.Rows.{Appends, AreRows, IsShownRow}
 use Rattle.explained.specs.Table.{AreImageRows, IsWordRow, columns_text, heading, image_heading, image_ticks, source_rows, source_table, source_ticks, table_end, ticks_of}
 use Rattle.explained.specs.declared.pricing.Pricing.{Pricing}
 use Rattle.explained.specs.declared.tally.Taken.{Taken}
-
--- parts put one after another
-pub seven_parts : (old p1 p2 p3 p4 p5 p6 p7 a b c d e f new : List ℕ) → a ≡ old ++ p1 → b ≡ a ++ p2 → c ≡ b ++ p3 → d ≡ c ++ p4 → e ≡ d ++ p5 → f ≡ e ++ p6 → new ≡ f ++ p7
-    → new ≡ old ++ (p1 ++ (p2 ++ (p3 ++ (p4 ++ (p5 ++ (p6 ++ p7))))))
-seven_parts old p1 p2 p3 p4 p5 p6 p7 a b c d e f new ia ib ic id ie jf inew =
-    inew ∙ ap (λ xs. xs ++ p7) (jf ∙ ap (λ xs. xs ++ p6) (ie ∙ ap (λ xs. xs ++ p5) (id ∙ ap (λ xs. xs ++ p4) (ic ∙ ap (λ xs. xs ++ p3) (ib ∙ ap (λ xs. xs ++ p2) ia)))))
-    ∙ simp append_assoc
-
--- the row of a word
-pub shown_row : (at word : ℕ) (line old a b c d e f new : List ℕ) → IsShown word at line
-    → a ≡ old ++ codes "  " → b ≡ a ++ hex8 at → c ≡ b ++ codes "  " → d ≡ c ++ hex8 word → e ≡ d ++ codes "  " → f ≡ e ++ line → new ≡ f ++ codes "\n"
-    → Appends (IsShownRow (at, word)) old new
-shown_row at word line old a b c d e f new shown ia ib ic id ie jf inew = (
-  codes "  " ++ (hex8 at ++ (codes "  " ++ (hex8 word ++ (codes "  " ++ (line ++ codes "\n"))))),
-  (line, shown, refl),
-  seven_parts old (codes "  ") (hex8 at) (codes "  ") (hex8 word) (codes "  ") line (codes "\n") a b c d e f new ia ib ic id ie jf inew,
-)
 
 -- with what is taken there
 pub word_row : (taken : ℕ → Option Taken) (latest : ℕ → Option ℕ) (priced : ℕ → Option Pricing) (bound at word : ℕ) (here : Option Taken) (start : Option ℕ) (price : Option Pricing) (old a new : List ℕ) → here ≡ taken at → start ≡ latest at → price ≡ priced at

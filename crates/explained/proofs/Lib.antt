@@ -4,6 +4,7 @@ mod BurstLaws
 mod ColumnLaws
 mod IdleLaws
 mod ImageLaws
+mod LinkLaws
 mod PricingLaws
 pub mod RangeLaws
 pub mod RowLaws

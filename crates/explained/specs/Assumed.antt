@@ -17,8 +17,9 @@ use Rattle.statement.specs.Stated.{Stated, class_of, target_of}
 use Rattle.word_shapes.specs.Shapes.{is_never, is_odd_writer}
 use Rattle.word_shapes.specs.Words.{HasInstr, HasShape}
 use Rattle.flow_graph.specs.declared.places.Place.{Place}
-use Rattle.explained.specs.Columns.{in_columns}
-use Rattle.explained.specs.Rows.{AreRows, IsShownRow, section}
+use Rattle.text_rows.specs.Columns.{in_columns}
+use Rattle.explained.specs.Links.{AreLostLinks}
+use Rattle.text_rows.specs.Rows.{AreRows, IsShownRow, section}
 use Rattle.explained.specs.Taken.{is_at, is_reached}
 use Rattle.explained.specs.declared.assumptions.Assumption.{Assumption}
 use Rattle.explained.specs.declared.assumptions.Assumption.TheVariants.{LooseTransfer, TakenForReturn}
@@ -94,23 +95,31 @@ heading_of TakenForReturn =
     codes "\nWARNING: these count as returns but do not look like returns (see [[target]]):\n"
 heading_of LooseTransfer = codes "\nLoads and stores that may be anywhere (see [[access]]):\n"
 
--- of exactly the words of which that is assumed, the rows of named words being such
-pub record IsSection (AreRowsOf : (named rows : List ℕ) → Type 0) (image : Words) (st : Stated) (flow : Flow)
-    (what : Assumption) (text : List ℕ) : Type 0 where
+-- above the rows of the words that return by a lost R14
+abbrev pub lost_heading : List ℕ
+lost_heading = codes "\nWARNING: these return by R14 after a call has overwritten it:\n"
+
+-- under a heading the rows of exactly the words that are named so, the rows of named words being such
+pub record IsSection (AreRowsOf : (named rows : List ℕ) → Type 0) (heading : List ℕ)
+    (AreNamed : List ℕ → Type 0) (text : List ℕ) : Type 0 where
   pub named : List ℕ
   pub rows : List ℕ
-  pub are_assumed : AreAssumed image st flow what named
+  pub are_named : AreNamed named
   pub are_rows : AreRowsOf named rows
-  pub text_is : text ≡ section (heading_of what) rows
+  pub text_is : text ≡ section heading rows
 
--- the words that count as returns come first
+-- the words that count as returns, then those that return by a lost R14, and then the loads and stores
 pub record AreAssumptions (AreRowsOf : (named rows : List ℕ) → Type 0) (image : Words) (st : Stated)
     (flow : Flow) (text : List ℕ) : Type 0 where
   pub returns : List ℕ
+  pub lost : List ℕ
   pub transfers : List ℕ
-  pub are_returns : IsSection AreRowsOf image st flow TakenForReturn returns
-  pub are_transfers : IsSection AreRowsOf image st flow LooseTransfer transfers
-  pub text_is : text ≡ returns ++ transfers
+  pub are_returns : IsSection AreRowsOf (heading_of TakenForReturn)
+      (AreAssumed image st flow TakenForReturn) returns
+  pub are_lost : IsSection AreRowsOf lost_heading (AreLostLinks image flow) lost
+  pub are_transfers : IsSection AreRowsOf (heading_of LooseTransfer)
+      (AreAssumed image st flow LooseTransfer) transfers
+  pub text_is : text ≡ returns ++ (lost ++ transfers)
 
 -- by the lines of a source
 abbrev pub AreSourceAssumptions : List ℕ → List PlacedLine → Words → Stated → Flow → List ℕ → Type 0

@@ -1,9 +1,6 @@
 -- The columns of the table of a bound. Our own format.
-use Rattle.std.specs.Prelude.{ℕ, ◌-◌, ◌*◌, ◌/◌, ◌%◌, max, List, ◌++◌, length, replicate, codes, decimal}
-
--- a text that ends so many columns on, with blanks in front
-abbrev pub in_columns : ℕ → List ℕ → List ℕ
-in_columns width text = replicate (width - length text) 32 ++ text
+use Rattle.std.specs.Prelude.{ℕ, ◌*◌, ◌/◌, ◌%◌, max, List, ◌++◌, codes, decimal}
+use Rattle.text_rows.specs.Columns.{in_columns}
 
 -- a part in thousandths, rounded down
 abbrev pub thousandths : (ticks bound : ℕ) → ℕ

@@ -14,7 +14,7 @@ use Rattle.statement.specs.Stated.{Stated}
 use Rattle.statement.specs.declared.stated.Loop.{Loop}
 use Rattle.walks.specs.Greatest.{is_back_edge}
 use Rattle.word_shapes.specs.Words.{HasShape}
-use Rattle.explained.specs.Rows.{AreRows, section}
+use Rattle.text_rows.specs.Rows.{AreRows, section}
 use Rattle.explained.specs.Leaving.{is_left_on}
 use Rattle.explained.specs.declared.leaving.EdgeKind.TheVariants.{CarriesOut}
 

@@ -3,9 +3,10 @@ pub mod Bursts
 pub mod Columns
 pub mod Idle
 pub mod Leaving
+pub mod Links
+pub mod Losing
 pub mod Pricing
 pub mod PricingParts
-pub mod Rows
 pub mod Starts
 pub mod Table
 pub mod Taken

@@ -1,5 +1,5 @@
--- What is told of prices at each step. No part of the table: it stands here since clauses of private functions cite
--- it.
+-- What is told of prices at each step. No part of the table: it stands here since clauses of private
+-- functions cite it.
 use Rattle.std.specs.Prelude.{◌≡◌, ℕ, Bool, true, false, if◌then◌else◌, Option, Some, None}
 use Rattle.flow_graph.specs.declared.places.Place.{Place}
 use Rattle.loader.specs.Image.{Words}

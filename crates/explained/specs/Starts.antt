@@ -1,5 +1,6 @@
 -- When words begin at the latest. Our own rules.
-use Rattle.std.specs.Prelude.{◌≡◌, ℕ, ◌≤◌, true, max, if◌then◌else◌, List, map, filter, fold, Option, Some, None}
+use Rattle.std.specs.Prelude.{◌≡◌, ℕ, ◌≤◌, true, max, if◌then◌else◌, List, map, filter, fold, Option}
+use Rattle.std.specs.Prelude.{Some, None}
 use Rattle.std.specs.List.{zip}
 use Rattle.walks.specs.Walk.{Leads, cost_of}
 use Rattle.flow_graph.specs.Flow.{Flow, HasEdge, edge_shape}

@@ -9,10 +9,10 @@ use Rattle.flow_graph.specs.declared.edges.Edge.{Edge}
 use Rattle.loader.specs.Image.{Words}
 use Rattle.statement.specs.Stated.{Stated}
 use Rattle.walk_counts.specs.Counts.{capped}
-use Rattle.explained.specs.Columns.{bound_line, in_columns, ticks_text, total_row}
-use Rattle.explained.specs.Rows.{AreRows, IsShownRow}
+use Rattle.explained.specs.Columns.{bound_line, ticks_text, total_row}
+use Rattle.text_rows.specs.Columns.{in_columns}
+use Rattle.text_rows.specs.Rows.{AreRows, IsShownRow}
 use Rattle.explained.specs.Pricing.{ArePriced, pricing_text}
-use Rattle.explained.specs.Starts.{latest_at}
 use Rattle.explained.specs.Taken.{taken_at}
 use Rattle.explained.specs.declared.pricing.Pricing.{Pricing}
 use Rattle.explained.specs.declared.tally.Costs.{Costs}
@@ -71,7 +71,8 @@ module _ (taken : ℕ → Option Taken) where
 
 -- ## Rows
 
--- the ticks of a pass: one number, or from the least to the greatest; nothing is told where the walk never passes
+-- the ticks of a pass: one number, or from the least to the greatest; nothing is told where the walk never
+-- passes
 abbrev pub each_text : Option Costs → List ℕ
 each_text None = codes "-"
 each_text (Some c) =
@@ -81,7 +82,8 @@ each_text (Some c) =
 abbrev pub taken_text : ℕ → Option Taken → List ℕ
 taken_text bound None = in_columns 36 (codes "never reached")
 taken_text bound (Some t) =
-    in_columns 9 (decimal t.passes) ++ (in_columns 9 (each_text t.costs) ++ ticks_text t.ticks bound)
+    in_columns 9 (decimal t.passes)
+    ++ (codes " " ++ (in_columns 8 (each_text t.costs) ++ ticks_text t.ticks bound))
 
 -- the tick by which it begins; nothing where no place is
 abbrev pub latest_text : Option ℕ → List ℕ
@@ -91,7 +93,8 @@ latest_text (Some ticks) = decimal ticks
 -- what is taken, when it begins at the latest, and what the price takes for granted
 abbrev pub columns_text : ℕ → Option Taken → (latest : Option ℕ) → Option Pricing → List ℕ
 columns_text bound taken latest pricing =
-    taken_text bound taken ++ (in_columns 11 (latest_text latest) ++ in_columns 15 (pricing_text pricing))
+    taken_text bound taken
+    ++ (codes " " ++ (in_columns 10 (latest_text latest) ++ in_columns 15 (pricing_text pricing)))
 
 -- with the number of a line and its text
 abbrev pub line_row : ℕ → Option Taken → (latest : Option ℕ) → Option Pricing → ℕ → List ℕ → List ℕ
@@ -99,8 +102,8 @@ line_row bound taken latest pricing n text =
     columns_text bound taken latest pricing
     ++ (codes " " ++ (in_columns 5 (decimal n) ++ (codes "  " ++ (text ++ codes "\n"))))
 
--- the rows of the lines that have words, with numbers from one on; the latest start and the price are those of
--- a line's first word
+-- the rows of the lines that have words, with numbers from one on; the latest start and the price are those
+-- of a line's first word
 abbrev pub source_rows : (ℕ → Option Taken) → (latest : ℕ → Option ℕ) → (ℕ → Option Pricing) → ℕ → ℕ
     → List (List ℕ) → List PlacedLine → List ℕ
 source_rows taken latest priced bound n (text ∷ lines) (p ∷ placed) =
@@ -132,7 +135,8 @@ source_table taken latest priced bound source placed =
     ++ table_end (source_ticks taken placed) bound)
 
 abbrev pub image_heading : List ℕ
-image_heading = codes "   passes     each      ticks  share  begins by      priced as   address      word  text\n"
+image_heading =
+    codes "   passes     each      ticks  share  begins by      priced as   address      word  text\n"
 
 -- of an image
 abbrev pub AreImageRows : (ℕ → Option Taken) → (latest : ℕ → Option ℕ) → (ℕ → Option Pricing) → ℕ → Words
@@ -141,14 +145,16 @@ AreImageRows taken latest priced bound words text =
     (rows : List ℕ) × AreRows (IsWordRow taken latest priced bound) words rows
     × (text ≡ image_heading ++ (rows ++ table_end (image_ticks taken words) bound))
 
--- of a walk that costs so much, by the words, the statement, the flow graph and the starts of its places
-abbrev pub IsSourceTable : Words → Stated → Flow → List Edge → (starts : List ℕ) → ℕ → List ℕ
+-- of a walk that costs so much, by the words, the statement, the flow graph and when its words begin at the
+-- latest
+abbrev pub IsSourceTable : Words → Stated → Flow → List Edge → (latest : ℕ → Option ℕ) → ℕ → List ℕ
     → List PlacedLine → List ℕ → Type 0
-IsSourceTable words st flow walk starts bound source placed text =
+IsSourceTable words st flow walk latest bound source placed text =
     (priced : ℕ → Option Pricing) × ArePriced words st flow priced
-    × (text ≡ source_table (taken_at flow walk) (latest_at flow.places starts) priced bound source placed)
+    × (text ≡ source_table (taken_at flow walk) latest priced bound source placed)
 
-abbrev pub IsImageTable : Words → Stated → Flow → List Edge → (starts : List ℕ) → ℕ → List ℕ → Type 0
-IsImageTable words st flow walk starts bound text =
+abbrev pub IsImageTable : Words → Stated → Flow → List Edge → (latest : ℕ → Option ℕ) → ℕ → List ℕ
+    → Type 0
+IsImageTable words st flow walk latest bound text =
     (priced : ℕ → Option Pricing) × ArePriced words st flow priced
-    × AreImageRows (taken_at flow walk) (latest_at flow.places starts) priced bound words text
+    × AreImageRows (taken_at flow walk) latest priced bound words text

@@ -19,7 +19,8 @@ use word_shapes::{instr_at, is_never, is_odd_writer, is_transfer_at};
 pub enum Assumption {
     /// That a load or a store may be to any address, since no other class is stated for it.
     LooseTransfer,
-    /// That a word that may write R15 returns, although it does not look like that, since no target is stated.
+    /// That a word that may write R15 returns, although it does not look like that, since no target is
+    /// stated.
     TakenForReturn,
 }
 
@@ -81,7 +82,8 @@ fn note(
     Ok(())
 }
 
-fn sorted(alloc: Global, named: &BTreeSet<u32>) -> Result<Vec<u32>, AllocError>
+/// The addresses, ascending. `AllocError`: an allocation failed.
+pub(crate) fn sorted(alloc: Global, named: &BTreeSet<u32>) -> Result<Vec<u32>, AllocError>
     ensures keys { IfOk result (λ addresses. addresses.items ≡ named.now.keys) }
     ensures ascending { IfOk result (λ addresses. IsStrictlySortedBy nat_cmp addresses.items) }
 {

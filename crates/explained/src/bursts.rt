@@ -1,11 +1,12 @@
 ghost use Rattle.std.specs.Prelude.{◌≡◌, ◌++◌, IfOk, OnOk};
 ghost use Rattle.explained.specs.Bursts.{AreBurstLines, AreFewest, IsEveryLine, count_line, end_text};
 ghost use Rattle.explained.specs.Bursts.{with_bursts};
-ghost use Rattle.explained.specs.Rows.{Appends};
+ghost use Rattle.text_rows.specs.Rows.{Appends};
 
-use crate::columns::{put, put_number, put_time};
+use crate::columns::put_time;
 use bus_ticks::Profile;
 use std::alloc::{AllocError, Global};
+use text_rows::{put, put_number};
 
 /// The DMA bursts whose price is to be added to a bound.
 #[derive(Clone, Copy)]

@@ -1,12 +1,9 @@
 ghost use Rattle.std.specs.Prelude.{◌≡◌, ◌≤◌, ◌++◌, IfOk, OnOk, decimal, string_bytes};
-ghost use Rattle.explained.specs.Columns.{bound_line, in_columns, share_text, ticks_text, time_text};
+ghost use Rattle.explained.specs.Columns.{bound_line, share_text, ticks_text, time_text};
 ghost use Rattle.explained.specs.Columns.{total_row};
 
-use itoa::Buffer;
 use std::alloc::{AllocError, Global};
-
-// As many blanks as the widest column has.
-const BLANKS: &[u8] = b"                                    ";
+use text_rows::{put, put_number, put_right};
 
 /// The names of the columns.
 pub(crate) const HEADING: &[u8] =
@@ -15,31 +12,6 @@ pub(crate) const HEADING: &[u8] =
 /// The names of the columns of an image.
 pub(crate) const IMAGE_HEADING: &[u8] =
     b"   passes     each      ticks  share  begins by      priced as   address      word  text\n";
-
-/// Adds a text. An error says that an allocation failed.
-pub fn put(out: &mut Vec<u8>, text: &[u8]) -> Result<(), AllocError>
-    ensures { OnOk result (out.new.items ≡ out.old.items ++ text.now) }
-{
-    out.extend_from_slice(text)
-}
-
-/// Adds a text that ends so many columns on. An error says that an allocation failed.
-pub fn put_right(out: &mut Vec<u8>, text: &[u8], width: usize) -> Result<(), AllocError>
-    requires { width ≤ 36 }
-    ensures { OnOk result (out.new.items ≡ out.old.items ++ in_columns width text.now) }
-{
-    put(out, &BLANKS[..width.saturating_sub(text.len())])?;
-    put(out, text)
-}
-
-/// Adds a number in decimal that ends so many columns on. An error says that an allocation failed.
-pub fn put_number(out: &mut Vec<u8>, number: u64, width: usize) -> Result<(), AllocError>
-    requires { width ≤ 36 }
-    ensures { OnOk result (out.new.items ≡ out.old.items ++ in_columns width (decimal number)) }
-{
-    let mut buffer = Buffer::new();
-    put_right(out, buffer.format(number).as_bytes(), width)
-}
 
 // What part of the bound the ticks are, in per cent.
 fn share(alloc: Global, ticks: u64, bound: u64) -> Result<String, AllocError>

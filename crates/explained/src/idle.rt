@@ -6,11 +6,10 @@ ghost use Rattle.std.specs.Ordering.{nat_cmp};
 ghost use Rattle.explained.specs.Idle.{AccessCounts, AreIdleEntries, AreIdleRows, IsAccessRow, IsLoopRow};
 ghost use Rattle.explained.specs.Idle.{IsTargetRow};
 ghost use Rattle.explained.specs.Idle.{entry_row, turns_in};
-ghost use Rattle.explained.specs.Rows.{Appends, AreRows};
+ghost use Rattle.text_rows.specs.Rows.{Appends, AreRows};
 
-use crate::columns::put;
 use crate::leaving::{EdgeKind, addresses_left};
-use crate::sections::{StatedGraph, section};
+use crate::sections::StatedGraph;
 use asm_text::hex8;
 use flow_graph::{Edge, Graph, Loop, Place};
 use indexmap::IndexMap;
@@ -18,6 +17,7 @@ use loader::Image;
 use loop_bounds::Found;
 use std::alloc::{AllocError, Global};
 use std::collections::BTreeSet;
+use text_rows::{put, section};
 use word_shapes::is_transfer_at;
 
 const HEADING: &[u8] = b"\nEntries of the statement without effect:\n";
@@ -163,9 +163,10 @@ fn idle_rows(alloc: Global, handler: StatedGraph<'_>) -> Result<Vec<u8>, AllocEr
     Ok(rows)
 }
 
-/// The entries of a statement that have no effect on the bound: loops in which nothing turns back, targets of
-/// words that are never carried out, and accesses of words that never load or store. Each is told by the address
-/// that it names, a loop by its header's, in the order of the statement. Nothing where each entry has an effect.
+/// The entries of a statement that have no effect on the bound: loops in which nothing turns back, targets
+/// of words that are never carried out, and accesses of words that never load or store. Each is told by the
+/// address that it names, a loop by its header's, in the order of the statement. Nothing where each entry
+/// has an effect.
 ///
 /// # Errors
 ///

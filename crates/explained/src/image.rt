@@ -2,32 +2,18 @@ ghost use Rattle.std.specs.Prelude.{◌≡◌, IfOk, OnOk};
 ghost use Rattle.std.specs.BTreeMap.{get};
 ghost use Rattle.std.specs.Ordering.{nat_cmp};
 ghost use Rattle.longest_walk.specs.Folded.{unfolded};
-ghost use Rattle.explained.specs.Rows.{Appends, AreRows, IsShownRow};
+ghost use Rattle.text_rows.specs.Rows.{Appends, AreRows, IsShownRow};
+ghost use Rattle.explained.specs.Starts.{latest_at};
 ghost use Rattle.explained.specs.Table.{IsImageTable, IsWordRow, image_ticks};
 
-use crate::columns::{IMAGE_HEADING, put, put_end};
+use crate::columns::{IMAGE_HEADING, put_end};
 use crate::lines::{Columns, Costing, put_columns, ticks_at};
 use crate::pricing::priced;
 use crate::sections::StatedGraph;
 use crate::starts::{TimedWalk, latest_starts};
 use crate::tally::{Tally, capped_sum};
-use asm_text::hex8;
-use assembler::disassemble;
 use std::alloc::{AllocError, Global};
-
-/// Adds the row of a word: its address, the word and its line. An error says that an allocation failed.
-pub fn put_shown_row(out: &mut Vec<u8>, at: u32, word: u32) -> Result<(), AllocError>
-    ensures { OnOk result (Appends (IsShownRow (at, word)) out.old.items out.new.items) }
-{
-    put(out, b"  ")?;
-    put(out, &hex8(at))?;
-    put(out, b"  ")?;
-    put(out, &hex8(word))?;
-    put(out, b"  ")?;
-    let line = disassemble(word, at);
-    put(out, line.items())?;
-    put(out, b"\n")
-}
+use text_rows::{put, put_shown_row};
 
 // Adds the row of a word, with what is taken there.
 fn put_row(out: &mut Vec<u8>, costing: Costing<'_>, at: u32, word: u32) -> Result<(), AllocError>
@@ -71,10 +57,10 @@ fn image_ticks(tally: &Tally, words: &[(u32, u32)]) -> u64
 }
 
 /// Where the ticks of a greatest walk go in an image: a row for each of its words, with how often the walk
-/// passes it, the ticks of a pass (from the least to the greatest, where they differ), all ticks there, what part
-/// of the bound those are, the tick by which it begins (the greatest of the starts of the places there), what its
-/// price takes for granted, the address, the word and the line that [`disassemble`] shows; then the ticks of all
-/// rows, and the bound in ticks and in microseconds.
+/// passes it, the ticks of a pass (from the least to the greatest, where they differ), all ticks there, what
+/// part of the bound those are, the tick by which it begins (the greatest of the starts of the places there),
+/// what its price takes for granted, the address, the word and the line that [`disassemble`] shows; then the
+/// ticks of all rows, and the bound in ticks and in microseconds.
 ///
 /// Where the graph has no place at a word, the row says so in place of the numbers.
 ///
@@ -88,7 +74,9 @@ pub fn image_table(
 ) -> Result<Vec<u8>, AllocError>
     ensures { IfOk result
         (λ text. IsImageTable handler.entry.image.now handler.entry.statement.now handler.entry.graph.now
-        (unfolded walk.entry.longest.now.walk) walk.entry.starts.now walk.entry.longest.now.bound text.items) }
+        (unfolded walk.entry.longest.now.walk)
+        (latest_at handler.entry.graph.now.places walk.entry.starts.now) walk.entry.longest.now.bound
+        text.items) }
 {
     let longest = walk.longest;
     let tally = Tally::of_walk(alloc, handler.graph, &longest.walk)?;

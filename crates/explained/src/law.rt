@@ -1,4 +1,5 @@
-ghost use Rattle.std.specs.Prelude.{◌≡◌, ◌≢◌, ◌↔◌, ◌<◌, ◌≤◌, ◌^◌, ℕ, false, true, List, None, Some, Ok, Option};
+ghost use Rattle.std.specs.Prelude.{◌≡◌, ◌≢◌, ◌↔◌, ◌<◌, ◌≤◌, ◌^◌, ℕ, false, true, List, None, Some, Ok};
+ghost use Rattle.std.specs.Prelude.{Option};
 ghost use Rattle.std.specs.Prelude.{Contains, flat_map, map, sum_by};
 ghost use Rattle.bus_ticks.specs.declared.profile.Profile.{Profile};
 ghost use Rattle.assembler.specs.Placed.{ArePlaced};
@@ -27,8 +28,8 @@ use asm_text::lines_are_spelled;
 use assembler::sources_are_assembled;
 
 /// States that of a walk of the graph that costs less than 2^64 ticks the numbers at an address are exact:
-/// how often the walk leaves the address, the ticks of that, and the least and the greatest cost of an edge on
-/// which it does. It does nothing.
+/// how often the walk leaves the address, the ticks of that, and the least and the greatest cost of an edge
+/// on which it does. It does nothing.
 pub fn numbers_are_of_the_walk()
     ensures { (flow : Flow) (tree : Tree) (cost : ℕ) (items : List Item) (a : ℕ)
         → IsWellFormed flow → IsWalkOf flow tree cost items → cost < 2 ^ 64
@@ -73,9 +74,9 @@ pub fn places_stand_once()
     sources_are_assembled();
 }
 
-/// States that by the worst starts of a graph's places the greatest start at an address is when its word begins at
-/// the latest: a walk from the entry that keeps the bounds of the loops comes there after so many ticks, and none
-/// after more. Where no place is at the address, none comes there. It does nothing.
+/// States that by the worst starts of a graph's places the greatest start at an address is when its word
+/// begins at the latest: a walk from the entry that keeps the bounds of the loops comes there after so many
+/// ticks, and none after more. Where no place is at the address, none comes there. It does nothing.
 pub fn latest_starts_are_of_walks()
     ensures { (flow : Flow) (tree : Tree) (starts : List ℕ) (a : ℕ) → IsWellFormed flow
         → AreWorstStarts flow tree starts → IsLatestStart flow tree a (latest_at flow.places starts a) }

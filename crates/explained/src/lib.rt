@@ -10,6 +10,7 @@ mod image;
 mod law;
 mod leaving;
 mod lines;
+mod links;
 mod named;
 mod pricing;
 mod sections;
@@ -19,16 +20,16 @@ mod tally;
 
 pub use assumptions::{Assumption, assumed};
 pub use bursts::{Bursts, burst_lines};
-pub use columns::{put, put_number, put_right};
 pub use idle::idle_entries;
-pub use image::{image_table, put_shown_row};
+pub use image::image_table;
 pub use law::{
     burst_time_is_the_least, latest_starts_are_of_walks, numbers_are_of_the_walk,
     places_stand_once, totals_are_the_bound, unreached_lines_have_no_place,
 };
+pub use links::lost_links;
 pub use named::{NumberedLine, named_lines, put_named_row};
 pub use pricing::class_name;
-pub use sections::{StatedGraph, image_assumptions, section, source_assumptions};
+pub use sections::{StatedGraph, image_assumptions, source_assumptions};
 pub use source::source_table;
 pub use starts::TimedWalk;
 pub use tally::{Costs, Taken, Tally};

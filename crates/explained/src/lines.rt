@@ -1,17 +1,17 @@
-ghost use Rattle.std.specs.Prelude.{◌≡◌, ◌+◌, ◌*◌, ◌^◌, ◌≤◌, ◌++◌, IfOk, OnOk, string_bytes};
+ghost use Rattle.std.specs.Prelude.{◌≡◌, ◌+◌, ◌*◌, ◌^◌, ◌≤◌, ◌++◌, IfOk, OnOk, codes, string_bytes};
 ghost use Rattle.std.specs.BTreeMap.{get};
 ghost use Rattle.std.specs.Ordering.{nat_cmp};
-ghost use Rattle.explained.specs.Columns.{in_columns};
-ghost use Rattle.explained.specs.Table.{columns_text, latest_text, taken_text, each_of, each_text, is_any_reached, line_taken};
-ghost use Rattle.explained.specs.Table.{passes_of};
-ghost use Rattle.explained.specs.Table.{ticks_in, ticks_of};
+ghost use Rattle.text_rows.specs.Columns.{in_columns};
+ghost use Rattle.explained.specs.Table.{columns_text, each_of, each_text, is_any_reached, latest_text};
+ghost use Rattle.explained.specs.Table.{line_taken, passes_of, taken_text, ticks_in, ticks_of};
 
-use crate::columns::{put_number, put_right, put_ticks};
+use crate::columns::put_ticks;
 use crate::pricing::{Pricing, put_pricing};
 use crate::tally::{Costs, Taken, Tally, capped_sum};
 use assembler::PlacedLine;
 use std::alloc::{AllocError, Global};
 use std::collections::BTreeMap;
+use text_rows::{put, put_number, put_right};
 
 /// What stands in the columns of a row.
 #[derive(Clone, Copy)]
@@ -122,11 +122,14 @@ fn each(alloc: Global, costs: Option<Costs>) -> Result<String, AllocError>
     format!(in alloc; "{}-{}", costs.least, costs.greatest)
 }
 
+// Adds the ticks of a pass, after a blank.
 fn put_each(out: &mut Vec<u8>, costs: Option<Costs>) -> Result<(), AllocError>
-    ensures { OnOk result (out.new.items ≡ out.old.items ++ in_columns 9 (each_text costs)) }
+    ensures { OnOk result
+        (out.new.items ≡ out.old.items ++ (codes " " ++ in_columns 8 (each_text costs))) }
 {
+    put(out, b" ")?;
     let each = each(*out.allocator(), costs)?;
-    put_right(out, each.as_bytes(), 9)
+    put_right(out, each.as_bytes(), 8)
 }
 
 // Adds what is taken and what part of the bound that is, or that nothing ever can be.
@@ -143,13 +146,15 @@ fn put_taken(out: &mut Vec<u8>, taken: Option<Taken>, bound: u64) -> Result<(), 
     }
 }
 
-// Adds the tick by which a word begins, or blanks where the graph has no place.
+// Adds the tick by which a word begins, or blanks where the graph has no place, after a blank.
 fn put_latest(out: &mut Vec<u8>, latest: Option<u64>) -> Result<(), AllocError>
-    ensures { OnOk result (out.new.items ≡ out.old.items ++ in_columns 11 (latest_text latest)) }
+    ensures { OnOk result
+        (out.new.items ≡ out.old.items ++ (codes " " ++ in_columns 10 (latest_text latest))) }
 {
+    put(out, b" ")?;
     match latest {
-        Some(ticks) => put_number(out, ticks, 11),
-        None => put_right(out, b"", 11),
+        Some(ticks) => put_number(out, ticks, 10),
+        None => put_right(out, b"", 10),
     }
 }
 

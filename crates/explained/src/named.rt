@@ -4,14 +4,13 @@ ghost use Rattle.std.specs.List.Sorted.{IsStrictlySortedBy};
 ghost use Rattle.std.specs.Ordering.{nat_cmp};
 ghost use Rattle.asm_text.specs.Source.{lines_of};
 ghost use Rattle.explained.specs.Assumed.{IsNamedRow, named_row, named_rows, row_if_named, word_rows};
-ghost use Rattle.explained.specs.Rows.{Appends, AreRows};
+ghost use Rattle.text_rows.specs.Rows.{Appends, AreRows};
 
-use crate::columns::{put, put_number};
-use crate::image::put_shown_row;
 use asm_text::{first_line, hex8};
 use assembler::PlacedLine;
 use loader::Image;
 use std::alloc::{AllocError, Global};
+use text_rows::{put, put_number, put_shown_row};
 
 /// A line of a source and its number, from 1.
 #[derive(Clone, Copy)]

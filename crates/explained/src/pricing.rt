@@ -2,12 +2,11 @@ ghost use Rattle.std.specs.Prelude.{◌≡◌, ◌++◌, ℕ, true, false, if◌
 ghost use Rattle.std.specs.BTreeMap.{get};
 ghost use Rattle.std.specs.BTreeSet.{contains};
 ghost use Rattle.std.specs.Ordering.{nat_cmp};
-ghost use Rattle.explained.specs.Columns.{in_columns};
+ghost use Rattle.text_rows.specs.Columns.{in_columns};
 ghost use Rattle.explained.specs.Pricing.{ArePriced, IsGranted, class_name, both_text, granted_text};
 ghost use Rattle.explained.specs.Pricing.{instr_granted, leave_text, operation_granted, pricing_text};
 ghost use Rattle.explained.specs.PricingParts.{Prices, IsPricedBy};
 
-use crate::columns::{put, put_right};
 use crate::leaving::{EdgeKind, addresses_left};
 use crate::sections::StatedGraph;
 use arm2_decode::{Instr, Operation};
@@ -16,6 +15,7 @@ use flow_graph::{Place, Statement};
 use loader::Image;
 use std::alloc::{AllocError, Global};
 use std::collections::{BTreeMap, BTreeSet};
+use text_rows::{put, put_right};
 use word_shapes::{instr_at, is_never};
 
 /// What the price of an instruction takes for granted of what it does besides its fetches.

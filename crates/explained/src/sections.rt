@@ -1,19 +1,26 @@
-ghost use Rattle.std.specs.Prelude.{◌≡◌, IfOk};
+ghost use Rattle.std.specs.Prelude.{◌≡◌, ℕ, List, IfOk};
+ghost use Rattle.std.specs.List.Sorted.{IsStrictlySortedBy};
+ghost use Rattle.std.specs.Ordering.{nat_cmp};
 ghost use Rattle.asm_text.specs.Source.{lines_of};
-ghost use Rattle.explained.specs.Assumed.{AreImageAssumptions, AreSourceAssumptions, IsNamedRow, IsSection};
-ghost use Rattle.explained.specs.Assumed.{heading_of, named_rows};
-ghost use Rattle.explained.specs.Rows.{AreRows, section};
+ghost use Rattle.explained.specs.Assumed.{AreAssumed, AreImageAssumptions, AreSourceAssumptions};
+ghost use Rattle.explained.specs.Assumed.{IsNamedRow};
+ghost use Rattle.explained.specs.Assumed.{IsSection, heading_of, lost_heading, named_rows};
+ghost use Rattle.explained.specs.Links.{AreLostLinks};
+ghost use Rattle.text_rows.specs.Rows.{AreRows, section};
 
 use crate::assumptions::{Assumption, assumed};
-use crate::columns::put;
+use crate::links::lost_links;
 use crate::named::{named_lines, named_words};
 use assembler::PlacedLine;
 use flow_graph::{Graph, Statement};
 use loader::Image;
 use std::alloc::{AllocError, Global};
+use text_rows::{put, section};
 
 const RETURNS: &[u8] =
     b"\nWARNING: these count as returns but do not look like returns (see [[target]]):\n";
+
+const LOST: &[u8] = b"\nWARNING: these return by R14 after a call has overwritten it:\n";
 
 const TRANSFERS: &[u8] = b"\nLoads and stores that may be anywhere (see [[access]]):\n";
 
@@ -35,20 +42,39 @@ fn heading(what: Assumption) -> &'static [u8]
     }
 }
 
-/// The rows under their heading, or nothing where there are none. An error says that an allocation failed.
-pub fn section(alloc: Global, heading: &[u8], rows: &[u8]) -> Result<Vec<u8>, AllocError>
-    ensures { IfOk result (λ text. text.items ≡ section heading.now rows.now) }
+fn source_section(
+    alloc: Global,
+    heading: &[u8],
+    source: &[u8],
+    placed: &[PlacedLine],
+    named: &[u32],
+) -> Result<Vec<u8>, AllocError>
+    requires { IsStrictlySortedBy nat_cmp named.now }
+    ensures { IfOk result
+        (λ text. text.items
+        ≡ section heading.now (named_rows named.now 1 (lines_of source.now) placed.now)) }
 {
-    let mut out = Vec::new(alloc);
-    if let [] = rows {
-        return Ok(out);
-    }
-    put(&mut out, heading)?;
-    put(&mut out, rows)?;
-    Ok(out)
+    let rows = named_lines(alloc, source, placed, named)?;
+    section(alloc, heading, &rows)
 }
 
-fn source_section(
+fn image_section(
+    alloc: Global,
+    heading: &[u8],
+    image: &Image,
+    named: &[u32],
+) -> Result<Vec<u8>, AllocError>
+    requires { IsStrictlySortedBy nat_cmp named.now }
+    ensures { IfOk result
+        (λ text. (rows : List ℕ) × AreRows (IsNamedRow named.now) image.now rows
+        × (text.items ≡ section heading.now rows)) }
+{
+    let rows = named_words(alloc, image, named)?;
+    section(alloc, heading, &rows)
+}
+
+// The section of the words of which that is assumed, by the lines of a source.
+fn source_assumed(
     alloc: Global,
     handler: StatedGraph<'_>,
     source: &[u8],
@@ -57,30 +83,57 @@ fn source_section(
 ) -> Result<Vec<u8>, AllocError>
     ensures { IfOk result
         (λ text. IsSection (λ named rows. rows ≡ named_rows named 1 (lines_of source.now) placed.now)
-        handler.entry.image.now handler.entry.statement.now handler.entry.graph.now what text.items) }
+        (heading_of what) (AreAssumed handler.entry.image.now handler.entry.statement.now
+        handler.entry.graph.now what) text.items) }
 {
     let named = assumed(alloc, handler.image, handler.statement, handler.graph, what)?;
-    let rows = named_lines(alloc, source, placed, &named)?;
-    section(alloc, heading(what), &rows)
+    source_section(alloc, heading(what), source, placed, &named)
 }
 
-fn image_section(
+// The section of the words that return by a lost R14, by the lines of a source.
+fn source_lost(
+    alloc: Global,
+    handler: StatedGraph<'_>,
+    source: &[u8],
+    placed: &[PlacedLine],
+) -> Result<Vec<u8>, AllocError>
+    ensures { IfOk result
+        (λ text. IsSection (λ named rows. rows ≡ named_rows named 1 (lines_of source.now) placed.now)
+        lost_heading (AreLostLinks handler.entry.image.now handler.entry.graph.now) text.items) }
+{
+    let named = lost_links(alloc, handler.image, handler.graph)?;
+    source_section(alloc, LOST, source, placed, &named)
+}
+
+// The section of the words of which that is assumed, by the words of an image.
+fn image_assumed(
     alloc: Global,
     handler: StatedGraph<'_>,
     what: Assumption,
 ) -> Result<Vec<u8>, AllocError>
     ensures { IfOk result
         (λ text. IsSection (λ named. AreRows (IsNamedRow named) handler.entry.image.now)
-        handler.entry.image.now handler.entry.statement.now handler.entry.graph.now what text.items) }
+        (heading_of what) (AreAssumed handler.entry.image.now handler.entry.statement.now
+        handler.entry.graph.now what) text.items) }
 {
     let named = assumed(alloc, handler.image, handler.statement, handler.graph, what)?;
-    let rows = named_words(alloc, handler.image, &named)?;
-    section(alloc, heading(what), &rows)
+    image_section(alloc, heading(what), handler.image, &named)
+}
+
+// The section of the words that return by a lost R14, by the words of an image.
+fn image_lost(alloc: Global, handler: StatedGraph<'_>) -> Result<Vec<u8>, AllocError>
+    ensures { IfOk result
+        (λ text. IsSection (λ named. AreRows (IsNamedRow named) handler.entry.image.now)
+        lost_heading (AreLostLinks handler.entry.image.now handler.entry.graph.now) text.items) }
+{
+    let named = lost_links(alloc, handler.image, handler.graph)?;
+    image_section(alloc, LOST, handler.image, &named)
 }
 
 /// What a bound takes for granted of the words that its handler reaches, by the lines of its source: those
-/// that count as returns but do not look like returns, and then the loads and stores of which no class
-/// is stated. Nothing stands for either where there are none.
+/// that count as returns but do not look like returns, those that return by R14 after a call has overwritten
+/// it, and then the loads and stores of which no class is stated. Nothing stands for either where there are
+/// none.
 ///
 /// `placed` says where the lines stand, in their order.
 ///
@@ -98,16 +151,18 @@ pub fn source_assumptions(
         handler.entry.statement.now handler.entry.graph.now text.items) }
 {
     let returns = Assumption::TakenForReturn;
-    let mut text = source_section(alloc, handler, source, placed, returns)?;
+    let mut text = source_assumed(alloc, handler, source, placed, returns)?;
+    let lost = source_lost(alloc, handler, source, placed)?;
+    put(&mut text, &lost)?;
     let loose = Assumption::LooseTransfer;
-    let transfers = source_section(alloc, handler, source, placed, loose)?;
+    let transfers = source_assumed(alloc, handler, source, placed, loose)?;
     put(&mut text, &transfers)?;
     Ok(text)
 }
 
 /// What a bound takes for granted of the words that its handler reaches, by an image's words: those that
-/// count as returns but do not look like returns, and then the loads and stores of which no class is
-/// stated. Nothing stands for either where there are none.
+/// count as returns but do not look like returns, those that return by R14 after a call has overwritten it,
+/// and then the loads and stores of which no class is stated. Nothing stands for either where there are none.
 ///
 /// # Errors
 ///
@@ -117,8 +172,10 @@ pub fn image_assumptions(alloc: Global, handler: StatedGraph<'_>) -> Result<Vec<
         (λ text. AreImageAssumptions handler.entry.image.now handler.entry.statement.now
         handler.entry.graph.now text.items) }
 {
-    let mut text = image_section(alloc, handler, Assumption::TakenForReturn)?;
-    let transfers = image_section(alloc, handler, Assumption::LooseTransfer)?;
+    let mut text = image_assumed(alloc, handler, Assumption::TakenForReturn)?;
+    let lost = image_lost(alloc, handler)?;
+    put(&mut text, &lost)?;
+    let transfers = image_assumed(alloc, handler, Assumption::LooseTransfer)?;
     put(&mut text, &transfers)?;
     Ok(text)
 }

@@ -3,9 +3,10 @@ ghost use Rattle.std.specs.BTreeMap.{get};
 ghost use Rattle.std.specs.Ordering.{nat_cmp};
 ghost use Rattle.longest_walk.specs.Folded.{unfolded};
 ghost use Rattle.asm_text.specs.Source.{lines_of};
+ghost use Rattle.explained.specs.Starts.{latest_at};
 ghost use Rattle.explained.specs.Table.{IsSourceTable, line_row, line_taken, source_rows, source_ticks};
 
-use crate::columns::{HEADING, put, put_end, put_number};
+use crate::columns::{HEADING, put_end};
 use crate::lines::{Columns, Costing, line_taken, put_columns, ticks_in};
 use crate::pricing::priced;
 use crate::sections::StatedGraph;
@@ -14,12 +15,14 @@ use crate::tally::{Tally, capped_sum};
 use asm_text::first_line;
 use assembler::PlacedLine;
 use std::alloc::{AllocError, Global};
+use text_rows::{put, put_number};
 
 // Adds the row of a line, if it has words.
 fn put_line(out: &mut Vec<u8>, columns: Columns, number: u64, text: &[u8]) -> Result<(), AllocError>
     ensures { OnOk result
         (out.new.items
-        ≡ out.old.items ++ line_row columns.bound columns.taken columns.latest columns.pricing number text.now) }
+        ≡ out.old.items
+        ++ line_row columns.bound columns.taken columns.latest columns.pricing number text.now) }
 {
     put_columns(out, columns)?;
     put(out, b" ")?;
@@ -110,8 +113,9 @@ pub fn source_table(
 ) -> Result<Vec<u8>, AllocError>
     ensures { IfOk result
         (λ text. IsSourceTable handler.entry.image.now handler.entry.statement.now handler.entry.graph.now
-        (unfolded walk.entry.longest.now.walk) walk.entry.starts.now walk.entry.longest.now.bound source.now
-        placed.now text.items) }
+        (unfolded walk.entry.longest.now.walk)
+        (latest_at handler.entry.graph.now.places walk.entry.starts.now) walk.entry.longest.now.bound
+        source.now placed.now text.items) }
 {
     let longest = walk.longest;
     let tally = Tally::of_walk(alloc, handler.graph, &longest.walk)?;

@@ -39,8 +39,8 @@ fn put_start(latest: &mut BTreeMap<u32, u64>, place: &Place, start: u64) -> Resu
     Ok(())
 }
 
-/// When the words begin at the latest, by the addresses where the graph has a place: the greatest of the starts
-/// of the places there. `AllocError`: an allocation failed.
+/// When the words begin at the latest, by the addresses where the graph has a place: the greatest of the
+/// starts of the places there. `AllocError`: an allocation failed.
 pub(crate) fn latest_starts(
     alloc: Global,
     graph: &Graph,

@@ -9,27 +9,7 @@ use Rattle.assembler.specs.ShownLines.{IsShown}
 use Rattle.assembler.specs.declared.placed_line.PlacedLine.{PlacedLine}
 use Rattle.loader.specs.Image.{Words, word_of}
 use Rattle.trace_text.specs.TraceText.{Adds}
-use Rattle.listing.specs.Listing.{AreWordRows, IsWordRow, in_six, line_rows, source_rows, word_columns, word_rows}
-
--- ---- columns
-
-blanks_in_front : (len : ℕ) → drop (min len 6) (codes "      ") ≡ replicate (6 - len) 32
-blanks_in_front len =
-    let rest : 6 - min len 6 ≡ 6 - len = omega (arith, sub-add-min_cancel 6 len, min_comm 6 len) in
-    drop-replicate (min len 6) 6 32 ∙ ap (λ i. replicate i 32) rest
-
-pub numbered : (n k : ℕ) (old blanks before after digits : List ℕ) → blanks ≡ codes "      " → digits ≡ decimal n
-    → k ≡ min (length digits) 6 → before ≡ old ++ take (length blanks - k) (drop k blanks)
-    → after ≡ before ++ digits → after ≡ old ++ in_six n
-numbered n k old six before after digits six_is is width front0 back =
-    let front : before ≡ old ++ drop k (codes "      ") =
-    front0 ∙ ap (λ xs. old ++ xs) (ap (λ n. take n (drop k six)) (sym (length-drop k six)) ∙ take-length (drop k six) ∙ ap (drop k) six_is) in
-    let len : length digits ≡ length (decimal n) = ap length is in
-    let blanks : drop k (codes "      ") ≡ replicate (6 - length (decimal n)) 32 =
-    ap (λ i. drop i (codes "      ")) (width ∙ ap (λ i. min i 6) len) ∙ blanks_in_front (length (decimal n)) in
-    back ∙ ap (λ xs. xs ++ digits) (front ∙ ap (λ xs. old ++ xs) blanks)
-    ∙ ap (λ ds. (old ++ replicate (6 - length (decimal n)) 32) ++ ds) is
-    ∙ append_assoc old (replicate (6 - length (decimal n)) 32) (decimal n)
+use Rattle.listing.specs.Listing.{AreWordRows, IsWordRow, line_rows, source_rows, word_columns, word_rows}
 
 -- ---- rows of an image
 

@@ -1,10 +1,11 @@
 -- The rows of a listing. Our own format.
-use Rattle.std.specs.Prelude.{◌≡◌, ℕ, zero, suc, ◌+◌, ◌-◌, List, [], ◌∷◌, ◌++◌, length, replicate}
+use Rattle.std.specs.Prelude.{◌≡◌, ℕ, zero, suc, ◌+◌, List, [], ◌∷◌, ◌++◌}
 use Rattle.std.specs.Prelude.{codes, decimal, Option, Some}
 use Rattle.asm_text.specs.Hex.{hex8}
 use Rattle.assembler.specs.ShownLines.{IsShown}
 use Rattle.assembler.specs.declared.placed_line.PlacedLine.{PlacedLine}
 use Rattle.loader.specs.Image.{Words, word_of}
+use Rattle.text_rows.specs.Columns.{in_columns}
 use Rattle.trace_text.specs.TraceText.{word_text}
 
 -- an address and the word there
@@ -15,13 +16,9 @@ word_columns at word = hex8 at ++ (codes "  " ++ word_text word)
 abbrev pub no_columns : List ℕ
 no_columns = codes "                  "
 
--- a number in decimal that ends in the sixth column, with blanks in front
-abbrev pub in_six : ℕ → List ℕ
-in_six n = replicate (6 - length (decimal n)) 32 ++ decimal n
-
 -- the number of a line and its text
 abbrev pub line_row : ℕ → List ℕ → List ℕ
-line_row n text = codes "  " ++ (in_six n ++ (codes "  " ++ (text ++ codes "\n")))
+line_row n text = codes "  " ++ (in_columns 6 (decimal n) ++ (codes "  " ++ (text ++ codes "\n")))
 
 -- a row for each of so many words from an address on
 abbrev pub word_rows : Words → (at count : ℕ) → List ℕ

@@ -2,10 +2,11 @@ ghost use Rattle.std.specs.Prelude.{IfOk, OnOk};
 ghost use Rattle.listing.specs.Listing.{AreWordRows, IsWordRow};
 ghost use Rattle.trace_text.specs.TraceText.{Adds};
 
-use crate::columns::{put, put_word_columns};
+use crate::columns::put_word_columns;
 use assembler::disassemble;
 use loader::Image;
 use std::alloc::{AllocError, Global};
+use text_rows::put;
 
 fn put_row(out: &mut Vec<u8>, at: u32, word: u32) -> Result<(), AllocError>
     ensures { OnOk result (Adds (IsWordRow (at, word)) out.old.items out.new.items) }

@@ -2,11 +2,12 @@ ghost use Rattle.std.specs.Prelude.{◌≡◌, ◌≤◌, ◌+◌, ◌*◌, ◌^
 ghost use Rattle.asm_text.specs.Source.{lines_of};
 ghost use Rattle.listing.specs.Listing.{line_rows, source_rows, word_rows};
 
-use crate::columns::{put, put_line_row, put_word_columns};
+use crate::columns::{put_line_row, put_word_columns};
 use asm_text::first_line;
 use assembler::PlacedLine;
 use loader::Image;
 use std::alloc::{AllocError, Global};
+use text_rows::put;
 
 // Adds a row for each of so many words from an address on.
 fn put_words(out: &mut Vec<u8>, image: &Image, from: u32, count: usize) -> Result<(), AllocError>

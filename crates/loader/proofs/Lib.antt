@@ -1,4 +1,5 @@
 mod WordLemmas
+pub mod GapLemmas
 mod LabelLemmas
 pub mod PlaceLemmas
 mod ReadLemmas

@@ -1,41 +1,11 @@
 -- Reading an image's bytes.
-use Rattle.std.proofs.Common.{◌≡◌, ◌∙◌, ℕ, suc, ◌+◌, ◌-◌, ◌*◌, ◌⊎◌, inl, inr, Ok, Err, ◌<◌, ◌≤◌, Bool, true, false, cond, List, [], ◌∷◌, length, Option, Some, None, refl, sym, ap, arith, is_le, nat_cmp}
-use Rattle.std.specs.Prelude.{◌&&◌, ◌||◌, not, nat_le, nat_lt, is_some, MatchOption, ◌==◌}
-use Rattle.std.specs.List.{filter, list_any}
+use Rattle.std.proofs.Common.{◌≡◌, ◌∙◌, ℕ, suc, ◌+◌, ◌-◌, ◌⊎◌, inl, inr, Ok, Err, ◌<◌, ◌≤◌, true, false, List, [], ◌∷◌, length, refl, ap, arith}
+use Rattle.std.specs.Prelude.{◌==◌}
 use Rattle.std.proofs.lemmas.Bool.Decides.{nat_tests}
 use Rattle.loader.specs.Image.{Words}
-use Rattle.loader.specs.ImageBytes.{image_read, overlaps, segments_read}
+use Rattle.loader.specs.ImageBytes.{image_read, segments_read}
 use Rattle.loader.specs.declared.reading.ReadFault.{ReadFault}
 use Rattle.loader.specs.declared.reading.ReadFault.TheVariants.{Memory, TrailingBytes}
-
--- ## Overlaps
-
--- the list has an element
-abbrev pub is_more : {X : Type 0} → List X → Bool
-is_more [] = false
-is_more (x ∷ xs) = true
-
-any_filtered : (test : ℕ × ℕ → Bool) (b : Bool) (e : ℕ × ℕ) (rest : Words) → is_more (cond b (e ∷ filter test rest) (filter test rest)) ≡ (b || is_more (filter test rest))
-any_filtered test true e rest = refl
-any_filtered test false e rest = refl
-
-any_more : (test : ℕ × ℕ → Bool) (words : Words) → is_more (filter test words) ≡ list_any test words
-any_more test [] = refl
-any_more test (e ∷ rest) = any_filtered test (test e) e rest ∙ ap (λ (b : Bool). test e || b) (any_more test rest)
-
--- the range's test of an address
-in_range : (low high : ℕ) (e : ℕ × ℕ) → (is_le (nat_cmp low e.0) && not (is_le (nat_cmp high e.0))) ≡ (nat_le low e.0 && nat_lt e.0 high)
-in_range low high e = grind (arith, nat_tests)
-
--- a first word of the range is one that overlaps
-pub range_overlaps : (words : Words) (address count : ℕ) → is_more (filter (λ e. is_le (nat_cmp address e.0) && not (is_le (nat_cmp (address + 4 * count) e.0))) words) ≡ overlaps words address count
-range_overlaps words address count =
-    any_more (λ e. is_le (nat_cmp address e.0) && not (is_le (nat_cmp (address + 4 * count) e.0))) words
-    ∙ ap (λ (test : ℕ × ℕ → Bool). list_any test words) (λ i e. in_range address (address + 4 * count) e i)
-
-pub some_more : {X : Type 0} (o : Option X) (xs : List (ℕ × ℕ)) (last : Type 0) (P : X → ℕ × ℕ) (rest : List (ℕ × ℕ)) → MatchOption o ((xs ≡ []) × last) (λ x. xs ≡ P x ∷ rest) → is_some o ≡ is_more xs
-some_more None xs last P rest h = ap is_more (sym h.0)
-some_more (Some x) xs last P rest h = ap is_more (sym h)
 
 -- ## From the first segment to the last
 

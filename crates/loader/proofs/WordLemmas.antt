@@ -2,28 +2,15 @@
 use Rattle.std.proofs.Common.{◌≡◌, ◌≢◌, ◌∙◌, ℕ, suc, ◌+◌, ◌-◌, ◌%◌, ◌<◌, ◌≤◌, Bool, true, false, cond, eqb, [], ◌∷◌, length, Option, Some, None, refl, sym, ap, inl, inr, arith, subst}
 use Rattle.std.specs.Prelude.{IsTrue, IsSome, is_some, nat_le, nat_lt, not, ◌||◌}
 use Rattle.std.specs.List.{AllByRecursion}
-use Rattle.std.specs.Map.{lookup}
-use Rattle.std.specs.BTreeMap.{insert_entry, is_at}
-use Rattle.std.specs.Ordering.{is_lt, nat_cmp}
-use Rattle.std.specs.Prelude.{All, map}
-use Rattle.std.proofs.lemmas.List.Elements.{All-head, All-tail}
-use Rattle.std.proofs.lemmas.Map.Keys.{ge_from_not_lt}
 use Rattle.std.proofs.lemmas.Bool.{cases_lt, cases_eq, le-ltb, lt-ltb, ltb-false, ne_eqb, eq-eqb, eqb-false}
 use Rattle.std.proofs.lemmas.Bool.Decides.{nat_tests}
 use mir.Val.{bool_byte}
-use Rattle.memc.proofs.Rom.{is_at-eqb}
 use Rattle.loader.specs.Image.{Words, begins, may_hold, put_fault, runs_after, runs_of, with_word, word_of}
 use Rattle.loader.specs.Inside.{Ascends, MayStand}
 use Rattle.loader.specs.declared.image.ImageFault.{ImageFault}
 use Rattle.loader.specs.declared.image.ImageFault.TheVariants.{OutOfRange, TooLong}
 
--- ## A map's search and insertion
-
--- the test of the map's search
--- the map's search finds the word
-pub lookup-word_of : (words : Words) (a : ℕ) → lookup (is_at (nat_cmp a)) words ≡ word_of words a
-lookup-word_of [] a = refl
-lookup-word_of (e ∷ rest) a = rw (is_at-eqb a e.0) (ap (λ (o : Option ℕ). cond (eqb e.0 a) (Some e.1) o) (lookup-word_of rest a))
+-- ## An address without a word
 
 -- an address that holds no word is not the first one, and none of the rest
 absent_split : (b : Bool) (v : ℕ) (o : Option ℕ) → cond b (Some v) o ≡ None → (b ≡ false) × (o ≡ None)
@@ -35,14 +22,6 @@ absent_first e rest a none = eqb-false _ _ (absent_split (eqb e.0 a) e.1 (word_o
 
 pub absent_rest : (e : ℕ × ℕ) (rest : Words) (a : ℕ) → word_of (e ∷ rest) a ≡ None → word_of rest a ≡ None
 absent_rest e rest a none = (absent_split (eqb e.0 a) e.1 (word_of rest a) none).1
-
--- the map's insertion puts the word
-pub insert-with_word : (words : Words) (a w : ℕ) → word_of words a ≡ None → insert_entry nat_cmp words a w ≡ with_word words a w
-insert-with_word [] a w none = refl
-insert-with_word (e ∷ rest) a w none = elim (cases_lt a e.0) [
-  | inl lt ↦ rw (lt-ltb a e.0 lt) refl
-  | inr le ↦ rw (le-ltb a e.0 le, ne_eqb a e.0 (λ same. absent_first e rest a none (sym same)), insert-with_word rest a w (absent_rest e rest a none)) refl
-]
 
 -- ## Order and places
 
@@ -212,24 +191,6 @@ has_counted words a found n is counted =
     as_number true = refl
     as_number false = refl
 
--- ## The last word
-
--- no address above all words holds one
-none_above : (words : Words) (last a : ℕ) → All (λ q. is_lt (nat_cmp last q) ≡ false) (map (λ (e : ℕ × ℕ). e.0) words) → last < a → word_of words a ≡ None
-none_above [] last a all above = refl
-none_above (e ∷ rest) last a all above =
-    let below : e.0 ≤ last = ge_from_not_lt last e.0 (All-head (λ q. is_lt (nat_cmp last q) ≡ false) e.0 (map (λ (f : ℕ × ℕ). f.0) rest) all) in
-    rw (ne_eqb e.0 a (λ same. let no : ⊥ = omega (arith, below, above, same) in no))
-    (none_above rest last a (All-tail (λ q. is_lt (nat_cmp last q) ≡ false) e.0 (map (λ (f : ℕ × ℕ). f.0) rest) all) above)
-
--- from the last word on, an address holds a word where it is the last one's
-pub held_at_end : (words : Words) (last a w : ℕ) → All (λ q. is_lt (nat_cmp last q) ≡ false) (map (λ (e : ℕ × ℕ). e.0) words)
-    → lookup (is_at (nat_cmp last)) words ≡ Some w → last ≤ a → eqb last a ≡ is_some (word_of words a)
-held_at_end words last a w all found le = elim (cases_eq last a) [
-  | inl same ↦ eq-eqb last a same ∙ sym (ap is_some (sym (lookup-word_of words a) ∙ subst (λ x. lookup (is_at (nat_cmp x)) words ≡ Some w) same found))
-  | inr other ↦ ne_eqb last a other ∙ sym (ap is_some (none_above words last a all (omega (arith, le, other))))
-]
-
 pub length_with_word : (words : Words) (a w : ℕ) → length (with_word words a w) ≡ suc (length words)
 length_with_word [] a w = refl
 length_with_word (e ∷ rest) a w = longer (nat_lt a e.0) (length_with_word rest a w)
@@ -246,6 +207,17 @@ fault_by may is_held full long = cond (not may || is_held) (Some OutOfRange) (co
 pub none_held : (o : Option ℕ) → is_some o ≡ false → o ≡ None
 none_held None e = refl
 none_held (Some v) e = absurd (cc)
+
+-- what the code has tested
+pub too_long : (may is_held full long : Bool) → may ≡ true → is_held ≡ false → long ≡ true → fault_by may is_held full long ≡ Some TooLong
+too_long true false true true p q r = refl
+too_long true false false true p q r = refl
+too_long true false full false p q r = absurd (cc)
+too_long true true full long p q r = absurd (cc)
+too_long false is_held full long p q r = absurd (cc)
+
+pub no_fault : (may is_held full long : Bool) → may ≡ true → is_held ≡ false → full ≡ false → long ≡ false → fault_by may is_held full long ≡ None
+no_fault may is_held full long p q r s = rw (p, q, r, s) refl
 
 -- what no fault means
 parts : (may is_held full long : Bool) → fault_by may is_held full long ≡ None → (may ≡ true) × (is_held ≡ false) × (full ≡ false) × (long ≡ false)

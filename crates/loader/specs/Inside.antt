@@ -1,14 +1,15 @@
 -- What an image keeps of its words.
-use Rattle.std.specs.Prelude.{◌≡◌, ◌<◌, ◌≤◌, ◌+◌, ◌-◌, ◌*◌, ◌^◌, ℕ, true, IsTrue, List, [], ◌∷◌, length, None}
-use Rattle.std.specs.Prelude.{is_some}
+use Rattle.std.specs.Prelude.{◌≡◌, ◌<◌, ◌≤◌, ◌+◌, ◌-◌, ◌*◌, ◌^◌, ℕ, true, IsTrue, List, []}
+use Rattle.std.specs.Prelude.{◌∷◌, ◌++◌, length, None, is_some}
 use Rattle.std.specs.List.{AllByRecursion}
 use Rattle.loader.specs.Image.{Words, may_hold, runs_of, word_of}
 use Rattle.loader.specs.ImageBytes.{numbers, with_words}
 use Rattle.loader.specs.declared.places.TheConstants.{MOST_WORDS}
 use Rattle.loader.specs.declared.image.Image.TheInside.{Inside}
 
+-- the words below a place, and those above it
 abbrev pub words_in : Inside → Words
-words_in image = image.words.entries
+words_in image = image.below.items ++ image.above.items
 
 -- each address is below those after it
 abbrev pub Ascends : Words → Type 0
@@ -24,12 +25,12 @@ abbrev pub HasNumbers : Words → Type 0
 HasNumbers words = AllByRecursion (λ e. e.1 < 2 ^ 32) words
 
 pub record IsImage (image : Inside) : Type 0 where
-  pub ascends : Ascends image.words.entries
-  pub may_stand : MayStand image.words.entries
-  pub numbers : HasNumbers image.words.entries
-  pub counted : image.runs ≡ runs_of image.words.entries
+  pub ascends : Ascends (words_in image)
+  pub may_stand : MayStand (words_in image)
+  pub numbers : HasNumbers (words_in image)
+  pub counted : image.runs ≡ runs_of (words_in image)
   pub few_runs : image.runs ≤ 16
-  pub few_words : length image.words.entries ≤ MOST_WORDS
+  pub few_words : length (words_in image) ≤ MOST_WORDS
 
 -- what every image keeps, by its words alone
 pub record AreWhole (words : Words) : Type 0 where

@@ -1,4 +1,5 @@
-ghost use Rattle.std.specs.Prelude.{◌≡◌, ◌≤◌, ◌⊎◌, ◌↔◌, ◌/◌, ◌^◌, [], All, IsTrue, IsSome, IfOk, OnOk};
+ghost use Rattle.std.specs.Prelude.{◌≡◌, ◌≤◌, ◌⊎◌, ◌↔◌, ◌+◌, ◌++◌, ◌-◌, ◌/◌, ◌^◌, []};
+ghost use Rattle.std.specs.Prelude.{All, IsTrue, IsSome, IfOk, OnOk};
 ghost use Rattle.std.specs.Prelude.{is_some};
 ghost use Rattle.std.specs.Prelude.{OnErr, IfErr, length, map, not};
 ghost use Rattle.std.specs.List.{list_all, slice_get};
@@ -8,9 +9,13 @@ ghost use Rattle.loader.specs.PagePlan.{AreHeld};
 ghost use Rattle.loader.specs.Planned.{AreOf, IsFitted};
 ghost use Rattle.loader.specs.Image.{is_past_ram, may_hold, put_fault, runs_of, with_word, word_of};
 
+use crate::gap::{
+    Entry, first, is_above, is_below, last, move_down, move_up, nth_above, nth_below, word_above,
+    word_below, word_if,
+};
 use crate::places::{MOST_SEGMENTS, MOST_WORDS, is_past_ram, may_hold};
 use std::alloc::{AllocError, AllocFailed, Global};
-use std::collections::BTreeMap;
+use std::collections::VecDeque;
 use std::marker::Model;
 use thiserror::Error;
 
@@ -56,8 +61,19 @@ impl<T: Drop> From<AllocFailed<T>> for ImageFault {
 /// The words of a program by their addresses, which are below 2^26.
 #[derive(Drop)]
 pub struct Image {
-    pub(crate) words: BTreeMap<u32, u32>,
+    // Words mostly come side by side. So that the next one is added at an end, the words below it stand apart
+    // from those above it, both by ascending addresses.
+    pub(crate) below: Vec<Entry>,
+    pub(crate) above: VecDeque<Entry>,
     pub(crate) runs: usize,
+}
+
+// Whether a word stands at an address, four bytes in front of it and four after it.
+#[derive(Clone, Copy)]
+struct Beside {
+    at: bool,
+    before: bool,
+    after: bool,
 }
 
 impl Model for Image {
@@ -72,13 +88,36 @@ impl Model for Image {
     ghost invariant = { IsImage };
 }
 
+fn are_fitted(words: &[Entry]) -> bool
+    ensures { result ≡ list_all (λ e. not (is_past_ram e.0)) words.now }
+{
+    words.iter().all(|entry| !is_past_ram(entry.0))
+}
+
+fn above_is_fitted(words: &VecDeque<Entry>) -> bool
+    ensures { result ≡ list_all (λ e. not (is_past_ram e.0)) words.now.items }
+{
+    let (front, back) = words.as_slices();
+    are_fitted(front) && are_fitted(back)
+}
+
+fn push_all(words: &mut Vec<Entry>, more: &[Entry]) -> Result<(), AllocError>
+    ensures { OnOk result (words.new.items ≡ words.old.items ++ more.now) }
+{
+    for entry in more {
+        words.push(*entry)?;
+    }
+    Ok(())
+}
+
 impl Image {
     /// An image without a word. It takes no memory.
     pub fn new(alloc: Global) -> Self
         ensures { result ≡ [] }
     {
         Image {
-            words: BTreeMap::new(alloc),
+            below: Vec::new(alloc),
+            above: VecDeque::new(alloc),
             runs: 0,
         }
     }
@@ -88,14 +127,17 @@ impl Image {
         ensures value { result ≡ word_of self.now address }
         ensures held { IsSome result → IsTrue (may_hold address) }
     {
-        self.words.get(&address).copied()
+        match word_below(&self.below, address) {
+            Some(word) => Some(word),
+            None => word_above(&self.above, address),
+        }
     }
 
     /// The number of words, at most 65,536.
     pub fn words(&self) -> u32
         ensures { result ≡ length self.now }
     {
-        self.words.len() as u32
+        self.held() as u32
     }
 
     /// The number of segments, which are the maximal runs of words side by side: at most 16.
@@ -106,11 +148,21 @@ impl Image {
         self.runs as u32
     }
 
-    /// The address of the n-th word by ascending addresses, counted from 0. It takes time linear in n.
+    /// The address of the n-th word by ascending addresses, counted from 0.
     pub fn address(&self, n: u32) -> Option<u32>
         ensures { result ≡ slice_get (map (λ e. e.0) self.now) n }
     {
-        self.words.keys().nth(n as usize).copied()
+        let (address, _) = self.nth(n as usize)?;
+        Some(address)
+    }
+
+    fn nth(&self, n: usize) -> Option<Entry>
+        ensures { result ≡ slice_get self.now n }
+    {
+        match nth_below(&self.below, n) {
+            Some(entry) => Some(entry),
+            None => nth_above(&self.above, n.saturating_sub(self.below.len())),
+        }
     }
 
     /// Whether each word lies where a machine with the most RAM, 128 pages of 32 KB, has memory: none from
@@ -124,9 +176,9 @@ impl Image {
     }
 
     fn none_is_past_ram(&self) -> bool
-        ensures { result ≡ list_all (λ a. not (is_past_ram a)) (map (λ e. e.0) self.now) }
+        ensures { result ≡ list_all (λ e. not (is_past_ram e.0)) self.now }
     {
-        self.words.keys().all(|address| !is_past_ram(*address))
+        are_fitted(&self.below) && above_is_fitted(&self.above)
     }
 
     // What every image keeps.
@@ -141,19 +193,21 @@ impl Image {
         ensures words { IfOk result (λ words. words.items ≡ self.now) }
         ensures few { length self.now ≤ MOST_WORDS }
     {
-        self.words
-            .iter()
-            .map(|(address, word)| (*address, *word))
-            .collect(alloc)
+        let mut words = Vec::from_slice(alloc, &self.below)?;
+        let (front, back) = self.above.as_slices();
+        push_all(&mut words, front)?;
+        push_all(&mut words, back)?;
+        Ok(words)
     }
 
     // The page of 32 KB of each word, by number.
     fn pages(&self, alloc: Global) -> Result<Vec<u32>, AllocError>
-        ensures { IfOk result (λ pages. pages.items ≡ map (λ a. a / 2 ^ 15) (map (λ e. e.0) self.now)) }
+        ensures { IfOk result (λ pages. pages.items ≡ map (λ e. e.0 / 2 ^ 15) self.now) }
     {
-        self.words
-            .keys()
-            .map(|address| address / PAGE_BYTES)
+        let words = self.listed(alloc)?;
+        words
+            .iter()
+            .map(|entry| entry.0 / PAGE_BYTES)
             .collect(alloc)
     }
 
@@ -167,53 +221,65 @@ impl Image {
         Ok(pages)
     }
 
-    // Whether a word stands at the address. Words mostly come ascending, so the last one is looked at first.
-    fn holds(&self, address: u32) -> bool
-        ensures { result ≡ is_some (word_of self.now address) }
+    // The number of words.
+    pub(crate) fn held(&self) -> usize
+        ensures held { result ≡ length self.now }
+        ensures few { length self.now ≤ MOST_WORDS }
     {
-        let Some((last, _)) = self.words.last_key_value() else {
-            return false;
-        };
-        if *last <= address {
-            return *last == address;
+        self.below.len() + self.above.len()
+    }
+
+    // What stands beside an address, which mostly lies between the words below and those above.
+    fn beside(&self, address: u32) -> Beside
+        requires { IsTrue (may_hold address) }
+        ensures at { result.at ≡ is_some (word_of self.now address) }
+        ensures before { result.before ≡ is_some (word_of self.now (address - 4)) }
+        ensures after { result.after ≡ is_some (word_of self.now (address + 4)) }
+    {
+        let (before, after) = (address.saturating_sub(4), address + 4);
+        let (low, high) = (last(&self.below), first(&self.above));
+        if is_below(low, address) && is_above(high, address) {
+            return Beside {
+                at: false,
+                before: word_if(low, before).is_some(),
+                after: word_if(high, after).is_some(),
+            };
         }
-        self.words.contains_key(&address)
+        Beside {
+            at: self.word_at(address).is_some(),
+            before: self.word_at(before).is_some(),
+            after: self.word_at(after).is_some(),
+        }
     }
 
-    // The number of runs with one more word, which joins the runs beside it.
-    fn runs_with(&self, address: u32, word: u32) -> usize
-        requires free { word_of self.now address ≡ None }
-        requires place { IsTrue (may_hold address) }
-        ensures { result ≡ runs_of (with_word self.now address word) }
-    {
-        let before = self.holds(address.saturating_sub(4));
-        let after = self.holds(address + 4);
-        self.runs + 1 - usize::from(before) - usize::from(after)
-    }
-
-    // Why the word cannot be put.
-    fn fault_of(&self, address: u32, word: u32) -> Option<ImageFault>
-        ensures { result ≡ put_fault self.now address word }
+    // The number of runs with one more word, which joins the runs beside it, or why it cannot be put.
+    fn runs_with(&self, address: u32, word: u32) -> Result<usize, ImageFault>
+        ensures runs { IfOk result (λ runs. runs ≡ runs_of (with_word self.now address word)) }
+        ensures allowed { OnOk result (put_fault self.now address word ≡ None) }
+        ensures fault { IfErr result (λ fault. put_fault self.now address word ≡ Some fault) }
     {
         if !may_hold(address) {
-            return Some(ImageFault::OutOfRange);
+            return Err(ImageFault::OutOfRange);
         }
-        if self.holds(address) {
-            return Some(ImageFault::OutOfRange);
+        let beside = self.beside(address);
+        if beside.at {
+            return Err(ImageFault::OutOfRange);
         }
-        if self.words.len() >= MOST_WORDS {
-            return Some(ImageFault::TooLong);
+        if self.held() >= MOST_WORDS {
+            return Err(ImageFault::TooLong);
         }
-        if self.runs_with(address, word) > MOST_SEGMENTS {
-            return Some(ImageFault::TooLong);
+        let runs = self.runs + 1 - usize::from(beside.before) - usize::from(beside.after);
+        if runs > MOST_SEGMENTS {
+            return Err(ImageFault::TooLong);
         }
-        None
+        Ok(runs)
     }
 
     /// Puts a word where none stands.
     ///
     /// `OutOfRange`: the address is no multiple of 4, in I/O (3000000 to 33FFFFF) or past 3FFFFFC, or it
-    /// holds a word already. `TooLong`: a 65,537th word, or a 17th run of words side by side.
+    /// holds a word already. `TooLong`: a 65,537th word, or a 17th run of words side by side. Its time is
+    /// linear in the words between this one and the last that was put.
     pub fn put(&mut self, _alloc: Global, address: u32, word: u32) -> Result<(), ImageFault>
         ensures ok { OnOk result
             ((self.new ≡ with_word self.old address word) × (put_fault self.old address word ≡ None)) }
@@ -221,11 +287,10 @@ impl Image {
             (λ fault. (fault ≡ ImageFault.Memory) ⊎ (put_fault self.old address word ≡ Some fault)) }
         ensures same { OnErr result (self.new ≡ self.old) }
     {
-        if let Some(fault) = self.fault_of(address, word) {
-            return Err(fault);
-        }
-        let runs = self.runs_with(address, word);
-        self.words.insert(address, word)?;
+        let runs = self.runs_with(address, word)?;
+        move_up(&mut self.below, &mut self.above, address)?;
+        move_down(&mut self.below, &mut self.above, address)?;
+        self.below.push((address, word))?;
         self.runs = runs;
         Ok(())
     }

@@ -1,5 +1,7 @@
 ghost use Rattle.std.specs.Prelude.{suc, [], ◌∷◌, ◌++◌, ◌≡◌, ◌⊎◌, ◌+◌, ◌*◌, ◌<◌, ◌≤◌, ℕ, List, Ok, Err, Some};
 ghost use Rattle.std.specs.Prelude.{None, IsTrue, IfOk, IfErr, OnOk, OnErr, drop, length, replicate};
+ghost use Rattle.std.specs.Prelude.{◌&&◌, nat_le, nat_lt};
+ghost use Rattle.std.specs.List.{list_any};
 ghost use Rattle.byteorder.specs.Endian.{little_number};
 ghost use Rattle.loader.specs.Image.{runs_of};
 ghost use Rattle.loader.specs.ImageBytes.{Segment, cut_fault, end_fault, head_address, head_count};
@@ -7,10 +9,12 @@ ghost use Rattle.loader.specs.ImageBytes.{image_bytes, image_read, is_taken};
 ghost use Rattle.loader.specs.ImageBytes.{numbers, overlaps, segment_fault, segments_read, with_words};
 ghost use Rattle.loader.specs.Spelling.{Spell};
 
+use crate::gap::Entry;
 use crate::image::{Image, ImageFault};
 use crate::places::{MOST_SEGMENTS, MOST_WORDS, lies_in_memory, may_hold};
 use byteorder::{ByteOrder, LittleEndian};
 use std::alloc::Global;
+use std::collections::VecDeque;
 use thiserror::Error;
 
 /// The bytes with which every image begins.
@@ -98,16 +102,29 @@ impl Head {
     }
 }
 
+// Whether a word stands from an address up to another.
+fn stand_in(words: &[Entry], from: u32, to: u32) -> bool
+    ensures { result ≡ list_any (λ e. nat_le from e.0 && nat_lt e.0 to) words.now }
+{
+    words.iter().any(|entry| from <= entry.0 && entry.0 < to)
+}
+
+fn above_stand_in(words: &VecDeque<Entry>, from: u32, to: u32) -> bool
+    ensures { result ≡ list_any (λ e. nat_le from e.0 && nat_lt e.0 to) words.now.items }
+{
+    let (front, back) = words.as_slices();
+    stand_in(front, from, to) || stand_in(back, from, to)
+}
+
 impl Image {
     // Whether a word stands at one of `count` addresses of words.
     fn overlaps(&self, address: u32, count: u32) -> bool
         requires inside { address + 4 * count ≤ 0x400_0000 }
         ensures { result ≡ overlaps self.now address count }
     {
-        self.words
-            .range(address..address + 4 * count)
-            .next()
-            .is_some()
+        let end = address + 4 * count;
+        // An image has few segments, so each may look at all words.
+        stand_in(&self.below, address, end) || above_stand_in(&self.above, address, end)
     }
 
     // Why a segment cannot stand after the words of the earlier ones.
@@ -120,7 +137,7 @@ impl Image {
         if head.count == 0 || !lies_in_memory(u64::from(head.address), head.end()) {
             return Some(ReadFault::OutOfRange);
         }
-        if self.words.len() + head.count as usize > MOST_WORDS {
+        if self.held() + head.count as usize > MOST_WORDS {
             return Some(ReadFault::OutOfRange);
         }
         if self.overlaps(head.address, head.count) {
@@ -141,7 +158,7 @@ impl Image {
     fn end_fault(&self, more: u32, to_come: u32) -> ReadFault
         ensures { result ≡ end_fault (length self.now + more) to_come }
     {
-        if self.words.len() + more as usize + to_come as usize > MOST_WORDS {
+        if self.held() + more as usize + to_come as usize > MOST_WORDS {
             return ReadFault::OutOfRange;
         }
         ReadFault::Truncated
@@ -156,7 +173,7 @@ impl Image {
         if low % 4 != 0 {
             return ReadFault::Misaligned;
         }
-        if self.words.len() + 1 + others as usize > MOST_WORDS {
+        if self.held() + 1 + others as usize > MOST_WORDS {
             return ReadFault::OutOfRange;
         }
         if bytes.len() == 3

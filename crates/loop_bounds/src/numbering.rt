@@ -24,8 +24,8 @@ fn address_at(calls: &[u32], index: usize, address: u32) -> u32
     }
 }
 
-// How the calls and then the address compare with others.
-fn compare_keys(calls: &[u32], address: u32, others: &[u32], other: u32) -> Ordering
+// How the calls and then the address compare with others, whether there are calls or not.
+fn compare_all(calls: &[u32], address: u32, others: &[u32], other: u32) -> Ordering
     ensures { result ≡ slice_cmp nat_cmp (calls.now ++ address ∷ []) (others.now ++ other ∷ []) }
 {
     let common = calls.len().min(others.len());
@@ -34,6 +34,19 @@ fn compare_keys(calls: &[u32], address: u32, others: &[u32], other: u32) -> Orde
         .cmp(&others[..common])
         .then(next)
         .then(calls.len().cmp(&others.len()))
+}
+
+// How the calls and then the address compare with others.
+fn compare_keys(calls: &[u32], address: u32, others: &[u32], other: u32) -> Ordering
+    ensures { result ≡ slice_cmp nat_cmp (calls.now ++ address ∷ []) (others.now ++ other ∷ []) }
+{
+    // Most places are inside no call.
+    if calls.is_empty() {
+        if others.is_empty() {
+            return address.cmp(&other);
+        }
+    }
+    compare_all(calls, address, others, other)
 }
 
 /// How the keys of two places compare.

@@ -10,8 +10,8 @@ use std::marker::Model;
 /// The most bytes that a page holds back.
 const PAGE_ROOM: usize = 4096;
 
-/// Bytes on their way to an output, up to 4096 of which are held back, so that many short texts are one write. It
-/// takes no memory. Once the output failed, nothing more is handed to it.
+/// Bytes on their way to an output, up to 4096 of which are held back, so that many short texts are one write.
+/// It takes no memory. Once the output failed, nothing more is handed to it.
 #[derive(Drop)]
 pub struct Page {
     held: ArrayVec<u8, PAGE_ROOM>,
@@ -47,7 +47,8 @@ impl Page {
 
     // Holds the bytes back, where there is room; there is after a failure, since they are not wanted then.
     fn holds(&mut self, bytes: &[u8]) -> bool
-        ensures kept { result ≡ true → self.old.failed ≡ false → self.new.bytes ≡ self.old.bytes ++ bytes.now }
+        ensures kept { result ≡ true → self.old.failed ≡ false
+            → self.new.bytes ≡ self.old.bytes ++ bytes.now }
         ensures failed { self.new.failed ≡ self.old.failed }
         ensures full { result ≡ false → (self.new ≡ self.old) × (self.old.failed ≡ false) }
     {
@@ -91,8 +92,8 @@ impl Page {
         self.send(out, bytes);
     }
 
-    /// Sends what is left. All that was put on its way since some time was then written, and no write failed; or
-    /// some write failed, and the output took a front of it.
+    /// Sends what is left. All that was put on its way since the page was made was then written, and no write
+    /// failed; or some write failed, and the output took a front of it.
     ///
     /// # Errors
     ///

@@ -6,7 +6,7 @@ use Rattle.flow_graph.specs.declared.edges.Edge.{Edge}
 use Rattle.loader.specs.Image.{Words}
 use Rattle.statement.specs.Stated.{Stated}
 use Rattle.savings.specs.Carried.{times_done}
-use Rattle.savings.specs.Parts.{AreParts, Extends}
+use Rattle.text_rows.specs.Rows.{AreRows, Appends}
 use Rattle.savings.specs.Savings.{AreFound, IsWordGain, IsWordSaved, leave_saved, saved}
 use Rattle.savings.specs.declared.gains.Gain.{Gain}
 use Rattle.savings.specs.declared.found.Saving.{Saving}
@@ -14,18 +14,18 @@ use Rattle.savings.specs.declared.found.Subject.TheVariants.{Word}
 
 pub word_more : (st : Stated) (profile : Profile) (times : ℕ → ℕ) (at word n : ℕ) (gain : Option Gain) (old new : List Saving)
     → n ≡ times at → IsWordGain st profile at word gain → new ≡ old ++ saved (Word at word) n gain
-    → Extends (IsWordSaved st profile times (at, word)) old new
+    → Appends (IsWordSaved st profile times (at, word)) old new
 word_more st profile times at word n gain old new n_is is adds =
     (saved (Word at word) n gain, (gain, is, ap (λ m. saved (Word at word) m gain) n_is), adds)
 
 pub all_found : (words listed : Words) (st : Stated) (flow : Flow) (profile : Profile) (walk : List Edge) (times : ℕ → ℕ) (at_words new : List Saving)
-    → times ≡ times_done flow.edges walk → profile ≡ flow.profile → listed ≡ words → AreParts (IsWordSaved st profile times) listed at_words
+    → times ≡ times_done flow.edges walk → profile ≡ flow.profile → listed ≡ words → AreRows (IsWordSaved st profile times) listed at_words
     → new ≡ at_words ++ leave_saved st profile → AreFound words st flow walk new
 all_found words listed st flow profile walk times at_words new times_is profile_is listed_is each all = record {
   at_words = at_words;
   each =
-      subst (λ (t : ℕ → ℕ). AreParts (IsWordSaved st flow.profile t) words at_words) times_is
-      (subst (λ (p : Profile). AreParts (IsWordSaved st p times) words at_words) profile_is
-      (subst (λ (ws : Words). AreParts (IsWordSaved st profile times) ws at_words) listed_is each));
+      subst (λ (t : ℕ → ℕ). AreRows (IsWordSaved st flow.profile t) words at_words) times_is
+      (subst (λ (p : Profile). AreRows (IsWordSaved st p times) words at_words) profile_is
+      (subst (λ (ws : Words). AreRows (IsWordSaved st profile times) ws at_words) listed_is each));
   all = all ∙ ap (λ (p : Profile). at_words ++ leave_saved st p) profile_is;
 }

@@ -1,5 +1,5 @@
 -- What a gain is: the difference of two prices.
-use Rattle.std.proofs.Common.{◌≡◌, ◌≢◌, ◌∙◌, ℕ, ◌+◌, ◌-◌, ◌<◌, ◌≤◌, max, Bool, true, false, count_ones, eqb, Some, None, ◌⊎◌, inl, inr, ⊎_elim, refl, sym, ap, arith}
+use Rattle.std.proofs.Common.{◌≡◌, ◌≢◌, ◌∙◌, ℕ, ◌+◌, ◌-◌, ◌<◌, ◌≤◌, max, Bool, true, false, count_ones, eqb, Some, None, ◌⊎◌, inl, inr, ⊎_elim, refl, sym, ap, subst, arith}
 use Rattle.std.specs.Prelude.{if◌then◌else◌, unwrap_or}
 use Rattle.std.specs.Map.{lookup}
 use Rattle.std.proofs.lemmas.Bool.{cases_Bool, cases_lt, eq-eqb, eqb-true, le-ltb, lt-ltb}
@@ -95,8 +95,8 @@ module _ (p : ClassPrices) where
         (λ (some : eqb (next_price p) 0 ≡ false).
         let both : Some (next_gain p (next_price p)) ≡ Some g = sym (ap (λ b. if b then None else Some (next_gain p (next_price p))) some) ∙ gain in
         let same : next_gain p (next_price p) ≡ g = cc in
-        let changed : Addresses (record { present = p.class; better = next_class p (next_price p) }) ≡ Addresses change = ap (λ (x : Gain). x.refinement) same ∙ is in
-        let change_is : record { present = p.class; better = next_class p (next_price p) } ≡ change = cc in
+        let changed : Addresses (record { present = Any; better = next_class p (next_price p) }) ≡ Addresses change = ap (λ (x : Gain). x.refinement) same ∙ is in
+        let change_is : record { present = Any; better = next_class p (next_price p) } ≡ change = cc in
         let class_is : change.better ≡ next_class p (next_price p) = sym (ap (λ (x : ClassChange). x.better) change_is) in
         let positive : 0 < next_price p = ⊎_elim
         (λ (z : next_price p < 1). absurd (let zero_is : next_price p ≡ 0 = omega arith in let t : true ≡ false = sym (eq-eqb (next_price p) 0 zero_is) ∙ some in cc))
@@ -142,21 +142,41 @@ module _ (p : ClassPrices) where
 first_class : (st : Stated) (a : ℕ) (class : Class) → class_of (with_access st a class) a ≡ class
 first_class st a class = ap (λ b. unwrap_or (if b then Some class else lookup (eqb a) st.accesses) Any) (eq-eqb a a refl)
 
+not_none : (g : Gain) → None ≡ Some g → ⊥
+not_none g gain = cc
+
+-- only what has no stated class gains by one
+unstated : (profile : Profile) (class : Class) (work : Work) (g : Gain) → transfer_gain profile class work ≡ Some g
+    → (class ≡ Any) × (class_gain (transfer_prices profile work) ≡ Some g)
+unstated profile Any work g gain = (refl, gain)
+unstated profile Ram work g gain = absurd (not_none g gain)
+unstated profile Rom work g gain = absurd (not_none g gain)
+unstated profile Io work g gain = absurd (not_none g gain)
+
+unstated_leave : (profile : Profile) (class : Class) (g : Gain) → leave_gain profile class ≡ Some g
+    → (class ≡ Any) × (class_gain (leave_prices profile) ≡ Some g)
+unstated_leave profile Any g gain = (refl, gain)
+unstated_leave profile Ram g gain = absurd (not_none g gain)
+unstated_leave profile Rom g gain = absurd (not_none g gain)
+unstated_leave profile Io g gain = absurd (not_none g gain)
+
 by_work : (st : Stated) (profile : Profile) (a : ℕ) (action : Action) (to : Place) (g : Gain) (change : ClassChange)
-    → class_gain (transfer_prices profile (class_of st a) action.work) ≡ Some g → g.refinement ≡ Addresses change
+    → transfer_gain profile (class_of st a) action.work ≡ Some g → g.refinement ≡ Addresses change
     → do_ticks (with_access st a change.better) profile a action to + g.ticks ≡ do_ticks st profile a action to
 by_work st profile a action to g change gain is =
-    let less = falls (transfer_prices profile (class_of st a) action.work) (λ c. work_ticks profile c action.work) refl refl refl g change gain is in
+    let of_any = unstated profile (class_of st a) action.work g gain in
+    let less = falls (transfer_prices profile action.work) (λ c. work_ticks profile c action.work) refl refl refl g change of_any.1 is in
     let fetch = fetch_ticks profile a action.work in
     let arrival = arrival_ticks st.leave profile action.kind to in
-    ap (λ (c : Class). fetch + work_ticks profile c action.work + arrival + g.ticks) (first_class st a change.better) ∙ omega (arith, less)
+    ap (λ (c : Class). fetch + work_ticks profile c action.work + arrival + g.ticks) (first_class st a change.better) ∙ sums fetch _ _ arrival g.ticks less
+    ∙ ap (λ (c : Class). fetch + work_ticks profile c action.work + arrival) (sym of_any.0)
+  where
+    sums : (fetch better any arrival ticks : ℕ) → better + ticks ≡ any → fetch + better + arrival + ticks ≡ fetch + any + arrival
+    sums fetch better any arrival ticks less = omega arith
 
 module _ (st : Stated) (profile : Profile) (a : ℕ) (c : Cond) (to : Place) (g : Gain) (change : ClassChange) (is : g.refinement ≡ Addresses change) where
   abbrev pub Falls : Operation → Type 0
   Falls o = do_ticks (with_access st a change.better) profile a (action c (kind_of o) (work_of o)) to + g.ticks ≡ do_ticks st profile a (action c (kind_of o) (work_of o)) to
-
-  not_none : None ≡ Some g → ⊥
-  not_none gain = cc
 
   not_multiplier : Some (multiply_gain profile) ≡ Some g → ⊥
   not_multiplier gain =
@@ -166,17 +186,17 @@ module _ (st : Stated) (profile : Profile) (a : ℕ) (c : Cond) (to : Place) (g 
 
   of_operation : (o : Operation) → operation_gain profile (class_of st a) o ≡ Some g → Falls o
   of_operation (operation.Multiply x) gain = absurd (not_multiplier gain)
-  of_operation (operation.DataRegister x) gain = absurd (not_none gain)
-  of_operation (operation.DataRegisterShift x) gain = absurd (not_none gain)
-  of_operation (operation.DataImmediate x) gain = absurd (not_none gain)
+  of_operation (operation.DataRegister x) gain = absurd (not_none g gain)
+  of_operation (operation.DataRegisterShift x) gain = absurd (not_none g gain)
+  of_operation (operation.DataImmediate x) gain = absurd (not_none g gain)
   of_operation (operation.SingleImmediate x) gain = by_work st profile a (action c (kind_of (operation.SingleImmediate x)) (transfer x.load 1)) to g change gain is
   of_operation (operation.SingleRegister x) gain = by_work st profile a (action c (kind_of (operation.SingleRegister x)) (transfer x.load 1)) to g change gain is
   of_operation (operation.Block x) gain = by_work st profile a (action c (kind_of (operation.Block x)) (transfer x.load (count_ones x.list))) to g change gain is
-  of_operation (operation.Branch x) gain = absurd (not_none gain)
-  of_operation (operation.Swi x) gain = absurd (not_none gain)
-  of_operation (operation.UndefinedTransfer x) gain = absurd (not_none gain)
-  of_operation (operation.CoprocessorTransfer x) gain = absurd (not_none gain)
-  of_operation (operation.Coprocessor x) gain = absurd (not_none gain)
+  of_operation (operation.Branch x) gain = absurd (not_none g gain)
+  of_operation (operation.Swi x) gain = absurd (not_none g gain)
+  of_operation (operation.UndefinedTransfer x) gain = absurd (not_none g gain)
+  of_operation (operation.CoprocessorTransfer x) gain = absurd (not_none g gain)
+  of_operation (operation.Coprocessor x) gain = absurd (not_none g gain)
 
 pub access_gains : (st : Stated) (profile : Profile) (a : ℕ) (i : Instr) (to : Place) (g : Gain) (change : ClassChange)
     → operation_gain profile (class_of st a) i.operation ≡ Some g → g.refinement ≡ Addresses change
@@ -185,14 +205,22 @@ access_gains st profile a i to g change gain is = of_operation st profile a i.co
 
 pub leave_gains : (st : Stated) (profile : Profile) (g : Gain) (change : ClassChange) → leave_gain profile st.leave ≡ Some g → g.refinement ≡ Addresses change
     → jump_ticks (with_leave st change.better).leave profile Exit + g.ticks ≡ jump_ticks st.leave profile Exit
-leave_gains st profile g change gain is = falls (leave_prices profile st.leave) (worst_leave_of profile) refl refl refl g change gain is
+leave_gains st profile g change gain is =
+    let of_any = unstated_leave profile st.leave g gain in
+    falls (leave_prices profile) (worst_leave_of profile) refl refl refl g change of_any.1 is ∙ ap (worst_leave_of profile) (sym of_any.0)
 
 -- ## Which class is next
 
 pub next_access : (profile : Profile) (class : Class) (work : Work) (g : Gain) (change : ClassChange) → transfer_gain profile class work ≡ Some g → g.refinement ≡ Addresses change
     → IsDearestBelow (λ c. work_ticks profile c work) (work_ticks profile class work) change.better
-next_access profile class work g change gain is = dearest (transfer_prices profile class work) (λ c. work_ticks profile c work) refl refl refl g change gain is
+next_access profile class work g change gain is =
+    let of_any = unstated profile class work g gain in
+    let found = dearest (transfer_prices profile work) (λ c. work_ticks profile c work) refl refl refl g change of_any.1 is in
+    subst (λ (c : Class). IsDearestBelow (λ k. work_ticks profile k work) (work_ticks profile c work) change.better) (sym of_any.0) found
 
 pub next_leave : (profile : Profile) (class : Class) (g : Gain) (change : ClassChange) → leave_gain profile class ≡ Some g → g.refinement ≡ Addresses change
     → IsDearestBelow (worst_leave_of profile) (worst_leave_of profile class) change.better
-next_leave profile class g change gain is = dearest (leave_prices profile class) (worst_leave_of profile) refl refl refl g change gain is
+next_leave profile class g change gain is =
+    let of_any = unstated_leave profile class g gain in
+    let found = dearest (leave_prices profile) (worst_leave_of profile) refl refl refl g change of_any.1 is in
+    subst (λ (c : Class). IsDearestBelow (worst_leave_of profile) (worst_leave_of profile c) change.better) (sym of_any.0) found

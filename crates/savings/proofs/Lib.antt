@@ -2,5 +2,4 @@ mod CarriedLaws
 mod FoundLaws
 mod GainLaws
 mod LineLaws
-mod PartLaws
 mod RowLaws

@@ -1,31 +1,31 @@
 -- The row of a saving, and the rows of all.
 use Rattle.std.proofs.Common.{◌≡◌, ◌∙◌, ℕ, List, ◌++◌, append_assoc, Option, refl, ap, subst}
 use Rattle.assembler.specs.declared.placed_line.PlacedLine.{PlacedLine}
-use Rattle.explained.specs.Rows.{section}
+use Rattle.text_rows.specs.Rows.{section}
 use Rattle.flow_graph.specs.Flow.{Flow}
 use Rattle.flow_graph.specs.declared.edges.Edge.{Edge}
 use Rattle.loader.specs.Image.{Words}
 use Rattle.statement.specs.Stated.{Stated}
-use Rattle.savings.specs.Parts.{AreParts, Extends}
+use Rattle.text_rows.specs.Rows.{AreRows, Appends}
 use Rattle.savings.specs.Savings.{AreSavings}
 use Rattle.savings.specs.Sections.{AreSourceSavings, IsSavingRow, IsSourceEnd, front_text, heading, line_of}
 use Rattle.savings.specs.declared.found.Saving.{Saving}
 use Rattle.savings.specs.declared.found.Subject.{Subject}
 
-pub whole_row : (IsEnd : Subject → List ℕ → Type 0) (s : Saving) (old mid new : List ℕ) → mid ≡ old ++ front_text s → Extends (IsEnd s.subject) mid new → Extends (IsSavingRow IsEnd s) old new
+pub whole_row : (IsEnd : Subject → List ℕ → Type 0) (s : Saving) (old mid new : List ℕ) → mid ≡ old ++ front_text s → Appends (IsEnd s.subject) mid new → Appends (IsSavingRow IsEnd s) old new
 whole_row IsEnd s old mid new front adds =
     (front_text s ++ adds.0, (adds.0, adds.1, refl), adds.2 ∙ ap (λ (xs : List ℕ). xs ++ adds.0) front ∙ append_assoc old (front_text s) adds.0)
 
 -- by lines that are found beforehand
 pub source_text : (source : List ℕ) (placed : List PlacedLine) (words : Words) (st : Stated) (flow : Flow) (walk : List Edge) (lines : ℕ → Option (ℕ × List ℕ)) (list listed : List Saving) (rows shown text : List ℕ)
-    → lines ≡ line_of source placed → AreSavings words st flow walk list → listed ≡ list → AreParts (IsSavingRow (IsSourceEnd lines)) listed rows → shown ≡ rows
+    → lines ≡ line_of source placed → AreSavings words st flow walk list → listed ≡ list → AreRows (IsSavingRow (IsSourceEnd lines)) listed rows → shown ≡ rows
     → text ≡ section heading shown → AreSourceSavings source placed words st flow walk text
 source_text source placed words st flow walk lines list listed rows shown text lines_is savings listed_is are shown_is is = record {
   list = list;
   rows = rows;
   are_savings = savings;
   are_rows =
-      subst (λ (f : ℕ → Option (ℕ × List ℕ)). AreParts (IsSavingRow (IsSourceEnd f)) list rows) lines_is
-      (subst (λ (l : List Saving). AreParts (IsSavingRow (IsSourceEnd lines)) l rows) listed_is are);
+      subst (λ (f : ℕ → Option (ℕ × List ℕ)). AreRows (IsSavingRow (IsSourceEnd f)) list rows) lines_is
+      (subst (λ (l : List Saving). AreRows (IsSavingRow (IsSourceEnd lines)) l rows) listed_is are);
   text_is = is ∙ ap (section heading) shown_is;
 }

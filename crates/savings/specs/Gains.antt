@@ -28,11 +28,11 @@ next_price p = max (if_less p.present p.ram) (max (if_less p.present p.rom) (if_
 abbrev pub next_class : ClassPrices → (next : ℕ) → Class
 next_class p next = if p.ram == next then Ram else (if p.rom == next then Rom else Io)
 
--- what it takes off the present price
+-- what it takes off the present price, that of any
 abbrev pub next_gain : ClassPrices → (next : ℕ) → Gain
 next_gain p next =
     record {
-      refinement = Addresses (record { present = p.class; better = next_class p next });
+      refinement = Addresses (record { present = Any; better = next_class p next });
       ticks = p.present - next;
     }
 
@@ -49,18 +49,21 @@ pub record IsDearestBelow (price : Class → ℕ) (present : ℕ) (class : Class
 -- ## What a word and a way out gain
 
 -- what a transfer costs besides its fetches, by the class of its addresses
-abbrev pub transfer_prices : Profile → Class → Work → ClassPrices
-transfer_prices p class w =
+abbrev pub transfer_prices : Profile → Work → ClassPrices
+transfer_prices p w =
     record {
-      class = class;
-      present = work_ticks p class w;
+      present = work_ticks p Any w;
       ram = work_ticks p Ram w;
       rom = work_ticks p Rom w;
       io = work_ticks p Io w;
     }
 
+-- a stated class is true, so none is better
 abbrev pub transfer_gain : Profile → Class → Work → Option Gain
-transfer_gain p class w = class_gain (transfer_prices p class w)
+transfer_gain p Any w = class_gain (transfer_prices p w)
+transfer_gain p Ram w = None
+transfer_gain p Rom w = None
+transfer_gain p Io w = None
 
 -- a multiply is priced at 16 internal cycles, and with the next better multiplier takes 15
 abbrev pub multiply_gain : Profile → Gain
@@ -82,15 +85,17 @@ operation_gain p class (operation.CoprocessorTransfer x) = None
 operation_gain p class (operation.Coprocessor x) = None
 
 -- of the two fetches after the handler leaves, by the class of the addresses to which it does
-abbrev pub leave_prices : Profile → Class → ClassPrices
-leave_prices p class =
+abbrev pub leave_prices : Profile → ClassPrices
+leave_prices p =
     record {
-      class = class;
-      present = worst_leave_of p class;
+      present = worst_leave_of p Any;
       ram = worst_leave_of p Ram;
       rom = worst_leave_of p Rom;
       io = worst_leave_of p Io;
     }
 
 abbrev pub leave_gain : Profile → Class → Option Gain
-leave_gain p class = class_gain (leave_prices p class)
+leave_gain p Any = class_gain (leave_prices p)
+leave_gain p Ram = None
+leave_gain p Rom = None
+leave_gain p Io = None

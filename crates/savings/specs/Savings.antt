@@ -14,7 +14,7 @@ use Rattle.statement.specs.Stated.{Stated, class_of}
 use Rattle.walk_counts.specs.Counts.{capped}
 use Rattle.savings.specs.Carried.{times_done}
 use Rattle.savings.specs.Gains.{leave_gain, operation_gain}
-use Rattle.savings.specs.Parts.{AreParts}
+use Rattle.text_rows.specs.Rows.{AreRows}
 use Rattle.savings.specs.declared.gains.Gain.{Gain}
 use Rattle.savings.specs.declared.found.Saving.{Saving}
 use Rattle.savings.specs.declared.found.Subject.{Subject}
@@ -46,7 +46,7 @@ leave_saved st profile = saved Leave 1 (leave_gain profile st.leave)
 pub record AreFound (words : Words) (st : Stated) (flow : Flow) (walk : List Edge)
     (found : List Saving) : Type 0 where
   pub at_words : List Saving
-  pub each : AreParts (IsWordSaved st flow.profile (times_done flow.edges walk)) words at_words
+  pub each : AreRows (IsWordSaved st flow.profile (times_done flow.edges walk)) words at_words
   pub all : found ≡ at_words ++ leave_saved st flow.profile
 
 abbrev pub ticks_saved : Saving → ℕ

@@ -8,16 +8,16 @@ use Rattle.asm_text.specs.Hex.{hex8}
 use Rattle.asm_text.specs.Source.{lines_of}
 use Rattle.assembler.specs.declared.placed_line.PlacedLine.{PlacedLine}
 use Rattle.explained.specs.Assumed.{named_row}
-use Rattle.explained.specs.Columns.{in_columns}
+use Rattle.text_rows.specs.Columns.{in_columns}
 use Rattle.explained.specs.Pricing.{class_name}
-use Rattle.explained.specs.Rows.{IsShownRow, section}
+use Rattle.text_rows.specs.Rows.{IsShownRow, section}
 use Rattle.explained.specs.Table.{addresses}
 use Rattle.explained.specs.declared.named.NumberedLine.{NumberedLine}
 use Rattle.flow_graph.specs.Flow.{Flow}
 use Rattle.flow_graph.specs.declared.edges.Edge.{Edge}
 use Rattle.loader.specs.Image.{Words}
 use Rattle.statement.specs.Stated.{Stated}
-use Rattle.savings.specs.Parts.{AreParts}
+use Rattle.text_rows.specs.Rows.{AreRows}
 use Rattle.savings.specs.Savings.{AreSavings}
 use Rattle.savings.specs.declared.classes.ClassChange.{ClassChange}
 use Rattle.savings.specs.declared.gains.Refinement.{Refinement}
@@ -32,8 +32,8 @@ use Rattle.savings.specs.declared.found.Subject.TheVariants.{Leave, Word}
 abbrev pub has_word : (from count a : ℕ) → Bool
 has_word from count a = list_any (λ b. a == b) (addresses from count)
 
--- the number and the text of the last line with a word at the address, where the first line has the number; if
--- none has one, what was found before
+-- the number and the text of the last line with a word at the address, where the first line has the number;
+-- if none has one, what was found before
 abbrev pub line_with : ℕ → List (List ℕ) → List PlacedLine → Option (ℕ × List ℕ) → ℕ → Option (ℕ × List ℕ)
 line_with n (text ∷ lines) (p ∷ placed) found a =
     line_with (n + 1) lines placed (if has_word p.at p.words a then Some (n, text) else found) a
@@ -102,7 +102,7 @@ pub record IsSavingsText (IsEnd : Subject → List ℕ → Type 0) (words : Word
   pub list : List Saving
   pub rows : List ℕ
   pub are_savings : AreSavings words st flow walk list
-  pub are_rows : AreParts (IsSavingRow IsEnd) list rows
+  pub are_rows : AreRows (IsSavingRow IsEnd) list rows
   pub text_is : text ≡ section heading rows
 
 -- by the lines of a source

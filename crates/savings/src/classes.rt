@@ -11,11 +11,10 @@ pub struct ClassChange {
     pub better: Class,
 }
 
-/// What an access costs in ticks by the class of its addresses: by the present class, and by each that a
-/// statement may name.
+/// What an access costs in ticks by the class of its addresses: by any, which is the present one, and by
+/// each that a statement may name.
 #[derive(Clone, Copy)]
 pub(crate) struct ClassPrices {
-    pub(crate) class: Class,
     pub(crate) present: u32,
     pub(crate) ram: u32,
     pub(crate) rom: u32,
@@ -51,8 +50,8 @@ fn next_class(prices: ClassPrices, next: u32) -> Class
     }
 }
 
-/// What the next better class takes off the price: that whose price is the greatest below the present one.
-/// None where no class costs less.
+/// What the next better class takes off the price where the class is any: that whose price is the greatest
+/// below the present one. None where no class costs less.
 pub(crate) fn class_gain(prices: ClassPrices) -> Option<Gain>
     ensures { result ≡ class_gain prices }
 {
@@ -61,7 +60,7 @@ pub(crate) fn class_gain(prices: ClassPrices) -> Option<Gain>
         return None;
     }
     let change = ClassChange {
-        present: prices.class,
+        present: Class::Any,
         better: next_class(prices, next),
     };
     Some(Gain {

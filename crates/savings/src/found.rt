@@ -1,7 +1,7 @@
 ghost use Rattle.std.specs.Prelude.{◌≡◌, ◌++◌, IfOk, OnOk};
 ghost use Rattle.longest_walk.specs.Folded.{unfolded};
 ghost use Rattle.savings.specs.Carried.{times_in};
-ghost use Rattle.savings.specs.Parts.{AreParts, Extends};
+ghost use Rattle.text_rows.specs.Rows.{AreRows, Appends};
 ghost use Rattle.savings.specs.Savings.{AreFound, AreSavings, IsWordGain, IsWordSaved, saved};
 
 use crate::carried::{times_at, times_carried_out};
@@ -83,7 +83,7 @@ fn push_word(
     word: u32,
 ) -> Result<(), AllocError>
     ensures { OnOk result
-        (Extends (IsWordSaved carried.entry.statement.now carried.entry.profile.now
+        (Appends (IsWordSaved carried.entry.statement.now carried.entry.profile.now
         (times_in carried.entry.times.now) (at, word)) found.old.items found.new.items) }
 {
     let gain = word_gain(carried.statement, carried.profile, at, word);
@@ -98,7 +98,7 @@ fn saved_at(
     words: &[(u32, u32)],
 ) -> Result<Vec<Saving>, AllocError>
     ensures { IfOk result
-        (λ found. AreParts (IsWordSaved carried.entry.statement.now carried.entry.profile.now
+        (λ found. AreRows (IsWordSaved carried.entry.statement.now carried.entry.profile.now
         (times_in carried.entry.times.now)) words.now found.items) }
 {
     let mut found = Vec::new(alloc);
@@ -132,11 +132,11 @@ fn found_savings(
     Ok(found)
 }
 
-/// What better entries of a statement would save by a greatest walk: each class of what a load or a store
-/// transfers if it were the next better, each multiply if it took 15 cycles, and the class of the addresses to
-/// which the handler leaves if it were the next better. The next better class is the one whose price is the
-/// greatest below the present one's. Another walk may then be the greatest, so the bound would be less by that
-/// at most.
+/// What better entries of a statement would save by a greatest walk: for each load and store whose class is
+/// any, and for the way out of the handler if its class is any, the next better class, and for each
+/// multiply one of 15 cycles. The next better class is the one whose price is the greatest below the
+/// present one's. A stated class is true, so none is better. Another walk may then be the greatest, so the
+/// bound would be less by that at most.
 ///
 /// Those that save most come first; of equals the lowest address, and the way out last. What saves nothing is
 /// not there.

@@ -36,22 +36,25 @@ fn transfer_ticks(profile: &Profile, class: Class, load: bool, words: u32) -> u3
     }
 }
 
-// What the next better class takes off the price of a transfer of 1 to 16 words.
+// What the next better class takes off the price of a transfer of 1 to 16 words. A stated class is true, so
+// none is better.
 fn transfer_gain(profile: &Profile, class: Class, load: bool, words: u32) -> Option<Gain>
     requires { IsWork (transfer load words) }
     ensures { result ≡ transfer_gain profile.now class (transfer load words) }
 {
-    class_gain(ClassPrices {
-        class,
-        present: transfer_ticks(profile, class, load, words),
-        ram: transfer_ticks(profile, Class::Ram, load, words),
-        rom: transfer_ticks(profile, Class::Rom, load, words),
-        io: transfer_ticks(profile, Class::Io, load, words),
-    })
+    match class {
+        Class::Any => class_gain(ClassPrices {
+            present: transfer_ticks(profile, Class::Any, load, words),
+            ram: transfer_ticks(profile, Class::Ram, load, words),
+            rom: transfer_ticks(profile, Class::Rom, load, words),
+            io: transfer_ticks(profile, Class::Io, load, words),
+        }),
+        Class::Ram | Class::Rom | Class::Io => None,
+    }
 }
 
-/// What the next better class of what it transfers takes off an operation's price, or of a multiply one cycle
-/// less. None where nothing does.
+/// What the next better class of what it transfers takes off an operation's price, if its class is any, or
+/// one cycle less off a multiply's. None where nothing does.
 pub(crate) fn operation_gain(profile: &Profile, class: Class, operation: &Operation) -> Option<Gain>
     requires { IsWork (work_of operation.now) }
     ensures { result ≡ operation_gain profile.now class operation.now }
@@ -75,16 +78,18 @@ pub(crate) fn operation_gain(profile: &Profile, class: Class, operation: &Operat
     }
 }
 
-/// What the next better class of the addresses to which the handler leaves takes off the price of the way out.
-/// None where no class costs less.
+/// What the next better class of the addresses to which the handler leaves takes off the price of the way
+/// out, if their class is any. None where nothing does.
 pub(crate) fn leave_gain(profile: &Profile, class: Class) -> Option<Gain>
     ensures { result ≡ leave_gain profile.now class }
 {
-    class_gain(ClassPrices {
-        class,
-        present: worst_leave(profile, class),
-        ram: worst_leave(profile, Class::Ram),
-        rom: worst_leave(profile, Class::Rom),
-        io: worst_leave(profile, Class::Io),
-    })
+    match class {
+        Class::Any => class_gain(ClassPrices {
+            present: worst_leave(profile, Class::Any),
+            ram: worst_leave(profile, Class::Ram),
+            rom: worst_leave(profile, Class::Rom),
+            io: worst_leave(profile, Class::Io),
+        }),
+        Class::Ram | Class::Rom | Class::Io => None,
+    }
 }

@@ -1,5 +1,5 @@
-//! What a better entry of a statement would save: for each load and store a better class of what it transfers,
-//! for each multiply one cycle less, and for the way out of the handler a better class, by a greatest walk.
+//! What a better entry of a statement would save by a greatest walk: for each load and store, and for the
+//! way out of the handler, a class where none is stated, and for each multiply one cycle less.
 #![tactic(auto)]
 
 mod carried;

@@ -1,7 +1,8 @@
 ghost use Rattle.std.specs.Prelude.{◌≡◌, ◌++◌, IfOk, OnOk};
 ghost use Rattle.longest_walk.specs.Folded.{unfolded};
-ghost use Rattle.savings.specs.Parts.{AreParts, Extends};
-ghost use Rattle.savings.specs.Sections.{AreImageSavings, AreSourceSavings, IsImageEnd, IsSavingRow, IsSourceEnd};
+ghost use Rattle.text_rows.specs.Rows.{AreRows, Appends};
+ghost use Rattle.savings.specs.Sections.{AreImageSavings, AreSourceSavings, IsImageEnd, IsSavingRow};
+ghost use Rattle.savings.specs.Sections.{IsSourceEnd};
 ghost use Rattle.savings.specs.Sections.{entry_text, front_text, line_at, line_row, refinement_text};
 
 use crate::found::{Saving, Subject, savings};
@@ -9,13 +10,11 @@ use crate::gains::Refinement;
 use crate::lines::lines_by_address;
 use asm_text::hex8;
 use assembler::PlacedLine;
-use explained::{
-    NumberedLine, StatedGraph, class_name, put, put_named_row, put_number, put_right,
-    put_shown_row, section,
-};
+use explained::{NumberedLine, StatedGraph, class_name, put_named_row};
 use longest_walk::Longest;
 use std::alloc::{AllocError, Global};
 use std::collections::BTreeMap;
+use text_rows::{put, put_number, put_right, put_shown_row, section};
 
 const HEADING: &[u8] = b"\nWhat would save most, in ticks at most (state only what is true):\n";
 
@@ -82,7 +81,7 @@ fn put_source_end(
     subject: Subject,
 ) -> Result<(), AllocError>
     ensures { OnOk result
-        (Extends (IsSourceEnd (line_at lines.now) subject) out.old.items out.new.items) }
+        (Appends (IsSourceEnd (line_at lines.now) subject) out.old.items out.new.items) }
 {
     match subject {
         Subject::Word(at, _) => put_line(out, lines, at),
@@ -92,7 +91,7 @@ fn put_source_end(
 
 // Adds what stands after the entry, by the words of an image.
 fn put_image_end(out: &mut Vec<u8>, subject: Subject) -> Result<(), AllocError>
-    ensures { OnOk result (Extends (IsImageEnd subject) out.old.items out.new.items) }
+    ensures { OnOk result (Appends (IsImageEnd subject) out.old.items out.new.items) }
 {
     match subject {
         Subject::Word(at, word) => put_shown_row(out, at, word),
@@ -106,7 +105,7 @@ fn put_source_row(
     saving: &Saving,
 ) -> Result<(), AllocError>
     ensures { OnOk result
-        (Extends (IsSavingRow (IsSourceEnd (line_at lines.now)) saving.now) out.old.items out.new.items) }
+        (Appends (IsSavingRow (IsSourceEnd (line_at lines.now)) saving.now) out.old.items out.new.items) }
 {
     put_front(out, saving)?;
     put_source_end(out, lines, saving.subject)
@@ -114,7 +113,7 @@ fn put_source_row(
 
 fn put_image_row(out: &mut Vec<u8>, saving: &Saving) -> Result<(), AllocError>
     ensures { OnOk result
-        (Extends (IsSavingRow IsImageEnd saving.now) out.old.items out.new.items) }
+        (Appends (IsSavingRow IsImageEnd saving.now) out.old.items out.new.items) }
 {
     put_front(out, saving)?;
     put_image_end(out, saving.subject)
@@ -126,7 +125,7 @@ fn source_rows(
     list: &[Saving],
 ) -> Result<Vec<u8>, AllocError>
     ensures { IfOk result
-        (λ rows. AreParts (IsSavingRow (IsSourceEnd (line_at lines.now))) list.now rows.items) }
+        (λ rows. AreRows (IsSavingRow (IsSourceEnd (line_at lines.now))) list.now rows.items) }
 {
     let mut out = Vec::new(alloc);
     for saving in list {
@@ -136,7 +135,7 @@ fn source_rows(
 }
 
 fn image_rows(alloc: Global, list: &[Saving]) -> Result<Vec<u8>, AllocError>
-    ensures { IfOk result (λ rows. AreParts (IsSavingRow IsImageEnd) list.now rows.items) }
+    ensures { IfOk result (λ rows. AreRows (IsSavingRow IsImageEnd) list.now rows.items) }
 {
     let mut out = Vec::new(alloc);
     for saving in list {
@@ -145,9 +144,9 @@ fn image_rows(alloc: Global, list: &[Saving]) -> Result<Vec<u8>, AllocError>
     Ok(out)
 }
 
-/// What better entries of a statement would save by a greatest walk, by the lines of a source: under a heading
-/// a row for each of the [`savings`], with the ticks, the better entry, and the address, the number and the
-/// text of its line. Nothing where there are no savings.
+/// What better entries of a statement would save by a greatest walk, by the lines of a source: under a
+/// heading a row for each of the [`savings`], with the ticks, the better entry, and the address, the number
+/// and the text of its line. Nothing where there are no savings.
 ///
 /// `placed` says where the lines stand, in their order.
 ///
@@ -171,9 +170,9 @@ pub fn source_savings(
     section(alloc, HEADING, &rows)
 }
 
-/// What better entries of a statement would save by a greatest walk, by the words of an image: under a heading
-/// a row for each of the [`savings`], with the ticks, the better entry, and the address, the word and the line
-/// that [`disassemble`](assembler::disassemble) shows. Nothing where there are no savings.
+/// What better entries of a statement would save by a greatest walk, by the words of an image: under a
+/// heading a row for each of the [`savings`], with the ticks, the better entry, and the address, the word
+/// and the line that [`disassemble`](assembler::disassemble) shows. Nothing where there are no savings.
 ///
 /// # Errors
 ///

@@ -1,4 +1,4 @@
-; A register of a device, read by a routine that is called twice; the handler leaves to RAM.
+; A word read by a routine that is called twice; the handler leaves to RAM.
 start    MOV    R4,R14
          BL     read
          BL     read

@@ -1,6 +1,7 @@
 use Rattle.std.proofs.Common.{[], ◌∷◌, option_map, sym, subst}
 use Rattle.arcwcet.specs.Files.{ReadsAll, Texts, in_front}
-use Rattle.arcwcet.proofs.RunLemmas.{check_ran}
+use Rattle.bound_reports.specs.Check.{IsAnswer, IsCheckRefused, IsCheckable}
+use Rattle.arcwcet.proofs.RunLemmas.{answer_ran}
 use Rattle.arcwcet.proofs.commands.run_check.Goals as goal
 
 pub returns-clause-ran : goal.returns-clause-ran
@@ -9,9 +10,10 @@ returns-clause-ran g c =
     let names = c.args.names.handler in
     let profile = option_map (λ n. n.now) names.profile in
     let file = option_map (λ f. f.now) c.profile.result in
-    check_ran reads g.O.Output.taken g.O.Output.failures profile names.first.now names.second.now c.args.names.cert.now file c.deref.result.now c.deref-2.result.now c.deref-3.result.now
+    let third = c.args.names.cert.now in
+    answer_ran IsAnswer IsCheckable IsCheckRefused reads g.O.Output.taken g.O.Output.failures profile names.first.now names.second.now third file c.deref.result.now c.deref-2.result.now c.deref-3.result.now
     c.args.store.now c.read_three_files.new.store c.args.out.now c.check_report-answer.new.out
-    (subst (λ (files : Texts). ReadsAll reads c.args.store.now (in_front profile (names.first.now ∷ names.second.now ∷ c.args.names.cert.now ∷ [])) files c.read_three_files.new.store)
+    (subst (λ (files : Texts). ReadsAll reads c.args.store.now (in_front profile (names.first.now ∷ names.second.now ∷ third ∷ [])) files c.read_three_files.new.store)
     (λ i. in_front (sym c.profile.ensures i) (sym c.deref.ensures.value i ∷ sym c.deref-2.ensures.value i ∷ sym c.deref-3.ensures.value i ∷ []))
     c.in-Ok.ensures.read)
     c.check_report-answer.result c.check_report-answer.ensures c.answer_status.result c.answer_status.ensures.status

@@ -1,6 +1,6 @@
 use Rattle.std.proofs.Common.{◌∙◌, ◌++◌, ℕ, List, ap, subst, sym}
-use Rattle.explained.specs.Rows.{AreRows}
-use Rattle.explained.proofs.RowLaws.{so_far_all, so_far_one}
+use Rattle.text_rows.specs.Rows.{AreRows}
+use Rattle.text_rows.proofs.RowLaws.{so_far_all, so_far_one}
 use Rattle.author_reports.specs.Differences.{IsRowIfApart, compared_in}
 use Rattle.author_reports.proofs.differences.image_rows.Goals as goal
 

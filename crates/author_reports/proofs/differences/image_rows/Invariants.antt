@@ -1,4 +1,4 @@
-use Rattle.explained.proofs.RowLaws.{SoFar}
+use Rattle.text_rows.proofs.RowLaws.{SoFar}
 use Rattle.author_reports.specs.Differences.{IsRowIfApart, compared_in}
 use Rattle.author_reports.proofs.differences.image_rows.Given as goal
 

@@ -1,4 +1,5 @@
 use Rattle.std.proofs.Common.{◌≢◌, subst, sym}
+use Rattle.explained.specs.Starts.{latest_at}
 use Rattle.longest_walk.specs.Starts.{AreWorstStarts}
 use Rattle.report_output.specs.Faults.{of_walk}
 use Rattle.author_reports.specs.ExplainReport.{IsTotal}
@@ -60,6 +61,7 @@ returns-clause-explains c = λ names said loops.
           (c.places_stand_once.ensures.source source words loops.graph.names placed h.graph formed
           (text_was_assembled source words loops.graph.names is loops.graph.source_is) stand on);
     } in
+    let starts = subst (AreWorstStarts h.graph h.tree) (sym c.deref.ensures.value) c.in_ok-starts.ensures.starts in
     explained source statement profile c.args.image.now names said h.statement h.graph h.tree loops c.requires.tree
-    c.args.explained.bursts found c.deref.result.now c.in_ok-text.text.items c.in_ok-found.ensures.longest
-    (subst (AreWorstStarts h.graph h.tree) (sym c.deref.ensures.value) c.in_ok-starts.ensures.starts) c.in_ok-found.ensures.allowed c.in_ok-text.ensures.text total
+    c.args.explained.bursts found (latest_at h.graph.places c.deref.result.now) c.in_ok-text.text.items c.in_ok-found.ensures.longest
+    (λ a. c.latest_starts_are_of_walks.ensures h.graph h.tree c.deref.result.now a formed starts) c.in_ok-found.ensures.allowed c.in_ok-text.ensures.text total

@@ -1,4 +1,4 @@
-use Rattle.std.proofs.Common.{◌≡◌, ◌+◌, ◌≤◌, drop, false, length}
+use Rattle.std.proofs.Common.{◌≡◌, ◌+◌, drop, false}
 use Rattle.diagnosis.specs.Outline.{quoted_len}
 use Rattle.diagnosis.proofs.tokens.quoted_len.Given as goal
 

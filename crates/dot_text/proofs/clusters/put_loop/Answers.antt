@@ -12,7 +12,7 @@ returns c =
     let s = c.args.span.now in
     on_ok_weaker c.put-4.result
     (seven c.args.out.now.items (codes "subgraph cluster_loop_") (decimal s.header) (codes " { label=\"loop at ") (hex8 (address_of (place_in d.graph.now d.tree.now s.header)))
-    (codes ", at most ") (decimal s.bound) (codes " back edges\"; ") c.in_ok-put.ensures c.in_ok-put_number.ensures c.in_ok-put-2.ensures
+    (codes ", at most ") (decimal s.bound) (codes " back edges\"; ") c.in_ok-put.ensures c.in_ok-put_decimal.ensures c.in_ok-put-2.ensures
     (c.in_ok-put_address.ensures ∙ ap (λ a. c.put-2.new.out.items ++ hex8 a) (c.address_of.ensures ∙ ap address_of c.place.ensures))
-    c.in_ok-put-3.ensures (c.in_ok-put_number-2.ensures ∙ ap (λ n. c.put-3.new.out.items ++ decimal n) c.from.ensures))
+    c.in_ok-put-3.ensures (c.in_ok-put_decimal-2.ensures ∙ ap (λ n. c.put-3.new.out.items ++ decimal n) c.from.ensures))
     c.put-4.ensures

@@ -19,7 +19,7 @@ returns c =
     (codes ", ticks each ") (decimal e.cost) (style count) (codes "\n") c.in_ok-put_name.ensures c.in_ok-put.ensures
     (c.in_ok-put_name-2.ensures ∙ ap (λ n. c.put.new.out.items ++ name n) is.to) c.in_ok-put-2.ensures
     (c.in_ok-put_edge_name.ensures ∙ ap (λ (x : Edge). c.put-2.new.out.items ++ edge_name x.label) is.edge)
-    (c.in_ok-put_number.ensures ∙ ap (λ n. c.put_edge_name.new.out.items ++ decimal n) c.count_of-count.ensures) c.in_ok-put-3.ensures
-    (c.in_ok-put_number-2.ensures ∙ ap (λ n. c.put-3.new.out.items ++ decimal n) (c.from.ensures ∙ ap (λ (x : Edge). x.cost) is.edge))
-    (c.in_ok-put_style.ensures ∙ ap (λ n. c.put_number-2.new.out.items ++ style n) c.count_of-count.ensures))
+    (c.in_ok-put_decimal.ensures ∙ ap (λ n. c.put_edge_name.new.out.items ++ decimal n) c.count_of-count.ensures) c.in_ok-put-3.ensures
+    (c.in_ok-put_decimal-2.ensures ∙ ap (λ n. c.put-3.new.out.items ++ decimal n) (c.from.ensures ∙ ap (λ (x : Edge). x.cost) is.edge))
+    (c.in_ok-put_style.ensures ∙ ap (λ n. c.put_decimal-2.new.out.items ++ style n) c.count_of-count.ensures))
     c.put-4.ensures

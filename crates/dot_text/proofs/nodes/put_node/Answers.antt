@@ -15,7 +15,7 @@ returns c =
     (λ style_is. nine c.args.out.now.items (name first) (codes " [label=\"") (flat_map (row d.graph.now d.tree.now d.counts.now d.labels.now) (between first (last + 1)))
     (codes "passes ") (decimal passed) (codes ", ticks in all ") (decimal (stretch_ticks d.graph.now d.tree.now d.counts.now first last)) (codes "\\l") (style passed)
     c.in_ok-put_name.ensures c.in_ok-put.ensures c.in_ok-put_rows.ensures c.in_ok-put-2.ensures
-    (c.in_ok-put_number.ensures ∙ ap (λ n. c.put-2.new.out.items ++ decimal n) c.passes-passes.ensures) c.in_ok-put-3.ensures
-    (c.in_ok-put_number-2.ensures ∙ ap (λ n. c.put-3.new.out.items ++ decimal n) c.stretch_ticks.ensures) c.in_ok-put-4.ensures
+    (c.in_ok-put_decimal.ensures ∙ ap (λ n. c.put-2.new.out.items ++ decimal n) c.passes-passes.ensures) c.in_ok-put-3.ensures
+    (c.in_ok-put_decimal-2.ensures ∙ ap (λ n. c.put-3.new.out.items ++ decimal n) c.stretch_ticks.ensures) c.in_ok-put-4.ensures
     (style_is ∙ ap (λ n. c.put-4.new.out.items ++ style n) c.passes-passes.ensures))
     c.put_style.ensures

@@ -1,6 +1,7 @@
 use Rattle.std.proofs.Common.{◌∙◌, ◌++◌, ℕ, ap, codes}
 use Rattle.std.proofs.lemmas.Result.{on_ok_weaker}
-use Rattle.explained.specs.Columns.{in_columns, ticks_text, time_text}
+use Rattle.explained.specs.Columns.{ticks_text, time_text}
+use Rattle.text_rows.specs.Columns.{in_columns}
 use Rattle.explained.proofs.ColumnLaws.{ended}
 use Rattle.explained.proofs.columns.put_end.Goals as goal
 

@@ -1,7 +1,7 @@
 use Rattle.std.proofs.Common.{◌∙◌, List, ℕ, ap}
 use Rattle.std.proofs.lemmas.Result.{IfOk-weaker}
 use Rattle.explained.specs.Idle.{idle_heading}
-use Rattle.explained.specs.Rows.{section}
+use Rattle.text_rows.specs.Rows.{section}
 use Rattle.explained.proofs.idle.idle_entries.Goals as goal
 
 pub returns : goal.returns

@@ -1,7 +1,7 @@
 use Rattle.std.specs.BTreeSet.{contains}
 use Rattle.std.specs.Ordering.{nat_cmp}
 use Rattle.explained.specs.Idle.{IsAccessRow}
-use Rattle.explained.proofs.RowLaws.{so_far_all, so_far_one}
+use Rattle.text_rows.proofs.RowLaws.{so_far_all, so_far_one}
 use Rattle.explained.proofs.idle.put_accesses.Goals as goal
 
 pub loop-address-preserved : goal.loop-address-preserved

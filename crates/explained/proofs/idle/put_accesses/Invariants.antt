@@ -1,7 +1,7 @@
 use Rattle.std.specs.BTreeSet.{contains}
 use Rattle.std.specs.Ordering.{nat_cmp}
 use Rattle.explained.specs.Idle.{IsAccessRow}
-use Rattle.explained.proofs.RowLaws.{SoFar}
+use Rattle.text_rows.proofs.RowLaws.{SoFar}
 use Rattle.explained.proofs.idle.put_accesses.Given as goal
 
 abbrev pub invariant-loop-address : goal.invariant-loop-address

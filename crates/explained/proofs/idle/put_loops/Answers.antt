@@ -1,5 +1,5 @@
 use Rattle.explained.specs.Idle.{IsLoopRow}
-use Rattle.explained.proofs.RowLaws.{so_far_all, so_far_one}
+use Rattle.text_rows.proofs.RowLaws.{so_far_all, so_far_one}
 use Rattle.explained.proofs.idle.put_loops.Goals as goal
 
 pub loop-stated-preserved : goal.loop-stated-preserved

@@ -1,5 +1,5 @@
 use Rattle.explained.specs.Idle.{IsLoopRow}
-use Rattle.explained.proofs.RowLaws.{SoFar}
+use Rattle.text_rows.proofs.RowLaws.{SoFar}
 use Rattle.explained.proofs.idle.put_loops.Given as goal
 
 abbrev pub invariant-loop-stated : goal.invariant-loop-stated

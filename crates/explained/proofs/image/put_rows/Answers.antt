@@ -1,7 +1,7 @@
 use Rattle.std.specs.BTreeMap.{get}
 use Rattle.std.specs.Ordering.{nat_cmp}
 use Rattle.explained.specs.Table.{IsWordRow}
-use Rattle.explained.proofs.RowLaws.{so_far_all, so_far_one}
+use Rattle.text_rows.proofs.RowLaws.{so_far_all, so_far_one}
 use Rattle.explained.proofs.image.put_rows.Goals as goal
 
 pub loop-at-preserved : goal.loop-at-preserved

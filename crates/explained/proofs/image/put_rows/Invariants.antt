@@ -1,7 +1,7 @@
 use Rattle.std.specs.BTreeMap.{get}
 use Rattle.std.specs.Ordering.{nat_cmp}
 use Rattle.explained.specs.Table.{IsWordRow}
-use Rattle.explained.proofs.RowLaws.{SoFar}
+use Rattle.text_rows.proofs.RowLaws.{SoFar}
 use Rattle.explained.proofs.image.put_rows.Given as goal
 
 abbrev pub invariant-loop-at : goal.invariant-loop-at

@@ -1,7 +1,7 @@
 use Rattle.std.proofs.Common.{◌∙◌, ◌++◌, ℕ, List, ap, subst, sym}
 use Rattle.explained.specs.Assumed.{IsNamedRow}
-use Rattle.explained.specs.Rows.{AreRows}
-use Rattle.explained.proofs.RowLaws.{so_far_all, so_far_one}
+use Rattle.text_rows.specs.Rows.{AreRows}
+use Rattle.text_rows.proofs.RowLaws.{so_far_all, so_far_one}
 use Rattle.explained.proofs.named.named_words.Goals as goal
 
 pub loop-at-preserved : goal.loop-at-preserved

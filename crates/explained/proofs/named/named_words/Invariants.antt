@@ -1,5 +1,5 @@
 use Rattle.explained.specs.Assumed.{IsNamedRow}
-use Rattle.explained.proofs.RowLaws.{SoFar}
+use Rattle.text_rows.proofs.RowLaws.{SoFar}
 use Rattle.explained.proofs.named.named_words.Given as goal
 
 abbrev pub invariant-loop-at : goal.invariant-loop-at

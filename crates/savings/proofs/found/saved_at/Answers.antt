@@ -1,6 +1,6 @@
 use Rattle.savings.specs.Carried.{times_in}
 use Rattle.savings.specs.Savings.{IsWordSaved}
-use Rattle.savings.proofs.PartLaws.{all_parts, so_far_one}
+use Rattle.text_rows.proofs.RowLaws.{all_parts, so_far_one}
 use Rattle.savings.proofs.found.saved_at.Goals as goal
 
 pub loop-at-preserved : goal.loop-at-preserved

@@ -1,6 +1,6 @@
 use Rattle.savings.specs.Carried.{times_in}
 use Rattle.savings.specs.Savings.{IsWordSaved}
-use Rattle.savings.proofs.PartLaws.{SoFar}
+use Rattle.text_rows.proofs.RowLaws.{SoFar}
 use Rattle.savings.proofs.found.saved_at.Given as goal
 
 abbrev pub invariant-loop-at : goal.invariant-loop-at

@@ -1,5 +1,5 @@
 use Rattle.savings.specs.Sections.{IsImageEnd, IsSavingRow}
-use Rattle.savings.proofs.PartLaws.{all_parts, so_far_one}
+use Rattle.text_rows.proofs.RowLaws.{all_parts, so_far_one}
 use Rattle.savings.proofs.sections.image_rows.Goals as goal
 
 pub loop-saving-preserved : goal.loop-saving-preserved

@@ -1,5 +1,5 @@
 use Rattle.savings.specs.Sections.{IsImageEnd, IsSavingRow}
-use Rattle.savings.proofs.PartLaws.{SoFar}
+use Rattle.text_rows.proofs.RowLaws.{SoFar}
 use Rattle.savings.proofs.sections.image_rows.Given as goal
 
 abbrev pub invariant-loop-saving : goal.invariant-loop-saving

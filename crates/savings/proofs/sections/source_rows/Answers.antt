@@ -1,5 +1,5 @@
 use Rattle.savings.specs.Sections.{IsSavingRow, IsSourceEnd, line_at}
-use Rattle.savings.proofs.PartLaws.{all_parts, so_far_one}
+use Rattle.text_rows.proofs.RowLaws.{all_parts, so_far_one}
 use Rattle.savings.proofs.sections.source_rows.Goals as goal
 
 pub loop-saving-preserved : goal.loop-saving-preserved

@@ -1,6 +1,6 @@
 use Rattle.std.proofs.Common.{◌≡◌}
 use Rattle.std.proofs.lemmas.Result.{IfOk-weaker}
-use Rattle.explained.specs.Rows.{section}
+use Rattle.text_rows.specs.Rows.{section}
 use Rattle.longest_walk.specs.Folded.{unfolded}
 use Rattle.savings.specs.Sections.{AreSourceSavings, heading, line_at}
 use Rattle.savings.proofs.RowLaws.{source_text}

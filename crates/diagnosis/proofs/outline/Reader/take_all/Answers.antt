@@ -1,5 +1,4 @@
-use Rattle.std.proofs.Common.{◌≡◌, ◌-◌, ◌+◌, Option, Some, refl, sym, ap, ◌∙◌, length, rules, arith}
-use Rattle.std.specs.Prelude.{option_map}
+use Rattle.std.proofs.Common.{◌≡◌, ◌-◌, ◌+◌, Some, refl, sym, ap, ◌∙◌, length, rules}
 use Rattle.diagnosis.specs.Outline.{all_taken, first_piece, in_pieces, piece_of, pieces, reading_of, taken}
 use Rattle.diagnosis.proofs.OutlineLemmas.{more_pieces}
 use Rattle.diagnosis.proofs.outline.Reader.take_all.Goals as goal

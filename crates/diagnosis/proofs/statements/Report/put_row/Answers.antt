@@ -1,4 +1,4 @@
-use Rattle.std.proofs.Common.{◌≡◌, ◌<◌, ◌++◌, ◌∷◌, [], rules, arith}
+use Rattle.std.proofs.Common.{◌≡◌, ◌<◌, ◌++◌, ◌∷◌, rules, arith}
 use Rattle.diagnosis.specs.Refused.{row_text}
 use Rattle.diagnosis.proofs.RefusedLemmas.{full, put_one}
 use Rattle.diagnosis.proofs.statements.Report.put_row.Goals as goal

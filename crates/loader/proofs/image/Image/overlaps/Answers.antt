@@ -1,10 +1,11 @@
-use Rattle.std.proofs.Common.{◌∙◌, ap, List, ℕ}
-use Rattle.loader.proofs.ReadLemmas.{is_more, range_overlaps, some_more}
+use Rattle.std.proofs.Common.{◌∙◌, sym}
+use Rattle.loader.proofs.GapLemmas.{any_else, any_then}
 use Rattle.loader.proofs.image.Image.overlaps.Goals as goal
 
-pub returns : goal.returns
-returns c = rw (← c.self.view_is) (
-    c.is_some.ensures
-    ∙ some_more c.next.result c.range.result _ (λ x. (x.0.now, x.1.now)) c.next.new.self c.next.ensures.steps
-    ∙ ap (λ (xs : List (ℕ × ℕ)). is_more xs) (c.range.ensures.between tt)
-    ∙ range_overlaps c.self.inside.words.entries c.args.address c.args.count)
+pub returns-then-stand_in : goal.returns-then-stand_in
+returns-then-stand_in c =
+    c.if-stand_in.true ∙ sym (any_then _ c.self.inside.below.items c.self.inside.above.items _ c.self.view_is (rw c.deref.ensures.value at (sym c.stand_in.ensures ∙ c.if-stand_in.true)))
+
+pub returns-else-stand_in : goal.returns-else-stand_in
+returns-else-stand_in c =
+    any_else _ c.self.inside.below.items c.self.inside.above.items _ _ c.self.view_is (rw c.deref.ensures.value at (sym c.stand_in.ensures ∙ c.if-stand_in.false)) c.above_stand_in.ensures

@@ -1,0 +1,46 @@
+ghost use Rattle.std.specs.Prelude.{IfOk};
+ghost use Rattle.loop_bounds.specs.Tree.{IsTree};
+ghost use Rattle.cert_check.specs.Columns.{Ascends};
+ghost use Rattle.cert_check.specs.Failing.{IsFirstFailing};
+ghost use Rattle.cert_check.specs.Verdict.{objections};
+
+use crate::columns::tables_of;
+use crate::failing::FailingRow;
+use crate::fault::CheckFault;
+use crate::heavy::failing_edge;
+use crate::index::Index;
+use crate::listed::failing_presence;
+use crate::straying::failing_walk;
+use certificate::Cert;
+use flow_graph::Graph;
+use loop_bounds::LoopTree;
+use std::alloc::Global;
+
+/// What fails in a certificate whose rows ascend, for the objection that [`check`](crate::check) answers, and
+/// `None` where that answers `Yes`. Of places, instances, edges, rows and lines of the walk it is the first
+/// that fails, in the order of the graph, of the tree or of the certificate. It takes the time of the check.
+///
+/// # Errors
+///
+/// `Memory` where an allocation failed.
+pub fn failing_row(
+    alloc: Global,
+    graph: &Graph,
+    tree: &LoopTree,
+    cert: &Cert,
+) -> Result<Option<FailingRow>, CheckFault>
+    requires tree { IsTree graph.now tree.now }
+    requires ascending { Ascends cert.now }
+    ensures { IfOk result (IsFirstFailing graph.now tree.now cert.now objections) }
+{
+    let exit = graph.places().len();
+    if let Some(row) = failing_presence(alloc, graph, tree, cert)? {
+        return Ok(Some(row));
+    }
+    let index = Index::of(alloc, tree.spans(), exit)?;
+    let tables = tables_of(alloc, graph, tree, cert)?;
+    if let Some(row) = failing_edge(graph, tree, cert, &index, &tables) {
+        return Ok(Some(row));
+    }
+    Ok(failing_walk(alloc, graph, tree, cert, &index)?)
+}

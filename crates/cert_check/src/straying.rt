@@ -1,0 +1,122 @@
+ghost use Rattle.std.specs.Prelude.{IfOk, MatchOption, length};
+ghost use Rattle.loop_bounds.specs.Tree.{IsTree};
+ghost use Rattle.cert_check.specs.Failing.{IsFirstFailing};
+ghost use Rattle.cert_check.specs.Followed.{followed};
+ghost use Rattle.cert_check.specs.Index.{IsIndex};
+ghost use Rattle.cert_check.specs.Straying.{StraysAt};
+ghost use Rattle.cert_check.specs.Verdict.{walk_objections};
+ghost use Rattle.cert_check.specs.Walking.{CanFollow, IsFresh, IsTaken, graph_span};
+
+use crate::columns::place_of;
+use crate::failing::FailingRow;
+use crate::handler::Handler;
+use crate::index::Index;
+use crate::walk_check::{LEVELS, start};
+use crate::walk_trace::follow_one;
+use crate::walker::Walker;
+use certificate::{Cert, CertItem};
+use flow_graph::Graph;
+use loop_bounds::LoopTree;
+use numbered_walks::Span;
+use std::alloc::{AllocError, Global};
+
+// Follows the lines from where the walker stands, inside the span: the first that it cannot follow.
+fn first_not_followed(
+    handler: Handler<'_>,
+    within: &Span,
+    walker: &mut Walker,
+    items: &[CertItem],
+) -> Option<usize>
+    requires { CanFollow handler.graph.now handler.tree.now handler.index.now within.now walker.old }
+    ensures { MatchOption result
+        (IsTaken handler.entry.graph.now handler.entry.tree.now handler.entry.index.now within.now 16
+        (length items.now) (followed handler.entry.graph.now items.now) walker.old walker.new)
+        (StraysAt handler.entry.graph.now handler.entry.tree.now handler.entry.index.now within.now 16
+        items.now walker.old) }
+{
+    for (number, item) in items.iter().enumerate() {
+        if !follow_one(handler, within, LEVELS, walker, item) {
+            return Some(number);
+        }
+    }
+    None
+}
+
+// Follows the lines of the certificate: the first that it cannot follow.
+fn first_broken(
+    graph: &Graph,
+    tree: &LoopTree,
+    cert: &Cert,
+    index: &Index,
+    walker: &mut Walker,
+) -> Option<usize>
+    requires tree { IsTree graph.now tree.now }
+    requires indexed { IsIndex (length graph.now.places) tree.now.spans index.now }
+    requires fresh { IsFresh (length graph.now.places) walker.old }
+    ensures { MatchOption result
+        (IsTaken graph.now tree.now index.now (graph_span graph.now) 16 (length cert.now.walk)
+        (followed graph.now cert.now.walk) walker.old walker.new)
+        (StraysAt graph.now tree.now index.now (graph_span graph.now) 16 cert.now.walk walker.old) }
+{
+    let whole = Span {
+        header: 0,
+        last: graph.places().len(),
+        bound: 0,
+    };
+    let lines = cert.walk.items();
+    let handler = Handler { graph, tree, index };
+    first_not_followed(handler, &whole, walker, lines)
+}
+
+// Where the walk fails the first of its three tests that is not passed.
+fn failing_line(
+    graph: &Graph,
+    tree: &LoopTree,
+    cert: &Cert,
+    index: &Index,
+    walker: &mut Walker,
+) -> Option<FailingRow>
+    requires tree { IsTree graph.now tree.now }
+    requires indexed { IsIndex (length graph.now.places) tree.now.spans index.now }
+    requires fresh { IsFresh (length graph.now.places) walker.old }
+    ensures { IsFirstFailing graph.now tree.now cert.now walk_objections result }
+{
+    let exit = graph.places().len();
+    let bound = cert.bound;
+    if let Some(item) = first_broken(graph, tree, cert, index, walker) {
+        return Some(FailingRow::BrokenWalk(item));
+    }
+    if walker.number != exit {
+        let place = place_of(graph, tree, walker.number);
+        return Some(FailingRow::OpenWalk(place));
+    }
+    if let Some(span) = walker.over {
+        let header = place_of(graph, tree, span.header);
+        return Some(FailingRow::WalkOverBound(header, span.bound));
+    }
+    if walker.cost != u128::from(bound) {
+        return Some(FailingRow::WalkCost(walker.cost));
+    }
+    None
+}
+
+/// Where a certificate's walk fails, each repeat followed once. The index is that of the tree. It takes time
+/// linear in the lines of the walk, a step as many times as its place has edges.
+///
+/// # Errors
+///
+/// `AllocError` where an allocation failed.
+pub(crate) fn failing_walk(
+    alloc: Global,
+    graph: &Graph,
+    tree: &LoopTree,
+    cert: &Cert,
+    index: &Index,
+) -> Result<Option<FailingRow>, AllocError>
+    requires tree { IsTree graph.now tree.now }
+    requires indexed { IsIndex (length graph.now.places) tree.now.spans index.now }
+    ensures { IfOk result (IsFirstFailing graph.now tree.now cert.now walk_objections) }
+{
+    let mut walker = start(alloc, graph)?;
+    Ok(failing_line(graph, tree, cert, index, &mut walker))
+}

@@ -1,0 +1,150 @@
+ghost use Rattle.std.specs.Prelude.{◌≡◌, All, Contains, IfOk, IfSome, List, OnOk, true};
+ghost use Rattle.loop_bounds.specs.Extents.{found_instance};
+ghost use Rattle.statement.specs.declared.stated.Loop.{Loop};
+ghost use Rattle.diagnosis.specs.Nested.{HasPlace, HavePlace, IsDeep, is_around};
+
+use crate::crossings::has_place;
+use crate::members::{is_header, is_member};
+use flow_graph::{Calls, Graph, Loop, Place};
+use loop_bounds::Found;
+use std::alloc::{AllocError, Global};
+use std::cmp::Reverse;
+
+/// In how many instances of loops a place may be.
+const MOST_INSTANCES: usize = 16;
+
+/// A place that is in more than sixteen instances of loops, and those.
+#[derive(Drop)]
+pub struct DeepPlace {
+    pub place: Place,
+    /// The outermost first.
+    pub instances: Vec<Found>,
+}
+
+// Whether the first and the last address of the inner one are of the outer one, and its header is another.
+fn is_around(outer: &Found, inner: &Found) -> bool
+    ensures { result ≡ is_around (found_instance outer.now) (found_instance inner.now) }
+{
+    let list = inner.list;
+    is_member(outer, &Place::At(list, inner.stated.first))
+        && is_member(outer, &Place::At(list, inner.stated.last))
+        && !is_header(outer, &Place::At(list, inner.stated.header))
+}
+
+// The loops by their first address, and where that is one, by their last, the highest first.
+fn by_extent(alloc: Global, loops: &[Loop]) -> Result<Vec<Loop>, AllocError>
+    ensures { IfOk result (λ sorted. (l : Loop) → Contains sorted.items l → Contains loops.now l) }
+{
+    let mut sorted = Vec::from_slice(alloc, loops)?;
+    sorted.sort_unstable_by_key(|stated| (stated.first, Reverse(stated.last)));
+    Ok(sorted)
+}
+
+// Whether all of them are around the one.
+fn are_around(found: &[Found], inner: &Found) -> bool
+    ensures { result ≡ true
+        → All (λ f. is_around (found_instance f) (found_instance inner.now) ≡ true) found.now }
+{
+    found.iter().all(|outer| is_around(outer, inner))
+}
+
+// Whether it is an instance that has the place.
+fn has_member(graph: &Graph, one: &Found, place: &Place) -> bool
+    ensures { (loops : List Loop) → Contains loops one.now.stated → result ≡ true
+        → HasPlace graph.now loops place.now one.now }
+{
+    is_member(one, place) && has_place(graph, &Place::At(one.list, one.stated.header))
+}
+
+// Adds the instance, if it has the place and those before it are around it.
+fn add(found: &mut Vec<Found>, graph: &Graph, place: &Place, one: &Found) -> Result<(), AllocError>
+    ensures { (loops : List Loop) → Contains loops one.now.stated
+        → HavePlace graph.now loops place.now found.old.items
+        → OnOk result (HavePlace graph.now loops place.now found.new.items) }
+{
+    if has_member(graph, one, place) && are_around(found, one) {
+        found.push(*one)?;
+    }
+    Ok(())
+}
+
+// Adds the instances with the list of calls that have the place.
+fn add_inside(
+    found: &mut Vec<Found>,
+    graph: &Graph,
+    sorted: &[Loop],
+    place: &Place,
+    list: Calls,
+) -> Result<(), AllocError>
+    ensures { HavePlace graph.now sorted.now place.now found.old.items
+        → OnOk result (HavePlace graph.now sorted.now place.now found.new.items) }
+{
+    for stated in sorted {
+        let one = Found {
+            list,
+            stated: *stated,
+        };
+        add(found, graph, place, &one)?;
+    }
+    Ok(())
+}
+
+// Adds the instances with the list, or with a front of it, that have the place: those with fewer calls first.
+fn add_up_to(
+    found: &mut Vec<Found>,
+    graph: &Graph,
+    sorted: &[Loop],
+    place: &Place,
+    list: Calls,
+) -> Result<(), AllocError>
+    ensures { HavePlace graph.now sorted.now place.now found.old.items
+        → OnOk result (HavePlace graph.now sorted.now place.now found.new.items) }
+{
+    if let Some((shorter, _)) = list.split_last() {
+        add_up_to(found, graph, sorted, place, shorter)?;
+    }
+    add_inside(found, graph, sorted, place, list)
+}
+
+// The instances that have the place, of which each is around those after it.
+fn instances_of(
+    alloc: Global,
+    graph: &Graph,
+    sorted: &[Loop],
+    place: &Place,
+) -> Result<Vec<Found>, AllocError>
+    ensures { IfOk result (λ found. HavePlace graph.now sorted.now place.now found.items) }
+{
+    let mut found = Vec::new(alloc);
+    if let Place::At(calls, _) = place {
+        add_up_to(&mut found, graph, sorted, place, *calls)?;
+    }
+    Ok(found)
+}
+
+/// A place that is in more than sixteen instances of loops, and those, the outermost first. Passed over is an
+/// instance whose first or last address is not in one found before, so that where loops cross there may be no
+/// answer.
+///
+/// # Errors
+///
+/// An allocation failed.
+pub fn deep_place(
+    alloc: Global,
+    graph: &Graph,
+    loops: &[Loop],
+) -> Result<Option<DeepPlace>, AllocError>
+    ensures { IfOk result (λ found. IfSome found (IsDeep graph.now loops.now)) }
+{
+    let sorted = by_extent(alloc, loops)?;
+    for place in graph.places() {
+        let instances = instances_of(alloc, graph, &sorted, place)?;
+        if instances.len() > MOST_INSTANCES {
+            return Ok(Some(DeepPlace {
+                place: *place,
+                instances,
+            }));
+        }
+    }
+    Ok(None)
+}

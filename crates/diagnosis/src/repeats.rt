@@ -1,0 +1,93 @@
+ghost use Rattle.std.specs.Prelude.{◌≡◌, ◌||◌, ◌∷◌, [], ℕ, codes, IfOk, List, OnOk};
+ghost use Rattle.std.specs.BTreeSet.{contains};
+ghost use Rattle.std.specs.Ordering.{nat_cmp};
+ghost use Rattle.diagnosis.specs.Lines.{is_at};
+ghost use Rattle.diagnosis.specs.Outline.{Item, States, item_of, stated_of};
+ghost use Rattle.loader.specs.Labels.{Names};
+ghost use Rattle.diagnosis.specs.Refused.{AreTaken, address_as, is_twice, passes};
+
+use crate::outline::{Entry, Pair};
+use crate::values::address_at;
+use loader::Labels;
+use std::alloc::{AllocError, Global};
+use std::collections::BTreeSet;
+
+// The address of a value at the key in a table of the list.
+fn address_as(labels: &Labels, list: &[u8], key: &[u8], pair: &Pair<'_>) -> Option<u32>
+    ensures { result ≡ address_as labels.now list.now key.now (States (stated_of pair.now)) }
+{
+    if pair.list == list && pair.key == key {
+        return address_at(labels, pair.value);
+    }
+    None
+}
+
+// Adds the address, if there is one, and tells whether it was there.
+fn add(set: &mut BTreeSet<u32>, address: Option<u32>) -> Result<bool, AllocError>
+    ensures known { IfOk result (λ known. known ≡ passes (contains nat_cmp set.old) address) }
+    ensures added { OnOk result
+        ((a : ℕ) → contains nat_cmp set.new a ≡ (is_at address a || contains nat_cmp set.old a)) }
+{
+    match address {
+        Some(address) => {
+            let is_new = set.insert(address)?;
+            Ok(!is_new)
+        }
+        None => Ok(false),
+    }
+}
+
+/// The addresses that a statement's text has come to.
+#[derive(Drop)]
+pub(crate) struct Taken {
+    /// Those of targets.
+    targets: BTreeSet<u32>,
+    /// Those of accesses.
+    accesses: BTreeSet<u32>,
+    /// The destinations of the table at hand.
+    destinations: BTreeSet<u32>,
+}
+
+impl Taken {
+    pub(crate) fn new(alloc: Global) -> Taken
+        ensures { (labels : Names) → AreTaken labels [] result }
+    {
+        Taken {
+            targets: BTreeSet::new(alloc),
+            accesses: BTreeSet::new(alloc),
+            destinations: BTreeSet::new(alloc),
+        }
+    }
+
+    // Takes a value, and tells whether its address was taken.
+    fn take_value(&mut self, labels: &Labels, pair: &Pair<'_>) -> Result<bool, AllocError>
+        ensures twice { (before : List Item) → AreTaken labels.now before self.old
+            → IfOk result (λ twice. twice ≡ is_twice labels.now before (States (stated_of pair.now))) }
+        ensures taken { (before : List Item) → AreTaken labels.now before self.old
+            → OnOk result (AreTaken labels.now (States (stated_of pair.now) ∷ before) self.new) }
+    {
+        let target = address_as(labels, b"target", b"at", pair);
+        let access = address_as(labels, b"access", b"at", pair);
+        let destination = address_as(labels, b"target", b"to", pair);
+        let by_target = add(&mut self.targets, target)?;
+        let by_access = add(&mut self.accesses, access)?;
+        let by_destination = add(&mut self.destinations, destination)?;
+        Ok(by_target | (by_access | by_destination))
+    }
+
+    /// Takes an entry, and tells whether it is a value whose address was taken.
+    pub(crate) fn take(&mut self, labels: &Labels, entry: &Entry<'_>) -> Result<bool, AllocError>
+        ensures twice { (before : List Item) → AreTaken labels.now before self.old
+            → IfOk result (λ twice. twice ≡ is_twice labels.now before (item_of entry.now)) }
+        ensures taken { (before : List Item) → AreTaken labels.now before self.old
+            → OnOk result (AreTaken labels.now (item_of entry.now ∷ before) self.new) }
+    {
+        match entry {
+            Entry::Value(pair) => self.take_value(labels, pair),
+            Entry::Table(_) | Entry::End => {
+                self.destinations.clear();
+                Ok(false)
+            }
+        }
+    }
+}

@@ -1,0 +1,344 @@
+-- Where R14 is lost: words, edges, and the search for places step by step.
+use Rattle.std.proofs.Common.{◌≡◌, ◌∙◌, ℕ, zero, suc, ◌+◌, ◌-◌, ◌<◌, ◌≤◌, Bool, true, false, cond, List, [], ◌∷◌, ◌++◌, append-nil, append_assoc, length, length-append, get_or, take, drop, Result, Ok, Err, Some, None, ◌⊎◌, inl, inr, ⊎_elim, refl, sym, ap, subst, arith, add-one}
+use Rattle.std.specs.Prelude.{◌↔◌, Contains, IsTrue, not}
+use Rattle.std.specs.BTreeSet as sets
+use Rattle.std.specs.BTreeSet.{BTreeSet, btree_set_len}
+use Rattle.std.specs.List.{slice_range}
+use Rattle.std.specs.List.Sorted.{IsBinarySearchResult, IsSearchInRange, IsStrictlySortedBy}
+use Rattle.std.specs.Ordering.{nat_cmp}
+use Rattle.std.specs.Result.{is_ok}
+use Rattle.std.proofs.lemmas.Bool.{cases_lt, eq-eqb, eqb-true, false≢true}
+use Rattle.std.proofs.lemmas.Cmp.{nat_cmp_total}
+use Rattle.std.proofs.lemmas.List.{get_or-drop, get_or-take, get_or_append_left, get_or_read, length-drop, length-take, take_all, take_more}
+use Rattle.std.proofs.lemmas.List.Elements.{Contains-append_left, Contains-get_or, Contains-push, Contains-push_cases}
+use Rattle.std.proofs.lemmas.List.Folds.{list_any_at}
+use Rattle.std.proofs.lemmas.Map.Lookups.{exact_unsigned}
+use Rattle.std.proofs.lemmas.Map.Views.{btree_set_contains_iff}
+use Rattle.arm2_decode.specs.declared.instr.Instr.{Instr}
+use Rattle.flow_graph.specs.Flow.{Flow, HasEdge, IsWellFormed}
+use Rattle.flow_graph.specs.Places.{place_at}
+use Rattle.flow_graph.specs.Search.{by_order}
+use Rattle.flow_graph.specs.declared.edges.Edge.{Edge}
+use Rattle.flow_graph.specs.declared.places.Place.{Place}
+use Rattle.flow_graph.specs.declared.places.Place.TheVariants.{At, Exit}
+use Rattle.flow_graph.proofs.FoundLemmas.{same_more}
+use Rattle.flow_graph.proofs.PlaceLemmas.{by_order_exact, by_order_total, place_total, sorted_by_place}
+use Rattle.flow_graph.proofs.SortedLemmas.{here, length_within, no_member, there}
+use Rattle.loader.specs.Image.{Words}
+use Rattle.loop_bounds.proofs.Grouped.{rises_to}
+use Rattle.loop_bounds.proofs.Positions.{known, places_once}
+use Rattle.word_shapes.specs.Words.{HasInstr, HasShape}
+use Rattle.explained.specs.Links.{AreLostLinks, IsLost, KeepsLink, MayReturnByLink, after_call, kept_along, may_return_by_link, place_after, writes_link}
+use Rattle.explained.specs.Losing.{Adds, ByEdge, Grows, IsAfter, IsFound, IsKeptTo}
+use Rattle.explained.specs.Taken.{is_at, is_reached}
+use Rattle.explained.proofs.AnyLaws.{or_parts}
+use borrow.Author.Count.{below_more}
+
+-- ## Words
+
+module _ (is : Instr → Bool) (image : Words) (a : ℕ) where
+  abbrev pub Stands : Type 0
+  Stands = (i : Instr) × HasInstr image a i × (is i ≡ true)
+
+  pub told : (i : Instr) (b : Bool) → HasInstr image a i → ((j : Instr) → HasInstr image a j → Some i ≡ Some j) → b ≡ is i → IsTrue b ↔ Stands
+  told i b has only same = (
+    λ e. (i, has, sym same ∙ e),
+    λ h. let both : Some i ≡ Some h.0 = only h.0 h.1 in let one : i ≡ h.0 = cc in same ∙ ap is one ∙ h.2,
+  )
+
+  pub not_told : ((j : Instr) → HasInstr image a j → None ≡ Some j) → IsTrue false ↔ Stands
+  not_told none = (
+    λ e. absurd (false≢true e),
+    λ h. absurd (let both : None ≡ Some h.0 = none h.0 h.1 in cc),
+  )
+
+pub returns_told : (image : Words) (a : ℕ) (b : Bool) → IsTrue b ↔ Stands may_return_by_link image a → IsTrue b ↔ MayReturnByLink image a
+returns_told image a b stands = (
+  λ e. let w = stands.0 e in record { instr = w.0; there = w.1; returns = w.2 },
+  λ h. stands.1 (h.instr, h.there, h.returns),
+)
+
+-- ## Edges
+
+pub after_one : (flow : Flow) (e : Edge) (q : Place) → Some q ≡ place_after e.from e.to → Contains flow.places q → (p : Place) → IsAfter flow e p ↔ (q ≡ p)
+after_one flow e q is has p = (
+  λ w. let both : Some q ≡ Some p = is ∙ w.0 in cc,
+  λ same. subst (IsAfter flow e) same (sym is, has),
+)
+
+pub kept_one : (image : Words) (e : Edge) → KeepsLink image e.from e.to → (p : Place) → IsKeptTo image e p ↔ (e.to ≡ p)
+kept_one image e keeps p = (λ w. w.1, λ same. (keeps, same))
+
+module _ (image : Words) (from to : Place) (calls inner : List ℕ) (a b : ℕ) (from_is : from ≡ At calls a) (to_is : to ≡ At inner b) where
+  pub keeps_told : (s w : Bool) → IsTrue s ↔ (calls ≡ inner) → s ≡ true → IsTrue w ↔ HasShape writes_link image a → IsTrue (not w) ↔ KeepsLink image from to
+  keeps_told s w same is writes =
+      subst (λ (f : Place). IsTrue (not w) ↔ KeepsLink image f to) (sym from_is)
+      (subst (λ (t : Place). IsTrue (not w) ↔ KeepsLink image (At calls a) t) (sym to_is) (by_case w writes))
+    where
+      by_case : (v : Bool) → IsTrue v ↔ HasShape writes_link image a → IsTrue (not v) ↔ ((calls ≡ inner) × (HasShape writes_link image a → ⊥))
+      by_case true h = (λ e. absurd (false≢true e), λ k. absurd (k.1 (h.0 refl)))
+      by_case false h = (λ e. (same.0 is, λ shape. false≢true (h.1 shape)), λ k. refl)
+
+  pub leaves_told : (s : Bool) → IsTrue s ↔ (calls ≡ inner) → s ≡ false → IsTrue s ↔ KeepsLink image from to
+  leaves_told s same is =
+      subst (λ (f : Place). IsTrue s ↔ KeepsLink image f to) (sym from_is)
+      (subst (λ (t : Place). IsTrue s ↔ KeepsLink image (At calls a) t) (sym to_is) (λ e. absurd (false≢true (sym is ∙ e)), λ k. same.1 k.0))
+
+-- ## Edges of a place
+
+pub place_known : (flow : Flow) (places : List Place) (p : Place) (r : Result ℕ ℕ) (b : Bool) → IsWellFormed flow → places ≡ flow.places → IsSearchInRange r (length places)
+    → IsBinarySearchResult (λ y. by_order y p) places r → b ≡ is_ok r → IsTrue b ↔ Contains flow.places p
+place_known flow places p r b well same range found is =
+    let k = known flow.places p r well.ordered (subst (λ ps. IsSearchInRange r (length ps)) same range) (subst (λ ps. IsBinarySearchResult (λ y. by_order y p) ps r) same found) in (
+      λ e. k.0 (sym is ∙ e),
+      λ has. by_case b has (λ none. k.1 (sym is ∙ none) has),
+    )
+  where
+    by_case : (c : Bool) → Contains flow.places p → (c ≡ false → ⊥) → IsTrue c
+    by_case true has some = refl
+    by_case false has some = absurd (some refl)
+
+pub in_range : (es : List Edge) (a b : ℕ) (e : Edge) → Contains (slice_range es a b) e → (k : ℕ) × (a ≤ k) × (k < b) × (k < length es) × (get_or es k e ≡ e)
+in_range es a b e h =
+    let n = b - a in
+    let rest = drop a es in
+    let lt : h.0 < length (take n rest) = h.1 in
+    let few : h.0 < n = omega (arith, lt, length-take n rest) in
+    let inside : h.0 < length rest = omega (arith, lt, length-take n rest) in
+    let len : length rest ≡ length es - a = length-drop a es in
+    let at : get_or es (a + h.0) e ≡ e = sym (get_or-take n rest h.0 e few ∙ get_or-drop a es h.0 e) ∙ h.2 in
+    (a + h.0, omega arith, omega (arith, few), omega (arith, inside, len), at)
+
+pub from_range : (es : List Edge) (a b k : ℕ) (e : Edge) → a ≤ k → k < b → b ≤ length es → get_or es k e ≡ e → Contains (slice_range es a b) e
+from_range es a b k e low high fits at =
+    let n = b - a in
+    let rest = drop a es in
+    let few : k - a < n = omega (arith, low, high) in
+    let len : length rest ≡ length es - a = length-drop a es in
+    let lt : k - a < length (take n rest) = omega (arith, low, high, fits, len, length-take n rest) in
+    let same : a + (k - a) ≡ k = omega (arith, low) in
+    (k - a, lt, get_or-take n rest (k - a) e few ∙ get_or-drop a es (k - a) e ∙ ap (λ j. get_or es j e) same ∙ at)
+
+module _ (flow : Flow) (well : IsWellFormed flow) where
+  -- an edge that stands before the part of a place belongs to an earlier place
+  owner : (u k : ℕ) → u ≤ length flow.places → k < get_or flow.firsts u 0 → (v : ℕ) × (v < u) × (get_or flow.firsts v 0 ≤ k) × (k < get_or flow.firsts (v + 1) 0)
+  owner zero k le below = let z : get_or flow.firsts 0 0 ≡ 0 = well.first_zero in absurd (omega arith)
+  owner (suc u) k le below =
+      ⊎_elim
+      (λ (l : k < get_or flow.firsts u 0). let w = owner u k (omega arith) l in let m : w.0 < u = w.1 in (w.0, omega arith, w.2, w.3))
+      (λ (m : get_or flow.firsts u 0 ≤ k). (u, omega arith, m, subst (λ (n : ℕ). k < get_or flow.firsts n 0) (sym (add-one u)) below))
+      (cases_lt k (get_or flow.firsts u 0))
+
+  module _ (v : ℕ) (v_in : v < length flow.places) where
+    pub part_fits : get_or flow.firsts (v + 1) 0 ≤ length flow.edges
+    part_fits = rises_to flow.firsts (length flow.places) (length flow.edges) well.rising well.last_all (length flow.places - (v + 1)) (v + 1) (omega (arith, v_in))
+
+    -- the part of a place has exactly the edges that leave it
+    pub leaving : (e : Edge) → Contains (slice_range flow.edges (get_or flow.firsts v 0) (get_or flow.firsts (v + 1) 0)) e ↔ (HasEdge flow e × (e.from ≡ place_at flow.places v))
+    leaving e = (
+      λ h.
+          let k = in_range flow.edges (get_or flow.firsts v 0) (get_or flow.firsts (v + 1) 0) e h in
+          ((k.0, k.3, k.4), sym (ap (λ (x : Edge). x.from) k.4) ∙ well.part v k.0 e v_in k.1 k.2),
+      λ h.
+          let k = h.0.0 in
+          let all : get_or flow.firsts (length flow.places) 0 ≡ length flow.edges = well.last_all in
+          let w = owner (length flow.places) k (omega arith) (omega (arith, h.0.1, all)) in
+          let is : w.0 ≡ v = places_once flow.places well.ordered w.0 v Exit w.1 v_in (sym (well.part w.0 k e w.1 w.2 w.3) ∙ ap (λ (x : Edge). x.from) h.0.2 ∙ h.1) in
+          from_range flow.edges (get_or flow.firsts v 0) (get_or flow.firsts (v + 1) 0) k e (subst (λ (n : ℕ). get_or flow.firsts n 0 ≤ k) is w.2) (subst (λ (n : ℕ). k < get_or flow.firsts (n + 1) 0) is w.3) part_fits h.0.2,
+    )
+
+  pub leaving_found : (es : List Edge) (a b v : ℕ) (p : Place) → es ≡ flow.edges → a ≡ get_or flow.firsts v 0 → b ≡ get_or flow.firsts (v + 1) 0 → v < length flow.places → place_at flow.places v ≡ p
+      → (e : Edge) → Contains (slice_range es a b) e ↔ (HasEdge flow e × (e.from ≡ p))
+  leaving_found es a b v p es_is a_is b_is v_in p_is e =
+      let same : slice_range es a b ≡ slice_range flow.edges (get_or flow.firsts v 0) (get_or flow.firsts (v + 1) 0) =
+      ap (λ (xs : List Edge). slice_range xs a b) es_is ∙ ap (λ k. slice_range flow.edges k b) a_is ∙ ap (λ k. slice_range flow.edges (get_or flow.firsts v 0) k) b_is in
+      let at = leaving v v_in e in (
+        λ h. let w = at.0 (subst (λ (xs : List Edge). Contains xs e) same h) in (w.0, w.1 ∙ p_is),
+        λ h. subst (λ (xs : List Edge). Contains xs e) (sym same) (at.1 (h.0, h.1 ∙ sym p_is)),
+      )
+
+  -- no edge leaves a place that the graph has not
+  pub none_leave : (places : List Place) (p : Place) (i : ℕ) → places ≡ flow.places → IsSearchInRange (Err i) (length places) → IsBinarySearchResult (λ y. by_order y p) places (Err i)
+      → (e : Edge) → Contains [] e ↔ (HasEdge flow e × (e.from ≡ p))
+  none_leave places p i same range found e = (
+    λ h. absurd (no_member e h),
+    λ h. absurd (false≢true ((place_known flow places p (Err i) false well same range found refl).1 (subst (Contains flow.places) h.1 (well.starts e h.0)))),
+  )
+
+  pub index_is : (places : List Place) (p : Place) (i : ℕ) → places ≡ flow.places → IsBinarySearchResult (λ y. by_order y p) places (Ok i) → place_at flow.places i ≡ p
+  index_is places p i same found = ap (λ ps. place_at ps i) (sym same) ∙ by_order_exact (get_or places i Exit) p (found Exit)
+
+-- ## Lists that grow
+
+pub kept : {P : Place → Type 0} (xs ys : List Place) (p : Place) → Grows P xs ys → Contains xs p → Contains ys p
+kept xs ys p g h = subst (λ t. Contains t p) (sym g.more.1) (Contains-append_left xs g.more.0 p h)
+
+pub no_shorter : {P : Place → Type 0} (xs ys : List Place) → Grows P xs ys → length xs ≤ length ys
+no_shorter xs ys g =
+    let longer : length ys ≡ length xs + length g.more.0 = ap length g.more.1 ∙ length-append xs g.more.0 in
+    omega arith
+
+pub grows_none : (P : Place → Type 0) (xs : List Place) → ((p : Place) → P p → ⊥) → Grows P xs xs
+grows_none P xs none = record {
+  more = ([], sym (append-nil xs));
+  from = λ p h. inl h;
+  to = λ p h. absurd (none p h);
+}
+
+pub grows_one : (P : Place → Type 0) (xs : List Place) (q : Place) (ys : List Place) → ((p : Place) → P p ↔ (q ≡ p)) → Adds xs q ys → Grows P xs ys
+grows_one P xs q ys one (inl w) = record {
+  more = ([], w.0 ∙ sym (append-nil xs));
+  from = λ p h. inl (subst (λ t. Contains t p) w.0 h);
+  to = λ p h. subst (λ t. Contains t p) (sym w.0) (subst (Contains xs) ((one p).0 h) w.1);
+}
+grows_one P xs q ys one (inr new) = record {
+  more = (q ∷ [], new);
+  from = λ p h. ⊎_elim (λ w. inl w) (λ e. inr ((one p).1 e)) (Contains-push_cases xs q p (subst (λ t. Contains t p) new h));
+  to = λ p h. subst (λ t. Contains t p) (sym new) (subst (Contains (xs ++ q ∷ [])) ((one p).0 h) (Contains-push xs q));
+}
+
+-- first some and then others
+grows_on : (P Q R : Place → Type 0) (xs ys zs : List Place) → ((p : Place) → R p ↔ (P p ⊎ Q p)) → Grows P xs ys → Grows Q ys zs → Grows R xs zs
+grows_on P Q R xs ys zs both g h = record {
+  more = (g.more.0 ++ h.more.0, h.more.1 ∙ ap (λ t. t ++ h.more.0) g.more.1 ∙ append_assoc xs g.more.0 h.more.0);
+  from = λ p w. ⊎_elim
+      (λ there. ⊎_elim (λ old. inl old) (λ by. inr ((both p).1 (inl by))) (g.from p there))
+      (λ by. inr ((both p).1 (inr by))) (h.from p w);
+  to = λ p r. ⊎_elim (λ by. kept ys zs p h (g.to p by)) (λ by. h.to p by) ((both p).0 r);
+}
+
+module _ (By : Edge → Place → Type 0) (edges : List Edge) where
+  pub grows_begun : (order : List Place) → Grows (ByEdge By (take 0 edges)) order order
+  grows_begun order = grows_none (ByEdge By (take 0 edges)) order (λ p w. no_member w.0 w.1)
+
+  pub grows_more : (i : ℕ) (e : Edge) (old mid new : List Place) → i < length edges → e ≡ get_or edges i e → Grows (ByEdge By (take i edges)) old mid → Grows (By e) mid new
+      → Grows (ByEdge By (take (i + 1) edges)) old new
+  grows_more i e old mid new lt is g h =
+      let more : take (i + 1) edges ≡ take i edges ++ e ∷ [] = take_more edges i e lt ∙ ap (λ (x : Edge). take i edges ++ x ∷ []) (sym is) in
+      grows_on (ByEdge By (take i edges)) (By e) (ByEdge By (take (i + 1) edges)) old mid new
+      (λ p. (
+        λ w. ⊎_elim (λ before. inl (w.0, before, w.2)) (λ same. inr (subst (λ (x : Edge). By x p) (sym same) w.2)) (Contains-push_cases (take i edges) e w.0 (subst (λ t. Contains t w.0) more w.1)),
+        λ w. ⊎_elim
+            (λ v. (v.0, subst (λ t. Contains t v.0) (sym more) (Contains-append_left (take i edges) (e ∷ []) v.0 v.1), v.2))
+            (λ by. (e, subst (λ t. Contains t e) (sym more) (Contains-push (take i edges) e), by)) w,
+      ))
+      g h
+
+  pub grows_all : (i : ℕ) (old new : List Place) → length edges ≤ i → Grows (ByEdge By (take i edges)) old new → Grows (ByEdge By edges) old new
+  grows_all i old new le g = subst (λ (t : List Edge). Grows (ByEdge By t) old new) (take_all i edges le) g
+
+-- ## Found places
+
+pub one_found : (seen new : BTreeSet Place) (order : List Place) (p : Place) (is_new : Bool) → IsFound seen order → sets.Updates by_order seen new p true
+    → btree_set_len new ≡ btree_set_len seen + cond is_new 1 0 → is_new ≡ true → IsFound new (order ++ p ∷ [])
+one_found seen new order p is_new found updates len is_new_is =
+    let one : btree_set_len new ≡ btree_set_len seen + 1 = len ∙ ap (λ b. btree_set_len seen + cond b 1 0) is_new_is in
+    let longer : length (order ++ p ∷ []) ≡ length order + 1 = length-append order (p ∷ []) in
+    let was : length order ≡ btree_set_len seen = found.count in
+    record { same = same_more seen new order p found.same updates; count = omega arith }
+
+-- ## The search
+
+module _ (image : Words) (flow : Flow) where
+  -- from the place those edges that keep R14 lead to known places
+  abbrev pub IsFollowed : List Place → Place → Type 0
+  IsFollowed order p = (e : Edge) → HasEdge flow e → e.from ≡ p → KeepsLink image e.from e.to → Contains order e.to
+
+  pub record IsSearch (order : List Place) (next : ℕ) : Type 0 where
+    pub after : (e : Edge) (p : Place) → HasEdge flow e → IsAfter flow e p → Contains order p
+    pub lost : (p : Place) → Contains order p → IsLost image flow p
+    pub bound : next ≤ length order
+    pub followed : (k : ℕ) (d : Place) → k < next → IsFollowed order (get_or order k d)
+
+  inside : (from to : Place) → KeepsLink image from to → to ≡ Exit → ⊥
+  inside (At calls a) (At inner b) keeps out = cc
+  inside (At calls a) Exit keeps out = keeps
+  inside Exit to keeps out = keeps
+
+  in_graph : IsWellFormed flow → (p : Place) → IsLost image flow p → Contains flow.places p
+  in_graph well p (after_call e q has is known_one) = known_one
+  in_graph well p (kept_along e has lost keeps) = ⊎_elim (λ out. absurd (inside e.from e.to keeps out)) (λ known_one. known_one) (well.ends e has)
+
+  pub search_begun : (old order : List Place) → old ≡ [] → Grows (ByEdge (IsAfter flow) flow.edges) old order → IsSearch order 0
+  search_begun old order empty g = record {
+    after = λ e p has is. g.to p (e, has, is);
+    lost = λ p h. ⊎_elim (λ w. absurd (no_member p (subst (λ t. Contains t p) empty w))) (λ w. after_call w.0 p w.1 w.2.0 w.2.1) (g.from p h);
+    bound = omega arith;
+    followed = λ k d lt. absurd (omega (arith, lt));
+  }
+
+  pub search_more : (order new : List Place) (next : ℕ) (p : Place) (edges : List Edge) → IsSearch order next → next < length order → p ≡ get_or order next p
+      → ((e : Edge) → Contains edges e ↔ (HasEdge flow e × (e.from ≡ p))) → Grows (ByEdge (IsKeptTo image) edges) order new → IsSearch new (next + 1)
+  search_more order new next p edges s lt is leave g =
+      let longer = no_shorter order new g in
+      let here : IsLost image flow p = s.lost p (subst (Contains order) (sym is) (Contains-get_or order next p lt)) in
+      let each : (k : ℕ) → k < next + 1 → (d : Place) → IsFollowed new (get_or order k d) =
+      below_more (λ (j : ℕ). (d : Place) → IsFollowed new (get_or order j d)) next
+      (λ j l d. λ e has from keeps. kept order new e.to g (s.followed j d l e has from keeps))
+      (λ d. subst (IsFollowed new) (get_or_read order next p lt is d) (λ e has from keeps. g.to e.to (e, (leave e).1 (has, from), (keeps, refl)))) in
+      record {
+        after = λ e q has is_after. kept order new q g (s.after e q has is_after);
+        lost = λ q h. ⊎_elim (λ w. s.lost q w)
+            (λ w.
+            let edge = (leave w.0).0 w.1 in
+            subst (IsLost image flow) w.2.1 (kept_along w.0 edge.0 (subst (IsLost image flow) (sym edge.1) here) w.2.0))
+            (g.from q h);
+        bound = omega (arith, longer, lt);
+        followed = λ k d l. subst (IsFollowed new)
+            (sym (ap (λ t. get_or t k d) g.more.1 ∙ get_or_append_left order g.more.0 d k (omega (arith, l, lt)))) (each k l d);
+      }
+
+  -- what holds the places after calls, and with a place all to which R14 is kept from it, holds all
+  closed : (order : List Place) → ((e : Edge) (p : Place) → HasEdge flow e → IsAfter flow e p → Contains order p)
+      → ((e : Edge) → HasEdge flow e → Contains order e.from → KeepsLink image e.from e.to → Contains order e.to) → (p : Place) → IsLost image flow p → Contains order p
+  closed order after next p (after_call e q has is known_one) = after e q has (is, known_one)
+  closed order after next p (kept_along e has lost keeps) = next e has (closed order after next e.from lost) keeps
+
+  pub search_done : (order : List Place) (next : ℕ) → IsSearch order next → length order ≤ next → (p : Place) → Contains order p ↔ IsLost image flow p
+  search_done order next s all p = (
+    s.lost p,
+    closed order s.after (λ e has at keeps. s.followed at.0 e.from (let lt : at.0 < length order = at.1 in omega (arith, lt, all)) e has (sym at.2) keeps) p,
+  )
+
+  -- no more are found than the graph has
+  pub few_found : IsWellFormed flow → (seen : BTreeSet Place) (order : List Place) (next : ℕ) → IsFound seen order → sets.IsOrdered by_order seen → IsSearch order next → btree_set_len seen ≤ 16384
+  few_found well seen order next found ordered s =
+      let within : length seen.keys ≤ length flow.places =
+      length_within place_total seen.keys flow.places (sorted_by_place seen.keys ordered) well.ordered
+      (λ p h. in_graph well p (s.lost p ((found.same p).0 ((btree_set_contains_iff by_order_total by_order_exact seen p).1 h)))) in
+      omega (arith, within, well.few)
+
+-- ## Addresses
+
+at_place : (a : ℕ) (p : Place) → is_at a p ≡ true → (calls : List ℕ) × (p ≡ At calls a)
+at_place a (At calls b) h = (calls, ap (At calls) (eqb-true b a h))
+at_place a Exit h = absurd (false≢true h)
+
+is_there : (calls : List ℕ) (a : ℕ) (p : Place) → p ≡ At calls a → is_at a p ≡ true
+is_there calls a p is = ap (is_at a) is ∙ eq-eqb a a refl
+
+place_at_it : (places : List Place) (a : ℕ) → is_reached places a ≡ true → (calls : List ℕ) × Contains places (At calls a)
+place_at_it [] a h = absurd (false≢true h)
+place_at_it (p ∷ ps) a h = ⊎_elim
+    (λ first. let w = at_place a p first in (w.0, subst (Contains (p ∷ ps)) w.1 (here p ps)))
+    (λ later. let w = place_at_it ps a later in (w.0, there p ps (At w.0 a) w.1))
+    (or_parts (is_at a p) (is_reached ps a) h)
+
+reached_by : (places : List Place) (a : ℕ) (calls : List ℕ) → Contains places (At calls a) → is_reached places a ≡ true
+reached_by places a calls h = list_any_at (is_at a) places h.0 (At calls a) h.1 (is_there calls a (get_or places h.0 (At calls a)) h.2)
+
+pub are_lost : (image : Words) (flow : Flow) (places given : List Place) (set : BTreeSet ℕ) (items : List ℕ) → given ≡ places → ((p : Place) → Contains places p ↔ IsLost image flow p)
+    → ((a : ℕ) → (sets.contains nat_cmp set a ≡ true) ↔ ((is_reached given a ≡ true) × MayReturnByLink image a)) → items ≡ set.keys → IsStrictlySortedBy nat_cmp items
+    → AreLostLinks image flow items
+are_lost image flow places given set items same lost named is ascending = record {
+  ascending = ascending;
+  each = λ a.
+      let iff = btree_set_contains_iff nat_cmp_total exact_unsigned set a in
+      let at = ap (λ (ps : List Place). is_reached ps a) same in (
+        λ h.
+            let w = (named a).0 (iff.1 (subst (λ xs. Contains xs a) is h)) in
+            let r = place_at_it places a (sym at ∙ w.0) in
+            (r.0, (lost (At r.0 a)).0 r.1, w.1),
+        λ h. subst (λ xs. Contains xs a) (sym is) (iff.0 ((named a).1 (at ∙ reached_by places a h.0 ((lost (At h.0 a)).1 h.1), h.2))),
+      );
+}

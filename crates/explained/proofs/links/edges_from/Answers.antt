@@ -1,0 +1,17 @@
+use Rattle.std.proofs.Common.{◌<◌, List, length, subst}
+use Rattle.flow_graph.specs.declared.places.Place.{Place}
+use Rattle.explained.proofs.LinkLaws.{index_is, leaving_found, none_leave}
+use Rattle.explained.proofs.links.edges_from.Goals as goal
+
+pub returns-in-Ok : goal.returns-in-Ok
+returns-in-Ok c =
+    let flow = c.args.graph.now in
+    let well = c.places.ensures.well_formed in
+    leaving_found flow well c.edges.result.now c.part-first.result.0 c.part-first.result.1 c.in-Ok.at c.args.place.now c.edges.ensures.value c.part-first.ensures.first c.part-first.ensures.end
+    (subst (λ (ps : List Place). c.in-Ok.at < length ps) c.places.ensures.value c.in-Ok.ensures.bound)
+    (index_is flow well c.places.result.now c.args.place.now c.in-Ok.at c.places.ensures.value c.in-Ok.ensures.position)
+
+pub returns-in-Err : goal.returns-in-Err
+returns-in-Err c =
+    none_leave c.args.graph.now c.places.ensures.well_formed c.places.result.now c.args.place.now c.in-Err.field-0 c.places.ensures.value c.in-Err.ensures.bound
+    c.in-Err.ensures.position

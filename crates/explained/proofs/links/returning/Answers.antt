@@ -1,0 +1,22 @@
+use Rattle.std.proofs.Common.{◌≡◌, List, subst, true}
+use Rattle.std.specs.Prelude.{◌↔◌}
+use Rattle.std.specs.BTreeSet.{contains}
+use Rattle.std.specs.Ordering.{nat_cmp}
+use Rattle.std.proofs.lemmas.List.{take_all}
+use Rattle.flow_graph.specs.declared.places.Place.{Place}
+use Rattle.explained.specs.Assumed.{Notes}
+use Rattle.explained.specs.Links.{MayReturnByLink}
+use Rattle.explained.specs.Taken.{is_reached}
+use Rattle.explained.proofs.AssumedLaws.{noted}
+use Rattle.explained.proofs.links.returning.Goals as goal
+
+pub loop-place-preserved : goal.loop-place-preserved
+loop-place-preserved c =
+    noted (MayReturnByLink c.args.image.now) c.args.places.now c.loop-place.place-index c.place-item.result (contains nat_cmp c.loop-place.named)
+    (contains nat_cmp c.note.new.named) c.loop-place-test.true c.loop-place.invariant
+    (subst (λ (p : Place). Notes (MayReturnByLink c.args.image.now) p (contains nat_cmp c.loop-place.named) (contains nat_cmp c.note.new.named)) c.place-item.is c.in_ok-note.ensures)
+
+pub returns : goal.returns
+returns c = λ a.
+    subst (λ (ps : List Place). (contains nat_cmp c.loop-place.named a ≡ true) ↔ ((is_reached ps a ≡ true) × MayReturnByLink c.args.image.now a))
+    (take_all c.loop-place.place-index c.args.places.now c.loop-place-test.false) (c.loop-place.invariant a)

@@ -1,0 +1,37 @@
+-- What the search for places where R14 is lost does at each step. No part of what is told: it stands here
+-- since clauses of private functions cite it.
+use Rattle.std.specs.Prelude.{◌≡◌, ◌⊎◌, ◌↔◌, List, [], ◌∷◌, ◌++◌, length, Contains, IsTrue, Some}
+use Rattle.std.specs.BTreeSet.{BTreeSet, contains, btree_set_len}
+use Rattle.flow_graph.specs.Flow.{Flow}
+use Rattle.flow_graph.specs.Search.{by_order}
+use Rattle.flow_graph.specs.declared.edges.Edge.{Edge}
+use Rattle.flow_graph.specs.declared.places.Place.{Place}
+use Rattle.loader.specs.Image.{Words}
+use Rattle.explained.specs.Links.{KeepsLink, place_after}
+
+-- the set and the list have the same places, each once
+pub record IsFound (seen : BTreeSet Place) (order : List Place) : Type 0 where
+  pub same : (q : Place) → (IsTrue (contains by_order seen q)) ↔ Contains order q
+  pub count : length order ≡ btree_set_len seen
+
+-- one more place, unless it is there
+abbrev pub Adds : List Place → Place → List Place → Type 0
+Adds old p new = ((new ≡ old) × Contains old p) ⊎ (new ≡ old ++ p ∷ [])
+
+-- those places more and no others
+pub record Grows (P : Place → Type 0) (old new : List Place) : Type 0 where
+  pub more : (rest : List Place) × (new ≡ old ++ rest)
+  pub from : (p : Place) → Contains new p → Contains old p ⊎ P p
+  pub to : (p : Place) → P p → Contains new p
+
+-- what holds by one of the edges
+abbrev pub ByEdge : (Edge → Place → Type 0) → List Edge → Place → Type 0
+ByEdge By edges p = (e : Edge) × Contains edges e × By e p
+
+-- the routine that the edge calls comes back to the place, which the graph has
+abbrev pub IsAfter : Flow → Edge → Place → Type 0
+IsAfter flow e p = (place_after e.from e.to ≡ Some p) × Contains flow.places p
+
+-- the edge leads to the place and keeps R14
+abbrev pub IsKeptTo : Words → Edge → Place → Type 0
+IsKeptTo image e p = KeepsLink image e.from e.to × (e.to ≡ p)

@@ -1,0 +1,324 @@
+ghost use Rattle.std.specs.Prelude.{◌≡◌, ◌↔◌, ◌+◌, ◌<◌, ◌≤◌, ℕ, true, Contains, IfOk, IsTrue, OnOk};
+ghost use Rattle.std.specs.Prelude.{length, slice_index};
+ghost use Rattle.std.specs.BTreeSet.{contains};
+ghost use Rattle.std.specs.Ordering.{nat_cmp};
+ghost use Rattle.arm2_effect.specs.ProgramCounter.{ahead_of};
+ghost use Rattle.flow_graph.specs.Flow.{HasEdge, IsWellFormed};
+ghost use Rattle.flow_graph.specs.declared.edges.Edge.{Edge};
+ghost use Rattle.flow_graph.specs.declared.places.Place.{Place};
+ghost use Rattle.word_shapes.specs.Shapes.{is_link};
+ghost use Rattle.word_shapes.specs.Words.{HasShape};
+ghost use Rattle.explained.specs.Assumed.{Notes};
+ghost use Rattle.explained.specs.Links.{AreLostLinks, IsLost, KeepsLink, MayReturnByLink, data_writes_link};
+ghost use Rattle.explained.specs.Links.{has_link, may_return_by_link, moves_base, place_after};
+ghost use Rattle.explained.specs.Links.{returns_by_link, single_writes_link, writes_link};
+ghost use Rattle.explained.specs.Losing.{Adds, ByEdge, Grows, IsAfter, IsFound, IsKeptTo};
+ghost use Rattle.explained.specs.Taken.{is_reached};
+
+use crate::assumptions::sorted;
+use arm2_decode::{Instr, Opcode, Operation, Register};
+use bus_ticks::SPACE_END;
+use flow_graph::{Calls, Edge, Graph, Place};
+use loader::Image;
+use std::alloc::{AllocError, Global};
+use std::collections::BTreeSet;
+use word_shapes::{instr_at, is_never, is_return, is_transfer, writes_pc};
+
+fn is_link(register: Register) -> bool
+    ensures { result ≡ is_link register }
+{
+    register.number() == 14
+}
+
+// Whether data processing writes R14.
+fn data_writes_link(opcode: Opcode, rd: Register) -> bool
+    ensures { result ≡ data_writes_link opcode rd }
+{
+    is_link(rd) && !opcode.is_compare()
+}
+
+// Whether a load or a store of one word writes its base.
+fn moves_base(before: bool, write_back: bool) -> bool
+    ensures { result ≡ moves_base before write_back }
+{
+    write_back || !before
+}
+
+fn single_writes_link(load: bool, moves: bool, rn: Register, rd: Register) -> bool
+    ensures { result ≡ single_writes_link load moves rn rd }
+{
+    load && is_link(rd) || moves && is_link(rn)
+}
+
+fn has_link(list: u32) -> bool
+    ensures { result ≡ has_link list }
+{
+    list / 0x4000 % 2 == 1
+}
+
+// Whether an operation writes R14, other than a call.
+fn writes_link(operation: &Operation) -> bool
+    ensures { result ≡ writes_link operation.now }
+{
+    match operation {
+        Operation::Multiply(x) => is_link(x.rd),
+        Operation::DataRegister(x) => data_writes_link(x.opcode, x.rd),
+        Operation::DataRegisterShift(x) => data_writes_link(x.opcode, x.rd),
+        Operation::DataImmediate(x) => data_writes_link(x.opcode, x.rd),
+        Operation::SingleImmediate(x) => {
+            single_writes_link(x.load, moves_base(x.before, x.write_back), x.rn, x.rd)
+        }
+        Operation::SingleRegister(x) => {
+            single_writes_link(x.load, moves_base(x.before, x.write_back), x.rn, x.rd)
+        }
+        Operation::Block(x) => x.load && has_link(x.list) || x.write_back && is_link(x.rn),
+        Operation::Branch(_)
+        | Operation::Swi(_)
+        | Operation::UndefinedTransfer(_)
+        | Operation::CoprocessorTransfer(_)
+        | Operation::Coprocessor(_) => false,
+    }
+}
+
+// Whether the image has a word at an address that writes R14, other than a call.
+fn writes_link_at(image: &Image, at: u32) -> bool
+    ensures { IsTrue result ↔ HasShape writes_link image.now at }
+{
+    match instr_at(image, at) {
+        Some(instr) => writes_link(&instr.operation),
+        None => false,
+    }
+}
+
+// Whether an operation returns by R14.
+fn returns_by_link(operation: &Operation) -> bool
+    ensures { result ≡ returns_by_link operation.now }
+{
+    writes_pc(operation) && is_return(operation) && !is_transfer(operation)
+}
+
+fn may_return_by_link(instr: &Instr) -> bool
+    ensures { result ≡ may_return_by_link instr.now }
+{
+    !is_never(instr.cond) && returns_by_link(&instr.operation)
+}
+
+// Whether the image has a word at an address that may return by R14.
+fn may_return_at(image: &Image, at: u32) -> bool
+    ensures { IsTrue result ↔ MayReturnByLink image.now at }
+{
+    match instr_at(image, at) {
+        Some(instr) => may_return_by_link(&instr),
+        None => false,
+    }
+}
+
+// The place to which the routine comes back that an edge calls, if it calls one.
+fn place_after(edge: &Edge) -> Option<Place>
+    ensures { result ≡ place_after edge.now.from edge.now.to }
+{
+    let Place::At(calls, at) = edge.from else {
+        return None;
+    };
+    let Place::At(inner, _) = edge.to else {
+        return None;
+    };
+    if calls.as_slice().len() < inner.as_slice().len() {
+        return Some(Place::At(calls, at.wrapping_add(4) % SPACE_END));
+    }
+    None
+}
+
+fn are_same(calls: Calls, other: Calls) -> bool
+    ensures { IsTrue result ↔ (calls ≡ other) }
+{
+    calls == other
+}
+
+// Whether R14 is still lost where an edge leads, if it is lost before.
+fn keeps_link(image: &Image, edge: &Edge) -> bool
+    ensures { IsTrue result ↔ KeepsLink image.now edge.now.from edge.now.to }
+{
+    let Place::At(calls, at) = edge.from else {
+        return false;
+    };
+    let Place::At(inner, _) = edge.to else {
+        return false;
+    };
+    are_same(calls, inner) && !writes_link_at(image, at)
+}
+
+fn has_place(graph: &Graph, place: &Place) -> bool
+    ensures { IsTrue result ↔ Contains graph.now.places place.now }
+{
+    graph.places().binary_search(place).is_ok()
+}
+
+// Where the edges of the place of an index begin and end.
+fn part(graph: &Graph, at: usize) -> (usize, usize)
+    requires { at < length graph.now.places }
+    ensures first { result.0 ≡ slice_index graph.now.firsts at }
+    ensures end { result.1 ≡ slice_index graph.now.firsts (at + 1) }
+    ensures rises { result.0 ≤ result.1 }
+    ensures fits { result.1 ≤ length graph.now.edges }
+{
+    let firsts = graph.firsts();
+    (firsts[at], firsts[at + 1])
+}
+
+// The edges that leave a place.
+fn edges_from<'a>(graph: &'a Graph, place: &Place) -> &'a [Edge]
+    ensures { (e : Edge) → Contains result.now e ↔ (HasEdge graph.now e × (e.from ≡ place.now)) }
+{
+    match graph.places().binary_search(place) {
+        Ok(at) => {
+            let (first, end) = part(graph, at);
+            &graph.edges()[first..end]
+        }
+        Err(_) => &[],
+    }
+}
+
+// The places at which R14 is lost, as far as they are found.
+#[derive(Drop)]
+struct Lost {
+    seen: BTreeSet<Place>,
+    // the same, in the order in which they are found
+    order: Vec<Place>,
+}
+
+impl Lost {
+    fn add(&mut self, place: &Place) -> Result<(), AllocError>
+        requires { IsFound self.old.seen self.old.order.items }
+        ensures found { OnOk result (IsFound self.new.seen self.new.order.items) }
+        ensures adds { OnOk result (Adds self.old.order.items place.now self.new.order.items) }
+    {
+        if self.seen.insert(*place)? {
+            self.order.push(*place)?;
+        }
+        Ok(())
+    }
+
+    // Adds the place after an edge's call, if it calls and the graph has the place.
+    fn add_after(&mut self, graph: &Graph, edge: &Edge) -> Result<(), AllocError>
+        requires { IsFound self.old.seen self.old.order.items }
+        ensures found { OnOk result (IsFound self.new.seen self.new.order.items) }
+        ensures grows { OnOk result
+            (Grows (IsAfter graph.now edge.now) self.old.order.items self.new.order.items) }
+    {
+        let Some(place) = place_after(edge) else {
+            return Ok(());
+        };
+        if !has_place(graph, &place) {
+            return Ok(());
+        }
+        self.add(&place)
+    }
+
+    // Adds the places after all calls.
+    fn add_calls(&mut self, graph: &Graph) -> Result<(), AllocError>
+        requires { IsFound self.old.seen self.old.order.items }
+        ensures found { OnOk result (IsFound self.new.seen self.new.order.items) }
+        ensures grows { OnOk result
+            (Grows (ByEdge (IsAfter graph.now) graph.now.edges) self.old.order.items
+            self.new.order.items) }
+        ensures well_formed { IsWellFormed graph.now }
+    {
+        for edge in graph.edges() {
+            self.add_after(graph, edge)?;
+        }
+        Ok(())
+    }
+
+    // Adds the place to which an edge leads, if it keeps R14.
+    fn add_kept(&mut self, image: &Image, edge: &Edge) -> Result<(), AllocError>
+        requires { IsFound self.old.seen self.old.order.items }
+        ensures found { OnOk result (IsFound self.new.seen self.new.order.items) }
+        ensures grows { OnOk result
+            (Grows (IsKeptTo image.now edge.now) self.old.order.items self.new.order.items) }
+    {
+        if !keeps_link(image, edge) {
+            return Ok(());
+        }
+        self.add(&edge.to)
+    }
+
+    // Adds the places to which those of the edges lead that keep R14.
+    fn follow(&mut self, image: &Image, edges: &[Edge]) -> Result<(), AllocError>
+        requires { IsFound self.old.seen self.old.order.items }
+        ensures found { OnOk result (IsFound self.new.seen self.new.order.items) }
+        ensures grows { OnOk result
+            (Grows (ByEdge (IsKeptTo image.now) edges.now) self.old.order.items self.new.order.items) }
+    {
+        for edge in edges {
+            self.add_kept(image, edge)?;
+        }
+        Ok(())
+    }
+}
+
+// Finds the places at which R14 is lost. The list grows at its end while its next place is looked at, so
+// each is looked at once.
+fn lost_places(alloc: Global, image: &Image, graph: &Graph) -> Result<Vec<Place>, AllocError>
+    ensures { IfOk result
+        (λ places. (p : Place) → Contains places.items p ↔ IsLost image.now graph.now p) }
+{
+    let mut lost = Lost {
+        seen: BTreeSet::new(alloc),
+        order: Vec::new(alloc),
+    };
+    lost.add_calls(graph)?;
+    let mut next = 0;
+    while next < lost.seen.len() {
+        let place = lost.order[next];
+        lost.follow(image, edges_from(graph, &place))?;
+        next += 1;
+    }
+    Ok(lost.order)
+}
+
+// Adds the address of the place, if its word may return by R14.
+fn note(named: &mut BTreeSet<u32>, place: &Place, image: &Image) -> Result<(), AllocError>
+    ensures { OnOk result
+        (Notes (MayReturnByLink image.now) place.now (contains nat_cmp named.old)
+        (contains nat_cmp named.new)) }
+{
+    let Place::At(_, address) = place else {
+        return Ok(());
+    };
+    if may_return_at(image, *address) {
+        named.insert(*address)?;
+    }
+    Ok(())
+}
+
+// The addresses of those of the places whose word may return by R14.
+fn returning(alloc: Global, image: &Image, places: &[Place]) -> Result<BTreeSet<u32>, AllocError>
+    ensures { IfOk result
+        (λ named. (a : ℕ) → (contains nat_cmp named a ≡ true)
+        ↔ ((is_reached places.now a ≡ true) × MayReturnByLink image.now a)) }
+{
+    let mut named = BTreeSet::new(alloc);
+    for place in places {
+        note(&mut named, place, image)?;
+    }
+    Ok(named)
+}
+
+/// The addresses of words that may return by R14 (MOV or SUB) where a call may have overwritten it: on some
+/// way through the graph a call comes before, and no word of the same routine writes R14 in between. They
+/// ascend.
+///
+/// The time is near linear in the graph. A word counts as one that writes R14 whatever its condition, and the
+/// R14 of all modes counts as one.
+///
+/// # Errors
+///
+/// An allocation failed.
+pub fn lost_links(alloc: Global, image: &Image, graph: &Graph) -> Result<Vec<u32>, AllocError>
+    ensures { IfOk result (λ named. AreLostLinks image.now graph.now named.items) }
+{
+    let places = lost_places(alloc, image, graph)?;
+    let named = returning(alloc, image, &places)?;
+    sorted(alloc, &named)
+}

@@ -1,0 +1,53 @@
+-- Rows that are put one after another.
+use Rattle.std.proofs.Common.{◌≡◌, ◌∙◌, ℕ, ◌+◌, ◌<◌, ◌≤◌, List, [], ◌++◌, append-nil, length, drop, get_or, refl, sym, ap, subst, append_assoc, codes}
+use Rattle.std.proofs.Math.ListN.{drop_of_length-le}
+use Rattle.std.proofs.lemmas.List.{drop_more}
+use Rattle.asm_text.specs.Hex.{hex8}
+use Rattle.assembler.specs.ShownLines.{IsShown}
+use Rattle.text_rows.specs.Rows.{Appends, AreRows, IsShownRow}
+use Rattle.text_rows.proofs.ColumnLaws.{seven_parts}
+
+module _ {A B : Type 0} (IsRow : A → List B → Type 0) (all : List A) where
+  -- whatever rows the others have, all rows are those so far and these
+  pub record SoFar (i : ℕ) (old now : List B) : Type 0 where
+    pub parts : List B
+    pub is : now ≡ old ++ parts
+    pub whole : (rest : List B) → AreRows IsRow (drop i all) rest → AreRows IsRow all (parts ++ rest)
+
+  pub so_far_none : (old : List B) → SoFar 0 old old
+  so_far_none old = record { parts = []; is = sym (append-nil old); whole = λ rest are. are }
+
+  pub so_far_one : (i : ℕ) (d : A) (old now new : List B) → SoFar i old now → i < length all → Appends (IsRow (get_or all i d)) now new → SoFar (i + 1) old new
+  so_far_one i d old now new h lt adds = record {
+    parts = h.parts ++ adds.0;
+    is = adds.2 ∙ ap (λ (xs : List B). xs ++ adds.0) h.is ∙ append_assoc old h.parts adds.0;
+    whole = λ rest are.
+        let part = adds.0 in
+        let here : AreRows IsRow (drop i all) (part ++ rest) =
+        subst (λ (es : List A). AreRows IsRow es (part ++ rest)) (sym (drop_more all i d lt)) (part, rest, adds.1, are, refl) in
+        subst (AreRows IsRow all) (sym (append_assoc h.parts part rest)) (h.whole (part ++ rest) here);
+  }
+
+  pub so_far_all : (i : ℕ) (old now : List B) → SoFar i old now → length all ≤ i → Appends (AreRows IsRow all) old now
+  so_far_all i old now h le =
+      let none : drop i all ≡ [] = drop_of_length-le all le in (
+        h.parts,
+        subst (AreRows IsRow all) (append-nil h.parts) (h.whole [] (subst (λ (es : List A). AreRows IsRow es []) (sym none) refl)),
+        h.is,
+      )
+
+  -- from an empty list on
+  pub all_parts : (i : ℕ) (old now : List B) → old ≡ [] → SoFar i old now → length all ≤ i → AreRows IsRow all now
+  all_parts i old now empty h le =
+      let e = so_far_all i old now h le in
+      subst (AreRows IsRow all) (sym (e.2 ∙ ap (λ (xs : List B). xs ++ e.0) empty)) e.1
+
+-- the row of a word
+pub shown_row : (at word : ℕ) (line old a b c d e f new : List ℕ) → IsShown word at line
+    → a ≡ old ++ codes "  " → b ≡ a ++ hex8 at → c ≡ b ++ codes "  " → d ≡ c ++ hex8 word → e ≡ d ++ codes "  " → f ≡ e ++ line → new ≡ f ++ codes "\n"
+    → Appends (IsShownRow (at, word)) old new
+shown_row at word line old a b c d e f new shown ia ib ic id ie jf inew = (
+  codes "  " ++ (hex8 at ++ (codes "  " ++ (hex8 word ++ (codes "  " ++ (line ++ codes "\n"))))),
+  (line, shown, refl),
+  seven_parts old (codes "  ") (hex8 at) (codes "  ") (hex8 word) (codes "  ") line (codes "\n") a b c d e f new ia ib ic id ie jf inew,
+)

@@ -1,0 +1,15 @@
+-- Addresses as a statement has them.
+use Rattle.std.specs.Prelude.{ℕ, ◌==◌, if◌then◌else◌, List, [], ◌∷◌, ◌++◌, length, codes}
+use Rattle.asm_text.specs.Hex.{hex8}
+
+-- a number of TOML
+abbrev pub number_text : ℕ → List ℕ
+number_text at = codes "0x" ++ hex8 at
+
+-- a label in quotes
+abbrev pub quoted : List ℕ → List ℕ
+quoted label = 34 ∷ [] ++ (label ++ 34 ∷ [])
+
+-- by its label, or where it has none by its number
+abbrev pub labelled : List ℕ → ℕ → List ℕ
+labelled label at = if length label == 0 then number_text at else quoted label

@@ -1,0 +1,34 @@
+ghost use Rattle.std.specs.Prelude.{◌≡◌, ◌++◌, OnOk};
+ghost use Rattle.text_rows.specs.Addresses.{labelled, number_text, quoted};
+
+use crate::columns::put;
+use asm_text::hex8;
+use std::alloc::AllocError;
+
+/// Adds a name in double quotes. An error says that an allocation failed.
+pub fn put_quoted(out: &mut Vec<u8>, name: &[u8]) -> Result<(), AllocError>
+    ensures { OnOk result (out.new.items ≡ out.old.items ++ quoted name.now) }
+{
+    put(out, b"\"")?;
+    put(out, name)?;
+    put(out, b"\"")
+}
+
+// Adds an address as a number of TOML.
+fn put_hex(out: &mut Vec<u8>, at: u32) -> Result<(), AllocError>
+    ensures { OnOk result (out.new.items ≡ out.old.items ++ number_text at) }
+{
+    put(out, b"0x")?;
+    put(out, &hex8(at))
+}
+
+/// Adds an address as a statement has it: its label in double quotes, or the number where the label is empty. An
+/// error says that an allocation failed.
+pub fn put_labelled(out: &mut Vec<u8>, label: &[u8], at: u32) -> Result<(), AllocError>
+    ensures { OnOk result (out.new.items ≡ out.old.items ++ labelled label.now at) }
+{
+    if label.is_empty() {
+        return put_hex(out, at);
+    }
+    put_quoted(out, label)
+}

@@ -1,0 +1,10 @@
+//! Texts for people: in columns, and in rows one after another.
+#![tactic(auto)]
+
+mod addresses;
+mod columns;
+mod rows;
+
+pub use addresses::{put_labelled, put_quoted};
+pub use columns::{put, put_decimal, put_number, put_right};
+pub use rows::{put_shown_row, section};
