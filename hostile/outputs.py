@@ -178,22 +178,38 @@ def long_file(name):
 
 
 def file_rows(name):
-    """What stands in the place of a file to read: its name, how it is made, and what bash is told."""
+    """What stands in the place of a file to read: its name, how it is made, what bash is told, and the
+    refusal with what `explain` says of the file; None: it is read."""
     pipe = f"mkfifo pipe; cat {name} >pipe & exec {{}}"
+    cannot, long = (FAILED, "cannot be read"), (TOO_LONG, f"more than {MOST} bytes")
     rows = [
-        ("a file that is missing", "missing", None, "", FAILED),
-        ("a folder", "folder", lambda folder: (folder / "folder").mkdir(), "", FAILED),
-        ("a name within a file", "/dev/null/x", None, "", FAILED),
-        ("a link to itself", "loop", lambda folder: (folder / "loop").symlink_to("loop"), "", FAILED),
-        ("a name of 5,000 letters", "n" * 5000, None, "", FAILED),
-        ("a file that fails when it is read", "/proc/self/mem", None, "", FAILED),
-        ("a file of 16,777,217 bytes", "long", long_file("long"), "", TOO_LONG),
-        ("a file that never ends", "/dev/zero", None, "", TOO_LONG),
+        ("a file that is missing", "missing", None, "", (FAILED, "no such file")),
+        (
+            "a folder",
+            "folder",
+            lambda folder: (folder / "folder").mkdir(),
+            "",
+            (FAILED, "is a directory"),
+        ),
+        ("a name within a file", "/dev/null/x", None, "", cannot),
+        ("a link to itself", "loop", lambda folder: (folder / "loop").symlink_to("loop"), "", cannot),
+        ("a name of 5,000 letters", "n" * 5000, None, "", cannot),
+        ("a file that fails when it is read", "/proc/self/mem", None, "", cannot),
+        ("a file of 16,777,217 bytes", "long", long_file("long"), "", long),
+        ("a file that never ends", "/dev/zero", None, "", long),
         ("a pipe", "pipe", None, pipe, None),
     ]
     if as_nobody():
-        rows.append(("a file without rights", name, locked(name, 0o000), as_nobody(), FAILED))
+        rights = (FAILED, "permission denied")
+        rows.append(("a file without rights", name, locked(name, 0o000), as_nobody(), rights))
     return rows
+
+
+def unread(command, file, refusal, reason):
+    """The refusal of a file; `explain` says which and why, but not where it judges a certificate."""
+    status, out, err = refusal.wanted
+    is_named = command.words[0] == "explain" and "--certificate" not in command.words
+    return Is(status, out, err + f"{file}: {reason}\n".encode()) if is_named else refusal
 
 
 def files(commands):
@@ -203,10 +219,11 @@ def files(commands):
         for at, word in enumerate(it.words):
             if word not in it.files:
                 continue
-            for name, other, prepare, shell, judge in file_rows(word):
+            for name, other, prepare, shell, found in file_rows(word):
+                judge = unread(it, other, *found) if found else right
                 words = [*it.words[:at], other, *it.words[at + 1 :]]
                 how = {"stdin": it.stdin, "prepare": prepare, "shell": shell}
-                yield Trial(f"{it.name}: for {word} {name}", words, judge or right, it.files, **how)
+                yield Trial(f"{it.name}: for {word} {name}", words, judge, it.files, **how)
             if it.words[0] != "debug":
                 words = [*it.words[:at], "/dev/stdin", *it.words[at + 1 :]]
                 yield Trial(f"{it.name}: {word} on standard input", words, right, it.files, stdin=word)
