@@ -69,7 +69,7 @@ class Explains:
             return None if is_same else f"{told}, and bound: {bound}"
         number = int(re.search(rb"^bound (\d+)$", bound.out, re.M)[1])
         table = told.out.partition(b"\n\n")[0].rstrip(b"\n") + b"\n"
-        ticks = re.findall(rb"^ *\d+ +(\d+) +\d+\.\d% ", table, re.M)
+        ticks = re.findall(rb"^ *\d+ +\d+(?:-\d+)? +(\d+) +\d+\.\d% ", table, re.M)
         microseconds = f"{number // 8}.{number % 8 * 125:03}"
         end = f"    total {number:10} 100.0%\nbound {number} ticks, {microseconds} microseconds at 8 MHz\n"
         is_right = not told.status and table.endswith(end.encode()) and sum(map(int, ticks)) == number
