@@ -41,7 +41,7 @@ found_at cmp itself exact places p (Err i) sorted known found = ⊎_elim
     (λ (has : Contains places p). absurd (not_missed cmp itself places p i has (found sorted)))
     known
 
-key_exact : (p q : Place) → by_key p q ≡ Equal → p ≡ q
+pub key_exact : (p q : Place) → by_key p q ≡ Equal → p ≡ q
 key_exact p q tied =
     let back : by_key q p ≡ Equal = nat_list_cmp_total.antisymm (key_of q) (key_of p) ∙ ap ordering_reverse tied in
     same_key p q (same_by_order (key_of p) (key_of q) (sym (before_is (key_of p) (key_of q)) ∙ ap is_lt tied) (sym (before_is (key_of q) (key_of p)) ∙ ap is_lt back))

@@ -1,5 +1,5 @@
 ghost use Rattle.std.specs.Prelude.{◌≡◌, ◌≤◌, ◌++◌, [], ◌∷◌, IfOk, length, slice_index, ℕ, ◌<◌, ◌⊎◌};
-ghost use Rattle.std.specs.Prelude.{Contains};
+ghost use Rattle.std.specs.Prelude.{Contains, true};
 ghost use Rattle.std.specs.Ordering.{nat_cmp};
 ghost use Rattle.std.specs.Cmp.Lexicographic.{slice_cmp};
 ghost use Rattle.std.specs.List.Sorted.{IsSorted, IsStrictlySortedBy};
@@ -108,17 +108,51 @@ pub(crate) fn position_of(listed: &[Place], place: &Place) -> usize
         .unwrap_or(listed.len())
 }
 
-// The edge between the positions of its ends.
-fn number_edge(listed: &[Place], edge: &Edge) -> NumberedEdge
+// Whether the place has this position by key.
+#[tactic(auto, using(crate::proofs::Positions::key_exact))]
+fn is_at(listed: &[Place], at: usize, place: &Place) -> bool
+    ensures here { result ≡ true → place_at listed.now at ≡ place.now }
+    ensures inside { result ≡ true → at < length listed.now }
+{
+    at < listed.len() && compare(&listed[at], place).is_eq()
+}
+
+// The position of a place by key. It is looked for near another one first, since most edges lead to the next
+// instruction.
+fn position_near(listed: &[Place], place: &Place, near: usize) -> usize
+    requires ordered { IsSorted by_key listed.now }
+    requires no_exit { Contains listed.now Place.Exit → ⊥ }
+    requires known { (place.now ≡ Place.Exit) ⊎ Contains listed.now place.now }
+    requires near { near ≤ length listed.now }
+    ensures number { place_at listed.now result ≡ place.now }
+    ensures most { result ≤ length listed.now }
+{
+    if is_at(listed, near, place) {
+        return near;
+    }
+    if near < listed.len() {
+        if is_at(listed, near + 1, place) {
+            return near + 1;
+        }
+    }
+    position_of(listed, place)
+}
+
+// The edge between the positions of its ends, the first of which is near that.
+fn number_edge(listed: &[Place], edge: &Edge, near: usize) -> NumberedEdge
     requires ordered { IsSorted by_key listed.now }
     requires no_exit { Contains listed.now Place.Exit → ⊥ }
     requires starts { Contains listed.now edge.now.from }
     requires ends { (edge.now.to ≡ Place.Exit) ⊎ Contains listed.now edge.now.to }
-    ensures { NumbersEdge (place_at listed.now) (length listed.now) edge.now result }
+    requires near { near ≤ length listed.now }
+    ensures edge { NumbersEdge (place_at listed.now) (length listed.now) edge.now result }
+    ensures from { result.from ≤ length listed.now }
 {
+    let from = position_near(listed, &edge.from, near);
+    let to = position_near(listed, &edge.to, from);
     NumberedEdge {
-        from: position_of(listed, &edge.from),
-        to: position_of(listed, &edge.to),
+        from,
+        to,
         cost: edge.cost,
     }
 }
@@ -133,8 +167,11 @@ pub(crate) fn number_edges(
     ensures { IfOk result (λ edges. IsNumbered graph.now (place_at listed.now) edges.items) }
 {
     let mut numbered = Vec::with_capacity(alloc, graph.edges().len())?;
+    let mut near = 0;
     for edge in graph.edges() {
-        numbered.push(number_edge(listed, edge))?;
+        let next = number_edge(listed, edge, near);
+        near = next.from;
+        numbered.push(next)?;
     }
     Ok(numbered)
 }
