@@ -303,6 +303,7 @@ def statement_limits(bench):
         files = {"handler.s": worked.SOURCE, "handler.toml": b"entry = 0x1C\n" + text}
         judge = ReadAs("bound", fault, readers.Faults.ORDER)
         yield Trial(f"bound, statement: {name}", words, Follows(bench, judge, words, files), files)
+        yield explained(bench, f"statement: {name}", words[1:], files)
 
 
 def filled(front, part, back=b""):

@@ -206,9 +206,9 @@ def file_rows(name):
 
 
 def unread(command, file, refusal, reason):
-    """The refusal of a file; `explain` says which and why, but not where it judges a certificate."""
+    """The refusal of a file; `explain` says which and why."""
     status, out, err = refusal.wanted
-    is_named = command.words[0] == "explain" and "--certificate" not in command.words
+    is_named = command.words[0] == "explain"
     return Is(status, out, err + f"{file}: {reason}\n".encode()) if is_named else refusal
 
 

@@ -6,7 +6,9 @@ ghost use Rattle.arcwcet.specs.Run.{RunsDraft, RunsExplain, RunsFollow, RunsGrap
 ghost use Rattle.arcwcet.specs.Run.{RunsExplainVerdict, RunsVisits};
 
 use crate::diagnose::explained_status;
-use crate::files::{Store, Unread, read_handler, read_limited, read_three_files, read_two_files};
+use crate::files::{
+    Store, Unread, read_handler, read_handler_and, read_limited, read_three_files, read_two_files,
+};
 use crate::status::{
     answer_status, done_status, line_status, report_status, store_status, unread_status,
 };
@@ -347,7 +349,8 @@ fn run_check<S: Store, O: Output, E: Output>(
     answer_status(answer, err)
 }
 
-/// `explain --certificate CERT`: reads the files and prints the verdict and what fails.
+/// `explain --certificate CERT`: reads the files and prints the verdict and what fails, or which file was not
+/// read.
 fn run_explain_verdict<S: Store, O: Output, E: Output>(
     alloc: Global,
     names: CheckNames<'_>,
@@ -361,9 +364,9 @@ fn run_explain_verdict<S: Store, O: Output, E: Output>(
         out.old out.new result }
     ensures silent { result ≡ 0 → err.new ≡ err.old }
 {
-    let files = match read_three_files(alloc, names.handler, names.cert, store) {
+    let files = match read_handler_and(alloc, names.handler, names.cert, store) {
         Ok(files) => files,
-        Err(fault) => return store_status(fault, err),
+        Err(Unread { name, fault }) => return unread_status(name, fault, &*store, err),
     };
     let handler = &files.handler;
     let inputs = CheckInputs {

@@ -254,6 +254,29 @@ pub(crate) struct ThreeFiles {
     pub(crate) third: Vec<u8>,
 }
 
+/// Reads the profile's file first, and then the other three, and tells which was not read.
+pub(crate) fn read_handler_and<'a, S: Store>(
+    alloc: Global,
+    names: Names<'a>,
+    third: &'a str,
+    store: &mut S,
+) -> Result<ThreeFiles, Unread<'a>>
+    ensures read { IfOk result
+        (λ f. ReadsAll S.read_gives store.old
+        (in_front (option_map (λ n. n.now) names.entry.profile)
+        (names.entry.first.now ∷ names.entry.second.now ∷ third.now ∷ []))
+        (in_front (option_map (λ v. v.items) f.handler.profile)
+        (f.handler.first.items ∷ f.handler.second.items ∷ f.third.items ∷ [])) store.new) }
+    ensures fault { IfErr result
+        (λ u. FailsToRead S.read_gives store.old
+        (in_front (option_map (λ n. n.now) names.entry.profile)
+        (names.entry.first.now ∷ names.entry.second.now ∷ third.now ∷ [])) u.fault store.new) }
+{
+    let handler = read_handler(alloc, names, store)?;
+    let third = read_named(alloc, third, store)?;
+    Ok(ThreeFiles { handler, third })
+}
+
 /// Reads the profile's file first, and then the other three.
 pub(crate) fn read_three_files<S: Store>(
     alloc: Global,
@@ -272,7 +295,8 @@ pub(crate) fn read_three_files<S: Store>(
         (in_front (option_map (λ n. n.now) names.entry.profile)
         (names.entry.first.now ∷ names.entry.second.now ∷ third.now ∷ [])) e store.new) }
 {
-    let handler = read_two_files(alloc, names, store)?;
-    let third = store.read(alloc, third)?;
-    Ok(ThreeFiles { handler, third })
+    match read_handler_and(alloc, names, third, store) {
+        Ok(files) => Ok(files),
+        Err(unread) => Err(unread.fault),
+    }
 }

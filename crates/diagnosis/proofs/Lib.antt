@@ -1,3 +1,4 @@
+mod CountedLemmas
 mod CrossingLemmas
 mod CycleLemmas
 mod EntryLemmas

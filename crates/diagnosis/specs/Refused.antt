@@ -1,8 +1,8 @@
--- What is named of a statement that is refused: of each fault the values and the tables that have it, in the
--- order of the text, twenty at most. Our own format.
+-- What is named of a statement that is refused: first what is wrong with the whole, and then the values and
+-- the tables that have the fault, in the order of the text, twenty at most. Our own format.
 use Rattle.std.specs.Prelude.{◌≡◌, ◌≤◌, ◌⊎◌, ◌==◌, ◌&&◌, ◌||◌, ◌%◌, ◌+◌, ◌^◌, not, nat_lt}
 use Rattle.std.specs.Prelude.{zero, suc, Bool, true, false, ℕ}
-use Rattle.std.specs.Prelude.{List, [], ◌∷◌, ◌++◌, length, take, codes, decimal, count_by}
+use Rattle.std.specs.Prelude.{List, [], ◌∷◌, ◌++◌, length, take, drop, codes, decimal, count_by}
 use Rattle.std.specs.Prelude.{Option, Some, None, IsSome, IsUtf8, is_none, if◌then◌else◌}
 use Rattle.std.specs.BTreeSet.{contains}
 use Rattle.std.specs.Char.{is_digit}
@@ -20,6 +20,7 @@ use Rattle.statement.specs.declared.faults.StatementFault.TheVariants.{NotToml, 
 use Rattle.statement.specs.declared.faults.StatementFault.TheVariants.{UnknownLabel, OutOfRange, Twice}
 use Rattle.diagnosis.specs.Outline.{Item, Begins, States, Ends, Stated, Table, Value, Bare, Quoted, items_of}
 use Rattle.diagnosis.specs.declared.repeats.Taken.{Taken}
+use Rattle.diagnosis.specs.declared.statements.Limit as declared
 use Rattle.diagnosis.specs.declared.statements.Report.{Report}
 use Rattle.diagnosis.specs.declared.statements.TheConstants.{MOST_LINES}
 
@@ -216,12 +217,44 @@ is_misplaced names items =
     (address_in names (codes "first") items)
     (address_in names (codes "last") items)
 
+-- the values at a key, before the next table
+unfoldable pub stated_at : List ℕ → List Item → List Stated
+stated_at key [] = []
+stated_at key (Begins t ∷ items) = []
+stated_at key (States p ∷ items) =
+    if bytes_eq p.key key then p ∷ stated_at key items else stated_at key items
+stated_at key (Ends ∷ items) = []
+
+-- the first of a list
+abbrev pub first_item : {A : Type 0} → List A → Option A
+first_item [] = None
+first_item (x ∷ xs) = Some x
+
+-- the first of a list after so many
+abbrev pub first_after : {A : Type 0} → ℕ → List A → Option A
+first_after most xs = first_item (drop most xs)
+
+-- the row of a destination that comes after those that its target may have
+abbrev pub extra_destination_row : Option Stated → List Row
+extra_destination_row None = []
+extra_destination_row (Some p) =
+    record {
+      line = p.line;
+      text = (value_row p).text ++ codes " comes after the 64 destinations that a target may have";
+    }
+    ∷ []
+
+-- that the header lies outside, and of the destinations the first after the limit
+abbrev pub range_rows : Names → Table → List Item → List Row
+range_rows names t items =
+    row_if (is_misplaced names items) (table_row t (codes " has its header outside first to last") [])
+    ++ extra_destination_row (first_after 64 (stated_at (codes "to") items))
+
 abbrev pub table_rows : Names → StatementFault → Table → List Item → List Row
 table_rows names UnknownKey t items =
     row_if (is_none (keys_of t.name)) (table_row t (codes " is no list of statements") [])
 table_rows names WrongKind t items = kind_rows t items
-table_rows names OutOfRange t items =
-    row_if (is_misplaced names items) (table_row t (codes " has its header outside first to last") [])
+table_rows names OutOfRange t items = range_rows names t items
 table_rows names _ t items = []
 
 -- ## Of a text
@@ -246,12 +279,62 @@ abbrev pub no_entry_rows : List Item → List Row
 no_entry_rows items =
     row_if (not (list_any is_entry items)) (record { line = 1; text = codes "the statement has no entry" })
 
-abbrev pub entry_rows : StatementFault → List Item → List Row
-entry_rows WrongKind items = no_entry_rows items
-entry_rows _ items = []
+-- the tables of the list
+unfoldable pub tables_in : List ℕ → List Item → List Table
+tables_in list [] = []
+tables_in list (Begins t ∷ items) =
+    if bytes_eq t.name list then t ∷ tables_in list items else tables_in list items
+tables_in list (States p ∷ items) = tables_in list items
+tables_in list (Ends ∷ items) = tables_in list items
+
+-- the name of a list, how many tables of it a statement may have, and what is said of the next one
+pub record Limit : Type 0 where
+  pub list : List ℕ
+  pub most : ℕ
+  pub words : List ℕ
+
+abbrev pub loop_limit : Limit
+loop_limit =
+    record {
+      list = codes "loop";
+      most = 256;
+      words = codes " comes after the 256 loops that a statement may have";
+    }
+
+abbrev pub target_limit : Limit
+target_limit =
+    record {
+      list = codes "target";
+      most = 1024;
+      words = codes " comes after the 1024 targets that a statement may have";
+    }
+
+abbrev pub access_limit : Limit
+access_limit =
+    record {
+      list = codes "access";
+      most = 4096;
+      words = codes " comes after the 4096 accesses that a statement may have";
+    }
+
+-- the row of a table that comes after those that a statement may have
+abbrev pub extra_table_row : Limit → Option Table → List Row
+extra_table_row limit None = []
+extra_table_row limit (Some t) = table_row t limit.words [] ∷ []
+
+-- of the first table after as many as there may be
+abbrev pub extra_row : Limit → List Item → List Row
+extra_row limit items = extra_table_row limit (first_after limit.most (tables_in limit.list items))
+
+-- that there is no entry, or of each list that is too long the first table after its limit
+abbrev pub whole_rows : StatementFault → List Item → List Row
+whole_rows WrongKind items = no_entry_rows items
+whole_rows OutOfRange items =
+    extra_row loop_limit items ++ (extra_row target_limit items ++ extra_row access_limit items)
+whole_rows _ items = []
 
 abbrev pub all_rows : Names → StatementFault → List Item → List Row
-all_rows names fault items = entry_rows fault items ++ rows names fault items
+all_rows names fault items = whole_rows fault items ++ rows names fault items
 
 -- ## Of an address that stands twice, by the items before, the nearest of them first
 
@@ -325,6 +408,11 @@ abbrev pub IsStatementText : Names → List ℕ → StatementFault → List ℕ 
 IsStatementText names text NotToml out = IsTomlText text out
 IsStatementText names text Twice out = out ≡ shown MOST_LINES (twice_rows names [] (items_of text))
 IsStatementText names text fault out = out ≡ shown MOST_LINES (all_rows names fault (items_of text))
+
+-- ## As the code has them
+
+abbrev pub limit_of : declared.Limit → Limit
+limit_of l = record { list = l.list.now; most = l.most; words = l.words.now }
 
 -- ## Rows one after another, which clauses of private calls speak of
 

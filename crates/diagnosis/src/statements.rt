@@ -1,9 +1,12 @@
-ghost use Rattle.std.specs.Prelude.{◌≡◌, ◌≤◌, ◌+◌, ◌++◌, ◌∷◌, [], IfOk, OnOk, length, map, option_map, take};
+ghost use Rattle.std.specs.Prelude.{◌≡◌, ◌≤◌, ◌+◌, ◌++◌, ◌∷◌, [], IfOk, OnOk, codes, length, map};
+ghost use Rattle.std.specs.Prelude.{option_map, take};
 ghost use Rattle.std.specs.List.{list_any};
 ghost use Rattle.diagnosis.specs.Outline.{item_of, items_of, stated_of, table_of, value_of};
 ghost use Rattle.diagnosis.specs.Refused.{Adds, IsStatementText, IsTomlText, address_in, all_rows};
-ghost use Rattle.diagnosis.specs.Refused.{entry_rows, feeds, is_entry, is_faulty, is_misplaced};
-ghost use Rattle.diagnosis.specs.Refused.{is_unknown_key, item_row_if, row_if, rows, shown, twice_rows};
+ghost use Rattle.diagnosis.specs.Refused.{extra_destination_row, feeds, first_after, is_entry, is_faulty};
+ghost use Rattle.diagnosis.specs.Refused.{is_misplaced, is_unknown_key, item_row_if, limit_of, extra_row};
+ghost use Rattle.diagnosis.specs.Refused.{range_rows};
+ghost use Rattle.diagnosis.specs.Refused.{row_if, rows, shown, tables_in, twice_rows, stated_at, whole_rows};
 ghost use Rattle.diagnosis.specs.Refused.{item_rows, keys_of, kind_rows, lies_outside, missing_row};
 ghost use Rattle.diagnosis.specs.Refused.{missing_rows, name_text, needed_keys, no_entry_rows};
 ghost use Rattle.diagnosis.specs.Refused.{row_text, table_row};
@@ -141,6 +144,78 @@ fn put_line(out: &mut Vec<u8>, line: usize, text: &[u8]) -> Result<(), AllocErro
     put(out, b": ")?;
     put(out, text)?;
     put(out, b"\n")
+}
+
+// The name of a list, how many tables of it a statement may have, and what is said of the next one.
+pub(crate) struct Limit {
+    list: &'static [u8],
+    most: usize,
+    words: &'static [u8],
+}
+
+const LOOPS: Limit = Limit {
+    list: b"loop",
+    most: 256,
+    words: b" comes after the 256 loops that a statement may have",
+};
+
+const TARGETS: Limit = Limit {
+    list: b"target",
+    most: 1024,
+    words: b" comes after the 1024 targets that a statement may have",
+};
+
+const ACCESSES: Limit = Limit {
+    list: b"access",
+    most: 4096,
+    words: b" comes after the 4096 accesses that a statement may have",
+};
+
+/// How many destinations a target may have.
+const MOST_DESTINATIONS: usize = 64;
+
+// The first table of the list after so many.
+#[tactic(auto, unfolding(crate::specs::Refused::tables_in))]
+fn table_after<'a>(most: usize, list: &[u8], entries: &[Entry<'a>]) -> Option<Section<'a>>
+    ensures { option_map table_of result
+        ≡ first_after most (tables_in list.now (map item_of entries.now)) }
+{
+    let mut left = most;
+    for entry in entries {
+        let Entry::Table(section) = entry else {
+            continue;
+        };
+        if section.name != list {
+            continue;
+        }
+        if left == 0 {
+            return Some(*section);
+        }
+        left -= 1;
+    }
+    None
+}
+
+// The first value at a key after so many, before the next table.
+#[tactic(auto, unfolding(crate::specs::Refused::stated_at))]
+fn value_after<'a>(most: usize, key: &[u8], entries: &[Entry<'a>]) -> Option<Pair<'a>>
+    ensures { option_map stated_of result
+        ≡ first_after most (stated_at key.now (map item_of entries.now)) }
+{
+    let mut left = most;
+    for entry in entries {
+        let Entry::Value(pair) = entry else {
+            return None;
+        };
+        if pair.key != key {
+            continue;
+        }
+        if left == 0 {
+            return Some(*pair);
+        }
+        left -= 1;
+    }
+    None
 }
 
 // The value at a key, before the next table.
@@ -379,6 +454,41 @@ impl Report {
         self.put_target(alloc, section, rest)
     }
 
+    // Adds the first destination after those that a target may have, if there is one.
+    fn put_extra_destination(&mut self, alloc: Global, rest: &[Entry<'_>]) -> Result<(), AllocError>
+        ensures { OnOk result
+            (Adds (extra_destination_row (first_after 64 (stated_at (codes "to") (map item_of rest.now))))
+            self.old self.new) }
+    {
+        let Some(pair) = value_after(MOST_DESTINATIONS, b"to", rest) else {
+            return Ok(());
+        };
+        let mut text = value_text(alloc, &pair)?;
+        put(
+            &mut text,
+            b" comes after the 64 destinations that a target may have",
+        )?;
+        self.put_row(pair.line, &text)
+    }
+
+    // Adds that a loop's header lies outside it, and the first destination after those that there may be.
+    #[tactic(auto, using(crate::proofs::RefusedLemmas::adds_both))]
+    fn put_ranges(
+        &mut self,
+        asked: &Asked<'_>,
+        section: &Section<'_>,
+        rest: &[Entry<'_>],
+    ) -> Result<(), AllocError>
+        ensures { OnOk result
+            (Adds (range_rows asked.now.labels.now (table_of section.now) (map item_of rest.now))
+            self.old self.new) }
+    {
+        let holds = is_misplaced(asked.labels, rest);
+        let words = b" has its header outside first to last";
+        self.put_if(asked.alloc, holds, section, words)?;
+        self.put_extra_destination(asked.alloc, rest)
+    }
+
     // Adds what is wrong with a table.
     fn put_of_table(
         &mut self,
@@ -397,15 +507,7 @@ impl Report {
                 self.put_if(alloc, holds, section, b" is no list of statements")
             }
             StatementFault::WrongKind => self.put_kinds(alloc, section, rest),
-            StatementFault::OutOfRange => {
-                let holds = is_misplaced(asked.labels, rest);
-                self.put_if(
-                    alloc,
-                    holds,
-                    section,
-                    b" has its header outside first to last",
-                )
-            }
+            StatementFault::OutOfRange => self.put_ranges(asked, section, rest),
             _ => Ok(()),
         }
     }
@@ -490,17 +592,40 @@ impl Report {
         self.put_row_if(holds, 1, NO_ENTRY)
     }
 
-    // Adds what is wrong with the whole.
-    fn put_of_whole(
+    // Adds the first table of a list after those that there may be, if there is one.
+    fn put_extra_table(
         &mut self,
-        fault: StatementFault,
+        alloc: Global,
         entries: &[Entry<'_>],
+        limit: &Limit,
     ) -> Result<(), AllocError>
         ensures { OnOk result
-            (Adds (entry_rows fault (map item_of entries.now)) self.old self.new) }
+            (Adds (extra_row (limit_of limit.now) (map item_of entries.now)) self.old self.new) }
     {
-        match fault {
+        match table_after(limit.most, limit.list, entries) {
+            Some(section) => self.put_table(alloc, &section, limit.words, b""),
+            None => Ok(()),
+        }
+    }
+
+    // Adds of each list the first table after those that there may be.
+    fn put_extra_tables(&mut self, alloc: Global, entries: &[Entry<'_>]) -> Result<(), AllocError>
+        ensures { OnOk result
+            (Adds (whole_rows StatementFault.OutOfRange (map item_of entries.now)) self.old self.new) }
+    {
+        self.put_extra_table(alloc, entries, &LOOPS)?;
+        self.put_extra_table(alloc, entries, &TARGETS)?;
+        self.put_extra_table(alloc, entries, &ACCESSES)
+    }
+
+    // Adds what is wrong with the whole.
+    fn put_of_whole(&mut self, asked: &Asked<'_>, entries: &[Entry<'_>]) -> Result<(), AllocError>
+        ensures { OnOk result
+            (Adds (whole_rows asked.now.fault (map item_of entries.now)) self.old self.new) }
+    {
+        match asked.fault {
             StatementFault::WrongKind => self.put_if_no_entry(entries),
+            StatementFault::OutOfRange => self.put_extra_tables(asked.alloc, entries),
             _ => Ok(()),
         }
     }
@@ -539,7 +664,7 @@ fn rows_text(asked: &Asked<'_>, text: &[u8]) -> Result<Vec<u8>, AllocError>
         text: Vec::new(asked.alloc),
         left: MOST_LINES,
     };
-    report.put_of_whole(asked.fault, &entries)?;
+    report.put_of_whole(asked, &entries)?;
     report.put_rows(asked, &entries)?;
     Ok(report.text)
 }

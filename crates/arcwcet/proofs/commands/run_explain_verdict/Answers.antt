@@ -13,8 +13,8 @@ returns-clause-ran g c =
     let file = option_map (λ f. f.now) c.profile.result in
     let third = c.args.names.cert.now in
     answer_ran IsVerdictReport IsCheckable IsCheckRefused reads g.O.Output.taken g.O.Output.failures profile names.first.now names.second.now third file c.deref.result.now c.deref-2.result.now c.deref-3.result.now
-    c.args.store.now c.read_three_files.new.store c.args.out.now c.verdict_report-answer.new.out
-    (subst (λ (files : Texts). ReadsAll reads c.args.store.now (in_front profile (names.first.now ∷ names.second.now ∷ third ∷ [])) files c.read_three_files.new.store)
+    c.args.store.now c.read_handler_and.new.store c.args.out.now c.verdict_report-answer.new.out
+    (subst (λ (files : Texts). ReadsAll reads c.args.store.now (in_front profile (names.first.now ∷ names.second.now ∷ third ∷ [])) files c.read_handler_and.new.store)
     (λ i. in_front (sym c.profile.ensures i) (sym c.deref.ensures.value i ∷ sym c.deref-2.ensures.value i ∷ sym c.deref-3.ensures.value i ∷ []))
     c.in-Ok.ensures.read)
     c.verdict_report-answer.result c.verdict_report-answer.ensures c.answer_status.result c.answer_status.ensures.status

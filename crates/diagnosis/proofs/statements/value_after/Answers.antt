@@ -1,0 +1,9 @@
+use Rattle.std.proofs.Common.{◌<◌, ◌∙◌, arith}
+use Rattle.diagnosis.proofs.CountedLemmas.{value_counted}
+use Rattle.diagnosis.proofs.statements.value_after.Goals as goal
+
+pub loop-entry-preserved : goal.loop-entry-preserved
+loop-entry-preserved c =
+    let some : 0 < c.loop-entry.left = omega (arith, c.if-left-eq0.false) in
+    value_counted c.args.key.now c.args.entries.now c.loop-entry.entry-index c.loop-entry.left c.in-Value.pair _ c.loop-entry-test.true c.in-Value.is c.if-ne.ensures some
+    ∙ c.loop-entry.invariant
