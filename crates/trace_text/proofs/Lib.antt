@@ -1,3 +1,4 @@
 mod TextLaws
 pub mod RunLaws
 pub mod AsciiLaws
+mod LatelyLaws

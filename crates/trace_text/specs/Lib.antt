@@ -1,1 +1,2 @@
 pub mod TraceText
+pub mod Lately

@@ -46,8 +46,9 @@ pub fn hex_word(word: u32) -> ArrayString<8>
     ensures text { result.bytes ≡ hex8 word }
     ensures len { length result.bytes ≡ 8 }
 {
-    let Ok(text) = ArrayString::from_byte_string(&hex8(word)) else {
-        unreachable!()
-    };
+    let digits = hex8(word);
+    let mut text = ArrayString::new();
+    // Digits are ASCII.
+    text.push_str(unsafe { str::from_utf8_unchecked(&digits) });
     text
 }

@@ -4,6 +4,7 @@
 mod figures;
 mod registers;
 mod run;
+mod shown;
 mod trace;
 
 pub use figures::{hex_word, why_name, write_stop, write_ticks};

@@ -2,7 +2,8 @@ ghost use Rattle.std.specs.Prelude.{◌≡◌, IfOk, OnErr, OnOk, string_bytes};
 ghost use Rattle.arm2_exec.specs.Run.{Runs};
 ghost use Rattle.trace_text.specs.TraceText.{Adds, RefusedRun, TracesRun};
 
-use crate::trace::write_trace;
+use crate::shown::ShownLately;
+use crate::trace::put_trace;
 use arm2_exec::{Input, Kind, Machine, Ran};
 use std::alloc::AllocError;
 
@@ -28,6 +29,7 @@ pub fn write_run(
         elapsed: 0,
         stopped: None,
     };
+    let mut lately = ShownLately::new();
     for input in inputs {
         let stretched = machine.profile().burst_ticks(input.bursts);
         let traced = machine.step_traced(*input);
@@ -35,7 +37,7 @@ pub fn write_run(
             ran.stopped = Some(why);
             return Ok(ran);
         }
-        write_trace(out, &traced)?;
+        put_trace(out, &traced, &mut lately)?;
         let ticks = u128::from(traced.told.ticks);
         ran.steps += 1;
         ran.ticks += ticks;

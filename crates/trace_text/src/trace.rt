@@ -1,12 +1,12 @@
 ghost use Rattle.std.specs.Prelude.{◌≡◌, ◌+◌, ◌<◌, ◌≤◌, ◌^◌, MatchResult, length, string_bytes};
-ghost use Rattle.assembler.specs.ShownLines.{IsShown};
+ghost use Rattle.trace_text.specs.Lately.{AreRight};
 ghost use Rattle.trace_text.specs.TraceText.{Adds, IsTraceLine, IsWordLine, exception_name, front_text};
 ghost use Rattle.trace_text.specs.TraceText.{word_text};
 
 use crate::figures::hex_word;
+use crate::shown::ShownLately;
 use arm2_exec::{Kind, Traced, Vector};
 use arrayvec::ArrayString;
-use assembler::disassemble;
 use itoa::Buffer;
 use std::alloc::AllocError;
 
@@ -62,36 +62,29 @@ fn front_of(traced: &Traced) -> ArrayString<LINE_ROOM>
     front
 }
 
-// Adds the line of a word at its address, which is ASCII.
-fn put_shown(out: &mut ArrayString<LINE_ROOM>, word: u32, at: u32)
-    requires { length out.old.bytes + 64 ≤ 94 }
-    ensures text { Adds (IsShown word at) out.old.bytes out.new.bytes }
-    ensures len { length out.new.bytes ≤ length out.old.bytes + 64 }
-{
-    let line = disassemble(word, at);
-    let Ok(text) = str::from_utf8(line.items()) else {
-        unreachable!()
-    };
-    out.push_str(text);
-}
-
-fn put_word_line(out: &mut ArrayString<LINE_ROOM>, word: Option<u32>, at: u32)
-    requires { length out.old.bytes + 64 ≤ 94 }
+fn put_word_line(
+    out: &mut ArrayString<LINE_ROOM>,
+    lately: &mut ShownLately,
+    word: Option<u32>,
+    at: u32,
+)
+    requires right { AreRight lately.old.rows }
+    requires room { length out.old.bytes + 64 ≤ 94 }
+    ensures right { AreRight lately.new.rows }
     ensures text { Adds (IsWordLine word at) out.old.bytes out.new.bytes }
     ensures len { length out.new.bytes ≤ length out.old.bytes + 64 }
 {
     match word {
-        Some(word) => put_shown(out, word, at),
+        Some(word) => lately.put(out, word, at),
         None => {}
     }
 }
 
-/// The line of a step: its address, its word, its ticks, and the name of the exception that it took or the
-/// word's line. Of a step that stopped the machine it is empty.
-///
-/// It lies in place, so that no memory can refuse it.
-pub fn trace_line(traced: &Traced) -> ArrayString<LINE_ROOM>
-    ensures { IsTraceLine traced.now result.bytes }
+/// The line of a step, as [`trace_line`] has it, by the lines of words that were shown lately.
+pub(crate) fn line_of(traced: &Traced, lately: &mut ShownLately) -> ArrayString<LINE_ROOM>
+    requires { AreRight lately.old.rows }
+    ensures line { IsTraceLine traced.now result.bytes }
+    ensures right { AreRight lately.new.rows }
 {
     match traced.told.kind {
         Kind::Stopped(_) => ArrayString::new(),
@@ -103,11 +96,39 @@ pub fn trace_line(traced: &Traced) -> ArrayString<LINE_ROOM>
         }
         Kind::Plain => {
             let mut line = front_of(traced);
-            put_word_line(&mut line, traced.word, traced.told.from);
+            put_word_line(&mut line, lately, traced.word, traced.told.from);
             line.push_str("\n");
             line
         }
     }
+}
+
+/// The line of a step: its address, its word, its ticks, and the name of the exception that it took or the
+/// word's line. Of a step that stopped the machine it is empty.
+///
+/// It lies in place, so that no memory can refuse it.
+pub fn trace_line(traced: &Traced) -> ArrayString<LINE_ROOM>
+    ensures { IsTraceLine traced.now result.bytes }
+{
+    line_of(traced, &mut ShownLately::new())
+}
+
+/// Adds the line of a step, by the lines of words that were shown lately.
+///
+/// An error says that an allocation failed; the text is then as it was.
+pub(crate) fn put_trace(
+    out: &mut String,
+    traced: &Traced,
+    lately: &mut ShownLately,
+) -> Result<(), AllocError>
+    requires { AreRight lately.old.rows }
+    ensures right { AreRight lately.new.rows }
+    ensures text { MatchResult result
+        (λ _. Adds (IsTraceLine traced.now) (string_bytes out.old) (string_bytes out.new))
+        (λ _. string_bytes out.new ≡ string_bytes out.old) }
+{
+    let line = line_of(traced, lately);
+    out.push_str(line.as_str())
 }
 
 /// Adds the line of a step.
@@ -118,6 +139,5 @@ pub fn write_trace(out: &mut String, traced: &Traced) -> Result<(), AllocError>
         (λ _. Adds (IsTraceLine traced.now) (string_bytes out.old) (string_bytes out.new))
         (λ _. string_bytes out.new ≡ string_bytes out.old) }
 {
-    let line = trace_line(traced);
-    out.push_str(line.as_str())
+    put_trace(out, traced, &mut ShownLately::new())
 }

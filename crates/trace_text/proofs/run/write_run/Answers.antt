@@ -50,12 +50,12 @@ loop-input-preserved c =
     more_steps start inputs c.loop-input.ran now next (drop index inputs) (drop (index + 1) inputs) input
     traced.result.told c.loop-input.invariant.0 at_hand traced.ensures.step c.in_default.not-Stopped in
     let old = string_bytes c.loop-input.out in
-    let line : Adds (IsTraceLine traced.result) old (string_bytes c.write_trace.new.out) = search rules in
+    let line : Adds (IsTraceLine traced.result) old (string_bytes c.put_trace.new.out) = search rules in
     let told =
     text_goes start inputs now next (drop index inputs)
     (drop (index + 1) inputs) input traced.result at_hand traced.ensures.step
     (string_bytes c.args.out.now) (string_bytes c.loop-input.out)
-    (string_bytes c.write_trace.new.out) traced.ensures.word c.in_default.not-Stopped
+    (string_bytes c.put_trace.new.out) traced.ensures.word c.in_default.not-Stopped
     c.loop-input.invariant.1 line in
     let stretched : c.from.result ≡ now.profile.burst * input.bursts =
     c.from.ensures ∙ c.burst_ticks-stretched.ensures.ticks
@@ -75,7 +75,7 @@ loop-input-preserved c =
     front_told start inputs index now next input traced.result here traced.ensures.step
     c.in_default.not-Stopped
     (string_bytes c.args.out.now) (string_bytes c.loop-input.out)
-    (string_bytes c.write_trace.new.out) traced.ensures.word c.loop-input.invariant.7 line in (
+    (string_bytes c.put_trace.new.out) traced.ensures.word c.loop-input.invariant.7 line in (
       rw (same, stretched) runs,
       told,
       c.loop-input.invariant.2,
@@ -84,6 +84,7 @@ loop-input-preserved c =
       omega (arith, passed, same, bound, again, stretch),
       rw (same, stretched) front,
       front_text,
+      c.put_trace.ensures.right,
     )
 
 pub returns-clause-runs : goal.returns-clause-runs
@@ -100,8 +101,8 @@ returns-clause-text c =
     (string_bytes c.loop-input.out) c.loop-input.invariant.1
     (drop_of_length-le c.args.inputs.now c.loop-input-test.false)
 
-pub returns-in_err-write_trace-clause-refused : goal.returns-in_err-write_trace-clause-refused
-returns-in_err-write_trace-clause-refused c =
+pub returns-in_err-put_trace-clause-refused : goal.returns-in_err-put_trace-clause-refused
+returns-in_err-put_trace-clause-refused c =
     let inputs = c.args.inputs.now in
     let index = c.loop-input.input-index in
     let input : Input =
@@ -114,5 +115,5 @@ returns-in_err-write_trace-clause-refused c =
     traced.result
     here traced.ensures.step c.in_default.not-Stopped (drop (index + 1) inputs) c.loop-input.ran in
     on_err c.from_residual.result _
-    (law (string_bytes c.args.out.now) (string_bytes c.loop-input.out) (string_bytes c.write_trace.new.out)
-    left c.loop-input.invariant.6 c.loop-input.invariant.7 c.in_err-write_trace.ensures)
+    (law (string_bytes c.args.out.now) (string_bytes c.loop-input.out) (string_bytes c.put_trace.new.out)
+    left c.loop-input.invariant.6 c.loop-input.invariant.7 c.in_err-put_trace.ensures.text)

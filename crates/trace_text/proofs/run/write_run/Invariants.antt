@@ -1,5 +1,6 @@
 use Rattle.std.proofs.Common.{◌≡◌, ◌≤◌, ◌*◌, None, drop, string_bytes}
 use Rattle.arm2_exec.proofs.RunLemmas.{SoFar}
+use Rattle.trace_text.specs.Lately.{AreRight}
 use Rattle.trace_text.specs.TraceText.{Adds}
 use Rattle.trace_text.proofs.RunLaws.{FrontRuns, FrontTold, ToldSoFar}
 use Rattle.trace_text.proofs.run.write_run.Given as goal
@@ -14,3 +15,4 @@ invariant-loop-input l =
     × FrontRuns l.initial.machine l.inputs l.input-index l.ran l.machine
     × Adds (FrontTold l.initial.machine l.inputs l.input-index l.machine) (string_bytes l.initial.out)
     (string_bytes l.out)
+    × AreRight l.lately.rows

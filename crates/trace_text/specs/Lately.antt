@@ -1,0 +1,13 @@
+-- Lines that are kept for words that are shown again. They stand here since clauses of private functions cite them.
+use Rattle.std.specs.Prelude.{◌≡◌, ◌≤◌, ℕ, List, take, Option, Some, None, slice_index_or}
+use Rattle.assembler.specs.ShownLines.{IsShown}
+use Rattle.trace_text.specs.declared.shown.Shown.{Shown}
+
+-- the line that is kept, of at most 64 bytes, is the one that is shown for its word
+pub record IsRight (row : Shown) : Type 0 where
+  pub fits : row.len ≤ 64
+  pub shown : IsShown row.word row.at (take row.len row.bytes)
+
+-- so is each of them
+abbrev pub AreRight : List (Option Shown) → Type 0
+AreRight rows = (place : ℕ) (row : Shown) → slice_index_or rows place None ≡ Some row → IsRight row
