@@ -1,13 +1,9 @@
 -- A verdict and the refusals of a check, from what is found of the three texts.
-use Rattle.std.proofs.Common.{◌≡◌, ◌≢◌, ◌⊎◌, ◌∙◌, ℕ, List, Result, Ok, Err, refl, sym, ap, subst, inl, true, false}
+use Rattle.std.proofs.Common.{◌≡◌, ◌≢◌, ◌⊎◌, ◌∙◌, ℕ, List, Result, Ok, Err, refl, sym, ap, subst, inl}
 use Rattle.std.specs.Prelude.{IfErr, IsErrOf}
 use Rattle.bus_ticks.specs.declared.profile.Profile.{Profile}
-use Rattle.walks.specs.Greatest.{IsGreatest}
-use Rattle.flow_graph.specs.declared.places.Place.TheVariants.{Exit}
-use Rattle.flow_graph.specs.Flow.{Flow, HasEdge, edge_shape}
+use Rattle.flow_graph.specs.Flow.{Flow}
 use Rattle.statement.specs.Stated.{Stated}
-use Rattle.loop_bounds.specs.Tree.{Tree}
-use Rattle.longest_walk.specs.Longest.{KeepsTree}
 use Rattle.certificate.specs.Faults.{EndsEarly, GoesOn, HasBadLine, Reads}
 use Rattle.certificate.specs.Lines.{CanSpell, Said, cert_text, said_by, said_of}
 use Rattle.certificate.specs.declared.cert.Cert.{Cert}
@@ -17,10 +13,10 @@ use Rattle.certificate.proofs.FaultLaws.{one_cert}
 use Rattle.cert_check.specs.Columns.{Ascends}
 use Rattle.cert_check.specs.Verdict.{IsVerdict}
 use Rattle.cert_check.specs.declared.verdict.Verdict.{Verdict}
-use Rattle.cert_check.specs.declared.verdict.Verdict.TheVariants.{Yes, No}
+use Rattle.cert_check.specs.declared.verdict.Verdict.TheVariants.{Yes}
 use Rattle.cert_check.proofs.OneVerdict.{one_verdict}
-use Rattle.report_output.specs.Answers.{OfSome}
-use Rattle.bound_reports.specs.Check.{IsAnswer, IsCheckRefused, IsCheckable, IsJudged, verdict_line}
+use Rattle.bound_reports.specs.Found.{FindsVerdict, IsFound}
+use Rattle.bound_reports.specs.Check.{IsCheckRefused, IsCheckable, IsJudged}
 use Rattle.report_output.specs.Faults.{of_cert}
 use Rattle.report_input.specs.Report.{HasLoops, IsHandlerRefused, IsReport, IsTreeOf}
 use Rattle.report_output.specs.declared.fault.ReportFault.{ReportFault}
@@ -72,20 +68,18 @@ readable_refusal source statement text profile f only a = ap of_cert (only a.sai
 pub ascends : (cert : Cert) → CanSpell (said_by cert) → Ascends cert
 ascends cert spell = record { places = spell.places_ascend; instances = spell.instances_ascend }
 
-pub judged : (source statement text : List ℕ) (profile : Profile) (st : Stated) (flow : Flow) (tree : Tree) (cert : Cert) (v : Verdict) → HasLoops source statement profile st flow → IsTreeOf flow st.loops tree
-    → CanSpell (said_by cert) × (text ≡ cert_text (said_by cert)) → IsVerdict flow tree cert v → (v ≡ Yes → IsGreatest edge_shape (HasEdge flow) (KeepsTree tree) flow.entry Exit cert.bound)
-    → IsJudged source statement text profile v
-judged source statement text profile st flow tree cert v loops of read is greatest = record {
-  stated = st;
-  flow = flow;
-  tree = tree;
-  cert = cert;
-  loops = loops;
-  tree_of = of;
-  can_spell = read.0;
-  spelled = read.1;
-  verdict_is = is;
-  greatest = λ yes. tree_is_greatest flow st.loops tree of.instances cert.bound (greatest yes);
+unfoldable pub judged : (source statement text : List ℕ) (profile : Profile) (v : Verdict) → IsFound FindsVerdict source statement text profile v → IsJudged source statement text profile v
+judged source statement text profile v f = record {
+  stated = f.stated;
+  flow = f.flow;
+  tree = f.tree;
+  cert = f.cert;
+  loops = f.loops;
+  tree_of = f.tree_of;
+  can_spell = f.can_spell;
+  spelled = f.spelled;
+  verdict_is = f.says.verdict_is;
+  greatest = λ yes. tree_is_greatest f.flow f.stated.loops f.tree f.tree_of.instances f.cert.bound (f.says.greatest yes);
 }
 
 -- what is judged can be checked
@@ -106,11 +100,6 @@ report_gets_yes source statement text profile v r j =
     let of : IsTreeOf a.flow a.stated.loops j.tree = subst (λ (s : Stated). IsTreeOf a.flow s.loops j.tree) same.same_stated (subst (λ (w : Flow). IsTreeOf w j.stated.loops j.tree) same.same_flow j.tree_of) in
     let verdict : IsVerdict a.flow j.tree j.cert v = subst (λ (w : Flow). IsVerdict w j.tree j.cert v) same.same_flow j.verdict_is in
     one_verdict a.flow j.tree j.cert v Yes verdict (r.judged j.tree of j.cert said)
-
--- a verdict's line is that of one of the answers
-pub of_some : (source statement text : List ℕ) (profile : Profile) (v : Verdict) (line : List ℕ) → IsJudged source statement text profile v → line ≡ verdict_line v → OfSome (IsAnswer source statement text profile) line
-of_some source statement text profile Yes line j e = (true, record { verdict = Yes; judged = j; answer_is = (λ t. refl, λ e. refl); line_is = e })
-of_some source statement text profile (No o) line j e = (false, record { verdict = No o; judged = j; answer_is = (λ t. absurd (cc t), λ e. absurd (cc e)); line_is = e })
 
 -- the same of an answer
 pub only_memory : {T : Type 0} (r : Result T ReportFault) → IfErr r (λ e. e ≡ Memory) → IfErr r (λ e. (e ≡ Memory) ⊎ (e ≡ Device))

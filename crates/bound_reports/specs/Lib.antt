@@ -1,3 +1,4 @@
 pub mod Bound
 pub mod Check
+pub mod Found
 pub mod Verdict

@@ -1,15 +1,12 @@
-ghost use Rattle.std.specs.Prelude.{◌≡◌, ◌≢◌, ◌↔◌, List, ℕ, IfErr, IfOk, IsTrue, option_map};
-ghost use Rattle.bus_ticks.specs.declared.profile.Profile.{Profile};
+ghost use Rattle.std.specs.Prelude.{◌≡◌, ◌↔◌, IsTrue, option_map};
 ghost use Rattle.report_input.specs.Priced.{Priced};
-ghost use Rattle.bound_reports.specs.Check.{Checks, IsCheckable, IsCheckRefused, IsJudged, objection_line};
-ghost use Rattle.bound_reports.specs.Check.{verdict_line};
-ghost use Rattle.report_input.specs.Report.{HasLoops, IsTreeOf};
+ghost use Rattle.bound_reports.specs.Check.{Checks, objection_line, verdict_line};
 
+use crate::finding::found_of;
 use bus_ticks::Profile;
-use cert_check::{Objection, Verdict, check};
-use certificate::read_cert;
-use report_input::{Handler, profile_of, read_handler};
-use report_output::{Output, ReportFault, write_whole};
+use cert_check::{Objection, Verdict};
+use report_input::profile_of;
+use report_output::{Output, ReportFault, print_answer};
 use std::alloc::Global;
 
 fn objected(objection: Objection) -> &'static [u8]
@@ -56,40 +53,6 @@ pub struct CheckInputs<'a> {
     pub cert: &'a [u8],
 }
 
-fn verdict_of(
-    alloc: Global,
-    inputs: CheckInputs<'_>,
-    profile: &Profile,
-) -> Result<Verdict, ReportFault>
-    ensures judged { IfOk result
-        (IsJudged inputs.entry.source.now inputs.entry.statement.now inputs.entry.cert.now profile.now) }
-    ensures fault { IfErr result
-        (λ e. (e ≢ ReportFault.Device) × IsCheckRefused inputs.entry.source.now inputs.entry.statement.now
-        inputs.entry.cert.now profile.now e) }
-    ensures only { IsCheckable inputs.entry.source.now inputs.entry.statement.now inputs.entry.cert.now
-        profile.now → IfErr result (λ e. e ≡ ReportFault.Memory) }
-{
-    let handler = read_handler(alloc, inputs.source, inputs.statement, profile)?;
-    verdict_on(alloc, &handler, inputs.cert)
-}
-
-// The same, by a handler that was read.
-fn verdict_on(alloc: Global, handler: &Handler, cert: &[u8]) -> Result<Verdict, ReportFault>
-    requires { IsTreeOf handler.now.graph handler.now.statement.loops handler.now.tree }
-    ensures judged { (source statement : List ℕ) (profile : Profile)
-        → HasLoops source statement profile handler.now.statement handler.now.graph
-        → IfOk result (IsJudged source statement cert.now profile) }
-    ensures fault { (source statement : List ℕ) (profile : Profile)
-        → HasLoops source statement profile handler.now.statement handler.now.graph
-        → IfErr result (λ e. (e ≢ ReportFault.Device) × IsCheckRefused source statement cert.now profile e) }
-    ensures only { (source statement : List ℕ) (profile : Profile)
-        → IsCheckable source statement cert.now profile → IfErr result (λ e. e ≡ ReportFault.Memory) }
-{
-    let read = read_cert(alloc, cert)?;
-    let verdict = check(alloc, &handler.graph, &handler.tree, &read)?;
-    Ok(verdict)
-}
-
 /// Judges the text of a certificate, whoever wrote it, by the handler of a source and a statement and a cycle
 /// profile's file, or the first profile, and writes one line: `yes`, which is answered as `true` and means
 /// that the certificate's bound is the greatest cost of a complete walk that keeps the bounds, or `no: ` and
@@ -128,9 +91,6 @@ fn priced_check<O: Output>(
     ensures { Checks O.taken O.failures inputs.entry.source.now inputs.entry.statement.now
         inputs.entry.cert.now profile.now out.old out.new result }
 {
-    let verdict = verdict_of(alloc, inputs, profile)?;
-    match write_whole(out, line_of(verdict)) {
-        Ok(()) => Ok(is_yes(verdict)),
-        Err(_) => Err(ReportFault::Device),
-    }
+    let verdict: Verdict = found_of(alloc, inputs, profile)?;
+    print_answer(is_yes(verdict), line_of(verdict), out)
 }

@@ -3,6 +3,7 @@
 
 mod bound;
 mod check;
+mod finding;
 mod law;
 mod verdict;
 

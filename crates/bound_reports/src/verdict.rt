@@ -1,19 +1,16 @@
-ghost use Rattle.std.specs.Prelude.{◌≡◌, ◌≢◌, ◌↔◌, ◌++◌, List, ℕ, None, IfErr, IfOk, IsTrue, option_map};
-ghost use Rattle.bus_ticks.specs.declared.profile.Profile.{Profile};
+ghost use Rattle.std.specs.Prelude.{◌≡◌, ◌↔◌, ◌++◌, None, IfOk, IsTrue, option_map};
 ghost use Rattle.cert_check.specs.Failing.{objection_of, verdict_of};
-ghost use Rattle.flow_graph.specs.Flow.{IsWellFormed};
 ghost use Rattle.report_input.specs.Priced.{Priced};
-ghost use Rattle.report_input.specs.Report.{HasLoops, IsTreeOf};
-ghost use Rattle.bound_reports.specs.Check.{IsCheckRefused, IsCheckable, verdict_line};
-ghost use Rattle.bound_reports.specs.Verdict.{ExplainsVerdict, IsExplained, row_text};
+ghost use Rattle.bound_reports.specs.Check.{verdict_line};
+ghost use Rattle.bound_reports.specs.Verdict.{ExplainsVerdict, row_text};
 
 use crate::check::{CheckInputs, line_of};
+use crate::finding::found_of;
 use bus_ticks::Profile;
-use cert_check::{FailingRow, Objection, Verdict, failing_row};
-use certificate::read_cert;
+use cert_check::{FailingRow, Objection, Verdict};
 use objections::objection_text;
-use report_input::{Handler, profile_of, read_handler};
-use report_output::{Output, ReportFault, write_whole};
+use report_input::profile_of;
+use report_output::{Output, ReportFault, print_answer};
 use std::alloc::{AllocError, Global};
 
 // The objection for which this fails.
@@ -58,46 +55,6 @@ fn is_yes(row: &Option<FailingRow>) -> bool
     }
 }
 
-// What fails in the certificate.
-fn failing_of(
-    alloc: Global,
-    inputs: CheckInputs<'_>,
-    profile: &Profile,
-) -> Result<Option<FailingRow>, ReportFault>
-    ensures explained { IfOk result
-        (IsExplained inputs.entry.source.now inputs.entry.statement.now inputs.entry.cert.now profile.now) }
-    ensures fault { IfErr result
-        (λ e. (e ≢ ReportFault.Device) × IsCheckRefused inputs.entry.source.now inputs.entry.statement.now
-        inputs.entry.cert.now profile.now e) }
-    ensures only { IsCheckable inputs.entry.source.now inputs.entry.statement.now inputs.entry.cert.now
-        profile.now → IfErr result (λ e. e ≡ ReportFault.Memory) }
-{
-    let handler = read_handler(alloc, inputs.source, inputs.statement, profile)?;
-    failing_on(alloc, &handler, inputs.cert)
-}
-
-// The same, by a handler that was read.
-fn failing_on(
-    alloc: Global,
-    handler: &Handler,
-    cert: &[u8],
-) -> Result<Option<FailingRow>, ReportFault>
-    requires formed { IsWellFormed handler.now.graph }
-    requires tree { IsTreeOf handler.now.graph handler.now.statement.loops handler.now.tree }
-    ensures explained { (source statement : List ℕ) (profile : Profile)
-        → HasLoops source statement profile handler.now.statement handler.now.graph
-        → IfOk result (IsExplained source statement cert.now profile) }
-    ensures fault { (source statement : List ℕ) (profile : Profile)
-        → HasLoops source statement profile handler.now.statement handler.now.graph
-        → IfErr result (λ e. (e ≢ ReportFault.Device) × IsCheckRefused source statement cert.now profile e) }
-    ensures only { (source statement : List ℕ) (profile : Profile)
-        → IsCheckable source statement cert.now profile → IfErr result (λ e. e ≡ ReportFault.Memory) }
-{
-    let read = read_cert(alloc, cert)?;
-    let row = failing_row(alloc, &handler.graph, &handler.tree, &read)?;
-    Ok(row)
-}
-
 fn explained_verdict<O: Output>(
     alloc: Global,
     inputs: CheckInputs<'_>,
@@ -107,12 +64,9 @@ fn explained_verdict<O: Output>(
     ensures { ExplainsVerdict O.taken O.failures inputs.entry.source.now inputs.entry.statement.now
         inputs.entry.cert.now profile.now out.old out.new result }
 {
-    let row = failing_of(alloc, inputs, profile)?;
+    let row: Option<FailingRow> = found_of(alloc, inputs, profile)?;
     let text = text_of(alloc, &row)?;
-    match write_whole(out, &text) {
-        Ok(()) => Ok(is_yes(&row)),
-        Err(_) => Err(ReportFault::Device),
-    }
+    print_answer(is_yes(&row), &text, out)
 }
 
 /// Judges the text of a certificate as [`check_report`](crate::check_report) does, and writes the same line and

@@ -1,6 +1,6 @@
 -- What the reports of a machine's run print.
 use Rattle.std.specs.Prelude.{◌≡◌, ◌↔◌, ◌++◌, ℕ, Bool, IsTrue, List, [], Option}
-use Rattle.std.specs.Prelude.{Some, None}
+use Rattle.std.specs.Prelude.{Some, None, Result}
 use Rattle.bus_ticks.specs.declared.profile.Profile.{Profile}
 use Rattle.arm2_effect.specs.declared.step_end.Why.{Why}
 use Rattle.arm2_effect.specs.Modes.{r15_in}
@@ -10,7 +10,9 @@ use Rattle.arm2_exec.specs.State.{State}
 use Rattle.arm2_exec.specs.declared.machine.Input.{Input}
 use Rattle.arm2_exec.specs.declared.machine.Ran.{Ran}
 use Rattle.trace_text.specs.TraceText.{TracesRun, registers_text, stop_text, ticks_text}
-use Rattle.report_input.specs.Placing.{IsLoaded}
+use Rattle.report_output.specs.Answers.{Answers}
+use Rattle.report_output.specs.declared.fault.ReportFault.{ReportFault}
+use Rattle.report_input.specs.Placing.{IsLoaded, IsRunRefused, IsRunnable}
 
 -- ## The texts
 
@@ -45,3 +47,10 @@ pub record IsMachineReport (Shows : Front) (source machine : List ℕ) (profile 
   pub shows : Shows state inputs after front
   pub done_is : IsTrue done ↔ (ran.stopped ≡ None)
   pub text_is : text ≡ front ++ end_text ran after
+
+-- the answer to a source and a machine file: the report of the run
+abbrev pub ReportsRun : {O : Type 0} → Front → (O → Option (List ℕ)) → (O → ℕ) → List ℕ → List ℕ → Profile
+    → O → O → Result Bool ReportFault → Type 0
+ReportsRun Shows taken failures source machine profile old new result =
+    Answers taken failures (IsMachineReport Shows source machine profile) (IsRunnable source machine profile)
+    (IsRunRefused source machine profile) old new result

@@ -4,7 +4,7 @@ ghost use Rattle.machine_reports.specs.Assembly.{IsAsmReport, IsSource, IsSource
 
 use loader::{Image, write_image};
 use report_input::read_source;
-use report_output::{Output, ReportFault, write_whole};
+use report_output::{Output, ReportFault, print_answer};
 use std::alloc::{AllocError, Global};
 
 /// A source's image as bytes, and the line that tells its size.
@@ -49,8 +49,5 @@ pub fn asm_report<O: Output>(alloc: Global, source: &[u8], out: &mut O) -> Resul
         (IsSourceRefused source.now) out.old out.new result }
 {
     let written = image_written(alloc, source)?;
-    match write_whole(out, written.line.as_bytes()) {
-        Ok(()) => Ok(()),
-        Err(_) => Err(ReportFault::Device),
-    }
+    print_answer((), written.line.as_bytes(), out)
 }

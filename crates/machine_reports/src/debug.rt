@@ -7,7 +7,7 @@ ghost use Rattle.report_input.specs.Priced.{Priced};
 use bus_ticks::Profile;
 use debugger::converse;
 use report_input::{place, profile_of};
-use report_output::{Output, ReportFault, write_whole};
+use report_output::{Output, ReportFault, print_answer};
 use std::alloc::Global;
 
 /// The bytes of a source, a machine file and a session's commands.
@@ -82,8 +82,5 @@ fn priced_session<O: Output>(
         (IsRunRefused inputs.entry.source.now inputs.entry.machine.now profile) out.old out.new result }
 {
     let text = session_text(alloc, inputs, profile)?;
-    match write_whole(out, &text) {
-        Ok(()) => Ok(()),
-        Err(_) => Err(ReportFault::Device),
-    }
+    print_answer((), &text, out)
 }

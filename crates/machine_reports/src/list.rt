@@ -9,7 +9,7 @@ use assembler::placed_lines;
 use listing::{list_image, list_source};
 use loader::{Image, MAGIC};
 use report_input::read_source;
-use report_output::{Output, ReportFault, write_whole};
+use report_output::{Output, ReportFault, print_answer};
 use std::alloc::Global;
 
 // The rows of a text's lines, or of an image's words.
@@ -52,8 +52,5 @@ pub fn list_report<O: Output>(alloc: Global, source: &[u8], out: &mut O) -> Resu
         (IsSourceRefused source.now) out.old out.new result }
 {
     let text = list_text(alloc, source)?;
-    match write_whole(out, &text) {
-        Ok(()) => Ok(()),
-        Err(_) => Err(ReportFault::Device),
-    }
+    print_answer((), &text, out)
 }

@@ -1,20 +1,18 @@
-ghost use Rattle.std.specs.Prelude.{◌≡◌, ◌≢◌, ◌++◌, List, ℕ, Ok, IfErr, IfOk, OnOk, false, option_map};
+ghost use Rattle.std.specs.Prelude.{◌≡◌, ◌≢◌, ◌++◌, List, ℕ, IfErr, IfOk, OnOk, option_map};
 ghost use Rattle.std.specs.Prelude.{string_bytes};
-ghost use Rattle.std.specs.Io.KnownBytes.{Appends};
 ghost use Rattle.bus_ticks.specs.declared.profile.Profile.{Profile};
 ghost use Rattle.arm2_exec.specs.Run.{Runs};
 ghost use Rattle.trace_text.specs.TraceText.{Adds};
-ghost use Rattle.report_output.specs.Answers.{Answers};
 ghost use Rattle.report_input.specs.Placing.{IsPlaced, IsRunRefused, IsRunnable};
-ghost use Rattle.machine_reports.specs.Machine.{Front, IsMachineReport, ShowsRegisters, ShowsSteps, end_text};
-ghost use Rattle.outputs.specs.Output.{FailsSince, TakesFront};
+ghost use Rattle.machine_reports.specs.Machine.{Front, IsMachineReport, ReportsRun, ShowsRegisters};
+ghost use Rattle.machine_reports.specs.Machine.{ShowsSteps, end_text};
 ghost use Rattle.report_input.specs.Priced.{Priced};
 
 use arm2_effect::address_of;
 use arm2_exec::{Input, Machine, Ran, Reg};
 use bus_ticks::Profile;
 use report_input::{Placed, place, profile_of};
-use report_output::{Output, ReportFault, write_whole};
+use report_output::{Output, ReportFault, print_answer};
 use std::alloc::{AllocError, Global};
 use trace_text::{write_registers, write_run, write_stop, write_ticks};
 
@@ -116,22 +114,6 @@ fn placed_report<F: Front>(alloc: Global, placed: &mut Placed) -> Result<Shown, 
     })
 }
 
-// Prints the text, and answers whether the run did all its steps.
-fn print<O: Output>(shown: &Shown, out: &mut O) -> Result<bool, ReportFault>
-    ensures ok { IfOk result
-        (λ done. (done ≡ shown.now.done)
-        × Appends (O.taken out.old) (O.taken out.new) (string_bytes shown.now.text)) }
-    ensures device { IfErr result
-        (λ e. (e ≡ ReportFault.Device)
-        × (TakesFront (O.taken out.old) (O.taken out.new) (string_bytes shown.now.text)
-        × FailsSince (O.failures out.old) (O.failures out.new))) }
-{
-    match write_whole(out, shown.text.as_bytes()) {
-        Ok(()) => Ok(shown.done),
-        Err(_) => Err(ReportFault::Device),
-    }
-}
-
 fn priced<F: Front, O: Output>(
     alloc: Global,
     source: &[u8],
@@ -139,12 +121,10 @@ fn priced<F: Front, O: Output>(
     profile: Profile,
     out: &mut O,
 ) -> Result<bool, ReportFault>
-    ensures { Answers O.taken O.failures (IsMachineReport F.shows source.now machine.now profile)
-        (IsRunnable source.now machine.now profile)
-        (IsRunRefused source.now machine.now profile) out.old out.new result }
+    ensures { ReportsRun F.shows O.taken O.failures source.now machine.now profile out.old out.new result }
 {
     let shown = report_of::<F>(alloc, source, machine, profile)?;
-    print(&shown, out)
+    print_answer(shown.done, shown.text.as_bytes(), out)
 }
 
 /// Runs the machine of a source and a machine file by a cycle profile's file or the first profile, prints the
@@ -157,9 +137,8 @@ pub fn machine_report<F: Front, O: Output>(
     out: &mut O,
 ) -> Result<bool, ReportFault>
     ensures { Priced (option_map (λ f. f.now) profile.entry)
-        (λ p. Answers O.taken O.failures (IsMachineReport F.shows source.now machine.now p)
-        (IsRunnable source.now machine.now p)
-        (IsRunRefused source.now machine.now p) out.old out.new result) out.old out.new result }
+        (λ p. ReportsRun F.shows O.taken O.failures source.now machine.now p out.old out.new result) out.old
+        out.new result }
 {
     let profile = profile_of(alloc, profile)?;
     priced::<F, O>(alloc, source, machine, profile, out)
@@ -183,9 +162,8 @@ pub fn run_report<O: Output>(
     out: &mut O,
 ) -> Result<bool, ReportFault>
     ensures { Priced (option_map (λ f. f.now) profile.entry)
-        (λ p. Answers O.taken O.failures (IsMachineReport ShowsRegisters source.now machine.now p)
-        (IsRunnable source.now machine.now p)
-        (IsRunRefused source.now machine.now p) out.old out.new result) out.old out.new result }
+        (λ p. ReportsRun ShowsRegisters O.taken O.failures source.now machine.now p out.old out.new result)
+        out.old out.new result }
 {
     machine_report::<Registers, O>(alloc, source, machine, profile, out)
 }
@@ -204,9 +182,8 @@ pub fn trace_report<O: Output>(
     out: &mut O,
 ) -> Result<bool, ReportFault>
     ensures { Priced (option_map (λ f. f.now) profile.entry)
-        (λ p. Answers O.taken O.failures (IsMachineReport ShowsSteps source.now machine.now p)
-        (IsRunnable source.now machine.now p)
-        (IsRunRefused source.now machine.now p) out.old out.new result) out.old out.new result }
+        (λ p. ReportsRun ShowsSteps O.taken O.failures source.now machine.now p out.old out.new result)
+        out.old out.new result }
 {
     machine_report::<Steps, O>(alloc, source, machine, profile, out)
 }

@@ -18,7 +18,7 @@ use flow_graph::{Edge, Graph, TightFault, is_free, tight_state};
 use loader::{Image, LoadFault};
 use machine_file::{MachineFile, write_machine};
 use report_input::{profile_of, read_source};
-use report_output::{Output, ReportFault, write_whole};
+use report_output::{Output, ReportFault, print_answer};
 use std::alloc::{AllocError, Global};
 
 // The edge of a number, in the order of the graph's edges.
@@ -172,8 +172,5 @@ fn priced_tight<O: Output>(
         result }
 {
     let text = tight_text(alloc, source, statement, edge, profile)?;
-    match write_whole(out, text.as_bytes()) {
-        Ok(()) => Ok(()),
-        Err(_) => Err(ReportFault::Device),
-    }
+    print_answer((), text.as_bytes(), out)
 }

@@ -51,6 +51,18 @@ one_graph source statement profile st su flow other g h =
     subst (λ (s : Stated). IsFlowGraph g.words s profile other) stated (subst (λ (w : Words). IsFlowGraph w su profile other) words h.graph_is) in
     record { same_stated = sym stated; same_flow = one_flow g.words st profile flow other g.graph_is graph }
 
+-- a source and a statement that were read have a graph
+pub graph_there : (source statement : List ℕ) (profile : Profile) (words : Words) (names : Names) (st : Stated) (flow : Flow) → source_of source ≡ Ok (words, names) → IsStatement statement names (Ok st)
+    → ((f : BuildFault) → f ≢ build_fault.Memory → IsBuildFault words st profile f → ⊥) → IsFlowGraph words st profile flow → HasGraph source statement profile st flow
+graph_there source statement profile words names st flow said read allowed is = record {
+  words = words;
+  names = names;
+  source_is = said;
+  statement_is = read;
+  no_fault = allowed;
+  graph_is = is;
+}
+
 -- a refusal of the loops tells what applies
 applies : (flow : Flow) (loops : List Loop) (f : NestFault) → IsNestFault flow loops f → Applies flow loops f
 applies flow loops nest_fault.Memory h = h

@@ -1,6 +1,7 @@
 -- The three ways in which a report ends.
-use Rattle.std.proofs.Common.{◌≡◌, ◌≢◌, ℕ, List, Option, Result, Ok, Err, refl, sym, subst, inl, inr}
+use Rattle.std.proofs.Common.{◌≡◌, ◌≢◌, ◌⊎◌, ℕ, List, Option, Result, Ok, Err, refl, sym, subst, inl, inr}
 use Rattle.std.specs.Prelude.{IfOk, IfErr}
+use Rattle.std.specs.Result.{IsErrAnd}
 use Rattle.std.specs.Io.KnownBytes.{Appends}
 use Rattle.report_output.specs.Answers.{Answers}
 use Rattle.outputs.specs.Output.{TakesFront, FailsSince}
@@ -21,6 +22,21 @@ module _ {O T : Type 0} (taken : O → Option (List ℕ)) (failures : O → ℕ)
     quiet = λ other. refl;
     device = λ d. absurd (h.0 (cc d));
   }
+
+  -- by a `?` before anything was written
+  pub ends_early : (old : O) (r : Result T ReportFault) (e : ReportFault) → IsErrAnd r (λ x. x ≡ e) → (e ≢ Device) × IsFault e
+      → (IfErr r (λ x. (x ≢ Device) × IsFault x) → IsFine → IfErr r (λ x. (x ≡ Memory) ⊎ (x ≡ Device))) → Ends old old r
+  ends_early old (Ok x) e is h only = absurd is
+  ends_early old (Err x) e is h only =
+      let holds : (x ≢ Device) × IsFault x = subst (λ (f : ReportFault). (f ≢ Device) × IsFault f) (sym is) h in
+      record {
+        printed = tt;
+        accepted = tt;
+        only = only holds;
+        fault = holds.1;
+        quiet = λ other. refl;
+        device = λ d. absurd (holds.0 (cc d));
+      }
 
   -- once all was written
   pub ends_told : (old new : O) (x : T) (text : List ℕ) → IsText x text → IsFine → Appends (taken old) (taken new) text → Ends old new (Ok x)

@@ -4,7 +4,8 @@
 
 mod fault;
 mod output;
+mod parts;
 
 pub use fault::ReportFault;
-pub use output::{MemoryOutput, StreamOutput};
+pub use output::{MemoryOutput, StreamOutput, print_answer};
 pub use outputs::{Output, OutputFault, write_whole};

@@ -1,9 +1,9 @@
 ghost use Rattle.std.specs.Prelude.{◌≡◌, ◌≤◌, ◌+◌, [], length, Option, Some, Ok, IfErr, IfOk};
-ghost use Rattle.std.specs.Io.KnownBytes.{WriteAppends};
-ghost use Rattle.outputs.specs.Output.{failures_after};
+ghost use Rattle.std.specs.Io.KnownBytes.{Appends, WriteAppends};
+ghost use Rattle.outputs.specs.Output.{FailsSince, TakesFront, failures_after};
 
 use crate::fault::ReportFault;
-use outputs::{Output, OutputFault};
+use outputs::{Output, OutputFault, write_whole};
 use std::alloc::Global;
 use std::io::Write;
 use std::marker::Model;
@@ -121,5 +121,24 @@ impl<W: Write> Output for StreamOutput<W> {
                 Err(OutputFault::Failed)
             }
         }
+    }
+}
+
+/// Writes a report's whole text, and gives its answer. The only refusal is `Device`.
+pub fn print_answer<T: Drop, O: Output>(
+    answer: T,
+    text: &[u8],
+    out: &mut O,
+) -> Result<T, ReportFault>
+    ensures printed { IfOk result
+        (λ x. (x ≡ answer) × Appends (O.taken out.old) (O.taken out.new) text.now) }
+    ensures device { IfErr result
+        (λ e. (e ≡ ReportFault.Device)
+        × (TakesFront (O.taken out.old) (O.taken out.new) text.now
+        × FailsSince (O.failures out.old) (O.failures out.new))) }
+{
+    match write_whole(out, text) {
+        Ok(()) => Ok(answer),
+        Err(_) => Err(ReportFault::Device),
     }
 }

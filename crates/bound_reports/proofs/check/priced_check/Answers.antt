@@ -1,34 +1,12 @@
-use Rattle.std.proofs.Common.{refl, inr}
-use Rattle.bound_reports.proofs.CheckLemmas.{checkable, of_some}
+use Rattle.bound_reports.proofs.CheckLemmas.{checkable, judged}
+use Rattle.report_output.proofs.AnswerLemmas.{ends_printed}
 use Rattle.bound_reports.proofs.check.priced_check.Goals as goal
 
-pub returns-in-Ok : goal.returns-in-Ok
-returns-in-Ok g c =
-    let judged = c.in_ok-verdict.ensures.judged in
-    record {
-      printed = record {
-        text = c.line_of.result.now;
-        is_text = record { verdict = c.in_ok-verdict.verdict; judged = judged; answer_is = c.is_yes.ensures; line_is = c.line_of.ensures };
-        printed = c.in-Ok.ensures.ok;
-      };
-      accepted = checkable c.args.inputs.source.now c.args.inputs.statement.now c.args.inputs.cert.now c.args.profile.now c.in_ok-verdict.verdict judged;
-      only = λ able. tt;
-      fault = tt;
-      quiet = tt;
-      device = λ e. cc e;
-    }
-
-pub returns-in-Err : goal.returns-in-Err
-returns-in-Err g c = record {
-  printed = tt;
-  accepted = tt;
-  only = λ able. inr refl;
-  fault = tt;
-  quiet = λ other. absurd (other refl);
-  device = λ e. record {
-    text = c.line_of.result.now;
-    is_text = of_some c.args.inputs.source.now c.args.inputs.statement.now c.args.inputs.cert.now c.args.profile.now c.in_ok-verdict.verdict c.line_of.result.now c.in_ok-verdict.ensures.judged c.line_of.ensures;
-    taken = c.in-Err.ensures.front;
-    failed = c.in-Err.ensures.failed;
-  };
-}
+pub returns : goal.returns
+returns g c =
+    let i = c.args.inputs in
+    let v = c.in_ok-verdict.verdict in
+    let is = judged i.source.now i.statement.now i.cert.now c.args.profile.now v c.in_ok-verdict.ensures.found in
+    ends_printed _ _ _ _ _ c.args.out.now c.print_answer.new.out c.is_yes.result c.line_of.result.now c.print_answer.result
+    (record { verdict = v; judged = is; answer_is = c.is_yes.ensures; line_is = c.line_of.ensures })
+    (checkable i.source.now i.statement.now i.cert.now c.args.profile.now v is) tt c.print_answer.ensures.printed c.print_answer.ensures.device

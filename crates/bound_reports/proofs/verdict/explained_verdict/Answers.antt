@@ -1,36 +1,15 @@
-use Rattle.std.proofs.Common.{refl, rules, inr}
-use Rattle.bound_reports.proofs.CheckLemmas.{checkable}
-use Rattle.bound_reports.proofs.VerdictLemmas.{of_some}
+use Rattle.std.proofs.Common.{◌∙◌}
 use Rattle.cert_check.specs.Failing.{verdict_of}
+use Rattle.bound_reports.proofs.CheckLemmas.{checkable}
+use Rattle.bound_reports.proofs.VerdictLemmas.{explained}
+use Rattle.report_output.proofs.AnswerLemmas.{ends_printed}
 use Rattle.bound_reports.proofs.verdict.explained_verdict.Goals as goal
 
-pub returns-in-Ok : goal.returns-in-Ok
-returns-in-Ok g c =
-    let explained = c.in_ok-row.ensures.explained in
-    record {
-      printed = record {
-        text = c.in_ok-text.text.items;
-        is_text = record { row = c.in_ok-row.row; explained = explained; answer_is = c.is_yes.ensures; report_is = c.in_ok-text.ensures };
-        printed = search rules;
-      };
-      accepted = checkable c.args.inputs.source.now c.args.inputs.statement.now c.args.inputs.cert.now c.args.profile.now (verdict_of c.in_ok-row.row) explained.judged;
-      only = λ able. tt;
-      fault = tt;
-      quiet = tt;
-      device = search rules;
-    }
-
 pub returns : goal.returns
-returns g c = record {
-  printed = tt;
-  accepted = tt;
-  only = λ able. inr refl;
-  fault = tt;
-  quiet = λ other. absurd (other refl);
-  device = λ e. record {
-    text = c.in_ok-text.text.items;
-    is_text = of_some c.args.inputs.source.now c.args.inputs.statement.now c.args.inputs.cert.now c.args.profile.now c.in_ok-row.row c.in_ok-text.text.items c.in_ok-row.ensures.explained c.in_ok-text.ensures;
-    taken = search rules;
-    failed = search rules;
-  };
-}
+returns g c =
+    let i = c.args.inputs in
+    let row = c.in_ok-row.row in
+    let is = explained i.source.now i.statement.now i.cert.now c.args.profile.now row c.in_ok-row.ensures.found in
+    ends_printed _ _ _ _ _ c.args.out.now c.print_answer.new.out c.is_yes.result c.deref.result.now c.print_answer.result
+    (record { row = row; explained = is; answer_is = c.is_yes.ensures; report_is = c.deref.ensures.value ∙ c.in_ok-text.ensures })
+    (checkable i.source.now i.statement.now i.cert.now c.args.profile.now (verdict_of row) is.judged) tt c.print_answer.ensures.printed c.print_answer.ensures.device

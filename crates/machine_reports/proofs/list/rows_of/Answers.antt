@@ -1,4 +1,4 @@
-use Rattle.std.proofs.Common.{◌≡◌, true, false, rules}
+use Rattle.std.proofs.Common.{◌≡◌, false, rules}
 use Rattle.report_output.specs.Faults.{of_source}
 use Rattle.report_input.specs.Source.{IsSourceFault, is_image}
 use Rattle.report_input.proofs.HandlerLemmas.{refused_as}

@@ -2,8 +2,8 @@ use Rattle.std.proofs.Common.{rules, subst}
 use Rattle.loader.specs.Labels.{address_of}
 use Rattle.flow_graph.specs.Flow.{IsWellFormed}
 use Rattle.report_output.specs.Faults.{of_graph, of_loops}
-use Rattle.report_input.specs.Report.{HasGraph, IsHandlerRefused}
-use Rattle.report_input.proofs.HandlerLemmas.{graph_refusal, loops_refusal, refused_as}
+use Rattle.report_input.specs.Report.{IsHandlerRefused}
+use Rattle.report_input.proofs.HandlerLemmas.{graph_refusal, graph_there, loops_refusal, refused_as}
 use Rattle.report_input.proofs.handler.stated_handler.Goals as goal
 
 pub returns-in_err-graph-clause-fault : goal.returns-in_err-graph-clause-fault
@@ -17,14 +17,7 @@ pub returns-in_err-tree-clause-fault : goal.returns-in_err-tree-clause-fault
 returns-in_err-tree-clause-fault c = λ source text is read.
     let said = c.args.said.now in
     let f = c.in_err-tree.field-0.0 in
-    let graph : HasGraph source text c.args.profile.now c.args.statement c.in_ok-graph.graph = record {
-      words = said.image;
-      names = address_of said.labels;
-      source_is = is;
-      statement_is = read;
-      no_fault = c.in_ok-graph.ensures.allowed;
-      graph_is = c.in_ok-graph.ensures.graph;
-    } in
+    let graph = graph_there source text c.args.profile.now said.image (address_of said.labels) c.args.statement c.in_ok-graph.graph is read c.in_ok-graph.ensures.allowed c.in_ok-graph.ensures.graph in
     refused_as c.from_residual-in_err-tree.result (of_loops f) (IsHandlerRefused source text c.args.profile.now) c.from_residual-in_err-tree.ensures.1
     (loops_refusal source text c.args.profile.now c.args.statement c.in_ok-graph.graph f graph (search rules))
 
@@ -32,14 +25,7 @@ pub returns-clause-loops : goal.returns-clause-loops
 returns-clause-loops c = λ source text is read.
     let said = c.args.said.now in
     record {
-      graph = record {
-        words = said.image;
-        names = address_of said.labels;
-        source_is = is;
-        statement_is = read;
-        no_fault = c.in_ok-graph.ensures.allowed;
-        graph_is = c.in_ok-graph.ensures.graph;
-      };
+      graph = graph_there source text c.args.profile.now said.image (address_of said.labels) c.args.statement c.in_ok-graph.graph is read c.in_ok-graph.ensures.allowed c.in_ok-graph.ensures.graph;
       no_fault = c.in_ok-tree.ensures.allowed;
     }
 

@@ -3,12 +3,11 @@ use Rattle.bound_reports.specs.Check.{IsCheckRefused}
 use Rattle.report_output.specs.Faults.{of_cert}
 use Rattle.report_output.specs.declared.fault.ReportFault.TheVariants.{Device, Memory}
 use Rattle.bound_reports.proofs.CheckLemmas.{cert_refusal, readable_refusal}
-use Rattle.bound_reports.proofs.VerdictLemmas.{explained}
 use Rattle.report_input.proofs.HandlerLemmas.{refused_as}
-use Rattle.bound_reports.proofs.verdict.failing_on.Goals as goal
+use Rattle.bound_reports.proofs.finding.found_on.Goals as goal
 
 pub returns-in_err-read-clause-fault : goal.returns-in_err-read-clause-fault
-returns-in_err-read-clause-fault c = λ source statement profile loops.
+returns-in_err-read-clause-fault g c = λ source statement profile loops.
     let h = c.args.handler.now in
     let f = c.in_err-read.field-0.0 in
     refused_as c.from_residual.result (of_cert f) (λ e. (e ≢ Device) × IsCheckRefused source statement c.args.cert.now profile e) c.from_residual.ensures.1
@@ -16,17 +15,28 @@ returns-in_err-read-clause-fault c = λ source statement profile loops.
     c.in_err-read.ensures.bad_line c.in_err-read.ensures.truncated c.in_err-read.ensures.trailing)
 
 pub returns-in_err-read-clause-only : goal.returns-in_err-read-clause-only
-returns-in_err-read-clause-only c = λ source statement profile able.
+returns-in_err-read-clause-only g c = λ source statement profile able.
     let f = c.in_err-read.field-0.0 in
     refused_as c.from_residual.result (of_cert f) (λ e. e ≡ Memory) c.from_residual.ensures.1
     (readable_refusal source statement c.args.cert.now profile f c.in_err-read.ensures.only able)
 
-pub returns-in_err-row-clause-only : goal.returns-in_err-row-clause-only
-returns-in_err-row-clause-only c = λ source statement profile able.
-    refused_as c.from_residual-in_err-row.result Memory (λ e. e ≡ Memory) c.from_residual-in_err-row.ensures.1 refl
+pub returns-in_err-found-clause-only : goal.returns-in_err-found-clause-only
+returns-in_err-found-clause-only g c = λ source statement profile able.
+    refused_as c.from_residual-in_err-found.result Memory (λ e. e ≡ Memory) c.from_residual-in_err-found.ensures.1 refl
 
-pub returns-clause-explained : goal.returns-clause-explained
-returns-clause-explained c = λ source statement profile loops.
+pub returns-clause-found : goal.returns-clause-found
+returns-clause-found g c = λ source statement profile loops.
     let h = c.args.handler.now in
-    explained source statement c.args.cert.now profile h.statement h.graph h.tree c.in_ok-read.read c.in_ok-row.row
-    loops c.requires.formed c.requires.tree c.in_ok-read.ensures.found c.in_ok-row.ensures
+    let found = c.in_ok-read.ensures.found in
+    record {
+      stated = h.statement;
+      flow = h.graph;
+      tree = h.tree;
+      cert = c.in_ok-read.read;
+      loops = loops;
+      formed = c.requires.formed;
+      tree_of = c.requires.tree;
+      can_spell = found.0;
+      spelled = found.1;
+      says = c.in_ok-found.ensures;
+    }
