@@ -1,5 +1,5 @@
 -- Where a text is cut at a byte, it is cut in one way.
-use Rattle.std.proofs.Common.{◌≡◌, ◌∙◌, ◌&&◌, Bool, true, false, not, eqb, true≢false, eq-eqb, ℕ, zero, suc, List, [], ◌∷◌, ◌++◌, length, refl, sym, ap, arith}
+use Rattle.std.proofs.Common.{◌≡◌, ◌∙◌, ◌&&◌, Bool, true, false, not, eqb, true≢false, eq-eqb, ℕ, zero, suc, List, [], ◌∷◌, ◌++◌, refl, sym, ap, arith}
 use Rattle.std.specs.List.{list_all}
 use Rattle.certificate.specs.Words.{Lacks}
 

@@ -15,3 +15,5 @@ pub mod FaultLaws
 pub mod LongestLaws
 pub mod LeastLaws
 pub mod DecimalLaws
+pub mod AsciiLaws
+pub mod PairLaws

@@ -1,5 +1,5 @@
 -- The text of a certificate, section by section.
-use Rattle.std.proofs.Common.{◌≡◌, ◌∙◌, ◌==◌, ℕ, List, [], ◌∷◌, ◌++◌, Bool, true, Vec, codes, map, refl, sym, ap, append-nil, Result, Ok, Err, OnOk, ◌<◌, ◌≤◌, length, take, drop, take-append-drop, get_or, arith, take_all, if◌then◌else◌}
+use Rattle.std.proofs.Common.{◌≡◌, ◌∙◌, ◌==◌, ℕ, List, [], ◌∷◌, ◌++◌, Bool, true, Vec, codes, map, refl, sym, ap, append-nil, Result, Ok, Err, OnOk, ◌<◌, length, take, drop, take-append-drop, get_or, arith, if◌then◌else◌}
 use Rattle.std.specs.Prelude.{MatchResult, OnErr, false}
 use Rattle.certificate.specs.declared.line.Version.TheVariants.{One, Two}
 use Rattle.certificate.proofs.NumberLaws.{after_first, after_first_is}
@@ -73,11 +73,12 @@ sections c =
 
 -- ## Lists that are written word by word
 
-pub listed : (calls : List ℕ) (i : ℕ) → 0 < length calls → length (after_first calls) ≤ i → list_words calls ≡ hex (get_or calls 0 0) ++ flat_map (λ c. 47 ∷ hex c) (take i (after_first calls))
-listed [] i some le = absurd (omega arith)
-listed (x ∷ xs) i some le =
+pub listed : (calls : List ℕ) → 0 < length calls
+    → list_words calls ≡ hex (get_or calls 0 0) ++ flat_map (λ c. 47 ∷ hex c) (after_first calls)
+listed [] some = absurd (omega arith)
+listed (x ∷ xs) some =
     joined_after 47 hex x xs
-    ∙ ap (λ (ys : List ℕ). hex x ++ flat_map (λ c. 47 ∷ hex c) ys) (sym (take_all i (after_first (x ∷ xs)) le ∙ after_first_is x xs))
+    ∙ ap (λ (ys : List ℕ). hex x ++ flat_map (λ c. 47 ∷ hex c) ys) (sym (after_first_is x xs))
 
 pub head_other : (ns : List ℕ) → length ns ≡ 15 → pointwise ◌==◌ ns profile_one ≡ false → head_text ns ≡ codes "arcwcet certificate 2\nprofile" ++ (flat_map (λ n. 32 ∷ decimal n) ns ++ codes "\n")
 head_other [] n other = absurd (omega (arith, n))

@@ -1,23 +1,24 @@
-ghost use Rattle.std.specs.Prelude.{◌≡◌, ◌++◌, ◌∷◌, decimal, MatchResult, IfOk, IfErr};
+ghost use Rattle.std.specs.Prelude.{◌≡◌, ◌++◌, ◌∷◌, ◌≤◌, decimal, length, MatchResult, IfOk, IfErr};
 ghost use Rattle.std.specs.Prelude.{OnErr, OnOk, string_bytes};
 ghost use Rattle.std.specs.Io.KnownBytes.{Appends};
 ghost use Rattle.outputs.specs.OnTheWay.{Adds};
 ghost use Rattle.outputs.specs.Output.{FailsSince, TakesFront};
 ghost use Rattle.certificate.specs.Lines.{cert_text, said_of};
 ghost use Rattle.certificate.specs.Walk.{item_lines, step_of, walk_lines};
-ghost use Rattle.certificate.specs.Words.{edge_words, ended, instance_words, list_words, place_words};
+ghost use Rattle.certificate.specs.Words.{edge_words, ended, instance_words, place_words};
 ghost use Rattle.certificate.specs.Words.{step_words};
 ghost use Rattle.bus_ticks.specs.Numbers.{numbers_of};
 ghost use Rattle.certificate.specs.Written.{head_text, instances_text, places_text, prices_text, walk_text};
 
 use crate::fault::CertFault;
-use crate::line_text::{edge_text, hex_text, instance_text, number_text, place_text};
+use crate::line_end::LineEnd;
 use bus_ticks::Profile;
-use flow_graph::{Calls, Edge};
+use flow_graph::Edge;
 use itoa::Buffer;
 use longest_walk::{InstanceRow, Item, Longest, PlaceRow};
 use outputs::{Output, OutputFault, Page, VecOutput};
 use std::alloc::{AllocError, Global};
+use std::str;
 
 // Puts a number of a profile, after a blank.
 fn put_price<O: Output>(out: &mut O, page: &mut Page, number: u32)
@@ -49,20 +50,6 @@ fn put_head<O: Output>(out: &mut O, page: &mut Page, profile: &Profile)
     page.put(out, b"\n");
 }
 
-fn put_calls<O: Output>(out: &mut O, page: &mut Page, calls: &Calls)
-    ensures { Adds O.taken O.failures out.old page.old out.new page.new (list_words calls.now) }
-{
-    let [first, rest @ ..] = calls.as_slice() else {
-        page.put(out, b"-");
-        return;
-    };
-    page.put(out, hex_text(*first).as_str().as_bytes());
-    for call in rest {
-        page.put(out, b"/");
-        page.put(out, hex_text(*call).as_str().as_bytes());
-    }
-}
-
 /// Adds an edge as the lines of a walk show it, `ADDRESS skip|do TO COST`, and ends the line. The cost is in
 /// ticks.
 ///
@@ -72,16 +59,32 @@ pub fn write_edge(out: &mut String, edge: &Edge) -> Result<(), AllocError>
         (λ _. string_bytes out.new ≡ string_bytes out.old ++ ended (edge_words (step_of edge.now)))
         (λ _. string_bytes out.new ≡ string_bytes out.old) }
 {
-    let text = edge_text(edge);
-    out.push_str(text.as_str())
+    let mut line = LineEnd::new();
+    line.put_edge(edge);
+    let Ok(text) = str::from_utf8(line.bytes()) else {
+        unreachable!()
+    };
+    out.push_str(text)
+}
+
+// Puts a line of a word and a number.
+fn put_number<O: Output>(out: &mut O, page: &mut Page, word: &[u8], number: u64)
+    requires { length word.now ≤ 100 }
+    ensures { Adds O.taken O.failures out.old page.old out.new page.new (ended (word.now ++ decimal number)) }
+{
+    let mut line = LineEnd::new();
+    line.put_decimal(number);
+    line.put(word);
+    page.put(out, line.bytes());
 }
 
 fn put_step<O: Output>(out: &mut O, page: &mut Page, edge: &Edge)
     ensures { Adds O.taken O.failures out.old page.old out.new page.new
         (ended (step_words (step_of edge.now))) }
 {
-    page.put(out, b"step ");
-    page.put(out, edge_text(edge).as_str().as_bytes());
+    let mut line = LineEnd::new();
+    line.put_step(edge);
+    page.put(out, line.bytes());
 }
 
 #[cycle(walk)]
@@ -91,8 +94,7 @@ fn put_item<O: Output>(out: &mut O, page: &mut Page, item: &Item)
     match item {
         Item::Step(edge) => put_step(out, page, edge),
         Item::Repeat(count, body) => {
-            page.put(out, b"repeat ");
-            page.put(out, number_text(u64::from(*count)).as_str().as_bytes());
+            put_number(out, page, b"repeat ", u64::from(*count));
             put_items(out, page, body);
             page.put(out, b"end\n");
         }
@@ -115,17 +117,17 @@ fn put_items<O: Output>(out: &mut O, page: &mut Page, items: &[Item])
 fn put_place<O: Output>(out: &mut O, page: &mut Page, row: &PlaceRow)
     ensures { Adds O.taken O.failures out.old page.old out.new page.new (ended (place_words row.now)) }
 {
-    page.put(out, b"place ");
-    put_calls(out, page, &row.list);
-    page.put(out, place_text(row).as_str().as_bytes());
+    let mut line = LineEnd::new();
+    line.put_place(row);
+    page.put(out, line.bytes());
 }
 
 fn put_instance<O: Output>(out: &mut O, page: &mut Page, row: &InstanceRow)
     ensures { Adds O.taken O.failures out.old page.old out.new page.new (ended (instance_words row.now)) }
 {
-    page.put(out, b"instance ");
-    put_calls(out, page, &row.list);
-    page.put(out, instance_text(row).as_str().as_bytes());
+    let mut line = LineEnd::new();
+    line.put_instance(row);
+    page.put(out, line.bytes());
 }
 
 fn put_places<O: Output>(out: &mut O, page: &mut Page, rows: &[PlaceRow])
@@ -148,8 +150,7 @@ fn put_cert<O: Output>(out: &mut O, page: &mut Page, longest: &Longest)
     ensures { Adds O.taken O.failures out.old page.old out.new page.new (cert_text (said_of longest.now)) }
 {
     put_head(out, page, &longest.profile);
-    page.put(out, b"bound ");
-    page.put(out, number_text(longest.bound).as_str().as_bytes());
+    put_number(out, page, b"bound ", longest.bound);
     put_items(out, page, longest.walk.items());
     page.put(out, b"close\n");
     put_places(out, page, longest.potentials.places.items());

@@ -4,7 +4,6 @@ ghost use Rattle.outputs.specs.OnTheWay.{Adds, IsOnTheWay};
 ghost use Rattle.outputs.specs.Output.{FailsSince, TakesFront};
 
 use crate::output::{Output, OutputFault, write_whole};
-use arrayvec::ArrayVec;
 use std::marker::Model;
 
 /// The most bytes that a page holds back.
@@ -14,16 +13,20 @@ const PAGE_ROOM: usize = 4096;
 /// It takes no memory. Once the output failed, nothing more is handed to it.
 #[derive(Drop)]
 pub struct Page {
-    held: ArrayVec<u8, PAGE_ROOM>,
+    room: [u8; PAGE_ROOM],
+    held: usize,
     failed: bool,
 }
 
 impl Model for Page {
+    ghost use Rattle.std.specs.Prelude.{◌≤◌, take};
     ghost use Rattle.outputs.specs.OnTheWay.{Held};
 
     ghost Value = { Held };
 
-    ghost view = { λ p. record { bytes = p.held.items; failed = p.failed } };
+    ghost view = { λ p. record { bytes = take p.held p.room; failed = p.failed } };
+
+    ghost invariant = { λ p. p.held ≤ 4096 };
 }
 
 impl Page {
@@ -33,7 +36,8 @@ impl Page {
         ensures failed { result.failed ≡ false }
     {
         Page {
-            held: ArrayVec::new(),
+            room: [0; PAGE_ROOM],
+            held: 0,
             failed: false,
         }
     }
@@ -52,7 +56,16 @@ impl Page {
         ensures failed { self.new.failed ≡ self.old.failed }
         ensures full { result ≡ false → (self.new ≡ self.old) × (self.old.failed ≡ false) }
     {
-        self.failed || self.held.try_extend_from_slice(bytes).is_ok()
+        if self.failed {
+            return true;
+        }
+        if PAGE_ROOM - self.held < bytes.len() {
+            return false;
+        }
+        let end = self.held + bytes.len();
+        self.room[self.held..end].copy_from_slice(bytes);
+        self.held = end;
+        true
     }
 
     // Hands the bytes to the output, which took all before them.
@@ -74,8 +87,8 @@ impl Page {
         if self.failed {
             return;
         }
-        self.failed = write_whole(out, self.held.as_slice()).is_err();
-        self.held.clear();
+        self.failed = write_whole(out, &self.room[..self.held]).is_err();
+        self.held = 0;
     }
 
     /// Adds bytes to those that are on their way to the output.

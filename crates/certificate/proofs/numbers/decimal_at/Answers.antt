@@ -1,4 +1,4 @@
-use Rattle.std.proofs.Common.{rules, ◌≡◌, ◌<◌, ℕ, get_or, length, sym, subst, ap, ◌∙◌, arith, take, take_all}
+use Rattle.std.proofs.Common.{rules, ◌≡◌, ◌<◌, ℕ, get_or, sym, subst, ap, ◌∙◌, arith, take, take_all}
 use Rattle.std.specs.Char.{digit_value}
 use Rattle.std.specs.Fmt.{decimal}
 use Rattle.std.specs.Str.Parse.{digits_value}

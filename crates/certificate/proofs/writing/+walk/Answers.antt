@@ -25,17 +25,15 @@ pub put_item-returns-in-Repeat : goal.put_item-returns-in-Repeat
 put_item-returns-in-Repeat g t c =
     let taken = g.O.Output.taken in
     let failures = g.O.Output.failures in
-    let head = codes "repeat " in
-    let number = ended (decimal c.in-Repeat.count) in
+    let head = ended (codes "repeat " ++ decimal c.in-Repeat.count) in
     let body = walk_text (walk_lines c.in-Repeat.body.value.items) in
     let end = codes "end\n" in
-    let is_number : c.as_bytes.result.now ≡ number = search rules in
     let is_body : walk_text (walk_lines c.deref-in-Repeat.result.now) ≡ body = ap (λ xs. walk_text (walk_lines xs)) (search rules) in
     let is : c.args.item.now ≡ Repeat c.in-Repeat.count c.in-Repeat.body = search rules in
-    let count = adds_same taken failures c.put.new.out c.put-in-Repeat.new.out c.put.new.self c.put-in-Repeat.new.self _ number is_number c.put-in-Repeat.ensures in
-    let inner = adds_same taken failures c.put-in-Repeat.new.out c.put_items.new.out c.put-in-Repeat.new.self c.put_items.new.page _ body is_body c.put_items.ensures in
-    adds_same taken failures c.args.out.now c.put-in-Repeat-2.new.out c.args.page.now c.put-in-Repeat-2.new.self _ _
+    let is_head : ended (codes "repeat " ++ decimal c.from.result) ≡ head = ap (λ n. ended (codes "repeat " ++ decimal n)) (search rules) in
+    let first = adds_same taken failures c.args.out.now c.put_number.new.out c.args.page.now c.put_number.new.page _ head is_head c.put_number.ensures in
+    let inner = adds_same taken failures c.put_number.new.out c.put_items.new.out c.put_number.new.page c.put_items.new.page _ body is_body c.put_items.ensures in
+    adds_same taken failures c.args.out.now c.put.new.out c.args.page.now c.put.new.self _ _
     (sym (text-repeat c.in-Repeat.count c.in-Repeat.body) ∙ ap (λ i. walk_text (item_lines i)) (sym is))
-    (adds_both taken failures c.args.out.now c.put.new.out c.put-in-Repeat-2.new.out c.args.page.now c.put.new.self c.put-in-Repeat-2.new.self head (number ++ (body ++ end)) c.put.ensures
-    (adds_both taken failures c.put.new.out c.put-in-Repeat.new.out c.put-in-Repeat-2.new.out c.put.new.self c.put-in-Repeat.new.self c.put-in-Repeat-2.new.self number (body ++ end) count
-    (adds_both taken failures c.put-in-Repeat.new.out c.put_items.new.out c.put-in-Repeat-2.new.out c.put-in-Repeat.new.self c.put_items.new.page c.put-in-Repeat-2.new.self body end inner c.put-in-Repeat-2.ensures)))
+    (adds_both taken failures c.args.out.now c.put_number.new.out c.put.new.out c.args.page.now c.put_number.new.page c.put.new.self head (body ++ end) first
+    (adds_both taken failures c.put_number.new.out c.put_items.new.out c.put.new.out c.put_number.new.page c.put_items.new.page c.put.new.self body end inner c.put.ensures))

@@ -1,4 +1,4 @@
-use Rattle.std.proofs.Common.{rules, ◌≡◌, ◌++◌, codes, sym}
+use Rattle.std.proofs.Common.{rules, ◌++◌, codes, sym}
 use Rattle.std.specs.Fmt.{decimal}
 use Rattle.outputs.proofs.PageLaws.{adds_both, adds_same}
 use Rattle.certificate.specs.Lines.{said_of}
@@ -13,22 +13,18 @@ returns g c =
     let failures = g.O.Output.failures in
     let said = said_of c.args.longest.now in
     let h = head_text said.numbers in
-    let b = codes "bound " in
-    let n = ended (decimal said.bound) in
+    let b = ended (codes "bound " ++ decimal said.bound) in
     let w = walk_text said.walk in
     let k = codes "close\n" in
     let p = places_text said.places in
     let i = instances_text said.instances in
     let s = codes "stop\n" in
-    let end = c.put-4.new.out in
-    let last = c.put-4.new.self in
-    let is_number : c.as_bytes.result.now ≡ n = search rules in
-    let number = adds_same taken failures c.put.new.out c.put-2.new.out c.put.new.self c.put-2.new.self _ n is_number c.put-2.ensures in
-    let instances = adds_both taken failures c.put_places.new.out c.put_instances.new.out end c.put_places.new.page c.put_instances.new.page last i s (search rules) c.put-4.ensures in
-    let places = adds_both taken failures c.put-3.new.out c.put_places.new.out end c.put-3.new.self c.put_places.new.page last p (i ++ s) (search rules) instances in
-    let close = adds_both taken failures c.put_items.new.out c.put-3.new.out end c.put_items.new.page c.put-3.new.self last k (p ++ (i ++ s)) c.put-3.ensures places in
-    let walk = adds_both taken failures c.put-2.new.out c.put_items.new.out end c.put-2.new.self c.put_items.new.page last w (k ++ (p ++ (i ++ s))) (search rules) close in
-    let bound = adds_both taken failures c.put.new.out c.put-2.new.out end c.put.new.self c.put-2.new.self last n (w ++ (k ++ (p ++ (i ++ s)))) number walk in
-    let line = adds_both taken failures c.put_head.new.out c.put.new.out end c.put_head.new.page c.put.new.self last b (n ++ (w ++ (k ++ (p ++ (i ++ s))))) c.put.ensures bound in
-    let whole = adds_both taken failures c.args.out.now c.put_head.new.out end c.args.page.now c.put_head.new.page last h (b ++ (n ++ (w ++ (k ++ (p ++ (i ++ s)))))) c.put_head.ensures line in
+    let end = c.put-2.new.out in
+    let last = c.put-2.new.self in
+    let instances = adds_both taken failures c.put_places.new.out c.put_instances.new.out end c.put_places.new.page c.put_instances.new.page last i s (search rules) c.put-2.ensures in
+    let places = adds_both taken failures c.put.new.out c.put_places.new.out end c.put.new.self c.put_places.new.page last p (i ++ s) (search rules) instances in
+    let close = adds_both taken failures c.put_items.new.out c.put.new.out end c.put_items.new.page c.put.new.self last k (p ++ (i ++ s)) c.put.ensures places in
+    let walk = adds_both taken failures c.put_number.new.out c.put_items.new.out end c.put_number.new.page c.put_items.new.page last w (k ++ (p ++ (i ++ s))) (search rules) close in
+    let bound = adds_both taken failures c.put_head.new.out c.put_number.new.out end c.put_head.new.page c.put_number.new.page last b (w ++ (k ++ (p ++ (i ++ s)))) c.put_number.ensures walk in
+    let whole = adds_both taken failures c.args.out.now c.put_head.new.out end c.args.page.now c.put_head.new.page last h (b ++ (w ++ (k ++ (p ++ (i ++ s))))) c.put_head.ensures bound in
     adds_same taken failures c.args.out.now end c.args.page.now last _ _ (sym (sections said)) whole
