@@ -1,5 +1,5 @@
 -- What fails in a certificate, and the tests that it is found by.
-use Rattle.std.proofs.Common.{◌≡◌, ◌≢◌, ◌∙◌, ℕ, ◌<◌, ◌≤◌, ◌^◌, true, false, List, ◌++◌, length, get_or, map, All, Contains, Option, Some, None, inl, inr, refl, sym, ap, subst, arith}
+use Rattle.std.proofs.Common.{◌≡◌, ◌∙◌, ℕ, ◌<◌, List, length, get_or, map, All, Contains, Option, Some, None, inl, inr, refl, sym, subst}
 use Rattle.std.specs.Prelude.{MatchOption}
 use Rattle.std.proofs.lemmas.Option.{same_Some}
 use Rattle.walks.specs.Walk.{Leads}
@@ -12,12 +12,10 @@ use Rattle.longest_walk.specs.Rows.{header_of, header_of_row, place_of_row}
 use Rattle.certificate.specs.declared.cert.Cert.{Cert}
 use Rattle.cert_check.specs.declared.failing.FailingRow.{FailingRow}
 use Rattle.cert_check.specs.declared.failing.FailingRow.TheVariants as f
-use Rattle.cert_check.specs.declared.failing.HeavyRow.{HeavyRow}
-use Rattle.cert_check.specs.declared.verdict.Objection.{Objection}
-use Rattle.cert_check.specs.Failing.{IsFailing, IsFirstFailing, IsFirstWithout, IsHeavy, LeaveHolds, PlainHolds, RoundHolds, objection_of}
+use Rattle.cert_check.specs.Failing.{IsFailing, IsFirstFailing, IsFirstWithout, LeaveHolds, PlainHolds, RoundHolds, objection_of}
 use Rattle.cert_check.specs.Followed.{Followed}
 use Rattle.cert_check.specs.Presence.{Lists}
-use Rattle.cert_check.specs.Verdict.{EdgesHold, HasAll, LeavesHold, Passes, RoundsHold, presence_objections, row_objections}
+use Rattle.cert_check.specs.Verdict.{HasAll, Passes, presence_objections, row_objections}
 use Rattle.cert_check.specs.Weighing.{RowFits}
 use Rattle.cert_check.proofs.FrontLemmas.{breaks_none}
 use Rattle.cert_check.proofs.WalkParts.{ends_same}

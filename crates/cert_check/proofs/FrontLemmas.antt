@@ -1,10 +1,9 @@
 -- The first lines of a walk, as far as they were followed.
-use Rattle.std.proofs.Common.{◌≡◌, ◌∙◌, ℕ, ◌+◌, ◌<◌, ◌≤◌, Bool, true, false, List, [], ◌∷◌, ◌++◌, length, get_or, map, take, drop, All, Option, Some, option_and_then, refl, sym, ap, subst, arith, add-one, append-nil, append_assoc}
+use Rattle.std.proofs.Common.{◌≡◌, ◌∙◌, ℕ, ◌+◌, ◌<◌, ◌≤◌, Bool, true, false, List, [], ◌∷◌, ◌++◌, length, get_or, map, take, drop, Some, option_and_then, refl, sym, ap, subst, arith, add-one, append-nil, append_assoc}
 use Rattle.std.specs.Prelude.{option_map}
 use Rattle.std.proofs.Math.Seq.{take-suc}
 use Rattle.std.proofs.lemmas.List.{take_all, take-append-drop}
 use Rattle.std.proofs.lemmas.List.Elements.{All-append, All-nil}
-use Rattle.std.proofs.lemmas.Option.{same_Some}
 use Rattle.walks.specs.Walk.{Leads}
 use Rattle.walks.proofs.Leading.{Leads-append}
 use Rattle.flow_graph.specs.declared.places.Place.{Place}
@@ -12,12 +11,12 @@ use Rattle.flow_graph.specs.declared.places.Place.TheVariants.{Exit}
 use Rattle.flow_graph.specs.declared.edges.Edge.{Edge}
 use Rattle.flow_graph.specs.Flow.{Flow, HasEdge, IsWellFormed, edge_shape}
 use Rattle.numbered_walks.specs.declared.span.Span.{Span}
-use Rattle.loop_bounds.specs.Tree.{IsTree, Tree, place_in}
+use Rattle.loop_bounds.specs.Tree.{IsTree, Tree}
 use Rattle.longest_walk.specs.Longest.{IsBody}
 use Rattle.certificate.specs.declared.walk.CertItem.{CertItem}
 use Rattle.cert_check.specs.declared.index.Index.{Index}
 use Rattle.cert_check.specs.declared.walker.Walker.{Walker}
-use Rattle.cert_check.specs.Failing.{BreaksAt, IsBegun}
+use Rattle.cert_check.specs.Failing.{BreaksAt}
 use Rattle.cert_check.specs.Followed.{Followed, follow_both, follow_item, follow_row, followed, nothing_at}
 use Rattle.cert_check.specs.Straying.{StraysAt}
 use Rattle.cert_check.specs.Verdict.{IsFollowed}

@@ -9,7 +9,6 @@ use Rattle.flow_graph.specs.declared.places.Place.{Place}
 use Rattle.flow_graph.specs.declared.places.Place.TheVariants.{Exit}
 use Rattle.flow_graph.specs.declared.edges.Edge.{Edge}
 use Rattle.flow_graph.specs.Flow.{Flow, HasEdge, IsWellFormed, edge_shape}
-use Rattle.numbered_walks.specs.declared.span.NumberedEdge.{NumberedEdge}
 use Rattle.numbered_walks.specs.declared.span.Span.{Span}
 use Rattle.numbered_walks.specs.Index.{edge_at, edges_of}
 use Rattle.numbered_walks.specs.Ordered as O

@@ -36,11 +36,13 @@ use Rattle.cert_check.specs.declared.walker.Round.{Round}
 use Rattle.cert_check.specs.declared.index.Index.{Index}
 use Rattle.cert_check.specs.declared.walker.Walker.{Walker}
 use Rattle.cert_check.specs.Followed.{Followed, edge_named, follow_edge, follow_item, follow_turns, followed, is_named}
-use Rattle.cert_check.specs.Walking.{Adds, AreRounds, Arrives, Begins, CanFollow, CannotBegin, EndsIn, IsRefused, IsTaken, capped, gained, header_at, turns_after}
+use Rattle.walk_counts.specs.Spans.{header_at}
+use Rattle.walk_counts.proofs.StayLemmas.{span_there}
+use Rattle.cert_check.specs.Walking.{Adds, AreRounds, Arrives, Begins, CanFollow, CannotBegin, EndsIn, IsRefused, IsTaken, capped, gained, turns_after}
 use Rattle.cert_check.proofs.WalkNamed.{named_from}
 use Rattle.cert_check.proofs.WalkParts.{All-repeated, ends_same, leads_once, map-repeated, map_some, repeated-long, some_element, starts_same}
 use Rattle.cert_check.proofs.WalkFollowing.{item_repeat, leads_of, some_lines}
-use Rattle.cert_check.proofs.WalkTelling.{edge_adds, holds_whole, rounds_add, span_there, whole_in}
+use Rattle.cert_check.proofs.WalkTelling.{edge_adds, holds_whole, rounds_add, whole_in}
 
 module _ (flow : Flow) (tree : Tree) (index : Index) (well : IsWellFormed flow) (within : Span) (levels : ℕ) (x : Walker) (can : CanFollow flow tree index within x) where
   abbrev exit : ℕ

@@ -1,6 +1,6 @@
 -- What is told of a walk, with an edge more, and with the rounds of a repeat in place of one.
 use Rattle.std.proofs.Common.{◌≡◌, ◌≢◌, ◌∙◌, ℕ, zero, suc, ◌+◌, ◌-◌, ◌*◌, ◌<◌, ◌≤◌, ◌^◌, min, max, Bool, true, false, cond, ◌&&◌, List, [], ◌∷◌, ◌++◌, length, get_or, slice_set, All, Contains, Option, Some, None, ◌⊎◌, inl, inr, ⊎_elim, refl, sym, ap, subst, arith, append-nil, get_or-set_same, get_or-set_other}
-use Rattle.std.proofs.lemmas.Bool.{and_from, cases_Bool, cases_eq, cases_lt, eq-eqb, le-ltb, lt-ltb, ltb-true, ne_eqb, or_cases, true≢false, or_parts}
+use Rattle.std.proofs.lemmas.Bool.{and_from, cases_Bool, cases_eq, cases_lt, le-ltb, lt-ltb, ne_eqb}
 use Rattle.std.specs.Option.{option_or}
 use Rattle.std.proofs.lemmas.Option.{none-some, same_Some}
 use Rattle.std.proofs.lemmas.List.Elements.{All-head, All-tail, All-weaker}
@@ -8,7 +8,7 @@ use Rattle.std.proofs.lemmas.List.Sums.{sum_by-cons}
 use Rattle.walks.specs.Segments.{count, head, most, repeated, tail, whole}
 use Rattle.walks.proofs.Joins as J
 use Rattle.walks.proofs.Leading.{cost-append, cost-repeated}
-use Rattle.walks.proofs.Segments.{rounds_head, tail-le-most, tail_outside}
+use Rattle.walks.proofs.Segments.{rounds_head, tail-le-most}
 use Rattle.numbered_walks.specs.declared.span.NumberedEdge.{NumberedEdge}
 use Rattle.numbered_walks.specs.declared.span.Span.{Span}
 use Rattle.numbered_walks.specs.Index.{AreHeaders}
@@ -17,7 +17,9 @@ use Rattle.numbered_walks.specs.Reach.{most_in}
 use Rattle.numbered_walks.proofs.Members.{header_in, member_header}
 use Rattle.numbered_walks.proofs.Nesting.{same_header}
 use Rattle.cert_check.specs.declared.walker.Walker.{Walker}
-use Rattle.cert_check.specs.Walking.{Adds, Arrives, Tells, broken_by, capped, gained, header_at, turns_after, turns_at_end}
+use Rattle.walk_counts.specs.Spans.{header_at, turns_at_end}
+use Rattle.walk_counts.proofs.StayLemmas.{edge_back, edge_elsewhere, edge_from_outside, edge_in_stay, span_there}
+use Rattle.cert_check.specs.Walking.{Adds, Arrives, Tells, broken_by, capped, gained, turns_after}
 
 -- ## Numbers
 
@@ -76,38 +78,6 @@ broken_none o turns s at is = ⊎_elim
 -- ## Stretches
 
 module _ {E : Type 0} (inside turns : E → Bool) (w : List E) where
-  module _ (e : E) where
-    pub edge_out : inside e ≡ false → (most inside turns (w ++ e ∷ []) ≡ most inside turns w) × (tail inside turns (w ++ e ∷ []) ≡ 0)
-    edge_out out =
-        let none : cond (inside e) (cond (turns e) 1 0 + 0) 0 ≡ 0 = rw out refl in
-        let joins : most inside turns (w ++ e ∷ []) ≡ max (max (most inside turns w) (max (cond (inside e) (cond (turns e) 1 0 + 0) 0) 0)) (tail inside turns w + cond (inside e) (cond (turns e) 1 0 + 0) 0) = J.most-append inside turns w (e ∷ []) in
-        (omega (arith, joins, none, tail-le-most inside turns w), tail_outside inside turns w e out)
-
-    one : count inside turns (e ∷ []) ≡ cond (turns e) 1 0 + 0
-    one = sum_by-cons (λ x. cond (turns x) 1 0) e []
-
-    tail_in : inside e ≡ true → tail inside turns (w ++ e ∷ []) ≡ tail inside turns w + cond (turns e) 1 0
-    tail_in inner =
-        let joins : tail inside turns (w ++ e ∷ []) ≡ cond (inside e && true) (tail inside turns w + count inside turns (e ∷ [])) (tail inside turns (e ∷ [])) = J.tail-append inside turns w (e ∷ []) in
-        let long : tail inside turns (w ++ e ∷ []) ≡ tail inside turns w + count inside turns (e ∷ []) = joins ∙ ap (λ (b : Bool). cond (b && true) (tail inside turns w + count inside turns (e ∷ [])) (tail inside turns (e ∷ []))) inner in
-        omega (arith, long, one)
-
-    most_in_it : inside e ≡ true → most inside turns (w ++ e ∷ []) ≡ max (most inside turns w) (tail inside turns w + cond (turns e) 1 0)
-    most_in_it inner =
-        let here : cond (inside e) (cond (turns e) 1 0 + 0) 0 ≡ cond (turns e) 1 0 = rw inner (omega arith) in
-        let joins : most inside turns (w ++ e ∷ []) ≡ max (max (most inside turns w) (max (cond (inside e) (cond (turns e) 1 0 + 0) 0) 0)) (tail inside turns w + cond (inside e) (cond (turns e) 1 0 + 0) 0) = J.most-append inside turns w (e ∷ []) in
-        omega (arith, joins, here, tail-le-most inside turns w)
-
-    pub edge_turn : inside e ≡ true → turns e ≡ true → (most inside turns (w ++ e ∷ []) ≡ max (most inside turns w) (tail inside turns w + 1)) × (tail inside turns (w ++ e ∷ []) ≡ tail inside turns w + 1)
-    edge_turn inner turn =
-        let c : cond {A = ℕ} (turns e) 1 0 ≡ 1 = rw turn refl in
-        (omega (arith, most_in_it inner, c), omega (arith, tail_in inner, c))
-
-    pub edge_plain : inside e ≡ true → turns e ≡ false → (most inside turns (w ++ e ∷ []) ≡ most inside turns w) × (tail inside turns (w ++ e ∷ []) ≡ tail inside turns w)
-    edge_plain inner plain =
-        let c : cond {A = ℕ} (turns e) 1 0 ≡ 0 = rw plain refl in
-        (omega (arith, most_in_it inner, c, tail-le-most inside turns w), omega (arith, tail_in inner, c))
-
   -- a walk that lies inside, after another
   pub whole_after : (u : List E) → whole inside turns u ≡ true → (most inside turns (w ++ u) ≡ max (most inside turns w) (tail inside turns w + count inside turns u)) × (tail inside turns (w ++ u) ≡ tail inside turns w + count inside turns u)
   whole_after u all =
@@ -132,14 +102,6 @@ module _ {E : Type 0} (inside turns : E → Bool) (w : List E) where
 -- ## One edge more, or rounds
 
 module _ (exit : ℕ) (edges : List NumberedEdge) (spans : List Span) (order : IsOrdered exit edges spans) (headers : List (Option Span)) (all : AreHeaders spans headers) where
-  -- the span that begins at a number is the one that the index has there
-  pub span_there : (m : ℕ) (s : Span) → Contains spans s → s.header ≡ m → header_at headers m ≡ Some s
-  span_there m s has is =
-      let found = all.all s has in
-      let known = all.known s.header found.0 found.1 in
-      let same : found.0 ≡ s = same_header spans order.headers_differ found.0 s known.0 has known.1 in
-      ap (header_at headers) (sym is) ∙ found.1 ∙ ap (λ (x : Span). Some x) same
-
   -- what holds the header of an instance holds all of it
   pub holds_whole : (s r : Span) → Contains spans s → Contains spans r → is_in s r.header ≡ true → HoldsAll s r
   holds_whole s r s_in r_in here = ⊎_elim
@@ -191,7 +153,7 @@ module _ (exit : ℕ) (edges : List NumberedEdge) (spans : List Span) (order : I
         ⊎_elim
         (λ (at : s.header ≡ to).
         let t : turns ≡ capped (turns_at_end s w) = turns_is s has at in
-        let few : turns ≤ s.bound = broken_none (header_at headers to) turns s (span_there to s has at) parts.1 in
+        let few : turns ≤ s.bound = broken_none (header_at headers to) turns s (span_there exit edges spans order headers all to s has at) parts.1 in
         let small : s.bound ≤ 1048576 = (order.shape s has).2 in
         omega (arith, t, few, small, before, change.there s has at))
         (λ (other : s.header ≢ to). omega (arith, before, change.elsewhere s has other))
@@ -203,41 +165,20 @@ module _ (exit : ℕ) (edges : List NumberedEdge) (spans : List Span) (order : I
   -- ## An edge
 
   module _ (e : NumberedEdge) (in_graph : Contains edges e) (w : List NumberedEdge) where
-    outside : (s : Span) → is_in s e.from ≡ false → is_inside s e ≡ false
-    outside s out = ap (λ (b : Bool). b && is_in s e.to) out
+    back : (s : Span) → Contains spans s → s.header ≡ e.to → is_in s e.from ≡ true → (most_in s (w ++ e ∷ []) ≡ max (most_in s w) (turns_at_end s w + 1)) × (turns_at_end s (w ++ e ∷ []) ≡ turns_at_end s w + 1)
+    back s has = edge_back exit edges spans order e in_graph w s has
 
-    -- in an instance that the edge does not enter at its header it begins too
-    stays_in : (s : Span) → Contains spans s → s.header ≢ e.to → is_in s e.to ≡ true → is_in s e.from ≡ true
-    stays_in s has other here = ⊎_elim
-        (λ is. is)
-        (λ out. absurd (other (sym (order.entered e in_graph s has out here))))
-        (cases_Bool (is_in s e.from))
-
-    edge_there : (s : Span) → Contains spans s → s.header ≡ e.to → (is_in s e.from ≡ true → (most_in s (w ++ e ∷ []) ≡ max (most_in s w) (turns_at_end s w + 1)) × (turns_at_end s (w ++ e ∷ []) ≡ turns_at_end s w + 1)) × (is_in s e.from ≡ false → (most_in s (w ++ e ∷ []) ≡ most_in s w) × (turns_at_end s (w ++ e ∷ []) ≡ 0))
-    edge_there s has is =
-        let holds : is_in s e.to ≡ true = subst (λ (n : ℕ). is_in s n ≡ true) is (header_in exit edges spans order s has) in (
-          λ from_in. edge_turn (is_inside s) (ends_at_header s) w e (and_from (is_in s e.from) (is_in s e.to) from_in holds) (eq-eqb e.to s.header (sym is)),
-          λ out. edge_out (is_inside s) (ends_at_header s) w e (outside s out),
-        )
-
-    no_turn : (s : Span) → s.header ≢ e.to → ends_at_header s e ≡ false
-    no_turn s other = ne_eqb e.to s.header (λ is. other (sym is))
+    enters : (s : Span) → Contains spans s → is_in s e.from ≡ false → (most_in s (w ++ e ∷ []) ≡ most_in s w) × (turns_at_end s (w ++ e ∷ []) ≡ 0)
+    enters s has = edge_from_outside exit edges spans order e in_graph w s has
 
     edge_changes : Changes e.from e.to w (w ++ e ∷ [])
     edge_changes = record {
-      there = λ s has is.
-          let h = edge_there s has is in
-          ⊎_elim
-          (λ (from_in : is_in s e.from ≡ true). let b = h.0 from_in in omega (arith, b.0, b.1))
-          (λ (out : is_in s e.from ≡ false). let b = h.1 out in omega (arith, b.0, b.1))
+      there = λ s has is. ⊎_elim
+          (λ (from_in : is_in s e.from ≡ true). let b = back s has is from_in in omega (arith, b.0, b.1))
+          (λ (out : is_in s e.from ≡ false). let b = enters s has out in omega (arith, b.0, b.1))
           (cases_Bool (is_in s e.from));
-      elsewhere = λ s has other. ⊎_elim
-          (λ (is : is_inside s e ≡ true). (edge_plain (is_inside s) (ends_at_header s) w e is (no_turn s other)).0)
-          (λ (out : is_inside s e ≡ false). (edge_out (is_inside s) (ends_at_header s) w e out).0)
-          (cases_Bool (is_inside s e));
-      same_stay = λ s has other here.
-          let from_in : is_in s e.from ≡ true = stays_in s has other here in
-          (from_in, (edge_plain (is_inside s) (ends_at_header s) w e (and_from (is_in s e.from) (is_in s e.to) from_in here) (no_turn s other)).1);
+      elsewhere = λ s has. edge_elsewhere exit edges spans order e in_graph w s has;
+      same_stay = λ s has. edge_in_stay exit edges spans order e in_graph w s has;
     }
 
     turned : (o : Option Span) (s : Span) (from turns : ℕ) → o ≡ Some s → turns_after o from turns ≡ cond (is_in s from) (capped (turns + 1)) 0
@@ -245,17 +186,16 @@ module _ (exit : ℕ) (edges : List NumberedEdge) (spans : List Span) (order : I
 
     edge_turns : (old : Walker) → old.number ≡ e.from → Tells spans old w → (s : Span) → Contains spans s → s.header ≡ e.to → turns_after (header_at headers e.to) e.from (get_or old.turns.items e.to 0) ≡ capped (turns_at_end s (w ++ e ∷ []))
     edge_turns old from_is told s has is =
-        let h = edge_there s has is in
-        turned (header_at headers e.to) s e.from (get_or old.turns.items e.to 0) (span_there e.to s has is)
+        turned (header_at headers e.to) s e.from (get_or old.turns.items e.to 0) (span_there exit edges spans order headers all e.to s has is)
         ∙ ⊎_elim
         (λ (from_in : is_in s e.from ≡ true).
         let before : get_or old.turns.items s.header 0 ≡ capped (turns_at_end s w) = told.turns_are s has (subst (λ (n : ℕ). is_in s n ≡ true) (sym from_is) from_in) in
         let here : get_or old.turns.items e.to 0 ≡ capped (turns_at_end s w) = ap (λ (n : ℕ). get_or old.turns.items n 0) (sym is) ∙ before in
-        let after : turns_at_end s (w ++ e ∷ []) ≡ turns_at_end s w + 1 = (h.0 from_in).1 in
+        let after : turns_at_end s (w ++ e ∷ []) ≡ turns_at_end s w + 1 = (back s has is from_in).1 in
         let more : capped (get_or old.turns.items e.to 0 + 1) ≡ capped (turns_at_end s (w ++ e ∷ [])) = omega (arith, here, after) in
         ap (λ (b : Bool). cond b (capped (get_or old.turns.items e.to 0 + 1)) 0) from_in ∙ more)
         (λ (out : is_in s e.from ≡ false).
-        let after : turns_at_end s (w ++ e ∷ []) ≡ 0 = (h.1 out).1 in
+        let after : turns_at_end s (w ++ e ∷ []) ≡ 0 = (enters s has out).1 in
         let none : 0 ≡ capped (turns_at_end s (w ++ e ∷ [])) = omega (arith, after) in
         ap (λ (b : Bool). cond b (capped (get_or old.turns.items e.to 0 + 1)) 0) out ∙ none)
         (cases_Bool (is_in s e.from))

@@ -1,25 +1,20 @@
 -- The verdict on a walk, from what following its lines told.
-use Rattle.std.proofs.Common.{◌≡◌, ◌≢◌, ◌∙◌, ℕ, ◌+◌, ◌<◌, ◌≤◌, ◌^◌, true, false, List, [], ◌∷◌, Option, inr, Some, None, length, get_or, refl, sym, ap, subst, arith}
+use Rattle.std.proofs.Common.{◌≡◌, ◌∙◌, ℕ, ◌+◌, ◌<◌, ◌^◌, List, [], ◌∷◌, inr, None, length, get_or, sym, ap, subst, arith}
 use Rattle.std.proofs.lemmas.List.{get_or-replicate, length-replicate}
-use Rattle.std.specs.Option.{is_some}
-use Rattle.std.proofs.lemmas.Bool.{true≢false}
 use Rattle.std.proofs.lemmas.Option.{none-some, same_Some}
 use Rattle.walks.specs.Walk.{Leads, cost_of}
-use Rattle.walks.proofs.Joins.{keeps_from_most, most_from_keeps}
+use Rattle.walks.proofs.Joins.{keeps_from_most}
 use Rattle.flow_graph.specs.declared.places.Place.{Place}
-use Rattle.flow_graph.specs.declared.places.Place.TheVariants.{Exit}
 use Rattle.flow_graph.specs.declared.edges.Edge.{Edge}
 use Rattle.flow_graph.specs.Flow.{Flow, HasEdge, IsWellFormed, edge_shape}
 use Rattle.numbered_walks.specs.declared.span.NumberedEdge.{NumberedEdge}
-use Rattle.numbered_walks.specs.declared.span.Span.{Span}
 use Rattle.numbered_walks.specs.Index.{edges_of}
 use Rattle.numbered_walks.specs.Ordered as O
-use Rattle.numbered_walks.specs.Reach.{most_in}
 use Rattle.numbered_walks.proofs.Members.{is_member, member_last}
 use Rattle.loop_bounds.specs.Tree.{IsTree, Tree, place_in}
 use Rattle.longest_walk.specs.Built.{steps_of}
 use Rattle.longest_walk.specs.Longest.{KeepsTree}
-use Rattle.longest_walk.proofs.CarryWalks.{costs_same, exit_is, exit_place, keeps_down, keeps_up}
+use Rattle.longest_walk.proofs.CarryWalks.{costs_same, exit_place, keeps_up}
 use Rattle.certificate.specs.declared.cert.Cert.{Cert}
 use Rattle.cert_check.specs.declared.index.Index.{Index}
 use Rattle.cert_check.specs.declared.walker.Walker.{Walker}
@@ -28,17 +23,8 @@ use Rattle.cert_check.specs.Index.{IsIndex}
 use Rattle.cert_check.specs.declared.verdict.Verdict.{Verdict}
 use Rattle.cert_check.specs.declared.verdict.Objection.TheVariants.{WalkCost}
 use Rattle.cert_check.specs.Verdict.{CostsBound, IsFirstOf, IsFollowed, KeepsAll, walk_objections}
-use Rattle.cert_check.specs.Walking.{CanFollow, IsFresh, IsRefused, IsTaken, Tells, capped, graph_span}
+use Rattle.cert_check.specs.Walking.{CanFollow, IsFresh, IsTaken, Tells, capped, graph_span}
 use Rattle.cert_check.proofs.WalkFollowing.{leads_of}
-use Rattle.cert_check.proofs.WalkParts.{ends_same}
-
-pub some_value : (o : Option Span) → is_some o ≡ true → (s : Span) × (o ≡ Some s)
-some_value None is = absurd (true≢false (sym is))
-some_value (Some s) is = (s, refl)
-
-pub no_value : (o : Option Span) → is_some o ≡ false → o ≡ None
-no_value None is = refl
-no_value (Some s) is = absurd (true≢false is)
 
 module _ (flow : Flow) (tree : Tree) (index : Index) (well : IsWellFormed flow) (t : IsTree flow tree) (indexed : IsIndex (length flow.places) tree.spans index) (x : Walker) (fresh : IsFresh (length flow.places) x) where
   abbrev exit : ℕ
@@ -75,12 +61,6 @@ module _ (flow : Flow) (tree : Tree) (index : Index) (well : IsWellFormed flow) 
   }
 
   module _ (cert : Cert) where
-    pub refused_whole : IsRefused flow tree (graph_span flow) 16 (followed flow cert.walk) x.number → (walk : Followed) × IsFollowed flow tree cert.walk walk → ⊥
-    refused_whole refused (f, is) =
-        refused f Exit (ap (followed flow cert.walk) at_entry ∙ is.followed_is) (subst (λ (p : Place). Leads edge_shape (HasEdge flow) p f.opened.walk Exit) (sym at_entry) is.complete)
-        (λ k d lt n le to. is_member (graph_span flow) n (omega arith) le)
-        (record { bodies = is.bodies; counts = is.counts; shallow = is.shallow })
-
     module _ (y : Walker) (a : IsTaken flow tree index (graph_span flow) 16 (length cert.walk) (followed flow cert.walk) x y) where
       abbrev v : List NumberedEdge
       v = edges_of tree.edges a.numbers
@@ -90,11 +70,6 @@ module _ (flow : Flow) (tree : Tree) (index : Index) (well : IsWellFormed flow) 
 
       is_walk : (f : Followed) → IsFollowed flow tree cert.walk f → a.walk ≡ f
       is_walk f is = same_Some a.walk f (sym a.walk_is ∙ ap (followed flow cert.walk) at_entry ∙ is.followed_is)
-
-      pub unfinished : y.number ≢ length flow.places → (walk : Followed) × IsFollowed flow tree cert.walk walk → ⊥
-      unfinished other (f, is) =
-          let there : Leads edge_shape (HasEdge flow) flow.entry f.opened.walk (place y.number) = subst (λ (g : Followed). Leads edge_shape (HasEdge flow) flow.entry g.opened.walk (place y.number)) (is_walk f is) leads in
-          other (exit_is flow tree well t y.number a.ready.known (ends_same edge_shape (HasEdge flow) flow.entry (place y.number) Exit f.opened.walk there is.complete))
 
       module _ (done : y.number ≡ length flow.places) where
         pub finished : IsFollowed flow tree cert.walk a.walk
@@ -109,13 +84,6 @@ module _ (flow : Flow) (tree : Tree) (index : Index) (well : IsWellFormed flow) 
         pub told : Tells tree.spans y (edges_of tree.edges a.numbers)
         told = a.told [] nothing_told
 
-        pub over_bound : (s : Span) → y.over ≡ Some s → KeepsAll flow tree cert → ⊥
-        over_bound s over keeps =
-            let more = told.broken s over in
-            let kept : KeepsTree tree (steps_of flow.edges a.numbers) = subst (λ (w : List Edge). KeepsTree tree w) a.edges_are (keeps a.walk finished) in
-            let few : most_in s (edges_of tree.edges a.numbers) ≤ s.bound = most_from_keeps (O.is_inside s) (O.ends_at_header s) s.bound (edges_of tree.edges a.numbers) (keeps_down flow tree well t a.numbers a.inside kept s more.0) in
-            omega (arith, few, more.1)
-
         pub within_bounds : y.over ≡ None → KeepsAll flow tree cert
         within_bounds fine f is =
             let kept : KeepsTree tree (steps_of flow.edges a.numbers) = keeps_up flow tree well t a.numbers a.inside (λ s s_in. keeps_from_most (O.is_inside s) (O.ends_at_header s) s.bound (edges_of tree.edges a.numbers) (told.kept fine s s_in)) in
@@ -127,11 +95,6 @@ module _ (flow : Flow) (tree : Tree) (index : Index) (well : IsWellFormed flow) 
         -- of a walk within the bounds the cost alone is left to judge
         pub cost_left : (v : Verdict) → y.over ≡ None → IsFirstOf flow tree cert (WalkCost ∷ []) v → IsFirstOf flow tree cert walk_objections v
         cost_left v fine rest = inr ((a.walk, finished), inr (within_bounds fine, rest))
-
-        pub other_cost : cert.bound < 2 ^ 64 → y.cost ≢ cert.bound → CostsBound flow tree cert → ⊥
-        other_cost fits other costs =
-            let is : cost_of edge_shape a.walk.opened.walk ≡ cert.bound = costs a.walk finished in
-            other (omega (arith, cost_told, is, fits))
 
         pub same_cost : cert.bound < 2 ^ 64 → y.cost ≡ cert.bound → CostsBound flow tree cert
         same_cost fits same f is =

@@ -1,12 +1,8 @@
 -- The checker's own index: which instances hold each number, and which begins there.
-use Rattle.std.specs.Prelude.{◌≡◌, ℕ, ◌+◌, ◌<◌, ◌≤◌, List, length}
+use Rattle.std.specs.Prelude.{◌≡◌, ℕ, ◌+◌, List, length}
 use Rattle.numbered_walks.specs.declared.span.Span.{Span}
 use Rattle.numbered_walks.specs.Index.{AreHeaders, AreHolders}
 use Rattle.cert_check.specs.declared.index.Index.{Index}
-
--- the span's numbers stand before that of Exit
-abbrev pub EndsBefore : ℕ → Span → Type 0
-EndsBefore exit s = (s.header ≤ s.last) × (s.last < exit)
 
 -- an entry for each number up to that of Exit
 pub record IsIndex (exit : ℕ) (spans : List Span) (index : Index) : Type 0 where

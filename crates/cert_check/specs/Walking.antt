@@ -1,10 +1,9 @@
 -- What following a certificate's walk tells of it.
 use Rattle.std.specs.Prelude.{◌≡◌, ℕ, ◌+◌, ◌-◌, ◌*◌, ◌<◌, ◌≤◌, ◌^◌, min, Bool, true, false, cond, nat_lt}
-use Rattle.std.specs.Prelude.{List, ◌++◌, length, replicate, slice_index, slice_index_or, slice_set}
+use Rattle.std.specs.Prelude.{List, ◌++◌, length, replicate, slice_index, slice_set}
 use Rattle.std.specs.Prelude.{All, Contains, Option, Some, None}
 use Rattle.std.specs.Option.{option_or}
 use Rattle.walks.specs.Walk.{Leads}
-use Rattle.walks.specs.Segments.{tail}
 use Rattle.flow_graph.specs.declared.places.Place.{Place}
 use Rattle.flow_graph.specs.declared.edges.Edge.{Edge}
 use Rattle.flow_graph.specs.Flow.{Flow, HasEdge, IsWellFormed, edge_shape}
@@ -12,12 +11,13 @@ use Rattle.numbered_walks.specs.declared.span.NumberedEdge.{NumberedEdge}
 use Rattle.numbered_walks.specs.declared.span.Span.{Span}
 use Rattle.numbered_walks.specs.Index.{edges_of}
 use Rattle.numbered_walks.specs.Ordered as O
-use Rattle.numbered_walks.specs.Ordered.{HoldsAll, ends_at_header, is_in, is_inside}
+use Rattle.numbered_walks.specs.Ordered.{HoldsAll, is_in}
 use Rattle.numbered_walks.specs.Reach.{most_in}
 use Rattle.loop_bounds.specs.Tree.{IsTree, Tree, place_in}
 use Rattle.longest_walk.specs.Built.{steps_of}
 use Rattle.longest_walk.specs.Folded.{Opened}
 use Rattle.longest_walk.specs.Longest.{IsBody}
+use Rattle.walk_counts.specs.Spans.{header_at, turns_at_end}
 use Rattle.cert_check.specs.declared.index.Index.{Index}
 use Rattle.cert_check.specs.declared.walker.Walker.{Walker}
 use Rattle.cert_check.specs.declared.walker.Round.{Round}
@@ -29,10 +29,6 @@ use Rattle.cert_check.specs.Index.{IsIndex}
 -- sums are told up to 2^64, which is more than any bound
 abbrev pub capped : ℕ → ℕ
 capped n = min n (2 ^ 64)
-
--- the back edges of the stay in the instance in which the walk ends
-abbrev pub turns_at_end : Span → List NumberedEdge → ℕ
-turns_at_end s walk = tail (is_inside s) (ends_at_header s) walk
 
 -- its cost; the back edges of its stay in each instance where it stands; and an instance in which a stay has
 -- more of them than the bound, if there is one
@@ -55,10 +51,6 @@ pub record IsFresh (exit : ℕ) (x : Walker) : Type 0 where
   pub over_is : x.over ≡ None
 
 -- ## What an edge, and the rounds of a repeat, change
-
--- the span that begins at a number
-abbrev pub header_at : List (Option Span) → ℕ → Option Span
-header_at headers n = slice_index_or headers n None
 
 -- the instance, if these are more back edges than its bound
 abbrev pub broken_by : Option Span → ℕ → Option Span

@@ -6,13 +6,10 @@ ghost use Rattle.longest_walk.specs.Longest.{KeepsTree};
 ghost use Rattle.cert_check.specs.Columns.{Ascends};
 ghost use Rattle.cert_check.specs.Verdict.{IsVerdict};
 
-use crate::columns::tables_of;
+use crate::explaining::failing_row;
+use crate::failing::verdict_of;
 use crate::fault::CheckFault;
-use crate::index::Index;
-use crate::presence::check_presence;
-use crate::row_check::verdict_on_rows;
 use crate::verdict::Verdict;
-use crate::walk_check::check_walk;
 use certificate::Cert;
 use flow_graph::{Graph, Place};
 use loop_bounds::LoopTree;
@@ -40,17 +37,10 @@ pub fn check(
         → IsGreatest edge_shape (HasEdge graph.now)
         (KeepsTree tree.now) graph.now.entry Place.Exit cert.now.bound }
 {
-    let exit = graph.places().len();
-    let presence = check_presence(alloc, graph, tree, cert)?;
-    if let Verdict::No(_) = presence {
-        return Ok(presence);
+    let _places = graph.places();
+    // `?` gets no proof here, where only the row has places and edges
+    match failing_row(alloc, graph, tree, cert) {
+        Ok(row) => Ok(verdict_of(row)),
+        Err(fault) => Err(fault),
     }
-    let index = Index::of(alloc, tree.spans(), exit)?;
-    let tables = tables_of(alloc, graph, tree, cert)?;
-    let rows = verdict_on_rows(graph, tree, cert, &index, &tables);
-    if let Verdict::No(_) = rows {
-        return Ok(rows);
-    }
-    let walk = check_walk(alloc, graph, tree, cert, &index)?;
-    Ok(walk)
 }

@@ -1,3 +1,7 @@
+ghost use Rattle.std.specs.Prelude.{◌≡◌};
+ghost use Rattle.cert_check.specs.Failing.{objection_of, verdict_of};
+
+use crate::verdict::{Objection, Verdict};
 use flow_graph::{Edge, Place};
 
 /// The row of an edge that asks for more than the number that it is about.
@@ -41,4 +45,32 @@ pub enum FailingRow {
     WalkOverBound(Place, u32),
     /// What the walk costs, in ticks, told up to 2^64.
     WalkCost(u128),
+}
+
+/// The objection for which this fails.
+pub fn objection_of(row: &FailingRow) -> Objection
+    ensures { result ≡ objection_of row.now }
+{
+    match row {
+        FailingRow::WrongProfile => Objection::WrongProfile,
+        FailingRow::MissingPlace(_) | FailingRow::MissingInstance(_) => Objection::MissingPlace,
+        FailingRow::ExtraPlace(_) | FailingRow::ExtraInstance(_) => Objection::ExtraPlace,
+        FailingRow::NumberTooLarge(_) => Objection::NumberTooLarge,
+        FailingRow::EdgeTooHeavy(_) => Objection::EdgeTooHeavy,
+        FailingRow::RoundTooHeavy(_) => Objection::RoundTooHeavy,
+        FailingRow::LeaveTooHeavy(_) => Objection::LeaveTooHeavy,
+        FailingRow::BrokenWalk(_) | FailingRow::OpenWalk(_) => Objection::BrokenWalk,
+        FailingRow::WalkOverBound(_, _) => Objection::WalkOverBound,
+        FailingRow::WalkCost(_) => Objection::WalkCost,
+    }
+}
+
+/// The verdict on a certificate in which this fails, or nothing.
+pub fn verdict_of(row: Option<FailingRow>) -> Verdict
+    ensures { result ≡ verdict_of row }
+{
+    match row {
+        None => Verdict::Yes,
+        Some(row) => Verdict::No(objection_of(&row)),
+    }
 }

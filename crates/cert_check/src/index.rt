@@ -1,10 +1,12 @@
 ghost use Rattle.std.specs.Prelude.{◌≡◌, ◌+◌, ◌<◌, ◌≤◌, ◌^◌, ◌++◌, [], ◌∷◌, All, IfOk, List, length};
 ghost use Rattle.numbered_walks.specs.declared.span.Span.{Span};
-ghost use Rattle.numbered_walks.specs.Index.{AreHeaders, AreHeldTo, AreHolders};
-ghost use Rattle.cert_check.specs.Index.{EndsBefore, IsIndex};
+ghost use Rattle.numbered_walks.specs.Index.{AreHeldTo, AreHolders};
+ghost use Rattle.walk_counts.specs.Spans.{EndsBefore};
+ghost use Rattle.cert_check.specs.Index.{IsIndex};
 
 use numbered_walks::Span;
 use std::alloc::{AllocError, Global};
+use walk_counts::headers;
 
 /// Which instances hold each number, and which begins there: the checker's own, built from the tree's spans
 /// alone.
@@ -65,20 +67,6 @@ fn holders(alloc: Global, spans: &[Span], exit: usize) -> Result<Vec<Vec<Span>>,
         note(&mut held, span)?;
     }
     Ok(held)
-}
-
-// The span that begins at each number up to that of Exit.
-fn headers(alloc: Global, spans: &[Span], exit: usize) -> Result<Vec<Option<Span>>, AllocError>
-    requires ended { All (EndsBefore exit) spans.now }
-    requires small { exit < 2 ^ 32 }
-    ensures { IfOk result
-        (λ headers. (length headers.items ≡ exit + 1) × AreHeaders spans.now headers.items) }
-{
-    let mut headers = vec![in alloc; None; exit + 1]?;
-    for span in spans {
-        headers[span.header] = Some(*span);
-    }
-    Ok(headers)
 }
 
 impl Index {

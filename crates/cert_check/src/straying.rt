@@ -11,7 +11,6 @@ use crate::columns::place_of;
 use crate::failing::FailingRow;
 use crate::handler::Handler;
 use crate::index::Index;
-use crate::walk_check::{LEVELS, start};
 use crate::walk_trace::follow_one;
 use crate::walker::Walker;
 use certificate::{Cert, CertItem};
@@ -19,6 +18,22 @@ use flow_graph::Graph;
 use loop_bounds::LoopTree;
 use numbered_walks::Span;
 use std::alloc::{AllocError, Global};
+
+// How deep repeats may stand.
+const LEVELS: u32 = 16;
+
+// At the entry, before a walk.
+fn start(alloc: Global, graph: &Graph) -> Result<Walker, AllocError>
+    ensures { IfOk result (IsFresh (length graph.now.places)) }
+{
+    let size = graph.places().len() + 1;
+    Ok(Walker {
+        number: 0,
+        cost: 0,
+        turns: vec![in alloc; 0; size]?,
+        over: None,
+    })
+}
 
 // Follows the lines from where the walker stands, inside the span: the first that it cannot follow.
 fn first_not_followed(
@@ -43,47 +58,36 @@ fn first_not_followed(
 }
 
 // Follows the lines of the certificate: the first that it cannot follow.
-fn first_broken(
-    graph: &Graph,
-    tree: &LoopTree,
-    cert: &Cert,
-    index: &Index,
-    walker: &mut Walker,
-) -> Option<usize>
-    requires tree { IsTree graph.now tree.now }
-    requires indexed { IsIndex (length graph.now.places) tree.now.spans index.now }
-    requires fresh { IsFresh (length graph.now.places) walker.old }
+fn first_broken(handler: Handler<'_>, cert: &Cert, walker: &mut Walker) -> Option<usize>
+    requires tree { IsTree handler.graph.now handler.tree.now }
+    requires indexed { IsIndex (length handler.graph.now.places) handler.tree.now.spans handler.index.now }
+    requires fresh { IsFresh (length handler.graph.now.places) walker.old }
     ensures { MatchOption result
-        (IsTaken graph.now tree.now index.now (graph_span graph.now) 16 (length cert.now.walk)
-        (followed graph.now cert.now.walk) walker.old walker.new)
-        (StraysAt graph.now tree.now index.now (graph_span graph.now) 16 cert.now.walk walker.old) }
+        (IsTaken handler.entry.graph.now handler.entry.tree.now handler.entry.index.now
+        (graph_span handler.entry.graph.now) 16 (length cert.now.walk)
+        (followed handler.entry.graph.now cert.now.walk) walker.old walker.new)
+        (StraysAt handler.entry.graph.now handler.entry.tree.now handler.entry.index.now
+        (graph_span handler.entry.graph.now) 16 cert.now.walk walker.old) }
 {
     let whole = Span {
         header: 0,
-        last: graph.places().len(),
+        last: handler.graph.places().len(),
         bound: 0,
     };
-    let lines = cert.walk.items();
-    let handler = Handler { graph, tree, index };
-    first_not_followed(handler, &whole, walker, lines)
+    first_not_followed(handler, &whole, walker, cert.walk.items())
 }
 
 // Where the walk fails the first of its three tests that is not passed.
-fn failing_line(
-    graph: &Graph,
-    tree: &LoopTree,
-    cert: &Cert,
-    index: &Index,
-    walker: &mut Walker,
-) -> Option<FailingRow>
-    requires tree { IsTree graph.now tree.now }
-    requires indexed { IsIndex (length graph.now.places) tree.now.spans index.now }
-    requires fresh { IsFresh (length graph.now.places) walker.old }
-    ensures { IsFirstFailing graph.now tree.now cert.now walk_objections result }
+fn failing_line(handler: Handler<'_>, cert: &Cert, walker: &mut Walker) -> Option<FailingRow>
+    requires tree { IsTree handler.graph.now handler.tree.now }
+    requires indexed { IsIndex (length handler.graph.now.places) handler.tree.now.spans handler.index.now }
+    requires fresh { IsFresh (length handler.graph.now.places) walker.old }
+    ensures { IsFirstFailing handler.entry.graph.now handler.entry.tree.now cert.now walk_objections result }
 {
+    let Handler { graph, tree, .. } = handler;
     let exit = graph.places().len();
     let bound = cert.bound;
-    if let Some(item) = first_broken(graph, tree, cert, index, walker) {
+    if let Some(item) = first_broken(handler, cert, walker) {
         return Some(FailingRow::BrokenWalk(item));
     }
     if walker.number != exit {
@@ -118,5 +122,5 @@ pub(crate) fn failing_walk(
     ensures { IfOk result (IsFirstFailing graph.now tree.now cert.now walk_objections) }
 {
     let mut walker = start(alloc, graph)?;
-    Ok(failing_line(graph, tree, cert, index, &mut walker))
+    Ok(failing_line(Handler { graph, tree, index }, cert, &mut walker))
 }

@@ -9,11 +9,11 @@ ghost use Rattle.cert_check.specs.Walking.{Begins, CanFollow, CannotBegin, Follo
 use crate::handler::Handler;
 use crate::index::Index;
 use crate::walker::{Round, Walker};
-use crate::weighing::holds;
 use certificate::{CertItem, StepLine, To};
 use flow_graph::{Edge, Graph, Label, Place};
 use loop_bounds::LoopTree;
 use numbered_walks::Span;
+use walk_counts::holds;
 
 fn same_label(label: Label, named: Label) -> bool
     ensures { result ≡ is_label label named }

@@ -1,8 +1,9 @@
 ghost use Rattle.std.specs.Prelude.{◌≡◌, ◌+◌, ◌<◌, length, slice_index};
-ghost use Rattle.cert_check.specs.Walking.{Arrives, broken_by, capped, gained, header_at, turns_after};
+ghost use Rattle.walk_counts.specs.Spans.{header_at};
+ghost use Rattle.cert_check.specs.Walking.{Arrives, broken_by, capped, gained, turns_after};
 
-use crate::weighing::holds;
 use numbered_walks::{NumberedEdge, Span};
+use walk_counts::holds;
 
 // Sums stop here, above each bound that they are compared with.
 const LIMIT: u128 = 1 << 64;

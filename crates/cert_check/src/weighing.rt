@@ -10,6 +10,7 @@ ghost use Rattle.cert_check.specs.Weighing.{CanWeigh, NumberFits, NumberHolds, N
 
 use crate::index::Index;
 use numbered_walks::{NumberedEdge, Span, Tables};
+use walk_counts::holds;
 
 /// What a row is tested for.
 #[derive(Clone, Copy)]
@@ -31,13 +32,6 @@ pub(crate) struct Weighing<'a> {
     pub(crate) index: &'a Index,
     pub(crate) tables: &'a Tables,
     pub(crate) exit: usize,
-}
-
-/// Whether the number is that of a member.
-pub(crate) fn holds(span: &Span, number: usize) -> bool
-    ensures { result ≡ is_in span.now number }
-{
-    span.header <= number && number <= span.last
 }
 
 fn distance(tables: &Tables, number: usize) -> u64

@@ -9,6 +9,5 @@ mod OutlineLemmas
 mod PlainLemmas
 mod RefusedLemmas
 mod RepeatLemmas
-mod RowLaws
 mod SearchLemmas
 mod TextLaws

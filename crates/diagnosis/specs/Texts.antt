@@ -13,8 +13,9 @@ use Rattle.flow_graph.specs.declared.places.Place.{Place}
 use Rattle.flow_graph.specs.declared.places.Place.TheVariants.{At, Exit}
 use Rattle.loop_bounds.specs.declared.loop_instances.Found.{Found}
 use Rattle.statement.specs.declared.stated.Loop.{Loop}
+use Rattle.text_rows.specs.Rows.{AreRows}
 use Rattle.diagnosis.specs.Lines.{line_at}
-use Rattle.diagnosis.specs.Rows.{AreRows, IsPlaceRow, IsRow, name_text}
+use Rattle.diagnosis.specs.Rows.{IsPlaceRow, IsRow, name_text}
 use Rattle.diagnosis.specs.declared.crossings.Crossing.{Crossing}
 use Rattle.diagnosis.specs.declared.entries.MidEntry.{MidEntry}
 use Rattle.diagnosis.specs.declared.extents.Extent.{Extent}

@@ -7,7 +7,6 @@ ghost use Rattle.flow_graph.specs.declared.places.Place.TheVariants.{At};
 ghost use Rattle.diagnosis.specs.Crossings.{AreApart, CrossNone, CrossNoneAt, IsCrossing, ShowsCrossing};
 ghost use Rattle.diagnosis.specs.Crossings.{is_own, is_shared};
 
-use crate::members::is_member;
 use flow_graph::{Calls, Graph, Loop, Place};
 use loop_bounds::Found;
 
@@ -27,13 +26,13 @@ pub struct Crossing {
 fn is_shared(one: &Found, other: &Found, place: &Place) -> bool
     ensures { result ≡ is_shared (found_instance one.now) (found_instance other.now) place.now }
 {
-    is_member(one, place) && is_member(other, place)
+    one.is_member(place) && other.is_member(place)
 }
 
 fn is_own(one: &Found, other: &Found, place: &Place) -> bool
     ensures { result ≡ is_own (found_instance one.now) (found_instance other.now) place.now }
 {
-    is_member(one, place) && !is_member(other, place)
+    one.is_member(place) && !other.is_member(place)
 }
 
 // A member of both instances.

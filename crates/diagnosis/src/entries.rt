@@ -6,7 +6,6 @@ ghost use Rattle.loop_bounds.specs.Nest.{HasMidEntry};
 ghost use Rattle.diagnosis.specs.Entries.{AreRightlyEntered, IsMidEntry, IsMidOf, IsRightlyEntered};
 ghost use Rattle.diagnosis.specs.Entries.{enters_mid, is_mid};
 
-use crate::members::{is_header, is_member};
 use flow_graph::{Edge, Graph, Loop, Place};
 use loop_bounds::Found;
 
@@ -25,7 +24,7 @@ pub struct MidEntry {
 fn is_mid(instance: &Found, place: &Place) -> bool
     ensures { result ≡ is_mid (found_instance instance.now) place.now }
 {
-    is_member(instance, place) && !is_header(instance, place)
+    instance.is_member(place) && !instance.is_header(place)
 }
 
 // The first edge that leads to such a place from no member.
@@ -34,7 +33,7 @@ fn entering<'a>(graph: &'a Graph, instance: &Found) -> Option<&'a Edge>
         ≡ find (enters_mid (found_instance instance.now)) graph.now.edges }
 {
     let edges = graph.edges();
-    edges.iter().find(|edge| is_mid(instance, &edge.to) && !is_member(instance, &edge.from))
+    edges.iter().find(|edge| is_mid(instance, &edge.to) && !instance.is_member(&edge.from))
 }
 
 // Where the instance is entered elsewhere than at its header.

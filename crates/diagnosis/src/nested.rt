@@ -4,7 +4,6 @@ ghost use Rattle.statement.specs.declared.stated.Loop.{Loop};
 ghost use Rattle.diagnosis.specs.Nested.{HasPlace, HavePlace, IsDeep, is_around};
 
 use crate::crossings::has_place;
-use crate::members::{is_header, is_member};
 use flow_graph::{Calls, Graph, Loop, Place};
 use loop_bounds::Found;
 use std::alloc::{AllocError, Global};
@@ -26,9 +25,9 @@ fn is_around(outer: &Found, inner: &Found) -> bool
     ensures { result ≡ is_around (found_instance outer.now) (found_instance inner.now) }
 {
     let list = inner.list;
-    is_member(outer, &Place::At(list, inner.stated.first))
-        && is_member(outer, &Place::At(list, inner.stated.last))
-        && !is_header(outer, &Place::At(list, inner.stated.header))
+    outer.is_member(&Place::At(list, inner.stated.first))
+        && outer.is_member(&Place::At(list, inner.stated.last))
+        && !outer.is_header(&Place::At(list, inner.stated.header))
 }
 
 // The loops by their first address, and where that is one, by their last, the highest first.
@@ -53,7 +52,7 @@ fn has_member(graph: &Graph, one: &Found, place: &Place) -> bool
     ensures { (loops : List Loop) → Contains loops one.now.stated → result ≡ true
         → HasPlace graph.now loops place.now one.now }
 {
-    is_member(one, place) && has_place(graph, &Place::At(one.list, one.stated.header))
+    one.is_member(place) && has_place(graph, &Place::At(one.list, one.stated.header))
 }
 
 // Adds the instance, if it has the place and those before it are around it.

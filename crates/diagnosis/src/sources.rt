@@ -1,14 +1,14 @@
 ghost use Rattle.std.specs.Prelude.{◌≡◌, IfOk, MatchOption, OnOk};
 ghost use Rattle.diagnosis.specs.FaultyLines.{AreFaults, AreFaultyLines, IsAssembled, IsFaultOf};
 ghost use Rattle.diagnosis.specs.FaultyLines.{keeps_label, label_left, left_after, line_left, without};
-ghost use Rattle.diagnosis.specs.Rows.{Appends, AreRows};
+ghost use Rattle.text_rows.specs.Rows.{Appends, AreRows};
 ghost use Rattle.diagnosis.specs.Texts.{IsFaultyRow, fault_name};
 
-use crate::rows::{put, put_decimal};
 use crate::words::first_word;
 use asm_text::{TextFault, first_line, read_line};
 use assembler::{AsmFault, Fault, assemble};
 use std::alloc::{AllocError, Global};
+use text_rows::{put, put_decimal};
 
 /// How many faults of a source are named at most.
 const MOST_LINES: usize = 20;
@@ -156,7 +156,7 @@ fn put_faulty(out: &mut Vec<u8>, line: &FaultyLine) -> Result<(), AllocError>
     ensures { OnOk result (Appends (IsFaultyRow line.now) out.old.items out.new.items) }
 {
     put(out, b"line ")?;
-    put_decimal(out, line.number)?;
+    put_decimal(out, line.number as u64)?;
     put(out, b": ")?;
     put(out, name_of(line.fault))?;
     put(out, b"\n")

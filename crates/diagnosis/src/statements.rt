@@ -15,7 +15,6 @@ ghost use Rattle.diagnosis.specs.Refused.{wants_no_to, wants_to};
 
 use crate::outline::{Entry, Pair, Section, entries_of};
 use crate::repeats::Taken;
-use crate::rows::{put, put_decimal};
 use crate::tokens::Word;
 use crate::values::{
     address_at, fits_key, is_among, is_out_of_range, is_unknown_label, is_word_of,
@@ -23,6 +22,7 @@ use crate::values::{
 use flow_graph::StatementFault;
 use loader::Labels;
 use std::alloc::{AllocError, Global};
+use text_rows::{put, put_decimal};
 
 /// How many lines are named at most.
 const MOST_LINES: usize = 20;
@@ -140,7 +140,7 @@ fn put_line(out: &mut Vec<u8>, line: usize, text: &[u8]) -> Result<(), AllocErro
         (out.new.items ≡ out.old.items ++ row_text (record { line = line; text = text.now })) }
 {
     put(out, b"line ")?;
-    put_decimal(out, line)?;
+    put_decimal(out, line as u64)?;
     put(out, b": ")?;
     put(out, text)?;
     put(out, b"\n")
@@ -322,6 +322,16 @@ fn is_faulty(asked: &Asked<'_>, pair: &Pair<'_>) -> bool
 }
 
 impl Report {
+    fn new(alloc: Global) -> Report
+        ensures text { result.text.items ≡ [] }
+        ensures left { result.left ≡ MOST_LINES }
+    {
+        Report {
+            text: Vec::new(alloc),
+            left: MOST_LINES,
+        }
+    }
+
     // Adds a row, if there is room for one more.
     fn put_row(&mut self, line: usize, text: &[u8]) -> Result<(), AllocError>
         ensures { OnOk result
@@ -660,10 +670,7 @@ fn rows_text(asked: &Asked<'_>, text: &[u8]) -> Result<Vec<u8>, AllocError>
         ≡ shown MOST_LINES (all_rows asked.now.labels.now asked.now.fault (items_of text.now))) }
 {
     let entries = entries_of(asked.alloc, text)?;
-    let mut report = Report {
-        text: Vec::new(asked.alloc),
-        left: MOST_LINES,
-    };
+    let mut report = Report::new(asked.alloc);
     report.put_of_whole(asked, &entries)?;
     report.put_rows(asked, &entries)?;
     Ok(report.text)
@@ -676,10 +683,7 @@ fn twice_text(asked: &Asked<'_>, text: &[u8]) -> Result<Vec<u8>, AllocError>
         (λ out. out.items ≡ shown MOST_LINES (twice_rows asked.now.labels.now [] (items_of text.now))) }
 {
     let entries = entries_of(asked.alloc, text)?;
-    let mut report = Report {
-        text: Vec::new(asked.alloc),
-        left: MOST_LINES,
-    };
+    let mut report = Report::new(asked.alloc);
     report.put_twice(asked, &entries)?;
     Ok(report.text)
 }
@@ -696,7 +700,7 @@ fn toml_row(alloc: Global, number: usize) -> Result<Vec<u8>, AllocError>
     ensures { IfOk result (λ out. out.items ≡ toml_row number) }
 {
     let mut out = Vec::from_slice(alloc, b"line ")?;
-    put_decimal(&mut out, number)?;
+    put_decimal(&mut out, number as u64)?;
     put(&mut out, b" is no TOML\n")?;
     Ok(out)
 }

@@ -1,5 +1,6 @@
 ghost use Rattle.std.specs.Prelude.{◌≡◌, ◌++◌, [], IfOk, OnOk};
-ghost use Rattle.diagnosis.specs.Rows.{Appends, AreRows, IsRow};
+ghost use Rattle.text_rows.specs.Rows.{Appends, AreRows};
+ghost use Rattle.diagnosis.specs.Rows.{IsRow};
 ghost use Rattle.diagnosis.specs.Texts.{IsCycleText, IsEntryFront, IsEntryText, IsStartRow, IsUnder};
 ghost use Rattle.diagnosis.specs.Texts.{IsChainText, IsFaultText, IsLeadText, IsRowText, addresses_text};
 ghost use Rattle.diagnosis.specs.Texts.{IsCrossingText, chain_of, key_text, loop_text, shared_text};
@@ -9,11 +10,11 @@ use crate::crossings::Crossing;
 use crate::entries::MidEntry;
 use crate::extents::Extent;
 use crate::nested::DeepPlace;
-use crate::rows::{put, put_decimal};
 use crate::words::Words;
 use flow_graph::{BuildFault, Edge, FaultyPlace, Loop, Place};
 use loop_bounds::Found;
 use std::alloc::{AllocError, Global};
+use text_rows::{put, put_decimal};
 
 const ENTERED: &[u8] = b"A loop is entered elsewhere than at its header. From here:\n";
 
@@ -68,7 +69,7 @@ fn put_stated(out: &mut Vec<u8>, words: &Words<'_>, stated: &Loop) -> Result<(),
     };
     put_addresses(out, words, &extent)?;
     put(out, b"  bound = ")?;
-    put_decimal(out, stated.bound as usize)?;
+    put_decimal(out, stated.bound as u64)?;
     put(out, b"\n")
 }
 
@@ -214,7 +215,7 @@ fn in_loops(alloc: Global, count: usize) -> Result<Vec<u8>, AllocError>
     ensures { IfOk result (λ text. text.items ≡ in_loops count) }
 {
     let mut out = Vec::from_slice(alloc, b"This word is in ")?;
-    put_decimal(&mut out, count)?;
+    put_decimal(&mut out, count as u64)?;
     put(&mut out, b" loops; 16 is the most:\n")?;
     Ok(out)
 }

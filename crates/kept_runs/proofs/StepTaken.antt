@@ -27,7 +27,8 @@ use Rattle.kept_runs.specs.declared.judging.Stray.{Stray}
 use Rattle.kept_runs.specs.Following.{AreHeadersOf, CanGo, CannotGo, Goes, IsNext, Keeps, Halts}
 use Rattle.kept_runs.specs.Judging.{StandsAt, Strays, Takes, TakesNone}
 use Rattle.kept_runs.specs.Passing.{counted}
-use Rattle.kept_runs.specs.Stays.{IsOver, Tells, Turns, header_at, turned}
+use Rattle.walk_counts.specs.Spans.{header_at}
+use Rattle.kept_runs.specs.Stays.{IsOver, Tells, Turns, turned}
 use Rattle.kept_runs.proofs.OneStep.{one_edge_of}
 use Rattle.kept_runs.proofs.StayLemmas.{over, told_on}
 

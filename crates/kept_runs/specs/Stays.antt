@@ -1,18 +1,11 @@
 -- The rounds of the stays in which a walk stands.
 use Rattle.std.specs.Prelude.{◌≡◌, ℕ, ◌+◌, ◌<◌, ◌≤◌, true, cond, List, Option, Some, None}
-use Rattle.std.specs.Prelude.{Contains, slice_index, slice_index_or, slice_set}
-use Rattle.walks.specs.Segments.{tail}
+use Rattle.std.specs.Prelude.{Contains, slice_index, slice_set}
 use Rattle.numbered_walks.specs.declared.span.NumberedEdge.{NumberedEdge}
 use Rattle.numbered_walks.specs.declared.span.Span.{Span}
-use Rattle.numbered_walks.specs.Ordered.{ends_at_header, is_in, is_inside}
+use Rattle.numbered_walks.specs.Ordered.{is_in}
 use Rattle.numbered_walks.specs.Reach.{most_in}
-
-abbrev pub EndsBefore : ℕ → Span → Type 0
-EndsBefore exit s = (s.header ≤ s.last) × (s.last < exit)
-
--- the span that begins at a number
-abbrev pub header_at : List (Option Span) → ℕ → Option Span
-header_at headers n = slice_index_or headers n None
+use Rattle.walk_counts.specs.Spans.{header_at, turns_at_end}
 
 -- ## An edge
 
@@ -37,10 +30,6 @@ pub record IsOver (headers : List (Option Span)) (e : NumberedEdge) (turns : Lis
   pub many : s.bound ≤ slice_index turns e.to
 
 -- ## A walk
-
--- the back edges of the stay in the instance in which the walk ends
-abbrev pub turns_at_end : Span → List NumberedEdge → ℕ
-turns_at_end s walk = tail (is_inside s) (ends_at_header s) walk
 
 -- of a walk that ends at the number: the back edges of its stay in each instance where it ends; and it keeps
 -- the bounds

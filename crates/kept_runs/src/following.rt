@@ -7,12 +7,13 @@ ghost use Rattle.kept_runs.specs.Keeping.{IsFollowed, IsHandler};
 
 use crate::handler::Handler;
 use crate::judging::{Stray, judge_step};
-use crate::stays::{headers, turn};
+use crate::stays::turn;
 use crate::tally::{Passed, count};
 use arm2_effect::address_of;
 use arm2_exec::{Input, Machine, Reg};
 use numbered_walks::Span;
 use std::alloc::{AllocError, Global};
+use walk_counts::headers;
 
 /// How a run does not keep the statement of its handler.
 #[derive(Clone, Copy, Debug, PartialEq, Eq)]

@@ -1,36 +1,10 @@
 //! The rounds of the stays in which a walk stands.
 
-ghost use Rattle.std.specs.Prelude.{◌≡◌, ◌+◌, ◌<◌, ◌≤◌, ◌^◌, All, IfOk, MatchOption, length};
-ghost use Rattle.numbered_walks.specs.Index.{AreHeaders};
-ghost use Rattle.numbered_walks.specs.Ordered.{is_in};
-ghost use Rattle.kept_runs.specs.Stays.{EndsBefore, IsOver, Turns};
+ghost use Rattle.std.specs.Prelude.{◌≡◌, ◌+◌, ◌<◌, ◌≤◌, MatchOption, length};
+ghost use Rattle.kept_runs.specs.Stays.{IsOver, Turns};
 
 use numbered_walks::{NumberedEdge, Span};
-use std::alloc::{AllocError, Global};
-
-/// The span that begins at each number up to that of Exit, if one does.
-pub(crate) fn headers(
-    alloc: Global,
-    spans: &[Span],
-    exit: usize,
-) -> Result<Vec<Option<Span>>, AllocError>
-    requires ended { All (EndsBefore exit) spans.now }
-    requires small { exit < 2 ^ 32 }
-    ensures { IfOk result
-        (λ headers. (length headers.items ≡ exit + 1) × AreHeaders spans.now headers.items) }
-{
-    let mut headers = vec![in alloc; None; exit + 1]?;
-    for span in spans {
-        headers[span.header] = Some(*span);
-    }
-    Ok(headers)
-}
-
-fn is_within(span: &Span, number: usize) -> bool
-    ensures { result ≡ is_in span.now number }
-{
-    span.header <= number && number <= span.last
-}
+use walk_counts::holds;
 
 // One back edge more, where the bound allows that.
 fn one_more(span: &Span, turns: u32) -> Option<u32>
@@ -61,7 +35,7 @@ pub(crate) fn turn(
     let Some(span) = headers[to] else {
         return None;
     };
-    if !is_within(&span, edge.from) {
+    if !holds(&span, edge.from) {
         turns[to] = 0;
         return None;
     }

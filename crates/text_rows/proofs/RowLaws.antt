@@ -1,11 +1,12 @@
 -- Rows that are put one after another.
-use Rattle.std.proofs.Common.{◌≡◌, ◌∙◌, ℕ, ◌+◌, ◌<◌, ◌≤◌, List, [], ◌++◌, append-nil, length, drop, get_or, refl, sym, ap, subst, append_assoc, codes}
+use Rattle.std.proofs.Common.{◌≡◌, ◌∙◌, ℕ, ◌+◌, ◌-◌, ◌<◌, ◌≤◌, min, take, arith, List, [], ◌++◌, append-nil, length, drop, get_or, refl, sym, ap, subst, append_assoc, codes}
 use Rattle.std.proofs.Math.ListN.{drop_of_length-le}
 use Rattle.std.proofs.lemmas.List.{drop_more}
 use Rattle.asm_text.specs.Hex.{hex8}
 use Rattle.assembler.specs.ShownLines.{IsShown}
-use Rattle.text_rows.specs.Rows.{Appends, AreRows, IsShownRow}
-use Rattle.text_rows.proofs.ColumnLaws.{seven_parts}
+use Rattle.text_rows.specs.Columns.{cut_at, cut_row}
+use Rattle.text_rows.specs.Rows.{Appends, AreRows, IsShownRow, address_column}
+use Rattle.text_rows.proofs.ColumnLaws.{five_parts}
 
 module _ {A B : Type 0} (IsRow : A → List B → Type 0) (all : List A) where
   -- whatever rows the others have, all rows are those so far and these
@@ -42,12 +43,20 @@ module _ {A B : Type 0} (IsRow : A → List B → Type 0) (all : List A) where
       let e = so_far_all i old now h le in
       subst (AreRows IsRow all) (sym (e.2 ∙ ap (λ (xs : List B). xs ++ e.0) empty)) e.1
 
--- the row of a word
-pub shown_row : (at word : ℕ) (line old a b c d e f new : List ℕ) → IsShown word at line
-    → a ≡ old ++ codes "  " → b ≡ a ++ hex8 at → c ≡ b ++ codes "  " → d ≡ c ++ hex8 word → e ≡ d ++ codes "  " → f ≡ e ++ line → new ≡ f ++ codes "\n"
-    → Appends (IsShownRow (at, word)) old new
-shown_row at word line old a b c d e f new shown ia ib ic id ie jf inew = (
-  codes "  " ++ (hex8 at ++ (codes "  " ++ (hex8 word ++ (codes "  " ++ (line ++ codes "\n"))))),
-  (line, shown, refl),
-  seven_parts old (codes "  ") (hex8 at) (codes "  ") (hex8 word) (codes "  ") line (codes "\n") a b c d e f new ia ib ic id ie jf inew,
-)
+-- a row whose columns are counted up to a limit that is no less than 80
+pub capped_row : (used most n : ℕ) (text : List ℕ) → n ≡ min used most → 80 ≤ most → cut_row n text ≡ cut_row used text
+capped_row used most n text is fits =
+    let same : 80 - n ≡ 80 - used = omega (arith, is) in
+    ap (λ room. take (cut_at room text) text ++ codes "\n") same
+
+-- the row of a word, after the columns that it has before
+pub shown_row : (used at word : ℕ) (line old a b c d new : List ℕ) → IsShown word at line
+    → a ≡ old ++ address_column at → b ≡ a ++ codes "  " → c ≡ b ++ hex8 word → d ≡ c ++ codes "  " → new ≡ d ++ cut_row (used + 22) line
+    → Appends (IsShownRow used (at, word)) old new
+shown_row used at word line old a b c d new shown ia ib ic id inew =
+    let columns = address_column at ++ (codes "  " ++ (hex8 word ++ codes "  ")) in (
+      columns ++ cut_row (used + 22) line,
+      (line, shown, refl),
+      five_parts old (address_column at) (codes "  ") (hex8 word) (codes "  ") (cut_row (used + 22) line) a b c d new ia ib ic id inew
+          ∙ ap (λ xs. old ++ xs) (simp append_assoc refl),
+    )

@@ -1,11 +1,14 @@
-ghost use Rattle.std.specs.Prelude.{◌≡◌, ◌≤◌, ◌++◌, OnOk, decimal};
-ghost use Rattle.text_rows.specs.Columns.{in_columns};
+ghost use Rattle.std.specs.Prelude.{◌≡◌, ◌≤◌, ◌++◌, OnOk, decimal, slice_index_or};
+ghost use Rattle.text_rows.specs.Columns.{cut_at, cut_row, goes_on, in_columns};
 
 use itoa::Buffer;
 use std::alloc::AllocError;
 
 // As many blanks as the widest column has.
 const BLANKS: &[u8] = b"                                    ";
+
+// The columns of a row.
+const ROW_COLUMNS: usize = 80;
 
 /// Adds a text. An error says that an allocation failed.
 pub fn put(out: &mut Vec<u8>, text: &[u8]) -> Result<(), AllocError>
@@ -39,4 +42,41 @@ pub fn put_number(out: &mut Vec<u8>, number: u64, width: usize) -> Result<(), Al
 {
     let mut buffer = Buffer::new();
     put_right(out, buffer.format(number).as_bytes(), width)
+}
+
+// Whether a byte goes on with a character of UTF-8.
+fn goes_on(byte: u8) -> bool
+    ensures { result ≡ goes_on byte }
+{
+    byte >= 128 && byte < 192
+}
+
+// The byte of a text, 0 past its end.
+fn byte_at(text: &[u8], index: usize) -> u8
+    ensures { result ≡ slice_index_or text.now index 0 }
+{
+    text.get(index).copied().unwrap_or(0)
+}
+
+// The greatest number of bytes, up to so many, after which a cut parts no character.
+fn cut_at(text: &[u8], most: usize) -> usize
+    ensures { result ≡ cut_at most text.now }
+{
+    if most == 0 {
+        return 0;
+    }
+    if goes_on(byte_at(text, most)) {
+        return cut_at(text, most - 1);
+    }
+    most
+}
+
+/// Ends a row that has so many columns with a text, of which it adds as much as there is room for up to column
+/// 80. No character of UTF-8 is parted. An error says that an allocation failed.
+pub fn put_cut_row(out: &mut Vec<u8>, used: usize, text: &[u8]) -> Result<(), AllocError>
+    ensures { OnOk result (out.new.items ≡ out.old.items ++ cut_row used text.now) }
+{
+    let most = cut_at(text, ROW_COLUMNS.saturating_sub(used));
+    put(out, &text[..most.min(text.len())])?;
+    put(out, b"\n")
 }

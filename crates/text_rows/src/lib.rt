@@ -6,5 +6,5 @@ mod columns;
 mod rows;
 
 pub use addresses::{put_labelled, put_quoted};
-pub use columns::{put, put_decimal, put_number, put_right};
-pub use rows::{put_shown_row, section};
+pub use columns::{put, put_cut_row, put_decimal, put_number, put_right};
+pub use rows::{NumberedLine, put_address, put_address_row, put_named_row, put_shown_row, section};

@@ -1,10 +1,17 @@
-ghost use Rattle.std.specs.Prelude.{◌≡◌, IfOk, OnOk};
-ghost use Rattle.text_rows.specs.Rows.{Appends, IsShownRow, section};
+ghost use Rattle.std.specs.Prelude.{◌≡◌, ◌+◌, ◌^◌, ◌<◌, ◌++◌, IfOk, OnOk, length};
+ghost use Rattle.text_rows.specs.Rows.{Appends, IsShownRow, address_column, address_row, named_row, section};
 
-use crate::columns::put;
+use crate::columns::{put, put_cut_row, put_number};
 use asm_text::hex8;
 use assembler::disassemble;
 use std::alloc::{AllocError, Global};
+
+/// A line of a source and its number, from 1.
+#[derive(Clone, Copy)]
+pub struct NumberedLine<'a> {
+    pub number: u64,
+    pub text: &'a [u8],
+}
 
 /// The rows under their heading, or nothing where there are none. An error says that an allocation failed.
 pub fn section(alloc: Global, heading: &[u8], rows: &[u8]) -> Result<Vec<u8>, AllocError>
@@ -19,17 +26,51 @@ pub fn section(alloc: Global, heading: &[u8], rows: &[u8]) -> Result<Vec<u8>, Al
     Ok(out)
 }
 
-/// Adds the row of a word: its address, the word, and the line that [`disassemble`] shows. An error says that an
-/// allocation failed.
-pub fn put_shown_row(out: &mut Vec<u8>, at: u32, word: u32) -> Result<(), AllocError>
-    ensures { OnOk result (Appends (IsShownRow (at, word)) out.old.items out.new.items) }
+/// Adds an address in eight upper-case hexadecimal digits, after two blanks. An error says that an allocation
+/// failed.
+pub fn put_address(out: &mut Vec<u8>, at: u32) -> Result<(), AllocError>
+    ensures { OnOk result (out.new.items ≡ out.old.items ++ address_column at) }
 {
     put(out, b"  ")?;
-    put(out, &hex8(at))?;
+    put(out, &hex8(at))
+}
+
+/// Adds the row of an address where no word is. An error says that an allocation failed.
+pub fn put_address_row(out: &mut Vec<u8>, at: u32) -> Result<(), AllocError>
+    ensures { OnOk result (out.new.items ≡ out.old.items ++ address_row at) }
+{
+    put_address(out, at)?;
+    put(out, b"\n")
+}
+
+/// Adds the row of a line's word to a row that has `used` columns: its address, the number of the line, and as much
+/// of the line's text as there is room for up to column 80. An error says that an allocation failed.
+pub fn put_named_row(
+    out: &mut Vec<u8>,
+    used: usize,
+    line: NumberedLine<'_>,
+    at: u32,
+) -> Result<(), AllocError>
+    ensures { OnOk result
+        (out.new.items ≡ out.old.items ++ named_row used at line.entry.number line.entry.text.now) }
+{
+    let begun = out.len();
+    put_address(out, at)?;
+    put(out, b" ")?;
+    put_number(out, line.number, 5)?;
+    put(out, b"  ")?;
+    put_cut_row(out, used.saturating_add(out.len() - begun), line.text)
+}
+
+/// Adds the row of an image's word to a row that has `used` columns: its address, the word, and as much of the line
+/// that [`disassemble`] shows as there is room for up to column 80. An error says that an allocation failed.
+pub fn put_shown_row(out: &mut Vec<u8>, used: usize, at: u32, word: u32) -> Result<(), AllocError>
+    ensures { OnOk result (Appends (IsShownRow used (at, word)) out.old.items out.new.items) }
+{
+    put_address(out, at)?;
     put(out, b"  ")?;
     put(out, &hex8(word))?;
     put(out, b"  ")?;
     let line = disassemble(word, at);
-    put(out, line.items())?;
-    put(out, b"\n")
+    put_cut_row(out, used.saturating_add(22), line.items())
 }

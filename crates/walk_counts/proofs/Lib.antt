@@ -1,3 +1,4 @@
 pub mod CountLemmas
 pub mod NumberLemmas
 pub mod SumLemmas
+pub mod StayLemmas

@@ -1,5 +1,5 @@
 use Rattle.std.proofs.Common.{ap, length}
-use Rattle.cert_check.proofs.SpanLemmas.{spans_end}
+use Rattle.walk_counts.proofs.StayLemmas.{spans_end}
 use Rattle.cert_check.proofs.explaining.failing_row.Goals as goal
 
 pub of-requires-clause-ended : goal.of-requires-clause-ended

@@ -15,31 +15,38 @@ weight-needed-requires c =
     let flow = c.args.handler.graph.now in
     let tree = c.args.handler.tree.now in
     let tables = c.args.tables.now in
-    let well = c.places-exit.ensures.well_formed in
-    let exit = ap length c.places-exit.ensures.value in
+    let w = c.weighing_of.ensures in
+    let own = c.weighing_of.result in
     let Fits = λ (x : ℕ) (ss : List Span) (es : List NumberedEdge). NumberFits x ss tables (edge_at es c.args.number) in
     let Holds = λ (x : ℕ) (ss : List Span) (es : List NumberedEdge). NumberHolds x ss tables (edge_at es c.args.number) in
     record {
       can_weigh =
-          rw (c.spans.ensures, c.edges.ensures)
-          (can_weigh flow tree well c.requires.tree c.args.cert.now tables c.requires.tables c.args.number c.requires.inside c.args.handler.index.now c.requires.indexed);
-      fits = carried Fits (length flow.places) (length c.places-exit.result.now) tree.spans c.spans.result.now tree.edges c.edges.result.now (sym exit) (sym c.spans.ensures) (sym c.edges.ensures)
-          (fits_down flow tree well c.requires.tree c.args.cert.now tables c.requires.tables c.args.number c.requires.inside c.requires.fits);
-      fails = λ holds.
+          rw (w.spans, w.index, c.edges.ensures)
+          (can_weigh flow tree w.well_formed c.requires.tree c.args.cert.now tables c.requires.tables c.args.number c.requires.inside c.args.handler.index.now c.requires.indexed);
+      fits =
+          rw w.tables
+          (carried Fits (length flow.places) own.exit tree.spans own.spans.now tree.edges c.edges.result.now (sym w.exit) (sym w.spans) (sym c.edges.ensures)
+          (fits_down flow tree w.well_formed c.requires.tree c.args.cert.now tables c.requires.tables c.args.number c.requires.inside c.requires.fits));
+      fails =
+          rw w.tables
+          (λ holds.
           c.requires.fails
-          (holds_up flow tree well c.requires.tree c.args.cert.now tables c.requires.tables c.args.number c.requires.inside
-          (carried Holds (length c.places-exit.result.now) (length flow.places) c.spans.result.now tree.spans c.edges.result.now tree.edges exit c.spans.ensures c.edges.ensures holds));
+          (holds_up flow tree w.well_formed c.requires.tree c.args.cert.now tables c.requires.tables c.args.number c.requires.inside
+          (carried Holds own.exit (length flow.places) own.spans.now tree.spans c.edges.result.now tree.edges w.exit w.spans c.edges.ensures holds)));
     }
 
 pub returns : goal.returns
 returns c =
     let flow = c.args.handler.graph.now in
+    let w = c.weighing_of.ensures in
+    let own = c.weighing_of.result in
     let edge = c.index-edges-number.result in
     let edge_is = c.index-edges-number.is ∙ ap (λ (xs : List Edge). get_or xs c.args.number edge) c.edges-2.ensures.value ∙ get_or_default flow.edges c.args.number edge no_edge c.requires.inside in
+    let told = rw w.tables at c.weight-needed.ensures in
     record {
       edge = edge_is;
       heavy =
-          is_heavy flow c.args.handler.tree.now c.places-exit.ensures.well_formed c.requires.tree c.args.cert.now c.args.tables.now c.requires.tables c.args.number c.requires.inside
+          is_heavy flow c.args.handler.tree.now w.well_formed c.requires.tree c.args.cert.now c.args.tables.now c.requires.tables c.args.number c.requires.inside
           (record { edge = edge; needed = c.weight-needed.result.0; stated = c.weight-needed.result.1 })
-          (length c.places-exit.result.now) c.spans.result.now c.edges.result.now edge_is (ap length c.places-exit.ensures.value) c.spans.ensures c.edges.ensures c.weight-needed.ensures.needed c.weight-needed.ensures.stated c.weight-needed.ensures.less;
+          own.exit own.spans.now c.edges.result.now edge_is w.exit w.spans c.edges.ensures told.needed told.stated told.less;
     }

@@ -7,32 +7,32 @@ use Rattle.cert_check.proofs.StrayLemmas.{broken_walk, cost_walk, open_walk, ove
 use Rattle.cert_check.proofs.straying.failing_line.Goals as goal
 
 pub returns-in-Some : goal.returns-in-Some
-returns-in-Some c = broken_walk c.args.graph.now c.args.tree.now c.args.index.now c.places-exit.ensures.well_formed c.requires.tree c.requires.indexed c.args.walker.now c.requires.fresh c.args.cert.now c.in-Some.item c.in-Some.ensures
+returns-in-Some c = broken_walk c.args.handler.graph.now c.args.handler.tree.now c.args.handler.index.now c.places-exit.ensures.well_formed c.requires.tree c.requires.indexed c.args.walker.now c.requires.fresh c.args.cert.now c.in-Some.item c.in-Some.ensures
 
 pub returns-then-walker-exit : goal.returns-then-walker-exit
 returns-then-walker-exit c =
-    subst (λ (p : Place). IsFirstFailing c.args.graph.now c.args.tree.now c.args.cert.now walk_objections (Some (f.OpenWalk p))) (sym c.place_of-place.ensures)
-    (open_walk c.args.graph.now c.args.tree.now c.args.index.now c.places-exit.ensures.well_formed c.requires.tree c.requires.indexed c.args.walker.now c.requires.fresh c.args.cert.now c.first_broken.new.walker c.in_default.ensures (λ is. c.if-walker-exit.true (is ∙ sym (ap length c.places-exit.ensures.value))))
+    subst (λ (p : Place). IsFirstFailing c.args.handler.graph.now c.args.handler.tree.now c.args.cert.now walk_objections (Some (f.OpenWalk p))) (sym c.place_of-place.ensures)
+    (open_walk c.args.handler.graph.now c.args.handler.tree.now c.args.handler.index.now c.places-exit.ensures.well_formed c.requires.tree c.requires.indexed c.args.walker.now c.requires.fresh c.args.cert.now c.first_broken.new.walker c.in_default.ensures (λ is. c.if-walker-exit.true (is ∙ sym (ap length c.places-exit.ensures.value))))
 
 pub place_of-header-requires-clause-inside : goal.place_of-header-requires-clause-inside
 place_of-header-requires-clause-inside c =
     let done = c.if-walker-exit.false ∙ ap length c.places-exit.ensures.value in
-    over_inside c.args.graph.now c.args.tree.now c.args.index.now c.places-exit.ensures.well_formed c.requires.tree c.requires.indexed c.args.walker.now c.requires.fresh c.args.cert.now c.first_broken.new.walker c.in_default.ensures done c.in-Some-over.span c.in-Some-over.is
+    over_inside c.args.handler.graph.now c.args.handler.tree.now c.args.handler.index.now c.places-exit.ensures.well_formed c.requires.tree c.requires.indexed c.args.walker.now c.requires.fresh c.args.cert.now c.first_broken.new.walker c.in_default.ensures done c.in-Some-over.span c.in-Some-over.is
 
 pub returns-in-Some-over : goal.returns-in-Some-over
 returns-in-Some-over c =
     let done = c.if-walker-exit.false ∙ ap length c.places-exit.ensures.value in
-    subst (λ (p : Place). IsFirstFailing c.args.graph.now c.args.tree.now c.args.cert.now walk_objections (Some (f.WalkOverBound p c.in-Some-over.span.bound))) (sym c.place_of-header.ensures)
-    (over_walk c.args.graph.now c.args.tree.now c.args.index.now c.places-exit.ensures.well_formed c.requires.tree c.requires.indexed c.args.walker.now c.requires.fresh c.args.cert.now c.first_broken.new.walker c.in_default.ensures done c.in-Some-over.span c.in-Some-over.is)
+    subst (λ (p : Place). IsFirstFailing c.args.handler.graph.now c.args.handler.tree.now c.args.cert.now walk_objections (Some (f.WalkOverBound p c.in-Some-over.span.bound))) (sym c.place_of-header.ensures)
+    (over_walk c.args.handler.graph.now c.args.handler.tree.now c.args.handler.index.now c.places-exit.ensures.well_formed c.requires.tree c.requires.indexed c.args.walker.now c.requires.fresh c.args.cert.now c.first_broken.new.walker c.in_default.ensures done c.in-Some-over.span c.in-Some-over.is)
 
 pub returns-then-walker-from : goal.returns-then-walker-from
 returns-then-walker-from c =
     let done = c.if-walker-exit.false ∙ ap length c.places-exit.ensures.value in
     let fits : c.args.cert.now.bound < 2 ^ 64 = omega arith in
-    cost_walk c.args.graph.now c.args.tree.now c.args.index.now c.places-exit.ensures.well_formed c.requires.tree c.requires.indexed c.args.walker.now c.requires.fresh c.args.cert.now c.first_broken.new.walker c.in_default.ensures done c.in_default-over.is fits (λ is. c.if-walker-from.true (is ∙ sym c.from.ensures))
+    cost_walk c.args.handler.graph.now c.args.handler.tree.now c.args.handler.index.now c.places-exit.ensures.well_formed c.requires.tree c.requires.indexed c.args.walker.now c.requires.fresh c.args.cert.now c.first_broken.new.walker c.in_default.ensures done c.in_default-over.is fits (λ is. c.if-walker-from.true (is ∙ sym c.from.ensures))
 
 pub returns : goal.returns
 returns c =
     let done = c.if-walker-exit.false ∙ ap length c.places-exit.ensures.value in
     let fits : c.args.cert.now.bound < 2 ^ 64 = omega arith in
-    walk_passes c.args.graph.now c.args.tree.now c.args.index.now c.places-exit.ensures.well_formed c.requires.tree c.requires.indexed c.args.walker.now c.requires.fresh c.args.cert.now c.first_broken.new.walker c.in_default.ensures done c.in_default-over.is fits (c.if-walker-from.false ∙ c.from.ensures)
+    walk_passes c.args.handler.graph.now c.args.handler.tree.now c.args.handler.index.now c.places-exit.ensures.well_formed c.requires.tree c.requires.indexed c.args.walker.now c.requires.fresh c.args.cert.now c.first_broken.new.walker c.in_default.ensures done c.in_default-over.is fits (c.if-walker-from.false ∙ c.from.ensures)

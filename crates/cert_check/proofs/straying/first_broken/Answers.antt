@@ -10,17 +10,17 @@ use Rattle.cert_check.proofs.straying.first_broken.Goals as goal
 
 pub first_not_followed-requires : goal.first_not_followed-requires
 first_not_followed-requires c =
-    subst (λ (ps : List Place). CanFollow c.args.graph.now c.args.tree.now c.args.index.now (record { header = 0; last = length ps; bound = 0 }) c.args.walker.now) (sym c.places.ensures.value)
-    (ready c.args.graph.now c.args.tree.now c.args.index.now c.places.ensures.well_formed c.requires.tree c.requires.indexed c.args.walker.now c.requires.fresh)
+    subst (λ (ps : List Place). CanFollow c.args.handler.graph.now c.args.handler.tree.now c.args.handler.index.now (record { header = 0; last = length ps; bound = 0 }) c.args.walker.now) (sym c.places.ensures.value)
+    (ready c.args.handler.graph.now c.args.handler.tree.now c.args.handler.index.now c.places.ensures.well_formed c.requires.tree c.requires.indexed c.args.walker.now c.requires.fresh)
 
 pub returns : goal.returns
 returns c =
-    let flow = c.args.graph.now in
-    let tree = c.args.tree.now in
-    let index = c.args.index.now in
+    let flow = c.args.handler.graph.now in
+    let tree = c.args.handler.tree.now in
+    let index = c.args.handler.index.now in
     let old = c.args.walker.now in
     let new = c.first_not_followed.new.walker in
     let found = c.first_not_followed.result in
     subst (λ (ps : List Place). MatchOption found (IsTaken flow tree index (record { header = 0; last = length ps; bound = 0 }) 16 (length c.args.cert.now.walk) (followed flow c.args.cert.now.walk) old new) (StraysAt flow tree index (record { header = 0; last = length ps; bound = 0 }) 16 c.args.cert.now.walk old)) c.places.ensures.value
-    (subst (λ (lines : List CertItem). MatchOption found (IsTaken flow tree index (record { header = 0; last = length c.places.result.now; bound = 0 }) 16 (length lines) (followed flow lines) old new) (StraysAt flow tree index (record { header = 0; last = length c.places.result.now; bound = 0 }) 16 lines old)) c.items-lines.ensures
+    (subst (λ (lines : List CertItem). MatchOption found (IsTaken flow tree index (record { header = 0; last = length c.places.result.now; bound = 0 }) 16 (length lines) (followed flow lines) old new) (StraysAt flow tree index (record { header = 0; last = length c.places.result.now; bound = 0 }) 16 lines old)) c.items.ensures
     c.first_not_followed.ensures)

@@ -3,7 +3,8 @@ use Rattle.numbered_walks.specs.declared.span.NumberedEdge.{NumberedEdge}
 use Rattle.numbered_walks.specs.declared.span.Span.{Span}
 use Rattle.numbered_walks.specs.Index.{edge_at}
 use Rattle.numbered_walks.specs.Ordered.{is_in}
-use Rattle.cert_check.specs.Walking.{Arrives, capped, header_at, turns_after}
+use Rattle.walk_counts.specs.Spans.{header_at}
+use Rattle.cert_check.specs.Walking.{Arrives, capped, turns_after}
 use Rattle.cert_check.proofs.WalkSteps.{step_outside, step_taken}
 use Rattle.cert_check.proofs.walk_trace.follow_step.Goals as goal
 

@@ -1,7 +1,7 @@
 use Rattle.std.proofs.Common.{[], subst, sym}
-use Rattle.diagnosis.specs.Rows.{AreRows}
+use Rattle.text_rows.specs.Rows.{AreRows}
 use Rattle.diagnosis.specs.Texts.{IsFaultyRow}
-use Rattle.diagnosis.proofs.RowLaws.{SoFar, so_far_all, so_far_none, so_far_one}
+use Rattle.text_rows.proofs.RowLaws.{SoFar, so_far_all, so_far_none, so_far_one}
 use Rattle.diagnosis.proofs.sources.faulty_text.Goals as goal
 
 pub loop-line-init : goal.loop-line-init

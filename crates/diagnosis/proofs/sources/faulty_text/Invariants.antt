@@ -1,6 +1,6 @@
 use Rattle.std.proofs.Common.{[]}
 use Rattle.diagnosis.specs.Texts.{IsFaultyRow}
-use Rattle.diagnosis.proofs.RowLaws.{SoFar}
+use Rattle.text_rows.proofs.RowLaws.{SoFar}
 use Rattle.diagnosis.proofs.sources.faulty_text.Given as goal
 
 abbrev pub invariant-loop-line : goal.invariant-loop-line

@@ -1,7 +1,7 @@
 use Rattle.std.proofs.Common.{codes, decimal, refl, ap, ◌++◌, ◌∙◌, ℕ, List}
 use Rattle.std.proofs.lemmas.Result.{on_ok_weaker}
 use Rattle.diagnosis.specs.Texts.{fault_name}
-use Rattle.diagnosis.proofs.RowLaws.{five_parts}
+use Rattle.text_rows.proofs.ColumnLaws.{five_parts}
 use Rattle.diagnosis.proofs.sources.put_faulty.Goals as goal
 
 pub returns : goal.returns

@@ -1,6 +1,6 @@
 use Rattle.std.proofs.Common.{[], codes}
 use Rattle.diagnosis.specs.Texts.{two_loops}
-use Rattle.diagnosis.proofs.RowLaws.{four_parts}
+use Rattle.text_rows.proofs.ColumnLaws.{four_parts}
 use Rattle.diagnosis.proofs.texts.crossing_text.Goals as goal
 
 pub returns : goal.returns

@@ -1,7 +1,7 @@
 use Rattle.std.proofs.Common.{codes}
 use Rattle.std.proofs.lemmas.Result.{on_ok_weaker}
 use Rattle.diagnosis.specs.Texts.{key_text}
-use Rattle.diagnosis.proofs.RowLaws.{four_parts}
+use Rattle.text_rows.proofs.ColumnLaws.{four_parts}
 use Rattle.diagnosis.proofs.texts.put_addresses.Goals as goal
 
 pub returns : goal.returns

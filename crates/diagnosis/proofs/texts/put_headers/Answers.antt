@@ -1,8 +1,8 @@
 use Rattle.std.proofs.Common.{subst}
 use Rattle.loop_bounds.specs.declared.loop_instances.Found.{Found}
-use Rattle.diagnosis.specs.Rows.{Appends}
+use Rattle.text_rows.specs.Rows.{Appends}
 use Rattle.diagnosis.specs.Texts.{IsHeaderRow}
-use Rattle.diagnosis.proofs.RowLaws.{so_far_all, so_far_none, so_far_one}
+use Rattle.text_rows.proofs.RowLaws.{so_far_all, so_far_none, so_far_one}
 use Rattle.diagnosis.proofs.texts.put_headers.Goals as goal
 
 pub loop-one-init : goal.loop-one-init

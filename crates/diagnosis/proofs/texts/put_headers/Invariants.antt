@@ -1,5 +1,5 @@
 use Rattle.diagnosis.specs.Texts.{IsHeaderRow}
-use Rattle.diagnosis.proofs.RowLaws.{SoFar}
+use Rattle.text_rows.proofs.RowLaws.{SoFar}
 use Rattle.diagnosis.proofs.texts.put_headers.Given as goal
 
 abbrev pub invariant-loop-one : goal.invariant-loop-one

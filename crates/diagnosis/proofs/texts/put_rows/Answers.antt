@@ -1,5 +1,5 @@
 use Rattle.diagnosis.specs.Rows.{IsRow}
-use Rattle.diagnosis.proofs.RowLaws.{so_far_all, so_far_none, so_far_one}
+use Rattle.text_rows.proofs.RowLaws.{so_far_all, so_far_none, so_far_one}
 use Rattle.diagnosis.proofs.texts.put_rows.Goals as goal
 
 pub loop-at-init : goal.loop-at-init

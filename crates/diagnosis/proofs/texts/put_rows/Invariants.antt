@@ -1,5 +1,5 @@
 use Rattle.diagnosis.specs.Rows.{IsRow}
-use Rattle.diagnosis.proofs.RowLaws.{SoFar}
+use Rattle.text_rows.proofs.RowLaws.{SoFar}
 use Rattle.diagnosis.proofs.texts.put_rows.Given as goal
 
 abbrev pub invariant-loop-at : goal.invariant-loop-at

@@ -1,5 +1,5 @@
 use Rattle.diagnosis.specs.Texts.{IsStartRow}
-use Rattle.diagnosis.proofs.RowLaws.{SoFar}
+use Rattle.text_rows.proofs.RowLaws.{SoFar}
 use Rattle.diagnosis.proofs.texts.put_starts.Given as goal
 
 abbrev pub invariant-loop-edge : goal.invariant-loop-edge

@@ -1,21 +1,13 @@
-use Rattle.std.proofs.Common.{◌+◌, ◌∙◌, ℕ, List, Option, All, ap, arith, get_or, length, subst, sym}
-use Rattle.std.proofs.lemmas.List.Elements.{Contains-get_or}
+use Rattle.std.proofs.Common.{◌+◌, ◌∙◌, ℕ, List, Option, ap, arith, length, subst, sym}
 use Rattle.numbered_walks.specs.Index.{AreHeaders}
 use Rattle.numbered_walks.specs.declared.span.Span.{Span}
-use Rattle.kept_runs.specs.Stays.{EndsBefore}
+use Rattle.walk_counts.proofs.StayLemmas.{spans_end}
 use Rattle.kept_runs.proofs.SoFar.{can_begin, elsewhere}
 use Rattle.kept_runs.proofs.following.follow.Goals as goal
 
 pub headers-requires-clause-ended : goal.headers-requires-clause-ended
 headers-requires-clause-ended c =
-    let t = c.requires.handler.tree_is in
-    let places = ap length c.places-exit.ensures.value in
-    let spans = c.args.handler.tree.now.spans in
-    subst (λ (xs : List Span). All (EndsBefore (length c.places-exit.result.now)) xs) (sym c.spans.ensures)
-    (λ k d lt.
-    let shape = t.ordered.shape (get_or spans k d) (Contains-get_or spans k d lt) in
-    let before = shape.1 in
-    (shape.0, omega (arith, before, places)))
+    spans_end c.args.handler.graph.now c.args.handler.tree.now c.requires.handler.tree_is c.spans.result.now (length c.places-exit.result.now) c.spans.ensures (ap length c.places-exit.ensures.value)
 
 pub headers-requires-clause-small : goal.headers-requires-clause-small
 headers-requires-clause-small c =

@@ -7,7 +7,7 @@ use Rattle.longest_walk.proofs.CarryWalks.{no_edge}
 use Rattle.cert_check.specs.Weighing.{EdgePasses}
 use Rattle.cert_check.proofs.FailingLemmas.{first_at}
 use Rattle.cert_check.proofs.PassLemmas.{every_edge, one_more}
-use Rattle.cert_check.proofs.heavy.first_not_passed.Goals as goal
+use Rattle.cert_check.proofs.row_tests.first_not_passed.Goals as goal
 
 pub returns-then-not-edge_passes : goal.returns-then-not-edge_passes
 returns-then-not-edge_passes c =

@@ -2,7 +2,7 @@ use Rattle.std.proofs.Common.{Option, arith}
 use Rattle.std.proofs.Math.ListN.{length-set}
 use Rattle.numbered_walks.specs.declared.span.Span.{Span}
 use Rattle.numbered_walks.proofs.Heading.{headers_next}
-use Rattle.kept_runs.proofs.stays.headers.Goals as goal
+use Rattle.walk_counts.proofs.spans.headers.Goals as goal
 
 pub loop-span-preserved : goal.loop-span-preserved
 loop-span-preserved c =

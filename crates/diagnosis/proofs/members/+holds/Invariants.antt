@@ -1,5 +1,0 @@
-use Rattle.std.proofs.Common.{length}
-use Rattle.diagnosis.proofs.members.+holds.Given as goal
-
-abbrev pub decreases-holds : goal.decreases-holds
-decreases-holds l = length l.list.now
