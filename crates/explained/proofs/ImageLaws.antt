@@ -1,26 +1,25 @@
 -- The rows of the words of an image.
-use Rattle.std.proofs.Common.{◌≡◌, ◌∙◌, ℕ, ◌+◌, ◌<◌, List, ◌++◌, length, get_or, take, codes, sum_by, Option, refl, sym, ap, subst, arith, append_assoc}
+use Rattle.std.proofs.Common.{◌≡◌, ◌∙◌, ℕ, ◌+◌, ◌<◌, List, ◌++◌, length, get_or, take, sum_by, Option, refl, sym, ap, subst, arith, append_assoc}
 use Rattle.std.proofs.lemmas.List.Sums.{sum_by_more}
-use Rattle.asm_text.specs.Hex.{hex8}
 use Rattle.asm_text.specs.Source.{lines_of}
 use Rattle.assembler.specs.declared.placed_line.PlacedLine.{PlacedLine}
 use Rattle.walk_counts.specs.Counts.{capped}
 use Rattle.assembler.specs.ShownLines.{IsShown}
 use Rattle.loader.specs.Image.{Words}
-use Rattle.text_rows.specs.Rows.{Appends, AreRows, IsShownRow}
-use Rattle.explained.specs.Table.{AreImageRows, IsWordRow, columns_text, heading, image_heading, image_ticks, source_rows, source_table, source_ticks, table_end, ticks_of}
+use Rattle.text_rows.specs.Rows.{Appends, AreRows}
+use Rattle.explained.specs.Table.{AreImageRows, IsWordRow, heading, image_heading, image_ticks, source_rows, source_table, source_ticks, table_end, ticks_of, word_row}
 use Rattle.explained.specs.declared.pricing.Pricing.{Pricing}
 use Rattle.explained.specs.declared.tally.Taken.{Taken}
 
 -- with what is taken there
-pub word_row : (taken : ℕ → Option Taken) (latest : ℕ → Option ℕ) (priced : ℕ → Option Pricing) (bound at word : ℕ) (here : Option Taken) (start : Option ℕ) (price : Option Pricing) (old a new : List ℕ) → here ≡ taken at → start ≡ latest at → price ≡ priced at
-    → a ≡ old ++ columns_text bound here start price → Appends (IsShownRow (at, word)) a new → Appends (IsWordRow taken latest priced bound (at, word)) old new
-word_row taken latest priced bound at word here start price old a new same last is first adds =
-    let columns = columns_text bound (taken at) (latest at) (priced at) in
-    let begins : a ≡ old ++ columns =
-    first ∙ ap (λ (o : Option Taken). old ++ columns_text bound o start price) same ∙ ap (λ (s : Option ℕ). old ++ columns_text bound (taken at) s price) last
-    ∙ ap (λ (p : Option Pricing). old ++ columns_text bound (taken at) (latest at) p) is in
-    (columns ++ adds.0, (adds.0, adds.1, refl), adds.2 ∙ ap (λ xs. xs ++ adds.0) begins ∙ append_assoc old columns adds.0)
+pub row_told : (taken : ℕ → Option Taken) (latest : ℕ → Option ℕ) (priced : ℕ → Option Pricing) (bound at word : ℕ) (here : Option Taken) (start : Option ℕ) (price : Option Pricing) (line old new : List ℕ) → here ≡ taken at → start ≡ latest at → price ≡ priced at
+    → IsShown word at line → new ≡ old ++ word_row bound here start price at line → Appends (IsWordRow taken latest priced bound (at, word)) old new
+row_told taken latest priced bound at word here start price line old new same last is shown row = (
+  word_row bound (taken at) (latest at) (priced at) at line,
+  (line, shown, refl),
+  row ∙ ap (λ (o : Option Taken). old ++ word_row bound o start price at line) same ∙ ap (λ (s : Option ℕ). old ++ word_row bound (taken at) s price at line) last
+      ∙ ap (λ (p : Option Pricing). old ++ word_row bound (taken at) (latest at) p at line) is,
+)
 
 -- the ticks of a word more
 pub image_more : (taken : ℕ → Option Taken) (words : Words) (i : ℕ) (d : ℕ × ℕ) (ticks one new : ℕ) → i < length words → ticks ≡ image_ticks taken (take i words)

@@ -1,13 +1,12 @@
 -- What a bound takes for granted of words that its handler reaches.
 use Rattle.std.specs.Prelude.{◌≡◌, ◌↔◌, ℕ, zero, suc, ◌+◌, ◌==◌, Bool, true, false, not, ◌&&◌, List}
-use Rattle.std.specs.Prelude.{[], ◌∷◌, ◌++◌, codes, decimal}
+use Rattle.std.specs.Prelude.{[], ◌∷◌, ◌++◌, codes}
 use Rattle.std.specs.Prelude.{if◌then◌else◌, Contains, None, ◌⊎◌}
 use Rattle.std.specs.List.{list_any}
 use Rattle.std.specs.List.Sorted.{IsStrictlySortedBy}
 use Rattle.std.specs.Ordering.{nat_cmp}
 use Rattle.arm2_decode.specs.declared.instr.Instr.{Instr}
 use Rattle.arm2_effect.specs.Operations.{is_transfer}
-use Rattle.asm_text.specs.Hex.{hex8}
 use Rattle.asm_text.specs.Source.{lines_of}
 use Rattle.assembler.specs.declared.placed_line.PlacedLine.{PlacedLine}
 use Rattle.bus_ticks.specs.declared.profile.Class.TheVariants.{Any}
@@ -17,9 +16,8 @@ use Rattle.statement.specs.Stated.{Stated, class_of, target_of}
 use Rattle.word_shapes.specs.Shapes.{is_never, is_odd_writer}
 use Rattle.word_shapes.specs.Words.{HasInstr, HasShape}
 use Rattle.flow_graph.specs.declared.places.Place.{Place}
-use Rattle.text_rows.specs.Columns.{in_columns}
 use Rattle.explained.specs.Links.{AreLostLinks}
-use Rattle.text_rows.specs.Rows.{AreRows, IsShownRow, section}
+use Rattle.text_rows.specs.Rows.{AreRows, IsShownRow, named_row, section}
 use Rattle.explained.specs.Taken.{is_at, is_reached}
 use Rattle.explained.specs.declared.assumptions.Assumption.{Assumption}
 use Rattle.explained.specs.declared.assumptions.Assumption.TheVariants.{LooseTransfer, TakenForReturn}
@@ -61,14 +59,8 @@ Notes Holds place old new = (a : ℕ) → (new a ≡ true) ↔ ((old a ≡ true)
 
 -- ## Lines
 
--- the row of a word: its address, and the number and the text of its line
-abbrev pub named_row : (at n : ℕ) → List ℕ → List ℕ
-named_row at n text =
-    codes "  "
-    ++ (hex8 at ++ (codes " " ++ (in_columns 5 (decimal n) ++ (codes "  " ++ (text ++ codes "\n")))))
-
 abbrev pub row_if_named : (named : List ℕ) → (n : ℕ) → (text : List ℕ) → (at : ℕ) → List ℕ
-row_if_named named n text at = if list_any (λ a. a == at) named then named_row at n text else []
+row_if_named named n text at = if list_any (λ a. a == at) named then named_row 0 at n text else []
 
 -- the rows of those of a line's words that are named
 abbrev pub word_rows : (named : List ℕ) → (n : ℕ) → (text : List ℕ) → (from count : ℕ) → List ℕ
@@ -84,7 +76,7 @@ named_rows named n _ _ = []
 
 -- the row of an image's word if it is named, else nothing
 pub record IsNamedRow (named : List ℕ) (e : ℕ × ℕ) (row : List ℕ) : Type 0 where
-  pub named_one : list_any (λ a. a == e.0) named ≡ true → IsShownRow e row
+  pub named_one : list_any (λ a. a == e.0) named ≡ true → IsShownRow 0 e row
   pub other : list_any (λ a. a == e.0) named ≡ false → row ≡ []
 
 -- ## Texts

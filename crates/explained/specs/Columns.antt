@@ -15,7 +15,7 @@ share_text ticks bound =
 -- ticks, and what part of the bound they are
 abbrev pub ticks_text : (ticks bound : ℕ) → List ℕ
 ticks_text ticks bound =
-    codes " " ++ (in_columns 10 (decimal ticks) ++ (codes " " ++ in_columns 6 (share_text ticks bound)))
+    codes " " ++ (in_columns 6 (decimal ticks) ++ (codes " " ++ in_columns 6 (share_text ticks bound)))
 
 -- three digits
 abbrev pub three_digits : ℕ → List ℕ
@@ -26,7 +26,7 @@ abbrev pub microseconds_text : ℕ → List ℕ
 microseconds_text ticks = decimal (ticks / 8) ++ (codes "." ++ three_digits (ticks % 8 * 125))
 
 abbrev pub total_row : (total bound : ℕ) → List ℕ
-total_row total bound = in_columns 18 (codes "total") ++ (ticks_text total bound ++ codes "\n")
+total_row total bound = in_columns 12 (codes "total") ++ (ticks_text total bound ++ codes "\n")
 
 -- a time, up to the end of the line
 abbrev pub time_text : ℕ → List ℕ

@@ -67,9 +67,10 @@ granted_text Nothing = []
 granted_text Multiplier = codes "m = 16"
 granted_text (Access class) = class_name class
 
+-- with a way out of the handler
 abbrev pub leave_text : Granted → Class → List ℕ
-leave_text Nothing class = codes "leave " ++ class_name class
-leave_text granted class = granted_text granted ++ (codes ", leave " ++ class_name class)
+leave_text Nothing class = codes "> " ++ class_name class
+leave_text granted class = granted_text granted ++ (codes " > " ++ class_name class)
 
 abbrev pub both_text : Granted → Option Class → List ℕ
 both_text granted None = granted_text granted

@@ -3,6 +3,7 @@ use Rattle.std.specs.Prelude.{◌≡◌, ℕ, zero, suc, ◌+◌, Bool, ◌==◌
 use Rattle.std.specs.Prelude.{decimal, sum_by, Option, Some, None, is_some}
 use Rattle.std.specs.List.{list_any}
 use Rattle.asm_text.specs.Source.{lines_of}
+use Rattle.assembler.specs.ShownLines.{IsShown}
 use Rattle.assembler.specs.declared.placed_line.PlacedLine.{PlacedLine}
 use Rattle.flow_graph.specs.Flow.{Flow}
 use Rattle.flow_graph.specs.declared.edges.Edge.{Edge}
@@ -11,7 +12,7 @@ use Rattle.statement.specs.Stated.{Stated}
 use Rattle.walk_counts.specs.Counts.{capped}
 use Rattle.explained.specs.Columns.{bound_line, ticks_text, total_row}
 use Rattle.text_rows.specs.Columns.{in_columns}
-use Rattle.text_rows.specs.Rows.{AreRows, IsShownRow}
+use Rattle.text_rows.specs.Rows.{AreRows, address_column, row_end}
 use Rattle.explained.specs.Pricing.{ArePriced, pricing_text}
 use Rattle.explained.specs.Taken.{taken_at}
 use Rattle.explained.specs.declared.pricing.Pricing.{Pricing}
@@ -80,12 +81,12 @@ each_text (Some c) =
 
 -- how often, the ticks each time, and those of all times; or that no walk ever comes there
 abbrev pub taken_text : ℕ → Option Taken → List ℕ
-taken_text bound None = in_columns 36 (codes "never reached")
+taken_text bound None = in_columns 26 (codes "never reached")
 taken_text bound (Some t) =
-    in_columns 9 (decimal t.passes)
-    ++ (codes " " ++ (in_columns 8 (each_text t.costs) ++ ticks_text t.ticks bound))
+    in_columns 6 (decimal t.passes)
+    ++ (codes " " ++ (in_columns 5 (each_text t.costs) ++ ticks_text t.ticks bound))
 
--- the tick by which it begins; nothing where no place is
+-- the tick by which it begins at the latest; nothing where no place is
 abbrev pub latest_text : Option ℕ → List ℕ
 latest_text None = []
 latest_text (Some ticks) = decimal ticks
@@ -94,13 +95,14 @@ latest_text (Some ticks) = decimal ticks
 abbrev pub columns_text : ℕ → Option Taken → (latest : Option ℕ) → Option Pricing → List ℕ
 columns_text bound taken latest pricing =
     taken_text bound taken
-    ++ (codes " " ++ (in_columns 10 (latest_text latest) ++ in_columns 15 (pricing_text pricing)))
+    ++ (codes " " ++ (in_columns 6 (latest_text latest) ++ in_columns 10 (pricing_text pricing)))
 
--- with the number of a line and its text
+-- with the number of a line, and as much of its text as there is room for
 abbrev pub line_row : ℕ → Option Taken → (latest : Option ℕ) → Option Pricing → ℕ → List ℕ → List ℕ
-line_row bound taken latest pricing n text =
-    columns_text bound taken latest pricing
-    ++ (codes " " ++ (in_columns 5 (decimal n) ++ (codes "  " ++ (text ++ codes "\n"))))
+line_row bound taken latest pricing n =
+    row_end 0
+    (columns_text bound taken latest pricing
+    ++ (codes " " ++ (in_columns 4 (decimal n) ++ codes "  ")))
 
 -- the rows of the lines that have words, with numbers from one on; the latest start and the price are those
 -- of a line's first word
@@ -111,17 +113,23 @@ source_rows taken latest priced bound n (text ∷ lines) (p ∷ placed) =
     ++ source_rows taken latest priced bound (n + 1) lines placed
 source_rows taken latest priced bound n _ _ = []
 
--- with the address, the word and its line
+-- with the address of a word, and as much of its line as there is room for
+abbrev pub word_row : ℕ → Option Taken → (latest : Option ℕ) → Option Pricing → (at : ℕ) → (line : List ℕ)
+    → List ℕ
+word_row bound taken latest pricing at =
+    row_end 0 (columns_text bound taken latest pricing ++ (address_column at ++ codes "  "))
+
+-- the line is the one that the word is shown as
 abbrev pub IsWordRow : (ℕ → Option Taken) → (latest : ℕ → Option ℕ) → (ℕ → Option Pricing) → ℕ → ℕ × ℕ
     → List ℕ → Type 0
 IsWordRow taken latest priced bound e row =
-    (shown : List ℕ) × IsShownRow e shown
-    × (row ≡ columns_text bound (taken e.0) (latest e.0) (priced e.0) ++ shown)
+    (line : List ℕ) × IsShown e.1 e.0 line
+    × (row ≡ word_row bound (taken e.0) (latest e.0) (priced e.0) e.0 line)
 
 -- ## Tables
 
 abbrev pub heading : List ℕ
-heading = codes "   passes     each      ticks  share  begins by      priced as  line  text\n"
+heading = codes "passes  each  ticks  share latest priced as line  text\n"
 
 abbrev pub table_end : (total bound : ℕ) → List ℕ
 table_end total bound = total_row total bound ++ bound_line bound
@@ -135,8 +143,7 @@ source_table taken latest priced bound source placed =
     ++ table_end (source_ticks taken placed) bound)
 
 abbrev pub image_heading : List ℕ
-image_heading =
-    codes "   passes     each      ticks  share  begins by      priced as   address      word  text\n"
+image_heading = codes "passes  each  ticks  share latest priced as   address  text\n"
 
 -- of an image
 abbrev pub AreImageRows : (ℕ → Option Taken) → (latest : ℕ → Option ℕ) → (ℕ → Option Pricing) → ℕ → Words

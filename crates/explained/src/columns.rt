@@ -6,12 +6,11 @@ use std::alloc::{AllocError, Global};
 use text_rows::{put, put_number, put_right};
 
 /// The names of the columns.
-pub(crate) const HEADING: &[u8] =
-    b"   passes     each      ticks  share  begins by      priced as  line  text\n";
+pub(crate) const HEADING: &[u8] = b"passes  each  ticks  share latest priced as line  text\n";
 
 /// The names of the columns of an image.
 pub(crate) const IMAGE_HEADING: &[u8] =
-    b"   passes     each      ticks  share  begins by      priced as   address      word  text\n";
+    b"passes  each  ticks  share latest priced as   address  text\n";
 
 // What part of the bound the ticks are, in per cent.
 fn share(alloc: Global, ticks: u64, bound: u64) -> Result<String, AllocError>
@@ -26,7 +25,7 @@ pub(crate) fn put_ticks(out: &mut Vec<u8>, ticks: u64, bound: u64) -> Result<(),
     ensures { OnOk result (out.new.items ≡ out.old.items ++ ticks_text ticks bound) }
 {
     put(out, b" ")?;
-    put_number(out, ticks, 10)?;
+    put_number(out, ticks, 6)?;
     put(out, b" ")?;
     let share = share(*out.allocator(), ticks, bound)?;
     put_right(out, share.as_bytes(), 6)
@@ -58,7 +57,7 @@ pub(crate) fn put_time(out: &mut Vec<u8>, ticks: u128) -> Result<(), AllocError>
 pub(crate) fn put_end(out: &mut Vec<u8>, total: u64, bound: u64) -> Result<(), AllocError>
     ensures { OnOk result (out.new.items ≡ out.old.items ++ (total_row total bound ++ bound_line bound)) }
 {
-    put_right(out, b"total", 18)?;
+    put_right(out, b"total", 12)?;
     put_ticks(out, total, bound)?;
     put(out, b"\nbound ")?;
     put_time(out, u128::from(bound))

@@ -1,10 +1,10 @@
-ghost use Rattle.std.specs.Prelude.{◌≡◌, IfOk, OnOk};
+ghost use Rattle.std.specs.Prelude.{◌≡◌, ◌++◌, IfOk, OnOk};
 ghost use Rattle.std.specs.BTreeMap.{get};
 ghost use Rattle.std.specs.Ordering.{nat_cmp};
 ghost use Rattle.longest_walk.specs.Folded.{unfolded};
-ghost use Rattle.text_rows.specs.Rows.{Appends, AreRows, IsShownRow};
+ghost use Rattle.text_rows.specs.Rows.{Appends, AreRows};
 ghost use Rattle.explained.specs.Starts.{latest_at};
-ghost use Rattle.explained.specs.Table.{IsImageTable, IsWordRow, image_ticks};
+ghost use Rattle.explained.specs.Table.{IsImageTable, IsWordRow, image_ticks, word_row};
 
 use crate::columns::{IMAGE_HEADING, put_end};
 use crate::lines::{Columns, Costing, put_columns, ticks_at};
@@ -12,8 +12,23 @@ use crate::pricing::priced;
 use crate::sections::StatedGraph;
 use crate::starts::{TimedWalk, latest_starts};
 use crate::tally::{Tally, capped_sum};
+use assembler::disassemble;
 use std::alloc::{AllocError, Global};
-use text_rows::{put, put_shown_row};
+use text_rows::{put, put_address, put_cut_row};
+
+// Adds the row of a word whose line this is.
+fn put_line(out: &mut Vec<u8>, columns: Columns, at: u32, line: &[u8]) -> Result<(), AllocError>
+    ensures { OnOk result
+        (out.new.items
+        ≡ out.old.items
+        ++ word_row columns.bound columns.taken columns.latest columns.pricing at line.now) }
+{
+    let begun = out.len();
+    put_columns(out, columns)?;
+    put_address(out, at)?;
+    put(out, b"  ")?;
+    put_cut_row(out, out.len() - begun, line)
+}
 
 // Adds the row of a word, with what is taken there.
 fn put_row(out: &mut Vec<u8>, costing: Costing<'_>, at: u32, word: u32) -> Result<(), AllocError>
@@ -28,8 +43,8 @@ fn put_row(out: &mut Vec<u8>, costing: Costing<'_>, at: u32, word: u32) -> Resul
         pricing: costing.prices.get(&at).copied(),
         bound: costing.bound,
     };
-    put_columns(out, columns)?;
-    put_shown_row(out, at, word)
+    let line = disassemble(word, at);
+    put_line(out, columns, at, line.items())
 }
 
 // Adds the rows of the words.
@@ -58,9 +73,10 @@ fn image_ticks(tally: &Tally, words: &[(u32, u32)]) -> u64
 
 /// Where the ticks of a greatest walk go in an image: a row for each of its words, with how often the walk
 /// passes it, the ticks of a pass (from the least to the greatest, where they differ), all ticks there, what
-/// part of the bound those are, the tick by which it begins (the greatest of the starts of the places there),
-/// what its price takes for granted, the address, the word and the line that [`disassemble`] shows; then the
-/// ticks of all rows, and the bound in ticks and in microseconds.
+/// part of the bound those are, the tick by which it begins at the latest (the greatest of the starts of the
+/// places there), what its price takes for granted, the address, and the line that [`disassemble`] shows; then
+/// the ticks of all rows, and the bound in ticks and in microseconds. A row ends at column 80, and a longer
+/// line is cut there.
 ///
 /// Where the graph has no place at a word, the row says so in place of the numbers.
 ///

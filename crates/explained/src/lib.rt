@@ -27,7 +27,7 @@ pub use law::{
     places_stand_once, totals_are_the_bound, unreached_lines_have_no_place,
 };
 pub use links::lost_links;
-pub use named::{NumberedLine, named_lines, put_named_row};
+pub use named::named_lines;
 pub use pricing::class_name;
 pub use sections::{StatedGraph, image_assumptions, source_assumptions};
 pub use source::source_table;

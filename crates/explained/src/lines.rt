@@ -125,11 +125,11 @@ fn each(alloc: Global, costs: Option<Costs>) -> Result<String, AllocError>
 // Adds the ticks of a pass, after a blank.
 fn put_each(out: &mut Vec<u8>, costs: Option<Costs>) -> Result<(), AllocError>
     ensures { OnOk result
-        (out.new.items ≡ out.old.items ++ (codes " " ++ in_columns 8 (each_text costs))) }
+        (out.new.items ≡ out.old.items ++ (codes " " ++ in_columns 5 (each_text costs))) }
 {
     put(out, b" ")?;
     let each = each(*out.allocator(), costs)?;
-    put_right(out, each.as_bytes(), 8)
+    put_right(out, each.as_bytes(), 5)
 }
 
 // Adds what is taken and what part of the bound that is, or that nothing ever can be.
@@ -138,23 +138,23 @@ fn put_taken(out: &mut Vec<u8>, taken: Option<Taken>, bound: u64) -> Result<(), 
 {
     match taken {
         Some(taken) => {
-            put_number(out, taken.passes, 9)?;
+            put_number(out, taken.passes, 6)?;
             put_each(out, taken.costs)?;
             put_ticks(out, taken.ticks, bound)
         }
-        None => put_right(out, b"never reached", 36),
+        None => put_right(out, b"never reached", 26),
     }
 }
 
-// Adds the tick by which a word begins, or blanks where the graph has no place, after a blank.
+// Adds the tick by which a word begins at the latest, or blanks where the graph has no place, after a blank.
 fn put_latest(out: &mut Vec<u8>, latest: Option<u64>) -> Result<(), AllocError>
     ensures { OnOk result
-        (out.new.items ≡ out.old.items ++ (codes " " ++ in_columns 10 (latest_text latest))) }
+        (out.new.items ≡ out.old.items ++ (codes " " ++ in_columns 6 (latest_text latest))) }
 {
     put(out, b" ")?;
     match latest {
-        Some(ticks) => put_number(out, ticks, 10),
-        None => put_right(out, b"", 10),
+        Some(ticks) => put_number(out, ticks, 6),
+        None => put_right(out, b"", 6),
     }
 }
 

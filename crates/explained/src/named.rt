@@ -3,42 +3,20 @@ ghost use Rattle.std.specs.List.{list_any};
 ghost use Rattle.std.specs.List.Sorted.{IsStrictlySortedBy};
 ghost use Rattle.std.specs.Ordering.{nat_cmp};
 ghost use Rattle.asm_text.specs.Source.{lines_of};
-ghost use Rattle.explained.specs.Assumed.{IsNamedRow, named_row, named_rows, row_if_named, word_rows};
+ghost use Rattle.explained.specs.Assumed.{IsNamedRow, named_rows, row_if_named, word_rows};
 ghost use Rattle.text_rows.specs.Rows.{Appends, AreRows};
 
-use asm_text::{first_line, hex8};
+use asm_text::first_line;
 use assembler::PlacedLine;
 use loader::Image;
 use std::alloc::{AllocError, Global};
-use text_rows::{put, put_number, put_shown_row};
-
-/// A line of a source and its number, from 1.
-#[derive(Clone, Copy)]
-pub struct NumberedLine<'a> {
-    pub number: u64,
-    pub text: &'a [u8],
-}
+use text_rows::{NumberedLine, put_named_row, put_shown_row};
 
 fn is_named(named: &[u32], at: u32) -> bool
     requires { IsStrictlySortedBy nat_cmp named.now }
     ensures { result ≡ list_any (λ a. a == at) named.now }
 {
     named.binary_search(&at).is_ok()
-}
-
-/// Adds the row of a line's word: its address, and the number and the text of the line. An error says that an
-/// allocation failed.
-pub fn put_named_row(out: &mut Vec<u8>, line: NumberedLine<'_>, at: u32) -> Result<(), AllocError>
-    ensures { OnOk result
-        (out.new.items ≡ out.old.items ++ named_row at line.entry.number line.entry.text.now) }
-{
-    put(out, b"  ")?;
-    put(out, &hex8(at))?;
-    put(out, b" ")?;
-    put_number(out, line.number, 5)?;
-    put(out, b"  ")?;
-    put(out, line.text)?;
-    put(out, b"\n")
 }
 
 // Adds the row of a word, if it is named.
@@ -56,7 +34,7 @@ fn put_if_named(
     if !is_named(named, at) {
         return Ok(());
     }
-    put_named_row(out, line, at)
+    put_named_row(out, 0, line, at)
 }
 
 // Adds the rows of those of a line's words that are named.
@@ -117,7 +95,7 @@ fn put_word(out: &mut Vec<u8>, named: &[u32], at: u32, word: u32) -> Result<(), 
     if !is_named(named, at) {
         return Ok(());
     }
-    put_shown_row(out, at, word)
+    put_shown_row(out, 0, at, word)
 }
 
 /// The rows of those of an image's words that are named: the address of each, the word, and the line that

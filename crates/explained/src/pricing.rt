@@ -157,11 +157,11 @@ fn leave_text(alloc: Global, granted: Granted, class: Class) -> Result<Vec<u8>, 
 {
     let mut out = Vec::new(alloc);
     match granted {
-        Granted::Nothing => put(&mut out, b"leave ")?,
-        Granted::Multiplier => put(&mut out, b"m = 16, leave ")?,
+        Granted::Nothing => put(&mut out, b"> ")?,
+        Granted::Multiplier => put(&mut out, b"m = 16 > ")?,
         Granted::Access(access) => {
             put(&mut out, class_name(access))?;
-            put(&mut out, b", leave ")?;
+            put(&mut out, b" > ")?;
         }
     }
     put(&mut out, class_name(class))?;
@@ -179,13 +179,13 @@ fn both_text(alloc: Global, granted: Granted, leave: Option<Class>) -> Result<Ve
 
 /// Adds what a price takes for granted.
 pub(crate) fn put_pricing(out: &mut Vec<u8>, pricing: Option<Pricing>) -> Result<(), AllocError>
-    ensures { OnOk result (out.new.items ≡ out.old.items ++ in_columns 15 (pricing_text pricing)) }
+    ensures { OnOk result (out.new.items ≡ out.old.items ++ in_columns 10 (pricing_text pricing)) }
 {
     match pricing {
         Some(pricing) => {
             let text = both_text(*out.allocator(), pricing.granted, pricing.leave)?;
-            put_right(out, &text, 15)
+            put_right(out, &text, 10)
         }
-        None => put_right(out, b"", 15),
+        None => put_right(out, b"", 10),
     }
 }

@@ -15,7 +15,7 @@ use crate::tally::{Tally, capped_sum};
 use asm_text::first_line;
 use assembler::PlacedLine;
 use std::alloc::{AllocError, Global};
-use text_rows::{put, put_number};
+use text_rows::{put, put_cut_row, put_number};
 
 // Adds the row of a line, if it has words.
 fn put_line(out: &mut Vec<u8>, columns: Columns, number: u64, text: &[u8]) -> Result<(), AllocError>
@@ -24,12 +24,12 @@ fn put_line(out: &mut Vec<u8>, columns: Columns, number: u64, text: &[u8]) -> Re
         ≡ out.old.items
         ++ line_row columns.bound columns.taken columns.latest columns.pricing number text.now) }
 {
+    let begun = out.len();
     put_columns(out, columns)?;
     put(out, b" ")?;
-    put_number(out, number, 5)?;
+    put_number(out, number, 4)?;
     put(out, b"  ")?;
-    put(out, text)?;
-    put(out, b"\n")
+    put_cut_row(out, out.len() - begun, text)
 }
 
 // What stands in the columns of a line's row.
@@ -89,14 +89,18 @@ fn source_ticks(tally: &Tally, placed: &[PlacedLine]) -> u64
 /// Where the ticks of a greatest walk go: a row for each line of the source that has words, with how often
 /// the walk passes the line's first word, the ticks of such a pass (from the least to the greatest, where
 /// they differ), the ticks at its words, what part of the bound those are, the tick by which its first word
-/// begins, what the price of that word takes for granted, the number of the line and its text; then the ticks
-/// of all rows, and the bound in ticks and in microseconds.
+/// begins at the latest, what the price of that word takes for granted, the number of the line and its text;
+/// then the ticks of all rows, and the bound in ticks and in microseconds.
 ///
-/// A word begins by the greatest of the starts of the places at its address, counted from the handler's
-/// beginning.
+/// A row ends at column 80, and a longer text is cut there: the source has all of it. A byte counts as a
+/// column.
+///
+/// The latest tick is the greatest of the starts of the places at the word's address, counted from the
+/// handler's beginning.
 ///
 /// The price of a load or a store takes the class of what it transfers for granted, that of a multiply its
-/// most cycles (m = 16), and that of a way out of the handler the class of the addresses to which it leaves.
+/// most cycles (m = 16), and that of a way out of the handler the class of the addresses to which it leaves,
+/// after `>`.
 ///
 /// `placed` says where the lines stand, in their order; the rows end with the lines, or with the places.
 /// Where no place of the graph is on a line, the row says so in place of the numbers.

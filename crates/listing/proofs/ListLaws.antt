@@ -1,56 +1,26 @@
 -- One row more.
-use Rattle.std.proofs.Common.{◌≡◌, ◌+◌, ◌-◌, ◌<◌, ◌≤◌, ℕ, suc, List, [], ◌∷◌, ◌++◌, length, drop, take, replicate, codes, decimal, Some, refl, sym, ap, subst, ◌∙◌, arith, append-nil, append_assoc, get_or}
-use Rattle.std.specs.Prelude.{min}
-use Rattle.std.proofs.Math.Nat.{min_comm, sub-add-min_cancel}
+use Rattle.std.proofs.Common.{◌≡◌, ◌+◌, ◌<◌, ◌≤◌, ℕ, suc, List, [], ◌∷◌, ◌++◌, length, drop, codes, Some, refl, sym, ap, subst, ◌∙◌, append-nil, append_assoc, get_or}
 use Rattle.std.proofs.Math.ListN.{drop_of_length-le}
-use Rattle.std.proofs.Math.Seq.{take-length}
-use Rattle.std.proofs.lemmas.List.{drop-replicate, drop_more, length-drop}
+use Rattle.std.proofs.lemmas.List.{drop_more}
 use Rattle.assembler.specs.ShownLines.{IsShown}
 use Rattle.assembler.specs.declared.placed_line.PlacedLine.{PlacedLine}
 use Rattle.loader.specs.Image.{Words, word_of}
-use Rattle.trace_text.specs.TraceText.{Adds}
-use Rattle.listing.specs.Listing.{AreWordRows, IsWordRow, line_rows, source_rows, word_columns, word_rows}
+use Rattle.text_rows.specs.Columns.{cut_row}
+use Rattle.text_rows.specs.Rows.{Appends}
+use Rattle.listing.specs.Listing.{IsWordRow, line_rows, source_rows, word_columns, word_rows}
 
 -- ---- rows of an image
 
-pub word_row : (at word : ℕ) (line old columns gap shown new : List ℕ) → IsShown word at line
-    → columns ≡ old ++ word_columns at (Some word) → gap ≡ columns ++ codes "  " → shown ≡ gap ++ line
-    → new ≡ shown ++ codes "\n" → Adds (IsWordRow (at, word)) old new
-word_row at word line old columns gap shown new is a b c d =
-    let c0 = word_columns at (Some word) in
-    let whole : new ≡ old ++ (c0 ++ (codes "  " ++ (line ++ codes "\n"))) =
-    d ∙ ap (λ xs. xs ++ codes "\n") (c ∙ ap (λ xs. xs ++ line) (b ∙ ap (λ xs. xs ++ codes "  ") a))
-    ∙ append_assoc ((old ++ c0) ++ codes "  ") line (codes "\n")
-    ∙ append_assoc (old ++ c0) (codes "  ") (line ++ codes "\n")
-    ∙ append_assoc old c0 (codes "  " ++ (line ++ codes "\n")) in
-    (c0 ++ (codes "  " ++ (line ++ codes "\n")), (line, is, refl), whole)
-
--- whatever rows the other words have, all rows are those so far and these
-pub record SoFar (words : Words) (i : ℕ) (text : List ℕ) : Type 0 where
-  pub whole : (more : List ℕ) → AreWordRows (drop i words) more → AreWordRows words (text ++ more)
-
-pub so_far_none : (words : Words) → SoFar words 0 []
-so_far_none words = record { whole = λ more rows. rows }
-
-pub so_far_one : (words items : Words) (i : ℕ) (d : ℕ × ℕ) (text new : List ℕ) → SoFar words i text → items ≡ words
-    → i < length items → Adds (IsWordRow (get_or items i d)) text new → SoFar words (i + 1) new
-so_far_one words items i d text new h same lt adds = record {
-  whole = λ more rows.
-      let row = adds.0 in
-      let e = get_or items i d in
-      let left : drop i words ≡ e ∷ drop (i + 1) words =
-      subst (λ ws. drop i ws ≡ e ∷ drop (i + 1) ws) same (drop_more items i d lt) in
-      let here : AreWordRows (drop i words) (row ++ more) =
-      subst (λ ws. AreWordRows ws (row ++ more)) (sym left) (row, more, adds.1, rows, refl) in
-      subst (AreWordRows words) (sym (ap (λ xs. xs ++ more) adds.2 ∙ append_assoc text row more)) (h.whole (row ++ more) here);
-}
-
-pub so_far_all : (words items : Words) (i : ℕ) (text : List ℕ) → SoFar words i text → items ≡ words
-    → length items ≤ i → AreWordRows words text
-so_far_all words items i text h same le =
-    let none : drop i words ≡ [] = subst (λ ws. drop i ws ≡ []) same (drop_of_length-le items le) in
-    subst (AreWordRows words) (append-nil text)
-    (h.whole [] (subst (λ ws. AreWordRows ws []) (sym none) refl))
+pub word_row : (at word : ℕ) (line old columns gap new : List ℕ) → IsShown word at line
+    → columns ≡ old ++ word_columns at (Some word) → gap ≡ columns ++ codes "  "
+    → new ≡ gap ++ cut_row 20 line → Appends (IsWordRow (at, word)) old new
+word_row at word line old columns gap new is a b c =
+    let here = word_columns at (Some word) in (
+      (here ++ codes "  ") ++ cut_row 20 line,
+      (line, is, refl),
+      c ∙ ap (λ xs. xs ++ cut_row 20 line) (b ∙ ap (λ xs. xs ++ codes "  ") a ∙ append_assoc old here (codes "  "))
+          ∙ append_assoc old (here ++ codes "  ") (cut_row 20 line),
+    )
 
 -- ---- rows of a source
 

@@ -6,6 +6,7 @@ use Rattle.assembler.specs.ShownLines.{IsShown}
 use Rattle.assembler.specs.declared.placed_line.PlacedLine.{PlacedLine}
 use Rattle.loader.specs.Image.{Words, word_of}
 use Rattle.text_rows.specs.Columns.{in_columns}
+use Rattle.text_rows.specs.Rows.{AreRows, row_end}
 use Rattle.trace_text.specs.TraceText.{word_text}
 
 -- an address and the word there
@@ -16,9 +17,9 @@ word_columns at word = hex8 at ++ (codes "  " ++ word_text word)
 abbrev pub no_columns : List ℕ
 no_columns = codes "                  "
 
--- the number of a line and its text
+-- after the 18 columns of a word, the number of a line, and as much of its text as there is room for
 abbrev pub line_row : ℕ → List ℕ → List ℕ
-line_row n text = codes "  " ++ (in_columns 6 (decimal n) ++ (codes "  " ++ (text ++ codes "\n")))
+line_row n = row_end 18 (codes "  " ++ (in_columns 6 (decimal n) ++ codes "  "))
 
 -- a row for each of so many words from an address on
 abbrev pub word_rows : Words → (at count : ℕ) → List ℕ
@@ -41,10 +42,8 @@ source_rows image n _ _ = []
 abbrev pub IsWordRow : ℕ × ℕ → List ℕ → Type 0
 IsWordRow e row =
     (line : List ℕ) × IsShown e.1 e.0 line
-    × (row ≡ word_columns e.0 (Some e.1) ++ (codes "  " ++ (line ++ codes "\n")))
+    × (row ≡ row_end 0 (word_columns e.0 (Some e.1) ++ codes "  ") line)
 
 -- a row for each word
 abbrev pub AreWordRows : Words → List ℕ → Type 0
-AreWordRows [] text = text ≡ []
-AreWordRows (e ∷ words) text =
-    (row more : List ℕ) × IsWordRow e row × AreWordRows words more × (text ≡ row ++ more)
+AreWordRows = AreRows IsWordRow

@@ -2,15 +2,15 @@ ghost use Rattle.std.specs.Prelude.{◌≡◌, ◌++◌, OnOk};
 ghost use Rattle.listing.specs.Listing.{line_row, word_columns};
 ghost use Rattle.trace_text.specs.TraceText.{word_text};
 
+use asm_text::hex8;
 use std::alloc::AllocError;
-use text_rows::{put, put_number};
-use trace_text::hex_word;
+use text_rows::{put, put_cut_row, put_number};
 
 fn put_word(out: &mut Vec<u8>, word: Option<u32>) -> Result<(), AllocError>
     ensures { OnOk result (out.new.items ≡ out.old.items ++ word_text word) }
 {
     match word {
-        Some(word) => put(out, hex_word(word).as_str().as_bytes()),
+        Some(word) => put(out, &hex8(word)),
         None => put(out, b"--------"),
     }
 }
@@ -28,13 +28,17 @@ pub(crate) fn put_word_columns(
     put_word(out, word)
 }
 
-/// Adds the number of a line and its text, and ends the row.
+/// The columns of an address and of the word there.
+pub(crate) const WORD_COLUMNS: usize = 18;
+
+/// Adds the number of a line and as much of its text as there is room for after the columns of a word, and ends
+/// the row.
 pub(crate) fn put_line_row(out: &mut Vec<u8>, number: usize, text: &[u8]) -> Result<(), AllocError>
     ensures { OnOk result (out.new.items ≡ out.old.items ++ line_row number text.now) }
 {
+    let begun = out.len();
     put(out, b"  ")?;
     put_number(out, number as u64, 6)?;
     put(out, b"  ")?;
-    put(out, text)?;
-    put(out, b"\n")
+    put_cut_row(out, WORD_COLUMNS.saturating_add(out.len() - begun), text)
 }

@@ -1,21 +1,20 @@
 ghost use Rattle.std.specs.Prelude.{IfOk, OnOk};
 ghost use Rattle.listing.specs.Listing.{AreWordRows, IsWordRow};
-ghost use Rattle.trace_text.specs.TraceText.{Adds};
+ghost use Rattle.text_rows.specs.Rows.{Appends};
 
-use crate::columns::put_word_columns;
+use crate::columns::{WORD_COLUMNS, put_word_columns};
 use assembler::disassemble;
 use loader::Image;
 use std::alloc::{AllocError, Global};
-use text_rows::put;
+use text_rows::{put, put_cut_row};
 
 fn put_row(out: &mut Vec<u8>, at: u32, word: u32) -> Result<(), AllocError>
-    ensures { OnOk result (Adds (IsWordRow (at, word)) out.old.items out.new.items) }
+    ensures { OnOk result (Appends (IsWordRow (at, word)) out.old.items out.new.items) }
 {
     put_word_columns(out, at, Some(word))?;
     put(out, b"  ")?;
     let line = disassemble(word, at);
-    put(out, line.items())?;
-    put(out, b"\n")
+    put_cut_row(out, WORD_COLUMNS + 2, line.items())
 }
 
 /// A row for each word of an image: its address, itself, and its line as [`disassemble`] shows it.

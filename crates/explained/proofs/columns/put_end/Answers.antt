@@ -8,7 +8,7 @@ use Rattle.explained.proofs.columns.put_end.Goals as goal
 pub returns : goal.returns
 returns c =
     on_ok_weaker c.put_time.result
-    (λ last. ended (in_columns 18 (codes "total")) (ticks_text c.args.total c.args.bound) (codes "\n") (codes "bound ") (time_text c.args.bound)
+    (λ last. ended (in_columns 12 (codes "total")) (ticks_text c.args.total c.args.bound) (codes "\n") (codes "bound ") (time_text c.args.bound)
     c.args.out.now.items c.put_right.new.out.items c.put_ticks.new.out.items c.put.new.out.items c.put_time.new.out.items
     c.in_ok-put_right.ensures c.in_ok-put_ticks.ensures c.in_ok-put.ensures
     (last ∙ ap (λ (n : ℕ). c.put.new.out.items ++ time_text n) c.from.ensures))

@@ -8,7 +8,7 @@ pub returns : goal.returns
 returns c =
     let line = c.items.result.now in
     let is = subst (IsShown c.args.word c.args.at) (sym c.items.ensures.bytes) c.disassemble-line.ensures in
-    on_ok_weaker c.put-3.result
+    on_ok_weaker c.put_cut_row.result
     (word_row c.args.at c.args.word line c.args.out.now.items c.put_word_columns.new.out.items c.put.new.out.items
-    c.put-2.new.out.items c.put-3.new.out.items is c.in_ok-put_word_columns.ensures c.in_ok-put.ensures c.in_ok-put-2.ensures)
-    c.put-3.ensures
+    c.put_cut_row.new.out.items is c.in_ok-put_word_columns.ensures c.in_ok-put.ensures)
+    c.put_cut_row.ensures
