@@ -3,24 +3,13 @@ use Rattle.std.proofs.Common.{◌≡◌, ◌≢◌, ◌∙◌, ◌≤◌, ℕ, B
 use Rattle.std.specs.Io.KnownBytes.{Consumes, IsAtEnd}
 use Rattle.bus_ticks.specs.declared.profile.Profile.{Profile}
 use Rattle.report_output.specs.Answers.{Answers, FailsWithin, OfSome}
-use Rattle.bound_reports.specs.Check.{IsAnswer, IsCheckRefused}
-use Rattle.bound_reports.specs.Verdict.{IsVerdictReport}
-use Rattle.machine_reports.specs.Debug.{IsDebugReport}
-use Rattle.arcwcet.specs.Files.{FailsToRead, ReadsAll, Reading, Texts, in_front, Writing}
-use Rattle.command_line.specs.Line.{Asked, ExplainOptions, asm, list, draft, run, trace, debug, bound, explain, tight, check, explain_verdict, visits, follow, graph}
-use Rattle.author_reports.specs.ExplainReport.{IsExplainReport}
-use Rattle.author_reports.specs.FollowReport.{IsFollowRefused, IsFollowReport}
-use Rattle.report_input.specs.Placing.{IsRunRefused, IsRunnable}
-use Rattle.machine_reports.specs.Machine.{Front, IsMachineReport, ShowsRegisters, ShowsSteps}
-use Rattle.report_input.specs.Priced.{ByProfile, HasNoProfile, Priced, PricedFault}
 use Rattle.machine_reports.specs.Assembly.{IsSourceRefused}
-use Rattle.author_reports.specs.DraftReport.{IsDraftRefused, IsDraftReport}
-use Rattle.machine_reports.specs.ListReport.{IsListReport}
-use Rattle.author_reports.specs.GraphReport.{IsGraphReport}
-use Rattle.report_input.specs.Report.{IsAccepted, IsRefused, IsReport}
-use Rattle.arcwcet.specs.Run.{HasNoAnswer, HasNoReport, HasNoRun, HasNoTightReportOf, HasNoVisitsReport, HasHeard, HasPrinted, IsAnswerOf, IsExplanationOf, HasNoText, IsReportOf, IsTextOf, IsRunOf, IsSessionOf, IsTightReportOf, IsVisitsReportOf, OfThree, OfTwo}
-use Rattle.arcwcet.specs.Run.{Runs, RunsAsked, RunsAsm, RunsDebug, RunsExplain, RunsMachine, RunsVisits, answer_status, bursts_of, done_status, report_status, store_status}
-use Rattle.arcwcet.specs.VisitsReport.{AreAccepted, AreRefused, IsVisitsReport, ReportsVisits}
+use Rattle.command_line.specs.Line.{Asked, FileNames, asm, list, draft, run, trace, debug, bound, explain, tight, check, explain_verdict, visits, follow, graph}
+use Rattle.report_input.specs.Placing.{IsRunRefused}
+use Rattle.report_input.specs.Priced.{ByProfile, HasNoProfile, IsUnpriced, Priced, PricedFault}
+use Rattle.arcwcet.specs.Files.{FailsToRead, ReadsAll, Reading, Texts, Writing, in_front, two_of}
+use Rattle.arcwcet.specs.Run.{ByThree, ByTwo, HasPrinted, IsSessionOf, OfThree, OfTwo, Plain, RefusesThree, RefusesTwo, Runs, RunsAsked, RunsAsm, RunsDebug, RunsOf, Tells, TellsOf}
+use Rattle.arcwcet.specs.Run.{answer_status, answered, fault_of, files_of, report_status, store_status, text_of}
 use Rattle.report_output.specs.declared.fault.ReportFault.{ReportFault}
 use Rattle.report_output.specs.declared.fault.ReportFault.TheVariants.{Memory, Source, Image, Statement, Graph, Loops, Walk, MachineFile, Load, Cert, Device}
 use Rattle.report_output.specs.declared.fault.ReportFault.TheVariants as report_fault
@@ -139,81 +128,26 @@ module _ {S O : Type 0} (reads : Reading S) (taken : O → Option (List ℕ)) (f
               }
         ]
 
--- ## Of a report by a cycle profile
+    -- what the report answers
+    pub told_ran : (result : Result Bool ReportFault) → Tells taken failures (λ answer. IsRunText answer files) (IsRunFault files) before after result
+        → (status : ℕ) → status ≡ answer_status result → Ran status
+    told_ran (Ok true) h status is = subst Ran (sym is) (done (record { files = files; read = read; printed = h.printed }))
+    told_ran (Ok false) h status is = subst Ran (sym is) (denied (record { files = files; read = read; printed = h.printed }))
+    told_ran (Err fault) h status is = refused fault h.fault h.quiet (λ d. h.device (ap Err d)) status is
 
-module _ {S O T : Type 0} (reads : Reading S) (taken : O → Option (List ℕ)) (failures : O → ℕ)
-    (IsRunText : Bool → Texts → List ℕ → Type 0) (IsRunFault : Texts → ReportFault → Type 0) (names : Texts) (old new : S) (before after : O)
-    (files : Texts) (read : ReadsAll reads old names files new)
-    (file : Option (List ℕ)) (IsText : Profile → T → List ℕ → Type 0) (IsFine : Profile → Type 0) (IsFault : Profile → ReportFault → Type 0) (bool_of : T → Bool)
-    (texts : (x : T) (text : List ℕ) → ByProfile file (λ p. IsText p x text) → IsRunText (bool_of x) files text)
-    (faults : (fault : ReportFault) → PricedFault file IsFault fault → IsRunFault files fault) where
-  abbrev pub Answered : Result T ReportFault → Type 0
-  Answered result = Priced file (λ p. Answers taken failures (IsText p) (IsFine p) (IsFault p) before after result) before after result
+-- ## Of a command by the names of its files
 
-  pub priced_printed : (x : T) → Answered (Ok x) → HasPrinted reads names old new (IsRunText (bool_of x)) (taken before) (taken after)
-  priced_printed x (inl b) =
-      let p = b.holds.printed in
-      record {
-        files = files;
-        read = read;
-        printed = record { text = p.text; is_text = texts x p.text (record { profile = b.profile; is = b.is; holds = p.is_text }); printed = p.printed };
-      }
-  priced_printed x (inr u) = absurd (cc u.answered)
+module _ {S O : Type 0} (reads : Reading S) (taken : O → Option (List ℕ)) (failures : O → ℕ) (asked : Asked) (names : Texts) (named : names ≡ files_of asked) (old new : S) where
+  pub unread_of : (out : O) (fault : StoreFault) → FailsToRead reads old names fault new → (status : ℕ) → status ≡ store_status fault → RunsOf reads taken failures asked old new out out status
+  unread_of out fault fails status is =
+      subst (λ (s : ℕ). RunsOf reads taken failures asked old new out out s) (sym is)
+      (unread reads taken failures (text_of asked) (fault_of asked) (files_of asked) old new out out fault (subst (λ (n : Texts). FailsToRead reads old n fault new) named fails) refl)
 
-  pub priced_refused : (fault : ReportFault) → Answered (Err fault) → (status : ℕ) → status ≡ report_status fault → Runs reads taken failures IsRunText IsRunFault names old new before after status
-  priced_refused fault (inl b) =
-      refused reads taken failures IsRunText IsRunFault names old new before after files read fault
-      (faults fault (inl (record { profile = b.profile; is = b.is; holds = b.holds.fault }))) b.holds.quiet
-      (λ d.
-      let f = b.holds.device (ap Err d) in
-      record { text = f.text; is_text = (bool_of f.is_text.0, texts f.is_text.0 f.text (record { profile = b.profile; is = b.is; holds = f.is_text.1 })); taken = f.taken; failed = f.failed })
-  priced_refused fault (inr u) =
-      let same : u.fault ≡ fault = cc u.answered in
-      let none : HasNoProfile file fault = subst (HasNoProfile file) same u.no_profile in
-      refused reads taken failures IsRunText IsRunFault names old new before after files read fault (faults fault (inr none)) (λ other. u.same)
-      (λ d. absurd (no_device file (subst (HasNoProfile file) d none)))
-    where
-      no_device : (f : Option (List ℕ)) → HasNoProfile f Device → ⊥
-      no_device None h = h
-      no_device (Some t) h = h
-
-  -- the status of a report that gives no answer but its text
-  pub priced_done : ((x : T) → bool_of x ≡ true) → (result : Result T ReportFault) → Answered result
-      → (status : ℕ) → status ≡ done_status result → Runs reads taken failures IsRunText IsRunFault names old new before after status
-  priced_done always (Ok x) h status is =
-      subst (λ (s : ℕ). Runs reads taken failures IsRunText IsRunFault names old new before after s) (sym is)
-      (done reads taken failures IsRunText IsRunFault names old new before after files read
-      (subst (λ (b : Bool). HasPrinted reads names old new (IsRunText b) (taken before) (taken after)) (always x) (priced_printed x h)))
-  priced_done always (Err fault) h status is = priced_refused fault h status is
-
--- the files of a run in front of which a cycle profile's may stand
-pub of_two : (Is : Option (List ℕ) → List ℕ → List ℕ → Type 0) (file : Option (List ℕ)) (a b : List ℕ) → Is file a b → OfTwo Is (in_front file (a ∷ b ∷ []))
-of_two Is None a b h = h
-of_two Is (Some f) a b h = h
-
-pub of_three : (Is : Option (List ℕ) → List ℕ → List ℕ → List ℕ → Type 0) (file : Option (List ℕ)) (a b c : List ℕ) → Is file a b c → OfThree Is (in_front file (a ∷ b ∷ c ∷ []))
-of_three Is None a b c h = h
-of_three Is (Some f) a b c h = h
-
-module _ {S O : Type 0} (reads : Reading S) (taken : O → Option (List ℕ)) (failures : O → ℕ)
-    (IsRunText : Bool → Texts → List ℕ → Type 0) (IsRunFault : Texts → ReportFault → Type 0) (names : Texts) (old new : S) (before after : O)
-    (files : Texts) (read : ReadsAll reads old names files new)
-    (file : Option (List ℕ)) (IsText : Profile → Bool → List ℕ → Type 0) (IsFine : Profile → Type 0) (IsFault : Profile → ReportFault → Type 0)
-    (texts : (x : Bool) (text : List ℕ) → ByProfile file (λ p. IsText p x text) → IsRunText x files text)
-    (faults : (fault : ReportFault) → PricedFault file IsFault fault → IsRunFault files fault) where
-  -- the status of a report that says yes or no
-  pub priced_ran : (result : Result Bool ReportFault) → Priced file (λ p. Answers taken failures (IsText p) (IsFine p) (IsFault p) before after result) before after result
-      → (status : ℕ) → status ≡ answer_status result → Runs reads taken failures IsRunText IsRunFault names old new before after status
-  priced_ran (Ok true) h status is =
-      subst (λ (s : ℕ). Runs reads taken failures IsRunText IsRunFault names old new before after s) (sym is)
-      (done reads taken failures IsRunText IsRunFault names old new before after files read
-      (priced_printed reads taken failures IsRunText IsRunFault names old new before after files read file IsText IsFine IsFault (λ x. x) texts faults true h))
-  priced_ran (Ok false) h status is =
-      subst (λ (s : ℕ). Runs reads taken failures IsRunText IsRunFault names old new before after s) (sym is)
-      (denied reads taken failures IsRunText IsRunFault names old new before after files read
-      (priced_printed reads taken failures IsRunText IsRunFault names old new before after files read file IsText IsFine IsFault (λ x. x) texts faults false h))
-  priced_ran (Err fault) h status is =
-      priced_refused reads taken failures IsRunText IsRunFault names old new before after files read file IsText IsFine IsFault (λ x. x) texts faults fault h status is
+  pub ran_of : (before after : O) (kept lent : Texts) → lent ≡ kept → ReadsAll reads old names kept new → (result : Result Bool ReportFault) → TellsOf taken failures asked lent before after result
+      → (status : ℕ) → status ≡ answer_status result → RunsOf reads taken failures asked old new before after status
+  ran_of before after kept lent same read result tells =
+      told_ran reads taken failures (text_of asked) (fault_of asked) (files_of asked) old new before after kept (subst (λ (n : Texts). ReadsAll reads old n kept new) named read)
+      result (subst (λ (files : Texts). TellsOf taken failures asked files before after result) same tells)
 
 -- what is refused has another status than 0
 pub refused_status : (fault : ReportFault) (status : ℕ) → status ≡ report_status fault → status ≡ 0 → ⊥
@@ -225,152 +159,198 @@ refused_status fault status is zero = elim (told fault) [
 
 -- ## `asm`
 
--- the source is refused
-pub asm_refused : {S O : Type 0} (reads : Reading S) (writes : Writing S) (taken : O → Option (List ℕ)) (failures : O → ℕ) (source image file : List ℕ) (old new : S) (out : O) (fault : ReportFault)
-    → reads old source (Ok file) new → (fault ≢ Device) × IsSourceRefused file fault → (status : ℕ) → status ≡ report_status fault → RunsAsm reads writes taken failures source image old new out out status
-asm_refused reads writes taken failures source image file old new out fault read holds status is =
-    elim (told fault) [
-      | of_memory m ↦
-          let three : status ≡ 3 = is ∙ ap report_status m in
-          record {
-            done = λ e. absurd (omega (arith, e, three));
-            denied = λ e. absurd (omega (arith, e, three));
-            failed = λ e. absurd (omega (arith, e, three));
-            starved = λ e. (λ changed. inr (record { files = file ∷ []; read = (new, read, refl) }), refl);
-            known = inr (inr (inl three));
-          }
-      | of_device d ↦ absurd (holds.0 d)
-      | of_other memory other one ↦
-          let here : status ≡ 1 = is ∙ one in
-          record {
-            done = λ e. absurd (omega (arith, e, here));
-            denied = λ e. (inr (record { files = file ∷ []; read = (new, read, refl); fault = fault; not_memory = memory; not_device = other; refused = holds.1 }), refl);
-            failed = λ e. absurd (omega (arith, e, here));
-            starved = λ e. absurd (omega (arith, e, here));
-            known = inr (inl here);
-          }
-    ]
+-- nothing was printed
+abbrev pub Nothing : Bool → Texts → List ℕ → Type 0
+Nothing answer files text = ⊥
 
--- ## Of a source alone
+module _ {S O : Type 0} (reads : Reading S) (writes : Writing S) (taken : O → Option (List ℕ)) (failures : O → ℕ) (source image : List ℕ) (old new : S) (out : O) where
+  pub asm_quiet : (status : ℕ) → Runs reads taken failures Nothing (fault_of (asm source image)) (source ∷ []) old new out out status → RunsAsm reads writes taken failures source image old new out out status
+  asm_quiet status r = record {
+    done = λ e. absurd (r.done e).printed.is_text;
+    denied = λ e. elim (r.denied e) [
+      | inl printed ↦ absurd printed.printed.is_text
+      | inr refused ↦ refused
+    ];
+    failed = λ e. elim (r.failed e) [
+      | inl unread ↦ inr (inr unread.0, unread.1)
+      | inr printed ↦ absurd printed.fails.is_text.1
+    ];
+    starved = r.starved;
+    known = r.known;
+  }
 
--- a report of a source that is its text alone
-module _ (Is : List ℕ → List ℕ → Type 0) (IsFine : List ℕ → Type 0) (IsFault : List ℕ → ReportFault → Type 0) where
-  pub source_ran : {S O T : Type 0} (reads : Reading S) (taken : O → Option (List ℕ)) (failures : O → ℕ) (name source : List ℕ) (old new : S) (before after : O) → reads old name (Ok source) new
-      → (result : Result T ReportFault) → Answers taken failures (λ _ text. Is source text) (IsFine source) (IsFault source) before after result
-      → (status : ℕ) → status ≡ done_status result → Runs reads taken failures (IsTextOf Is) (HasNoText IsFault) (name ∷ []) old new before after status
-  source_ran reads taken failures name source old new before after read (Ok x) h status is =
+  -- the source is refused
+  pub asm_refused : (file : List ℕ) (fault : ReportFault) → reads old source (Ok file) new → (fault ≢ Device) × IsSourceRefused file fault → (status : ℕ) → status ≡ report_status fault
+      → RunsAsm reads writes taken failures source image old new out out status
+  asm_refused file fault read holds status is =
+      asm_quiet status
+      (refused reads taken failures Nothing (fault_of (asm source image)) (source ∷ []) old new out out (file ∷ []) (new, read, refl) fault holds.1 (λ other. refl) (λ d. absurd (holds.0 d)) status is)
+
+-- ## What a report answers, of the texts of its files
+
+module _ {O : Type 0} (taken : O → Option (List ℕ)) (failures : O → ℕ) (before after : O) where
+  -- a text that is all there is to say is one of yes
+  pub answers_plain : (Is : List ℕ → Type 0) (IsFine : Type 0) (IsFault : ReportFault → Type 0) (result : Result (Unit {0}) ReportFault)
+      → Answers taken failures (λ _ text. Is text) IsFine IsFault before after result → Answers taken failures (Plain Is) IsFine IsFault before after (answered result)
+  answers_plain Is IsFine IsFault (Ok x) h =
       let p = h.printed in
-      subst (λ (s : ℕ). Runs reads taken failures (IsTextOf Is) (HasNoText IsFault) (name ∷ []) old new before after s) (sym is)
-      (done reads taken failures (IsTextOf Is) (HasNoText IsFault) (name ∷ []) old new before after (source ∷ []) (new, read, refl)
-      (record { files = source ∷ []; read = (new, read, refl); printed = record { text = p.text; is_text = p.is_text; printed = p.printed } }))
-  source_ran reads taken failures name source old new before after read (Err fault) h status is =
-      refused reads taken failures (IsTextOf Is) (HasNoText IsFault) (name ∷ []) old new before after (source ∷ []) (new, read, refl) fault h.fault h.quiet
-      (λ d.
-      let f = h.device (ap Err d) in
-      record { text = f.text; is_text = (true, f.is_text.1); taken = f.taken; failed = f.failed }) status is
+      record {
+        printed = record { text = p.text; is_text = p.is_text; printed = p.printed };
+        accepted = h.accepted;
+        only = λ a. tt;
+        fault = tt;
+        quiet = tt;
+        device = λ e. cc e;
+      }
+  answers_plain Is IsFine IsFault (Err fault) h = record {
+    printed = tt;
+    accepted = tt;
+    only = h.only;
+    fault = h.fault;
+    quiet = h.quiet;
+    device = λ e.
+        let same : fault ≡ Device = cc e in
+        let f = h.device (ap Err same) in
+        record { text = f.text; is_text = (true, f.is_text.1); taken = f.taken; failed = f.failed };
+  }
 
--- ## Of each command
+  pub priced_plain : (file : Option (List ℕ)) (Is : Profile → List ℕ → Type 0) (IsFine : Profile → Type 0) (IsFault : Profile → ReportFault → Type 0) (result : Result (Unit {0}) ReportFault)
+      → Priced file (λ p. Answers taken failures (λ _ text. Is p text) (IsFine p) (IsFault p) before after result) before after result
+      → (answer : Result Bool ReportFault) → answer ≡ answered result → Priced file (λ p. Answers taken failures (Plain (Is p)) (IsFine p) (IsFault p) before after answer) before after answer
+  priced_plain file Is IsFine IsFault result h answer is =
+      subst (λ (r : Result Bool ReportFault). Priced file (λ p. Answers taken failures (Plain (Is p)) (IsFine p) (IsFault p) before after r) before after r) (sym is) (plain h)
+    where
+      plain : Priced file (λ p. Answers taken failures (λ _ text. Is p text) (IsFine p) (IsFault p) before after result) before after result
+          → Priced file (λ p. Answers taken failures (Plain (Is p)) (IsFine p) (IsFault p) before after (answered result)) before after (answered result)
+      plain (inl b) = inl (record { profile = b.profile; is = b.is; holds = answers_plain (Is b.profile) (IsFine b.profile) (IsFault b.profile) result b.holds })
+      plain (inr u) = inr (record { fault = u.fault; no_profile = u.no_profile; answered = ap answered u.answered; same = u.same })
 
-module _ {S O : Type 0} (reads : Reading S) (taken : O → Option (List ℕ)) (failures : O → ℕ) (profile : Option (List ℕ)) (source second : List ℕ) (file : Option (List ℕ)) (one two : List ℕ)
-    (old new : S) (before after : O) (read : ReadsAll reads old (in_front profile (source ∷ second ∷ [])) (in_front file (one ∷ two ∷ [])) new) where
-  pub machine_ran : (Shows : Front) (result : Result Bool ReportFault)
-      → Priced file (λ p. Answers taken failures (IsMachineReport Shows one two p) (IsRunnable one two p) (IsRunRefused one two p) before after result) before after result
-      → (status : ℕ) → status ≡ answer_status result → RunsMachine Shows reads taken failures profile source second old new before after status
-  machine_ran Shows =
-      priced_ran reads taken failures (IsRunOf Shows) HasNoRun (in_front profile (source ∷ second ∷ [])) old new before after (in_front file (one ∷ two ∷ [])) read
-      file (λ p. IsMachineReport Shows one two p) (λ p. IsRunnable one two p) (λ p. IsRunRefused one two p)
-      (λ x text b. of_two (λ f s m. ByProfile f (λ p. IsMachineReport Shows s m p x text)) file one two b)
-      (λ fault k. of_two (λ f s m. PricedFault f (λ p e. IsRunRefused s m p e) fault) file one two k)
+  module _ (IsTold : Bool → List ℕ → Type 0) (IsRefused : ReportFault → Type 0) where
+    pub told_answer : (IsText : Bool → List ℕ → Type 0) (IsFine : Type 0) (IsFault : ReportFault → Type 0)
+        → ((x : Bool) (text : List ℕ) → IsText x text → IsTold x text) → ((fault : ReportFault) → IsFault fault → IsRefused fault)
+        → (result : Result Bool ReportFault) → Answers taken failures IsText IsFine IsFault before after result → Tells taken failures IsTold IsRefused before after result
+    told_answer IsText IsFine IsFault texts faults (Ok x) h =
+        let p = h.printed in
+        record {
+          printed = record { text = p.text; is_text = texts x p.text p.is_text; printed = p.printed };
+          fault = tt;
+          quiet = tt;
+          device = λ e. cc e;
+        }
+    told_answer IsText IsFine IsFault texts faults (Err fault) h = record {
+      printed = tt;
+      fault = faults fault h.fault;
+      quiet = h.quiet;
+      device = λ e.
+          let f = h.device e in
+          record { text = f.text; is_text = (f.is_text.0, texts f.is_text.0 f.text f.is_text.1); taken = f.taken; failed = f.failed };
+    }
 
-  pub explain_ran : (options : ExplainOptions) (result : Result Bool ReportFault)
-      → Priced file (λ p. Answers taken failures (IsExplainReport one two options.at_most (bursts_of options) p) (IsAccepted one two p) (IsRefused one two p) before after result) before after result
-      → (status : ℕ) → status ≡ answer_status result → RunsExplain reads taken failures profile source second options old new before after status
-  explain_ran options =
-      priced_ran reads taken failures (IsExplanationOf options) (HasNoReport IsRefused) (in_front profile (source ∷ second ∷ [])) old new before after (in_front file (one ∷ two ∷ [])) read
-      file (λ p. IsExplainReport one two options.at_most (bursts_of options) p) (λ p. IsAccepted one two p) (λ p. IsRefused one two p)
-      (λ x text b. of_two (λ f s t. ByProfile f (λ p. IsExplainReport s t options.at_most (bursts_of options) p x text)) file one two b)
-      (λ fault k. of_two (λ f s t. PricedFault f (λ p e. IsRefused s t p e) fault) file one two k)
+    module _ (file : Option (List ℕ)) (faults : (fault : ReportFault) → HasNoProfile file fault → IsRefused fault) where
+      no_device : (f : Option (List ℕ)) → HasNoProfile f Device → ⊥
+      no_device None h = h
+      no_device (Some t) h = h
 
-  module _ (Is : List ℕ → List ℕ → Profile → List ℕ → Type 0) (IsFine : List ℕ → List ℕ → Profile → Type 0) (IsFault : List ℕ → List ℕ → Profile → ReportFault → Type 0) where
-    abbrev Reported : {T : Type 0} → Result T ReportFault → Type 0
-    Reported {T} result = Priced {T = T} file (λ p. Answers {T = T} taken failures (λ _ text. Is one two p text) (IsFine one two p) (IsFault one two p) before after result) before after result
+      told_unpriced : (result : Result Bool ReportFault) → IsUnpriced file before after result → Tells taken failures IsTold IsRefused before after result
+      told_unpriced (Ok x) u = absurd (cc u.answered)
+      told_unpriced (Err fault) u =
+          let same : u.fault ≡ fault = cc u.answered in
+          let none : HasNoProfile file fault = subst (HasNoProfile file) same u.no_profile in
+          record {
+            printed = tt;
+            fault = faults fault none;
+            quiet = λ other. u.same;
+            device = λ e.
+                let here : fault ≡ Device = cc e in
+                absurd (no_device file (subst (HasNoProfile file) here none));
+          }
 
-    report_text : {T : Type 0} (x : T) (text : List ℕ) → ByProfile file (λ p. Is one two p text) → IsReportOf Is true (in_front file (one ∷ two ∷ [])) text
-    report_text x text b = of_two (λ f s t. ByProfile f (λ p. Is s t p text)) file one two b
+    pub told_priced : (file : Option (List ℕ)) (IsText : Profile → Bool → List ℕ → Type 0) (IsFine : Profile → Type 0) (IsFault : Profile → ReportFault → Type 0)
+        → ((x : Bool) (text : List ℕ) → ByProfile file (λ p. IsText p x text) → IsTold x text) → ((fault : ReportFault) → PricedFault file IsFault fault → IsRefused fault)
+        → (result : Result Bool ReportFault) → Priced file (λ p. Answers taken failures (IsText p) (IsFine p) (IsFault p) before after result) before after result
+        → Tells taken failures IsTold IsRefused before after result
+    told_priced file IsText IsFine IsFault texts faults result (inl b) =
+        told_answer (IsText b.profile) (IsFine b.profile) (IsFault b.profile)
+        (λ x text is. texts x text (record { profile = b.profile; is = b.is; holds = is }))
+        (λ fault is. faults fault (inl (record { profile = b.profile; is = b.is; holds = is }))) result b.holds
+    told_priced file IsText IsFine IsFault texts faults result (inr u) = told_unpriced file (λ fault none. faults fault (inr none)) result u
 
-    report_fault_of : (fault : ReportFault) → PricedFault file (λ p e. IsFault one two p e) fault → HasNoReport IsFault (in_front file (one ∷ two ∷ [])) fault
-    report_fault_of fault k = of_two (λ f s t. PricedFault f (λ p e. IsFault s t p e) fault) file one two k
+  -- of a source alone
+  pub told_source : (Is : List ℕ → Type 0) (IsFine : Type 0) (IsFault : ReportFault → Type 0) (result : Result (Unit {0}) ReportFault)
+      → Answers taken failures (λ _ text. Is text) IsFine IsFault before after result → (answer : Result Bool ReportFault) → answer ≡ answered result → Tells taken failures (Plain Is) IsFault before after answer
+  told_source Is IsFine IsFault result h answer is =
+      subst (λ (r : Result Bool ReportFault). Tells taken failures (Plain Is) IsFault before after r) (sym is)
+      (told_answer (Plain Is) IsFault (Plain Is) IsFine IsFault (λ x text t. t) (λ fault t. t) (answered result) (answers_plain Is IsFine IsFault result h))
 
-    abbrev RunsReport : ℕ → Type 0
-    RunsReport status = Runs reads taken failures (IsReportOf Is) (HasNoReport IsFault) (in_front profile (source ∷ second ∷ [])) old new before after status
+-- the files in front of which a cycle profile's may stand
+pub of_two : (Is : Option (List ℕ) → List ℕ → List ℕ → Type 0) (file : Option (List ℕ)) (a b : List ℕ) → Is file a b → OfTwo Is (in_front file (a ∷ b ∷ []))
+of_two Is None a b h = h
+of_two Is (Some f) a b h = h
 
-    pub report_ran : {T : Type 0} (result : Result T ReportFault) → Reported result → (status : ℕ) → status ≡ done_status result → RunsReport status
-    report_ran {T} =
-        priced_done {T = T} reads taken failures (IsReportOf Is) (HasNoReport IsFault) (in_front profile (source ∷ second ∷ [])) old new before after (in_front file (one ∷ two ∷ [])) read
-        file (λ p y text. Is one two p text) (λ p. IsFine one two p) (λ p. IsFault one two p) (λ y. true) report_text report_fault_of (λ y. refl)
+pub of_three : (Is : Option (List ℕ) → List ℕ → List ℕ → List ℕ → Type 0) (file : Option (List ℕ)) (a b c : List ℕ) → Is file a b c → OfThree Is (in_front file (a ∷ b ∷ c ∷ []))
+of_three Is None a b c h = h
+of_three Is (Some f) a b c h = h
 
--- of a source, a statement and a third file
-module _ (Is : List ℕ → List ℕ → List ℕ → Profile → Bool → List ℕ → Type 0) (IsFine : List ℕ → List ℕ → List ℕ → Profile → Type 0) (IsFault : List ℕ → List ℕ → List ℕ → Profile → ReportFault → Type 0) where
-  pub answer_ran : {S O : Type 0} (reads : Reading S) (taken : O → Option (List ℕ)) (failures : O → ℕ) (profile : Option (List ℕ)) (source statement third : List ℕ) (file : Option (List ℕ)) (one two three : List ℕ)
-      (old new : S) (before after : O) → ReadsAll reads old (in_front profile (source ∷ statement ∷ third ∷ [])) (in_front file (one ∷ two ∷ three ∷ [])) new
+module _ {O : Type 0} (taken : O → Option (List ℕ)) (failures : O → ℕ) (before after : O) (file : Option (List ℕ)) (one two : List ℕ) where
+  pub told_two : (Is : List ℕ → List ℕ → Profile → Bool → List ℕ → Type 0) (IsFine : List ℕ → List ℕ → Profile → Type 0) (IsFault : List ℕ → List ℕ → Profile → ReportFault → Type 0)
+      → (result : Result Bool ReportFault) → Priced file (λ p. Answers taken failures (Is one two p) (IsFine one two p) (IsFault one two p) before after result) before after result
+      → Tells taken failures (λ answer text. ByTwo (λ a b p. Is a b p answer text) (in_front file (one ∷ two ∷ []))) (RefusesTwo IsFault (in_front file (one ∷ two ∷ []))) before after result
+  told_two Is IsFine IsFault =
+      told_priced taken failures before after (λ answer text. ByTwo (λ a b p. Is a b p answer text) (in_front file (one ∷ two ∷ []))) (RefusesTwo IsFault (in_front file (one ∷ two ∷ [])))
+      file (Is one two) (IsFine one two) (IsFault one two)
+      (λ x text b. of_two (λ f s t. ByProfile f (λ p. Is s t p x text)) file one two b)
+      (λ fault k. of_two (λ f s t. PricedFault f (IsFault s t) fault) file one two k)
+
+  pub told_two_plain : (Is : List ℕ → List ℕ → Profile → List ℕ → Type 0) (IsFine : List ℕ → List ℕ → Profile → Type 0) (IsFault : List ℕ → List ℕ → Profile → ReportFault → Type 0)
+      → (result : Result (Unit {0}) ReportFault) → Priced file (λ p. Answers taken failures (λ _ text. Is one two p text) (IsFine one two p) (IsFault one two p) before after result) before after result
+      → (answer : Result Bool ReportFault) → answer ≡ answered result
+      → Tells taken failures (λ answer text. ByTwo (λ a b p. Plain (Is a b p) answer text) (in_front file (one ∷ two ∷ []))) (RefusesTwo IsFault (in_front file (one ∷ two ∷ []))) before after answer
+  told_two_plain Is IsFine IsFault result h answer is =
+      told_two (λ a b p. Plain (Is a b p)) IsFine IsFault answer (priced_plain taken failures before after file (Is one two) (IsFine one two) (IsFault one two) result h answer is)
+
+  pub told_three : (three : List ℕ) (Is : List ℕ → List ℕ → List ℕ → Profile → Bool → List ℕ → Type 0) (IsFine : List ℕ → List ℕ → List ℕ → Profile → Type 0)
+      (IsFault : List ℕ → List ℕ → List ℕ → Profile → ReportFault → Type 0)
       → (result : Result Bool ReportFault) → Priced file (λ p. Answers taken failures (Is one two three p) (IsFine one two three p) (IsFault one two three p) before after result) before after result
-      → (status : ℕ) → status ≡ answer_status result → Runs reads taken failures (IsAnswerOf Is) (HasNoAnswer IsFault) (in_front profile (source ∷ statement ∷ third ∷ [])) old new before after status
-  answer_ran reads taken failures profile source statement third file one two three old new before after read =
-      priced_ran reads taken failures (IsAnswerOf Is) (HasNoAnswer IsFault) (in_front profile (source ∷ statement ∷ third ∷ [])) old new before after (in_front file (one ∷ two ∷ three ∷ [])) read
-      file (λ p. Is one two three p) (λ p. IsFine one two three p) (λ p. IsFault one two three p)
+      → Tells taken failures (λ answer text. ByThree (λ a b c p. Is a b c p answer text) (in_front file (one ∷ two ∷ three ∷ []))) (RefusesThree IsFault (in_front file (one ∷ two ∷ three ∷ []))) before after result
+  told_three three Is IsFine IsFault =
+      told_priced taken failures before after (λ answer text. ByThree (λ a b c p. Is a b c p answer text) (in_front file (one ∷ two ∷ three ∷ []))) (RefusesThree IsFault (in_front file (one ∷ two ∷ three ∷ [])))
+      file (Is one two three) (IsFine one two three) (IsFault one two three)
       (λ x text b. of_three (λ f s t u. ByProfile f (λ p. Is s t u p x text)) file one two three b)
-      (λ fault k. of_three (λ f s t u. PricedFault f (λ p e. IsFault s t u p e) fault) file one two three k)
+      (λ fault k. of_three (λ f s t u. PricedFault f (IsFault s t u) fault) file one two three k)
 
-module _ {S O : Type 0} (reads : Reading S) (taken : O → Option (List ℕ)) (failures : O → ℕ) (profile : Option (List ℕ)) (source irq fiq : List ℕ) (k : ℕ) (file : Option (List ℕ))
-    (one two three : List ℕ) (old new : S) (before after : O) (read : ReadsAll reads old (in_front profile (source ∷ irq ∷ fiq ∷ [])) (in_front file (one ∷ two ∷ three ∷ [])) new) where
-  visits_text : {T : Type 0} (x : T) (text : List ℕ) → ByProfile file (λ p. IsVisitsReport one two three k p text) → IsVisitsReportOf k true (in_front file (one ∷ two ∷ three ∷ [])) text
-  visits_text x text b = of_three (λ f s t u. ByProfile f (λ p. IsVisitsReport s t u k p text)) file one two three b
+  pub told_three_plain : (three : List ℕ) (Is : List ℕ → List ℕ → List ℕ → Profile → List ℕ → Type 0) (IsFine : List ℕ → List ℕ → List ℕ → Profile → Type 0)
+      (IsFault : List ℕ → List ℕ → List ℕ → Profile → ReportFault → Type 0)
+      → (result : Result (Unit {0}) ReportFault) → Priced file (λ p. Answers taken failures (λ _ text. Is one two three p text) (IsFine one two three p) (IsFault one two three p) before after result) before after result
+      → (answer : Result Bool ReportFault) → answer ≡ answered result
+      → Tells taken failures (λ answer text. ByThree (λ a b c p. Plain (Is a b c p) answer text) (in_front file (one ∷ two ∷ three ∷ []))) (RefusesThree IsFault (in_front file (one ∷ two ∷ three ∷ []))) before after answer
+  told_three_plain three Is IsFine IsFault result h answer is =
+      told_three three (λ a b c p. Plain (Is a b c p)) IsFine IsFault answer (priced_plain taken failures before after file (Is one two three) (IsFine one two three) (IsFault one two three) result h answer is)
 
-  visits_fault : (fault : ReportFault) → PricedFault file (λ p e. AreRefused one two three k p e) fault → HasNoVisitsReport k (in_front file (one ∷ two ∷ three ∷ [])) fault
-  visits_fault fault h = of_three (λ f s t u. PricedFault f (λ p e. AreRefused s t u k p e) fault) file one two three h
+-- ## `debug`
 
-  pub visits_ran : {T : Type 0} (result : Result T ReportFault) → Priced {T = T} file (λ p. ReportsVisits {T = T} taken failures one two three k p before after result) before after result
-      → (status : ℕ) → status ≡ done_status result → RunsVisits reads taken failures profile source irq fiq k old new before after status
-  visits_ran {T} =
-      priced_done {T = T} reads taken failures (IsVisitsReportOf k) (HasNoVisitsReport k) (in_front profile (source ∷ irq ∷ fiq ∷ [])) old new before after
-      (in_front file (one ∷ two ∷ three ∷ [])) read
-      file (λ p y text. IsVisitsReport one two three k p text) (λ p. AreAccepted one two three k p) (λ p. AreRefused one two three k p) (λ y. true) visits_text visits_fault (λ y. refl)
-
-module _ {S I O : Type 0} (reads : Reading S) (remaining : I → Option (List ℕ)) (taken : O → Option (List ℕ)) (failures : O → ℕ) (profile : Option (List ℕ)) (source machine : List ℕ)
-    (old new : S) (heard_old heard_new : I) (before after : O) where
+module _ {S I O : Type 0} (reads : Reading S) (remaining : I → Option (List ℕ)) (taken : O → Option (List ℕ)) (failures : O → ℕ) (names : FileNames) (old new : S) (heard_old heard_new : I) (before after : O) where
   -- a file could not be read
-  pub debug_unread : (fault : StoreFault) → FailsToRead reads old (in_front profile (source ∷ machine ∷ [])) fault new → heard_new ≡ heard_old → after ≡ before → (status : ℕ) → status ≡ store_status fault
-      → RunsDebug reads remaining taken failures profile source machine old new heard_old heard_new before after status
+  pub debug_unread : (fault : StoreFault) → FailsToRead reads old (two_of names) fault new → heard_new ≡ heard_old → after ≡ before → (status : ℕ) → status ≡ store_status fault
+      → RunsDebug reads remaining taken failures names old new heard_old heard_new before after status
   debug_unread fault fails unheard same status is = inr (inl (record { fault = fault; fails = fails; status_is = is; unheard = unheard }), same)
 
   -- standard input could not
-  pub debug_unheard : (files : Texts) (fault : StoreFault) → ReadsAll reads old (in_front profile (source ∷ machine ∷ [])) files new
+  pub debug_unheard : (files : Texts) (fault : StoreFault) → ReadsAll reads old (two_of names) files new
       → (fault ≡ store_fault.InputTooLong → (front : List ℕ) × (length front ≡ 16777217) × Consumes (remaining heard_old) (remaining heard_new) front) → after ≡ before → (status : ℕ) → status ≡ store_status fault
-      → RunsDebug reads remaining taken failures profile source machine old new heard_old heard_new before after status
+      → RunsDebug reads remaining taken failures names old new heard_old heard_new before after status
   debug_unheard files fault read too_long same status is = inr (inr (inl (record { files = files; read = read; fault = fault; status_is = is; too_long = too_long })), same)
 
-  module _ (file : Option (List ℕ)) (one two commands : List ℕ) (read : ReadsAll reads old (in_front profile (source ∷ machine ∷ [])) (in_front file (one ∷ two ∷ [])) new)
-      (heard : Consumes (remaining heard_old) (remaining heard_new) commands) (at_end : IsAtEnd (remaining heard_new)) (few : length commands ≤ 16777216) where
-    has_heard : HasHeard reads remaining (in_front profile (source ∷ machine ∷ [])) old new heard_old heard_new commands
-    has_heard = record { files = in_front file (one ∷ two ∷ []); read = read; heard = heard; at_end = at_end; few = few }
-
-    debug_text : {T : Type 0} (x : T) (text : List ℕ) → ByProfile file (λ p. IsDebugReport one two commands p text) → IsSessionOf commands true (in_front file (one ∷ two ∷ [])) text
-    debug_text x text b = of_two (λ f s m. ByProfile f (λ p. IsDebugReport s m commands p text)) file one two b
-
-    debug_fault : (fault : ReportFault) → PricedFault file (λ p e. IsRunRefused one two p e) fault → HasNoRun (in_front file (one ∷ two ∷ [])) fault
-    debug_fault fault k = of_two (λ f s m. PricedFault f (λ p e. IsRunRefused s m p e) fault) file one two k
-
-    abbrev pub DebugAnswers : {T : Type 0} → Result T ReportFault → Type 0
-    DebugAnswers result = Priced file (λ p. Answers taken failures (λ _ text. IsDebugReport one two commands p text) (IsRunnable one two p) (IsRunRefused one two p) before after result) before after result
-
-    pub debug_ran : {T : Type 0} (result : Result T ReportFault) → DebugAnswers result → (status : ℕ) → status ≡ done_status result
-        → RunsDebug reads remaining taken failures profile source machine old new heard_old heard_new before after status
-    debug_ran {T} result h status is =
+  module _ (commands : List ℕ) (heard : Consumes (remaining heard_old) (remaining heard_new) commands) (at_end : IsAtEnd (remaining heard_new)) (few : length commands ≤ 16777216)
+      (kept lent : Texts) (same : lent ≡ kept) (read : ReadsAll reads old (two_of names) kept new) where
+    -- a session of the commands was printed, or refused
+    pub debug_ran : (result : Result Bool ReportFault) → Tells taken failures (λ answer. IsSessionOf commands answer lent) (RefusesTwo IsRunRefused lent) before after result
+        → (status : ℕ) → status ≡ answer_status result → RunsDebug reads remaining taken failures names old new heard_old heard_new before after status
+    debug_ran result tells status is =
         inl (
           commands,
-          has_heard,
-          priced_done {T = T} reads taken failures (IsSessionOf commands) HasNoRun (in_front profile (source ∷ machine ∷ [])) old new before after (in_front file (one ∷ two ∷ [])) read
-              file (λ p y text. IsDebugReport one two commands p text) (λ p. IsRunnable one two p) (λ p. IsRunRefused one two p) (λ y. true) debug_text debug_fault (λ y. refl) result h status is,
+          record { files = kept; read = read; heard = heard; at_end = at_end; few = few },
+          told_ran reads taken failures (IsSessionOf commands) (RefusesTwo IsRunRefused) (two_of names) old new before after kept read result
+              (subst (λ (files : Texts). Tells taken failures (λ answer. IsSessionOf commands answer files) (RefusesTwo IsRunRefused files) before after result) same tells) status is,
         )
 
 -- ## Without memory for the words
@@ -385,28 +365,21 @@ module _ {S I O : Type 0} (reads : Reading S) (writes : Writing S) (remaining : 
     known = inr (inr (inl refl));
   }
 
+  starved_of : (asked : Asked) → RunsOf reads taken failures asked store store out out 3 × (input ≡ input)
+  starved_of asked = (starved_run (text_of asked) (fault_of asked) (files_of asked), refl)
+
   pub starved_asked : (asked : Asked) → RunsAsked reads writes remaining taken failures asked store store input input out out 3
-  starved_asked (asm source image) = (
-    record {
-      done = λ e. absurd (omega (arith, e));
-      denied = λ e. absurd (omega (arith, e));
-      failed = λ e. absurd (omega (arith, e));
-      starved = λ e. (λ changed. absurd (changed refl), refl);
-      known = inr (inr (inl refl));
-    },
-    refl,
-  )
-  starved_asked (list source) = (starved_run (IsTextOf IsListReport) (HasNoText IsSourceRefused) (source ∷ []), refl)
-  starved_asked (draft source entry) =
-      (starved_run (IsTextOf (λ s text. IsDraftReport s entry text)) (HasNoText (λ s e. IsDraftRefused s entry e)) (source ∷ []), refl)
-  starved_asked (explain n options) = (starved_run (IsExplanationOf options) (HasNoReport IsRefused) (in_front n.profile (n.first ∷ n.second ∷ [])), refl)
+  starved_asked (asm source image) = (asm_quiet reads writes taken failures source image store store out 3 (starved_run Nothing (fault_of (asm source image)) (source ∷ [])), refl)
   starved_asked (debug n) = inr (inr (inr (refl, refl, refl)), refl)
-  starved_asked (run n) = (starved_run (IsRunOf ShowsRegisters) HasNoRun (in_front n.profile (n.first ∷ n.second ∷ [])), refl)
-  starved_asked (trace n) = (starved_run (IsRunOf ShowsSteps) HasNoRun (in_front n.profile (n.first ∷ n.second ∷ [])), refl)
-  starved_asked (graph n) = (starved_run (IsReportOf IsGraphReport) (HasNoReport IsRefused) (in_front n.profile (n.first ∷ n.second ∷ [])), refl)
-  starved_asked (bound n) = (starved_run (IsReportOf IsReport) (HasNoReport IsRefused) (in_front n.profile (n.first ∷ n.second ∷ [])), refl)
-  starved_asked (tight n edge) = (starved_run (IsReportOf (IsTightReportOf edge)) (HasNoReport (HasNoTightReportOf edge)) (in_front n.profile (n.first ∷ n.second ∷ [])), refl)
-  starved_asked (check n cert) = (starved_run (IsAnswerOf IsAnswer) (HasNoAnswer IsCheckRefused) (in_front n.profile (n.first ∷ n.second ∷ cert ∷ [])), refl)
-  starved_asked (explain_verdict n cert) = (starved_run (IsAnswerOf IsVerdictReport) (HasNoAnswer IsCheckRefused) (in_front n.profile (n.first ∷ n.second ∷ cert ∷ [])), refl)
-  starved_asked (visits n fiq k) = (starved_run (IsVisitsReportOf k) (HasNoVisitsReport k) (in_front n.profile (n.first ∷ n.second ∷ fiq ∷ [])), refl)
-  starved_asked (follow n machine) = (starved_run (IsAnswerOf IsFollowReport) (HasNoAnswer IsFollowRefused) (in_front n.profile (n.first ∷ n.second ∷ machine ∷ [])), refl)
+  starved_asked (list source) = starved_of (list source)
+  starved_asked (draft source entry) = starved_of (draft source entry)
+  starved_asked (run n) = starved_of (run n)
+  starved_asked (trace n) = starved_of (trace n)
+  starved_asked (bound n) = starved_of (bound n)
+  starved_asked (graph n) = starved_of (graph n)
+  starved_asked (explain n options) = starved_of (explain n options)
+  starved_asked (tight n edge) = starved_of (tight n edge)
+  starved_asked (check n cert) = starved_of (check n cert)
+  starved_asked (explain_verdict n cert) = starved_of (explain_verdict n cert)
+  starved_asked (visits n fiq k) = starved_of (visits n fiq k)
+  starved_asked (follow n machine) = starved_of (follow n machine)

@@ -1,5 +1,6 @@
 -- Reading files from a store, one after another, and writing one.
 use Rattle.std.specs.Prelude.{◌≡◌, ◌⊎◌, ℕ, List, [], ◌∷◌, Option, Some, None, Result, Ok, Err}
+use Rattle.command_line.specs.Line.{FileNames}
 use Rattle.arcwcet.specs.declared.fault.StoreFault.{StoreFault}
 
 -- the names of files, or their bytes
@@ -10,6 +11,13 @@ Texts = List (List ℕ)
 abbrev pub in_front : Option (List ℕ) → Texts → Texts
 in_front None others = others
 in_front (Some file) others = file ∷ others
+
+-- the names of two files, and of a third one
+abbrev pub two_of : FileNames → Texts
+two_of n = in_front n.profile (n.first ∷ n.second ∷ [])
+
+abbrev pub three_of : FileNames → (third : List ℕ) → Texts
+three_of n third = in_front n.profile (n.first ∷ n.second ∷ third ∷ [])
 
 -- how a store is read: what it was, a name, what the read gives, and the store after it
 abbrev pub Reading : Type 0 → Type 1

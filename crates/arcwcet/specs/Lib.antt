@@ -1,3 +1,5 @@
+pub mod Asked
+pub mod FileTexts
 pub mod Files
 pub mod ReadFailures
 pub mod Run

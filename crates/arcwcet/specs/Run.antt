@@ -1,22 +1,22 @@
 -- What a run of the program does, by its exit status.
 use Rattle.std.specs.Prelude.{◌≡◌, ◌≢◌, ◌⊎◌, ◌≤◌, ℕ, Bool, true, false, if◌then◌else◌, List, [], ◌∷◌, length}
-use Rattle.std.specs.Prelude.{Option, Some, None, Result, Ok, Err}
+use Rattle.std.specs.Prelude.{Option, Some, None, Result, Ok, Err, IfOk, IfErr}
 use Rattle.std.specs.Io.KnownBytes.{Appends, Consumes, IsAtEnd}
 use Rattle.report_output.specs.Answers.{FailsWithin, OfSome, Prints}
-use Rattle.machine_reports.specs.Assembly.{IsSourceRefused, IsWritten}
+use Rattle.machine_reports.specs.Assembly.{IsAsmReport, IsSourceRefused, IsWritten}
 use Rattle.bound_reports.specs.Check.{IsAnswer, IsCheckRefused}
 use Rattle.bound_reports.specs.Verdict.{IsVerdictReport}
 use Rattle.machine_reports.specs.Debug.{IsDebugReport}
-use Rattle.arcwcet.specs.Files.{FailsToRead, ReadsAll, Reading, Texts, Writing, in_front}
+use Rattle.arcwcet.specs.Files.{FailsToRead, ReadsAll, Reading, Texts, Writing, three_of, two_of}
 use Rattle.command_line.specs.Line.{Asked, asm, list, draft, run, trace, debug, bound, explain, tight}
-use Rattle.command_line.specs.Line.{ExplainOptions, check, explain_verdict, follow, graph, visits}
+use Rattle.command_line.specs.Line.{ExplainOptions, FileNames, check, explain_verdict, follow, graph, visits}
 use Rattle.author_reports.specs.DraftReport.{IsDraftRefused, IsDraftReport}
 use Rattle.author_reports.specs.ExplainReport.{IsExplainReport}
 use Rattle.author_reports.specs.FollowReport.{IsFollowRefused, IsFollowReport}
 use Rattle.author_reports.specs.GraphReport.{IsGraphReport}
 use Rattle.machine_reports.specs.ListReport.{IsListReport}
 use Rattle.report_input.specs.Placing.{IsRunRefused}
-use Rattle.machine_reports.specs.Machine.{Front, IsMachineReport, ShowsRegisters, ShowsSteps}
+use Rattle.machine_reports.specs.Machine.{IsMachineReport, ShowsRegisters, ShowsSteps}
 use Rattle.outputs.specs.Output.{TakesFront, FailsSince}
 use Rattle.report_input.specs.Priced.{ByProfile, PricedFault}
 use Rattle.report_input.specs.Report.{IsRefused, IsReport}
@@ -40,11 +40,6 @@ abbrev pub report_status : ReportFault → ℕ
 report_status report_fault.Memory = 3
 report_status report_fault.Device = 4
 report_status fault = 1
-
--- the exit status of a report that gives no answer but its text
-abbrev pub done_status : {T : Type 0} → Result T ReportFault → ℕ
-done_status (Ok _) = 0
-done_status (Err fault) = report_status fault
 
 -- the exit status of a report that says yes or no
 abbrev pub answer_status : Result Bool ReportFault → ℕ
@@ -112,7 +107,29 @@ pub record Runs {S O : Type 0} (reads : Reading S) (taken : O → Option (List �
   pub starved : status ≡ 3 → IsStarvedRun reads names old new × (after ≡ before)
   pub known : (status ≡ 0) ⊎ ((status ≡ 1) ⊎ ((status ≡ 3) ⊎ (status ≡ 4)))
 
--- ## Files with a cycle profile's in front, where there is one
+-- ## The files of a command, with a cycle profile's in front, where there is one
+
+abbrev pub files_of : Asked → Texts
+files_of (asm source image) = source ∷ []
+files_of (list source) = source ∷ []
+files_of (draft source entry) = source ∷ []
+files_of (run n) = two_of n
+files_of (trace n) = two_of n
+files_of (debug n) = two_of n
+files_of (bound n) = two_of n
+files_of (graph n) = two_of n
+files_of (explain n options) = two_of n
+files_of (tight n edge) = two_of n
+files_of (check n cert) = three_of n cert
+files_of (explain_verdict n cert) = three_of n cert
+files_of (visits n fiq k) = three_of n fiq
+files_of (follow n machine) = three_of n machine
+
+-- ## Of the bytes of one, two or three files, by the profile
+
+abbrev pub OfOne : (List ℕ → Type 0) → Texts → Type 0
+OfOne Is (a ∷ []) = Is a
+OfOne Is files = ⊥
 
 abbrev pub OfTwo : (Option (List ℕ) → List ℕ → List ℕ → Type 0) → Texts → Type 0
 OfTwo Is (a ∷ b ∷ []) = Is None a b
@@ -124,149 +141,101 @@ OfThree Is (a ∷ b ∷ c ∷ []) = Is None a b c
 OfThree Is (profile ∷ a ∷ b ∷ c ∷ []) = Is (Some profile) a b c
 OfThree Is files = ⊥
 
--- ## `bound SOURCE STATEMENT`
+abbrev pub ByTwo : (List ℕ → List ℕ → Profile → Type 0) → Texts → Type 0
+ByTwo Is files = OfTwo (λ file a b. ByProfile file (Is a b)) files
 
--- such a text of a source and a statement by the profile, at 0 alone
-abbrev pub IsReportOf : (List ℕ → List ℕ → Profile → List ℕ → Type 0) → Bool → Texts → List ℕ → Type 0
-IsReportOf Is true files text =
-    OfTwo (λ file source statement. ByProfile file (λ p. Is source statement p text)) files
-IsReportOf Is false files text = ⊥
+abbrev pub ByThree : (List ℕ → List ℕ → List ℕ → Profile → Type 0) → Texts → Type 0
+ByThree Is files = OfThree (λ file a b c. ByProfile file (Is a b c)) files
 
-abbrev pub HasNoReport : (List ℕ → List ℕ → Profile → ReportFault → Type 0) → Texts → ReportFault → Type 0
-HasNoReport IsFault files fault =
-    OfTwo (λ file source statement. PricedFault file (λ p f. IsFault source statement p f) fault) files
+-- ## What is printed, and why not
 
-abbrev pub RunsBound : {S O : Type 0} → Reading S → (O → Option (List ℕ)) → (O → ℕ) → Option (List ℕ) → List ℕ
-    → List ℕ → S → S → O → O → ℕ → Type 0
-RunsBound reads taken failures profile source statement old new before after status =
-    Runs reads taken failures (IsReportOf IsReport) (HasNoReport IsRefused)
-    (in_front profile (source ∷ statement ∷ [])) old new before after status
+-- a text that is all there is to say is one of yes
+abbrev pub Plain : (List ℕ → Type 0) → Bool → List ℕ → Type 0
+Plain Is true text = Is text
+Plain Is false text = ⊥
 
--- ## `graph SOURCE STATEMENT`
-
-abbrev pub RunsGraph : {S O : Type 0} → Reading S → (O → Option (List ℕ)) → (O → ℕ) → Option (List ℕ) → List ℕ
-    → List ℕ → S → S → O → O → ℕ → Type 0
-RunsGraph reads taken failures profile source statement old new before after status =
-    Runs reads taken failures (IsReportOf IsGraphReport) (HasNoReport IsRefused)
-    (in_front profile (source ∷ statement ∷ [])) old new before after status
-
--- ## `explain SOURCE STATEMENT`
+-- the session of these commands
+abbrev pub IsSessionOf : (commands : List ℕ) → Bool → Texts → List ℕ → Type 0
+IsSessionOf commands answer files text =
+    ByTwo (λ source machine p. Plain (IsDebugReport source machine commands p) answer text) files
 
 abbrev pub bursts_of : ExplainOptions → Bursts
 bursts_of o = record { count = o.bursts; every = o.burst_every }
 
--- the explanation of a source and a statement by the profile: at 0 the bound is enough, at 1 it is not
-abbrev pub IsExplanationOf : ExplainOptions → Bool → Texts → List ℕ → Type 0
-IsExplanationOf options enough files text =
-    OfTwo
-    (λ file source statement. ByProfile file
-    (λ p. IsExplainReport source statement options.at_most (bursts_of options) p enough text)) files
+-- What a command prints of its files' bytes, with its answer: whether a run did all its steps, a bound is
+-- enough, a certificate proves it, a run keeps its statement; the others answer yes.
+abbrev pub text_of : Asked → Bool → Texts → List ℕ → Type 0
+text_of (asm source image) answer files text = OfOne (λ s. Plain (IsAsmReport s) answer text) files
+text_of (list source) answer files text = OfOne (λ s. Plain (IsListReport s) answer text) files
+text_of (draft source entry) answer files text =
+    OfOne (λ s. Plain (IsDraftReport s entry) answer text) files
+text_of (run n) answer files text = ByTwo (λ s m p. IsMachineReport ShowsRegisters s m p answer text) files
+text_of (trace n) answer files text = ByTwo (λ s m p. IsMachineReport ShowsSteps s m p answer text) files
+text_of (debug n) answer files text = (commands : List ℕ) × IsSessionOf commands answer files text
+text_of (bound n) answer files text = ByTwo (λ s t p. Plain (IsReport s t p) answer text) files
+text_of (graph n) answer files text = ByTwo (λ s t p. Plain (IsGraphReport s t p) answer text) files
+text_of (explain n o) answer files text =
+    ByTwo (λ s t p. IsExplainReport s t o.at_most (bursts_of o) p answer text) files
+text_of (tight n edge) answer files text =
+    ByTwo (λ s t p. Plain (IsTightReport s t edge p) answer text) files
+text_of (check n cert) answer files text = ByThree (λ s t c p. IsAnswer s t c p answer text) files
+text_of (explain_verdict n cert) answer files text =
+    ByThree (λ s t c p. IsVerdictReport s t c p answer text) files
+text_of (visits n fiq k) answer files text =
+    ByThree (λ s irq f p. Plain (IsVisitsReport s irq f k p) answer text) files
+text_of (follow n machine) answer files text = ByThree (λ s t m p. IsFollowReport s t m p answer text) files
 
-abbrev pub RunsExplain : {S O : Type 0} → Reading S → (O → Option (List ℕ)) → (O → ℕ) → Option (List ℕ)
-    → List ℕ → List ℕ → ExplainOptions → S → S → O → O → ℕ → Type 0
-RunsExplain reads taken failures profile source statement options old new before after status =
-    Runs reads taken failures (IsExplanationOf options) (HasNoReport IsRefused)
-    (in_front profile (source ∷ statement ∷ [])) old new before after status
+abbrev pub RefusesTwo : (List ℕ → List ℕ → Profile → ReportFault → Type 0) → Texts → ReportFault → Type 0
+RefusesTwo IsFault files fault = OfTwo (λ file a b. PricedFault file (IsFault a b) fault) files
 
--- ## `bound --tight N SOURCE STATEMENT`
-
-abbrev pub IsTightReportOf : (n : ℕ) → List ℕ → List ℕ → Profile → List ℕ → Type 0
-IsTightReportOf n source statement p text = IsTightReport source statement n p text
-
-abbrev pub HasNoTightReportOf : (n : ℕ) → List ℕ → List ℕ → Profile → ReportFault → Type 0
-HasNoTightReportOf n source statement p fault = IsTightRefused source statement n p fault
-
-abbrev pub RunsTight : {S O : Type 0} → Reading S → (O → Option (List ℕ)) → (O → ℕ) → Option (List ℕ) → List ℕ
-    → List ℕ → ℕ → S → S → O → O → ℕ → Type 0
-RunsTight reads taken failures profile source statement n old new before after status =
-    Runs reads taken failures (IsReportOf (IsTightReportOf n)) (HasNoReport (HasNoTightReportOf n))
-    (in_front profile (source ∷ statement ∷ [])) old new before after status
-
--- ## Of a source, a statement and a third file
-
--- such a text of the three by the profile: of yes at 0, of no at 1
-abbrev pub IsAnswerOf : (List ℕ → List ℕ → List ℕ → Profile → Bool → List ℕ → Type 0) → Bool → Texts → List ℕ
+abbrev pub RefusesThree : (List ℕ → List ℕ → List ℕ → Profile → ReportFault → Type 0) → Texts → ReportFault
     → Type 0
-IsAnswerOf Is answer files text =
-    OfThree (λ file source statement third. ByProfile file (λ p. Is source statement third p answer text)) files
+RefusesThree IsFault files fault = OfThree (λ file a b c. PricedFault file (IsFault a b c) fault) files
 
-abbrev pub HasNoAnswer : (List ℕ → List ℕ → List ℕ → Profile → ReportFault → Type 0) → Texts → ReportFault
+-- why a command refuses its files' bytes
+abbrev pub fault_of : Asked → Texts → ReportFault → Type 0
+fault_of (asm source image) files fault = OfOne (λ s. IsSourceRefused s fault) files
+fault_of (list source) files fault = OfOne (λ s. IsSourceRefused s fault) files
+fault_of (draft source entry) files fault = OfOne (λ s. IsDraftRefused s entry fault) files
+fault_of (run n) files fault = RefusesTwo IsRunRefused files fault
+fault_of (trace n) files fault = RefusesTwo IsRunRefused files fault
+fault_of (debug n) files fault = RefusesTwo IsRunRefused files fault
+fault_of (bound n) files fault = RefusesTwo IsRefused files fault
+fault_of (graph n) files fault = RefusesTwo IsRefused files fault
+fault_of (explain n options) files fault = RefusesTwo IsRefused files fault
+fault_of (tight n edge) files fault = RefusesTwo (λ s t p f. IsTightRefused s t edge p f) files fault
+fault_of (check n cert) files fault = RefusesThree IsCheckRefused files fault
+fault_of (explain_verdict n cert) files fault = RefusesThree IsCheckRefused files fault
+fault_of (visits n fiq k) files fault = RefusesThree (λ s irq f p e. AreRefused s irq f k p e) files fault
+fault_of (follow n machine) files fault = RefusesThree IsFollowRefused files fault
+
+-- the answer of a report that is its text alone
+abbrev pub answered : Result (Unit {0}) ReportFault → Result Bool ReportFault
+answered (Ok _) = Ok true
+answered (Err fault) = Err fault
+
+-- what a report answers, with the output before it and after it
+pub record Tells {O : Type 0} (taken : O → Option (List ℕ)) (failures : O → ℕ)
+    (IsText : Bool → List ℕ → Type 0) (IsFault : ReportFault → Type 0) (before after : O)
+    (result : Result Bool ReportFault) : Type 0 where
+  pub printed : IfOk result (λ answer. Prints (IsText answer) (taken before) (taken after))
+  pub fault : IfErr result IsFault
+  pub quiet : IfErr result (λ e. e ≢ report_fault.Device → after ≡ before)
+  pub device : result ≡ Err report_fault.Device
+      → FailsWithin (OfSome IsText) (taken before) (taken after) (failures before) (failures after)
+
+-- what that of a command answers, by its files' bytes
+abbrev pub TellsOf : {O : Type 0} → (O → Option (List ℕ)) → (O → ℕ) → Asked → Texts → (before after : O)
+    → Result Bool ReportFault → Type 0
+TellsOf taken failures asked files before after result =
+    Tells taken failures (λ answer. text_of asked answer files) (fault_of asked files) before after result
+
+-- ## Of a command that reads its files and prints its report
+
+abbrev pub RunsOf : {S O : Type 0} → Reading S → (O → Option (List ℕ)) → (O → ℕ) → Asked → S → S → O → O → ℕ
     → Type 0
-HasNoAnswer IsFault files fault =
-    OfThree
-    (λ file source statement third. PricedFault file (λ p f. IsFault source statement third p f) fault) files
-
--- ## `check SOURCE STATEMENT CERT`: the verdict's line
-
-abbrev pub RunsCheck : {S O : Type 0} → Reading S → (O → Option (List ℕ)) → (O → ℕ) → Option (List ℕ) → List ℕ
-    → List ℕ → List ℕ → S → S → O → O → ℕ → Type 0
-RunsCheck reads taken failures profile source statement cert old new before after status =
-    Runs reads taken failures (IsAnswerOf IsAnswer) (HasNoAnswer IsCheckRefused)
-    (in_front profile (source ∷ statement ∷ cert ∷ [])) old new before after status
-
--- ## `explain --certificate CERT SOURCE STATEMENT`: that line, and what fails
-
-abbrev pub RunsExplainVerdict : {S O : Type 0} → Reading S → (O → Option (List ℕ)) → (O → ℕ) → Option (List ℕ)
-    → List ℕ → List ℕ → List ℕ → S → S → O → O → ℕ → Type 0
-RunsExplainVerdict reads taken failures profile source statement cert old new before after status =
-    Runs reads taken failures (IsAnswerOf IsVerdictReport) (HasNoAnswer IsCheckRefused)
-    (in_front profile (source ∷ statement ∷ cert ∷ [])) old new before after status
-
--- ## `follow SOURCE STATEMENT MACHINE`: whether the run of the machine keeps the statement
-
-abbrev pub RunsFollow : {S O : Type 0} → Reading S → (O → Option (List ℕ)) → (O → ℕ) → Option (List ℕ)
-    → List ℕ → List ℕ → List ℕ → S → S → O → O → ℕ → Type 0
-RunsFollow reads taken failures profile source statement machine old new before after status =
-    Runs reads taken failures (IsAnswerOf IsFollowReport) (HasNoAnswer IsFollowRefused)
-    (in_front profile (source ∷ statement ∷ machine ∷ [])) old new before after status
-
--- ## `visits SOURCE STATEMENT FIQSTATEMENT K`
-
--- the report of a source and two statements for k visits by the profile, at 0 alone
-abbrev pub IsVisitsReportOf : (k : ℕ) → Bool → Texts → List ℕ → Type 0
-IsVisitsReportOf k true files text =
-    OfThree (λ file source irq fiq. ByProfile file (λ p. IsVisitsReport source irq fiq k p text)) files
-IsVisitsReportOf k false files text = ⊥
-
-abbrev pub HasNoVisitsReport : (k : ℕ) → Texts → ReportFault → Type 0
-HasNoVisitsReport k files fault =
-    OfThree
-    (λ file source irq fiq. PricedFault file (λ p f. AreRefused source irq fiq k p f) fault) files
-
-abbrev pub RunsVisits : {S O : Type 0} → Reading S → (O → Option (List ℕ)) → (O → ℕ) → Option (List ℕ)
-    → List ℕ → List ℕ → List ℕ → ℕ → S → S → O → O → ℕ → Type 0
-RunsVisits reads taken failures profile source irq fiq k old new before after status =
-    Runs reads taken failures (IsVisitsReportOf k) (HasNoVisitsReport k)
-    (in_front profile (source ∷ irq ∷ fiq ∷ [])) old new before after status
-
--- ## `run SOURCE MACHINE` and `trace SOURCE MACHINE`
-
--- the report of a run by the profile: of all its steps at 0, of a machine that stopped at 1
-abbrev pub IsRunOf : Front → Bool → Texts → List ℕ → Type 0
-IsRunOf Shows done files text =
-    OfTwo
-    (λ file source machine. ByProfile file (λ p. IsMachineReport Shows source machine p done text)) files
-
-abbrev pub HasNoRun : Texts → ReportFault → Type 0
-HasNoRun files fault =
-    OfTwo (λ file source machine. PricedFault file (λ p f. IsRunRefused source machine p f) fault) files
-
-abbrev pub RunsMachine : {S O : Type 0} → Front → Reading S → (O → Option (List ℕ)) → (O → ℕ)
-    → Option (List ℕ) → List ℕ → List ℕ → S → S → O → O → ℕ → Type 0
-RunsMachine Shows reads taken failures profile source machine old new before after status =
-    Runs reads taken failures (IsRunOf Shows) HasNoRun
-    (in_front profile (source ∷ machine ∷ [])) old new before after status
-
--- ## Of a source alone
-
--- such a text of a source, at 0 alone
-abbrev pub IsTextOf : (List ℕ → List ℕ → Type 0) → Bool → Texts → List ℕ → Type 0
-IsTextOf Is true (source ∷ []) text = Is source text
-IsTextOf Is _ files text = ⊥
-
-abbrev pub HasNoText : (List ℕ → ReportFault → Type 0) → Texts → ReportFault → Type 0
-HasNoText IsFault (source ∷ []) fault = IsFault source fault
-HasNoText IsFault files fault = ⊥
+RunsOf reads taken failures asked old new before after status =
+    Runs reads taken failures (text_of asked) (fault_of asked) (files_of asked) old new before after status
 
 -- ## `asm SOURCE IMAGE`
 
@@ -308,7 +277,7 @@ pub record RunsAsm {S O : Type 0} (reads : Reading S) (writes : Writing S) (take
     (source image : List ℕ) (old new : S) (before after : O) (status : ℕ) : Type 0 where
   pub done : status ≡ 0 → HasAssembled reads writes source image old new (taken before) (taken after)
   pub denied : status ≡ 1
-      → IsRefusedRun reads (source ∷ []) old new (HasNoText IsSourceRefused) × (after ≡ before)
+      → IsRefusedRun reads (source ∷ []) old new (fault_of (asm source image)) × (after ≡ before)
   pub failed : status ≡ 4
       → FailsToTell reads writes source image old new (taken before) (taken after) (failures before)
       (failures after)
@@ -318,31 +287,7 @@ pub record RunsAsm {S O : Type 0} (reads : Reading S) (writes : Writing S) (take
   pub starved : status ≡ 3 → IsStarvedRun reads (source ∷ []) old new × (after ≡ before)
   pub known : (status ≡ 0) ⊎ ((status ≡ 1) ⊎ ((status ≡ 3) ⊎ (status ≡ 4)))
 
--- ## `list SOURCE`
-
-abbrev pub RunsList : {S O : Type 0} → Reading S → (O → Option (List ℕ)) → (O → ℕ) → List ℕ → S → S → O → O
-    → ℕ → Type 0
-RunsList reads taken failures source old new before after status =
-    Runs reads taken failures (IsTextOf IsListReport) (HasNoText IsSourceRefused) (source ∷ [])
-    old new before after status
-
--- ## `draft SOURCE ENTRY`
-
-abbrev pub RunsDraft : {S O : Type 0} → Reading S → (O → Option (List ℕ)) → (O → ℕ) → List ℕ
-    → (entry : List ℕ) → S → S → O → O → ℕ → Type 0
-RunsDraft reads taken failures source entry old new before after status =
-    Runs reads taken failures
-    (IsTextOf (λ source text. IsDraftReport source entry text))
-    (HasNoText (λ source fault. IsDraftRefused source entry fault))
-    (source ∷ []) old new before after status
-
 -- ## `debug SOURCE MACHINE`
-
--- the session of these commands by the profile, at 0 alone
-abbrev pub IsSessionOf : (commands : List ℕ) → Bool → Texts → List ℕ → Type 0
-IsSessionOf commands true files text =
-    OfTwo (λ file source machine. ByProfile file (λ p. IsDebugReport source machine commands p text)) files
-IsSessionOf commands false files text = ⊥
 
 module _ {S I : Type 0} (reads : Reading S) (remaining : I → Option (List ℕ)) (names : Texts) (old new : S)
     (heard_old heard_new : I) where
@@ -371,74 +316,30 @@ module _ {S I : Type 0} (reads : Reading S) (remaining : I → Option (List ℕ)
         → (front : List ℕ) × (length front ≡ 16777217)
         × Consumes (remaining heard_old) (remaining heard_new) front
 
--- What `debug` did: the files were read, and then standard input to its end, and the session with these
--- commands is the report.
-abbrev pub RunsDebug : {S I O : Type 0} → Reading S → (I → Option (List ℕ)) → (O → Option (List ℕ)) → (O → ℕ)
-    → Option (List ℕ) → List ℕ → List ℕ → S → S → I → I → O → O → ℕ → Type 0
-RunsDebug reads remaining taken failures profile source machine old new heard_old heard_new before after
-    status =
-    ((commands : List ℕ)
-    × HasHeard reads remaining
-    (in_front profile (source ∷ machine ∷ [])) old new heard_old heard_new commands
-    × Runs reads taken failures (IsSessionOf commands) HasNoRun
-    (in_front profile (source ∷ machine ∷ [])) old new before after status)
-    ⊎ ((FailsBefore reads remaining
-    (in_front profile (source ∷ machine ∷ [])) old new heard_old heard_new status
-    ⊎ (FailsToHear reads remaining
-    (in_front profile (source ∷ machine ∷ [])) old new heard_old heard_new status
-    ⊎ ((status ≡ 3) × (new ≡ old) × (heard_new ≡ heard_old))))
-    × (after ≡ before))
+module _ {S I O : Type 0} (reads : Reading S) (remaining : I → Option (List ℕ))
+    (taken : O → Option (List ℕ)) (failures : O → ℕ) where
+  -- What `debug` did: the files were read, and then standard input to its end, and the session with these
+  -- commands is the report.
+  abbrev pub RunsDebug : FileNames → S → S → I → I → O → O → ℕ → Type 0
+  RunsDebug n old new heard_old heard_new before after status =
+      ((commands : List ℕ)
+      × HasHeard reads remaining (two_of n) old new heard_old heard_new commands
+      × Runs reads taken failures (IsSessionOf commands) (RefusesTwo IsRunRefused) (two_of n) old new before
+      after status)
+      ⊎ ((FailsBefore reads remaining (two_of n) old new heard_old heard_new status
+      ⊎ (FailsToHear reads remaining (two_of n) old new heard_old heard_new status
+      ⊎ ((status ≡ 3) × (new ≡ old) × (heard_new ≡ heard_old))))
+      × (after ≡ before))
 
 -- ## Any command
 
--- what was asked for was done; no other command than `debug` reads standard input
-abbrev pub RunsAsked : {S I O : Type 0} → Reading S → Writing S → (I → Option (List ℕ))
-    → (O → Option (List ℕ)) → (O → ℕ) → Asked → S → S → I → I → O → O → ℕ → Type 0
-RunsAsked reads writes remaining taken failures
-    (asm source image) old new heard_old heard_new before after status =
-    RunsAsm reads writes taken failures source image old new before after status × (heard_new ≡ heard_old)
-RunsAsked reads writes remaining taken failures
-    (list source) old new heard_old heard_new before after status =
-    RunsList reads taken failures source old new before after status × (heard_new ≡ heard_old)
-RunsAsked reads writes remaining taken failures
-    (draft source entry) old new heard_old heard_new before after status =
-    RunsDraft reads taken failures source entry old new before after status × (heard_new ≡ heard_old)
-RunsAsked reads writes remaining taken failures (run n) old new heard_old heard_new before after status =
-    RunsMachine ShowsRegisters reads taken failures n.profile n.first n.second old new before after status
-    × (heard_new ≡ heard_old)
-RunsAsked reads writes remaining taken failures (trace n) old new heard_old heard_new before after status =
-    RunsMachine ShowsSteps reads taken failures n.profile n.first n.second old new before after status
-    × (heard_new ≡ heard_old)
-RunsAsked reads writes remaining taken failures (debug n) old new heard_old heard_new before after status =
-    RunsDebug reads remaining taken failures n.profile n.first n.second old new heard_old heard_new before
-    after status
-RunsAsked reads writes remaining taken failures (bound n) old new heard_old heard_new before after status =
-    RunsBound reads taken failures n.profile n.first n.second old new before after status
-    × (heard_new ≡ heard_old)
-RunsAsked reads writes remaining taken failures (graph n) old new heard_old heard_new before after status =
-    RunsGraph reads taken failures n.profile n.first n.second old new before after status
-    × (heard_new ≡ heard_old)
-RunsAsked reads writes remaining taken failures
-    (explain n options) old new heard_old heard_new before after status =
-    RunsExplain reads taken failures n.profile n.first n.second options old new before after status
-    × (heard_new ≡ heard_old)
-RunsAsked reads writes remaining taken failures
-    (tight n edge) old new heard_old heard_new before after status =
-    RunsTight reads taken failures n.profile n.first n.second edge old new before after status
-    × (heard_new ≡ heard_old)
-RunsAsked reads writes remaining taken failures
-    (check n cert) old new heard_old heard_new before after status =
-    RunsCheck reads taken failures n.profile n.first n.second cert old new before after status
-    × (heard_new ≡ heard_old)
-RunsAsked reads writes remaining taken failures
-    (explain_verdict n cert) old new heard_old heard_new before after status =
-    RunsExplainVerdict reads taken failures n.profile n.first n.second cert old new before after status
-    × (heard_new ≡ heard_old)
-RunsAsked reads writes remaining taken failures
-    (visits n fiq k) old new heard_old heard_new before after status =
-    RunsVisits reads taken failures n.profile n.first n.second fiq k old new before after status
-    × (heard_new ≡ heard_old)
-RunsAsked reads writes remaining taken failures
-    (follow n machine) old new heard_old heard_new before after status =
-    RunsFollow reads taken failures n.profile n.first n.second machine old new before after status
-    × (heard_new ≡ heard_old)
+module _ {S I O : Type 0} (reads : Reading S) (writes : Writing S) (remaining : I → Option (List ℕ))
+    (taken : O → Option (List ℕ)) (failures : O → ℕ) where
+  -- what was asked for was done; no other command than `debug` reads standard input
+  abbrev pub RunsAsked : Asked → S → S → I → I → O → O → ℕ → Type 0
+  RunsAsked (debug n) old new heard_old heard_new before after status =
+      RunsDebug reads remaining taken failures n old new heard_old heard_new before after status
+  RunsAsked (asm source image) old new heard_old heard_new before after status =
+      RunsAsm reads writes taken failures source image old new before after status × (heard_new ≡ heard_old)
+  RunsAsked asked old new heard_old heard_new before after status =
+      RunsOf reads taken failures asked old new before after status × (heard_new ≡ heard_old)

@@ -1,30 +1,16 @@
-ghost use Rattle.std.specs.Prelude.{◌≡◌, ◌≢◌, ◌⊎◌, None, Some, option_map};
-ghost use Rattle.command_line.specs.Line.{Asked, asked_in, asked_of, options_of};
-ghost use Rattle.arcwcet.specs.Run.{RunsAsked, RunsAsm, RunsBound, RunsCheck, RunsDebug, RunsList};
-ghost use Rattle.arcwcet.specs.Run.{RunsMachine};
-ghost use Rattle.arcwcet.specs.Run.{RunsDraft, RunsExplain, RunsFollow, RunsGraph, RunsTight};
-ghost use Rattle.arcwcet.specs.Run.{RunsExplainVerdict, RunsVisits};
+ghost use Rattle.std.specs.Prelude.{◌≡◌, ◌≢◌, ◌⊎◌, None, Some};
+ghost use Rattle.command_line.specs.Line.{Asked, asked_in, asked_of, explain, names_of, options_of};
+ghost use Rattle.arcwcet.specs.Asked.{pair_asked, source_asked, triple_asked};
+ghost use Rattle.arcwcet.specs.Run.{RunsAsked, RunsAsm, RunsDebug, RunsOf};
 
 use crate::diagnose::explained_status;
-use crate::files::{
-    Store, Unread, read_handler, read_handler_and, read_limited, read_three_files, read_two_files,
-};
-use crate::status::{
-    answer_status, done_status, line_status, report_status, store_status, unread_status,
-};
-use crate::visits::visits_report;
-use author_reports::{
-    Explained, FollowedRun, draft_report, explain_report, follow_report, graph_report,
-};
-use bound_reports::{CheckInputs, bound_report, check_report, verdict_report};
-use command_line::{
-    AsmNames, CheckNames, DraftNames, ExplainNames, FollowNames, Names, Request, TightNames,
-    VisitsNames, request,
-};
+use crate::files::{Store, read_limited, read_three_files, read_two_files};
+use crate::reports::{PairReport, SourceReport, TripleReport, answered};
+use crate::status::{answer_status, line_status, report_status, store_status, unread_status};
+use author_reports::{Explained, explain_report};
+use command_line::{AsmNames, ExplainNames, Names, Request, request};
 use explained::Bursts;
-use machine_reports::{
-    Front, Registers, Steps, debug_report, image_written, list_report, machine_report, tight_report,
-};
+use machine_reports::{debug_report, image_written};
 use report_output::{Output, ReportFault, write_whole};
 use std::alloc::Global;
 use std::io::Read;
@@ -43,19 +29,21 @@ fn obey<S: Store, I: Read, O: Output, E: Output>(
 {
     match asked {
         Request::Asm(names) => run_asm(alloc, names, store, out, err),
-        Request::List(source) => run_list(alloc, source, store, out, err),
-        Request::Draft(names) => run_draft(alloc, names, store, out, err),
-        Request::Run(names) => run_machine::<Registers, S, O, E>(alloc, names, store, out, err),
-        Request::Trace(names) => run_machine::<Steps, S, O, E>(alloc, names, store, out, err),
+        Request::List(name) => run_source(alloc, SourceReport::List(name), store, out, err),
+        Request::Draft(names) => run_source(alloc, SourceReport::Draft(names), store, out, err),
+        Request::Run(names) => run_pair(alloc, PairReport::Run(names), store, out, err),
+        Request::Trace(names) => run_pair(alloc, PairReport::Trace(names), store, out, err),
         Request::Debug(names) => run_debug(alloc, names, store, input, out, err),
-        Request::Bound(names) => run_bound(alloc, names, store, out, err),
+        Request::Bound(names) => run_pair(alloc, PairReport::Bound(names), store, out, err),
         Request::Explain(names) => run_explain(alloc, names, store, out, err),
-        Request::Tight(names) => run_tight(alloc, names, store, out, err),
-        Request::Check(names) => run_check(alloc, names, store, out, err),
-        Request::ExplainVerdict(names) => run_explain_verdict(alloc, names, store, out, err),
-        Request::Visits(names) => run_visits(alloc, names, store, out, err),
-        Request::Follow(names) => run_follow(alloc, names, store, out, err),
-        Request::Graph(names) => run_graph(alloc, names, store, out, err),
+        Request::Tight(names) => run_pair(alloc, PairReport::Tight(names), store, out, err),
+        Request::Check(names) => run_triple(alloc, TripleReport::Check(names), store, out, err),
+        Request::ExplainVerdict(names) => {
+            run_triple(alloc, TripleReport::ExplainVerdict(names), store, out, err)
+        }
+        Request::Visits(names) => run_triple(alloc, TripleReport::Visits(names), store, out, err),
+        Request::Follow(names) => run_triple(alloc, TripleReport::Follow(names), store, out, err),
+        Request::Graph(names) => run_pair(alloc, PairReport::Graph(names), store, out, err),
     }
 }
 
@@ -125,64 +113,70 @@ fn run_asm<S: Store, O: Output, E: Output>(
     }
 }
 
-/// `list`: reads the source and prints its listing.
-fn run_list<S: Store, O: Output, E: Output>(
+/// Reads a source and prints the report of it.
+fn run_source<S: Store, O: Output, E: Output>(
     alloc: Global,
-    name: &str,
+    report: SourceReport<'_>,
     store: &mut S,
     out: &mut O,
     err: &mut E,
 ) -> u8
-    ensures ran { RunsList S.read_gives O.taken O.failures name.now store.old store.new out.old out.new
-        result }
+    ensures ran { RunsOf S.read_gives O.taken O.failures (source_asked report.entry) store.old store.new
+        out.old out.new result }
     ensures silent { result ≡ 0 → err.new ≡ err.old }
 {
-    let source = match store.read(alloc, name) {
+    let source = match store.read(alloc, report.name()) {
         Ok(source) => source,
         Err(fault) => return store_status(fault, err),
     };
-    let done = list_report(alloc, &source, out);
-    done_status(done, err)
+    let answer = report.print(alloc, &source, out);
+    answer_status(answer, err)
 }
 
-/// `draft`: reads the source and prints the draft of a statement.
-fn run_draft<S: Store, O: Output, E: Output>(
+/// Reads a source and a second file and prints the report of them.
+fn run_pair<S: Store, O: Output, E: Output>(
     alloc: Global,
-    names: DraftNames<'_>,
+    report: PairReport<'_>,
     store: &mut S,
     out: &mut O,
     err: &mut E,
 ) -> u8
-    ensures ran { RunsDraft S.read_gives O.taken O.failures names.entry.source.now names.entry.entry.now
-        store.old store.new out.old out.new result }
+    ensures ran { RunsOf S.read_gives O.taken O.failures (pair_asked report.entry) store.old store.new out.old
+        out.new result }
     ensures silent { result ≡ 0 → err.new ≡ err.old }
 {
-    let source = match store.read(alloc, names.source) {
-        Ok(source) => source,
-        Err(fault) => return store_status(fault, err),
-    };
-    let done = draft_report(alloc, &source, names.entry.as_bytes(), out);
-    done_status(done, err)
-}
-
-/// `run` and `trace`: reads the files and prints the report of the run.
-fn run_machine<F: Front, S: Store, O: Output, E: Output>(
-    alloc: Global,
-    names: Names<'_>,
-    store: &mut S,
-    out: &mut O,
-    err: &mut E,
-) -> u8
-    ensures ran { RunsMachine F.shows S.read_gives O.taken O.failures
-        (option_map (λ n. n.now) names.entry.profile)
-        names.entry.first.now names.entry.second.now store.old store.new out.old out.new result }
-    ensures silent { result ≡ 0 → err.new ≡ err.old }
-{
-    let files = match read_two_files(alloc, names, store) {
+    let files = match read_two_files(alloc, report.names(), store) {
         Ok(files) => files,
-        Err(fault) => return store_status(fault, err),
+        Err(unread) => return store_status(unread.fault, err),
     };
-    let answer = machine_report::<F, O>(alloc, &files.first, &files.second, files.profile(), out);
+    let answer = report.print(alloc, files.texts(), out);
+    answer_status(answer, err)
+}
+
+/// Reads a source, a statement and a third file and prints the report of them; where a certificate is to be
+/// explained, also which file was not read.
+fn run_triple<S: Store, O: Output, E: Output>(
+    alloc: Global,
+    report: TripleReport<'_>,
+    store: &mut S,
+    out: &mut O,
+    err: &mut E,
+) -> u8
+    ensures ran { RunsOf S.read_gives O.taken O.failures (triple_asked report.entry) store.old store.new
+        out.old out.new result }
+    ensures silent { result ≡ 0 → err.new ≡ err.old }
+{
+    let names = report.names();
+    let files = match read_three_files(alloc, names.handler, names.third, store) {
+        Ok(files) => files,
+        Err(unread) => {
+            return match report {
+                TripleReport::ExplainVerdict(_) => unread_status(unread, &*store, err),
+                _ => store_status(unread.fault, err),
+            };
+        }
+    };
+    let answer = report.print(alloc, files.texts(), out);
     answer_status(answer, err)
 }
 
@@ -195,70 +189,28 @@ fn run_debug<S: Store, I: Read, O: Output, E: Output>(
     out: &mut O,
     err: &mut E,
 ) -> u8
-    ensures ran { RunsDebug S.read_gives I.remaining O.taken O.failures
-        (option_map (λ n. n.now) names.entry.profile) names.entry.first.now names.entry.second.now
-        store.old store.new input.old input.new out.old out.new result }
+    ensures ran { RunsDebug S.read_gives I.remaining O.taken O.failures (names_of names.entry) store.old
+        store.new input.old input.new out.old out.new result }
     ensures silent { result ≡ 0 → err.new ≡ err.old }
 {
     let files = match read_two_files(alloc, names, store) {
         Ok(files) => files,
-        Err(fault) => return store_status(fault, err),
+        Err(unread) => return store_status(unread.fault, err),
     };
     let commands = match read_limited(alloc, input) {
         Ok(commands) => commands,
         Err(fault) => return store_status(fault, err),
     };
+    let texts = files.texts();
     let done = debug_report(
         alloc,
-        &files.first,
-        &files.second,
+        texts.first,
+        texts.second,
         &commands,
-        files.profile(),
+        texts.profile,
         out,
     );
-    done_status(done, err)
-}
-
-/// `bound`: reads the files and prints the report.
-fn run_bound<S: Store, O: Output, E: Output>(
-    alloc: Global,
-    names: Names<'_>,
-    store: &mut S,
-    out: &mut O,
-    err: &mut E,
-) -> u8
-    ensures ran { RunsBound S.read_gives O.taken O.failures
-        (option_map (λ n. n.now) names.entry.profile)
-        names.entry.first.now names.entry.second.now store.old store.new out.old out.new result }
-    ensures silent { result ≡ 0 → err.new ≡ err.old }
-{
-    let files = match read_two_files(alloc, names, store) {
-        Ok(files) => files,
-        Err(fault) => return store_status(fault, err),
-    };
-    let done = bound_report(alloc, &files.first, &files.second, files.profile(), out);
-    done_status(done, err)
-}
-
-/// `graph`: reads the files and prints the drawing.
-fn run_graph<S: Store, O: Output, E: Output>(
-    alloc: Global,
-    names: Names<'_>,
-    store: &mut S,
-    out: &mut O,
-    err: &mut E,
-) -> u8
-    ensures ran { RunsGraph S.read_gives O.taken O.failures
-        (option_map (λ n. n.now) names.entry.profile)
-        names.entry.first.now names.entry.second.now store.old store.new out.old out.new result }
-    ensures silent { result ≡ 0 → err.new ≡ err.old }
-{
-    let files = match read_two_files(alloc, names, store) {
-        Ok(files) => files,
-        Err(fault) => return store_status(fault, err),
-    };
-    let done = graph_report(alloc, &files.first, &files.second, files.profile(), out);
-    done_status(done, err)
+    answer_status(answered(done), err)
 }
 
 /// `explain`: reads the files and prints the explanation, or which file was not read.
@@ -269,170 +221,25 @@ fn run_explain<S: Store, O: Output, E: Output>(
     out: &mut O,
     err: &mut E,
 ) -> u8
-    ensures ran { RunsExplain S.read_gives O.taken O.failures
-        (option_map (λ n. n.now) names.entry.handler.profile) names.entry.handler.first.now
-        names.entry.handler.second.now (options_of names.entry) store.old store.new out.old out.new result }
+    ensures ran { RunsOf S.read_gives O.taken O.failures
+        (explain (names_of names.entry.handler) (options_of names.entry)) store.old store.new out.old out.new
+        result }
     ensures silent { result ≡ 0 → err.new ≡ err.old }
 {
-    let files = match read_handler(alloc, names.handler, store) {
+    let files = match read_two_files(alloc, names.handler, store) {
         Ok(files) => files,
-        Err(Unread { name, fault }) => return unread_status(name, fault, &*store, err),
+        Err(unread) => return unread_status(unread, &*store, err),
     };
+    let texts = files.texts();
     let explained = Explained {
-        source: &files.first,
-        statement: &files.second,
+        source: texts.first,
+        statement: texts.second,
         at_most: names.at_most,
         bursts: Bursts {
             count: names.bursts,
             every: names.burst_every,
         },
     };
-    let answer = explain_report(alloc, explained, files.profile(), out);
-    explained_status(alloc, explained, files.profile(), answer, err)
-}
-
-/// `bound --tight N`: reads the files and prints the report of the edge.
-fn run_tight<S: Store, O: Output, E: Output>(
-    alloc: Global,
-    names: TightNames<'_>,
-    store: &mut S,
-    out: &mut O,
-    err: &mut E,
-) -> u8
-    ensures ran { RunsTight S.read_gives O.taken O.failures
-        (option_map (λ n. n.now) names.entry.handler.profile) names.entry.handler.first.now
-        names.entry.handler.second.now names.entry.edge store.old store.new out.old out.new result }
-    ensures silent { result ≡ 0 → err.new ≡ err.old }
-{
-    let files = match read_two_files(alloc, names.handler, store) {
-        Ok(files) => files,
-        Err(fault) => return store_status(fault, err),
-    };
-    let done = tight_report(
-        alloc,
-        &files.first,
-        &files.second,
-        names.edge,
-        files.profile(),
-        out,
-    );
-    done_status(done, err)
-}
-
-/// `check`: reads the files and prints the verdict.
-fn run_check<S: Store, O: Output, E: Output>(
-    alloc: Global,
-    names: CheckNames<'_>,
-    store: &mut S,
-    out: &mut O,
-    err: &mut E,
-) -> u8
-    ensures ran { RunsCheck S.read_gives O.taken O.failures
-        (option_map (λ n. n.now) names.entry.handler.profile)
-        names.entry.handler.first.now names.entry.handler.second.now names.entry.cert.now store.old store.new
-        out.old out.new result }
-    ensures silent { result ≡ 0 → err.new ≡ err.old }
-{
-    let files = match read_three_files(alloc, names.handler, names.cert, store) {
-        Ok(files) => files,
-        Err(fault) => return store_status(fault, err),
-    };
-    let handler = &files.handler;
-    let answer = check_report(
-        alloc,
-        &handler.first,
-        &handler.second,
-        &files.third,
-        handler.profile(),
-        out,
-    );
-    answer_status(answer, err)
-}
-
-/// `explain --certificate CERT`: reads the files and prints the verdict and what fails, or which file was not
-/// read.
-fn run_explain_verdict<S: Store, O: Output, E: Output>(
-    alloc: Global,
-    names: CheckNames<'_>,
-    store: &mut S,
-    out: &mut O,
-    err: &mut E,
-) -> u8
-    ensures ran { RunsExplainVerdict S.read_gives O.taken O.failures
-        (option_map (λ n. n.now) names.entry.handler.profile)
-        names.entry.handler.first.now names.entry.handler.second.now names.entry.cert.now store.old store.new
-        out.old out.new result }
-    ensures silent { result ≡ 0 → err.new ≡ err.old }
-{
-    let files = match read_handler_and(alloc, names.handler, names.cert, store) {
-        Ok(files) => files,
-        Err(Unread { name, fault }) => return unread_status(name, fault, &*store, err),
-    };
-    let handler = &files.handler;
-    let inputs = CheckInputs {
-        source: &handler.first,
-        statement: &handler.second,
-        cert: &files.third,
-    };
-    let answer = verdict_report(alloc, inputs, handler.profile(), out);
-    answer_status(answer, err)
-}
-
-/// `visits`: reads the files and prints the report.
-fn run_visits<S: Store, O: Output, E: Output>(
-    alloc: Global,
-    names: VisitsNames<'_>,
-    store: &mut S,
-    out: &mut O,
-    err: &mut E,
-) -> u8
-    ensures ran { RunsVisits S.read_gives O.taken O.failures
-        (option_map (λ n. n.now) names.entry.handler.profile) names.entry.handler.first.now
-        names.entry.handler.second.now names.entry.fiq_statement.now names.entry.visits store.old store.new
-        out.old out.new result }
-    ensures silent { result ≡ 0 → err.new ≡ err.old }
-{
-    let files = match read_three_files(alloc, names.handler, names.fiq_statement, store) {
-        Ok(files) => files,
-        Err(fault) => return store_status(fault, err),
-    };
-    let handler = &files.handler;
-    let done = visits_report(
-        alloc,
-        &handler.first,
-        &handler.second,
-        &files.third,
-        names.visits,
-        handler.profile(),
-        out,
-    );
-    done_status(done, err)
-}
-
-/// `follow`: reads the files and prints whether the run keeps the statement.
-fn run_follow<S: Store, O: Output, E: Output>(
-    alloc: Global,
-    names: FollowNames<'_>,
-    store: &mut S,
-    out: &mut O,
-    err: &mut E,
-) -> u8
-    ensures ran { RunsFollow S.read_gives O.taken O.failures
-        (option_map (λ n. n.now) names.entry.handler.profile)
-        names.entry.handler.first.now names.entry.handler.second.now names.entry.machine.now store.old
-        store.new out.old out.new result }
-    ensures silent { result ≡ 0 → err.new ≡ err.old }
-{
-    let files = match read_three_files(alloc, names.handler, names.machine, store) {
-        Ok(files) => files,
-        Err(fault) => return store_status(fault, err),
-    };
-    let handler = &files.handler;
-    let run = FollowedRun {
-        source: &handler.first,
-        statement: &handler.second,
-        machine: &files.third,
-    };
-    let answer = follow_report(alloc, run, handler.profile(), out);
-    answer_status(answer, err)
+    let answer = explain_report(alloc, explained, texts.profile, out);
+    explained_status(alloc, explained, texts.profile, answer, err)
 }

@@ -2,7 +2,9 @@ ghost use Rattle.std.specs.Prelude.{◌≡◌, ◌≤◌, ◌+◌, ℕ, List, []
 ghost use Rattle.std.specs.Prelude.{Result, IfErr, IfOk, IfSome, IsErrOf, OnOk};
 ghost use Rattle.std.specs.Io.KnownBytes.{Consumes, IsAtEnd};
 ghost use Rattle.std.specs.IoError.{error_kind};
-ghost use Rattle.arcwcet.specs.Files.{FailsToRead, Reading, ReadsAll, Writing, in_front};
+ghost use Rattle.command_line.specs.Line.{names_of};
+ghost use Rattle.arcwcet.specs.Files.{FailsToRead, Reading, ReadsAll, Writing, in_front, three_of, two_of};
+ghost use Rattle.arcwcet.specs.FileTexts.{kept_three, kept_two, lent_three, lent_two};
 ghost use Rattle.arcwcet.specs.ReadFailures.{failure_of};
 ghost use Rattle.arcwcet.specs.Store.{bytes_read};
 ghost use Rattle.arcwcet.specs.declared.fault.StoreFault.{StoreFault};
@@ -143,18 +145,36 @@ pub fn read_limited<R: Read>(alloc: Global, reader: &mut R) -> Result<Vec<u8>, S
 /// The bytes of two files, and of a cycle profile's where one is named.
 #[derive(Drop)]
 pub(crate) struct TwoFiles {
-    pub(crate) profile: Option<Vec<u8>>,
-    pub(crate) first: Vec<u8>,
-    pub(crate) second: Vec<u8>,
+    profile: Option<Vec<u8>>,
+    first: Vec<u8>,
+    second: Vec<u8>,
+}
+
+/// The same, lent.
+#[derive(Clone, Copy)]
+pub(crate) struct TwoTexts<'a> {
+    pub(crate) profile: Option<&'a [u8]>,
+    pub(crate) first: &'a [u8],
+    pub(crate) second: &'a [u8],
 }
 
 impl TwoFiles {
-    pub(crate) fn profile(&self) -> Option<&[u8]>
+    fn profile(&self) -> Option<&[u8]>
         ensures { option_map (λ f. f.now) result ≡ option_map (λ v. v.items) self.now.profile }
     {
         match &self.profile {
             Some(bytes) => Some(bytes),
             None => None,
+        }
+    }
+
+    pub(crate) fn texts(&self) -> TwoTexts<'_>
+        ensures { lent_two result ≡ kept_two self.now }
+    {
+        TwoTexts {
+            profile: self.profile(),
+            first: &self.first,
+            second: &self.second,
         }
     }
 }
@@ -200,20 +220,15 @@ fn read_if_named<'a, S: Store>(
 }
 
 /// Reads the profile's file first, and then the other two, and tells which was not read.
-pub(crate) fn read_handler<'a, S: Store>(
+pub(crate) fn read_two_files<'a, S: Store>(
     alloc: Global,
     names: Names<'a>,
     store: &mut S,
 ) -> Result<TwoFiles, Unread<'a>>
     ensures read { IfOk result
-        (λ f. ReadsAll S.read_gives store.old
-        (in_front (option_map (λ n. n.now) names.entry.profile)
-        (names.entry.first.now ∷ names.entry.second.now ∷ []))
-        (in_front (option_map (λ v. v.items) f.profile) (f.first.items ∷ f.second.items ∷ [])) store.new) }
+        (λ f. ReadsAll S.read_gives store.old (two_of (names_of names.entry)) (kept_two f) store.new) }
     ensures fault { IfErr result
-        (λ u. FailsToRead S.read_gives store.old
-        (in_front (option_map (λ n. n.now) names.entry.profile)
-        (names.entry.first.now ∷ names.entry.second.now ∷ [])) u.fault store.new) }
+        (λ u. FailsToRead S.read_gives store.old (two_of (names_of names.entry)) u.fault store.new) }
 {
     let profile = read_if_named(alloc, names.profile, store)?;
     let first = read_named(alloc, names.first, store)?;
@@ -225,78 +240,46 @@ pub(crate) fn read_handler<'a, S: Store>(
     })
 }
 
-/// Reads the profile's file first, and then the other two.
-pub(crate) fn read_two_files<S: Store>(
-    alloc: Global,
-    names: Names<'_>,
-    store: &mut S,
-) -> Result<TwoFiles, StoreFault>
-    ensures read { IfOk result
-        (λ f. ReadsAll S.read_gives store.old
-        (in_front (option_map (λ n. n.now) names.entry.profile)
-        (names.entry.first.now ∷ names.entry.second.now ∷ []))
-        (in_front (option_map (λ v. v.items) f.profile) (f.first.items ∷ f.second.items ∷ [])) store.new) }
-    ensures fault { IfErr result
-        (λ e. FailsToRead S.read_gives store.old
-        (in_front (option_map (λ n. n.now) names.entry.profile)
-        (names.entry.first.now ∷ names.entry.second.now ∷ [])) e store.new) }
-{
-    match read_handler(alloc, names, store) {
-        Ok(files) => Ok(files),
-        Err(unread) => Err(unread.fault),
+/// The bytes of two files, of a cycle profile's where one is named, and of a third file.
+#[derive(Drop)]
+pub(crate) struct ThreeFiles {
+    handler: TwoFiles,
+    third: Vec<u8>,
+}
+
+/// The same, lent.
+#[derive(Clone, Copy)]
+pub(crate) struct ThreeTexts<'a> {
+    pub(crate) handler: TwoTexts<'a>,
+    pub(crate) third: &'a [u8],
+}
+
+impl ThreeFiles {
+    pub(crate) fn texts(&self) -> ThreeTexts<'_>
+        ensures { lent_three result ≡ kept_three self.now }
+    {
+        ThreeTexts {
+            handler: self.handler.texts(),
+            third: &self.third,
+        }
     }
 }
 
-/// The bytes of a source and a statement, of a cycle profile where one is named, and of a third file.
-#[derive(Drop)]
-pub(crate) struct ThreeFiles {
-    pub(crate) handler: TwoFiles,
-    pub(crate) third: Vec<u8>,
-}
-
 /// Reads the profile's file first, and then the other three, and tells which was not read.
-pub(crate) fn read_handler_and<'a, S: Store>(
+pub(crate) fn read_three_files<'a, S: Store>(
     alloc: Global,
     names: Names<'a>,
     third: &'a str,
     store: &mut S,
 ) -> Result<ThreeFiles, Unread<'a>>
     ensures read { IfOk result
-        (λ f. ReadsAll S.read_gives store.old
-        (in_front (option_map (λ n. n.now) names.entry.profile)
-        (names.entry.first.now ∷ names.entry.second.now ∷ third.now ∷ []))
-        (in_front (option_map (λ v. v.items) f.handler.profile)
-        (f.handler.first.items ∷ f.handler.second.items ∷ f.third.items ∷ [])) store.new) }
+        (λ f. ReadsAll S.read_gives store.old (three_of (names_of names.entry) third.now) (kept_three f)
+        store.new) }
     ensures fault { IfErr result
-        (λ u. FailsToRead S.read_gives store.old
-        (in_front (option_map (λ n. n.now) names.entry.profile)
-        (names.entry.first.now ∷ names.entry.second.now ∷ third.now ∷ [])) u.fault store.new) }
+        (λ u. FailsToRead S.read_gives store.old (three_of (names_of names.entry) third.now) u.fault
+        store.new) }
 {
-    let handler = read_handler(alloc, names, store)?;
+    let handler = read_two_files(alloc, names, store)?;
     let third = read_named(alloc, third, store)?;
     Ok(ThreeFiles { handler, third })
-}
-
-/// Reads the profile's file first, and then the other three.
-pub(crate) fn read_three_files<S: Store>(
-    alloc: Global,
-    names: Names<'_>,
-    third: &str,
-    store: &mut S,
-) -> Result<ThreeFiles, StoreFault>
-    ensures read { IfOk result
-        (λ f. ReadsAll S.read_gives store.old
-        (in_front (option_map (λ n. n.now) names.entry.profile)
-        (names.entry.first.now ∷ names.entry.second.now ∷ third.now ∷ []))
-        (in_front (option_map (λ v. v.items) f.handler.profile)
-        (f.handler.first.items ∷ f.handler.second.items ∷ f.third.items ∷ [])) store.new) }
-    ensures fault { IfErr result
-        (λ e. FailsToRead S.read_gives store.old
-        (in_front (option_map (λ n. n.now) names.entry.profile)
-        (names.entry.first.now ∷ names.entry.second.now ∷ third.now ∷ [])) e store.new) }
-{
-    match read_handler_and(alloc, names, third, store) {
-        Ok(files) => Ok(files),
-        Err(unread) => Err(unread.fault),
-    }
 }

@@ -7,6 +7,7 @@ mod diagnose;
 mod fault;
 mod files;
 mod law;
+mod reports;
 mod status;
 mod visits;
 

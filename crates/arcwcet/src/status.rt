@@ -1,8 +1,8 @@
 ghost use Rattle.std.specs.Prelude.{◌≡◌, ◌≢◌, ◌⊎◌};
-ghost use Rattle.arcwcet.specs.Run.{answer_status, done_status, report_status, store_status};
+ghost use Rattle.arcwcet.specs.Run.{answer_status, report_status, store_status};
 
 use crate::fault::StoreFault;
-use crate::files::{LIMIT, Store};
+use crate::files::{LIMIT, Store, Unread};
 use command_line::LineFault;
 use report_output::{Output, ReportFault, write_whole};
 use std::fmt;
@@ -73,16 +73,11 @@ fn print_unread<S: Store, E: Output>(name: &str, fault: StoreFault, store: &S, e
 }
 
 /// Prints which file was not read and why, and answers the exit status.
-pub(crate) fn unread_status<S: Store, E: Output>(
-    name: &str,
-    fault: StoreFault,
-    store: &S,
-    err: &mut E,
-) -> u8
-    ensures { result ≡ store_status fault }
+pub(crate) fn unread_status<S: Store, E: Output>(unread: Unread<'_>, store: &S, err: &mut E) -> u8
+    ensures { result ≡ store_status unread.entry.fault }
 {
-    let status = store_status(fault, err);
-    print_unread(name, fault, store, err);
+    let status = store_status(unread.fault, err);
+    print_unread(unread.name, unread.fault, store, err);
     status
 }
 
@@ -99,18 +94,7 @@ pub(crate) fn report_status<E: Output>(fault: ReportFault, err: &mut E) -> u8
     }
 }
 
-/// Prints the refusal of a report, if it was refused, and answers the exit status.
-pub(crate) fn done_status<E: Output>(done: Result<(), ReportFault>, err: &mut E) -> u8
-    ensures status { result ≡ done_status done }
-    ensures silent { result ≡ 0 → err.new ≡ err.old }
-{
-    match done {
-        Ok(()) => 0,
-        Err(fault) => report_status(fault, err),
-    }
-}
-
-/// The same of a report that says yes or no.
+/// Prints the refusal of a report, if it was refused, and answers the exit status: 1 where it says no.
 pub(crate) fn answer_status<E: Output>(answer: Result<bool, ReportFault>, err: &mut E) -> u8
     ensures status { result ≡ answer_status answer }
     ensures silent { result ≡ 0 → err.new ≡ err.old }

@@ -15,7 +15,7 @@ use bus_ticks::{Profile, fiq_entry};
 use flow_graph::read_statement;
 use longest_walk::{WalkFault, visits_bound};
 use report_input::{Handler, handler_of, profile_of, read_source, stated_handler};
-use report_output::{Output, ReportFault, write_whole};
+use report_output::{Output, ReportFault, print_answer};
 use std::alloc::Global;
 use std::fmt::Write;
 
@@ -209,8 +209,5 @@ fn priced_visits<O: Output>(
         asked.entry.visits profile.now out.old out.new result }
 {
     let text = read_visits(alloc, source, asked, profile)?;
-    match write_whole(out, &text) {
-        Ok(()) => Ok(()),
-        Err(_) => Err(ReportFault::Device),
-    }
+    print_answer((), &text, out)
 }

@@ -1,22 +1,22 @@
-use Rattle.std.proofs.Common.{◌≤◌, [], ◌∷◌, List, ℕ, length, option_map, rules, sym, subst}
+use Rattle.std.proofs.Common.{◌≤◌, List, ℕ, length, rules, sym, subst}
 use Rattle.std.specs.Io.KnownBytes.{Consumes}
-use Rattle.arcwcet.specs.Files.{ReadsAll, Texts, in_front}
-use Rattle.arcwcet.proofs.RunLemmas.{debug_ran}
+use Rattle.command_line.specs.Line.{names_of}
+use Rattle.machine_reports.specs.Debug.{IsDebugReport}
+use Rattle.report_input.specs.Placing.{IsRunRefused, IsRunnable}
+use Rattle.arcwcet.specs.FileTexts.{kept_two, lent_two}
+use Rattle.arcwcet.proofs.RunLemmas.{debug_ran, told_two_plain}
 use Rattle.arcwcet.proofs.commands.run_debug.Goals as goal
 
 pub returns-clause-ran : goal.returns-clause-ran
 returns-clause-ran g c =
-    let reads = g.S.Store.read_gives in
-    let names = c.args.names in
-    let profile = option_map (λ n. n.now) names.profile in
-    let file = option_map (λ f. f.now) c.profile.result in
-    let limit : length c.in-Ok-read_limited.commands.items ≤ 16777216 = search (rules, c.in-Ok-read_limited.ensures.limit, c.in-Ok-read_limited.commands.ok) in
-    debug_ran reads g.I.Read.remaining g.O.Output.taken g.O.Output.failures profile names.first.now names.second.now c.args.store.now c.read_two_files.new.store c.args.input.now c.read_limited.new.reader
-    c.args.out.now c.debug_report-done.new.out file c.deref.result.now c.deref-2.result.now c.deref-3.result.now
-    (subst (λ (files : Texts). ReadsAll reads c.args.store.now (in_front profile (names.first.now ∷ names.second.now ∷ [])) files c.read_two_files.new.store)
-    (λ i. in_front (sym c.profile.ensures i) (sym c.deref.ensures.value i ∷ sym c.deref-2.ensures.value i ∷ []))
-    c.in-Ok.ensures.read)
-    (subst (λ (commands : List ℕ). Consumes (g.I.Read.remaining c.args.input.now) (g.I.Read.remaining c.read_limited.new.reader) commands) (sym c.deref-3.ensures.value) c.in-Ok-read_limited.ensures.consumed)
-    c.in-Ok-read_limited.ensures.at_end
-    (subst (λ (commands : List ℕ). length commands ≤ 16777216) (sym c.deref-3.ensures.value) limit)
-    c.debug_report-done.result c.debug_report-done.ensures c.done_status.result c.done_status.ensures.status
+    let t = c.texts-texts.result in
+    let heard = c.in-Ok-read_limited.ensures in
+    let commands = c.deref.result.now in
+    let limit : length c.in-Ok-read_limited.commands.items ≤ 16777216 = search (rules, heard.limit, c.in-Ok-read_limited.commands.ok) in
+    debug_ran g.S.Store.read_gives g.I.Read.remaining g.O.Output.taken g.O.Output.failures (names_of c.args.names) c.args.store.now c.read_two_files.new.store c.args.input.now c.read_limited.new.reader
+    c.args.out.now c.debug_report-done.new.out commands
+    (subst (λ (xs : List ℕ). Consumes (g.I.Read.remaining c.args.input.now) (g.I.Read.remaining c.read_limited.new.reader) xs) (sym c.deref.ensures.value) heard.consumed)
+    heard.at_end (subst (λ (xs : List ℕ). length xs ≤ 16777216) (sym c.deref.ensures.value) limit)
+    (kept_two c.in-Ok.files) (lent_two t) c.texts-texts.ensures c.in-Ok.ensures.read c.answered.result
+    (told_two_plain _ _ _ _ _ _ _ (λ a b p. IsDebugReport a b commands p) IsRunnable IsRunRefused c.debug_report-done.result c.debug_report-done.ensures c.answered.result c.answered.ensures)
+    c.answer_status.result c.answer_status.ensures.status
