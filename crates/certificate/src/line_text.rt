@@ -21,17 +21,19 @@ pub fn address_of(place: &Place) -> u32
     }
 }
 
-fn label_text(label: Label) -> &'static [u8]
-    ensures text { result.now ≡ label_words label }
-    ensures len { length result.now ≤ 4 }
-{
-    match label {
-        Label::Skip => b"skip",
-        Label::Do => b"do",
-    }
-}
-
 impl LineEnd {
+    // Adds a label between two blanks.
+    fn put_label(&mut self, label: Label)
+        requires { 6 + length self.old ≤ 160 }
+        ensures text { self.new ≡ 32 ∷ (label_words label ++ 32 ∷ self.old) }
+        ensures len { length self.new ≤ 6 + length self.old }
+    {
+        match label {
+            Label::Skip => self.put(b" skip "),
+            Label::Do => self.put(b" do "),
+        }
+    }
+
     fn put_to(&mut self, to: &Place)
         requires { 9 + length self.old ≤ 160 }
         ensures text { self.new ≡ to_words (to_of to.now) ++ self.old }
@@ -52,9 +54,7 @@ impl LineEnd {
         self.put_decimal(u64::from(edge.cost));
         self.put(b" ");
         self.put_to(&edge.to);
-        self.put(b" ");
-        self.put(label_text(edge.label));
-        self.put(b" ");
+        self.put_label(edge.label);
         self.put_hex(address_of(&edge.from));
     }
 
