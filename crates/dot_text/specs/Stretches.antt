@@ -7,12 +7,13 @@ use Rattle.flow_graph.specs.Flow.{Flow}
 use Rattle.flow_graph.specs.declared.places.Place.{Place}
 use Rattle.flow_graph.specs.declared.places.Place.TheVariants.{At, Exit}
 use Rattle.longest_walk.specs.Built.{step_at}
-use Rattle.loop_bounds.specs.Tree.{Tree, place_in}
+use Rattle.loop_bounds.specs.Tree.{IsTree, Tree, place_in}
 use Rattle.numbered_walks.specs.Index.{AreHolders, edge_at}
 use Rattle.numbered_walks.specs.Ordered.{is_in}
 use Rattle.numbered_walks.specs.declared.index.Index.{Index}
 use Rattle.numbered_walks.specs.declared.span.Span.{Span}
 use Rattle.walk_counts.specs.Counts.{capped}
+use Rattle.dot_text.specs.declared.tables.Drawn.{Drawn}
 
 -- the calls inside of which a place is
 abbrev pub calls_of : Place → List ℕ
@@ -100,3 +101,9 @@ pub record AreTables (flow : Flow) (tree : Tree) (index : Index) (counted : List
   pub all_held : length index.holders.items ≡ length flow.places + 1
   pub all_counted : length counted ≡ length flow.places + 1
   pub are_counted : (n : ℕ) → n ≤ length flow.places → slice_index counted n ≡ arrivals flow tree n
+
+-- what each call that draws is handed: the tables of a graph and of its tree, and a count for each edge
+pub record CanDraw (d : Drawn) : Type 0 where
+  pub tree_is : IsTree d.graph.now d.tree.now
+  pub tables : AreTables d.graph.now d.tree.now d.index.now d.arrivals.now
+  pub counted : length d.counts.now ≡ length d.graph.now.edges

@@ -1,12 +1,12 @@
 ghost use Rattle.std.specs.Prelude.{◌≡◌, ◌<◌, ◌≤◌, ◌+◌, ◌++◌, IfOk, OnOk, length};
 ghost use Rattle.std.specs.List.{flat_map, range_with_len};
 ghost use Rattle.loop_bounds.specs.Tree.{IsTree};
-ghost use Rattle.dot_text.specs.Stretches.{AreTables, first_of};
+ghost use Rattle.dot_text.specs.Stretches.{CanDraw, first_of};
 ghost use Rattle.dot_text.specs.Text.{IsDrawing, drawing, ended};
 
 use crate::nodes::put_stretch;
 use crate::pieces::put_name;
-use crate::stretches::goes_on;
+use crate::stretches::{Stretch, goes_on};
 use crate::tables::{Drawn, arrivals};
 use flow_graph::Graph;
 use longest_walk::Longest;
@@ -28,9 +28,7 @@ fn put_ended(
     first: usize,
     number: usize,
 ) -> Result<usize, AllocError>
-    requires tree { IsTree drawn.graph.now drawn.tree.now }
-    requires tables { AreTables drawn.graph.now drawn.tree.now drawn.index.now drawn.arrivals.now }
-    requires counted { length drawn.counts.now ≡ length drawn.graph.now.edges }
+    requires drawn { CanDraw drawn }
     requires known { number < length drawn.graph.now.places }
     requires order { first ≤ number }
     requires first { first ≡ first_of drawn.graph.now drawn.tree.now number }
@@ -45,15 +43,17 @@ fn put_ended(
     if goes_on(drawn, number) {
         return Ok(first);
     }
-    put_stretch(out, drawn, first, number)?;
+    let stretch = Stretch {
+        first,
+        last: number,
+    };
+    put_stretch(out, drawn, stretch)?;
     Ok(number + 1)
 }
 
 // Adds all stretches.
 fn put_stretches(out: &mut Vec<u8>, drawn: Drawn<'_>) -> Result<(), AllocError>
-    requires tree { IsTree drawn.graph.now drawn.tree.now }
-    requires tables { AreTables drawn.graph.now drawn.tree.now drawn.index.now drawn.arrivals.now }
-    requires counted { length drawn.counts.now ≡ length drawn.graph.now.edges }
+    requires drawn { CanDraw drawn }
     ensures { OnOk result
         (out.new.items ≡ out.old.items
         ++ flat_map
@@ -69,9 +69,7 @@ fn put_stretches(out: &mut Vec<u8>, drawn: Drawn<'_>) -> Result<(), AllocError>
 
 // The whole drawing, by its tables.
 fn drawn_text(alloc: Global, drawn: Drawn<'_>) -> Result<Vec<u8>, AllocError>
-    requires tree { IsTree drawn.graph.now drawn.tree.now }
-    requires tables { AreTables drawn.graph.now drawn.tree.now drawn.index.now drawn.arrivals.now }
-    requires counted { length drawn.counts.now ≡ length drawn.graph.now.edges }
+    requires drawn { CanDraw drawn }
     ensures { IfOk result
         (λ text. text.items
         ≡ drawing drawn.entry.graph.now drawn.entry.tree.now drawn.entry.counts.now

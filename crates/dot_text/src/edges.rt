@@ -7,7 +7,7 @@ ghost use Rattle.dot_text.specs.Stretches.{leaving};
 ghost use Rattle.dot_text.specs.Text.{edge};
 
 use crate::pieces::{put_edge_name, put_name, put_style};
-use crate::stretches::{count_of, part};
+use crate::stretches::{Stretch, count_of, part};
 use crate::tables::Drawn;
 use flow_graph::Edge;
 use std::alloc::AllocError;
@@ -52,25 +52,25 @@ fn put_edge(
     put(out, b"\n")
 }
 
-/// Adds the edges that leave a stretch, by its first and its last number.
+/// Adds the edges that leave a stretch.
 pub(crate) fn put_edges(
     out: &mut Vec<u8>,
     drawn: Drawn<'_>,
-    first: usize,
-    last: usize,
+    stretch: Stretch,
 ) -> Result<(), AllocError>
     requires tree { IsTree drawn.graph.now drawn.tree.now }
-    requires known { last < length drawn.graph.now.places }
+    requires known { stretch.last < length drawn.graph.now.places }
     requires counted { length drawn.counts.now ≡ length drawn.graph.now.edges }
     ensures { OnOk result
         (out.new.items ≡ out.old.items
         ++ flat_map
-        (edge drawn.entry.graph.now drawn.entry.tree.now drawn.entry.counts.now drawn.entry.labels.now first)
-        (leaving drawn.entry.graph.now drawn.entry.tree.now last)) }
+        (edge drawn.entry.graph.now drawn.entry.tree.now drawn.entry.counts.now drawn.entry.labels.now
+        stretch.first)
+        (leaving drawn.entry.graph.now drawn.entry.tree.now stretch.last)) }
 {
-    let (begin, end) = part(drawn, last);
+    let (begin, end) = part(drawn, stretch.last);
     for number in begin..end {
-        put_edge(out, drawn, first, number)?;
+        put_edge(out, drawn, stretch.first, number)?;
     }
     Ok(())
 }

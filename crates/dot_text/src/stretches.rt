@@ -4,12 +4,19 @@ ghost use Rattle.flow_graph.specs.Flow.{IsWellFormed};
 ghost use Rattle.loop_bounds.specs.Tree.{IsTree};
 ghost use Rattle.numbered_walks.specs.Ordered.{is_in};
 ghost use Rattle.walk_counts.specs.Counts.{capped};
-ghost use Rattle.dot_text.specs.Stretches.{AreTables, calls_in, edge_ticks, end_edge, first_edge, goes_on};
+ghost use Rattle.dot_text.specs.Stretches.{AreTables, CanDraw, calls_in, edge_ticks, end_edge, first_edge, goes_on};
 ghost use Rattle.dot_text.specs.Stretches.{leads_on, loops_of, passes, stays_inside, stretch_ticks, ticks};
 
 use crate::tables::Drawn;
 use flow_graph::{Calls, Place};
 use numbered_walks::Span;
+
+/// A straight stretch, by its first and its last number.
+#[derive(Clone, Copy)]
+pub(crate) struct Stretch {
+    pub(crate) first: usize,
+    pub(crate) last: usize,
+}
 
 fn capped_sum(sum: u64, more: u64) -> u64
     ensures { result ≡ capped (sum + more) }
@@ -164,17 +171,16 @@ fn ticks(drawn: Drawn<'_>, number: usize) -> u64
     ticks
 }
 
-/// The ticks that the walk takes in a stretch, by its first and its last number.
-pub(crate) fn stretch_ticks(drawn: Drawn<'_>, first: usize, last: usize) -> u64
-    requires tree { IsTree drawn.graph.now drawn.tree.now }
-    requires tables { AreTables drawn.graph.now drawn.tree.now drawn.index.now drawn.arrivals.now }
-    requires known { last < length drawn.graph.now.places }
-    requires counted { length drawn.counts.now ≡ length drawn.graph.now.edges }
+/// The ticks that the walk takes in a stretch.
+pub(crate) fn stretch_ticks(drawn: Drawn<'_>, stretch: Stretch) -> u64
+    requires drawn { CanDraw drawn }
+    requires known { stretch.last < length drawn.graph.now.places }
     ensures { result
-        ≡ stretch_ticks drawn.entry.graph.now drawn.entry.tree.now drawn.entry.counts.now first last }
+        ≡ stretch_ticks drawn.entry.graph.now drawn.entry.tree.now drawn.entry.counts.now stretch.first
+        stretch.last }
 {
     let mut all = 0;
-    for number in first..last + 1 {
+    for number in stretch.first..stretch.last + 1 {
         all = capped_sum(all, ticks(drawn, number));
     }
     all

@@ -37,13 +37,13 @@ one_place p q e = place_exact p q (is_equal (place_cmp p q) e)
 own_place : (p : Place) → is_same_place p p ≡ true
 own_place p = ap is_eq (tied_itself place_total p)
 
-one_label : (l m : Label) → is_same_label l m ≡ true → l ≡ m
+pub one_label : (l m : Label) → is_same_label l m ≡ true → l ≡ m
 one_label Skip Skip e = refl
 one_label Skip Do e = cc
 one_label Do Skip e = cc
 one_label Do Do e = refl
 
-own_label : (l : Label) → is_same_label l l ≡ true
+pub own_label : (l : Label) → is_same_label l l ≡ true
 own_label Skip = refl
 own_label Do = refl
 

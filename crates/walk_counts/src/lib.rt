@@ -7,4 +7,5 @@ mod numbers;
 mod spans;
 
 pub use counting::edge_counts;
+pub use numbers::is_same_label;
 pub use spans::{headers, holds};

@@ -13,7 +13,8 @@ fn same_place(place: &Place, other: &Place) -> bool
     place.cmp(other) == Ordering::Equal
 }
 
-fn same_label(label: Label, other: Label) -> bool
+/// Whether the two are one label.
+pub fn is_same_label(label: Label, other: Label) -> bool
     ensures { result ≡ is_same_label label other }
 {
     match (label, other) {
@@ -26,7 +27,7 @@ fn same_edge(edge: &Edge, other: &Edge) -> bool
     ensures { result ≡ is_same edge.now other.now }
 {
     same_place(&edge.from, &other.from)
-        && same_label(edge.label, other.label)
+        && is_same_label(edge.label, other.label)
         && same_place(&edge.to, &other.to)
         && edge.cost == other.cost
 }

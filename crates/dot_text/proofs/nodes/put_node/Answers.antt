@@ -8,8 +8,8 @@ use Rattle.dot_text.proofs.nodes.put_node.Goals as goal
 pub returns : goal.returns
 returns c =
     let d = c.args.drawn in
-    let first = c.args.first in
-    let last = c.args.last in
+    let first = c.args.stretch.first in
+    let last = c.args.stretch.last in
     let passed = passes d.graph.now d.tree.now d.counts.now first in
     on_ok_weaker c.put_style.result
     (λ style_is. nine c.args.out.now.items (name first) (codes " [label=\"") (flat_map (row d.graph.now d.tree.now d.counts.now d.labels.now) (between first (last + 1)))

@@ -8,11 +8,11 @@ pub loop-number-preserved : goal.loop-number-preserved
 loop-number-preserved c =
     let d = c.args.drawn in
     let f = row d.graph.now d.tree.now d.counts.now d.labels.now in
-    number_more f c.loop-number.number (c.args.last + 1) c.loop-number.out.items c.put_row.new.out.items
-    (c.args.out.now.items ++ flat_map f (between c.args.first (c.args.last + 1))) c.loop-number.invariant c.loop-number-test.true c.in_ok-put_row.ensures
+    number_more f c.loop-number.number (c.args.stretch.last + 1) c.loop-number.out.items c.put_row.new.out.items
+    (c.args.out.now.items ++ flat_map f (between c.args.stretch.first (c.args.stretch.last + 1))) c.loop-number.invariant c.loop-number-test.true c.in_ok-put_row.ensures
 
 pub returns : goal.returns
 returns c =
     let d = c.args.drawn in
     let f = row d.graph.now d.tree.now d.counts.now d.labels.now in
-    numbers_end f c.loop-number.number (c.args.last + 1) c.loop-number.out.items (c.args.out.now.items ++ flat_map f (between c.args.first (c.args.last + 1))) c.loop-number.invariant c.loop-number-test.false
+    numbers_end f c.loop-number.number (c.args.stretch.last + 1) c.loop-number.out.items (c.args.out.now.items ++ flat_map f (between c.args.stretch.first (c.args.stretch.last + 1))) c.loop-number.invariant c.loop-number-test.false

@@ -10,7 +10,7 @@ pub returns : goal.returns
 returns c =
     let d = c.args.drawn in
     on_ok_weaker c.put_edges.result
-    (five c.args.out.now.items (opened d.graph.now d.tree.now c.args.first) (node d.graph.now d.tree.now d.counts.now d.labels.now c.args.first c.args.last)
-    (closed d.graph.now d.tree.now c.args.first) (codes "\n") (flat_map (edge d.graph.now d.tree.now d.counts.now d.labels.now c.args.first) (leaving d.graph.now d.tree.now c.args.last))
+    (five c.args.out.now.items (opened d.graph.now d.tree.now c.args.whole.first) (node d.graph.now d.tree.now d.counts.now d.labels.now c.args.whole.first c.args.whole.last)
+    (closed d.graph.now d.tree.now c.args.whole.first) (codes "\n") (flat_map (edge d.graph.now d.tree.now d.counts.now d.labels.now c.args.whole.first) (leaving d.graph.now d.tree.now c.args.whole.last))
     c.in_ok-put_opened.ensures c.in_ok-put_node.ensures c.in_ok-put_closed.ensures c.in_ok-put.ensures)
     c.put_edges.ensures

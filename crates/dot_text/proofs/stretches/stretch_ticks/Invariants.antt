@@ -6,5 +6,5 @@ use Rattle.dot_text.proofs.stretches.stretch_ticks.Given as goal
 abbrev pub invariant-loop-number : goal.invariant-loop-number
 invariant-loop-number l = record {
   small : l.all < 2 ^ 64;
-  same : capped (l.all + sum_by (ticks l.drawn.graph.now l.drawn.tree.now l.drawn.counts.now) (between l.number (l.last + 1))) ≡ stretch_ticks l.drawn.graph.now l.drawn.tree.now l.drawn.counts.now l.first l.last;
+  same : capped (l.all + sum_by (ticks l.drawn.graph.now l.drawn.tree.now l.drawn.counts.now) (between l.number (l.fn.stretch.last + 1))) ≡ stretch_ticks l.drawn.graph.now l.drawn.tree.now l.drawn.counts.now l.fn.stretch.first l.fn.stretch.last;
 }
