@@ -7,7 +7,7 @@ use Rattle.std.proofs.Math.ListN.{drop_of_length-le}
 use Rattle.std.proofs.lemmas.Bool.Decides.{nat_tests}
 use Rattle.std.proofs.lemmas.List.{drop_more}
 use Rattle.assembler.specs.declared.placed_line.PlacedLine.{PlacedLine}
-use Rattle.explained.specs.declared.named.NumberedLine.{NumberedLine}
+use Rattle.text_rows.specs.declared.rows.NumberedLine.{NumberedLine}
 use Rattle.savings.specs.Sections.{PutsAt, has_word, line_at, line_with, numbered}
 
 is_at-eqb : (a b : ℕ) → is_at (nat_cmp a) b ≡ eqb b a

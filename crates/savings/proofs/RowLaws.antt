@@ -1,5 +1,6 @@
 -- The row of a saving, and the rows of all.
-use Rattle.std.proofs.Common.{◌≡◌, ◌∙◌, ℕ, List, ◌++◌, append_assoc, Option, refl, ap, subst}
+use Rattle.std.proofs.Common.{◌≡◌, ◌∙◌, ℕ, ◌+◌, ◌-◌, List, ◌++◌, append_assoc, length, Option, refl, ap, subst, arith}
+use Rattle.std.proofs.lemmas.List.{length-append}
 use Rattle.assembler.specs.declared.placed_line.PlacedLine.{PlacedLine}
 use Rattle.text_rows.specs.Rows.{section}
 use Rattle.flow_graph.specs.Flow.{Flow}
@@ -12,9 +13,16 @@ use Rattle.savings.specs.Sections.{AreSourceSavings, IsSavingRow, IsSourceEnd, f
 use Rattle.savings.specs.declared.found.Saving.{Saving}
 use Rattle.savings.specs.declared.found.Subject.{Subject}
 
-pub whole_row : (IsEnd : Subject → List ℕ → Type 0) (s : Saving) (old mid new : List ℕ) → mid ≡ old ++ front_text s → Appends (IsEnd s.subject) mid new → Appends (IsSavingRow IsEnd s) old new
-whole_row IsEnd s old mid new front adds =
-    (front_text s ++ adds.0, (adds.0, adds.1, refl), adds.2 ∙ ap (λ (xs : List ℕ). xs ++ adds.0) front ∙ append_assoc old (front_text s) adds.0)
+-- the end of a row after so many columns
+pub whole_row : (IsEnd : (used : ℕ) → Subject → List ℕ → Type 0) (s : Saving) (used : ℕ) (old mid new : List ℕ) → mid ≡ old ++ front_text s → used ≡ length mid - length old
+    → Appends (IsEnd used s.subject) mid new → Appends (IsSavingRow IsEnd s) old new
+whole_row IsEnd s used old mid new front is adds =
+    let long : length mid ≡ length old + length (front_text s) = ap length front ∙ length-append old (front_text s) in
+    let same : used ≡ length (front_text s) = omega (arith, is, long) in (
+      front_text s ++ adds.0,
+      (adds.0, subst (λ n. IsEnd n s.subject adds.0) same adds.1, refl),
+      adds.2 ∙ ap (λ (xs : List ℕ). xs ++ adds.0) front ∙ append_assoc old (front_text s) adds.0,
+    )
 
 -- by lines that are found beforehand
 pub source_text : (source : List ℕ) (placed : List PlacedLine) (words : Words) (st : Stated) (flow : Flow) (walk : List Edge) (lines : ℕ → Option (ℕ × List ℕ)) (list listed : List Saving) (rows shown text : List ℕ)

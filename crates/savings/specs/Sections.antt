@@ -1,18 +1,16 @@
 -- What better entries of a statement would save, as text. Our own format.
-use Rattle.std.specs.Prelude.{◌≡◌, ℕ, ◌+◌, ◌==◌, Bool, if◌then◌else◌, List, ◌∷◌, ◌++◌, codes, decimal}
+use Rattle.std.specs.Prelude.{◌≡◌, ℕ, ◌+◌, ◌==◌, Bool, if◌then◌else◌, List, ◌∷◌, ◌++◌, codes, decimal, length}
 use Rattle.std.specs.Prelude.{Option, Some, None, option_map}
 use Rattle.std.specs.BTreeMap.{BTreeMap, get}
 use Rattle.std.specs.List.{list_any}
 use Rattle.std.specs.Ordering.{nat_cmp}
-use Rattle.asm_text.specs.Hex.{hex8}
 use Rattle.asm_text.specs.Source.{lines_of}
 use Rattle.assembler.specs.declared.placed_line.PlacedLine.{PlacedLine}
-use Rattle.explained.specs.Assumed.{named_row}
 use Rattle.text_rows.specs.Columns.{in_columns}
 use Rattle.explained.specs.Pricing.{class_name}
-use Rattle.text_rows.specs.Rows.{IsShownRow, section}
+use Rattle.text_rows.specs.Rows.{IsShownRow, address_row, named_row, section}
 use Rattle.explained.specs.Table.{addresses}
-use Rattle.explained.specs.declared.named.NumberedLine.{NumberedLine}
+use Rattle.text_rows.specs.declared.rows.NumberedLine.{NumberedLine}
 use Rattle.flow_graph.specs.Flow.{Flow}
 use Rattle.flow_graph.specs.declared.edges.Edge.{Edge}
 use Rattle.loader.specs.Image.{Words}
@@ -74,22 +72,23 @@ abbrev pub front_text : Saving → List ℕ
 front_text s = in_columns 9 (decimal s.ticks) ++ in_columns 19 (entry_text s.subject s.refinement)
 
 -- up to the end of the line
-abbrev pub IsSavingRow : (Subject → List ℕ → Type 0) → Saving → List ℕ → Type 0
-IsSavingRow IsEnd s row = (end : List ℕ) × IsEnd s.subject end × (row ≡ front_text s ++ end)
+abbrev pub IsSavingRow : ((used : ℕ) → Subject → List ℕ → Type 0) → Saving → List ℕ → Type 0
+IsSavingRow IsEnd s row =
+    (end : List ℕ) × IsEnd (length (front_text s)) s.subject end × (row ≡ front_text s ++ end)
 
 -- the address, and the number and the text of its line
-abbrev pub line_row : ℕ → Option (ℕ × List ℕ) → List ℕ
-line_row at None = codes "  " ++ (hex8 at ++ codes "\n")
-line_row at (Some line) = named_row at line.0 line.1
+abbrev pub line_row : (used at : ℕ) → Option (ℕ × List ℕ) → List ℕ
+line_row used at None = address_row at
+line_row used at (Some line) = named_row used at line.0 line.1
 
-abbrev pub IsSourceEnd : (ℕ → Option (ℕ × List ℕ)) → Subject → List ℕ → Type 0
-IsSourceEnd line (Word at word) end = end ≡ line_row at (line at)
-IsSourceEnd line Leave end = end ≡ codes "\n"
+abbrev pub IsSourceEnd : (ℕ → Option (ℕ × List ℕ)) → (used : ℕ) → Subject → List ℕ → Type 0
+IsSourceEnd line used (Word at word) end = end ≡ line_row used at (line at)
+IsSourceEnd line used Leave end = end ≡ codes "\n"
 
 -- the address, the word and its line
-abbrev pub IsImageEnd : Subject → List ℕ → Type 0
-IsImageEnd (Word at word) end = IsShownRow (at, word) end
-IsImageEnd Leave end = end ≡ codes "\n"
+abbrev pub IsImageEnd : (used : ℕ) → Subject → List ℕ → Type 0
+IsImageEnd used (Word at word) end = IsShownRow used (at, word) end
+IsImageEnd used Leave end = end ≡ codes "\n"
 
 -- ## The section
 
@@ -97,8 +96,8 @@ abbrev pub heading : List ℕ
 heading = codes "\nWhat would save most, in ticks at most (state only what is true):\n"
 
 -- a row for each saving under the heading, and nothing where there are none
-pub record IsSavingsText (IsEnd : Subject → List ℕ → Type 0) (words : Words) (st : Stated) (flow : Flow)
-    (walk : List Edge) (text : List ℕ) : Type 0 where
+pub record IsSavingsText (IsEnd : (used : ℕ) → Subject → List ℕ → Type 0) (words : Words) (st : Stated)
+    (flow : Flow) (walk : List Edge) (text : List ℕ) : Type 0 where
   pub list : List Saving
   pub rows : List ℕ
   pub are_savings : AreSavings words st flow walk list

@@ -3,9 +3,9 @@ ghost use Rattle.savings.specs.Sections.{PutsAt, line_at, line_of, numbered};
 
 use asm_text::first_line;
 use assembler::PlacedLine;
-use explained::NumberedLine;
 use std::alloc::{AllocError, Global};
 use std::collections::BTreeMap;
+use text_rows::NumberedLine;
 
 // Puts a line at each of its words.
 fn put_line<'a>(

@@ -8,13 +8,15 @@ ghost use Rattle.savings.specs.Sections.{entry_text, front_text, line_at, line_r
 use crate::found::{Saving, Subject, savings};
 use crate::gains::Refinement;
 use crate::lines::lines_by_address;
-use asm_text::hex8;
 use assembler::PlacedLine;
-use explained::{NumberedLine, StatedGraph, class_name, put_named_row};
+use explained::{StatedGraph, class_name};
 use longest_walk::Longest;
 use std::alloc::{AllocError, Global};
 use std::collections::BTreeMap;
-use text_rows::{put, put_number, put_right, put_shown_row, section};
+use text_rows::{
+    NumberedLine, put, put_address_row, put_named_row, put_number, put_right, put_shown_row,
+    section,
+};
 
 const HEADING: &[u8] = b"\nWhat would save most, in ticks at most (state only what is true):\n";
 
@@ -56,45 +58,43 @@ fn put_front(out: &mut Vec<u8>, saving: &Saving) -> Result<(), AllocError>
     put_right(out, &text, 19)
 }
 
-// Adds an address, and the number and the text of its line, if it has one.
+// Adds an address, and the number and the text of its line, if it has one, to a row that has so many columns.
 fn put_line(
     out: &mut Vec<u8>,
+    used: usize,
     lines: &BTreeMap<u32, NumberedLine<'_>>,
     at: u32,
 ) -> Result<(), AllocError>
-    ensures { OnOk result (out.new.items ≡ out.old.items ++ line_row at (line_at lines.now at)) }
+    ensures { OnOk result (out.new.items ≡ out.old.items ++ line_row used at (line_at lines.now at)) }
 {
     match lines.get(&at) {
-        Some(line) => put_named_row(out, *line, at),
-        None => {
-            put(out, b"  ")?;
-            put(out, &hex8(at))?;
-            put(out, b"\n")
-        }
+        Some(line) => put_named_row(out, used, *line, at),
+        None => put_address_row(out, at),
     }
 }
 
-// Adds what stands after the entry, by the lines of a source.
+// Adds what stands after the entry, by the lines of a source, to a row that has so many columns.
 fn put_source_end(
     out: &mut Vec<u8>,
+    used: usize,
     lines: &BTreeMap<u32, NumberedLine<'_>>,
     subject: Subject,
 ) -> Result<(), AllocError>
     ensures { OnOk result
-        (Appends (IsSourceEnd (line_at lines.now) subject) out.old.items out.new.items) }
+        (Appends (IsSourceEnd (line_at lines.now) used subject) out.old.items out.new.items) }
 {
     match subject {
-        Subject::Word(at, _) => put_line(out, lines, at),
+        Subject::Word(at, _) => put_line(out, used, lines, at),
         Subject::Leave => put(out, b"\n"),
     }
 }
 
-// Adds what stands after the entry, by the words of an image.
-fn put_image_end(out: &mut Vec<u8>, subject: Subject) -> Result<(), AllocError>
-    ensures { OnOk result (Appends (IsImageEnd subject) out.old.items out.new.items) }
+// Adds what stands after the entry, by the words of an image, to a row that has so many columns.
+fn put_image_end(out: &mut Vec<u8>, used: usize, subject: Subject) -> Result<(), AllocError>
+    ensures { OnOk result (Appends (IsImageEnd used subject) out.old.items out.new.items) }
 {
     match subject {
-        Subject::Word(at, word) => put_shown_row(out, at, word),
+        Subject::Word(at, word) => put_shown_row(out, used, at, word),
         Subject::Leave => put(out, b"\n"),
     }
 }
@@ -107,16 +107,18 @@ fn put_source_row(
     ensures { OnOk result
         (Appends (IsSavingRow (IsSourceEnd (line_at lines.now)) saving.now) out.old.items out.new.items) }
 {
+    let begun = out.len();
     put_front(out, saving)?;
-    put_source_end(out, lines, saving.subject)
+    put_source_end(out, out.len() - begun, lines, saving.subject)
 }
 
 fn put_image_row(out: &mut Vec<u8>, saving: &Saving) -> Result<(), AllocError>
     ensures { OnOk result
         (Appends (IsSavingRow IsImageEnd saving.now) out.old.items out.new.items) }
 {
+    let begun = out.len();
     put_front(out, saving)?;
-    put_image_end(out, saving.subject)
+    put_image_end(out, out.len() - begun, saving.subject)
 }
 
 fn source_rows(
@@ -146,7 +148,7 @@ fn image_rows(alloc: Global, list: &[Saving]) -> Result<Vec<u8>, AllocError>
 
 /// What better entries of a statement would save by a greatest walk, by the lines of a source: under a
 /// heading a row for each of the [`savings`], with the ticks, the better entry, and the address, the number
-/// and the text of its line. Nothing where there are no savings.
+/// and the text of its line. A row ends at column 80. Nothing where there are no savings.
 ///
 /// `placed` says where the lines stand, in their order.
 ///
@@ -172,7 +174,8 @@ pub fn source_savings(
 
 /// What better entries of a statement would save by a greatest walk, by the words of an image: under a
 /// heading a row for each of the [`savings`], with the ticks, the better entry, and the address, the word
-/// and the line that [`disassemble`](assembler::disassemble) shows. Nothing where there are no savings.
+/// and the line that [`disassemble`](assembler::disassemble) shows. A row ends at column 80. Nothing where there
+/// are no savings.
 ///
 /// # Errors
 ///

@@ -1,3 +1,4 @@
+use Rattle.std.proofs.Common.{◌≡◌, ◌-◌, length, arith}
 use Rattle.std.proofs.lemmas.Result.{on_ok_weaker}
 use Rattle.savings.specs.Sections.{IsImageEnd}
 use Rattle.savings.proofs.RowLaws.{whole_row}
@@ -5,6 +6,9 @@ use Rattle.savings.proofs.sections.put_image_row.Goals as goal
 
 pub returns : goal.returns
 returns c =
+    let old = c.args.out.now in
+    let mid = c.put_front.new.out in
+    let used : c.len.result - c.len-begun.result ≡ length mid.items - length old.items = omega (arith, c.len.ensures, c.len-begun.ensures, mid.ok, old.ok) in
     on_ok_weaker c.put_image_end.result
-    (whole_row IsImageEnd c.args.saving.now c.args.out.now.items c.put_front.new.out.items c.put_image_end.new.out.items c.in_ok-put_front.ensures)
+    (whole_row IsImageEnd c.args.saving.now (c.len.result - c.len-begun.result) old.items mid.items c.put_image_end.new.out.items c.in_ok-put_front.ensures used)
     c.put_image_end.ensures
