@@ -7,7 +7,7 @@ use crate::cert::Cert;
 use crate::draft::Draft;
 use crate::fault::CertFault;
 use crate::line_reading::line_of;
-use crate::splitting::cut_at;
+use crate::splitting::line_first;
 use std::alloc::Global;
 
 fn read_lines(alloc: Global, text: &[u8]) -> Result<Cert, CertFault>
@@ -19,7 +19,7 @@ fn read_lines(alloc: Global, text: &[u8]) -> Result<Cert, CertFault>
     let mut draft = Draft::new(alloc);
     let mut number: usize = 1;
     let mut rest = text;
-    while let Some((words, after)) = cut_at(b'\n', rest) {
+    while let Some((words, after)) = line_first(rest) {
         let Some(line) = line_of(words) else {
             return Err(CertFault::BadLine(number));
         };
