@@ -19,6 +19,16 @@ use bus_ticks::Class;
 use std::alloc::AllocError;
 use text_rows::{put, put_decimal};
 
+// Loads and stores with their classes.
+type Accesses<'a> = &'a [(u32, Class)];
+
+// So many branches one after another, from an address on.
+#[derive(Clone, Copy)]
+struct Table {
+    first: u32,
+    branches: u32,
+}
+
 /// What stands at the addresses.
 #[derive(Drop)]
 pub struct Sheet<'s, 'a> {
@@ -92,11 +102,7 @@ impl<'a> Sheet<'_, 'a> {
         self.put_element(out, b"  {at = ", at, class_text(class))
     }
 
-    fn put_each_access(
-        &self,
-        out: &mut Vec<u8>,
-        accesses: &[(u32, Class)],
-    ) -> Result<(), AllocError>
+    fn put_each_access(&self, out: &mut Vec<u8>, accesses: Accesses<'_>) -> Result<(), AllocError>
         ensures { OnOk result
             (out.new.items
             ≡ out.old.items ++ flat_map (access_text (lines_of self.now.lines.now)) accesses.now) }
@@ -107,11 +113,7 @@ impl<'a> Sheet<'_, 'a> {
         Ok(())
     }
 
-    fn put_access_list(
-        &self,
-        out: &mut Vec<u8>,
-        accesses: &[(u32, Class)],
-    ) -> Result<(), AllocError>
+    fn put_access_list(&self, out: &mut Vec<u8>, accesses: Accesses<'_>) -> Result<(), AllocError>
         ensures { OnOk result
             (out.new.items ≡ out.old.items ++ access_list_text (lines_of self.now.lines.now) accesses.now) }
     {
@@ -124,11 +126,7 @@ impl<'a> Sheet<'_, 'a> {
     }
 
     /// Adds the loads and stores with their classes.
-    pub fn put_accesses(
-        &self,
-        out: &mut Vec<u8>,
-        accesses: &[(u32, Class)],
-    ) -> Result<(), AllocError>
+    pub fn put_accesses(&self, out: &mut Vec<u8>, accesses: Accesses<'_>) -> Result<(), AllocError>
         ensures { OnOk result
             (out.new.items ≡ out.old.items ++ accesses_text (lines_of self.now.lines.now) accesses.now) }
     {
@@ -163,19 +161,15 @@ impl<'a> Sheet<'_, 'a> {
         Ok(())
     }
 
-    fn put_each_destination(
-        &self,
-        out: &mut Vec<u8>,
-        table: u32,
-        branches: u32,
-    ) -> Result<(), AllocError>
+    fn put_each_destination(&self, out: &mut Vec<u8>, table: Table) -> Result<(), AllocError>
         ensures { OnOk result
             (out.new.items
             ≡ out.old.items
-            ++ flat_map (destination_text (lines_of self.now.lines.now)) (words_from table branches)) }
+            ++ flat_map (destination_text (lines_of self.now.lines.now))
+            (words_from table.first table.branches)) }
     {
-        let mut at = table;
-        for _ in 0..branches {
+        let mut at = table.first;
+        for _ in 0..table.branches {
             self.put_element(out, b"  ", at, b",")?;
             at = ahead_of(at, 4);
         }
@@ -183,24 +177,20 @@ impl<'a> Sheet<'_, 'a> {
     }
 
     // Adds the destinations, or what to write of them.
-    fn put_destinations(
-        &self,
-        out: &mut Vec<u8>,
-        table: u32,
-        branches: u32,
-    ) -> Result<(), AllocError>
+    fn put_destinations(&self, out: &mut Vec<u8>, table: Table) -> Result<(), AllocError>
         ensures { OnOk result
             (out.new.items
-            ≡ out.old.items ++ destinations_text (lines_of self.now.lines.now) table branches) }
+            ≡ out.old.items
+            ++ destinations_text (lines_of self.now.lines.now) table.first table.branches) }
     {
-        if branches == 0 {
+        if table.branches == 0 {
             return put(
                 out,
                 b"# to = [\"?\"]  # of a jump or a call: draft from each of them too\n",
             );
         }
         put(out, b"to = [\n")?;
-        self.put_each_destination(out, table, branches)?;
+        self.put_each_destination(out, table)?;
         put(out, b"]\n")
     }
 
@@ -209,12 +199,12 @@ impl<'a> Sheet<'_, 'a> {
         ensures { OnOk result
             (out.new.items ≡ out.old.items ++ way_text (lines_of self.now.lines.now) at branches) }
     {
-        let table = ahead_of(at, 8);
+        let first = ahead_of(at, 8);
         put(
             out,
             b"kind = \"?\"  # \"jump\", \"call\", \"return\" or \"leave\"\n",
         )?;
-        self.put_destinations(out, table, branches)
+        self.put_destinations(out, Table { first, branches })
     }
 
     fn put_target(&self, out: &mut Vec<u8>, target: &FoundTarget) -> Result<(), AllocError>

@@ -28,7 +28,6 @@ use Rattle.flow_graph.specs.Kinds.{IsAction, instr_action, unallocated_action}
 use Rattle.flow_graph.specs.StepLaw.{Executes, IsEdgeOf, IsPlaceOf, IsTaken, TransfersIn, holds_in, label_in}
 use Rattle.flow_graph.specs.declared.edges.Edge.{Edge}
 use Rattle.flow_graph.specs.declared.edges.Label.{Label}
-use Rattle.flow_graph.specs.declared.edges.Label.TheVariants.{Skip, Do}
 use Rattle.flow_graph.specs.declared.kinds.Action.{Action}
 use Rattle.flow_graph.specs.declared.places.Place.{Place}
 use Rattle.flow_graph.specs.declared.places.Place.TheVariants.{At, Exit}
@@ -42,7 +41,9 @@ use Rattle.kept_runs.specs.declared.reading.Reading.{Reading}
 use Rattle.bus_ticks.specs.Worst.{IsOf}
 use Rattle.kept_runs.specs.declared.transfers.Access.{Access}
 use Rattle.kept_runs.specs.declared.transfers.Transfer.{Transfer}
-use Rattle.kept_runs.specs.Edges.{HasNoEdge, IsFound, is_met, is_place_of, same_label}
+use Rattle.walk_counts.specs.Counts.{is_same_label}
+use Rattle.walk_counts.proofs.NumberLemmas.{one_label, own_label}
+use Rattle.kept_runs.specs.Edges.{HasNoEdge, IsFound, is_met, is_place_of}
 use Rattle.kept_runs.specs.declared.judging.Stray.TheVariants as stray
 use Rattle.kept_runs.specs.Judging.{StandsAt, Strays, Takes, TakesNone, label_if}
 use Rattle.kept_runs.specs.Reading.{HasNoWord, IsReading, StandsThere}
@@ -52,15 +53,8 @@ use Rattle.kept_runs.proofs.MovedLemmas.{Moves, word_moves}
 
 -- ## Labels and places
 
-label_told : (a b : Label) → same_label a b ≡ true → a ≡ b
-label_told Skip Skip is = refl
-label_told Do Do is = refl
-label_told Skip Do is = absurd (cc)
-label_told Do Skip is = absurd (cc)
-
-label_itself : (a b : Label) → a ≡ b → same_label a b ≡ true
-label_itself a Skip is = ap (λ x. same_label x Skip) is
-label_itself a Do is = ap (λ x. same_label x Do) is
+label_itself : (a b : Label) → a ≡ b → is_same_label a b ≡ true
+label_itself a b is = ap (λ x. is_same_label x b) is ∙ own_label b
 
 place_told : (st : Stated) (t : ℕ) (p : Place) → is_place_of st.leave t p ≡ true → IsPlaceOf st t p
 place_told st t (At calls a) is = eqb-true a t is
@@ -198,7 +192,7 @@ module _ (words : Words) (st : Stated) (flow : Flow) (graph : IsFlowGraph words 
       met_by : (c : List ℕ) (e : Edge) → IsTaken words st flow.profile c read.action s told e → is_met going e ≡ true
       met_by c e taken =
           let label : e.label ≡ label_if r.holds = taken.label ∙ sym label_is in
-          and_from (same_label e.label (label_if r.holds)) (is_place_of st.leave told.to e.to) (label_itself e.label (label_if r.holds) label) (told_place st told.to e.to taken.to)
+          and_from (is_same_label e.label (label_if r.holds)) (is_place_of st.leave told.to e.to) (label_itself e.label (label_if r.holds) label) (told_place st told.to e.to taken.to)
 
       -- an edge of the step is one of the place's
       met : {other : Stepped} {last : State} {e : Edge} → (h : IsEdgeOf words st flow.profile s i other last e) → is_met going e ≡ true
@@ -248,7 +242,7 @@ module _ (words : Words) (st : Stated) (flow : Flow) (graph : IsFlowGraph words 
       pub takes : HasNoOther class r.transfer → told.ticks < 65536 → (k : ℕ) → IsFound flow place going k → Takes words st flow place s i after (record { edge = k; stepped = told })
       takes clean small k found =
           let e : Edge = step_at flow.edges k in
-          let both = and_parts (same_label e.label (label_if r.holds)) (is_place_of st.leave told.to e.to) found.met in
+          let both = and_parts (is_same_label e.label (label_if r.holds)) (is_place_of st.leave told.to e.to) found.met in
           record {
             known = found.known;
             is_edge_of = record {
@@ -258,7 +252,7 @@ module _ (words : Words) (st : Stated) (flow : Flow) (graph : IsFlowGraph words 
               taken = record {
                 is_edge = has_edge_is_edge words st flow.profile flow graph e (Contains-get_or flow.edges k _ found.known);
                 from = found.from ∙ stands.at.1;
-                label = label_told e.label (label_if r.holds) both.0 ∙ label_is;
+                label = one_label e.label (label_if r.holds) both.0 ∙ label_is;
                 to = place_told st told.to e.to both.1;
               };
             };

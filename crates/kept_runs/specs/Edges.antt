@@ -1,22 +1,15 @@
 -- Which edge of a place a step takes.
-use Rattle.std.specs.Prelude.{◌≡◌, ℕ, ◌<◌, ◌==◌, ◌&&◌, Bool, true, false, length}
+use Rattle.std.specs.Prelude.{◌≡◌, ℕ, ◌<◌, ◌==◌, ◌&&◌, Bool, true, length}
 use Rattle.bus_ticks.specs.Prices.{class_at}
 use Rattle.bus_ticks.specs.declared.profile.Class.{Class}
 use Rattle.flow_graph.specs.declared.edges.Edge.{Edge}
-use Rattle.flow_graph.specs.declared.edges.Label.{Label}
-use Rattle.flow_graph.specs.declared.edges.Label.TheVariants.{Skip, Do}
 use Rattle.flow_graph.specs.declared.places.Place.{Place}
 use Rattle.flow_graph.specs.declared.places.Place.TheVariants.{At, Exit}
 use Rattle.flow_graph.specs.Flow.{Flow, HasEdge}
 use Rattle.longest_walk.specs.Built.{step_at}
+use Rattle.walk_counts.specs.Counts.{is_same_label}
 use Rattle.kept_runs.specs.declared.edges.Going.{Going}
 use Rattle.kept_runs.specs.Transfers.{covers}
-
-abbrev pub same_label : Label → Label → Bool
-same_label Skip Skip = true
-same_label Do Do = true
-same_label Skip Do = false
-same_label Do Skip = false
 
 -- the address is that of the place; Exit stands for each address of the leave class
 abbrev pub is_place_of : (leave : Class) → ℕ → Place → Bool
@@ -24,7 +17,7 @@ is_place_of leave t (At calls address) = address == t
 is_place_of leave t Exit = covers leave (class_at t)
 
 abbrev pub is_met : Going → Edge → Bool
-is_met going e = same_label e.label going.label && is_place_of going.leave going.to e.to
+is_met going e = is_same_label e.label going.label && is_place_of going.leave going.to e.to
 
 -- an edge of the place, by its number
 pub record IsFound (flow : Flow) (place : Place) (going : Going) (k : ℕ) : Type 0 where

@@ -3,11 +3,12 @@
 ghost use Rattle.std.specs.Prelude.{◌≡◌, ◌<◌, ◌^◌, length, MatchOption};
 ghost use Rattle.flow_graph.specs.Places.{place_at};
 ghost use Rattle.longest_walk.specs.Parts.{IsPartOf};
-ghost use Rattle.kept_runs.specs.Edges.{HasNoEdge, IsFound, is_met, is_place_of, same_label};
+ghost use Rattle.kept_runs.specs.Edges.{HasNoEdge, IsFound, is_met, is_place_of};
 
 use crate::transfers::covers;
 use bus_ticks::{Class, class_of};
 use flow_graph::{Edge, Graph, Label, Place};
+use walk_counts::is_same_label;
 
 /// Where a step goes: by which label, and to which address.
 #[derive(Clone, Copy)]
@@ -17,15 +18,6 @@ pub(crate) struct Going {
     pub(crate) to: u32,
     /// The class of the addresses to which the handler leaves.
     pub(crate) leave: Class,
-}
-
-fn same_label(label: Label, other: Label) -> bool
-    ensures { result ≡ same_label label other }
-{
-    match (label, other) {
-        (Label::Skip, Label::Skip) | (Label::Do, Label::Do) => true,
-        _ => false,
-    }
 }
 
 fn is_place_of(place: &Place, going: Going) -> bool
@@ -42,7 +34,7 @@ fn is_met(edge: &Edge, going: Going) -> bool
     requires { going.to < 2 ^ 26 }
     ensures { result ≡ is_met going edge.now }
 {
-    same_label(edge.label, going.label) && is_place_of(&edge.to, going)
+    is_same_label(edge.label, going.label) && is_place_of(&edge.to, going)
 }
 
 // Where the edges of the place begin and end.

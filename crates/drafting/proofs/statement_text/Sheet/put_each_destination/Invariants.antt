@@ -6,5 +6,5 @@ use Rattle.drafting.proofs.statement_text.Sheet.put_each_destination.Given as go
 
 abbrev pub invariant-loop : goal.invariant-loop
 invariant-loop l =
-    l.out.items ++ flat_map (destination_text (lines_of l.self.lines.now)) (words_from l.at (l.branches - l.counter))
-    ≡ l.fn.out.items ++ flat_map (destination_text (lines_of l.self.lines.now)) (words_from l.table l.branches)
+    l.out.items ++ flat_map (destination_text (lines_of l.self.lines.now)) (words_from l.at (l.fn.table.branches - l.counter))
+    ≡ l.fn.out.items ++ flat_map (destination_text (lines_of l.self.lines.now)) (words_from l.fn.table.first l.fn.table.branches)
