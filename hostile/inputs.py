@@ -71,7 +71,7 @@ class Explains:
         table = told.out.partition(b"\n\n")[0].rstrip(b"\n") + b"\n"
         ticks = re.findall(rb"^ *\d+ +\d+(?:-\d+)? +(\d+) +\d+\.\d% ", table, re.M)
         microseconds = f"{number // 8}.{number % 8 * 125:03}"
-        end = f"    total {number:10} 100.0%\nbound {number} ticks, {microseconds} microseconds at 8 MHz\n"
+        end = f"       total {number:6} 100.0%\nbound {number} ticks, {microseconds} microseconds at 8 MHz\n"
         is_right = not told.status and table.endswith(end.encode()) and sum(map(int, ticks)) == number
         return None if is_right and not told.err else f"{told}, where the bound is {number}"
 
@@ -92,8 +92,15 @@ class OfSource:
         return self.fault(told, asm, readers.read_image(left["made.image"]))
 
 
+def cut(row, room):
+    """As much of a row as there is room for; no character of UTF-8 is parted."""
+    while len(row) > room and row[room] & 0xC0 == 0x80:
+        room -= 1
+    return row[:room]
+
+
 class Lists(OfSource):
-    """Each line of the source in turn, beside exactly the words of the image, and then what `asm` prints."""
+    """Each line of the source in turn, up to column 80, beside exactly the words of the image, and then what `asm` prints."""
 
     def fault(self, told, asm, words):
         rows = told.out.removesuffix(asm.out).split(b"\n")[:-1]
@@ -103,7 +110,7 @@ class Lists(OfSource):
         if self.source[:8] == readers.MAGIC:
             return None if len(rows) == len(words) else f"other rows than words: {told}"
         lines = self.source.removesuffix(b"\n").split(b"\n") if self.source else []
-        numbered = [b"%8d  %s" % (n + 1, line) for n, line in enumerate(lines)]
+        numbered = [cut(b"%8d  %s" % (n + 1, line), 80 - 18) for n, line in enumerate(lines)]
         return None if [it[18:] for it in rows if it[18:]] == numbered else f"other lines: {told}"
 
 

@@ -33,9 +33,9 @@ const EXPLAINED: Explained<'static> = Explained {
 /// What `visits` prints above both certificates.
 const SUMMARY: &[u8] = b"arcwcet visits\nvisits 1\nirq 9\nfiq 9\nentry 8\ntotal 26\n";
 
-const TABLE: &[u8] = b"   passes     each      ticks  share  begins by      priced as  line  text
-        1        9          9 100.0%          0      leave any     2   SUBS PC,R14,#4
-             total          9 100.0%
+const TABLE: &[u8] = b"passes  each  ticks  share latest priced as line  text
+     1     9      9 100.0%      0     > any    2   SUBS PC,R14,#4
+       total      9 100.0%
 bound 9 ticks, 1.125 microseconds at 8 MHz
 
 What would save most, in ticks at most (state only what is true):

@@ -128,9 +128,9 @@ What would save most, in ticks at most (state only what is true):
 
 /// A return to RAM costs 4 ticks, and one to anywhere 8.
 const FOLLOWED: &[u8] = b"kept: 21 ticks, 4 less than the bound
-                 run               bound
-   passes      ticks   passes      ticks   address  line  text
-        1          5        1          9  0000800C     4   SUBS PC,R14,#4
+              run            bound
+  passes    ticks  passes    ticks   address  line  text
+       1        5       1        9  0000800C     4   SUBS PC,R14,#4
 ";
 
 /// Its bound is exactly as much as it may be.
