@@ -9,25 +9,15 @@ use Rattle.walks.proofs.RowLemmas.{find_some}
 use Rattle.flow_graph.specs.declared.places.Place.{Place}
 use Rattle.flow_graph.specs.declared.places.Place.TheVariants.{At, Exit}
 use Rattle.flow_graph.specs.declared.edges.Edge.{Edge}
-use Rattle.flow_graph.specs.declared.edges.Label.{Label}
-use Rattle.flow_graph.specs.declared.edges.Label.TheVariants.{Skip, Do}
 use Rattle.flow_graph.specs.Flow.{Flow, HasEdge, IsWellFormed}
 use Rattle.flow_graph.specs.Graph.{IsFlowGraph}
 use Rattle.flow_graph.proofs.NameLemmas.{AreAlike, named_once}
 use Rattle.longest_walk.specs.Rows.{is_at}
 use Rattle.longest_walk.proofs.CarryFind.{at_itself, at_place, find_known}
 use Rattle.certificate.specs.Walk.{address_of, step_of, to_of}
-use Rattle.cert_check.specs.Followed.{edge_named, is_label, is_named, leads_to}
-
-same_label : (l m : Label) → is_label l m ≡ true → l ≡ m
-same_label Skip Skip e = refl
-same_label Skip Do e = cc
-same_label Do Skip e = cc
-same_label Do Do e = refl
-
-own_label : (l : Label) → is_label l l ≡ true
-own_label Skip = refl
-own_label Do = refl
+use Rattle.walk_counts.specs.Counts.{is_same_label}
+use Rattle.walk_counts.proofs.NumberLemmas.{one_label, own_label}
+use Rattle.cert_check.specs.Followed.{edge_named, is_named, leads_to}
 
 alike : (p q : Place) → leads_to p (to_of q) ≡ true → AreAlike p q
 alike (At calls a) (At others b) e = eqb-true a b e
@@ -47,11 +37,11 @@ record IsLike (p : Place) (e f : Edge) : Type 0 where
 
 like : (p : Place) (e f : Edge) → is_named p (step_of e) f ≡ true → IsLike p e f
 like (At calls a) e f h =
-    let fourth = and_parts (is_at calls a f.from && (a == address_of e.from) && is_label f.label e.label && leads_to f.to (to_of e.to)) (f.cost == e.cost) h in
-    let third = and_parts (is_at calls a f.from && (a == address_of e.from) && is_label f.label e.label) (leads_to f.to (to_of e.to)) fourth.0 in
-    let second = and_parts (is_at calls a f.from && (a == address_of e.from)) (is_label f.label e.label) third.0 in
+    let fourth = and_parts (is_at calls a f.from && (a == address_of e.from) && is_same_label f.label e.label && leads_to f.to (to_of e.to)) (f.cost == e.cost) h in
+    let third = and_parts (is_at calls a f.from && (a == address_of e.from) && is_same_label f.label e.label) (leads_to f.to (to_of e.to)) fourth.0 in
+    let second = and_parts (is_at calls a f.from && (a == address_of e.from)) (is_same_label f.label e.label) third.0 in
     let first = and_parts (is_at calls a f.from) (a == address_of e.from) second.0 in
-    record { from = at_place calls a f.from first.0; label = same_label f.label e.label second.1; to = alike f.to e.to third.1 }
+    record { from = at_place calls a f.from first.0; label = one_label f.label e.label second.1; to = alike f.to e.to third.1 }
 like Exit e f h = absurd (cc h)
 
 named_itself : (p : Place) (e : Edge) → e.from ≡ p → (p ≡ Exit → ⊥) → is_named p (step_of e) e ≡ true

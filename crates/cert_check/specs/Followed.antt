@@ -6,11 +6,10 @@ use Rattle.std.specs.List.{find}
 use Rattle.flow_graph.specs.declared.places.Place.{Place}
 use Rattle.flow_graph.specs.declared.places.Place.TheVariants as place
 use Rattle.flow_graph.specs.declared.edges.Edge.{Edge}
-use Rattle.flow_graph.specs.declared.edges.Label.{Label}
-use Rattle.flow_graph.specs.declared.edges.Label.TheVariants.{Skip, Do}
 use Rattle.flow_graph.specs.Flow.{Flow}
 use Rattle.longest_walk.specs.Folded.{Opened, one_edge, turned, joined}
 use Rattle.longest_walk.specs.Rows.{is_at}
+use Rattle.walk_counts.specs.Counts.{is_same_label}
 use Rattle.certificate.specs.declared.walk.To.{To}
 use Rattle.certificate.specs.declared.walk.To.TheVariants as to
 use Rattle.certificate.specs.declared.walk.StepLine.{StepLine}
@@ -19,12 +18,6 @@ use Rattle.certificate.specs.declared.walk.CertItem.TheOpen.{CertItem-F}
 use Rattle.certificate.specs.declared.walk.CertItem.TheFolds.{fold-CertItem}
 
 -- ## One step
-
-abbrev pub is_label : Label → Label → Bool
-is_label Skip Skip = true
-is_label Do Do = true
-is_label Skip Do = false
-is_label Do Skip = false
 
 abbrev pub leads_to : Place → To → Bool
 leads_to (place.At calls a) (to.At b) = a == b
@@ -35,7 +28,7 @@ leads_to place.Exit (to.At b) = false
 -- the edge leaves the place, and has what the line says of it
 abbrev pub is_named : Place → StepLine → Edge → Bool
 is_named (place.At calls a) s e =
-    is_at calls a e.from && (a == s.address) && is_label e.label s.label && leads_to e.to s.to
+    is_at calls a e.from && (a == s.address) && is_same_label e.label s.label && leads_to e.to s.to
     && (e.cost == s.cost)
 is_named place.Exit s e = false
 

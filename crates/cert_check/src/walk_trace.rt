@@ -1,7 +1,7 @@
 ghost use Rattle.std.specs.Prelude.{◌≡◌, ◌<◌, ◌≤◌, ℕ, length, option_map, IfSome, MatchOption};
 ghost use Rattle.loop_bounds.specs.Tree.{IsTree, place_in};
 ghost use Rattle.longest_walk.specs.Built.{step_at};
-ghost use Rattle.cert_check.specs.Followed.{edge_named, follow_edge, follow_item, followed, is_label};
+ghost use Rattle.cert_check.specs.Followed.{edge_named, follow_edge, follow_item, followed};
 ghost use Rattle.cert_check.specs.Followed.{is_named, leads_to};
 ghost use Rattle.longest_walk.specs.Parts.{IsPartOf};
 ghost use Rattle.cert_check.specs.Walking.{Begins, CanFollow, CannotBegin, Follows};
@@ -10,19 +10,10 @@ use crate::handler::Handler;
 use crate::index::Index;
 use crate::walker::{Round, Walker};
 use certificate::{CertItem, StepLine, To};
-use flow_graph::{Edge, Graph, Label, Place};
+use flow_graph::{Edge, Graph, Place};
 use loop_bounds::LoopTree;
 use numbered_walks::Span;
-use walk_counts::holds;
-
-fn same_label(label: Label, named: Label) -> bool
-    ensures { result ≡ is_label label named }
-{
-    match (label, named) {
-        (Label::Skip, Label::Skip) | (Label::Do, Label::Do) => true,
-        _ => false,
-    }
-}
+use walk_counts::{holds, is_same_label};
 
 fn ends_at(place: &Place, named: To) -> bool
     ensures { result ≡ leads_to place.now named }
@@ -41,7 +32,7 @@ fn is_meant(edge: &Edge, line: &StepLine) -> bool
     match edge.from {
         Place::At(_, address) => {
             address == line.address
-                && same_label(edge.label, line.label)
+                && is_same_label(edge.label, line.label)
                 && ends_at(&edge.to, line.to)
                 && u64::from(edge.cost) == line.cost
         }
