@@ -74,9 +74,9 @@ fn image_ticks(tally: &Tally, words: &[(u32, u32)]) -> u64
 /// Where the ticks of a greatest walk go in an image: a row for each of its words, with how often the walk
 /// passes it, the ticks of a pass (from the least to the greatest, where they differ), all ticks there, what
 /// part of the bound those are, the tick by which it begins at the latest (the greatest of the starts of the
-/// places there), what its price takes for granted, the address, and the line that [`disassemble`] shows; then
-/// the ticks of all rows, and the bound in ticks and in microseconds. A row ends at column 80, and a longer
-/// line is cut there.
+/// places there), what its price takes for granted, the address, and the line that [`disassemble`] shows;
+/// then the ticks of all rows, and the bound in ticks and in microseconds. A row ends at column 80, and a
+/// longer line is cut there.
 ///
 /// Where the graph has no place at a word, the row says so in place of the numbers.
 ///

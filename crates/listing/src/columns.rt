@@ -31,8 +31,8 @@ pub(crate) fn put_word_columns(
 /// The columns of an address and of the word there.
 pub(crate) const WORD_COLUMNS: usize = 18;
 
-/// Adds the number of a line and as much of its text as there is room for after the columns of a word, and ends
-/// the row.
+/// Adds the number of a line and as much of its text as there is room for after the columns of a word, and
+/// ends the row.
 pub(crate) fn put_line_row(out: &mut Vec<u8>, number: usize, text: &[u8]) -> Result<(), AllocError>
     ensures { OnOk result (out.new.items ≡ out.old.items ++ line_row number text.now) }
 {

@@ -10,8 +10,7 @@ use std::alloc::Global;
 use walk_counts::edge_counts;
 
 /// The bound of the nested countdown, by the lines of its source.
-pub(crate) const NESTED_LINES: &[u8] =
-    b"passes  each  ticks  share latest priced as line  text
+pub(crate) const NESTED_LINES: &[u8] = b"passes  each  ticks  share latest priced as line  text
      1     1      1   2.0%      0              1  start MOV R1,#2
      2     1      2   4.0%     22              2  outer MOV R0,#3
      6     2     12  24.0%     35              3  inner SUBS R0,R0,#1
@@ -24,8 +23,7 @@ bound 50 ticks, 6.250 microseconds at 8 MHz
 ";
 
 /// The same by its words.
-const NESTED_WORDS: &[u8] =
-    b"passes  each  ticks  share latest priced as   address  text
+const NESTED_WORDS: &[u8] = b"passes  each  ticks  share latest priced as   address  text
      1     1      1   2.0%      0            00008000  MOV R1,#2
      2     1      2   4.0%     22            00008004  MOV R0,#3
      6     2     12  24.0%     35            00008008  SUBS R0,R0,#1

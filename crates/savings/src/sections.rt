@@ -174,8 +174,8 @@ pub fn source_savings(
 
 /// What better entries of a statement would save by a greatest walk, by the words of an image: under a
 /// heading a row for each of the [`savings`], with the ticks, the better entry, and the address, the word
-/// and the line that [`disassemble`](assembler::disassemble) shows. A row ends at column 80. Nothing where there
-/// are no savings.
+/// and the line that [`disassemble`](assembler::disassemble) shows. A row ends at column 80. Nothing where
+/// there are no savings.
 ///
 /// # Errors
 ///
