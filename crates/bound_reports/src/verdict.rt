@@ -1,5 +1,5 @@
 ghost use Rattle.std.specs.Prelude.{◌≡◌, ◌↔◌, ◌++◌, None, IfOk, IsTrue, option_map};
-ghost use Rattle.cert_check.specs.Failing.{objection_of, verdict_of};
+ghost use Rattle.cert_check.specs.Failing.{verdict_of};
 ghost use Rattle.report_input.specs.Priced.{Priced};
 ghost use Rattle.bound_reports.specs.Check.{verdict_line};
 ghost use Rattle.bound_reports.specs.Verdict.{ExplainsVerdict, row_text};
@@ -7,29 +7,11 @@ ghost use Rattle.bound_reports.specs.Verdict.{ExplainsVerdict, row_text};
 use crate::check::{CheckInputs, line_of};
 use crate::finding::found_of;
 use bus_ticks::Profile;
-use cert_check::{FailingRow, Objection, Verdict};
+use cert_check::{FailingRow, Verdict, objection_of};
 use objections::objection_text;
 use report_input::profile_of;
 use report_output::{Output, ReportFault, print_answer};
 use std::alloc::{AllocError, Global};
-
-// The objection for which this fails.
-fn objection_of(row: &FailingRow) -> Objection
-    ensures { result ≡ objection_of row.now }
-{
-    match row {
-        FailingRow::WrongProfile => Objection::WrongProfile,
-        FailingRow::MissingPlace(_) | FailingRow::MissingInstance(_) => Objection::MissingPlace,
-        FailingRow::ExtraPlace(_) | FailingRow::ExtraInstance(_) => Objection::ExtraPlace,
-        FailingRow::NumberTooLarge(_) => Objection::NumberTooLarge,
-        FailingRow::EdgeTooHeavy(_) => Objection::EdgeTooHeavy,
-        FailingRow::RoundTooHeavy(_) => Objection::RoundTooHeavy,
-        FailingRow::LeaveTooHeavy(_) => Objection::LeaveTooHeavy,
-        FailingRow::BrokenWalk(_) | FailingRow::OpenWalk(_) => Objection::BrokenWalk,
-        FailingRow::WalkOverBound(_, _) => Objection::WalkOverBound,
-        FailingRow::WalkCost(_) => Objection::WalkCost,
-    }
-}
 
 // The verdict's line, and then what fails.
 fn text_of(alloc: Global, row: &Option<FailingRow>) -> Result<Vec<u8>, AllocError>
