@@ -1,33 +1,21 @@
-ghost use Rattle.std.specs.Prelude.{◌≡◌, ◌<◌, ◌≤◌, ◌+◌, ◌*◌, length, slice_index};
+ghost use Rattle.std.specs.Prelude.{◌≡◌, ◌<◌, ◌≤◌, ◌+◌, length, slice_index};
 ghost use Rattle.std.specs.List.{list_all};
 ghost use Rattle.flow_graph.specs.Flow.{IsWellFormed};
 ghost use Rattle.loop_bounds.specs.Tree.{IsTree};
 ghost use Rattle.numbered_walks.specs.Ordered.{is_in};
-ghost use Rattle.walk_counts.specs.Counts.{capped};
 ghost use Rattle.dot_text.specs.Stretches.{AreTables, CanDraw, calls_in, edge_ticks, end_edge, first_edge, goes_on};
 ghost use Rattle.dot_text.specs.Stretches.{leads_on, loops_of, passes, stays_inside, stretch_ticks, ticks};
 
 use crate::tables::Drawn;
 use flow_graph::{Calls, Place};
 use numbered_walks::Span;
+use walk_counts::{capped_product, capped_sum, holds};
 
 /// A straight stretch, by its first and its last number.
 #[derive(Clone, Copy)]
 pub(crate) struct Stretch {
     pub(crate) first: usize,
     pub(crate) last: usize,
-}
-
-fn capped_sum(sum: u64, more: u64) -> u64
-    ensures { result ≡ capped (sum + more) }
-{
-    sum.saturating_add(more)
-}
-
-fn capped_product(count: u64, cost: u32) -> u64
-    ensures { result ≡ capped (count * cost) }
-{
-    count.saturating_mul(u64::from(cost))
 }
 
 /// Where the edges that leave the place of a number begin in the graph's list, and where they end.
@@ -63,17 +51,11 @@ pub(crate) fn loops_of<'a>(drawn: Drawn<'a>, number: usize) -> &'a [Span]
     &drawn.index.holders[number]
 }
 
-fn is_in(span: &Span, number: usize) -> bool
-    ensures { result ≡ is_in span.now number }
-{
-    span.header <= number && number <= span.last
-}
-
 fn all_hold(loops: &[Span], number: usize) -> bool
     ensures { result ≡ list_all (λ s. is_in s number) loops.now }
 {
     for span in loops {
-        if !is_in(span, number) {
+        if !holds(span, number) {
             return false;
         }
     }

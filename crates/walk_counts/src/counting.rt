@@ -11,13 +11,15 @@ use flow_graph::{Edge, Graph};
 use longest_walk::{FoldedWalk, Item};
 use std::alloc::{AllocError, Global};
 
-fn capped_sum(count: u64, more: u64) -> u64
+/// A sum, told up to 2^64 - 1.
+pub fn capped_sum(count: u64, more: u64) -> u64
     ensures { result ≡ capped (count + more) }
 {
     count.saturating_add(more)
 }
 
-fn capped_product(times: u64, rounds: u32) -> u64
+/// A product, told up to 2^64 - 1.
+pub fn capped_product(times: u64, rounds: u32) -> u64
     ensures { result ≡ capped (times * rounds) }
 {
     times.saturating_mul(u64::from(rounds))

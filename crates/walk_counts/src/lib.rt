@@ -6,6 +6,6 @@ mod counting;
 mod numbers;
 mod spans;
 
-pub use counting::edge_counts;
+pub use counting::{capped_product, capped_sum, edge_counts};
 pub use numbers::is_same_label;
 pub use spans::{headers, holds};
