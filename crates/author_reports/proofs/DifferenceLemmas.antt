@@ -1,10 +1,10 @@
 -- What a run does at each address, and the rows where it and a walk differ.
-use Rattle.std.proofs.Common.{◌≡◌, ◌∙◌, ℕ, zero, suc, ◌+◌, ◌*◌, ◌<◌, ◌≤◌, Bool, true, false, cond, eqb, List, [], ◌∷◌, ◌++◌, append-nil, append_assoc, length, drop, get_or, ⊎_elim, refl, sym, ap, subst, arith, add-one}
+use Rattle.std.proofs.Common.{◌≡◌, ◌∙◌, ℕ, suc, ◌+◌, ◌-◌, ◌*◌, ◌<◌, ◌≤◌, Bool, true, false, cond, eqb, List, [], ◌∷◌, ◌++◌, append-nil, append_assoc, length, drop, get_or, ⊎_elim, refl, sym, ap, subst, arith, add-one}
 use Rattle.std.specs.Prelude.{All, Option, sum_by, if◌then◌else◌}
 use Rattle.std.specs.List.{range_with_len}
 use Rattle.std.proofs.Math.ListN.{drop_of_length-le}
 use Rattle.std.proofs.lemmas.Bool.{cases_Bool, false≢true}
-use Rattle.std.proofs.lemmas.List.{get_or_default}
+use Rattle.std.proofs.lemmas.List.{get_or_default, length-append}
 use Rattle.std.proofs.lemmas.List.Elements.{All-head, All-tail}
 use Rattle.std.proofs.lemmas.List.Sums.{sum_by-cons, sum_by_push}
 use Rattle.assembler.specs.declared.placed_line.PlacedLine.{PlacedLine}
@@ -185,10 +185,13 @@ module _ (compared : ℕ → Compared) where
   no_row e text same = ([], record { apart = λ apart. absurd (false≢true (sym apart ∙ same)); same = λ s. refl }, sym (append-nil text))
 
   -- one where they differ has its own
-  pub its_row : (e : ℕ × ℕ) (old mid new : List ℕ) → agree (compared e.0) ≡ false → mid ≡ old ++ compared_text (compared e.0) → Appends (IsShownRow e) mid new
-      → Appends (IsRowIfApart compared e) old new
-  its_row e old mid new apart numbers adds = (
-    compared_text (compared e.0) ++ adds.0,
-    record { apart = λ a. (adds.0, adds.1, refl); same = λ same. absurd (false≢true (sym apart ∙ same)) },
-    adds.2 ∙ ap (λ xs. xs ++ adds.0) numbers ∙ append_assoc old (compared_text (compared e.0)) adds.0,
-  )
+  pub its_row : (e : ℕ × ℕ) (used : ℕ) (old mid new : List ℕ) → agree (compared e.0) ≡ false → mid ≡ old ++ compared_text (compared e.0) → used ≡ length mid - length old
+      → Appends (IsShownRow used e) mid new → Appends (IsRowIfApart compared e) old new
+  its_row e used old mid new apart numbers is adds =
+      let columns = compared_text (compared e.0) in
+      let long : length mid ≡ length old + length columns = ap length numbers ∙ length-append old columns in
+      let counted : used ≡ length columns = omega (arith, is, long) in (
+        columns ++ adds.0,
+        record { apart = λ a. (adds.0, subst (λ n. IsShownRow n e adds.0) counted adds.1, refl); same = λ same. absurd (false≢true (sym apart ∙ same)) },
+        adds.2 ∙ ap (λ xs. xs ++ adds.0) numbers ∙ append_assoc old columns adds.0,
+      )

@@ -1,5 +1,5 @@
 -- The explanation of a handler's bound.
-use Rattle.std.proofs.Common.{◌≡◌, ◌≢◌, ◌^◌, ◌<◌, ◌≤◌, ℕ, List, Ok, Option, refl, ap, subst, ⊎_elim, arith}
+use Rattle.std.proofs.Common.{◌≡◌, ◌≢◌, ◌^◌, ◌<◌, ◌≤◌, ℕ, List, Ok, Option, refl, subst, ⊎_elim, arith}
 use Rattle.std.proofs.lemmas.Bool.{cases_lt}
 use Rattle.bus_ticks.specs.declared.profile.Profile.{Profile}
 use Rattle.explained.specs.Starts.{IsLatestStart}
@@ -17,11 +17,12 @@ use Rattle.numbered_walks.specs.declared.fault.WalkFault.{WalkFault}
 use Rattle.numbered_walks.specs.declared.fault.WalkFault.TheVariants as walk_fault
 use Rattle.author_reports.specs.ExplainReport.{IsExplanation, IsTextOf, IsTotal}
 use Rattle.report_input.specs.Report.{HasLoops, IsRefused, IsTreeOf}
-use Rattle.report_input.specs.Source.{IsSourceFault, Said, source_of}
+use Rattle.report_input.specs.Source.{IsSourceFault, source_of}
 use Rattle.report_output.specs.declared.fault.ReportFault.{ReportFault}
 use Rattle.report_output.specs.declared.fault.ReportFault.TheVariants.{Device}
-use Rattle.report_input.proofs.HandlerLemmas.{one_ok, source_refusal}
+use Rattle.report_input.proofs.HandlerLemmas.{source_refusal}
 use Rattle.report_input.proofs.ReportLemmas.{accepted, report_refusal, tree_is_greatest}
+use Rattle.author_reports.proofs.SaidLemmas.{same_words}
 
 -- a greatest walk of 2^63 ticks or more would have been refused
 pub bound_fits : (flow : Flow) (tree : Tree) (l : Longest) → IsLongest flow tree l → l.bound < 2 ^ 64
@@ -43,22 +44,19 @@ module _ (source statement : List ℕ) (profile : Profile) (words : Words) (name
       → IsTextOf source words st flow l latest profile.burst bursts text → IsTotal source loops.graph.words flow l
       → IsExplanation source statement bursts profile l.bound text
   unfolding accepted
-  explained bursts l latest text is are allowed explains total =
-      let pairs : (words, names) ≡ (loops.graph.words, loops.graph.names) =
-      one_ok (words, names) (loops.graph.words, loops.graph.names) (source_of source) said loops.graph.source_is in
-      record {
-        accepted = accepted source statement profile st flow tree loops of allowed;
-        tree = tree;
-        longest = l;
-        latest = latest;
-        tree_of = of;
-        longest_is = is;
-        latest_is = are;
-        bound_is = refl;
-        greatest = tree_is_greatest flow st.loops tree of.instances l.bound is.greatest;
-        explains = subst (λ (w : Words). IsTextOf source w st flow l latest profile.burst bursts text) (ap (λ (p : Said). p.0) pairs) explains;
-        total = total;
-      }
+  explained bursts l latest text is are allowed explains total = record {
+    accepted = accepted source statement profile st flow tree loops of allowed;
+    tree = tree;
+    longest = l;
+    latest = latest;
+    tree_of = of;
+    longest_is = is;
+    latest_is = are;
+    bound_is = refl;
+    greatest = tree_is_greatest flow st.loops tree of.instances l.bound is.greatest;
+    explains = subst (λ (w : Words). IsTextOf source w st flow l latest profile.burst bursts text) (same_words source statement profile words names st flow said loops) explains;
+    total = total;
+  }
 
 -- a fault of the source refuses the explanation
 pub source_unexplained : (source statement : List ℕ) (profile : Profile) (e : ReportFault) → IsSourceFault source e → (e ≢ Device) × IsRefused source statement profile e

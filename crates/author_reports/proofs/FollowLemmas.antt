@@ -1,5 +1,5 @@
 -- A report on a followed run, from what is found of a source, a statement and a machine file.
-use Rattle.std.proofs.Common.{◌≡◌, ◌≢◌, ◌∙◌, ◌⊎◌, ◌++◌, ◌∷◌, [], ℕ, ◌+◌, ◌<◌, ◌≤◌, Bool, false, List, get_or, length, take, Result, Ok, Err, refl, sym, ap, subst, inl, inr, ⊎_elim, arith}
+use Rattle.std.proofs.Common.{◌≡◌, ◌≢◌, ◌∙◌, ◌⊎◌, ◌++◌, ◌∷◌, [], ℕ, ◌+◌, ◌<◌, ◌≤◌, Bool, false, List, get_or, length, take, Result, Ok, Err, sym, ap, subst, ⊎_elim, arith}
 use Rattle.std.specs.Prelude.{IfErr}
 use Rattle.std.proofs.lemmas.Bool.{cases_lt}
 use Rattle.std.proofs.lemmas.List.{get_or_default, length-append}
@@ -26,18 +26,18 @@ use Rattle.kept_runs.specs.Judging.{IsMachineFor}
 use Rattle.kept_runs.specs.Keeping.{IsFollowed, IsKeptRun, KeepsNone, KeepsTo}
 use Rattle.kept_runs.specs.declared.following.Followed.{Followed}
 use Rattle.kept_runs.specs.declared.following.Followed.TheVariants.{Kept, Strayed}
+use Rattle.author_reports.proofs.SaidLemmas.{same_words}
 use Rattle.author_reports.specs.FollowReport.{IsFollowRefused, IsFollowReport, IsFollowable, KeepsWithin, NoneKeeps, TellsRun}
 use Rattle.author_reports.specs.FollowText.{has_word}
 use Rattle.author_reports.specs.FollowWork.{HasAllPlaces, IsJudgedRun, Tells}
 use Rattle.report_input.specs.Keeping.{KeepsStatement, TakesAtMost}
 use Rattle.report_input.specs.Placing.{IsPlaced, IsRunRefused}
 use Rattle.report_input.specs.Report.{HasLoops, IsAccepted, IsRefused, IsTreeOf}
-use Rattle.report_input.specs.Source.{Said, source_of}
+use Rattle.report_input.specs.Source.{source_of}
 use Rattle.report_output.specs.declared.fault.ReportFault.{ReportFault}
 use Rattle.report_output.specs.declared.fault.ReportFault.TheVariants.{Memory, Source, Image, Statement, Graph, Loops, Walk, MachineFile, Load, Cert, Device}
 use Rattle.report_output.specs.declared.fault.ReportFault.TheVariants as report_fault
 use Rattle.author_reports.proofs.ExactLemmas.{table_exact}
-use Rattle.report_input.proofs.HandlerLemmas.{one_ok}
 use Rattle.report_input.proofs.PlacingLemmas.{runnable_refusals}
 use Rattle.report_input.proofs.ReportLemmas.{accepted, accepted_refusals, bounds_runs, kept_here, kept_there}
 
@@ -143,8 +143,7 @@ module _ (source statement machine : List ℕ) (profile : Profile) (words : Word
     (st : Stated) (flow : Flow) (tree : Tree) (loops : HasLoops source statement profile st flow) (of : IsTreeOf flow st.loops tree) where
   -- the graph is that of the words that the source says
   own_words : loops.graph.words ≡ words
-  own_words =
-      ap (λ (p : Said). p.0) (one_ok (loops.graph.words, loops.graph.names) (words, names) (source_of source) loops.graph.source_is said)
+  own_words = sym (same_words source statement profile words names st flow said loops)
 
   pub own_graph : IsFlowGraph words st flow.profile flow
   own_graph =

@@ -1,5 +1,5 @@
 -- The drawing of a handler's flow graph.
-use Rattle.std.proofs.Common.{◌≡◌, ◌≢◌, ℕ, List, Ok, Vec, ap, subst}
+use Rattle.std.proofs.Common.{◌≡◌, ◌≢◌, ℕ, List, Ok, Vec, subst}
 use Rattle.std.specs.Global.{Global}
 use Rattle.bus_ticks.specs.declared.profile.Profile.{Profile}
 use Rattle.loader.specs.Image.{Words}
@@ -15,9 +15,9 @@ use Rattle.dot_text.specs.Nodes.{HoldEachOnce, LeadToNodes, all_ticks}
 use Rattle.dot_text.specs.Text.{IsDrawing}
 use Rattle.author_reports.specs.GraphReport.{AreLabelsOf, IsGraphReport}
 use Rattle.report_input.specs.Report.{HasLoops, IsTreeOf}
-use Rattle.report_input.specs.Source.{Said, source_of}
-use Rattle.report_input.proofs.HandlerLemmas.{one_ok}
+use Rattle.report_input.specs.Source.{source_of}
 use Rattle.report_input.proofs.ReportLemmas.{accepted, tree_is_greatest}
+use Rattle.author_reports.proofs.SaidLemmas.{same_words}
 
 module _ (source statement : List ℕ) (profile : Profile) (words : Words) (names : Names) (said : source_of source ≡ Ok (words, names))
     (st : Stated) (flow : Flow) (tree : Tree) (loops : HasLoops source statement profile st flow) (of : IsTreeOf flow st.loops tree) where
@@ -26,20 +26,17 @@ module _ (source statement : List ℕ) (profile : Profile) (words : Words) (name
       → AreLabelsOf source words flow.places labels → HoldEachOnce flow tree → LeadToNodes flow tree → (d : IsDrawing flow tree l labels text) → all_ticks flow tree d.counts ≡ l.bound
       → IsGraphReport source statement profile text
   unfolding accepted
-  drawn l labels text is allowed labels_are once leads d total =
-      let pairs : (words, names) ≡ (loops.graph.words, loops.graph.names) =
-      one_ok (words, names) (loops.graph.words, loops.graph.names) (source_of source) said loops.graph.source_is in
-      record {
-        accepted = accepted source statement profile st flow tree loops of allowed;
-        tree = tree;
-        longest = l;
-        labels = labels;
-        tree_of = of;
-        longest_is = is;
-        greatest = tree_is_greatest flow st.loops tree of.instances l.bound is.greatest;
-        labels_are = subst (λ (w : Words). AreLabelsOf source w flow.places labels) (ap (λ (p : Said). p.0) pairs) labels_are;
-        drawn = d;
-        once = once;
-        leads = leads;
-        total = total;
-      }
+  drawn l labels text is allowed labels_are once leads d total = record {
+    accepted = accepted source statement profile st flow tree loops of allowed;
+    tree = tree;
+    longest = l;
+    labels = labels;
+    tree_of = of;
+    longest_is = is;
+    greatest = tree_is_greatest flow st.loops tree of.instances l.bound is.greatest;
+    labels_are = subst (λ (w : Words). AreLabelsOf source w flow.places labels) (same_words source statement profile words names st flow said loops) labels_are;
+    drawn = d;
+    once = once;
+    leads = leads;
+    total = total;
+  }

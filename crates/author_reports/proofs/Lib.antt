@@ -3,3 +3,4 @@ pub mod ExplainLemmas
 pub mod ExactLemmas
 pub mod FollowLemmas
 pub mod GraphLemmas
+mod SaidLemmas

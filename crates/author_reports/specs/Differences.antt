@@ -1,7 +1,7 @@
 -- Where a run that keeps its statement and a greatest walk differ. Our own format.
 use Rattle.std.specs.Prelude.{◌≡◌, ℕ, zero, suc, ◌+◌, ◌==◌, ◌&&◌, Bool, true, false, cond}
 use Rattle.std.specs.Prelude.{if◌then◌else◌, List}
-use Rattle.std.specs.Prelude.{[], ◌∷◌, ◌++◌, codes, decimal, count_by, sum_by, unwrap_or}
+use Rattle.std.specs.Prelude.{[], ◌∷◌, ◌++◌, codes, decimal, count_by, length, sum_by, unwrap_or}
 use Rattle.std.specs.Prelude.{slice_index_or}
 use Rattle.std.specs.BTreeMap.{get}
 use Rattle.std.specs.List.{range_with_len}
@@ -9,9 +9,8 @@ use Rattle.std.specs.Ordering.{nat_cmp}
 use Rattle.asm_text.specs.Source.{lines_of}
 use Rattle.assembler.specs.Placed.{ArePlaced}
 use Rattle.assembler.specs.declared.placed_line.PlacedLine.{PlacedLine}
-use Rattle.explained.specs.Assumed.{named_row}
 use Rattle.text_rows.specs.Columns.{in_columns}
-use Rattle.text_rows.specs.Rows.{AreRows, IsShownRow, section}
+use Rattle.text_rows.specs.Rows.{AreRows, IsShownRow, named_row, section}
 use Rattle.explained.specs.Table.{passes_of, ticks_of}
 use Rattle.explained.specs.Taken.{cost_at, is_at, pass_at, taken_at}
 use Rattle.explained.specs.declared.tally.Tally.{Tally}
@@ -54,7 +53,7 @@ agree c = (c.run.passes == c.bound.passes) && (c.run.ticks == c.bound.ticks)
 -- each number with a blank in front
 abbrev pub numbers_text : Numbers → List ℕ
 numbers_text n =
-    codes " " ++ (in_columns 8 (decimal n.passes) ++ (codes " " ++ in_columns 10 (decimal n.ticks)))
+    codes " " ++ (in_columns 7 (decimal n.passes) ++ (codes " " ++ in_columns 8 (decimal n.ticks)))
 
 abbrev pub compared_text : Compared → List ℕ
 compared_text c = numbers_text c.run ++ numbers_text c.bound
@@ -64,7 +63,8 @@ module _ (compared : ℕ → Compared) where
   -- of a word, with its address, and the number and the text of its line; nothing where the two agree
   abbrev pub row_if_apart : (n : ℕ) → (text : List ℕ) → (at : ℕ) → List ℕ
   row_if_apart n text at =
-      if agree (compared at) then [] else compared_text (compared at) ++ named_row at n text
+      if agree (compared at) then []
+      else compared_text (compared at) ++ named_row (length (compared_text (compared at))) at n text
 
   -- of a line's words
   abbrev pub word_rows : (n : ℕ) → (text : List ℕ) → (from count : ℕ) → List ℕ
@@ -80,20 +80,21 @@ module _ (compared : ℕ → Compared) where
   -- of an image's word, with its address, the word and its line; nothing where the two agree
   pub record IsRowIfApart (e : ℕ × ℕ) (row : List ℕ) : Type 0 where
     pub apart : agree (compared e.0) ≡ false
-        → (shown : List ℕ) × IsShownRow e shown × (row ≡ compared_text (compared e.0) ++ shown)
+        → (shown : List ℕ) × IsShownRow (length (compared_text (compared e.0))) e shown
+        × (row ≡ compared_text (compared e.0) ++ shown)
     pub same : agree (compared e.0) ≡ true → row ≡ []
 
 -- ## The table
 
 abbrev pub upper_heading : List ℕ
-upper_heading = codes "                 run               bound\n"
+upper_heading = codes "              run            bound\n"
 
 abbrev pub heading : List ℕ
-heading = upper_heading ++ codes "   passes      ticks   passes      ticks   address  line  text\n"
+heading = upper_heading ++ codes "  passes    ticks  passes    ticks   address  line  text\n"
 
 abbrev pub image_heading : List ℕ
 image_heading =
-    upper_heading ++ codes "   passes      ticks   passes      ticks   address      word  text\n"
+    upper_heading ++ codes "  passes    ticks  passes    ticks   address      word  text\n"
 
 -- a row for each word of a source's lines, or of an image, where the two differ; no text where they nowhere
 -- do

@@ -14,7 +14,7 @@ ghost use Rattle.report_input.specs.Source.{IsSourceFault};
 
 use asm_text::first_line;
 use assembler::{PlacedLine, placed_lines};
-use explained::{NumberedLine, Tally, put_named_row};
+use explained::Tally;
 use flow_graph::{Graph, Place};
 use kept_runs::Passed;
 use loader::{Image, MAGIC};
@@ -22,15 +22,15 @@ use longest_walk::FoldedWalk;
 use report_output::ReportFault;
 use std::alloc::{AllocError, Global};
 use std::collections::BTreeMap;
-use text_rows::{put, put_number, put_shown_row, section};
+use text_rows::{NumberedLine, put, put_named_row, put_number, put_shown_row, section};
 
 // The names of the columns, of a text's rows and of an image's.
-const HEADING: &[u8] = b"                 run               bound
-   passes      ticks   passes      ticks   address  line  text
+const HEADING: &[u8] = b"              run            bound
+  passes    ticks  passes    ticks   address  line  text
 ";
 
-const IMAGE_HEADING: &[u8] = b"                 run               bound
-   passes      ticks   passes      ticks   address      word  text
+const IMAGE_HEADING: &[u8] = b"              run            bound
+  passes    ticks  passes    ticks   address      word  text
 ";
 
 /// How often an address is passed, and the ticks there, each told up to 2^64 - 1.
@@ -168,9 +168,9 @@ fn put_numbers(out: &mut Vec<u8>, numbers: Numbers) -> Result<(), AllocError>
     ensures { OnOk result (out.new.items ≡ out.old.items ++ numbers_text numbers) }
 {
     put(out, b" ")?;
-    put_number(out, numbers.passes, 8)?;
+    put_number(out, numbers.passes, 7)?;
     put(out, b" ")?;
-    put_number(out, numbers.ticks, 10)
+    put_number(out, numbers.ticks, 8)
 }
 
 fn put_compared(out: &mut Vec<u8>, compared: Compared) -> Result<(), AllocError>
@@ -196,8 +196,9 @@ fn put_if_apart(
     if compared.agree() {
         return Ok(());
     }
+    let begun = out.len();
     put_compared(out, compared)?;
-    put_named_row(out, line, at)
+    put_named_row(out, out.len() - begun, line, at)
 }
 
 // Adds the rows of those of a line's words.
@@ -256,8 +257,9 @@ fn put_word(out: &mut Vec<u8>, tallies: Tallies<'_>, at: u32, word: u32) -> Resu
     if compared.agree() {
         return Ok(());
     }
+    let begun = out.len();
     put_compared(out, compared)?;
-    put_shown_row(out, at, word)
+    put_shown_row(out, out.len() - begun, at, word)
 }
 
 // The rows of those of an image's words.

@@ -221,12 +221,13 @@ fn priced_explanation<O: Output>(
 
 /// Writes where the ticks of a handler's greatest run time go, by a cycle profile's file or by the first
 /// profile: a table by the lines of the source, or by the words of an image, with how often a greatest walk
-/// passes each, the ticks of a pass and of all, the tick by which it begins, and what the price takes for
-/// granted; then the bound, in ticks and in microseconds; then the bound with DMA bursts, if any are given;
-/// then what is taken for granted: words that count as returns but do not look like returns, words that
-/// return by R14 after a call has overwritten it, and loads and stores of which no class is stated; then the
-/// entries of the statement without effect; and then what better entries would save. Answers whether the
-/// bound is enough: without bursts at most so many ticks as are wanted.
+/// passes each, the ticks of a pass and of all, the tick by which it begins at the latest, and what the price
+/// takes for granted, in rows that end at column 80; then the bound, in ticks and in microseconds; then the
+/// bound with DMA bursts, if any are given; then what is taken for granted: words that count as returns but
+/// do not look like returns, words that return by R14 after a call has overwritten it, and loads and stores
+/// of which no class is stated; then the entries of the statement without effect; and then what better
+/// entries would save. Answers whether the bound is enough: without bursts at most so many ticks as are
+/// wanted.
 ///
 /// # Errors
 ///

@@ -257,9 +257,9 @@ fn priced_run<O: Output>(
 /// the entry to Exit that keeps the loop bounds. Then its ticks are at most the bound of
 /// [`bound_report`](crate::bound_report), and the first line that is written says how many they are, and how
 /// much less. A table follows of the words at which the run and a greatest walk differ, in how often they
-/// pass or in the ticks that they take there; nothing follows where they nowhere differ. Else the line says
-/// which step is the first that does not keep it, by its number from 0, its address and its line of the
-/// source, and why.
+/// pass or in the ticks that they take there, in rows that end at column 80; nothing follows where they
+/// nowhere differ. Else the line says which step is the first that does not keep it, by its number from 0,
+/// its address and its line of the source, and why.
 ///
 /// # Errors
 ///

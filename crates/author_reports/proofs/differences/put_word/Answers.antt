@@ -1,4 +1,4 @@
-use Rattle.std.proofs.Common.{◌≡◌, ◌∙◌, ◌++◌, ap, false, sym, true}
+use Rattle.std.proofs.Common.{◌≡◌, ◌∙◌, ◌-◌, ◌++◌, ap, arith, false, length, sym, true}
 use Rattle.std.proofs.lemmas.Result.{on_ok_weaker}
 use Rattle.author_reports.specs.Differences.{agree, compared_in, compared_text}
 use Rattle.author_reports.specs.declared.differences.Compared.{Compared}
@@ -15,7 +15,10 @@ pub returns : goal.returns
 returns c =
     let compared = compared_in c.args.tallies.run.now c.args.tallies.walk.now in
     let apart : agree (compared c.args.at) ≡ false = ap agree (sym c.at-compared.ensures) ∙ sym c.agree.ensures ∙ c.if-agree.false in
+    let old = c.args.out.now in
+    let mid = c.put_compared.new.out in
+    let used : c.len.result - c.len-begun.result ≡ length mid.items - length old.items = omega (arith, c.len.ensures, c.len-begun.ensures, mid.ok, old.ok) in
     on_ok_weaker c.put_shown_row.result
-    (its_row compared (c.args.at, c.args.word) c.args.out.now.items c.put_compared.new.out.items c.put_shown_row.new.out.items apart
-    (c.in_ok-put_compared.ensures ∙ ap (λ (x : Compared). c.args.out.now.items ++ compared_text x) c.at-compared.ensures))
+    (its_row compared (c.args.at, c.args.word) (c.len.result - c.len-begun.result) old.items mid.items c.put_shown_row.new.out.items apart
+    (c.in_ok-put_compared.ensures ∙ ap (λ (x : Compared). old.items ++ compared_text x) c.at-compared.ensures) used)
     c.put_shown_row.ensures

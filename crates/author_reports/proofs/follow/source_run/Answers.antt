@@ -1,4 +1,3 @@
-use Rattle.loader.specs.Labels.{address_of}
 use Rattle.author_reports.proofs.ExplainLemmas.{source_unexplained}
 use Rattle.author_reports.proofs.FollowLemmas.{Refused, handler_refused}
 use Rattle.report_input.proofs.HandlerLemmas.{refused_as}
