@@ -1,12 +1,17 @@
 -- What the lines that are read say of the text.
-use Rattle.std.proofs.Common.{◌≡◌, ◌≢◌, ◌∙◌, ℕ, ◌+◌, List, [], ◌∷◌, ◌++◌, Some, None, length, sym, ap, subst, append_assoc, length-append}
+use Rattle.std.proofs.Common.{◌≡◌, ◌≢◌, ◌∙◌, ℕ, ◌+◌, List, [], ◌∷◌, ◌++◌, Option, Some, None, length, sym, ap, subst, append_assoc, length-append}
 use Rattle.std.specs.List.{AllByRecursion}
+use Rattle.certificate.specs.declared.draft.Stage.{Stage}
 use Rattle.certificate.specs.declared.draft.Stage.TheVariants as s
+use Rattle.certificate.specs.declared.line.WalkLine.{WalkLine}
 use Rattle.certificate.specs.declared.line.Line.{Line}
+use Rattle.certificate.specs.declared.line.Line.TheVariants as l
 use Rattle.certificate.specs.Faults.{Follow, StopsAt}
-use Rattle.certificate.specs.Follows.{Reached, follows, start}
+use Rattle.certificate.specs.Follows.{Reached, follows, in_walk, next_stage, start}
+use Rattle.certificate.specs.Walk.{Nest, nest_after}
 use Rattle.certificate.specs.Words.{Lacks, LineFits, ended, line_words, text_of}
 use Rattle.certificate.proofs.FollowLaws.{follow-end}
+use Rattle.certificate.proofs.ParseLaws.{not_done}
 use Rattle.certificate.proofs.TextLaws.{one_line}
 use Rattle.certificate.proofs.WalkLaws.{flat_map-end}
 
@@ -59,3 +64,17 @@ stops_at text n lines to rest words after follow going e cut within counted misf
   counted = counted;
   misfit = misfit;
 }
+
+-- after a line of the walk more lines follow
+pub walk_goes_on : (stage : Stage) (n : Nest) (w : WalkLine) (next : Reached) → next_stage stage n (l.Walk w) ≡ Some next → next.stage ≢ s.Done
+walk_goes_on s.Title n w next e = absurd (cc e)
+walk_goes_on s.Numbers n w next e = absurd (cc e)
+walk_goes_on s.Bound n w next e = absurd (cc e)
+walk_goes_on s.Walk n w next e = by (nest_after n w) e
+  where
+    by : (o : Option Nest) → in_walk o ≡ Some next → next.stage ≢ s.Done
+    by None f = absurd (cc f)
+    by (Some m) f = λ done. cc (not_done next f done)
+walk_goes_on (s.Places last) n w next e = absurd (cc e)
+walk_goes_on (s.Instances last) n w next e = absurd (cc e)
+walk_goes_on s.Done n w next e = absurd (cc e)

@@ -46,7 +46,7 @@ walk-end (w.Step s) fits =
 walk-end (w.Repeat k) fits = Lacks-append 10 (codes "repeat ") (decimal k) (Lacks-tested 10 (codes "repeat ") refl) (decimal-end k (omega (arith, fits.1)))
 walk-end w.End fits = Lacks-tested 10 (codes "end") refl
 
-line-end : (x : Line) → LineFits x → Lacks 10 (line_words x)
+pub line-end : (x : Line) → LineFits x → Lacks 10 (line_words x)
 line-end (l.Title v) fits = title-end v
 line-end (l.Profile ns) fits =
     Lacks-append 10 (codes "profile ") (join_with_byte 32 (map decimal ns)) (Lacks-tested 10 (codes "profile ") refl)

@@ -1,6 +1,7 @@
 -- How the lines of a certificate are spelled.
 use Rattle.std.specs.Prelude.{◌≡◌, ◌≢◌, ℕ, ◌<◌, ◌≤◌, ◌^◌, List, [], ◌∷◌, ◌++◌, length, map, codes}
 use Rattle.std.specs.Prelude.{slice_index, All, ⊤}
+use Rattle.std.specs.Coded.{Unit-prop, le_prop}
 use Rattle.std.specs.Fmt.{decimal}
 use Rattle.std.specs.List.{flat_map, join_with_byte}
 use Rattle.asm_text.specs.Hex.{hex}
@@ -95,6 +96,11 @@ AreCalls calls = (length calls ≤ 8) × All (λ c. c < 2 ^ 26) calls
 abbrev pub ToFits : To → Type 0
 ToFits (At a) = a < 2 ^ 26
 ToFits Exit = ⊤
+
+-- it is one fact, which a row can keep
+pub ToFits-prop : (to : To) → IsProp (ToFits to)
+ToFits-prop (At a) = le_prop
+ToFits-prop Exit = Unit-prop
 
 pub record StepFits (s : StepLine) : Type 0 where
   pub address : s.address < 2 ^ 26

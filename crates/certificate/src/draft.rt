@@ -131,7 +131,9 @@ impl Draft {
         true
     }
 
-    fn take_walk(&mut self, alloc: Global, line: WalkLine) -> Result<bool, CertFault>
+    /// Takes the next line of a walk, and answers whether it may follow.
+    #[inline(always)]
+    pub(crate) fn take_walk(&mut self, alloc: Global, line: WalkLine) -> Result<bool, CertFault>
         requires draft { IsDraft self.old }
         ensures taken { IfOk result (Takes self.old self.new (Line.Walk line)) }
         ensures memory { IfErr result (λ fault. fault ≡ CertFault.Memory) }

@@ -12,10 +12,12 @@ mod line;
 mod line_end;
 mod line_reading;
 mod line_text;
+mod lines_lately;
 mod numbers;
 mod open_walk;
 mod reading;
 mod splitting;
+mod steps_lately;
 mod walk;
 mod writing;
 

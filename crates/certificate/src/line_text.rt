@@ -61,7 +61,8 @@ impl LineEnd {
     /// Adds an edge as a line of a walk shows it.
     pub(crate) fn put_step(&mut self, edge: &Edge)
         requires { 50 + length self.old ≤ 160 }
-        ensures { self.new ≡ step_words (step_of edge.now) ++ self.old }
+        ensures text { self.new ≡ step_words (step_of edge.now) ++ self.old }
+        ensures len { length self.new ≤ 50 + length self.old }
     {
         self.put_edge(edge);
         self.put(b"step ");

@@ -37,6 +37,7 @@ impl OpenWalk {
     }
 
     /// Takes the next line, and answers whether it may follow.
+    #[inline(always)]
     pub(crate) fn take(&mut self, alloc: Global, line: WalkLine) -> Result<bool, AllocError>
         ensures { IfOk result (TakesWalk self.old self.new line) }
     {

@@ -6,8 +6,9 @@ ghost use Rattle.certificate.specs.Lines.{CanSpell, Said, cert_text, said_by};
 use crate::cert::Cert;
 use crate::draft::Draft;
 use crate::fault::CertFault;
-use crate::line_reading::line_of;
+use crate::line::WalkLine;
 use crate::splitting::line_first;
+use crate::steps_lately::StepsLately;
 use std::alloc::Global;
 
 fn read_lines(alloc: Global, text: &[u8]) -> Result<Cert, CertFault>
@@ -17,10 +18,22 @@ fn read_lines(alloc: Global, text: &[u8]) -> Result<Cert, CertFault>
     ensures trailing { IsErrOf result CertFault.TrailingBytes → RunsOn text.now }
 {
     let mut draft = Draft::new(alloc);
+    let mut lately = StepsLately::new();
     let mut number: usize = 1;
     let mut rest = text;
-    while let Some((words, after)) = line_first(rest) {
-        let Some(line) = line_of(words) else {
+    loop {
+        if let Some((step, after)) = lately.first(rest) {
+            if !draft.take_walk(alloc, WalkLine::Step(step))? {
+                return Err(CertFault::BadLine(number));
+            }
+            number += 1;
+            rest = after;
+            continue;
+        }
+        let Some((words, after)) = line_first(rest) else {
+            return Err(CertFault::Truncated);
+        };
+        let Some(line) = lately.line_of(words) else {
             return Err(CertFault::BadLine(number));
         };
         if !draft.take(alloc, line)? {
@@ -35,7 +48,6 @@ fn read_lines(alloc: Global, text: &[u8]) -> Result<Cert, CertFault>
         number += 1;
         rest = after;
     }
-    Err(CertFault::Truncated)
 }
 
 /// The certificate that the text spells.

@@ -29,6 +29,7 @@ pub(crate) fn cut_at(mark: u8, text: &[u8]) -> Option<(&[u8], &[u8])>
 }
 
 /// What stands after the words `front`; `None` where the words do not begin with them.
+#[inline]
 pub(crate) fn after_front<'a>(words: &'a [u8], front: &[u8]) -> Option<&'a [u8]>
     ensures { MatchOption result ((rest : List ℕ) → words.now ≡ front.now ++ rest → ⊥)
         (λ rest. words.now ≡ front.now ++ rest.now) }

@@ -6,12 +6,12 @@ ghost use Rattle.outputs.specs.Output.{FailsSince, TakesFront};
 ghost use Rattle.certificate.specs.Lines.{cert_text, said_of};
 ghost use Rattle.certificate.specs.Walk.{item_lines, step_of, walk_lines};
 ghost use Rattle.certificate.specs.Words.{edge_words, ended, instance_words, place_words};
-ghost use Rattle.certificate.specs.Words.{step_words};
 ghost use Rattle.bus_ticks.specs.Numbers.{numbers_of};
 ghost use Rattle.certificate.specs.Written.{head_text, instances_text, places_text, prices_text, walk_text};
 
 use crate::fault::CertFault;
 use crate::line_end::LineEnd;
+use crate::lines_lately::LinesLately;
 use bus_ticks::Profile;
 use flow_graph::Edge;
 use itoa::Buffer;
@@ -78,31 +78,22 @@ fn put_number<O: Output>(out: &mut O, page: &mut Page, word: &[u8], number: u64)
     page.put(out, line.bytes());
 }
 
-fn put_step<O: Output>(out: &mut O, page: &mut Page, edge: &Edge)
-    ensures { Adds O.taken O.failures out.old page.old out.new page.new
-        (ended (step_words (step_of edge.now))) }
-{
-    let mut line = LineEnd::new();
-    line.put_step(edge);
-    page.put(out, line.bytes());
-}
-
 #[cycle(walk)]
-fn put_item<O: Output>(out: &mut O, page: &mut Page, item: &Item)
+fn put_item<O: Output>(out: &mut O, page: &mut Page, lately: &mut LinesLately, item: &Item)
     ensures { Adds O.taken O.failures out.old page.old out.new page.new (walk_text (item_lines item.now)) }
 {
     match item {
-        Item::Step(edge) => put_step(out, page, edge),
+        Item::Step(edge) => lately.put(out, page, edge),
         Item::Repeat(count, body) => {
             put_number(out, page, b"repeat ", u64::from(*count));
-            put_items(out, page, body);
+            put_items(out, page, lately, body);
             page.put(out, b"end\n");
         }
     }
 }
 
 #[cycle(walk)]
-fn put_items<O: Output>(out: &mut O, page: &mut Page, items: &[Item])
+fn put_items<O: Output>(out: &mut O, page: &mut Page, lately: &mut LinesLately, items: &[Item])
     ensures { Adds O.taken O.failures out.old page.old out.new page.new (walk_text (walk_lines items.now)) }
 {
     for item in items {
@@ -110,7 +101,7 @@ fn put_items<O: Output>(out: &mut O, page: &mut Page, items: &[Item])
         if page.has_failed() {
             return;
         }
-        put_item(out, page, item);
+        put_item(out, page, lately, item);
     }
 }
 
@@ -151,7 +142,7 @@ fn put_cert<O: Output>(out: &mut O, page: &mut Page, longest: &Longest)
 {
     put_head(out, page, &longest.profile);
     put_number(out, page, b"bound ", longest.bound);
-    put_items(out, page, longest.walk.items());
+    put_items(out, page, &mut LinesLately::new(), longest.walk.items());
     page.put(out, b"close\n");
     put_places(out, page, longest.potentials.places.items());
     put_instances(out, page, longest.potentials.instances.items());

@@ -6,8 +6,8 @@ use Rattle.certificate.specs.Follows.{reached_by}
 use Rattle.certificate.specs.Words.{LineFits, text_of}
 use Rattle.certificate.proofs.reading.read_lines.Given as goal
 
-abbrev pub invariant-loop-words : goal.invariant-loop-words
-invariant-loop-words l = record {
+abbrev pub invariant-loop-step : goal.invariant-loop-step
+invariant-loop-step l = record {
   draft : IsDraft l.draft;
   text_is : l.text ≡ text_of (lines_of l.draft) ++ l.rest;
   fit : AllByRecursion LineFits (lines_of l.draft);
@@ -17,5 +17,5 @@ invariant-loop-words l = record {
   few : l.number + length l.rest ≤ length l.text + 1;
 }
 
-abbrev pub decreases-loop-words : goal.decreases-loop-words
-decreases-loop-words l = length l.rest
+abbrev pub decreases-loop-step : goal.decreases-loop-step
+decreases-loop-step l = length l.rest

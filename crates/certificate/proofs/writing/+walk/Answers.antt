@@ -33,7 +33,7 @@ put_item-returns-in-Repeat g t c =
     let is_head : ended (codes "repeat " ++ decimal c.from.result) ≡ head = ap (λ n. ended (codes "repeat " ++ decimal n)) (search rules) in
     let first = adds_same taken failures c.args.out.now c.put_number.new.out c.args.page.now c.put_number.new.page _ head is_head c.put_number.ensures in
     let inner = adds_same taken failures c.put_number.new.out c.put_items.new.out c.put_number.new.page c.put_items.new.page _ body is_body c.put_items.ensures in
-    adds_same taken failures c.args.out.now c.put.new.out c.args.page.now c.put.new.self _ _
+    adds_same taken failures c.args.out.now c.put-in-Repeat.new.out c.args.page.now c.put-in-Repeat.new.self _ _
     (sym (text-repeat c.in-Repeat.count c.in-Repeat.body) ∙ ap (λ i. walk_text (item_lines i)) (sym is))
-    (adds_both taken failures c.args.out.now c.put_number.new.out c.put.new.out c.args.page.now c.put_number.new.page c.put.new.self head (body ++ end) first
-    (adds_both taken failures c.put_number.new.out c.put_items.new.out c.put.new.out c.put_number.new.page c.put_items.new.page c.put.new.self body end inner c.put.ensures))
+    (adds_both taken failures c.args.out.now c.put_number.new.out c.put-in-Repeat.new.out c.args.page.now c.put_number.new.page c.put-in-Repeat.new.self head (body ++ end) first
+    (adds_both taken failures c.put_number.new.out c.put_items.new.out c.put-in-Repeat.new.out c.put_number.new.page c.put_items.new.page c.put-in-Repeat.new.self body end inner c.put-in-Repeat.ensures))
