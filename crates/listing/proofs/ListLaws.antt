@@ -1,13 +1,9 @@
 -- The row of a word.
-use Rattle.std.proofs.Common.{◌≡◌, ◌+◌, ◌<◌, ◌≤◌, ℕ, suc, List, [], ◌∷◌, ◌++◌, length, drop, codes, Some, refl, sym, ap, subst, ◌∙◌, append-nil, append_assoc, get_or}
-use Rattle.std.proofs.Math.ListN.{drop_of_length-le}
-use Rattle.std.proofs.lemmas.List.{drop_more}
+use Rattle.std.proofs.Common.{◌≡◌, ℕ, List, ◌++◌, codes, Some, refl, ap, ◌∙◌, append_assoc}
 use Rattle.assembler.specs.ShownLines.{IsShown}
-use Rattle.assembler.specs.declared.placed_line.PlacedLine.{PlacedLine}
-use Rattle.loader.specs.Image.{Words, word_of}
 use Rattle.text_rows.specs.Columns.{cut_row}
 use Rattle.text_rows.specs.Rows.{Appends}
-use Rattle.listing.specs.Listing.{IsWordRow, line_rows, source_rows, word_columns, word_rows}
+use Rattle.listing.specs.Listing.{IsWordRow, word_columns}
 
 pub word_row : (at word : ℕ) (line old columns gap new : List ℕ) → IsShown word at line
     → columns ≡ old ++ word_columns at (Some word) → gap ≡ columns ++ codes "  "
