@@ -30,7 +30,8 @@ use Rattle.flow_graph.specs.declared.faults.BuildFault.TheVariants as build_faul
 use Rattle.flow_graph.specs.declared.places.Place.{Place}
 use Rattle.flow_graph.specs.declared.places.Place.TheVariants.{At, Exit}
 use Rattle.statement.specs.Stated.{Stated}
-use Rattle.explained.specs.Table.{addresses, words_of}
+use Rattle.text_rows.specs.Lines.{addresses}
+use Rattle.explained.specs.Table.{words_of}
 use Rattle.explained.specs.Taken.{AreOnWords, StandOnce, is_at}
 
 -- how often an address stands in a list

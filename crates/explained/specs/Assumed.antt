@@ -1,6 +1,6 @@
 -- What a bound takes for granted of words that its handler reaches.
-use Rattle.std.specs.Prelude.{◌≡◌, ◌↔◌, ℕ, zero, suc, ◌+◌, ◌==◌, Bool, true, false, not, ◌&&◌, List}
-use Rattle.std.specs.Prelude.{[], ◌∷◌, ◌++◌, codes}
+use Rattle.std.specs.Prelude.{◌≡◌, ◌↔◌, ℕ, ◌==◌, Bool, true, false, not, ◌&&◌, List}
+use Rattle.std.specs.Prelude.{[], ◌++◌, codes}
 use Rattle.std.specs.Prelude.{if◌then◌else◌, Contains, None, ◌⊎◌}
 use Rattle.std.specs.List.{list_any}
 use Rattle.std.specs.List.Sorted.{IsStrictlySortedBy}
@@ -17,6 +17,7 @@ use Rattle.word_shapes.specs.Shapes.{is_never, is_odd_writer}
 use Rattle.word_shapes.specs.Words.{HasInstr, HasShape}
 use Rattle.flow_graph.specs.declared.places.Place.{Place}
 use Rattle.explained.specs.Links.{AreLostLinks}
+use Rattle.text_rows.specs.Lines.{rows_by_line, rows_by_word}
 use Rattle.text_rows.specs.Rows.{AreRows, IsShownRow, named_row, section}
 use Rattle.explained.specs.Taken.{is_at, is_reached}
 use Rattle.explained.specs.declared.assumptions.Assumption.{Assumption}
@@ -62,17 +63,9 @@ Notes Holds place old new = (a : ℕ) → (new a ≡ true) ↔ ((old a ≡ true)
 abbrev pub row_if_named : (named : List ℕ) → (n : ℕ) → (text : List ℕ) → (at : ℕ) → List ℕ
 row_if_named named n text at = if list_any (λ a. a == at) named then named_row 0 at n text else []
 
--- the rows of those of a line's words that are named
-abbrev pub word_rows : (named : List ℕ) → (n : ℕ) → (text : List ℕ) → (from count : ℕ) → List ℕ
-word_rows named n text from zero = []
-word_rows named n text from (suc more) =
-    row_if_named named n text from ++ word_rows named n text (from + 4) more
-
 -- the rows of the named words, line by line, with numbers from one on
 abbrev pub named_rows : List ℕ → ℕ → List (List ℕ) → List PlacedLine → List ℕ
-named_rows named n (text ∷ lines) (p ∷ placed) =
-    word_rows named n text p.at p.words ++ named_rows named (n + 1) lines placed
-named_rows named n _ _ = []
+named_rows named = rows_by_line (rows_by_word (row_if_named named))
 
 -- the row of an image's word if it is named, else nothing
 pub record IsNamedRow (named : List ℕ) (e : ℕ × ℕ) (row : List ℕ) : Type 0 where

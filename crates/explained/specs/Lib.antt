@@ -1,6 +1,7 @@
 pub mod Assumed
 pub mod Bursts
 pub mod Columns
+pub mod Costing
 pub mod Idle
 pub mod Leaving
 pub mod Links

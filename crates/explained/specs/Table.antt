@@ -1,5 +1,5 @@
 -- The table of a bound. Our own format.
-use Rattle.std.specs.Prelude.{◌≡◌, ℕ, zero, suc, ◌+◌, Bool, ◌==◌, if◌then◌else◌, List, [], ◌∷◌, ◌++◌, codes}
+use Rattle.std.specs.Prelude.{◌≡◌, ℕ, Bool, ◌==◌, if◌then◌else◌, List, [], ◌++◌, codes}
 use Rattle.std.specs.Prelude.{decimal, sum_by, Option, Some, None, is_some}
 use Rattle.std.specs.List.{list_any}
 use Rattle.asm_text.specs.Source.{lines_of}
@@ -12,6 +12,7 @@ use Rattle.statement.specs.Stated.{Stated}
 use Rattle.walk_counts.specs.Counts.{capped}
 use Rattle.explained.specs.Columns.{bound_line, ticks_text, total_row}
 use Rattle.text_rows.specs.Columns.{in_columns}
+use Rattle.text_rows.specs.Lines.{addresses, rows_by_line}
 use Rattle.text_rows.specs.Rows.{AreRows, address_column, row_end}
 use Rattle.explained.specs.Pricing.{ArePriced, pricing_text}
 use Rattle.explained.specs.Taken.{taken_at}
@@ -20,11 +21,6 @@ use Rattle.explained.specs.declared.tally.Costs.{Costs}
 use Rattle.explained.specs.declared.tally.Taken.{Taken}
 
 -- ## Lines
-
--- the addresses of so many words from one on
-abbrev pub addresses : (from count : ℕ) → List ℕ
-addresses from zero = []
-addresses from (suc n) = from ∷ addresses (from + 4) n
 
 abbrev pub words_of : PlacedLine → List ℕ
 words_of line = addresses line.at line.words
@@ -104,14 +100,16 @@ line_row bound taken latest pricing n =
     (columns_text bound taken latest pricing
     ++ (codes " " ++ (in_columns 4 (decimal n) ++ codes "  ")))
 
--- the rows of the lines that have words, with numbers from one on; the latest start and the price are those
--- of a line's first word
+-- the row of a line, if it has words; the latest start and the price are those of its first word
+abbrev pub line_rows : (ℕ → Option Taken) → (latest : ℕ → Option ℕ) → (ℕ → Option Pricing) → ℕ → ℕ → List ℕ
+    → PlacedLine → List ℕ
+line_rows taken latest priced bound n text p =
+    if p.words == 0 then [] else line_row bound (line_taken taken p) (latest p.at) (priced p.at) n text
+
+-- those of all lines, with numbers from one on
 abbrev pub source_rows : (ℕ → Option Taken) → (latest : ℕ → Option ℕ) → (ℕ → Option Pricing) → ℕ → ℕ
     → List (List ℕ) → List PlacedLine → List ℕ
-source_rows taken latest priced bound n (text ∷ lines) (p ∷ placed) =
-    (if p.words == 0 then [] else line_row bound (line_taken taken p) (latest p.at) (priced p.at) n text)
-    ++ source_rows taken latest priced bound (n + 1) lines placed
-source_rows taken latest priced bound n _ _ = []
+source_rows taken latest priced bound = rows_by_line (line_rows taken latest priced bound)
 
 -- with the address of a word, and as much of its line as there is room for
 abbrev pub word_row : ℕ → Option Taken → (latest : Option ℕ) → Option Pricing → (at : ℕ) → (line : List ℕ)

@@ -8,9 +8,8 @@ ghost use Rattle.explained.specs.Table.{IsImageTable, IsWordRow, image_ticks, wo
 
 use crate::columns::{IMAGE_HEADING, put_end};
 use crate::lines::{Columns, Costing, put_columns, ticks_at};
-use crate::pricing::priced;
 use crate::sections::StatedGraph;
-use crate::starts::{TimedWalk, latest_starts};
+use crate::starts::TimedWalk;
 use crate::tally::{Tally, capped_sum};
 use assembler::disassemble;
 use std::alloc::{AllocError, Global};
@@ -31,28 +30,22 @@ fn put_line(out: &mut Vec<u8>, columns: Columns, at: u32, line: &[u8]) -> Result
 }
 
 // Adds the row of a word, with what is taken there.
-fn put_row(out: &mut Vec<u8>, costing: Costing<'_>, at: u32, word: u32) -> Result<(), AllocError>
+fn put_row(out: &mut Vec<u8>, costing: &Costing, at: u32, word: u32) -> Result<(), AllocError>
     ensures { OnOk result
-        (Appends (IsWordRow (get nat_cmp costing.entry.tally.now.by_address)
-        (get nat_cmp costing.entry.latest.now) (get nat_cmp costing.entry.prices.now) costing.entry.bound
-        (at, word)) out.old.items out.new.items) }
+        (Appends (IsWordRow (get nat_cmp costing.now.tally.by_address) (get nat_cmp costing.now.latest)
+        (get nat_cmp costing.now.prices) costing.now.bound (at, word)) out.old.items out.new.items) }
 {
-    let columns = Columns {
-        taken: costing.tally.at(at),
-        latest: costing.latest.get(&at).copied(),
-        pricing: costing.prices.get(&at).copied(),
-        bound: costing.bound,
-    };
+    let columns = costing.columns(costing.tally.at(at), at);
     let line = disassemble(word, at);
     put_line(out, columns, at, line.items())
 }
 
 // Adds the rows of the words.
-fn put_rows(out: &mut Vec<u8>, costing: Costing<'_>, words: &[(u32, u32)]) -> Result<(), AllocError>
+fn put_rows(out: &mut Vec<u8>, costing: &Costing, words: &[(u32, u32)]) -> Result<(), AllocError>
     ensures { OnOk result
-        (Appends (AreRows (IsWordRow (get nat_cmp costing.entry.tally.now.by_address)
-        (get nat_cmp costing.entry.latest.now) (get nat_cmp costing.entry.prices.now) costing.entry.bound)
-        words.now) out.old.items out.new.items) }
+        (Appends (AreRows (IsWordRow (get nat_cmp costing.now.tally.by_address)
+        (get nat_cmp costing.now.latest) (get nat_cmp costing.now.prices) costing.now.bound) words.now)
+        out.old.items out.new.items) }
 {
     for (at, word) in words {
         put_row(out, costing, *at, *word)?;
@@ -94,19 +87,14 @@ pub fn image_table(
         (latest_at handler.entry.graph.now.places walk.entry.starts.now) walk.entry.longest.now.bound
         text.items) }
 {
-    let longest = walk.longest;
-    let tally = Tally::of_walk(alloc, handler.graph, &longest.walk)?;
-    let latest = latest_starts(alloc, handler.graph, walk.starts)?;
-    let prices = priced(alloc, handler)?;
-    let costing = Costing {
-        tally: &tally,
-        latest: &latest,
-        prices: &prices,
-        bound: longest.bound,
-    };
+    let costing = Costing::of_walk(alloc, handler, walk)?;
     let words = handler.image.listed(alloc)?;
     let mut out = Vec::from_slice(alloc, IMAGE_HEADING)?;
-    put_rows(&mut out, costing, &words)?;
-    put_end(&mut out, image_ticks(&tally, &words), longest.bound)?;
+    put_rows(&mut out, &costing, &words)?;
+    put_end(
+        &mut out,
+        image_ticks(&costing.tally, &words),
+        walk.longest.bound,
+    )?;
     Ok(out)
 }

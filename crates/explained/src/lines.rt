@@ -2,11 +2,14 @@ ghost use Rattle.std.specs.Prelude.{◌≡◌, ◌+◌, ◌*◌, ◌^◌, ◌≤
 ghost use Rattle.std.specs.BTreeMap.{get};
 ghost use Rattle.std.specs.Ordering.{nat_cmp};
 ghost use Rattle.text_rows.specs.Columns.{in_columns};
+ghost use Rattle.explained.specs.Costing.{IsCosting};
 ghost use Rattle.explained.specs.Table.{columns_text, each_of, each_text, is_any_reached, latest_text};
 ghost use Rattle.explained.specs.Table.{line_taken, passes_of, taken_text, ticks_in, ticks_of};
 
 use crate::columns::put_ticks;
-use crate::pricing::{Pricing, put_pricing};
+use crate::pricing::{Pricing, priced, put_pricing};
+use crate::sections::StatedGraph;
+use crate::starts::{TimedWalk, latest_starts};
 use crate::tally::{Costs, Taken, Tally, capped_sum};
 use assembler::PlacedLine;
 use std::alloc::{AllocError, Global};
@@ -27,14 +30,52 @@ pub(crate) struct Columns {
 }
 
 /// What the rows of a table are made of.
-#[derive(Clone, Copy)]
-pub(crate) struct Costing<'a> {
-    pub(crate) tally: &'a Tally,
+#[derive(Drop)]
+pub(crate) struct Costing {
+    pub(crate) tally: Tally,
     /// When the words begin at the latest, by the addresses where the graph has a place.
-    pub(crate) latest: &'a BTreeMap<u32, u64>,
+    latest: BTreeMap<u32, u64>,
     /// By the addresses where the graph has a place.
-    pub(crate) prices: &'a BTreeMap<u32, Pricing>,
-    pub(crate) bound: u64,
+    prices: BTreeMap<u32, Pricing>,
+    bound: u64,
+}
+
+impl Costing {
+    /// Those of a greatest walk. `AllocError`: an allocation failed.
+    pub(crate) fn of_walk(
+        alloc: Global,
+        handler: StatedGraph<'_>,
+        walk: TimedWalk<'_>,
+    ) -> Result<Costing, AllocError>
+        ensures { IfOk result
+            (IsCosting handler.entry.image.now handler.entry.statement.now handler.entry.graph.now
+            walk.entry.longest.now walk.entry.starts.now) }
+    {
+        let tally = Tally::of_walk(alloc, handler.graph, &walk.longest.walk)?;
+        let latest = latest_starts(alloc, handler.graph, walk.starts)?;
+        let prices = priced(alloc, handler)?;
+        Ok(Costing {
+            tally,
+            latest,
+            prices,
+            bound: walk.longest.bound,
+        })
+    }
+
+    /// What stands in the columns of a row: what is taken there, and what is told of the word at an address.
+    pub(crate) fn columns(&self, taken: Option<Taken>, at: u32) -> Columns
+        ensures taken { result.taken ≡ taken }
+        ensures latest { result.latest ≡ get nat_cmp self.now.latest at }
+        ensures pricing { result.pricing ≡ get nat_cmp self.now.prices at }
+        ensures bound { result.bound ≡ self.now.bound }
+    {
+        Columns {
+            taken,
+            latest: self.latest.get(&at).copied(),
+            pricing: self.prices.get(&at).copied(),
+            bound: self.bound,
+        }
+    }
 }
 
 // Whether the graph has a place at one of so many words from an address on.

@@ -1,16 +1,16 @@
-ghost use Rattle.std.specs.Prelude.{◌≡◌, ◌+◌, ◌*◌, ◌^◌, ◌≤◌, ◌++◌, ◌==◌, IfOk, OnOk};
+ghost use Rattle.std.specs.Prelude.{◌≡◌, ◌==◌, IfOk, OnOk};
 ghost use Rattle.std.specs.List.{list_any};
 ghost use Rattle.std.specs.List.Sorted.{IsStrictlySortedBy};
 ghost use Rattle.std.specs.Ordering.{nat_cmp};
+ghost use Rattle.std.proofs.Props.{props};
 ghost use Rattle.asm_text.specs.Source.{lines_of};
-ghost use Rattle.explained.specs.Assumed.{IsNamedRow, named_rows, row_if_named, word_rows};
+ghost use Rattle.explained.specs.Assumed.{IsNamedRow, named_rows, row_if_named};
 ghost use Rattle.text_rows.specs.Rows.{Appends, AreRows};
 
-use asm_text::first_line;
 use assembler::PlacedLine;
 use loader::Image;
 use std::alloc::{AllocError, Global};
-use text_rows::{NumberedLine, put_named_row, put_shown_row};
+use text_rows::{NumberedLine, WordRows, put_named_row, put_shown_row, put_word_rows};
 
 fn is_named(named: &[u32], at: u32) -> bool
     requires { IsStrictlySortedBy nat_cmp named.now }
@@ -19,42 +19,22 @@ fn is_named(named: &[u32], at: u32) -> bool
     named.binary_search(&at).is_ok()
 }
 
-// Adds the row of a word, if it is named.
-fn put_if_named(
-    out: &mut Vec<u8>,
-    named: &[u32],
-    line: NumberedLine<'_>,
-    at: u32,
-) -> Result<(), AllocError>
-    requires { IsStrictlySortedBy nat_cmp named.now }
-    ensures { OnOk result
-        (out.new.items ≡ out.old.items
-        ++ row_if_named named.now line.entry.number line.entry.text.now at) }
-{
-    if !is_named(named, at) {
-        return Ok(());
-    }
-    put_named_row(out, 0, line, at)
+// Words by their addresses, which ascend.
+#[derive(Clone, Copy)]
+struct Named<'a> {
+    addresses: &'a [u32],
+    ghost ascending: { IsStrictlySortedBy nat_cmp addresses.now } by { Prim.hlevel props },
 }
 
-// Adds the rows of those of a line's words that are named.
-fn put_words(
-    out: &mut Vec<u8>,
-    named: &[u32],
-    line: NumberedLine<'_>,
-    placed: PlacedLine,
-) -> Result<(), AllocError>
-    requires { IsStrictlySortedBy nat_cmp named.now }
-    ensures { OnOk result
-        (out.new.items ≡ out.old.items
-        ++ word_rows named.now line.entry.number line.entry.text.now placed.at placed.words) }
-{
-    let mut at = placed.at;
-    for _ in 0..placed.words {
-        put_if_named(out, named, line, at)?;
-        at += 4;
+impl WordRows for Named<'_> {
+    ghost word_row = { λ named. row_if_named named.addresses.now };
+
+    fn put(&self, out: &mut Vec<u8>, line: NumberedLine<'_>, at: u32) -> Result<(), AllocError> {
+        if !is_named(self.addresses, at) {
+            return Ok(());
+        }
+        put_named_row(out, 0, line, at)
     }
-    Ok(())
 }
 
 /// The rows of those of a source's words that are named: the address of each, and the number and the text of
@@ -74,16 +54,7 @@ pub fn named_lines(
         (λ rows. rows.items ≡ named_rows named.now 1 (lines_of source.now) placed.now) }
 {
     let mut out = Vec::new(alloc);
-    let mut rest = source;
-    let mut number = 1;
-    for line in placed {
-        let Some((text, after)) = first_line(rest) else {
-            return Ok(out);
-        };
-        put_words(&mut out, named, NumberedLine { number, text }, *line)?;
-        rest = after;
-        number += 1;
-    }
+    put_word_rows(&mut out, source, placed, &Named { addresses: named })?;
     Ok(out)
 }
 

@@ -32,6 +32,13 @@ pub struct StatedGraph<'a> {
     pub graph: &'a Graph,
 }
 
+// A source, and where its lines stand.
+#[derive(Clone, Copy)]
+struct StoodLines<'a> {
+    source: &'a [u8],
+    placed: &'a [PlacedLine],
+}
+
 // What stands above the rows of words of which that is assumed.
 fn heading(what: Assumption) -> &'static [u8]
     ensures { result.now ≡ heading_of what }
@@ -45,16 +52,16 @@ fn heading(what: Assumption) -> &'static [u8]
 fn source_section(
     alloc: Global,
     heading: &[u8],
-    source: &[u8],
-    placed: &[PlacedLine],
+    lines: StoodLines<'_>,
     named: &[u32],
 ) -> Result<Vec<u8>, AllocError>
     requires { IsStrictlySortedBy nat_cmp named.now }
     ensures { IfOk result
         (λ text. text.items
-        ≡ section heading.now (named_rows named.now 1 (lines_of source.now) placed.now)) }
+        ≡ section heading.now
+        (named_rows named.now 1 (lines_of lines.entry.source.now) lines.entry.placed.now)) }
 {
-    let rows = named_lines(alloc, source, placed, named)?;
+    let rows = named_lines(alloc, lines.source, lines.placed, named)?;
     section(alloc, heading, &rows)
 }
 
@@ -77,32 +84,32 @@ fn image_section(
 fn source_assumed(
     alloc: Global,
     handler: StatedGraph<'_>,
-    source: &[u8],
-    placed: &[PlacedLine],
+    lines: StoodLines<'_>,
     what: Assumption,
 ) -> Result<Vec<u8>, AllocError>
     ensures { IfOk result
-        (λ text. IsSection (λ named rows. rows ≡ named_rows named 1 (lines_of source.now) placed.now)
+        (λ text. IsSection
+        (λ named rows. rows ≡ named_rows named 1 (lines_of lines.entry.source.now) lines.entry.placed.now)
         (heading_of what) (AreAssumed handler.entry.image.now handler.entry.statement.now
         handler.entry.graph.now what) text.items) }
 {
     let named = assumed(alloc, handler.image, handler.statement, handler.graph, what)?;
-    source_section(alloc, heading(what), source, placed, &named)
+    source_section(alloc, heading(what), lines, &named)
 }
 
 // The section of the words that return by a lost R14, by the lines of a source.
 fn source_lost(
     alloc: Global,
     handler: StatedGraph<'_>,
-    source: &[u8],
-    placed: &[PlacedLine],
+    lines: StoodLines<'_>,
 ) -> Result<Vec<u8>, AllocError>
     ensures { IfOk result
-        (λ text. IsSection (λ named rows. rows ≡ named_rows named 1 (lines_of source.now) placed.now)
+        (λ text. IsSection
+        (λ named rows. rows ≡ named_rows named 1 (lines_of lines.entry.source.now) lines.entry.placed.now)
         lost_heading (AreLostLinks handler.entry.image.now handler.entry.graph.now) text.items) }
 {
     let named = lost_links(alloc, handler.image, handler.graph)?;
-    source_section(alloc, LOST, source, placed, &named)
+    source_section(alloc, LOST, lines, &named)
 }
 
 // The section of the words of which that is assumed, by the words of an image.
@@ -150,12 +157,11 @@ pub fn source_assumptions(
         (λ text. AreSourceAssumptions source.now placed.now handler.entry.image.now
         handler.entry.statement.now handler.entry.graph.now text.items) }
 {
-    let returns = Assumption::TakenForReturn;
-    let mut text = source_assumed(alloc, handler, source, placed, returns)?;
-    let lost = source_lost(alloc, handler, source, placed)?;
+    let lines = StoodLines { source, placed };
+    let mut text = source_assumed(alloc, handler, lines, Assumption::TakenForReturn)?;
+    let lost = source_lost(alloc, handler, lines)?;
     put(&mut text, &lost)?;
-    let loose = Assumption::LooseTransfer;
-    let transfers = source_assumed(alloc, handler, source, placed, loose)?;
+    let transfers = source_assumed(alloc, handler, lines, Assumption::LooseTransfer)?;
     put(&mut text, &transfers)?;
     Ok(text)
 }

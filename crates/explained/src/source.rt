@@ -2,77 +2,53 @@ ghost use Rattle.std.specs.Prelude.{◌≡◌, ◌++◌, IfOk, OnOk};
 ghost use Rattle.std.specs.BTreeMap.{get};
 ghost use Rattle.std.specs.Ordering.{nat_cmp};
 ghost use Rattle.longest_walk.specs.Folded.{unfolded};
-ghost use Rattle.asm_text.specs.Source.{lines_of};
 ghost use Rattle.explained.specs.Starts.{latest_at};
-ghost use Rattle.explained.specs.Table.{IsSourceTable, line_row, line_taken, source_rows, source_ticks};
+ghost use Rattle.explained.specs.Table.{IsSourceTable, line_row, line_rows, source_ticks};
 
 use crate::columns::{HEADING, put_end};
 use crate::lines::{Columns, Costing, line_taken, put_columns, ticks_in};
-use crate::pricing::priced;
 use crate::sections::StatedGraph;
-use crate::starts::{TimedWalk, latest_starts};
+use crate::starts::TimedWalk;
 use crate::tally::{Tally, capped_sum};
-use asm_text::first_line;
 use assembler::PlacedLine;
 use std::alloc::{AllocError, Global};
-use text_rows::{put, put_cut_row, put_number};
+use text_rows::{LineRows, NumberedLine, put, put_cut_row, put_line_rows, put_number};
 
-// Adds the row of a line, if it has words.
-fn put_line(out: &mut Vec<u8>, columns: Columns, number: u64, text: &[u8]) -> Result<(), AllocError>
+// Adds the row of a line.
+fn put_line(out: &mut Vec<u8>, columns: Columns, line: NumberedLine<'_>) -> Result<(), AllocError>
     ensures { OnOk result
         (out.new.items
         ≡ out.old.items
-        ++ line_row columns.bound columns.taken columns.latest columns.pricing number text.now) }
+        ++ line_row columns.bound columns.taken columns.latest columns.pricing line.entry.number
+        line.entry.text.now) }
 {
     let begun = out.len();
     put_columns(out, columns)?;
     put(out, b" ")?;
-    put_number(out, number, 4)?;
+    put_number(out, line.number, 4)?;
     put(out, b"  ")?;
-    put_cut_row(out, out.len() - begun, text)
+    put_cut_row(out, out.len() - begun, line.text)
 }
 
-// What stands in the columns of a line's row.
-fn line_columns(costing: Costing<'_>, line: PlacedLine) -> Columns
-    ensures taken { result.taken ≡ line_taken (get nat_cmp costing.entry.tally.now.by_address) line }
-    ensures latest { result.latest ≡ get nat_cmp costing.entry.latest.now line.at }
-    ensures pricing { result.pricing ≡ get nat_cmp costing.entry.prices.now line.at }
-    ensures bound { result.bound ≡ costing.entry.bound }
-{
-    Columns {
-        taken: line_taken(costing.tally, line),
-        latest: costing.latest.get(&line.at).copied(),
-        pricing: costing.prices.get(&line.at).copied(),
-        bound: costing.bound,
-    }
-}
+// A line has a row if it has words.
+impl LineRows for Costing {
+    ghost rows = { λ c. line_rows (get nat_cmp c.tally.by_address) (get nat_cmp c.latest) (get nat_cmp c.prices) c.bound };
 
-// Adds the rows of the lines that have words.
-fn put_lines(
-    out: &mut Vec<u8>,
-    costing: Costing<'_>,
-    source: &[u8],
-    placed: &[PlacedLine],
-) -> Result<(), AllocError>
-    ensures { OnOk result
-        (out.new.items
-        ≡ out.old.items
-        ++ source_rows (get nat_cmp costing.entry.tally.now.by_address) (get nat_cmp costing.entry.latest.now)
-        (get nat_cmp costing.entry.prices.now) costing.entry.bound 1 (lines_of source.now) placed.now) }
-{
-    let mut rest = source;
-    let mut number = 1;
-    for line in placed {
-        let Some((text, after)) = first_line(rest) else {
+    fn put(
+        &self,
+        out: &mut Vec<u8>,
+        line: NumberedLine<'_>,
+        placed: PlacedLine,
+    ) -> Result<(), AllocError> {
+        if placed.words == 0 {
             return Ok(());
-        };
-        if line.words != 0 {
-            put_line(out, line_columns(costing, *line), number, text)?;
         }
-        rest = after;
-        number += 1;
+        put_line(
+            out,
+            self.columns(line_taken(&self.tally, placed), placed.at),
+            line,
+        )
     }
-    Ok(())
 }
 
 // The ticks of all rows.
@@ -121,18 +97,13 @@ pub fn source_table(
         (latest_at handler.entry.graph.now.places walk.entry.starts.now) walk.entry.longest.now.bound
         source.now placed.now text.items) }
 {
-    let longest = walk.longest;
-    let tally = Tally::of_walk(alloc, handler.graph, &longest.walk)?;
-    let latest = latest_starts(alloc, handler.graph, walk.starts)?;
-    let prices = priced(alloc, handler)?;
-    let costing = Costing {
-        tally: &tally,
-        latest: &latest,
-        prices: &prices,
-        bound: longest.bound,
-    };
+    let costing = Costing::of_walk(alloc, handler, walk)?;
     let mut out = Vec::from_slice(alloc, HEADING)?;
-    put_lines(&mut out, costing, source, placed)?;
-    put_end(&mut out, source_ticks(&tally, placed), longest.bound)?;
+    put_line_rows(&mut out, source, placed, &costing)?;
+    put_end(
+        &mut out,
+        source_ticks(&costing.tally, placed),
+        walk.longest.bound,
+    )?;
     Ok(out)
 }

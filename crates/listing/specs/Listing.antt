@@ -1,11 +1,12 @@
 -- The rows of a listing. Our own format.
-use Rattle.std.specs.Prelude.{◌≡◌, ℕ, zero, suc, ◌+◌, List, [], ◌∷◌, ◌++◌}
+use Rattle.std.specs.Prelude.{◌≡◌, ℕ, zero, suc, ◌+◌, List, ◌++◌}
 use Rattle.std.specs.Prelude.{codes, decimal, Option, Some}
 use Rattle.asm_text.specs.Hex.{hex8}
 use Rattle.assembler.specs.ShownLines.{IsShown}
 use Rattle.assembler.specs.declared.placed_line.PlacedLine.{PlacedLine}
 use Rattle.loader.specs.Image.{Words, word_of}
 use Rattle.text_rows.specs.Columns.{in_columns}
+use Rattle.text_rows.specs.Lines.{rows_by_line, rows_from}
 use Rattle.text_rows.specs.Rows.{AreRows, row_end}
 use Rattle.trace_text.specs.TraceText.{word_text}
 
@@ -23,20 +24,20 @@ line_row n = row_end 18 (codes "  " ++ (in_columns 6 (decimal n) ++ codes "  "))
 
 -- a row for each of so many words from an address on
 abbrev pub word_rows : Words → (at count : ℕ) → List ℕ
-word_rows image at zero = []
-word_rows image at (suc n) = (word_columns at (word_of image at) ++ codes "\n") ++ word_rows image (at + 4) n
+word_rows image = rows_from (λ at. word_columns at (word_of image at) ++ codes "\n")
 
 -- the number and the text of a line, beside its first word if it has one; its other words below
-abbrev pub line_rows : Words → (n : ℕ) → (text : List ℕ) → (at count : ℕ) → List ℕ
-line_rows image n text at zero = no_columns ++ line_row n text
-line_rows image n text at (suc more) =
+abbrev pub rows_beside : Words → (n : ℕ) → (text : List ℕ) → (at count : ℕ) → List ℕ
+rows_beside image n text at zero = no_columns ++ line_row n text
+rows_beside image n text at (suc more) =
     (word_columns at (word_of image at) ++ line_row n text) ++ word_rows image (at + 4) more
+
+abbrev pub line_rows : Words → (n : ℕ) → (text : List ℕ) → PlacedLine → List ℕ
+line_rows image n text p = rows_beside image n text p.at p.words
 
 -- the rows of lines, each where it stands, with numbers from one on
 abbrev pub source_rows : Words → ℕ → List (List ℕ) → List PlacedLine → List ℕ
-source_rows image n (line ∷ lines) (p ∷ placed) =
-    line_rows image n line p.at p.words ++ source_rows image (n + 1) lines placed
-source_rows image n _ _ = []
+source_rows image = rows_by_line (line_rows image)
 
 -- the address, the word and its line
 abbrev pub IsWordRow : ℕ × ℕ → List ℕ → Type 0

@@ -4,7 +4,7 @@ ghost use Rattle.trace_text.specs.TraceText.{word_text};
 
 use asm_text::hex8;
 use std::alloc::AllocError;
-use text_rows::{put, put_cut_row, put_number};
+use text_rows::{NumberedLine, put, put_cut_row, put_number};
 
 fn put_word(out: &mut Vec<u8>, word: Option<u32>) -> Result<(), AllocError>
     ensures { OnOk result (out.new.items ≡ out.old.items ++ word_text word) }
@@ -33,12 +33,17 @@ pub(crate) const WORD_COLUMNS: usize = 18;
 
 /// Adds the number of a line and as much of its text as there is room for after the columns of a word, and
 /// ends the row.
-pub(crate) fn put_line_row(out: &mut Vec<u8>, number: usize, text: &[u8]) -> Result<(), AllocError>
-    ensures { OnOk result (out.new.items ≡ out.old.items ++ line_row number text.now) }
+pub(crate) fn put_line_row(out: &mut Vec<u8>, line: NumberedLine<'_>) -> Result<(), AllocError>
+    ensures { OnOk result
+        (out.new.items ≡ out.old.items ++ line_row line.entry.number line.entry.text.now) }
 {
     let begun = out.len();
     put(out, b"  ")?;
-    put_number(out, number as u64, 6)?;
+    put_number(out, line.number, 6)?;
     put(out, b"  ")?;
-    put_cut_row(out, WORD_COLUMNS.saturating_add(out.len() - begun), text)
+    put_cut_row(
+        out,
+        WORD_COLUMNS.saturating_add(out.len() - begun),
+        line.text,
+    )
 }

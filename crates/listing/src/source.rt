@@ -3,11 +3,10 @@ ghost use Rattle.asm_text.specs.Source.{lines_of};
 ghost use Rattle.listing.specs.Listing.{line_rows, source_rows, word_rows};
 
 use crate::columns::{put_line_row, put_word_columns};
-use asm_text::first_line;
 use assembler::PlacedLine;
 use loader::Image;
 use std::alloc::{AllocError, Global};
-use text_rows::put;
+use text_rows::{LineRows, NumberedLine, put, put_line_rows};
 
 // Adds a row for each of so many words from an address on.
 fn put_words(out: &mut Vec<u8>, image: &Image, from: u32, count: usize) -> Result<(), AllocError>
@@ -23,24 +22,29 @@ fn put_words(out: &mut Vec<u8>, image: &Image, from: u32, count: usize) -> Resul
     Ok(())
 }
 
-// Adds the rows of a line.
-fn put_line(
-    out: &mut Vec<u8>,
-    image: &Image,
-    placed: PlacedLine,
-    number: usize,
-    text: &[u8],
-) -> Result<(), AllocError>
-    ensures { OnOk result
-        (out.new.items ≡ out.old.items ++ line_rows image.now number text.now placed.at placed.words) }
-{
-    if placed.words == 0 {
-        put(out, b"                  ")?;
-        return put_line_row(out, number, text);
+// The rows of lines beside the words of an image.
+#[derive(Clone, Copy)]
+struct Beside<'a> {
+    image: &'a Image,
+}
+
+impl LineRows for Beside<'_> {
+    ghost rows = { λ b n text p. line_rows b.image.now n text p };
+
+    fn put(
+        &self,
+        out: &mut Vec<u8>,
+        line: NumberedLine<'_>,
+        placed: PlacedLine,
+    ) -> Result<(), AllocError> {
+        if placed.words == 0 {
+            put(out, b"                  ")?;
+            return put_line_row(out, line);
+        }
+        put_word_columns(out, placed.at, self.image.word_at(placed.at))?;
+        put_line_row(out, line)?;
+        put_words(out, self.image, placed.at + 4, placed.words - 1)
     }
-    put_word_columns(out, placed.at, image.word_at(placed.at))?;
-    put_line_row(out, number, text)?;
-    put_words(out, image, placed.at + 4, placed.words - 1)
 }
 
 /// The lines of a source beside the words of its image: a row for each line, with the address and the word
@@ -63,15 +67,6 @@ pub fn list_source(
         (λ rows. rows.items ≡ source_rows image.now 1 (lines_of source.now) placed.now) }
 {
     let mut out = Vec::new(alloc);
-    let mut rest = source;
-    let mut number = 1;
-    for line in placed {
-        let Some((text, after)) = first_line(rest) else {
-            return Ok(out);
-        };
-        put_line(&mut out, image, *line, number, text)?;
-        rest = after;
-        number += 1;
-    }
+    put_line_rows(&mut out, source, placed, &Beside { image })?;
     Ok(out)
 }

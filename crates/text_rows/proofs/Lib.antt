@@ -1,2 +1,4 @@
+mod AddressLaws
 pub mod ColumnLaws
+pub mod LineLaws
 pub mod RowLaws

@@ -6,4 +6,4 @@ use Rattle.explained.proofs.image.put_rows.Given as goal
 
 abbrev pub invariant-loop-at : goal.invariant-loop-at
 invariant-loop-at l =
-    SoFar (IsWordRow (get nat_cmp l.costing.tally.now.by_address) (get nat_cmp l.costing.latest.now) (get nat_cmp l.costing.prices.now) l.costing.bound) l.words l.at-index l.initial.out.items l.out.items
+    SoFar (IsWordRow (get nat_cmp l.costing.tally.by_address) (get nat_cmp l.costing.latest) (get nat_cmp l.costing.prices) l.costing.bound) l.words l.at-index l.initial.out.items l.out.items

@@ -2,7 +2,8 @@ use Rattle.std.proofs.Common.{◌≡◌, ◌<◌, ◌≤◌, ◌+◌, ◌-◌, �
 use Rattle.std.specs.BTreeMap.{get}
 use Rattle.std.specs.Ordering.{nat_cmp}
 use Rattle.walk_counts.specs.Counts.{capped}
-use Rattle.explained.specs.Table.{addresses, ticks_in, ticks_of}
+use Rattle.text_rows.specs.Lines.{addresses}
+use Rattle.explained.specs.Table.{ticks_in, ticks_of}
 use Rattle.explained.proofs.lines.ticks_in.Given as goal
 
 abbrev pub invariant-loop : goal.invariant-loop
