@@ -3,9 +3,7 @@ use arm2_exec::{Input, Machine};
 use bitflags::Flags;
 use bus_ticks::{Profile, RomTimes};
 use ioc::Lines;
-use machine_file::{
-    Event, MachineFile, MachineFileFault, MappedPage, PsrFlags, read_machine, read_profile,
-};
+use machine_file::{Event, MachineFile, MachineFileFault, PsrFlags, read_machine, read_profile};
 use memc::{Memc, PageSize, Refused, Spot};
 use std::alloc::Global;
 use std::test::Fail;
@@ -87,13 +85,13 @@ fn event_at(file: &MachineFile, step: u32) -> Option<Event> {
     file.events().get(&step).copied()
 }
 
-// The last page that the processor has, and the event of the third step.
-const PAGE: MappedPage = MappedPage {
-    logical: 1023,
-    physical: 127,
-    level: 3,
-};
+// The logical and the physical page that are mapped first, and their level.
+fn first_page(file: &MachineFile) -> Option<[u32; 3]> {
+    let page = file.pages().get(0)?;
+    Some([page.logical, page.physical, page.level])
+}
 
+// The event of the third step.
 const EVENT: Event = Event {
     bursts: 0,
     lines: None,
@@ -103,8 +101,9 @@ const EVENT: Event = Event {
 // Whether the registers, the pages and the events are the stated ones.
 fn has_every_key(file: &MachineFile) -> bool {
     let words = [Some(7), Some(8), Some(0x1010), Some(0xFFFF_FFFF)];
-    let page = file.pages().get(0).copied();
-    registers(file) == words && (page, event_at(file, 2)) == (Some(PAGE), Some(EVENT))
+    // the last page that the processor has
+    let page = Some([1023, 127, 3]);
+    registers(file) == words && first_page(file) == page && event_at(file, 2) == Some(EVENT)
 }
 
 #[test]
