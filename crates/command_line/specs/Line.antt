@@ -2,6 +2,7 @@
 -- own.
 use Rattle.std.specs.Prelude.{ℕ, pos, true, List, [], ◌∷◌, Option, Some, None, String, codes, map}
 use Rattle.std.specs.Prelude.{option_and_then, option_map, string_bytes, if◌then◌else◌}
+use Rattle.std.specs.Option.{option_zip}
 use Rattle.std.specs.declared.alloc.Global.{Global}
 use Rattle.std.specs.Str.{bytes_eq}
 use Rattle.std.specs.Str.Parse.{digits_value, without_leading_plus}
@@ -190,30 +191,23 @@ asked_of (request.Visits names) = visits (names_of names.handler) names.fiq_stat
 asked_of (request.Follow names) = follow (names_of names.handler) names.machine.now
 asked_of (request.Graph names) = graph (names_of names)
 
+-- the source's name and another argument, where both are there
+abbrev pub source_and : Text → List Row → Option (Text × Text)
+source_and id rows = option_zip (first_of (codes "source") rows) (first_of id rows)
+
+-- by the values of a command with a cycle profile
+abbrev pub names_in : Text → List Row → Option FileNames
+names_in second rows =
+    option_map (λ p. record { profile = first_of (codes "profile") rows; first = p.0; second = p.1 })
+    (source_and second rows)
+
+-- the names of a handler's files and another argument, where all are there
+abbrev pub handler_and : Text → List Row → Option (FileNames × Text)
+handler_and id rows = option_zip (names_in (codes "statement") rows) (first_of id rows)
+
 -- nothing where the image would be written over its source
-abbrev pub asm_of : Option Text → Option Text → Option Asked
-asm_of (Some source) (Some image) = if bytes_eq source image then None else Some (asm source image)
-asm_of _ _ = None
-
-abbrev pub draft_of : Option Text → Option Text → Option Asked
-draft_of (Some source) (Some entry) = Some (draft source entry)
-draft_of _ _ = None
-
-abbrev pub named : Option Text → Option Text → Option Text → Option FileNames
-named profile (Some first) (Some second) = Some (record { profile = profile; first = first; second = second })
-named profile _ _ = None
-
-abbrev pub check_of : Option FileNames → Option Text → Option Asked
-check_of (Some names) (Some cert) = Some (check names cert)
-check_of _ _ = None
-
-abbrev pub follow_of : Option FileNames → Option Text → Option Asked
-follow_of (Some names) (Some machine) = Some (follow names machine)
-follow_of _ _ = None
-
-abbrev pub visits_of : Option FileNames → Option Text → Option ℕ → Option Asked
-visits_of (Some names) (Some fiq_statement) (Some k) = Some (visits names fiq_statement k)
-visits_of _ _ _ = None
+abbrev pub asm_of : Text × Text → Option Asked
+asm_of p = if bytes_eq p.0 p.1 then None else Some (asm p.0 p.1)
 
 -- the number of 32 bits that a text writes: decimal digits, after any plus
 abbrev pub number_in : Text → Option ℕ
@@ -226,7 +220,7 @@ number_at id rows = option_and_then number_in (one_of id rows)
 
 -- by the values of `asm`
 abbrev pub asked_asm : List Row → Option Asked
-asked_asm rows = asm_of (first_of (codes "source") rows) (first_of (codes "image") rows)
+asked_asm rows = option_and_then asm_of (source_and (codes "image") rows)
 
 -- by the values of `list`
 abbrev pub asked_list : List Row → Option Asked
@@ -234,12 +228,7 @@ asked_list rows = option_map list (first_of (codes "source") rows)
 
 -- by the values of `draft`
 abbrev pub asked_draft : List Row → Option Asked
-asked_draft rows = draft_of (first_of (codes "source") rows) (first_of (codes "entry") rows)
-
--- by the values of a command with a cycle profile
-abbrev pub names_in : Text → List Row → Option FileNames
-names_in second rows =
-    named (first_of (codes "profile") rows) (first_of (codes "source") rows) (first_of second rows)
+asked_draft rows = option_map (λ p. draft p.0 p.1) (source_and (codes "entry") rows)
 
 -- an edge where one is named, else the bound
 abbrev pub bound_of : Option ℕ → FileNames → Asked
@@ -271,17 +260,17 @@ asked_explain rows =
 
 -- by the values of `check`
 abbrev pub asked_check : List Row → Option Asked
-asked_check rows = check_of (names_in (codes "statement") rows) (first_of (codes "cert") rows)
+asked_check rows = option_map (λ p. check p.0 p.1) (handler_and (codes "cert") rows)
 
 -- by the values of `follow`
 abbrev pub asked_follow : List Row → Option Asked
-asked_follow rows = follow_of (names_in (codes "statement") rows) (first_of (codes "machine") rows)
+asked_follow rows = option_map (λ p. follow p.0 p.1) (handler_and (codes "machine") rows)
 
 -- by the values of `visits`
 abbrev pub asked_visits : List Row → Option Asked
 asked_visits rows =
-    visits_of (names_in (codes "statement") rows) (first_of (codes "fiq_statement") rows)
-    (number_at (codes "visits") rows)
+    option_map (λ p. visits p.0.0 p.0.1 p.1)
+    (option_zip (handler_and (codes "fiq_statement") rows) (number_at (codes "visits") rows))
 
 -- by the subcommand's name and its values
 abbrev pub asked_by : Text × List Row → Option Asked

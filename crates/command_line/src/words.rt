@@ -6,7 +6,7 @@ ghost use Rattle.clap.specs.Walk.{Row, rows_of};
 ghost use Rattle.clap.specs.Words.{kind_of, subcommand_rows_of};
 ghost use Rattle.command_line.specs.Line.{asked_asm, asked_bound, asked_by, asked_check, asked_draft};
 ghost use Rattle.command_line.specs.Line.{asked_explain, asked_follow, asked_in, asked_list, asked_of};
-ghost use Rattle.command_line.specs.Line.{asked_visits, asm_of, names_in, names_of, number_at};
+ghost use Rattle.command_line.specs.Line.{asked_visits, asm_of, handler_and, names_in, names_of, number_at, source_and};
 ghost use Rattle.command_line.specs.Rows.{asked_as, first_asked};
 
 use crate::commands::arcwcet;
@@ -19,13 +19,21 @@ use clap::error::ErrorKind;
 use clap::{ArgMatches, Error};
 use std::alloc::Global;
 
+/// The source's name and another argument, where both are there.
+fn source_and<'a>(values: &ArgMatches<'a>, id: &str) -> Option<(&'a str, &'a str)>
+    ensures { option_map (λ p. (p.0.now, p.1.now)) result ≡ source_and id.now (rows_of (found_of values.now)) }
+{
+    let source = values.get_str("source")?;
+    let other = values.get_str(id)?;
+    Some((source, other))
+}
+
 /// The names of a profile's file, if there is one, and of two others.
 fn names_in<'a>(values: &ArgMatches<'a>, second: &str) -> Option<Names<'a>>
     ensures { option_map names_of result ≡ names_in second.now (rows_of (found_of values.now)) }
 {
     let profile = values.get_str("profile");
-    let first = values.get_str("source")?;
-    let second = values.get_str(second)?;
+    let (first, second) = source_and(values, second)?;
     Some(Names {
         profile,
         first,
@@ -33,9 +41,18 @@ fn names_in<'a>(values: &ArgMatches<'a>, second: &str) -> Option<Names<'a>>
     })
 }
 
+/// The names of a handler's files and another argument, where all are there.
+fn handler_and<'a>(values: &ArgMatches<'a>, id: &str) -> Option<(Names<'a>, &'a str)>
+    ensures { option_map (λ p. (names_of p.0, p.1.now)) result ≡ handler_and id.now (rows_of (found_of values.now)) }
+{
+    let handler = names_in(values, "statement")?;
+    let other = values.get_str(id)?;
+    Some((handler, other))
+}
+
 /// The request for a source's image: none where the image would be written over its source.
 fn asm_request<'a>(source: &'a str, image: &'a str) -> Option<Request<'a>>
-    ensures { option_map asked_of result ≡ asm_of (Some source.now) (Some image.now) }
+    ensures { option_map asked_of result ≡ asm_of (source.now, image.now) }
 {
     if source == image {
         None
@@ -48,8 +65,7 @@ fn asm_request<'a>(source: &'a str, image: &'a str) -> Option<Request<'a>>
 fn asm_in<'a>(values: &ArgMatches<'a>) -> Option<Request<'a>>
     ensures { option_map asked_of result ≡ asked_asm (rows_of (found_of values.now)) }
 {
-    let source = values.get_str("source")?;
-    let image = values.get_str("image")?;
+    let (source, image) = source_and(values, "image")?;
     asm_request(source, image)
 }
 
@@ -65,8 +81,7 @@ fn list_in<'a>(values: &ArgMatches<'a>) -> Option<Request<'a>>
 fn draft_in<'a>(values: &ArgMatches<'a>) -> Option<Request<'a>>
     ensures { option_map asked_of result ≡ asked_draft (rows_of (found_of values.now)) }
 {
-    let source = values.get_str("source")?;
-    let entry = values.get_str("entry")?;
+    let (source, entry) = source_and(values, "entry")?;
     Some(Request::Draft(DraftNames { source, entry }))
 }
 
@@ -108,8 +123,7 @@ fn explain_in<'a>(values: &ArgMatches<'a>) -> Option<Request<'a>>
 fn check_in<'a>(values: &ArgMatches<'a>) -> Option<Request<'a>>
     ensures { option_map asked_of result ≡ asked_check (rows_of (found_of values.now)) }
 {
-    let handler = names_in(values, "statement")?;
-    let cert = values.get_str("cert")?;
+    let (handler, cert) = handler_and(values, "cert")?;
     Some(Request::Check(CheckNames { handler, cert }))
 }
 
@@ -117,8 +131,7 @@ fn check_in<'a>(values: &ArgMatches<'a>) -> Option<Request<'a>>
 fn follow_in<'a>(values: &ArgMatches<'a>) -> Option<Request<'a>>
     ensures { option_map asked_of result ≡ asked_follow (rows_of (found_of values.now)) }
 {
-    let handler = names_in(values, "statement")?;
-    let machine = values.get_str("machine")?;
+    let (handler, machine) = handler_and(values, "machine")?;
     Some(Request::Follow(FollowNames { handler, machine }))
 }
 
@@ -126,8 +139,7 @@ fn follow_in<'a>(values: &ArgMatches<'a>) -> Option<Request<'a>>
 fn visits_in<'a>(values: &ArgMatches<'a>) -> Option<Request<'a>>
     ensures { option_map asked_of result ≡ asked_visits (rows_of (found_of values.now)) }
 {
-    let handler = names_in(values, "statement")?;
-    let fiq_statement = values.get_str("fiq_statement")?;
+    let (handler, fiq_statement) = handler_and(values, "fiq_statement")?;
     let visits = number_at(values, "visits")?;
     Some(Request::Visits(VisitsNames {
         handler,

@@ -16,7 +16,7 @@ first_after_more zero x xs some = absurd (omega (arith, some))
 first_after_more (suc n) x xs some = ap (λ k. first_after k xs) (omega arith)
 
 -- where the front entry is listed, one fewer is wanted of the rest
-counted : {A : Type 0} (listed : List Item → List A) (entries : List Entry) (k n : ℕ) (d e : Entry) (x : A) → k < length entries → get_or entries k d ≡ e → ((items : List Item) → listed (item_of e ∷ items) ≡ x ∷ listed items) → 0 < n
+pub counted : {A : Type 0} (listed : List Item → List A) (entries : List Entry) (k n : ℕ) (d e : Entry) (x : A) → k < length entries → get_or entries k d ≡ e → ((items : List Item) → listed (item_of e ∷ items) ≡ x ∷ listed items) → 0 < n
     → first_after (n - 1) (listed (map item_of (drop (k + 1) entries))) ≡ first_after n (listed (map item_of (drop k entries)))
 counted listed entries k n d e x inside is one some =
     let rest = map item_of (drop (k + 1) entries) in
@@ -24,24 +24,11 @@ counted listed entries k n d e x inside is one some =
     ap (λ (es : List Entry). listed (map item_of es)) (drop_more entries k d inside) ∙ (ap (λ (f : Entry). listed (item_of f ∷ rest)) is ∙ one rest) in
     sym (ap (first_after n) here ∙ first_after_more n x (listed rest) some)
 
-one_table : (list : List ℕ) (t : Table) (items : List Item)
-    → tables_in list (Begins t ∷ items) ≡ (if bytes_eq t.name list then t ∷ tables_in list items else tables_in list items)
+-- what the front item lists, where it is one of those that are counted
+pub listed_table : (list : List ℕ) (t : Table) (items : List Item) → false ≡ not (bytes_eq t.name list) → tables_in list (Begins t ∷ items) ≡ t ∷ tables_in list items
 unfolding tables_in
-one_table list t items = refl
+listed_table list t items same = ap (λ (b : Bool). if b then t ∷ tables_in list items else tables_in list items) (not-false (bytes_eq t.name list) (sym same))
 
-pub table_counted : (list : List ℕ) (entries : List Entry) (k n : ℕ) (t : Section) (d : Entry) → k < length entries → get_or entries k d ≡ entry.Table t → false ≡ not (bytes_eq t.name.now list) → 0 < n
-    → first_after (n - 1) (tables_in list (map item_of (drop (k + 1) entries))) ≡ first_after n (tables_in list (map item_of (drop k entries)))
-table_counted list entries k n t d inside is same =
-    counted (tables_in list) entries k n d (entry.Table t) (table_of t) inside is
-    (λ items. one_table list (table_of t) items ∙ ap (λ (b : Bool). if b then table_of t ∷ tables_in list items else tables_in list items) (not-false (bytes_eq t.name.now list) (sym same)))
-
-one_value : (key : List ℕ) (p : Stated) (items : List Item)
-    → stated_at key (States p ∷ items) ≡ (if bytes_eq p.key key then p ∷ stated_at key items else stated_at key items)
+pub listed_value : (key : List ℕ) (p : Stated) (items : List Item) → false ≡ not (bytes_eq p.key key) → stated_at key (States p ∷ items) ≡ p ∷ stated_at key items
 unfolding stated_at
-one_value key p items = refl
-
-pub value_counted : (key : List ℕ) (entries : List Entry) (k n : ℕ) (p : Pair) (d : Entry) → k < length entries → get_or entries k d ≡ entry.Value p → false ≡ not (bytes_eq p.key.now key) → 0 < n
-    → first_after (n - 1) (stated_at key (map item_of (drop (k + 1) entries))) ≡ first_after n (stated_at key (map item_of (drop k entries)))
-value_counted key entries k n p d inside is same =
-    counted (stated_at key) entries k n d (entry.Value p) (stated_of p) inside is
-    (λ items. one_value key (stated_of p) items ∙ ap (λ (b : Bool). if b then stated_of p ∷ stated_at key items else stated_at key items) (not-false (bytes_eq p.key.now key) (sym same)))
+listed_value key p items same = ap (λ (b : Bool). if b then p ∷ stated_at key items else stated_at key items) (not-false (bytes_eq p.key key) (sym same))

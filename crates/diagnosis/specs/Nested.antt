@@ -9,6 +9,7 @@ use Rattle.loop_bounds.specs.Extents.{found_instance}
 use Rattle.loop_bounds.specs.Instance.{Instance, IsInstance, is_header, is_member}
 use Rattle.loop_bounds.specs.Nest.{HasDeepPlace}
 use Rattle.diagnosis.specs.declared.nested.DeepPlace.{DeepPlace}
+use Rattle.diagnosis.specs.declared.nested.Wanted.{Wanted}
 
 -- the first and the last address of the inner one are of the outer one, and its header is another
 abbrev pub is_around : (outer inner : Instance) → Bool
@@ -38,3 +39,6 @@ pub record HasPlace (flow : Flow) (loops : List Loop) (p : Place) (f : Found) : 
 pub record HavePlace (flow : Flow) (loops : List Loop) (p : Place) (found : List Found) : Type 0 where
   pub each : All (HasPlace flow loops p) found
   pub nested : AllPairs (λ f g. is_around (found_instance f) (found_instance g) ≡ true) found
+
+abbrev pub AreWanted : Wanted → List Found → Type 0
+AreWanted wanted found = HavePlace wanted.graph.now wanted.sorted.now wanted.place.now found

@@ -1,5 +1,5 @@
 -- What is printed of a cycle and of an entry. Our own format.
-use Rattle.std.specs.Prelude.{◌≡◌, ℕ, List, [], ◌∷◌, ◌++◌, codes, decimal, length, Option, Some, None}
+use Rattle.std.specs.Prelude.{◌≡◌, ℕ, List, [], ◌∷◌, ◌++◌, codes, decimal, length, map, Option, Some, None}
 use Rattle.std.specs.BTreeMap.{BTreeMap}
 use Rattle.assembler.specs.declared.fault.Fault.{Fault}
 use Rattle.assembler.specs.declared.fault.Fault.TheVariants.{NotText, UnknownWord, BadOperand}
@@ -105,9 +105,9 @@ pub record IsCrossingText (words : Words) (c : Crossing) (text : List ℕ) : Typ
       ≡ two_loops words.lines (codes "These two loops cross:\n") (c.one).stated (c.other).stated
       ++ (shared ++ (one_has ++ other_has))
 
--- the row of an instance's header
-abbrev pub IsHeaderRow : Words → Found → List ℕ → Type 0
-IsHeaderRow words found row = IsRow words found.stated.header row
+-- the headers of instances
+abbrev pub headers_of : List Found → List ℕ
+headers_of found = map (λ f. f.stated.header) found
 
 -- above a place in so many loops
 abbrev pub in_loops : ℕ → List ℕ
@@ -118,7 +118,7 @@ pub record IsDeepText (words : Words) (d : DeepPlace) (text : List ℕ) : Type 0
   pub place : List ℕ
   pub rows : List ℕ
   pub is_place : IsUnder words (in_loops (length d.instances.items)) d.place place
-  pub are_rows : AreRows (IsHeaderRow words) d.instances.items rows
+  pub are_rows : AreRows (IsRow words) (headers_of d.instances.items) rows
   pub text_is : text ≡ place ++ (codes "Their headers, the outermost loop's first:\n" ++ rows)
 
 -- ## A place without edges

@@ -1,19 +1,14 @@
 ghost use Rattle.std.specs.Prelude.{◌≡◌, ◌≢◌, MatchBool};
 ghost use Rattle.diagnosis.specs.Cycles.{turns_back, turns_to};
 
-use flow_graph::{Calls, Edge, Loop, Place, order_of_places};
+use flow_graph::{Calls, Edge, Loop, Place};
 use loop_bounds::Found;
-use std::cmp::Ordering;
 
 /// Whether the two are one place.
 pub(crate) fn is_same(place: &Place, other: &Place) -> bool
     ensures { MatchBool result (place.now ≡ other.now) (place.now ≢ other.now) }
 {
-    order_of_places();
-    match place.cmp(other) {
-        Ordering::Equal => true,
-        Ordering::Less | Ordering::Greater => false,
-    }
+    place == other
 }
 
 /// Whether the two are one list of calls.

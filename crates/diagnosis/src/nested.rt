@@ -1,7 +1,7 @@
 ghost use Rattle.std.specs.Prelude.{◌≡◌, All, Contains, IfOk, IfSome, List, OnOk, true};
 ghost use Rattle.loop_bounds.specs.Extents.{found_instance};
 ghost use Rattle.statement.specs.declared.stated.Loop.{Loop};
-ghost use Rattle.diagnosis.specs.Nested.{HasPlace, HavePlace, IsDeep, is_around};
+ghost use Rattle.diagnosis.specs.Nested.{AreWanted, HasPlace, HavePlace, IsDeep, is_around};
 
 use crate::crossings::has_place;
 use flow_graph::{Calls, Graph, Loop, Place};
@@ -67,42 +67,38 @@ fn add(found: &mut Vec<Found>, graph: &Graph, place: &Place, one: &Found) -> Res
     Ok(())
 }
 
-// Adds the instances with the list of calls that have the place.
-fn add_inside(
-    found: &mut Vec<Found>,
-    graph: &Graph,
-    sorted: &[Loop],
-    place: &Place,
-    list: Calls,
-) -> Result<(), AllocError>
-    ensures { HavePlace graph.now sorted.now place.now found.old.items
-        → OnOk result (HavePlace graph.now sorted.now place.now found.new.items) }
-{
-    for stated in sorted {
-        let one = Found {
-            list,
-            stated: *stated,
-        };
-        add(found, graph, place, &one)?;
-    }
-    Ok(())
+/// Of which loops instances are looked for, and the place that they are to have.
+#[derive(Clone, Copy)]
+pub(crate) struct Wanted<'a> {
+    graph: &'a Graph,
+    sorted: &'a [Loop],
+    place: &'a Place,
 }
 
-// Adds the instances with the list, or with a front of it, that have the place: those with fewer calls first.
-fn add_up_to(
-    found: &mut Vec<Found>,
-    graph: &Graph,
-    sorted: &[Loop],
-    place: &Place,
-    list: Calls,
-) -> Result<(), AllocError>
-    ensures { HavePlace graph.now sorted.now place.now found.old.items
-        → OnOk result (HavePlace graph.now sorted.now place.now found.new.items) }
-{
-    if let Some((shorter, _)) = list.split_last() {
-        add_up_to(found, graph, sorted, place, shorter)?;
+impl Wanted<'_> {
+    // Adds the instances with the list of calls.
+    fn add_inside(&self, found: &mut Vec<Found>, list: Calls) -> Result<(), AllocError>
+        ensures { AreWanted self.now found.old.items → OnOk result (AreWanted self.now found.new.items) }
+    {
+        for stated in self.sorted {
+            let one = Found {
+                list,
+                stated: *stated,
+            };
+            add(found, self.graph, self.place, &one)?;
+        }
+        Ok(())
     }
-    add_inside(found, graph, sorted, place, list)
+
+    // Adds the instances with the list or with a front of it, those with fewer calls first.
+    fn add_up_to(&self, found: &mut Vec<Found>, list: Calls) -> Result<(), AllocError>
+        ensures { AreWanted self.now found.old.items → OnOk result (AreWanted self.now found.new.items) }
+    {
+        if let Some((shorter, _)) = list.split_last() {
+            self.add_up_to(found, shorter)?;
+        }
+        self.add_inside(found, list)
+    }
 }
 
 // The instances that have the place, of which each is around those after it.
@@ -116,7 +112,12 @@ fn instances_of(
 {
     let mut found = Vec::new(alloc);
     if let Place::At(calls, _) = place {
-        add_up_to(&mut found, graph, sorted, place, *calls)?;
+        let wanted = Wanted {
+            graph,
+            sorted,
+            place,
+        };
+        wanted.add_up_to(&mut found, *calls)?;
     }
     Ok(found)
 }

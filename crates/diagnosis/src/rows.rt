@@ -1,12 +1,29 @@
-ghost use Rattle.std.specs.Prelude.{◌≡◌, ◌++◌, OnOk};
+ghost use Rattle.std.specs.Prelude.{◌≡◌, ◌++◌, IfOk, OnOk, decimal};
 ghost use Rattle.text_rows.specs.Rows.{Appends};
 ghost use Rattle.diagnosis.specs.Lines.{line_at};
 ghost use Rattle.diagnosis.specs.Rows.{IsImageRow, IsPlaceRow, IsRow, name_text, source_row};
 
 use crate::words::{SourceLine, Words};
 use flow_graph::Place;
-use std::alloc::AllocError;
-use text_rows::{NumberedLine, put_address_row, put_labelled, put_named_row, put_shown_row};
+use std::alloc::{AllocError, Global};
+use text_rows::{
+    NumberedLine, put, put_address_row, put_decimal, put_labelled, put_named_row, put_shown_row,
+};
+
+/// A text, a number in decimal, and another text.
+pub(crate) fn around_number(
+    alloc: Global,
+    front: &[u8],
+    number: usize,
+    end: &[u8],
+) -> Result<Vec<u8>, AllocError>
+    ensures { IfOk result (λ out. out.items ≡ front.now ++ (decimal number ++ end.now)) }
+{
+    let mut out = Vec::from_slice(alloc, front)?;
+    put_decimal(&mut out, number as u64)?;
+    put(&mut out, end)?;
+    Ok(out)
+}
 
 // Adds the row of a word of a text.
 fn put_line(out: &mut Vec<u8>, line: &SourceLine<'_>, at: u32) -> Result<(), AllocError>

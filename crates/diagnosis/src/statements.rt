@@ -15,6 +15,7 @@ ghost use Rattle.diagnosis.specs.Refused.{wants_no_to, wants_to};
 
 use crate::outline::{Entry, Pair, Section, entries_of};
 use crate::repeats::Taken;
+use crate::rows::around_number;
 use crate::tokens::Word;
 use crate::values::{
     address_at, fits_key, is_among, is_out_of_range, is_unknown_label, is_word_of,
@@ -699,10 +700,7 @@ fn feeds(text: &[u8]) -> usize
 fn toml_row(alloc: Global, number: usize) -> Result<Vec<u8>, AllocError>
     ensures { IfOk result (λ out. out.items ≡ toml_row number) }
 {
-    let mut out = Vec::from_slice(alloc, b"line ")?;
-    put_decimal(&mut out, number as u64)?;
-    put(&mut out, b" is no TOML\n")?;
-    Ok(out)
+    around_number(alloc, b"line ", number, b" is no TOML\n")
 }
 
 // The row of the line that holds the byte at an index, or the end of the text.

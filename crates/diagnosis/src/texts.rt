@@ -4,12 +4,13 @@ ghost use Rattle.diagnosis.specs.Rows.{IsRow};
 ghost use Rattle.diagnosis.specs.Texts.{IsCycleText, IsEntryFront, IsEntryText, IsStartRow, IsUnder};
 ghost use Rattle.diagnosis.specs.Texts.{IsChainText, IsFaultText, IsLeadText, IsRowText, addresses_text};
 ghost use Rattle.diagnosis.specs.Texts.{IsCrossingText, chain_of, key_text, loop_text, shared_text};
-ghost use Rattle.diagnosis.specs.Texts.{IsDeepText, IsHeaderRow, in_loops, stated_text, two_loops};
+ghost use Rattle.diagnosis.specs.Texts.{IsDeepText, headers_of, in_loops, stated_text, two_loops};
 
 use crate::crossings::Crossing;
 use crate::entries::MidEntry;
 use crate::extents::Extent;
 use crate::nested::DeepPlace;
+use crate::rows::around_number;
 use crate::words::Words;
 use flow_graph::{BuildFault, Edge, FaultyPlace, Loop, Place};
 use loop_bounds::Found;
@@ -214,21 +215,18 @@ pub fn crossing_text(
 fn in_loops(alloc: Global, count: usize) -> Result<Vec<u8>, AllocError>
     ensures { IfOk result (λ text. text.items ≡ in_loops count) }
 {
-    let mut out = Vec::from_slice(alloc, b"This word is in ")?;
-    put_decimal(&mut out, count as u64)?;
-    put(&mut out, b" loops; 16 is the most:\n")?;
-    Ok(out)
+    around_number(
+        alloc,
+        b"This word is in ",
+        count,
+        b" loops; 16 is the most:\n",
+    )
 }
 
-// Adds the rows of the headers of instances.
-fn put_headers(out: &mut Vec<u8>, words: &Words<'_>, found: &[Found]) -> Result<(), AllocError>
-    ensures { OnOk result
-        (Appends (AreRows (IsHeaderRow words.now) found.now) out.old.items out.new.items) }
+fn headers_of(alloc: Global, found: &[Found]) -> Result<Vec<u32>, AllocError>
+    ensures { IfOk result (λ headers. headers.items ≡ headers_of found.now) }
 {
-    for one in found {
-        words.put_row(out, one.stated.header)?;
-    }
-    Ok(())
+    found.iter().map(|one| one.stated.header).collect(alloc)
 }
 
 /// A word that is in more than sixteen loops, and the headers of those.
@@ -241,10 +239,11 @@ pub fn deep_text(alloc: Global, words: &Words<'_>, deep: &DeepPlace) -> Result<V
 {
     let found = deep.instances.as_slice();
     let heading = in_loops(alloc, found.len())?;
+    let headers = headers_of(alloc, found)?;
     let mut out = Vec::new(alloc);
     put_under(&mut out, words, &heading, &deep.place)?;
     put(&mut out, b"Their headers, the outermost loop's first:\n")?;
-    put_headers(&mut out, words, found)?;
+    put_rows(&mut out, words, &headers)?;
     Ok(out)
 }
 

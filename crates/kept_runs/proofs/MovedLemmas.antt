@@ -4,7 +4,7 @@ use Rattle.std.specs.Prelude.{All, Contains}
 use Rattle.std.proofs.Math.ListN.{length-set}
 use Rattle.std.proofs.Math.Nat.{eq-or-lt_of_le}
 use Rattle.std.proofs.lemmas.Bool.{ltb-true}
-use Rattle.std.proofs.lemmas.List.Elements.{All-append, All-from_recursion, All-nil, All-push, Contains-append_left, Contains-append_right, Contains-push}
+use Rattle.std.proofs.lemmas.List.Elements.{All-append, All-from_recursion, All-nil, All-push, Contains-append_left, Contains-append_right}
 use Rattle.bus_ticks.specs.Prices.{word_address}
 use Rattle.bus_ticks.specs.Worst.{IsOf}
 use Rattle.bus_ticks.specs.declared.profile.Class.{Class}
@@ -46,6 +46,7 @@ use Rattle.arm2_transfer.specs.Words.{is_listed, registers_in}
 use Rattle.arm2_transfer.proofs.Listed.{words_are}
 use Rattle.arm2_exec.specs.Step.{Obeys, instruction_moved, unallocated_moved}
 use Rattle.flow_graph.specs.StepLaw.{TransfersIn, holds_in}
+use Rattle.flow_graph.proofs.SortedLemmas.{here}
 use Rattle.flow_graph.proofs.TightTicks.{IsIn, transfers_in}
 use Rattle.kept_runs.specs.declared.transfers.Access.{Access}
 use Rattle.kept_runs.specs.declared.transfers.Transfer.{Transfer}
@@ -124,15 +125,10 @@ words_split store address (suc k) i h = by_place (λ less. words_split store add
 
 -- the first words of a transfer stand among its accesses
 words_there : (store : Bool) (address k i : ℕ) → i < k → Contains (words_at store address k) (Word store (i == 0) (word_address address i))
-unfolding words_at
-words_there store address zero i h = absurd (omega arith)
-words_there store address (suc k) i h = by_place (λ less. words_there store address k i less) (eq-or-lt_of_le (let le : i ≤ k = omega arith in le))
-  where
-    by_place : (i < k → Contains (words_at store address k) (Word store (i == 0) (word_address address i))) → (i ≡ k) ⊎ (i < k) → Contains (words_at store address k ++ Word store (k == 0) (word_address address k) ∷ []) (Word store (i == 0) (word_address address i))
-    by_place before (inl e) =
-        subst (λ n. Contains (words_at store address k ++ Word store (k == 0) (word_address address k) ∷ []) (Word store (n == 0) (word_address address n))) (sym e)
-        (Contains-push (words_at store address k) (Word store (k == 0) (word_address address k)))
-    by_place before (inr less) = Contains-append_left (words_at store address k) (Word store (k == 0) (word_address address k) ∷ []) _ (before less)
+words_there store address k i h =
+    let at = words_split store address k i h in
+    let word = Word store (i == 0) (word_address address i) in
+    subst (λ ws. Contains ws word) (sym at.1) (Contains-append_right (words_at store address i) (word ∷ at.0) word (here word at.0))
 
 -- ## Lengths
 

@@ -44,7 +44,7 @@ use Rattle.kept_runs.specs.declared.following.Unkept.TheVariants as unkept
 use Rattle.kept_runs.specs.declared.following.Unkept.TheVariants.{NotAtEntry, TurnedBack, Unfinished}
 use Rattle.kept_runs.specs.Following.{CanGo, CannotGo, Goes, IsFresh, IsNext, IsWhy, Halts}
 use Rattle.kept_runs.specs.Judging.{IsMachineFor, IsPlaceFor}
-use Rattle.kept_runs.specs.Keeping.{ComesTo, IsHandler, IsKeptRun, IsStrayedRun, IsUnkept, KeepsNone, StandsAfter}
+use Rattle.kept_runs.specs.Keeping.{ComesTo, IsBefore, IsHandler, IsKeptRun, IsStrayedRun, IsUnkept, KeepsNone, StandsAfter}
 use Rattle.kept_runs.specs.Stays.{Tells}
 use Rattle.kept_runs.proofs.OneStep.{lands, one_edge_of}
 use Rattle.kept_runs.specs.Passing.{ArePasses, IsPass, IsTally, Pass}
@@ -308,22 +308,22 @@ module _ (words : Words) (st : Stated) (flow : Flow) (tree : Tree) (well : IsWel
     comes : ComesTo words st flow tree start inputs x.steps (place_in flow tree x.number) now
     comes = comes_to n x now so_far can (omega (arith, n_in))
 
-    at_steps : x.steps < length inputs
-    at_steps = let count = so_far.steps_count in omega (arith, n_in, count)
-
-    input_is : get_or inputs x.steps i ≡ i
-    input_is = ap (λ (m : ℕ). get_or inputs m i) so_far.steps_count ∙ at
-
-    unkept_by : (last : State) (why : Unkept) → CannotGo words st flow tree x now i → IsWhy words st flow tree x now i last why → IsUnkept words st flow tree start inputs x.steps last why
-    unkept_by last NotAtEntry cannot is = absurd is
-    unkept_by last (unkept.Stray stray) cannot is = record { place = place_in flow tree x.number; now = now; input = i; comes = comes; at = at_steps; input_is = input_is; is = is }
-    unkept_by last (TurnedBack span) cannot (told, k, next, in_tree, header) = record {
+    before : IsBefore words st flow tree start inputs x.steps
+    before = record {
       place = place_in flow tree x.number;
       now = now;
       input = i;
-      comes = comes_to n x now so_far can (omega (arith, n_in));
-      at = at_steps;
-      input_is = input_is;
+      comes = comes;
+      at = let count = so_far.steps_count in omega (arith, n_in, count);
+      input_is = ap (λ (m : ℕ). get_or inputs m i) so_far.steps_count ∙ at;
+    }
+
+    unkept_by : (last : State) (why : Unkept) → CannotGo words st flow tree x now i → IsWhy words st flow tree x now i last why → IsUnkept words st flow tree start inputs x.steps last why
+    unfolding before comes
+    unkept_by last NotAtEntry cannot is = absurd is
+    unkept_by last (unkept.Stray stray) cannot is = record { before = before; is = is }
+    unkept_by last (TurnedBack span) cannot (told, k, next, in_tree, header) = record {
+      before = before;
       told = told;
       edge = step_at flow.edges k;
       is_edge_of = next.is_edge_of;

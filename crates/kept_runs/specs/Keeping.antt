@@ -81,34 +81,33 @@ module _ (words : Words) (st : Stated) (flow : Flow) (tree : Tree) where
     pub steps_are : ran.steps ≡ steps
     pub at : IsPlaceFor place now
 
+  -- so many steps come to a place, and the next is by this input
+  pub record IsBefore (s : State) (inputs : List Input) (steps : ℕ) : Type 0 where
+    pub place : Place
+    pub now : State
+    pub input : Input
+    pub comes : ComesTo s inputs steps place now
+    pub at : steps < length inputs
+    pub input_is : slice_index_or inputs steps input ≡ input
+
   -- the step after so many is along an edge to the header of the span's instance, which the loop bounds do
   -- not allow
   pub record TurnsBack (s : State) (inputs : List Input) (steps : ℕ) (after : State)
       (span : Span) : Type 0 where
-    pub place : Place
-    pub now : State
-    pub input : Input
-    pub comes : ComesTo s inputs steps place now
-    pub at : steps < length inputs
-    pub input_is : slice_index_or inputs steps input ≡ input
+    pub before : IsBefore s inputs steps
     pub told : Stepped
     pub edge : Edge
-    pub is_edge_of : IsEdgeOf words st flow.profile now input told after edge
-    pub from : edge.from ≡ place
+    pub is_edge_of : IsEdgeOf words st flow.profile before.now before.input told after edge
+    pub from : edge.from ≡ before.place
     pub in_tree : Contains tree.spans span
     pub to : edge.to ≡ place_in flow tree span.header
-    pub broken : KeepsTree tree (comes.walk ++ edge ∷ []) → ⊥
+    pub broken : KeepsTree tree ((before.comes).walk ++ edge ∷ []) → ⊥
 
   -- the step after so many is along no edge of the place where the run stands
   pub record StraysAfter (s : State) (inputs : List Input) (steps : ℕ) (after : State)
       (stray : Stray) : Type 0 where
-    pub place : Place
-    pub now : State
-    pub input : Input
-    pub comes : ComesTo s inputs steps place now
-    pub at : steps < length inputs
-    pub input_is : slice_index_or inputs steps input ≡ input
-    pub is : Strays words st flow place now input after stray
+    pub before : IsBefore s inputs steps
+    pub is : Strays words st flow before.place before.now before.input after stray
 
   -- why the run after so many steps does not keep the statement
   abbrev pub IsUnkept : State → List Input → ℕ → State → Unkept → Type 0

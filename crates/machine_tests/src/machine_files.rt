@@ -3,9 +3,7 @@ use arm2_exec::{Input, Machine};
 use bitflags::Flags;
 use bus_ticks::{Profile, RomTimes};
 use ioc::Lines;
-use machine_file::{
-    Event, MachineFile, MachineFileFault, MappedPage, PsrFlags, read_machine, read_profile,
-};
+use machine_file::{Event, MachineFile, MachineFileFault, read_machine, read_profile};
 use memc::{Memc, PageSize, Refused, Spot};
 use std::alloc::Global;
 use std::test::Fail;
@@ -29,30 +27,36 @@ fn lengths(file: &MachineFile) -> [usize; 3] {
     ]
 }
 
-const RESET_FLAGS: PsrFlags = PsrFlags {
-    negative: false,
-    zero: false,
-    carry: false,
-    overflow: false,
-    irq_masked: true,
-    fiq_masked: true,
-};
-
-fn set_up(file: &MachineFile) -> (PageSize, PsrFlags) {
-    (file.page_size(), file.flags())
+// N, Z, C and V, and then I and F.
+fn flags(file: &MachineFile) -> [bool; 6] {
+    let flags = file.flags();
+    [
+        flags.negative,
+        flags.zero,
+        flags.carry,
+        flags.overflow,
+        flags.irq_masked,
+        flags.fiq_masked,
+    ]
 }
 
 #[test]
 fn defaults(rt: HostRuntime) -> Result<(), Fail> {
     let file = read_machine(rt.alloc(), b"pc = 0x8000")?;
-    let found = (numbers(&file), lengths(&file), set_up(&file));
+    let found = (
+        numbers(&file),
+        lengths(&file),
+        file.page_size(),
+        flags(&file),
+    );
     drop(file);
     assert!(rt;
         found
             == (
                 [0x8000, 0, 0, 65536, 0],
                 [26, 0, 0],
-                (PageSize::K4, RESET_FLAGS)
+                PageSize::K4,
+                [false, false, false, false, true, true],
             )
     );
     Ok(())
@@ -77,23 +81,17 @@ fn registers(file: &MachineFile) -> [Option<u32>; 4] {
     ]
 }
 
-// N, F and I.
-fn flags(file: &MachineFile) -> [bool; 3] {
-    let flags = file.flags();
-    [flags.negative, flags.fiq_masked, flags.irq_masked]
-}
-
 fn event_at(file: &MachineFile, step: u32) -> Option<Event> {
     file.events().get(&step).copied()
 }
 
-// The last page that the processor has, and the event of the third step.
-const PAGE: MappedPage = MappedPage {
-    logical: 1023,
-    physical: 127,
-    level: 3,
-};
+// The logical and the physical page that are mapped first, and their level.
+fn first_page(file: &MachineFile) -> Option<[u32; 3]> {
+    let page = file.pages().get(0)?;
+    Some([page.logical, page.physical, page.level])
+}
 
+// The event of the third step.
 const EVENT: Event = Event {
     bursts: 0,
     lines: None,
@@ -103,8 +101,9 @@ const EVENT: Event = Event {
 // Whether the registers, the pages and the events are the stated ones.
 fn has_every_key(file: &MachineFile) -> bool {
     let words = [Some(7), Some(8), Some(0x1010), Some(0xFFFF_FFFF)];
-    let page = file.pages().get(0).copied();
-    registers(file) == words && (page, event_at(file, 2)) == (Some(PAGE), Some(EVENT))
+    // the last page that the processor has
+    let page = Some([1023, 127, 3]);
+    registers(file) == words && first_page(file) == page && event_at(file, 2) == Some(EVENT)
 }
 
 #[test]
@@ -113,7 +112,13 @@ fn every_key(rt: HostRuntime) -> Result<(), Fail> {
     let head = (file.pc(), file.page_size(), flags(&file));
     let has_every_key = has_every_key(&file);
     drop(file);
-    assert!(rt; head == (0x3FF_FFFC, PageSize::K32, [true, true, false]));
+    assert!(rt;
+        head == (
+            0x3FF_FFFC,
+            PageSize::K32,
+            [true, false, false, false, false, true]
+        )
+    );
     assert!(rt; has_every_key);
     Ok(())
 }

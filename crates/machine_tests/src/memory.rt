@@ -115,187 +115,98 @@ enum Step {
 // No word, since the logical page lies nowhere.
 const NO: u32 = 99;
 
-// A step, and after it the first and last words of the logical pages 0, 1 and 127 and of these physical ones.
-type Row = (Step, [u32; 6], [u32; 6]);
+// The first and last words of the pages 0, 1 and 127.
+type Words = [u32; 6];
+
+// A step, and after it the words of the logical pages.
+type Row = (Step, Words);
 
 // From a plain map of pages by their numbers.
 static SCRIPT: [Row; 40] = [
-    (
-        Step::Store(0, false, 1),
-        [1, 0, 0, 0, 0, 0],
-        [1, 0, 0, 0, 0, 0],
-    ),
-    (
-        Step::Store(0, true, 2),
-        [1, 2, 0, 0, 0, 0],
-        [1, 2, 0, 0, 0, 0],
-    ),
-    (
-        Step::Store(1, false, 3),
-        [1, 2, 3, 0, 0, 0],
-        [1, 2, 3, 0, 0, 0],
-    ),
-    (
-        Step::Store(1, true, 4),
-        [1, 2, 3, 4, 0, 0],
-        [1, 2, 3, 4, 0, 0],
-    ),
-    (
-        Step::Store(127, false, 5),
-        [1, 2, 3, 4, 5, 0],
-        [1, 2, 3, 4, 5, 0],
-    ),
-    (
-        Step::Store(127, true, 6),
-        [1, 2, 3, 4, 5, 6],
-        [1, 2, 3, 4, 5, 6],
-    ),
-    (Step::Map(127, 0), [5, 6, 3, 4, NO, NO], [1, 2, 3, 4, 5, 6]),
-    (
-        Step::Store(0, false, 7),
-        [7, 6, 3, 4, NO, NO],
-        [1, 2, 3, 4, 7, 6],
-    ),
-    (
-        Step::Store(127, true, 8),
-        [7, 6, 3, 4, NO, NO],
-        [1, 2, 3, 4, 7, 6],
-    ),
-    (Step::Map(0, 127), [7, 6, 3, 4, 1, 2], [1, 2, 3, 4, 7, 6]),
-    (
-        Step::Store(127, true, 9),
-        [7, 6, 3, 4, 1, 9],
-        [1, 9, 3, 4, 7, 6],
-    ),
-    (Step::Unmap(127), [NO, NO, 3, 4, 1, 9], [1, 9, 3, 4, 7, 6]),
-    (
-        Step::Store(0, true, 10),
-        [NO, NO, 3, 4, 1, 9],
-        [1, 9, 3, 4, 7, 6],
-    ),
-    (Step::Map(1, 0), [3, 4, NO, NO, 1, 9], [1, 9, 3, 4, 7, 6]),
-    (
-        Step::Store(0, true, 11),
-        [3, 11, NO, NO, 1, 9],
-        [1, 9, 3, 11, 7, 6],
-    ),
-    (Step::Map(1, 1), [NO, NO, 3, 11, 1, 9], [1, 9, 3, 11, 7, 6]),
-    (
-        Step::Map(127, 127),
-        [NO, NO, 3, 11, 7, 6],
-        [1, 9, 3, 11, 7, 6],
-    ),
-    (Step::Unmap(1), [NO, NO, NO, NO, 7, 6], [1, 9, 3, 11, 7, 6]),
-    (
-        Step::Store(1, false, 12),
-        [NO, NO, NO, NO, 7, 6],
-        [1, 9, 3, 11, 7, 6],
-    ),
-    (
-        Step::Map(1, 127),
-        [NO, NO, NO, NO, 3, 11],
-        [1, 9, 3, 11, 7, 6],
-    ),
-    (
-        Step::Store(127, false, 13),
-        [NO, NO, NO, NO, 13, 11],
-        [1, 9, 13, 11, 7, 6],
-    ),
-    (
-        Step::Map(127, 1),
-        [NO, NO, 7, 6, 13, 11],
-        [1, 9, 13, 11, 7, 6],
-    ),
-    (
-        Step::Store(1, true, 14),
-        [NO, NO, 7, 14, 13, 11],
-        [1, 9, 13, 11, 7, 14],
-    ),
-    (
-        Step::Store(127, true, 15),
-        [NO, NO, 7, 14, 13, 15],
-        [1, 9, 13, 15, 7, 14],
-    ),
-    (
-        Step::Map(0, 0),
-        [1, 9, 7, 14, 13, 15],
-        [1, 9, 13, 15, 7, 14],
-    ),
-    (
-        Step::Store(0, false, 16),
-        [16, 9, 7, 14, 13, 15],
-        [16, 9, 13, 15, 7, 14],
-    ),
-    (
-        Step::Store(0, true, 17),
-        [16, 17, 7, 14, 13, 15],
-        [16, 17, 13, 15, 7, 14],
-    ),
-    (
-        Step::Map(0, 1),
-        [NO, NO, 16, 17, 13, 15],
-        [16, 17, 13, 15, 7, 14],
-    ),
-    (
-        Step::Store(1, false, 18),
-        [NO, NO, 18, 17, 13, 15],
-        [18, 17, 13, 15, 7, 14],
-    ),
-    (
-        Step::Store(0, false, 19),
-        [NO, NO, 18, 17, 13, 15],
-        [18, 17, 13, 15, 7, 14],
-    ),
-    (
-        Step::Map(127, 0),
-        [7, 14, 18, 17, 13, 15],
-        [18, 17, 13, 15, 7, 14],
-    ),
-    (
-        Step::Store(0, true, 20),
-        [7, 20, 18, 17, 13, 15],
-        [18, 17, 13, 15, 7, 20],
-    ),
-    (
-        Step::Unmap(0),
-        [7, 20, NO, NO, 13, 15],
-        [18, 17, 13, 15, 7, 20],
-    ),
-    (
-        Step::Store(1, true, 21),
-        [7, 20, NO, NO, 13, 15],
-        [18, 17, 13, 15, 7, 20],
-    ),
-    (
-        Step::Unmap(1),
-        [7, 20, NO, NO, NO, NO],
-        [18, 17, 13, 15, 7, 20],
-    ),
-    (
-        Step::Store(127, false, 22),
-        [7, 20, NO, NO, NO, NO],
-        [18, 17, 13, 15, 7, 20],
-    ),
-    (
-        Step::Map(1, 1),
-        [7, 20, 13, 15, NO, NO],
-        [18, 17, 13, 15, 7, 20],
-    ),
-    (
-        Step::Store(1, true, 23),
-        [7, 20, 13, 23, NO, NO],
-        [18, 17, 13, 23, 7, 20],
-    ),
-    (
-        Step::Map(0, 127),
-        [7, 20, 13, 23, 18, 17],
-        [18, 17, 13, 23, 7, 20],
-    ),
-    (
-        Step::Store(127, false, 24),
-        [7, 20, 13, 23, 24, 17],
-        [24, 17, 13, 23, 7, 20],
-    ),
+    (Step::Store(0, false, 1), [1, 0, 0, 0, 0, 0]),
+    (Step::Store(0, true, 2), [1, 2, 0, 0, 0, 0]),
+    (Step::Store(1, false, 3), [1, 2, 3, 0, 0, 0]),
+    (Step::Store(1, true, 4), [1, 2, 3, 4, 0, 0]),
+    (Step::Store(127, false, 5), [1, 2, 3, 4, 5, 0]),
+    (Step::Store(127, true, 6), [1, 2, 3, 4, 5, 6]),
+    (Step::Map(127, 0), [5, 6, 3, 4, NO, NO]),
+    (Step::Store(0, false, 7), [7, 6, 3, 4, NO, NO]),
+    (Step::Store(127, true, 8), [7, 6, 3, 4, NO, NO]),
+    (Step::Map(0, 127), [7, 6, 3, 4, 1, 2]),
+    (Step::Store(127, true, 9), [7, 6, 3, 4, 1, 9]),
+    (Step::Unmap(127), [NO, NO, 3, 4, 1, 9]),
+    (Step::Store(0, true, 10), [NO, NO, 3, 4, 1, 9]),
+    (Step::Map(1, 0), [3, 4, NO, NO, 1, 9]),
+    (Step::Store(0, true, 11), [3, 11, NO, NO, 1, 9]),
+    (Step::Map(1, 1), [NO, NO, 3, 11, 1, 9]),
+    (Step::Map(127, 127), [NO, NO, 3, 11, 7, 6]),
+    (Step::Unmap(1), [NO, NO, NO, NO, 7, 6]),
+    (Step::Store(1, false, 12), [NO, NO, NO, NO, 7, 6]),
+    (Step::Map(1, 127), [NO, NO, NO, NO, 3, 11]),
+    (Step::Store(127, false, 13), [NO, NO, NO, NO, 13, 11]),
+    (Step::Map(127, 1), [NO, NO, 7, 6, 13, 11]),
+    (Step::Store(1, true, 14), [NO, NO, 7, 14, 13, 11]),
+    (Step::Store(127, true, 15), [NO, NO, 7, 14, 13, 15]),
+    (Step::Map(0, 0), [1, 9, 7, 14, 13, 15]),
+    (Step::Store(0, false, 16), [16, 9, 7, 14, 13, 15]),
+    (Step::Store(0, true, 17), [16, 17, 7, 14, 13, 15]),
+    (Step::Map(0, 1), [NO, NO, 16, 17, 13, 15]),
+    (Step::Store(1, false, 18), [NO, NO, 18, 17, 13, 15]),
+    (Step::Store(0, false, 19), [NO, NO, 18, 17, 13, 15]),
+    (Step::Map(127, 0), [7, 14, 18, 17, 13, 15]),
+    (Step::Store(0, true, 20), [7, 20, 18, 17, 13, 15]),
+    (Step::Unmap(0), [7, 20, NO, NO, 13, 15]),
+    (Step::Store(1, true, 21), [7, 20, NO, NO, 13, 15]),
+    (Step::Unmap(1), [7, 20, NO, NO, NO, NO]),
+    (Step::Store(127, false, 22), [7, 20, NO, NO, NO, NO]),
+    (Step::Map(1, 1), [7, 20, 13, 15, NO, NO]),
+    (Step::Store(1, true, 23), [7, 20, 13, 23, NO, NO]),
+    (Step::Map(0, 127), [7, 20, 13, 23, 18, 17]),
+    (Step::Store(127, false, 24), [7, 20, 13, 23, 24, 17]),
+];
+
+// After each step, the same words of the physical pages.
+static PHYSICAL: [Words; 40] = [
+    [1, 0, 0, 0, 0, 0],
+    [1, 2, 0, 0, 0, 0],
+    [1, 2, 3, 0, 0, 0],
+    [1, 2, 3, 4, 0, 0],
+    [1, 2, 3, 4, 5, 0],
+    [1, 2, 3, 4, 5, 6],
+    [1, 2, 3, 4, 5, 6],
+    [1, 2, 3, 4, 7, 6],
+    [1, 2, 3, 4, 7, 6],
+    [1, 2, 3, 4, 7, 6],
+    [1, 9, 3, 4, 7, 6],
+    [1, 9, 3, 4, 7, 6],
+    [1, 9, 3, 4, 7, 6],
+    [1, 9, 3, 4, 7, 6],
+    [1, 9, 3, 11, 7, 6],
+    [1, 9, 3, 11, 7, 6],
+    [1, 9, 3, 11, 7, 6],
+    [1, 9, 3, 11, 7, 6],
+    [1, 9, 3, 11, 7, 6],
+    [1, 9, 3, 11, 7, 6],
+    [1, 9, 13, 11, 7, 6],
+    [1, 9, 13, 11, 7, 6],
+    [1, 9, 13, 11, 7, 14],
+    [1, 9, 13, 15, 7, 14],
+    [1, 9, 13, 15, 7, 14],
+    [16, 9, 13, 15, 7, 14],
+    [16, 17, 13, 15, 7, 14],
+    [16, 17, 13, 15, 7, 14],
+    [18, 17, 13, 15, 7, 14],
+    [18, 17, 13, 15, 7, 14],
+    [18, 17, 13, 15, 7, 14],
+    [18, 17, 13, 15, 7, 20],
+    [18, 17, 13, 15, 7, 20],
+    [18, 17, 13, 15, 7, 20],
+    [18, 17, 13, 15, 7, 20],
+    [18, 17, 13, 15, 7, 20],
+    [18, 17, 13, 15, 7, 20],
+    [18, 17, 13, 23, 7, 20],
+    [18, 17, 13, 23, 7, 20],
+    [24, 17, 13, 23, 7, 20],
 ];
 
 fn address(page: u32, bytes: u32, last: bool) -> u32 {
@@ -317,7 +228,7 @@ fn follow(memc: &mut Memc, bytes: u32, step: Step) -> Result<(), MapFault> {
 }
 
 // The words of the pages 0, 1 and 127, by the address of the first.
-fn words(memc: &Memc, bytes: u32, base: u32) -> [u32; 6] {
+fn words(memc: &Memc, bytes: u32, base: u32) -> Words {
     let at = |page: u32, last: bool| word(
         memc,
         base.wrapping_add(address(page, bytes, last)),
@@ -332,9 +243,9 @@ fn words(memc: &Memc, bytes: u32, base: u32) -> [u32; 6] {
     ]
 }
 
-// The number of the first row after whose step there are other words.
-fn first_wrong(memc: &mut Memc, bytes: u32, script: &[Row]) -> Result<Option<usize>, MapFault> {
-    for (number, (step, logical, physical)) in script.iter().enumerate() {
+// The number of the first step after which there are other words.
+fn first_wrong(memc: &mut Memc, bytes: u32) -> Result<Option<usize>, MapFault> {
+    for (number, ((step, logical), physical)) in SCRIPT.iter().zip(PHYSICAL.iter()).enumerate() {
         follow(memc, bytes, *step)?;
         if words(memc, bytes, 0) != *logical || words(memc, bytes, 0x200_0000) != *physical {
             return Ok(Some(number));
@@ -352,7 +263,7 @@ fn same_script_all_page_sizes(rt: HostRuntime) -> Result<(), Fail> {
         (PageSize::K32, 0x8000),
     ] {
         let mut memc = Memc::new(rt.alloc(), size)?;
-        let wrong = first_wrong(&mut memc, bytes, &SCRIPT);
+        let wrong = first_wrong(&mut memc, bytes);
         assert!(rt; wrong == Ok(None), "{bytes:x}");
         let refused = [memc.map(128, 0, 0), memc.unmap(128)];
         drop(memc);

@@ -34,11 +34,10 @@ returns-in-Stopped c =
 pub returns-in-Some-other : goal.returns-in-Some-other
 returns-in-Some-other c =
     let place = place_at c.args.handler.graph.now.places c.args.place in
-    let class = c.class_at.ensures ∙ ap (class_of c.args.handler.statement.now) (c.address_of-address.ensures.address ∙ ap address_of c.get.ensures) in
     other_class c.args.handler.image.now c.args.handler.statement.now c.args.handler.graph.now c.requires.graph place c.args.machine.now c.args.input c.requires.stands
     c.step-stepped.result c.step-stepped.new.self c.step-stepped.ensures.step c.in-Plain.is c.in-Some.word c.in-Some.ensures c.read_word-reading.result c.read_word-reading.ensures.reading
     c.in-Some-other.access
-    (subst (λ (k : Class). HasOther k c.read_word-reading.result.transfer c.in-Some-other.access) class c.in-Some-other.ensures)
+    (subst (λ (k : Class). HasOther k c.read_word-reading.result.transfer c.in-Some-other.access) (c.class_at.ensures ∙ ap (class_of c.args.handler.statement.now) (c.address_of-address.ensures.address ∙ ap address_of c.get.ensures)) c.in-Some-other.ensures)
 
 pub edge_taken-requires-clause-known : goal.edge_taken-requires-clause-known
 edge_taken-requires-clause-known c = c.requires.known
@@ -52,23 +51,17 @@ edge_taken-requires-clause-to c =
 pub returns-in-Some-edge_taken : goal.returns-in-Some-edge_taken
 returns-in-Some-edge_taken c =
     let place = place_at c.args.handler.graph.now.places c.args.place in
-    let class = c.class_at.ensures ∙ ap (class_of c.args.handler.statement.now) (c.address_of-address.ensures.address ∙ ap address_of c.get.ensures) in
-    let label = c.label.ensures in
-    let leave = c.leave.ensures in
     takes c.args.handler.image.now c.args.handler.statement.now c.args.handler.graph.now c.requires.graph place c.args.machine.now c.args.input c.requires.stands
     c.step-stepped.result c.step-stepped.new.self c.step-stepped.ensures.step c.in-Plain.is c.in-Some.word c.in-Some.ensures c.read_word-reading.result c.read_word-reading.ensures.reading
-    (subst (λ (k : Class). HasNoOther k c.read_word-reading.result.transfer) class c.in_default-other.ensures)
+    (subst (λ (k : Class). HasNoOther k c.read_word-reading.result.transfer) (c.class_at.ensures ∙ ap (class_of c.args.handler.statement.now) (c.address_of-address.ensures.address ∙ ap address_of c.get.ensures)) c.in_default-other.ensures)
     c.step-stepped.ensures.bound c.in-Some-edge_taken.edge
-    (subst (λ (g : Going). IsFound c.args.handler.graph.now place g c.in-Some-edge_taken.edge) (λ j. record { label = label j; to = c.step-stepped.result.to; leave = leave j }) c.in-Some-edge_taken.ensures)
+    (subst (λ (g : Going). IsFound c.args.handler.graph.now place g c.in-Some-edge_taken.edge) (λ j. record { label = c.label.ensures j; to = c.step-stepped.result.to; leave = c.leave.ensures j }) c.in-Some-edge_taken.ensures)
 
 pub returns-in-None : goal.returns-in-None
 returns-in-None c =
     let place = place_at c.args.handler.graph.now.places c.args.place in
-    let class = c.class_at.ensures ∙ ap (class_of c.args.handler.statement.now) (c.address_of-address.ensures.address ∙ ap address_of c.get.ensures) in
-    let label = c.label.ensures in
-    let leave = c.leave.ensures in
     elsewhere c.args.handler.image.now c.args.handler.statement.now c.args.handler.graph.now c.requires.graph place c.args.machine.now c.args.input c.requires.stands
     c.step-stepped.result c.step-stepped.new.self c.step-stepped.ensures.step c.in-Plain.is c.in-Some.word c.in-Some.ensures c.read_word-reading.result c.read_word-reading.ensures.reading
-    (subst (λ (k : Class). HasNoOther k c.read_word-reading.result.transfer) class c.in_default-other.ensures)
+    (subst (λ (k : Class). HasNoOther k c.read_word-reading.result.transfer) (c.class_at.ensures ∙ ap (class_of c.args.handler.statement.now) (c.address_of-address.ensures.address ∙ ap address_of c.get.ensures)) c.in_default-other.ensures)
     (Contains-get_or c.args.handler.graph.now.places c.args.place Exit c.requires.known)
-    (subst (λ (g : Going). HasNoEdge c.args.handler.graph.now place g) (λ j. record { label = label j; to = c.step-stepped.result.to; leave = leave j }) c.in-None.ensures)
+    (subst (λ (g : Going). HasNoEdge c.args.handler.graph.now place g) (λ j. record { label = c.label.ensures j; to = c.step-stepped.result.to; leave = c.leave.ensures j }) c.in-None.ensures)
