@@ -1,5 +1,4 @@
 mod CarriedLaws
 mod FoundLaws
 mod GainLaws
-mod LineLaws
 mod RowLaws

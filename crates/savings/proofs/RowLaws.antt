@@ -2,6 +2,7 @@
 use Rattle.std.proofs.Common.{◌≡◌, ◌∙◌, ℕ, ◌+◌, ◌-◌, List, ◌++◌, append_assoc, length, Option, refl, ap, subst, arith}
 use Rattle.std.proofs.lemmas.List.{length-append}
 use Rattle.assembler.specs.declared.placed_line.PlacedLine.{PlacedLine}
+use Rattle.text_rows.specs.ByAddress.{line_of}
 use Rattle.text_rows.specs.Rows.{section}
 use Rattle.flow_graph.specs.Flow.{Flow}
 use Rattle.flow_graph.specs.declared.edges.Edge.{Edge}
@@ -9,7 +10,7 @@ use Rattle.loader.specs.Image.{Words}
 use Rattle.statement.specs.Stated.{Stated}
 use Rattle.text_rows.specs.Rows.{AreRows, Appends}
 use Rattle.savings.specs.Savings.{AreSavings}
-use Rattle.savings.specs.Sections.{AreSourceSavings, IsSavingRow, IsSourceEnd, front_text, heading, line_of}
+use Rattle.savings.specs.Sections.{AreSourceSavings, IsSavingRow, IsSourceEnd, front_text, heading}
 use Rattle.savings.specs.declared.found.Saving.{Saving}
 use Rattle.savings.specs.declared.found.Subject.{Subject}
 

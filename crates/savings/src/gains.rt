@@ -67,14 +67,7 @@ pub(crate) fn operation_gain(profile: &Profile, class: Class, operation: &Operat
         Operation::SingleImmediate(x) => transfer_gain(profile, class, x.load, 1),
         Operation::SingleRegister(x) => transfer_gain(profile, class, x.load, 1),
         Operation::Block(x) => transfer_gain(profile, class, x.load, x.list.count_ones()),
-        Operation::DataRegister(_)
-        | Operation::DataRegisterShift(_)
-        | Operation::DataImmediate(_)
-        | Operation::Branch(_)
-        | Operation::Swi(_)
-        | Operation::UndefinedTransfer(_)
-        | Operation::CoprocessorTransfer(_)
-        | Operation::Coprocessor(_) => None,
+        _ => None,
     }
 }
 

@@ -7,7 +7,6 @@ mod classes;
 mod found;
 mod gains;
 mod law;
-mod lines;
 mod sections;
 
 pub use classes::ClassChange;

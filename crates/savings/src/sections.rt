@@ -1,21 +1,22 @@
-ghost use Rattle.std.specs.Prelude.{◌≡◌, ◌++◌, IfOk, OnOk};
+ghost use Rattle.std.specs.Prelude.{◌≡◌, ◌++◌, ℕ, List, IfOk, OnOk};
 ghost use Rattle.longest_walk.specs.Folded.{unfolded};
 ghost use Rattle.text_rows.specs.Rows.{AreRows, Appends};
 ghost use Rattle.savings.specs.Sections.{AreImageSavings, AreSourceSavings, IsImageEnd, IsSavingRow};
 ghost use Rattle.savings.specs.Sections.{IsSourceEnd};
-ghost use Rattle.savings.specs.Sections.{entry_text, front_text, line_at, line_row, refinement_text};
+ghost use Rattle.savings.specs.Sections.{entry_text, front_text, line_row, refinement_text};
+ghost use Rattle.savings.specs.declared.found.Subject.{Subject};
+ghost use Rattle.text_rows.specs.ByAddress.{line_at};
 
 use crate::found::{Saving, Subject, savings};
 use crate::gains::Refinement;
-use crate::lines::lines_by_address;
 use assembler::PlacedLine;
 use explained::{StatedGraph, class_name};
 use longest_walk::Longest;
 use std::alloc::{AllocError, Global};
 use std::collections::BTreeMap;
 use text_rows::{
-    NumberedLine, put, put_address_row, put_named_row, put_number, put_right, put_shown_row,
-    section,
+    NumberedLine, lines_by_address, put, put_address_row, put_named_row, put_number, put_right,
+    put_shown_row, section,
 };
 
 const HEADING: &[u8] = b"\nWhat would save most, in ticks at most (state only what is true):\n";
@@ -73,75 +74,58 @@ fn put_line(
     }
 }
 
-// Adds what stands after the entry, by the lines of a source, to a row that has so many columns.
-fn put_source_end(
-    out: &mut Vec<u8>,
-    used: usize,
-    lines: &BTreeMap<u32, NumberedLine<'_>>,
-    subject: Subject,
-) -> Result<(), AllocError>
-    ensures { OnOk result
-        (Appends (IsSourceEnd (line_at lines.now) used subject) out.old.items out.new.items) }
-{
-    match subject {
-        Subject::Word(at, _) => put_line(out, used, lines, at),
-        Subject::Leave => put(out, b"\n"),
+// What stands after the entry in the row of a saving.
+trait RowEnds {
+    // What it is for a subject in a row that has so many columns.
+    ghost is_end: { Self → (used : ℕ) → Subject → List ℕ → Type 0 };
+
+    // Adds it to such a row.
+    fn put(&self, out: &mut Vec<u8>, used: usize, subject: Subject) -> Result<(), AllocError>
+        ensures { OnOk result (Appends (is_end self.now used subject) out.old.items out.new.items) };
+}
+
+// By the lines of a source.
+impl RowEnds for BTreeMap<u32, NumberedLine<'_>> {
+    ghost is_end = { λ lines. IsSourceEnd (line_at lines) };
+
+    fn put(&self, out: &mut Vec<u8>, used: usize, subject: Subject) -> Result<(), AllocError> {
+        match subject {
+            Subject::Word(at, _) => put_line(out, used, self, at),
+            Subject::Leave => put(out, b"\n"),
+        }
     }
 }
 
-// Adds what stands after the entry, by the words of an image, to a row that has so many columns.
-fn put_image_end(out: &mut Vec<u8>, used: usize, subject: Subject) -> Result<(), AllocError>
-    ensures { OnOk result (Appends (IsImageEnd used subject) out.old.items out.new.items) }
-{
-    match subject {
-        Subject::Word(at, word) => put_shown_row(out, used, at, word),
-        Subject::Leave => put(out, b"\n"),
+// By the words of an image.
+#[derive(Clone, Copy)]
+struct ByWords;
+
+impl RowEnds for ByWords {
+    ghost is_end = { λ _. IsImageEnd };
+
+    fn put(&self, out: &mut Vec<u8>, used: usize, subject: Subject) -> Result<(), AllocError> {
+        match subject {
+            Subject::Word(at, word) => put_shown_row(out, used, at, word),
+            Subject::Leave => put(out, b"\n"),
+        }
     }
 }
 
-fn put_source_row(
-    out: &mut Vec<u8>,
-    lines: &BTreeMap<u32, NumberedLine<'_>>,
-    saving: &Saving,
-) -> Result<(), AllocError>
+fn put_row<E: RowEnds>(out: &mut Vec<u8>, ends: &E, saving: &Saving) -> Result<(), AllocError>
     ensures { OnOk result
-        (Appends (IsSavingRow (IsSourceEnd (line_at lines.now)) saving.now) out.old.items out.new.items) }
+        (Appends (IsSavingRow (E.is_end ends.now) saving.now) out.old.items out.new.items) }
 {
     let begun = out.len();
     put_front(out, saving)?;
-    put_source_end(out, out.len() - begun, lines, saving.subject)
+    ends.put(out, out.len() - begun, saving.subject)
 }
 
-fn put_image_row(out: &mut Vec<u8>, saving: &Saving) -> Result<(), AllocError>
-    ensures { OnOk result
-        (Appends (IsSavingRow IsImageEnd saving.now) out.old.items out.new.items) }
-{
-    let begun = out.len();
-    put_front(out, saving)?;
-    put_image_end(out, out.len() - begun, saving.subject)
-}
-
-fn source_rows(
-    alloc: Global,
-    lines: &BTreeMap<u32, NumberedLine<'_>>,
-    list: &[Saving],
-) -> Result<Vec<u8>, AllocError>
-    ensures { IfOk result
-        (λ rows. AreRows (IsSavingRow (IsSourceEnd (line_at lines.now))) list.now rows.items) }
+fn rows_of<E: RowEnds>(alloc: Global, ends: &E, list: &[Saving]) -> Result<Vec<u8>, AllocError>
+    ensures { IfOk result (λ rows. AreRows (IsSavingRow (E.is_end ends.now)) list.now rows.items) }
 {
     let mut out = Vec::new(alloc);
     for saving in list {
-        put_source_row(&mut out, lines, saving)?;
-    }
-    Ok(out)
-}
-
-fn image_rows(alloc: Global, list: &[Saving]) -> Result<Vec<u8>, AllocError>
-    ensures { IfOk result (λ rows. AreRows (IsSavingRow IsImageEnd) list.now rows.items) }
-{
-    let mut out = Vec::new(alloc);
-    for saving in list {
-        put_image_row(&mut out, saving)?;
+        put_row(&mut out, ends, saving)?;
     }
     Ok(out)
 }
@@ -168,7 +152,7 @@ pub fn source_savings(
 {
     let list = savings(alloc, handler, longest)?;
     let lines = lines_by_address(alloc, source, placed)?;
-    let rows = source_rows(alloc, &lines, &list)?;
+    let rows = rows_of(alloc, &lines, &list)?;
     section(alloc, HEADING, &rows)
 }
 
@@ -190,6 +174,6 @@ pub fn image_savings(
         handler.entry.graph.now (unfolded longest.now.walk) text.items) }
 {
     let list = savings(alloc, handler, longest)?;
-    let rows = image_rows(alloc, &list)?;
+    let rows = rows_of(alloc, &ByWords, &list)?;
     section(alloc, HEADING, &rows)
 }

@@ -2,7 +2,8 @@ use Rattle.std.proofs.Common.{◌≡◌}
 use Rattle.std.proofs.lemmas.Result.{IfOk-weaker}
 use Rattle.text_rows.specs.Rows.{section}
 use Rattle.longest_walk.specs.Folded.{unfolded}
-use Rattle.savings.specs.Sections.{AreSourceSavings, heading, line_at}
+use Rattle.text_rows.specs.ByAddress.{line_at}
+use Rattle.savings.specs.Sections.{AreSourceSavings, heading}
 use Rattle.savings.proofs.RowLaws.{source_text}
 use Rattle.savings.proofs.sections.source_savings.Goals as goal
 
