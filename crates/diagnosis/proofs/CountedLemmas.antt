@@ -1,14 +1,11 @@
 -- Tables and values past a limit, which is counted down.
-use Rattle.std.proofs.Common.{◌≡◌, ◌<◌, ◌-◌, ◌+◌, zero, suc, not, false, ℕ, Bool, List, ◌∷◌, length, get_or, drop, map, if◌then◌else◌, refl, sym, ap, ◌∙◌, arith}
+use Rattle.std.proofs.Common.{◌≡◌, ◌<◌, ◌-◌, ◌+◌, zero, suc, not, false, ℕ, Bool, List, ◌∷◌, length, get_or, drop, map, if◌then◌else◌, sym, ap, ◌∙◌, arith}
 use Rattle.std.specs.Str.{bytes_eq}
 use Rattle.std.proofs.lemmas.Bool.{not-false}
 use Rattle.std.proofs.lemmas.List.{drop_more}
-use Rattle.diagnosis.specs.Outline.{Begins, Item, Stated, States, Table, item_of, stated_of, table_of}
+use Rattle.diagnosis.specs.Outline.{Begins, Item, Stated, States, Table, item_of}
 use Rattle.diagnosis.specs.Refused.{first_after, tables_in, stated_at}
 use Rattle.diagnosis.specs.declared.outline.Entry.{Entry}
-use Rattle.diagnosis.specs.declared.outline.Entry.TheVariants as entry
-use Rattle.diagnosis.specs.declared.outline.Pair.{Pair}
-use Rattle.diagnosis.specs.declared.outline.Section.{Section}
 
 -- the first after one fewer of the rest
 first_after_more : {A : Type 0} (n : ℕ) (x : A) (xs : List A) → 0 < n → first_after n (x ∷ xs) ≡ first_after (n - 1) xs

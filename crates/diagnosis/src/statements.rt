@@ -30,6 +30,13 @@ const MOST_LINES: usize = 20;
 
 const NO_ENTRY: &[u8] = b"the statement has no entry";
 
+/// A table, and the entries that follow its line.
+#[derive(Clone, Copy)]
+pub(crate) struct OpenTable<'a> {
+    section: &'a Section<'a>,
+    rest: &'a [Entry<'a>],
+}
+
 // What is printed of the lines of a statement's text, and how many more may be named.
 #[derive(Drop)]
 pub(crate) struct Report {
@@ -399,15 +406,15 @@ impl Report {
     fn put_if_missing(
         &mut self,
         alloc: Global,
-        section: &Section<'_>,
-        rest: &[Entry<'_>],
+        table: &OpenTable<'_>,
         key: &[u8],
     ) -> Result<(), AllocError>
         ensures { OnOk result
-            (Adds (missing_row (table_of section.now) (map item_of rest.now) key.now) self.old self.new) }
+            (Adds (missing_row (table_of table.now.section.now) (map item_of table.now.rest.now) key.now)
+            self.old self.new) }
     {
-        if value_at(rest, key).is_none() {
-            return self.put_table(alloc, section, b" has no ", key);
+        if value_at(table.rest, key).is_none() {
+            return self.put_table(alloc, table.section, b" has no ", key);
         }
         Ok(())
     }
@@ -416,53 +423,45 @@ impl Report {
     fn put_missing(
         &mut self,
         alloc: Global,
-        section: &Section<'_>,
-        rest: &[Entry<'_>],
+        table: &OpenTable<'_>,
         keys: &[&[u8]],
     ) -> Result<(), AllocError>
         ensures { OnOk result
-            (Adds (missing_rows (table_of section.now) (map item_of rest.now) (map (λ k. k.now) keys.now))
-            self.old self.new) }
+            (Adds (missing_rows (table_of table.now.section.now) (map item_of table.now.rest.now)
+            (map (λ k. k.now) keys.now)) self.old self.new) }
     {
         for key in keys {
-            self.put_if_missing(alloc, section, rest, key)?;
+            self.put_if_missing(alloc, table, key)?;
         }
         Ok(())
     }
 
     // Adds what the kind of a target wants of its destinations.
-    fn put_target(
-        &mut self,
-        alloc: Global,
-        section: &Section<'_>,
-        rest: &[Entry<'_>],
-    ) -> Result<(), AllocError>
+    fn put_target(&mut self, alloc: Global, table: &OpenTable<'_>) -> Result<(), AllocError>
         ensures { OnOk result
-            (Adds (target_rows (table_of section.now) (map item_of rest.now)) self.old self.new) }
+            (Adds (target_rows (table_of table.now.section.now) (map item_of table.now.rest.now))
+            self.old self.new) }
     {
-        let kind = value_at(rest, b"kind");
-        match value_at(rest, b"to") {
-            None => self.put_if(alloc, wants_to(kind), section, b" has no to"),
-            Some(_) => self.put_if(alloc, wants_no_to(kind), section, b" may have no to"),
+        let kind = value_at(table.rest, b"kind");
+        match value_at(table.rest, b"to") {
+            None => self.put_if(alloc, wants_to(kind), table.section, b" has no to"),
+            Some(_) => self.put_if(alloc, wants_no_to(kind), table.section, b" may have no to"),
         }
     }
 
     // Adds what a table wants, or that it stands in single brackets.
     #[tactic(auto, using(crate::proofs::RefusedLemmas::adds_both))]
-    fn put_kinds(
-        &mut self,
-        alloc: Global,
-        section: &Section<'_>,
-        rest: &[Entry<'_>],
-    ) -> Result<(), AllocError>
+    fn put_kinds(&mut self, alloc: Global, table: &OpenTable<'_>) -> Result<(), AllocError>
         ensures { OnOk result
-            (Adds (kind_rows (table_of section.now) (map item_of rest.now)) self.old self.new) }
+            (Adds (kind_rows (table_of table.now.section.now) (map item_of table.now.rest.now))
+            self.old self.new) }
     {
+        let section = table.section;
         if !section.is_listed {
             return self.put_table(alloc, section, b" is to stand in double brackets", b"");
         }
-        self.put_missing(alloc, section, rest, needed_keys(section.name))?;
-        self.put_target(alloc, section, rest)
+        self.put_missing(alloc, table, needed_keys(section.name))?;
+        self.put_target(alloc, table)
     }
 
     // Adds the first destination after those that a target may have, if there is one.
@@ -484,41 +483,31 @@ impl Report {
 
     // Adds that a loop's header lies outside it, and the first destination after those that there may be.
     #[tactic(auto, using(crate::proofs::RefusedLemmas::adds_both))]
-    fn put_ranges(
-        &mut self,
-        asked: &Asked<'_>,
-        section: &Section<'_>,
-        rest: &[Entry<'_>],
-    ) -> Result<(), AllocError>
+    fn put_ranges(&mut self, asked: &Asked<'_>, table: &OpenTable<'_>) -> Result<(), AllocError>
         ensures { OnOk result
-            (Adds (range_rows asked.now.labels.now (table_of section.now) (map item_of rest.now))
-            self.old self.new) }
+            (Adds (range_rows asked.now.labels.now (table_of table.now.section.now)
+            (map item_of table.now.rest.now)) self.old self.new) }
     {
-        let holds = is_misplaced(asked.labels, rest);
+        let holds = is_misplaced(asked.labels, table.rest);
         let words = b" has its header outside first to last";
-        self.put_if(asked.alloc, holds, section, words)?;
-        self.put_extra_destination(asked.alloc, rest)
+        self.put_if(asked.alloc, holds, table.section, words)?;
+        self.put_extra_destination(asked.alloc, table.rest)
     }
 
     // Adds what is wrong with a table.
-    fn put_of_table(
-        &mut self,
-        asked: &Asked<'_>,
-        section: &Section<'_>,
-        rest: &[Entry<'_>],
-    ) -> Result<(), AllocError>
+    fn put_of_table(&mut self, asked: &Asked<'_>, table: &OpenTable<'_>) -> Result<(), AllocError>
         ensures { OnOk result
-            (Adds (table_rows asked.now.labels.now asked.now.fault (table_of section.now)
-            (map item_of rest.now)) self.old self.new) }
+            (Adds (table_rows asked.now.labels.now asked.now.fault (table_of table.now.section.now)
+            (map item_of table.now.rest.now)) self.old self.new) }
     {
         let alloc = asked.alloc;
         match asked.fault {
             StatementFault::UnknownKey => {
-                let holds = keys_of(section.name).is_none();
-                self.put_if(alloc, holds, section, b" is no list of statements")
+                let holds = keys_of(table.section.name).is_none();
+                self.put_if(alloc, holds, table.section, b" is no list of statements")
             }
-            StatementFault::WrongKind => self.put_kinds(alloc, section, rest),
-            StatementFault::OutOfRange => self.put_ranges(asked, section, rest),
+            StatementFault::WrongKind => self.put_kinds(alloc, table),
+            StatementFault::OutOfRange => self.put_ranges(asked, table),
             _ => Ok(()),
         }
     }
@@ -546,7 +535,10 @@ impl Report {
             self.old self.new) }
     {
         match entry {
-            Entry::Table(section) => self.put_of_table(asked, section, rest),
+            Entry::Table(section) => {
+                let table = OpenTable { section, rest };
+                self.put_of_table(asked, &table)
+            }
             Entry::Value(pair) => self.put_of_value(asked, pair),
             Entry::End => Ok(()),
         }
