@@ -1,61 +1,26 @@
-ghost use Rattle.std.specs.Prelude.{◌≡◌, ℕ, [], None, IfOk, OnOk, unwrap_or};
-ghost use Rattle.asm_text.specs.Source.{lines_of};
-ghost use Rattle.dot_text.specs.Labels.{AreImageLabels, AreSourceLabels, IsImageLabel, PutsAt, found_text};
-ghost use Rattle.dot_text.specs.Labels.{text_with};
+ghost use Rattle.std.specs.Prelude.{◌≡◌, IfOk};
+ghost use Rattle.dot_text.specs.Labels.{AreImageLabels, AreSourceLabels, IsImageLabel, text_of};
+ghost use Rattle.text_rows.specs.ByAddress.{line_at};
 ghost use Rattle.dot_text.specs.Stretches.{address_of};
 
 use crate::clusters::address_of;
-use asm_text::first_line;
 use assembler::{PlacedLine, disassemble};
 use flow_graph::Graph;
 use loader::Image;
 use std::alloc::{AllocError, Global};
 use std::collections::BTreeMap;
-
-// Puts a text at each word of a line.
-fn put_text(
-    alloc: Global,
-    texts: &mut BTreeMap<u32, Vec<u8>>,
-    placed: PlacedLine,
-    text: &[u8],
-) -> Result<(), AllocError>
-    ensures { OnOk result (PutsAt placed.at placed.words text.now texts.old texts.new) }
-{
-    let mut at = placed.at;
-    for _ in 0..placed.words {
-        texts.insert(at, Vec::from_slice(alloc, text)?)?;
-        at += 4;
-    }
-    Ok(())
-}
-
-// The texts of a source's lines by the addresses of their words.
-fn texts_by_address(
-    alloc: Global,
-    source: &[u8],
-    placed: &[PlacedLine],
-) -> Result<BTreeMap<u32, Vec<u8>>, AllocError>
-    ensures { IfOk result
-        (λ texts. (a : ℕ) → found_text texts a ≡ text_with (lines_of source.now) placed.now None a) }
-{
-    let mut texts = BTreeMap::new(alloc);
-    let mut rest = source;
-    for line in placed {
-        let Some((text, after)) = first_line(rest) else {
-            return Ok(texts);
-        };
-        put_text(alloc, &mut texts, *line, text)?;
-        rest = after;
-    }
-    Ok(texts)
-}
+use text_rows::{NumberedLine, lines_by_address};
 
 // The text at an address, empty where there is none.
-fn text_at(alloc: Global, texts: &BTreeMap<u32, Vec<u8>>, at: u32) -> Result<Vec<u8>, AllocError>
-    ensures { IfOk result (λ text. text.items ≡ unwrap_or (found_text texts.now at) []) }
+fn text_at(
+    alloc: Global,
+    lines: &BTreeMap<u32, NumberedLine<'_>>,
+    at: u32,
+) -> Result<Vec<u8>, AllocError>
+    ensures { IfOk result (λ text. text.items ≡ text_of (line_at lines.now at)) }
 {
-    match texts.get(&at) {
-        Some(text) => Vec::from_slice(alloc, text),
+    match lines.get(&at) {
+        Some(line) => Vec::from_slice(alloc, line.text),
         None => Ok(Vec::new(alloc)),
     }
 }
@@ -75,10 +40,10 @@ pub fn source_labels(
     ensures { IfOk result
         (λ labels. AreSourceLabels source.now placed.now graph.now.places labels.items) }
 {
-    let texts = texts_by_address(alloc, source, placed)?;
+    let lines = lines_by_address(alloc, source, placed)?;
     let mut labels = Vec::new(alloc);
     for place in graph.places() {
-        labels.push(text_at(alloc, &texts, address_of(*place))?)?;
+        labels.push(text_at(alloc, &lines, address_of(*place))?)?;
     }
     Ok(labels)
 }

@@ -1,7 +1,6 @@
-use Rattle.std.proofs.Common.{◌≡◌, ◌∙◌, ◌+◌, ℕ, List, Option, [], ap, subst, sym, take}
-use Rattle.std.specs.Prelude.{unwrap_or}
+use Rattle.std.proofs.Common.{◌≡◌, ◌∙◌, ◌+◌, List, ap, subst, sym, take}
 use Rattle.flow_graph.specs.declared.places.Place.{Place}
-use Rattle.dot_text.specs.Labels.{AreSourceLabels, source_label}
+use Rattle.dot_text.specs.Labels.{AreSourceLabels, source_label, text_of}
 use Rattle.dot_text.proofs.LabelLaws.{labels_more}
 use Rattle.dot_text.proofs.labels.source_labels.Goals as goal
 
@@ -13,7 +12,7 @@ loop-place-preserved c =
     let label = c.in_ok-text_at.field-0 in
     let same = c.places-place-items.ensures.value in
     let here : label.items ≡ source_label source placed c.address_of.result =
-    c.in_ok-text_at.ensures ∙ ap (λ (o : Option (List ℕ)). unwrap_or o []) (c.in_ok-texts.ensures c.address_of.result) in
+    c.in_ok-text_at.ensures ∙ ap text_of (c.in_ok-lines.ensures c.address_of.result) in
     subst (λ (ps : List Place). AreSourceLabels source placed (take (i + 1) ps) c.push.new.self.items) same
     (labels_more (λ a text. text ≡ source_label source placed a) c.places-place-items.result.now i c.place-item.result c.loop-place.labels.items c.push.new.self.items label
     (subst (λ (ps : List Place). AreSourceLabels source placed (take i ps) c.loop-place.labels.items) (sym same) c.loop-place.invariant)
