@@ -3,7 +3,7 @@
 ghost use Rattle.std.specs.Prelude.{Some};
 
 use crate::files::{Files, line};
-use crate::reports::{REPORTS, Report, on_room};
+use crate::reports::{Cut, REPORTS, Report, first_wrong, on_room};
 use arcwcet::{MemoryOutput, Output, OutputFault, program, write_whole};
 use samples::lone_return::{SOURCE, STATEMENT};
 use std::alloc::Global;
@@ -76,38 +76,25 @@ fn take_all(alloc: Global, text: &[u8]) -> Result<bool, Fail> {
 }
 
 /// How many bytes an output takes a write, and how it fails.
-const KINDS: [(usize, Failure); 3] = [
-    (1, Failure::TakesNothing),
-    (7, Failure::TakesNothing),
-    (7, Failure::Error),
+#[derive(Clone, Copy)]
+struct Kind(usize, Failure);
+
+const KINDS: [Kind; 3] = [
+    Kind(1, Failure::TakesNothing),
+    Kind(7, Failure::TakesNothing),
+    Kind(7, Failure::Error),
 ];
 
-/// Whether the report ends as it has to on an output of such a kind with that room, and writes no more once
-/// it has failed.
-fn is_cut(
-    alloc: Global,
-    report: Report,
-    text: &[u8],
-    kind: &(usize, Failure),
-    room: usize,
-) -> bool {
-    let (step, failure) = kind;
-    let mut out = Narrow::new(alloc, *step, room, *failure);
-    let found = report.print(alloc, &mut out);
-    let (answer, front) = on_room(text, room);
-    found == answer && out.bytes.as_slice() == front && out.failures == u64::from(room < text.len())
-}
-
-/// The room at which the report does not end as it has to, if there is one up to its length.
-fn first_wrong(alloc: Global, report: Report, text: &[u8]) -> Option<usize> {
-    for room in 0..=text.len() {
-        for kind in &KINDS {
-            if !is_cut(alloc, report, text, kind, room) {
-                return Some(room);
-            }
-        }
+impl Cut for Kind {
+    // It writes no more once it has failed.
+    fn is_cut(&self, alloc: Global, report: Report, text: &[u8], room: usize) -> bool {
+        let Kind(step, failure) = *self;
+        let mut out = Narrow::new(alloc, step, room, failure);
+        let found = report.print(alloc, &mut out);
+        let (answer, front) = on_room(text, room);
+        let failures = u64::from(room < text.len());
+        found == answer && out.bytes.as_slice() == front && out.failures == failures
     }
-    None
 }
 
 #[test]
@@ -117,7 +104,11 @@ fn reports_at_each_cut(rt: HostRuntime) -> Result<(), Fail> {
     for (number, (report, parts)) in REPORTS.iter().enumerate() {
         let text = report.text(alloc)?;
         assert!(rt; report.is_of(&text, parts), "report {number}");
-        assert_eq!(rt; first_wrong(alloc, *report, &text), None, "report {number}");
+        assert_eq!(rt;
+            first_wrong(alloc, *report, &text, &KINDS),
+            None,
+            "report {number}"
+        );
     }
     Ok(())
 }

@@ -152,3 +152,26 @@ pub(crate) fn on_room(text: &[u8], room: usize) -> (Result<bool, ReportFault>, &
         _ => (Ok(true), text),
     }
 }
+
+/// A kind of output, of which the room is limited.
+pub(crate) trait Cut {
+    /// Whether the report of that text ends as it has to on such an output with that room.
+    fn is_cut(&self, alloc: Global, report: Report, text: &[u8], room: usize) -> bool;
+}
+
+/// The room, up to the text's length, at which the report does not end as it has to, if there is one.
+pub(crate) fn first_wrong<K: Cut>(
+    alloc: Global,
+    report: Report,
+    text: &[u8],
+    kinds: &[K],
+) -> Option<usize> {
+    for room in 0..=text.len() {
+        for kind in kinds {
+            if !kind.is_cut(alloc, report, text, room) {
+                return Some(room);
+            }
+        }
+    }
+    None
+}

@@ -1,6 +1,6 @@
 //! Outputs over writers that take all of a slice, a part of it or nothing, or fail.
 
-use crate::reports::{REPORTS, Report, on_room};
+use crate::reports::{Cut, REPORTS, Report, first_wrong, on_room};
 use arcwcet::{Output, OutputFault, StreamOutput};
 use std::alloc::Global;
 use std::io;
@@ -86,37 +86,23 @@ fn writes(alloc: Global, row: &Row) -> bool {
 
 /// How many bytes a writer takes a write, and how it fails once it is full. An interrupted write has failed;
 /// it is not tried again.
-const KINDS: [(usize, Option<ErrorKind>); 3] = [
-    (1, None),
-    (7, Some(ErrorKind::BrokenPipe)),
-    (7, Some(ErrorKind::Interrupted)),
+#[derive(Clone, Copy)]
+struct Kind(usize, Option<ErrorKind>);
+
+const KINDS: [Kind; 3] = [
+    Kind(1, None),
+    Kind(7, Some(ErrorKind::BrokenPipe)),
+    Kind(7, Some(ErrorKind::Interrupted)),
 ];
 
-/// Whether the report ends as it has to over a writer of such a kind with that room.
-fn is_cut(
-    alloc: Global,
-    report: Report,
-    text: &[u8],
-    kind: &(usize, Option<ErrorKind>),
-    room: usize,
-) -> bool {
-    let (step, fails) = kind;
-    let mut writer = Writer::new(alloc, *step, room, *fails);
-    let found = report.print(alloc, &mut StreamOutput::new(&mut writer));
-    let (answer, front) = on_room(text, room);
-    found == answer && writer.bytes.as_slice() == front
-}
-
-/// The room at which the report does not end as it has to, if there is one up to its length.
-fn first_wrong(alloc: Global, report: Report, text: &[u8]) -> Option<usize> {
-    for room in 0..=text.len() {
-        for kind in &KINDS {
-            if !is_cut(alloc, report, text, kind, room) {
-                return Some(room);
-            }
-        }
+impl Cut for Kind {
+    fn is_cut(&self, alloc: Global, report: Report, text: &[u8], room: usize) -> bool {
+        let Kind(step, fails) = *self;
+        let mut writer = Writer::new(alloc, step, room, fails);
+        let found = report.print(alloc, &mut StreamOutput::new(&mut writer));
+        let (answer, front) = on_room(text, room);
+        found == answer && writer.bytes.as_slice() == front
     }
-    None
 }
 
 #[test]
@@ -127,7 +113,11 @@ fn writers_take_what_they_are_given(rt: HostRuntime) -> Result<(), Fail> {
     }
     for (number, (report, _)) in REPORTS.iter().enumerate() {
         let text = report.text(alloc)?;
-        assert_eq!(rt; first_wrong(alloc, *report, &text), None, "report {number}");
+        assert_eq!(rt;
+            first_wrong(alloc, *report, &text, &KINDS),
+            None,
+            "report {number}"
+        );
     }
     Ok(())
 }
