@@ -90,6 +90,7 @@ impl Walker {
         }
     }
 
+    #[inline(always)]
     fn arrive(&mut self, headers: &[Option<Span>], number: usize, cost: u128, turns: u128)
         requires known { number < length headers.now }
         requires room { number < length self.old.turns.items }
@@ -98,7 +99,9 @@ impl Walker {
         self.number = number;
         self.cost = cost;
         self.turns[number] = turns;
-        self.over = self.over.or(broken_at(headers, number, turns));
+        if self.over.is_none() {
+            self.over = broken_at(headers, number, turns);
+        }
     }
 
     /// Follows an edge from where it stands.
