@@ -22,7 +22,7 @@ use Rattle.report_output.specs.Faults.{of_graph, of_loops, of_statement}
 use Rattle.report_input.specs.Report.{AreLoopsRefused, HasGraph, HasLoops, IsGraphRefused, IsHandlerRefused, IsStatementRefused}
 use Rattle.report_input.specs.Source.{IsSourceFault, Said, source_of}
 use Rattle.report_output.specs.declared.fault.ReportFault.{ReportFault}
-use Rattle.report_output.specs.declared.fault.ReportFault.TheVariants.{Memory, Source, Image, Statement, Graph, Loops, Walk, MachineFile, Load, Cert, Device}
+use Rattle.report_output.specs.declared.fault.ReportFault.TheVariants.{Memory, Source, Image, Statement, Graph, Loops}
 use Rattle.report_output.specs.declared.fault.ReportFault.TheVariants as report_fault
 
 -- ## A source has one image, a statement one value, and both one graph
@@ -78,16 +78,6 @@ applies flow loops nest_fault.NestedTooDeep h = h.4
 pub graph_refusals : (source statement : List ℕ) (profile : Profile) (st : Stated) (flow : Flow) (e : ReportFault) → HasGraph source statement profile st flow → IsHandlerRefused source statement profile e
     → (e ≡ Memory) ⊎ ((f : NestFault) × (e ≡ Loops f))
 graph_refusals source statement profile st flow Memory g r = inl refl
-graph_refusals source statement profile st flow Device g r = absurd r
-graph_refusals source statement profile st flow (Walk f) g r = absurd r
-graph_refusals source statement profile st flow (Cert f) g r = absurd r
-graph_refusals source statement profile st flow (MachineFile f) g r = absurd r
-graph_refusals source statement profile st flow (Load f) g r = absurd r
-graph_refusals source statement profile st flow (report_fault.Profile f) g r = absurd r
-graph_refusals source statement profile st flow report_fault.NotFiqEntry g r = absurd r
-graph_refusals source statement profile st flow report_fault.NoSuchEntry g r = absurd r
-graph_refusals source statement profile st flow report_fault.NoSuchEdge g r = absurd r
-graph_refusals source statement profile st flow (report_fault.NotFree at) g r = absurd r
 graph_refusals source statement profile st flow (Loops f) g r = inr (f, refl)
 graph_refusals source statement profile st flow (Source f) g r = absurd (never_both (g.words, g.names) (Source f) (source_of source) g.source_is r)
 graph_refusals source statement profile st flow (Image f) g r = absurd (never_both (g.words, g.names) (Image f) (source_of source) g.source_is r)
@@ -101,6 +91,7 @@ graph_refusals source statement profile st flow (Graph f) g r =
     let ok : Ok r.stated ≡ Ok st = same_statement statement r.names g.names (Ok r.stated) (Ok st) (ap (λ (s : Said). s.1) said) r.statement_is g.statement_is in
     let stated : r.stated ≡ st = cc ok in
     absurd (g.no_fault f r.not_memory (subst (λ (s : Stated). IsBuildFault g.words s profile f) stated (subst (λ (w : Words). IsBuildFault w r.stated profile f) words r.holds)))
+graph_refusals source statement profile st flow e g r = absurd r
 
 -- such a pair is refused up to the loops for lack of memory alone
 pub handler_refusals : (source statement : List ℕ) (profile : Profile) (st : Stated) (flow : Flow) (e : ReportFault) → HasLoops source statement profile st flow → IsHandlerRefused source statement profile e
@@ -133,12 +124,7 @@ module _ (source statement : List ℕ) (profile : Profile) (words : Words) (name
 
   pub statement_refusal : (f : StatementFault) → (f ≢ statement_fault.Memory → IsStatement statement names (Err f)) → IsHandlerRefused source statement profile (of_statement f)
   statement_refusal statement_fault.Memory h = tt
-  statement_refusal statement_fault.NotToml h = refused_statement statement_fault.NotToml (λ e. cc e) h
-  statement_refusal statement_fault.UnknownKey h = refused_statement statement_fault.UnknownKey (λ e. cc e) h
-  statement_refusal statement_fault.WrongKind h = refused_statement statement_fault.WrongKind (λ e. cc e) h
-  statement_refusal statement_fault.UnknownLabel h = refused_statement statement_fault.UnknownLabel (λ e. cc e) h
-  statement_refusal statement_fault.OutOfRange h = refused_statement statement_fault.OutOfRange (λ e. cc e) h
-  statement_refusal statement_fault.Twice h = refused_statement statement_fault.Twice (λ e. cc e) h
+  statement_refusal f h = refused_statement f (λ e. cc e) h
 
   module _ (st : Stated) (read : IsStatement statement names (Ok st)) where
     refused_graph : (f : BuildFault) → f ≢ build_fault.Memory → IsBuildFault words st profile f → IsGraphRefused source statement profile f
@@ -146,23 +132,14 @@ module _ (source statement : List ℕ) (profile : Profile) (words : Words) (name
 
     pub graph_refusal : (f : BuildFault) → IsBuildFault words st profile f → IsHandlerRefused source statement profile (of_graph f)
     graph_refusal build_fault.Memory h = tt
-    graph_refusal (build_fault.OutsideImage a) h = refused_graph (build_fault.OutsideImage a) (λ e. cc e) h
-    graph_refusal (build_fault.UnallocatedWord a) h = refused_graph (build_fault.UnallocatedWord a) (λ e. cc e) h
-    graph_refusal (build_fault.TrapInHandler a) h = refused_graph (build_fault.TrapInHandler a) (λ e. cc e) h
-    graph_refusal build_fault.TooDeep h = refused_graph build_fault.TooDeep (λ e. cc e) h
-    graph_refusal build_fault.TooManyPlaces h = refused_graph build_fault.TooManyPlaces (λ e. cc e) h
-    graph_refusal (build_fault.TargetNotWriter a) h = refused_graph (build_fault.TargetNotWriter a) (λ e. cc e) h
+    graph_refusal f h = refused_graph f (λ e. cc e) h
 
 -- ## The faults of the loops
 
 pub loops_refusal : (source statement : List ℕ) (profile : Profile) (st : Stated) (flow : Flow) (f : NestFault) → HasGraph source statement profile st flow → IsNestFault flow st.loops f
     → IsHandlerRefused source statement profile (of_loops f)
 loops_refusal source statement profile st flow nest_fault.Memory g h = tt
-loops_refusal source statement profile st flow nest_fault.LoopsCross g h = record { stated = st; flow = flow; graph = g; not_memory = λ e. cc e; holds = h }
-loops_refusal source statement profile st flow nest_fault.SharedHeader g h = record { stated = st; flow = flow; graph = g; not_memory = λ e. cc e; holds = h }
-loops_refusal source statement profile st flow nest_fault.EntersMidLoop g h = record { stated = st; flow = flow; graph = g; not_memory = λ e. cc e; holds = h }
-loops_refusal source statement profile st flow nest_fault.UnboundedCycle g h = record { stated = st; flow = flow; graph = g; not_memory = λ e. cc e; holds = h }
-loops_refusal source statement profile st flow nest_fault.NestedTooDeep g h = record { stated = st; flow = flow; graph = g; not_memory = λ e. cc e; holds = h }
+loops_refusal source statement profile st flow f g h = record { stated = st; flow = flow; graph = g; not_memory = λ e. cc e; holds = h }
 
 -- ## The faults of the source
 
@@ -170,16 +147,4 @@ pub source_refusal : (source statement : List ℕ) (profile : Profile) (e : Repo
 source_refusal source statement profile Memory h = tt
 source_refusal source statement profile (Source f) h = h
 source_refusal source statement profile (Image f) h = h
-source_refusal source statement profile (Statement f) h = absurd h
-source_refusal source statement profile (Graph f) h = absurd h
-source_refusal source statement profile (Loops f) h = absurd h
-source_refusal source statement profile (Walk f) h = absurd h
-source_refusal source statement profile (MachineFile f) h = absurd h
-source_refusal source statement profile (Load f) h = absurd h
-source_refusal source statement profile (Cert f) h = absurd h
-source_refusal source statement profile Device h = absurd h
-source_refusal source statement profile (report_fault.Profile f) h = absurd h
-source_refusal source statement profile report_fault.NotFiqEntry h = absurd h
-source_refusal source statement profile report_fault.NoSuchEntry h = absurd h
-source_refusal source statement profile report_fault.NoSuchEdge h = absurd h
-source_refusal source statement profile (report_fault.NotFree a) h = absurd h
+source_refusal source statement profile e h = absurd h

@@ -26,7 +26,7 @@ use Rattle.report_input.specs.Placing.{IsFileRefused, IsRunRefused, IsRunnable, 
 use Rattle.report_input.specs.Source.{IsSourceFault, Said, source_of}
 use Rattle.statement.specs.Statement.{Names}
 use Rattle.report_output.specs.declared.fault.ReportFault.{ReportFault}
-use Rattle.report_output.specs.declared.fault.ReportFault.TheVariants.{Memory as OfMemory, Source, Image, Statement, Graph, Loops, Walk, MachineFile, Load, Cert, Device}
+use Rattle.report_output.specs.declared.fault.ReportFault.TheVariants.{Memory as OfMemory, Source, Image, MachineFile, Load, Device}
 use Rattle.report_output.specs.declared.fault.ReportFault.TheVariants as report_fault
 
 -- ## A text has one answer
@@ -120,16 +120,7 @@ module _ (source machine : List ℕ) (profile : Profile) where
             let both : true ≡ false = sym lacks ∙ same_memory a.file.controller r.start.bus.memc p.start.bus.memc a.file.words started.memory p.started.memory ∙ p.file_fits in
             cc both
       ])
-  runnable_refusals (Statement f) a r = absurd r
-  runnable_refusals (Graph f) a r = absurd r
-  runnable_refusals (Loops f) a r = absurd r
-  runnable_refusals (Walk f) a r = absurd r
-  runnable_refusals (Cert f) a r = absurd r
-  runnable_refusals (report_fault.Profile f) a r = absurd r
-  runnable_refusals report_fault.NotFiqEntry a r = absurd r
-  runnable_refusals report_fault.NoSuchEntry a r = absurd r
-  runnable_refusals report_fault.NoSuchEdge a r = absurd r
-  runnable_refusals (report_fault.NotFree at) a r = absurd r
+  runnable_refusals e a r = absurd r
 
   -- .. for lack of memory alone where the output has not failed
   pub runnable_memory : (e : ReportFault) → (e ≢ Device) × IsRunRefused source machine profile e → IsRunnable source machine profile → e ≡ OfMemory
@@ -142,19 +133,7 @@ module _ (source machine : List ℕ) (profile : Profile) where
   source_refuses OfMemory h = (λ e. cc e, tt)
   source_refuses (Source f) h = (λ e. cc e, h)
   source_refuses (Image f) h = (λ e. cc e, h)
-  source_refuses (Statement f) h = absurd h
-  source_refuses (Graph f) h = absurd h
-  source_refuses (Loops f) h = absurd h
-  source_refuses (Walk f) h = absurd h
-  source_refuses (MachineFile f) h = absurd h
-  source_refuses (Load f) h = absurd h
-  source_refuses (Cert f) h = absurd h
-  source_refuses Device h = absurd h
-  source_refuses (report_fault.Profile f) h = absurd h
-  source_refuses report_fault.NotFiqEntry h = absurd h
-  source_refuses report_fault.NoSuchEntry h = absurd h
-  source_refuses report_fault.NoSuchEdge h = absurd h
-  source_refuses (report_fault.NotFree a) h = absurd h
+  source_refuses e h = absurd h
 
   module _ (words : Words) (names : Names) (said : source_of source ≡ Ok (words, names)) where
     unread : (f : MachineFileFault) → f ≢ machine_fault.Memory → IsMachineFile machine (Err f) → IsFileRefused source machine f
@@ -162,11 +141,7 @@ module _ (source machine : List ℕ) (profile : Profile) where
 
     pub file_refuses : (f : MachineFileFault) → (f ≢ machine_fault.Memory → IsMachineFile machine (Err f)) → Refused (of_machine_file f)
     file_refuses machine_fault.Memory h = (λ e. cc e, tt)
-    file_refuses machine_fault.NotToml h = (λ e. cc e, unread machine_fault.NotToml (λ e. cc e) (h (λ e. cc e)))
-    file_refuses machine_fault.UnknownKey h = (λ e. cc e, unread machine_fault.UnknownKey (λ e. cc e) (h (λ e. cc e)))
-    file_refuses machine_fault.WrongKind h = (λ e. cc e, unread machine_fault.WrongKind (λ e. cc e) (h (λ e. cc e)))
-    file_refuses machine_fault.OutOfRange h = (λ e. cc e, unread machine_fault.OutOfRange (λ e. cc e) (h (λ e. cc e)))
-    file_refuses machine_fault.Twice h = (λ e. cc e, unread machine_fault.Twice (λ e. cc e) (h (λ e. cc e)))
+    file_refuses f h = (λ e. cc e, unread f (λ e. cc e) (h (λ e. cc e)))
 
     module _ (file : Stated) (read : IsMachineFile machine (Ok file)) (start : State) (started : IsStarted file profile start) where
       pub load_refuses : (f : LoadFault) → (f ≡ load_fault.Memory) ⊎ ((f ≡ load_fault.NoPage) × LacksPage start words file) → Refused (of_load f)

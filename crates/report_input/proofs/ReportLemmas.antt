@@ -29,7 +29,7 @@ use Rattle.report_output.specs.Faults.{of_walk}
 use Rattle.report_input.specs.Keeping.{BoundsRuns}
 use Rattle.report_input.specs.Report.{HasLoops, IsAccepted, IsBoundReport, IsGreatestWalk, IsHandlerRefused, IsRefused, IsReport, IsTreeOf, IsWalkRefusal}
 use Rattle.report_output.specs.declared.fault.ReportFault.{ReportFault}
-use Rattle.report_output.specs.declared.fault.ReportFault.TheVariants.{Memory, Source, Image, Statement, Graph, Loops, Walk, MachineFile, Load, Device}
+use Rattle.report_output.specs.declared.fault.ReportFault.TheVariants.{Memory, Walk, Device}
 use Rattle.report_output.specs.declared.fault.ReportFault.TheVariants as report_fault
 use Rattle.report_input.proofs.HandlerLemmas.{handler_refusals, one_graph}
 
@@ -43,19 +43,7 @@ accepted_refusals source statement profile Device a r = inr refl
 accepted_refusals source statement profile (Walk f) a r =
     let same = one_graph source statement profile r.stated a.stated r.flow a.flow r.loops.graph a.loops.graph in
     absurd (a.no_fault f r.not_memory (subst (λ (s : Stated). IsWalkRefusal a.flow s.loops f) same.same_stated (subst (λ (w : Flow). IsWalkRefusal w r.stated.loops f) same.same_flow r.holds)))
-accepted_refusals source statement profile (Source f) a r = inl (handler_refusals source statement profile a.stated a.flow (Source f) a.loops r)
-accepted_refusals source statement profile (Image f) a r = inl (handler_refusals source statement profile a.stated a.flow (Image f) a.loops r)
-accepted_refusals source statement profile (MachineFile f) a r = inl (handler_refusals source statement profile a.stated a.flow (MachineFile f) a.loops r)
-accepted_refusals source statement profile (Load f) a r = inl (handler_refusals source statement profile a.stated a.flow (Load f) a.loops r)
-accepted_refusals source statement profile (report_fault.Profile f) a r = inl (handler_refusals source statement profile a.stated a.flow (report_fault.Profile f) a.loops r)
-accepted_refusals source statement profile report_fault.NotFiqEntry a r = inl (handler_refusals source statement profile a.stated a.flow report_fault.NotFiqEntry a.loops r)
-accepted_refusals source statement profile report_fault.NoSuchEntry a r = inl (handler_refusals source statement profile a.stated a.flow report_fault.NoSuchEntry a.loops r)
-accepted_refusals source statement profile report_fault.NoSuchEdge a r = inl (handler_refusals source statement profile a.stated a.flow report_fault.NoSuchEdge a.loops r)
-accepted_refusals source statement profile (report_fault.NotFree at) a r = inl (handler_refusals source statement profile a.stated a.flow (report_fault.NotFree at) a.loops r)
-accepted_refusals source statement profile (Statement f) a r = inl (handler_refusals source statement profile a.stated a.flow (Statement f) a.loops r)
-accepted_refusals source statement profile (Graph f) a r = inl (handler_refusals source statement profile a.stated a.flow (Graph f) a.loops r)
-accepted_refusals source statement profile (Loops f) a r = inl (handler_refusals source statement profile a.stated a.flow (Loops f) a.loops r)
-accepted_refusals source statement profile (report_fault.Cert f) a r = inl (handler_refusals source statement profile a.stated a.flow (report_fault.Cert f) a.loops r)
+accepted_refusals source statement profile e a r = inl (handler_refusals source statement profile a.stated a.flow e a.loops r)
 
 -- the same of an answer
 pub only_memory : {T : Type 0} (source statement : List ℕ) (profile : Profile) (r : Result T ReportFault) → IfErr r (λ e. (e ≢ Device) × IsRefused source statement profile e)
@@ -68,19 +56,7 @@ pub report_refusal : (source statement : List ℕ) (profile : Profile) (e : Repo
 report_refusal source statement profile Memory h = (λ e. cc e, tt)
 report_refusal source statement profile Device h = absurd h
 report_refusal source statement profile (Walk f) h = absurd h
-report_refusal source statement profile (Source f) h = (λ e. cc e, h)
-report_refusal source statement profile (Image f) h = (λ e. cc e, h)
-report_refusal source statement profile (MachineFile f) h = (λ e. cc e, h)
-report_refusal source statement profile (Load f) h = (λ e. cc e, h)
-report_refusal source statement profile (report_fault.Profile f) h = (λ e. cc e, h)
-report_refusal source statement profile report_fault.NotFiqEntry h = (λ e. cc e, h)
-report_refusal source statement profile report_fault.NoSuchEntry h = (λ e. cc e, h)
-report_refusal source statement profile report_fault.NoSuchEdge h = (λ e. cc e, h)
-report_refusal source statement profile (report_fault.NotFree a) h = (λ e. cc e, h)
-report_refusal source statement profile (Statement f) h = (λ e. cc e, h)
-report_refusal source statement profile (Graph f) h = (λ e. cc e, h)
-report_refusal source statement profile (Loops f) h = (λ e. cc e, h)
-report_refusal source statement profile (report_fault.Cert f) h = (λ e. cc e, h)
+report_refusal source statement profile e h = (λ e. cc e, h)
 
 -- ## A walk that keeps the bounds of a tree's instances keeps those of the stated loops
 

@@ -44,18 +44,8 @@ text_was_assembled source words names is said = assembled_of_said (assembled sou
 -- why an image cannot be read
 pub image_fault : (source : List ℕ) (f : ReadFault) → is_image source ≡ true → (f ≡ read_fault.Memory) ⊎ (image_read source ≡ Err f) → IsSourceFault source (of_image f)
 image_fault source read_fault.Memory is h = tt
-image_fault source read_fault.BadMagic is (inl h) = absurd (cc h)
-image_fault source read_fault.BadMagic is (inr h) = said_image source is ∙ ap said_by_image h
-image_fault source read_fault.Truncated is (inl h) = absurd (cc h)
-image_fault source read_fault.Truncated is (inr h) = said_image source is ∙ ap said_by_image h
-image_fault source read_fault.Overlap is (inl h) = absurd (cc h)
-image_fault source read_fault.Overlap is (inr h) = said_image source is ∙ ap said_by_image h
-image_fault source read_fault.Misaligned is (inl h) = absurd (cc h)
-image_fault source read_fault.Misaligned is (inr h) = said_image source is ∙ ap said_by_image h
-image_fault source read_fault.TrailingBytes is (inl h) = absurd (cc h)
-image_fault source read_fault.TrailingBytes is (inr h) = said_image source is ∙ ap said_by_image h
-image_fault source read_fault.OutOfRange is (inl h) = absurd (cc h)
-image_fault source read_fault.OutOfRange is (inr h) = said_image source is ∙ ap said_by_image h
+image_fault source f is (inl h) = absurd (cc h)
+image_fault source f is (inr h) = said_image source is ∙ ap said_by_image h
 
 -- why a text cannot be assembled
 pub text_fault : (source : List ℕ) (f : AsmFault) → is_image source ≡ false → FaultedAt f (assembled source) → IsSourceFault source (of_source f)

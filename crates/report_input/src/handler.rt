@@ -1,15 +1,20 @@
-ghost use Rattle.std.specs.Prelude.{◌≡◌, List, ℕ, Ok, IfErr, IfOk, option_map};
+ghost use Rattle.std.specs.Prelude.{◌≡◌, ◌≢◌, List, ℕ, Ok, IfErr, IfOk, OnOk, option_map};
+ghost use Rattle.bus_ticks.specs.declared.profile.Profile.{Profile};
 ghost use Rattle.loader.specs.Labels.{address_of};
 ghost use Rattle.flow_graph.specs.Flow.{IsWellFormed};
+ghost use Rattle.longest_walk.specs.Longest.{IsLongest, IsWalkFault};
+ghost use Rattle.loop_bounds.specs.Bounds.{IsGreatestCost};
+ghost use Rattle.numbered_walks.specs.declared.fault.WalkFault.{WalkFault};
 ghost use Rattle.statement.specs.Statement.{IsStatement};
 ghost use Rattle.report_input.specs.Priced.{HasNoProfile, IsProfile};
-ghost use Rattle.report_input.specs.Report.{HasLoops, IsHandlerRefused, IsTreeOf};
+ghost use Rattle.report_input.specs.Report.{HasLoops, IsHandlerRefused, IsRefused, IsTreeOf};
 ghost use Rattle.report_input.specs.Source.{IsSourceFault, source_of};
 
 use assembler::{Assembly, assemble};
 use bus_ticks::Profile;
 use flow_graph::{Graph, Statement, build, read_statement};
 use loader::{Labels, MAGIC, read_image};
+use longest_walk::{Longest, longest};
 use loop_bounds::{LoopTree, nest};
 use machine_file::read_profile;
 use report_output::ReportFault;
@@ -52,6 +57,34 @@ pub struct Handler {
     pub tree: LoopTree,
 }
 
+/// What a source says, and the handler of it and of a statement.
+#[derive(Drop)]
+pub struct SaidHandler {
+    pub said: Assembly,
+    pub handler: Handler,
+}
+
+/// What a source says with its handler, or the first fault in the order of the work.
+pub fn said_handler(
+    alloc: Global,
+    source: &[u8],
+    statement: &[u8],
+    profile: &Profile,
+) -> Result<SaidHandler, ReportFault>
+    ensures said { IfOk result
+        (λ r. source_of source.now ≡ Ok (r.said.image, address_of r.said.labels)) }
+    ensures loops { IfOk result
+        (λ r. HasLoops source.now statement.now profile.now r.handler.statement r.handler.graph) }
+    ensures formed { IfOk result (λ r. IsWellFormed r.handler.graph) }
+    ensures tree { IfOk result
+        (λ r. IsTreeOf r.handler.graph r.handler.statement.loops r.handler.tree) }
+    ensures fault { IfErr result (IsHandlerRefused source.now statement.now profile.now) }
+{
+    let said = read_source(alloc, source)?;
+    let handler = handler_of(alloc, &said, statement, profile)?;
+    Ok(SaidHandler { said, handler })
+}
+
 /// The handler of a source and a statement, or the first fault in the order of the work.
 pub fn read_handler(
     alloc: Global,
@@ -64,8 +97,8 @@ pub fn read_handler(
     ensures tree { IfOk result (λ h. IsTreeOf h.graph h.statement.loops h.tree) }
     ensures fault { IfErr result (IsHandlerRefused source.now statement.now profile.now) }
 {
-    let said = read_source(alloc, source)?;
-    handler_of(alloc, &said, statement, profile)
+    let read = said_handler(alloc, source, statement, profile)?;
+    Ok(read.handler)
 }
 
 /// The same, of a source that was read.
@@ -112,4 +145,21 @@ pub fn stated_handler(
         graph,
         tree,
     })
+}
+
+/// The greatest of a handler's walks.
+pub fn longest_of(alloc: Global, handler: &Handler) -> Result<Longest, ReportFault>
+    requires { IsTreeOf handler.now.graph handler.now.statement.loops handler.now.tree }
+    ensures longest { IfOk result (IsLongest handler.now.graph handler.now.tree) }
+    ensures greatest { IfOk result
+        (λ l. IsGreatestCost handler.now.graph handler.now.statement.loops l.bound) }
+    ensures allowed { OnOk result
+        ((fault : WalkFault) → fault ≢ WalkFault.Memory → IsWalkFault handler.now.graph handler.now.tree fault
+        → ⊥) }
+    ensures fault { (source statement : List ℕ) (profile : Profile)
+        → HasLoops source statement profile handler.now.statement handler.now.graph
+        → IfErr result (λ e. (e ≢ ReportFault.Device) × IsRefused source statement profile e) }
+{
+    let found = longest(alloc, &handler.graph, &handler.tree)?;
+    Ok(found)
 }
