@@ -1,13 +1,11 @@
 -- What a run does at each address, and the rows where it and a walk differ.
-use Rattle.std.proofs.Common.{◌≡◌, ◌∙◌, ℕ, suc, ◌+◌, ◌-◌, ◌*◌, ◌<◌, ◌≤◌, Bool, true, false, cond, eqb, List, [], ◌∷◌, ◌++◌, append-nil, append_assoc, length, drop, get_or, ⊎_elim, refl, sym, ap, subst, arith, add-one}
+use Rattle.std.proofs.Common.{◌≡◌, ◌∙◌, ℕ, ◌+◌, ◌-◌, ◌*◌, ◌<◌, Bool, true, false, cond, eqb, List, [], ◌∷◌, ◌++◌, append-nil, append_assoc, length, get_or, ⊎_elim, refl, sym, ap, subst, arith, add-one}
 use Rattle.std.specs.Prelude.{All, Option, sum_by, if◌then◌else◌}
 use Rattle.std.specs.List.{range_with_len}
-use Rattle.std.proofs.Math.ListN.{drop_of_length-le}
 use Rattle.std.proofs.lemmas.Bool.{cases_Bool, false≢true}
 use Rattle.std.proofs.lemmas.List.{get_or_default, length-append}
 use Rattle.std.proofs.lemmas.List.Elements.{All-head, All-tail}
 use Rattle.std.proofs.lemmas.List.Sums.{sum_by-cons, sum_by_push}
-use Rattle.assembler.specs.declared.placed_line.PlacedLine.{PlacedLine}
 use Rattle.text_rows.specs.Rows.{Appends, IsShownRow}
 use Rattle.explained.specs.Taken.{IsTally as IsWalkTally, is_at, taken_at}
 use Rattle.explained.specs.Table.{passes_of, ticks_of}
@@ -28,7 +26,7 @@ use Rattle.walk_counts.proofs.SumLemmas.{picked, same_sums, sum_both, sum_none}
 use Rattle.author_reports.specs.declared.differences.Compared.{Compared}
 use Rattle.author_reports.specs.declared.differences.Numbers.{Numbers}
 use Rattle.author_reports.specs.declared.differences.RunTally.{RunTally}
-use Rattle.author_reports.specs.Differences.{Adds, HasAdded, IsRowIfApart, IsTable, agree, compared_in, compared_text, in_all, line_rows, numbers_in, row_if_apart, run_at, tallied, told_at, with_place, word_rows}
+use Rattle.author_reports.specs.Differences.{Adds, HasAdded, IsRowIfApart, IsTable, agree, compared_in, compared_text, in_all, numbers_in, run_at, tallied, told_at, with_place}
 
 -- ## Sums over places
 
@@ -162,24 +160,6 @@ place_added places by_place i place p old new in_places place_is p_is h adds a =
 -- ## Rows
 
 module _ (compared : ℕ → Compared) where
-  pub words_more : (n : ℕ) (line : List ℕ) (at left after : ℕ) (old new all : List ℕ) → left ≡ suc after
-      → old ++ word_rows compared n line at left ≡ all → new ≡ old ++ row_if_apart compared n line at → new ++ word_rows compared n line (at + 4) after ≡ all
-  words_more n line at left after old new all is h one =
-      ap (λ xs. xs ++ word_rows compared n line (at + 4) after) one
-      ∙ append_assoc old (row_if_apart compared n line at) (word_rows compared n line (at + 4) after)
-      ∙ ap (λ k. old ++ word_rows compared n line at k) (sym is) ∙ h
-
-  no_lines : (n : ℕ) (lines : List (List ℕ)) → line_rows compared n lines [] ≡ []
-  no_lines n [] = refl
-  no_lines n (line ∷ lines) = refl
-
-  pub lines_end : (n : ℕ) (lines : List (List ℕ)) (placed : List PlacedLine) (i : ℕ) (text all : List ℕ)
-      → length placed ≤ i → text ++ line_rows compared n lines (drop i placed) ≡ all → text ≡ all
-  lines_end n lines placed i text all le h =
-      let none : drop i placed ≡ [] = drop_of_length-le placed le in
-      sym (append-nil text) ∙ ap (λ xs. text ++ xs) (sym (no_lines n lines))
-      ∙ ap (λ ps. text ++ line_rows compared n lines ps) (sym none) ∙ h
-
   -- a word where the two agree has no row
   pub no_row : (e : ℕ × ℕ) (text : List ℕ) → agree (compared e.0) ≡ true → Appends (IsRowIfApart compared e) text text
   no_row e text same = ([], record { apart = λ apart. absurd (false≢true (sym apart ∙ same)); same = λ s. refl }, sym (append-nil text))

@@ -35,7 +35,7 @@ use Rattle.report_input.specs.Placing.{IsPlaced, IsRunRefused}
 use Rattle.report_input.specs.Report.{HasLoops, IsAccepted, IsRefused, IsTreeOf}
 use Rattle.report_input.specs.Source.{source_of}
 use Rattle.report_output.specs.declared.fault.ReportFault.{ReportFault}
-use Rattle.report_output.specs.declared.fault.ReportFault.TheVariants.{Memory, Source, Image, Statement, Graph, Loops, Walk, MachineFile, Load, Cert, Device}
+use Rattle.report_output.specs.declared.fault.ReportFault.TheVariants.{Memory, Source, Image, MachineFile, Load, Device}
 use Rattle.report_output.specs.declared.fault.ReportFault.TheVariants as report_fault
 use Rattle.author_reports.proofs.ExactLemmas.{table_exact}
 use Rattle.report_input.proofs.PlacingLemmas.{runnable_refusals}
@@ -177,22 +177,9 @@ module _ (source statement machine : List ℕ) (profile : Profile) where
 
   -- of the handler
   handler_refuses : (e : ReportFault) → IsRefused source statement profile e → IsFollowRefused source statement machine profile e
-  handler_refuses Memory h = h
-  handler_refuses Device h = h
-  handler_refuses (Source f) h = h
-  handler_refuses (Image f) h = h
-  handler_refuses (Statement f) h = h
-  handler_refuses (Graph f) h = h
-  handler_refuses (Loops f) h = h
-  handler_refuses (Walk f) h = h
   handler_refuses (MachineFile f) h = absurd h
   handler_refuses (Load f) h = absurd h
-  handler_refuses (Cert f) h = h
-  handler_refuses (report_fault.Profile f) h = h
-  handler_refuses report_fault.NotFiqEntry h = h
-  handler_refuses report_fault.NoSuchEntry h = h
-  handler_refuses report_fault.NoSuchEdge h = h
-  handler_refuses (report_fault.NotFree at) h = h
+  handler_refuses e h = h
 
   pub handler_refused : (e : ReportFault) → (e ≢ Device) × IsRefused source statement profile e → Refused e
   handler_refused e h = (h.0, handler_refuses e h.1)
@@ -203,40 +190,18 @@ module _ (source statement machine : List ℕ) (profile : Profile) where
   machine_refuses Device a h = tt
   machine_refuses (Source f) a h = h
   machine_refuses (Image f) a h = h
-  machine_refuses (Statement f) a h = absurd h
-  machine_refuses (Graph f) a h = absurd h
-  machine_refuses (Loops f) a h = absurd h
-  machine_refuses (Walk f) a h = absurd h
   machine_refuses (MachineFile f) a h = (a, h)
   machine_refuses (Load f) a h = (a, h)
-  machine_refuses (Cert f) a h = absurd h
-  machine_refuses (report_fault.Profile f) a h = absurd h
-  machine_refuses report_fault.NotFiqEntry a h = absurd h
-  machine_refuses report_fault.NoSuchEntry a h = absurd h
-  machine_refuses report_fault.NoSuchEdge a h = absurd h
-  machine_refuses (report_fault.NotFree at) a h = absurd h
+  machine_refuses e a h = absurd h
 
   pub machine_refused : (e : ReportFault) → IsAccepted source statement profile → (e ≢ Device) × IsRunRefused source machine profile e → Refused e
   machine_refused e a h = (h.0, machine_refuses e a h.1)
 
   -- what can be followed is refused for lack of memory alone, or as the output fails
   follow_refusals : (e : ReportFault) → IsFollowable source statement machine profile → IsFollowRefused source statement machine profile e → (e ≡ Memory) ⊎ (e ≡ Device)
-  follow_refusals Memory a h = accepted_refusals source statement profile Memory a.accepted h
-  follow_refusals Device a h = accepted_refusals source statement profile Device a.accepted h
-  follow_refusals (Source f) a h = accepted_refusals source statement profile (Source f) a.accepted h
-  follow_refusals (Image f) a h = accepted_refusals source statement profile (Image f) a.accepted h
-  follow_refusals (Statement f) a h = accepted_refusals source statement profile (Statement f) a.accepted h
-  follow_refusals (Graph f) a h = accepted_refusals source statement profile (Graph f) a.accepted h
-  follow_refusals (Loops f) a h = accepted_refusals source statement profile (Loops f) a.accepted h
-  follow_refusals (Walk f) a h = accepted_refusals source statement profile (Walk f) a.accepted h
   follow_refusals (MachineFile f) a h = runnable_refusals source machine profile (MachineFile f) a.runnable h.1
   follow_refusals (Load f) a h = runnable_refusals source machine profile (Load f) a.runnable h.1
-  follow_refusals (Cert f) a h = accepted_refusals source statement profile (Cert f) a.accepted h
-  follow_refusals (report_fault.Profile f) a h = accepted_refusals source statement profile (report_fault.Profile f) a.accepted h
-  follow_refusals report_fault.NotFiqEntry a h = accepted_refusals source statement profile report_fault.NotFiqEntry a.accepted h
-  follow_refusals report_fault.NoSuchEntry a h = accepted_refusals source statement profile report_fault.NoSuchEntry a.accepted h
-  follow_refusals report_fault.NoSuchEdge a h = accepted_refusals source statement profile report_fault.NoSuchEdge a.accepted h
-  follow_refusals (report_fault.NotFree at) a h = accepted_refusals source statement profile (report_fault.NotFree at) a.accepted h
+  follow_refusals e a h = accepted_refusals source statement profile e a.accepted h
 
   pub only_memory : {T : Type 0} (r : Result T ReportFault) → IfErr r Refused → IsFollowable source statement machine profile → IfErr r (λ e. (e ≡ Memory) ⊎ (e ≡ Device))
   only_memory (Ok x) h a = tt

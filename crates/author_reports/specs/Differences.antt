@@ -1,7 +1,7 @@
 -- Where a run that keeps its statement and a greatest walk differ. Our own format.
-use Rattle.std.specs.Prelude.{◌≡◌, ℕ, zero, suc, ◌+◌, ◌==◌, ◌&&◌, Bool, true, false, cond}
+use Rattle.std.specs.Prelude.{◌≡◌, ℕ, ◌+◌, ◌==◌, ◌&&◌, Bool, true, false, cond}
 use Rattle.std.specs.Prelude.{if◌then◌else◌, List}
-use Rattle.std.specs.Prelude.{[], ◌∷◌, ◌++◌, codes, decimal, count_by, length, sum_by, unwrap_or}
+use Rattle.std.specs.Prelude.{[], ◌++◌, codes, decimal, count_by, length, sum_by, unwrap_or}
 use Rattle.std.specs.Prelude.{slice_index_or}
 use Rattle.std.specs.BTreeMap.{get}
 use Rattle.std.specs.List.{range_with_len}
@@ -10,6 +10,7 @@ use Rattle.asm_text.specs.Source.{lines_of}
 use Rattle.assembler.specs.Placed.{ArePlaced}
 use Rattle.assembler.specs.declared.placed_line.PlacedLine.{PlacedLine}
 use Rattle.text_rows.specs.Columns.{in_columns}
+use Rattle.text_rows.specs.Lines.{rows_by_line, rows_by_word}
 use Rattle.text_rows.specs.Rows.{AreRows, IsShownRow, named_row, section}
 use Rattle.explained.specs.Table.{passes_of, ticks_of}
 use Rattle.explained.specs.Taken.{cost_at, is_at, pass_at, taken_at}
@@ -66,16 +67,9 @@ module _ (compared : ℕ → Compared) where
       if agree (compared at) then []
       else compared_text (compared at) ++ named_row (length (compared_text (compared at))) at n text
 
-  -- of a line's words
-  abbrev pub word_rows : (n : ℕ) → (text : List ℕ) → (from count : ℕ) → List ℕ
-  word_rows n text from zero = []
-  word_rows n text from (suc more) = row_if_apart n text from ++ word_rows n text (from + 4) more
-
-  -- line by line, with numbers from one on
+  -- word by word of the lines, with numbers from one on
   abbrev pub line_rows : ℕ → List (List ℕ) → List PlacedLine → List ℕ
-  line_rows n (text ∷ lines) (p ∷ placed) =
-      word_rows n text p.at p.words ++ line_rows (n + 1) lines placed
-  line_rows n _ _ = []
+  line_rows = rows_by_line (rows_by_word row_if_apart)
 
   -- of an image's word, with its address, the word and its line; nothing where the two agree
   pub record IsRowIfApart (e : ℕ × ℕ) (row : List ℕ) : Type 0 where

@@ -1,19 +1,17 @@
 //! Where a run that keeps its statement and a greatest walk differ.
 
 ghost use Rattle.std.specs.Prelude.{◌≡◌, ◌+◌, ◌++◌, IfErr, IfOk, List, OnOk, length};
-ghost use Rattle.asm_text.specs.Source.{lines_of};
 ghost use Rattle.text_rows.specs.Rows.{Appends, AreRows};
 ghost use Rattle.kept_runs.specs.Passing.{IsTally, Pass};
 ghost use Rattle.longest_walk.specs.Folded.{unfolded};
 ghost use Rattle.walk_counts.specs.Counts.{capped};
 ghost use Rattle.author_reports.specs.Differences.{Adds, HasAdded, IsRowIfApart, IsTable, agree};
 ghost use Rattle.author_reports.specs.Differences.{compared_in, compared_text};
-ghost use Rattle.author_reports.specs.Differences.{line_rows, numbers_text};
-ghost use Rattle.author_reports.specs.Differences.{row_if_apart, tallied, told_at, with_place, word_rows};
+ghost use Rattle.author_reports.specs.Differences.{numbers_text};
+ghost use Rattle.author_reports.specs.Differences.{row_if_apart, tallied, told_at, with_place};
 ghost use Rattle.report_input.specs.Source.{IsSourceFault};
 
-use asm_text::first_line;
-use assembler::{PlacedLine, placed_lines};
+use assembler::placed_lines;
 use explained::Tally;
 use flow_graph::{Graph, Place};
 use kept_runs::Passed;
@@ -22,7 +20,9 @@ use longest_walk::FoldedWalk;
 use report_output::ReportFault;
 use std::alloc::{AllocError, Global};
 use std::collections::BTreeMap;
-use text_rows::{NumberedLine, put, put_named_row, put_number, put_shown_row, section};
+use text_rows::{
+    NumberedLine, WordRows, put, put_named_row, put_number, put_shown_row, put_word_rows, section,
+};
 
 // The names of the columns, of a text's rows and of an image's.
 const HEADING: &[u8] = b"              run            bound
@@ -180,71 +180,19 @@ fn put_compared(out: &mut Vec<u8>, compared: Compared) -> Result<(), AllocError>
     put_numbers(out, compared.bound)
 }
 
-// Adds the row of a line's word, if run and walk differ there.
-fn put_if_apart(
-    out: &mut Vec<u8>,
-    tallies: Tallies<'_>,
-    line: NumberedLine<'_>,
-    at: u32,
-) -> Result<(), AllocError>
-    ensures { OnOk result
-        (out.new.items ≡ out.old.items
-        ++ row_if_apart (compared_in tallies.entry.run.now tallies.entry.walk.now) line.entry.number
-        line.entry.text.now at) }
-{
-    let compared = tallies.at(at);
-    if compared.agree() {
-        return Ok(());
-    }
-    let begun = out.len();
-    put_compared(out, compared)?;
-    put_named_row(out, out.len() - begun, line, at)
-}
+// A line's word has a row where run and walk differ.
+impl WordRows for Tallies<'_> {
+    ghost word_row = { λ t. row_if_apart (compared_in t.run.now t.walk.now) };
 
-// Adds the rows of those of a line's words.
-fn put_words(
-    out: &mut Vec<u8>,
-    tallies: Tallies<'_>,
-    line: NumberedLine<'_>,
-    placed: PlacedLine,
-) -> Result<(), AllocError>
-    ensures { OnOk result
-        (out.new.items ≡ out.old.items
-        ++ word_rows (compared_in tallies.entry.run.now tallies.entry.walk.now) line.entry.number
-        line.entry.text.now placed.at placed.words) }
-{
-    let mut at = placed.at;
-    for _ in 0..placed.words {
-        put_if_apart(out, tallies, line, at)?;
-        at += 4;
+    fn put(&self, out: &mut Vec<u8>, line: NumberedLine<'_>, at: u32) -> Result<(), AllocError> {
+        let compared = self.at(at);
+        if compared.agree() {
+            return Ok(());
+        }
+        let begun = out.len();
+        put_compared(out, compared)?;
+        put_named_row(out, out.len() - begun, line, at)
     }
-    Ok(())
-}
-
-// The rows of those of a source's words.
-fn line_rows(
-    alloc: Global,
-    tallies: Tallies<'_>,
-    source: &[u8],
-    placed: &[PlacedLine],
-) -> Result<Vec<u8>, AllocError>
-    ensures { IfOk result
-        (λ rows. rows.items
-        ≡ line_rows (compared_in tallies.entry.run.now tallies.entry.walk.now) 1 (lines_of source.now)
-        placed.now) }
-{
-    let mut out = Vec::new(alloc);
-    let mut rest = source;
-    let mut number = 1;
-    for line in placed {
-        let Some((text, after)) = first_line(rest) else {
-            return Ok(out);
-        };
-        put_words(&mut out, tallies, NumberedLine { number, text }, *line)?;
-        rest = after;
-        number += 1;
-    }
-    Ok(out)
 }
 
 // Adds the row of an image's word, if run and walk differ there.
@@ -288,7 +236,8 @@ fn table_by(alloc: Global, words: Words<'_>, tallies: Tallies<'_>) -> Result<Vec
         return Ok(section(alloc, IMAGE_HEADING, &rows)?);
     }
     let placed = placed_lines(alloc, words.source)?;
-    let rows = line_rows(alloc, tallies, words.source, &placed)?;
+    let mut rows = Vec::new(alloc);
+    put_word_rows(&mut rows, words.source, &placed, &tallies)?;
     Ok(section(alloc, HEADING, &rows)?)
 }
 

@@ -14,7 +14,7 @@ use bus_ticks::SPACE_END;
 use drafting::{Program, draft};
 use loader::{Labels, MAGIC};
 use report_input::read_source;
-use report_output::{Output, ReportFault, write_whole};
+use report_output::{Output, ReportFault, print_answer};
 use std::alloc::Global;
 
 // The address that a number says: decimal, or hexadecimal after `0x`.
@@ -93,8 +93,5 @@ pub fn draft_report<O: Output>(
         (IsDraftable source.now entry.now) (IsDraftRefused source.now entry.now) out.old out.new result }
 {
     let text = source_draft(alloc, source, entry)?;
-    match write_whole(out, &text) {
-        Ok(()) => Ok(()),
-        Err(_) => Err(ReportFault::Device),
-    }
+    print_answer((), &text, out)
 }

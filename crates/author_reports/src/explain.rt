@@ -20,9 +20,9 @@ use explained::{
     totals_are_the_bound,
 };
 use loader::{Image, MAGIC};
-use longest_walk::{longest, worst_starts};
-use report_input::{Handler, handler_of, profile_of, read_source};
-use report_output::{Output, ReportFault, write_whole};
+use longest_walk::worst_starts;
+use report_input::{Handler, longest_of, profile_of, said_handler};
+use report_output::{Output, ReportFault, print_answer};
 use savings::{image_savings, source_savings};
 use std::alloc::{AllocError, Global};
 
@@ -161,7 +161,7 @@ fn explanation_of(
         → IfErr result (λ e. (e ≢ ReportFault.Device)
         × IsRefused explained.entry.source.now explained.entry.statement.now profile.now e) }
 {
-    let found = longest(alloc, &handler.graph, &handler.tree)?;
+    let found = longest_of(alloc, handler)?;
     let starts = worst_starts(alloc, &handler.graph, &handler.tree)?;
     places_stand_once();
     totals_are_the_bound();
@@ -198,25 +198,8 @@ fn source_explanation(
         (λ e. (e ≢ ReportFault.Device)
         × IsRefused explained.entry.source.now explained.entry.statement.now profile.now e) }
 {
-    let said = read_source(alloc, explained.source)?;
-    let handler = handler_of(alloc, &said, explained.statement, profile)?;
-    explanation_of(alloc, explained, profile, &said.image, &handler)
-}
-
-fn priced_explanation<O: Output>(
-    alloc: Global,
-    explained: Explained<'_>,
-    profile: &Profile,
-    out: &mut O,
-) -> Result<bool, ReportFault>
-    ensures { Explains O.taken O.failures explained.entry.source.now explained.entry.statement.now
-        explained.entry.at_most explained.entry.bursts profile.now out.old out.new result }
-{
-    let found = source_explanation(alloc, explained, profile)?;
-    match write_whole(out, &found.text) {
-        Ok(()) => Ok(is_enough(explained.at_most, found.bound)),
-        Err(_) => Err(ReportFault::Device),
-    }
+    let read = said_handler(alloc, explained.source, explained.statement, profile)?;
+    explanation_of(alloc, explained, profile, &read.said.image, &read.handler)
 }
 
 /// Writes where the ticks of a handler's greatest run time go, by a cycle profile's file or by the first
@@ -243,5 +226,6 @@ pub fn explain_report<O: Output>(
         explained.entry.at_most explained.entry.bursts p out.old out.new result) out.old out.new result }
 {
     let profile = profile_of(alloc, profile)?;
-    priced_explanation(alloc, explained, &profile, out)
+    let found = source_explanation(alloc, explained, &profile)?;
+    print_answer(is_enough(explained.at_most, found.bound), &found.text, out)
 }

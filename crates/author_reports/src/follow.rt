@@ -1,19 +1,17 @@
 //! Whether a machine's run keeps the statement of its handler.
 
-ghost use Rattle.std.specs.Prelude.{◌≡◌, ◌≢◌, ℕ, List, Ok, IfErr, IfOk, OnOk, Option, length, option_map};
-ghost use Rattle.bus_ticks.specs.declared.profile.Profile.{Profile};
+ghost use Rattle.std.specs.Prelude.{◌≡◌, ◌≢◌, ℕ, Ok, IfErr, IfOk, Option, length, option_map};
 ghost use Rattle.flow_graph.specs.Flow.{IsWellFormed};
 ghost use Rattle.flow_graph.specs.Graph.{IsFlowGraph};
 ghost use Rattle.kept_runs.specs.Judging.{IsMachineFor};
 ghost use Rattle.loader.specs.Labels.{address_of};
-ghost use Rattle.longest_walk.specs.Longest.{IsLongest, IsWalkFault};
+ghost use Rattle.longest_walk.specs.Longest.{IsLongest};
 ghost use Rattle.loop_bounds.specs.Bounds.{IsGreatestCost};
-ghost use Rattle.numbered_walks.specs.declared.fault.WalkFault.{WalkFault};
 ghost use Rattle.author_reports.specs.FollowReport.{FollowsRun, IsFollowRefused, IsFollowReport};
 ghost use Rattle.author_reports.specs.FollowText.{IsLineAt, strayed_text, why_text};
 ghost use Rattle.author_reports.specs.FollowWork.{HasAllPlaces, IsJudgedRun, Tells, TellsKeptRun};
 ghost use Rattle.report_input.specs.Priced.{Priced};
-ghost use Rattle.report_input.specs.Report.{HasLoops, IsRefused, IsTreeOf};
+ghost use Rattle.report_input.specs.Report.{HasLoops, IsTreeOf};
 ghost use Rattle.report_input.specs.Source.{IsSourceFault, source_of};
 
 use crate::differences::{Words, differences};
@@ -23,10 +21,10 @@ use bus_ticks::Profile;
 use flow_graph::{Graph, run_law, step_law};
 use kept_runs::{Followed, Passed, Unkept, follow};
 use loader::Image;
-use longest_walk::{Longest, longest};
+use longest_walk::Longest;
 use machine_file::MachineFile;
-use report_input::{Handler, Placed, handler_of, place_image, profile_of, read_source};
-use report_output::{Output, ReportFault, write_whole};
+use report_input::{Handler, Placed, longest_of, place_image, profile_of, said_handler};
+use report_output::{Output, ReportFault, print_answer};
 use std::alloc::Global;
 
 /// A handler, and a machine whose run through it is judged.
@@ -54,23 +52,6 @@ struct Bounded<'a> {
     image: &'a Image,
     handler: &'a Handler,
     longest: &'a Longest,
-}
-
-// The greatest of the handler's walks.
-fn longest_of(alloc: Global, handler: &Handler) -> Result<Longest, ReportFault>
-    requires { IsTreeOf handler.now.graph handler.now.statement.loops handler.now.tree }
-    ensures longest { IfOk result (IsLongest handler.now.graph handler.now.tree) }
-    ensures greatest { IfOk result
-        (λ l. IsGreatestCost handler.now.graph handler.now.statement.loops l.bound) }
-    ensures allowed { OnOk result
-        ((fault : WalkFault) → fault ≢ WalkFault.Memory → IsWalkFault handler.now.graph handler.now.tree fault
-        → ⊥) }
-    ensures fault { (source statement : List ℕ) (profile : Profile)
-        → HasLoops source statement profile handler.now.statement handler.now.graph
-        → IfErr result (λ e. (e ≢ ReportFault.Device) × IsRefused source statement profile e) }
-{
-    let found = longest(alloc, &handler.graph, &handler.tree)?;
-    Ok(found)
 }
 
 // The text on a run that is kept.
@@ -228,25 +209,8 @@ fn source_run(alloc: Global, run: FollowedRun<'_>, profile: &Profile) -> Result<
         (λ e. (e ≢ ReportFault.Device) × IsFollowRefused run.entry.source.now run.entry.statement.now
         run.entry.machine.now profile.now e) }
 {
-    let said = read_source(alloc, run.source)?;
-    let handler = handler_of(alloc, &said, run.statement, profile)?;
-    handler_run(alloc, run, &said, &handler, profile)
-}
-
-fn priced_run<O: Output>(
-    alloc: Global,
-    run: FollowedRun<'_>,
-    profile: &Profile,
-    out: &mut O,
-) -> Result<bool, ReportFault>
-    ensures { FollowsRun O.taken O.failures run.entry.source.now run.entry.statement.now run.entry.machine.now
-        profile.now out.old out.new result }
-{
-    let judged = source_run(alloc, run, profile)?;
-    match write_whole(out, &judged.text) {
-        Ok(()) => Ok(judged.kept),
-        Err(_) => Err(ReportFault::Device),
-    }
+    let read = said_handler(alloc, run.source, run.statement, profile)?;
+    handler_run(alloc, run, &read.said, &read.handler, profile)
 }
 
 /// Runs the machine of a source and a machine file, as [`run_report`](crate::run_report) does, until it
@@ -276,5 +240,6 @@ pub fn follow_report<O: Output>(
         run.entry.machine.now p out.old out.new result) out.old out.new result }
 {
     let profile = profile_of(alloc, profile)?;
-    priced_run(alloc, run, &profile, out)
+    let judged = source_run(alloc, run, &profile)?;
+    print_answer(judged.kept, &judged.text, out)
 }

@@ -16,9 +16,8 @@ use dot_text::{
 };
 use flow_graph::Graph;
 use loader::{Image, MAGIC};
-use longest_walk::longest;
-use report_input::{Handler, handler_of, profile_of, read_source};
-use report_output::{Output, ReportFault, write_whole};
+use report_input::{Handler, longest_of, profile_of, said_handler};
+use report_output::{Output, ReportFault, print_answer};
 use std::alloc::Global;
 
 // What stands for the places, by a text's lines or an image's words.
@@ -59,7 +58,7 @@ fn drawing_of(
         → HasLoops source.now statement profile handler.now.statement handler.now.graph
         → IfErr result (λ e. (e ≢ ReportFault.Device) × IsRefused source.now statement profile e) }
 {
-    let found = longest(alloc, &handler.graph, &handler.tree)?;
+    let found = longest_of(alloc, handler)?;
     places_are_drawn_once();
     node_ticks_are_the_bound();
     let labels = labels_of(alloc, source, image, &handler.graph)?;
@@ -78,25 +77,8 @@ fn source_drawing(
     ensures fault { IfErr result
         (λ e. (e ≢ ReportFault.Device) × IsRefused source.now statement.now profile.now e) }
 {
-    let said = read_source(alloc, source)?;
-    let handler = handler_of(alloc, &said, statement, profile)?;
-    drawing_of(alloc, source, &said.image, &handler)
-}
-
-fn priced_drawing<O: Output>(
-    alloc: Global,
-    source: &[u8],
-    statement: &[u8],
-    profile: &Profile,
-    out: &mut O,
-) -> Result<(), ReportFault>
-    ensures { Draws O.taken O.failures source.now statement.now profile.now out.old out.new result }
-{
-    let text = source_drawing(alloc, source, statement, profile)?;
-    match write_whole(out, &text) {
-        Ok(()) => Ok(()),
-        Err(_) => Err(ReportFault::Device),
-    }
+    let read = said_handler(alloc, source, statement, profile)?;
+    drawing_of(alloc, source, &read.said.image, &read.handler)
 }
 
 /// Writes the drawing of a handler's flow graph in DOT, the language of Graphviz, by a cycle profile's file
@@ -119,5 +101,6 @@ pub fn graph_report<O: Output>(
         result) out.old out.new result }
 {
     let profile = profile_of(alloc, profile)?;
-    priced_drawing(alloc, source, statement, &profile, out)
+    let text = source_drawing(alloc, source, statement, &profile)?;
+    print_answer((), &text, out)
 }

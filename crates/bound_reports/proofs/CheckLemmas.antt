@@ -1,6 +1,7 @@
 -- A verdict and the refusals of a check, from what is found of the three texts.
-use Rattle.std.proofs.Common.{◌≡◌, ◌≢◌, ◌⊎◌, ◌∙◌, ℕ, List, Result, Ok, Err, refl, sym, ap, subst, inl}
-use Rattle.std.specs.Prelude.{IfErr, IsErrOf}
+use Rattle.std.proofs.Common.{◌≡◌, ◌≢◌, ◌⊎◌, ◌∙◌, ℕ, List, Option, Result, Err, refl, sym, ap, subst, inl}
+use Rattle.std.specs.Prelude.{IsErrOf}
+use Rattle.std.specs.Result.{IsErrAnd}
 use Rattle.bus_ticks.specs.declared.profile.Profile.{Profile}
 use Rattle.flow_graph.specs.Flow.{Flow}
 use Rattle.statement.specs.Stated.{Stated}
@@ -17,12 +18,14 @@ use Rattle.cert_check.specs.declared.verdict.Verdict.TheVariants.{Yes}
 use Rattle.cert_check.proofs.OneVerdict.{one_verdict}
 use Rattle.bound_reports.specs.Found.{FindsVerdict, IsFound}
 use Rattle.bound_reports.specs.Check.{IsCheckRefused, IsCheckable, IsJudged}
+use Rattle.report_output.specs.Answers.{Answers}
 use Rattle.report_output.specs.Faults.{of_cert}
+use Rattle.report_output.proofs.AnswerLemmas.{ends_early}
 use Rattle.report_input.specs.Report.{HasLoops, IsHandlerRefused, IsReport, IsTreeOf}
 use Rattle.report_output.specs.declared.fault.ReportFault.{ReportFault}
-use Rattle.report_output.specs.declared.fault.ReportFault.TheVariants.{Memory, Source, Image, Statement, Graph, Loops, Walk, MachineFile, Load, Device}
+use Rattle.report_output.specs.declared.fault.ReportFault.TheVariants.{Memory, Device}
 use Rattle.report_output.specs.declared.fault.ReportFault.TheVariants as report_fault
-use Rattle.report_input.proofs.HandlerLemmas.{handler_refusals, one_graph}
+use Rattle.report_input.proofs.HandlerLemmas.{handler_refusals, one_graph, refused_as}
 use Rattle.report_input.proofs.ReportLemmas.{tree_is_greatest}
 
 -- ## Refusals
@@ -32,19 +35,7 @@ pub check_refusal : (source statement text : List ℕ) (profile : Profile) (e : 
 check_refusal source statement text profile Memory h = (λ e. cc e, tt)
 check_refusal source statement text profile Device h = absurd h
 check_refusal source statement text profile (report_fault.Cert f) h = absurd h
-check_refusal source statement text profile (Source f) h = (λ e. cc e, h)
-check_refusal source statement text profile (Image f) h = (λ e. cc e, h)
-check_refusal source statement text profile (MachineFile f) h = (λ e. cc e, h)
-check_refusal source statement text profile (Load f) h = (λ e. cc e, h)
-check_refusal source statement text profile (report_fault.Profile f) h = (λ e. cc e, h)
-check_refusal source statement text profile report_fault.NotFiqEntry h = (λ e. cc e, h)
-check_refusal source statement text profile report_fault.NoSuchEntry h = (λ e. cc e, h)
-check_refusal source statement text profile report_fault.NoSuchEdge h = (λ e. cc e, h)
-check_refusal source statement text profile (report_fault.NotFree a) h = (λ e. cc e, h)
-check_refusal source statement text profile (Statement f) h = (λ e. cc e, h)
-check_refusal source statement text profile (Graph f) h = (λ e. cc e, h)
-check_refusal source statement text profile (Loops f) h = (λ e. cc e, h)
-check_refusal source statement text profile (Walk f) h = (λ e. cc e, h)
+check_refusal source statement text profile e h = (λ e. cc e, h)
 
 -- .. but not where the three texts can be checked
 pub checkable_refusal : (source statement text : List ℕ) (profile : Profile) (e : ReportFault) → IsHandlerRefused source statement profile e → IsCheckable source statement text profile → e ≡ Memory
@@ -101,7 +92,11 @@ report_gets_yes source statement text profile v r j =
     let verdict : IsVerdict a.flow j.tree j.cert v = subst (λ (w : Flow). IsVerdict w j.tree j.cert v) same.same_flow j.verdict_is in
     one_verdict a.flow j.tree j.cert v Yes verdict (r.judged j.tree of j.cert said)
 
--- the same of an answer
-pub only_memory : {T : Type 0} (r : Result T ReportFault) → IfErr r (λ e. e ≡ Memory) → IfErr r (λ e. (e ≡ Memory) ⊎ (e ≡ Device))
-only_memory (Ok x) h = tt
-only_memory (Err e) h = inl h
+-- ## The answer
+
+-- where nothing is found, before anything was written
+pub ends_unfound : {O T : Type 0} (taken : O → Option (List ℕ)) (failures : O → ℕ) (IsText : T → List ℕ → Type 0) (IsFine : Type 0) (IsFault : ReportFault → Type 0) (old : O) (r : Result T ReportFault) (e : ReportFault)
+    → IsErrAnd r (λ x. x ≡ e) → (e ≢ Device) × IsFault e → (IsFine → e ≡ Memory) → Answers taken failures IsText IsFine IsFault old old r
+ends_unfound taken failures IsText IsFine IsFault old r e is h only =
+    ends_early taken failures IsText IsFine IsFault old r e is h
+    (λ refused fine. refused_as r e (λ x. (x ≡ Memory) ⊎ (x ≡ Device)) is (inl (only fine)))

@@ -10,8 +10,8 @@ use bus_ticks::Profile;
 use cert_check::longest_gets_yes;
 use certificate::{print_cert, write_cert};
 use flow_graph::run_law;
-use longest_walk::{Longest, longest};
-use report_input::{Handler, profile_of, read_handler};
+use longest_walk::Longest;
+use report_input::{Handler, longest_of, profile_of, read_handler};
 use report_output::{Output, ReportFault};
 use std::alloc::Global;
 
@@ -29,11 +29,11 @@ fn read_longest(
         (λ e. (e ≢ ReportFault.Device) × IsRefused source.now statement.now profile.now e) }
 {
     let handler = read_handler(alloc, source, statement, profile)?;
-    longest_of(alloc, &handler)
+    certified_longest(alloc, &handler)
 }
 
-// The greatest walk of a handler that was read.
-fn longest_of(alloc: Global, handler: &Handler) -> Result<Longest, ReportFault>
+// The greatest walk of a handler that was read, whose certificate is judged yes.
+fn certified_longest(alloc: Global, handler: &Handler) -> Result<Longest, ReportFault>
     requires formed { IsWellFormed handler.now.graph }
     requires tree { IsTreeOf handler.now.graph handler.now.statement.loops handler.now.tree }
     ensures report { (source statement : List ℕ) (profile : Profile)
@@ -47,7 +47,7 @@ fn longest_of(alloc: Global, handler: &Handler) -> Result<Longest, ReportFault>
         → HasLoops source statement profile handler.now.statement handler.now.graph
         → IfErr result (λ e. (e ≢ ReportFault.Device) × IsRefused source statement profile e) }
 {
-    let found = longest(alloc, &handler.graph, &handler.tree)?;
+    let found = longest_of(alloc, handler)?;
     run_law();
     longest_gets_yes();
     Ok(found)
@@ -75,7 +75,7 @@ pub fn longest_report(alloc: Global, handler: &Handler) -> Result<BoundReport, R
         → HasLoops source statement profile handler.now.statement handler.now.graph
         → IfErr result (λ e. (e ≢ ReportFault.Device) × IsRefused source statement profile e) }
 {
-    let found = longest_of(alloc, handler)?;
+    let found = certified_longest(alloc, handler)?;
     let text = write_cert(alloc, &found)?;
     Ok(BoundReport {
         bound: found.bound,

@@ -3,7 +3,6 @@ ghost use Rattle.report_input.specs.Priced.{Priced};
 ghost use Rattle.bound_reports.specs.Check.{Checks, objection_line, verdict_line};
 
 use crate::finding::found_of;
-use bus_ticks::Profile;
 use cert_check::{Objection, Verdict};
 use report_input::profile_of;
 use report_output::{Output, ReportFault, print_answer};
@@ -79,18 +78,6 @@ pub fn check_report<O: Output>(
         statement,
         cert,
     };
-    priced_check(alloc, inputs, &profile, out)
-}
-
-fn priced_check<O: Output>(
-    alloc: Global,
-    inputs: CheckInputs<'_>,
-    profile: &Profile,
-    out: &mut O,
-) -> Result<bool, ReportFault>
-    ensures { Checks O.taken O.failures inputs.entry.source.now inputs.entry.statement.now
-        inputs.entry.cert.now profile.now out.old out.new result }
-{
-    let verdict: Verdict = found_of(alloc, inputs, profile)?;
+    let verdict: Verdict = found_of(alloc, inputs, &profile)?;
     print_answer(is_yes(verdict), line_of(verdict), out)
 }

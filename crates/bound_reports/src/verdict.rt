@@ -6,7 +6,6 @@ ghost use Rattle.bound_reports.specs.Verdict.{ExplainsVerdict, row_text};
 
 use crate::check::{CheckInputs, line_of};
 use crate::finding::found_of;
-use bus_ticks::Profile;
 use cert_check::{FailingRow, Verdict, objection_of};
 use objections::objection_text;
 use report_input::profile_of;
@@ -37,20 +36,6 @@ fn is_yes(row: &Option<FailingRow>) -> bool
     }
 }
 
-fn explained_verdict<O: Output>(
-    alloc: Global,
-    inputs: CheckInputs<'_>,
-    profile: &Profile,
-    out: &mut O,
-) -> Result<bool, ReportFault>
-    ensures { ExplainsVerdict O.taken O.failures inputs.entry.source.now inputs.entry.statement.now
-        inputs.entry.cert.now profile.now out.old out.new result }
-{
-    let row: Option<FailingRow> = found_of(alloc, inputs, profile)?;
-    let text = text_of(alloc, &row)?;
-    print_answer(is_yes(&row), &text, out)
-}
-
 /// Judges the text of a certificate as [`check_report`](crate::check_report) does, and writes the same line and
 /// then, where that is `no`, what fails in the certificate: a place or a loop without a row, a row too many, the
 /// edge whose row does not hold with what it asks for, or where the walk goes wrong.
@@ -69,5 +54,7 @@ pub fn verdict_report<O: Output>(
         inputs.entry.cert.now p out.old out.new result) out.old out.new result }
 {
     let profile = profile_of(alloc, profile)?;
-    explained_verdict(alloc, inputs, &profile, out)
+    let row: Option<FailingRow> = found_of(alloc, inputs, &profile)?;
+    let text = text_of(alloc, &row)?;
+    print_answer(is_yes(&row), &text, out)
 }

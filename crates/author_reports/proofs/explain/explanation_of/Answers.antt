@@ -13,13 +13,9 @@ use Rattle.author_reports.proofs.explain.explanation_of.Goals as goal
 
 pub returns-in_err-found-clause-fault : goal.returns-in_err-found-clause-fault
 returns-in_err-found-clause-fault c = λ names said loops.
-    let source = c.args.explained.source.now in
-    let statement = c.args.explained.statement.now in
-    let profile = c.args.profile.now in
-    let h = c.args.handler.now in
-    let f = c.in_err-found.field-0.0 in
-    refused_as c.from_residual.result (of_walk f) (λ e. (e ≢ Device) × IsRefused source statement profile e) c.from_residual.ensures.1
-    (walk_refusal source statement profile h.statement h.graph h.tree loops c.requires.tree f c.in_err-found.ensures.fault)
+    let x = c.args.explained in
+    refused_as c.from_residual.result c.in_err-found.field-0.0 (λ e. (e ≢ Device) × IsRefused x.source.now x.statement.now c.args.profile.now e) c.from_residual.ensures.1
+    (c.in_err-found.ensures.fault x.source.now x.statement.now c.args.profile.now loops)
 
 pub returns-in_err-starts-clause-fault : goal.returns-in_err-starts-clause-fault
 returns-in_err-starts-clause-fault c = λ names said loops.

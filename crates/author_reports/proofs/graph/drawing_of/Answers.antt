@@ -1,21 +1,17 @@
 use Rattle.std.proofs.Common.{◌≢◌, ℕ, List, Vec, subst, sym}
 use Rattle.std.specs.Global.{Global}
-use Rattle.report_output.specs.Faults.{of_walk}
 use Rattle.author_reports.specs.GraphReport.{AreLabelsOf}
 use Rattle.report_input.specs.Report.{IsRefused}
 use Rattle.report_output.specs.declared.fault.ReportFault.TheVariants.{Device}
 use Rattle.author_reports.proofs.ExplainLemmas.{bound_fits, source_unexplained}
 use Rattle.author_reports.proofs.GraphLemmas.{drawn}
 use Rattle.report_input.proofs.HandlerLemmas.{refused_as}
-use Rattle.report_input.proofs.ReportLemmas.{walk_refusal}
 use Rattle.author_reports.proofs.graph.drawing_of.Goals as goal
 
 pub returns-in_err-found-clause-fault : goal.returns-in_err-found-clause-fault
 returns-in_err-found-clause-fault c = λ statement profile names said loops.
-    let h = c.args.handler.now in
-    let f = c.in_err-found.field-0.0 in
-    refused_as c.from_residual.result (of_walk f) (λ e. (e ≢ Device) × IsRefused c.args.source.now statement profile e) c.from_residual.ensures.1
-    (walk_refusal c.args.source.now statement profile h.statement h.graph h.tree loops c.requires.tree f c.in_err-found.ensures.fault)
+    refused_as c.from_residual.result c.in_err-found.field-0.0 (λ e. (e ≢ Device) × IsRefused c.args.source.now statement profile e) c.from_residual.ensures.1
+    (c.in_err-found.ensures.fault c.args.source.now statement profile loops)
 
 pub returns-in_err-labels-clause-fault : goal.returns-in_err-labels-clause-fault
 returns-in_err-labels-clause-fault c = λ statement profile names said loops.

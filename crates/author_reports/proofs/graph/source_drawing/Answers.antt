@@ -2,37 +2,24 @@ use Rattle.std.proofs.Common.{◌≢◌}
 use Rattle.loader.specs.Labels.{address_of}
 use Rattle.report_input.specs.Report.{IsRefused}
 use Rattle.report_output.specs.declared.fault.ReportFault.TheVariants.{Device}
-use Rattle.author_reports.proofs.ExplainLemmas.{source_unexplained}
 use Rattle.report_input.proofs.HandlerLemmas.{refused_as}
 use Rattle.report_input.proofs.ReportLemmas.{report_refusal}
 use Rattle.author_reports.proofs.graph.source_drawing.Goals as goal
 
-pub returns-in_err-said-clause-fault : goal.returns-in_err-said-clause-fault
-returns-in_err-said-clause-fault c =
+pub returns-in_err-read-clause-fault : goal.returns-in_err-read-clause-fault
+returns-in_err-read-clause-fault c =
     let source = c.args.source.now in
     let statement = c.args.statement.now in
-    let profile = c.args.profile.now in
-    let e = c.in_err-said.field-0.0 in
-    refused_as c.from_residual.result e (λ x. (x ≢ Device) × IsRefused source statement profile x) c.from_residual.ensures.1
-    (source_unexplained source statement profile e c.in_err-said.ensures.fault)
-
-pub returns-in_err-handler-clause-fault : goal.returns-in_err-handler-clause-fault
-returns-in_err-handler-clause-fault c =
-    let source = c.args.source.now in
-    let statement = c.args.statement.now in
-    let profile = c.args.profile.now in
-    let e = c.in_err-handler.field-0.0 in
-    refused_as c.from_residual-in_err-handler.result e (λ x. (x ≢ Device) × IsRefused source statement profile x) c.from_residual-in_err-handler.ensures.1
-    (report_refusal source statement profile e (c.in_err-handler.ensures.fault source c.in_ok-said.ensures.said))
+    let e = c.in_err-read.field-0.0 in
+    refused_as c.from_residual.result e (λ e. (e ≢ Device) × IsRefused source statement c.args.profile.now e) c.from_residual.ensures.1
+    (report_refusal source statement c.args.profile.now e c.in_err-read.ensures.fault)
 
 pub returns-clause-draws : goal.returns-clause-draws
 returns-clause-draws c =
-    let said = c.in_ok-said.said in
-    c.drawing_of.ensures.draws c.args.statement.now c.args.profile.now (address_of said.labels) c.in_ok-said.ensures.said
-    (c.in_ok-handler.ensures.loops c.args.source.now c.in_ok-said.ensures.said)
+    let labels = address_of c.in_ok-read.read.said.labels in
+    c.drawing_of.ensures.draws c.args.statement.now c.args.profile.now labels c.in_ok-read.ensures.said c.in_ok-read.ensures.loops
 
 pub returns-clause-fault : goal.returns-clause-fault
 returns-clause-fault c =
-    let said = c.in_ok-said.said in
-    c.drawing_of.ensures.fault c.args.statement.now c.args.profile.now (address_of said.labels) c.in_ok-said.ensures.said
-    (c.in_ok-handler.ensures.loops c.args.source.now c.in_ok-said.ensures.said)
+    let labels = address_of c.in_ok-read.read.said.labels in
+    c.drawing_of.ensures.fault c.args.statement.now c.args.profile.now labels c.in_ok-read.ensures.said c.in_ok-read.ensures.loops

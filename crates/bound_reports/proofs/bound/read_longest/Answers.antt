@@ -3,9 +3,9 @@ use Rattle.bound_reports.proofs.bound.read_longest.Goals as goal
 
 pub returns-clause-report : goal.returns-clause-report
 returns-clause-report c =
-    IfOk-weaker c.longest_of.result _ _ (λ found r. r.report)
-    (c.longest_of.ensures.report c.args.source.now c.args.statement.now c.args.profile.now c.in_ok-handler.ensures.loops)
+    IfOk-weaker c.certified_longest.result _ _ (λ found r. r.report)
+    (c.certified_longest.ensures.report c.args.source.now c.args.statement.now c.args.profile.now c.in_ok-handler.ensures.loops)
 
 pub returns-clause-fault : goal.returns-clause-fault
 returns-clause-fault c =
-    c.longest_of.ensures.fault c.args.source.now c.args.statement.now c.args.profile.now c.in_ok-handler.ensures.loops
+    c.certified_longest.ensures.fault c.args.source.now c.args.statement.now c.args.profile.now c.in_ok-handler.ensures.loops
