@@ -18,7 +18,7 @@ use Rattle.report_input.specs.Report.{IsRefused, IsReport}
 use Rattle.report_input.specs.Source.{Said, source_of}
 use Rattle.arcwcet.specs.VisitsReport.{AreAccepted, AreRefused, EntersElsewhere, HasBound, HasFiqBound, HaveReports, IsFiqRefused, IsVisitsReport, summary, total_of}
 use Rattle.report_output.specs.declared.fault.ReportFault.{ReportFault}
-use Rattle.report_output.specs.declared.fault.ReportFault.TheVariants.{Memory, Source, Image, Statement, Graph, Loops, Walk, MachineFile, Load, Cert, Device, NotFiqEntry}
+use Rattle.report_output.specs.declared.fault.ReportFault.TheVariants.{Memory, Walk, Device, NotFiqEntry}
 use Rattle.report_output.specs.declared.fault.ReportFault.TheVariants as report_fault
 use Rattle.report_input.proofs.HandlerLemmas.{one_graph, one_ok, same_statement, statement_refusal}
 use Rattle.report_input.proofs.ReportLemmas.{accepted_refusals, report_refusal}
@@ -58,16 +58,7 @@ module _ (source fiq : List ℕ) (profile : Profile) where
   fiq_refusal report_fault.NoSuchEntry right r = absurd r.1
   fiq_refusal (report_fault.NotFree at) right r = absurd r.1
   fiq_refusal Device right r = absurd (r.0 refl)
-  fiq_refusal (Source f) right r = (λ e. cc e, (r.1, right))
-  fiq_refusal (Image f) right r = (λ e. cc e, (r.1, right))
-  fiq_refusal (Statement f) right r = (λ e. cc e, (r.1, right))
-  fiq_refusal (Graph f) right r = (λ e. cc e, (r.1, right))
-  fiq_refusal (Loops f) right r = (λ e. cc e, (r.1, right))
-  fiq_refusal (Walk f) right r = (λ e. cc e, (r.1, right))
-  fiq_refusal (MachineFile f) right r = (λ e. cc e, (r.1, right))
-  fiq_refusal (Load f) right r = (λ e. cc e, (r.1, right))
-  fiq_refusal (Cert f) right r = (λ e. cc e, (r.1, right))
-  fiq_refusal (report_fault.Profile f) right r = (λ e. cc e, (r.1, right))
+  fiq_refusal e right r = (λ e. cc e, (r.1, right))
 
   -- the same of an answer
   pub fiq_answer : {T : Type 0} (r : Result T ReportFault) → (EntersElsewhere source fiq → ⊥) → IfErr r (λ e. (e ≢ Device) × IsRefused source fiq profile e)
@@ -97,12 +88,7 @@ module _ (source fiq : List ℕ) (profile : Profile) where
 
     pub fiq_statement_refusal : (f : StatementFault) → (f ≢ statement_fault.Memory → IsStatement fiq names (Err f)) → (of_statement f ≢ Device) × IsFiqRefused source fiq profile (of_statement f)
     fiq_statement_refusal statement_fault.Memory h = (λ e. cc e, tt)
-    fiq_statement_refusal statement_fault.NotToml h = refused_reading statement_fault.NotToml (λ e. cc e) h
-    fiq_statement_refusal statement_fault.UnknownKey h = refused_reading statement_fault.UnknownKey (λ e. cc e) h
-    fiq_statement_refusal statement_fault.WrongKind h = refused_reading statement_fault.WrongKind (λ e. cc e) h
-    fiq_statement_refusal statement_fault.UnknownLabel h = refused_reading statement_fault.UnknownLabel (λ e. cc e) h
-    fiq_statement_refusal statement_fault.OutOfRange h = refused_reading statement_fault.OutOfRange (λ e. cc e) h
-    fiq_statement_refusal statement_fault.Twice h = refused_reading statement_fault.Twice (λ e. cc e) h
+    fiq_statement_refusal f h = refused_reading f (λ e. cc e) h
 
 -- ## The report
 
@@ -156,16 +142,7 @@ module _ (source irq fiq : List ℕ) (profile : Profile) where
   fiq_refusals report_fault.NoSuchEntry both r = absurd r.0
   fiq_refusals (report_fault.NotFree at) both r = absurd r.0
   fiq_refusals Device both r = inr refl
-  fiq_refusals (Source f) both r = accepted_refusals source fiq profile (Source f) both.fiq_is.accepted r.0
-  fiq_refusals (Image f) both r = accepted_refusals source fiq profile (Image f) both.fiq_is.accepted r.0
-  fiq_refusals (Statement f) both r = accepted_refusals source fiq profile (Statement f) both.fiq_is.accepted r.0
-  fiq_refusals (Graph f) both r = accepted_refusals source fiq profile (Graph f) both.fiq_is.accepted r.0
-  fiq_refusals (Loops f) both r = accepted_refusals source fiq profile (Loops f) both.fiq_is.accepted r.0
-  fiq_refusals (Walk f) both r = accepted_refusals source fiq profile (Walk f) both.fiq_is.accepted r.0
-  fiq_refusals (MachineFile f) both r = accepted_refusals source fiq profile (MachineFile f) both.fiq_is.accepted r.0
-  fiq_refusals (Load f) both r = accepted_refusals source fiq profile (Load f) both.fiq_is.accepted r.0
-  fiq_refusals (Cert f) both r = accepted_refusals source fiq profile (Cert f) both.fiq_is.accepted r.0
-  fiq_refusals (report_fault.Profile f) both r = accepted_refusals source fiq profile (report_fault.Profile f) both.fiq_is.accepted r.0
+  fiq_refusals e both r = accepted_refusals source fiq profile e both.fiq_is.accepted r.0
 
   visits_refusals : (k : ℕ) (e : ReportFault) → AreAccepted source irq fiq k profile → AreRefused source irq fiq k profile e → (e ≡ Memory) ⊎ (e ≡ Device)
   visits_refusals k e a (inl r) = accepted_refusals source irq profile e a.0.irq_is.accepted r

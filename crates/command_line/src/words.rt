@@ -6,7 +6,8 @@ ghost use Rattle.clap.specs.Walk.{Row, rows_of};
 ghost use Rattle.clap.specs.Words.{kind_of, subcommand_rows_of};
 ghost use Rattle.command_line.specs.Line.{asked_asm, asked_bound, asked_by, asked_check, asked_draft};
 ghost use Rattle.command_line.specs.Line.{asked_explain, asked_follow, asked_in, asked_list, asked_of};
-ghost use Rattle.command_line.specs.Line.{asked_visits, asm_of, handler_and, names_in, names_of, number_at, source_and};
+ghost use Rattle.command_line.specs.Line.{asked_visits, asm_of, handler_and, names_in, names_of, number_at};
+ghost use Rattle.command_line.specs.Line.{source_and};
 ghost use Rattle.command_line.specs.Rows.{asked_as, first_asked};
 
 use crate::commands::arcwcet;
@@ -21,7 +22,8 @@ use std::alloc::Global;
 
 /// The source's name and another argument, where both are there.
 fn source_and<'a>(values: &ArgMatches<'a>, id: &str) -> Option<(&'a str, &'a str)>
-    ensures { option_map (λ p. (p.0.now, p.1.now)) result ≡ source_and id.now (rows_of (found_of values.now)) }
+    ensures { option_map (λ p. (p.0.now, p.1.now)) result
+        ≡ source_and id.now (rows_of (found_of values.now)) }
 {
     let source = values.get_str("source")?;
     let other = values.get_str(id)?;
@@ -43,7 +45,8 @@ fn names_in<'a>(values: &ArgMatches<'a>, second: &str) -> Option<Names<'a>>
 
 /// The names of a handler's files and another argument, where all are there.
 fn handler_and<'a>(values: &ArgMatches<'a>, id: &str) -> Option<(Names<'a>, &'a str)>
-    ensures { option_map (λ p. (names_of p.0, p.1.now)) result ≡ handler_and id.now (rows_of (found_of values.now)) }
+    ensures { option_map (λ p. (names_of p.0, p.1.now)) result
+        ≡ handler_and id.now (rows_of (found_of values.now)) }
 {
     let handler = names_in(values, "statement")?;
     let other = values.get_str(id)?;

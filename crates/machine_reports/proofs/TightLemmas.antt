@@ -53,7 +53,7 @@ use Rattle.machine_reports.specs.TightReport.{HasNoTightReport, HasTightReport, 
 use Rattle.machine_reports.specs.TightReport.{one_step as step_of_cost}
 use Rattle.machine_reports.specs.TightText.{IsEdgeFile, IsEdgeText}
 use Rattle.report_output.specs.declared.fault.ReportFault.{ReportFault}
-use Rattle.report_output.specs.declared.fault.ReportFault.TheVariants.{Memory, Source, Image, Statement, Graph, Loops, Walk, MachineFile, Load, Cert, Device}
+use Rattle.report_output.specs.declared.fault.ReportFault.TheVariants.{Memory, Source, Image, Statement, Graph, Loops, Load, Device}
 use Rattle.report_output.specs.declared.fault.ReportFault.TheVariants as report_fault
 use Rattle.machine_reports.proofs.CommentLemmas.{IsPlainLine, after_comment, both_plain, digits_plain, printed_start}
 use Rattle.report_input.proofs.HandlerLemmas.{graph_refusals, one_graph, one_ok}
@@ -272,18 +272,7 @@ module _ (source statement : List ℕ) (n : ℕ) (profile : Profile) (words : Wo
   edge_refusal (report_fault.NotFree a) (inr r) = (λ d. cc d, edge_refused (report_fault.NotFree a) r)
   edge_refusal (Load f) (inr r) = (λ d. cc d, edge_refused (Load f) r)
   edge_refusal e (inl memory) = (λ d. cc (memory, d), subst (IsTightRefused source statement n profile) (sym memory) tt)
-  edge_refusal Device (inr r) = absurd r
-  edge_refusal (Source f) (inr r) = absurd r
-  edge_refusal (Image f) (inr r) = absurd r
-  edge_refusal (Statement f) (inr r) = absurd r
-  edge_refusal (Graph f) (inr r) = absurd r
-  edge_refusal (Loops f) (inr r) = absurd r
-  edge_refusal (Walk f) (inr r) = absurd r
-  edge_refusal (MachineFile f) (inr r) = absurd r
-  edge_refusal (Cert f) (inr r) = absurd r
-  edge_refusal (report_fault.Profile f) (inr r) = absurd r
-  edge_refusal report_fault.NotFiqEntry (inr r) = absurd r
-  edge_refusal report_fault.NoSuchEntry (inr r) = absurd r
+  edge_refusal e (inr r) = absurd r
 
 module _ (source statement : List ℕ) (n : ℕ) (profile : Profile) where
   abbrev IsRefusal : ReportFault → Type 0
@@ -294,37 +283,15 @@ module _ (source statement : List ℕ) (n : ℕ) (profile : Profile) where
   source_refused Memory h = (λ d. cc d, tt)
   source_refused (Source f) h = (λ d. cc d, h)
   source_refused (Image f) h = (λ d. cc d, h)
-  source_refused Device h = absurd h
-  source_refused (Statement f) h = absurd h
-  source_refused (Graph f) h = absurd h
-  source_refused (Loops f) h = absurd h
-  source_refused (Walk f) h = absurd h
-  source_refused (MachineFile f) h = absurd h
-  source_refused (Load f) h = absurd h
-  source_refused (Cert f) h = absurd h
-  source_refused (report_fault.Profile f) h = absurd h
-  source_refused report_fault.NotFiqEntry h = absurd h
-  source_refused report_fault.NoSuchEntry h = absurd h
-  source_refused report_fault.NoSuchEdge h = absurd h
-  source_refused (report_fault.NotFree a) h = absurd h
+  source_refused e h = absurd h
 
   pub statement_refused : (f : StatementFault) → IsHandlerRefused source statement profile (of_statement f) → IsRefusal (of_statement f)
   statement_refused statement_fault.Memory h = (λ d. cc d, tt)
-  statement_refused statement_fault.NotToml h = (λ d. cc d, h)
-  statement_refused statement_fault.UnknownKey h = (λ d. cc d, h)
-  statement_refused statement_fault.WrongKind h = (λ d. cc d, h)
-  statement_refused statement_fault.UnknownLabel h = (λ d. cc d, h)
-  statement_refused statement_fault.OutOfRange h = (λ d. cc d, h)
-  statement_refused statement_fault.Twice h = (λ d. cc d, h)
+  statement_refused f h = (λ d. cc d, h)
 
   pub graph_refused : (f : BuildFault) → IsHandlerRefused source statement profile (of_graph f) → IsRefusal (of_graph f)
   graph_refused build_fault.Memory h = (λ d. cc d, tt)
-  graph_refused (build_fault.OutsideImage a) h = (λ d. cc d, h)
-  graph_refused (build_fault.UnallocatedWord a) h = (λ d. cc d, h)
-  graph_refused (build_fault.TrapInHandler a) h = (λ d. cc d, h)
-  graph_refused build_fault.TooDeep h = (λ d. cc d, h)
-  graph_refused build_fault.TooManyPlaces h = (λ d. cc d, h)
-  graph_refused (build_fault.TargetNotWriter a) h = (λ d. cc d, h)
+  graph_refused f h = (λ d. cc d, h)
 
   -- ## What has a report is refused for lack of memory alone, or as the output fails
 
@@ -347,19 +314,7 @@ module _ (source statement : List ℕ) (n : ℕ) (profile : Profile) where
   never_refused h report_fault.NoSuchEdge r = omega (arith, r, h.is_free.at.inside)
   never_refused h (report_fault.NotFree a) r = r.not_free (subst (IsFree h.graph.words) (one_edge h.flow h.edge r.edge h.is_free.at r.at) h.is_free.free)
   never_refused h (Load f) r = r.past h.is_free.fitted
-  never_refused h Memory r = r
-  never_refused h Device r = r
-  never_refused h (Source f) r = r
-  never_refused h (Image f) r = r
-  never_refused h (Statement f) r = r
-  never_refused h (Graph f) r = r
-  never_refused h (Loops f) r = r
-  never_refused h (Walk f) r = r
-  never_refused h (MachineFile f) r = r
-  never_refused h (Cert f) r = r
-  never_refused h (report_fault.Profile f) r = r
-  never_refused h report_fault.NotFiqEntry r = r
-  never_refused h report_fault.NoSuchEntry r = r
+  never_refused h e r = r
 
   not_refused : (h : HasTightReport source statement n profile) (e : ReportFault) → HasNoTightReport source statement n profile e → ⊥
   not_refused h e r =
@@ -379,17 +334,11 @@ module _ (source statement : List ℕ) (n : ℕ) (profile : Profile) where
   tight_refusals report_fault.NoSuchEdge h r = absurd (not_refused h report_fault.NoSuchEdge r)
   tight_refusals (report_fault.NotFree a) h r = absurd (not_refused h (report_fault.NotFree a) r)
   tight_refusals (Load f) h r = absurd (not_refused h (Load f) r)
-  tight_refusals (Loops f) h r = absurd r
   tight_refusals (Source f) h r = of_handler h (Source f) (λ x is. cc is) r
   tight_refusals (Image f) h r = of_handler h (Image f) (λ x is. cc is) r
   tight_refusals (Statement f) h r = of_handler h (Statement f) (λ x is. cc is) r
   tight_refusals (Graph f) h r = of_handler h (Graph f) (λ x is. cc is) r
-  tight_refusals (Walk f) h r = absurd r
-  tight_refusals (MachineFile f) h r = absurd r
-  tight_refusals (Cert f) h r = absurd r
-  tight_refusals (report_fault.Profile f) h r = absurd r
-  tight_refusals report_fault.NotFiqEntry h r = absurd r
-  tight_refusals report_fault.NoSuchEntry h r = absurd r
+  tight_refusals e h r = absurd r
 
   -- the same of an answer
   pub only_starved : {T : Type 0} (r : Result T ReportFault) → IfErr r IsRefusal → HasTightReport source statement n profile → IfErr r (λ e. (e ≡ Memory) ⊎ (e ≡ Device))
