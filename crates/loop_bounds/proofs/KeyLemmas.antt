@@ -38,26 +38,26 @@ then_further Less p q r = refl
 then_further Equal p q r = refl
 then_further Greater p q r = refl
 
-empty_less : (xs : List ℕ) (b : ℕ) → slice_cmp nat_cmp [] (xs ++ b ∷ []) ≡ Less
-empty_less [] b = refl
-empty_less (x ∷ xs) b = refl
+empty_less : {X : Type 0} (cmp : X → X → Ordering) (xs : List X) (b : X) → slice_cmp cmp [] (xs ++ b ∷ []) ≡ Less
+empty_less cmp [] b = refl
+empty_less cmp (x ∷ xs) b = refl
 
-pub before : (xs : List ℕ) (a : ℕ) → slice_cmp nat_cmp (xs ++ a ∷ []) [] ≡ Greater
-before [] a = refl
-before (x ∷ xs) a = refl
+pub before : {X : Type 0} (cmp : X → X → Ordering) (xs : List X) (a : X) → slice_cmp cmp (xs ++ a ∷ []) [] ≡ Greater
+before cmp [] a = refl
+before cmp (x ∷ xs) a = refl
 
--- the common part first, then the next address, and then the lengths
-pub compared : (c d : List ℕ) (a b n : ℕ) → n ≤ length c → n ≤ length d → (n ≡ length c) ⊎ (n ≡ length d) → slice_cmp nat_cmp (c ++ a ∷ []) (d ++ b ∷ []) ≡ ordering_then (ordering_then (slice_cmp nat_cmp (take n c) (take n d)) (nat_cmp (get_or (c ++ a ∷ []) n 0) (get_or (d ++ b ∷ []) n 0))) (nat_cmp (length c) (length d))
-compared [] [] a b zero u v at = refl
-compared [] (y ∷ d) a b zero u v at = rw (length_less (length d), empty_less d b) refl
-compared (x ∷ c) [] a b zero u v at = rw (length_greater (length c), before c a) refl
-compared (x ∷ c) (y ∷ d) a b zero u v at = absurd (⊎_elim (λ e. omega arith) (λ e. omega arith) at)
-compared [] d a b (suc n) u v at = absurd (omega arith)
-compared (x ∷ c) [] a b (suc n) u v at = absurd (omega arith)
-compared (x ∷ c) (y ∷ d) a b (suc n) u v at =
-    let rest = compared c d a b n (omega arith) (omega arith) (⊎_elim (λ e. inl (omega arith)) (λ e. inr (omega arith)) at) in
+-- the common part first, then the next element, and then the lengths
+pub compared : {X : Type 0} (cmp : X → X → Ordering) (c d : List X) (a b e : X) (n : ℕ) → n ≤ length c → n ≤ length d → (n ≡ length c) ⊎ (n ≡ length d) → slice_cmp cmp (c ++ a ∷ []) (d ++ b ∷ []) ≡ ordering_then (ordering_then (slice_cmp cmp (take n c) (take n d)) (cmp (get_or (c ++ a ∷ []) n e) (get_or (d ++ b ∷ []) n e))) (nat_cmp (length c) (length d))
+compared cmp [] [] a b e zero u v at = refl
+compared cmp [] (y ∷ d) a b e zero u v at = rw (length_less (length d), empty_less cmp d b) refl
+compared cmp (x ∷ c) [] a b e zero u v at = rw (length_greater (length c), before cmp c a) refl
+compared cmp (x ∷ c) (y ∷ d) a b e zero u v at = absurd (⊎_elim (λ e. omega arith) (λ e. omega arith) at)
+compared cmp [] d a b e (suc n) u v at = absurd (omega arith)
+compared cmp (x ∷ c) [] a b e (suc n) u v at = absurd (omega arith)
+compared cmp (x ∷ c) (y ∷ d) a b e (suc n) u v at =
+    let rest = compared cmp c d a b e n (omega arith) (omega arith) (⊎_elim (λ e. inl (omega arith)) (λ e. inr (omega arith)) at) in
     rw (length_same (length c) (length d), rest)
-    (sym (then_further (nat_cmp x y) (slice_cmp nat_cmp (take n c) (take n d)) (nat_cmp (get_or (c ++ a ∷ []) n 0) (get_or (d ++ b ∷ []) n 0)) (nat_cmp (length c) (length d))))
+    (sym (then_further (cmp x y) (slice_cmp cmp (take n c) (take n d)) (cmp (get_or (c ++ a ∷ []) n e) (get_or (d ++ b ∷ []) n e)) (nat_cmp (length c) (length d))))
 
 -- ## The order as a test
 

@@ -15,12 +15,13 @@ use Rattle.std.proofs.lemmas.Cmp.{nat_cmp_total, nat_list_cmp_total, then_total,
 use Rattle.std.proofs.lemmas.List.Elements.{Contains-get_or}
 use Rattle.std.proofs.lemmas.List.Sorted.{ranks_by, sorted_far, Contains-permutation, IsPermutation-sym, length_permutation}
 use Rattle.loop_bounds.specs.declared.extents.Extent.{Extent}
+use Rattle.loop_bounds.specs.declared.layout.Keyed.{Keyed}
 use Rattle.numbered_walks.specs.declared.span.NumberedEdge.{NumberedEdge}
 use Rattle.loop_bounds.specs.declared.loop_instances.Found.{Found}
 use Rattle.numbered_walks.specs.declared.span.Span.{Span}
 use Rattle.loop_bounds.specs.Extents.{extent_at}
 use Rattle.loop_bounds.specs.Keys.{is_before}
-use Rattle.loop_bounds.specs.Layout.{AreIndexes, AreKeyed, AreMoved, AreNumbers, AreParted, ArePlaced, AreSeconds, AreSpans, IsLaidOut, IsShown}
+use Rattle.loop_bounds.specs.Layout.{AreIndexes, AreKeyed, AreMoved, AreNumbers, AreParted, ArePlaced, ArePositions, AreSpans, IsLaidOut, IsShown, by_keys, kept_key}
 use Rattle.loop_bounds.proofs.KeyLemmas.{before_is}
 use Rattle.loop_bounds.proofs.Moved.{IsOnce, once_moved}
 use Rattle.flow_graph.specs.declared.places.Place.{Place}
@@ -65,69 +66,61 @@ moved_more numbers edges moved i so_far lt =
 
 -- ## Keys with their positions
 
-pub keyed_more : (key : ℕ → List ℕ) (p : ℕ) (keyed : List (Vec ℕ Global × ℕ)) (v : Vec ℕ Global) → AreKeyed key p keyed → v.items ≡ key p → AreKeyed key (p + 1) (keyed ++ (v, p) ∷ [])
-keyed_more key p keyed v so_far is =
+pub keyed_more : (key : ℕ → List ℕ) (chains : List (List ℕ)) (p : ℕ) (keyed : List Keyed) (new : Keyed) → AreKeyed key chains p keyed → kept_key chains new ≡ key p → new.position ≡ p → AreKeyed key chains (p + 1) (keyed ++ new ∷ [])
+keyed_more key chains p keyed new so_far is at_p =
     let same : length keyed ≡ p = so_far.same in
     record {
-      same = length-append keyed ((v, p) ∷ []) ∙ ap (λ (x : ℕ). x + 1) same;
+      same = length-append keyed (new ∷ []) ∙ ap (λ (x : ℕ). x + 1) same;
       each = λ q d below. ⊎_elim
           (λ (here : q ≡ p).
-          let at : get_or (keyed ++ (v, p) ∷ []) q d ≡ (v, p) = ap (λ (x : ℕ). get_or (keyed ++ (v, p) ∷ []) x d) (here ∙ sym same) ∙ get_or-append_seam keyed (v, p) [] d in
-          (ap (λ (x : Vec ℕ Global × ℕ). x.0.items) at ∙ is ∙ ap key (sym here), ap (λ (x : Vec ℕ Global × ℕ). x.1) at ∙ sym here))
-          (λ (other : q ≡ p → ⊥). rw (get_or_append_left keyed ((v, p) ∷ []) d q (omega arith)) (so_far.each q d (omega arith)))
+          let at : get_or (keyed ++ new ∷ []) q d ≡ new = ap (λ (x : ℕ). get_or (keyed ++ new ∷ []) x d) (here ∙ sym same) ∙ get_or-append_seam keyed new [] d in
+          (ap (kept_key chains) at ∙ is ∙ ap key (sym here), ap (λ (x : Keyed). x.position) at ∙ at_p ∙ sym here))
+          (λ (other : q ≡ p → ⊥). rw (get_or_append_left keyed (new ∷ []) d q (omega arith)) (so_far.each q d (omega arith)))
           (cases_eq q p);
     }
 
-pub seconds_more : (keyed : List (Vec ℕ Global × ℕ)) (order : List ℕ) (i n : ℕ) → AreSeconds keyed order i → ((d : Vec ℕ Global × ℕ) → n ≡ (get_or keyed i d).1) → AreSeconds keyed (order ++ n ∷ []) (i + 1)
-seconds_more keyed order i n so_far is =
+pub positions_more : (keyed : List Keyed) (order : List ℕ) (i n : ℕ) → ArePositions keyed order i → ((d : Keyed) → n ≡ (get_or keyed i d).position) → ArePositions keyed (order ++ n ∷ []) (i + 1)
+positions_more keyed order i n so_far is =
     let same : length order ≡ i = so_far.same in
     record {
       same = length-append order (n ∷ []) ∙ ap (λ (x : ℕ). x + 1) same;
       each = λ k d below. ⊎_elim
-          (λ (here : k ≡ i). ap (λ (x : ℕ). get_or (order ++ n ∷ []) x 0) (here ∙ sym same) ∙ get_or-append_seam order n [] 0 ∙ is d ∙ ap (λ (x : ℕ). (get_or keyed x d).1) (sym here))
+          (λ (here : k ≡ i). ap (λ (x : ℕ). get_or (order ++ n ∷ []) x 0) (here ∙ sym same) ∙ get_or-append_seam order n [] 0 ∙ is d ∙ ap (λ (x : ℕ). (get_or keyed x d).position) (sym here))
           (λ (other : k ≡ i → ⊥). get_or_append_left order (n ∷ []) 0 k (omega arith) ∙ so_far.each k d (omega arith))
           (cases_eq k i);
     }
 
-abbrev before_pair : Vec ℕ Global × ℕ → Vec ℕ Global × ℕ → Bool
-before_pair x y = is_lt (ordering_then (slice_cmp nat_cmp x.0.items y.0.items) (nat_cmp x.1 y.1))
-
-pair_ranks : IsStrictWeakOrder before_pair
-pair_ranks = ranks_by (then_total (on_total (λ (x : Vec ℕ Global × ℕ). x.0.items) nat_list_cmp_total) (on_total (λ (x : Vec ℕ Global × ℕ). x.1) nat_cmp_total)) (λ (x : Vec ℕ Global × ℕ). x)
-
-first_not_less : (o p : Ordering) → is_lt (ordering_then o p) ≡ false → is_lt o ≡ false
-first_not_less Less p h = h
-first_not_less Equal p h = refl
-first_not_less Greater p h = refl
+pub keys_rank : (chains : List (List ℕ)) → IsStrictWeakOrder (λ j k. is_lt (by_keys chains j k))
+keys_rank chains = ranks_by nat_list_cmp_total (kept_key chains)
 
 some_of : {X : Type 0} (xs : List X) → 0 < length xs → X
 some_of [] lt = absurd (omega arith)
 some_of (x ∷ xs) lt = x
 
-module _ (key : ℕ → List ℕ) (exit : ℕ) (keyed moved : List (Vec ℕ Global × ℕ)) (order : List ℕ) (keys : AreKeyed key exit keyed) (perm : IsPermutation keyed moved) (sorted : IsSortedBy before_pair moved) (seconds : AreSeconds moved order (length moved)) where
+module _ (key : ℕ → List ℕ) (chains : List (List ℕ)) (exit : ℕ) (keyed moved : List Keyed) (order : List ℕ) (keys : AreKeyed key chains exit keyed) (perm : IsPermutation keyed moved) (sorted : IsSortedBy (λ j k. is_lt (by_keys chains j k)) moved) (positions : ArePositions moved order (length moved)) where
   len : length moved ≡ exit
   len = length_permutation keyed moved perm ∙ keys.same
 
   order_len : length order ≡ exit
-  order_len = seconds.same ∙ len
+  order_len = positions.same ∙ len
 
-  -- each pair stands at its position in the one list
-  home : (n : ℕ) (d : Vec ℕ Global × ℕ) → n < exit → ((get_or moved n d).1 < exit) × (get_or keyed (get_or moved n d).1 (get_or moved n d) ≡ get_or moved n d) × ((get_or moved n d).0.items ≡ key (get_or moved n d).1)
+  -- each stands at its position in the one list
+  home : (n : ℕ) (d : Keyed) → n < exit → ((get_or moved n d).position < exit) × (get_or keyed (get_or moved n d).position (get_or moved n d) ≡ get_or moved n d) × (kept_key chains (get_or moved n d) ≡ key (get_or moved n d).position)
   home n d lt =
-      let x : Vec ℕ Global × ℕ = get_or moved n d in
+      let x : Keyed = get_or moved n d in
       let has = Contains-permutation moved keyed x (IsPermutation-sym keyed moved perm) (Contains-get_or moved n d (omega (arith, len))) in
       let k_lt : has.0 < exit = omega (arith, has.1, keys.same) in
       let at = keys.each has.0 x k_lt in
-      let second : x.1 ≡ has.0 = ap (λ (y : Vec ℕ Global × ℕ). y.1) (sym has.2) ∙ at.1 in
-      (omega arith, ap (λ (k : ℕ). get_or keyed k x) second ∙ has.2, ap (λ (y : Vec ℕ Global × ℕ). y.0.items) (sym has.2) ∙ at.0 ∙ ap key (sym second))
+      let second : x.position ≡ has.0 = ap (λ (y : Keyed). y.position) (sym has.2) ∙ at.1 in
+      (omega arith, ap (λ (k : ℕ). get_or keyed k x) second ∙ has.2, ap (kept_key chains) (sym has.2) ∙ at.0 ∙ ap key (sym second))
 
   keyed_once : IsOnce keyed
-  keyed_once i j d ilt jlt same = sym (keys.each i d (omega (arith, keys.same))).1 ∙ ap (λ (x : Vec ℕ Global × ℕ). x.1) same ∙ (keys.each j d (omega (arith, keys.same))).1
+  keyed_once i j d ilt jlt same = sym (keys.each i d (omega (arith, keys.same))).1 ∙ ap (λ (x : Keyed). x.position) same ∙ (keys.each j d (omega (arith, keys.same))).1
 
-  second_is : (n : ℕ) (d : Vec ℕ Global × ℕ) → n < exit → get_or order n 0 ≡ (get_or moved n d).1
-  second_is n d lt = seconds.each n d (omega (arith, len))
+  second_is : (n : ℕ) (d : Keyed) → n < exit → get_or order n 0 ≡ (get_or moved n d).position
+  second_is n d lt = positions.each n d (omega (arith, len))
 
-  pair : (n : ℕ) → n < exit → Vec ℕ Global × ℕ
+  pair : (n : ℕ) → n < exit → Keyed
   pair n lt = some_of moved (omega (arith, len))
 
   order_in : (n : ℕ) → n < exit → get_or order n 0 < exit
@@ -143,19 +136,19 @@ module _ (key : ℕ → List ℕ) (exit : ℕ) (keyed moved : List (Vec ℕ Glob
         exit_last = last;
         inside = λ n lt. rw (old n lt) (order_in n lt);
         all = λ p lt.
-            let d : Vec ℕ Global × ℕ = pair p lt in
-            let x : Vec ℕ Global × ℕ = get_or keyed p d in
+            let d : Keyed = pair p lt in
+            let x : Keyed = get_or keyed p d in
             let has = Contains-permutation keyed moved x perm (Contains-get_or keyed p d (omega (arith, keys.same))) in
             let n_lt : has.0 < exit = omega (arith, has.1, len) in
-            (has.0, n_lt, old has.0 n_lt ∙ second_is has.0 x n_lt ∙ ap (λ (y : Vec ℕ Global × ℕ). y.1) has.2 ∙ (keys.each p d lt).1);
+            (has.0, n_lt, old has.0 n_lt ∙ second_is has.0 x n_lt ∙ ap (λ (y : Keyed). y.position) has.2 ∙ (keys.each p d lt).1);
         once = λ m n less lt same. ⊎_elim
             (λ (below : n < exit).
-            let d : Vec ℕ Global × ℕ = pair n below in
+            let d : Keyed = pair n below in
             let hm = home m d (omega arith) in
             let hn = home n d below in
-            let seconds_same : (get_or moved m d).1 ≡ (get_or moved n d).1 = sym (second_is m d (omega arith)) ∙ sym (old m (omega arith)) ∙ same ∙ old n below ∙ second_is n d below in
+            let seconds_same : (get_or moved m d).position ≡ (get_or moved n d).position = sym (second_is m d (omega arith)) ∙ sym (old m (omega arith)) ∙ same ∙ old n below ∙ second_is n d below in
             let alike : get_or moved m d ≡ get_or moved n d =
-            sym hm.1 ∙ get_or_default keyed (get_or moved m d).1 (get_or moved m d) (get_or moved n d) (omega (arith, hm.0, keys.same)) ∙ ap (λ (k : ℕ). get_or keyed k (get_or moved n d)) seconds_same ∙ hn.1 in
+            sym hm.1 ∙ get_or_default keyed (get_or moved m d).position (get_or moved m d) (get_or moved n d) (omega (arith, hm.0, keys.same)) ∙ ap (λ (k : ℕ). get_or keyed k (get_or moved n d)) seconds_same ∙ hn.1 in
             let one : m ≡ n = once_moved keyed moved perm keyed_once m n d (omega (arith, len)) (omega (arith, len)) alike in
             omega arith)
             (λ (ge : exit ≤ n).
@@ -165,13 +158,12 @@ module _ (key : ℕ → List ℕ) (exit : ℕ) (keyed moved : List (Vec ℕ Glob
             omega arith)
             (cases_lt n exit);
         ascending = λ m n le lt.
-            let d : Vec ℕ Global × ℕ = pair n lt in
+            let d : Keyed = pair n lt in
             let m_lt : m < exit = omega arith in
-            let far = sorted_far before_pair pair_ranks moved sorted m n d le (omega (arith, len)) in
-            let keys_far : is_lt (slice_cmp nat_cmp (get_or moved n d).0.items (get_or moved m d).0.items) ≡ false = first_not_less _ _ far in
-            let n_key : (get_or moved n d).0.items ≡ key (get_or (order ++ exit ∷ []) n 0) = (home n d lt).2 ∙ ap key (sym (old n lt ∙ second_is n d lt)) in
-            let m_key : (get_or moved m d).0.items ≡ key (get_or (order ++ exit ∷ []) m 0) = (home m d m_lt).2 ∙ ap key (sym (old m m_lt ∙ second_is m d m_lt)) in
-            (λ i. is_before (sym n_key i) (sym m_key i)) ∙ sym (before_is (get_or moved n d).0.items (get_or moved m d).0.items) ∙ keys_far;
+            let far = sorted_far (λ j k. is_lt (by_keys chains j k)) (keys_rank chains) moved sorted m n d le (omega (arith, len)) in
+            let n_key : kept_key chains (get_or moved n d) ≡ key (get_or (order ++ exit ∷ []) n 0) = (home n d lt).2 ∙ ap key (sym (old n lt ∙ second_is n d lt)) in
+            let m_key : kept_key chains (get_or moved m d) ≡ key (get_or (order ++ exit ∷ []) m 0) = (home m d m_lt).2 ∙ ap key (sym (old m m_lt ∙ second_is m d m_lt)) in
+            (λ i. is_before (sym n_key i) (sym m_key i)) ∙ sym (before_is (kept_key chains (get_or moved n d)) (kept_key chains (get_or moved m d))) ∙ far;
       }
 
 -- ## Spans

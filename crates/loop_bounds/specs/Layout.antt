@@ -4,10 +4,13 @@ use Rattle.std.specs.Prelude.{◌++◌, length, map, take, filter, Contains, sli
 use Rattle.std.specs.Prelude.{Some, None, AllPairs, Vec, count_by}
 use Rattle.std.specs.Global.{Global}
 use Rattle.std.specs.Ordering.{nat_cmp, ordering_then, is_lt}
+use Rattle.std.specs.Cmp.Lexicographic.{slice_cmp}
+use Rattle.std.specs.declared.cmp.Ordering.{Ordering}
 use Rattle.std.specs.List.Sorted.{IsPermutation, IsSortedBy}
 use Rattle.walks.specs.Walk.{Cycle}
 use Rattle.numbered_walks.specs.declared.span.NumberedEdge.{NumberedEdge}
 use Rattle.loop_bounds.specs.declared.extents.Extent.{Extent}
+use Rattle.loop_bounds.specs.declared.layout.Keyed.{Keyed}
 use Rattle.loop_bounds.specs.declared.loop_instances.Found.{Found}
 use Rattle.numbered_walks.specs.declared.span.Span.{Span}
 use Rattle.flow_graph.specs.declared.places.Place.{Place}
@@ -107,10 +110,10 @@ AreChains rank extents chains limit =
 
 -- ## The order
 
--- the positions of the first pairs
-pub record AreSeconds (keyed : List (Vec ℕ Global × ℕ)) (order : List ℕ) (limit : ℕ) : Type 0 where
+-- the positions of the first that are keyed
+pub record ArePositions (keyed : List Keyed) (order : List ℕ) (limit : ℕ) : Type 0 where
   pub same : length order ≡ limit
-  pub each : (k : ℕ) (d : Vec ℕ Global × ℕ) → k < limit → slice_index order k ≡ (slice_index_or keyed k d).1
+  pub each : (k : ℕ) (d : Keyed) → k < limit → slice_index order k ≡ (slice_index_or keyed k d).position
 
 -- each position once, and Exit's last, ascending by key
 pub record IsLaidOut (key : ℕ → List ℕ) (exit : ℕ) (order : List ℕ) : Type 0 where
@@ -170,11 +173,19 @@ items_of chains = map (λ v. v.items) chains
 
 -- ## Keys with their positions
 
+-- the key that is kept by the chain of the innermost extent
+abbrev pub kept_key : List (List ℕ) → Keyed → List ℕ
+kept_key chains k = chain_above chains k.inner ++ k.rank ∷ []
+
+-- number by number, a prefix first
+abbrev pub by_keys : List (List ℕ) → Keyed → Keyed → Ordering
+by_keys chains j k = slice_cmp nat_cmp (kept_key chains j) (kept_key chains k)
+
 -- the positions in turn, each with its key
-pub record AreKeyed (key : ℕ → List ℕ) (exit : ℕ) (keyed : List (Vec ℕ Global × ℕ)) : Type 0 where
+pub record AreKeyed (key : ℕ → List ℕ) (chains : List (List ℕ)) (exit : ℕ) (keyed : List Keyed) : Type 0 where
   pub same : length keyed ≡ exit
-  pub each : (p : ℕ) (d : Vec ℕ Global × ℕ) → p < exit
-      → ((slice_index_or keyed p d).0.items ≡ key p) × ((slice_index_or keyed p d).1 ≡ p)
+  pub each : (p : ℕ) (d : Keyed) → p < exit
+      → (kept_key chains (slice_index_or keyed p d) ≡ key p) × ((slice_index_or keyed p d).position ≡ p)
 
 -- ## New numbers
 

@@ -4,35 +4,72 @@ ghost use Rattle.std.specs.List.Sorted.{IsPermutation, IsStrictlySortedBy};
 ghost use Rattle.flow_graph.specs.Places.{place_cmp, place_at};
 ghost use Rattle.loop_bounds.specs.InPositions.{HasKeys};
 ghost use Rattle.loop_bounds.specs.Layout.{AreNumbers, IsLaidOut, ArePlaced, AreMoved, Moves};
-ghost use Rattle.loop_bounds.specs.Layout.{IsShown, AreShown, AreKeyed, key_in};
+ghost use Rattle.loop_bounds.specs.Layout.{IsShown, AreShown, AreKeyed, by_keys, chain_above, items_of, key_in};
 ghost use Rattle.loop_bounds.specs.Keys.{IsListed};
 
 use crate::extents::Extent;
 use crate::loop_instances::Found;
-use crate::nesting::{Nesting, extended};
-use crate::numbering::index_of;
+use crate::nesting::Nesting;
+use crate::numbering::index_near;
 use crate::parents::innermost;
+use crate::pushed::compare_pushed;
 use flow_graph::Place;
 use numbered_walks::{NumberedEdge, Span};
 use std::alloc::{AllocError, Global};
-use std::cmp::Reverse;
+use std::cmp::{Ordering, Reverse};
 
-// Each position with the ranks of the headers of the extents that hold it, the outermost first, and its own.
+/// A position by its key: the ranks of the headers of the extents that hold it, the outermost first, which are
+/// the chain of the innermost one, and its own rank.
+#[derive(Clone, Copy)]
+pub(crate) struct Keyed {
+    pub inner: Option<usize>,
+    pub rank: usize,
+    pub position: usize,
+}
+
+// The chain of an extent; none where there is no extent.
+fn chain_of(chains: &[Vec<usize>], inner: Option<usize>) -> &[usize]
+    ensures { result.now ≡ chain_above (items_of chains.now) inner }
+{
+    if let Some(k) = inner {
+        if k < chains.len() {
+            return &chains[k];
+        }
+    }
+    &[]
+}
+
+// How the keys of two positions compare.
+fn compare_keyed(chains: &[Vec<usize>], left: &Keyed, right: &Keyed) -> Ordering
+    ensures { result ≡ by_keys (items_of chains.now) left.now right.now }
+{
+    // Most that are compared lie in the same extents.
+    if left.inner == right.inner {
+        return left.rank.cmp(&right.rank);
+    }
+    let (outer, others) = (chain_of(chains, left.inner), chain_of(chains, right.inner));
+    compare_pushed(outer, &left.rank, others, &right.rank)
+}
+
+// The positions in turn, by their keys.
 fn keyed(
     alloc: Global,
     extents: &[Extent],
     nesting: &Nesting,
     exit: usize,
-) -> Result<Vec<(Vec<usize>, usize)>, AllocError>
+) -> Result<Vec<Keyed>, AllocError>
     requires { HasKeys exit extents.now nesting.now }
     ensures { IfOk result
-        (λ keyed. AreKeyed (key_in (slice_index nesting.now.ranks.items) extents.now) exit keyed.items) }
+        (λ keyed. AreKeyed (key_in (slice_index nesting.now.ranks.items) extents.now)
+        (items_of nesting.now.chains.items) exit keyed.items) }
 {
     let mut keyed = Vec::with_capacity(alloc, exit)?;
     for position in 0..exit {
-        let inner = innermost(extents, &nesting.parents, position);
-        let key = extended(alloc, &nesting.chains, inner, nesting.ranks[position])?;
-        keyed.push((key, position))?;
+        keyed.push(Keyed {
+            inner: innermost(extents, &nesting.parents, position),
+            rank: nesting.ranks[position],
+            position,
+        })?;
     }
     Ok(keyed)
 }
@@ -49,10 +86,10 @@ pub(crate) fn order(
         (λ order. IsLaidOut (key_in (slice_index nesting.now.ranks.items) extents.now) exit order.items) }
 {
     let mut keyed = keyed(alloc, extents, nesting, exit)?;
-    keyed.sort_unstable();
+    keyed.sort_unstable_by(|left, right| compare_keyed(&nesting.chains, left, right));
     let mut order = Vec::with_capacity(alloc, exit + 1)?;
-    for (_, position) in &keyed {
-        order.push(*position)?;
+    for one in &keyed {
+        order.push(one.position)?;
     }
     order.push(exit)?;
     Ok(order)
@@ -154,7 +191,8 @@ pub(crate) fn indexes(
 {
     let mut indexes = Vec::with_capacity(alloc, order.len())?;
     for n in 0..places.len() {
-        indexes.push(index_of(places, &listed[order[n]]))?;
+        let position = order[n];
+        indexes.push(index_near(places, &listed[position], position))?;
     }
     indexes.push(places.len())?;
     Ok(indexes)

@@ -25,6 +25,7 @@ mod nesting;
 mod numbering;
 mod order;
 mod parents;
+mod pushed;
 mod ranks;
 mod tree;
 

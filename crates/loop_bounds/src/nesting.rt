@@ -14,8 +14,8 @@ use std::alloc::{AllocError, Global};
 /// In how many instances a place may lie.
 const MOST_INSTANCES: usize = 16;
 
-/// The chain, if there is one, and then the rank.
-pub(crate) fn extended(
+// The chain, if there is one, and then the rank.
+fn extended(
     alloc: Global,
     chains: &[Vec<usize>],
     above: Option<usize>,

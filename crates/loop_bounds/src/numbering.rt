@@ -1,4 +1,4 @@
-ghost use Rattle.std.specs.Prelude.{◌≡◌, ◌≤◌, ◌++◌, [], ◌∷◌, IfOk, length, slice_index, ℕ, ◌<◌, ◌⊎◌};
+ghost use Rattle.std.specs.Prelude.{◌≡◌, ◌≤◌, ◌++◌, [], ◌∷◌, IfOk, length, ◌<◌, ◌⊎◌};
 ghost use Rattle.std.specs.Prelude.{Contains, true};
 ghost use Rattle.std.specs.Ordering.{nat_cmp};
 ghost use Rattle.std.specs.Cmp.Lexicographic.{slice_cmp};
@@ -7,34 +7,11 @@ ghost use Rattle.loop_bounds.specs.Keys.{IsListed, IsPoint, by_key};
 ghost use Rattle.flow_graph.specs.Places.{place_cmp, place_at};
 ghost use Rattle.loop_bounds.specs.Tree.{IsNumbered, NumbersEdge};
 
+use crate::pushed::compare_pushed;
 use flow_graph::{Calls, Edge, Graph, Place};
 use numbered_walks::NumberedEdge;
 use std::alloc::{AllocError, Global};
 use std::cmp::Ordering;
-
-// The call's address at the index, or after the last call the address of the instruction.
-fn address_at(calls: &[u32], index: usize, address: u32) -> u32
-    requires { index ≤ length calls.now }
-    ensures { result ≡ slice_index (calls.now ++ address ∷ []) index }
-{
-    if index < calls.len() {
-        calls[index]
-    } else {
-        address
-    }
-}
-
-// How the calls and then the address compare with others, whether there are calls or not.
-fn compare_all(calls: &[u32], address: u32, others: &[u32], other: u32) -> Ordering
-    ensures { result ≡ slice_cmp nat_cmp (calls.now ++ address ∷ []) (others.now ++ other ∷ []) }
-{
-    let common = calls.len().min(others.len());
-    let next = address_at(calls, common, address).cmp(&address_at(others, common, other));
-    calls[..common]
-        .cmp(&others[..common])
-        .then(next)
-        .then(calls.len().cmp(&others.len()))
-}
 
 // How the calls and then the address compare with others.
 fn compare_keys(calls: &[u32], address: u32, others: &[u32], other: u32) -> Ordering
@@ -46,7 +23,7 @@ fn compare_keys(calls: &[u32], address: u32, others: &[u32], other: u32) -> Orde
             return address.cmp(&other);
         }
     }
-    compare_all(calls, address, others, other)
+    compare_pushed(calls, &address, others, &other)
 }
 
 /// How the keys of two places compare.
@@ -85,14 +62,28 @@ pub(crate) fn point(listed: &[Place], calls: Calls, address: u32) -> usize
     listed.partition_point(|place| compare(place, &bound).is_lt())
 }
 
-/// The position of a place among the graph's places.
-pub(crate) fn index_of(places: &[Place], place: &Place) -> usize
+// The position of a place among the graph's places.
+fn index_of(places: &[Place], place: &Place) -> usize
     requires ordered { IsStrictlySortedBy place_cmp places.now }
     requires known { Contains places.now place.now }
     ensures number { place_at places.now result ≡ place.now }
     ensures inside { result < length places.now }
 {
     places.binary_search(place).unwrap_or(places.len())
+}
+
+/// The position of a place among the graph's places. It is looked for at another one first, since where no place
+/// is inside a call its position by key is the same.
+pub(crate) fn index_near(places: &[Place], place: &Place, near: usize) -> usize
+    requires ordered { IsStrictlySortedBy place_cmp places.now }
+    requires known { Contains places.now place.now }
+    ensures number { place_at places.now result ≡ place.now }
+    ensures inside { result < length places.now }
+{
+    if is_at(places, near, place) {
+        return near;
+    }
+    index_of(places, place)
 }
 
 /// The position of a place by key, or the number of places for Exit.

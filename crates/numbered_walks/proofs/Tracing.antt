@@ -42,6 +42,18 @@ module _ (exit : ℕ) (edges : List NumberedEdge) (spans : List Span) (c : Table
       All-contains (λ k. needed spans c (edge_at edges k) ≢ number_of spans c p) (group_at p d) at.0 none at.1 (ap (λ (x : NumberedEdge). needed spans c x) at.2 ∙ sym by.4))
       (found.passed.attained p (omega arith))
 
+  pub only_enters : (p : ℕ) (d : Vec ℕ Global) (k : ℕ) → p < length groups → AreGrouped edges (length edges) true groups → 0 < p → p ≤ exit → length (group_at p d) ≡ 1 → k ≡ get_or (group_at p d) 0 k → IsEntering edges spans c p k
+  only_enters p d k small all later known one is = ⊎_elim
+      (λ first. absurd (omega (arith, first.0)))
+      (λ by.
+      let group = group_at p d in
+      let e = by.0 in
+      let at = edge_in edges group e ((entering_edges edges groups p d small all e).1 (by.1, by.2, by.3)) in
+      let first : at.1.0 ≡ 0 = omega (arith, at.1.1, one) in
+      let same : at.0 ≡ k = sym at.1.2 ∙ ap (λ (j : ℕ). get_or group j at.0) first ∙ get_or_default group 0 at.0 k (omega (arith, one)) ∙ sym is in
+      subst (IsEntering edges spans c p) same (entering_is p d small all at.0 at.1 (ap (λ (x : NumberedEdge). needed spans c x) at.2 ∙ sym by.4)))
+      (found.passed.attained p (omega arith))
+
   turning_is : (s : Span) → Contains spans s → (d : Vec ℕ Global) → s.header < length groups → AreGrouped edges (length edges) false groups → (round_of c s ≡ 0 → ⊥) → (k : ℕ) → Contains (group_at s.header d) k → needed spans c (edge_at edges k) ≡ round_of c s → IsTurning edges spans c s k
   turning_is s s_in d small all some k here asks =
       let known = (all s.header d small k).0 here in

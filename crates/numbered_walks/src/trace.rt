@@ -67,8 +67,12 @@ pub fn entering_edge(graph: NumberedGraph<'_>, tables: &Tables, place: usize) ->
     requires known { place ≤ graph.exit }
     ensures { IsEntering graph.entry.edges.now graph.entry.spans.now tables.now place result }
 {
-    let number = number_at(graph.spans, &graph.index.headers, tables, place);
     let group = &graph.index.entering[place];
+    // Most places are entered by one edge alone, so it is the one.
+    if group.len() == 1 {
+        return group[0];
+    }
+    let number = number_at(graph.spans, &graph.index.headers, tables, place);
     match attaining(graph, tables, group, number) {
         Some(k) => k,
         None => 0,

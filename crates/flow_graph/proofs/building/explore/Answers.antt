@@ -8,18 +8,18 @@ returns-in_err-add-clause-fault c =
     let p = err_from_is_err_and c.from_residual.result c.from_residual.ensures.1 in
     rw (p.1, p.2) (add_fault c.args.image.now c.args.statement.now c.args.profile.now c.new-order.result.items c.start.result _ c.new-order.ensures.items c.start.ensures.value c.in_err-add.ensures.err)
 
-pub returns-in_err-edges-clause-fault : goal.returns-in_err-edges-clause-fault
-returns-in_err-edges-clause-fault c =
+pub returns-in_err-push_edges-clause-fault : goal.returns-in_err-push_edges-clause-fault
+returns-in_err-push_edges-clause-fault c =
     let lt : c.loop-next.next < length c.loop-next.order.items = omega (arith, c.loop-next.order.ok.0, c.len.ensures) in
-    let p = err_from_is_err_and c.from_residual-in_err-edges.result c.from_residual-in_err-edges.ensures.1 in
+    let p = err_from_is_err_and c.from_residual-in_err-push_edges.result c.from_residual-in_err-push_edges.ensures.1 in
     rw (p.1, p.2)
-    (search_fault c.args.image.now c.args.statement.now c.args.profile.now c.loop-next.order.items c.loop-next.next c.index.result.now _ c.loop-next.invariant.1 lt c.index.ensures (inl c.in_err-edges.ensures.err))
+    (search_fault c.args.image.now c.args.statement.now c.args.profile.now c.loop-next.order.items c.loop-next.next c.index.result.now _ c.loop-next.invariant.1 lt c.index.ensures (inl c.in_err-push_edges.ensures.err))
 
 pub returns-in_err-add_ends-clause-fault : goal.returns-in_err-add_ends-clause-fault
 returns-in_err-add_ends-clause-fault c =
     let lt : c.loop-next.next < length c.loop-next.order.items = omega (arith, c.loop-next.order.ok.0, c.len.ensures) in
     let p = err_from_is_err_and c.from_residual-in_err-add_ends.result c.from_residual-in_err-add_ends.ensures.1 in
-    let why = visit_fault c.args.image.now c.args.statement.now c.args.profile.now c.loop-next.order.items [] c.in_ok-edges.edges.items c.deref.result.now c.index.result.now _ refl c.deref.ensures.value c.in_ok-edges.ensures.adds c.in_err-add_ends.ensures.err in
+    let why = visit_fault c.args.image.now c.args.statement.now c.args.profile.now c.loop-next.order.items c.clear.new.self.items c.push_edges.new.out.items c.deref.result.now c.index.result.now _ c.clear.ensures.items c.deref.ensures.value c.in_ok-push_edges.ensures.adds c.in_err-add_ends.ensures.err in
     rw (p.1, p.2)
     (search_fault c.args.image.now c.args.statement.now c.args.profile.now c.loop-next.order.items c.loop-next.next c.index.result.now _ c.loop-next.invariant.1 lt c.index.ensures why)
 
@@ -27,7 +27,7 @@ pub loop-next-preserved : goal.loop-next-preserved
 loop-next-preserved c =
     let lt : c.loop-next.next < length c.loop-next.order.items = omega (arith, c.loop-next.order.ok.0, c.len.ensures) in
     let new = c.add_ends.new.order.items in
-    let visits = visited c.args.image.now c.args.statement.now c.args.profile.now c.loop-next.order.items new [] c.in_ok-edges.edges.items c.deref.result.now c.index.result.now refl c.deref.ensures.value c.in_ok-edges.ensures.adds c.in_ok-edges.ensures.sound c.in_ok-add_ends.ensures.grows in (
+    let visits = visited c.args.image.now c.args.statement.now c.args.profile.now c.loop-next.order.items new c.clear.new.self.items c.push_edges.new.out.items c.deref.result.now c.index.result.now c.clear.ensures.items c.deref.ensures.value c.in_ok-push_edges.ensures.adds c.in_ok-push_edges.ensures.sound c.in_ok-add_ends.ensures.grows in (
       c.in_ok-add_ends.ensures.found,
       search_more c.args.image.now c.args.statement.now c.args.profile.now c.loop-next.order.items new c.loop-next.next c.index.result.now c.loop-next.invariant.1 lt c.index.ensures visits,
     )

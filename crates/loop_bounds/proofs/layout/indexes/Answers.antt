@@ -10,18 +10,18 @@ use Rattle.loop_bounds.proofs.layout.indexes.Goals as goal
 pub bounds-listed-order : goal.bounds-listed-order
 bounds-listed-order c = omega (arith, c.requires.inside c.loop-n.n c.loop-n-test.true, listed_length c.args.places.now c.args.listed.now c.requires.listed)
 
-pub index_of-requires-clause-known : goal.index_of-requires-clause-known
-index_of-requires-clause-known c =
+pub index_near-requires-clause-known : goal.index_near-requires-clause-known
+index_near-requires-clause-known c =
     listed_from c.args.places.now c.args.listed.now c.requires.listed c.index-listed-order.result
     (get_or c.args.order.now c.loop-n.n 0, omega (arith, c.requires.inside c.loop-n.n c.loop-n-test.true, listed_length c.args.places.now c.args.listed.now c.requires.listed), sym c.index-listed-order.is)
 
 pub loop-n-preserved : goal.loop-n-preserved
 loop-n-preserved c =
     let lt : get_or c.args.order.now c.loop-n.n 0 < length c.args.listed.now = omega (arith, c.requires.inside c.loop-n.n c.loop-n-test.true, listed_length c.args.places.now c.args.listed.now c.requires.listed) in
-    let is : place_at c.args.places.now c.index_of.result ≡ place_at c.args.listed.now (get_or c.args.order.now c.loop-n.n 0) =
-    c.index_of.ensures.number ∙ c.index-listed-order.is ∙ get_or_default c.args.listed.now (get_or c.args.order.now c.loop-n.n 0) c.index-listed-order.result Exit lt in
+    let is : place_at c.args.places.now c.index_near.result ≡ place_at c.args.listed.now (get_or c.args.order.now c.loop-n.n 0) =
+    c.index_near.ensures.number ∙ c.index-listed-order.is ∙ get_or_default c.args.listed.now (get_or c.args.order.now c.loop-n.n 0) c.index-listed-order.result Exit lt in
     rw c.in_ok-push.ensures.items
-    (indexes_more c.args.places.now c.args.listed.now c.args.order.now c.loop-n.indexes.items c.loop-n.n c.index_of.result c.loop-n.invariant c.index_of.ensures.inside is)
+    (indexes_more c.args.places.now c.args.listed.now c.args.order.now c.loop-n.indexes.items c.loop-n.n c.index_near.result c.loop-n.invariant c.index_near.ensures.inside is)
 
 pub returns : goal.returns
 returns c =

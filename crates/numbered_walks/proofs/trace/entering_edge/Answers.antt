@@ -1,14 +1,25 @@
-use Rattle.std.proofs.Common.{ℕ, true, ◌≡◌, ◌≢◌, get_or, All, Contains, ap, ◌∙◌, subst, arith, List}
+use Rattle.std.proofs.Common.{ℕ, true, ◌≡◌, ◌≢◌, get_or, length, All, Contains, Vec, ap, ◌∙◌, subst, arith, List}
+use Rattle.std.specs.Global.{Global}
 use Rattle.numbered_walks.specs.Index.{edge_at}
 use Rattle.numbered_walks.specs.Tables.{number_of, needed}
 use Rattle.numbered_walks.proofs.Grouping.{group_known}
-use Rattle.numbered_walks.proofs.Tracing.{entering_is, some_enters}
+use Rattle.numbered_walks.proofs.Tracing.{entering_is, only_enters, some_enters}
 use Rattle.numbered_walks.proofs.trace.entering_edge.Goals as goal
 
 pub attaining-requires-clause-known : goal.attaining-requires-clause-known
 attaining-requires-clause-known c =
     group_known c.args.graph.edges.now true c.args.graph.index.now.entering.items c.args.place c.index-group.result.now (omega (arith, c.requires.graph.indexed.all_entering, c.requires.known)) c.requires.graph.indexed.entering
     c.deref-2.result.now (c.deref-2.ensures.value ∙ ap (λ v. v.items) c.index-group.ensures)
+
+pub returns-then-len-eq1 : goal.returns-then-len-eq1
+returns-then-len-eq1 c =
+    let p = c.args.place in
+    let k = c.index.result.now in
+    let at : c.index-group.result.now.items ≡ (get_or c.args.graph.index.now.entering.items p c.index-group.result.now).items = ap (λ (v : Vec ℕ Global). v.items) c.index-group.ensures in
+    let one : length c.index-group.result.now.items ≡ 1 = omega (arith, c.index-group.result.now.ok.0, c.len.ensures, c.if-len-eq1.true) in
+    only_enters c.args.graph.exit c.args.graph.edges.now c.args.graph.spans.now c.args.tables.now c.requires.graph.ordered c.requires.found c.args.graph.index.now.entering.items p c.index-group.result.now k
+    (omega (arith, c.requires.graph.indexed.all_entering, c.requires.known)) c.requires.graph.indexed.entering c.requires.later c.requires.known
+    (subst (λ (l : List ℕ). length l ≡ 1) at one) (subst (λ (l : List ℕ). k ≡ get_or l 0 k) at c.index.ensures)
 
 pub returns-in-Some : goal.returns-in-Some
 returns-in-Some c =
