@@ -2,7 +2,6 @@ pub mod PlaceLemmas
 pub mod FoundLemmas
 pub mod GrowLemmas
 pub mod SortedLemmas
-mod Turned
 pub mod WorkLemmas
 pub mod EdgeLemmas
 pub mod StrayLemmas

@@ -1,42 +1,31 @@
 -- The order of places: total, and exact.
 use Rattle.std.proofs.Common.{◌≡◌, ℕ, List, refl, ap, sym, ◌∙◌, subst}
-use Rattle.std.specs.Prelude.{Contains, IsTrue, ◌↔◌}
-use Rattle.std.specs.BTreeSet.{BTreeSet, contains}
 use Rattle.std.specs.Cmp.{IsTotalOrder}
-use Rattle.std.specs.declared.cmp.Ordering.{Ordering}
-use Rattle.std.specs.declared.cmp.Reverse.{Reverse}
-use Rattle.std.proofs.lemmas.Cmp.{back_total, on_total}
-use Rattle.std.proofs.lemmas.Map.Views.{btree_set_contains_iff}
 use Rattle.std.specs.Cmp.Lexicographic.{slice_cmp}
 use Rattle.std.specs.List.Sorted.{IsStrictlySortedBy}
 use Rattle.std.specs.Ordering.{nat_cmp, ordering_then}
 use Rattle.std.proofs.lemmas.Map.Lookups.{CmpEqualImpliesEq, exact_unsigned, exact_bytes, exact_pairs}
 use Rattle.std.specs.declared.cmp.Ordering.TheVariants.{Equal}
 use Rattle.flow_graph.specs.Places.{place_cmp}
-use Rattle.flow_graph.specs.Search.{by_order, in_set, places_in}
-use Rattle.flow_graph.specs.contracts.places.PlaceOrd.TheImpl as PlaceOrder
+use Rattle.flow_graph.specs.Search.{by_order}
 use Rattle.flow_graph.specs.contracts.places.PlaceOrd.TheImpl.Laws.{total-law}
 use Rattle.flow_graph.specs.declared.places.Place.{Place}
 use Rattle.flow_graph.specs.declared.places.Place.TheVariants.{At, Exit}
-use Rattle.flow_graph.proofs.Turned.{sorted_turned, turned_from, turned_has}
 
-by_cmp : Place → Place → Ordering
-by_cmp = (PlaceOrder.ghosts).cmp
+pub by_order_is_place_cmp : (x y : Place) → by_order x y ≡ place_cmp x y
+by_order_is_place_cmp (At c a) (At d b) = refl
+by_order_is_place_cmp (At c a) Exit = refl
+by_order_is_place_cmp Exit (At d b) = refl
+by_order_is_place_cmp Exit Exit = refl
 
-by_cmp_is : (x y : Place) → by_cmp x y ≡ place_cmp x y
-by_cmp_is (At c a) (At d b) = refl
-by_cmp_is (At c a) Exit = refl
-by_cmp_is Exit (At d b) = refl
-by_cmp_is Exit Exit = refl
+pub by_place : by_order ≡ place_cmp
+by_place = λ i x y. by_order_is_place_cmp x y i
 
-by_place : by_cmp ≡ place_cmp
-by_place = λ i x y. by_cmp_is x y i
+pub by_order_total : IsTotalOrder by_order
+by_order_total = total-law
 
 pub place_total : IsTotalOrder place_cmp
 place_total = subst IsTotalOrder by_place total-law
-
-pub by_order_total : IsTotalOrder by_order
-by_order_total = on_total (λ (r : Reverse Place). r.0) (back_total total-law)
 
 pair_exact : (c d : List ℕ) (a b : ℕ) → ordering_then (slice_cmp nat_cmp c d) (nat_cmp a b) ≡ Equal → At c a ≡ At d b
 pair_exact c d a b h =
@@ -51,14 +40,7 @@ place_exact Exit (At d b) h = cc
 place_exact Exit Exit h = refl
 
 pub by_order_exact : CmpEqualImpliesEq by_order
-by_order_exact x y h = ap in_set (sym (place_exact y.0 x.0 (sym (by_cmp_is y.0 x.0) ∙ h)))
+by_order_exact x y h = place_exact x y (sym (by_order_is_place_cmp x y) ∙ h)
 
--- the places of a set ascend
-pub places_ascend : (seen : BTreeSet (Reverse Place)) → IsStrictlySortedBy by_order seen.keys → IsStrictlySortedBy place_cmp (places_in seen)
-places_ascend seen s = subst (λ R. IsStrictlySortedBy R (places_in seen)) by_place (sorted_turned by_cmp seen.keys s)
-
-pub places_have : (seen : BTreeSet (Reverse Place)) (q : Place) → Contains (places_in seen) q ↔ IsTrue (contains by_order seen (in_set q))
-places_have seen q = (
-  (λ h. (btree_set_contains_iff by_order_total by_order_exact seen (in_set q)).1 (turned_from seen.keys q h)),
-  (λ h. turned_has seen.keys q ((btree_set_contains_iff by_order_total by_order_exact seen (in_set q)).0 h)),
-)
+pub sorted_by_place : (ks : List Place) → IsStrictlySortedBy by_order ks → IsStrictlySortedBy place_cmp ks
+sorted_by_place ks s = subst (λ R. IsStrictlySortedBy R ks) by_place s

@@ -1,13 +1,12 @@
 ghost use Rattle.std.specs.Prelude.{◌≡◌, ◌<◌, ◌≤◌, OnOk, IfErr, IfOk, ◌⊎◌};
 ghost use Rattle.std.specs.List.Sorted.{IsStrictlySortedBy};
 ghost use Rattle.flow_graph.specs.Places.{place_cmp};
-ghost use Rattle.flow_graph.specs.Search.{Adds, Grows, IsCrowded, IsCrowdedBy, IsFound, places_in};
+ghost use Rattle.flow_graph.specs.Search.{Adds, Grows, IsCrowded, IsCrowdedBy, IsFound};
 
 use crate::edges::Edge;
 use crate::faults::BuildFault;
 use crate::places::Place;
 use std::alloc::{AllocError, Global};
-use std::cmp::Reverse;
 use std::collections::BTreeSet;
 
 /// How many places a graph has at most, besides Exit.
@@ -15,7 +14,7 @@ pub const MOST_PLACES: usize = 16_384;
 
 /// Adds a place that is not yet found.
 pub fn add(
-    seen: &mut BTreeSet<Reverse<Place>>,
+    seen: &mut BTreeSet<Place>,
     order: &mut Vec<Place>,
     place: &Place,
 ) -> Result<(), BuildFault>
@@ -29,9 +28,7 @@ pub fn add(
     if let Place::Exit = place {
         return Ok(());
     }
-    // Most places are found ascending. A search in a node of the tree begins at its least key, and by the
-    // reversed order it ends there.
-    let is_new = seen.insert(Reverse(*place))?;
+    let is_new = seen.insert(*place)?;
     if !is_new {
         return Ok(());
     }
@@ -44,7 +41,7 @@ pub fn add(
 
 /// Adds the ends of the edges.
 pub fn add_ends(
-    seen: &mut BTreeSet<Reverse<Place>>,
+    seen: &mut BTreeSet<Place>,
     order: &mut Vec<Place>,
     edges: &[Edge],
 ) -> Result<(), BuildFault>
@@ -62,9 +59,9 @@ pub fn add_ends(
 }
 
 /// The places found, ascending.
-pub fn sorted(alloc: Global, seen: &BTreeSet<Reverse<Place>>) -> Result<Vec<Place>, AllocError>
-    ensures places { IfOk result (λ places. places.items ≡ places_in seen.now) }
+pub fn sorted(alloc: Global, seen: &BTreeSet<Place>) -> Result<Vec<Place>, AllocError>
+    ensures keys { IfOk result (λ places. places.items ≡ seen.now.keys) }
     ensures ordered { IfOk result (λ places. IsStrictlySortedBy place_cmp places.items) }
 {
-    seen.iter().rev().map(|place| place.0).collect(alloc)
+    seen.iter().copied().collect(alloc)
 }

@@ -1,4 +1,4 @@
-use Rattle.std.proofs.Common.{[], ◌<◌, length, inl, refl, arith}
+use Rattle.std.proofs.Common.{◌<◌, length, inl, arith}
 use Rattle.std.proofs.lemmas.Result.{err_from_is_err_and}
 use Rattle.flow_graph.proofs.BuildLemmas.{add_fault, search_fault, search_more, search_all, search_allowed, visit_fault, visited}
 use Rattle.flow_graph.proofs.building.explore.Goals as goal
