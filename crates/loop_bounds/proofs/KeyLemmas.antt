@@ -1,8 +1,9 @@
 -- Keys of places: how they compare, and where they stand.
-use Rattle.std.proofs.Common.{◌≡◌, ℕ, zero, suc, ◌+◌, ◌<◌, ◌≤◌, ◌⊎◌, Bool, true, false, eqb, ltb, List, [], ◌∷◌, ◌++◌, length, take, get_or, sym, refl, ap, ◌∙◌, inl, inr, ⊎_elim, arith}
+use Rattle.std.proofs.Common.{◌≡◌, ℕ, zero, suc, ◌+◌, ◌<◌, ◌≤◌, ◌⊎◌, Bool, true, false, eqb, ltb, Option, Some, None, List, [], ◌∷◌, ◌++◌, length, take, get_or, sym, refl, ap, ◌∙◌, inl, inr, ⊎_elim, arith}
 use Rattle.std.specs.Prelude.{not, ◌&&◌, ◌||◌}
 use Rattle.std.specs.Cmp.{IsStrictWeakOrder}
 use Rattle.std.specs.Cmp.Lexicographic.{slice_cmp}
+use Rattle.std.specs.Option.{option_eq}
 use Rattle.std.specs.Ordering.{nat_cmp, ordering_then, is_lt}
 use Rattle.std.specs.declared.cmp.Ordering.{Ordering}
 use Rattle.std.specs.declared.cmp.Ordering.TheVariants.{Less, Equal, Greater}
@@ -58,6 +59,19 @@ compared cmp (x ∷ c) (y ∷ d) a b e (suc n) u v at =
     let rest = compared cmp c d a b e n (omega arith) (omega arith) (⊎_elim (λ e. inl (omega arith)) (λ e. inr (omega arith)) at) in
     rw (length_same (length c) (length d), rest)
     (sym (then_further (cmp x y) (slice_cmp cmp (take n c) (take n d)) (cmp (get_or (c ++ a ∷ []) n e) (get_or (d ++ b ∷ []) n e)) (nat_cmp (length c) (length d))))
+
+-- after the same list the last elements decide
+pub compared_after : (c : List ℕ) (a b : ℕ) → slice_cmp nat_cmp (c ++ a ∷ []) (c ++ b ∷ []) ≡ nat_cmp a b
+compared_after [] a b = then_equal (nat_cmp a b)
+compared_after (x ∷ c) a b =
+    let same : nat_cmp x x ≡ Equal = grind (arith, nat_tests) in
+    rw (same, compared_after c a b) refl
+
+pub same_option : (o p : Option ℕ) → option_eq eqb o p ≡ true → o ≡ p
+same_option None None h = refl
+same_option None (Some b) h = cc
+same_option (Some a) None h = cc
+same_option (Some a) (Some b) h = let e : a ≡ b = grind (arith, nat_tests) in ap Some e
 
 -- ## The order as a test
 

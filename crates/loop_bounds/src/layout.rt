@@ -52,7 +52,7 @@ fn compare_keyed(chains: &[Vec<usize>], left: &Keyed, right: &Keyed) -> Ordering
 }
 
 // The positions in turn, by their keys.
-fn keyed(
+fn keyed_positions(
     alloc: Global,
     extents: &[Extent],
     nesting: &Nesting,
@@ -85,11 +85,12 @@ pub(crate) fn order(
     ensures { IfOk result
         (λ order. IsLaidOut (key_in (slice_index nesting.now.ranks.items) extents.now) exit order.items) }
 {
-    let mut keyed = keyed(alloc, extents, nesting, exit)?;
-    keyed.sort_unstable_by(|left, right| compare_keyed(&nesting.chains, left, right));
+    let mut keyed = keyed_positions(alloc, extents, nesting, exit)?;
+    let chains: &[Vec<usize>] = &nesting.chains;
+    keyed.sort_unstable_by(|left, right| compare_keyed(chains, left, right));
     let mut order = Vec::with_capacity(alloc, exit + 1)?;
-    for one in &keyed {
-        order.push(one.position)?;
+    for Keyed { position, .. } in &keyed {
+        order.push(*position)?;
     }
     order.push(exit)?;
     Ok(order)

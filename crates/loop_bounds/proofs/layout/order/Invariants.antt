@@ -1,5 +1,5 @@
 use Rattle.loop_bounds.specs.Layout.{ArePositions}
 use Rattle.loop_bounds.proofs.layout.order.Given as goal
 
-abbrev pub invariant-loop-one : goal.invariant-loop-one
-invariant-loop-one l = ArePositions l.one-items l.order.items l.one-index
+abbrev pub invariant-loop-position : goal.invariant-loop-position
+invariant-loop-position l = ArePositions l.position-items l.order.items l.position-index

@@ -4,7 +4,7 @@ use Rattle.loop_bounds.proofs.KeyLemmas.{compared}
 use Rattle.loop_bounds.proofs.pushed.compare_pushed.Goals as goal
 
 pub returns : goal.returns
-returns c =
+returns g c =
     let n = c.min-common.result in
     let one : (n ≡ length c.args.left.now) ⊎ (n ≡ length c.args.right.now) =
     ⊎_elim (λ l. inl (omega (arith, c.min-common.ensures))) (λ ge. inr (omega (arith, c.min-common.ensures))) (cases_lt (length c.args.left.now) (length c.args.right.now)) in

@@ -1,9 +1,9 @@
-use Rattle.std.proofs.Common.{◌≡◌, ◌++◌, [], ◌∷◌, List, ℕ, slice_index, ap, ◌∙◌, arith}
+use Rattle.std.proofs.Common.{◌≡◌, ◌++◌, [], ◌∷◌, ℕ, slice_index, refl, ◌∙◌, arith}
 use Rattle.std.proofs.lemmas.List.{get_or_default}
 use Rattle.loop_bounds.specs.Layout.{chain_above, headers_in, items_of, key_in}
 use Rattle.loop_bounds.proofs.ChainLemmas.{key_at}
 use Rattle.loop_bounds.proofs.LayoutLemmas.{keyed_more}
-use Rattle.loop_bounds.proofs.layout.keyed.Goals as goal
+use Rattle.loop_bounds.proofs.layout.keyed_positions.Goals as goal
 
 pub loop-position-preserved : goal.loop-position-preserved
 loop-position-preserved c =
