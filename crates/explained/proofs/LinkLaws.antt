@@ -235,7 +235,7 @@ one_found seen new order p is_new found updates len is_new_is =
     let one : btree_set_len new ≡ btree_set_len seen + 1 = len ∙ ap (λ b. btree_set_len seen + cond b 1 0) is_new_is in
     let longer : length (order ++ p ∷ []) ≡ length order + 1 = length-append order (p ∷ []) in
     let was : length order ≡ btree_set_len seen = found.count in
-    record { same = same_more seen new order p found.same updates; count = omega arith }
+    record { same = same_more by_order_total by_order_exact (λ q. q) (λ p q e. e) seen new order p found.same updates; count = omega arith }
 
 -- ## The search
 

@@ -2,12 +2,12 @@
 use Rattle.std.proofs.Common.{◌≡◌, ℕ, ◌+◌, ◌<◌, ◌≤◌, Bool, true, false, cond, ltb, Option, List, [], ◌∷◌, ◌++◌, length, get_or, ◌⊎◌, inl, inr, ⊎_elim, refl, sym, ap, ◌∙◌, subst, arith, length-append}
 use Rattle.std.specs.Prelude.{Contains, Some, None}
 use Rattle.std.specs.BTreeSet.{BTreeSet}
+use Rattle.std.specs.declared.cmp.Reverse.{Reverse}
 use Rattle.std.specs.List.{AllZip}
 use Rattle.std.specs.List.Sorted.{IsStrictlySortedBy}
 use Rattle.std.proofs.lemmas.Bool.{ltb-false, le-ltb}
 use Rattle.std.proofs.lemmas.List.{get_or_append_left, get_or_read}
 use Rattle.std.proofs.lemmas.List.Elements.{Contains-append_left, Contains-push, Contains-push_cases}
-use Rattle.std.proofs.lemmas.Map.Views.{btree_set_contains_iff}
 use Rattle.bus_ticks.specs.declared.profile.Profile.{Profile}
 use Rattle.loader.specs.Image.{Words}
 use Rattle.walks.specs.Walk.{Leads}
@@ -16,7 +16,7 @@ use Rattle.flow_graph.specs.Flow.{edge_shape}
 use Rattle.flow_graph.specs.Graph.{ArePlaces, IsBuildFault, IsCrowd, IsFlowGraph, IsReached, IsStray, MayDo, is_call, makes_call, start_of, states_call}
 use Rattle.flow_graph.specs.Kinds.{is_never}
 use Rattle.flow_graph.specs.Places.{place_cmp}
-use Rattle.flow_graph.specs.Search.{AddsEdges, AreInTurn, EndsOne, Grows, IsAllowed, IsCrowded, IsCrowdedBy, IsDone, IsEdgeFault, IsFound, IsIn, IsPlaceFault, IsSearch, IsSound, IsTurnFault, IsVisited, IsVisitFault, action_fault, call_fault, kind_fault, stated_fault, writer_fault}
+use Rattle.flow_graph.specs.Search.{AddsEdges, AreInTurn, EndsOne, Grows, IsAllowed, IsCrowded, IsCrowdedBy, IsDone, IsEdgeFault, IsFound, IsIn, IsPlaceFault, IsSearch, IsSound, IsTurnFault, IsVisited, IsVisitFault, places_in, action_fault, call_fault, kind_fault, stated_fault, writer_fault}
 use Rattle.statement.specs.Stated.{Stated, Target, target_of}
 use Rattle.flow_graph.specs.declared.edges.Edge.{Edge}
 use Rattle.flow_graph.specs.declared.faults.BuildFault.{BuildFault}
@@ -30,7 +30,8 @@ use Rattle.statement.specs.declared.stated.TargetKind.{TargetKind}
 use Rattle.statement.specs.declared.stated.TargetKind.TheVariants as stated
 use Rattle.flow_graph.proofs.EdgeLemmas.{among_edges, is_edge, leaves, no_edge_at_exit, one_action_at}
 use Rattle.flow_graph.proofs.GrowLemmas.{wider}
-use Rattle.flow_graph.proofs.PlaceLemmas.{by_order_total, by_order_exact, place_total}
+use Rattle.flow_graph.proofs.PlaceLemmas.{place_total, places_have}
+use Rattle.flow_graph.proofs.Ascending.{length_ascending}
 use Rattle.flow_graph.proofs.SortedLemmas.{length_within, no_member}
 use borrow.Author.Count.{below_more}
 
@@ -222,24 +223,24 @@ module _ (words : Words) (st : Stated) (profile : Profile) where
       let lt : h.0 < length order = h.1 in
       subst (IsDone words st profile order) h.2 (s.done h.0 p (omega arith))
 
-  in_order : (seen : BTreeSet Place) (order : List Place) → IsFound seen order → (p : Place) → Contains seen.keys p → Contains order p
-  in_order seen order found p h = (found.same p).0 ((btree_set_contains_iff by_order_total by_order_exact seen p).1 h)
+  in_order : (seen : BTreeSet (Reverse Place)) (order : List Place) → IsFound seen order → (p : Place) → Contains (places_in seen) p → Contains order p
+  in_order seen order found p h = (found.same p).0 ((places_have seen p).0 h)
 
-  in_keys : (seen : BTreeSet Place) (order : List Place) → IsFound seen order → (p : Place) → Contains order p → Contains seen.keys p
-  in_keys seen order found p h = (btree_set_contains_iff by_order_total by_order_exact seen p).0 ((found.same p).1 h)
+  in_set_too : (seen : BTreeSet (Reverse Place)) (order : List Place) → IsFound seen order → (p : Place) → Contains order p → Contains (places_in seen) p
+  in_set_too seen order found p h = (places_have seen p).1 ((found.same p).1 h)
 
-  pub search_all : (seen : BTreeSet Place) (order : List Place) (next : ℕ) → IsFound seen order → IsSearch words st profile order next → length order ≤ next → ArePlaces words st profile seen.keys
+  pub search_all : (seen : BTreeSet (Reverse Place)) (order : List Place) (next : ℕ) → IsFound seen order → IsSearch words st profile order next → length order ≤ next → ArePlaces words st profile (places_in seen)
   search_all seen order next found s all p = (
     (λ h. let w = in_order seen order found p h in (s.reached p w, λ ex. found.no_exit (subst (Contains order) ex w))),
     (λ h. ⊎_elim
         (λ ex. absurd (h.1 ex))
-        (λ w. in_keys seen order found p w)
+        (λ w. in_set_too seen order found p w)
         (closed_leads order (done_at order next s all) (start_of st) p (h.0).0 (h.0).1 s.entry)),
   )
 
-  pub search_allowed : (seen : BTreeSet Place) (order : List Place) (next : ℕ) → IsFound seen order → IsSearch words st profile order next → length order ≤ next → IsAllowed words st profile seen.keys
+  pub search_allowed : (seen : BTreeSet (Reverse Place)) (order : List Place) (next : ℕ) → IsFound seen order → IsSearch words st profile order next → length order ≤ next → IsAllowed words st profile (places_in seen)
   search_allowed seen order next found s all = record {
-    few = let few : length order ≤ 16384 = found.few in let same : length order ≡ length seen.keys = found.count in omega arith;
+    few = let few : length order ≤ 16384 = found.few in let same : length order ≡ length seen.keys = found.count in omega (arith, length_ascending seen.keys);
     sound = λ p h. (done_at order next s all p (in_order seen order found p h)).sound;
   }
 

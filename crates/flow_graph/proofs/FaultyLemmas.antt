@@ -2,13 +2,14 @@
 use Rattle.std.proofs.Common.{◌≡◌, ℕ, ◌<◌, ◌≤◌, Option, List, [], ◌∷◌, ◌++◌, length, get_or, inl, inr, ⊎_elim, sym, ◌∙◌, subst}
 use Rattle.std.specs.Prelude.{Contains, IfNone, IfSome, Some, None}
 use Rattle.std.specs.BTreeSet.{BTreeSet}
+use Rattle.std.specs.declared.cmp.Reverse.{Reverse}
 use Rattle.std.proofs.lemmas.List.Elements.{Contains-append_left, Contains-append_right, Contains-append_cases, Contains-push_cases}
 use Rattle.bus_ticks.specs.declared.profile.Profile.{Profile}
 use Rattle.loader.specs.Image.{Words}
 use Rattle.flow_graph.specs.Edges.{AreEdgesOf, HasAction}
 use Rattle.flow_graph.specs.Faulty.{AreSound, IsReachedBy, IsReachedEdge, IsWalked}
 use Rattle.flow_graph.specs.Graph.{ArePlaces, IsReached, start_of}
-use Rattle.flow_graph.specs.Search.{EndsOne, Grows, IsFound, IsPlaceFault, IsSearch, IsSound, action_fault}
+use Rattle.flow_graph.specs.Search.{EndsOne, Grows, IsFound, IsPlaceFault, IsSearch, IsSound, action_fault, places_in}
 use Rattle.statement.specs.Stated.{Stated}
 use Rattle.flow_graph.specs.declared.edges.Edge.{Edge}
 use Rattle.flow_graph.specs.declared.faults.BuildFault.{BuildFault}
@@ -69,8 +70,8 @@ module _ (words : Words) (st : Stated) (profile : Profile) where
   in_places places (At calls address) f are r h = (are (At calls address)).1 (r, λ e. cc)
   in_places places Exit f are r h = absurd h
 
-  pub all_sound : (seen : BTreeSet Place) (order : List Place) (next : ℕ) → IsFound seen order → IsSearch words st profile order next → length order ≤ next → AreSound words st profile
+  pub all_sound : (seen : BTreeSet (Reverse Place)) (order : List Place) (next : ℕ) → IsFound seen order → IsSearch words st profile order next → length order ≤ next → AreSound words st profile
   all_sound seen order next found s all p f r h =
       let are = search_all words st profile seen order next found s all in
       let allowed = search_allowed words st profile seen order next found s all in
-      no_fault p f (allowed.sound p (in_places seen.keys p f are r h)) h
+      no_fault p f (allowed.sound p (in_places (places_in seen) p f are r h)) h

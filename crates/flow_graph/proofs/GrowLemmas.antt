@@ -2,6 +2,7 @@
 use Rattle.std.proofs.Common.{◌≡◌, ℕ, ◌+◌, ◌<◌, List, [], ◌∷◌, ◌++◌, length, take, get_or, inl, inr, ⊎_elim, sym, ap, ◌∙◌, subst, arith, append_assoc}
 use Rattle.std.specs.Prelude.{Contains}
 use Rattle.std.specs.BTreeSet.{BTreeSet}
+use Rattle.std.specs.declared.cmp.Reverse.{Reverse}
 use Rattle.std.proofs.lemmas.List.{take_more, length-take, get_or-take}
 use Rattle.std.proofs.lemmas.List.Elements.{Contains-push, Contains-push_cases, Contains-append_left, Contains-get_or}
 use Rattle.flow_graph.specs.declared.edges.Edge.{Edge}
@@ -48,7 +49,7 @@ Contains-take xs i x h =
     let j : h.0 < i = omega (arith, length-take i xs) in
     (h.0, k, sym (get_or-take i xs h.0 x j) ∙ h.2)
 
-pub crowded_by : (seen : BTreeSet Place) (old mid : List Place) (edges : List Edge) (i : ℕ) (e : Edge) → IsFound seen mid → Grows old (take i edges) mid → Contains edges e → IsCrowded mid e.to → IsCrowdedBy old edges
+pub crowded_by : (seen : BTreeSet (Reverse Place)) (old mid : List Place) (edges : List Edge) (i : ℕ) (e : Edge) → IsFound seen mid → Grows old (take i edges) mid → Contains edges e → IsCrowded mid e.to → IsCrowdedBy old edges
 crowded_by seen old mid edges i e found g has crowd = record {
   places = crowd.places;
   ordered = crowd.ordered;

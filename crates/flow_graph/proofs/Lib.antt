@@ -2,6 +2,7 @@ pub mod PlaceLemmas
 pub mod FoundLemmas
 pub mod GrowLemmas
 pub mod SortedLemmas
+mod Ascending
 pub mod WorkLemmas
 pub mod EdgeLemmas
 pub mod StrayLemmas

@@ -1,16 +1,22 @@
 -- The order of places: total, and exact.
 use Rattle.std.proofs.Common.{◌≡◌, ℕ, List, refl, ap, sym, ◌∙◌, subst}
+use Rattle.std.specs.Prelude.{Contains, IsTrue, ◌↔◌}
+use Rattle.std.specs.BTreeSet.{BTreeSet, contains}
 use Rattle.std.specs.Cmp.{IsTotalOrder}
+use Rattle.std.specs.declared.cmp.Reverse.{Reverse}
+use Rattle.std.proofs.lemmas.Cmp.{back_total, on_total}
+use Rattle.std.proofs.lemmas.Map.Views.{btree_set_contains_iff}
 use Rattle.std.specs.Cmp.Lexicographic.{slice_cmp}
 use Rattle.std.specs.List.Sorted.{IsStrictlySortedBy}
 use Rattle.std.specs.Ordering.{nat_cmp, ordering_then}
 use Rattle.std.proofs.lemmas.Map.Lookups.{CmpEqualImpliesEq, exact_unsigned, exact_bytes, exact_pairs}
 use Rattle.std.specs.declared.cmp.Ordering.TheVariants.{Equal}
 use Rattle.flow_graph.specs.Places.{place_cmp}
-use Rattle.flow_graph.specs.Search.{by_order}
+use Rattle.flow_graph.specs.Search.{by_order, downwards, in_set, places_in}
 use Rattle.flow_graph.specs.contracts.places.PlaceOrd.TheImpl.Laws.{total-law}
 use Rattle.flow_graph.specs.declared.places.Place.{Place}
 use Rattle.flow_graph.specs.declared.places.Place.TheVariants.{At, Exit}
+use Rattle.flow_graph.proofs.Ascending.{ascending_from, ascending_has, sorted_ascending}
 
 pub by_order_is_place_cmp : (x y : Place) → by_order x y ≡ place_cmp x y
 by_order_is_place_cmp (At c a) (At d b) = refl
@@ -44,3 +50,20 @@ by_order_exact x y h = place_exact x y (sym (by_order_is_place_cmp x y) ∙ h)
 
 pub sorted_by_place : (ks : List Place) → IsStrictlySortedBy by_order ks → IsStrictlySortedBy place_cmp ks
 sorted_by_place ks s = subst (λ R. IsStrictlySortedBy R ks) by_place s
+
+-- ## The set of places
+
+pub downwards_total : IsTotalOrder downwards
+downwards_total = on_total (λ (r : Reverse Place). r.0) (back_total by_order_total)
+
+pub downwards_exact : CmpEqualImpliesEq downwards
+downwards_exact x y h = ap in_set (sym (by_order_exact y.0 x.0 h))
+
+pub places_ascend : (seen : BTreeSet (Reverse Place)) → IsStrictlySortedBy downwards seen.keys → IsStrictlySortedBy place_cmp (places_in seen)
+places_ascend seen s = sorted_by_place (places_in seen) (sorted_ascending by_order seen.keys s)
+
+pub places_have : (seen : BTreeSet (Reverse Place)) (q : Place) → Contains (places_in seen) q ↔ IsTrue (contains downwards seen (in_set q))
+places_have seen q = (
+  (λ h. (btree_set_contains_iff downwards_total downwards_exact seen (in_set q)).1 (ascending_from seen.keys q h)),
+  (λ h. ascending_has seen.keys q ((btree_set_contains_iff downwards_total downwards_exact seen (in_set q)).0 h)),
+)

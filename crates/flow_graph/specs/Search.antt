@@ -1,10 +1,12 @@
 -- What the search for places knows on its way.
-use Rattle.std.specs.Prelude.{◌≡◌, ℕ, ◌<◌, ◌≤◌, cond, nat_lt, List, [], ◌∷◌, ◌++◌, length, slice_index_or}
+use Rattle.std.specs.Prelude.{◌≡◌, ℕ, ◌<◌, ◌≤◌, cond, nat_lt, List, [], ◌∷◌, ◌++◌, length, map, reverse}
+use Rattle.std.specs.Prelude.{slice_index_or}
 use Rattle.std.specs.Prelude.{Option, Some, None, Contains, IsTrue, ◌↔◌, ◌⊎◌}
 use Rattle.std.specs.List.{AllZip, flat_map}
 use Rattle.std.specs.List.Sorted.{IsStrictlySortedBy}
 use Rattle.std.specs.BTreeSet.{BTreeSet, contains, btree_set_len}
 use Rattle.std.specs.declared.cmp.Ordering.{Ordering}
+use Rattle.std.specs.declared.cmp.Reverse.{Reverse}
 use Rattle.bus_ticks.specs.declared.profile.Profile.{Profile}
 use Rattle.loader.specs.Image.{Words, word_of}
 use Rattle.flow_graph.specs.Edges.{AreEdgesOf, HasAction}
@@ -30,9 +32,24 @@ use Rattle.statement.specs.declared.stated.TargetKind.TheVariants as stated
 abbrev pub by_order : Place → Place → Ordering
 by_order = (PlaceOrder.ghosts).cmp
 
+-- and the other way round, that of the set of places
+abbrev pub downwards : Reverse Place → Reverse Place → Ordering
+downwards x y = by_order y.0 x.0
+
+abbrev pub in_set : Place → Reverse Place
+in_set q = record { 0 = q }
+
+-- the members of a list by a reversed order, the least first
+abbrev pub ascending : {K : Type 0} → List (Reverse K) → List K
+ascending ks = map (λ r. r.0) (reverse ks)
+
+-- the places of the set, ascending
+abbrev pub places_in : BTreeSet (Reverse Place) → List Place
+places_in seen = ascending seen.keys
+
 -- the set and the list have the same places, each once, and not Exit
-pub record IsFound (seen : BTreeSet Place) (order : List Place) : Type 0 where
-  pub same : (q : Place) → (IsTrue (contains by_order seen q)) ↔ Contains order q
+pub record IsFound (seen : BTreeSet (Reverse Place)) (order : List Place) : Type 0 where
+  pub same : (q : Place) → (IsTrue (contains downwards seen (in_set q))) ↔ Contains order q
   pub count : length order ≡ btree_set_len seen
   pub few : length order ≤ 16384
   pub no_exit : Contains order Exit → ⊥

@@ -1,7 +1,7 @@
 ghost use Rattle.std.specs.Prelude.{◌≡◌, ◌≢◌, [], OnOk, IfErr, IfOk};
 ghost use Rattle.flow_graph.specs.Graph.{ArePlaces, IsBuildFault, IsFlowGraph, start_of};
 ghost use Rattle.flow_graph.specs.Search.{AddsEdges, AreInTurn, IsAllowed, IsEdgeFault, IsFound};
-ghost use Rattle.flow_graph.specs.Search.{IsSearch, IsSound, IsTurnFault};
+ghost use Rattle.flow_graph.specs.Search.{IsSearch, IsSound, IsTurnFault, places_in};
 ghost use Rattle.statement.specs.Stated.{IsStated};
 ghost use Rattle.flow_graph.specs.declared.faults.BuildFault.{BuildFault};
 
@@ -17,6 +17,7 @@ use bus_ticks::Profile;
 use loader::Image;
 use statement::Statement;
 use std::alloc::Global;
+use std::cmp::Reverse;
 use std::collections::BTreeSet;
 
 /// Where a walk starts.
@@ -51,9 +52,11 @@ fn explore(
     image: &Image,
     statement: &Statement,
     profile: &Profile,
-) -> Result<BTreeSet<Place>, BuildFault>
-    ensures places { IfOk result (λ seen. ArePlaces image.now statement.now profile.now seen.keys) }
-    ensures allowed { IfOk result (λ seen. IsAllowed image.now statement.now profile.now seen.keys) }
+) -> Result<BTreeSet<Reverse<Place>>, BuildFault>
+    ensures places { IfOk result
+        (λ seen. ArePlaces image.now statement.now profile.now (places_in seen)) }
+    ensures allowed { IfOk result
+        (λ seen. IsAllowed image.now statement.now profile.now (places_in seen)) }
     ensures fault { IfErr result (IsBuildFault image.now statement.now profile.now) }
 {
     let mut seen = BTreeSet::new(alloc);

@@ -2,11 +2,13 @@ ghost use Rattle.std.specs.Prelude.{◌≡◌, ◌<◌, ◌≤◌, OnOk, IfErr, 
 ghost use Rattle.std.specs.List.Sorted.{IsStrictlySortedBy};
 ghost use Rattle.flow_graph.specs.Places.{place_cmp};
 ghost use Rattle.flow_graph.specs.Search.{Adds, Grows, IsCrowded, IsCrowdedBy, IsFound};
+ghost use Rattle.flow_graph.specs.Search.{ascending, places_in};
 
 use crate::edges::Edge;
 use crate::faults::BuildFault;
 use crate::places::Place;
 use std::alloc::{AllocError, Global};
+use std::cmp::Reverse;
 use std::collections::BTreeSet;
 
 /// How many places a graph has at most, besides Exit.
@@ -14,7 +16,7 @@ pub const MOST_PLACES: usize = 16_384;
 
 /// Adds a place that is not yet found.
 pub fn add(
-    seen: &mut BTreeSet<Place>,
+    seen: &mut BTreeSet<Reverse<Place>>,
     order: &mut Vec<Place>,
     place: &Place,
 ) -> Result<(), BuildFault>
@@ -28,7 +30,9 @@ pub fn add(
     if let Place::Exit = place {
         return Ok(());
     }
-    let is_new = seen.insert(*place)?;
+    // Most places are found ascending. A search in a node of the tree begins at its least key, and by the
+    // reversed order it ends there.
+    let is_new = seen.insert(Reverse(*place))?;
     if !is_new {
         return Ok(());
     }
@@ -41,7 +45,7 @@ pub fn add(
 
 /// Adds the ends of the edges.
 pub fn add_ends(
-    seen: &mut BTreeSet<Place>,
+    seen: &mut BTreeSet<Reverse<Place>>,
     order: &mut Vec<Place>,
     edges: &[Edge],
 ) -> Result<(), BuildFault>
@@ -58,10 +62,22 @@ pub fn add_ends(
     Ok(())
 }
 
+// The members of a set by a reversed order, the least first.
+fn ascending<K: Ord + Copy>(alloc: Global, set: &BTreeSet<Reverse<K>>) -> Result<Vec<K>, AllocError>
+    ensures members { IfOk result (λ members. members.items ≡ ascending set.now.keys) }
+    ensures ordered { IfOk result (λ members. IsStrictlySortedBy K.cmp members.items) }
+{
+    let mut members = Vec::with_capacity(alloc, set.len())?;
+    for member in set.iter().rev() {
+        members.push(member.0)?;
+    }
+    Ok(members)
+}
+
 /// The places found, ascending.
-pub fn sorted(alloc: Global, seen: &BTreeSet<Place>) -> Result<Vec<Place>, AllocError>
-    ensures keys { IfOk result (λ places. places.items ≡ seen.now.keys) }
+pub fn sorted(alloc: Global, seen: &BTreeSet<Reverse<Place>>) -> Result<Vec<Place>, AllocError>
+    ensures places { IfOk result (λ places. places.items ≡ places_in seen.now) }
     ensures ordered { IfOk result (λ places. IsStrictlySortedBy place_cmp places.items) }
 {
-    seen.iter().copied().collect(alloc)
+    ascending(alloc, seen)
 }
