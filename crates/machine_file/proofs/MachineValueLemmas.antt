@@ -30,11 +30,7 @@ fault_at n = get_or (Memory ∷ Memory ∷ NotToml ∷ UnknownKey ∷ WrongKind 
 
 at_rank : (f : MachineFileFault) → fault_at (number_of f) ≡ f
 at_rank Memory = refl
-at_rank NotToml = refl
-at_rank UnknownKey = refl
-at_rank WrongKind = refl
-at_rank OutOfRange = refl
-at_rank Twice = refl
+at_rank _ = refl
 
 pub one_rank : (f g : MachineFileFault) → number_of f ≡ number_of g → f ≡ g
 one_rank = one_by_rank machine_faults fault_at at_rank
@@ -62,9 +58,7 @@ size_numbered n = cond (eqb n 4) K4 (cond (eqb n 8) K8 (cond (eqb n 16) K16 K32)
 size_back : (s : PageSize) → size_numbered (kilobytes s) ≡ s
 unfolding size_numbered
 size_back K4 = refl
-size_back K8 = refl
-size_back K16 = refl
-size_back K32 = refl
+size_back _ = refl
 
 abbrev OtherSize : ℤ → MachineFileFault → Type 0
 OtherSize z f = ((s : PageSize) → z ≡ pos (kilobytes s) → ⊥) × (f ≡ OutOfRange)

@@ -43,10 +43,10 @@ fn line_named(name: &str) -> Option<Lines>
 fn line(value: &Value) -> Read<Lines>
     ensures { result ≡ line_at (view value.now) }
 {
-    match value.as_str() {
-        Some(name) => line_named(name).ok_or(MachineFileFault::WrongKind),
-        None => Err(MachineFileFault::WrongKind),
-    }
+    value
+        .as_str()
+        .and_then(line_named)
+        .ok_or(MachineFileFault::WrongKind)
 }
 
 impl Entry<(), MachineFileFault> for Lines {
@@ -88,19 +88,13 @@ fn lines(alloc: Global, table: &Table) -> Result<Read<Option<Lines>>, AllocError
 fn port_of(value: &Value) -> Read<Option<u32>>
     ensures { result ≡ port_at (view value.now) }
 {
-    match number(value, u32::MAX) {
-        Ok(word) => Ok(Some(word)),
-        Err(fault) => Err(fault),
-    }
+    number(value, u32::MAX).map(Some)
 }
 
 fn port(table: &Table) -> Read<Option<u32>>
     ensures { result ≡ port_in (table_view table.now) }
 {
-    match value_at(table, "port") {
-        Some(value) => port_of(value),
-        None => Ok(None),
-    }
+    value_at(table, "port").map_or(Ok(None), port_of)
 }
 
 fn bursts_of(value: &Value) -> Read<u16>
@@ -118,10 +112,7 @@ fn bursts_of(value: &Value) -> Read<u16>
 fn bursts(table: &Table) -> Read<u16>
     ensures { result ≡ number_or machine_faults (codes "bursts") 65535 0 (table_view table.now) }
 {
-    match value_at(table, "bursts") {
-        Some(value) => bursts_of(value),
-        None => Ok(0),
-    }
+    value_at(table, "bursts").map_or(Ok(0), bursts_of)
 }
 
 fn read_event(alloc: Global, table: &Table) -> Result<Read<(u32, Event)>, AllocError>
