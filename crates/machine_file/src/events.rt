@@ -3,7 +3,7 @@ ghost use Rattle.toml_reading.specs.Readings.{seen};
 ghost use Rattle.toml.specs.View.{table_view, view};
 ghost use Rattle.toml_reading.specs.Documents.{number_at, number_or};
 ghost use Rattle.machine_file.specs.MachineFaults.{machine_faults};
-ghost use Rattle.machine_file.specs.MachineFile.{counts_in, event_at, event_in, events_in, line_at, lines_at};
+ghost use Rattle.machine_file.specs.MachineFile.{counts_in, event_at, event_in, event_of, events_in, line_at, lines_at};
 ghost use Rattle.machine_file.specs.MachineFile.{lines_in, once, port_at, port_in, schedule_in};
 ghost use Rattle.ioc.specs.LineNames.{line_named};
 ghost use Rattle.machine_file.specs.MachineFile.{union};
@@ -115,22 +115,24 @@ fn bursts(table: &Table) -> Read<u16>
     value_at(table, "bursts").map_or(Ok(0), bursts_of)
 }
 
+fn event_of(parts: (u32, (u16, (Option<Lines>, Option<u32>)))) -> (u32, Event)
+    ensures { result ≡ event_of parts }
+{
+    let (step, (bursts, (lines, port))) = parts;
+    let event = Event {
+        bursts,
+        lines,
+        port,
+    };
+    (step, event)
+}
+
 fn read_event(alloc: Global, table: &Table) -> Result<Read<(u32, Event)>, AllocError>
     ensures { IfOk result (λ event. event ≡ event_in (table_view table.now)) }
 {
     let held = pair(lines(alloc, table)?, port(table));
     let rest = pair(bursts(table), held);
-    let event = match pair(required_number(table, "step", 65535), rest) {
-        Ok((step, (bursts, (lines, port)))) => Ok((
-            step,
-            Event {
-                bursts,
-                lines,
-                port,
-            },
-        )),
-        Err(fault) => Err(fault),
-    };
+    let event = pair(required_number(table, "step", 65535), rest).map(event_of);
     Ok(check(
         only_keys(EVENT_KEYS, table),
         MachineFileFault::UnknownKey,

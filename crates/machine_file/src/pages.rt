@@ -237,8 +237,6 @@ impl Model for Controller {
 pub(crate) fn read_controller(alloc: Global, table: &Table) -> Result<Read<Controller>, AllocError>
     ensures { IfOk result (λ reading. reading ≡ controller_in (table_view table.now)) }
 {
-    match pair(rom_fields(table), read_pages(alloc, table)?) {
-        Ok((rom, pages)) => Ok(Ok(Controller { rom, pages })),
-        Err(fault) => Ok(Err(fault)),
-    }
+    let parts = pair(rom_fields(table), read_pages(alloc, table)?);
+    Ok(parts.map(|(rom, pages)| Controller { rom, pages }))
 }

@@ -110,13 +110,11 @@ pub(crate) fn read_processor(alloc: Global, table: &Table) -> Result<Read<Proces
     let psr = pair(mode(table), stated_flags(table));
     let start = pair(pc(table), psr);
     let registers = stated_registers(alloc, table)?;
-    match pair(start, registers) {
-        Ok(((pc, (mode, flags)), registers)) => Ok(Ok(Processor {
-            pc,
-            mode,
-            flags,
-            registers,
-        })),
-        Err(fault) => Ok(Err(fault)),
-    }
+    let parts = pair(start, registers);
+    Ok(parts.map(|((pc, (mode, flags)), registers)| Processor {
+        pc,
+        mode,
+        flags,
+        registers,
+    }))
 }
