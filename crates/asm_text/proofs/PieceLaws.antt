@@ -49,22 +49,16 @@ first_no_gap (b ∷ bs) h =
     ]
   where
     name_first : (b : ℕ) (ps : List Piece) → starts_gap (name_before b ps) ≡ false
-    name_first b [] = refl
     name_first b (Run r ∷ ps) = refl
-    name_first b (Comma ∷ ps) = refl
-    name_first b (Sign c ∷ ps) = refl
-    name_first b (Gap ∷ ps) = refl
+    name_first b ps = refl
 
 abbrev pub first_name : List ℕ → Bool
 first_name [] = false
 first_name (b ∷ bs) = is_name b
 
 gap_no_run : (ps : List Piece) → starts_run (gap_before ps) ≡ false
-gap_no_run [] = refl
 gap_no_run (Run r ∷ ps) = refl
-gap_no_run (Comma ∷ ps) = refl
-gap_no_run (Sign c ∷ ps) = refl
-gap_no_run (Gap ∷ ps) = refl
+gap_no_run ps = refl
 
 pub first_no_run : (bs : List ℕ) → first_name bs ≡ false → starts_run (pieces bs) ≡ false
 unfolding pieces
@@ -79,11 +73,8 @@ first_no_run (b ∷ bs) h =
     ]
 
 gap_again : (ps : List Piece) → gap_before (gap_before ps) ≡ gap_before ps
-gap_again [] = refl
 gap_again (Run r ∷ ps) = refl
-gap_again (Comma ∷ ps) = refl
-gap_again (Sign c ∷ ps) = refl
-gap_again (Gap ∷ ps) = refl
+gap_again ps = refl
 
 -- ---- runs of bytes
 
@@ -97,11 +88,8 @@ pieces-gap (b ∷ c ∷ gap) rest h lt =
     at_blank b (pieces ((c ∷ gap) ++ rest)) k.0 ∙ ap gap_before (pieces-gap (c ∷ gap) rest k.1 (omega arith)) ∙ gap_again (pieces rest)
 
 name_joins : (b : ℕ) (ps : List Piece) → starts_run ps ≡ false → name_before b ps ≡ Run (b ∷ []) ∷ ps
-name_joins b [] h = refl
 name_joins b (Run r ∷ ps) h = absurd cc
-name_joins b (Comma ∷ ps) h = refl
-name_joins b (Sign c ∷ ps) h = refl
-name_joins b (Gap ∷ ps) h = refl
+name_joins b ps h = refl
 
 pub pieces-run : (r rest : List ℕ) → list_all is_name r ≡ true → 0 < length r → starts_run (pieces rest) ≡ false → pieces (r ++ rest) ≡ Run r ∷ pieces rest
 unfolding pieces
@@ -119,18 +107,12 @@ pieces-blanks (b ∷ bs) h =
     at_blank b (pieces bs) k.0 ∙ ap gap_before (pieces-blanks bs k.1)
 
 no_gap_gone : (ps : List Piece) → starts_gap ps ≡ false → without_gap ps ≡ ps
-no_gap_gone [] h = refl
-no_gap_gone (Run r ∷ ps) h = refl
-no_gap_gone (Comma ∷ ps) h = refl
-no_gap_gone (Sign c ∷ ps) h = refl
 no_gap_gone (Gap ∷ ps) h = absurd cc
+no_gap_gone ps h = refl
 
 gap_gone : (ps : List Piece) → starts_gap ps ≡ false → without_gap (gap_before ps) ≡ ps
-gap_gone [] h = refl
-gap_gone (Run r ∷ ps) h = refl
-gap_gone (Comma ∷ ps) h = refl
-gap_gone (Sign c ∷ ps) h = refl
 gap_gone (Gap ∷ ps) h = absurd cc
+gap_gone ps h = refl
 
 pub after_comma : (after rest : List ℕ) → IsBlanks after → starts_gap (pieces rest) ≡ false → without_gap (pieces (after ++ rest)) ≡ pieces rest
 after_comma [] rest h ends = no_gap_gone (pieces rest) ends
@@ -249,18 +231,12 @@ more_name : (b : ℕ) (r : List ℕ) → is_name b ≡ true → list_all is_name
 more_name b r h k = rw (h, k) refl
 
 written_name : (b : ℕ) (ps : List Piece) (bs : List ℕ) → is_name b ≡ true → Written ps bs → Written (name_before b ps) (b ∷ bs)
-written_name b [] bs h w = (bs, refl, omega arith, one_name b h, w)
 written_name b (Run r ∷ ps) bs h w = (w.0, ap (λ (t : List ℕ). b ∷ t) w.1, omega arith, more_name b r h w.3, w.4)
-written_name b (Comma ∷ ps) bs h w = (bs, refl, omega arith, one_name b h, w)
-written_name b (Sign c ∷ ps) bs h w = (bs, refl, omega arith, one_name b h, w)
-written_name b (Gap ∷ ps) bs h w = (bs, refl, omega arith, one_name b h, w)
+written_name b ps bs h w = (bs, refl, omega arith, one_name b h, w)
 
 written_comma : (ps : List Piece) (bs : List ℕ) → Written ps bs → Written (Comma ∷ without_gap ps) (44 ∷ bs)
-written_comma [] bs w = ([], [], bs, refl, refl, refl, w)
-written_comma (Run r ∷ ps) bs w = ([], [], bs, refl, refl, refl, w)
-written_comma (Comma ∷ ps) bs w = ([], [], bs, refl, refl, refl, w)
-written_comma (Sign c ∷ ps) bs w = ([], [], bs, refl, refl, refl, w)
 written_comma (Gap ∷ ps) bs w = ([], w.0, w.1, ap (λ (t : List ℕ). 44 ∷ t) w.2, refl, w.4, w.5)
+written_comma ps bs w = ([], [], bs, refl, refl, refl, w)
 
 pub pieces_written : (text : List ℕ) → Written (pieces text) text
 unfolding pieces
@@ -287,25 +263,16 @@ spaced_gap (Sign c ∷ ps) s = (refl, s)
 spaced_gap (Gap ∷ ps) s = s
 
 spaced_name : (b : ℕ) (ps : List Piece) → WellSpaced ps → WellSpaced (name_before b ps)
-spaced_name b [] s = (refl, tt)
 spaced_name b (Run r ∷ ps) s = s
-spaced_name b (Comma ∷ ps) s = (refl, s)
-spaced_name b (Sign c ∷ ps) s = (refl, s)
-spaced_name b (Gap ∷ ps) s = (refl, s)
+spaced_name b ps s = (refl, s)
 
 solid_no_gap : (ps : List Piece) → may_follow_gap ps ≡ true → starts_gap ps ≡ false
-solid_no_gap [] h = refl
-solid_no_gap (Run r ∷ ps) h = refl
-solid_no_gap (Comma ∷ ps) h = refl
-solid_no_gap (Sign c ∷ ps) h = refl
 solid_no_gap (Gap ∷ ps) h = absurd cc
+solid_no_gap ps h = refl
 
 spaced_comma : (ps : List Piece) → WellSpaced ps → WellSpaced (Comma ∷ without_gap ps)
-spaced_comma [] s = (refl, tt)
-spaced_comma (Run r ∷ ps) s = (refl, s)
-spaced_comma (Comma ∷ ps) s = (refl, s)
-spaced_comma (Sign c ∷ ps) s = (refl, s)
 spaced_comma (Gap ∷ ps) s = (solid_no_gap ps s.0, s.1)
+spaced_comma ps s = (refl, s)
 
 pub pieces_spaced : (text : List ℕ) → WellSpaced (pieces text)
 unfolding pieces
@@ -348,11 +315,8 @@ sign_text (b ∷ bs) lt e h k = sign_step b bs e h (no_comma b k)
 -- ---- what the reader of gaps needs
 
 name_follows : (b : ℕ) (ps : List Piece) → may_follow_gap (name_before b ps) ≡ true
-name_follows b [] = refl
 name_follows b (Run r ∷ ps) = refl
-name_follows b (Comma ∷ ps) = refl
-name_follows b (Sign c ∷ ps) = refl
-name_follows b (Gap ∷ ps) = refl
+name_follows b ps = refl
 
 solid_follows : (rest : List ℕ) → first_blank rest ≡ false → 0 < length rest → get_or rest 0 0 ≢ 44 → may_follow_gap (pieces rest) ≡ true
 unfolding pieces

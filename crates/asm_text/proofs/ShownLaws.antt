@@ -6,7 +6,7 @@ use Rattle.std.specs.List.{list_all}
 use Rattle.std.proofs.lemmas.Bool.{and_parts}
 use Rattle.std.proofs.lemmas.Bool.Decides.{nat_tests}
 use Rattle.asm_text.specs.Pieces.{Piece, Run, Comma, Sign, Gap, gap_before, is_blank, is_name, mark_of, name_before, pieces, without_gap}
-use Rattle.asm_text.specs.Said.{Target, Number, Label, Said, Codes, Refers, Orgs, Lists}
+use Rattle.asm_text.specs.Said.{Target, Number, Said, Codes, Refers, Orgs, Lists}
 use Rattle.asm_text.specs.declared.printed_lines.Shown.{Shown}
 use Rattle.asm_text.specs.declared.printed_lines.Shown.TheVariants as shown
 use Rattle.asm_text.specs.declared.statement.TextFault.{TextFault}
@@ -60,11 +60,8 @@ drop_whole [] = refl
 drop_whole (x ∷ xs) = drop_whole xs
 
 gap_parsed : (ps : List Piece) → starts_run ps ≡ true → parsed (gap_before ps) ≡ with_label None (statement_of ps)
-gap_parsed [] h = absurd cc
 gap_parsed (Run r ∷ ps) h = refl
-gap_parsed (Comma ∷ ps) h = absurd cc
-gap_parsed (Sign m ∷ ps) h = absurd cc
-gap_parsed (Gap ∷ ps) h = absurd cc
+gap_parsed ps h = absurd cc
 
 pub blank_pieces : (text : List ℕ) → pieces (32 ∷ text) ≡ gap_before (pieces text)
 unfolding pieces
@@ -98,23 +95,15 @@ orgs_hidden (Some n) = refl
 upper_named : (b : ℕ) (ps : List Piece) → not (is_ascii_lowercase b) ≡ true → upper_pieces ps ≡ true → upper_pieces (name_before b ps) ≡ true
 upper_named b [] u h = rw u refl
 upper_named b (Run r ∷ ps) u h = rw u h
-upper_named b (Comma ∷ ps) u h = rw (u, h) refl
-upper_named b (Sign m ∷ ps) u h = rw (u, h) refl
-upper_named b (Gap ∷ ps) u h = rw (u, h) refl
+upper_named b ps u h = rw (u, h) refl
 
 upper_gap : (ps : List Piece) → upper_pieces ps ≡ true → upper_pieces (gap_before ps) ≡ true
-upper_gap [] h = h
 upper_gap (Run r ∷ ps) h = h
-upper_gap (Comma ∷ ps) h = h
-upper_gap (Sign m ∷ ps) h = h
-upper_gap (Gap ∷ ps) h = h
+upper_gap ps h = h
 
 pub upper_ungapped : (ps : List Piece) → upper_pieces ps ≡ true → upper_pieces (without_gap ps) ≡ true
-upper_ungapped [] h = h
-upper_ungapped (Run r ∷ ps) h = h
-upper_ungapped (Comma ∷ ps) h = h
-upper_ungapped (Sign m ∷ ps) h = h
 upper_ungapped (Gap ∷ ps) h = h
+upper_ungapped ps h = h
 
 upper_by : (blank name comma : Bool) (b : ℕ) (ps : List Piece) → not (is_ascii_lowercase b) ≡ true → upper_pieces ps ≡ true
     → upper_pieces (cond blank (gap_before ps) (cond name (name_before b ps) (cond comma (Comma ∷ without_gap ps) (Sign (mark_of b) ∷ ps)))) ≡ true
@@ -150,10 +139,7 @@ shown_again (shown.Refer r n) = refl
 said_alone : (r : Result Said TextFault) (s : Shown) → shown_result r ≡ Some s → with_label None r ≡ Ok (parsed_shown s)
 said_alone (Ok (Codes c)) s h = ap line_by h
 said_alone (Ok (Refers r (Number n))) s h = ap line_by h
-said_alone (Ok (Refers r (Label d))) s h = absurd cc
-said_alone (Ok (Orgs n)) s h = absurd cc
-said_alone (Ok (Lists vs)) s h = absurd cc
-said_alone (Err fault) s h = absurd cc
+said_alone _ s h = absurd cc
 
 label_free : (r : Result Said TextFault) → shown_by (with_label None r) ≡ shown_result r
 label_free (Ok s) = refl

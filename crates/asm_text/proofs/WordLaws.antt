@@ -8,12 +8,12 @@ use Rattle.std.proofs.lemmas.List.{take-append-drop}
 use Rattle.std.proofs.lemmas.Slice.Eq.{bytes_eq-Decides}
 use Rattle.std.proofs.lemmas.Option.{none-some}
 use Rattle.arm2_decode.specs.declared.names.Cond.{Cond}
-use Rattle.arm2_decode.specs.declared.names.Cond.TheVariants.{Eq, Ne, Cs, Cc, Mi, Pl, Vs, Vc, Hi, Ls, Ge, Lt, Gt, Le, Al, Nv}
-use Rattle.arm2_decode.specs.declared.names.Opcode.TheVariants.{And, Eor, Sub, Rsb, Add, Adc, Sbc, Rsc, Tst, Teq, Cmp, Cmn, Orr, Mov, Bic, Mvn}
+use Rattle.arm2_decode.specs.declared.names.Cond.TheVariants.{Eq, Al}
+use Rattle.arm2_decode.specs.declared.names.Opcode.TheVariants.{And}
 use Rattle.asm_text.specs.declared.names.Head.{Head}
-use Rattle.asm_text.specs.declared.names.Head.TheVariants.{Data, Multiply, Single, Block, Swi, Adr}
+use Rattle.asm_text.specs.declared.names.Head.TheVariants.{Data, Multiply, Single, Block}
 use Rattle.asm_text.specs.declared.names.Suffix.{Suffix}
-use Rattle.asm_text.specs.declared.names.Suffix.TheVariants.{Bare, S, P, B, T, Bt, Ia, Ib, Da, Db, Fd, Ed, Fa, Ea}
+use Rattle.asm_text.specs.declared.names.Suffix.TheVariants.{Bare}
 use Rattle.asm_text.specs.declared.word.Word.{Word}
 use Rattle.asm_text.specs.declared.word.Word.TheVariants.{Plain, Branch, Org, Dcd}
 use Rattle.asm_text.specs.Names.{cond_name, head_name, suffix_name, conds, heads, suffixes, named, cond_of, head_of, suffix_of, may_have}
@@ -43,161 +43,45 @@ named_is name (x ∷ xs) text a e =
 cond_again : (c : Cond) (rest : List ℕ) → cond_of (take 2 (cond_name c ++ rest)) ≡ Some c
 unfolding cond_of
 cond_again Eq rest = refl
-cond_again Ne rest = refl
-cond_again Cs rest = refl
-cond_again Cc rest = refl
-cond_again Mi rest = refl
-cond_again Pl rest = refl
-cond_again Vs rest = refl
-cond_again Vc rest = refl
-cond_again Hi rest = refl
-cond_again Ls rest = refl
-cond_again Ge rest = refl
-cond_again Lt rest = refl
-cond_again Gt rest = refl
-cond_again Le rest = refl
-cond_again Al rest = refl
-cond_again Nv rest = refl
+cond_again _ rest = refl
 
 whole_again : (c : Cond) → whole_cond (cond_name c) ≡ Some c
 unfolding cond_of
 whole_again Eq = refl
-whole_again Ne = refl
-whole_again Cs = refl
-whole_again Cc = refl
-whole_again Mi = refl
-whole_again Pl = refl
-whole_again Vs = refl
-whole_again Vc = refl
-whole_again Hi = refl
-whole_again Ls = refl
-whole_again Ge = refl
-whole_again Lt = refl
-whole_again Gt = refl
-whole_again Le = refl
-whole_again Al = refl
-whole_again Nv = refl
+whole_again _ = refl
 
 after_cond : (c : Cond) (rest : List ℕ) → drop 2 (cond_name c ++ rest) ≡ rest
 after_cond Eq rest = refl
-after_cond Ne rest = refl
-after_cond Cs rest = refl
-after_cond Cc rest = refl
-after_cond Mi rest = refl
-after_cond Pl rest = refl
-after_cond Vs rest = refl
-after_cond Vc rest = refl
-after_cond Hi rest = refl
-after_cond Ls rest = refl
-after_cond Ge rest = refl
-after_cond Lt rest = refl
-after_cond Gt rest = refl
-after_cond Le rest = refl
-after_cond Al rest = refl
-after_cond Nv rest = refl
+after_cond _ rest = refl
 
 head_again : (h : Head) (rest : List ℕ) → word_of (head_name h ++ rest) ≡ head_cond h (cond_of (take 2 rest)) rest
 unfolding word_of head_of cond_of
 head_again (Data And) rest = refl
-head_again (Data Eor) rest = refl
-head_again (Data Sub) rest = refl
-head_again (Data Rsb) rest = refl
-head_again (Data Add) rest = refl
-head_again (Data Adc) rest = refl
-head_again (Data Sbc) rest = refl
-head_again (Data Rsc) rest = refl
-head_again (Data Tst) rest = refl
-head_again (Data Teq) rest = refl
-head_again (Data Cmp) rest = refl
-head_again (Data Cmn) rest = refl
-head_again (Data Orr) rest = refl
-head_again (Data Mov) rest = refl
-head_again (Data Bic) rest = refl
-head_again (Data Mvn) rest = refl
-head_again (Multiply false) rest = refl
 head_again (Multiply true) rest = refl
 head_again (Single true) rest = refl
-head_again (Single false) rest = refl
 head_again (Block true) rest = refl
-head_again (Block false) rest = refl
-head_again Swi rest = refl
-head_again Adr rest = refl
+head_again _ rest = refl
 
-branch_again : (c : Cond) → word_of (branch_name false ++ cond_name c) ≡ Some (Branch false c)
+branch_again : (link : Bool) (c : Cond) → word_of (branch_name link ++ cond_name c) ≡ Some (Branch link c)
 unfolding word_of cond_of
-branch_again Eq = refl
-branch_again Ne = refl
-branch_again Cs = refl
-branch_again Cc = refl
-branch_again Mi = refl
-branch_again Pl = refl
-branch_again Vs = refl
-branch_again Vc = refl
-branch_again Hi = refl
-branch_again Ls = refl
-branch_again Ge = refl
-branch_again Lt = refl
-branch_again Gt = refl
-branch_again Le = refl
-branch_again Al = refl
-branch_again Nv = refl
+branch_again true Eq = refl
+branch_again false Eq = refl
+branch_again _ _ = refl
 
-link_again : (c : Cond) → word_of (branch_name true ++ cond_name c) ≡ Some (Branch true c)
+always_branches : (link : Bool) → word_of (branch_name link ++ []) ≡ Some (Branch link Al)
 unfolding word_of cond_of
-link_again Eq = refl
-link_again Ne = refl
-link_again Cs = refl
-link_again Cc = refl
-link_again Mi = refl
-link_again Pl = refl
-link_again Vs = refl
-link_again Vc = refl
-link_again Hi = refl
-link_again Ls = refl
-link_again Ge = refl
-link_again Lt = refl
-link_again Gt = refl
-link_again Le = refl
-link_again Al = refl
-link_again Nv = refl
-
-always_links : word_of (codes "BL") ≡ Some (Branch true Al)
-unfolding word_of cond_of
-always_links = refl
+always_branches true = refl
+always_branches false = refl
 
 no_cond : (s : Suffix) → cond_of (take 2 (suffix_name s)) ≡ None
 unfolding cond_of
 no_cond Bare = refl
-no_cond S = refl
-no_cond P = refl
-no_cond B = refl
-no_cond T = refl
-no_cond Bt = refl
-no_cond Ia = refl
-no_cond Ib = refl
-no_cond Da = refl
-no_cond Db = refl
-no_cond Fd = refl
-no_cond Ed = refl
-no_cond Fa = refl
-no_cond Ea = refl
+no_cond _ = refl
 
 suffix_again : (s : Suffix) → suffix_of (suffix_name s) ≡ Some s
 unfolding suffix_of
 suffix_again Bare = refl
-suffix_again S = refl
-suffix_again P = refl
-suffix_again B = refl
-suffix_again T = refl
-suffix_again Bt = refl
-suffix_again Ia = refl
-suffix_again Ib = refl
-suffix_again Da = refl
-suffix_again Db = refl
-suffix_again Fd = refl
-suffix_again Ed = refl
-suffix_again Fa = refl
-suffix_again Ea = refl
+suffix_again _ = refl
 
 suffixed_again : (h : Head) (c : Cond) (s : Suffix) → may_have h s ≡ true → with_suffix h c (suffix_of (suffix_name s)) ≡ Some (Plain h c s)
 suffixed_again h c s m = ap (with_suffix h c) (suffix_again s) ∙ rw m refl
@@ -210,15 +94,10 @@ word_again text (Plain h c s) m =
       | inl is ↦ whole ∙ rw (is, cond_again c (suffix_name s), after_cond c (suffix_name s)) (suffixed_again h c s m.2)
       | inr is ↦ whole ∙ rw (is.0, no_cond s, is.1) (suffixed_again h Al s m.2)
     ]
-word_again text (Branch false c) h =
+word_again text (Branch link c) h =
     elim h.1 [
-      | inl is ↦ ap word_of (h.2 ∙ ap (λ (t : List ℕ). branch_name false ++ t) is) ∙ branch_again c
-      | inr is ↦ ap word_of (h.2 ∙ ap (λ (t : List ℕ). branch_name false ++ t) is.0) ∙ (let one : word_of (codes "B") ≡ Some (Branch false Al) = unfold word_of in refl in one) ∙ ap (λ (d : Cond). Some (Branch false d)) (sym is.1)
-    ]
-word_again text (Branch true c) h =
-    elim h.1 [
-      | inl is ↦ ap word_of (h.2 ∙ ap (λ (t : List ℕ). branch_name true ++ t) is) ∙ link_again c
-      | inr is ↦ ap word_of (h.2 ∙ ap (λ (t : List ℕ). branch_name true ++ t) is.0) ∙ always_links ∙ ap (λ (d : Cond). Some (Branch true d)) (sym is.1)
+      | inl is ↦ ap word_of (h.2 ∙ ap (λ (t : List ℕ). branch_name link ++ t) is) ∙ branch_again link c
+      | inr is ↦ ap word_of (h.2 ∙ ap (λ (t : List ℕ). branch_name link ++ t) is.0) ∙ always_branches link ∙ ap (λ (d : Cond). Some (Branch link d)) (sym is.1)
     ]
 word_again text Org h = ap word_of h ∙ (let one : word_of (codes "ORG") ≡ Some Org = unfold word_of in refl in one)
 word_again text Dcd h = ap word_of h ∙ (let one : word_of (codes "DCD") ≡ Some Dcd = unfold word_of in refl in one)
@@ -303,21 +182,7 @@ word_is text w e =
 
 cond_len : (c : Cond) → length (cond_name c) ≡ 2
 cond_len Eq = refl
-cond_len Ne = refl
-cond_len Cs = refl
-cond_len Cc = refl
-cond_len Mi = refl
-cond_len Pl = refl
-cond_len Vs = refl
-cond_len Vc = refl
-cond_len Hi = refl
-cond_len Ls = refl
-cond_len Ge = refl
-cond_len Lt = refl
-cond_len Gt = refl
-cond_len Le = refl
-cond_len Al = refl
-cond_len Nv = refl
+cond_len _ = refl
 
 short_named : (o : Option Cond) (text : List ℕ) → cond_of text ≡ o → length text < 2 → o ≡ None
 unfolding cond_of
@@ -330,29 +195,10 @@ short_cond text lt = short_named (cond_of (take 2 text)) (take 2 text) refl (ome
 
 head_len : (h : Head) → length (head_name h) ≡ 3
 head_len (Data And) = refl
-head_len (Data Eor) = refl
-head_len (Data Sub) = refl
-head_len (Data Rsb) = refl
-head_len (Data Add) = refl
-head_len (Data Adc) = refl
-head_len (Data Sbc) = refl
-head_len (Data Rsc) = refl
-head_len (Data Tst) = refl
-head_len (Data Teq) = refl
-head_len (Data Cmp) = refl
-head_len (Data Cmn) = refl
-head_len (Data Orr) = refl
-head_len (Data Mov) = refl
-head_len (Data Bic) = refl
-head_len (Data Mvn) = refl
-head_len (Multiply false) = refl
 head_len (Multiply true) = refl
 head_len (Single true) = refl
-head_len (Single false) = refl
 head_len (Block true) = refl
-head_len (Block false) = refl
-head_len Swi = refl
-head_len Adr = refl
+head_len _ = refl
 
 short_head : (o : Option Head) (text : List ℕ) → head_of text ≡ o → length text < 3 → o ≡ None
 unfolding head_of

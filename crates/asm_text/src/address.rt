@@ -4,10 +4,10 @@ ghost use Rattle.asm_text.specs.Operands.{address_of, after_of, bang_of, based, 
 ghost use Rattle.asm_text.specs.Operands.{address, closed_of, plain_of};
 ghost use Rattle.asm_text.specs.Operands.{signed_offset};
 ghost use Rattle.asm_text.specs.Operands.{number_offset, offset_first};
-ghost use Rattle.asm_text.specs.Operands.{register_offset, all_read};
+ghost use Rattle.asm_text.specs.Operands.{register_offset};
 
 use crate::number::first_number;
-use crate::operand::first_shifting;
+use crate::operand::{first_shifting, whole};
 use crate::register::first_register;
 use crate::syntax::{Address, Distance, Shifting};
 use crate::token::{Mark, Token};
@@ -54,17 +54,6 @@ fn first_offset<'a, 'b>(tokens: &'a [Token<'b>]) -> Option<(Offset, &'a [Token<'
         [Token::Sign(Mark::Hash), rest @ ..] => number_offset(rest),
         [Token::Sign(Mark::Minus), rest @ ..] => register_offset(false, rest),
         _ => register_offset(true, tokens),
-    }
-}
-
-// An offset, and nothing after it.
-fn only_offset(tokens: &[Token<'_>]) -> Option<Offset>
-    ensures { result ≡ all_read (offset_first (map piece_of tokens.now)) }
-{
-    let (offset, rest) = first_offset(tokens)?;
-    match rest {
-        [] => Some(offset),
-        _ => None,
     }
 }
 
@@ -120,7 +109,7 @@ fn after(user: bool, rn: Register, tokens: &[Token<'_>]) -> Option<Address>
 {
     match tokens {
         [Token::Comma, rest @ ..] => {
-            let offset = only_offset(rest)?;
+            let offset = whole(first_offset(rest))?;
             Some(address_with(rn, false, user, offset))
         }
         _ => { if user { None } else { plain(rn, tokens) } }

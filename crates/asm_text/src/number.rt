@@ -58,10 +58,7 @@ pub(crate) fn first_hex<'a, 'b>(tokens: &'a [Token<'b>]) -> Option<(u32, &'a [To
     ensures { option_map in_pieces result ≡ hex_first (map piece_of tokens.now) }
 {
     match tokens {
-        [Token::Run(text), rest @ ..] => {
-            let n = read_hex(text)?;
-            Some((n, rest))
-        }
+        [Token::Run(text), rest @ ..] => Some((read_hex(text)?, rest)),
         _ => None,
     }
 }
@@ -71,10 +68,7 @@ pub(crate) fn first_number<'a, 'b>(tokens: &'a [Token<'b>]) -> Option<(u32, &'a 
     ensures { option_map in_pieces result ≡ number_first (map piece_of tokens.now) }
 {
     match tokens {
-        [Token::Run(text), rest @ ..] => {
-            let n = read_number(text)?;
-            Some((n, rest))
-        }
+        [Token::Run(text), rest @ ..] => Some((read_number(text)?, rest)),
         [Token::Sign(Mark::Ampersand), rest @ ..] => first_hex(rest),
         _ => None,
     }

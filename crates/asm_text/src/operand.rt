@@ -4,7 +4,6 @@ ghost use Rattle.asm_text.specs.Operands.{amount_first, compare_of, data_of, dat
 ghost use Rattle.asm_text.specs.Operands.{is_move, is_s, compare_rd, move_of, operand_of};
 ghost use Rattle.asm_text.specs.Operands.{product_of, shift_by, shift_first, shift_words, shifting_first};
 ghost use Rattle.asm_text.specs.Operands.{sum_of, three_of, all_read};
-ghost use Rattle.asm_text.specs.Registers.{register_first};
 
 use crate::names::Suffix;
 use crate::number::first_number;
@@ -81,12 +80,12 @@ pub(crate) fn first_shifting<'a, 'b>(tokens: &'a [Token<'b>]) -> Option<(Shiftin
     }
 }
 
-/// A register, and nothing after it.
-pub(crate) fn only_register(tokens: &[Token<'_>]) -> Option<Register>
-    ensures { result ≡ all_read (register_first (map piece_of tokens.now)) }
+/// What was read from the front of some tokens, where nothing stands after it.
+pub(crate) fn whole<'a, 'b, T: Copy>(front: Option<(T, &'a [Token<'b>])>) -> Option<T>
+    ensures { result ≡ all_read (option_map in_pieces front.entry) }
 {
-    let (r, rest) = first_register(tokens)?;
-    if rest.is_empty() { Some(r) } else { None }
+    let (value, rest) = front?;
+    if rest.is_empty() { Some(value) } else { None }
 }
 
 fn operand(tokens: &[Token<'_>]) -> Option<Operand>
@@ -94,21 +93,12 @@ fn operand(tokens: &[Token<'_>]) -> Option<Operand>
 {
     match tokens {
         [Token::Sign(Mark::Hash), rest @ ..] => {
-            let (n, rest) = first_number(rest)?;
-            if rest.is_empty() {
-                Some(Operand::Immediate(n))
-            } else {
-                None
-            }
+            whole(first_number(rest)).map(Operand::Immediate)
         }
         [Token::Run(text), rest @ ..] => {
             let m = named_register(text)?;
-            let (shifting, rest) = first_shifting(rest)?;
-            if rest.is_empty() {
-                Some(Operand::Shifted(m, shifting))
-            } else {
-                None
-            }
+            let shifting = whole(first_shifting(rest))?;
+            Some(Operand::Shifted(m, shifting))
         }
         _ => None,
     }
@@ -198,7 +188,7 @@ pub(crate) fn data(opcode: Opcode, suffix: Suffix, tokens: &[Token<'_>]) -> Opti
 fn factors(suffix: Suffix, rd: Register, rm: Register, tokens: &[Token<'_>]) -> Option<Product>
     ensures { result ≡ factors_of suffix rd rm (map piece_of tokens.now) }
 {
-    let rs = only_register(tokens)?;
+    let rs = whole(first_register(tokens))?;
     Some(Product {
         accumulate: false,
         sets_flags: sets_flags(suffix),
@@ -213,7 +203,7 @@ fn sum(suffix: Suffix, rd: Register, rm: Register, tokens: &[Token<'_>]) -> Opti
     ensures { result ≡ sum_of suffix rd rm (map piece_of tokens.now) }
 {
     let (rs, rest) = first_register_comma(tokens)?;
-    let rn = only_register(rest)?;
+    let rn = whole(first_register(rest))?;
     Some(Product {
         accumulate: true,
         sets_flags: sets_flags(suffix),

@@ -89,10 +89,7 @@ pub(crate) fn first_register<'a, 'b>(tokens: &'a [Token<'b>]) -> Option<(Registe
     ensures { option_map in_pieces result ≡ register_first (map piece_of tokens.now) }
 {
     match tokens {
-        [Token::Run(text), rest @ ..] => {
-            let r = named_register(text)?;
-            Some((r, rest))
-        }
+        [Token::Run(text), rest @ ..] => Some((named_register(text)?, rest)),
         _ => None,
     }
 }
@@ -104,10 +101,7 @@ pub(crate) fn first_register_comma<'a, 'b>(
     ensures { option_map in_pieces result ≡ register_comma_first (map piece_of tokens.now) }
 {
     match tokens {
-        [Token::Run(text), Token::Comma, rest @ ..] => {
-            let r = named_register(text)?;
-            Some((r, rest))
-        }
+        [Token::Run(text), Token::Comma, rest @ ..] => Some((named_register(text)?, rest)),
         _ => None,
     }
 }

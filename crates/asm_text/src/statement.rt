@@ -15,7 +15,7 @@ use crate::address::address;
 use crate::list::block;
 use crate::names::{Head, Suffix};
 use crate::number::{first_hex, first_number, read_hex, read_number};
-use crate::operand::{data, product};
+use crate::operand::{data, product, whole};
 use crate::register::first_register_comma;
 use crate::syntax::{Action, Code, Reference, Statement, Transfer, Use, Value};
 use crate::token::{Mark, Token};
@@ -92,11 +92,7 @@ fn run_target<'a>(text: &'a [u8]) -> Option<Value<'a>>
 fn only_number(tokens: &[Token<'_>]) -> Option<u32>
     ensures { result ≡ only_number (map piece_of tokens.now) }
 {
-    let (n, rest) = first_number(tokens)?;
-    match rest {
-        [] => Some(n),
-        _ => None,
-    }
+    whole(first_number(tokens))
 }
 
 // The number or label that some tokens begin with, and those after it.

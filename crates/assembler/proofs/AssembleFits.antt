@@ -5,7 +5,7 @@ use Rattle.std.proofs.lemmas.List.{append-nil, length-append}
 use Rattle.std.specs.List.{AllByRecursion}
 use Rattle.std.specs.Prelude.{flat_map, if◌then◌else◌, nat_le, nat_lt}
 use Rattle.loader.specs.Image.{Words, may_hold, put_fault, runs_of, with_word, word_of}
-use Rattle.asm_text.specs.Said.{Said, Codes, Refers, Orgs, Lists}
+use Rattle.asm_text.specs.Said.{Said, Orgs}
 use Rattle.asm_text.specs.Statements.{Parsed}
 use Rattle.assembler.specs.Assembles.{Laid, Once, address_after, is_open, laid_from, places, places_from, segments, word_count}
 use Rattle.assembler.proofs.AssembleAll.{apart_both, once_parts}
@@ -186,10 +186,7 @@ opened : (said : Option Said) (begun : Bool) (at : ℕ) (image : Words)
     → JoinsIf (is_open begun said) image (address_after at said)
 unfolding JoinsIf
 opened (Some (Orgs n)) begun at image j = λ e. false_true e
-opened (Some (Codes c)) begun at image j = j
-opened (Some (Refers r t)) begun at image j = j
-opened (Some (Lists vs)) begun at image j = j
-opened None begun at image j = j
+opened said begun at image j = j
 
 -- ---- all lines
 

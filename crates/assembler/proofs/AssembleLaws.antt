@@ -7,9 +7,9 @@ use Rattle.asm_text.specs.Source.{lines_of}
 use Rattle.asm_text.specs.Spelling.{Spells, SpellsOperands, SpellsParts}
 use Rattle.asm_text.specs.Statements.{Parsed, line_of}
 use Rattle.asm_text.specs.Pieces.{Piece}
-use Rattle.asm_text.specs.Said.{Said, Codes, Refers, Orgs, Lists}
+use Rattle.asm_text.specs.Said.{Said, Lists}
 use Rattle.asm_text.specs.declared.word.Word.{Word}
-use Rattle.asm_text.specs.declared.word.Word.TheVariants.{Plain, Branch, Org, Dcd}
+use Rattle.asm_text.specs.declared.word.Word.TheVariants.{Dcd}
 use Rattle.asm_text.specs.declared.statement.TextFault.{TextFault}
 use Rattle.assembler.specs.Assembles.{AreWords, IsAssembly, Laid, Once, labels_of, laid, places}
 use Rattle.assembler.specs.Sweeps.{Names, State, assembled, assembled_on, assembled_with, at_first, filled, no_names, swept}
@@ -93,13 +93,8 @@ assembly_is reads source image names e =
 said_some : (x : Said) (w : Word) (ps : List Piece) → SpellsOperands x w ps → NotEmpty (Some x)
 unfolding NotEmpty
 said_some (Lists []) Dcd ps h = h
-said_some (Lists []) Org ps h = h
-said_some (Lists []) (Plain i c s) ps h = h
-said_some (Lists []) (Branch link c) ps h = h
-said_some (Lists (v ∷ vs)) w ps h = tt
-said_some (Codes c) w ps h = tt
-said_some (Refers r t) w ps h = tt
-said_some (Orgs n) w ps h = tt
+said_some (Lists []) w ps h = h
+said_some x w ps h = tt
 
 pub parts_some : (label : Option (List ℕ)) (x : Option Said) (ps : List Piece) → SpellsParts label x ps → NotEmpty x
 unfolding NotEmpty

@@ -15,9 +15,9 @@ use Rattle.arm2_decode.specs.declared.instr.Operation.TheVariants as operation
 use Rattle.arm2_decode.specs.declared.instr.SingleImmediate.{SingleImmediate}
 use Rattle.arm2_decode.specs.declared.instr.SingleRegister.{SingleRegister}
 use Rattle.arm2_decode.specs.declared.names.Cond.{Cond}
-use Rattle.arm2_decode.specs.declared.names.Cond.TheVariants.{Eq, Ne, Cs, Cc, Mi, Pl, Vs, Vc, Hi, Ls, Ge, Lt, Gt, Le, Al, Nv}
+use Rattle.arm2_decode.specs.declared.names.Cond.TheVariants.{Eq}
 use Rattle.arm2_decode.specs.declared.names.Opcode.{Opcode}
-use Rattle.arm2_decode.specs.declared.names.Opcode.TheVariants.{And, Eor, Sub, Rsb, Add, Adc, Sbc, Rsc, Tst, Teq, Cmp, Cmn, Orr, Mov, Bic, Mvn}
+use Rattle.arm2_decode.specs.declared.names.Opcode.TheVariants.{And, Tst, Teq, Cmp, Cmn, Mov, Mvn}
 use Rattle.arm2_decode.specs.declared.names.Register.{Register}
 use Rattle.arm2_decode.specs.declared.names.Shift.{Shift}
 use Rattle.arm2_decode.specs.declared.names.Shift.TheVariants.{Lsl, Lsr, Asr, Ror}
@@ -85,47 +85,17 @@ comma_spelled r = both (codes ",") (register_text r) refl (register_spelled r)
 cond_spelled : (c : Cond) → Spelled (cond_text c)
 unfolding is_spelled
 cond_spelled Eq = refl
-cond_spelled Ne = refl
-cond_spelled Cs = refl
-cond_spelled Cc = refl
-cond_spelled Mi = refl
-cond_spelled Pl = refl
-cond_spelled Vs = refl
-cond_spelled Vc = refl
-cond_spelled Hi = refl
-cond_spelled Ls = refl
-cond_spelled Ge = refl
-cond_spelled Lt = refl
-cond_spelled Gt = refl
-cond_spelled Le = refl
-cond_spelled Al = refl
-cond_spelled Nv = refl
+cond_spelled _ = refl
 
 opcode_spelled : (op : Opcode) → Spelled (opcode_name op)
 unfolding is_spelled
 opcode_spelled And = refl
-opcode_spelled Eor = refl
-opcode_spelled Sub = refl
-opcode_spelled Rsb = refl
-opcode_spelled Add = refl
-opcode_spelled Adc = refl
-opcode_spelled Sbc = refl
-opcode_spelled Rsc = refl
-opcode_spelled Tst = refl
-opcode_spelled Teq = refl
-opcode_spelled Cmp = refl
-opcode_spelled Cmn = refl
-opcode_spelled Orr = refl
-opcode_spelled Mov = refl
-opcode_spelled Bic = refl
-opcode_spelled Mvn = refl
+opcode_spelled _ = refl
 
 shift_spelled : (s : Shift) → Spelled (shift_text s)
 unfolding is_spelled
 shift_spelled Lsl = refl
-shift_spelled Lsr = refl
-shift_spelled Asr = refl
-shift_spelled Ror = refl
+shift_spelled _ = refl
 
 word_spelled : (name suffix : List ℕ) (c : Cond) → Spelled name → Spelled suffix → Spelled (word_text name c suffix)
 unfolding is_spelled
@@ -171,22 +141,13 @@ three_spelled c op s rn rd =
     (both (register_text rd) (comma_register rn ++ codes ",") (register_spelled rd) (both (comma_register rn) (codes ",") (comma_spelled rn) refl))
 
 data_spelled : (c : Cond) (op : Opcode) (s : Bool) (rn rd : Register) → Spelled (data_front c op s rn rd)
-data_spelled c And s rn rd = three_spelled c And s rn rd
-data_spelled c Eor s rn rd = three_spelled c Eor s rn rd
-data_spelled c Sub s rn rd = three_spelled c Sub s rn rd
-data_spelled c Rsb s rn rd = three_spelled c Rsb s rn rd
-data_spelled c Add s rn rd = three_spelled c Add s rn rd
-data_spelled c Adc s rn rd = three_spelled c Adc s rn rd
-data_spelled c Sbc s rn rd = three_spelled c Sbc s rn rd
-data_spelled c Rsc s rn rd = three_spelled c Rsc s rn rd
 data_spelled c Tst s rn rd = compare_spelled c Tst rn rd
 data_spelled c Teq s rn rd = compare_spelled c Teq rn rd
 data_spelled c Cmp s rn rd = compare_spelled c Cmp rn rd
 data_spelled c Cmn s rn rd = compare_spelled c Cmn rn rd
-data_spelled c Orr s rn rd = three_spelled c Orr s rn rd
 data_spelled c Mov s rn rd = move_spelled c Mov s rd
-data_spelled c Bic s rn rd = three_spelled c Bic s rn rd
 data_spelled c Mvn s rn rd = move_spelled c Mvn s rd
+data_spelled c op s rn rd = three_spelled c op s rn rd
 
 -- ---- multiplies
 
@@ -332,9 +293,7 @@ operation_spelled c (operation.Branch x) at =
     both (word_text (branch_name x.link) c []) (codes "&" ++ hex (target_of at x.offset)) (word_spelled (branch_name x.link) [] c (branch_spelled x.link) refl)
     (both (codes "&") (hex (target_of at x.offset)) refl (hex_spelled (target_of at x.offset)))
 operation_spelled c (operation.Swi x) at = both (word_text (codes "SWI") c []) (decimal x.comment) (word_spelled (codes "SWI") [] c refl refl) (decimal_spelled x.comment)
-operation_spelled c (operation.UndefinedTransfer x) at = refl
-operation_spelled c (operation.CoprocessorTransfer x) at = refl
-operation_spelled c (operation.Coprocessor x) at = refl
+operation_spelled c _ at = refl
 
 shown_bytes : (text : List ℕ) → Spelled text → list_all is_shown text && is_upper text ≡ true
 unfolding is_spelled

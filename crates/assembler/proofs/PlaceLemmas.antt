@@ -3,7 +3,7 @@ use Rattle.std.proofs.Common.{◌≡◌, ◌+◌, ◌-◌, ◌*◌, ◌≤◌, �
 use Rattle.std.proofs.lemmas.List.{length-append, length-map}
 use Rattle.std.specs.Prelude.{IfErr, IsErrAnd}
 use Rattle.std.specs.List.{AllZip}
-use Rattle.asm_text.specs.Said.{Said, Codes, Refers, Orgs, Lists}
+use Rattle.asm_text.specs.Said.{Said, Orgs}
 use Rattle.asm_text.specs.Source.{lines_of}
 use Rattle.asm_text.specs.Statements.{Parsed, line_of}
 use Rattle.asm_text.specs.declared.statement.TextFault.{TextFault}
@@ -53,10 +53,8 @@ code_moves s k r t e =
 words_below : (at after : ℕ) (said : Option Said) → at ≤ 2 ^ 26 → after ≤ 2 ^ 26
     → after ≡ address_after at said → at + 4 * word_count said ≤ 2 ^ 26
 words_below at after (Some (Orgs n)) here there e = omega (arith, here)
-words_below at after (Some (Codes c)) here there e = omega (arith, there, e)
-words_below at after (Some (Refers r t)) here there e = omega (arith, there, e)
-words_below at after (Some (Lists vs)) here there e = omega (arith, there, e)
 words_below at after None here there e = omega (arith, here)
+words_below at after said here there e = omega (arith, there, e)
 
 -- no word is lost, and those of the line end in memory
 pub record WordsMore (s t : Sweep) : Type 0 where

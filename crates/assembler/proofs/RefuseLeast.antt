@@ -38,15 +38,7 @@ fault_at n =
 
 back : (f : Fault) → fault_at (number f) ≡ f
 back NotText = refl
-back UnknownWord = refl
-back BadOperand = refl
-back ImmediateNotRotated = refl
-back BranchTooFar = refl
-back LabelTwice = refl
-back LabelMissing = refl
-back OutOfRange = refl
-back Unallocated = refl
-back TooLong = refl
+back _ = refl
 
 same_number : (f g : Fault) → number f ≡ number g → f ≡ g
 same_number f g e = sym (back f) ∙ ap fault_at e ∙ back g
@@ -96,31 +88,21 @@ least_both P Q (Some a) None h k =
     record { holds = inl h.holds; lowest = λ f e. elim e [ inl x ↦ h.lowest f x | inr x ↦ absurd (k f x) ] }
 least_both P Q (Some a) (Some b) h k =
     elim (cases_Bool (nat_lt (number b) (number a))) [
-      | inl t ↦
-          let lt : number b ≤ number a = grind (arith, nat_tests, t) in
-          rw t (record {
-            holds =
-                inr k.holds;
-            lowest =
-                λ f e. elim e [
-                  | inl x ↦ chain (number b) (number a) (number f) lt (h.lowest f x)
-                  | inr x ↦
-                      k.lowest f x
-                ];
-          })
-      | inr t ↦
-          let le : number a ≤ number b = grind (arith, nat_tests, t) in
-          rw t (record {
-            holds =
-                inl h.holds;
-            lowest =
-                λ f e. elim e [
-                  | inl x ↦ h.lowest f x
-                  | inr x ↦
-                      chain (number a) (number b) (number f) le (k.lowest f x)
-                ];
-          })
+      | inl t ↦ let lt : number b ≤ number a = grind (arith, nat_tests, t) in rw t (lowest_is b (inr k.holds) lt (omega arith))
+      | inr t ↦ let le : number a ≤ number b = grind (arith, nat_tests, t) in rw t (lowest_is a (inl h.holds) (omega arith) le)
     ]
+  where
+    -- the lower of the two
+    lowest_is : (c : Fault) → P c ⊎ Q c → number c ≤ number a → number c ≤ number b
+        → IsLowest (λ f. P f ⊎ Q f) c
+    lowest_is c there under-a under-b = record {
+      holds = there;
+      lowest =
+          λ f e. elim e [
+            | inl x ↦ chain (number c) (number a) (number f) under-a (h.lowest f x)
+            | inr x ↦ chain (number c) (number b) (number f) under-b (k.lowest f x)
+          ];
+    }
 
 pub least_same : (P Q : Fault → Type 0) (o : Option Fault) → ((f : Fault) → P f → Q f)
     → ((f : Fault) → Q f → P f) → IsLeast P o → IsLeast Q o

@@ -7,7 +7,7 @@ use Rattle.std.proofs.lemmas.Bool.Decides.{nat_tests}
 use Rattle.std.proofs.lemmas.List.{append-nil, length-append}
 use Rattle.std.proofs.lemmas.List.Elements.{Contains-append_cases, Contains-append_left, Contains-append_right}
 use Rattle.loader.specs.Image.{may_hold}
-use Rattle.asm_text.specs.Said.{Said, Codes, Refers, Orgs, Lists}
+use Rattle.asm_text.specs.Said.{Said, Orgs}
 use Rattle.asm_text.specs.Spelling.{Spells}
 use Rattle.asm_text.specs.Statements.{Parsed, line_of}
 use Rattle.asm_text.specs.declared.statement.TextFault.{TextFault}
@@ -58,10 +58,7 @@ fine_words : (taken : List ℕ) (at : ℕ) (said : Option Said) → Fine taken (
     → Fine taken (places_from at (word_count said))
 unfolding Apart
 fine_words taken at (Some (Orgs n)) h = record { held = tt; apart = tt }
-fine_words taken at (Some (Codes c)) h = h
-fine_words taken at (Some (Refers r t)) h = h
-fine_words taken at (Some (Lists vs)) h = h
-fine_words taken at None h = h
+fine_words taken at said h = h
 
 org_may : (taken : List ℕ) (at : ℕ) (said : Option Said) → Fine taken (asked at said) → (n : ℕ)
     → said ≡ Some (Orgs n) → may_hold n ≡ true

@@ -291,10 +291,7 @@ statement_from (Run name ∷ ps) text (gap, after, is, some, blanks, (rest, more
       word-is = spelled_is name word spelled;
       ends = ap begins_blank_or_ends (sym (ap (past is_name) first ∙ second)) ∙ ends;
     }
-statement_from [] text w spaced h ends = absurd h
-statement_from (Comma ∷ ps) text w spaced h ends = absurd h
-statement_from (Sign m ∷ ps) text w spaced h ends = absurd h
-statement_from (Gap ∷ ps) text w spaced h ends = absurd h
+statement_from ps text w spaced h ends = absurd h
 
 pieces_begin : (ps : List Piece) (text : List ℕ) → Written ps text → WellSpaced ps → word_ends text ≡ true
     → PiecesBegin ps → BeginsLine text
@@ -336,11 +333,7 @@ pieces_begin (Run label ∷ Gap ∷ ps) text (after, is, some, letters, w) space
       label-is = inr h.0;
       statement = inr (statement_from ps after w spaced.1.1 h.1 word);
     }
-pieces_begin (Run label ∷ Run other ∷ ps) text w spaced ends h = absurd h
-pieces_begin (Run label ∷ Comma ∷ ps) text w spaced ends h = absurd h
-pieces_begin (Run label ∷ Sign m ∷ ps) text w spaced ends h = absurd h
-pieces_begin (Comma ∷ ps) text w spaced ends h = absurd h
-pieces_begin (Sign m ∷ ps) text w spaced ends h = absurd h
+pieces_begin ps text w spaced ends h = absurd h
 
 -- ---- which of the two it is
 
@@ -355,11 +348,8 @@ or_bad_either (Some x) = inl (x, refl)
 
 after_word_either : (w : Word) (ps : List Piece)
     → ((x : Said) × (after_word w ps ≡ Ok x)) ⊎ (after_word w ps ≡ Err text_fault.BadOperand)
-after_word_either w [] = inr refl
 after_word_either w (Gap ∷ ps) = or_bad_either (operands_of w ps)
-after_word_either w (Run r ∷ ps) = inr refl
-after_word_either w (Comma ∷ ps) = inr refl
-after_word_either w (Sign m ∷ ps) = inr refl
+after_word_either w ps = inr refl
 
 word_sorted : (o : Option Word) (name : List ℕ) (ps : List Piece) → spelled_word_of name ≡ o
     → Sorted (with_word o ps) (StartsWord (Run name ∷ ps))
@@ -369,11 +359,8 @@ word_sorted (Some w) name ps is = inl (after_word_either w ps, (w, is))
 
 statement_sorted : (ps : List Piece) → Sorted (statement_of ps) (StartsWord ps)
 unfolding Sorted StartsWord
-statement_sorted [] = inr (refl, λ h. h)
 statement_sorted (Run name ∷ ps) = word_sorted (spelled_word_of name) name ps refl
-statement_sorted (Comma ∷ ps) = inr (refl, λ h. h)
-statement_sorted (Sign m ∷ ps) = inr (refl, λ h. h)
-statement_sorted (Gap ∷ ps) = inr (refl, λ h. h)
+statement_sorted ps = inr (refl, λ h. h)
 
 label_sorted : (label : Option (List ℕ)) (r : Result Said TextFault) (Begins Others : Type 0)
     → (Begins → Others) → (Others → Begins) → Sorted r Begins → Sorted (with_label label r) Others
@@ -394,17 +381,13 @@ run_sorted label [] is = inl (inl (record { label = Some label; said = None }, r
 run_sorted label (Gap ∷ ps) is =
     label_sorted (Some label) (statement_of ps) (StartsWord ps) _ (λ h. (is, h)) (λ h. h.1)
     (statement_sorted ps)
-run_sorted label (Run r ∷ ps) is = inr (refl, λ h. h)
-run_sorted label (Comma ∷ ps) is = inr (refl, λ h. h)
-run_sorted label (Sign m ∷ ps) is = inr (refl, λ h. h)
+run_sorted label ps is = inr (refl, λ h. h)
 
 no_label : (label : List ℕ) (ps : List Piece) → is_label label ≡ false → PiecesBegin (Run label ∷ ps) → ⊥
 unfolding PiecesBegin
 no_label label [] other h = false_true (sym other ∙ h)
 no_label label (Gap ∷ ps) other h = false_true (sym other ∙ h.0)
-no_label label (Run r ∷ ps) other h = h
-no_label label (Comma ∷ ps) other h = h
-no_label label (Sign m ∷ ps) other h = h
+no_label label ps other h = h
 
 parsed_sorted : (ps : List Piece) → Sorted (parsed ps) (PiecesBegin ps)
 unfolding Sorted PiecesBegin
@@ -419,8 +402,7 @@ parsed_sorted (Run label ∷ ps) =
           (PiecesBegin (Run label ∷ ps))) (sym e) (run_sorted label ps e)
       | inr e ↦ inr (rw e refl, no_label label ps e)
     ]
-parsed_sorted (Comma ∷ ps) = inr (refl, λ h. h)
-parsed_sorted (Sign m ∷ ps) = inr (refl, λ h. h)
+parsed_sorted ps = inr (refl, λ h. h)
 
 -- ---- the lowest
 

@@ -10,9 +10,9 @@ use Rattle.std.proofs.lemmas.List.{append-nil}
 use Rattle.arm2_decode.specs.declared.instr.Operation.{Operation}
 use Rattle.arm2_decode.specs.declared.instr.Operation.TheVariants as operation
 use Rattle.arm2_decode.specs.declared.names.Cond.{Cond}
-use Rattle.arm2_decode.specs.declared.names.Cond.TheVariants.{Eq, Ne, Cs, Cc, Mi, Pl, Vs, Vc, Hi, Ls, Ge, Lt, Gt, Le, Al, Nv}
+use Rattle.arm2_decode.specs.declared.names.Cond.TheVariants.{Eq, Al}
 use Rattle.arm2_decode.specs.declared.names.Opcode.{Opcode}
-use Rattle.arm2_decode.specs.declared.names.Opcode.TheVariants.{And, Eor, Sub, Rsb, Add, Adc, Sbc, Rsc, Tst, Teq, Cmp, Cmn, Orr, Mov, Bic, Mvn}
+use Rattle.arm2_decode.specs.declared.names.Opcode.TheVariants.{And, Tst, Teq, Cmp, Cmn, Mov, Mvn}
 use Rattle.arm2_decode.specs.declared.names.Register.{Register}
 use Rattle.arm2_decode.specs.Names.{register_number}
 use Rattle.asm_text.specs.declared.names.Head.{Head}
@@ -88,11 +88,8 @@ bad_plain None h = refl
 bad_plain (Some s) h = h
 
 after_word_plain : (w : Word) (ps : List Piece) → ((qs : List Piece) → plain_option (operands_of w qs) ≡ true) → plain_result (after_word w ps) ≡ true
-after_word_plain w [] h = refl
 after_word_plain w (Gap ∷ ps) h = bad_plain (operands_of w ps) (h ps)
-after_word_plain w (Run r ∷ ps) h = refl
-after_word_plain w (Comma ∷ ps) h = refl
-after_word_plain w (Sign m ∷ ps) h = refl
+after_word_plain w ps h = refl
 
 code_plain : (c : Cond) (o : Option Action) → plain_option (option_map (λ a. Codes (record { cond = c; action = a })) o) ≡ true
 code_plain c None = refl
@@ -156,84 +153,22 @@ letters_upper (b ∷ bs) h =
 
 cond_lettered : (c : Cond) → Lettered (cond_text c)
 cond_lettered Eq = refl
-cond_lettered Ne = refl
-cond_lettered Cs = refl
-cond_lettered Cc = refl
-cond_lettered Mi = refl
-cond_lettered Pl = refl
-cond_lettered Vs = refl
-cond_lettered Vc = refl
-cond_lettered Hi = refl
-cond_lettered Ls = refl
-cond_lettered Ge = refl
-cond_lettered Lt = refl
-cond_lettered Gt = refl
-cond_lettered Le = refl
-cond_lettered Al = refl
-cond_lettered Nv = refl
+cond_lettered _ = refl
 
 cond_is : (c : Cond) → IsCond (cond_text c) c
-cond_is Eq = inl refl
-cond_is Ne = inl refl
-cond_is Cs = inl refl
-cond_is Cc = inl refl
-cond_is Mi = inl refl
-cond_is Pl = inl refl
-cond_is Vs = inl refl
-cond_is Vc = inl refl
-cond_is Hi = inl refl
-cond_is Ls = inl refl
-cond_is Ge = inl refl
-cond_is Lt = inl refl
-cond_is Gt = inl refl
-cond_is Le = inl refl
 cond_is Al = inr (refl, refl)
-cond_is Nv = inl refl
-
-opcode_lettered : (op : Opcode) → (Lettered (opcode_name op)) × (0 < length (opcode_name op))
-opcode_lettered And = (refl, omega arith)
-opcode_lettered Eor = (refl, omega arith)
-opcode_lettered Sub = (refl, omega arith)
-opcode_lettered Rsb = (refl, omega arith)
-opcode_lettered Add = (refl, omega arith)
-opcode_lettered Adc = (refl, omega arith)
-opcode_lettered Sbc = (refl, omega arith)
-opcode_lettered Rsc = (refl, omega arith)
-opcode_lettered Tst = (refl, omega arith)
-opcode_lettered Teq = (refl, omega arith)
-opcode_lettered Cmp = (refl, omega arith)
-opcode_lettered Cmn = (refl, omega arith)
-opcode_lettered Orr = (refl, omega arith)
-opcode_lettered Mov = (refl, omega arith)
-opcode_lettered Bic = (refl, omega arith)
-opcode_lettered Mvn = (refl, omega arith)
+cond_is _ = inl refl
 
 head_lettered : (h : Head) → (Lettered (head_name h)) × (0 < length (head_name h))
-head_lettered (head.Data op) = opcode_lettered op
+head_lettered (head.Data And) = (refl, omega arith)
 head_lettered (head.Multiply true) = (refl, omega arith)
-head_lettered (head.Multiply false) = (refl, omega arith)
 head_lettered (head.Single true) = (refl, omega arith)
-head_lettered (head.Single false) = (refl, omega arith)
 head_lettered (head.Block true) = (refl, omega arith)
-head_lettered (head.Block false) = (refl, omega arith)
-head_lettered head.Swi = (refl, omega arith)
-head_lettered head.Adr = (refl, omega arith)
+head_lettered _ = (refl, omega arith)
 
 suffix_lettered : (s : Suffix) → Lettered (suffix_name s)
 suffix_lettered suffix.Bare = refl
-suffix_lettered suffix.S = refl
-suffix_lettered suffix.P = refl
-suffix_lettered suffix.B = refl
-suffix_lettered suffix.T = refl
-suffix_lettered suffix.Bt = refl
-suffix_lettered suffix.Ia = refl
-suffix_lettered suffix.Ib = refl
-suffix_lettered suffix.Da = refl
-suffix_lettered suffix.Db = refl
-suffix_lettered suffix.Fd = refl
-suffix_lettered suffix.Ed = refl
-suffix_lettered suffix.Fa = refl
-suffix_lettered suffix.Ea = refl
+suffix_lettered _ = refl
 
 -- the statement of a word and what stands after its blank
 word_said : (w rest : List ℕ) (is : Word) → Lettered w → 0 < length w → word_of w ≡ Some is → heard (pieces (w ++ 32 ∷ rest)) ≡ with_label None (after_word is (gap_before (pieces rest)))
@@ -284,22 +219,13 @@ three_line op c s rn rd rest =
     (flagged_line (head.Data op) c s ((register_text rd ++ (comma_register rn ++ codes ",")) ++ rest) refl refl refl)
 
 data_line : (op : Opcode) (c : Cond) (s : Bool) (rn rd : Register) (rest : List ℕ) → Plain (data_front c op s rn rd ++ rest)
-data_line And c s rn rd rest = three_line And c s rn rd rest
-data_line Eor c s rn rd rest = three_line Eor c s rn rd rest
-data_line Sub c s rn rd rest = three_line Sub c s rn rd rest
-data_line Rsb c s rn rd rest = three_line Rsb c s rn rd rest
-data_line Add c s rn rd rest = three_line Add c s rn rd rest
-data_line Adc c s rn rd rest = three_line Adc c s rn rd rest
-data_line Sbc c s rn rd rest = three_line Sbc c s rn rd rest
-data_line Rsc c s rn rd rest = three_line Rsc c s rn rd rest
 data_line Tst c s rn rd rest = compare_line Tst c rn rd rest refl
 data_line Teq c s rn rd rest = compare_line Teq c rn rd rest refl
 data_line Cmp c s rn rd rest = compare_line Cmp c rn rd rest refl
 data_line Cmn c s rn rd rest = compare_line Cmn c rn rd rest refl
-data_line Orr c s rn rd rest = three_line Orr c s rn rd rest
 data_line Mov c s rn rd rest = move_line Mov c s rd rest
-data_line Bic c s rn rd rest = three_line Bic c s rn rd rest
 data_line Mvn c s rn rd rest = move_line Mvn c s rd rest
+data_line op c s rn rd rest = three_line op c s rn rd rest
 
 -- ---- transfers
 
@@ -391,9 +317,7 @@ operation_line c (operation.SingleRegister x) at = transfer_line c x.load x.byte
 operation_line c (operation.Block x) at = block_line x.load x.before x.up c _
 operation_line c (operation.Branch x) at = branch_line x.link c _
 operation_line c (operation.Swi x) at = coded_line head.Swi c suffix.Bare (decimal x.comment) refl refl
-operation_line c (operation.UndefinedTransfer x) at = refl
-operation_line c (operation.CoprocessorTransfer x) at = refl
-operation_line c (operation.Coprocessor x) at = refl
+operation_line c _ at = refl
 
 -- ---- what gives the word is an instruction or a branch
 

@@ -46,9 +46,7 @@ given_ok (Err fault) w h = absurd cc
 
 target_ok : (u : Use) (r : Result ℕ Fault) (w : ℕ) → target_word u r ≡ Some w → r ≡ Ok w
 target_ok (use_of.Branch link) (Ok v) w h = ap ok_by h
-target_ok (use_of.Branch link) (Err fault) w h = absurd cc
-target_ok (use_of.Adr d) r w h = absurd cc
-target_ok (use_of.Transfer load byte d) r w h = absurd cc
+target_ok u r w h = absurd cc
 
 pub back_gives : (text : List ℕ) (at w : ℕ) → GivesBack text at w → Gives text at w
 back_gives text at w (shown.Code c, line, word) = (Codes c, line, given_ok (encoded c at) w word)

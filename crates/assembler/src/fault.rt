@@ -9,7 +9,7 @@ use thiserror::Error;
 pub enum Fault {
     /// A byte that no source has.
     #[error("NotText")]
-    NotText,
+    NotText = 2,
     /// No label or blank in the first column, or no word after it.
     #[error("UnknownWord")]
     UnknownWord,
@@ -77,18 +77,7 @@ impl Fault {
     fn order(self) -> u32
         ensures { result ≡ number self }
     {
-        match self {
-            Fault::NotText => 2,
-            Fault::UnknownWord => 3,
-            Fault::BadOperand => 4,
-            Fault::ImmediateNotRotated => 5,
-            Fault::BranchTooFar => 6,
-            Fault::LabelTwice => 7,
-            Fault::LabelMissing => 8,
-            Fault::OutOfRange => 9,
-            Fault::Unallocated => 10,
-            Fault::TooLong => 11,
-        }
+        self as u32
     }
 }
 

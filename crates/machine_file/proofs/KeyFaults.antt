@@ -54,40 +54,40 @@ RegistersFault d fault =
     d
     fault
 
-abbrev pub PageFault : Data → MachineFileFault → Type 0
-PageFault d fault =
-    TableFault
-    machine_faults
-    map_keys
-    (λ ms f. AtKeyOr (codes "logical") ms (f ≡ WrongKind) (λ e. WordFault e f) ⊎ AtKeyOr (codes "physical") ms (f ≡ WrongKind) (λ e. WordFault e f) ⊎ AtKeyOr (codes "level") ms (f ≡ WrongKind) (λ e. WordFault e f))
-    d
-    fault
+-- a word at a key that must be there
+abbrev pub NeedsWord : Members → List ℕ → MachineFileFault → Type 0
+NeedsWord ms key f = AtKeyOr key ms (f ≡ WrongKind) (λ e. WordFault e f)
 
-abbrev pub EventFault : Data → MachineFileFault → Type 0
-EventFault d fault =
-    TableFault
-    machine_faults
-    event_keys
-    (λ ms f.
+-- the values of the keys of a page's table, an event's and a word's
+abbrev pub PageFaults : Members → MachineFileFault → Type 0
+PageFaults ms f =
+    NeedsWord ms (codes "logical") f ⊎ NeedsWord ms (codes "physical") f ⊎ NeedsWord ms (codes "level") f
+
+abbrev pub PageFault : Data → MachineFileFault → Type 0
+PageFault d fault = TableFault machine_faults map_keys PageFaults d fault
+
+abbrev pub EventFaults : Members → MachineFileFault → Type 0
+EventFaults ms f =
     AtKeyOr (codes "step") ms (f ≡ WrongKind) (λ e. UpToFault 65535 e f)
     ⊎ AtKey (codes "bursts") ms (λ e. UpToFault 65535 e f)
     ⊎ AtKey (codes "lines") ms (λ e. LinesFault e f)
-    ⊎ AtKey (codes "port") ms (λ e. WordFault e f))
-    d
-    fault
+    ⊎ AtKey (codes "port") ms (λ e. WordFault e f)
+
+abbrev pub EventFault : Data → MachineFileFault → Type 0
+EventFault d fault = TableFault machine_faults event_keys EventFaults d fault
 
 abbrev pub WordAddressFault : Data → MachineFileFault → Type 0
 WordAddressFault d fault =
     MatchOption (as_integer d) (fault ≡ WrongKind) (λ z. IsNoWordAddress z × (fault ≡ OutOfRange))
 
+abbrev pub NeedsWordAddress : Members → MachineFileFault → Type 0
+NeedsWordAddress ms f = AtKeyOr (codes "at") ms (f ≡ WrongKind) (λ e. WordAddressFault e f)
+
+abbrev pub PutWordFaults : Members → MachineFileFault → Type 0
+PutWordFaults ms f = NeedsWordAddress ms f ⊎ NeedsWord ms (codes "value") f
+
 abbrev pub PutWordFault : Data → MachineFileFault → Type 0
-PutWordFault d fault =
-    TableFault
-    machine_faults
-    word_keys
-    (λ ms f. AtKeyOr (codes "at") ms (f ≡ WrongKind) (λ e. WordAddressFault e f) ⊎ AtKeyOr (codes "value") ms (f ≡ WrongKind) (λ e. WordFault e f))
-    d
-    fault
+PutWordFault d fault = TableFault machine_faults word_keys PutWordFaults d fault
 
 -- those of the values of its keys
 abbrev pub ValueFault : Members → MachineFileFault → Type 0

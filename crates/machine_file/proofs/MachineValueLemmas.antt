@@ -21,7 +21,7 @@ use Rattle.machine_file.specs.declared.events.Event.{Event}
 use Rattle.machine_file.specs.declared.machine_faults.MachineFileFault.{MachineFileFault}
 use Rattle.machine_file.specs.declared.machine_faults.MachineFileFault.TheVariants.{Memory, NotToml, UnknownKey, WrongKind, OutOfRange, Twice}
 use Rattle.machine_file.specs.declared.pages.MappedPage.{MappedPage}
-use Rattle.machine_file.proofs.KeyFaults.{AddressFault, EventFault, FlagsFault, LinesFault, NameFault, PageFault, RegistersFault, SizeFault, UpToFault, WordFault}
+use Rattle.machine_file.proofs.KeyFaults.{AddressFault, EventFault, EventFaults, FlagsFault, LinesFault, NameFault, NeedsWord, PageFault, PageFaults, RegistersFault, SizeFault, UpToFault, WordFault}
 
 -- ## The ranks of faults
 
@@ -30,11 +30,7 @@ fault_at n = get_or (Memory ∷ Memory ∷ NotToml ∷ UnknownKey ∷ WrongKind 
 
 at_rank : (f : MachineFileFault) → fault_at (number_of f) ≡ f
 at_rank Memory = refl
-at_rank NotToml = refl
-at_rank UnknownKey = refl
-at_rank WrongKind = refl
-at_rank OutOfRange = refl
-at_rank Twice = refl
+at_rank _ = refl
 
 pub one_rank : (f g : MachineFileFault) → number_of f ≡ number_of g → f ≡ g
 one_rank = one_by_rank machine_faults fault_at at_rank
@@ -62,9 +58,7 @@ size_numbered n = cond (eqb n 4) K4 (cond (eqb n 8) K8 (cond (eqb n 16) K16 K32)
 size_back : (s : PageSize) → size_numbered (kilobytes s) ≡ s
 unfolding size_numbered
 size_back K4 = refl
-size_back K8 = refl
-size_back K16 = refl
-size_back K32 = refl
+size_back _ = refl
 
 abbrev OtherSize : ℤ → MachineFileFault → Type 0
 OtherSize z f = ((s : PageSize) → z ≡ pos (kilobytes s) → ⊥) × (f ≡ OutOfRange)
@@ -227,19 +221,12 @@ module _ (ms : Members) where
   abbrev pub Word : List ℕ → ℕ → Type 0
   Word key n = AtKey key ms (λ e. IsWord e n)
 
-  abbrev pub NeedsWord : List ℕ → MachineFileFault → Type 0
-  NeedsWord key f = AtKeyOr key ms (f ≡ WrongKind) (λ e. WordFault e f)
-
-  pub word : (key : List ℕ) → Judges machine_faults (Word key) (NeedsWord key) (word_in key ms)
+  pub word : (key : List ℕ) → Judges machine_faults (Word key) (NeedsWord ms key) (word_in key ms)
   word key = number_in_judged machine_faults (2 ^ 32 - 1) key ms
 
 abbrev PageStates : Members → MappedPage → Type 0
 PageStates ms page =
     Word ms (codes "logical") page.logical × Word ms (codes "physical") page.physical × Word ms (codes "level") page.level
-
-abbrev PageFaults : Members → MachineFileFault → Type 0
-PageFaults ms f =
-    NeedsWord ms (codes "logical") f ⊎ NeedsWord ms (codes "physical") f ⊎ NeedsWord ms (codes "level") f
 
 three_to : {A B C : Type 0} → (A ⊎ B) ⊎ C → A ⊎ (B ⊎ C)
 three_to (inl (inl x)) = inl x
@@ -303,13 +290,6 @@ EventStates ms event =
     × AtKeyOr (codes "bursts") ms (event.1.bursts ≡ 0) (λ e. IsNumber 65535 e event.1.bursts)
     × AtKeyOr (codes "lines") ms (event.1.lines ≡ None) (λ e. IsSomeAnd event.1.lines (AreLines e))
     × AtKeyOr (codes "port") ms (event.1.port ≡ None) (λ e. IsSomeAnd event.1.port (IsWord e))
-
-abbrev EventFaults : Members → MachineFileFault → Type 0
-EventFaults ms f =
-    AtKeyOr (codes "step") ms (f ≡ WrongKind) (λ e. UpToFault 65535 e f)
-    ⊎ AtKey (codes "bursts") ms (λ e. UpToFault 65535 e f)
-    ⊎ AtKey (codes "lines") ms (λ e. LinesFault e f)
-    ⊎ AtKey (codes "port") ms (λ e. WordFault e f)
 
 abbrev event_parts : Members → Read (ℕ × (ℕ × (Option Lines × Option ℕ)))
 event_parts ms =

@@ -7,17 +7,9 @@ use Rattle.machine_file.specs.declared.profile_faults.ProfileFileFault.TheVarian
 
 -- a list of another length
 pub not_four : (ds : List Data) → length ds ≢ 4 → four_of ds ≡ Err WrongKind
-not_four [] h = refl
-not_four (a ∷ []) h = refl
-not_four (a ∷ b ∷ []) h = refl
-not_four (a ∷ b ∷ c ∷ []) h = refl
 not_four (a ∷ b ∷ c ∷ d ∷ []) h = absurd (h refl)
-not_four (a ∷ b ∷ c ∷ d ∷ e ∷ ds) h = refl
+not_four ds h = refl
 
 pub has_four : {A : Type 0} (xs : List A) (a b c d : A) → 4 ≤ length xs → length xs < 5 → a ≡ slice_index_or xs 0 a → b ≡ slice_index_or xs 1 b → c ≡ slice_index_or xs 2 c → d ≡ slice_index_or xs 3 d → xs ≡ a ∷ b ∷ c ∷ d ∷ []
-has_four [] a b c d low high ia ib ic id = absurd (omega arith)
-has_four (w ∷ []) a b c d low high ia ib ic id = absurd (omega arith)
-has_four (w ∷ x ∷ []) a b c d low high ia ib ic id = absurd (omega arith)
-has_four (w ∷ x ∷ y ∷ []) a b c d low high ia ib ic id = absurd (omega arith)
 has_four (w ∷ x ∷ y ∷ z ∷ []) a b c d low high ia ib ic id = λ i. sym ia i ∷ sym ib i ∷ sym ic i ∷ sym id i ∷ []
-has_four (w ∷ x ∷ y ∷ z ∷ v ∷ xs) a b c d low high ia ib ic id = absurd (omega arith)
+has_four xs a b c d low high ia ib ic id = absurd (omega arith)

@@ -26,11 +26,7 @@ fault_at n = get_or (Memory ∷ Memory ∷ NotToml ∷ UnknownKey ∷ WrongKind 
 
 at_rank : (f : ProfileFileFault) → fault_at (number_of f) ≡ f
 at_rank Memory = refl
-at_rank NotToml = refl
-at_rank UnknownKey = refl
-at_rank WrongKind = refl
-at_rank OutOfRange = refl
-at_rank Disordered = refl
+at_rank _ = refl
 
 pub one_rank : (f g : ProfileFileFault) → number_of f ≡ number_of g → f ≡ g
 one_rank = one_by_rank profile_faults fault_at at_rank

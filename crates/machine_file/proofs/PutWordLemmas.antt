@@ -18,10 +18,10 @@ use Rattle.machine_file.specs.MachineFaultRules.{IsNoWordAddress, IsWordTwice}
 use Rattle.machine_file.specs.MachineRules.{IsWordAddress, IsPutWord}
 use Rattle.machine_file.specs.Names.{word_keys}
 use Rattle.machine_file.specs.declared.machine_faults.MachineFileFault.{MachineFileFault}
-use Rattle.machine_file.specs.declared.machine_faults.MachineFileFault.TheVariants.{WrongKind, OutOfRange, Twice}
-use Rattle.machine_file.proofs.MachineValueLemmas.{IsLow, NeedsWord, Word, list_low, low_at, match_low, needs_low, some_low, table_low, word}
+use Rattle.machine_file.specs.declared.machine_faults.MachineFileFault.TheVariants.{OutOfRange, Twice}
+use Rattle.machine_file.proofs.MachineValueLemmas.{IsLow, Word, list_low, low_at, match_low, needs_low, some_low, table_low, word}
 use Rattle.machine_file.proofs.FaultTableLemmas.{some_fact}
-use Rattle.machine_file.proofs.KeyFaults.{WordAddressFault, PutWordFault}
+use Rattle.machine_file.proofs.KeyFaults.{NeedsWordAddress, WordAddressFault, PutWordFault, PutWordFaults}
 
 -- ## Addresses
 
@@ -51,18 +51,12 @@ module _ (ms : Members) where
   abbrev PutAt : ℕ → Type 0
   PutAt a = AtKey (codes "at") ms (λ e. IsWordAddress e a)
 
-  abbrev NeedsWordAddress : MachineFileFault → Type 0
-  NeedsWordAddress f = AtKeyOr (codes "at") ms (f ≡ WrongKind) (λ e. WordAddressFault e f)
-
-  word_address_in_judged : Judges machine_faults PutAt NeedsWordAddress (word_address_in ms)
+  word_address_in_judged : Judges machine_faults PutAt (NeedsWordAddress ms) (word_address_in ms)
   word_address_in_judged =
       required_judged machine_faults IsWordAddress WordAddressFault word_address_at word_address_judged (get_member (codes "at") ms)
 
 abbrev PutWordStates : Members → ℕ × ℕ → Type 0
 PutWordStates ms w = PutAt ms w.0 × Word ms (codes "value") w.1
-
-abbrev PutWordFaults : Members → MachineFileFault → Type 0
-PutWordFaults ms f = NeedsWordAddress ms f ⊎ NeedsWord ms (codes "value") f
 
 put_word_judged : (d : Data) → Judges machine_faults (IsPutWord d) (PutWordFault d) (put_word_at d)
 put_word_judged d =

@@ -22,8 +22,7 @@ Entry = String Global × Value
 match_members : (o : Ordering) (a b c : List Entry)
     → members_view (match_ordering o a b c) ≡ match_ordering o (members_view a) (members_view b) (members_view c)
 match_members Less a b c = refl
-match_members Equal a b c = refl
-match_members Greater a b c = refl
+match_members _ a b c = refl
 
 pub view_insert : (es : List Entry) (k : String Global) (v : Value)
     → members_view (insert_entry string_cmp es k v) ≡ with_key (string_bytes k) (view v) (members_view es)

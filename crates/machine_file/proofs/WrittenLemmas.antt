@@ -8,12 +8,12 @@ use Rattle.toml.specs.Data.{Data, Members, depth, get_member, items_depth, membe
 use Rattle.toml.specs.Parse.{parse_document}
 use Rattle.toml.specs.View.{items_of}
 use Rattle.arm2_effect.specs.declared.modes.Mode.{Mode}
-use Rattle.arm2_effect.specs.declared.modes.Mode.TheVariants.{User, Fiq, Irq, Svc}
+use Rattle.arm2_effect.specs.declared.modes.Mode.TheVariants.{User}
 use Rattle.arm2_effect.specs.declared.modes.Reg.{Reg}
 use Rattle.loader.specs.Image.{may_hold}
 use Rattle.memc.specs.Memory.{shift_of_size}
 use Rattle.memc.specs.declared.spots.PageSize.{PageSize}
-use Rattle.memc.specs.declared.spots.PageSize.TheVariants.{K4, K8, K16, K32}
+use Rattle.memc.specs.declared.spots.PageSize.TheVariants.{K4}
 use Rattle.toml_reading.specs.Documents.{is_one_of, list_of}
 use Rattle.toml_reading.specs.Lowest.{AtKey, AtKeyOr, IsListOf, IsNumber}
 use Rattle.machine_file.specs.MachineFile.{IsMachineFile, has, is_letter, is_mappable, is_single, machine_in, set_flags}
@@ -112,9 +112,7 @@ flags_stated f =
 
 mode_stated : (m : Mode) → IsNamed named_mode (string (mode_name m)) m
 mode_stated User = refl
-mode_stated Fiq = refl
-mode_stated Irq = refl
-mode_stated Svc = refl
+mode_stated _ = refl
 
 -- ## Registers
 
@@ -193,9 +191,7 @@ page_stated p a b c =
 
 low_logical : (size : PageSize) (n : ℕ) → n < 2 ^ (25 - shift_of_size size) → n < 2 ^ 32
 low_logical K4 n h = omega (arith, h)
-low_logical K8 n h = omega (arith, h)
-low_logical K16 n h = omega (arith, h)
-low_logical K32 n h = omega (arith, h)
+low_logical _ n h = omega (arith, h)
 
 mappable_stated : (size : PageSize) (p : MappedPage) → is_mappable (shift_of_size size) p ≡ true
     → IsPage (page_data p) p

@@ -3,7 +3,7 @@ ghost use Rattle.toml_reading.specs.Readings.{seen};
 ghost use Rattle.toml.specs.View.{table_view, view};
 ghost use Rattle.toml_reading.specs.Documents.{number_at, number_or};
 ghost use Rattle.machine_file.specs.MachineFaults.{machine_faults};
-ghost use Rattle.machine_file.specs.MachineFile.{counts_in, event_at, event_in, events_in, line_at, lines_at};
+ghost use Rattle.machine_file.specs.MachineFile.{counts_in, event_at, event_in, event_of, events_in, line_at, lines_at};
 ghost use Rattle.machine_file.specs.MachineFile.{lines_in, once, port_at, port_in, schedule_in};
 ghost use Rattle.ioc.specs.LineNames.{line_named};
 ghost use Rattle.machine_file.specs.MachineFile.{union};
@@ -43,10 +43,10 @@ fn line_named(name: &str) -> Option<Lines>
 fn line(value: &Value) -> Read<Lines>
     ensures { result ≡ line_at (view value.now) }
 {
-    match value.as_str() {
-        Some(name) => line_named(name).ok_or(MachineFileFault::WrongKind),
-        None => Err(MachineFileFault::WrongKind),
-    }
+    value
+        .as_str()
+        .and_then(line_named)
+        .ok_or(MachineFileFault::WrongKind)
 }
 
 impl Entry<(), MachineFileFault> for Lines {
@@ -88,19 +88,13 @@ fn lines(alloc: Global, table: &Table) -> Result<Read<Option<Lines>>, AllocError
 fn port_of(value: &Value) -> Read<Option<u32>>
     ensures { result ≡ port_at (view value.now) }
 {
-    match number(value, u32::MAX) {
-        Ok(word) => Ok(Some(word)),
-        Err(fault) => Err(fault),
-    }
+    number(value, u32::MAX).map(Some)
 }
 
 fn port(table: &Table) -> Read<Option<u32>>
     ensures { result ≡ port_in (table_view table.now) }
 {
-    match value_at(table, "port") {
-        Some(value) => port_of(value),
-        None => Ok(None),
-    }
+    value_at(table, "port").map_or(Ok(None), port_of)
 }
 
 fn bursts_of(value: &Value) -> Read<u16>
@@ -118,10 +112,19 @@ fn bursts_of(value: &Value) -> Read<u16>
 fn bursts(table: &Table) -> Read<u16>
     ensures { result ≡ number_or machine_faults (codes "bursts") 65535 0 (table_view table.now) }
 {
-    match value_at(table, "bursts") {
-        Some(value) => bursts_of(value),
-        None => Ok(0),
-    }
+    value_at(table, "bursts").map_or(Ok(0), bursts_of)
+}
+
+fn event_of(parts: (u32, (u16, (Option<Lines>, Option<u32>)))) -> (u32, Event)
+    ensures { result ≡ event_of parts }
+{
+    let (step, (bursts, (lines, port))) = parts;
+    let event = Event {
+        bursts,
+        lines,
+        port,
+    };
+    (step, event)
 }
 
 fn read_event(alloc: Global, table: &Table) -> Result<Read<(u32, Event)>, AllocError>
@@ -129,17 +132,7 @@ fn read_event(alloc: Global, table: &Table) -> Result<Read<(u32, Event)>, AllocE
 {
     let held = pair(lines(alloc, table)?, port(table));
     let rest = pair(bursts(table), held);
-    let event = match pair(required_number(table, "step", 65535), rest) {
-        Ok((step, (bursts, (lines, port)))) => Ok((
-            step,
-            Event {
-                bursts,
-                lines,
-                port,
-            },
-        )),
-        Err(fault) => Err(fault),
-    };
+    let event = pair(required_number(table, "step", 65535), rest).map(event_of);
     Ok(check(
         only_keys(EVENT_KEYS, table),
         MachineFileFault::UnknownKey,

@@ -80,10 +80,10 @@ fn lettered(text: &[u8]) -> Read<PsrFlags>
 fn flags_of(value: &Value) -> Read<PsrFlags>
     ensures { result ≡ flags_at (view value.now) }
 {
-    match value.as_str() {
-        Some(text) => lettered(text.as_bytes()),
-        None => Err(MachineFileFault::WrongKind),
-    }
+    value
+        .as_str()
+        .ok_or(MachineFileFault::WrongKind)
+        .and_then(|text| lettered(text.as_bytes()))
 }
 
 /// The flags that the file's table states: both interrupts masked where it states none.

@@ -12,7 +12,7 @@ pub(crate) type Read<T> = Reading<T, MachineFileFault>;
 pub enum MachineFileFault {
     /// An allocation failed.
     #[error("Memory")]
-    Memory,
+    Memory = 1,
     /// The bytes are not UTF-8 or no TOML document.
     #[error("NotToml")]
     NotToml,
@@ -48,14 +48,7 @@ impl Fault for MachineFileFault {
     ghost faults = { machine_faults };
 
     fn rank(self) -> u32 {
-        match self {
-            MachineFileFault::Memory => 1,
-            MachineFileFault::NotToml => 2,
-            MachineFileFault::UnknownKey => 3,
-            MachineFileFault::WrongKind => 4,
-            MachineFileFault::OutOfRange => 5,
-            MachineFileFault::Twice => 6,
-        }
+        self as u32
     }
 
     fn unknown_key() -> Self {

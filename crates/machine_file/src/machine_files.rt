@@ -189,15 +189,12 @@ fn parts(alloc: Global, table: &Table) -> Result<Read<Parts>, AllocError>
 fn stated(parts: Read<Parts>) -> Read<MachineFile>
     ensures { result ≡ seen stated_of parts }
 {
-    match parts {
-        Ok((processor, (controller, (schedule, words)))) => Ok(MachineFile {
-            processor,
-            controller,
-            schedule,
-            words,
-        }),
-        Err(fault) => Err(fault),
-    }
+    parts.map(|(processor, (controller, (schedule, words)))| MachineFile {
+        processor,
+        controller,
+        schedule,
+        words,
+    })
 }
 
 // What the table states.

@@ -47,31 +47,26 @@ fn size_numbered(number: i64) -> Read<PageSize>
 fn size_value(value: &Value) -> Read<PageSize>
     ensures { result ≡ size_at (view value.now) }
 {
-    match value.as_integer() {
-        Some(number) => size_numbered(number),
-        None => Err(MachineFileFault::WrongKind),
-    }
+    value
+        .as_integer()
+        .ok_or(MachineFileFault::WrongKind)
+        .and_then(size_numbered)
 }
 
 fn size(table: &Table) -> Read<PageSize>
     ensures { result ≡ size_in (table_view table.now) }
 {
-    match value_at(table, "pages") {
-        Some(value) => size_value(value),
-        None => Ok(PageSize::K4),
-    }
+    value_at(table, "pages").map_or(Ok(PageSize::K4), size_value)
 }
 
-fn page_of(numbers: Read<((u32, u32), u32)>) -> Read<MappedPage>
-    ensures { result ≡ seen page_of numbers }
+fn page_of(numbers: ((u32, u32), u32)) -> MappedPage
+    ensures { result ≡ page_of numbers }
 {
-    match numbers {
-        Ok(((logical, physical), level)) => Ok(MappedPage {
-            logical,
-            physical,
-            level,
-        }),
-        Err(fault) => Err(fault),
+    let ((logical, physical), level) = numbers;
+    MappedPage {
+        logical,
+        physical,
+        level,
     }
 }
 
@@ -86,7 +81,7 @@ fn page(table: &Table) -> Read<MappedPage>
     check(
         only_keys(MAP_KEYS, table),
         MachineFileFault::UnknownKey,
-        page_of(numbers),
+        numbers.map(page_of),
     )
 }
 
@@ -94,10 +89,12 @@ impl Entry<(), MachineFileFault> for MappedPage {
     ghost reads = { λ _. page_at };
 
     fn read(_alloc: Global, _context: &(), value: &Value) -> Result<Read<MappedPage>, AllocError> {
-        match value.as_table() {
-            Some(table) => Ok(page(table)),
-            None => Ok(Err(MachineFileFault::WrongKind)),
-        }
+        Ok(
+            value
+                .as_table()
+                .ok_or(MachineFileFault::WrongKind)
+                .and_then(page),
+        )
     }
 }
 
@@ -240,8 +237,6 @@ impl Model for Controller {
 pub(crate) fn read_controller(alloc: Global, table: &Table) -> Result<Read<Controller>, AllocError>
     ensures { IfOk result (λ reading. reading ≡ controller_in (table_view table.now)) }
 {
-    match pair(rom_fields(table), read_pages(alloc, table)?) {
-        Ok((rom, pages)) => Ok(Ok(Controller { rom, pages })),
-        Err(fault) => Ok(Err(fault)),
-    }
+    let parts = pair(rom_fields(table), read_pages(alloc, table)?);
+    Ok(parts.map(|(rom, pages)| Controller { rom, pages }))
 }

@@ -62,19 +62,18 @@ pub(crate) fn start_address(number: i64) -> Read<StartAddress>
 fn pc_of(value: &Value) -> Read<StartAddress>
     ensures { result ≡ pc_at (view value.now) }
 {
-    match value.as_integer() {
-        Some(number) => start_address(number),
-        None => Err(MachineFileFault::WrongKind),
-    }
+    value
+        .as_integer()
+        .ok_or(MachineFileFault::WrongKind)
+        .and_then(start_address)
 }
 
 fn pc(table: &Table) -> Read<StartAddress>
     ensures { result ≡ pc_in (table_view table.now) }
 {
-    match value_at(table, "pc") {
-        Some(value) => pc_of(value),
-        None => Err(MachineFileFault::WrongKind),
-    }
+    value_at(table, "pc")
+        .ok_or(MachineFileFault::WrongKind)
+        .and_then(pc_of)
 }
 
 fn mode_named(word: &str) -> Option<Mode>
@@ -92,19 +91,16 @@ fn mode_named(word: &str) -> Option<Mode>
 fn mode_of(value: &Value) -> Read<Mode>
     ensures { result ≡ mode_at (view value.now) }
 {
-    match value.as_str() {
-        Some(word) => mode_named(word).ok_or(MachineFileFault::WrongKind),
-        None => Err(MachineFileFault::WrongKind),
-    }
+    value
+        .as_str()
+        .and_then(mode_named)
+        .ok_or(MachineFileFault::WrongKind)
 }
 
 fn mode(table: &Table) -> Read<Mode>
     ensures { result ≡ mode_in (table_view table.now) }
 {
-    match value_at(table, "mode") {
-        Some(value) => mode_of(value),
-        None => Ok(Mode::Svc),
-    }
+    value_at(table, "mode").map_or(Ok(Mode::Svc), mode_of)
 }
 
 /// The registers that the file's table states.
@@ -114,13 +110,11 @@ pub(crate) fn read_processor(alloc: Global, table: &Table) -> Result<Read<Proces
     let psr = pair(mode(table), stated_flags(table));
     let start = pair(pc(table), psr);
     let registers = stated_registers(alloc, table)?;
-    match pair(start, registers) {
-        Ok(((pc, (mode, flags)), registers)) => Ok(Ok(Processor {
-            pc,
-            mode,
-            flags,
-            registers,
-        })),
-        Err(fault) => Ok(Err(fault)),
-    }
+    let parts = pair(start, registers);
+    Ok(parts.map(|((pc, (mode, flags)), registers)| Processor {
+        pc,
+        mode,
+        flags,
+        registers,
+    }))
 }

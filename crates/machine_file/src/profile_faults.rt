@@ -9,7 +9,7 @@ use toml_reading::Fault;
 pub enum ProfileFileFault {
     /// An allocation failed.
     #[error("Memory")]
-    Memory,
+    Memory = 1,
     /// The bytes are not UTF-8 or no TOML document.
     #[error("NotToml")]
     NotToml,
@@ -42,14 +42,7 @@ impl Fault for ProfileFileFault {
     ghost faults = { profile_faults };
 
     fn rank(self) -> u32 {
-        match self {
-            ProfileFileFault::Memory => 1,
-            ProfileFileFault::NotToml => 2,
-            ProfileFileFault::UnknownKey => 3,
-            ProfileFileFault::WrongKind => 4,
-            ProfileFileFault::OutOfRange => 5,
-            ProfileFileFault::Disordered => 6,
-        }
+        self as u32
     }
 
     fn unknown_key() -> Self {

@@ -47,19 +47,17 @@ fn four_numbers(values: &[Value]) -> Read<Four>
 fn four(value: &Value) -> Read<Four>
     ensures { result ≡ four_at (view value.now) }
 {
-    match values_of(value) {
-        Some(values) => four_numbers(values),
-        None => Err(ProfileFileFault::WrongKind),
-    }
+    values_of(value)
+        .ok_or(ProfileFileFault::WrongKind)
+        .and_then(four_numbers)
 }
 
 fn four_prices(table: &Table, key: &str) -> Read<Four>
     ensures { result ≡ four_in key.now (table_view table.now) }
 {
-    match value_at(table, key) {
-        Some(value) => four(value),
-        None => Err(ProfileFileFault::WrongKind),
-    }
+    value_at(table, key)
+        .ok_or(ProfileFileFault::WrongKind)
+        .and_then(four)
 }
 
 fn ram_prices(table: &Table) -> Read<(u32, (u32, u32))>
@@ -117,15 +115,12 @@ fn in_order(parts: Parts) -> [u32; 15]
 fn numbers(table: &Table) -> Read<[u32; 15]>
     ensures { result ≡ numbers_in (table_view table.now) }
 {
-    let parts = check(
+    check(
         only_keys(KEYS, table),
         ProfileFileFault::UnknownKey,
         parts(table),
-    );
-    match parts {
-        Ok(parts) => Ok(in_order(parts)),
-        Err(fault) => Err(fault),
-    }
+    )
+    .map(in_order)
 }
 
 // The profile of the numbers that were read.

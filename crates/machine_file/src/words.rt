@@ -23,33 +23,26 @@ fn word_address_numbered(number: i64) -> Read<u32>
     ensures { result ≡ word_address_of number }
 {
     match u32::try_from(number) {
-        Ok(address) => {
-            if may_hold(address) {
-                Ok(address)
-            } else {
-                Err(MachineFileFault::OutOfRange)
-            }
-        }
-        Err(_) => Err(MachineFileFault::OutOfRange),
+        Ok(address) if may_hold(address) => Ok(address),
+        _ => Err(MachineFileFault::OutOfRange),
     }
 }
 
 fn word_address_value(value: &Value) -> Read<u32>
     ensures { result ≡ word_address_at (view value.now) }
 {
-    match value.as_integer() {
-        Some(number) => word_address_numbered(number),
-        None => Err(MachineFileFault::WrongKind),
-    }
+    value
+        .as_integer()
+        .ok_or(MachineFileFault::WrongKind)
+        .and_then(word_address_numbered)
 }
 
 fn word_address(table: &Table) -> Read<u32>
     ensures { result ≡ word_address_in (table_view table.now) }
 {
-    match value_at(table, "at") {
-        Some(value) => word_address_value(value),
-        None => Err(MachineFileFault::WrongKind),
-    }
+    value_at(table, "at")
+        .ok_or(MachineFileFault::WrongKind)
+        .and_then(word_address_value)
 }
 
 fn put_word(table: &Table) -> Read<(u32, u32)>
@@ -70,10 +63,12 @@ impl Entry<(), MachineFileFault> for (u32, u32) {
     ghost reads = { λ _. put_word_at };
 
     fn read(_alloc: Global, _context: &(), value: &Value) -> Result<Read<(u32, u32)>, AllocError> {
-        match value.as_table() {
-            Some(table) => Ok(put_word(table)),
-            None => Ok(Err(MachineFileFault::WrongKind)),
-        }
+        Ok(
+            value
+                .as_table()
+                .ok_or(MachineFileFault::WrongKind)
+                .and_then(put_word),
+        )
     }
 }
 

@@ -1,22 +1,21 @@
 -- What is read of a document, against what it states and the faults that it has.
-use Rattle.std.proofs.Common.{◌≡◌, ◌⊎◌, ◌↔◌, ◌≤◌, ℕ, Option, Some, None, IsSomeAnd, inl, inr, false, le_of_eq, true, ◌&&◌, get_or, [], ◌∷◌, Ok, Err, refl, sym, ap, subst, ◌∙◌}
+use Rattle.std.proofs.Common.{◌≡◌, ◌⊎◌, ◌↔◌, ◌≤◌, ℕ, List, Option, Some, None, IsSomeAnd, inl, inr, false, le_of_eq, true, ◌&&◌, get_or, [], ◌∷◌, Ok, Err, refl, sym, ap, subst, ◌∙◌}
 use Rattle.std.specs.Prelude.{codes}
 use Rattle.std.specs.Map.{keys_of}
 use Rattle.std.specs.Cmp.Derive.{both_true}
 use Rattle.std.proofs.lemmas.Bool.{and_parts, cases_Bool, false≢true}
 use Rattle.toml.specs.Data.{Data, Members, as_table, get_member}
-use Rattle.bus_ticks.specs.declared.profile.Class.{Class}
 use Rattle.bus_ticks.specs.declared.profile.Class.TheVariants.{Any}
 use Rattle.toml_reading.specs.Documents.{are_distinct, has_only_keys}
 use Rattle.toml_reading.specs.Lists.{IsListUpTo, ListUpToFault}
-use Rattle.toml_reading.specs.Lowest.{AtKey, AtKeyOr, IsLowest}
+use Rattle.toml_reading.specs.Lowest.{AtKey, AtKeyOr, IsLowest, IsTable}
 use Rattle.toml_reading.specs.Readings.{and_then}
 use Rattle.toml_reading.proofs.Following.{stated_or_faulty, tables_up_to_judged, test_judged, then_judged, widened_judged}
 use Rattle.toml_reading.proofs.LowestLemmas.{Judges, both_judged, judged_as, judged_fault, judged_value, one_by_rank, optional_judged}
 use Rattle.toml_reading.proofs.LowestParts.{keys_judged}
 use Rattle.toml_reading.proofs.TwiceLemmas.{keys_not_distinct}
 use Rattle.statement.specs.StatementRules.{AccessFault, AddressFault, HasAccess, HasFault, HasParts, HasTarget, HasTwo, IsAddress, IsAt, IsSingle, IsNamed, LoopFault, PartsFault, RequiredFault, States, StatesAccess, StatesLoop, StatesTarget, TargetFault, NameFault}
-use Rattle.statement.specs.Stated.{Stated, Target}
+use Rattle.statement.specs.Stated.{Stated}
 use Rattle.statement.specs.Statement.{Names, Parts, access_at, access_keys, class_at, leave_in, loop_at, named_class, parts_of, statement_keys, statement_of, target_at, target_keys, stated_by_parts}
 use Rattle.statement.specs.StatementFaults.{number_of, statement_faults}
 use Rattle.statement.specs.declared.faults.StatementFault.{StatementFault}
@@ -32,12 +31,7 @@ fault_at n =
 
 numbered_back : (f : StatementFault) → fault_at (number_of f) ≡ f
 numbered_back Memory = refl
-numbered_back NotToml = refl
-numbered_back UnknownKey = refl
-numbered_back WrongKind = refl
-numbered_back UnknownLabel = refl
-numbered_back OutOfRange = refl
-numbered_back Twice = refl
+numbered_back _ = refl
 
 leave_judged :
     (ms : Members)
@@ -92,21 +86,18 @@ module _ (names : Names) where
       h
       k
 
-  target_is_at : (d : Data) (t : ℕ × Target) → StatesTarget names d t → IsAt names d t.0
-  target_is_at d t h =
+  -- an entry is for the address at its key
+  entry_is_at :
+      {A : Type 0} (keys : List (List ℕ)) (Has : Members → ℕ × A → Type 0)
+      → ((ms : Members) (e : ℕ × A) → Has ms e → AtOf ms e.0)
+      → (d : Data) (e : ℕ × A)
+      → IsTable keys (λ ms. Has ms e) d
+      → IsAt names d e.0
+  entry_is_at keys Has address d e h =
       some_weaker
-      (λ ms. (has_only_keys target_keys ms ≡ true) × HasTarget names ms t)
-      (λ ms. AtOf ms t.0)
-      (λ ms s. s.1.address)
-      (as_table d)
-      h
-
-  access_is_at : (d : Data) (a : ℕ × Class) → StatesAccess names d a → IsAt names d a.0
-  access_is_at d a h =
-      some_weaker
-      (λ ms. (has_only_keys access_keys ms ≡ true) × HasAccess names ms a)
-      (λ ms. AtOf ms a.0)
-      (λ ms s. s.1.address)
+      (λ ms. (has_only_keys keys ms ≡ true) × Has ms e)
+      (λ ms. AtOf ms e.0)
+      (λ ms s. address ms e s.1)
       (as_table d)
       h
 
@@ -189,7 +180,7 @@ module _ (names : Names) where
       (IsAt names)
       one_at
       (StatesTarget names)
-      target_is_at
+      (entry_is_at target_keys (HasTarget names) (λ ms t s. s.address))
       1024
       (get_member (codes "target") ms)
       p.1.0
@@ -204,7 +195,7 @@ module _ (names : Names) where
       (IsAt names)
       one_at
       (StatesAccess names)
-      access_is_at
+      (entry_is_at access_keys (HasAccess names) (λ ms a s. s.address))
       4096
       (get_member (codes "access") ms)
       p.1.1

@@ -1,18 +1,18 @@
 -- What is read of addresses and words, against what they state and their faults.
 use Rattle.std.proofs.Common.{◌≡◌, ℕ, ◌∙◌, List, Option, Some, None, Ok, MatchOption, refl, sym, ap, subst, le_of_eq}
-use Rattle.std.specs.Prelude.{codes}
 use Rattle.std.specs.Option.{option_and_then}
 use Rattle.std.proofs.lemmas.Option.{none-some, same_Some}
-use Rattle.toml.specs.Data.{Data, Members, string, integer, float, boolean, datetime, array, table, as_str, get_member}
+use Rattle.toml.specs.Data.{Data, Members, string, integer, as_str, get_member}
 use Rattle.toml_reading.specs.Lowest.{AtKey, IsInSpace}
-use Rattle.toml_reading.specs.Readings.{required}
+use Rattle.toml_reading.specs.Readings.{Reading, required}
 use Rattle.toml_reading.proofs.AddressLemmas.{integer_judged, natural_judged}
 use Rattle.toml_reading.proofs.Following.{refusal_judged}
 use Rattle.toml_reading.proofs.LowestLemmas.{Judges, judged_as, required_judged}
 use Rattle.toml_reading.proofs.LowestParts.{whole_same}
 use Rattle.statement.specs.StatementRules.{AddressFault, IsAddress, IsNamed, RequiredFault, NameFault}
-use Rattle.statement.specs.Statement.{Names, address_at, address_in, class_at, class_in, kind_at, kind_in, labelled, named_class, named_kind}
+use Rattle.statement.specs.Statement.{Names, address_at, address_in, labelled}
 use Rattle.statement.specs.StatementFaults.{number_of, statement_faults}
+use Rattle.statement.specs.declared.faults.StatementFault.{StatementFault}
 use Rattle.statement.specs.declared.faults.StatementFault.TheVariants.{OutOfRange, UnknownLabel, WrongKind}
 
 -- ## Addresses
@@ -47,11 +47,7 @@ pub address_judged :
     → Judges statement_faults (IsAddress names d) (AddressFault names d) (address_at names d)
 address_judged names (string name) = label_judged (names name)
 address_judged names (integer z) = integer_judged statement_faults z
-address_judged names (float x) = refusal_judged statement_faults WrongKind
-address_judged names (boolean b) = refusal_judged statement_faults WrongKind
-address_judged names (datetime t) = refusal_judged statement_faults WrongKind
-address_judged names (array ds) = refusal_judged statement_faults WrongKind
-address_judged names (table ms) = refusal_judged statement_faults WrongKind
+address_judged names _ = refusal_judged statement_faults WrongKind
 
 pub address_in_judged :
     (names : Names) (key : List ℕ) (ms : Members)
@@ -73,11 +69,7 @@ address_in_judged names key ms =
 pub one_address : (names : Names) (d : Data) (a b : ℕ) → IsAddress names d a → IsAddress names d b → a ≡ b
 one_address names (string name) a b h k = same_Some a b (sym h.0 ∙ k.0)
 one_address names (integer z) a b h k = whole_same a b (sym h.0 ∙ k.0)
-one_address names (float x) a b h k = absurd h
-one_address names (boolean x) a b h k = absurd h
-one_address names (datetime t) a b h k = absurd h
-one_address names (array ds) a b h k = absurd h
-one_address names (table ms) a b h k = absurd h
+one_address names _ a b h k = absurd h
 
 -- ## Words
 
@@ -95,43 +87,32 @@ found_judged (Some x) = record {
   told = (record { stated = refl; only = λ b e. sym (same_Some x b e) }, λ f h. none-some x (sym h.0));
 }
 
+-- what is read of a word that is named
+abbrev word_of : {A : Type 0} → (List ℕ → Option A) → Data → Reading StatementFault A
+word_of named d = required statement_faults (option_and_then named (as_str d)) (λ a. Ok a)
+
 pub word_judged :
     {A : Type 0} (named : List ℕ → Option A) (d : Data)
     → Judges
     statement_faults
     (IsNamed named d)
     (NameFault named d)
-    (required statement_faults (option_and_then named (as_str d)) (λ a. Ok a))
+    (word_of named d)
 word_judged named d = found_judged (option_and_then named (as_str d))
 
-pub kind_judged :
-    (ms : Members)
+-- the word at a key that must be there
+pub word_in_judged :
+    {A : Type 0} (named : List ℕ → Option A) (key : List ℕ) (ms : Members)
     → Judges
     statement_faults
-    (λ k. AtKey (codes "kind") ms (λ d. IsNamed named_kind d k))
-    (RequiredFault (codes "kind") ms (NameFault named_kind))
-    (kind_in ms)
-kind_judged ms =
+    (λ a. AtKey key ms (λ d. IsNamed named d a))
+    (RequiredFault key ms (NameFault named))
+    (required statement_faults (get_member key ms) (word_of named))
+word_in_judged named key ms =
     required_judged
     statement_faults
-    (IsNamed named_kind)
-    (NameFault named_kind)
-    kind_at
-    (word_judged named_kind)
-    (get_member (codes "kind") ms)
-
-pub class_judged :
-    (ms : Members)
-    → Judges
-    statement_faults
-    (λ c. AtKey (codes "class") ms (λ d. IsNamed named_class d c))
-    (RequiredFault (codes "class") ms (NameFault named_class))
-    (class_in ms)
-class_judged ms =
-    required_judged
-    statement_faults
-    (IsNamed named_class)
-    (NameFault named_class)
-    class_at
-    (word_judged named_class)
-    (get_member (codes "class") ms)
+    (IsNamed named)
+    (NameFault named)
+    (word_of named)
+    (word_judged named)
+    (get_member key ms)

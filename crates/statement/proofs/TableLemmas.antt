@@ -21,11 +21,11 @@ use Rattle.statement.specs.Stated.{Target}
 use Rattle.statement.specs.Statement.{Names, access_at, access_keys, address_at, address_in, class_in, destinations, destinations_at, directed, kind_in, loop_at, loop_keys, loop_parts, named_class, named_kind, once, placed_loop, some_destinations, target_at, target_keys}
 use Rattle.statement.specs.StatementFaults.{number_of, statement_faults}
 use Rattle.statement.specs.declared.faults.StatementFault.{StatementFault}
-use Rattle.statement.specs.declared.faults.StatementFault.TheVariants.{Memory, NotToml, UnknownKey, WrongKind, UnknownLabel, OutOfRange, Twice}
+use Rattle.statement.specs.declared.faults.StatementFault.TheVariants.{Memory, WrongKind, OutOfRange, Twice}
 use Rattle.statement.specs.declared.stated.Loop.{Loop}
 use Rattle.statement.specs.declared.stated.TargetKind.{TargetKind}
 use Rattle.statement.specs.declared.stated.TargetKind.TheVariants.{Jump, Call, Return, Leave}
-use Rattle.statement.proofs.RuleLemmas.{address_in_judged, address_judged, class_judged, kind_judged, one_address}
+use Rattle.statement.proofs.RuleLemmas.{address_in_judged, address_judged, one_address, word_in_judged}
 
 cons-nil : {A : Type 0} (x : A) (xs : List A) → x ∷ xs ≡ [] → ⊥
 cons-nil x xs e = cc
@@ -52,12 +52,7 @@ at_most f g e h = subst (λ (x : StatementFault). number_of x ≤ number_of OutO
 
 pub twice_last : (f : StatementFault) → number_of f ≤ number_of Twice
 twice_last Memory = omega arith
-twice_last NotToml = omega arith
-twice_last UnknownKey = omega arith
-twice_last WrongKind = omega arith
-twice_last UnknownLabel = omega arith
-twice_last OutOfRange = omega arith
-twice_last Twice = omega arith
+twice_last _ = omega arith
 
 -- ## Sums in another order
 
@@ -467,7 +462,7 @@ module _ (names : Names) where
       (directed names (get_member (codes "to") ms))
       (λ k s. directed_judged k (get_member (codes "to") ms))
       (kind_in ms)
-      (kind_judged ms)
+      (word_in_judged named_kind (codes "kind") ms)
 
   abbrev target_parts : Members → Reading StatementFault (ℕ × Target)
   target_parts ms =
@@ -530,7 +525,7 @@ module _ (names : Names) where
       (λ a. (λ h. record { address = h.0; class = h.1 }, λ h. (h.address, h.class)))
       (λ f. (λ y. y, λ y. y))
       (access_parts ms)
-      (both_judged statement_faults _ _ _ _ _ _ (address_in_judged names (codes "at") ms) (class_judged ms))
+      (both_judged statement_faults _ _ _ _ _ _ (address_in_judged names (codes "at") ms) (word_in_judged named_class (codes "class") ms))
 
   pub access_judged :
       (d : Data)

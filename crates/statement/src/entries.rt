@@ -49,27 +49,26 @@ fn address(labels: &Labels, value: &Value) -> Read<u32>
     if let Some(number) = value.as_integer() {
         return in_space(number);
     }
-    match value.as_str() {
-        Some(name) => label_address(labels.get(name.as_bytes())),
-        None => Err(StatementFault::WrongKind),
-    }
+    value
+        .as_str()
+        .ok_or(StatementFault::WrongKind)
+        .and_then(|name| label_address(labels.get(name.as_bytes())))
 }
 
 /// The address at a key that must be there.
 pub(crate) fn required_address(labels: &Labels, table: &Table, key: &str) -> Read<u32>
     ensures { result ≡ address_in (address_of labels.now) key.now (table_view table.now) }
 {
-    match value_at(table, key) {
-        Some(value) => address(labels, value),
-        None => Err(StatementFault::WrongKind),
-    }
+    value_at(table, key)
+        .ok_or(StatementFault::WrongKind)
+        .and_then(|value| address(labels, value))
 }
 
-fn placed(ends: (u32, u32), rest: (u32, u32)) -> Read<Loop>
-    ensures { result ≡ placed_loop (ends, rest) }
+// The loop of its first and last word, its header and its bound.
+fn placed(parts: ((u32, u32), (u32, u32))) -> Read<Loop>
+    ensures { result ≡ placed_loop parts }
 {
-    let (first, last) = ends;
-    let (header, bound) = rest;
+    let ((first, last), (header, bound)) = parts;
     if first <= header && header <= last {
         Ok(Loop {
             header,
@@ -79,15 +78,6 @@ fn placed(ends: (u32, u32), rest: (u32, u32)) -> Read<Loop>
         })
     } else {
         Err(StatementFault::OutOfRange)
-    }
-}
-
-fn placed_parts(parts: Read<((u32, u32), (u32, u32))>) -> Read<Loop>
-    ensures { result ≡ and_then parts placed_loop }
-{
-    match parts {
-        Ok((ends, rest)) => placed(ends, rest),
-        Err(fault) => Err(fault),
     }
 }
 
@@ -108,7 +98,7 @@ fn loop_parts(labels: &Labels, table: &Table) -> Read<((u32, u32), (u32, u32))>
 fn read_loop(labels: &Labels, table: &Table) -> Read<Loop>
     ensures { result ≡ loop_in (address_of labels.now) (table_view table.now) }
 {
-    let reading = placed_parts(loop_parts(labels, table));
+    let reading = loop_parts(labels, table).and_then(placed);
     check(
         only_keys(LOOP_KEYS, table),
         StatementFault::UnknownKey,
@@ -120,10 +110,8 @@ impl Entry<Labels, StatementFault> for Loop {
     ghost reads = { λ labels. loop_at (address_of labels) };
 
     fn read(_alloc: Global, labels: &Labels, value: &Value) -> Result<Read<Loop>, AllocError> {
-        match value.as_table() {
-            Some(table) => Ok(read_loop(labels, table)),
-            None => Ok(Err(StatementFault::WrongKind)),
-        }
+        let table = value.as_table().ok_or(StatementFault::WrongKind);
+        Ok(table.and_then(|table| read_loop(labels, table)))
     }
 }
 
@@ -152,19 +140,18 @@ fn class_named(word: &str) -> Option<Class>
 pub(crate) fn class(value: &Value) -> Read<Class>
     ensures { result ≡ class_at (view value.now) }
 {
-    match value.as_str() {
-        Some(word) => class_named(word).ok_or(StatementFault::WrongKind),
-        None => Err(StatementFault::WrongKind),
-    }
+    value
+        .as_str()
+        .and_then(class_named)
+        .ok_or(StatementFault::WrongKind)
 }
 
 fn required_class(table: &Table) -> Read<Class>
     ensures { result ≡ class_in (table_view table.now) }
 {
-    match value_at(table, "class") {
-        Some(value) => class(value),
-        None => Err(StatementFault::WrongKind),
-    }
+    value_at(table, "class")
+        .ok_or(StatementFault::WrongKind)
+        .and_then(class)
 }
 
 fn read_access(labels: &Labels, table: &Table) -> Read<(u32, Class)>
@@ -186,10 +173,8 @@ impl Entry<Labels, StatementFault> for (u32, Class) {
         labels: &Labels,
         value: &Value,
     ) -> Result<Read<(u32, Class)>, AllocError> {
-        match value.as_table() {
-            Some(table) => Ok(read_access(labels, table)),
-            None => Ok(Err(StatementFault::WrongKind)),
-        }
+        let table = value.as_table().ok_or(StatementFault::WrongKind);
+        Ok(table.and_then(|table| read_access(labels, table)))
     }
 }
 
@@ -208,19 +193,18 @@ fn kind_named(word: &str) -> Option<TargetKind>
 fn kind(value: &Value) -> Read<TargetKind>
     ensures { result ≡ kind_at (view value.now) }
 {
-    match value.as_str() {
-        Some(word) => kind_named(word).ok_or(StatementFault::WrongKind),
-        None => Err(StatementFault::WrongKind),
-    }
+    value
+        .as_str()
+        .and_then(kind_named)
+        .ok_or(StatementFault::WrongKind)
 }
 
 fn required_kind(table: &Table) -> Read<TargetKind>
     ensures { result ≡ kind_in (table_view table.now) }
 {
-    match value_at(table, "kind") {
-        Some(value) => kind(value),
-        None => Err(StatementFault::WrongKind),
-    }
+    value_at(table, "kind")
+        .ok_or(StatementFault::WrongKind)
+        .and_then(kind)
 }
 
 // The list, where no address stands in it twice.

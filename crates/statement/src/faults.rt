@@ -12,7 +12,7 @@ pub(crate) type Read<T> = Reading<T, StatementFault>;
 pub enum StatementFault {
     /// An allocation failed.
     #[error("Memory")]
-    Memory,
+    Memory = 1,
     /// The bytes are not UTF-8 or no TOML document.
     #[error("NotToml")]
     NotToml,
@@ -51,15 +51,7 @@ impl Fault for StatementFault {
     ghost faults = { statement_faults };
 
     fn rank(self) -> u32 {
-        match self {
-            StatementFault::Memory => 1,
-            StatementFault::NotToml => 2,
-            StatementFault::UnknownKey => 3,
-            StatementFault::WrongKind => 4,
-            StatementFault::UnknownLabel => 5,
-            StatementFault::OutOfRange => 6,
-            StatementFault::Twice => 7,
-        }
+        self as u32
     }
 
     fn unknown_key() -> Self {

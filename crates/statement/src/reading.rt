@@ -29,10 +29,7 @@ const MOST_ACCESSES: usize = 4096;
 fn leave(table: &Table) -> Read<Class>
     ensures { result ≡ leave_in (table_view table.now) }
 {
-    match value_at(table, "leave") {
-        Some(value) => class(value),
-        None => Ok(Class::Any),
-    }
+    value_at(table, "leave").map_or(Ok(Class::Any), class)
 }
 
 // The entry, and the class to leave to.

@@ -1,6 +1,6 @@
-use Rattle.std.proofs.Common.{◌≡◌, ◌∙◌, refl, sym, ap, Bool, true, false, cond, None}
+use Rattle.std.proofs.Common.{◌∙◌, sym, ap, true, false}
 use Rattle.asm_text.proofs.WordLaws.{lower_spells, upper_spells}
-use Rattle.asm_text.specs.Words.{upper, word_of}
+use Rattle.asm_text.specs.Words.{word_of}
 use Rattle.asm_text.proofs.word.read_spelling.Goals as goal
 
 pub returns-then-is_upper : goal.returns-then-is_upper
