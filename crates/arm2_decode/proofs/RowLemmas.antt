@@ -31,21 +31,6 @@ single_register_fixed w kind second = omega (arith, mask_four w)
 block_fixed : (w : ℕ) → bits 27 25 w ≡ 4 → bit_and w 0x0E000000 ≡ 0x08000000
 block_fixed w kind = omega (arith, mask_kind w)
 
-branch_fixed : (w : ℕ) → bits 27 25 w ≡ 5 → bit_and w 0x0E000000 ≡ 0x0A000000
-branch_fixed w kind = omega (arith, mask_kind w)
-
-swi_fixed : (w : ℕ) → bits 27 24 w ≡ 15 → bit_and w 0x0F000000 ≡ 0x0F000000
-swi_fixed w kind = omega (arith, mask_wide w)
-
-undefined_transfer_fixed : (w : ℕ) → bits 27 25 w ≡ 3 → bits 4 4 w ≡ 1 → bit_and w 0x0E000010 ≡ 0x06000010
-undefined_transfer_fixed w kind second = omega (arith, mask_four w)
-
-coprocessor_transfer_fixed : (w : ℕ) → bits 27 25 w ≡ 6 → bit_and w 0x0E000000 ≡ 0x0C000000
-coprocessor_transfer_fixed w kind = omega (arith, mask_kind w)
-
-coprocessor_fixed : (w : ℕ) → bits 27 24 w ≡ 14 → bit_and w 0x0F000000 ≡ 0x0E000000
-coprocessor_fixed w kind = omega (arith, mask_wide w)
-
 -- a word of the row, from its fields
 pub multiply_fits : (w c accumulate sets_flags rd rn rs rm : ℕ) → bits 27 22 w ≡ 0 → bits 7 4 w ≡ 9 → c ≡ bits 31 28 w → accumulate ≡ bits 21 21 w → sets_flags ≡ bits 20 20 w → rd ≡ bits 19 16 w → rn ≡ bits 15 12 w → rs ≡ bits 11 8 w → rm ≡ bits 3 0 w → IsOfRow multiply_row w (c ∷ accumulate ∷ sets_flags ∷ rd ∷ rn ∷ rs ∷ rm ∷ [])
 multiply_fits w c accumulate sets_flags rd rn rs rm kind second at_cond at_accumulate at_sets_flags at_rd at_rn at_rs at_rm = record { fixed = multiply_fixed w kind second; fields = cc }
@@ -69,19 +54,19 @@ pub block_fits : (w c before up user write_back load rn list : ℕ) → bits 27 
 block_fits w c before up user write_back load rn list kind at_cond at_before at_up at_user at_write_back at_load at_rn at_list = record { fixed = block_fixed w kind; fields = cc }
 
 pub branch_fits : (w c link offset : ℕ) → bits 27 25 w ≡ 5 → c ≡ bits 31 28 w → link ≡ bits 24 24 w → offset ≡ bits 23 0 w → IsOfRow branch_row w (c ∷ link ∷ offset ∷ [])
-branch_fits w c link offset kind at_cond at_link at_offset = record { fixed = branch_fixed w kind; fields = cc }
+branch_fits w c link offset kind at_cond at_link at_offset = record { fixed = omega (arith, mask_kind w); fields = cc }
 
 pub swi_fits : (w c comment : ℕ) → bits 27 24 w ≡ 15 → c ≡ bits 31 28 w → comment ≡ bits 23 0 w → IsOfRow swi_row w (c ∷ comment ∷ [])
-swi_fits w c comment kind at_cond at_comment = record { fixed = swi_fixed w kind; fields = cc }
+swi_fits w c comment kind at_cond at_comment = record { fixed = omega (arith, mask_wide w); fields = cc }
 
 pub undefined_transfer_fits : (w c high low : ℕ) → bits 27 25 w ≡ 3 → bits 4 4 w ≡ 1 → c ≡ bits 31 28 w → high ≡ bits 24 5 w → low ≡ bits 3 0 w → IsOfRow undefined_transfer_row w (c ∷ high ∷ low ∷ [])
-undefined_transfer_fits w c high low kind second at_cond at_high at_low = record { fixed = undefined_transfer_fixed w kind second; fields = cc }
+undefined_transfer_fits w c high low kind second at_cond at_high at_low = record { fixed = omega (arith, mask_four w); fields = cc }
 
 pub coprocessor_transfer_fits : (w c rest : ℕ) → bits 27 25 w ≡ 6 → c ≡ bits 31 28 w → rest ≡ bits 24 0 w → IsOfRow coprocessor_transfer_row w (c ∷ rest ∷ [])
-coprocessor_transfer_fits w c rest kind at_cond at_rest = record { fixed = coprocessor_transfer_fixed w kind; fields = cc }
+coprocessor_transfer_fits w c rest kind at_cond at_rest = record { fixed = omega (arith, mask_kind w); fields = cc }
 
 pub coprocessor_fits : (w c rest : ℕ) → bits 27 24 w ≡ 14 → c ≡ bits 31 28 w → rest ≡ bits 23 0 w → IsOfRow coprocessor_row w (c ∷ rest ∷ [])
-coprocessor_fits w c rest kind at_cond at_rest = record { fixed = coprocessor_fixed w kind; fields = cc }
+coprocessor_fits w c rest kind at_cond at_rest = record { fixed = omega (arith, mask_wide w); fields = cc }
 
 -- the number of the first bar that a word meets, by its row
 pub data_register_why : (w : ℕ) → bit_and w 0x0E000010 ≡ 0x00000000 → why_of w ≡ data_clash (bits 24 21 w) (bits 20 20 w)
@@ -107,26 +92,6 @@ single_register_why w h = why_of_row single_register_row w h refl
 pub block_why : (w : ℕ) → bit_and w 0x0E000000 ≡ 0x08000000 → why_of w ≡ block_clash (bits 19 16 w) (bits 15 0 w)
 unfolding agrees within bars_of first_met
 block_why w h = why_of_row block_row w h refl
-
-pub branch_why : (w : ℕ) → bit_and w 0x0E000000 ≡ 0x0A000000 → why_of w ≡ 0
-unfolding agrees within bars_of first_met
-branch_why w h = why_of_row branch_row w h refl
-
-pub swi_why : (w : ℕ) → bit_and w 0x0F000000 ≡ 0x0F000000 → why_of w ≡ 0
-unfolding agrees within bars_of first_met
-swi_why w h = why_of_row swi_row w h refl
-
-pub undefined_transfer_why : (w : ℕ) → bit_and w 0x0E000010 ≡ 0x06000010 → why_of w ≡ 0
-unfolding agrees within bars_of first_met
-undefined_transfer_why w h = why_of_row undefined_transfer_row w h refl
-
-pub coprocessor_transfer_why : (w : ℕ) → bit_and w 0x0E000000 ≡ 0x0C000000 → why_of w ≡ 0
-unfolding agrees within bars_of first_met
-coprocessor_transfer_why w h = why_of_row coprocessor_transfer_row w h refl
-
-pub coprocessor_why : (w : ℕ) → bit_and w 0x0F000000 ≡ 0x0E000000 → why_of w ≡ 0
-unfolding agrees within bars_of first_met
-coprocessor_why w h = why_of_row coprocessor_row w h refl
 
 -- a multiply passes the bar of the words that only resemble one
 stray_passed : (w : ℕ) → bit_and w 0x0FC000F0 ≡ 0x00000090 → stray_bar w ≡ false
@@ -203,13 +168,3 @@ block_barred w n rn list kind at_rn at_list e some =
     barred w n (block_clash rn list) e some (block_why w (block_fixed w kind) ∙ cc)
 
 pub ruleset block_words = (block_fits, block_barred)
-
-pub ruleset branch_words = (branch_fits)
-
-pub ruleset swi_words = (swi_fits)
-
-pub ruleset undefined_transfer_words = (undefined_transfer_fits)
-
-pub ruleset coprocessor_transfer_words = (coprocessor_transfer_fits)
-
-pub ruleset coprocessor_words = (coprocessor_fits)

@@ -205,7 +205,7 @@ fn block(word: u32) -> Result<Operation, u32>
     Ok(Operation::Block(fields))
 }
 
-#[tactic(auto, using(crate::proofs::RowLemmas::branch_words))]
+#[tactic(auto, using(crate::proofs::RowLemmas::branch_fits))]
 fn branch(word: u32) -> Result<Operation, u32>
     requires { bits 27 25 word ≡ 5 }
     ensures { Reads word result }
@@ -217,7 +217,7 @@ fn branch(word: u32) -> Result<Operation, u32>
     Ok(Operation::Branch(fields))
 }
 
-#[tactic(auto, using(crate::proofs::RowLemmas::swi_words))]
+#[tactic(auto, using(crate::proofs::RowLemmas::swi_fits))]
 fn swi(word: u32) -> Result<Operation, u32>
     requires { bits 27 24 word ≡ 15 }
     ensures { Reads word result }
@@ -228,7 +228,7 @@ fn swi(word: u32) -> Result<Operation, u32>
     Ok(Operation::Swi(fields))
 }
 
-#[tactic(auto, using(crate::proofs::RowLemmas::undefined_transfer_words))]
+#[tactic(auto, using(crate::proofs::RowLemmas::undefined_transfer_fits))]
 fn undefined_transfer(word: u32) -> Result<Operation, u32>
     requires first { bits 27 25 word ≡ 3 }
     requires second { bits 4 4 word ≡ 1 }
@@ -241,7 +241,7 @@ fn undefined_transfer(word: u32) -> Result<Operation, u32>
     Ok(Operation::UndefinedTransfer(fields))
 }
 
-#[tactic(auto, using(crate::proofs::RowLemmas::coprocessor_transfer_words))]
+#[tactic(auto, using(crate::proofs::RowLemmas::coprocessor_transfer_fits))]
 fn coprocessor_transfer(word: u32) -> Result<Operation, u32>
     requires { bits 27 25 word ≡ 6 }
     ensures { Reads word result }
@@ -252,7 +252,7 @@ fn coprocessor_transfer(word: u32) -> Result<Operation, u32>
     Ok(Operation::CoprocessorTransfer(fields))
 }
 
-#[tactic(auto, using(crate::proofs::RowLemmas::coprocessor_words))]
+#[tactic(auto, using(crate::proofs::RowLemmas::coprocessor_fits))]
 fn coprocessor(word: u32) -> Result<Operation, u32>
     requires { bits 27 24 word ≡ 14 }
     ensures { Reads word result }
