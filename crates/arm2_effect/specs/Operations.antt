@@ -12,6 +12,7 @@ use Rattle.arm2_decode.specs.declared.instr.DataRegisterShift.{DataRegisterShift
 use Rattle.arm2_decode.specs.declared.instr.DataImmediate.{DataImmediate}
 use Rattle.arm2_decode.specs.declared.instr.Multiply.{Multiply}
 use Rattle.arm2_decode.specs.declared.instr.Branch.{Branch}
+use Rattle.shifter.specs.declared.shifts.Shifted.{Shifted}
 use Rattle.arm2_effect.specs.declared.outcomes.Outcome.{Outcome}
 use Rattle.arm2_effect.specs.declared.exceptions.Vector.TheVariants as vector
 use Rattle.arm2_effect.specs.declared.step_end.Kind.TheVariants.{Plain}
@@ -76,39 +77,24 @@ placed opcode sets_flags rd out regs =
 abbrev pub delayed : ℕ → Effect → Effect
 delayed cycles e = record { kind = e.kind; accesses = Internal cycles ∷ e.accesses; regs = e.regs }
 
+-- data processing with an operand; as its other operand R15 stands so many bytes ahead
+abbrev pub processed : Opcode → Bool → (rn rd : Register) → (by : ℕ) → Shifted → List ℕ → Effect
+processed opcode sets_flags rn rd by operand regs =
+    placed opcode sets_flags rd (outcome_of opcode (first_of by rn regs) operand (flags_of (r15_in regs))) regs
+
 unfoldable pub data_immediate_effect : DataImmediate → List ℕ → Effect
 data_immediate_effect x regs =
-    placed
-    x.opcode
-    x.sets_flags
-    x.rd
-    (outcome_of x.opcode (first_of 8 x.rn regs) (rotated_byte x.value x.rotation regs)
-    (flags_of (r15_in regs)))
-    regs
+    processed x.opcode x.sets_flags x.rn x.rd 8 (rotated_byte x.value x.rotation regs) regs
 
 unfoldable pub data_register_effect : DataRegister → List ℕ → Effect
 data_register_effect x regs =
-    placed
-    x.opcode
-    x.sets_flags
-    x.rd
-    (outcome_of x.opcode (first_of 8 x.rn regs)
-    (shifted_by_amount x.shift x.amount x.rm regs) (flags_of (r15_in regs)))
-    regs
+    processed x.opcode x.sets_flags x.rn x.rd 8 (shifted_by_amount x.shift x.amount x.rm regs) regs
 
 -- with the amount in a register: one internal cycle more, so the program counter is a word further on
 unfoldable pub data_register_shift_effect : DataRegisterShift → List ℕ → Effect
 data_register_shift_effect x regs =
-    delayed
-    1
-    (placed
-    x.opcode
-    x.sets_flags
-    x.rd
-    (outcome_of x.opcode (first_of 12 x.rn regs)
-    (shifted_by_register x.shift x.rs x.rm regs)
-    (flags_of (r15_in regs)))
-    regs)
+    delayed 1
+    (processed x.opcode x.sets_flags x.rn x.rd 12 (shifted_by_register x.shift x.rs x.rm regs) regs)
 
 -- the least m from the given one on with number < 2 ^ (2 * m - 1), or the last one
 unfoldable pub cycles_from : ℕ → ℕ → ℕ → ℕ

@@ -193,10 +193,7 @@ fn end_load(registers: &Registers, prices: &Prices, block: PlacedBlock, r15: u32
 {
     let to = address_of(registers.get(Reg::R15));
     let jumps = is_listed(block.transfer.list, Register::R15);
-    Done {
-        kind: Kind::Plain,
-        ticks: load_ticks(prices, accesses(block, address_of(r15)), jumps, to),
-    }
+    Done::plain(load_ticks(prices, accesses(block, address_of(r15)), jumps, to))
 }
 
 #[tactic(auto, unfolding(crate::specs::Block::block_loads))]
@@ -266,10 +263,7 @@ fn store(
     let r15 = registers.get(Reg::R15);
     put_block(registers, bus, block, moves);
     pass(registers);
-    Done {
-        kind: Kind::Plain,
-        ticks: store_ticks(prices, accesses(block, address_of(r15))),
-    }
+    Done::plain(store_ticks(prices, accesses(block, address_of(r15))))
 }
 
 // The same, to the words from a place of RAM on.
@@ -296,10 +290,7 @@ fn store_run(
     let r15 = registers.get(Reg::R15);
     put_run(registers, bus, block, place);
     pass(registers);
-    Done {
-        kind: Kind::Plain,
-        ticks: store_ticks(prices, accesses(block, address_of(r15))),
-    }
+    Done::plain(store_ticks(prices, accesses(block, address_of(r15))))
 }
 
 // A transfer whose words do not lie on one page of RAM, or that is refused: each word is located by itself.
