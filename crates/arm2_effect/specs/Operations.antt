@@ -16,12 +16,12 @@ use Rattle.shifter.specs.declared.shifts.Shifted.{Shifted}
 use Rattle.arm2_effect.specs.declared.outcomes.Outcome.{Outcome}
 use Rattle.arm2_effect.specs.declared.exceptions.Vector.TheVariants as vector
 use Rattle.arm2_effect.specs.declared.step_end.Kind.TheVariants.{Plain}
-use Rattle.arm2_effect.specs.Modes.{r15_in, register_in, with_r15, with_register}
+use Rattle.arm2_effect.specs.Modes.{r15_in, with_r15, with_register}
 use Rattle.arm2_effect.specs.ProgramCounter.{address_of, ahead_of, flags_of, jumped_of, mode_of, psr_of}
 use Rattle.arm2_effect.specs.ProgramCounter.{psr_with, r15_ahead, r15_of, restored_of}
 use Rattle.arm2_effect.specs.Effects.{Effect, Internal, onward, straight}
 use Rattle.arm2_effect.specs.Exceptions.{taken}
-use Rattle.arm2_effect.specs.Operands.{first_of, rotated_byte, shifted_by_amount, shifted_by_register}
+use Rattle.arm2_effect.specs.Operands.{current_in, first_of, rotated_byte, shifted_by_amount, shifted_by_register}
 use Rattle.arm2_effect.specs.Outcomes.{flags_after, outcome_of}
 
 -- R15 at the next instruction, with the flags of an outcome where they are set
@@ -109,11 +109,9 @@ cycles_of number = cycles_from 15 1 number
 -- the low 32 bits of the product; C and V stay (C by our own choice)
 abbrev pub product_of : Multiply → List ℕ → Outcome
 product_of x regs =
-    let mode = mode_of (r15_in regs) in
     record {
       value =
-          (register_in mode (register_number x.rm) regs * register_in mode (register_number x.rs) regs
-          + (if x.accumulate then register_in mode (register_number x.rn) regs else 0))
+          (current_in x.rm regs * current_in x.rs regs + (if x.accumulate then current_in x.rn regs else 0))
           % 2 ^ 32;
       carry = (flags_of (r15_in regs)).carry;
       overflow = (flags_of (r15_in regs)).overflow;
@@ -121,9 +119,7 @@ product_of x regs =
 
 unfoldable pub multiply_effect : Multiply → List ℕ → Effect
 multiply_effect x regs =
-    delayed
-    (cycles_of (register_in (mode_of (r15_in regs)) (register_number x.rs) regs))
-    (entered x.sets_flags x.rd (product_of x regs) regs)
+    delayed (cycles_of (current_in x.rs regs)) (entered x.sets_flags x.rd (product_of x regs) regs)
 
 -- where a branch leads: its offset in words is signed, which makes no difference modulo 2 ^ 26
 abbrev pub target_of : Branch → ℕ → ℕ
