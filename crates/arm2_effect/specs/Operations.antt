@@ -21,7 +21,8 @@ use Rattle.arm2_effect.specs.ProgramCounter.{address_of, ahead_of, flags_of, jum
 use Rattle.arm2_effect.specs.ProgramCounter.{psr_with, r15_ahead, r15_of, restored_of}
 use Rattle.arm2_effect.specs.Effects.{Effect, Internal, onward, straight}
 use Rattle.arm2_effect.specs.Exceptions.{taken}
-use Rattle.arm2_effect.specs.Operands.{current_in, first_of, rotated_byte, shifted_by_amount, shifted_by_register}
+use Rattle.arm2_effect.specs.Operands.{current_in, first_of, rotated_byte}
+use Rattle.arm2_effect.specs.Operands.{shifted_by_amount, shifted_by_register}
 use Rattle.arm2_effect.specs.Outcomes.{flags_after, outcome_of}
 
 -- R15 at the next instruction, with the flags of an outcome where they are set
@@ -80,7 +81,8 @@ delayed cycles e = record { kind = e.kind; accesses = Internal cycles ∷ e.acce
 -- data processing with an operand; as its other operand R15 stands so many bytes ahead
 abbrev pub processed : Opcode → Bool → (rn rd : Register) → (by : ℕ) → Shifted → List ℕ → Effect
 processed opcode sets_flags rn rd by operand regs =
-    placed opcode sets_flags rd (outcome_of opcode (first_of by rn regs) operand (flags_of (r15_in regs))) regs
+    placed opcode sets_flags rd
+    (outcome_of opcode (first_of by rn regs) operand (flags_of (r15_in regs))) regs
 
 unfoldable pub data_immediate_effect : DataImmediate → List ℕ → Effect
 data_immediate_effect x regs =
