@@ -1,8 +1,8 @@
-ghost use Rattle.std.specs.Prelude.{◌≡◌, ◌<◌, ◌%◌, ◌^◌, false};
+ghost use Rattle.std.specs.Prelude.{◌≡◌, ◌<◌, ◌^◌, false};
 ghost use Rattle.arm2_effect.specs.Effects.{IsEffect, is_stopped};
 ghost use Rattle.arm2_effect.specs.Operations.{compared, data_immediate_effect, data_register_effect};
 ghost use Rattle.arm2_effect.specs.Operations.{data_register_shift_effect, entered, jumped};
-ghost use Rattle.arm2_effect.specs.Operations.{next_r15, placed, processed};
+ghost use Rattle.arm2_effect.specs.Operations.{next_r15, placed};
 ghost use Rattle.arm2_effect.specs.ProgramCounter.{psr_with};
 
 use crate::modes::Reg;
@@ -14,17 +14,13 @@ use crate::program_counter::{
 use crate::registers::Registers;
 use crate::step_end::Done;
 use arm2_decode::{DataImmediate, DataRegister, DataRegisterShift, Flags, Opcode, Register};
-use shifter::Shifted;
 
-// The fields that all forms of data processing have.
+// The fields of a data processing word that say where its outcome goes.
 #[derive(Clone, Copy)]
-struct Processing {
+struct Destination {
     opcode: Opcode,
     sets_flags: bool,
-    rn: Register,
     rd: Register,
-    // How far ahead R15 stands as `rn`, in bytes.
-    ahead: u32,
 }
 
 // The PSR with other condition flags, from 0 to 63.
@@ -54,14 +50,12 @@ fn next_r15(sets_flags: bool, outcome: Outcome, r15: u32) -> u32
     )
 }
 
-macro_rules! processing {
-    ($fields:expr, $ahead:literal) => {
-        Processing {
+macro_rules! destination {
+    ($fields:expr) => {
+        Destination {
             opcode: $fields.opcode,
             sets_flags: $fields.sets_flags,
-            rn: $fields.rn,
             rd: $fields.rd,
-            ahead: $ahead,
         }
     };
 }
@@ -126,27 +120,21 @@ impl Registers {
         Done::plain(prices.straight(address_of(r15)))
     }
 
-    // Data processing with its other operand.
     #[tactic(auto, unfolding(crate::specs::Operations::placed))]
     #[inline(always)]
-    fn process(&mut self, prices: &Prices, fields: Processing, operand: Shifted) -> Done
-        requires words { fields.ahead % 4 ≡ 0 }
-        requires small { fields.ahead < 16 }
+    fn place(&mut self, prices: &Prices, to: Destination, outcome: Outcome) -> Done
         ensures effect { IsEffect prices.now.profile prices.now.rom result self.new
-            (processed fields.opcode fields.sets_flags fields.rn fields.rd fields.ahead operand self.old) }
+            (placed to.opcode to.sets_flags to.rd outcome self.old) }
         ensures goes_on { is_stopped result.kind ≡ false }
         ensures bound { result.ticks < 2 ^ 10 }
     {
-        let flags = flags_of(self.get(Reg::R15));
-        let first = self.first(fields.rn, fields.ahead);
-        let outcome = outcome_of(fields.opcode, first, operand, flags);
-        if fields.opcode.is_compare() {
-            return self.compare(prices, fields.rd, outcome);
+        if to.opcode.is_compare() {
+            return self.compare(prices, to.rd, outcome);
         }
-        if fields.rd.is_pc() {
-            return self.jump(prices, fields.sets_flags, outcome);
+        if to.rd.is_pc() {
+            return self.jump(prices, to.sets_flags, outcome);
         }
-        self.enter(prices, fields.sets_flags, fields.rd, outcome)
+        self.enter(prices, to.sets_flags, to.rd, outcome)
     }
 
     /// Data processing with a byte that is rotated.
@@ -159,7 +147,9 @@ impl Registers {
         ensures bound { result.ticks < 2 ^ 16 }
     {
         let operand = self.rotated_byte(fields.value, fields.rotation);
-        self.process(prices, processing!(fields, 8), operand)
+        let flags = flags_of(self.get(Reg::R15));
+        let outcome = outcome_of(fields.opcode, self.first(fields.rn, 8), operand, flags);
+        self.place(prices, destination!(fields), outcome)
     }
 
     /// Data processing with a register that is shifted by an amount in the word.
@@ -172,7 +162,9 @@ impl Registers {
         ensures bound { result.ticks < 2 ^ 16 }
     {
         let operand = self.shifted_by_amount(fields.shift, fields.amount, fields.rm);
-        self.process(prices, processing!(fields, 8), operand)
+        let flags = flags_of(self.get(Reg::R15));
+        let outcome = outcome_of(fields.opcode, self.first(fields.rn, 8), operand, flags);
+        self.place(prices, destination!(fields), outcome)
     }
 
     /// Data processing with a register that is shifted by another.
@@ -189,7 +181,9 @@ impl Registers {
         ensures bound { result.ticks < 2 ^ 16 }
     {
         let operand = self.shifted_by_register(fields.shift, fields.rs, fields.rm);
-        let done = self.process(prices, processing!(fields, 12), operand);
+        let flags = flags_of(self.get(Reg::R15));
+        let outcome = outcome_of(fields.opcode, self.first(fields.rn, 12), operand, flags);
+        let done = self.place(prices, destination!(fields), outcome);
         done.delayed(prices.internal(1))
     }
 }
