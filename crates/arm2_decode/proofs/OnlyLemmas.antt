@@ -1,5 +1,5 @@
 -- A word means one instruction at most, and an instruction has one word.
-use Rattle.std.proofs.Common.{ℕ, ◌^◌, ◌<◌, ◌≡◌, refl, ap, sym, subst, ◌∙◌, arith, List, [], ◌∷◌, map, Result, Ok, Err}
+use Rattle.std.proofs.Common.{ℕ, ◌^◌, ◌<◌, ◌≡◌, refl, ap, sym, ◌∙◌, arith, List, [], ◌∷◌, map, Result, Ok, Err}
 use Rattle.std.specs.Prelude.{slice_index, slice_index_or}
 use Rattle.std.specs.Int.Bits.{bit_and}
 use Rattle.arm2_decode.specs.declared.instr.Instr.{Instr}
@@ -8,16 +8,12 @@ use Rattle.arm2_decode.specs.declared.instr.Operation.{Operation}
 use Rattle.arm2_decode.specs.declared.instr.Operation.TheVariants.{Multiply, DataRegister, DataRegisterShift, DataImmediate, SingleImmediate, SingleRegister, Block, Branch, Swi, UndefinedTransfer, CoprocessorTransfer, Coprocessor}
 use Rattle.arm2_decode.specs.Names.{cond_number}
 use Rattle.arm2_decode.specs.Allowed.{block_clash, data_clash, data_shift_clash, multiply_clash, single_clash, single_register_clash}
-use Rattle.arm2_decode.specs.Table.{Row, row_of, operands, place_of, IsOfRow, Means, why_of, Decodes, multiply_row, data_register_row, data_register_shift_row, data_immediate_row, single_immediate_row, single_register_row, block_row, branch_row, swi_row, undefined_transfer_row, coprocessor_transfer_row, coprocessor_row, word_in}
+use Rattle.arm2_decode.specs.Table.{Row, row_of, operands, place_of, IsOfRow, Means, bars, why_from, why_of, Decodes, multiply_row, data_register_row, data_register_shift_row, data_immediate_row, single_immediate_row, single_register_row, block_row, branch_row, swi_row, undefined_transfer_row, coprocessor_transfer_row, coprocessor_row, word_in}
 use Rattle.arm2_decode.proofs.NameLemmas.{same_cond}
 use Rattle.arm2_decode.proofs.FieldLemmas.{mask_kind, mask_wide, mask_multiply, mask_four, mask_seven_four}
-use Rattle.arm2_decode.proofs.PatternLemmas.{agrees, first_fit, first_fit_at}
+use Rattle.arm2_decode.proofs.PatternLemmas.{agrees, bars_of, first_fit, first_fit_at, why_among}
 use Rattle.arm2_decode.proofs.SameLemmas.{row_number, same_operation}
-use Rattle.arm2_decode.proofs.RowLemmas.{multiply_why, data_register_why, data_register_shift_why, data_immediate_why, single_immediate_why, single_register_why, block_why, branch_why, swi_why, undefined_transfer_why, coprocessor_transfer_why, coprocessor_why}
-
--- an instruction's cond and operation by themselves
-pub means_at : (w : ℕ) (i : Instr) (o : Operation) → i.operation ≡ o → Means w (record { cond = i.cond; operation = o }) → Means w i
-means_at w i o e h = subst (λ x. Means w (record { cond = i.cond; operation = x })) (sym e) h
+use Rattle.arm2_decode.proofs.RowLemmas.{multiply_why, data_register_why, data_register_shift_why, data_immediate_why, single_immediate_why, single_register_why, block_why}
 
 rows : List Row
 rows =
@@ -38,33 +34,13 @@ rows =
 row_at : (o : Operation) (d : Row) → row_of o ≡ slice_index_or rows (row_number o) d
 unfolding rows
 row_at (Multiply x) d = refl
-row_at (DataRegister x) d = refl
-row_at (DataRegisterShift x) d = refl
-row_at (DataImmediate x) d = refl
-row_at (SingleImmediate x) d = refl
-row_at (SingleRegister x) d = refl
-row_at (Block x) d = refl
-row_at (Branch x) d = refl
-row_at (Swi x) d = refl
-row_at (UndefinedTransfer x) d = refl
-row_at (CoprocessorTransfer x) d = refl
-row_at (Coprocessor x) d = refl
+row_at _ d = refl
 
 -- a word is of one row
 one_row : (w : ℕ) (o : Operation) → bit_and w (row_of o).mask ≡ (row_of o).fixed → first_fit rows w ≡ row_number o
 unfolding rows agrees
 one_row w (Multiply x) h = first_fit_at multiply_row w h rows 0 (omega arith) refl refl
-one_row w (DataRegister x) h = first_fit_at data_register_row w h rows 1 (omega arith) refl refl
-one_row w (DataRegisterShift x) h = first_fit_at data_register_shift_row w h rows 2 (omega arith) refl refl
-one_row w (DataImmediate x) h = first_fit_at data_immediate_row w h rows 3 (omega arith) refl refl
-one_row w (SingleImmediate x) h = first_fit_at single_immediate_row w h rows 4 (omega arith) refl refl
-one_row w (SingleRegister x) h = first_fit_at single_register_row w h rows 5 (omega arith) refl refl
-one_row w (Block x) h = first_fit_at block_row w h rows 6 (omega arith) refl refl
-one_row w (Branch x) h = first_fit_at branch_row w h rows 7 (omega arith) refl refl
-one_row w (Swi x) h = first_fit_at swi_row w h rows 8 (omega arith) refl refl
-one_row w (UndefinedTransfer x) h = first_fit_at undefined_transfer_row w h rows 9 (omega arith) refl refl
-one_row w (CoprocessorTransfer x) h = first_fit_at coprocessor_transfer_row w h rows 10 (omega arith) refl refl
-one_row w (Coprocessor x) h = first_fit_at coprocessor_row w h rows 11 (omega arith) refl refl
+one_row w o h = first_fit_at (row_of o) w h rows (row_number o) (omega arith) refl refl
 
 same_parts : (i j : Instr) → i.cond ≡ j.cond → i.operation ≡ j.operation → i ≡ j
 same_parts i j p q = λ t. record { cond = p t; operation = q t }
@@ -76,8 +52,9 @@ one_meaning w i j h m =
     let fields : cond_number i.cond ∷ operands i.operation ≡ cond_number j.cond ∷ operands j.operation = sym h.fields ∙ ap (λ r. map (place_of w) r.places) same ∙ m.fields in
     same_parts i j (same_cond i.cond j.cond (cc)) (same_operation i.operation j.operation row (cc))
 
--- no bar is met by a word that means an operation
+-- no bar is met by a word that means an operation: the last six have no bars
 pub allowed : (w c : ℕ) (o : Operation) → IsOfRow (row_of o) w (c ∷ operands o) → why_of w ≡ 0
+unfolding agrees bars_of why_from
 allowed w c (Multiply x) h = multiply_why w h.fixed ∙ ap (λ fields. multiply_clash (slice_index fields 1) (slice_index fields 3) (slice_index fields 4) (slice_index fields 5) (slice_index fields 6)) h.fields ∙ x.allocated
 allowed w c (DataRegister x) h = data_register_why w h.fixed ∙ ap (λ fields. data_clash (slice_index fields 1) (slice_index fields 2)) h.fields ∙ x.allocated
 allowed w c (DataRegisterShift x) h = data_register_shift_why w h.fixed ∙ ap (λ fields. data_shift_clash (slice_index fields 1) (slice_index fields 2) (slice_index fields 5)) h.fields ∙ x.allocated
@@ -85,11 +62,7 @@ allowed w c (DataImmediate x) h = data_immediate_why w h.fixed ∙ ap (λ fields
 allowed w c (SingleImmediate x) h = single_immediate_why w h.fixed ∙ ap (λ fields. single_clash (slice_index fields 1) (slice_index fields 3) (slice_index fields 4) (slice_index fields 5) (slice_index fields 6) (slice_index fields 7)) h.fields ∙ x.allocated
 allowed w c (SingleRegister x) h = single_register_why w h.fixed ∙ ap (λ fields. single_register_clash (slice_index fields 1) (slice_index fields 3) (slice_index fields 4) (slice_index fields 5) (slice_index fields 6) (slice_index fields 7) (slice_index fields 10)) h.fields ∙ x.allocated
 allowed w c (Block x) h = block_why w h.fixed ∙ ap (λ fields. block_clash (slice_index fields 6) (slice_index fields 7)) h.fields ∙ x.allocated
-allowed w c (Branch x) h = branch_why w h.fixed
-allowed w c (Swi x) h = swi_why w h.fixed
-allowed w c (UndefinedTransfer x) h = undefined_transfer_why w h.fixed
-allowed w c (CoprocessorTransfer x) h = coprocessor_transfer_why w h.fixed
-allowed w c (Coprocessor x) h = coprocessor_why w h.fixed
+allowed w c o h = why_among (row_of o) w h.fixed bars
 
 pub decode_only : (w : ℕ) (i : Instr) (r : Result Instr Unallocated) → Decodes w r → Means w i → r ≡ Ok i
 decode_only w i (Ok j) h m = ap Ok (one_meaning w j i h m)

@@ -16,6 +16,35 @@ use crate::instr::{
 };
 use crate::names::{Cond, Opcode, Register, Shift};
 
+// Data processing of a form: the fields that all forms have, and then its own.
+macro_rules! data {
+    ($form:ident, $word:ident, $opcode:ident, $sets_flags:ident; $($field:ident: $value:expr),+ $(,)?) => {
+        $form {
+            opcode: Opcode::of($opcode),
+            sets_flags: $sets_flags,
+            rn: Register::of(Field::<19, 16>::get($word)),
+            rd: Register::of(Field::<15, 12>::get($word)),
+            $($field: $value,)+
+        }
+    };
+}
+
+// A single transfer of a form: the fields that both forms have, and then its own.
+macro_rules! single {
+    ($form:ident, $word:ident, $single:ident; $($field:ident: $value:expr),+ $(,)?) => {
+        $form {
+            before: $single.before,
+            up: Field::<23, 23>::is_set($word),
+            byte: $single.byte,
+            write_back: $single.write_back,
+            load: $single.load,
+            rn: Register::of($single.rn),
+            rd: Register::of($single.rd),
+            $($field: $value,)+
+        }
+    };
+}
+
 #[tactic(auto, using(crate::proofs::RowLemmas::multiply_words))]
 fn multiply(word: u32) -> Result<Operation, u32>
     requires first { bits 27 22 word ≡ 0 }
@@ -54,15 +83,11 @@ fn data_register(word: u32) -> Result<Operation, u32>
     if why != 0 {
         return Err(why);
     }
-    let fields = DataRegister {
-        opcode: Opcode::of(opcode),
-        sets_flags,
-        rn: Register::of(Field::<19, 16>::get(word)),
-        rd: Register::of(Field::<15, 12>::get(word)),
+    let fields = data!(DataRegister, word, opcode, sets_flags;
         amount: Field::<11, 7>::get(word),
         shift: Shift::of(Field::<6, 5>::get(word)),
         rm: Register::of(Field::<3, 0>::get(word)),
-    };
+    );
     Ok(Operation::DataRegister(fields))
 }
 
@@ -80,15 +105,11 @@ fn data_register_shift(word: u32) -> Result<Operation, u32>
     if why != 0 {
         return Err(why);
     }
-    let fields = DataRegisterShift {
-        opcode: Opcode::of(opcode),
-        sets_flags,
-        rn: Register::of(Field::<19, 16>::get(word)),
-        rd: Register::of(Field::<15, 12>::get(word)),
+    let fields = data!(DataRegisterShift, word, opcode, sets_flags;
         rs: Register::of(rs),
         shift: Shift::of(Field::<6, 5>::get(word)),
         rm: Register::of(Field::<3, 0>::get(word)),
-    };
+    );
     Ok(Operation::DataRegisterShift(fields))
 }
 
@@ -103,14 +124,10 @@ fn data_immediate(word: u32) -> Result<Operation, u32>
     if why != 0 {
         return Err(why);
     }
-    let fields = DataImmediate {
-        opcode: Opcode::of(opcode),
-        sets_flags,
-        rn: Register::of(Field::<19, 16>::get(word)),
-        rd: Register::of(Field::<15, 12>::get(word)),
+    let fields = data!(DataImmediate, word, opcode, sets_flags;
         rotation: Field::<11, 8>::get(word),
         value: Field::<7, 0>::get(word),
-    };
+    );
     Ok(Operation::DataImmediate(fields))
 }
 
@@ -142,16 +159,9 @@ fn single_immediate(word: u32) -> Result<Operation, u32>
     if why != 0 {
         return Err(why);
     }
-    let fields = SingleImmediate {
-        before: single.before,
-        up: Field::<23, 23>::is_set(word),
-        byte: single.byte,
-        write_back: single.write_back,
-        load: single.load,
-        rn: Register::of(single.rn),
-        rd: Register::of(single.rd),
+    let fields = single!(SingleImmediate, word, single;
         offset: Field::<11, 0>::get(word),
-    };
+    );
     Ok(Operation::SingleImmediate(fields))
 }
 
@@ -167,18 +177,11 @@ fn single_register(word: u32) -> Result<Operation, u32>
     if why != 0 {
         return Err(why);
     }
-    let fields = SingleRegister {
-        before: single.before,
-        up: Field::<23, 23>::is_set(word),
-        byte: single.byte,
-        write_back: single.write_back,
-        load: single.load,
-        rn: Register::of(single.rn),
-        rd: Register::of(single.rd),
+    let fields = single!(SingleRegister, word, single;
         amount: Field::<11, 7>::get(word),
         shift: Shift::of(Field::<6, 5>::get(word)),
         rm: Register::of(rm),
-    };
+    );
     Ok(Operation::SingleRegister(fields))
 }
 
@@ -205,7 +208,7 @@ fn block(word: u32) -> Result<Operation, u32>
     Ok(Operation::Block(fields))
 }
 
-#[tactic(auto, using(crate::proofs::RowLemmas::branch_words))]
+#[tactic(auto, using(crate::proofs::RowLemmas::branch_fits))]
 fn branch(word: u32) -> Result<Operation, u32>
     requires { bits 27 25 word ≡ 5 }
     ensures { Reads word result }
@@ -217,7 +220,7 @@ fn branch(word: u32) -> Result<Operation, u32>
     Ok(Operation::Branch(fields))
 }
 
-#[tactic(auto, using(crate::proofs::RowLemmas::swi_words))]
+#[tactic(auto, using(crate::proofs::RowLemmas::swi_fits))]
 fn swi(word: u32) -> Result<Operation, u32>
     requires { bits 27 24 word ≡ 15 }
     ensures { Reads word result }
@@ -228,7 +231,7 @@ fn swi(word: u32) -> Result<Operation, u32>
     Ok(Operation::Swi(fields))
 }
 
-#[tactic(auto, using(crate::proofs::RowLemmas::undefined_transfer_words))]
+#[tactic(auto, using(crate::proofs::RowLemmas::undefined_transfer_fits))]
 fn undefined_transfer(word: u32) -> Result<Operation, u32>
     requires first { bits 27 25 word ≡ 3 }
     requires second { bits 4 4 word ≡ 1 }
@@ -241,7 +244,7 @@ fn undefined_transfer(word: u32) -> Result<Operation, u32>
     Ok(Operation::UndefinedTransfer(fields))
 }
 
-#[tactic(auto, using(crate::proofs::RowLemmas::coprocessor_transfer_words))]
+#[tactic(auto, using(crate::proofs::RowLemmas::coprocessor_transfer_fits))]
 fn coprocessor_transfer(word: u32) -> Result<Operation, u32>
     requires { bits 27 25 word ≡ 6 }
     ensures { Reads word result }
@@ -252,7 +255,7 @@ fn coprocessor_transfer(word: u32) -> Result<Operation, u32>
     Ok(Operation::CoprocessorTransfer(fields))
 }
 
-#[tactic(auto, using(crate::proofs::RowLemmas::coprocessor_words))]
+#[tactic(auto, using(crate::proofs::RowLemmas::coprocessor_fits))]
 fn coprocessor(word: u32) -> Result<Operation, u32>
     requires { bits 27 24 word ≡ 14 }
     ensures { Reads word result }

@@ -12,15 +12,17 @@ use Rattle.arm2_decode.specs.declared.instr.DataRegisterShift.{DataRegisterShift
 use Rattle.arm2_decode.specs.declared.instr.DataImmediate.{DataImmediate}
 use Rattle.arm2_decode.specs.declared.instr.Multiply.{Multiply}
 use Rattle.arm2_decode.specs.declared.instr.Branch.{Branch}
+use Rattle.shifter.specs.declared.shifts.Shifted.{Shifted}
 use Rattle.arm2_effect.specs.declared.outcomes.Outcome.{Outcome}
 use Rattle.arm2_effect.specs.declared.exceptions.Vector.TheVariants as vector
 use Rattle.arm2_effect.specs.declared.step_end.Kind.TheVariants.{Plain}
-use Rattle.arm2_effect.specs.Modes.{r15_in, register_in, with_r15, with_register}
+use Rattle.arm2_effect.specs.Modes.{r15_in, with_r15, with_register}
 use Rattle.arm2_effect.specs.ProgramCounter.{address_of, ahead_of, flags_of, jumped_of, mode_of, psr_of}
 use Rattle.arm2_effect.specs.ProgramCounter.{psr_with, r15_ahead, r15_of, restored_of}
 use Rattle.arm2_effect.specs.Effects.{Effect, Internal, onward, straight}
 use Rattle.arm2_effect.specs.Exceptions.{taken}
-use Rattle.arm2_effect.specs.Operands.{first_of, rotated_byte, shifted_by_amount, shifted_by_register}
+use Rattle.arm2_effect.specs.Operands.{current_in, first_of, rotated_byte}
+use Rattle.arm2_effect.specs.Operands.{shifted_by_amount, shifted_by_register}
 use Rattle.arm2_effect.specs.Outcomes.{flags_after, outcome_of}
 
 -- R15 at the next instruction, with the flags of an outcome where they are set
@@ -76,39 +78,25 @@ placed opcode sets_flags rd out regs =
 abbrev pub delayed : ℕ → Effect → Effect
 delayed cycles e = record { kind = e.kind; accesses = Internal cycles ∷ e.accesses; regs = e.regs }
 
+-- data processing with an operand; as its other operand R15 stands so many bytes ahead
+abbrev pub processed : Opcode → Bool → (rn rd : Register) → (by : ℕ) → Shifted → List ℕ → Effect
+processed opcode sets_flags rn rd by operand regs =
+    placed opcode sets_flags rd
+    (outcome_of opcode (first_of by rn regs) operand (flags_of (r15_in regs))) regs
+
 unfoldable pub data_immediate_effect : DataImmediate → List ℕ → Effect
 data_immediate_effect x regs =
-    placed
-    x.opcode
-    x.sets_flags
-    x.rd
-    (outcome_of x.opcode (first_of 8 x.rn regs) (rotated_byte x.value x.rotation regs)
-    (flags_of (r15_in regs)))
-    regs
+    processed x.opcode x.sets_flags x.rn x.rd 8 (rotated_byte x.value x.rotation regs) regs
 
 unfoldable pub data_register_effect : DataRegister → List ℕ → Effect
 data_register_effect x regs =
-    placed
-    x.opcode
-    x.sets_flags
-    x.rd
-    (outcome_of x.opcode (first_of 8 x.rn regs)
-    (shifted_by_amount x.shift x.amount x.rm regs) (flags_of (r15_in regs)))
-    regs
+    processed x.opcode x.sets_flags x.rn x.rd 8 (shifted_by_amount x.shift x.amount x.rm regs) regs
 
 -- with the amount in a register: one internal cycle more, so the program counter is a word further on
 unfoldable pub data_register_shift_effect : DataRegisterShift → List ℕ → Effect
 data_register_shift_effect x regs =
-    delayed
-    1
-    (placed
-    x.opcode
-    x.sets_flags
-    x.rd
-    (outcome_of x.opcode (first_of 12 x.rn regs)
-    (shifted_by_register x.shift x.rs x.rm regs)
-    (flags_of (r15_in regs)))
-    regs)
+    delayed 1
+    (processed x.opcode x.sets_flags x.rn x.rd 12 (shifted_by_register x.shift x.rs x.rm regs) regs)
 
 -- the least m from the given one on with number < 2 ^ (2 * m - 1), or the last one
 unfoldable pub cycles_from : ℕ → ℕ → ℕ → ℕ
@@ -123,11 +111,9 @@ cycles_of number = cycles_from 15 1 number
 -- the low 32 bits of the product; C and V stay (C by our own choice)
 abbrev pub product_of : Multiply → List ℕ → Outcome
 product_of x regs =
-    let mode = mode_of (r15_in regs) in
     record {
       value =
-          (register_in mode (register_number x.rm) regs * register_in mode (register_number x.rs) regs
-          + (if x.accumulate then register_in mode (register_number x.rn) regs else 0))
+          (current_in x.rm regs * current_in x.rs regs + (if x.accumulate then current_in x.rn regs else 0))
           % 2 ^ 32;
       carry = (flags_of (r15_in regs)).carry;
       overflow = (flags_of (r15_in regs)).overflow;
@@ -135,9 +121,7 @@ product_of x regs =
 
 unfoldable pub multiply_effect : Multiply → List ℕ → Effect
 multiply_effect x regs =
-    delayed
-    (cycles_of (register_in (mode_of (r15_in regs)) (register_number x.rs) regs))
-    (entered x.sets_flags x.rd (product_of x regs) regs)
+    delayed (cycles_of (current_in x.rs regs)) (entered x.sets_flags x.rd (product_of x regs) regs)
 
 -- where a branch leads: its offset in words is signed, which makes no difference modulo 2 ^ 26
 abbrev pub target_of : Branch → ℕ → ℕ

@@ -12,7 +12,7 @@ use crate::program_counter::{
     address_of, ahead, flags_of, jumped, mode_of, psr_of, r15_of, restored,
 };
 use crate::registers::Registers;
-use crate::step_end::{Done, Kind};
+use crate::step_end::Done;
 use arm2_decode::{DataImmediate, DataRegister, DataRegisterShift, Flags, Opcode, Register};
 
 // The fields of a data processing word that say where its outcome goes.
@@ -79,10 +79,7 @@ impl Registers {
         let r15 = self.get(Reg::R15);
         self.write(mode_of(r15), rd, outcome.value);
         self.set(Reg::R15, next_r15(sets_flags, outcome, r15));
-        Done {
-            kind: Kind::Plain,
-            ticks: prices.straight(address_of(r15)),
-        }
+        Done::plain(prices.straight(address_of(r15)))
     }
 
     #[tactic(auto, unfolding(crate::specs::Operations::jumped))]
@@ -100,10 +97,7 @@ impl Registers {
         } else {
             self.set(Reg::R15, jumped(r15, outcome.value));
         }
-        Done {
-            kind: Kind::Plain,
-            ticks: prices.onward(address_of(r15), to),
-        }
+        Done::plain(prices.onward(address_of(r15), to))
     }
 
     #[tactic(auto, unfolding(crate::specs::Operations::compared))]
@@ -123,10 +117,7 @@ impl Registers {
         } else {
             self.set(Reg::R15, next_r15(true, outcome, r15));
         }
-        Done {
-            kind: Kind::Plain,
-            ticks: prices.straight(address_of(r15)),
-        }
+        Done::plain(prices.straight(address_of(r15)))
     }
 
     #[tactic(auto, unfolding(crate::specs::Operations::placed))]
@@ -193,9 +184,6 @@ impl Registers {
         let flags = flags_of(self.get(Reg::R15));
         let outcome = outcome_of(fields.opcode, self.first(fields.rn, 12), operand, flags);
         let done = self.place(prices, destination!(fields), outcome);
-        Done {
-            kind: done.kind,
-            ticks: prices.internal(1) + done.ticks,
-        }
+        done.delayed(prices.internal(1))
     }
 }

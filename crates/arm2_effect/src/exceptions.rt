@@ -109,9 +109,6 @@ impl Registers {
     {
         let r15 = self.get(Reg::R15);
         self.set(Reg::R15, advanced(r15, 4));
-        Done {
-            kind: Kind::Plain,
-            ticks: prices.straight(address_of(r15)),
-        }
+        Done::plain(prices.straight(address_of(r15)))
     }
 }

@@ -12,7 +12,7 @@ use crate::outcomes::Outcome;
 use crate::prices::Prices;
 use crate::program_counter::{address_of, advanced, ahead, flags_of, mode_of, psr_of, r15_of};
 use crate::registers::Registers;
-use crate::step_end::{Done, Kind};
+use crate::step_end::Done;
 use arm2_decode::{Branch, Cond, Multiply, Operation, Register, holds};
 use shifter::multiply_cycles;
 
@@ -57,10 +57,7 @@ impl Registers {
         let multiplier = self.read(mode_of(self.get(Reg::R15)), multiply.rs);
         let outcome = self.product(multiply);
         let done = self.enter(prices, multiply.sets_flags, multiply.rd, outcome);
-        Done {
-            kind: done.kind,
-            ticks: prices.internal(cycles(multiplier)) + done.ticks,
-        }
+        done.delayed(prices.internal(cycles(multiplier)))
     }
 
     /// B and BL.
@@ -78,10 +75,7 @@ impl Registers {
             self.write(mode_of(r15), Register::R14, advanced(r15, 4));
         }
         self.set(Reg::R15, r15_of(psr_of(r15), to, mode_of(r15)));
-        Done {
-            kind: Kind::Plain,
-            ticks: prices.onward(address_of(r15), to),
-        }
+        Done::plain(prices.onward(address_of(r15), to))
     }
 
     /// Whether an instruction of the condition is carried out, by the flags in R15.

@@ -1,4 +1,4 @@
-ghost use Rattle.std.specs.Prelude.{◌≡◌};
+ghost use Rattle.std.specs.Prelude.{◌≡◌, ◌+◌, ◌<◌, ◌^◌};
 ghost use Rattle.arm2_effect.specs.Effects.{stopped_answer};
 
 use crate::exceptions::Vector;
@@ -32,6 +32,31 @@ pub struct Done {
 }
 
 impl Done {
+    /// The answer of a step that does an instruction or passes it over, in so many ticks.
+    #[inline(always)]
+    pub fn plain(ticks: u32) -> Self
+        ensures kind { result.kind ≡ Kind.Plain }
+        ensures ticks { result.ticks ≡ ticks }
+    {
+        Done {
+            kind: Kind::Plain,
+            ticks,
+        }
+    }
+
+    /// The same answer, so many ticks later.
+    #[inline(always)]
+    pub(crate) fn delayed(self, ticks: u32) -> Self
+        requires { ticks + self.ticks < 2 ^ 32 }
+        ensures kind { result.kind ≡ self.kind }
+        ensures ticks { result.ticks ≡ ticks + self.ticks }
+    {
+        Done {
+            kind: self.kind,
+            ticks: ticks + self.ticks,
+        }
+    }
+
     /// The answer of a step that stops: no time passes.
     pub fn stopped(why: Why) -> Self
         ensures { result ≡ stopped_answer why }

@@ -2,14 +2,14 @@
 use Rattle.std.proofs.Common.{◌≡◌, ◌≢◌, ℕ, ◌<◌, ◌==◌, Bool, true, false, not, ◌&&◌, cond, List, [], ◌∷◌, length, refl, sym, ◌∙◌, ap, arith, inl, inr}
 use Rattle.std.specs.Prelude.{slice_index, slice_set, filter}
 use Rattle.std.specs.List.{list_any}
-use Rattle.std.proofs.lemmas.Bool.{and_parts, cases_Bool, cases_eq, cond-false, cond-true, eq-eqb, eqb-true, eqb-false, ne_eqb, not-true, or_from, or_parts}
+use Rattle.std.proofs.lemmas.Bool.{and_parts, cases_Bool, cond-false, cond-true, eq-eqb, eqb-true, eqb-false, ne_eqb, not-true, or_from, or_parts}
 use Rattle.std.proofs.lemmas.Bool.Decides.{nat_tests}
 use Rattle.std.proofs.lemmas.List.{get_or-set_same, get_or-set_other, length-set}
 use Rattle.arm2_decode.specs.declared.names.Register.{Register}
-use Rattle.arm2_decode.specs.declared.names.Register.TheVariants.{R0, R1, R2, R3, R4, R5, R6, R7, R8, R9, R10, R11, R12, R13, R14, R15}
 use Rattle.arm2_decode.specs.Names.{is_pc, register_number}
+use Rattle.arm2_decode.proofs.NameLemmas.{register_fits}
 use Rattle.arm2_effect.specs.declared.modes.Mode.{Mode}
-use Rattle.arm2_effect.specs.declared.modes.Mode.TheVariants.{User, Fiq, Irq, Svc}
+use Rattle.arm2_effect.specs.declared.modes.Mode.TheVariants.{User}
 use Rattle.arm2_effect.specs.Modes.{r15_in, slot_of, with_r15}
 use Rattle.arm2_effect.specs.ProgramCounter.{r15_ahead}
 use Rattle.arm2_transfer.specs.Words.{all_registers}
@@ -18,46 +18,19 @@ use Rattle.arm2_transfer.specs.Registers.{given, loaded_r15, passed, with_base, 
 -- ## Where a register stands
 
 pub below_15 : (r : Register) → register_number r ≢ 15 → register_number r < 15
-below_15 R0 h = omega arith
-below_15 R1 h = omega arith
-below_15 R2 h = omega arith
-below_15 R3 h = omega arith
-below_15 R4 h = omega arith
-below_15 R5 h = omega arith
-below_15 R6 h = omega arith
-below_15 R7 h = omega arith
-below_15 R8 h = omega arith
-below_15 R9 h = omega arith
-below_15 R10 h = omega arith
-below_15 R11 h = omega arith
-below_15 R12 h = omega arith
-below_15 R13 h = omega arith
-below_15 R14 h = omega arith
-below_15 R15 h = absurd (h refl)
-
-number_below : (r : Register) → register_number r < 16
-number_below r = elim (cases_eq (register_number r) 15) [
-  | inl last ↦ omega (arith, last)
-  | inr other ↦ omega (arith, below_15 r other)
-]
+below_15 r h = omega (arith, register_fits r, h)
 
 pub slot_below : (mode : Mode) (n : ℕ) → n < 15 → slot_of mode n < 26
 slot_below User n h = grind (arith, nat_tests)
-slot_below Fiq n h = grind (arith, nat_tests)
-slot_below Irq n h = grind (arith, nat_tests)
-slot_below Svc n h = grind (arith, nat_tests)
+slot_below _ n h = grind (arith, nat_tests)
 
 slot_same : (mode : Mode) (a b : ℕ) → a < 16 → b < 15 → slot_of mode a ≡ slot_of mode b → a ≡ b
 slot_same User a b f h e = grind (arith, nat_tests)
-slot_same Fiq a b f h e = grind (arith, nat_tests)
-slot_same Irq a b f h e = grind (arith, nat_tests)
-slot_same Svc a b f h e = grind (arith, nat_tests)
+slot_same _ a b f h e = grind (arith, nat_tests)
 
 pub slot_of_r15 : (mode : Mode) → slot_of mode 15 ≡ 26
 slot_of_r15 User = refl
-slot_of_r15 Fiq = refl
-slot_of_r15 Irq = refl
-slot_of_r15 Svc = refl
+slot_of_r15 _ = refl
 
 -- the place of a mode's register, and whether a register stands at a place
 abbrev pub place : Mode → Register → ℕ
@@ -80,7 +53,7 @@ pub other_stands : (mode : Mode) (r rn : Register) → register_number rn ≢ 15
     → (register_number r == register_number rn) ≡ false → stands_at mode (place mode rn) r ≡ false
 other_stands mode r rn base other =
     ne_eqb (place mode r) (place mode rn) (λ e. eqb-false (register_number r) (register_number rn) other
-    (slot_same mode (register_number r) (register_number rn) (number_below r) (below_15 rn base) e))
+    (slot_same mode (register_number r) (register_number rn) (register_fits r) (below_15 rn base) e))
 
 no_r15 : (mode : Mode) (s : ℕ) (r : Register) → s < 26 → stands_at mode s r ≡ true → is_pc r ≡ false
 no_r15 mode s r low here = elim (cases_Bool (is_pc r)) [
@@ -196,9 +169,7 @@ apart_from mode (r ∷ rest) all =
 all_apart : (mode : Mode) → are_apart mode all_registers ≡ true
 unfolding all_registers
 all_apart User = refl
-all_apart Fiq = refl
-all_apart Irq = refl
-all_apart Svc = refl
+all_apart _ = refl
 
 none_chosen : (test : Register → Bool) (x : Register) (xs : List Register) (kept : Bool)
     → test x ≡ false → list_any test xs ≡ false → list_any test (cond kept (x ∷ xs) xs) ≡ false

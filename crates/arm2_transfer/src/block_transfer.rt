@@ -80,6 +80,8 @@ fn load_all(registers: &mut Registers, bus: &Bus, port: u32, loading: Loading, m
 struct PlacedBlock {
     transfer: Block,
     span: Span,
+    ghost some: { 1 ≤ span.words },
+    ghost few: { span.words ≤ 16 },
 }
 
 // The accesses of the instruction at an address.
@@ -180,9 +182,7 @@ fn begin_load(registers: &mut Registers, block: PlacedBlock) -> Loading
 // What a load answers once its words are in the registers; R15 was `r15` before it.
 #[inline(always)]
 fn end_load(registers: &Registers, prices: &Prices, block: PlacedBlock, r15: u32) -> Done
-    requires below { block.span.lowest < 2 ^ 26 }
-    requires some { 1 ≤ block.span.words }
-    requires few { block.span.words ≤ 16 }
+    requires { block.span.lowest < 2 ^ 26 }
     ensures kind { result.kind ≡ Kind.Plain }
     ensures ticks { result.ticks
         ≡ ticks_of prices.now.profile prices.now.rom
@@ -193,10 +193,7 @@ fn end_load(registers: &Registers, prices: &Prices, block: PlacedBlock, r15: u32
 {
     let to = address_of(registers.get(Reg::R15));
     let jumps = is_listed(block.transfer.list, Register::R15);
-    Done {
-        kind: Kind::Plain,
-        ticks: load_ticks(prices, accesses(block, address_of(r15)), jumps, to),
-    }
+    Done::plain(load_ticks(prices, accesses(block, address_of(r15)), jumps, to))
 }
 
 #[tactic(auto, unfolding(crate::specs::Block::block_loads))]
@@ -209,8 +206,6 @@ fn load(
 ) -> Done
     requires fit { AllFit bus.now.memc.shift moves.now }
     requires below { block.span.lowest < 2 ^ 26 }
-    requires some { 1 ≤ block.span.words }
-    requires few { block.span.words ≤ 16 }
     ensures moved { IsMoved inputs.now.prices.profile inputs.now.prices.rom result registers.new bus.now
         (block_loads block.transfer block.span inputs.now.port moves.now registers.old bus.now) }
     ensures bound { result.ticks < 2 ^ 16 }
@@ -233,8 +228,6 @@ fn load_run(
     requires fit { place + 4 * length (registers_in block.transfer.list) ≤ 128 * 2 ^ bus.now.memc.shift }
     requires room { place + 4 * length (registers_in block.transfer.list) ≤ 2 ^ 22 }
     requires below { block.span.lowest < 2 ^ 26 }
-    requires some { 1 ≤ block.span.words }
-    requires few { block.span.words ≤ 16 }
     ensures moved { IsMoved inputs.now.prices.profile inputs.now.prices.rom result registers.new bus.now
         (block_loads block.transfer block.span inputs.now.port
         (moves_along place (registers_in block.transfer.list)) registers.old bus.now) }
@@ -256,8 +249,6 @@ fn store(
 ) -> Done
     requires fit { AllFit bus.old.memc.shift moves.now }
     requires below { block.span.lowest < 2 ^ 26 }
-    requires some { 1 ≤ block.span.words }
-    requires few { block.span.words ≤ 16 }
     ensures moved { IsMoved prices.now.profile prices.now.rom result registers.new bus.new
         (block_stores block.transfer block.span moves.now registers.old bus.old) }
     ensures bound { result.ticks < 2 ^ 16 }
@@ -266,10 +257,7 @@ fn store(
     let r15 = registers.get(Reg::R15);
     put_block(registers, bus, block, moves);
     pass(registers);
-    Done {
-        kind: Kind::Plain,
-        ticks: store_ticks(prices, accesses(block, address_of(r15))),
-    }
+    Done::plain(store_ticks(prices, accesses(block, address_of(r15))))
 }
 
 // The same, to the words from a place of RAM on.
@@ -285,8 +273,6 @@ fn store_run(
     requires fit { place + 4 * length (registers_in block.transfer.list) ≤ 128 * 2 ^ bus.old.memc.shift }
     requires room { place + 4 * length (registers_in block.transfer.list) ≤ 2 ^ 22 }
     requires below { block.span.lowest < 2 ^ 26 }
-    requires some { 1 ≤ block.span.words }
-    requires few { block.span.words ≤ 16 }
     ensures moved { IsMoved prices.now.profile prices.now.rom result registers.new bus.new
         (block_stores block.transfer block.span
         (moves_along place (registers_in block.transfer.list)) registers.old bus.old) }
@@ -296,10 +282,7 @@ fn store_run(
     let r15 = registers.get(Reg::R15);
     put_run(registers, bus, block, place);
     pass(registers);
-    Done {
-        kind: Kind::Plain,
-        ticks: store_ticks(prices, accesses(block, address_of(r15))),
-    }
+    Done::plain(store_ticks(prices, accesses(block, address_of(r15))))
 }
 
 // A transfer whose words do not lie on one page of RAM, or that is refused: each word is located by itself.
@@ -311,9 +294,7 @@ fn word_by_word(
     inputs: &Inputs,
     block: PlacedBlock,
 ) -> Done
-    requires below { block.span.lowest < 2 ^ 26 }
-    requires some { 1 ≤ block.span.words }
-    requires few { block.span.words ≤ 16 }
+    requires { block.span.lowest < 2 ^ 26 }
     ensures moved { IsMoved inputs.now.prices.profile inputs.now.prices.rom result registers.new bus.new
         (block_at block.transfer block.span inputs.now.port registers.old bus.old) }
     ensures bound { result.ticks < 2 ^ 16 }
@@ -332,9 +313,7 @@ fn word_by_word(
 #[tactic(auto, unfolding(crate::specs::Block::block_at, crate::specs::Block::block_by))]
 #[inline(always)]
 fn block_at(registers: &mut Registers, bus: &mut Bus, inputs: &Inputs, block: PlacedBlock) -> Done
-    requires some { 1 ≤ block.span.words }
-    requires few { block.span.words ≤ 16 }
-    requires counted { block.span.words ≡ length (registers_in block.transfer.list) }
+    requires { block.span.words ≡ length (registers_in block.transfer.list) }
     ensures moved { IsMoved inputs.now.prices.profile inputs.now.prices.rom result registers.new bus.new
         (block_at block.transfer block.span inputs.now.port registers.old bus.old) }
     ensures bound { result.ticks < 2 ^ 16 }

@@ -13,7 +13,7 @@ use crate::registers::{Loading, enter, give};
 use crate::single_fields::Single;
 use crate::words::locate_word;
 use arm2_decode::{SingleImmediate, SingleRegister};
-use arm2_effect::{Done, Kind, Prices, Reg, Registers, Vector, address_of, mode_of};
+use arm2_effect::{Done, Prices, Reg, Registers, Vector, address_of, mode_of};
 use memc::Spot;
 
 // A single transfer and its base, as it stood before.
@@ -75,10 +75,7 @@ fn load(
     load_word(registers, bus, inputs.port, single, spot);
     let to = address_of(registers.get(Reg::R15));
     let jumps = single.transfer.rd.is_pc();
-    Done {
-        kind: Kind::Plain,
-        ticks: load_ticks(&inputs.prices, accesses(single, address_of(r15)), jumps, to),
-    }
+    Done::plain(load_ticks(&inputs.prices, accesses(single, address_of(r15)), jumps, to))
 }
 
 #[tactic(auto, unfolding(crate::specs::Single::single_stores))]
@@ -102,10 +99,7 @@ fn store(
     let value = give(registers, mode_of(r15), transfer.rd);
     put_single(bus, transfer.byte, spot, transfer.address(base), value);
     transfer.write_base(registers, base);
-    Done {
-        kind: Kind::Plain,
-        ticks: store_ticks(prices, accesses(single, address_of(r15))),
-    }
+    Done::plain(store_ticks(prices, accesses(single, address_of(r15))))
 }
 
 #[tactic(auto, unfolding(crate::specs::Single::single_at, crate::specs::Single::single_by))]

@@ -1,6 +1,7 @@
 ghost use Rattle.std.specs.Prelude.{◌≡◌, ◌↔◌, All, IsOk, IfOk, IsTrue, take, ◌*◌, ◌<◌, ◌≤◌, ◌^◌, ℕ};
 ghost use Rattle.bus_ticks.specs.Ranges.{AreInRange, AreOrdered, IsPrice, greatest};
 
+use crate::worst::greatest_of;
 use thiserror::Error;
 
 /// What answers at an address.
@@ -111,25 +112,10 @@ fn are_in_range(numbers: [u32; 15]) -> bool
 fn are_ordered(numbers: [u32; 15]) -> bool
     ensures { IsTrue result ↔ AreOrdered numbers }
 {
-    let [
-        n,
-        s,
-        quad,
-        rom_0,
-        rom_1,
-        rom_2,
-        rom_3,
-        slow,
-        medium,
-        fast,
-        synchronous,
-        control,
-        _,
-        _,
-        _,
-    ] = numbers;
-    let device = slow.max(medium).max(fast.max(synchronous));
-    let rom = rom_0.max(rom_1).max(rom_2.max(rom_3));
+    let [n, s, quad, ..] = numbers;
+    let rom = greatest_of(numbers[3], numbers[4], numbers[5], numbers[6]);
+    let device = greatest_of(numbers[7], numbers[8], numbers[9], numbers[10]);
+    let control = numbers[11];
     s <= quad && quad <= n && n <= device && rom <= device && control <= device
 }
 

@@ -1,5 +1,5 @@
 ghost use Rattle.std.specs.Prelude.{◌≡◌, ◌<◌, ◌≤◌, ◌*◌};
-ghost use Rattle.bus_ticks.specs.Prices.{n_price, s_price};
+ghost use Rattle.bus_ticks.specs.Prices.{by_class, class_at, n_price, s_price};
 ghost use Rattle.bus_ticks.specs.Ranges.{greatest};
 ghost use Rattle.bus_ticks.specs.Worst.{worst_block, worst_leave_of, worst_n_price, worst_rom, worst_s_price};
 ghost use Rattle.bus_ticks.specs.Worst.{IsAnyTimes, IsGreatest, IsBlockOf, IsTargetOf, transfer_price};
@@ -21,25 +21,13 @@ pub fn worst_rom_ticks(profile: &Profile) -> u32
     greatest_of(profile.rom_0, profile.rom_1, profile.rom_2, profile.rom_3)
 }
 
-// The greatest price as a number.
-fn worst_n_ticks(profile: &Profile, address: u32) -> u32
+// The greatest price of a fetch, as a number, by the price that it has where the address is one of RAM.
+fn worst_fetch(profile: &Profile, address: u32, ram: u32) -> u32
     requires { address < SPACE_END }
-    ensures { result ≡ worst_n_price profile.now address }
+    ensures { result ≡ by_class (class_at address) ram (worst_rom profile.now) profile.now.unfitted }
 {
     match class_of(address) {
-        Class::Ram => profile.n,
-        Class::Rom => worst_rom_ticks(profile),
-        Class::Io | Class::Any => profile.unfitted,
-    }
-}
-
-// The greatest price as a number.
-fn worst_s_ticks(profile: &Profile, address: u32) -> u32
-    requires { address < SPACE_END }
-    ensures { result ≡ worst_s_price profile.now address }
-{
-    match class_of(address) {
-        Class::Ram => ram_following(profile, address),
+        Class::Ram => ram,
         Class::Rom => worst_rom_ticks(profile),
         Class::Io | Class::Any => profile.unfitted,
     }
@@ -53,7 +41,7 @@ pub fn worst_fetch_n(profile: &Profile, address: u32) -> u32
     ensures greatest { IsGreatest IsAnyTimes (λ rom. n_price profile.now rom address) result }
     ensures small { result < 256 }
 {
-    worst_n_ticks(profile, address)
+    worst_fetch(profile, address, profile.n)
 }
 
 /// The greatest ticks, over all time fields of ROM, of a fetch that follows the access before it.
@@ -63,7 +51,7 @@ pub fn worst_fetch_s(profile: &Profile, address: u32) -> u32
     ensures greatest { IsGreatest IsAnyTimes (λ rom. s_price profile.now rom address) result }
     ensures small { result < 256 }
 {
-    worst_s_ticks(profile, address)
+    worst_fetch(profile, address, ram_following(profile, address))
 }
 
 // The greatest price as a number.

@@ -1,9 +1,10 @@
 ghost use Rattle.std.specs.Prelude.{◌≡◌, ◌<◌};
 ghost use Rattle.arm2_effect.specs.Modes.{reg_number, slot_of};
-ghost use Rattle.arm2_effect.specs.declared.modes.Mode.TheVariants.{Fiq, Irq, Svc, User};
+ghost use Rattle.arm2_effect.specs.declared.modes.Mode.TheVariants.{User};
 
 use arm2_effect::{Mode, Reg};
 
+// The register that User names, as every mode does where it has none of its own.
 fn user_register(number: u32) -> Reg
     requires { number < 16 }
     ensures { reg_number result ≡ slot_of User number }
@@ -28,53 +29,23 @@ fn user_register(number: u32) -> Reg
     }
 }
 
-fn fiq_register(number: u32) -> Reg
-    requires { number < 16 }
-    ensures { reg_number result ≡ slot_of Fiq number }
-{
-    match number {
-        8 => Reg::R8Fiq,
-        9 => Reg::R9Fiq,
-        10 => Reg::R10Fiq,
-        11 => Reg::R11Fiq,
-        12 => Reg::R12Fiq,
-        13 => Reg::R13Fiq,
-        14 => Reg::R14Fiq,
-        _ => user_register(number),
-    }
-}
-
-fn irq_register(number: u32) -> Reg
-    requires { number < 16 }
-    ensures { reg_number result ≡ slot_of Irq number }
-{
-    match number {
-        13 => Reg::R13Irq,
-        14 => Reg::R14Irq,
-        _ => user_register(number),
-    }
-}
-
-fn svc_register(number: u32) -> Reg
-    requires { number < 16 }
-    ensures { reg_number result ≡ slot_of Svc number }
-{
-    match number {
-        13 => Reg::R13Svc,
-        14 => Reg::R14Svc,
-        _ => user_register(number),
-    }
-}
-
 /// The register that a mode names by a number, from 0 to 15.
 pub fn banked(mode: Mode, number: u32) -> Reg
     requires { number < 16 }
     ensures { reg_number result ≡ slot_of mode number }
 {
-    match mode {
-        Mode::User => user_register(number),
-        Mode::Fiq => fiq_register(number),
-        Mode::Irq => irq_register(number),
-        Mode::Svc => svc_register(number),
+    match (mode, number) {
+        (Mode::Fiq, 8) => Reg::R8Fiq,
+        (Mode::Fiq, 9) => Reg::R9Fiq,
+        (Mode::Fiq, 10) => Reg::R10Fiq,
+        (Mode::Fiq, 11) => Reg::R11Fiq,
+        (Mode::Fiq, 12) => Reg::R12Fiq,
+        (Mode::Fiq, 13) => Reg::R13Fiq,
+        (Mode::Fiq, 14) => Reg::R14Fiq,
+        (Mode::Irq, 13) => Reg::R13Irq,
+        (Mode::Irq, 14) => Reg::R14Irq,
+        (Mode::Svc, 13) => Reg::R13Svc,
+        (Mode::Svc, 14) => Reg::R14Svc,
+        _ => user_register(number),
     }
 }

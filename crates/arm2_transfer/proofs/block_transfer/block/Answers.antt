@@ -4,8 +4,8 @@ use Rattle.arm2_transfer.specs.declared.span.Span.{Span}
 use Rattle.arm2_transfer.proofs.Listed.{some_listed}
 use Rattle.arm2_transfer.proofs.block_transfer.block.Goals as goal
 
-pub block_at-requires-clause-some : goal.block_at-requires-clause-some
-block_at-requires-clause-some c =
+pub invariant_of-block-clause-some : goal.invariant_of-block-clause-some
+invariant_of-block-clause-some c =
     let x = c.args.transfer.now in
     rw
     (ap (λ (span : Span). span.words) c.span_of-span.ensures ∙ c.count.ensures.count)
