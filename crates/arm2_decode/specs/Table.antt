@@ -189,7 +189,7 @@ laid (place ∷ places) (field ∷ fields) = field * 2 ^ place.1 + laid places f
 abbrev pub word_in : Row → List ℕ → ℕ
 word_in row fields = row.fixed + laid row.places fields
 
--- bits 27 to 0 of the word of an operation
+-- bits 27 to 0 of the word of an operation whose fields are in their ranges
 abbrev pub below_condition : Operation → ℕ
 below_condition operation = word_in (row_of operation) (0 ∷ operands operation)
 

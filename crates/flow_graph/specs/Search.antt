@@ -36,10 +36,11 @@ by_order = (PlaceOrder.ghosts).cmp
 abbrev pub downwards : Reverse Place → Reverse Place → Ordering
 downwards x y = by_order y.0 x.0
 
+-- a place as a key of the set
 abbrev pub in_set : Place → Reverse Place
 in_set q = record { 0 = q }
 
--- the members of a list by a reversed order, the least first
+-- of a list that ascends by a reversed order the members, the least first
 abbrev pub ascending : {K : Type 0} → List (Reverse K) → List K
 ascending ks = map (λ r. r.0) (reverse ks)
 

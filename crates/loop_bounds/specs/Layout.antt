@@ -110,7 +110,7 @@ AreChains rank extents chains limit =
 
 -- ## The order
 
--- the positions of the first that are keyed
+-- of the first that are keyed in turn, the position of each
 pub record ArePositions (keyed : List Keyed) (order : List ℕ) (limit : ℕ) : Type 0 where
   pub same : length order ≡ limit
   pub each : (k : ℕ) (d : Keyed) → k < limit → slice_index order k ≡ (slice_index_or keyed k d).position
