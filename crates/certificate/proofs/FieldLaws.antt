@@ -1,5 +1,5 @@
 -- The first field of some words is read in one way.
-use Rattle.std.proofs.Common.{◌≡◌, ℕ, ◌<◌, ◌^◌, List, [], ◌∷◌, ◌++◌, map, codes, Option, None, MatchOption, refl, sym, ap, ap₂, subst, arith}
+use Rattle.std.proofs.Common.{◌≡◌, ◌∙◌, ℕ, ◌<◌, ◌^◌, List, [], ◌∷◌, ◌++◌, map, codes, Option, None, MatchOption, refl, sym, ap, subst, arith}
 use Rattle.std.specs.List.{AllByRecursion, join_with_byte}
 use Rattle.std.specs.Fmt.{decimal}
 use Rattle.std.proofs.lemmas.List.Elements.{recursion_from_All}
@@ -9,8 +9,8 @@ use Rattle.certificate.specs.declared.walk.To.{To}
 use Rattle.certificate.specs.declared.walk.To.TheVariants.{At, Exit}
 use Rattle.asm_text.specs.Hex.{hex}
 use Rattle.certificate.specs.Words.{AreCalls, Lacks, ToFits, label_words, list_words, to_words}
-use Rattle.certificate.proofs.CutLaws.{Lacks-append, Lacks-tested, one_cut}
-use Rattle.certificate.proofs.JoinLaws.{one_join}
+use Rattle.certificate.proofs.CutLaws.{Lacks-append, Lacks-middle, Lacks-tested, one_cut}
+use Rattle.certificate.proofs.JoinLaws.{map_one, one_join}
 use Rattle.certificate.proofs.NumberLaws.{decimal_is_one, decimal_lacks, hex_is_one, hex_lacks}
 
 -- ## What fields lack
@@ -72,15 +72,6 @@ one_label Do Skip e = absurd (cc e)
 one_label Skip Do e = absurd (cc e)
 one_label Skip Skip e = refl
 
-hex_map_one : (cs bs : List ℕ) → AllSmall cs → AllSmall bs → map hex cs ≡ map hex bs → cs ≡ bs
-hex_map_one [] [] f g e = refl
-hex_map_one [] (b ∷ bs) f g e = absurd (cc e)
-hex_map_one (a ∷ cs) [] f g e = absurd (cc e)
-hex_map_one (a ∷ cs) (b ∷ bs) f g e =
-    let head : hex a ≡ hex b = cc in
-    let tail : map hex cs ≡ map hex bs = cc in
-    ap₂ (λ (x : ℕ) (xs : List ℕ). x ∷ xs) (hex_is_one a b f.0 g.0 head) (hex_map_one cs bs f.1 g.1 tail)
-
 some_listed : (a : ℕ) (calls : List ℕ) → AllSmall (a ∷ calls) → list_words (a ∷ calls) ≡ codes "-" → ⊥
 some_listed a calls small e =
     let lacks : Lacks 45 (list_words (a ∷ calls)) = joined_lacks 45 47 (map hex (a ∷ calls)) (Lacks-tested 45 (47 ∷ []) refl) (all_lack 45 (a ∷ calls) (λ n h. hex_lacks 45 n (omega arith) h) small) in
@@ -91,7 +82,7 @@ one_list [] [] f g e = refl
 one_list [] (y ∷ ys) f g e = absurd (some_listed y ys g (sym e))
 one_list (x ∷ xs) [] f g e = absurd (some_listed x xs f e)
 one_list (x ∷ xs) (y ∷ ys) f g e =
-    hex_map_one (x ∷ xs) (y ∷ ys) f g (one_join 47 (hex x) (hex y) (map hex xs) (map hex ys) (all_lack 47 (x ∷ xs) hex-slash f) (all_lack 47 (y ∷ ys) hex-slash g) e)
+    map_one (λ n. n < 2 ^ 26) hex hex_is_one (x ∷ xs) (y ∷ ys) f g (one_join 47 (hex x) (hex y) (map hex xs) (map hex ys) (all_lack 47 (x ∷ xs) hex-slash f) (all_lack 47 (y ∷ ys) hex-slash g) e)
 
 pub hex_first : (a b : ℕ) (r s : List ℕ) → a < 2 ^ 26 → b < 2 ^ 26 → hex a ++ 32 ∷ r ≡ hex b ++ 32 ∷ s → (a ≡ b) × (r ≡ s)
 hex_first a b r s f g e =
@@ -132,3 +123,16 @@ list_first a b r s f g e =
 
 pub from_none : {A : Type 0} (P : Type 0) (Q : A → Type 0) (r : Option A) → r ≡ None → P → MatchOption r P Q
 from_none P Q r is p = subst (λ (o : Option _). MatchOption o P Q) (sym is) p
+
+-- ## The first word
+
+module _ {A : Type 0} (Fits : A → Type 0) (spell : A → List ℕ) where
+  -- no word ends at a blank
+  pub no_word : (words : List ℕ) → Lacks 32 words → (a : A) (rest : List ℕ) → Fits a → words ≡ spell a ++ 32 ∷ rest → ⊥
+  no_word words lacks a rest fits e = Lacks-middle 32 (spell a) rest (subst (Lacks 32) e lacks)
+
+  -- the first word is another one
+  pub other_word : ((a : A) → Fits a → Lacks 32 (spell a)) → (words word rest : List ℕ) → Lacks 32 word → words ≡ word ++ 32 ∷ rest
+      → ((a : A) → Fits a → word ≡ spell a → ⊥) → (a : A) (more : List ℕ) → Fits a → words ≡ spell a ++ 32 ∷ more → ⊥
+  other_word blank words word rest lacks is other a more fits e =
+      other a fits (one_cut 32 word (spell a) rest more lacks (blank a fits) (sym is ∙ e)).0

@@ -1,5 +1,5 @@
 -- Words joined by a byte that they lack.
-use Rattle.std.proofs.Common.{◌≡◌, ◌∙◌, ℕ, List, [], ◌∷◌, ◌++◌, refl, sym, ap, ap₂, subst, append_assoc, append-nil}
+use Rattle.std.proofs.Common.{◌≡◌, ◌∙◌, ℕ, List, [], ◌∷◌, ◌++◌, map, refl, sym, ap, ap₂, subst, append_assoc, append-nil}
 use Rattle.std.specs.List.{flat_map, join_with_byte, AllByRecursion}
 use Rattle.certificate.specs.Words.{Lacks}
 use Rattle.certificate.proofs.CutLaws.{Lacks-middle, one_cut}
@@ -46,3 +46,14 @@ one_join mark w v (u ∷ ws) [] a b e = absurd (Lacks-middle mark w (join_with_b
 one_join mark w v (u ∷ ws) (t ∷ vs) a b e =
     let cut = one_cut mark w v (join_with_byte mark (u ∷ ws)) (join_with_byte mark (t ∷ vs)) a.0 b.0 e in
     ap₂ (λ (x : List ℕ) (xs : List (List ℕ)). x ∷ xs) cut.0 (one_join mark u t ws vs a.1 b.1 cut.1)
+
+module _ {A : Type 0} (Fits : A → Type 0) (spell : A → List ℕ) (one : (a b : A) → Fits a → Fits b → spell a ≡ spell b → a ≡ b) where
+  -- lists whose items are spelled in one way each
+  pub map_one : (xs ys : List A) → AllByRecursion Fits xs → AllByRecursion Fits ys → map spell xs ≡ map spell ys → xs ≡ ys
+  map_one [] [] f g e = refl
+  map_one [] (y ∷ ys) f g e = absurd (cc e)
+  map_one (x ∷ xs) [] f g e = absurd (cc e)
+  map_one (x ∷ xs) (y ∷ ys) f g e =
+      let head : spell x ≡ spell y = cc in
+      let tail : map spell xs ≡ map spell ys = cc in
+      ap₂ (λ (z : A) (zs : List A). z ∷ zs) (one x y f.0 g.0 head) (map_one xs ys f.1 g.1 tail)

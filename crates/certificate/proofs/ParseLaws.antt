@@ -35,12 +35,6 @@ stops n (x ∷ lines) ends = absurd (cc ends.1)
 
 instances_in : (n : Nest) (last : Option Place) (lines : List Line) → AllByRecursion LineFits lines → Ends (at n (s.Instances last)) lines → Instances last lines
 instances_in n last [] fits ends = absurd (cc (not_done ends.0 ends.1 ends.2))
-instances_in n last (l.Title v ∷ lines) fits ends = absurd (cc ends.1)
-instances_in n last (l.Profile ns ∷ lines) fits ends = absurd (cc ends.1)
-instances_in n last (l.Bound b ∷ lines) fits ends = absurd (cc ends.1)
-instances_in n last (l.Walk w ∷ lines) fits ends = absurd (cc ends.1)
-instances_in n last (l.Close ∷ lines) fits ends = absurd (cc ends.1)
-instances_in n last (l.Place r ∷ lines) fits ends = absurd (cc ends.1)
 instances_in n last (l.Instance r ∷ lines) fits ends =
     by (λ e. instances_in n (Some (header_of_row r)) lines fits.1 (ends.0, e, ends.2)) (comes_after last (header_of_row r)) refl ends.1
   where
@@ -52,6 +46,7 @@ instances_in n last (l.Instance r ∷ lines) fits ends =
     by again false after e = absurd (cc e)
 instances_in n last (l.Stop ∷ lines) fits ends =
     record { rows = []; lines_are = ap (λ (xs : List Line). l.Stop ∷ xs) (stops n lines ends); ascend = tt; fit = tt }
+instances_in n last (x ∷ lines) fits ends = absurd (cc ends.1)
 
 pub record Rows (last : Option Place) (lines : List Line) : Type 0 where
   pub places : List PlaceRow
@@ -63,11 +58,6 @@ pub record Rows (last : Option Place) (lines : List Line) : Type 0 where
 
 rows_in : (n : Nest) (last : Option Place) (lines : List Line) → AllByRecursion LineFits lines → Ends (at n (s.Places last)) lines → Rows last lines
 rows_in n last [] fits ends = absurd (cc (not_done ends.0 ends.1 ends.2))
-rows_in n last (l.Title v ∷ lines) fits ends = absurd (cc ends.1)
-rows_in n last (l.Profile ns ∷ lines) fits ends = absurd (cc ends.1)
-rows_in n last (l.Bound b ∷ lines) fits ends = absurd (cc ends.1)
-rows_in n last (l.Walk w ∷ lines) fits ends = absurd (cc ends.1)
-rows_in n last (l.Close ∷ lines) fits ends = absurd (cc ends.1)
 rows_in n last (l.Place r ∷ lines) fits ends =
     by (λ e. rows_in n (Some (place_of_row r)) lines fits.1 (ends.0, e, ends.2)) (comes_after last (place_of_row r)) refl ends.1
   where
@@ -96,6 +86,7 @@ rows_in n last (l.Stop ∷ lines) fits ends =
       ascend = tt;
       fit = tt;
     }
+rows_in n last (x ∷ lines) fits ends = absurd (cc ends.1)
 
 pub record Walked (from : Nest) (lines : List Line) : Type 0 where
   pub walk : List WalkLine
@@ -109,9 +100,6 @@ pub record Walked (from : Nest) (lines : List Line) : Type 0 where
 
 pub walked_in : (n : Nest) (lines : List Line) → AllByRecursion LineFits lines → Ends (at n s.Walk) lines → Walked n lines
 walked_in n [] fits ends = absurd (cc (not_done ends.0 ends.1 ends.2))
-walked_in n (l.Title v ∷ lines) fits ends = absurd (cc ends.1)
-walked_in n (l.Profile ns ∷ lines) fits ends = absurd (cc ends.1)
-walked_in n (l.Bound b ∷ lines) fits ends = absurd (cc ends.1)
 walked_in n (l.Walk w ∷ lines) fits ends = by (λ m e. walked_in m lines fits.1 (ends.0, e, ends.2)) (nest_after n w) refl ends.1
   where
     by : ((m : Nest) → follow_all follows (at m s.Walk) lines ≡ Some ends.0 → Walked m lines) → (o : Option Nest) → nest_after n w ≡ o → option_and_then (λ t. follow_all follows t lines) (in_walk o) ≡ Some ends.0 → Walked n (l.Walk w ∷ lines)
@@ -134,6 +122,4 @@ walked_in n (l.Close ∷ lines) fits ends = by n.opened refl ends.1
     by zero is e =
         record { walk = []; rest = lines; rows = rows_in n None lines fits.1 (ends.0, e, ends.2); lines_are = refl; to = n; nested = refl; whole = is; fit = tt }
     by (suc k) is e = absurd (cc e)
-walked_in n (l.Place r ∷ lines) fits ends = absurd (cc ends.1)
-walked_in n (l.Instance r ∷ lines) fits ends = absurd (cc ends.1)
-walked_in n (l.Stop ∷ lines) fits ends = absurd (cc ends.1)
+walked_in n (x ∷ lines) fits ends = absurd (cc ends.1)

@@ -1,5 +1,5 @@
 -- The numbers of a profile, spelled word by word.
-use Rattle.std.proofs.Common.{◌≡◌, ◌∙◌, ℕ, suc, ◌+◌, ◌<◌, ◌↔◌, List, [], ◌∷◌, ◌++◌, length, map, take, set, get_or, All, Result, Err, refl, sym, ap, ap₂, subst, arith, length-append, length-take, length-set, take_all, take-suc, take-suc-set}
+use Rattle.std.proofs.Common.{◌≡◌, ◌∙◌, ℕ, suc, ◌+◌, ◌<◌, ◌↔◌, List, [], ◌∷◌, ◌++◌, length, map, take, set, get_or, All, Result, Err, refl, sym, ap, subst, arith, length-append, length-take, length-set, take_all, take-suc, take-suc-set}
 use Rattle.std.specs.Fmt.{decimal}
 use Rattle.std.specs.List.{AllByRecursion, join_with_byte}
 use Rattle.std.proofs.lemmas.List.Elements.{All-push, All-weaker, recursion_from_All}
@@ -10,7 +10,7 @@ use Rattle.bus_ticks.specs.Ranges.{AreInRange, AreOrdered, IsPrice}
 use Rattle.certificate.specs.Words.{IsProfile, Lacks}
 use Rattle.certificate.proofs.CallLaws.{Ahead, last_word}
 use Rattle.certificate.proofs.FieldLaws.{decimal-blank}
-use Rattle.certificate.proofs.JoinLaws.{one_join}
+use Rattle.certificate.proofs.JoinLaws.{map_one, one_join}
 use Rattle.certificate.proofs.NumberLaws.{decimal_is_one}
 
 abbrev pub AreSmall : List ℕ → Type 0
@@ -61,22 +61,13 @@ all_lack : (ns : List ℕ) → AllByRecursion (λ n. n < 256) ns → AllByRecurs
 all_lack [] small = tt
 all_lack (n ∷ ns) small = (decimal-blank n (omega (arith, small.0)), all_lack ns small.1)
 
-decimals_one : (ms ns : List ℕ) → AllByRecursion (λ n. n < 256) ms → AllByRecursion (λ n. n < 256) ns → map decimal ms ≡ map decimal ns → ms ≡ ns
-decimals_one [] [] f g e = refl
-decimals_one [] (n ∷ ns) f g e = absurd (cc e)
-decimals_one (m ∷ ms) [] f g e = absurd (cc e)
-decimals_one (m ∷ ms) (n ∷ ns) f g e =
-    let head : decimal m ≡ decimal n = cc in
-    let tail : map decimal ms ≡ map decimal ns = cc in
-    ap₂ (λ (x : ℕ) (xs : List ℕ). x ∷ xs) (decimal_is_one m n (omega (arith, f.0)) (omega (arith, g.0)) head) (decimals_one ms ns f.1 g.1 tail)
-
 pub one_prices : (ms ns : List ℕ) → length ms ≡ 15 → length ns ≡ 15 → AreSmall ms → AreSmall ns → join_with_byte 32 (map decimal ms) ≡ join_with_byte 32 (map decimal ns) → ms ≡ ns
 one_prices [] ns p q f g e = absurd (omega (arith, p))
 one_prices (m ∷ ms) [] p q f g e = absurd (omega (arith, q))
 one_prices (m ∷ ms) (n ∷ ns) p q f g e =
     let a = recursion_from_All _ (m ∷ ms) f in
     let b = recursion_from_All _ (n ∷ ns) g in
-    decimals_one (m ∷ ms) (n ∷ ns) a b (one_join 32 (decimal m) (decimal n) (map decimal ms) (map decimal ns) (all_lack (m ∷ ms) a) (all_lack (n ∷ ns) b) e)
+    map_one (λ k. k < 256) decimal (λ k j f g. decimal_is_one k j (omega (arith, f)) (omega (arith, g))) (m ∷ ms) (n ∷ ns) a b (one_join 32 (decimal m) (decimal n) (map decimal ms) (map decimal ns) (all_lack (m ∷ ms) a) (all_lack (n ∷ ns) b) e)
 
 -- the numbers of a profile are small
 pub profile_small : (ns : List ℕ) → IsProfile ns → AreSmall ns

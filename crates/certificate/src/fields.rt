@@ -16,10 +16,7 @@ pub(crate) fn address_first(words: &[u8]) -> Option<(u32, &[u8])>
         (λ p. (p.0 < 2 ^ 26) × (words.now ≡ hex p.0 ++ 32 ∷ p.1.now)) }
 {
     let (word, rest) = cut_at(b' ', words)?;
-    match hex_at(word) {
-        Some(address) => Some((address, rest)),
-        None => None,
-    }
+    Some((hex_at(word)?, rest))
 }
 
 /// The number that the words begin with, and the words after its blank.
@@ -29,10 +26,7 @@ pub(crate) fn number_first(words: &[u8]) -> Option<(u64, &[u8])>
         (λ p. (p.0 < 2 ^ 63) × (words.now ≡ decimal p.0 ++ 32 ∷ p.1.now)) }
 {
     let (word, rest) = cut_at(b' ', words)?;
-    match decimal_at(word) {
-        Some(number) => Some((number, rest)),
-        None => None,
-    }
+    Some((decimal_at(word)?, rest))
 }
 
 /// The label that the words begin with, and the words after its blank.

@@ -1,7 +1,6 @@
-ghost use Rattle.std.specs.Prelude.{◌≡◌, ◌+◌, ◌*◌, ◌^◌, ◌≤◌, ◌++◌, codes, length, vec_capacity};
-ghost use Rattle.asm_text.specs.Hex.{hex8};
+ghost use Rattle.std.specs.Prelude.{◌≡◌, ◌+◌, ◌*◌, ◌^◌, ◌≤◌, ◌++◌, length, vec_capacity};
 ghost use Rattle.trace_text.specs.TraceText.{Adds};
-ghost use Rattle.debugger.specs.Answers.{IsLineRow, IsRowOf, IsWordRow, Rows, breaks_text};
+ghost use Rattle.debugger.specs.Answers.{IsRowOf, Rows, breaks_text};
 
 use crate::printed::{put, put_hex, put_shown};
 
@@ -17,50 +16,23 @@ pub(crate) enum Row {
     Line,
 }
 
-// Adds an address and its word.
-fn put_both(out: &mut Vec<u8>, address: u32, word: u32)
-    requires { length out.old.items + 17 ≤ vec_capacity out.old }
-    ensures text { out.new.items ≡ out.old.items ++ (hex8 address ++ (codes " " ++ hex8 word)) }
-    ensures len { length out.new.items ≡ length out.old.items + 17 }
-    ensures room { vec_capacity out.old ≤ vec_capacity out.new }
-{
-    put_hex(out, address);
-    put(out, b" ");
-    put_hex(out, word);
-}
-
-fn put_word_row(out: &mut Vec<u8>, address: u32, word: u32)
-    requires { length out.old.items + 83 ≤ vec_capacity out.old }
-    ensures row { Adds (IsWordRow address word) out.old.items out.new.items }
-    ensures len { length out.new.items ≤ length out.old.items + 83 }
-    ensures room { vec_capacity out.old ≤ vec_capacity out.new }
-{
-    put_both(out, address, word);
-    put(out, b"\n");
-}
-
-fn put_line_row(out: &mut Vec<u8>, address: u32, word: u32)
-    requires { length out.old.items + 83 ≤ vec_capacity out.old }
-    ensures row { Adds (IsLineRow address word) out.old.items out.new.items }
-    ensures len { length out.new.items ≤ length out.old.items + 83 }
-    ensures room { vec_capacity out.old ≤ vec_capacity out.new }
-{
-    put_both(out, address, word);
-    put(out, b" ");
-    put_shown(out, word, address);
-    put(out, b"\n");
-}
-
 fn put_row(out: &mut Vec<u8>, row: Row, address: u32, word: u32)
     requires { length out.old.items + 83 ≤ vec_capacity out.old }
     ensures row { Adds (IsRowOf row address word) out.old.items out.new.items }
     ensures len { length out.new.items ≤ length out.old.items + 83 }
     ensures room { vec_capacity out.old ≤ vec_capacity out.new }
 {
+    put_hex(out, address);
+    put(out, b" ");
+    put_hex(out, word);
     match row {
-        Row::Word => put_word_row(out, address, word),
-        Row::Line => put_line_row(out, address, word),
+        Row::Word => {}
+        Row::Line => {
+            put(out, b" ");
+            put_shown(out, word, address);
+        }
     }
+    put(out, b"\n");
 }
 
 /// Adds a row for each word of a span.

@@ -17,34 +17,43 @@ pub struct Bursts {
     pub every: Option<u32>,
 }
 
-fn with_bursts(price: u32, bound: u64, count: u64) -> u128
-    ensures { result ≡ with_bursts price bound count }
-{
-    u128::from(bound) + u128::from(count) * u128::from(price)
+// A bound, and the price of a DMA burst, both in ticks.
+#[derive(Clone, Copy)]
+struct PricedBound {
+    ticks: u64,
+    burst: u32,
 }
 
-// The least number of bursts after which none comes before the end, where one comes every so many ticks. None
-// where there is no end: a burst then takes all the time up to the next.
-fn fewest(price: u32, bound: u64, every: u32) -> Option<u64>
-    ensures { AreFewest price bound every result }
-{
-    if bound == 0 {
-        return Some(0);
+impl PricedBound {
+    // The ticks of the bound and so many bursts.
+    fn with_bursts(self, count: u64) -> u128
+        ensures { result ≡ with_bursts self.burst self.ticks count }
+    {
+        u128::from(self.ticks) + u128::from(count) * u128::from(self.burst)
     }
-    if every <= price {
-        return None;
+
+    // The least number of bursts after which none comes before the end, where one comes every so many ticks.
+    // None where there is no end: a burst then takes all the time up to the next.
+    fn fewest(self, every: u32) -> Option<u64>
+        ensures { AreFewest self.burst self.ticks every result }
+    {
+        if self.ticks == 0 {
+            return Some(0);
+        }
+        if every <= self.burst {
+            return None;
+        }
+        Some(self.ticks.div_ceil(u64::from(every - self.burst)))
     }
-    Some(bound.div_ceil(u64::from(every - price)))
 }
 
 // Adds the line of so many bursts in all.
 fn put_count_line(
     out: &mut Vec<u8>,
-    price: u32,
-    bound: u64,
+    bound: PricedBound,
     count: Option<u32>,
 ) -> Result<(), AllocError>
-    ensures { OnOk result (out.new.items ≡ out.old.items ++ count_line price bound count) }
+    ensures { OnOk result (out.new.items ≡ out.old.items ++ count_line bound.burst bound.ticks count) }
 {
     let Some(count) = count else {
         return Ok(());
@@ -52,20 +61,19 @@ fn put_count_line(
     put(out, b"with ")?;
     put_number(out, u64::from(count), 0)?;
     put(out, b" bursts ")?;
-    put_time(out, with_bursts(price, bound, u64::from(count)))
+    put_time(out, bound.with_bursts(u64::from(count)))
 }
 
 // Adds the time with the fewest bursts, or that it never ends.
 fn put_end_text(
     out: &mut Vec<u8>,
-    price: u32,
-    bound: u64,
+    bound: PricedBound,
     fewest: Option<u64>,
 ) -> Result<(), AllocError>
-    ensures { OnOk result (out.new.items ≡ out.old.items ++ end_text price bound fewest) }
+    ensures { OnOk result (out.new.items ≡ out.old.items ++ end_text bound.burst bound.ticks fewest) }
 {
     match fewest {
-        Some(count) => put_time(out, with_bursts(price, bound, count)),
+        Some(count) => put_time(out, bound.with_bursts(count)),
         None => put(out, b"it never ends\n"),
     }
 }
@@ -73,20 +81,19 @@ fn put_end_text(
 // Adds the line of a burst every so many ticks.
 fn put_every_line(
     out: &mut Vec<u8>,
-    price: u32,
-    bound: u64,
+    bound: PricedBound,
     every: Option<u32>,
 ) -> Result<(), AllocError>
-    ensures { OnOk result (Appends (IsEveryLine price bound every) out.old.items out.new.items) }
+    ensures { OnOk result (Appends (IsEveryLine bound.burst bound.ticks every) out.old.items out.new.items) }
 {
     let Some(every) = every else {
         return Ok(());
     };
-    let fewest = fewest(price, bound, every);
+    let fewest = bound.fewest(every);
     put(out, b"with a burst every ")?;
     put_number(out, u64::from(every), 0)?;
     put(out, b" ticks ")?;
-    put_end_text(out, price, bound, fewest)
+    put_end_text(out, bound, fewest)
 }
 
 /// What DMA bursts add to a bound in ticks, by the profile's price of a burst: a line with the ticks of the
@@ -105,9 +112,12 @@ pub fn burst_lines(
 ) -> Result<Vec<u8>, AllocError>
     ensures { IfOk result (λ text. AreBurstLines profile.now.burst bound bursts text.items) }
 {
-    let price = profile.burst;
+    let bound = PricedBound {
+        ticks: bound,
+        burst: profile.burst,
+    };
     let mut out = Vec::new(alloc);
-    put_count_line(&mut out, price, bound, bursts.count)?;
-    put_every_line(&mut out, price, bound, bursts.every)?;
+    put_count_line(&mut out, bound, bursts.count)?;
+    put_every_line(&mut out, bound, bursts.every)?;
     Ok(out)
 }

@@ -1,4 +1,5 @@
 pub mod HandlerLemmas
 pub mod PlacingLemmas
+pub mod PricedLemmas
 pub mod ReportLemmas
 pub mod SourceLemmas

@@ -63,18 +63,13 @@ subtracts_from_link o rn = is_subtraction o && is_link rn
 
 -- what a word that writes R15 to return looks like: MOV or SUB from R14, or a load from R13
 abbrev pub is_return : Operation → Bool
-is_return (operation.Multiply x) = false
 is_return (operation.DataRegister x) = copies_link x || subtracts_from_link x.opcode x.rn
 is_return (operation.DataRegisterShift x) = subtracts_from_link x.opcode x.rn
 is_return (operation.DataImmediate x) = subtracts_from_link x.opcode x.rn
 is_return (operation.SingleImmediate x) = is_stack x.rn
 is_return (operation.SingleRegister x) = is_stack x.rn
 is_return (operation.Block x) = is_stack x.rn
-is_return (operation.Branch x) = false
-is_return (operation.Swi x) = false
-is_return (operation.UndefinedTransfer x) = false
-is_return (operation.CoprocessorTransfer x) = false
-is_return (operation.Coprocessor x) = false
+is_return _ = false
 
 -- ## Writers of R15
 
@@ -83,18 +78,13 @@ data_writes_pc o rd = is_pc rd && not (is_compare o)
 
 -- it writes R15, other than a branch or a call; bit 15 of a list, the highest, stands for R15
 abbrev pub writes_pc : Operation → Bool
-writes_pc (operation.Multiply x) = false
 writes_pc (operation.DataRegister x) = data_writes_pc x.opcode x.rd
 writes_pc (operation.DataRegisterShift x) = data_writes_pc x.opcode x.rd
 writes_pc (operation.DataImmediate x) = data_writes_pc x.opcode x.rd
 writes_pc (operation.SingleImmediate x) = x.load && is_pc x.rd
 writes_pc (operation.SingleRegister x) = x.load && is_pc x.rd
 writes_pc (operation.Block x) = x.load && nat_le 0x8000 x.list
-writes_pc (operation.Branch x) = false
-writes_pc (operation.Swi x) = false
-writes_pc (operation.UndefinedTransfer x) = false
-writes_pc (operation.CoprocessorTransfer x) = false
-writes_pc (operation.Coprocessor x) = false
+writes_pc _ = false
 
 -- it writes R15, other than a branch or a call, and does not look like a return
 abbrev pub is_odd_writer : Operation → Bool

@@ -82,12 +82,7 @@ pub fn is_return(operation: &Operation) -> bool
         Operation::SingleImmediate(x) => is_stack(x.rn),
         Operation::SingleRegister(x) => is_stack(x.rn),
         Operation::Block(x) => is_stack(x.rn),
-        Operation::Multiply(_)
-        | Operation::Branch(_)
-        | Operation::Swi(_)
-        | Operation::UndefinedTransfer(_)
-        | Operation::CoprocessorTransfer(_)
-        | Operation::Coprocessor(_) => false,
+        _ => false,
     }
 }
 
@@ -108,12 +103,7 @@ pub fn writes_pc(operation: &Operation) -> bool
         Operation::SingleImmediate(x) => x.load && x.rd.is_pc(),
         Operation::SingleRegister(x) => x.load && x.rd.is_pc(),
         Operation::Block(x) => x.load && x.list >= 0x8000,
-        Operation::Multiply(_)
-        | Operation::Branch(_)
-        | Operation::Swi(_)
-        | Operation::UndefinedTransfer(_)
-        | Operation::CoprocessorTransfer(_)
-        | Operation::Coprocessor(_) => false,
+        _ => false,
     }
 }
 

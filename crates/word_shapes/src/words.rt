@@ -35,10 +35,7 @@ pub fn instr_at(image: &Image, at: u32) -> Option<Instr>
 pub fn is_transfer_at(image: &Image, at: u32) -> bool
     ensures { IsTrue result ↔ HasShape is_transfer image.now at }
 {
-    match instr_at(image, at) {
-        Some(instr) => is_transfer(&instr.operation),
-        None => false,
-    }
+    instr_at(image, at).is_some_and(|instr| is_transfer(&instr.operation))
 }
 
 /// Whether the image has a word at an address that writes R15, other than a branch or a call, and does not
@@ -46,28 +43,19 @@ pub fn is_transfer_at(image: &Image, at: u32) -> bool
 pub fn is_odd_writer_at(image: &Image, at: u32) -> bool
     ensures { IsTrue result ↔ HasShape is_odd_writer image.now at }
 {
-    match instr_at(image, at) {
-        Some(instr) => is_odd_writer(&instr.operation),
-        None => false,
-    }
+    instr_at(image, at).is_some_and(|instr| is_odd_writer(&instr.operation))
 }
 
 /// Whether the image has a word at an address that jumps into a table of branches.
 pub fn is_table_jump_at(image: &Image, at: u32) -> bool
     ensures { IsTrue result ↔ HasShape is_table_jump image.now at }
 {
-    match instr_at(image, at) {
-        Some(instr) => is_table_jump(&instr.operation),
-        None => false,
-    }
+    instr_at(image, at).is_some_and(|instr| is_table_jump(&instr.operation))
 }
 
 /// Whether the image has a word at an address that keeps the way back.
 pub fn is_way_back_at(image: &Image, at: u32) -> bool
     ensures { IsTrue result ↔ HasShape is_way_back image.now at }
 {
-    match instr_at(image, at) {
-        Some(instr) => is_way_back(&instr.operation),
-        None => false,
-    }
+    instr_at(image, at).is_some_and(|instr| is_way_back(&instr.operation))
 }

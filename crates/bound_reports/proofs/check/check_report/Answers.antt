@@ -1,17 +1,13 @@
-use Rattle.std.proofs.Common.{inl}
 use Rattle.bound_reports.proofs.CheckLemmas.{checkable, ends_unfound, judged}
 use Rattle.report_output.proofs.AnswerLemmas.{ends_printed}
+use Rattle.report_input.proofs.PricedLemmas.{by_profile}
 use Rattle.bound_reports.proofs.check.check_report.Goals as goal
 
 pub returns-in_err-verdict : goal.returns-in_err-verdict
 returns-in_err-verdict g c =
-    inl (record {
-      profile = c.in_ok-profile.profile;
-      is = c.in_ok-profile.ensures.is;
-      holds =
-          ends_unfound _ _ _ _ _ c.args.out.now c.from_residual-in_err-verdict.result c.in_err-verdict.field-0.0 c.from_residual-in_err-verdict.ensures.1 c.in_err-verdict.ensures.fault
-          c.in_err-verdict.ensures.only;
-    })
+    by_profile c.in_ok-profile.profile c.in_ok-profile.ensures.is
+    (ends_unfound _ _ _ _ _ c.args.out.now c.from_residual-in_err-verdict.result c.in_err-verdict.field-0.0 c.from_residual-in_err-verdict.ensures.1 c.in_err-verdict.ensures.fault
+    c.in_err-verdict.ensures.only)
 
 pub returns : goal.returns
 returns g c =
@@ -21,11 +17,7 @@ returns g c =
     let profile = c.in_ok-profile.profile in
     let v = c.in_ok-verdict.verdict in
     let is = judged source statement cert profile v c.in_ok-verdict.ensures.found in
-    inl (record {
-      profile = profile;
-      is = c.in_ok-profile.ensures.is;
-      holds =
-          ends_printed _ _ _ _ _ c.args.out.now c.print_answer.new.out c.is_yes.result c.line_of.result.now c.print_answer.result
-          (record { verdict = v; judged = is; answer_is = c.is_yes.ensures; line_is = c.line_of.ensures })
-          (checkable source statement cert profile v is) tt c.print_answer.ensures.printed c.print_answer.ensures.device;
-    })
+    by_profile profile c.in_ok-profile.ensures.is
+    (ends_printed _ _ _ _ _ c.args.out.now c.print_answer.new.out c.is_yes.result c.line_of.result.now c.print_answer.result
+    (record { verdict = v; judged = is; answer_is = c.is_yes.ensures; line_is = c.line_of.ensures })
+    (checkable source statement cert profile v is) tt c.print_answer.ensures.printed c.print_answer.ensures.device)

@@ -1,14 +1,15 @@
-use Rattle.std.proofs.Common.{◌∙◌, sym, subst}
+use Rattle.std.proofs.Common.{◌<◌, ◌^◌, ℕ}
 use Rattle.std.specs.Fmt.{decimal}
-use Rattle.certificate.specs.Words.{Lacks}
-use Rattle.certificate.proofs.CutLaws.{Lacks-middle, one_cut}
-use Rattle.certificate.proofs.FieldLaws.{decimal-blank, from_none}
+use Rattle.certificate.proofs.FieldLaws.{decimal-blank, from_none, no_word, other_word}
 use Rattle.certificate.proofs.fields.number_first.Goals as goal
 
 pub returns-in_err-word : goal.returns-in_err-word
-returns-in_err-word c = from_none _ _ _ c.from_residual.ensures (λ n rest small e. Lacks-middle 32 (decimal n) rest (subst (Lacks 32) e c.in_err-word.ensures))
+returns-in_err-word c =
+    from_none _ _ _ c.from_residual.ensures
+    (no_word (λ (n : ℕ). n < 2 ^ 63) decimal c.args.words.now c.in_err-word.ensures)
 
-pub returns-in-None : goal.returns-in-None
-returns-in-None c = λ n rest small e.
-    let cut = one_cut 32 c.in_ok-word.word.now (decimal n) c.in_ok-word.rest.now rest c.in_ok-word.ensures.1 (decimal-blank n small) (sym c.in_ok-word.ensures.0 ∙ e) in
-    c.in-None.ensures n small cut.0
+pub returns-in_err-decimal_at : goal.returns-in_err-decimal_at
+returns-in_err-decimal_at c =
+    from_none _ _ _ c.from_residual-in_err-decimal_at.ensures
+    (other_word (λ (n : ℕ). n < 2 ^ 63) decimal decimal-blank c.args.words.now c.in_ok-word.word.now c.in_ok-word.rest.now
+    c.in_ok-word.ensures.1 c.in_ok-word.ensures.0 c.in_err-decimal_at.ensures)

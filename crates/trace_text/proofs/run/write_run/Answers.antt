@@ -1,4 +1,4 @@
-use Rattle.std.proofs.Common.{◌≡◌, ◌∙◌, ◌+◌, ◌*◌, ap, rules, arith, drop, string_bytes}
+use Rattle.std.proofs.Common.{◌≡◌, ◌∙◌, ◌+◌, ◌*◌, List, ℕ, ap, rules, arith, drop, string_bytes}
 use Rattle.std.specs.Prelude.{slice_index_or}
 use Rattle.std.proofs.lemmas.List.{drop_more, take_more}
 use Rattle.std.proofs.Math.ListN.{drop_of_length-le}
@@ -10,37 +10,36 @@ use Rattle.trace_text.proofs.RunLaws.{front_runs, front_told, on_err, run_refuse
 use Rattle.trace_text.proofs.RunLaws.{text_stops}
 use Rattle.trace_text.proofs.run.write_run.Goals as goal
 
-pub returns-in-Stopped-clause-runs : goal.returns-in-Stopped-clause-runs
-returns-in-Stopped-clause-runs c =
-    let inputs = c.args.inputs.now in
-    let index = c.loop-input.input-index in
-    let input : Input =
-    slice_index_or inputs index (record { bursts = 0; lines = record { 0 = 0 }; port = 0 }) in
-    let traced = c.step_traced-traced in
-    at_stop c.args.machine.now inputs c.loop-input.ran c.loop-input.machine traced.new.self
-    (drop index inputs) (drop (index + 1) inputs) input traced.result.told c.in-Stopped.why
-    c.loop-input.invariant.0 (drop_more inputs index _ c.loop-input-test.true) traced.ensures.step
-    c.in-Stopped.is
+abbrev input_at : List Input → ℕ → Input
+input_at inputs index =
+    slice_index_or inputs index (record { bursts = 0; lines = record { 0 = 0 }; port = 0 })
 
-pub returns-in-Stopped-clause-text : goal.returns-in-Stopped-clause-text
-returns-in-Stopped-clause-text c =
+pub returns-in-Stopped : goal.returns-in-Stopped
+returns-in-Stopped c =
     let inputs = c.args.inputs.now in
     let index = c.loop-input.input-index in
-    let input : Input =
-    slice_index_or inputs index (record { bursts = 0; lines = record { 0 = 0 }; port = 0 }) in
+    let input = input_at inputs index in
     let traced = c.step_traced-traced in
-    text_stops c.args.machine.now inputs c.loop-input.machine traced.new.self (drop index inputs)
-    (drop (index + 1) inputs) input traced.result
-    (drop_more inputs index _ c.loop-input-test.true) traced.ensures.step c.in-Stopped.why
-    (string_bytes c.args.out.now) (string_bytes c.loop-input.out)
-    traced.ensures.word c.in-Stopped.is c.loop-input.invariant.1
+    let left = drop index inputs in
+    let rest = drop (index + 1) inputs in
+    let at_hand = drop_more inputs index _ c.loop-input-test.true in
+    let start = c.args.machine.now in
+    record {
+      runs =
+          at_stop start inputs c.loop-input.ran c.loop-input.machine traced.new.self left rest input
+          traced.result.told c.in-Stopped.why c.loop-input.invariant.0 at_hand traced.ensures.step c.in-Stopped.is;
+      text =
+          text_stops start inputs c.loop-input.machine traced.new.self left rest input traced.result at_hand
+          traced.ensures.step c.in-Stopped.why (string_bytes c.args.out.now) (string_bytes c.loop-input.out)
+          traced.ensures.word c.in-Stopped.is c.loop-input.invariant.1;
+      refused = tt;
+    }
 
 pub loop-input-preserved : goal.loop-input-preserved
 loop-input-preserved c =
     let inputs = c.args.inputs.now in
     let index = c.loop-input.input-index in
-    let input : Input =
-    slice_index_or inputs index (record { bursts = 0; lines = record { 0 = 0 }; port = 0 }) in
+    let input = input_at inputs index in
     let traced = c.step_traced-traced in
     let start = c.args.machine.now in
     let now = c.loop-input.machine in
@@ -105,8 +104,7 @@ pub returns-in_err-put_trace-clause-refused : goal.returns-in_err-put_trace-clau
 returns-in_err-put_trace-clause-refused c =
     let inputs = c.args.inputs.now in
     let index = c.loop-input.input-index in
-    let input : Input =
-    slice_index_or inputs index (record { bursts = 0; lines = record { 0 = 0 }; port = 0 }) in
+    let input = input_at inputs index in
     let traced = c.step_traced-traced in
     let here = take_more inputs index _ c.loop-input-test.true in
     let left = drop_more inputs index _ c.loop-input-test.true in

@@ -1,11 +1,9 @@
+use Rattle.std.proofs.Common.{rules}
 use Rattle.arm2_effect.specs.Operations.{is_transfer}
-use Rattle.word_shapes.proofs.ShapeLaws.{no_shape, shape_told}
+use Rattle.word_shapes.proofs.ShapeLaws.{shape_told}
 use Rattle.word_shapes.proofs.words.is_transfer_at.Goals as goal
 
-pub returns-in-Some : goal.returns-in-Some
-returns-in-Some c =
-    shape_told is_transfer c.args.image.now c.args.at c.in-Some.instr c.is_transfer.result c.in-Some.ensures.some c.in-Some.ensures.only
-    c.is_transfer.ensures
-
-pub returns-in-None : goal.returns-in-None
-returns-in-None c = no_shape is_transfer c.args.image.now c.args.at c.in-None.ensures.only
+pub returns : goal.returns
+returns c =
+    shape_told is_transfer c.args.image.now c.args.at c.instr_at.result c.is_some_and.result c.instr_at.ensures.some
+    c.instr_at.ensures.only (search rules)

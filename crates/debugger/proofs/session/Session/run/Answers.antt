@@ -6,8 +6,8 @@ use Rattle.debugger.proofs.WatchLaws.{added_alone, first_of_watch, none_made, se
 use Rattle.debugger.proofs.WatchLaws.{same_line, with_last}
 use Rattle.debugger.proofs.session.Session.run.Goals as goal
 
-pub returns-in_default-clause-err : goal.returns-in_default-clause-err
-returns-in_default-clause-err c =
+pub returns-in_default : goal.returns-in_default
+returns-in_default c =
     let s = c.self.inside in
     let watched = c.run_watched-watched in
     let (made, watches, ends) = watched.ensures in
@@ -15,18 +15,11 @@ returns-in_default-clause-err c =
     let stopped =
     still c.as_slice-breaks.result.now s.machine s.next c.args.steps made watched.result.ran
     watched.new.machine (omega (arith, c.requires)) watches none in
-    inr (refl, rw (← c.self.view_is) stopped.1)
-
-pub returns-in_default-clause-unchanged : goal.returns-in_default-clause-unchanged
-returns-in_default-clause-unchanged c =
-    let s = c.self.inside in
-    let watched = c.run_watched-watched in
-    let (made, watches, ends) = watched.ensures in
-    let none = none_made made watched.result.last c.in_default.not-Some ends in
-    let stopped =
-    still c.as_slice-breaks.result.now s.machine s.next c.args.steps made watched.result.ran
-    watched.new.machine (omega (arith, c.requires)) watches none in
-    rw (← c.self.view_is) (ap (session_on s.breaks.items s.next s.ticks s.elapsed) stopped.0)
+    record {
+      ok = tt;
+      err = inr (refl, rw (← c.self.view_is) stopped.1);
+      unchanged = rw (← c.self.view_is) (ap (session_on s.breaks.items s.next s.ticks s.elapsed) stopped.0);
+    }
 
 pub returns-clause-ok : goal.returns-clause-ok
 returns-clause-ok c =

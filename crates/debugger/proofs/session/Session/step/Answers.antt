@@ -4,23 +4,18 @@ use Rattle.debugger.specs.Watching.{inputs_of}
 use Rattle.debugger.proofs.WatchLaws.{added_alone, session_on, still_run}
 use Rattle.debugger.proofs.session.Session.step.Goals as goal
 
-pub returns-then-ran-eq0-clause-err : goal.returns-then-ran-eq0-clause-err
-returns-then-ran-eq0-clause-err c =
+pub returns-then-ran-eq0 : goal.returns-then-ran-eq0
+returns-then-ran-eq0 c =
     let s = c.self.inside in
     let ran = c.put_steps-ran in
     let stopped =
     still_run s.machine s.next c.args.steps ran.result ran.new.machine (omega (arith, c.requires))
     ran.ensures.runs c.if-ran-eq0.true in
-    inr (refl, rw (← c.self.view_is) stopped.1)
-
-pub returns-then-ran-eq0-clause-unchanged : goal.returns-then-ran-eq0-clause-unchanged
-returns-then-ran-eq0-clause-unchanged c =
-    let s = c.self.inside in
-    let ran = c.put_steps-ran in
-    let stopped =
-    still_run s.machine s.next c.args.steps ran.result ran.new.machine (omega (arith, c.requires))
-    ran.ensures.runs c.if-ran-eq0.true in
-    rw (← c.self.view_is) (ap (session_on s.breaks.items s.next s.ticks s.elapsed) stopped.0)
+    record {
+      ok = tt;
+      err = inr (refl, rw (← c.self.view_is) stopped.1);
+      unchanged = rw (← c.self.view_is) (ap (session_on s.breaks.items s.next s.ticks s.elapsed) stopped.0);
+    }
 
 pub returns-clause-ok : goal.returns-clause-ok
 returns-clause-ok c =
