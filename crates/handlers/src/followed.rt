@@ -4,7 +4,7 @@ use std::alloc::Global;
 use std::str;
 
 /// What `follow` tells of a handler's run.
-#[derive(Clone, Copy, Debug)]
+#[derive(Clone, Copy)]
 pub(crate) enum Followed {
     /// It keeps the statement.
     Kept {

@@ -40,14 +40,14 @@ impl From<ReportFault> for Unjudged {
 }
 
 /// The greatest run time of a handler, in ticks, and whether the checker accepts all certificates of it.
-#[derive(Clone, Copy, Debug)]
+#[derive(Clone, Copy)]
 struct Bounded {
     ticks: u64,
     accepted: bool,
 }
 
 /// What a run of a handler took.
-#[derive(Clone, Copy, Debug)]
+#[derive(Clone, Copy)]
 struct Run {
     finished: bool,
     ticks: u64,
@@ -56,7 +56,7 @@ struct Run {
 
 /// What was found about a handler: its bound, what its run took and whether it keeps the statement, and of
 /// its edges by the first cycle profile and by a dearer one.
-#[derive(Clone, Copy, Debug)]
+#[derive(Clone, Copy)]
 pub(crate) struct Judgement {
     bound: Bounded,
     run: Run,

@@ -6,22 +6,28 @@
 //! graph is run too, by the first cycle profile and by that of `data/dearer.toml`. It fails where a
 //! certificate is not accepted, where a run takes more ticks than its bound or stops, where `follow` tells
 //! other ticks or another end, or where the run of an edge takes more or fewer ticks than the edge costs.
+//!
+//! Before that it runs commands over the system's own files and streams, one of them where the disc is full.
 #![tactic(auto)]
 
+mod commands;
 mod followed;
+mod full_disc;
 mod judgement;
 mod sample;
 mod tight;
 
 use arcwcet::HostStore;
+use commands::run_commands;
 use judgement::judge;
 use sample::samples;
 use std::io;
 use std::process::ExitCode;
 
-fn main(rt: HostRuntime) -> io::Result<ExitCode> {
+// Judges all samples, and answers whether one failed.
+fn judge_samples(rt: &HostRuntime) -> io::Result<bool> {
     let alloc = rt.alloc();
-    let mut store = HostStore::new(&rt);
+    let mut store = HostStore::new(rt);
     let mut failed = false;
     for sample in samples() {
         let name = sample.folder;
@@ -36,7 +42,12 @@ fn main(rt: HostRuntime) -> io::Result<ExitCode> {
             }
         }
     }
-    Ok(if failed {
+    Ok(failed)
+}
+
+fn main(rt: HostRuntime) -> io::Result<ExitCode> {
+    run_commands(&rt)?;
+    Ok(if judge_samples(&rt)? {
         ExitCode::FAILURE
     } else {
         ExitCode::SUCCESS

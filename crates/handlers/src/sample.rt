@@ -1,5 +1,5 @@
 /// A sample handler.
-#[derive(Clone, Copy, Debug)]
+#[derive(Clone, Copy)]
 pub(crate) struct Sample {
     /// Its folder in `data/`.
     pub(crate) folder: &'static str,

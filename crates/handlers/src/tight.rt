@@ -5,7 +5,7 @@ use std::str;
 
 /// How many edges a handler's flow graph has, how many of them are free, and whether the machine file of each
 /// free edge runs for exactly the edge's cost.
-#[derive(Clone, Copy, Debug)]
+#[derive(Clone, Copy)]
 pub(crate) struct Edges {
     pub(crate) all: u32,
     pub(crate) free: u32,

@@ -1,17 +1,12 @@
-//! Runs commands over the system's own files and streams, in the folder `data/`: the image that `asm` writes
-//! is what the others read. The last one writes an image where the disc is full. What is stored as this
-//! program's output is what standard output took, each command's status, and which image is there.
-#![tactic(auto)]
+//! Commands in turn over the system's own files and streams. What is stored as this program's output is what
+//! standard output took, each command's status, and which image is there.
 
-mod full_disc;
-
+use crate::full_disc::FullDisc;
 use arcwcet::{HostStore, Store, StreamOutput, program};
-use full_disc::FullDisc;
 use std::alloc::{AllocError, Global};
-use std::process::ExitCode;
 use std::{fs, io};
 
-/// Commands in turn, each as its words after the program's name.
+/// Each as its words after the program's name: the image that `asm` writes is what the others read.
 const COMMANDS: [&str; 6] = [
     "asm countdown.s countdown.image",
     "bound countdown.image statement.toml",
@@ -45,15 +40,16 @@ fn run<S: Store>(rt: &HostRuntime, store: &mut S, command: &str) -> io::Result<(
     println!(rt; "{command}: status {status}")
 }
 
-fn main(rt: HostRuntime) -> io::Result<ExitCode> {
+/// Runs the commands, the last one where the disc is full.
+pub(crate) fn run_commands(rt: &HostRuntime) -> io::Result<()> {
     for command in COMMANDS {
-        run(&rt, &mut HostStore::new(&rt), command)?;
+        run(rt, &mut HostStore::new(rt), command)?;
     }
-    let disc = FullDisc::new(&rt);
-    run(&rt, &mut HostStore::new(&disc), CUT)?;
+    let disc = FullDisc::new(rt);
+    run(rt, &mut HostStore::new(&disc), CUT)?;
     for image in IMAGES {
-        let is_there = fs::exists(&rt, image)?;
+        let is_there = fs::exists(rt, image)?;
         println!(rt; "{image} is there: {is_there}")?;
     }
-    Ok(ExitCode::SUCCESS)
+    Ok(())
 }
