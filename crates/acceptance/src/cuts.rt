@@ -9,7 +9,7 @@ use std::test::Fail;
 const PROFILE: &[u8] = b"n=3\ns=1\nquad=2\nrom=[5,4,3,2]\nio=[8,6,5,10]\ncontrol=2\nunfitted=2\n\
     internal=1\nburst=8\n";
 
-/// What is told of an input by the length of what stands of it: each row up to so many bytes.
+/// What a report says of an input, by the length of the front that is left: each row up to so many bytes.
 type Fronts = &'static [(usize, &'static str)];
 
 type Cut = (Input, &'static [u8], Fronts);
@@ -123,7 +123,7 @@ const CUTS: [Cut; 11] = [
 /// What a byte of the image is made.
 const VALUES: [u8; 3] = [0x00, 0x7F, 0xFF];
 
-/// What is told of the image with a byte made each of these: each row up to so many bytes in front.
+/// What a report says of the image with a byte made each of these: each row up to so many bytes in front.
 const CHANGES: [(usize, [&str; 3]); 10] = [
     // What begins an image, in front of a text that is none.
     (
@@ -159,7 +159,7 @@ fn row_at<T: Copy>(rows: &[(usize, T)], at: usize) -> Option<T> {
     None
 }
 
-/// The length at which something else is told of an input, if there is one.
+/// The length at which a report says something else of an input, if there is one.
 fn first_wrong_cut(alloc: Global, cut: &Cut) -> Result<Option<usize>, AllocError> {
     let (input, bytes, rows) = cut;
     for length in 0..=bytes.len() {
@@ -173,7 +173,7 @@ fn first_wrong_cut(alloc: Global, cut: &Cut) -> Result<Option<usize>, AllocError
     Ok(None)
 }
 
-/// Whether the right things are told of the image with that byte changed.
+/// Whether the reports say the right things of the image with that byte changed.
 fn are_told(alloc: Global, at: usize, wanted: &[&str; 3]) -> Result<bool, AllocError> {
     for (value, told) in VALUES.iter().zip(wanted.iter()) {
         let mut image = IMAGE;

@@ -54,7 +54,7 @@ const REFUSED: Told = (1, b"", b"refused: InputTooLong\n");
 
 const DEVICE: Told = (4, b"", b"refused: Device\n");
 
-/// A byte, how often it stands in standard input, how that fails then in place of its end, and how much of
+/// A byte, how often it appears in standard input, how that fails then in place of its end, and how much of
 /// it the program leaves.
 type Input = (u8, usize, Option<ErrorKind>, usize);
 
@@ -82,7 +82,7 @@ const ASM: &[&str] = &["asm"];
 
 const DEBUG: &[&str] = &["debug"];
 
-/// A command with its options; the files `source`, `second` and `profile`; its input, and what it tells.
+/// A command with its options; the files `source`, `second` and `profile`; its input, and the answer.
 type Row = (&'static [&'static str], [File; 3], Input, Told);
 
 const ROWS: [Row; 15] = [
@@ -126,7 +126,7 @@ impl Read for Bytes {
     }
 }
 
-/// Whether the program tells that of its words, and leaves so much of the input.
+/// Whether that is the program's answer to the words, and so much of the input is left.
 fn is_told(alloc: Global, words: &[String], row: &Row) -> Result<bool, ReportFault> {
     let (_, [source, second, profile], (byte, left, fails, unread), told) = row;
     let mut files = Files {
@@ -146,7 +146,7 @@ fn is_told(alloc: Global, words: &[String], row: &Row) -> Result<bool, ReportFau
     Ok(answer == *told && input.left == *unread)
 }
 
-/// The number of the first row of which something else is told.
+/// The number of the first row whose answer is another.
 fn first_wrong(alloc: Global, rows: &[Row]) -> Result<Option<usize>, ReportFault> {
     for (number, row) in rows.iter().enumerate() {
         let words = line(alloc, row.0)?;

@@ -1,5 +1,5 @@
 //! What no run of the program can show: calls by themselves, inputs and outputs that fail, and tables that
-//! are gone through in loops. What a run can show stands in the crate `cases`. Their expected values were
+//! are gone through in loops. What a run can show is in the crate `cases`. Their expected values were
 //! worked out by hand from the price table and the formats of words.
 #![tactic(auto)]
 

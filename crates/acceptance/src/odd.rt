@@ -4,7 +4,7 @@ use crate::told::{Input, TAKEN, is_told};
 use std::alloc::{AllocError, Global};
 use std::test::Fail;
 
-/// Parts, and how often each of them stands.
+/// Parts, and how often each of them appears.
 type Text = &'static [(&'static [u8], usize)];
 
 /// The documents of TOML, and a key of each.
@@ -14,7 +14,7 @@ const FORMATS: [(Input, &[u8]); 3] = [
     (Input::Profile, b"n = "),
 ];
 
-/// What stands behind a key of each format in turn, and what is told of it. TOML's reader takes lists and
+/// What follows a key of each format in turn, and what a report says of it. TOML's reader takes lists and
 /// inline tables up to 80 deep, and no integer of more than 64 bits.
 const VALUES: [(Text, [&str; 3]); 13] = [
     (&[(b"[", 80), (b"]", 80)], ["WrongKind"; 3]),
@@ -39,7 +39,7 @@ const VALUES: [(Text, [&str; 3]); 13] = [
     (&[(b"\"\0\"", 1)], ["NotToml"; 3]),
 ];
 
-/// Whole documents, and what is told of each in all formats.
+/// Whole documents, and what a report says of each in all formats.
 const DOCUMENTS: [(Text, &str); 11] = [
     (&[(b"a", 1), (b".a", 79), (b" = 1\n", 1)], "UnknownKey"),
     (&[(b"a", 1), (b".a", 80), (b" = 1\n", 1)], "NotToml"),
@@ -85,7 +85,7 @@ fn bytes_of(alloc: Global, front: &[u8], text: Text) -> Result<Vec<u8>, AllocErr
     Ok(bytes)
 }
 
-/// Whether that is told of a text as each format, behind a key of it or by itself.
+/// Whether reports say that of a text as each format, after a key of it or by itself.
 fn are_told(
     alloc: Global,
     text: Text,
@@ -102,7 +102,7 @@ fn are_told(
     Ok(true)
 }
 
-/// The number of the first value of which something else is told.
+/// The number of the first value of which a report says something else.
 fn first_wrong_value(
     alloc: Global,
     rows: &[(Text, [&str; 3])],

@@ -1,4 +1,4 @@
-//! What the reports tell of bytes as one of their inputs.
+//! What the reports say of bytes as one of their inputs.
 
 use arcwcet::{
     Bursts, Explained, MemoryOutput, ReportFault, asm_report, bound_report, check_report,
@@ -23,7 +23,7 @@ pub(crate) enum Input {
     Certificate,
 }
 
-/// What is told of an input that is not refused.
+/// What is said of an input that is not refused.
 pub(crate) const TAKEN: &str = "taken";
 
 fn explained(alloc: Global, statement: &[u8], out: &mut MemoryOutput) -> Result<bool, ReportFault> {
@@ -56,7 +56,7 @@ fn read(alloc: Global, input: Input, bytes: &[u8]) -> Result<bool, ReportFault> 
     }
 }
 
-/// Whether that is told of the bytes as that input.
+/// Whether a report says that of the bytes as that input.
 pub(crate) fn is_told(
     alloc: Global,
     input: Input,

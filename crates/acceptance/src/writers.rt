@@ -76,7 +76,7 @@ const ROWS: [Row; 5] = [
     ),
 ];
 
-/// Whether the output answers so, and its writer has those bytes.
+/// Whether that is the output's answer, and its writer has those bytes.
 fn writes(alloc: Global, row: &Row) -> bool {
     let (left, fails, answer, bytes) = row;
     let mut writer = Writer::new(alloc, 9, *left, *fails);

@@ -1,5 +1,5 @@
 //! Tests of what no command of the program shows: calls by themselves, of the analysis' crates, of
-//! bus_ticks and shifter, and of ioc and vidc. They stand here so that those crates are proved once. Their
+//! bus_ticks and shifter, and of ioc and vidc. They are here so that those crates are proved once. Their
 //! expected values were worked out by hand. What commands show is in the folders `bound_*` and `check_*` of
 //! `crates/cases/data`.
 #![tactic(auto)]

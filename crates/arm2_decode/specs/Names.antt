@@ -49,7 +49,7 @@ opcode_number Mov = 13
 opcode_number Bic = 14
 opcode_number Mvn = 15
 
--- TST TEQ CMP CMN, which give flags alone
+-- TST TEQ CMP CMN, which write flags alone
 abbrev pub is_compare : Opcode → Bool
 is_compare Tst = true
 is_compare Teq = true

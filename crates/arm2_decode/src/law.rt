@@ -4,7 +4,7 @@ ghost use Rattle.arm2_decode.specs.Table.{IsUnallocated, Means};
 use crate::instr::{Instr, Unallocated};
 
 /// States that an instruction, encoded and decoded again, is the same: of any word that
-/// [`encode`](crate::encode) may give for it, [`decode`](crate::decode) can answer nothing else. It does
+/// [`encode`](crate::encode) may return for it, [`decode`](crate::decode) can answer nothing else. It does
 /// nothing.
 pub fn decode_encoded()
     ensures { (instr : Instr) → (word : ℕ) → Means word instr → (answer : Result Instr Unallocated)
@@ -12,8 +12,8 @@ pub fn decode_encoded()
 {}
 
 /// States that a word, decoded and encoded again, is the same, unless it is unallocated: of any instruction
-/// that [`decode`](crate::decode) may give for it, [`encode`](crate::encode) can give no other word. It does
-/// nothing.
+/// that [`decode`](crate::decode) may return for it, [`encode`](crate::encode) can return no other word. It
+/// does nothing.
 pub fn encode_decoded()
     ensures { (word : ℕ) → word < 2 ^ 32 → (instr : Instr) → Means word instr → (again : ℕ) → again < 2 ^ 32
         → Means again instr → again ≡ word }

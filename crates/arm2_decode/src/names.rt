@@ -130,7 +130,7 @@ impl Opcode {
         )
     }
 
-    /// Whether it gives flags alone, and writes no register: TST, TEQ, CMP, CMN.
+    /// Whether it writes flags alone, and no register: TST, TEQ, CMP, CMN.
     pub fn is_compare(self) -> bool
         ensures { result ≡ is_compare self }
     {

@@ -19,7 +19,7 @@ mode_number Svc = 3
 abbrev pub mode_named : ℕ → Mode
 mode_named n = if n == 0 then User else (if n == 1 then Fiq else (if n == 2 then Irq else Svc))
 
--- where each register stands in the list of all: those of User, then the banks of FIQ, IRQ and SVC, and R15
+-- the place of each register in the list of all: those of User, then the banks of FIQ, IRQ and SVC, and R15
 -- last
 abbrev pub reg_number : Reg → ℕ
 reg_number R0 = 0
@@ -50,7 +50,7 @@ reg_number R13Svc = 24
 reg_number R14Svc = 25
 reg_number R15 = 26
 
--- where register n of a mode stands: FIQ has its own from R8 on, IRQ and SVC from R13 on, and all modes share
+-- the place of register n of a mode: FIQ has its own from R8 on, IRQ and SVC from R13 on, and all modes share
 -- R15
 abbrev pub slot_of : Mode → ℕ → ℕ
 slot_of User n = if n == 15 then 26 else n

@@ -78,7 +78,7 @@ placed opcode sets_flags rd out regs =
 abbrev pub delayed : ℕ → Effect → Effect
 delayed cycles e = record { kind = e.kind; accesses = Internal cycles ∷ e.accesses; regs = e.regs }
 
--- data processing with an operand; as its other operand R15 stands so many bytes ahead
+-- data processing with an operand; as its other operand R15 is so many bytes ahead
 abbrev pub processed : Opcode → Bool → (rn rd : Register) → (by : ℕ) → Shifted → List ℕ → Effect
 processed opcode sets_flags rn rd by operand regs =
     placed opcode sets_flags rd

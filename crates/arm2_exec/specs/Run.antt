@@ -34,7 +34,7 @@ abbrev pub Ends : Option Why → State → Ran → State → (goes_on : Type 0) 
 Ends (Some why) s ran after goes_on = (ran ≡ at_rest (Some why)) × (after ≡ s)
 Ends None s ran after goes_on = goes_on
 
--- the run from a state by some inputs, what it tells and where it ends
+-- the run from a state by some inputs, what it reports and where it ends
 abbrev pub Runs : State → List Input → Ran → State → Type 0
 Runs s [] ran after = (ran ≡ at_rest None) × (after ≡ s)
 Runs s (i ∷ rest) ran after =

@@ -133,7 +133,7 @@ state_after s i m =
     if is_stopped m.kind then s
     else record { regs = m.regs; bus = elapsed (time_in s i m) m.bus; profile = s.profile }
 
--- what a step tells, and the state after it
+-- what a step reports, and the state after it
 pub record Step (s : State) (i : Input) (told : Stepped) (after : State) : Type 0 where
   pub moved : Moved
   pub works : Works (interrupt_due (with_lines i.lines.0 s.bus) (r15_in s.regs)) i.port s.regs

@@ -65,7 +65,7 @@ impl Decoded {
         self.rows[place_of(address)] = row_of(word);
     }
 
-    /// What stands at the address.
+    /// The row for the address.
     #[inline(always)]
     pub(crate) fn row(&self, address: u32) -> &Row
         ensures { (other : Row) → result.now ≡ slice_index_or self.now.rows.items (address / 4 % 1024) other }

@@ -10,7 +10,7 @@ use arm2_effect::{Kind, Vector};
 /// States what a step keeps that takes an exception: memory, and every register but R14 and R15 of the
 /// exception's mode.
 ///
-/// So a transfer that is told as aborted, or as one whose address is past memory, has moved no word and
+/// So a transfer that is reported as aborted, or as one whose address is past memory, has moved no word and
 /// written back no base. The devices have what any step gives them, the lines and the time. It does nothing.
 pub fn exceptions_keep_the_rest()
     ensures { (s : State) → (i : Input) → (told : Stepped) → (after : State) → (vector : Vector)

@@ -58,7 +58,7 @@ pub struct Input {
     pub bursts: u16,
     /// The interrupt lines that are active.
     pub lines: Lines,
-    /// The word that a load among the devices gives where IOC has no register.
+    /// The word that a load among the devices reads where IOC has no register.
     pub port: u32,
 }
 

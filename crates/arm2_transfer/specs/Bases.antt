@@ -1,6 +1,6 @@
--- What a load or a store that is carried out leaves in its base register, and the word that a store gives for
--- it (VL86C010 data sheet, single data transfer and block data transfer; our own rule where it is silent: a
--- single store gives the old base, and only the register of the base's own bank counts as a block's base).
+-- What a load or a store that is carried out leaves in its base register, and the word that a store writes
+-- for it (VL86C010 data sheet, single data transfer and block data transfer; our own rule where it is silent:
+-- a single store writes the old base, and only the register of the base's own bank counts as a block's base).
 use Rattle.std.specs.Prelude.{◌≡◌, ℕ, ◌+◌, ◌*◌, ◌==◌, Bool, true, false, not, ◌&&◌, List, [], ◌∷◌, length, Ok}
 use Rattle.std.specs.List.{list_any, position_or_len}
 use Rattle.bus_ticks.specs.Prices.{word_address}
@@ -34,7 +34,7 @@ abbrev pub base_left : Register → (before after : List ℕ) → ℕ
 base_left rn before after = register_in (mode_at before) (register_number rn) after
 
 -- What a transfer leaves in its base register: the loaded word, where it loads that register; else the moved
--- base, where it writes it back; else the base as it stood.
+-- base, where it writes it back; else the base as it was.
 pub record LeavesBase (loads writes : Bool) (IsLoaded : ℕ → Type 0) (base moved left : ℕ) : Type 0 where
   pub loaded : loads ≡ true → IsLoaded left
   pub written_back : loads ≡ false → writes ≡ true → left ≡ moved
@@ -83,7 +83,7 @@ base_moved x regs = moved_by x.up (base_at x.rn regs) (4 * words_in x)
 abbrev pub lowest_at : Block → List ℕ → ℕ
 lowest_at x regs = lowest_of x (base_at x.rn regs) (words_in x)
 
--- where word number i goes or comes from, by the memory controller as it stands before the first is moved
+-- where word number i goes or comes from, by the memory controller as it is before the first is moved
 abbrev pub IsWordSpot : Block → List ℕ → Bus → (i : ℕ) → Spot → Type 0
 IsWordSpot x regs bus i spot =
     located bus.memc (word_address (lowest_at x regs) i) (is_user (mode_at regs)) (not x.load) ≡ Ok spot
@@ -104,8 +104,8 @@ IsBaseWord x port regs bus value =
     (spot : Spot) × IsWordSpot x regs bus (position_or_len (is_base x regs) (registers_in x.list)) spot
     × (value ≡ seen bus port spot)
 
--- What a store gives for a register of its list: the base as it stood, where it is the lowest of the list or
--- is not written back; the moved base, where it comes later and is; and any other register as it stands.
+-- What a store writes for a register of its list: the base as it was, where it is the lowest of the list or
+-- is not written back; the moved base, where it comes later and is; and any other register as it is.
 pub record Gives (x : Block) (regs : List ℕ) (first : Bool) (register : Register) (word : ℕ) : Type 0 where
   pub lowest_base : is_base x regs register ≡ true → first ≡ true → word ≡ base_at x.rn regs
   pub later_base : is_base x regs register ≡ true → first ≡ false → x.write_back ≡ true

@@ -19,7 +19,7 @@ put (Control address) word bus = record bus { memc = with_control address bus.me
 put (Translator address) word bus = record bus { memc = translated address bus.memc }
 put (Ignored address) word bus = bus
 
--- the word that a load sees at a spot; among the devices the port stands wherever no register of IOC does
+-- the word that a load sees at a spot; among the devices it is the port wherever IOC has no register
 abbrev pub seen : Bus → (port : ℕ) → Spot → ℕ
 seen bus port (Ram place) = word_at bus.memc (Ram place)
 seen bus port (Rom address) = word_at bus.memc (Rom address)

@@ -18,7 +18,7 @@ is_user Svc = false
 abbrev pub moved_by : (up : Bool) → (base offset : ℕ) → ℕ
 moved_by up base offset = if up then (base + offset) % 2 ^ 32 else (base + (2 ^ 32 - offset)) % 2 ^ 32
 
--- what a store takes from a register of a mode: R15 stands three words on, with its PSR and mode
+-- what a store takes from a register of a mode: R15 is three words on, with its PSR and mode
 abbrev pub given : Mode → Register → List ℕ → ℕ
 given mode register regs =
     if is_pc register then r15_ahead (r15_in regs) 12 else register_in mode (register_number register) regs

@@ -90,7 +90,7 @@ single_at x base port regs bus =
     (not x.load))) regs bus
     else out_of_space regs bus
 
--- a single transfer: R15 as the base stands two words on, without its PSR and mode
+-- a single transfer: R15 as the base is two words on, without its PSR and mode
 abbrev pub single_moved : Single → (port : ℕ) → List ℕ → Bus → Moved
 single_moved x port regs bus = single_at x (first_of 8 x.rn regs) port regs bus
 

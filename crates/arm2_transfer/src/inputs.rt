@@ -3,7 +3,7 @@ use arm2_effect::Prices;
 /// What a transfer is given besides the state of the machine.
 #[derive(Clone, Copy)]
 pub struct Inputs {
-    /// The word that a load sees among the devices where no register of IOC stands.
+    /// The word that a load sees among the devices where IOC has no register.
     pub port: u32,
     pub prices: Prices,
 }

@@ -10,9 +10,9 @@ use arm2_decode::Block;
 use arm2_effect::Kind;
 
 /// States what a load or a store that is carried out leaves in its base register: the loaded word, where it
-/// loads that register; else the moved base, where it writes it back; else the base as it stood.
+/// loads that register; else the moved base, where it writes it back; else the base as it was.
 ///
-/// And what a store of the base gives: a single store the old base, and so a block that has it as the lowest
+/// And what a store of the base writes: a single store the old base, and so a block that has it as the lowest
 /// register of its list; a block that has it later, the base as it is written back. A block's base is that of
 /// its own bank. It does nothing.
 pub fn bases_after_transfers()

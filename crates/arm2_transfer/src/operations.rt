@@ -12,7 +12,7 @@ use arm2_effect::{Done, Prices, Registers};
 
 /// Carries out an instruction whose condition holds, at the address in R15.
 ///
-/// `port` is the word that a load sees among the devices where no register of IOC stands. A store
+/// `port` is the word that a load sees among the devices where IOC has no register. A store
 /// that asks for what the machine does not do stops it, and changes nothing.
 pub fn execute(
     registers: &mut Registers,

@@ -16,7 +16,7 @@ use arm2_decode::{SingleImmediate, SingleRegister};
 use arm2_effect::{Done, Prices, Reg, Registers, Vector, address_of, mode_of};
 use memc::Spot;
 
-// A single transfer and its base, as it stood before.
+// A single transfer and its base, as it was before.
 #[derive(Clone, Copy)]
 struct PlacedSingle {
     transfer: Single,

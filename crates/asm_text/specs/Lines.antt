@@ -6,7 +6,7 @@ use Rattle.asm_text.specs.Pieces.{Piece, Run, Comma, Sign, Gap, is_blank, is_nam
 abbrev pub IsBlanks : List ℕ → Type 0
 IsBlanks text = list_all is_blank text ≡ true
 
--- blanks may stand round a comma, and after the last piece
+-- blanks are allowed round a comma, and after the last piece
 abbrev pub Written : List Piece → List ℕ → Type 0
 Written [] text = IsBlanks text
 Written (Run r ∷ ps) text =
@@ -34,7 +34,7 @@ may_follow_gap (Run r ∷ ps) = true
 may_follow_gap (Sign m ∷ ps) = true
 may_follow_gap _ = false
 
--- a gap parts two runs; no gap stands beside a comma, a gap or the end
+-- a gap parts two runs; no gap is beside a comma, a gap or the end
 abbrev pub WellSpaced : List Piece → Type 0
 WellSpaced [] = Unit {0}
 WellSpaced (Run r ∷ ps) = (starts_run ps ≡ false) × WellSpaced ps

@@ -64,7 +64,7 @@ head_name (Block false) = codes "STM"
 head_name Swi = codes "SWI"
 head_name Adr = codes "ADR"
 
--- what stands after the condition
+-- what follows the condition
 abbrev pub suffix_name : Suffix → List ℕ
 suffix_name Bare = []
 suffix_name S = codes "S"

@@ -33,7 +33,7 @@ use Rattle.asm_text.specs.declared.syntax.Distance.TheVariants as distance
 use Rattle.asm_text.specs.declared.syntax.Address.{Address}
 use Rattle.asm_text.specs.declared.syntax.BlockTransfer.{BlockTransfer}
 
--- what is read, where nothing stands after it
+-- what is read, where nothing follows it
 abbrev pub alone : {A : Type 0} → A → List Piece → Option A
 alone a [] = Some a
 alone a (p ∷ ps) = None
@@ -247,7 +247,7 @@ to_step list a (Run b) =
     (register_of b)
 to_step list a _ = None
 
--- what a piece does in a list, by what stands before it
+-- what a piece does in a list, by what comes before it
 abbrev pub list_step : ℕ → Place → Piece → Option Step
 list_step list Start p = start_step list p
 list_step list (First a) p = first_step list a p
@@ -264,7 +264,7 @@ list_by on ps None = None
 list_by on ps (Some (Goes list place)) = on list place
 list_by on ps (Some (Ends list)) = Some (list, ps)
 
--- after {: registers and runs with commas between them, and }; what stands after that
+-- after {: registers and runs with commas between them, and }; what follows that
 abbrev pub list_from : ℕ → Place → List Piece → Option (ℕ × List Piece)
 list_from list place [] = None
 list_from list place (p ∷ ps) = list_by (λ more next. list_from more next ps) ps (list_step list place p)

@@ -19,7 +19,7 @@ abbrev pub in_front : ℕ → List (List ℕ) → List (List ℕ)
 in_front b [] = (b ∷ []) ∷ []
 in_front b (line ∷ lines) = (b ∷ line) ∷ lines
 
--- each LF ends a line, with a CR in front of it if there is one; what stands after the last LF is a line if
+-- each LF ends a line, with a CR in front of it if there is one; what follows the last LF is a line if
 -- it is not empty
 unfoldable pub lines_of : List ℕ → List (List ℕ)
 lines_of [] = []

@@ -179,7 +179,7 @@ SpellsOffset up (distance.Register m a) ps =
     (register : List ℕ) × (shift : List Piece) × (ps ≡ marked (not up) Minus ++ (Run register ∷ shift))
     × IsRegister register m × SpellsShifting (shifting.Amount a) shift
 
--- what follows the bracket where no offset stands: Rn] or Rn]!, of offset 0
+-- what follows the bracket where there is no offset: Rn] or Rn]!, of offset 0
 pub record SpellsBase (x : Address) (ps : List Piece) : Type 0 where
   pub rn : Register
   pub write_back : Bool
@@ -215,7 +215,7 @@ SpellsAddress user x ps =
 
 -- ---- lists
 
--- one or more, each spelled so, with commas between them
+-- one or more, each spelled in this way, with commas between them
 abbrev pub Listed : {A : Type 0} → (A → List Piece → Type 0) → List A → List Piece → Type 0
 Listed spells [] ps = ⊥
 Listed spells (a ∷ []) ps = spells a ps

@@ -49,7 +49,7 @@ pub record SpellsAt (rd : Register) (t : Target) (ps : List Piece) : Type 0 wher
   pub d-is : IsRegister d rd
   pub target : SpellsTarget t rest
 
--- ---- what stands after a word
+-- ---- what follows a word
 
 -- an action whose operands are all numbers and registers
 abbrev pub SpellsAction : Action → Head → Suffix → List Piece → Type 0

@@ -192,7 +192,7 @@ abbrev pub begins_blank_or_ends : List ℕ → Bool
 begins_blank_or_ends [] = true
 begins_blank_or_ends (b ∷ bs) = is_blank b
 
--- a word ends at a blank or with the line: what stands after label, blanks and word, each of which may be
+-- a word ends at a blank or with the line: what follows label, blanks and word, each of which may be
 -- missing, begins with a blank or is nothing
 abbrev pub word_ends : List ℕ → Bool
 word_ends text = begins_blank_or_ends (past is_name (past is_blank (past is_name text)))

@@ -129,7 +129,7 @@ fn parse<'a>(alloc: Global, tokens: &[Token<'a>]) -> Result<Line<'a>, TextFault>
 ///
 /// `NotText`: a byte other than 20 to 7E and a tab, or after a `;` 80 to FF. `UnknownWord`: the first column
 /// holds neither a blank nor a label, or the text after it is no word that ends at a blank or with the line.
-/// `BadOperand`: what stands after the word does not belong to it. `Memory`: an allocation failed.
+/// `BadOperand`: what follows the word does not belong to it. `Memory`: an allocation failed.
 pub fn read_line<'a>(alloc: Global, text: &'a [u8]) -> Result<Line<'a>, TextFault>
     ensures ok { IfOk result (λ line. line_of text.now ≡ Ok (line_view line)) }
     ensures err { IfErr result (λ fault. (fault ≡ TextFault.Memory) ⊎ (line_of text.now ≡ Err fault)) }
@@ -140,7 +140,7 @@ pub fn read_line<'a>(alloc: Global, text: &'a [u8]) -> Result<Line<'a>, TextFaul
     let tokens = tokens(alloc, body)?;
     match parse(alloc, &tokens) {
         Ok(line) => Ok(line),
-        // Pieces do not say whether a blank stands in front of a comma.
+        // Pieces do not say whether there is a blank in front of a comma.
         Err(fault) => {
             if word_ends(body) {
                 Err(fault)
@@ -185,7 +185,7 @@ fn without_return(line: &[u8]) -> &[u8]
     }
 }
 
-/// The first line of a source, without its end, and what stands after it. None where nothing stands.
+/// The first line of a source, without its end, and what follows it. None where the source is empty.
 pub fn first_line(source: &[u8]) -> Option<(&[u8], &[u8])>
     ensures { MatchOption result (lines_of source.now ≡ [])
         (λ f. (lines_of source.now ≡ f.0.now ∷ lines_of f.1.now) × (length f.1.now < length source.now)) }

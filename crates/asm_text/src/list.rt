@@ -25,7 +25,7 @@ fn run_bits(first: Register, last: Register) -> Option<u32>
     }
 }
 
-/// Where a reader of a list of registers stands.
+/// Where a reader of a list of registers is.
 #[derive(Clone, Copy)]
 pub enum Place {
     /// A register or a run of them comes next.

@@ -22,7 +22,7 @@ pub enum Head {
     Adr,
 }
 
-/// What stands after the condition of a word.
+/// What follows the condition of a word.
 #[derive(Clone, Copy)]
 pub enum Suffix {
     /// Nothing.
@@ -55,7 +55,7 @@ pub enum Suffix {
     Ea,
 }
 
-// Names in upper case. Conditions, and the opcodes that come first of the heads, stand at their numbers.
+// Names in upper case. Conditions, and the opcodes that come first of the heads, are at their numbers.
 
 const CONDS: [(&[u8], Cond); 16] = [
     (b"EQ", Cond::Eq),

@@ -70,7 +70,7 @@ fn first_shift<'a, 'b>(tokens: &'a [Token<'b>]) -> Option<(Shifting, &'a [Token<
     }
 }
 
-/// How a register is shifted that stands in front of some tokens, and the tokens after the shift.
+/// How the register in front of some tokens is shifted, and the tokens after the shift.
 pub(crate) fn first_shifting<'a, 'b>(tokens: &'a [Token<'b>]) -> Option<(Shifting, &'a [Token<'b>])>
     ensures { option_map in_pieces result ≡ shifting_first (map piece_of tokens.now) }
 {
@@ -80,7 +80,7 @@ pub(crate) fn first_shifting<'a, 'b>(tokens: &'a [Token<'b>]) -> Option<(Shiftin
     }
 }
 
-/// What was read from the front of some tokens, where nothing stands after it.
+/// What was read from the front of some tokens, where nothing follows it.
 pub(crate) fn whole<'a, 'b, T: Copy>(front: Option<(T, &'a [Token<'b>])>) -> Option<T>
     ensures { result ≡ all_read (option_map in_pieces front.entry) }
 {

@@ -91,7 +91,7 @@ fn after_word(word: Word, tokens: &[Token<'_>]) -> Option<Shown>
     }
 }
 
-// What a word in upper case says with what stands after it.
+// What a word in upper case says with what follows it.
 #[tactic(auto, using(crate::proofs::ShownLaws::upper_spelled))]
 fn word_statement(text: &[u8], rest: &[Token<'_>]) -> Option<Shown>
     requires { is_upper text.now ≡ true }
@@ -115,7 +115,7 @@ fn statement(tokens: &[Token<'_>]) -> Option<Shown>
     }
 }
 
-// Blanks may stand in front.
+// Blanks are allowed in front.
 fn blank_statement(tokens: &[Token<'_>]) -> Option<Shown>
     requires { upper_pieces (map piece_of tokens.now) ≡ true }
     ensures { result ≡ shown_result (statement_of (without_gap (map piece_of tokens.now))) }

@@ -32,7 +32,7 @@ pub enum TextFault {
     NotText,
     /// The line begins with no label or blank, or the text after is no word.
     UnknownWord,
-    /// What stands after the word is no operand of it.
+    /// What follows the word is no operand of it.
     BadOperand,
 }
 

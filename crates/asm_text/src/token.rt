@@ -32,14 +32,14 @@ pub enum Mark {
     OpenBrace,
     /// `}`
     CloseBrace,
-    /// Any other, which stands in no statement.
+    /// Any other, which no statement has.
     Other,
 }
 
 /// A piece of a line.
 #[derive(Clone, Copy, Default)]
 pub enum Token<'a> {
-    /// Letters, digits and `_`, as many as stand side by side.
+    /// Letters, digits and `_`, as many as are side by side.
     Run(&'a [u8]),
     /// A comma, with the blanks round it.
     Comma,
@@ -122,7 +122,7 @@ fn begins_blank_or_ends(text: &[u8]) -> bool
     }
 }
 
-/// Whether a blank or nothing stands after the word of a line, or where a word would end.
+/// Whether a blank or nothing follows the word of a line, or comes where a word would end.
 pub(crate) fn word_ends(line: &[u8]) -> bool
     ensures { result ≡ word_ends line.now }
 {
@@ -164,7 +164,8 @@ pub(crate) fn next(text: &[u8]) -> Option<(Token<'_>, &[u8])>
     }
 }
 
-/// The pieces of a line without its comment: the one list that is written so. Refused where memory is.
+/// The pieces of a line without its comment: the one list that is written in this way. Refused where memory
+/// is.
 pub fn tokens(alloc: Global, line: &[u8]) -> Result<Vec<Token<'_>>, AllocError>
     ensures written { IfOk result (λ v. Written (map piece_of v.items) line.now) }
     ensures spaced { IfOk result (λ v. WellSpaced (map piece_of v.items)) }

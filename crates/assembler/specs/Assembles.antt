@@ -1,4 +1,4 @@
--- What it is for a source to give an image and names.
+-- What it is for an image and names to be those of a source.
 use Rattle.std.specs.Prelude.{◌≡◌, ◌≢◌, ◌↔◌, ◌+◌, ◌*◌, ◌≤◌, ◌==◌, ◌||◌, not, ℕ, zero, suc, Bool, true, false}
 use Rattle.std.specs.Prelude.{List, [], ◌∷◌, ◌++◌, length, map, flat_map, Option, Some, None, Ok}
 use Rattle.std.specs.Prelude.{if◌then◌else◌}
@@ -12,7 +12,7 @@ use Rattle.asm_text.specs.Statements.{Parsed}
 use Rattle.assembler.specs.Codes.{encoded, refer}
 use Rattle.assembler.specs.Sweeps.{Names}
 
--- ---- where each line stands
+-- ---- where each line is placed
 
 -- what a line says, and its address
 pub record Laid : Type 0 where
@@ -42,7 +42,7 @@ abbrev pub places_from : ℕ → ℕ → List ℕ
 places_from at zero = []
 places_from at (suc n) = at ∷ places_from (at + 4) n
 
--- where a line's words stand
+-- the addresses of a line's words
 abbrev pub places : Laid → List ℕ
 places line = places_from line.at (word_count line.said)
 
@@ -56,7 +56,7 @@ label_at at (Some name) = (name, at) ∷ []
 abbrev pub labels_of : List Laid → List (List ℕ × ℕ)
 labels_of lines = flat_map (λ line. label_at line.at line.label) lines
 
--- nothing stands twice
+-- nothing appears twice
 abbrev pub Once : {A : Type 0} → List A → Type 0
 Once [] = Unit {0}
 Once (x ∷ xs) = AllByRecursion (λ y. x ≢ y) xs × Once xs
@@ -92,7 +92,7 @@ image_of words = fold (λ image e. with_word image e.0 e.1) [] words
 
 -- ---- limits
 
--- an ORG's address may hold a word, and no word stands there already
+-- an ORG's address may hold a word, and there is no word there already
 abbrev pub IsFree : List ℕ → Option Said → Type 0
 IsFree taken (Some (Orgs n)) = (may_hold n ≡ true) × AllByRecursion (λ a. a ≢ n) taken
 IsFree taken _ = Unit {0}
@@ -102,7 +102,7 @@ abbrev pub AreFree : List ℕ → List Laid → Type 0
 AreFree taken [] = Unit {0}
 AreFree taken (line ∷ lines) = IsFree taken line.said × AreFree (taken ++ places line) lines
 
--- whether a word stands after the last ORG
+-- whether a word follows the last ORG
 abbrev pub is_open : Bool → Option Said → Bool
 is_open begun (Some (Orgs n)) = false
 is_open begun said = begun || not (word_count said == 0)
@@ -115,7 +115,7 @@ segments begun (line ∷ lines) =
 
 -- ---- the whole
 
--- the first line stands at 8000
+-- the first line is at 8000
 abbrev pub laid : List Parsed → List Laid
 laid lines = laid_from 32768 lines
 
@@ -123,7 +123,7 @@ pub record IsAssembly (source : List ℕ) (image : Words) (names : Names) : Type
   -- what each line says
   pub lines : List Parsed
   pub read : AllZip (λ line p. Spells p line) (lines_of source) lines
-  -- each label stands once, and names the address of its line; nothing else is a name
+  -- each label appears once, and names the address of its line; nothing else is a name
   pub once : Once (map (λ e. e.0) (labels_of (laid lines)))
   pub named : (name : List ℕ) → (at : ℕ) → (names name ≡ Some at)
       ↔ Contains (labels_of (laid lines)) (name, at)
@@ -131,7 +131,7 @@ pub record IsAssembly (source : List ℕ) (image : Words) (names : Names) : Type
   pub words : List (List ℕ)
   pub coded : AllZip (λ line ws. AreWords names line.said line.at ws) (laid lines) words
   pub image-is : image ≡ image_of (words_at (laid lines) words)
-  -- a word stands where one may, and none on another's place
+  -- each word is where one may be, and none in another's place
   pub held : AllByRecursion (λ a. may_hold a ≡ true) (flat_map places (laid lines))
   pub apart : Once (flat_map places (laid lines))
   -- an ORG's address may hold a word, and no line before the ORG has one there

@@ -1,4 +1,4 @@
--- Where the lines of a source stand.
+-- Where the lines of a source are placed.
 use Rattle.std.specs.Prelude.{◌≡◌, ℕ, List, []}
 use Rattle.std.specs.List.{AllZip}
 use Rattle.asm_text.specs.Source.{lines_of}

@@ -96,7 +96,7 @@ abbrev pub AreTooLong : List Parsed → Type 0
 AreTooLong lines =
     (MOST_WORDS < length (flat_map places (laid lines))) ⊎ (MOST_SEGMENTS < segments false (laid lines))
 
--- a label that stands before it, an address that it cannot have, or too many words or segments
+-- a label that an earlier line has, an address that it cannot have, or too many words or segments
 abbrev pub Clashes : List Parsed → Parsed → Fault → Type 0
 Clashes before p LabelTwice = IsRepeated before p.label
 Clashes before p OutOfRange = IsMisplaced before p.said

@@ -96,7 +96,7 @@ abbrev pub three_front : Cond → Opcode → Bool → Register → Register → 
 three_front c op s rn rd =
     word_text (opcode_name op) c (flags_text s) ++ (register_text rd ++ (comma_register rn ++ codes ","))
 
--- what stands in front of the last operand: a compare has no Rd, MOV and MVN no Rn
+-- what comes in front of the last operand: a compare has no Rd, MOV and MVN no Rn
 abbrev pub data_front : Cond → Opcode → Bool → Register → Register → List ℕ
 data_front c Tst s rn rd = compare_front c Tst rn rd
 data_front c Teq s rn rd = compare_front c Teq rn rd

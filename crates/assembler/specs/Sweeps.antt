@@ -29,13 +29,13 @@ no_names other = None
 abbrev pub with_name : List ℕ → ℕ → Names → Names
 with_name name at names other = if bytes_eq other name then Some at else names other
 
--- what stands at an address: a word, one that waits for a label's address, or a label's address
+-- what is at an address: a word, one that waits for a label's address, or a label's address
 pub data Pending : Type 0 where
   Fixed : ℕ → Pending
   Waits : Reference → List ℕ → Pending
   Address : List ℕ → Pending
 
--- the number of its line, its address, and what stands there
+-- the number of its line, its address, and what is there
 pub record Item : Type 0 where
   pub line : ℕ
   pub at : ℕ
@@ -66,7 +66,7 @@ overlaps closed from to = list_any (λ s. nat_lt s.0 to && nat_lt from s.1) clos
 abbrev pub is_17th : State → Bool
 is_17th s = not (is_some s.start) && nat_le MOST_SEGMENTS (length s.closed)
 
--- why so many words cannot stand next
+-- why so many words cannot come next
 abbrev pub place_fault : State → ℕ → Option Fault
 place_fault s n =
     if not (lies_in_memory s.at (s.at + 4 * n)) || overlaps s.closed s.at (s.at + 4 * n) then Some OutOfRange
@@ -82,7 +82,7 @@ abbrev pub open_has : Option ℕ → ℕ → ℕ → Bool
 open_has None to n = false
 open_has (Some from) to n = nat_le from n && nat_lt n to
 
--- why an ORG cannot have an address: no word may stand there, or one does
+-- why an ORG cannot have an address: no word may be there, or one is
 abbrev pub org_fault : State → ℕ → Option Fault
 org_fault s n =
     if not (may_hold n) || (overlaps s.closed n (n + 1) || open_has s.start s.at n) then Some OutOfRange

@@ -72,7 +72,7 @@ fn fill(alloc: Global, labels: &Labels, items: &[Item<'_>]) -> Result<Image, Asm
     Ok(image)
 }
 
-// The first sweep: what stands after all lines.
+// The first sweep, after all lines.
 #[tactic(auto, using(crate::proofs::SweepLaws::swept_more), unfolding(crate::specs::Sweeps::swept))]
 fn swept_source<'a>(alloc: Global, source: &'a [u8]) -> Result<Sweep<'a>, AsmFault>
     ensures ok { IfOk result (λ s. swept at_first 1 (lines_of source.now) ≡ Ok (state_of s)) }
@@ -91,7 +91,7 @@ fn swept_source<'a>(alloc: Global, source: &'a [u8]) -> Result<Sweep<'a>, AsmFau
 
 /// Assembles a source.
 ///
-/// The first word stands at 8000, or where an ORG says; each further one after the last.
+/// The first word is at 8000, or where an ORG says; each further one after the last.
 ///
 /// # Errors
 ///

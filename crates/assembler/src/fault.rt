@@ -29,7 +29,7 @@ pub enum Fault {
     #[error("LabelMissing")]
     LabelMissing,
     /// A number does not fit its field, a branch leads to no word's address, or an ORG or a word has an
-    /// address where no word of an image may stand or one stands already.
+    /// address where no word of an image may be or one is already.
     #[error("OutOfRange")]
     OutOfRange,
     /// A word that is no instruction.

@@ -2,7 +2,7 @@ ghost use Rattle.std.specs.Prelude.{◌≡◌, ◌≤◌, ◌^◌};
 
 use asm_text::Reference;
 
-/// What stands at an address.
+/// What is at an address.
 #[derive(Clone, Copy)]
 pub enum Pending<'a> {
     /// A word.

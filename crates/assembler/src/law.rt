@@ -7,8 +7,8 @@ ghost use Rattle.assembler.specs.declared.fault.Fault.{Fault};
 
 use asm_text::lines_are_spelled;
 
-/// States which image and names [`assemble`](crate::assembly::assemble) gives for a source: those of its
-/// lines, each where it stands; and that it gives them for each source that has such. It does nothing.
+/// States which image and names [`assemble`](crate::assembly::assemble) returns for a source: those of its
+/// lines, each at its place; and that it returns them for each source that has such. It does nothing.
 pub fn sources_are_assembled()
     ensures is_one { (source : List ℕ) → (image : Words) → (names : Names)
         → assembled source ≡ Ok (image, names) → IsAssembly source image names }

@@ -10,7 +10,7 @@ use crate::sweep::Sweep;
 use asm_text::{first_line, lines_are_spelled};
 use std::alloc::Global;
 
-// Goes past a line, and answers where its words stand.
+// Goes past a line, and answers where its words are.
 fn place_line<'a>(
     alloc: Global,
     sweep: &mut Sweep<'a>,
@@ -36,7 +36,7 @@ fn place_line<'a>(
     })
 }
 
-/// Where each line of a source stands, and how many words it has.
+/// The address of each line of a source, and how many words it has.
 ///
 /// # Errors
 ///

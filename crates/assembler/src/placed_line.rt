@@ -1,6 +1,6 @@
 ghost use Rattle.std.specs.Prelude.{◌+◌, ◌*◌, ◌≤◌, ◌^◌};
 
-/// Where a line of a source stands.
+/// Where a line of a source is placed.
 #[derive(Clone, Copy)]
 pub struct PlacedLine {
     /// The byte address of its first word and of its label: that after the words of the lines before it, or

@@ -141,7 +141,7 @@ fn is_lowest(list: u32, n: u32) -> bool
     list % (1 << n) == 0
 }
 
-// What stands in front of the last operand of data processing.
+// What comes in front of the last operand of data processing.
 #[derive(Clone, Copy)]
 struct DataFront {
     opcode: Opcode,
@@ -150,7 +150,7 @@ struct DataFront {
     rd: Register,
 }
 
-// What stands in front of the offset of a single transfer.
+// What comes in front of the offset of a single transfer.
 #[derive(Clone, Copy)]
 struct TransferFront {
     load: bool,

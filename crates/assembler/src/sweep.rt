@@ -122,7 +122,7 @@ impl<'a> Sweep<'a> {
         }
     }
 
-    // Why so many words cannot stand next.
+    // Why so many words cannot come next.
     fn place_fault(&self, count: usize) -> Option<Fault>
         ensures value { result ≡ place_fault (state_of self.now) count }
         ensures room { IfNone result (self.now.at + 4 * count ≤ 2 ^ 26) }

@@ -52,7 +52,7 @@ word_price p rom store first x =
     (if store then p.control else rom_price p rom x)
     (io_price p x)
 
--- where word number i of a block stands: at a multiple of 4, wrapped at 4000000
+-- the address of word number i of a block: a multiple of 4, wrapped at 4000000
 abbrev pub word_address : ℕ → ℕ → ℕ
 word_address address i = 4 * (address / 4 + i) % SPACE_END
 

@@ -60,7 +60,7 @@ worst_n_price p x = by_class (class_at x) p.n (worst_rom p) p.unfitted
 abbrev pub worst_s_price : Profile → ℕ → ℕ
 worst_s_price p x = by_class (class_at x) (ram_price p x) (worst_rom p) p.unfitted
 
--- the greatest price of a transfer of k words: in Ram at most (k + 2) / 4 words after the first stand at
+-- the greatest price of a transfer of k words: in Ram at most (k + 2) / 4 words after the first are at
 -- multiples of 16
 abbrev pub worst_block : Profile → Class → ℕ → Bool → ℕ
 worst_block p Ram k store = p.n + (k - 1) * p.s + (k + 2) / 4 * (p.quad - p.s)
@@ -82,6 +82,6 @@ abbrev pub fiq_entry_price : Profile → Access → ℕ
 fiq_entry_price p t =
     s_price p t.rom ((t.address + 8) % SPACE_END) + (n_price p t.rom 0x1C + s_price p t.rom 0x20)
 
--- the greatest price of taking FIQ: the first fetch may be of any class, and the vector stands in Ram
+-- the greatest price of taking FIQ: the first fetch may be of any class, and the vector is in Ram
 abbrev pub fiq_entry : Profile → ℕ
 fiq_entry p = max p.quad (max (worst_rom p) p.unfitted) + (p.n + p.quad)

@@ -9,7 +9,7 @@ use crate::profile::{Class, Profile, RomTimes};
 use crate::space::{IO_START, ROM_START, SPACE_END};
 use crate::worst::{greatest_of, worst_leave_ticks, worst_rom_ticks};
 
-// Where the last word before a multiple of 16 stands, in bytes after the multiple before it: the word that
+// Where the last word before a multiple of 16 is, in bytes after the multiple before it: the word that
 // follows costs quad.
 const BEFORE_QUAD: u32 = 12;
 
@@ -46,8 +46,8 @@ pub fn dearest_rom_times(profile: &Profile) -> RomTimes
     }
 }
 
-/// Where the dearest device stands, in bytes: the lowest of 3000000, 3080000, 3100000 and 3180000 at which a
-/// transfer of 1 to 16 words costs the most, by any time fields of ROM.
+/// The address of the dearest device, in bytes: the lowest of 3000000, 3080000, 3100000 and 3180000 at which
+/// a transfer of 1 to 16 words costs the most, by any time fields of ROM.
 pub fn dearest_device(profile: &Profile) -> u32
     ensures page { result % 0x80000 ≡ 0 }
     ensures from { 0x3000000 ≤ result }
@@ -70,7 +70,7 @@ pub fn dearest_device(profile: &Profile) -> u32
 }
 
 /// How many bytes after a multiple of 16 a transfer that costs the most in RAM starts, whatever its length,
-/// the profile and the time fields of ROM: its second word, and each fourth from there, stands at a multiple
+/// the profile and the time fields of ROM: its second word, and each fourth from there, is at a multiple
 /// of 16.
 pub fn dearest_ram_start() -> u32
     ensures whole { result % 4 ≡ 0 }

@@ -6,7 +6,7 @@ ghost use Rattle.bus_ticks.specs.Dearest.{AreDearest, IsDearestBlock};
 use crate::profile::{Class, Profile, RomTimes};
 use crate::space::{IO_START, ROM_START, SPACE_END};
 
-/// States where the kinds of memory stand: RAM up to 2FFFFFF, I/O from 3000000 to 33FFFFF, ROM from there to
+/// States where the kinds of memory are: RAM up to 2FFFFFF, I/O from 3000000 to 33FFFFF, ROM from there to
 /// 3FFFFFF. It does nothing.
 pub fn memory_map()
     ensures io { IO_START ≡ 0x3000000 }

@@ -36,7 +36,7 @@ impl From<ReportFault> for CaseFault {
     }
 }
 
-/// What a case's folder says: the words, what they are given, and what they are to give.
+/// What a case's folder says: the words, their input, and the results that are wanted.
 #[derive(Drop)]
 pub(crate) struct Case {
     /// The program's words, its name first.

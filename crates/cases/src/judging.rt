@@ -5,7 +5,7 @@ use crate::wanted::first_difference;
 use arcwcet::{MemoryOutput, program};
 use std::rt::Files;
 
-/// What a run of the program gave.
+/// The results of a run of the program.
 #[derive(Clone, Copy)]
 struct Found<'a> {
     status: u8,

@@ -85,7 +85,7 @@ pub record BreaksBound (flow : Flow) (tree : Tree) (cert : Cert) (header : Place
   pub bound_is : instance.bound ≡ bound
   pub breaks : KeepsBound edge_shape place_loops instance walk.opened.walk → ⊥
 
--- the certificate's walk costs this, told up to 2^64, and not the bound
+-- the certificate's walk costs this, capped at 2^64, and not the bound
 pub record CostsOther (flow : Flow) (tree : Tree) (cert : Cert) (cost : ℕ) : Type 0 where
   pub walk : Followed
   pub is_walk : IsFollowed flow tree cert.walk walk

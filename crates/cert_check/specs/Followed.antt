@@ -70,6 +70,6 @@ follow_step flow (CertItem-F.Repeat k body) p = option_map (follow_turns k) (fol
 abbrev pub follow_item : Flow → CertItem → Place → Option Followed
 follow_item flow = fold-CertItem (Place → Option Followed) (follow_step flow)
 
--- what a certificate's walk stands for from a place, if each of its lines names an edge where it stands
+-- what a certificate's walk stands for from a place, if each of its lines names an edge from where it is
 abbrev pub followed : Flow → List CertItem → Place → Option Followed
 followed flow items p = follow_row (map (follow_item flow) items) p

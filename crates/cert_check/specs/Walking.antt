@@ -1,4 +1,4 @@
--- What following a certificate's walk tells of it.
+-- What following a certificate's walk shows of it.
 use Rattle.std.specs.Prelude.{◌≡◌, ℕ, ◌+◌, ◌-◌, ◌*◌, ◌<◌, ◌≤◌, ◌^◌, min, Bool, true, false, cond, nat_lt}
 use Rattle.std.specs.Prelude.{List, ◌++◌, length, replicate, slice_index, slice_set}
 use Rattle.std.specs.Prelude.{All, Contains, Option, Some, None}
@@ -24,13 +24,13 @@ use Rattle.cert_check.specs.declared.walker.Round.{Round}
 use Rattle.cert_check.specs.Followed.{Followed}
 use Rattle.cert_check.specs.Index.{IsIndex}
 
--- ## What is told of a walk
+-- ## What a walker says of a walk
 
--- sums are told up to 2^64, which is more than any bound
+-- sums are capped at 2^64, which is more than any bound
 abbrev pub capped : ℕ → ℕ
 capped n = min n (2 ^ 64)
 
--- its cost; the back edges of its stay in each instance where it stands; and an instance in which a stay has
+-- its cost; the back edges of its stay in each instance that it is in; and an instance in which a stay has
 -- more of them than the bound, if there is one
 pub record Tells (spans : List Span) (x : Walker) (walk : List NumberedEdge) : Type 0 where
   pub cost_is : x.cost ≡ capped (O.cost_of walk)
@@ -39,7 +39,7 @@ pub record Tells (spans : List Span) (x : Walker) (walk : List NumberedEdge) : T
   pub broken : (s : Span) → x.over ≡ Some s → Contains spans s × (s.bound < most_in s walk)
   pub kept : x.over ≡ None → (s : Span) → Contains spans s → most_in s walk ≤ s.bound
 
--- what was told of any walk is told of it with this one after it
+-- what the old one says of any walk, the new one says of it with this one after it
 abbrev pub Adds : List Span → Walker → Walker → List NumberedEdge → Type 0
 Adds spans old new more = (walk : List NumberedEdge) → Tells spans old walk → Tells spans new (walk ++ more)
 
@@ -67,7 +67,7 @@ turns_after (Some s) from turns = cond (is_in s from) (capped (turns + 1)) 0
 abbrev pub gained : ℕ → ℕ → ℕ → ℕ
 gained before after count = capped (capped before + count * (capped after - before))
 
--- it stands at the number with this cost, and with these back edges of the stay in the instance that begins
+-- it is at the number with this cost, and with these back edges of the stay in the instance that begins
 -- there
 pub record Arrives (headers : List (Option Span)) (number cost turns : ℕ) (old new : Walker) : Type 0 where
   pub number_is : new.number ≡ number
@@ -87,7 +87,7 @@ pub record CanFollow (flow : Flow) (tree : Tree) (index : Index) (within : Span)
   pub inside : is_in within x.number ≡ true
   pub room : length x.turns.items ≡ length flow.places + 1
 
--- repeats are rounds of one instance, so many as the format allows, and stand no deeper than this
+-- repeats are rounds of one instance, so many as the format allows, and are nested no deeper than this
 pub record AreRounds (flow : Flow) (tree : Tree) (levels : ℕ) (o : Opened) : Type 0 where
   pub bodies : All (IsBody flow tree) o.bodies
   pub counts : All (λ k. (0 < k) × (k ≤ 1048576)) o.counts
@@ -135,7 +135,7 @@ graph_span flow = record { header = 0; last = length flow.places; bound = 0 }
 
 -- ## A repeat
 
--- what a repeat of so many lines begins with: the instance whose header it stands at, and what is told there
+-- what a repeat of so many lines begins with: the instance whose header it is at, and what is known there
 pub record Begins (headers : List (Option Span)) (x : Walker) (levels count lines : ℕ)
     (r : Round) : Type 0 where
   pub span_is : header_at headers x.number ≡ Some r.span

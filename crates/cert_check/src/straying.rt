@@ -19,7 +19,7 @@ use loop_bounds::LoopTree;
 use numbered_walks::Span;
 use std::alloc::{AllocError, Global};
 
-// How deep repeats may stand.
+// How deep repeats may be nested.
 const LEVELS: u32 = 16;
 
 // At the entry, before a walk.
@@ -35,7 +35,7 @@ fn start(alloc: Global, graph: &Graph) -> Result<Walker, AllocError>
     })
 }
 
-// Follows the lines from where the walker stands, inside the span: the first that it cannot follow.
+// Follows the lines from where the walker is, inside the span: the first that it cannot follow.
 fn first_not_followed(
     handler: Handler<'_>,
     within: &Span,

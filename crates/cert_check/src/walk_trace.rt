@@ -71,8 +71,8 @@ fn named_edge(graph: &Graph, tree: &LoopTree, number: usize, line: &StepLine) ->
     None
 }
 
-// Follows the edge that the line names, if there is one and it ends inside the span. No level is asked, as no
-// repeat stands here.
+// Follows the edge that the line names, if there is one and it ends inside the span. No level is asked, as
+// there is no repeat here.
 fn follow_step(handler: Handler<'_>, within: &Span, walker: &mut Walker, line: &StepLine) -> bool
     requires { CanFollow handler.graph.now handler.tree.now handler.index.now within.now walker.old }
     ensures { (levels : ℕ)
@@ -91,7 +91,7 @@ fn follow_step(handler: Handler<'_>, within: &Span, walker: &mut Walker, line: &
     true
 }
 
-// Where a repeat begins, if one may stand here. Repeats stand `levels` deep at most.
+// Where a repeat begins, if one may be here. Repeats are nested `levels` deep at most.
 fn begin(
     index: &Index,
     walker: &Walker,
@@ -118,7 +118,7 @@ fn begin(
     }
 }
 
-/// Follows one item: a repeat's body once, inside the instance that begins where the walker stands.
+/// Follows one item: a repeat's body once, inside the instance that begins where the walker is.
 #[cycle(walk)]
 pub(crate) fn follow_one(
     handler: Handler<'_>,
@@ -149,7 +149,7 @@ pub(crate) fn follow_one(
     }
 }
 
-/// Follows the lines from where the walker stands, inside the span and with repeats `levels` deep at most,
+/// Follows the lines from where the walker is, inside the span and with repeats `levels` deep at most,
 /// each repeat once: whether they are such a walk.
 #[cycle(walk)]
 pub(crate) fn follow_all(

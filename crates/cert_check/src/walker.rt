@@ -8,15 +8,15 @@ use walk_counts::holds;
 // Sums stop here, above each bound that they are compared with.
 const LIMIT: u128 = 1 << 64;
 
-/// Where a walk stands that is followed from the entry, and what is known of it.
+/// How far a walk has been followed from the entry, and what is known of it.
 #[derive(Drop)]
 pub(crate) struct Walker {
-    /// The number of the place where it stands.
+    /// The number of the place where it is.
     pub(crate) number: usize,
-    /// What it costs, in ticks, told up to 2^64.
+    /// What it costs, in ticks, capped at 2^64.
     pub(crate) cost: u128,
-    /// By the numbers of headers, the back edges of its stay in each instance where it stands, told up to
-    /// 2^64. What is told of other instances means nothing.
+    /// By the numbers of headers, the back edges of its stay in each instance that it is in, capped at
+    /// 2^64. What is kept for other instances means nothing.
     pub(crate) turns: Vec<u128>,
     /// The first instance in which some stay took more back edges than the bound.
     pub(crate) over: Option<Span>,
@@ -104,7 +104,7 @@ impl Walker {
         }
     }
 
-    /// Follows an edge from where it stands.
+    /// Follows an edge from where it is.
     pub(crate) fn take(&mut self, headers: &[Option<Span>], edge: &NumberedEdge)
         requires known { edge.now.to < length headers.now }
         requires room { edge.now.to < length self.old.turns.items }

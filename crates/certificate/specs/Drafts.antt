@@ -1,4 +1,4 @@
--- What stands in a certificate of which some lines are read.
+-- What is in a certificate of which some lines are read.
 use Rattle.std.specs.Prelude.{◌≡◌, List, [], ◌∷◌, ◌++◌, length, map, Bool, true, false, Some, None}
 use Rattle.std.specs.List.{flat_map}
 use Rattle.bus_ticks.specs.Numbers.{numbers_of}
@@ -19,7 +19,7 @@ use Rattle.certificate.specs.Walk.{Nest, cert_walk_lines, nest_after, outside}
 
 -- ## The walk
 
--- the lines of what stands before an open repeat, and the repeat's first
+-- the lines of what comes before an open repeat, and the repeat's first
 abbrev pub open_lines : OpenRepeat → List WalkLine
 open_lines o = cert_walk_lines o.before.items ++ Repeat o.count ∷ []
 

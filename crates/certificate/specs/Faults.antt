@@ -40,7 +40,7 @@ pub record EndsEarly (text : List ℕ) : Type 0 where
   pub within : Lacks 10 rest
   pub first : AreFirst lines
 
--- bytes stand after a whole certificate
+-- bytes follow a whole certificate
 pub record GoesOn (text : List ℕ) : Type 0 where
   pub said : Said
   pub spelled : CanSpell said
@@ -89,7 +89,7 @@ pub record IsRead (text : List ℕ) (cert : Cert) : Type 0 where
   pub done : to.stage ≡ s.Done
   pub text_is : text ≡ cert_text (said_by cert)
 
--- bytes stand after the last of some lines
+-- bytes follow the last of some lines
 pub record RunsOn (text : List ℕ) : Type 0 where
   pub lines : List Line
   pub to : Reached

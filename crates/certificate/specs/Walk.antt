@@ -17,7 +17,7 @@ use Rattle.certificate.specs.declared.walk.CertItem.TheFolds.{fold-CertItem}
 use Rattle.certificate.specs.declared.line.WalkLine.{WalkLine}
 use Rattle.certificate.specs.declared.line.WalkLine.TheVariants.{Step, Repeat, End}
 
--- a repeat's lines stand between its first and its last
+-- a repeat's lines come between its first and its last
 abbrev pub repeated_lines : ℕ → List WalkLine → List WalkLine
 repeated_lines k body = Repeat k ∷ (body ++ End ∷ [])
 
@@ -59,7 +59,7 @@ walk_lines items = flat_map item_lines items
 
 -- ## Nesting
 
--- how many repeats are open, and whether something stands in the innermost
+-- how many repeats are open, and whether something is in the innermost
 pub record Nest : Type 0 where
   pub opened : ℕ
   pub some : Bool

@@ -22,7 +22,7 @@ use Rattle.certificate.specs.declared.line.WalkLine.TheVariants as w
 use Rattle.certificate.specs.declared.line.Line.{Line}
 use Rattle.certificate.specs.declared.line.Line.TheVariants as l
 
--- no such byte stands among these
+-- no such byte is among these
 abbrev pub Lacks : ℕ → List ℕ → Type 0
 Lacks mark bytes = (k : ℕ) → k < length bytes → slice_index bytes k ≢ mark
 

@@ -16,7 +16,7 @@ pub enum CertFault {
     /// The text ends within a line or before the line `stop`.
     #[error("Truncated")]
     Truncated,
-    /// Bytes stand after the line `stop`.
+    /// Bytes follow the line `stop`.
     #[error("TrailingBytes")]
     TrailingBytes,
 }

@@ -11,7 +11,7 @@ use std::marker::Model;
 /// The most bytes of a line.
 const LINE_ROOM: usize = 160;
 
-/// The end of a line: what stands in it from some place on.
+/// The end of a line: what is in it from some place on.
 #[derive(Drop)]
 pub(crate) struct LineEnd {
     room: [u8; LINE_ROOM],

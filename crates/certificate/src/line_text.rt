@@ -1,4 +1,4 @@
-//! The parts of lines, each put in front of what stands after it.
+//! The parts of lines, each put in front of what follows it.
 
 ghost use Rattle.std.specs.Prelude.{◌≡◌, ◌+◌, ◌*◌, ◌≤◌, ◌++◌, ◌∷◌, length};
 ghost use Rattle.std.specs.List.{flat_map};

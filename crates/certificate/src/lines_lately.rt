@@ -1,4 +1,5 @@
-//! The lines of edges that were printed lately. A loop's body stands twice in a walk, so most lines stood before.
+//! The lines of edges that were printed lately. A loop's body appears twice in a walk, so most lines
+//! have been printed before.
 
 ghost use Rattle.std.specs.Prelude.{◌≡◌, ◌≤◌, IsTrue, take};
 ghost use Rattle.outputs.specs.OnTheWay.{Adds};

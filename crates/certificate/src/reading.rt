@@ -58,7 +58,7 @@ fn read_lines(alloc: Global, text: &[u8]) -> Result<Cert, CertFault>
 pub fn read_cert(alloc: Global, text: &[u8]) -> Result<Cert, CertFault>
     // What is read is what the text spells.
     ensures found { IfOk result (λ cert. CanSpell (said_by cert) × (text.now ≡ cert_text (said_by cert))) }
-    // What is spelled so is read, unless memory runs out.
+    // What is spelled in this way is read, unless memory runs out.
     ensures only { (said : Said) → CanSpell said → text.now ≡ cert_text said → Reads said result }
     // Which fault it is.
     ensures bad_line { (n : ℕ) → IsErrOf result (CertFault.BadLine n) → HasBadLine text.now n }

@@ -3,7 +3,7 @@ ghost use Rattle.certificate.specs.Words.{Lacks};
 
 use memchr::memchr;
 
-/// The first line, without its line feed, and what stands after it; `None` where no line ends.
+/// The first line, without its line feed, and what follows it; `None` where no line ends.
 pub(crate) fn line_first(text: &[u8]) -> Option<(&[u8], &[u8])>
     ensures { MatchOption result (Lacks 10 text.now)
         (λ p. (text.now ≡ p.0.now ++ 10 ∷ p.1.now) × Lacks 10 p.0.now) }
@@ -14,7 +14,7 @@ pub(crate) fn line_first(text: &[u8]) -> Option<(&[u8], &[u8])>
     }
 }
 
-/// What stands before the first such byte, and what stands after it; `None` where there is none. For the
+/// What comes before the first such byte, and what follows it; `None` where there is none. For the
 /// parts of a line, which are short.
 pub(crate) fn cut_at(mark: u8, text: &[u8]) -> Option<(&[u8], &[u8])>
     ensures { MatchOption result (Lacks mark text.now)
@@ -28,7 +28,7 @@ pub(crate) fn cut_at(mark: u8, text: &[u8]) -> Option<(&[u8], &[u8])>
     None
 }
 
-/// What stands after the words `front`; `None` where the words do not begin with them.
+/// What follows the words `front`; `None` where the words do not begin with them.
 #[inline]
 pub(crate) fn after_front<'a>(words: &'a [u8], front: &[u8]) -> Option<&'a [u8]>
     ensures { MatchOption result ((rest : List ℕ) → words.now ≡ front.now ++ rest → ⊥)

@@ -1,4 +1,5 @@
-//! The lines of steps that were read lately. A loop's body stands twice in a walk, so most lines stood before.
+//! The lines of steps that were read lately. A loop's body appears twice in a walk, so most lines have
+//! been read before.
 
 ghost use Rattle.std.specs.Prelude.{◌≡◌, ◌<◌, ◌++◌, ◌∷◌, IfSome, MatchOption};
 ghost use Rattle.std.specs.Coded.{le_prop};
@@ -72,7 +73,7 @@ impl<'a> StepsLately<'a> {
         }
     }
 
-    /// The step whose line the text begins with, where that was read lately, and what stands after its line.
+    /// The step whose line the text begins with, where that was read lately, and what follows its line.
     #[inline(always)]
     pub(crate) fn first<'b>(&mut self, text: &'b [u8]) -> Option<(StepLine, &'b [u8])>
         ensures { IfSome result (λ p. StepFits p.0 × (text.now ≡ step_words p.0 ++ 10 ∷ p.1.now)) }

@@ -191,7 +191,7 @@ asked_of (request.Visits names) = visits (names_of names.handler) names.fiq_stat
 asked_of (request.Follow names) = follow (names_of names.handler) names.machine.now
 asked_of (request.Graph names) = graph (names_of names)
 
--- the source's name and another argument, where both are there
+-- the source's name and another argument, where both are given
 abbrev pub source_and : Text → List Row → Option (Text × Text)
 source_and id rows = option_zip (first_of (codes "source") rows) (first_of id rows)
 
@@ -201,7 +201,7 @@ names_in second rows =
     option_map (λ p. record { profile = first_of (codes "profile") rows; first = p.0; second = p.1 })
     (source_and second rows)
 
--- the names of a handler's files and another argument, where all are there
+-- the names of a handler's files and another argument, where all are given
 abbrev pub handler_and : Text → List Row → Option (FileNames × Text)
 handler_and id rows = option_zip (names_in (codes "statement") rows) (first_of id rows)
 

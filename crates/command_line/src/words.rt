@@ -20,7 +20,7 @@ use clap::error::ErrorKind;
 use clap::{ArgMatches, Error};
 use std::alloc::Global;
 
-/// The source's name and another argument, where both are there.
+/// The source's name and another argument, where both are given.
 fn source_and<'a>(values: &ArgMatches<'a>, id: &str) -> Option<(&'a str, &'a str)>
     ensures { option_map (λ p. (p.0.now, p.1.now)) result
         ≡ source_and id.now (rows_of (found_of values.now)) }
@@ -43,7 +43,7 @@ fn names_in<'a>(values: &ArgMatches<'a>, second: &str) -> Option<Names<'a>>
     })
 }
 
-/// The names of a handler's files and another argument, where all are there.
+/// The names of a handler's files and another argument, where all are given.
 fn handler_and<'a>(values: &ArgMatches<'a>, id: &str) -> Option<(Names<'a>, &'a str)>
     ensures { option_map (λ p. (names_of p.0, p.1.now)) result
         ≡ handler_and id.now (rows_of (found_of values.now)) }

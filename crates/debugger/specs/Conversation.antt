@@ -28,7 +28,7 @@ Tells s line text after =
     AnswersLine s line text after
     ⊎ ((fault : DebugFault) × RefusesLine s line fault × (text ≡ refusal_text fault) × (after ≡ s))
 
--- what a session tells to some lines, in their order, up to one that quits
+-- what a session answers to some lines, in their order, up to one that quits
 abbrev pub Converses : SessionState → (lines : List (List ℕ)) → (text : List ℕ) → Type 0
 Converses s [] text = text ≡ []
 Converses s (line ∷ rest) text = Unless (is_quit line) text (

@@ -41,7 +41,7 @@ moved_on s ran machine = record {
   elapsed = capped_sum s.elapsed ran.elapsed;
 }
 
--- a breakpoint that is there is removed, any other is added at its place
+-- a breakpoint that is set is removed, any other is added at its place
 abbrev pub toggled : ℕ → List ℕ → List ℕ
 toggled a [] = a ∷ []
 toggled a (b ∷ rest) = if nat_lt b a then b ∷ toggled a rest else (if b == a then rest else a ∷ b ∷ rest)

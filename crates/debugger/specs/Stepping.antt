@@ -1,4 +1,4 @@
--- A step of a run, with the word that shows it, and what the run tells after it.
+-- A step of a run, with the word that shows it, and what the run reports after it.
 use Rattle.std.specs.Prelude.{◌≡◌, ◌≢◌, ◌+◌, ◌*◌, ◌^◌, ◌≤◌, ℕ, Some}
 use Rattle.arm2_effect.specs.declared.step_end.Kind.TheVariants.{Stopped}
 use Rattle.arm2_effect.specs.declared.step_end.Why.{Why}
@@ -14,7 +14,7 @@ use Rattle.arm2_exec.specs.Step.{traced_word}
 abbrev pub Makes : State → Input → Traced → State → Type 0
 Makes s i traced next = Step s i traced.told next × (traced.word ≡ traced_word s i)
 
--- it is stopped, which is told and not counted
+-- it is stopped, which is reported and not counted
 abbrev pub Stops : State → Input → (ran told : Ran) → State → Type 0
 Stops s i ran told after =
     (traced : Traced) × (why : Why) × Makes s i traced after × (traced.told.kind ≡ Stopped why)
@@ -35,7 +35,7 @@ Counts s i ran traced told next =
     Makes s i traced next × ((why : Why) → traced.told.kind ≢ Stopped why)
     × (told ≡ further s.profile.burst i traced.told ran)
 
--- what so many steps can tell at most
+-- what so many steps can report at most
 abbrev pub IsWithin : (steps : ℕ) → Ran → Type 0
 IsWithin steps ran =
     (ran.steps ≤ steps) × (ran.ticks ≤ steps * 2 ^ 16) × (ran.elapsed ≤ steps * 2 ^ 33)

@@ -35,7 +35,7 @@ abbrev pub UpTo : (at_break : Bool) → State → (made : List Traced) → Ran �
 UpTo true s made ran after goes_on = Rests s None made ran after
 UpTo false s made ran after goes_on = goes_on
 
--- The run from a state by some inputs: the steps that it makes, what it tells and where it ends. It ends
+-- The run from a state by some inputs: the steps that it makes, what it reports and where it ends. It ends
 -- before a step that is stopped, and after any step also before the instruction at a breakpoint.
 abbrev pub Watches : (breaks : List ℕ) → State → List Input → (made : List Traced) → Ran → State → Type 0
 Watches breaks s [] made ran after = Rests s None made ran after

@@ -8,13 +8,13 @@ abbrev pub starts_word : List ℕ → Bool
 starts_word [] = false
 starts_word (b ∷ bs) = not (is_blank b)
 
--- a byte in front of words: it belongs to the first of them, where that stands next to it
+-- a byte in front of words: it belongs to the first of them, where that is next to it
 abbrev pub joined : ℕ → (next_to_it : Bool) → List (List ℕ) → List (List ℕ)
 joined b true [] = (b ∷ []) ∷ []
 joined b true (word ∷ words) = (b ∷ word) ∷ words
 joined b false words = (b ∷ []) ∷ words
 
--- words stand apart by spaces and tabs
+-- words are separated by spaces and tabs
 unfoldable pub words_of : List ℕ → List (List ℕ)
 words_of [] = []
 words_of (b ∷ bs) = if is_blank b then words_of bs else joined b (starts_word bs) (words_of bs)

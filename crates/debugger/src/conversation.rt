@@ -29,7 +29,7 @@ fn put_refusal(out: &mut Vec<u8>, fault: DebugFault) -> Result<(), AllocError>
     out.extend_from_slice(b"\n")
 }
 
-// Adds what a session tells to a line.
+// Adds what a session answers to a line.
 fn tell(
     out: &mut Vec<u8>,
     alloc: Global,
@@ -53,7 +53,7 @@ fn tell(
     }
 }
 
-// Adds what a session tells to some lines, in their order, up to one that quits.
+// Adds what a session answers to some lines, in their order, up to one that quits.
 fn tell_all(
     out: &mut Vec<u8>,
     alloc: Global,
@@ -75,7 +75,7 @@ fn tell_all(
     Ok(())
 }
 
-// Adds what a session tells, whole.
+// Adds what a session answers, whole.
 fn hold(out: &mut Vec<u8>, alloc: Global, session: Session, lines: &[u8]) -> Result<(), DebugFault>
     requires { out.old.items ≡ [] }
     ensures ok { OnOk result (Converses session (lines_of lines.now) out.new.items) }

@@ -5,7 +5,7 @@ use std::alloc::AllocError;
 use thiserror::Error;
 
 /// Why a command is refused. Of two that hold, the first is answered, but for `Memory`, which any allocation
-/// may give.
+/// may cause.
 #[derive(Clone, Copy, Debug, PartialEq, Eq, Drop, Error)]
 pub enum DebugFault {
     /// An allocation failed.
@@ -25,7 +25,7 @@ pub enum DebugFault {
     /// The first step is stopped.
     #[error("MachineStopped")]
     MachineStopped,
-    /// Sixteen breakpoints stand already.
+    /// Sixteen breakpoints are set already.
     #[error("TooManyBreaks")]
     TooManyBreaks,
 }
@@ -41,7 +41,7 @@ impl From<AllocError> for DebugFault {
     }
 }
 
-/// The name that a refusal's line gives.
+/// The name that a refusal's line has.
 pub(crate) fn name_of(fault: DebugFault) -> &'static [u8]
     ensures { result.now ≡ fault_name fault }
 {

@@ -84,7 +84,7 @@ impl Session {
 
     /// Obeys one command line, without its end. The answer's lines end with LF; a setting answers nothing.
     ///
-    /// - `step N`, 1 to 1024 steps, 1 where no number stands: their trace lines, up to a step that is
+    /// - `step N`, 1 to 1024 steps, 1 where there is no number: their trace lines, up to a step that is
     ///   stopped.
     /// - `run N`, 1 to 65,536 steps: the last trace line. It ends before a step that is stopped, and after
     ///   its first step also before the instruction at a breakpoint.
@@ -307,7 +307,7 @@ fn has_at(breaks: &ArrayVec<u32, BREAKS>, at: usize, address: u32) -> bool
     breaks[at] == address
 }
 
-// Removes a breakpoint that is there, or adds it.
+// Removes a breakpoint that is set, or adds it.
 fn toggle_break(breaks: &mut ArrayVec<u32, BREAKS>, address: u32) -> Result<(), DebugFault>
     requires { Ascending breaks.old.items }
     ensures ok { OnOk result (breaks.new.items ≡ toggled address breaks.old.items) }

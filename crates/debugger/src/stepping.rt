@@ -12,7 +12,7 @@ use crate::tally::Tally;
 use arm2_effect::address_of;
 use arm2_exec::{Input, Kind, Machine, Ran, Reg, Stepped, Traced};
 
-/// What a run told, and the last of its steps, as its line shows it.
+/// What a run reports, and the last of its steps, as its line shows it.
 #[derive(Clone, Copy)]
 pub(crate) struct Watched {
     pub(crate) ran: Ran,
@@ -28,7 +28,7 @@ fn is_at_break(breaks: &[u32], machine: &Machine) -> bool
 }
 
 // Makes a step and counts it; its bursts are left out of the input of the next. None where it is stopped,
-// which the run then tells.
+// which the run then reports.
 #[inline(always)]
 fn advance(machine: &mut Machine, input: &mut Input, ran: &mut Tally) -> Option<Traced>
     requires { IsWithin (2 ^ 32) ran.old }

@@ -46,7 +46,7 @@ impl Tally {
         }
     }
 
-    /// What the run tells.
+    /// What the run reports.
     pub(crate) fn told(&self) -> Ran
         ensures { result ≡ self.now }
     {

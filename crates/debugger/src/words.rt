@@ -31,7 +31,7 @@ fn without_blanks(text: &[u8]) -> &[u8]
     &text[blank_len(text)..]
 }
 
-/// The first word of a line, and what stands after it. None where there is no word.
+/// The first word of a line, and what follows it. None where there is no word.
 pub(crate) fn first_word(line: &[u8]) -> Option<(&[u8], &[u8])>
     ensures { MatchOption result (words_of line.now ≡ [])
         (λ f. words_of line.now ≡ f.0.now ∷ words_of f.1.now) }

@@ -47,7 +47,7 @@ module _ (flow : Flow) (tree : Tree) where
       routines calls inside (depth_in calls s)
       ++ (loop_text s ++ clusters calls (max inside (depth_in calls s)) loops)
 
-  -- what stands around the node of a number
+  -- what is around the node of a number
   abbrev pub opened : ℕ → List ℕ
   opened n = clusters (calls_in flow tree n) 0 (reverse (loops_of flow tree n))
 

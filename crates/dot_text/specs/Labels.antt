@@ -1,4 +1,4 @@
--- What stands in a drawing for the word of each place.
+-- What a drawing shows for the word of each place.
 use Rattle.std.specs.Prelude.{◌≡◌, ℕ, List, [], Vec, Option, Some, None}
 use Rattle.std.specs.Global.{Global}
 use Rattle.std.specs.List.{AllZip}

@@ -50,7 +50,7 @@ heading =
 
 -- ## The drawing
 
--- Edges stand with their counts, and places with their labels.
+-- Edges have their counts, and places their labels.
 module _ (flow : Flow) (tree : Tree) (counts : List ℕ) (labels : List (Vec ℕ Global)) where
   -- the address of a number and its label
   abbrev pub row : ℕ → List ℕ

@@ -86,10 +86,10 @@ fn drawn_text(alloc: Global, drawn: Drawn<'_>) -> Result<Vec<u8>, AllocError>
 /// The drawing of a flow graph with what a greatest walk takes, in DOT: a node for each straight stretch,
 /// with the address and the label of each of its places, the ticks that the walk takes there and how often it
 /// passes; the edges between stretches with their ticks and how often the walk takes them; and Exit. Nodes
-/// stand in clusters, one for each list of calls and one for each instance of a loop. Bold is what the walk
-/// takes, grey what it does not. Numbers are told up to 2^64 - 1.
+/// are in clusters, one for each list of calls and one for each instance of a loop. Bold is what the walk
+/// takes, grey what it does not. Numbers are capped at 2^64 - 1.
 ///
-/// The tree is the one that `nest` gave for the graph, and the labels are of its places, in their order.
+/// The tree is the one that `nest` returned for the graph, and the labels are of its places, in their order.
 ///
 /// # Errors
 ///

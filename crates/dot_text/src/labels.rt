@@ -26,7 +26,7 @@ fn text_at(
 }
 
 /// For each place of a graph, in their order, the text of the line that its word is of. `placed` says where
-/// the lines of the source stand, in their order.
+/// the lines of the source are, in their order.
 ///
 /// # Errors
 ///

@@ -28,7 +28,7 @@ module _ (words : Words) (st : Stated) (profile : Profile) where
     pub by : IsReachedBy f.edge f.place
     pub faulty : IsPlaceFault words st f.place f.fault
 
-  -- no reached place is so
+  -- no reached place has a fault
   abbrev pub AreSound : Type 0
   AreSound = (p : Place) (f : BuildFault) → IsReached words st profile p → IsPlaceFault words st p f → ⊥
 

@@ -1,4 +1,4 @@
--- Free edges: for each of them `tight_state` gives a machine and an input whose one step takes the edge at
+-- Free edges: for each of them `tight_state` returns a machine and an input whose one step takes the edge at
 -- exactly its price. The rule is our own, and coarse: whole kinds of instructions are not free of which some
 -- have too little choice of the address to which they transfer or jump, and no edge is from where no RAM is
 -- fitted.

@@ -114,7 +114,7 @@ module _ (words : Words) (st : Stated) (profile : Profile) where
     pub reached : (p : Place) → Contains places p → IsReached p
     pub no_exit : Contains places Exit → ⊥
 
-  -- when each refusal may be given
+  -- when each refusal may be returned
   abbrev pub IsBuildFault : BuildFault → Type 0
   IsBuildFault fault.Memory = Unit {0}
   IsBuildFault (fault.OutsideImage address) = IsReachedAddress address × (word_of words address ≡ None)

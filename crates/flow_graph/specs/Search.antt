@@ -55,7 +55,7 @@ pub record IsFound (seen : BTreeSet (Reverse Place)) (order : List Place) : Type
   pub few : length order ≤ 16384
   pub no_exit : Contains order Exit → ⊥
 
--- one more place, unless it is there or is Exit
+-- one more place, unless it is in the list or is Exit
 abbrev pub Adds : List Place → Place → List Place → Type 0
 Adds old p new = ((new ≡ old) × ((p ≡ Exit) ⊎ Contains old p)) ⊎ (new ≡ old ++ p ∷ [])
 

@@ -1,4 +1,4 @@
--- How a machine is set for one word, besides where it stands: what the clauses of private functions cite. Our
+-- How a machine is set for one word, besides where it is: what the clauses of private functions cite. Our
 -- own choice, among the addresses that cost the most (bus_ticks, Dearest).
 use Rattle.std.specs.Prelude.{◌≡◌, ◌≢◌, ◌<◌, ◌≤◌, ◌+◌, ◌*◌, ◌%◌, ◌^◌, ◌⊎◌, ℕ, Bool, true, false, not}
 use Rattle.std.specs.Prelude.{Some, None, Ok, IfSome, if◌then◌else◌}
@@ -32,7 +32,7 @@ use Rattle.flow_graph.specs.declared.setting.Held.{Held}
 use Rattle.flow_graph.specs.declared.setting.Setting.{Setting}
 use Rattle.statement.specs.Stated.{Stated, class_of}
 
--- ## Where a transfer's words stand
+-- ## Where a transfer's words are
 
 -- RAM or ROM
 abbrev pub IsMemory : Spot → Type 0
@@ -52,7 +52,7 @@ IsSource Rom place = IsMemory place
 IsSource Io place = IsPort place
 IsSource Any place = IsPort place
 
--- a word's address on the spare page, or in ROM where the word that is executed does not stand
+-- a word's address on the spare page, or one in ROM that is not that of the word that is executed
 abbrev pub IsData : (spare address : ℕ) → ℕ → Type 0
 IsData spare address at =
     (at % 4 ≡ 0)

@@ -51,7 +51,7 @@ abbrev pub IsPlaceOf : Stated → ℕ → Place → Type 0
 IsPlaceOf st t (At calls address) = address ≡ t
 IsPlaceOf st t Exit = IsOf st.leave t
 
--- each word that is transferred stands at an address of the class
+-- each word that is transferred is at an address of the class
 abbrev pub TransfersIn : Class → List Access → Type 0
 TransfersIn class accesses =
     (store first : Bool) (address : ℕ) → Contains accesses (Word store first address) → IsOf class address

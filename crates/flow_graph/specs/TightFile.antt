@@ -45,7 +45,7 @@ use Rattle.statement.specs.Stated.{Stated, class_of}
 
 -- ## What a word needs
 
--- the register is not R15, the word in memory stands apart, and a word that is done has all that it needs
+-- the register is not R15, the word in memory is apart, and a word that is done has all that it needs
 pub record IsSettingOf (aim : Aim) (word : ℕ) (label : Label) (setting : Setting) : Type 0 where
   pub register_other : IfSome setting.register (λ held. is_pc held.register ≡ false)
   pub word_apart : IfSome setting.word (λ e. IsData aim.spare aim.address e.0)
@@ -176,7 +176,7 @@ pub record IsPlaced (profile : Profile) (f : file.Stated) (word : ℕ × ℕ) (s
   pub begun : IsStarted f profile start
   pub is : s ≡ put_words f.words (put_words (word ∷ []) start)
 
--- ## What is given
+-- ## What is returned
 
 -- such a file, and a machine and an input that take the edge: the file's machine, with the image's word at the
 -- edge's place and then with the words of the file, and the input of the file's step

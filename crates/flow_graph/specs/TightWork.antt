@@ -45,7 +45,7 @@ use Rattle.statement.specs.Stated.{Stated, class_of}
 abbrev pub masked : ℕ
 masked = 3
 
--- the machine stands at the word's address in SVC mode, with these flags and both interrupts masked; it
+-- the machine is at the word's address in SVC mode, with these flags and both interrupts masked; it
 -- fetches the word, and ROM's time fields are at their dearest
 pub record StandsAt (profile : Profile) (word address : ℕ) (flags : Flags) (s : State) : Type 0 where
   pub registers : length s.regs ≡ 27
@@ -110,7 +110,7 @@ module _ (st : Stated) (profile : Profile) (address : ℕ) (to : Place) (s : Sta
   IsSetFor _ = Unit {0}
 
 module _ (words : Words) (st : Stated) (profile : Profile) where
-  -- the machine stands at the edge's place; by its flags the word there is passed over or done as the edge is
+  -- the machine is at the edge's place; by its flags the word there is passed over or done as the edge is
   -- labelled, and where it is done, the machine is set for it
   pub record IsSetForEdge (e : Edge) (s : State) (i : Input) : Type 0 where
     pub calls : List ℕ

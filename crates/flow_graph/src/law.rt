@@ -14,7 +14,7 @@ pub fn run_law()
     ensures { RunLaw }
 {}
 
-/// A machine that is set for an edge takes it at exactly its price, in ticks: it stands at the word in SVC
+/// A machine that is set for an edge takes it at exactly its price, in ticks: it is at the word in SVC
 /// mode, with both interrupts masked and ROM's time fields at their dearest, and where the word is done, its
 /// registers and memory are such that the word costs the most, and leads to the edge's target. The call does
 /// nothing.

@@ -1,5 +1,5 @@
 //! The control-flow graph of a handler: its places, and the edges between them with their costs in ticks. The
-//! statement that it is built from is given on as it is.
+//! statement that it is built from is re-exported as it is.
 #![tactic(auto)]
 
 mod building;

@@ -20,8 +20,8 @@ pub(crate) const PHYSICAL_RAM: u32 = 0x200_0000;
 
 pub(crate) const PAGE: u32 = 0x8000;
 
-// Where the words of a load from ROM stand, in bytes: at ROM's end, or before that where the load itself
-// stands there.
+// Where the words of a load from ROM are, in bytes: at ROM's end, or before that where the load itself is
+// there.
 const ROM_DATA: u32 = 0x3FF_FF00;
 
 const OTHER_ROM_DATA: u32 = 0x3FF_FE00;
@@ -32,7 +32,7 @@ pub(crate) struct Aim {
     pub(crate) profile: Profile,
     /// The class that is stated for the words that it transfers.
     pub(crate) class: Class,
-    /// Where it stands, in bytes.
+    /// Its address, in bytes.
     pub(crate) address: u32,
     /// Where it is to lead, in bytes.
     pub(crate) target: u32,
@@ -52,7 +52,7 @@ pub(crate) struct Held {
 pub(crate) struct Setting {
     /// The one register other than R15 that matters, if one does.
     pub(crate) register: Option<Held>,
-    /// The word that a load among the devices gives.
+    /// The word that a load among the devices reads.
     pub(crate) port: u32,
     /// A word in memory, with its address in front, if one matters.
     pub(crate) word: Option<(u32, u32)>,
@@ -90,7 +90,7 @@ fn start(aim: &Aim, load: bool, words: u32) -> u32
     }
 }
 
-// The base by which the transfer's word stands at the address.
+// The base by which the transfer's word is at the address.
 fn base_of_single(x: &SingleImmediate, address: u32) -> u32
     ensures { address_for (of_immediate x.now) result ≡ address }
 {
@@ -103,7 +103,7 @@ fn base_of_single(x: &SingleImmediate, address: u32) -> u32
     }
 }
 
-// The base by which the block's lowest word stands at the address.
+// The base by which the block's lowest word is at the address.
 fn base_of_block(x: &Block, address: u32, words: u32) -> u32
     requires whole { address % 4 ≡ 0 }
     requires some { 1 ≤ words }

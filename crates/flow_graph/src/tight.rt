@@ -41,7 +41,7 @@ use statement::Statement;
 use std::alloc::{AllocError, Global};
 use thiserror::Error;
 
-/// Why no machine is given.
+/// Why no machine is returned.
 #[derive(Clone, Copy, Debug, PartialEq, Eq, Drop, Error)]
 pub enum TightFault {
     /// An allocation failed.
@@ -74,7 +74,7 @@ impl From<AllocError> for TightFault {
     }
 }
 
-/// How a machine stands before its step.
+/// How a machine is set before its step.
 #[derive(Clone, Copy)]
 pub(crate) struct Stand {
     /// The word's address, in bytes.
@@ -98,7 +98,7 @@ fn target(image: &Image, profile: &Profile, leave: Class, to: &Place) -> Option<
     }
 }
 
-// What the word needs besides where it stands: nothing where it is passed over.
+// What the word needs besides its address: nothing where it is passed over.
 fn setting_at(aim: &Aim, word: u32, label: Label) -> Setting
     requires free { (label ≡ Label.Skip) ⊎ IsFreeWord word }
     requires spare { aim.now.spare < 128 }
@@ -111,7 +111,7 @@ fn setting_at(aim: &Aim, word: u32, label: Label) -> Setting
     }
 }
 
-// How a machine stands that takes the edge at its price; none where the edge is not free.
+// How a machine is set that takes the edge at its price; none where the edge is not free.
 fn stand_for(
     image: &Image,
     statement: &Statement,
@@ -148,7 +148,7 @@ fn stand_for(
     })
 }
 
-// Where a register of SVC mode stands among the 26 of a machine file.
+// Where a register of SVC mode is among the 26 of a machine file.
 fn slot(register: Register) -> usize
     requires { is_pc register ≡ false }
     ensures slot { result ≡ slot_of Svc (register_number register) }
@@ -205,7 +205,7 @@ fn listed(alloc: Global, word: Option<(u32, u32)>) -> Result<Vec<(u32, u32)>, Al
     Ok(words)
 }
 
-// One step of the machine that stands so.
+// One step of the machine that is set in this way.
 fn parts(
     alloc: Global,
     stand: &Stand,

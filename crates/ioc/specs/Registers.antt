@@ -1,7 +1,7 @@
 -- IOC's registers by their offsets (our own profile, shaped on the VL86C410 data sheet). Ours alone: which
 -- addresses are registers'; that a write to offset 14 clears every latched request whatever its byte (the
 -- chip clears those whose bit in the byte is 1); that writes to 24 and 34 do nothing; that elsewhere a read
--- gives 0 and a write does nothing.
+-- returns 0 and a write does nothing.
 use Rattle.std.specs.Prelude.{ℕ, ◌+◌, ◌*◌, ◌/◌, ◌%◌, Bool, false, ◌==◌, if◌then◌else◌}
 use Rattle.std.specs.Int.RustNames.{bit_and}
 use Rattle.ioc.specs.declared.timers.Timer.{Timer}
@@ -14,7 +14,7 @@ is_register address = address / 0x80 == 0x6_4000
 abbrev pub offset_of : ℕ → ℕ
 offset_of address = address / 4 % 0x20 * 4
 
--- the byte that a read gives: of each bank the status, the request (status and mask) and the mask; of each
+-- the byte that a read returns: of each bank the status, the request (status and mask) and the mask; of each
 -- timer its output
 unfoldable pub read_of : ℕ → Controller → ℕ
 read_of offset c =

@@ -46,7 +46,7 @@ impl Countdown {
         }
     }
 
-    /// The timers as they stand.
+    /// The timers as they are now.
     pub(crate) fn current(&self) -> Timers
         ensures timers { result ≡ self.now }
         ensures phase { result.phase < 4 }

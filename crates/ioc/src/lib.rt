@@ -94,7 +94,7 @@ impl Ioc {
         }
     }
 
-    /// A copy of IOC as it stands.
+    /// A copy of IOC as it is now.
     pub fn snapshot(&self) -> Ioc
         ensures { result ≡ self.now }
     {

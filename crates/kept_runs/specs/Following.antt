@@ -1,4 +1,4 @@
--- Where a run stands that is followed, and one step of it.
+-- How far a run has been followed, and one step of it.
 use Rattle.std.specs.Prelude.{◌≡◌, ℕ, ◌+◌, ◌<◌, ◌≤◌, ◌^◌, List, [], ◌∷◌, ◌++◌, length, replicate, Option}
 use Rattle.std.specs.Prelude.{Contains, slice_index, slice_index_or}
 use Rattle.loader.specs.Image.{Words}
@@ -43,7 +43,7 @@ pub record IsTallyOf (flow : Flow) (x : Follower) : Type 0 where
   pub ticks : (place : ℕ) → place < length flow.places
       → (slice_index_or x.by_place.items place nothing).ticks ≤ x.ticks
 
--- a step may be made: the run stands at a place of the graph, at the machine's address
+-- a step may be made: the run is at a place of the graph, at the machine's address
 pub record CanGo (flow : Flow) (tree : Tree) (x : Follower) (s : State) : Type 0 where
   pub machine : IsMachineFor flow s
   pub known : x.number < length flow.places
@@ -56,14 +56,14 @@ abbrev pub Keeps : Tree → List NumberedEdge → Type 0
 Keeps tree walk = (s : Span) → Contains tree.spans s → most_in s walk ≤ s.bound
 
 module _ (words : Words) (st : Stated) (flow : Flow) (tree : Tree) where
-  -- the edge of the number is that of the step, and leaves the place where the run stands
+  -- the edge of the number is that of the step, and leaves the place where the run is
   pub record IsNext (x : Follower) (s : State) (i : Input) (told : Stepped) (after : State)
       (k : ℕ) : Type 0 where
     pub known : k < length flow.edges
     pub is_edge_of : IsEdgeOf words st flow.profile s i told after (step_at flow.edges k)
     pub from : (edge_at tree.edges k).from ≡ x.number
 
-  -- a step along an edge: what was told of any walk is told of it with the edge after it
+  -- a step along an edge: what held of any walk now holds of it with the edge after it
   pub record Goes (old new : Follower) (s : State) (i : Input) (after : State) : Type 0 where
     pub edge : ℕ
     pub told : Stepped

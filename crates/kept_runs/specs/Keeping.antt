@@ -33,7 +33,7 @@ pub record IsHandler (words : Words) (st : Stated) (flow : Flow) (tree : Tree) :
   pub graph_is : IsFlowGraph words st flow.profile flow
   pub tree_is : IsTree flow tree
 
--- after so many steps the machine stands at the address
+-- after so many steps the machine is at the address
 pub record StandsAfter (s : State) (inputs : List Input) (steps at : ℕ) : Type 0 where
   pub ran : Ran
   pub now : State
@@ -67,7 +67,7 @@ module _ (words : Words) (st : Stated) (flow : Flow) (tree : Tree) where
   abbrev pub KeepsNone : State → List Input → Type 0
   KeepsNone s inputs = (n : ℕ) → KeepsTo s (take n inputs) → ⊥
 
-  -- so many steps go along a walk from the entry to the place where the machine stands, which keeps the loop
+  -- so many steps go along a walk from the entry to the place where the machine is, which keeps the loop
   -- bounds
   pub record ComesTo (s : State) (inputs : List Input) (steps : ℕ) (place : Place)
       (now : State) : Type 0 where
@@ -81,7 +81,7 @@ module _ (words : Words) (st : Stated) (flow : Flow) (tree : Tree) where
     pub steps_are : ran.steps ≡ steps
     pub at : IsPlaceFor place now
 
-  -- so many steps come to a place, and the next is by this input
+  -- so many steps lead to a place, and the next is by this input
   pub record IsBefore (s : State) (inputs : List Input) (steps : ℕ) : Type 0 where
     pub place : Place
     pub now : State
@@ -103,7 +103,7 @@ module _ (words : Words) (st : Stated) (flow : Flow) (tree : Tree) where
     pub to : edge.to ≡ place_in flow tree span.header
     pub broken : KeepsTree tree ((before.comes).walk ++ edge ∷ []) → ⊥
 
-  -- the step after so many is along no edge of the place where the run stands
+  -- the step after so many is along no edge of the place where the run is
   pub record StraysAfter (s : State) (inputs : List Input) (steps : ℕ) (after : State)
       (stray : Stray) : Type 0 where
     pub before : IsBefore s inputs steps

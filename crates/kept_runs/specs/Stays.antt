@@ -1,4 +1,4 @@
--- The rounds of the stays in which a walk stands.
+-- The rounds of the stays that a walk is in.
 use Rattle.std.specs.Prelude.{◌≡◌, ℕ, ◌+◌, ◌<◌, ◌≤◌, true, cond, List, Option, Some, None}
 use Rattle.std.specs.Prelude.{Contains, slice_index, slice_set}
 use Rattle.numbered_walks.specs.declared.span.NumberedEdge.{NumberedEdge}

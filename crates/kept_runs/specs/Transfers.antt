@@ -60,7 +60,7 @@ covers Io Rom = false
 covers Io Io = true
 covers Io Any = false
 
--- each word stands at an address of the class
+-- each word is at an address of the class
 abbrev pub AllOf : Class → Transfer → Type 0
 AllOf class t = (i : ℕ) → i < t.words → IsOf class (word_address t.address i)
 

@@ -44,18 +44,18 @@ pub enum Followed {
     Strayed {
         /// The steps before the one that does not keep it.
         steps: u64,
-        /// The address, in bytes, where the machine stands after them.
+        /// The address, in bytes, where the machine is after them.
         at: u32,
         why: Unkept,
     },
 }
 
-/// Where a run stands that is followed from the entry, and what is known of it.
+/// How far a run has been followed from the entry, and what is known of it.
 #[derive(Drop)]
 pub(crate) struct Follower {
-    /// The number of the place where it stands.
+    /// The number of the place where it is.
     pub(crate) number: usize,
-    /// By the numbers of headers, the back edges of its stay in each instance where it stands.
+    /// By the numbers of headers, the back edges of its stay in each instance that it is in.
     pub(crate) turns: Vec<u32>,
     pub(crate) steps: u64,
     /// Their processor ticks.
@@ -64,7 +64,7 @@ pub(crate) struct Follower {
     pub(crate) by_place: Vec<Passed>,
 }
 
-// Where the machine stands, in bytes.
+// The address where the machine is, in bytes.
 fn address(machine: &Machine) -> u32
     ensures { result ≡ address_in machine.now.regs }
 {
@@ -85,7 +85,7 @@ fn start(alloc: Global, exit: usize) -> Result<Follower, AllocError>
     })
 }
 
-// One step from where the run stands, or how it does not keep the statement.
+// One step from where the run is, or how it does not keep the statement.
 fn take_step(
     handler: Handler<'_>,
     headers: &[Option<Span>],

@@ -40,7 +40,7 @@ fn label(holds: bool) -> Label
     if holds { Label::Do } else { Label::Skip }
 }
 
-/// Makes one step of a machine that stands at a place of the graph, named by its index: along which edge of
+/// Makes one step of a machine that is at a place of the graph, named by its index: along which edge of
 /// the place it is, by the statement.
 ///
 /// It takes time linear in the edges of the place, and no memory.

@@ -1,4 +1,4 @@
-//! The rounds of the stays in which a walk stands.
+//! The rounds of the stays that a walk is in.
 
 ghost use Rattle.std.specs.Prelude.{◌≡◌, ◌+◌, ◌<◌, ◌≤◌, MatchOption, length};
 ghost use Rattle.kept_runs.specs.Stays.{IsOver, Turns};
@@ -18,8 +18,8 @@ fn one_more(span: &Span, turns: u32) -> Option<u32>
     Some(turns + 1)
 }
 
-/// Counts an edge: by the numbers of headers, the back edges of the stay in each instance where a walk
-/// stands. What is counted of other instances means nothing. The instance whose bound allows no further back
+/// Counts an edge: by the numbers of headers, the back edges of the stay in each instance that a walk
+/// is in. What is counted of other instances means nothing. The instance whose bound allows no further back
 /// edge, if the edge is one of its.
 pub(crate) fn turn(
     headers: &[Option<Span>],

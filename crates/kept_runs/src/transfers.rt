@@ -66,7 +66,7 @@ fn lowest(block: &Block, base: u32, words: u32) -> u32
     lowest / 4 * 4
 }
 
-/// The words that an operation transfers from where the machine stands.
+/// The words that an operation transfers from where the machine is.
 pub(crate) fn words_of(machine: &Machine, operation: &Operation) -> Option<Transfer>
     ensures words { result ≡ words_of operation.now machine.now.regs }
     ensures few { IfSome result (λ t. t.words ≤ 16) }

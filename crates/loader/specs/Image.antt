@@ -1,4 +1,4 @@
--- An image: which words stand at which addresses. Source: our own image format and our own
+-- An image: which words are at which addresses. Source: our own image format and our own
 -- memory map, shaped on the VL86C110 data sheet's, with I/O from 3000000 to 33FFFFF.
 use Rattle.std.specs.Prelude.{ℕ, ◌+◌, ◌%◌, Bool, ◌&&◌, ◌||◌, ◌==◌, not, nat_lt, nat_le, if◌then◌else◌, List}
 use Rattle.std.specs.Prelude.{[], ◌∷◌, length, Option, Some, None, is_some}
@@ -16,7 +16,7 @@ abbrev pub word_of : Words → ℕ → Option ℕ
 word_of [] address = None
 word_of (e ∷ rest) address = if e.0 == address then Some e.1 else word_of rest address
 
--- the words with one more, which stands nowhere yet
+-- the words with one more, at an address that has none yet
 abbrev pub with_word : Words → ℕ → ℕ → Words
 with_word [] address word = (address, word) ∷ []
 with_word (e ∷ rest) address word =
@@ -26,7 +26,7 @@ with_word (e ∷ rest) address word =
 abbrev pub lies_in_memory : ℕ → ℕ → Bool
 lies_in_memory from to = nat_le to IO_START || (nat_le ROM_START from && nat_le to SPACE_END)
 
--- a word may stand at a multiple of 4, in memory
+-- a word may be at a multiple of 4, in memory
 abbrev pub may_hold : ℕ → Bool
 may_hold address = address % 4 == 0 && lies_in_memory address (address + 4)
 

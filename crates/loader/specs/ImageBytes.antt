@@ -30,7 +30,7 @@ segment_bytes s =
 abbrev pub image_bytes : List Segment → List ℕ
 image_bytes segments = magic ++ (little_bytes 4 (length segments) ++ flat_map segment_bytes segments)
 
--- a word before segments: it joins the first of them where it stands right before it
+-- a word before segments: it joins the first of them where it comes right before it
 abbrev pub joined : ℕ → ℕ → List Segment → List Segment
 joined address word [] = record { address = address; words = word ∷ [] } ∷ []
 joined address word (s ∷ rest) =
@@ -64,11 +64,11 @@ head_count bytes =
     let count = little_number 4 (drop 4 bytes) in
     if count == 0 then little_number 4 (drop 4 bytes ++ 1 ∷ []) else count
 
--- one of so many words from the address on is there
+-- there is one of so many words from the address on
 abbrev pub overlaps : Words → ℕ → ℕ → Bool
 overlaps words address count = list_any (λ e. nat_le address e.0 && nat_lt e.0 (address + 4 * count)) words
 
--- why a segment cannot stand after words
+-- why a segment cannot come after words
 abbrev pub segment_fault : Words → ℕ → ℕ → Option ReadFault
 segment_fault words address count =
     if not (address % 4 == 0) then Some Misaligned

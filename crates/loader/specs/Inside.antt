@@ -16,7 +16,7 @@ abbrev pub Ascends : Words → Type 0
 Ascends [] = Unit {0}
 Ascends (e ∷ rest) = AllByRecursion (λ f. e.0 < f.0) rest × Ascends rest
 
--- each word stands where one may
+-- each word is where one may be
 abbrev pub MayStand : Words → Type 0
 MayStand words = AllByRecursion (λ e. IsTrue (may_hold e.0)) words
 

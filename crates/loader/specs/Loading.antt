@@ -69,7 +69,7 @@ abbrev pub put_at : Result Spot Refused → ℕ → Memory → Memory
 put_at (Ok (Ram place)) word m = stored (Ram place) word m
 put_at _ word m = m
 
--- a privileged load of the address gives the word
+-- a privileged load of the address returns the word
 pub record GivesWord (m : Memory) (address word : ℕ) : Type 0 where
   pub spot : Spot
   pub leads : spot_of m address ≡ Ok spot

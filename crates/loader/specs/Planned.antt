@@ -20,7 +20,7 @@ AreOf image words = All (λ e. word_of image e.0 ≡ Some e.1) words
 abbrev pub IsFitted : ℕ → Type 0
 IsFitted address = (address < 0x2400000) ⊎ (IO_START ≤ address)
 
--- where a word may stand beside an image's: on the spare page, by its own address, or in ROM
+-- where a word may be beside an image's: on the spare page, by its own address, or in ROM
 abbrev pub IsBeside : ℕ → ℕ → Type 0
 IsBeside spare address =
     (address % 4 ≡ 0)

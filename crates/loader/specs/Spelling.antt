@@ -9,7 +9,7 @@ abbrev pub with_segments : Words → List Segment → Words
 with_segments words [] = words
 with_segments words (s ∷ rest) = with_segments (with_words words s.address s.words) rest
 
--- each segment can stand after the words before it: a multiple of 4, some words, in memory, and none on
+-- each segment can come after the words before it: a multiple of 4, some words, in memory, and none in
 -- another's place
 abbrev pub CanFollow : Words → List Segment → Type 0
 CanFollow words [] = Unit {0}
@@ -21,7 +21,7 @@ CanFollow words (s ∷ rest) =
 abbrev pub AreNumbers : List ℕ → Type 0
 AreNumbers words = AllByRecursion (λ w. w < 2 ^ 32) words
 
--- an image is the words of at most 16 segments, each of which can stand after those before it
+-- an image is the words of at most 16 segments, each of which can come after those before it
 pub record Spell (segments : List Segment) (words : Words) : Type 0 where
   pub few : length segments ≤ 16
   pub numbers : AllByRecursion (λ s. AreNumbers s.words) segments

@@ -7,7 +7,7 @@ use Rattle.loader.specs.ImageBytes.{Segment}
 abbrev pub is_next : ℕ → ℕ × ℕ → Bool
 is_next before e = e.0 == before + 4
 
--- the number of words that stand side by side after an address
+-- the number of words that are side by side after an address
 abbrev pub run_after : ℕ → Words → ℕ
 run_after before [] = 0
 run_after before (e ∷ rest) = if is_next before e then suc (run_after e.0 rest) else 0

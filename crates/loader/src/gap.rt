@@ -34,7 +34,7 @@ pub(crate) fn word_if(entry: Option<Entry>, address: u32) -> Option<u32>
     if at == address { Some(word) } else { None }
 }
 
-/// Whether an entry, if there is one, stands below the address.
+/// Whether an entry, if there is one, is below the address.
 pub(crate) fn is_below(entry: Option<Entry>, address: u32) -> bool
     ensures { result ≡ list_all (λ e. nat_lt e.0 address) (option_to_list entry) }
 {
@@ -44,7 +44,7 @@ pub(crate) fn is_below(entry: Option<Entry>, address: u32) -> bool
     }
 }
 
-/// Whether an entry, if there is one, stands above the address.
+/// Whether an entry, if there is one, is above the address.
 pub(crate) fn is_above(entry: Option<Entry>, address: u32) -> bool
     ensures { result ≡ list_all (λ e. nat_lt address e.0) (option_to_list entry) }
 {
@@ -86,7 +86,7 @@ pub(crate) fn word_above(words: &VecDeque<Entry>, address: u32) -> Option<u32>
     word_if(nth_above(words, at), address)
 }
 
-// The last word, unless it stands below the address.
+// The last word, unless it is below the address.
 fn last_from(words: &[Entry], address: u32) -> Option<Entry>
     requires { Ascends words.now }
     ensures { MatchOption result (AllByRecursion (λ e. e.0 < address) words.now)
@@ -96,7 +96,7 @@ fn last_from(words: &[Entry], address: u32) -> Option<Entry>
     if is_below(last, address) { None } else { last }
 }
 
-// The first word, if it stands below the address.
+// The first word, if it is below the address.
 fn first_below(words: &VecDeque<Entry>, address: u32) -> Option<Entry>
     requires { Ascends words.now.items }
     ensures { MatchOption result (AllByRecursion (λ e. address ≤ e.0) words.now.items)

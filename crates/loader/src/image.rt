@@ -61,14 +61,14 @@ impl<T: Drop> From<AllocFailed<T>> for ImageFault {
 /// The words of a program by their addresses, which are below 2^26.
 #[derive(Drop)]
 pub struct Image {
-    // Words mostly come side by side. So that the next one is added at an end, the words below it stand apart
-    // from those above it, both by ascending addresses.
+    // Words mostly come side by side. So that the next one is added at an end, the words below it are kept
+    // apart from those above it, both by ascending addresses.
     pub(crate) below: Vec<Entry>,
     pub(crate) above: VecDeque<Entry>,
     pub(crate) runs: usize,
 }
 
-// Whether a word stands at an address, four bytes in front of it and four after it.
+// Whether there is a word at an address, four bytes in front of it and four after it.
 #[derive(Clone, Copy)]
 struct Beside {
     at: bool,
@@ -229,7 +229,7 @@ impl Image {
         self.below.len() + self.above.len()
     }
 
-    // What stands beside an address, which mostly lies between the words below and those above.
+    // What is beside an address, which mostly lies between the words below and those above.
     fn beside(&self, address: u32) -> Beside
         requires { IsTrue (may_hold address) }
         ensures at { result.at ≡ is_some (word_of self.now address) }
@@ -275,7 +275,7 @@ impl Image {
         Ok(runs)
     }
 
-    /// Puts a word where none stands.
+    /// Puts a word where there is none.
     ///
     /// `OutOfRange`: the address is no multiple of 4, in I/O (3000000 to 33FFFFF) or past 3FFFFFC, or it
     /// holds a word already. `TooLong`: a 65,537th word, or a 17th run of words side by side. Its time is

@@ -14,7 +14,7 @@ use crate::places::{MOST_SEGMENTS, MOST_WORDS};
 use crate::reading::ReadFault;
 
 /// States that [`read_image`](crate::read_image) takes the bytes of every list of segments that
-/// spell an image, in whatever order, and gives that image; it does nothing.
+/// spell an image, in whatever order, and returns that image; it does nothing.
 pub fn images_are_read()
     ensures { (segments : List Segment) → (words : Words) → Spell segments words
         → image_read (image_bytes segments) ≡ Ok words }
@@ -28,7 +28,7 @@ pub fn truncated_begins_an_image()
     ensures truncated { (bytes : List ℕ) → BeginImage bytes → image_read bytes ≡ Err ReadFault.Truncated }
 {}
 
-/// States that bytes with any other fault do not begin an image's, whatever stood after them. It does
+/// States that bytes with any other fault do not begin an image's, whatever followed them. It does
 /// nothing.
 pub fn other_faults_begin_no_image()
     ensures { (bytes more : List ℕ) → (fault : ReadFault) → image_read bytes ≡ Err fault
@@ -48,11 +48,11 @@ pub fn image_limits()
     ensures segments { MOST_SEGMENTS ≡ 16 }
 {}
 
-/// States what privileged loads give of words that are put into memory whose logical pages lie as an image's
-/// plan says: each word of the image that is put, in whatever order, unless it is past RAM, from 2400000 to
-/// 2FFFFFF; and after that also each word that is put on the plan's spare page, by its own address, or in ROM
-/// at another address. The pages stay where they lie, and words of the image are refused only where one is
-/// past RAM. It does nothing.
+/// States what privileged loads return of words that are put into memory whose logical pages lie as an
+/// image's plan says: each word of the image that is put, in whatever order, unless it is past RAM, from
+/// 2400000 to 2FFFFFF; and after that also each word that is put on the plan's spare page, by its own
+/// address, or in ROM at another address. The pages stay where they lie, and words of the image are refused
+/// only where one is past RAM. It does nothing.
 pub fn planned_words_are_loaded()
     ensures mapped { (pages : List PlacedPage) → (m : Memory) → (words : Words) → IsMapped pages m
         → IsMapped pages (loaded words m) }

@@ -1,4 +1,4 @@
-//! Where the words of an image may stand, and how many there may be.
+//! Where the words of an image may be, and how many there may be.
 
 ghost use Rattle.std.specs.Prelude.{◌≡◌};
 ghost use Rattle.loader.specs.Image.{is_past_ram, lies_in_memory, may_hold};
@@ -19,7 +19,7 @@ pub fn lies_in_memory(from: u64, to: u64) -> bool
     to <= u64::from(IO_START) || (from >= u64::from(ROM_START) && to <= u64::from(SPACE_END))
 }
 
-/// Whether a word may stand at an address: a multiple of 4 in RAM or in ROM, not in I/O.
+/// Whether a word may be at an address: a multiple of 4 in RAM or in ROM, not in I/O.
 pub fn may_hold(address: u32) -> bool
     ensures { result ≡ may_hold address }
 {

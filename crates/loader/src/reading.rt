@@ -38,7 +38,7 @@ pub enum ReadFault {
     /// A segment's address is no multiple of 4.
     #[error("Misaligned")]
     Misaligned,
-    /// Bytes stand after the last segment.
+    /// Bytes follow the last segment.
     #[error("TrailingBytes")]
     TrailingBytes,
     /// More than 16 segments, a segment of no words, in I/O (3000000 to 33FFFFF) or past 4000000, or more
@@ -102,7 +102,7 @@ impl Head {
     }
 }
 
-// Whether a word stands from an address up to another.
+// Whether there is a word from an address up to another.
 fn stand_in(words: &[Entry], from: u32, to: u32) -> bool
     ensures { result ≡ list_any (λ e. nat_le from e.0 && nat_lt e.0 to) words.now }
 {
@@ -117,7 +117,7 @@ fn above_stand_in(words: &VecDeque<Entry>, from: u32, to: u32) -> bool
 }
 
 impl Image {
-    // Whether a word stands at one of `count` addresses of words.
+    // Whether there is a word at one of `count` addresses of words.
     fn overlaps(&self, address: u32, count: u32) -> bool
         requires inside { address + 4 * count ≤ 0x400_0000 }
         ensures { result ≡ overlaps self.now address count }
@@ -127,7 +127,7 @@ impl Image {
         stand_in(&self.below, address, end) || above_stand_in(&self.above, address, end)
     }
 
-    // Why a segment cannot stand after the words of the earlier ones.
+    // Why a segment cannot come after the words of the earlier ones.
     fn segment_fault(&self, head: Head) -> Option<ReadFault>
         ensures { result ≡ segment_fault self.now head.address head.count }
     {
@@ -187,7 +187,7 @@ impl Image {
         ReadFault::Truncated
     }
 
-    // Puts the words of a segment that can stand after those of the image.
+    // Puts the words of a segment that can come after those of the image.
     fn put_segment(&mut self, alloc: Global, head: Head, bytes: &[u8]) -> Result<(), ReadFault>
         requires allowed { segment_fault self.old head.address head.count ≡ None }
         requires standing { 4 * head.count ≤ length bytes.now }

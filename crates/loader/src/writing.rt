@@ -31,14 +31,14 @@ fn push_segment(bytes: &mut Vec<u8>, address: u32, run: &[(u32, u32)]) -> Result
     Ok(())
 }
 
-// Whether a word stands right after an address.
+// Whether a word is right after an address.
 fn is_next(before: u32, entry: &(u32, u32)) -> bool
     ensures { result ≡ is_next before entry.now }
 {
     u64::from(entry.0) == u64::from(before) + 4
 }
 
-// The number of words that stand side by side after an address.
+// The number of words that are side by side after an address.
 fn run_after(address: u32, words: &[(u32, u32)]) -> usize
     ensures count { result ≡ run_after address words.now }
     ensures within { result ≤ length words.now }

@@ -7,7 +7,7 @@ use Rattle.longest_walk.specs.declared.folded.Item.TheOpen.{Item-F}
 use Rattle.longest_walk.specs.declared.folded.Item.TheFolds.{fold-Item}
 
 -- the edges, and those of them outside of repeats; of the repeats, inner ones included, the counts, the edges
--- of one round, and those of the body outside of the repeats in it; and how deep repeats stand
+-- of one round, and those of the body outside of the repeats in it; and how deep repeats are nested
 pub record Opened : Type 0 where
   pub walk : List Edge
   pub outside : List Edge

@@ -4,7 +4,7 @@ use Rattle.flow_graph.specs.Flow.{Flow}
 use Rattle.flow_graph.specs.declared.places.Place.{Place}
 use Rattle.longest_walk.specs.Built.{step_at}
 
--- the edges that leave the place stand from the one number to the other
+-- the edges that leave the place are those from the one number to the other
 pub record IsPartOf (flow : Flow) (place : Place) (first end : ℕ) : Type 0 where
   pub ordered : first ≤ end
   pub fits : end ≤ length flow.edges

@@ -79,7 +79,7 @@ pub record IsAlong (flow : Flow) (tree : Tree) (c : Tables) (outer : ℕ) (numbe
 abbrev pub depth_at : List Span → ℕ → ℕ
 depth_at spans p = count_by (λ s. is_in s p) spans
 
--- how deep the instances right inside the context stand
+-- how deep the instances right inside the context are nested
 abbrev pub level_in : List Span → Option Span → ℕ
 level_in spans None = 1
 level_in spans (Some s) = depth_at spans s.header + 1
@@ -106,7 +106,7 @@ pub record IsRounds (flow : Flow) (tree : Tree) (c : Tables) (s : Span) (entry :
   pub rounds : AreRoundsOf tree.edges tree.spans c s (edges_of tree.edges numbers)
   pub along : IsAlong flow tree c (depth_at tree.spans s.header) numbers (joined (opened_rounds entry))
 
--- the rounds of the first spans stand at their headers, and none where no span begins
+-- the rounds of the first spans are at their headers, and none where no span begins
 pub record AreRounds (flow : Flow) (tree : Tree) (c : Tables) (done : ℕ)
     (table : List (Option Rounds)) : Type 0 where
   pub whole : length table ≡ length flow.places + 1

@@ -39,7 +39,7 @@ pub(crate) fn numbers_of_walk(
 /// The greatest cost of a complete walk that keeps the bounds of a graph's loops, such a walk, and the least
 /// numbers that prove it greatest.
 ///
-/// The tree is the one that `nest` gave for the graph.
+/// The tree is the one that `nest` returned for the graph.
 ///
 /// # Errors
 ///

@@ -24,7 +24,7 @@ pub struct InstanceRow {
     pub list: Calls,
     /// The header's address, a multiple of 4 below 4000000.
     pub header: u32,
-    /// The most that a walk has cost, in ticks, when it comes to the header from outside.
+    /// The most that a walk has cost, in ticks, when it reaches the header from outside.
     pub arrival: u64,
     /// The most that one round costs, in ticks; 0 with no back edge or a bound of 0.
     pub round: u64,

@@ -13,8 +13,8 @@ use std::alloc::Global;
 /// The worst time until each place of a graph begins, in ticks from the beginning of the handler, by the
 /// place's index: the greatest cost of a walk from the entry to it that keeps the bounds of the loops.
 ///
-/// The tree is the one that `nest` gave for the graph. The call takes time linear in the edges and places, times the
-/// nesting of loops.
+/// The tree is the one that `nest` returned for the graph. The call takes time linear in the edges and
+/// places, times the nesting of loops.
 ///
 /// # Errors
 ///

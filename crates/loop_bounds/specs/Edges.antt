@@ -7,7 +7,7 @@ use Rattle.numbered_walks.specs.declared.span.NumberedEdge.{NumberedEdge}
 abbrev pub exit_of : List ℕ → ℕ
 exit_of firsts = length firsts - 1
 
--- the edges stand node by node: those of the node v begin at `firsts` at v, and end where those of the next
+-- the edges are grouped by node: those of the node v begin at `firsts` at v, and end where those of the next
 -- begin
 pub record IsGrouped (firsts : List ℕ) (edges : List NumberedEdge) : Type 0 where
   pub some : 0 < length firsts

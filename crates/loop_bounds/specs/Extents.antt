@@ -82,7 +82,7 @@ pub record AreSeen (loops : List Loop) (headers : BTreeSet ℕ) (limit : ℕ) : 
 
 -- ## In order
 
--- each has a position, and they stand in the order of their first positions, the longer before the shorter
+-- each has a position, and they are in the order of their first positions, the longer before the shorter
 pub record AreExtents (extents : List Extent) : Type 0 where
   pub some : (k : ℕ) → k < length extents → (extent_at extents k).first < (extent_at extents k).end
   pub sorted : (j k : ℕ) → j < k → k < length extents

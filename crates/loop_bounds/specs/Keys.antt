@@ -1,4 +1,4 @@
--- The order of places by their keys, in which the members of an instance stand side by side.
+-- The order of places by their keys, in which the members of an instance are side by side.
 use Rattle.std.specs.Prelude.{◌≡◌, ℕ, ◌<◌, ◌≤◌, Bool, true, false, nat_lt, nat_eq, ◌&&◌, ◌||◌, List, [], ◌∷◌}
 use Rattle.std.specs.Prelude.{◌++◌, length}
 use Rattle.std.specs.Ordering.{nat_cmp}
@@ -30,13 +30,13 @@ pub record IsListed (places listed : List Place) : Type 0 where
   pub moved : IsPermutation places listed
   pub ascending : IsSorted by_key listed
 
--- the places before the position are those whose keys stand before this one
+-- the places before the position are those whose keys come before this one
 pub record IsPoint (listed : List Place) (key : List ℕ) (n : ℕ) : Type 0 where
   pub inside : n ≤ length listed
   pub below : (k : ℕ) → k < n → is_before (key_of (place_at listed k)) key ≡ true
   pub from : (k : ℕ) → n ≤ k → k < length listed → is_before (key_of (place_at listed k)) key ≡ false
 
--- ascending by key, and each place stands once
+-- ascending by key, and each place appears once
 pub record AreByKey (listed : List Place) : Type 0 where
   pub ascending : IsSorted by_key listed
   pub once : (m n : ℕ) → m < length listed → n < length listed → place_at listed m ≡ place_at listed n → m ≡ n

@@ -1,4 +1,4 @@
--- The order in which the members of each instance stand together and every edge but the back edges goes up.
+-- The order in which the members of each instance are together and every edge but the back edges goes up.
 use Rattle.std.specs.Prelude.{◌≡◌, ◌≢◌, ℕ, ◌+◌, ◌<◌, ◌≤◌, Bool, true, false, nat_eq, ◌&&◌, List, [], ◌∷◌}
 use Rattle.std.specs.Prelude.{◌++◌, length, map, take, filter, Contains, slice_index, slice_index_or, Option}
 use Rattle.std.specs.Prelude.{Some, None, AllPairs, Vec, count_by}
@@ -37,7 +37,7 @@ pub record ArePlain (extents : List Extent) (edges plain : List NumberedEdge) : 
   pub sound : (e : NumberedEdge) → Contains plain e → Contains edges e × (IsBack extents e → ⊥)
   pub complete : (e : NumberedEdge) → Contains edges e → (IsBack extents e → ⊥) → Contains plain e
 
--- of the first extents one whose header stands at the position, or none has it there
+-- of the first extents one whose header is at the position, or none has it there
 abbrev pub IsHeaderOf : List Extent → ℕ → ℕ → Option ℕ → Type 0
 IsHeaderOf extents limit p None = (k : ℕ) → k < limit → (extent_at extents k).header ≢ p
 IsHeaderOf extents limit p (Some k) = (k < limit) × ((extent_at extents k).header ≡ p)
@@ -73,7 +73,7 @@ pub record AreFirsts (edges : List NumberedEdge) (firsts : List ℕ) (limit : �
   pub from : (v k : ℕ) (d : NumberedEdge) → v < limit → slice_index firsts v ≤ k → k < length edges
       → v ≤ (slice_index_or edges k d).from
 
--- of the first nodes of an order, how many stand after each, and itself
+-- of the first nodes of an order, how many come after each, and itself
 pub record AreHeights (order heights : List ℕ) (nodes limit : ℕ) : Type 0 where
   pub whole : length heights ≡ nodes
   pub each : (k : ℕ) → k < limit → slice_index heights (slice_index order k) + k ≡ length order

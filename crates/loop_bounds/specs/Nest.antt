@@ -94,7 +94,7 @@ pub record HasDeepPlace (flow : Flow) (loops : List Loop) : Type 0 where
 
 -- ## Refusals
 
--- what a refusal tells of a handler
+-- what a refusal says of a handler
 abbrev pub Applies : Flow → List Loop → NestFault → Type 0
 Applies flow loops Memory = Unit {0}
 Applies flow loops LoopsCross = HasCrossing flow loops
@@ -103,7 +103,7 @@ Applies flow loops EntersMidLoop = HasMidEntry flow loops
 Applies flow loops UnboundedCycle = HasUnboundedCycle flow loops
 Applies flow loops NestedTooDeep = HasDeepPlace flow loops
 
--- it applies, and none that stands before it does
+-- it applies, and none that comes before it does
 abbrev pub IsNestFault : Flow → List Loop → NestFault → Type 0
 IsNestFault flow loops Memory = Unit {0}
 IsNestFault flow loops LoopsCross = HasCrossing flow loops

@@ -18,7 +18,7 @@ pub record IsInside (flow : Flow) (inner outer : Instance) : Type 0 where
   pub all : (p : Place) → Contains flow.places p → is_member inner p ≡ true → is_member outer p ≡ true
   pub more : (p : Place) × Contains flow.places p × (is_member outer p ≡ true) × (is_member inner p ≡ false)
 
--- .. and no instance stands between the two
+-- .. and no instance is between the two
 pub record IsDirectlyInside (flow : Flow) (instances : List Instance) (inner outer : Instance) : Type 0 where
   pub inside : IsInside flow inner outer
   pub none_between : (i : Instance) → Contains instances i → IsInside flow inner i → IsInside flow i outer → ⊥

@@ -23,7 +23,7 @@ pub record IsPost (nodes : ℕ) (edges : List NumberedEdge) (colours : List Colo
       → e.from ≡ slice_index order k → (m : ℕ) × (m < k) × (slice_index order m ≡ e.to)
   pub distinct : (j m : ℕ) → m < j → j < length order → slice_index order m ≡ slice_index order j → ⊥
 
--- the node is black, or stands next on the path after the place p
+-- the node is black, or comes next on the path after the place p
 abbrev pub IsSeen : List Colour → List ℕ → ℕ → ℕ → Type 0
 IsSeen colours path p v =
     (colour_at colours v ≡ Black) ⊎ ((p + 1 < length path) × (v ≡ slice_index path (p + 1)))

@@ -33,7 +33,7 @@ pub record ArePlaceNumbers (flow : Flow) (place_of : ℕ → Place) : Type 0 whe
   pub number : (p : Place) → Contains flow.places p → (n : ℕ) × (n < length flow.places) × (place_of n ≡ p)
   pub once : (m n : ℕ) → m < length flow.places → n < length flow.places → place_of m ≡ place_of n → m ≡ n
 
--- the numbers stand for the places as told, and `exit` for Exit
+-- the numbers stand for the places as `place_of` has them, and `exit` for Exit
 pub record NumbersEdge (place_of : ℕ → Place) (exit : ℕ) (e : Edge) (n : NumberedEdge) : Type 0 where
   pub from_is : place_of n.from ≡ e.from
   pub to_is : place_of n.to ≡ e.to

@@ -2,10 +2,10 @@
 //! contains it, and an order of its places in which each instance is an interval. Loops that bound nothing
 //! are refused.
 //!
-//! Places stand in four orders, each for what the others do not have:
+//! Places have four orders, each for what the others do not have:
 //!
 //! - index: the graph's, by calls and then by address. The certificate's rows have it too.
-//! - position: by calls and address as one list, so that what an instance calls stands among its own places.
+//! - position: by calls and address as one list, so that what an instance calls is among its own places.
 //!   Its members are an interval (`Extent`), and the ends of two intervals show whether one holds the other.
 //! - rank: it rises along every edge but the back edges. A depth-first search finds it, or a cycle that no
 //!   loop bounds. The members of an instance may lie apart in it.

@@ -53,7 +53,7 @@ pub(crate) fn listed(alloc: Global, places: &[Place]) -> Result<Vec<Place>, Allo
     Ok(listed)
 }
 
-/// How many of the places have keys that stand before the calls and then the address.
+/// How many of the places have keys that come before the calls and then the address.
 pub(crate) fn point(listed: &[Place], calls: Calls, address: u32) -> usize
     requires { IsSorted by_key listed.now }
     ensures { IsPoint listed.now (calls ++ address ∷ []) result }

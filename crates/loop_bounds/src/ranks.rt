@@ -81,7 +81,7 @@ fn firsts_of(alloc: Global, edges: &[NumberedEdge], exit: usize) -> Result<Vec<u
     Ok(firsts)
 }
 
-// For each node how many stand after it in the order, and itself.
+// For each node how many come after it in the order, and itself.
 fn heights(alloc: Global, order: &[usize], nodes: usize) -> Result<Vec<usize>, AllocError>
     requires inside { (k : ℕ) → k < length order.now → slice_index order.now k < nodes }
     requires once { (j k : ℕ) → k < j → j < length order.now

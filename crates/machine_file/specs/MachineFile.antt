@@ -44,7 +44,7 @@ word_or key missing ms = number_or machine_faults key (2 ^ 32 - 1) missing ms
 
 -- ## Flags
 
--- how often a letter stands in a text
+-- how often a letter appears in a text
 abbrev pub times : ℕ → List ℕ → ℕ
 times letter text = count_by (λ x. x == letter) text
 
@@ -58,7 +58,7 @@ is_single text = list_all (λ letter. nat_le (times letter text) 1) (codes "NZCV
 abbrev pub has : List ℕ → ℕ → Bool
 has text letter = not (times letter text == 0)
 
--- the flags whose letters stand there are set: 78 N, 90 Z, 67 C, 86 V, 73 I, 70 F
+-- the flags whose letters are there are set: 78 N, 90 Z, 67 C, 86 V, 73 I, 70 F
 abbrev pub set_flags : List ℕ → PsrFlags
 set_flags text =
     record {
@@ -185,7 +185,7 @@ controller_in ms = seen controller_of (both machine_faults (rom_in ms) (pages_in
 
 -- ## Events
 
--- the lines of a list of names: a line is active where its name stands there
+-- the lines of a list of names: a line is active where its name is there
 abbrev pub union : List Lines → Lines
 union lines = fold (λ (a b : Lines). record { 0 = bit_or a.0 b.0 }) (record { 0 = 0 }) lines
 

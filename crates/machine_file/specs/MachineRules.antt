@@ -108,7 +108,7 @@ IsPutWord d word =
 
 -- ## What the file states
 
--- only `pc` is required; where another key is missing, what stands here beside it holds
+-- only `pc` is required; where another key is missing, what is written here beside it holds
 
 pub record StatesProcessor (ms : Members) (p : Processor) : Type 0 where
   pub pc : AtKey (codes "pc") ms (λ d. IsAddress d p.pc)
@@ -117,7 +117,7 @@ pub record StatesProcessor (ms : Members) (p : Processor) : Type 0 where
   pub registers : AtKeyOr (codes "registers") ms (p.registers ≡ replicate 26 0)
       (λ d. AreRegisters d p.registers)
 
--- MEMC can map each of the pages, and no logical or physical page stands twice
+-- MEMC can map each of the pages, and no logical or physical page appears twice
 pub record StatesController (ms : Members) (c : Controller) : Type 0 where
   pub low_rom : AtKeyOr (codes "low_rom") ms (c.low_rom ≡ 0) (λ d. IsNumber 3 d c.low_rom)
   pub high_rom : AtKeyOr (codes "high_rom") ms (c.high_rom ≡ 0) (λ d. IsNumber 3 d c.high_rom)
@@ -132,7 +132,7 @@ pub record StatesSchedule (ms : Members) (s : Schedule) : Type 0 where
   pub events : AtKeyOr (codes "event") ms (s.events ≡ []) (λ d. IsListOf IsEvent d s.events)
   pub steps_once : are_distinct (keys_of s.events) ≡ true
 
--- no two words stand at one address
+-- no two words are at one address
 pub record StatesMachine (ms : Members) (stated : Stated) : Type 0 where
   pub known : has_only_keys file_keys ms ≡ true
   pub processor : StatesProcessor ms stated.processor

@@ -42,7 +42,7 @@ pub record IsInRange (s : Stated) : Type 0 where
   pub steps : s.schedule.steps ≤ 65536
   pub held : All (λ w. IsTrue (may_hold w.0)) s.words
 
--- no page and no word stands twice
+-- no page and no word appears twice
 pub record StandsOnce (s : Stated) : Type 0 where
   pub pages_once : are_single s.controller.pages ≡ true
   pub words_once : are_distinct (keys_of s.words) ≡ true

@@ -17,7 +17,7 @@ use Rattle.machine_file.specs.declared.profile_faults.ProfileFileFault.TheVarian
 abbrev pub IsTicks : Data → ℕ → Type 0
 IsTicks d n = IsNumber (2 ^ 32 - 1) d n
 
--- the fifteen numbers that stand at the nine keys, all of which are required
+-- the fifteen numbers at the nine keys, all of which are required
 abbrev pub StatesNumbers : Members → List ℕ → Type 0
 StatesNumbers ms
     (n ∷ s ∷ quad ∷ rom_0 ∷ rom_1 ∷ rom_2 ∷ rom_3 ∷ slow ∷ medium ∷ fast ∷ synchronous ∷ control ∷ unfitted

@@ -13,8 +13,8 @@ ghost use Rattle.machine_file.specs.Stated.{Stated};
 use crate::machine_faults::MachineFileFault;
 use crate::profile_faults::ProfileFileFault;
 
-/// States which profile [`read_profile`](crate::profiles::read_profile) gives for a document: the one that
-/// its keys state, told one by one; or the lowest of all faults that the document has. It does nothing.
+/// States which profile [`read_profile`](crate::profiles::read_profile) returns for a document: the one
+/// that its keys state, one by one; or the lowest of all faults that the document has. It does nothing.
 pub fn profiles_are_read()
     ensures profile { (ms : Members) → (answer : Read (List ℕ)) → IsPriced (numbers_in ms) answer
         → (numbers : List ℕ) → answer ≡ Ok numbers ↔ StatesProfile ms numbers }
@@ -23,8 +23,8 @@ pub fn profiles_are_read()
         ↔ IsLowest profile_faults (HasProfileFault ms) fault }
 {}
 
-/// States which machine [`read_machine`](crate::machine_files::read_machine) gives for a document: the one
-/// that its keys state, told one by one; or the lowest of all faults that the document has. It does nothing.
+/// States which machine [`read_machine`](crate::machine_files::read_machine) returns for a document: the
+/// one that its keys state, one by one; or the lowest of all faults that the document has. It does nothing.
 pub fn machine_files_are_read()
     ensures machine { (ms : Members) → (stated : Stated) → machine_in ms ≡ Ok stated
         ↔ StatesMachine ms stated }

@@ -124,7 +124,7 @@ impl MachineFile {
         self.schedule.steps
     }
 
-    /// The word that a load among the devices gives where IOC has no register, before any event changes it.
+    /// The word that a load among the devices reads where IOC has no register, before any event changes it.
     pub fn port(&self) -> u32
         ensures { result ≡ self.now.schedule.port }
     {

@@ -112,7 +112,7 @@ pub(crate) fn are_mappable(size: PageSize, pages: &[MappedPage]) -> bool
     pages.iter().all(|page| is_mappable(shift, *page))
 }
 
-// Whether no logical page stands in the list twice.
+// Whether no logical page is in the list twice.
 fn have_own_logical(alloc: Global, pages: &[MappedPage]) -> Result<bool, AllocError>
     ensures { IfOk result (λ test. test ≡ are_distinct (map (λ p. p.logical) pages.now)) }
 {
@@ -120,7 +120,7 @@ fn have_own_logical(alloc: Global, pages: &[MappedPage]) -> Result<bool, AllocEr
     are_all_distinct(alloc, &numbers)
 }
 
-// Whether no physical page stands in the list twice.
+// Whether no physical page is in the list twice.
 fn have_own_physical(alloc: Global, pages: &[MappedPage]) -> Result<bool, AllocError>
     ensures { IfOk result (λ test. test ≡ are_distinct (map (λ p. p.physical) pages.now)) }
 {

@@ -46,7 +46,7 @@ pub struct ControllerParts {
 pub struct ScheduleParts {
     /// How many steps the machine takes: 65536 at most.
     pub steps: u32,
-    /// The word that a load among the devices gives where IOC has no register.
+    /// The word that a load among the devices reads where IOC has no register.
     pub port: u32,
 }
 
@@ -155,7 +155,7 @@ impl MachineFile {
     /// # Errors
     ///
     /// `OutOfRange`: a number is none of those that its part takes, or MEMC cannot map a page. `Twice`: a
-    /// logical or a physical page, or the address of a word, stands twice; numbers out of range come first.
+    /// logical or a physical page, or the address of a word, appears twice; numbers out of range come first.
     /// `Memory` only where an allocation failed.
     pub fn of_parts(alloc: Global, parts: MachineParts) -> Result<MachineFile, MachineFileFault>
         ensures { result ≢ Err MachineFileFault.Memory → IsBuilt (stated_by parts) result }

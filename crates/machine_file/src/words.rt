@@ -92,7 +92,7 @@ impl Model for PutWords {
         × (are_distinct (keys_of w.words.items) ≡ true) };
 }
 
-// Whether no address stands in the list twice.
+// Whether no address is in the list twice.
 pub(crate) fn have_own_addresses(alloc: Global, words: &[(u32, u32)]) -> Result<bool, AllocError>
     ensures { IfOk result (λ test. test ≡ are_distinct (keys_of words.now)) }
 {

@@ -68,7 +68,7 @@ fn refusal(alloc: Global, bytes: &[u8]) -> Option<ReadFault> {
     read_image(alloc, bytes).err()
 }
 
-// The first length below the whole to which the image is cut and not refused so.
+// The first length below the whole at which the cut image is not refused as truncated.
 fn first_uncut(alloc: Global, image: &[u8; 36]) -> Option<usize> {
     for length in 0usize..36 {
         if refusal(alloc, &image[..length]) != Some(ReadFault::Truncated) {
@@ -93,7 +93,7 @@ fn images_cut(rt: HostRuntime) {
     assert!(rt; refused == Some(ReadFault::BadMagic));
 }
 
-// The word that a privileged load gives.
+// The word that a privileged load returns.
 fn word(memc: &Memc, address: u32) -> Option<u32> {
     match memc.locate(address % 0x400_0000, false, false) {
         Ok(Spot::Ram(place)) => Some(memc.load(Spot::Ram(place))),

@@ -22,7 +22,7 @@ fn shown(text: &[u8]) -> Option<Option<u32>> {
     }
 }
 
-// A line and what stands behind it.
+// A line and what follows it.
 type Lines = Option<(&'static [u8], &'static [u8])>;
 
 static LINES: [(&[u8], Lines); 3] = [

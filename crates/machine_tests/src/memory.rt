@@ -2,7 +2,7 @@ use bus_ticks::RomTimes;
 use memc::{MapFault, Memc, PageSize, Refused, Spot};
 use std::test::Fail;
 
-// The word that a privileged load gives, or none where the load is refused or goes to a device.
+// The word that a privileged load returns, or none where the load is refused or goes to a device.
 fn word(memc: &Memc, address: u32) -> Option<u32> {
     match memc.locate(address % 0x400_0000, false, false) {
         Ok(Spot::Ram(place)) => Some(memc.load(Spot::Ram(place))),
@@ -63,7 +63,7 @@ fn is_reached(memc: &Memc, place: u32) -> bool {
     false
 }
 
-// The bytes 11, 22, 33, 44 at 8100: an address within the word gives the whole word, not yet rotated. A
+// The bytes 11, 22, 33, 44 at 8100: an address within the word loads the whole word, not yet rotated. A
 // write to the translator puts logical page 8 on physical page 5 at level 1, where logical page 5 was.
 #[test]
 fn pages_of_4_kb(rt: HostRuntime) -> Result<(), Fail> {

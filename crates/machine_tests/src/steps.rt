@@ -44,7 +44,7 @@ fn words(machine: &Machine, one: Reg, other: Reg) -> [u32; 2] {
     [machine.get(one), machine.get(other)]
 }
 
-// What a step told: its address and its ticks.
+// What a step reports: its address and its ticks.
 fn step(machine: &mut Machine, input: Input) -> (u32, u32) {
     let told = machine.step(input);
     (told.from, told.ticks)

@@ -85,7 +85,7 @@ located m address user store =
 abbrev pub IsOnOnePage : ℕ → (address words : ℕ) → Type 0
 IsOnOnePage shift address words = address % 2 ^ shift / 4 * 4 + 4 * words ≤ 2 ^ shift
 
--- a run: words on one page of logical RAM. Where the first stands at a place, word i does at the place + 4 i
+-- a run: words on one page of logical RAM. Where the first is at a place, word i is at the place + 4 i
 pub record IsRun (m : Memory) (address words : ℕ) (user store : Bool) (place : ℕ) : Type 0 where
   pub logical : address < 0x2000000
   pub on_one_page : IsOnOnePage m.shift address words
@@ -123,7 +123,7 @@ abbrev pub rom_word : Words → ℕ → ℕ
 rom_word [] address = 0
 rom_word (e ∷ rest) address = if e.0 == address then e.1 else rom_word rest address
 
--- the word that a load gives; an address names the word that it lies in
+-- the word that a load returns; an address names the word that it lies in
 abbrev pub word_at : Memory → Spot → ℕ
 word_at m (Ram place) = slice_index m.paged.words (place / 4)
 word_at m (Rom address) = rom_word m.rom (address / 4 * 4)

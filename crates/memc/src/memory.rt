@@ -127,7 +127,7 @@ impl Memc {
         Ok(Spot::Rom(address))
     }
 
-    /// The word at a spot of RAM or ROM that `locate` gave. It is 0 where ROM has no word.
+    /// The word at a spot of RAM or ROM that `locate` returned. It is 0 where ROM has no word.
     #[inline(always)]
     pub fn load(&self, spot: Spot) -> u32
         requires { IsMemorySpot self.now.shift spot }
@@ -140,7 +140,7 @@ impl Memc {
         }
     }
 
-    /// Puts a word at a spot of RAM that `locate` gave.
+    /// Puts a word at a spot of RAM that `locate` returned.
     #[inline(always)]
     pub fn store(&mut self, spot: Spot, word: u32)
         requires { IsRamSpot self.old.shift spot }
@@ -206,7 +206,7 @@ impl Memc {
     /// Puts words into ROM, each by its address, a multiple of 4 from 3400000 to 3FFFFFC.
     ///
     /// Of two words for one address, and over one that is there, the last stays. No load finds a word at
-    /// another address. It copies the words that are there, so a caller gives all words in one call.
+    /// another address. It copies the words that are there, so a caller passes all words in one call.
     /// `Memory`: an allocation failed.
     pub fn add_rom(&mut self, _alloc: Global, words: &[(u32, u32)]) -> Result<(), MemcFault>
         ensures ok { OnOk result (self.new ≡ with_rom words.now self.old) }

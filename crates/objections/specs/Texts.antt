@@ -53,7 +53,7 @@ bound_heading bound =
     codes "The walk turns back more than "
     ++ (decimal bound ++ codes " times in a stay in this loop:\n")
 
--- a cost that is told up to 2^64
+-- a cost that is capped at 2^64
 abbrev pub cost_words : ℕ → List ℕ
 cost_words cost = cond (nat_lt cost (2 ^ 64)) (decimal cost) (codes "2^64 or more")
 

@@ -103,7 +103,7 @@ fn bound_text(alloc: Global, header: &Place, bound: u32) -> Result<Vec<u8>, Allo
     at_place(alloc, &heading, HEADER, header)
 }
 
-// Adds a cost that is told up to 2^64.
+// Adds a cost that is capped at 2^64.
 fn put_cost(out: &mut Vec<u8>, cost: u128) -> Result<(), AllocError>
     ensures { OnOk result (out.new.items ≡ out.old.items ++ cost_words cost) }
 {

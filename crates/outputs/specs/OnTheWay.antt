@@ -15,8 +15,8 @@ pub record IsSent (old new : Option (List ℕ)) (held text : List ℕ) : Type 0 
   pub whole : text ≡ sent ++ held
 
 module _ {O : Type 0} (taken : O → Option (List ℕ)) (failures : O → ℕ) where
-  -- since the output stood so, the text was sent but for what the page holds back; or the output took a front of
-  -- it, and failed
+  -- since the output was `start`, the text was sent but for what the page holds back; or the output took a
+  -- front of it, and failed
   pub record IsOnTheWay (start now : O) (page : Held) (text : List ℕ) : Type 0 where
     pub going : page.failed ≡ false
         → IsSent (taken start) (taken now) page.bytes text × (failures now ≡ failures start)

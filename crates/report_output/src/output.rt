@@ -124,7 +124,7 @@ impl<W: Write> Output for StreamOutput<W> {
     }
 }
 
-/// Writes a report's whole text, and gives its answer. The only refusal is `Device`.
+/// Writes a report's whole text, and returns its answer. The only refusal is `Device`.
 pub fn print_answer<T: Drop, O: Output>(
     answer: T,
     text: &[u8],

@@ -9,7 +9,7 @@ use std::alloc::{AllocError, Global};
 use std::collections::BTreeMap;
 use walk_counts::edge_counts;
 
-/// How often the word at an address is carried out, told up to 2^64 - 1.
+/// How often the word at an address is carried out, capped at 2^64 - 1.
 pub(crate) fn times_at(times: &BTreeMap<u32, u64>, at: u32) -> u64
     ensures { result ≡ times_in times.now at }
 {

@@ -29,7 +29,7 @@ pub enum Subject {
 pub struct Saving {
     pub subject: Subject,
     pub refinement: Refinement,
-    /// In all, told up to 2^64 - 1.
+    /// In all, capped at 2^64 - 1.
     pub ticks: u64,
 }
 

@@ -74,7 +74,7 @@ fn put_line(
     }
 }
 
-// What stands after the entry in the row of a saving.
+// What follows the entry in the row of a saving.
 trait RowEnds {
     // What it is for a subject in a row that has so many columns.
     ghost is_end: { Self → (used : ℕ) → Subject → List ℕ → Type 0 };
@@ -134,7 +134,7 @@ fn rows_of<E: RowEnds>(alloc: Global, ends: &E, list: &[Saving]) -> Result<Vec<u
 /// heading a row for each of the [`savings`], with the ticks, the better entry, and the address, the number
 /// and the text of its line. A row ends at column 80. Nothing where there are no savings.
 ///
-/// `placed` says where the lines stand, in their order.
+/// `placed` says where the lines are, in their order.
 ///
 /// # Errors
 ///

@@ -7,7 +7,7 @@ use Rattle.arm2_decode.specs.declared.names.Shift.TheVariants.{Lsl, Lsr, Asr, Ro
 use Rattle.shifter.specs.declared.shifts.Shifted.{Shifted}
 use Rattle.shifter.specs.Word.{word_bits}
 
--- what a shift gives: 32 bits, and the carry
+-- the result of a shift: 32 bits, and the carry
 pub record BitsAndCarry : Type 0 where
   pub bits : List Bool
   pub carry : Bool

@@ -5,7 +5,7 @@ ghost use Rattle.shifter.specs.Word.{bit_of_word, fill_word, word_bits};
 
 use arm2_decode::Shift;
 
-/// What a shift gives.
+/// The result of a shift.
 #[derive(Clone, Copy, Debug, PartialEq, Eq)]
 pub struct Shifted {
     /// The word.

@@ -51,7 +51,7 @@ RequiredFault key ms Has fault = AtKeyOr key ms (fault ≡ WrongKind) (λ d. Has
 module _ (names : Names) where
   -- ## A loop
 
-  -- what stands at the keys of a loop's table; a bound of at most 1,048,576
+  -- what is at the keys of a loop's table; a bound of at most 1,048,576
   pub record HasLoop (ms : Members) (l : Loop) : Type 0 where
     pub first : AtKey (codes "first") ms (λ d. IsAddress names d l.first)
     pub last : AtKey (codes "last") ms (λ d. IsAddress names d l.last)
@@ -94,7 +94,7 @@ module _ (names : Names) where
   abbrev pub AreDestinations : Data → List ℕ → Type 0
   AreDestinations d to = IsListUpTo 64 (IsAddress names) d to × (to ≢ []) × (are_distinct to ≡ true)
 
-  -- an empty list, the faults of a list of addresses, or an address that stands there twice
+  -- an empty list, the faults of a list of addresses, or an address that is there twice
   abbrev pub DestinationsFault : Data → StatementFault → Type 0
   DestinationsFault d fault =
       (IsSomeAnd (items_at d) (λ ds. ds ≡ []) × (fault ≡ WrongKind))
@@ -156,7 +156,7 @@ module _ (names : Names) where
 
   -- ## The statement
 
-  -- what stands at the document's keys. The class to leave to is any where it is missing, and there are no
+  -- what is at the document's keys. The class to leave to is any where it is missing, and there are no
   -- loops, targets or accesses where their list is
   pub record HasParts (ms : Members) (st : Stated) : Type 0 where
     pub entry : AtKey (codes "entry") ms (λ d. IsAddress names d st.entry)
@@ -171,7 +171,7 @@ module _ (names : Names) where
   abbrev pub IsSingle : Stated → Type 0
   IsSingle st = (are_distinct (keys_of st.targets) ≡ true) × (are_distinct (keys_of st.accesses) ≡ true)
 
-  -- the statement that a document states: no other keys, and what stands at these
+  -- the statement that a document states: no other keys, and what is at these
   pub record States (ms : Members) (st : Stated) : Type 0 where
     pub known : has_only_keys statement_keys ms ≡ true
     pub parts : HasParts ms st

@@ -207,7 +207,7 @@ fn required_kind(table: &Table) -> Read<TargetKind>
         .and_then(kind)
 }
 
-// The list, where no address stands in it twice.
+// The list, where no address is in it twice.
 fn each_once(alloc: Global, to: Vec<u32>) -> Result<Read<Vec<u32>>, AllocError>
     ensures { IfOk result (λ list. items_in list ≡ once to.items) }
 {

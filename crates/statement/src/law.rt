@@ -8,8 +8,8 @@ ghost use Rattle.statement.specs.StatementFaults.{statement_faults};
 
 use crate::faults::StatementFault;
 
-/// States what [`read_statement`](crate::reading::read_statement) gives for a document: the statement that it
-/// states, for each that states one; or the lowest of all the faults that it has. It does nothing.
+/// States what [`read_statement`](crate::reading::read_statement) returns for a document: the statement that
+/// it states, for each that states one; or the lowest of all the faults that it has. It does nothing.
 pub fn statements_are_read()
     ensures stated { (names : Names) → (ms : Members) → (st : Stated) → statement_of names ms ≡ Ok st
         ↔ States names ms st }

@@ -32,7 +32,7 @@ number_at faults limit d = required faults (as_integer d) (up_to faults limit)
 abbrev pub number_in : {F : Type 0} → Faults F → List ℕ → ℕ → Members → Reading F ℕ
 number_in faults key limit ms = required faults (get_member key ms) (number_at faults limit)
 
--- the number at a key, or what stands where the key is missing
+-- the number at a key, or `missing` where there is no such key
 abbrev pub number_or : {F : Type 0} → Faults F → List ℕ → ℕ → ℕ → Members → Reading F ℕ
 number_or faults key limit missing ms = optional missing (get_member key ms) (number_at faults limit)
 

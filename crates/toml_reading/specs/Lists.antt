@@ -1,4 +1,4 @@
--- Lists of at most so many values: what they state, and their faults; and values that stand twice.
+-- Lists of at most so many values: what they state, and their faults; and values that appear twice.
 use Rattle.std.specs.Prelude.{◌≡◌, ◌<◌, ◌≤◌, ◌⊎◌, ℕ, List, [], ◌∷◌, length, Any, IsSomeAnd, MatchOption}
 use Rattle.std.specs.List.{AllZip}
 use Rattle.toml.specs.Data.{Data}

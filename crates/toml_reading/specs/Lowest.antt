@@ -9,7 +9,7 @@ use Rattle.toml.specs.Data.{Data, Members, as_integer, as_table, get_member}
 use Rattle.toml_reading.specs.Documents.{has_only_keys, items_at}
 use Rattle.toml_reading.specs.Readings.{Faults}
 
--- a fault that is there, and none that is there is lower
+-- a fault that exists, and none that exists is lower
 pub record IsLowest {F : Type 0} (faults : Faults F) (Has : F → Type 0) (fault : F) : Type 0 where
   pub has : Has fault
   pub least : (other : F) → Has other → faults.rank fault ≤ faults.rank other
@@ -29,7 +29,7 @@ AtKey key ms P = IsSomeAnd (get_member key ms) P
 abbrev pub AtKeyOr : List ℕ → Members → Type 0 → (Data → Type 0) → Type 0
 AtKeyOr key ms Missing P = MatchOption (get_member key ms) Missing P
 
--- a table with no other keys than those, of which more is told
+-- a table with no other keys than those, of which `Tells` says more
 abbrev pub IsTable : List (List ℕ) → (Members → Type 0) → Data → Type 0
 IsTable keys Tells d = IsSomeAnd (as_table d) (λ ms. (has_only_keys keys ms ≡ true) × Tells ms)
 
@@ -89,6 +89,6 @@ abbrev pub number_of_entry : List ℕ → Data → Option ℕ
 number_of_entry key d =
     option_and_then natural (option_and_then as_integer (option_and_then (get_member key) (as_table d)))
 
--- the numbers from 0 up that stand at a key in the tables of a list
+-- the numbers from 0 up at a key in the tables of a list
 abbrev pub numbers_at : List ℕ → List Data → List ℕ
 numbers_at key ds = filter_map (number_of_entry key) ds

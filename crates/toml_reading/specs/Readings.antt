@@ -57,7 +57,7 @@ abbrev pub required : {F A B : Type 0} → Faults F → Option A → (A → Read
 required faults None f = Err faults.wrong_kind
 required faults (Some a) f = f a
 
--- what is read from a value, or what stands where it is missing
+-- what is read from a value, or `missing` where there is none
 abbrev pub optional : {F A B : Type 0} → B → Option A → (A → Reading F B) → Reading F B
 optional missing None f = Ok missing
 optional missing (Some a) f = f a

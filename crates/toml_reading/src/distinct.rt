@@ -5,7 +5,7 @@ ghost use Rattle.toml_reading.specs.Documents.{are_distinct};
 use indexmap::{IndexMap, IndexSet};
 use std::alloc::{AllocError, Global};
 
-/// Whether no number stands in the list twice.
+/// Whether no number is in the list twice.
 pub fn are_all_distinct(alloc: Global, numbers: &[u32]) -> Result<bool, AllocError>
     ensures { IfOk result (λ test. test ≡ are_distinct numbers.now) }
 {

@@ -1,4 +1,5 @@
--- Lines that are kept for words that are shown again. They stand here since clauses of private functions cite them.
+-- Lines that are kept for words that are shown again. They are here since clauses of private functions cite
+-- them.
 use Rattle.std.specs.Prelude.{◌≡◌, ◌≤◌, ℕ, List, take, Option, Some, None, slice_index_or}
 use Rattle.assembler.specs.ShownLines.{IsShown}
 use Rattle.trace_text.specs.declared.shown.Shown.{Shown}

@@ -21,7 +21,7 @@ use Rattle.asm_text.specs.Hex.{hex, hex8}
 use Rattle.assembler.specs.ShownLines.{IsShown}
 use Rattle.arm2_exec.specs.declared.machine.Traced.{Traced}
 
--- a text of a kind stands after the old one
+-- a text of a kind follows the old one
 abbrev pub Adds : (Is : List ℕ → Type 0) → (old new : List ℕ) → Type 0
 Adds Is old new = (text : List ℕ) × Is text × (new ≡ old ++ text)
 
@@ -111,7 +111,7 @@ TracesRun s (i ∷ rest) text =
     ((line : List ℕ) × IsTraceLine traced line × (more : List ℕ) × TracesRun next rest more
     × (text ≡ line ++ more))
 
--- A run that ended because the line of a step was refused: the machine stands after that step, which did not
+-- A run that ended because the line of a step was refused: the machine has made that step, which did not
 -- stop it, and the text has the lines of the steps before it.
 pub record RefusedRun (s : State) (inputs : List Input) (after : State) (old new : List ℕ) : Type 0 where
   pub done : List Input

@@ -11,7 +11,7 @@ abbrev pub position_after : (sixths frame from : ℕ) → ℕ
 position_after zero frame from = from
 position_after (suc n) frame from = next frame (position_after n frame from)
 
--- how often the position comes to a mark, while so many sixths pass
+-- how often the position reaches a mark, while so many sixths pass
 abbrev pub arrivals : (sixths frame mark from : ℕ) → ℕ
 arrivals zero frame mark from = 0
 arrivals (suc n) frame mark from =

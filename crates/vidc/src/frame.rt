@@ -59,7 +59,7 @@ fn since(frame: u32, mark: u32, from: u32) -> u32
     from - mark
 }
 
-// How often the position comes to a mark while so many ticks pass.
+// How often the position reaches a mark while so many ticks pass.
 pub(crate) fn arrivals(ticks: u32, frame: u32, mark: u32, from: u32) -> u32
     requires frame { 8 ≤ frame }
     requires mark { mark < frame }

@@ -38,7 +38,7 @@ number_of edges e = position_or_len (is_same e) edges
 abbrev pub occurrences : (edges walk : List Edge) → ℕ → ℕ
 occurrences edges walk k = count_by (λ e. number_of edges e == k) walk
 
--- numbers are told up to 2^64 - 1
+-- numbers are capped at 2^64 - 1
 abbrev pub capped : ℕ → ℕ
 capped n = min n (2 ^ 64 - 1)
 

@@ -5,7 +5,7 @@ use Rattle.numbered_walks.specs.declared.span.NumberedEdge.{NumberedEdge}
 use Rattle.numbered_walks.specs.declared.span.Span.{Span}
 use Rattle.numbered_walks.specs.Ordered.{ends_at_header, is_inside}
 
--- the span's numbers stand before that of Exit
+-- the span's numbers come before that of Exit
 abbrev pub EndsBefore : ℕ → Span → Type 0
 EndsBefore exit s = (s.header ≤ s.last) × (s.last < exit)
 

@@ -11,14 +11,14 @@ use flow_graph::{Edge, Graph};
 use longest_walk::{FoldedWalk, Item};
 use std::alloc::{AllocError, Global};
 
-/// A sum, told up to 2^64 - 1.
+/// A sum, capped at 2^64 - 1.
 pub fn capped_sum(count: u64, more: u64) -> u64
     ensures { result ≡ capped (count + more) }
 {
     count.saturating_add(more)
 }
 
-/// A product, told up to 2^64 - 1.
+/// A product, capped at 2^64 - 1.
 pub fn capped_product(times: u64, rounds: u32) -> u64
     ensures { result ≡ capped (times * rounds) }
 {
@@ -61,7 +61,7 @@ fn count_items(graph: &Graph, counts: &mut [u64], items: &[Item], times: u64)
     }
 }
 
-/// How often the walk takes each edge of the graph, in the order of `graph.edges()`, told up to 2^64 - 1.
+/// How often the walk takes each edge of the graph, in the order of `graph.edges()`, capped at 2^64 - 1.
 /// Where the graph has an edge twice, the first has all. Edges that the graph has not count nowhere.
 ///
 /// The time is linear in the walk as it is folded. Of a walk of the graph that costs less than 2^64 ticks, as

@@ -1,4 +1,4 @@
 //! Definitions of walks along the edges of a graph, of walks that keep the bounds of loops, and of the
 //! greatest cost of such walks, with their lemmas. They are generic in places, edges and loops, and no
-//! code stands here: the crates that find, print and check bounds share these definitions alone.
+//! code is here: the crates that find, print and check bounds share these definitions alone.
 #![tactic(auto)]

@@ -53,7 +53,7 @@ is_lsl_by amount x = is_lsl x.shift && (x.amount == amount)
 
 -- ## Returns
 
--- MOV of R14 as it stands
+-- MOV of R14, not shifted
 abbrev pub copies_link : DataRegister → Bool
 copies_link x = is_move x.opcode && is_link x.rm && is_lsl_by 0 x
 

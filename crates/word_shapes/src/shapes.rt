@@ -58,7 +58,7 @@ fn is_lsl_by(amount: u32, x: &DataRegister) -> bool
     matches!(x.shift, Shift::Lsl) && x.amount == amount
 }
 
-// Whether the operand is R14 as it stands, and moved.
+// Whether the operand is R14, not shifted, and moved.
 fn copies_link(x: &DataRegister) -> bool
     ensures { result ≡ copies_link x.now }
 {
