@@ -1,8 +1,8 @@
 -- Lines that are an assembly's pass the first sweep.
-use Rattle.std.proofs.Common.{◌≡◌, ◌≢◌, ◌+◌, ◌*◌, ◌%◌, ◌<◌, ◌≤◌, ℕ, zero, suc, Bool, true, false, ◌&&◌, ◌||◌, List, [], ◌∷◌, ◌++◌, length, Option, Some, None, refl, sym, subst, inl, inr, ◌⊎◌, arith, append_assoc}
+use Rattle.std.proofs.Common.{◌≡◌, ◌≢◌, ◌+◌, ◌*◌, ◌%◌, ◌<◌, ◌≤◌, ℕ, zero, suc, Bool, true, false, ◌&&◌, List, [], ◌∷◌, ◌++◌, length, Option, Some, None, refl, sym, subst, inl, inr, ◌⊎◌, arith, append_assoc}
 use Rattle.std.specs.Prelude.{nat_le, nat_lt, unwrap_or}
 use Rattle.std.specs.List.{AllByRecursion, list_any}
-use Rattle.std.proofs.lemmas.Bool.{and_parts, cases_Bool}
+use Rattle.std.proofs.lemmas.Bool.{and_parts, cases_Bool, or_right}
 use Rattle.std.proofs.lemmas.Bool.Decides.{nat_tests}
 use Rattle.std.proofs.lemmas.List.{length-append}
 use Rattle.loader.specs.Image.{lies_in_memory, may_hold}
@@ -170,10 +170,6 @@ overlap_point (s ∷ closed) from to four lt spans h =
           let p = overlap_point closed from to four lt spans.1 k in
           (p.0, p.1, p.2, p.3, or_right (nat_lt s.0 (p.0 + 1) && nat_lt p.0 s.1) (overlaps closed p.0 (p.0 + 1)) p.4)
     ]
-  where
-    or_right : (b c : Bool) → c ≡ true → (b || c) ≡ true
-    or_right true c e = refl
-    or_right false c e = e
 
 in_places : (n at a : ℕ) → at % 4 ≡ 0 → a % 4 ≡ 0 → at ≤ a → a < at + 4 * n → In (places_from at n) a
 unfolding In

@@ -2,6 +2,7 @@
 use Rattle.std.proofs.Common.{◌≡◌, ◌≤◌, ℕ, true, false, List, [], ◌∷◌, length, map, Option, Some, None, Result, Ok, Err, refl, sym, ap, subst, ◌∙◌, inl, inr, arith}
 use Rattle.std.specs.Prelude.{flat_map}
 use Rattle.std.specs.List.{AllByRecursion, AllZip}
+use Rattle.std.proofs.lemmas.Bool.{false≢true}
 use Rattle.loader.specs.Image.{Words, may_hold}
 use Rattle.asm_text.specs.Source.{lines_of}
 use Rattle.asm_text.specs.Spelling.{Spells, SpellsOperands, SpellsParts}
@@ -170,10 +171,7 @@ assembly_built spells reads source image names a =
     (λ at e. (a.named name at).1 (elim ((named.named name at).0 e) [ inl n ↦ no_name at n | inr c ↦ c ]))
     (λ at e. (named.named name at).1 (inr ((a.named name at).0 e))) i in
     let fit = fits a.lines 32768 false [] [] 0
-    (record { put = first_put; joins = λ e. absurd (no_true e); held = a.held; apart = alone; once = a.apart; few = omega (arith, a.few); few_segments = omega (arith, a.few_segments) }) in
+    (record { put = first_put; joins = λ e. absurd (false≢true e); held = a.held; apart = alone; once = a.apart; few = omega (arith, a.few); few_segments = omega (arith, a.few_segments) }) in
     let fill = filled_ok names a.lines 32768 s.new a.words [] pending a.coded fit in
     let filled-is : filled t.names [] t.items ≡ Ok image = ap (filled t.names []) s.items ∙ ap (λ (n : Names). filled n [] (flat s.new)) names-are ∙ fill ∙ ap (λ (i : Words). Ok i) (sym a.image-is) in
     rw (sweep.1, filled-is) (ap (λ (n : Names). Ok (image, n)) names-are)
-  where
-    no_true : false ≡ true → ⊥
-    no_true e = cc

@@ -122,13 +122,13 @@ unfolding put_all
 put_closed s k [] = refl
 put_closed s k (p ∷ ps) = put_closed (placed s k p) k ps
 
+or_same : (b : Bool) → b ≡ (b || false)
+or_same true = refl
+or_same false = refl
+
 put_open : (s : State) (k : ℕ) (ps : List Pending) → is_some (put_all s k ps).start ≡ (is_some s.start || not (length ps == 0))
 unfolding put_all
-put_open s k [] = or_none (is_some s.start)
-  where
-    or_none : (b : Bool) → b ≡ (b || false)
-    or_none true = refl
-    or_none false = refl
+put_open s k [] = or_same (is_some s.start)
 put_open s k (p ∷ ps) = put_open (placed s k p) k ps ∙ or_all (is_some s.start) (suc (length ps) == 0) (grind (arith, nat_tests))
   where
     or_all : (b c : Bool) → c ≡ false → true ≡ (b || not c)
@@ -247,10 +247,6 @@ pub record Moves (s : State) (k : ℕ) (said : Option Said) (t : State) : Type 0
 none_more : (b : Bool) (n : ℕ) → n ≡ n + (if b || true then 0 else 1)
 none_more true n = omega arith
 none_more false n = omega arith
-
-or_same : (b : Bool) → b ≡ (b || false)
-or_same true = refl
-or_same false = refl
 
 -- a line without a statement
 stays : (s : State) (k : ℕ) → Moves s k None s

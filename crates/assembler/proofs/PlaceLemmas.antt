@@ -20,7 +20,7 @@ use Rattle.assembler.specs.declared.sweep.Sweep.{Sweep}
 use Rattle.assembler.proofs.AssembleSteps.{items_at}
 use Rattle.assembler.proofs.AssembleSweep.{step_is}
 use Rattle.assembler.proofs.RefuseLaws.{all_swept, refused_there, stopped_at_once}
-use Rattle.assembler.proofs.RefuseSweep.{Texts, front_first, pass_or_stop}
+use Rattle.assembler.proofs.RefuseSweep.{Texts, front_first, one_meaning, pass_or_stop}
 
 -- ---- one line
 
@@ -126,9 +126,6 @@ same_said texts before (line ∷ lines) (p ∷ said) (q ∷ other) a b =
     let first : p ≡ q = one_meaning p q (line_of line) (texts.reads line p a.0) b.0 in
     let later : said ≡ other = same_said texts (before ++ p ∷ []) lines said other a.2 b.1 in
     rw (first, later) refl
-  where
-    one_meaning : (p q : Parsed) (r : Result Parsed TextFault) → r ≡ Ok p → r ≡ Ok q → p ≡ q
-    one_meaning p q r e k = let same : ◌≡◌ {A = Result Parsed TextFault} (Ok p) (Ok q) = sym e ∙ k in cc
 
 both_ways : {A : Type 0} (r : Result State (Fault × ℕ)) (s : State) (f : Fault × ℕ) → r ≡ Ok s → r ≡ Err f → A
 both_ways r s f e k = absurd (no (sym e ∙ k))

@@ -2,6 +2,7 @@
 use Rattle.std.specs.Prelude.{flat_map}
 use Rattle.std.proofs.Common.{◌≡◌, ◌↔◌, ◌+◌, ℕ, zero, suc, List, [], ◌∷◌, ◌++◌, length, map, Option, Some, None, Result, Ok, Err, refl, sym, ap, subst, ◌∙◌, inl, inr, ◌⊎◌, arith}
 use Rattle.std.specs.List.{AllByRecursion, Contains}
+use Rattle.std.proofs.lemmas.Option.{none-some, same_Some}
 use Rattle.loader.specs.Image.{Words, put_fault, with_word}
 use Rattle.asm_text.specs.Said.{Target, Number, Label, Said, Codes, Refers, Orgs, Lists}
 use Rattle.assembler.specs.Assembles.{Laid, places, places_from, word_count}
@@ -186,19 +187,13 @@ fill_all names k at (p ∷ ps) image rest ats h none =
               ∙ ap (λ r. filled_on k r (λ i. filled names i (items_at k (at + 4) ps ++ rest)))
               (put_ok image at w (h w).0) ∙ more.same;
         }
-    go (Err f) is e deeper = absurd (something f e)
-      where
-        something : (g : Fault) → ◌≡◌ {A = Option Fault} (Some g) None → ⊥
-        something g e = cc
+    go (Err f) is e deeper = absurd (none-some f (sym e))
 
 fill_stop : (names : Names) (k at : ℕ) (ps : List Pending) (image : Words) (rest : List Item) (ats : List ℕ)
     (f : Fault) → Fits image (places_from at (length ps) ++ ats) → late names at ps ≡ Some f
     → filled names image (items_at k at ps ++ rest) ≡ Err (f, k)
 unfolding Fits items_at filled
-fill_stop names k at [] image rest ats f h some = absurd (nothing f some)
-  where
-    nothing : (g : Fault) → ◌≡◌ {A = Option Fault} None (Some g) → ⊥
-    nothing g e = cc
+fill_stop names k at [] image rest ats f h some = absurd (none-some f some)
 fill_stop names k at (p ∷ ps) image rest ats f h some =
     go (resolved names at p) refl some
     (λ w. fill_stop names k (at + 4) ps (with_word image at w) rest ats f (h w).1)
@@ -213,10 +208,7 @@ fill_stop names k at (p ∷ ps) image rest ats f h some =
         (put_ok image at w (h w).0) ∙ deeper w e
     go (Err g) is e deeper =
         ap (λ r. filled_on k (word_put image at r)
-        (λ i. filled names i (items_at k (at + 4) ps ++ rest))) is ∙ ap (λ x. Err (x, k)) (same g f e)
-      where
-        same : (x y : Fault) → ◌≡◌ {A = Option Fault} (Some x) (Some y) → x ≡ y
-        same x y e = cc
+        (λ i. filled names i (items_at k (at + 4) ps ++ rest))) is ∙ ap (λ x. Err (x, k)) (same_Some g f e)
 
 -- ---- all lines
 

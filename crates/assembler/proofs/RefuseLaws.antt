@@ -1,6 +1,7 @@
 -- What is refused is a refusal, and a refusal is refused.
 use Rattle.std.specs.Prelude.{flat_map}
-use Rattle.std.proofs.Common.{◌≡◌, ◌+◌, ℕ, true, false, List, [], ◌∷◌, length, Result, Ok, Err, refl, sym, ap, subst, ◌∙◌, inl, inr, arith, append-nil}
+use Rattle.std.proofs.Common.{◌≡◌, ◌+◌, ℕ, false, List, [], ◌∷◌, length, Result, Ok, Err, refl, sym, ap, subst, ◌∙◌, inl, inr, arith, append-nil}
+use Rattle.std.proofs.lemmas.Bool.{false≢true}
 use Rattle.loader.specs.Image.{Words}
 use Rattle.asm_text.specs.Source.{lines_of}
 use Rattle.asm_text.specs.Statements.{Parsed}
@@ -46,7 +47,7 @@ all_fit s k said h =
       put =
           first_put;
       joins =
-          λ e. absurd (no_true e);
+          λ e. absurd (false≢true e);
       held =
           h.held;
       apart =
@@ -56,9 +57,6 @@ all_fit s k said h =
       few = omega (arith, h.few);
       few_segments = omega (arith, h.few_segments);
     })
-  where
-    no_true : false ≡ true → ⊥
-    no_true e = cc
 
 names_known : (s : State) (k : ℕ) (said : List Parsed) → Front s k said
     → Known s.names (labels_of (laid said))

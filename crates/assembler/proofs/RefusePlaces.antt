@@ -2,7 +2,7 @@
 use Rattle.std.proofs.Common.{◌≡◌, ◌||◌, ◌+◌, ◌*◌, ◌%◌, ◌<◌, ◌≤◌, ◌==◌, ◌&&◌, not, ℕ, zero, suc, Bool, true, false, List, [], ◌∷◌, Option, Some, None, refl, sym, ap, subst, ◌∙◌, inl, inr, ◌⊎◌, arith, eqb-true}
 use Rattle.std.specs.Prelude.{nat_le, nat_lt, if◌then◌else◌}
 use Rattle.std.specs.List.{AllByRecursion, Contains}
-use Rattle.std.proofs.lemmas.Bool.{and_parts, cases_Bool, or_parts, not-false}
+use Rattle.std.proofs.lemmas.Bool.{and_parts, cases_Bool, or_parts, not-false, or_right}
 use Rattle.std.proofs.lemmas.Bool.Decides.{nat_tests}
 use Rattle.loader.specs.Image.{lies_in_memory, may_hold}
 use Rattle.loader.proofs.PlaceLemmas.{may_within}
@@ -128,10 +128,6 @@ wider (s ∷ closed) from to a low high h =
           or_right (nat_lt s.0 to && nat_lt from s.1) (overlaps closed from to)
           (wider closed from to a low high k)
     ]
-  where
-    or_right : (b c : Bool) → c ≡ true → (b || c) ≡ true
-    or_right true c e = refl
-    or_right false c e = e
 
 not_after : (o : Option ℕ) (at a : ℕ) → at ≤ a → open_has o at a ≡ true → ⊥
 not_after None at a le h = false_true h

@@ -6,6 +6,7 @@ use Rattle.std.specs.List.{AllByRecursion, Contains}
 use Rattle.std.proofs.lemmas.Bool.Decides.{nat_tests}
 use Rattle.std.proofs.lemmas.List.{append-nil, length-append}
 use Rattle.std.proofs.lemmas.List.Elements.{Contains-append_cases, Contains-append_left, Contains-append_right}
+use Rattle.std.proofs.lemmas.Option.{none-some, same_Some}
 use Rattle.loader.specs.Image.{may_hold}
 use Rattle.asm_text.specs.Said.{Said, Orgs}
 use Rattle.asm_text.specs.Spelling.{Spells}
@@ -176,7 +177,7 @@ Reads = (line : List ℕ) → (p : Parsed) → Spells p line → line_of line �
 spelled_some : (line : List ℕ) (p : Parsed) → Spells p line → NotEmpty p.said
 spelled_some line p s = parts_some p.label p.said s.pieces s.spelled
 
-one_meaning : (p q : Parsed) (r : Result Parsed TextFault) → r ≡ Ok p → r ≡ Ok q → p ≡ q
+pub one_meaning : (p q : Parsed) (r : Result Parsed TextFault) → r ≡ Ok p → r ≡ Ok q → p ≡ q
 one_meaning p q r e k = let same : ◌≡◌ {A = Result Parsed TextFault} (Ok p) (Ok q) = sym e ∙ k in cc
 
 no_meaning : (p : Parsed) (w : TextFault) (r : Result Parsed TextFault) → r ≡ Err w → r ≡ Ok p → ⊥
@@ -214,20 +215,11 @@ line_least texts s k before line h = go (line_of line) refl (texts.least line)
 
 went_on : (r : Result State Fault) → failed r ≡ None → (t : State) × (r ≡ Ok t)
 went_on (Ok t) e = (t, refl)
-went_on (Err f) e = absurd (let k : ◌≡◌ {A = Option Fault} (Some f) None = e in something f k)
-  where
-    something : (g : Fault) → ◌≡◌ {A = Option Fault} (Some g) None → ⊥
-    something g e = cc
+went_on (Err f) e = absurd (none-some f (sym e))
 
 stopped : (r : Result State Fault) (f : Fault) → failed r ≡ Some f → r ≡ Err f
-stopped (Ok t) f e = absurd (nothing f e)
-  where
-    nothing : (g : Fault) → ◌≡◌ {A = Option Fault} None (Some g) → ⊥
-    nothing g e = cc
-stopped (Err g) f e = ap Err (same g f e)
-  where
-    same : (x y : Fault) → ◌≡◌ {A = Option Fault} (Some x) (Some y) → x ≡ y
-    same x y e = cc
+stopped (Ok t) f e = absurd (none-some f e)
+stopped (Err g) f e = ap Err (same_Some g f e)
 
 -- ---- lines that pass
 

@@ -1,9 +1,8 @@
 -- The row of a place among rows that ascend.
-use Rattle.std.proofs.Common.{◌≡◌, ◌∙◌, ℕ, ◌+◌, ◌<◌, ◌≤◌, Bool, true, false, List, length, get_or, map, Option, Some, None, Ok, Err, ⊎_elim, refl, sym, ap, arith}
+use Rattle.std.proofs.Common.{◌≡◌, ◌∙◌, ℕ, ◌+◌, ◌<◌, ◌≤◌, Bool, true, List, length, get_or, map, Option, Some, None, Ok, Err, ⊎_elim, refl, sym, ap, arith}
 use Rattle.std.specs.List.{find}
-use Rattle.std.specs.declared.cmp.Ordering.{Ordering}
 use Rattle.std.specs.declared.cmp.Ordering.TheVariants.{Less, Equal, Greater}
-use Rattle.std.specs.Ordering.{is_lt, ordering_index, ordering_reverse}
+use Rattle.std.specs.Ordering.{is_lt, ordering_index}
 use Rattle.std.specs.List.Sorted.{IsStrictlySortedBy, IsSortedBy, IsNonDecreasingBy, IsBinarySearchResult}
 use Rattle.std.proofs.lemmas.Bool.{cases_lt}
 use Rattle.std.proofs.lemmas.Cmp.{tied_itself}
@@ -14,14 +13,11 @@ use Rattle.walks.proofs.RowLemmas.{find_some}
 use Rattle.flow_graph.specs.declared.places.Place.{Place}
 use Rattle.flow_graph.specs.Places.{place_cmp}
 use Rattle.flow_graph.proofs.PlaceLemmas.{place_total, place_exact}
-use Rattle.loop_bounds.proofs.Positions.{places_once}
+use Rattle.loop_bounds.proofs.Positions.{not_less, places_once}
 use Rattle.longest_walk.proofs.CarryFind.{at_itself, at_place, find_known}
 use Rattle.longest_walk.specs.Rows.{header_of_row, is_at, place_of_row}
 use Rattle.longest_walk.specs.declared.rows.PlaceRow.{PlaceRow}
 use Rattle.longest_walk.specs.declared.rows.InstanceRow.{InstanceRow}
-
-pub not_less : (a b : Ordering) → a ≡ ordering_reverse b → b ≡ Less → is_lt a ≡ false
-not_less a b is less = ap is_lt (is ∙ ap ordering_reverse less)
 
 pub none_or_some : {X : Type 0} (o : Option X) → ((x : X) → o ≡ Some x → ⊥) → o ≡ None
 none_or_some None f = refl

@@ -57,6 +57,19 @@ module _ (flow : Flow) (tree : Tree) (index : Index) (well : IsWellFormed flow) 
   abbrev LeadsTo : Place → List Edge → Place → Type 0
   LeadsTo p v q = Leads edge_shape (HasEdge flow) p v q
 
+  -- where a walker arrives inside the span, its walk can go on
+  ready_at : (y z : Walker) (number cost turns : ℕ) → Arrives index.headers.items number cost turns y z → length y.turns.items ≡ length flow.places + 1
+      → number ≤ length flow.places → is_in within number ≡ true → CanFollow flow tree index within z
+  ready_at y z number cost turns goes room known inside = record {
+    well_formed = well;
+    tree_is = t;
+    indexed = can.indexed;
+    holds_inner = can.holds_inner;
+    known = omega (arith, goes.number_is, known);
+    inside = subst (λ (n : ℕ). is_in within n ≡ true) (sym goes.number_is) inside;
+    room = ap length goes.turns_are ∙ length-set y.turns.items number turns ∙ room;
+  }
+
   -- ## One edge
 
   abbrev pub by_line : StepLine → Place → Option Followed
@@ -94,15 +107,7 @@ module _ (flow : Flow) (tree : Tree) (index : Index) (well : IsWellFormed flow) 
         to_in = here.to_in
 
         step_ready : CanFollow flow tree index within y
-        step_ready = record {
-          well_formed = well;
-          tree_is = t;
-          indexed = can.indexed;
-          holds_inner = can.holds_inner;
-          known = omega (arith, goes.number_is, to_in);
-          inside = subst (λ (n : ℕ). is_in within n ≡ true) (sym goes.number_is) inner;
-          room = ap length goes.turns_are ∙ length-set x.turns.items (edge_at tree.edges k).to _ ∙ can.room;
-        }
+        step_ready = ready_at x y _ _ _ goes can.room to_in inner
 
         pub step_taken : IsTaken flow tree index within levels 1 (by_line line) x y
         step_taken = record {
@@ -256,15 +261,7 @@ module _ (flow : Flow) (tree : Tree) (index : Index) (well : IsWellFormed flow) 
               }
 
           repeat_ready : CanFollow flow tree index within z
-          repeat_ready = record {
-            well_formed = well;
-            tree_is = t;
-            indexed = can.indexed;
-            holds_inner = can.holds_inner;
-            known = omega (arith, goes.number_is, back, can.known);
-            inside = subst (λ (n : ℕ). is_in within n ≡ true) (sym (goes.number_is ∙ back)) can.inside;
-            room = ap length goes.turns_are ∙ length-set y.turns.items y.number _ ∙ once.ready.room;
-          }
+          repeat_ready = ready_at y z _ _ _ goes once.ready.room (omega (arith, back, can.known)) (subst (λ (n : ℕ). is_in within n ≡ true) (sym back) can.inside)
 
           arrives : Arrives index.headers.items x.number (gained x.cost y.cost k) (gained (get_or x.turns.items x.number 0) (get_or y.turns.items x.number 0) k) y z
           arrives =

@@ -1,18 +1,11 @@
 -- Tests of which one element has to pass.
-use Rattle.std.proofs.Common.{◌≡◌, ◌∙◌, ℕ, ◌+◌, ◌<◌, ◌≤◌, Bool, true, false, ◌||◌, List, length, get_or, take, ◌⊎◌, inl, inr, ⊎_elim, refl, sym, ap}
+use Rattle.std.proofs.Common.{◌≡◌, ◌∙◌, ℕ, ◌+◌, ◌<◌, ◌≤◌, Bool, true, ◌||◌, List, length, get_or, take, ◌⊎◌, inl, inr, ⊎_elim, sym, ap}
 use Rattle.std.specs.Prelude.{◌↔◌}
 use Rattle.std.specs.Cmp.{both_ways}
 use Rattle.std.specs.List.{list_any}
+use Rattle.std.proofs.lemmas.Bool.{or_cases, or_right}
 use Rattle.std.proofs.lemmas.List.{take_all}
 use Rattle.std.proofs.lemmas.List.Folds.{list_any_more}
-
-pub or_last : (b c : Bool) → c ≡ true → (b || c) ≡ true
-or_last true c e = refl
-or_last false c e = e
-
-pub or_parts : (b c : Bool) → (b || c) ≡ true → (b ≡ true) ⊎ (c ≡ true)
-or_parts true c e = inl refl
-or_parts false c e = inr e
 
 module _ {X : Type 0} (p : ℕ → X → Bool) (xs : List X) where
   -- of the first so many elements one passes the test of each number exactly where that is told
@@ -25,8 +18,8 @@ module _ {X : Type 0} (p : ℕ → X → Bool) (xs : List X) where
       let front = list_any (p a) (take k xs) in
       let last = p a (get_or xs k d) in
       let step : list_any (p a) (take (k + 1) xs) ≡ (front || last) = list_any_more (p a) xs k d lt in (
-        λ h. step ∙ ⊎_elim (λ was. ap (λ b. b || last) ((before a).0 was)) (λ here. or_last front last here) ((more a).0 h),
-        λ h. (more a).1 (⊎_elim (λ was. inl ((before a).1 was)) (λ here. inr here) (or_parts front last (sym step ∙ h))),
+        λ h. step ∙ ⊎_elim (λ was. ap (λ b. b || last) ((before a).0 was)) (λ here. or_right front last here) ((more a).0 h),
+        λ h. (more a).1 (⊎_elim (λ was. inl ((before a).1 was)) (λ here. inr here) (or_cases front last (sym step ∙ h))),
       )
 
   pub told_all : (told : ℕ → Bool) (k : ℕ) → length xs ≤ k → AreTold told k → (a : ℕ) → told a ≡ list_any (p a) xs

@@ -7,7 +7,7 @@ use Rattle.std.specs.List.Sorted.{IsBinarySearchResult, IsStrictlySortedBy}
 use Rattle.std.specs.Ordering.{nat_cmp}
 use Rattle.std.specs.Result.{IfOk, MatchResult, is_ok}
 use Rattle.std.specs.declared.cmp.Ordering.TheVariants.{Less}
-use Rattle.std.proofs.lemmas.Bool.{cases_lt, eq-eqb, false≢true, ne_eqb}
+use Rattle.std.proofs.lemmas.Bool.{cases_lt, eq-eqb, false≢true, ne_eqb, or_cases, or_right}
 use Rattle.std.proofs.lemmas.Bool.Decides.{nat_tests}
 use Rattle.std.proofs.lemmas.Cmp.{nat_cmp_total}
 use Rattle.std.proofs.lemmas.List.{take_all}
@@ -25,7 +25,6 @@ use Rattle.statement.specs.Stated.{Stated, Target, target_of}
 use Rattle.word_shapes.specs.Words.{HasInstr}
 use Rattle.explained.specs.Assumed.{AreAssumed, Assumes, IsTakenForReturn, Notes, may_write_oddly}
 use Rattle.explained.specs.Taken.{is_at, is_reached}
-use Rattle.explained.proofs.AnyLaws.{or_last, or_parts}
 use Rattle.explained.specs.declared.assumptions.Assumption.{Assumption}
 
 -- ## One word
@@ -72,9 +71,9 @@ module _ (Holds : ℕ → Type 0) where
       list_any_more (is_at a) places k d lt in (
         λ h. ⊎_elim
             (λ was. let w = (before a).0 was in (step ∙ ap (λ b. b || is_at a p) w.0, w.1))
-            (λ here. (step ∙ or_last (is_reached (take k places) a) (is_at a p) here.0, here.1))
+            (λ here. (step ∙ or_right (is_reached (take k places) a) (is_at a p) here.0, here.1))
             ((notes a).0 h),
-        λ h. (notes a).1 (⊎_elim (λ was. inl ((before a).1 (was, h.1))) (λ here. inr (here, h.1)) (or_parts (is_reached (take k places) a) (is_at a p) (sym step ∙ h.0))),
+        λ h. (notes a).1 (⊎_elim (λ was. inl ((before a).1 (was, h.1))) (λ here. inr (here, h.1)) (or_cases (is_reached (take k places) a) (is_at a p) (sym step ∙ h.0))),
       )
 
   pub none_noted : (set : BTreeSet ℕ) (a : ℕ) → set.keys ≡ [] → (contains nat_cmp set a ≡ true) ↔ ((is_reached [] a ≡ true) × Holds a)

@@ -1,5 +1,5 @@
 -- Where R14 is lost: words, edges, and the search for places step by step.
-use Rattle.std.proofs.Common.{◌≡◌, ◌∙◌, ℕ, zero, suc, ◌+◌, ◌-◌, ◌<◌, ◌≤◌, Bool, true, false, cond, List, [], ◌∷◌, ◌++◌, append-nil, append_assoc, length, length-append, get_or, take, drop, Result, Ok, Err, Some, None, ◌⊎◌, inl, inr, ⊎_elim, refl, sym, ap, subst, arith, add-one}
+use Rattle.std.proofs.Common.{◌≡◌, ◌∙◌, ℕ, ◌+◌, ◌-◌, ◌<◌, ◌≤◌, Bool, true, false, cond, List, [], ◌∷◌, ◌++◌, append-nil, append_assoc, length, length-append, get_or, take, drop, Result, Ok, Err, Some, None, ◌⊎◌, inl, inr, ⊎_elim, refl, sym, ap, subst, arith}
 use Rattle.std.specs.Prelude.{◌↔◌, Contains, IsTrue, not}
 use Rattle.std.specs.BTreeSet as sets
 use Rattle.std.specs.BTreeSet.{BTreeSet, btree_set_len}
@@ -7,9 +7,9 @@ use Rattle.std.specs.List.{slice_range}
 use Rattle.std.specs.List.Sorted.{IsBinarySearchResult, IsSearchInRange, IsStrictlySortedBy}
 use Rattle.std.specs.Ordering.{nat_cmp}
 use Rattle.std.specs.Result.{is_ok}
-use Rattle.std.proofs.lemmas.Bool.{cases_lt, eq-eqb, eqb-true, false≢true}
+use Rattle.std.proofs.lemmas.Bool.{eq-eqb, eqb-true, false≢true, or_cases}
 use Rattle.std.proofs.lemmas.Cmp.{nat_cmp_total}
-use Rattle.std.proofs.lemmas.List.{get_or-drop, get_or-take, get_or_append_left, get_or_read, length-drop, length-take, take_all, take_more}
+use Rattle.std.proofs.lemmas.List.{get_or-drop, get_or-take, get_or_append_left, get_or_default, get_or_read, length-drop, length-take, take_all, take_more}
 use Rattle.std.proofs.lemmas.List.Elements.{Contains-append_left, Contains-get_or, Contains-push, Contains-push_cases}
 use Rattle.std.proofs.lemmas.List.Folds.{list_any_at}
 use Rattle.std.proofs.lemmas.Map.Lookups.{exact_unsigned}
@@ -25,13 +25,14 @@ use Rattle.flow_graph.proofs.FoundLemmas.{same_more}
 use Rattle.flow_graph.proofs.PlaceLemmas.{by_order_exact, by_order_total, place_total, sorted_by_place}
 use Rattle.flow_graph.proofs.SortedLemmas.{here, length_within, no_member, there}
 use Rattle.loader.specs.Image.{Words}
-use Rattle.loop_bounds.proofs.Grouped.{rises_to}
-use Rattle.loop_bounds.proofs.Positions.{known, places_once}
+use Rattle.loop_bounds.proofs.Positions.{known}
+use Rattle.longest_walk.specs.Built.{step_at}
+use Rattle.longest_walk.proofs.CarryWalks.{no_edge}
+use Rattle.longest_walk.proofs.PlaceParts.{part_fits, part_of}
 use Rattle.word_shapes.specs.Words.{HasInstr, HasShape}
 use Rattle.explained.specs.Links.{AreLostLinks, IsLost, KeepsLink, MayReturnByLink, after_call, kept_along, may_return_by_link, place_after, writes_link}
 use Rattle.explained.specs.Losing.{Adds, ByEdge, Grows, IsAfter, IsFound, IsKeptTo}
 use Rattle.explained.specs.Taken.{is_at, is_reached}
-use Rattle.explained.proofs.AnyLaws.{or_parts}
 use borrow.Author.Count.{below_more}
 
 -- ## Words
@@ -120,19 +121,7 @@ from_range es a b k e low high fits at =
     (k - a, lt, get_or-take n rest (k - a) e few ∙ get_or-drop a es (k - a) e ∙ ap (λ j. get_or es j e) same ∙ at)
 
 module _ (flow : Flow) (well : IsWellFormed flow) where
-  -- an edge that stands before the part of a place belongs to an earlier place
-  owner : (u k : ℕ) → u ≤ length flow.places → k < get_or flow.firsts u 0 → (v : ℕ) × (v < u) × (get_or flow.firsts v 0 ≤ k) × (k < get_or flow.firsts (v + 1) 0)
-  owner zero k le below = let z : get_or flow.firsts 0 0 ≡ 0 = well.first_zero in absurd (omega arith)
-  owner (suc u) k le below =
-      ⊎_elim
-      (λ (l : k < get_or flow.firsts u 0). let w = owner u k (omega arith) l in let m : w.0 < u = w.1 in (w.0, omega arith, w.2, w.3))
-      (λ (m : get_or flow.firsts u 0 ≤ k). (u, omega arith, m, subst (λ (n : ℕ). k < get_or flow.firsts n 0) (sym (add-one u)) below))
-      (cases_lt k (get_or flow.firsts u 0))
-
   module _ (v : ℕ) (v_in : v < length flow.places) where
-    pub part_fits : get_or flow.firsts (v + 1) 0 ≤ length flow.edges
-    part_fits = rises_to flow.firsts (length flow.places) (length flow.edges) well.rising well.last_all (length flow.places - (v + 1)) (v + 1) (omega (arith, v_in))
-
     -- the part of a place has exactly the edges that leave it
     pub leaving : (e : Edge) → Contains (slice_range flow.edges (get_or flow.firsts v 0) (get_or flow.firsts (v + 1) 0)) e ↔ (HasEdge flow e × (e.from ≡ place_at flow.places v))
     leaving e = (
@@ -141,10 +130,9 @@ module _ (flow : Flow) (well : IsWellFormed flow) where
           ((k.0, k.3, k.4), sym (ap (λ (x : Edge). x.from) k.4) ∙ well.part v k.0 e v_in k.1 k.2),
       λ h.
           let k = h.0.0 in
-          let all : get_or flow.firsts (length flow.places) 0 ≡ length flow.edges = well.last_all in
-          let w = owner (length flow.places) k (omega arith) (omega (arith, h.0.1, all)) in
-          let is : w.0 ≡ v = places_once flow.places well.ordered w.0 v Exit w.1 v_in (sym (well.part w.0 k e w.1 w.2 w.3) ∙ ap (λ (x : Edge). x.from) h.0.2 ∙ h.1) in
-          from_range flow.edges (get_or flow.firsts v 0) (get_or flow.firsts (v + 1) 0) k e (subst (λ (n : ℕ). get_or flow.firsts n 0 ≤ k) is w.2) (subst (λ (n : ℕ). k < get_or flow.firsts (n + 1) 0) is w.3) part_fits h.0.2,
+          let at : step_at flow.edges k ≡ e = sym (get_or_default flow.edges k e no_edge h.0.1) ∙ h.0.2 in
+          let part = part_of flow well v v_in k h.0.1 (ap (λ (x : Edge). x.from) at ∙ h.1) in
+          from_range flow.edges (get_or flow.firsts v 0) (get_or flow.firsts (v + 1) 0) k e part.0 part.1 (part_fits flow well v v_in) h.0.2,
     )
 
   pub leaving_found : (es : List Edge) (a b v : ℕ) (p : Place) → es ≡ flow.edges → a ≡ get_or flow.firsts v 0 → b ≡ get_or flow.firsts (v + 1) 0 → v < length flow.places → place_at flow.places v ≡ p
@@ -322,7 +310,7 @@ place_at_it [] a h = absurd (false≢true h)
 place_at_it (p ∷ ps) a h = ⊎_elim
     (λ first. let w = at_place a p first in (w.0, subst (Contains (p ∷ ps)) w.1 (here p ps)))
     (λ later. let w = place_at_it ps a later in (w.0, there p ps (At w.0 a) w.1))
-    (or_parts (is_at a p) (is_reached ps a) h)
+    (or_cases (is_at a p) (is_reached ps a) h)
 
 reached_by : (places : List Place) (a : ℕ) (calls : List ℕ) → Contains places (At calls a) → is_reached places a ≡ true
 reached_by places a calls h = list_any_at (is_at a) places h.0 (At calls a) h.1 (is_there calls a (get_or places h.0 (At calls a)) h.2)

@@ -29,6 +29,23 @@ in_all_more edges walk i number =
     let term = λ (k : ℕ). occurrences edges walk k * number (step_at edges k) in
     ap (λ n. sum_by term (range_with_len 0 n)) (add-one i) ∙ ap (sum_by term) (range_push i 0) ∙ sum_by_push term (range_with_len 0 i) (0 + i) ∙ ap (λ k. sum_by term (range_with_len 0 i) + term k) (omega arith)
 
+-- the next edge adds how often it is taken where it counts once, and nothing where it does not count
+module _ (edges walk : List Edge) (i : ℕ) (number : Edge → ℕ) where
+  pub counts_once : (count : ℕ) → count ≡ capped (occurrences edges walk i) → number (step_at edges i) ≡ 1
+      → capped (capped (in_all edges walk i number) + count) ≡ capped (in_all edges walk (i + 1) number)
+  counts_once count count_is once =
+      let s = in_all edges walk i number in
+      let n = occurrences edges walk i in
+      let one : n * number (step_at edges i) ≡ n = ap (λ m. n * m) once ∙ omega arith in
+      let sum : capped (capped s + capped n) ≡ capped (s + n) = omega arith in
+      ap (λ c. capped (capped s + c)) count_is ∙ sum ∙ ap (λ m. capped (s + m)) (sym one) ∙ ap capped (sym (in_all_more edges walk i number))
+
+  pub counts_not : number (step_at edges i) ≡ 0 → capped (in_all edges walk i number) ≡ capped (in_all edges walk (i + 1) number)
+  counts_not none =
+      let s = in_all edges walk i number in
+      let same : s ≡ s + occurrences edges walk i * 0 = omega arith in
+      ap capped (same ∙ ap (λ m. s + occurrences edges walk i * m) (sym none) ∙ sym (in_all_more edges walk i number))
+
 pub same_taken : (s t : Taken) → s.passes ≡ t.passes → s.ticks ≡ t.ticks → s.costs ≡ t.costs → s ≡ t
 same_taken s t passes ticks costs = λ i. record { passes = passes i; ticks = ticks i; costs = costs i }
 
@@ -51,11 +68,7 @@ module _ (edges walk : List Edge) (i : ℕ) (e : Edge) (count : ℕ) (e_is : e �
       cost = ap (λ (x : Edge). x.cost) (sym e_is)
 
       passes : capped (capped (in_all edges walk i (pass_at a)) + count) ≡ capped (in_all edges walk (i + 1) (pass_at a))
-      passes =
-          let s = in_all edges walk i (pass_at a) in
-          let one : n * pass_at a (step_at edges i) ≡ n = ap (λ b. n * cond b 1 0) here ∙ omega arith in
-          let sum : capped (capped s + capped n) ≡ capped (s + n) = omega arith in
-          ap (λ c. capped (capped s + c)) count_is ∙ sum ∙ ap (λ m. capped (s + m)) (sym one) ∙ ap capped (sym (in_all_more edges walk i (pass_at a)))
+      passes = counts_once edges walk i (pass_at a) count count_is (ap (λ b. cond b 1 0) here)
 
       ticks : capped (capped (in_all edges walk i (cost_at a)) + capped (count * e.cost)) ≡ capped (in_all edges walk (i + 1) (cost_at a))
       ticks =
@@ -86,17 +99,13 @@ module _ (edges walk : List Edge) (i : ℕ) (e : Edge) (count : ℕ) (e_is : e �
 
   -- one that does not
   passing : (a : ℕ) → is_at a e.from ≡ false → taken_of edges walk i a ≡ taken_of edges walk (i + 1) a
-  passing a at = same_taken (taken_of edges walk i a) (taken_of edges walk (i + 1) a) (kept (pass_at a) (ap (λ b. cond b 1 0) here)) (kept (cost_at a) (ap (λ b. cond b (step_at edges i).cost 0) here))
+  passing a at = same_taken (taken_of edges walk i a) (taken_of edges walk (i + 1) a)
+      (counts_not edges walk i (pass_at a) (ap (λ b. cond b 1 0) here))
+      (counts_not edges walk i (cost_at a) (ap (λ b. cond b (step_at edges i).cost 0) here))
       (sym (range_left (is_taken_from edges walk a) (λ k. (step_at edges k).cost) i (ap (λ b. b && nat_lt 0 (occurrences edges walk i)) here)))
     where
       here : is_at a (step_at edges i).from ≡ false
       here = ap (λ (x : Edge). is_at a x.from) (sym e_is) ∙ at
-
-      kept : (number : Edge → ℕ) → number (step_at edges i) ≡ 0 → capped (in_all edges walk i number) ≡ capped (in_all edges walk (i + 1) number)
-      kept number none =
-          let s = in_all edges walk i number in
-          let same : s ≡ s + occurrences edges walk i * 0 = omega arith in
-          ap capped (same ∙ ap (λ m. s + occurrences edges walk i * m) (sym none) ∙ sym (in_all_more edges walk i number))
 
 -- the tally of the places alone is that of no edge
 pub none_added : (flow : Flow) (walk : List Edge) (t : Tally) → Starts flow.places t → HasAdded flow walk 0 t

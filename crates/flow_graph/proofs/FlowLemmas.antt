@@ -42,7 +42,7 @@ module _ (words : Words) (st : Stated) (profile : Profile) (flow : Flow) (g : Is
     pub below : number < length flow.places
     pub among : Contains (get_or g.parts number []) e
 
-  of_part : (e : Edge) → HasEdge flow e → IsOfPart e
+  pub of_part : (e : Edge) → HasEdge flow e → IsOfPart e
   of_part e h =
       let r = some_part g.parts e (subst (λ es. Contains es e) g.edges_are h) in
       let lt : r.0 < length g.parts = r.1 in

@@ -1,7 +1,7 @@
 -- A machine that has what is chosen for an operation is set for it.
 use Rattle.std.proofs.Common.{◌≡◌, ℕ, ◌+◌, ◌*◌, ◌-◌, ◌%◌, ◌^◌, ◌<◌, ◌≤◌, ◌==◌, ◌&&◌, ◌||◌, Bool, true, false, cond, not, Ok, None, IsTrue, count_ones, length, refl, sym, ap, subst, ◌∙◌, arith}
 use Rattle.std.specs.Prelude.{IfSome}
-use Rattle.std.proofs.lemmas.Bool.{eqb-true, false≢true}
+use Rattle.std.proofs.lemmas.Bool.{both_ways, eqb-true, false≢true, not-true}
 use Rattle.bus_ticks.specs.declared.profile.Class.{Class}
 use Rattle.bus_ticks.specs.declared.profile.Class.TheVariants.{Any, Ram, Rom, Io}
 use Rattle.bus_ticks.specs.declared.profile.Profile.{Profile}
@@ -59,10 +59,6 @@ both : (a b : Bool) → a && b ≡ true → (a ≡ true) × (b ≡ true)
 both true true h = (refl, refl)
 both true false h = absurd (cc)
 both false b h = absurd (cc)
-
-not_true : (b : Bool) → not b ≡ true → b ≡ false
-not_true false h = refl
-not_true true h = absurd (cc)
 
 -- ## Targets
 
@@ -185,7 +181,7 @@ pub single_sets_at : (aim : Aim) (x : SingleImmediate) (lowest base : ℕ) → I
 single_sets_at aim x lowest base free may at =
     let first : word_address lowest 0 ≡ lowest = omega (arith, next_word lowest 0 may.whole (omega (arith, may.below))) in
     subst (λ n. Sets aim (operation.SingleImmediate x) (transfer_setting aim (record { register = x.rn; word = base }) (x.load && is_pc x.rd) n)) first
-    (single_sets aim x lowest base (not_true (is_pc x.rn) (both _ _ free).0) (not_true (asks_for_user x) (both _ _ free).1) may at)
+    (single_sets aim x lowest base (not-true (is_pc x.rn) (both _ _ free).0) (not-true (asks_for_user x) (both _ _ free).1) may at)
 
 pub some_words : (x : Block) → 1 ≤ count_ones x.list
 some_words x =
@@ -248,7 +244,7 @@ copy_sets aim x free writes =
     let parts = both _ _ copies in
     let front = both _ _ parts.0 in
     let head = both _ _ front.0 in
-    let other : is_pc x.rm ≡ false = not_true (is_pc x.rm) head.1 in
+    let other : is_pc x.rm ≡ false = not-true (is_pc x.rm) head.1 in
     record {
       register_other = other;
       word_apart = tt;
@@ -268,7 +264,7 @@ pub sum_sets : (aim : Aim) (x : DataImmediate) (addend : ℕ) → IsTrue (is_fre
     → Sets aim (operation.DataImmediate x) (of_register (record { register = x.rn; word = addend }))
 sum_sets aim x addend free writes gives =
     let adds : adds_an_immediate x ≡ true = either (writes_pc x.opcode x.rd) (adds_an_immediate x) free writes in
-    let other : is_pc x.rn ≡ false = not_true (is_pc x.rn) (both _ _ adds).1 in
+    let other : is_pc x.rn ≡ false = not-true (is_pc x.rn) (both _ _ adds).1 in
     record {
       register_other = other;
       word_apart = tt;
@@ -281,18 +277,10 @@ sum_sets aim x addend free writes gives =
 
 -- where R15 is not written, nothing matters
 pub register_passes : (aim : Aim) (x : DataRegister) → writes_pc x.opcode x.rd ≡ false → Sets aim (operation.DataRegister x) (record { register = None; port = 0; word = None })
-register_passes aim x h = record { register_other = tt; word_apart = tt; set = λ st to s i class_is target has written. absurd (no_write (writes_pc x.opcode x.rd) h written) }
-  where
-    no_write : (b : Bool) → b ≡ false → IsTrue b → ⊥
-    no_write true e w = cc
-    no_write false e w = false≢true w
+register_passes aim x h = record { register_other = tt; word_apart = tt; set = λ st to s i class_is target has written. absurd (both_ways (writes_pc x.opcode x.rd) h written) }
 
 pub immediate_passes : (aim : Aim) (x : DataImmediate) → writes_pc x.opcode x.rd ≡ false → Sets aim (operation.DataImmediate x) (record { register = None; port = 0; word = None })
-immediate_passes aim x h = record { register_other = tt; word_apart = tt; set = λ st to s i class_is target has written. absurd (no_write (writes_pc x.opcode x.rd) h written) }
-  where
-    no_write : (b : Bool) → b ≡ false → IsTrue b → ⊥
-    no_write true e w = cc
-    no_write false e w = false≢true w
+immediate_passes aim x h = record { register_other = tt; word_apart = tt; set = λ st to s i class_is target has written. absurd (both_ways (writes_pc x.opcode x.rd) h written) }
 
 -- the most cycles
 most : cycles_of 0xFFFFFFFF ≡ 16

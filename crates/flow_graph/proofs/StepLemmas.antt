@@ -28,7 +28,7 @@ use Rattle.arm2_exec.specs.Run.{Ends, Runs, at_rest, counted, why_stopped}
 use Rattle.arm2_exec.specs.State.{State}
 use Rattle.arm2_exec.specs.Step.{Obeys, ObeysFetched, Step, Works, address_in, answer_of, fetched, instruction_moved, interrupt_due, ticks_in, unallocated_moved, with_lines}
 use Rattle.arm2_exec.proofs.StepLemmas.{one_step}
-use Rattle.flow_graph.specs.Edges.{do_ticks, do_edge, passing_ticks, skip_edge, word_edges}
+use Rattle.flow_graph.specs.Edges.{HasAction, do_ticks, do_edge, passing_ticks, skip_edge, word_edges}
 use Rattle.flow_graph.specs.Flow.{edge_shape}
 use Rattle.flow_graph.specs.Graph.{IsReached, IsTooDeep, makes_call}
 use Rattle.flow_graph.specs.Kinds.{IsAction, instr_action, is_never, kind_of, unallocated_action, work_of}
@@ -79,7 +79,7 @@ unfolding answer_of
 tells_plain s m told is plain = plain_by (is_stopped m.kind) s m told refl is plain
 
 -- no interrupt was taken
-works_plain : (due : Option Vector) (port : ℕ) (regs : List ℕ) (bus : Bus) (m : Moved) → Works due port regs bus m → m.kind ≡ ended.Plain → ObeysFetched (fetched bus.memc (r15_in regs)) port regs bus m
+pub works_plain : (due : Option Vector) (port : ℕ) (regs : List ℕ) (bus : Bus) (m : Moved) → Works due port regs bus m → m.kind ≡ ended.Plain → ObeysFetched (fetched bus.memc (r15_in regs)) port regs bus m
 unfolding taken
 works_plain None port regs bus m works plain = works
 works_plain (Some vector) port regs bus m works plain =
@@ -120,6 +120,15 @@ module _ (p : Profile) (rom : RomTimes) (class : Class) (regs : List ℕ) (long 
       subst (λ a. ActionCosts a m) (one_action word (unallocated_action u) action (inr (u, none, refl)) is)
       (subst (ActionCosts (unallocated_action u)) (sym e) (unallocated_costs u bus))
 
+-- ## The edges that a step can take
+
+-- the edge of a step is one of its word's
+pub which_taken : (words : Words) (st : Stated) (profile : Profile) (calls : List ℕ) (action : Action) (s : State) (told : Stepped) → HasAction words (address_in s.regs) action
+    → (e : Edge) → IsTaken words st profile calls action s told e → Which st profile calls (address_in s.regs) action e
+which_taken words st profile calls action s told has e taken =
+    which_edge st profile calls (address_in s.regs) action e
+    (among_edges words st profile (At calls (address_in s.regs)) (word_edges st profile calls (address_in s.regs) action) e (action, has, refl) taken.is_edge taken.from)
+
 module _ (words : Words) (st : Stated) (profile : Profile) (calls : List ℕ) (action : Action) (s : State) (i : Input) (told : Stepped) (after : State) (h : Executes words st profile action s i told after) where
   -- what the step costs, and where it goes
   abbrev StepCosts : Bool → Type 0
@@ -150,9 +159,7 @@ module _ (words : Words) (st : Stated) (profile : Profile) (calls : List ℕ) (a
   IsOne e = Which st profile calls (address_in s.regs) action e
 
   is_one : (e : Edge) → IsTaken words st profile calls action s told e → IsOne e
-  is_one e taken =
-      which_edge st profile calls (address_in s.regs) action e
-      (among_edges words st profile (At calls (address_in s.regs)) (word_edges st profile calls (address_in s.regs) action) e (action, h.has, refl) taken.is_edge taken.from)
+  is_one = which_taken words st profile calls action s told h.has
 
   ends_at : (p : Place) (e : Edge) → do_edge st profile calls (address_in s.regs) action p ≡ e → IsPlaceOf st told.to e.to → IsPlaceOf st told.to p
   ends_at p e is to = subst (λ (x : Edge). IsPlaceOf st told.to x.to) (sym is) to

@@ -25,7 +25,7 @@ use Rattle.flow_graph.specs.declared.kinds.Work.TheVariants as work
 use Rattle.flow_graph.proofs.SortedLemmas.{there}
 
 -- the first words of a transfer stand among its accesses
-words_there : (store : Bool) (address k i : ℕ) → i < k → Contains (words_at store address k) (Word store (i == 0) (word_address address i))
+pub words_there : (store : Bool) (address k i : ℕ) → i < k → Contains (words_at store address k) (Word store (i == 0) (word_address address i))
 unfolding words_at
 words_there store address zero i h = absurd (omega arith)
 words_there store address (suc k) i h = by_place (λ less. words_there store address k i less) (eq-or-lt_of_le (let le : i ≤ k = omega arith in le))

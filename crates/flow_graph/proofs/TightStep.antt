@@ -30,7 +30,6 @@ use Rattle.flow_graph.specs.StepLaw.{IsPlaceOf, TransfersIn, holds_in, label_by,
 use Rattle.flow_graph.specs.Tight.{IsTight}
 use Rattle.flow_graph.specs.TightWork.{IsSetFor, IsSetForEdge, TightLaw}
 use Rattle.flow_graph.specs.declared.edges.Edge.{Edge}
-use Rattle.flow_graph.specs.declared.edges.Label.{Label}
 use Rattle.flow_graph.specs.declared.edges.Label.TheVariants.{Skip, Do}
 use Rattle.flow_graph.specs.declared.kinds.Action.{Action}
 use Rattle.flow_graph.specs.declared.kinds.Kind.{Kind}
@@ -38,7 +37,7 @@ use Rattle.flow_graph.specs.declared.places.Place.{Place}
 use Rattle.flow_graph.specs.declared.places.Place.TheVariants.{At}
 use Rattle.statement.specs.Stated.{Stated, class_of}
 use Rattle.flow_graph.proofs.EdgeLemmas.{among_edges, one_action}
-use Rattle.flow_graph.proofs.StepEdges.{Which, which_edge}
+use Rattle.flow_graph.proofs.StepEdges.{Which, not_both, which_edge}
 use Rattle.flow_graph.proofs.StepLemmas.{TellsPlain, answer_by, tells_plain}
 use Rattle.flow_graph.proofs.StepOperations.{operation_costs, skipped_costs}
 use Rattle.flow_graph.proofs.TightArrivals.{arrives_exactly}
@@ -67,9 +66,6 @@ skips false e = refl
 does : (b : Bool) → cond b Do Skip ≡ Do → b ≡ true
 does true e = refl
 does false e = absurd (cc)
-
-not_both : (l : Label) → l ≡ Skip → l ≡ Do → ⊥
-not_both l skip do_it = let both : Skip ≡ Do = sym skip ∙ do_it in cc
 
 -- ## The edge
 

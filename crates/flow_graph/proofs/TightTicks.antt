@@ -38,13 +38,13 @@ pub transfers_in : (class : Class) (accesses : List Access) → All (IsIn class)
 transfers_in class accesses all store first x there =
     All-contains (IsIn class) accesses (Word store first x) all there
 
-straight_in : (class : Class) (a : ℕ) → All (IsIn class) (straight a)
+pub straight_in : (class : Class) (a : ℕ) → All (IsIn class) (straight a)
 straight_in class a = All-from_recursion (IsIn class) (straight a) (tt, tt)
 
 refill_in : (class : Class) (t : ℕ) → All (IsIn class) (refill t)
 refill_in class t = All-from_recursion (IsIn class) (refill t) (tt, (tt, tt))
 
-words_in : (class : Class) (store : Bool) (x k : ℕ) → ((i : ℕ) → i < k → IsOf class (word_address x i))
+pub words_in : (class : Class) (store : Bool) (x k : ℕ) → ((i : ℕ) → i < k → IsOf class (word_address x i))
     → All (IsIn class) (words_at store x k)
 unfolding words_at
 words_in class store x zero each = All-nil (IsIn class)
@@ -53,7 +53,7 @@ words_in class store x (suc k) each =
     (words_in class store x k (λ i h. each i (omega arith)))
     (each k (omega arith))
 
-load_in : (class : Class) (a x k : ℕ) (jumps : Bool) (t : ℕ)
+pub load_in : (class : Class) (a x k : ℕ) (jumps : Bool) (t : ℕ)
     → ((i : ℕ) → i < k → IsOf class (word_address x i)) → All (IsIn class) (load_accesses a x k jumps t)
 load_in class a x k jumps t each =
     All-append (IsIn class) (straight a ++ words_at false x k) _

@@ -1,10 +1,10 @@
 -- What a word that is done transfers, against what is read of it beforehand.
-use Rattle.std.proofs.Common.{◌≡◌, ℕ, zero, suc, ◌<◌, ◌≤◌, ◌==◌, ◌^◌, ◌⊎◌, inl, inr, not, nat_lt, if◌then◌else◌, Bool, true, false, cond, List, [], ◌∷◌, ◌++◌, length, Option, Some, None, Result, Ok, Err, refl, sym, ap, subst, ◌∙◌, arith, append_assoc}
+use Rattle.std.proofs.Common.{◌≡◌, ℕ, zero, suc, ◌<◌, ◌≤◌, ◌==◌, ◌^◌, ◌⊎◌, inl, inr, not, nat_lt, Bool, true, false, cond, List, [], ◌∷◌, ◌++◌, length, Option, Some, None, Result, Ok, Err, refl, sym, ap, subst, ◌∙◌, arith, append_assoc}
 use Rattle.std.specs.Prelude.{All, Contains}
 use Rattle.std.proofs.Math.ListN.{length-set}
 use Rattle.std.proofs.Math.Nat.{eq-or-lt_of_le}
 use Rattle.std.proofs.lemmas.Bool.{ltb-true}
-use Rattle.std.proofs.lemmas.List.Elements.{All-append, All-from_recursion, All-nil, All-push, Contains-append_left, Contains-append_right}
+use Rattle.std.proofs.lemmas.List.Elements.{All-append, All-from_recursion, Contains-append_left, Contains-append_right}
 use Rattle.bus_ticks.specs.Prices.{word_address}
 use Rattle.bus_ticks.specs.Worst.{IsOf}
 use Rattle.bus_ticks.specs.declared.profile.Class.{Class}
@@ -26,7 +26,7 @@ use Rattle.arm2_effect.specs.declared.step_end.Kind.TheVariants.{Plain}
 use Rattle.arm2_effect.specs.declared.step_end.Why.{Why}
 use Rattle.arm2_effect.specs.declared.step_end.Why.TheVariants as why
 use Rattle.arm2_effect.specs.Effects as effect
-use Rattle.arm2_effect.specs.Effects.{Effect, FetchN, FetchS, Internal, Word, onward, refill, skipped, stopped, straight}
+use Rattle.arm2_effect.specs.Effects.{Effect, FetchN, Internal, Word, onward, skipped, stopped, straight}
 use Rattle.arm2_effect.specs.Exceptions.{taken}
 use Rattle.arm2_effect.specs.Modes.{r15_in, register_in, slot_of, with_r15, with_register}
 use Rattle.arm2_effect.specs.Operations.{branch_effect, compared, data_immediate_effect, data_register_effect, data_register_shift_effect, delayed, entered, jumped, multiply_effect, operation_effect, placed, product_of}
@@ -46,8 +46,8 @@ use Rattle.arm2_transfer.specs.Words.{is_listed, registers_in}
 use Rattle.arm2_transfer.proofs.Listed.{words_are}
 use Rattle.arm2_exec.specs.Step.{Obeys, instruction_moved, unallocated_moved}
 use Rattle.flow_graph.specs.StepLaw.{TransfersIn, holds_in}
-use Rattle.flow_graph.proofs.SortedLemmas.{here}
-use Rattle.flow_graph.proofs.TightTicks.{IsIn, transfers_in}
+use Rattle.flow_graph.proofs.StepTicks.{words_there}
+use Rattle.flow_graph.proofs.TightTicks.{IsIn, load_in, straight_in, transfers_in, words_in}
 use Rattle.kept_runs.specs.declared.transfers.Access.{Access}
 use Rattle.kept_runs.specs.declared.transfers.Transfer.{Transfer}
 use Rattle.kept_runs.specs.Judging.{IsFirstOther}
@@ -59,9 +59,6 @@ use Rattle.arm2_decode.proofs.Unique.{never_both, one_instr, one_unallocated}
 -- ## Accesses
 
 module _ (class : Class) where
-  straight_in : (a : ℕ) → All (IsIn class) (straight a)
-  straight_in a = All-from_recursion (IsIn class) (straight a) (tt, tt)
-
   onward_in : (a t : ℕ) → All (IsIn class) (onward a t)
   onward_in a t = All-from_recursion (IsIn class) (onward a t) (tt, (tt, (tt, tt)))
 
@@ -71,29 +68,11 @@ module _ (class : Class) where
   fetch_in : (a : ℕ) → All (IsIn class) (FetchN a ∷ [])
   fetch_in a = All-from_recursion (IsIn class) (FetchN a ∷ []) (tt, tt)
 
-  words_in : (store : Bool) (x k : ℕ) → ((i : ℕ) → i < k → IsOf class (word_address x i)) → All (IsIn class) (words_at store x k)
-  unfolding words_at
-  words_in store x zero each = All-nil (IsIn class)
-  words_in store x (suc k) each =
-      All-push (IsIn class) (words_at store x k) (Word store (k == 0) (word_address x k))
-      (words_in store x k (λ i h. each i (omega arith)))
-      (each k (omega arith))
-
-  load_in : (a x k : ℕ) (jumps : Bool) (t : ℕ) → ((i : ℕ) → i < k → IsOf class (word_address x i)) → All (IsIn class) (load_accesses a x k jumps t)
-  load_in a x k jumps t each =
-      All-append (IsIn class) (straight a ++ words_at false x k) _
-      (All-append (IsIn class) (straight a) (words_at false x k) (straight_in a) (words_in false x k each))
-      (after jumps)
-    where
-      after : (b : Bool) → All (IsIn class) (Internal 1 ∷ (if b then refill t else []))
-      after true = All-from_recursion (IsIn class) (Internal 1 ∷ refill t) (tt, (tt, (tt, tt)))
-      after false = All-from_recursion (IsIn class) (Internal 1 ∷ []) (tt, tt)
-
   store_in : (a x k : ℕ) → ((i : ℕ) → i < k → IsOf class (word_address x i)) → All (IsIn class) (store_accesses a x k)
   store_in a x k each =
       All-append (IsIn class) (FetchN (ahead_of a 8) ∷ []) (words_at true x k)
       (All-from_recursion (IsIn class) (FetchN (ahead_of a 8) ∷ []) (tt, tt))
-      (words_in true x k each)
+      (words_in class true x k each)
 
 -- the list has the element right behind these
 abbrev IsSplitAt : (all before : List effect.Access) → effect.Access → Type 0
@@ -122,13 +101,6 @@ words_split store address (suc k) i h = by_place (λ less. words_split store add
           ap (λ ws. ws ++ Word store (k == 0) (word_address address k) ∷ []) at.1
               ∙ append_assoc (words_at store address i) (Word store (i == 0) (word_address address i) ∷ at.0) (Word store (k == 0) (word_address address k) ∷ []),
         )
-
--- the first words of a transfer stand among its accesses
-words_there : (store : Bool) (address k i : ℕ) → i < k → Contains (words_at store address k) (Word store (i == 0) (word_address address i))
-words_there store address k i h =
-    let at = words_split store address k i h in
-    let word = Word store (i == 0) (word_address address i) in
-    subst (λ ws. Contains ws word) (sym at.1) (Contains-append_right (words_at store address i) (word ∷ at.0) word (here word at.0))
 
 -- ## Lengths
 

@@ -11,12 +11,11 @@ use Rattle.arm2_effect.specs.declared.exceptions.Vector.{Vector}
 use Rattle.arm2_effect.specs.declared.step_end.Kind.{Kind}
 use Rattle.arm2_effect.specs.declared.step_end.Kind.TheVariants as ended
 use Rattle.arm2_effect.specs.declared.step_end.Why.{Why}
-use Rattle.arm2_effect.specs.Exceptions.{taken}
 use Rattle.arm2_effect.specs.Modes.{r15_in}
 use Rattle.arm2_transfer.specs.declared.bus.Bus.{Bus}
 use Rattle.arm2_transfer.specs.Moved.{Moved}
 use Rattle.arm2_exec.specs.State.{State}
-use Rattle.arm2_exec.specs.Step.{Obeys, ObeysFetched, Step, Works, address_in, fetched, interrupt_due, state_after, with_lines}
+use Rattle.arm2_exec.specs.Step.{Obeys, ObeysFetched, Step, address_in, interrupt_due, state_after, with_lines}
 use Rattle.arm2_exec.specs.declared.machine.Input.{Input}
 use Rattle.arm2_exec.specs.declared.machine.Stepped.{Stepped}
 use Rattle.arm2_effect.specs.Effects.{is_stopped}
@@ -33,7 +32,7 @@ use Rattle.flow_graph.specs.declared.places.Place.{Place}
 use Rattle.flow_graph.specs.declared.places.Place.TheVariants.{At, Exit}
 use Rattle.flow_graph.proofs.EdgeLemmas.{one_action}
 use Rattle.flow_graph.proofs.FlowLemmas.{has_edge_is_edge, is_edge_has_edge}
-use Rattle.flow_graph.proofs.StepLemmas.{TellsPlain, tells_plain}
+use Rattle.flow_graph.proofs.StepLemmas.{TellsPlain, tells_plain, works_plain}
 use Rattle.flow_graph.proofs.StepRegisters.{word_address_of}
 use Rattle.longest_walk.specs.Built.{step_at}
 use Rattle.kept_runs.specs.declared.edges.Going.{Going}
@@ -80,15 +79,6 @@ pub record HasRead (word : ℕ) (regs : List ℕ) (r : Reading) : Type 0 where
 pub has_read : (word : ℕ) (regs : List ℕ) (r : Reading) → IsReading word regs r → HasRead word regs r
 has_read word regs r (inl (i, means, is)) = record { action = instr_action i; is = inl (i, means, refl); holds = ap (λ (x : Reading). x.holds) is }
 has_read word regs r (inr (u, none, is)) = record { action = unallocated_action u; is = inr (u, none, refl); holds = ap (λ (x : Reading). x.holds) is }
-
--- no interrupt was taken
-works_plain : (due : Option Vector) (port : ℕ) (regs : List ℕ) (bus : Bus) (m : Moved) → Works due port regs bus m → m.kind ≡ ended.Plain → ObeysFetched (fetched bus.memc (r15_in regs)) port regs bus m
-unfolding taken
-works_plain None port regs bus m works plain = works
-works_plain (Some vector) port regs bus m works plain =
-    let interrupted : m.kind ≡ ended.Taken vector = ap (λ (x : Moved). x.kind) works in
-    let both : ended.Taken vector ≡ ended.Plain = sym interrupted ∙ plain in
-    absurd (cc)
 
 after_regs : (stops : Bool) (s a b : State) → length a.regs ≡ length s.regs → length b.regs ≡ length s.regs → length (cond stops a b).regs ≡ length s.regs
 after_regs true s a b h k = h

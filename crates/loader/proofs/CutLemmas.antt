@@ -6,16 +6,16 @@ use Rattle.std.specs.Str.{bytes_eq}
 use Rattle.std.specs.Cmp.Lexicographic.{bytes_decides}
 use Rattle.std.proofs.lemmas.Bool.{cases_lt, cases_eq, eq-eqb, ne_eqb, le-ltb, lt-ltb, ltb-false, ltb-true}
 use Rattle.std.proofs.lemmas.Bool.Decides.{nat_tests}
-use Rattle.std.proofs.lemmas.List.{append-nil, drop-append-le, take-append-drop, take-append-le, take_all, length-replicate}
+use Rattle.std.proofs.lemmas.List.{append-nil, drop-append-le, drop_all, take-append-drop, take-append-le, take_all, length-replicate}
 use Rattle.byteorder.specs.Endian.{little_bytes, little_number}
-use Rattle.loader.specs.Image.{Words, lies_in_memory, may_hold, word_of}
-use Rattle.loader.specs.ImageBytes.{Segment, count_read, cut_fault, end_fault, head_address, head_count, image_bytes, image_read, is_taken, magic, numbers, overlaps, read_by, segment_bytes, segment_fault, segments_read, with_words}
+use Rattle.loader.specs.Image.{Words, may_hold, word_of}
+use Rattle.loader.specs.ImageBytes.{Segment, count_read, cut_fault, end_fault, head_address, head_count, image_bytes, image_read, is_taken, magic, numbers, read_by, segment_bytes, segment_fault, segments_read, with_words}
 use Rattle.loader.specs.Spelling.{AreNumbers, BeginImage, CanFollow, with_segments}
 use Rattle.loader.specs.declared.reading.ReadFault.{ReadFault}
 use Rattle.loader.specs.declared.reading.ReadFault.TheVariants.{BadMagic, Misaligned, OutOfRange, Overlap, Truncated}
 use Rattle.loader.proofs.AcceptLemmas.{AreBytes, bytes_after, four_split, head_counted, number_front, numbers_fit, segment_at, segment_split}
 use Rattle.loader.proofs.RoomLemmas.{HasRoom, fill, free_address, grown, low_holds, one_stands, room_after}
-use Rattle.loader.proofs.SegmentLemmas.{CanStand, can_stand, length_numbers}
+use Rattle.loader.proofs.SegmentLemmas.{CanStand, can_stand, length_numbers, no_other_fault}
 use Rattle.loader.proofs.WrittenLemmas.{no_fault}
 
 -- ## One segment that ends too early
@@ -203,18 +203,12 @@ short_goes left before bytes all some none ends room short =
     let counted : little_number 4 (drop 4 padded) ≡ count =
     ap (little_number 4) (drop-append-le 4 bytes pad some ∙ sym (append_assoc (drop 4 bytes) next zeros)) ∙ number_zeros (drop 4 bytes ++ next) (8 + 4 * count - length bytes - length next) ∙ rest.counts in
     let s = segment_at count padded in
-    let after : drop (8 + 4 * count) padded ≡ [] = nothing (8 + 4 * count) padded (omega (arith, len, pad_len, zeros_len, few, ends)) in
+    let after : drop (8 + 4 * count) padded ≡ [] = drop_all (8 + 4 * count) padded (omega (arith, len, pad_len, zeros_len, few, ends)) in
     let split : padded ≡ segment_bytes s =
     segment_split count padded all_padded (sym counted) (omega (arith, len, pad_len, zeros_len, few, ends)) ∙ ap (λ (bs : List ℕ). segment_bytes s ++ bs) after ∙ append-nil (segment_bytes s) in
     let words = length_numbers count (drop 8 padded) in
     let can : CanStand before s.address (length s.words) = can_stand before s.address (length s.words) (ap (λ (a : ℕ). segment_fault before a (length s.words)) address ∙ ap (λ (n : ℕ). segment_fault before (head_address bytes) n) words ∙ none) in
     goes_with left before bytes pad s split (omega (arith, pad_len, zeros_len, few, ends)) can (numbers_fit count (drop 8 padded) (bytes_after 8 padded all_padded)) room (omega (arith, words, short))
-  where
-    nothing : (n : ℕ) (xs : List ℕ) → length xs ≤ n → drop n xs ≡ []
-    nothing zero [] le = refl
-    nothing zero (x ∷ xs) le = absurd (omega (arith, le))
-    nothing (suc n) [] le = refl
-    nothing (suc n) (x ∷ xs) le = nothing n xs (omega (arith, le))
 
 -- ## All segments
 
@@ -230,14 +224,7 @@ cut_or_later None false end rest e = inr (refl, inr (refl, e))
 
 -- no fault of a head that is whole
 never_cut : (words : Words) (a n : ℕ) → segment_fault words a n ≡ Some Truncated → ⊥
-never_cut words a n e = by (not (a % 4 == 0)) (n == 0) (not (lies_in_memory a (a + 4 * n)) || nat_lt 65536 (length words + n)) (overlaps words a n) e
-  where
-    by : (odd none long over : Bool) → cond odd (Some Misaligned) (cond (none || long) (Some OutOfRange) (cond over (Some Overlap) None)) ≡ Some Truncated → ⊥
-    by true none long over e = absurd (cc)
-    by false true long over e = absurd (cc)
-    by false false true over e = absurd (cc)
-    by false false false true e = absurd (cc)
-    by false false false false e = absurd (cc)
+never_cut = no_other_fault Truncated (λ e. cc) (λ e. cc) (λ e. cc)
 
 ends_short : (named left : ℕ) → end_fault named left ≡ Truncated → named + left ≤ 65536
 ends_short named left e = by (nat_lt 65536 (named + left)) (λ no. ltb-false 65536 (named + left) no) e
@@ -314,18 +301,12 @@ count_goes body all cut few =
     let is : four ≡ little_bytes 4 (length filled.segments) =
     four_split four all_four (omega (arith, len, zeros_len))
     ∙ ap (λ (m : ℕ). little_bytes 4 m ++ drop 4 four) (number_zeros body (4 - length body) ∙ sym count)
-    ∙ ap (λ (bs : List ℕ). little_bytes 4 (length filled.segments) ++ bs) (nothing 4 four (omega (arith, len, zeros_len)))
+    ∙ ap (λ (bs : List ℕ). little_bytes 4 (length filled.segments) ++ bs) (drop_all 4 four (omega (arith, len, zeros_len)))
     ∙ append-nil (little_bytes 4 (length filled.segments)) in
     let more_len = length-append zeros after in
     begins_with (magic ++ body) (zeros ++ after) filled.segments (omega (arith, more_len, zeros_len, cut))
     (append_assoc magic body (zeros ++ after) ∙ ap (λ (bs : List ℕ). magic ++ bs) (sym (append_assoc body zeros after) ∙ ap (λ (bs : List ℕ). bs ++ after) is))
     (omega (arith, count, few)) filled.numbers_are filled.follow
-  where
-    nothing : (n : ℕ) (xs : List ℕ) → length xs ≤ n → drop n xs ≡ []
-    nothing zero [] le = refl
-    nothing zero (x ∷ xs) le = absurd (omega (arith, le))
-    nothing (suc n) [] le = refl
-    nothing (suc n) (x ∷ xs) le = nothing n xs (omega (arith, le))
 
 count_or_later : (many short : Bool) (rest : Result Words ReadFault) → cond many (Err OutOfRange) (cond short (Err Truncated) rest) ≡ Err Truncated
     → (many ≡ false) × ((short ≡ true) ⊎ ((short ≡ false) × (rest ≡ Err Truncated)))

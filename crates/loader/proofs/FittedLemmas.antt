@@ -1,8 +1,8 @@
 -- The words of an image as a list, and where they have memory.
-use Rattle.std.proofs.Common.{◌≡◌, ◌≢◌, ◌↔◌, ℕ, ◌<◌, ◌∙◌, Bool, true, false, [], ◌∷◌, map, Some, inl, inr, refl, sym, arith}
+use Rattle.std.proofs.Common.{◌≡◌, ◌≢◌, ◌↔◌, ℕ, ◌<◌, ◌∙◌, true, false, [], ◌∷◌, map, Some, inl, inr, refl, sym, arith}
 use Rattle.std.specs.Prelude.{All, not}
 use Rattle.std.specs.List.{AllByRecursion, list_all}
-use Rattle.std.proofs.lemmas.Bool.{and_parts, cases_lt, eq-eqb, le-leb, lt-ltb, ne_eqb}
+use Rattle.std.proofs.lemmas.Bool.{and_parts, cases_lt, eq-eqb, le-leb, lt-ltb, ne_eqb, not-true}
 use Rattle.std.proofs.lemmas.Bool.Decides.{nat_tests}
 use Rattle.std.proofs.lemmas.List.Elements.{All-from_recursion, recursion_from_All}
 use Rattle.loader.specs.Image.{Words, is_past_ram, word_of}
@@ -30,11 +30,7 @@ abbrev Within : Words → Type 0
 Within words = list_all (λ a. not (is_past_ram a)) (map (λ e. e.0) words) ≡ true
 
 is_within : (a : ℕ) → not (is_past_ram a) ≡ true → is_past_ram a ≡ false
-is_within a h = by_test (is_past_ram a) h
-  where
-    by_test : (b : Bool) → not b ≡ true → b ≡ false
-    by_test true e = absurd (cc)
-    by_test false e = refl
+is_within a h = not-true (is_past_ram a) h
 
 each_fitted : (words : Words) → Within words → AllByRecursion (λ e. IsFitted e.0) words
 each_fitted [] h = tt

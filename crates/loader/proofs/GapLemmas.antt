@@ -6,9 +6,9 @@ use Rattle.std.specs.List.Sorted.{IsNonDecreasingBy}
 use Rattle.std.specs.Option.{option_to_list}
 use Rattle.std.proofs.lemmas.Bool.{and_parts, cases_eq, le-ltb, lt-ltb, ltb-true, ne_eqb, eq-eqb}
 use Rattle.std.proofs.lemmas.List.{append_assoc}
-use Rattle.loader.specs.Image.{Words, with_word, word_of}
+use Rattle.loader.specs.Image.{Words, put_fault, with_word, word_of}
 use Rattle.loader.specs.Inside.{Ascends}
-use Rattle.loader.proofs.WordLemmas.{Quads, above, absent_first, absent_rest}
+use Rattle.loader.proofs.WordLemmas.{Quads, above, absent_first, absent_rest, may_put}
 
 abbrev pub Below : ℕ → Words → Type 0
 Below a words = AllByRecursion (λ e. e.0 < a) words
@@ -110,11 +110,13 @@ get_back [] ys n m none is = ap (slice_get ys) (omega (arith, is))
 get_back (x ∷ xs) ys zero m none is = absurd cc
 get_back (x ∷ xs) ys (suc n) m none is = get_back xs ys n m none (omega (arith, is))
 
--- a word that is put
-pub put_between : (words xs ys : Words) (a w : ℕ) → xs ++ ys ≡ words → Below a xs → From a ys → word_of words a ≡ None → (xs ++ (a, w) ∷ []) ++ ys ≡ with_word words a w
-put_between words xs ys a w is below from none =
-    let free : word_of ys a ≡ None = sym (word_of_from xs ys a below) ∙ ap (λ (ws : Words). word_of ws a) is ∙ none in
-    append_assoc xs ((a, w) ∷ []) ys ∙ sym (with_word_between xs ys a w below from free) ∙ ap (λ (ws : Words). with_word ws a w) is
+-- a word that may be put, put after those below it
+pub put_between : (words xs ys new : Words) (a w : ℕ) → xs ++ ys ≡ words → Below a xs → From a ys → put_fault words a w ≡ None → new ≡ xs ++ (a, w) ∷ []
+    → new ++ ys ≡ with_word words a w
+put_between words xs ys new a w is below from allowed pushed =
+    let none : word_of ys a ≡ None = sym (word_of_from xs ys a below) ∙ ap (λ (ws : Words). word_of ws a) is ∙ (may_put words a w allowed).free in
+    ap (λ (zs : Words). zs ++ ys) pushed ∙ append_assoc xs ((a, w) ∷ []) ys ∙ sym (with_word_between xs ys a w below from none)
+    ∙ ap (λ (ws : Words). with_word ws a w) is
 
 -- tests of both parts
 pub all_parts : (p : ℕ × ℕ → Bool) (xs ys : Words) → list_all p (xs ++ ys) ≡ (list_all p xs && list_all p ys)

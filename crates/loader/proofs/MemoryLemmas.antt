@@ -1,5 +1,5 @@
 -- What memory holds after words are put into it.
-use Rattle.std.proofs.Common.{◌≡◌, ◌∙◌, ℕ, zero, suc, ◌+◌, ◌*◌, ◌/◌, ◌%◌, ◌^◌, ◌<◌, inl, inr, Bool, false, cond, eqb, List, [], ◌∷◌, length, get_or, Option, Some, None, Result, Ok, Err, refl, ap, arith}
+use Rattle.std.proofs.Common.{◌≡◌, ◌∙◌, ℕ, zero, suc, ◌+◌, ◌*◌, ◌/◌, ◌%◌, ◌^◌, ◌<◌, inl, inr, Bool, false, cond, eqb, List, [], ◌∷◌, length, get_or, Option, Some, None, Result, Ok, refl, ap, arith}
 use Rattle.std.specs.List.{AllByRecursion}
 use Rattle.std.proofs.lemmas.Bool.{cases_eq, cases_lt, eq-eqb, le-ltb, lt-ltb, ne_eqb}
 use Rattle.std.proofs.lemmas.Option.{same_Some}
@@ -11,7 +11,7 @@ use Rattle.memc.specs.Paged.{IsWhole, page_at, place_of}
 use Rattle.memc.specs.declared.pages.Entry.{Entry}
 use Rattle.memc.specs.declared.spots.Refused.{Refused}
 use Rattle.memc.specs.declared.spots.Spot.{Spot}
-use Rattle.memc.specs.declared.spots.Spot.TheVariants.{Ram, Rom, Io, Vidc, Control, Translator, Ignored}
+use Rattle.memc.specs.declared.spots.Spot.TheVariants.{Ram, Rom}
 
 -- ## The words of a list by their places
 
@@ -34,23 +34,11 @@ entries number (e ∷ rest) = entry (number e.0) e.1 (entries number rest)
 
 ram_entry : (spot : Result Spot Refused) (word : ℕ) (rest : List (ℕ × ℕ)) → ram_before spot word rest ≡ entry (ram_number spot) word rest
 ram_entry (Ok (Ram place)) word rest = refl
-ram_entry (Ok (Rom address)) word rest = refl
-ram_entry (Ok (Io address)) word rest = refl
-ram_entry (Ok (Vidc address)) word rest = refl
-ram_entry (Ok (Control address)) word rest = refl
-ram_entry (Ok (Translator address)) word rest = refl
-ram_entry (Ok (Ignored address)) word rest = refl
-ram_entry (Err refused) word rest = refl
+ram_entry _ word rest = refl
 
 rom_entry : (spot : Result Spot Refused) (word : ℕ) (rest : List (ℕ × ℕ)) → rom_before spot word rest ≡ entry (rom_number spot) word rest
-rom_entry (Ok (Ram place)) word rest = refl
 rom_entry (Ok (Rom address)) word rest = refl
-rom_entry (Ok (Io address)) word rest = refl
-rom_entry (Ok (Vidc address)) word rest = refl
-rom_entry (Ok (Control address)) word rest = refl
-rom_entry (Ok (Translator address)) word rest = refl
-rom_entry (Ok (Ignored address)) word rest = refl
-rom_entry (Err refused) word rest = refl
+rom_entry _ word rest = refl
 
 pub ram_entries : (m : Memory) (words : Words) → ram_words m words ≡ entries (λ a. ram_number (spot_of m a)) words
 ram_entries m [] = refl

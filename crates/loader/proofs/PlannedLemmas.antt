@@ -1,8 +1,8 @@
 -- What loads give where an image's words are put into memory whose pages lie as a plan says.
 use Rattle.std.proofs.Common.{◌∷◌, [], ◌↔◌, ◌≡◌, ◌≢◌, ◌∙◌, ℕ, ◌+◌, ◌-◌, ◌*◌, ◌/◌, ◌%◌, ◌^◌, ◌<◌, ◌≤◌, ◌⊎◌, inl, inr, Bool, true, false, cond, List, map, get_or, Option, Some, None, Result, Ok, Err, refl, sym, ap, subst, arith}
-use Rattle.std.specs.Prelude.{◌||◌, IsSome, is_some, nat_le, All}
+use Rattle.std.specs.Prelude.{IsSome, is_some, nat_le, All}
 use Rattle.std.specs.List.{AllByRecursion, Contains}
-use Rattle.std.proofs.lemmas.Bool.{cases_lt, le-ltb, lt-ltb}
+use Rattle.std.proofs.lemmas.Bool.{cases_lt, le-ltb, lt-ltb, or_parts}
 use Rattle.std.proofs.lemmas.Bool.Decides.{nat_tests}
 use Rattle.std.proofs.lemmas.List.Elements.{All-contains, All-from_recursion, All-map, recursion_from_All}
 use Rattle.std.proofs.lemmas.Option.{same_Some}
@@ -386,10 +386,6 @@ beside_given beside pages spare m a w mapped fits all c = given_beside here.1
 
 -- ## Which words lead to a place at all
 
-neither : (b c : Bool) → (b || c) ≡ false → (b ≡ false) × (c ≡ false)
-neither true c e = absurd (cc)
-neither false c e = (refl, e)
-
 found_fits : (m : Memory) (a : ℕ) → m.shift ≡ 15 → is_refused (spot_of m a) ≡ false → IsFitted a
 found_fits m a size e = elim (cases_lt a 0x2400000) [
   | inl below ↦ inl below
@@ -399,7 +395,7 @@ found_fits m a size e = elim (cases_lt a 0x2400000) [
 all_found : (m : Memory) (words : Words) → m.shift ≡ 15 → lacks_page m words ≡ false → AllByRecursion (λ e. IsFitted e.0) words
 all_found m [] size e = tt
 all_found m (x ∷ rest) size e =
-    let p = neither (is_refused (spot_of m x.0)) (lacks_page m rest) e in
+    let p = or_parts (is_refused (spot_of m x.0)) (lacks_page m rest) e in
     (found_fits m x.0 size p.0, all_found m rest size p.1)
 
 found_by : (m : Memory) (a : ℕ) → InRam m a ⊎ InRom m a → is_refused (spot_of m a) ≡ false

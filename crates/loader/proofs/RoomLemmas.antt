@@ -1,8 +1,8 @@
 -- That words have room for more: addresses that are free, and segments to fill an image with.
-use Rattle.std.proofs.Common.{◌≡◌, ◌≢◌, ◌∙◌, ℕ, zero, suc, ◌+◌, ◌-◌, ◌*◌, ◌%◌, ◌<◌, ◌≤◌, Bool, false, cond, [], ◌∷◌, List, length, Some, None, refl, ap, subst, inl, inr, arith}
-use Rattle.std.specs.Prelude.{◌&&◌, ◌||◌, is_some, nat_le, nat_lt, IsTrue}
+use Rattle.std.proofs.Common.{◌≡◌, ◌≢◌, ◌∙◌, ℕ, zero, suc, ◌+◌, ◌-◌, ◌*◌, ◌%◌, ◌<◌, ◌≤◌, false, cond, [], ◌∷◌, List, length, Some, None, refl, ap, subst, inl, inr, arith}
+use Rattle.std.specs.Prelude.{◌&&◌, is_some, nat_le, nat_lt, IsTrue}
 use Rattle.std.specs.List.{AllByRecursion}
-use Rattle.std.proofs.lemmas.Bool.{cases_lt, cases_eq, ne_eqb}
+use Rattle.std.proofs.lemmas.Bool.{cases_lt, cases_eq, ne_eqb, or_from}
 use Rattle.std.proofs.lemmas.Bool.Decides.{nat_tests}
 use Rattle.loader.specs.Image.{Words, begins, may_hold, runs_after, runs_of, with_word, word_of}
 use Rattle.loader.specs.ImageBytes.{Segment, overlaps, with_words}
@@ -36,18 +36,19 @@ has_put words a w none =
     let back : a ≡ a + 4 - 4 = omega arith in
     subst (λ (b : ℕ). has (with_word words a w) b ≡ 1) back (ap (λ o. cond {A = ℕ} (is_some o) 1 0) (word_of_here words a w none))
 
--- after a word that stands, no run begins
-grown_after : (words : Words) (a : ℕ) (ws : List ℕ) → a % 4 ≡ 0 → Ascends words → MayStand words → has words (a - 4) ≡ 1 → IsFree words a (a + 4 * length ws) → MayHold a (a + 4 * length ws)
-    → IsGrown words (with_words words a ws) (length ws) 0
-grown_after words a [] a4 up stand before free may = record { ascends = up; may_stand = stand; long = omega arith; few = omega arith }
-grown_after words a (w ∷ ws) a4 up stand before free may =
+-- of the words of a segment, only the first may begin a run: not where a word stands before it
+grown_from : (words : Words) (a runs : ℕ) (ws : List ℕ) → a % 4 ≡ 0 → Ascends words → MayStand words → 1 ≤ has words (a - 4) + runs
+    → IsFree words a (a + 4 * length ws) → MayHold a (a + 4 * length ws) → IsGrown words (with_words words a ws) (length ws) runs
+grown_from words a runs [] a4 up stand before free may = record { ascends = up; may_stand = stand; long = omega arith; few = omega arith }
+grown_from words a runs (w ∷ ws) a4 up stand before free may =
     let none : word_of words a ≡ None = free a (omega arith) (omega arith) in
     let here : IsTrue (may_hold a) = may a (omega arith) (omega arith) a4 in
     let new = with_word words a w in
     let same : a + 4 * suc (length ws) ≡ a + 4 + 4 * length ws = omega arith in
     let counted = runs_of-with_word words a w a4 (quads words stand) up none in
     let longer = length_with_word words a w in
-    let more = grown_after new (a + 4) ws (omega (arith, a4)) (Ascends-with_word words a w up none) (MayStand-with_word words a w stand here) (has_put words a w none)
+    let put : has new (a + 4 - 4) ≡ 1 = has_put words a w none in
+    let more = grown_from new (a + 4) 0 ws (omega (arith, a4)) (Ascends-with_word words a w up none) (MayStand-with_word words a w stand here) (omega (arith, put))
     (subst (λ (to : ℕ). IsFree new (a + 4) to) same (still_free words a w (a + 4 * suc (length ws)) free)) (λ b low high b4. may b (omega (arith, low)) (omega (arith, high)) b4) in
     let long = more.long in
     let few = more.few in
@@ -60,22 +61,9 @@ may_hold_all words a n can = λ b low high b4.
 
 -- a segment that can stand begins at most one run
 pub grown : (words : Words) (a : ℕ) (ws : List ℕ) → CanStand words a (length ws) → Ascends words → MayStand words → IsGrown words (with_words words a ws) (length ws) 1
-grown words a [] can up stand = let some = can.some in absurd (omega (arith, some))
-grown words a (w ∷ ws) can up stand =
-    let free : IsFree words a (a + 4 * suc (length ws)) = λ b low high. free_from words a (suc (length ws)) b can.apart low high in
-    let may : MayHold a (a + 4 * suc (length ws)) = may_hold_all words a (suc (length ws)) can in
-    let a4 = can.aligned in
-    let none : word_of words a ≡ None = free a (omega arith) (omega arith) in
-    let here : IsTrue (may_hold a) = may a (omega arith) (omega arith) a4 in
-    let new = with_word words a w in
-    let same : a + 4 * suc (length ws) ≡ a + 4 + 4 * length ws = omega arith in
-    let counted = runs_of-with_word words a w a4 (quads words stand) up none in
-    let longer = length_with_word words a w in
-    let more = grown_after new (a + 4) ws (omega (arith, a4)) (Ascends-with_word words a w up none) (MayStand-with_word words a w stand here) (has_put words a w none)
-    (subst (λ (to : ℕ). IsFree new (a + 4) to) same (still_free words a w (a + 4 * suc (length ws)) free)) (λ b low high b4. may b (omega (arith, low)) (omega (arith, high)) b4) in
-    let long = more.long in
-    let few = more.few in
-    record { ascends = more.ascends; may_stand = more.may_stand; long = omega (arith, long, longer); few = omega (arith, few, counted) }
+grown words a ws can up stand =
+    grown_from words a 1 ws can.aligned up stand (omega arith)
+    (λ b low high. free_from words a (length ws) b can.apart low high) (may_hold_all words a (length ws) can)
 
 -- ## An address that is free
 
@@ -155,11 +143,8 @@ apart_one [] a q a4 none = refl
 apart_one (e ∷ rest) a q a4 none =
     let other = absent_first e rest a none in
     let e4 : e.0 % 4 ≡ 0 = q.0 in
-    neither _ _ (outside e.0 a e4 a4 other) (apart_one rest a q.1 a4 (absent_rest e rest a none))
+    or_from _ _ (outside e.0 a e4 a4 other) (apart_one rest a q.1 a4 (absent_rest e rest a none))
   where
-    neither : (x y : Bool) → x ≡ false → y ≡ false → (x || y) ≡ false
-    neither x y p q = rw (p, q) refl
-
     outside : (b c : ℕ) → b % 4 ≡ 0 → c % 4 ≡ 0 → b ≢ c → (nat_le c b && nat_lt b (c + 4 * 1)) ≡ false
     outside b c b4 c4 other = grind (arith, nat_tests, b4, c4, other)
 

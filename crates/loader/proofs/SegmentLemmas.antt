@@ -4,12 +4,14 @@ use Rattle.std.specs.Prelude.{◌||◌, ◌⊎◌, not, nat_le, nat_lt, IsTrue, 
 use Rattle.std.proofs.lemmas.List.{drop-drop}
 use Rattle.std.proofs.lemmas.Bool.{cases_lt, cases_eq, le-ltb, lt-ltb, ne_eqb, eq-eqb}
 use Rattle.std.proofs.lemmas.Bool.Decides.{nat_tests}
+use Rattle.std.proofs.lemmas.Option.{same_Some}
 use Rattle.byteorder.specs.Endian.{little_number}
 use Rattle.loader.specs.Image.{Words, lies_in_memory, may_hold, put_fault, runs_of, with_word, word_of}
 use Rattle.loader.specs.ImageBytes.{numbers, overlaps, segment_fault, with_words}
 use Rattle.loader.specs.Inside.{AreWhole, IsPartly}
 use Rattle.loader.specs.declared.image.ImageFault.{ImageFault}
 use Rattle.loader.specs.declared.image.ImageFault.TheVariants as image
+use Rattle.loader.specs.declared.reading.ReadFault.{ReadFault}
 use Rattle.loader.specs.declared.reading.ReadFault.TheVariants.{OutOfRange, Misaligned, Overlap}
 use Rattle.loader.proofs.PlaceLemmas.{Lies, lies_in, may_within}
 use Rattle.loader.proofs.WordLemmas.{has, quads, length_with_word, runs_of-with_word}
@@ -76,6 +78,17 @@ can_stand words address count e =
       few = grind (arith, nat_tests, long);
       apart = p.3;
     }
+
+-- a head has no other fault than these
+pub no_other_fault : (f : ReadFault) → (Misaligned ≡ f → ⊥) → (OutOfRange ≡ f → ⊥) → (Overlap ≡ f → ⊥) → (words : Words) (a n : ℕ) → segment_fault words a n ≡ Some f → ⊥
+no_other_fault f misaligned range overlap words a n e = by (not (a % 4 == 0)) (n == 0) (not (lies_in_memory a (a + 4 * n)) || nat_lt 65536 (length words + n)) (overlaps words a n) e
+  where
+    by : (odd none long over : Bool) → cond odd (Some Misaligned) (cond (none || long) (Some OutOfRange) (cond over (Some Overlap) None)) ≡ Some f → ⊥
+    by true none long over e = misaligned (same_Some Misaligned f e)
+    by false true long over e = range (same_Some OutOfRange f e)
+    by false false true over e = range (same_Some OutOfRange f e)
+    by false false false true e = overlap (same_Some Overlap f e)
+    by false false false false e = absurd (cc)
 
 pub free_from : (words : Words) (address count a : ℕ) → overlaps words address count ≡ false → address ≤ a → a < address + 4 * count → word_of words a ≡ None
 free_from [] address count a none low high = refl

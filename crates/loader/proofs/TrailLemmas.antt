@@ -1,20 +1,20 @@
 -- Bytes that go on after an image's.
 use Rattle.std.proofs.Common.{◌≡◌, ◌∙◌, ℕ, zero, suc, ◌+◌, ◌*◌, ◌%◌, ◌<◌, ◌≤◌, Bool, true, false, cond, List, [], ◌∷◌, ◌++◌, length, take, drop, flat_map, Option, Some, None, Result, Err, refl, sym, ap, subst, inl, inr, arith, append_assoc}
-use Rattle.std.specs.Prelude.{◌&&◌, ◌||◌, ◌==◌, not, nat_lt}
+use Rattle.std.specs.Prelude.{◌&&◌, ◌==◌, not, nat_lt}
 use Rattle.std.specs.List.{AllByRecursion}
 use Rattle.std.specs.Str.{bytes_eq}
 use Rattle.std.specs.Cmp.Lexicographic.{bytes_decides}
 use Rattle.std.proofs.lemmas.Bool.{cases_lt, le-ltb, lt-ltb, ltb-false}
 use Rattle.std.proofs.lemmas.List.{take-append-drop, take_all}
 use Rattle.byteorder.specs.Endian.{little_bytes, little_number}
-use Rattle.loader.specs.Image.{Words, lies_in_memory}
-use Rattle.loader.specs.ImageBytes.{Segment, count_read, cut_fault, end_fault, head_address, head_count, image_bytes, image_read, is_taken, magic, numbers, overlaps, read_by, segment_bytes, segment_fault, segments_read, with_words}
+use Rattle.loader.specs.Image.{Words}
+use Rattle.loader.specs.ImageBytes.{Segment, count_read, cut_fault, end_fault, head_address, head_count, image_bytes, image_read, is_taken, magic, numbers, read_by, segment_bytes, segment_fault, segments_read, with_words}
 use Rattle.loader.specs.Spelling.{AreNumbers, CanFollow, PassImage, with_segments}
 use Rattle.loader.specs.declared.reading.ReadFault.{ReadFault}
 use Rattle.loader.specs.declared.reading.ReadFault.TheVariants.{BadMagic, Misaligned, OutOfRange, Overlap, TrailingBytes, Truncated}
 use Rattle.loader.proofs.AcceptLemmas.{AreBytes, bytes_after, four_split, head_counted, numbers_fit, segment_at, segment_split}
 use Rattle.loader.proofs.CutLemmas.{same_fault}
-use Rattle.loader.proofs.SegmentLemmas.{length_numbers}
+use Rattle.loader.proofs.SegmentLemmas.{length_numbers, no_other_fault}
 use Rattle.loader.proofs.SpellLemmas.{begun, counted, segment_read}
 
 -- ## What stands after an image's bytes is trailing
@@ -57,14 +57,7 @@ record Passes (left : ℕ) (before : Words) (bytes : List ℕ) : Type 0 where
 
 -- no fault of a head
 never_passed : (words : Words) (a n : ℕ) → segment_fault words a n ≡ Some TrailingBytes → ⊥
-never_passed words a n e = by (not (a % 4 == 0)) (n == 0) (not (lies_in_memory a (a + 4 * n)) || nat_lt 65536 (length words + n)) (overlaps words a n) e
-  where
-    by : (odd none long over : Bool) → cond odd (Some Misaligned) (cond (none || long) (Some OutOfRange) (cond over (Some Overlap) None)) ≡ Some TrailingBytes → ⊥
-    by true none long over e = absurd (cc)
-    by false true long over e = absurd (cc)
-    by false false true over e = absurd (cc)
-    by false false false true e = absurd (cc)
-    by false false false false e = absurd (cc)
+never_passed = no_other_fault TrailingBytes (λ e. cc) (λ e. cc) (λ e. cc)
 
 never_cut : (words : Words) (left : ℕ) (bytes : List ℕ) → cut_fault words left bytes ≡ TrailingBytes → ⊥
 never_cut words left bytes e = by (not (head_address bytes % 4 == 0)) (nat_lt 65536 (length words + suc left)) (length bytes == 3 && (is_taken words (head_address bytes) && (is_taken words (head_address bytes + 0x1000000) && (is_taken words (head_address bytes + 0x2000000) && is_taken words (head_address bytes + 0x3000000))))) e

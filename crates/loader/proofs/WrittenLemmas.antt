@@ -1,8 +1,8 @@
 -- The segments of an image spell it.
 use Rattle.std.proofs.Common.{◌≡◌, ◌∙◌, ℕ, suc, ◌+◌, ◌*◌, ◌%◌, ◌^◌, ◌<◌, ◌≤◌, Bool, true, false, cond, List, [], ◌∷◌, ◌++◌, length, None, refl, sym, ap, subst, inl, inr, arith, length-append, append_assoc}
-use Rattle.std.specs.Prelude.{◌||◌, ◌==◌, nat_lt, IsTrue}
+use Rattle.std.specs.Prelude.{◌==◌, nat_lt, IsTrue}
 use Rattle.std.specs.List.{AllByRecursion}
-use Rattle.std.proofs.lemmas.Bool.{cases_eq, le-ltb, ne_eqb, eq-eqb}
+use Rattle.std.proofs.lemmas.Bool.{cases_eq, le-ltb, ne_eqb, eq-eqb, or_from}
 use Rattle.std.proofs.lemmas.Bool.Decides.{nat_tests}
 use Rattle.std.proofs.lemmas.List.{append-nil}
 use Rattle.loader.specs.Image.{Words, may_hold, with_word}
@@ -95,10 +95,7 @@ run_lies a w (v ∷ ws) all =
 
 none_overlaps : (before : Words) (a n : ℕ) → AllByRecursion (λ e. e.0 < a) before → overlaps before a n ≡ false
 none_overlaps [] a n all = refl
-none_overlaps (e ∷ before) a n all = neither _ _ (let lt : e.0 < a = all.0 in grind (arith, nat_tests, lt)) (none_overlaps before a n all.1)
-  where
-    neither : (x y : Bool) → x ≡ false → y ≡ false → (x || y) ≡ false
-    neither x y p q = rw (p, q) refl
+none_overlaps (e ∷ before) a n all = or_from _ _ (let lt : e.0 < a = all.0 in grind (arith, nat_tests, lt)) (none_overlaps before a n all.1)
 
 pub no_fault : (words : Words) (a n : ℕ) → CanStand words a n → segment_fault words a n ≡ None
 no_fault words a n can =

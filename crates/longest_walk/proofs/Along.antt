@@ -1,5 +1,5 @@
 -- Items that follow the edges of numbers, put together.
-use Rattle.std.proofs.Common.{◌≢◌, ◌∙◌, ℕ, ◌+◌, ◌<◌, ◌≤◌, List, [], ◌∷◌, ◌++◌, All, Contains, length, flat_map, refl, sym, ap, subst, arith, append-nil}
+use Rattle.std.proofs.Common.{◌≡◌, ◌≢◌, ◌∙◌, ℕ, ◌+◌, ◌<◌, ◌≤◌, List, [], ◌∷◌, ◌++◌, All, Contains, length, flat_map, refl, sym, ap, subst, arith, append-nil}
 use Rattle.std.specs.List.{AllZip}
 use Rattle.std.proofs.lemmas.List.{map-append}
 use Rattle.std.proofs.lemmas.List.Concat.{flat_map-append}
@@ -22,16 +22,21 @@ abbrev pub IsCount : ℕ → Type 0
 IsCount k = (0 < k) × (k ≤ 1048576)
 
 module _ (flow : Flow) (tree : Tree) (c : Tables) where
-  pub along_none : (outer : ℕ) → outer ≤ 17 → IsAlong flow tree c outer [] (joined [])
-  along_none outer low = record {
-    inside = All-nil (λ k. k < length flow.edges);
-    walk_is = refl;
+  -- edges in a row, without a repeat
+  along_edges : (outer : ℕ) (ks : List ℕ) (walk outside : List Edge) → outer ≤ 17 → All (λ k. k < length flow.edges) ks → walk ≡ steps_of flow.edges ks
+      → IsAlong flow tree c outer ks (record { walk = walk; outside = outside; counts = []; bodies = []; bodies_outside = []; depth = 0 })
+  along_edges outer ks walk outside low inside is = record {
+    inside = inside;
+    walk_is = is;
     bodies = All-nil (IsNumberedBody flow tree c);
     counts = All-nil IsCount;
     shallow = omega arith;
     all_rounds = tt;
     bodies_rise = All-nil (IsRisingBody flow tree);
   }
+
+  pub along_none : (outer : ℕ) → outer ≤ 17 → IsAlong flow tree c outer [] (joined [])
+  along_none outer low = along_edges outer [] [] [] low (All-nil (λ k. k < length flow.edges)) refl
 
   pub along_append : (outer : ℕ) (ks ls : List ℕ) (xs ys : List Opened) → IsAlong flow tree c outer ks (joined xs) → IsAlong flow tree c outer ls (joined ys) → IsAlong flow tree c outer (ks ++ ls) (joined (xs ++ ys))
   along_append outer ks ls xs ys one two = record {
@@ -53,15 +58,9 @@ module _ (flow : Flow) (tree : Tree) (c : Tables) where
   }
 
   pub along_edge : (outer k : ℕ) → outer ≤ 17 → k < length flow.edges → IsAlong flow tree c outer (k ∷ []) (joined (one_edge (step_at flow.edges k) ∷ []))
-  along_edge outer k low inside = record {
-    inside = All-cons (λ k. k < length flow.edges) k [] inside (All-nil (λ k. k < length flow.edges));
-    walk_is = refl;
-    bodies = All-nil (IsNumberedBody flow tree c);
-    counts = All-nil IsCount;
-    shallow = omega arith;
-    all_rounds = tt;
-    bodies_rise = All-nil (IsRisingBody flow tree);
-  }
+  along_edge outer k low inside =
+      let e = step_at flow.edges k in
+      along_edges outer (k ∷ []) (e ∷ []) (e ∷ []) low (All-cons (λ k. k < length flow.edges) k [] inside (All-nil (λ k. k < length flow.edges))) refl
 
   pub along_weaker : (outer more : ℕ) (ks : List ℕ) (o : Opened) → outer ≤ more → IsAlong flow tree c more ks o → IsAlong flow tree c outer ks o
   along_weaker outer more ks o low a = record {

@@ -1,30 +1,26 @@
 -- What is found over numbers holds over places: the whole answer, and the refusals.
-use Rattle.std.proofs.Common.{◌≡◌, ◌≢◌, ℕ, ◌≤◌, Bool, true, false, cond, ◌&&◌, List, [], ◌∷◌, length, map, sum_by, None, refl, sym, ap, ◌∙◌, subst, arith}
+use Rattle.std.proofs.Common.{◌≡◌, ◌≢◌, ℕ, ◌≤◌, List, [], ◌∷◌, length, map, None, refl, sym, ap, ◌∙◌, subst, arith}
 use Rattle.std.specs.List.{AllPass}
 use Rattle.std.proofs.lemmas.Bool.{eq-eqb}
 use Rattle.std.proofs.lemmas.List.Elements.{All-weaker}
 use Rattle.std.proofs.lemmas.List.Sums.{AllPass-from_list_all}
 use Rattle.walks.specs.Walk.{Leads, cost_of}
 use Rattle.walks.specs.Greatest as G
-use Rattle.walks.proofs.Joins.{keeps_from_most}
-use Rattle.walks.proofs.SumLe.{sum_by-same_all}
 use Rattle.flow_graph.specs.declared.places.Place.{Place}
 use Rattle.flow_graph.specs.declared.places.Place.TheVariants.{Exit}
 use Rattle.flow_graph.specs.declared.edges.Edge.{Edge}
 use Rattle.flow_graph.specs.Flow.{Flow, IsWellFormed, edge_shape, HasEdge}
 use Rattle.numbered_walks.specs.declared.span.NumberedEdge.{NumberedEdge}
-use Rattle.numbered_walks.specs.declared.span.Span.{Span}
 use Rattle.numbered_walks.specs.declared.tables.Tables.{Tables}
 use Rattle.numbered_walks.specs.declared.fault.WalkFault.{WalkFault}
 use Rattle.numbered_walks.specs.declared.fault.WalkFault.TheVariants.{Memory, NoCompleteWalk, BoundTooLarge}
 use Rattle.numbered_walks.specs.Index.{edge_at, edges_of}
 use Rattle.numbered_walks.specs.Found.{AreFound}
 use Rattle.numbered_walks.specs.Found as F
-use Rattle.numbered_walks.specs.Ordered.{is_in}
 use Rattle.numbered_walks.specs.Ordered as O
 use Rattle.numbered_walks.specs.Reach.{Reach, Round}
-use Rattle.numbered_walks.specs.Tables.{arrival_of, distance_of, round_of, stay_of, total_of}
-use Rattle.numbered_walks.proofs.Finishing.{total-exit}
+use Rattle.numbered_walks.specs.Tables.{arrival_of, distance_of, round_of}
+use Rattle.numbered_walks.proofs.Finishing.{reach_costs, reach_keeps, total-exit}
 use Rattle.loop_bounds.specs.Instance.{place_loops}
 use Rattle.loop_bounds.specs.Tree.{IsTree, Tree, place_in}
 use Rattle.longest_walk.specs.Built.{AreAllNumbered, AreInstanceRowsAt, ArePlaceRowsAt, IsBuilt, IsNumberedBody, IsRisingBody, step_at, steps_of}
@@ -36,10 +32,6 @@ use Rattle.longest_walk.proofs.CarryOnce.{rising_once}
 use Rattle.longest_walk.proofs.CarryPotentials.{least, rows_fit, rows_hold}
 use Rattle.longest_walk.proofs.CarryWalks.{agree_all, costs_same, exit_place, fault_up, greatest_up, instance_of, keeps_up, leads_up, too_large_down}
 use Rattle.longest_walk.proofs.Opening.{AllZip-weaker}
-
-always : (b : Bool) (n : ℕ) → cond {A = ℕ} (b && true) n 0 ≡ cond b n 0
-always true n = refl
-always false n = refl
 
 some_mapped : {X Y : Type 0} (f : X → Y) (xs : List X) → xs ≢ [] → map f xs ≢ []
 some_mapped f [] some is = some refl
@@ -59,14 +51,10 @@ module _ (flow : Flow) (tree : Tree) (well : IsWellFormed flow) (t : IsTree flow
   module _ (c : Tables) (found : AreFound (length flow.places) tree.edges tree.spans c) where
     -- a walk to Exit with all its rounds costs the bound
     path_costs : (r : Reach tree.edges tree.spans (λ s. s.bound) (distance_of c) (arrival_of c) (round_of c) None exit) → O.cost_of r.walk ≡ c.bound
-    path_costs r =
-        let sums : sum_by (λ s. cond {A = ℕ} (is_in s exit && true) (stay_of c s) 0) tree.spans ≡ sum_by (λ s. cond {A = ℕ} (is_in s exit) (stay_of c s) 0) tree.spans =
-        sum_by-same_all (λ (s : Span). cond {A = ℕ} (is_in s exit && true) (stay_of c s) 0) (λ (s : Span). cond {A = ℕ} (is_in s exit) (stay_of c s) 0) tree.spans (λ s s_in. always (is_in s exit) (stay_of c s)) in
-        let total : total_of tree.spans c exit ≡ c.bound = total-exit exit tree.edges tree.spans c t.ordered found.passed found.closes in
-        omega (arith, r.cost, sums, total)
+    path_costs r = reach_costs exit tree.edges tree.spans c t.ordered found.passed found.closes exit r ∙ total-exit exit tree.edges tree.spans c t.ordered found.passed found.closes
 
     path_kept : (r : Reach tree.edges tree.spans (λ s. s.bound) (distance_of c) (arrival_of c) (round_of c) None exit) → O.KeepsBounds tree.spans r.walk
-    path_kept r s s_in = keeps_from_most (O.is_inside s) (O.ends_at_header s) s.bound r.walk (r.kept s s_in)
+    path_kept r = reach_keeps exit tree.edges tree.spans c t.ordered found.passed found.closes exit r
 
     -- the edges of a round are those of rounds of an instance
     body_up : (body : List Edge) → IsNumberedBody flow tree c body → IsBody flow tree body

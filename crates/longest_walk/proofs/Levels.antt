@@ -1,5 +1,5 @@
 -- How deep the headers of instances lie in one another, and which are found before which.
-use Rattle.std.proofs.Common.{◌≡◌, ◌∙◌, ℕ, ◌+◌, ◌<◌, ◌≤◌, Bool, true, false, cond, List, ⊎_elim, Option, Some, None, All, Contains, length, get_or, sum_by, refl, sym, ap, subst, arith}
+use Rattle.std.proofs.Common.{◌≡◌, ◌∙◌, ℕ, ◌+◌, ◌<◌, ◌≤◌, true, false, cond, List, ⊎_elim, Option, Some, None, All, Contains, length, get_or, sum_by, sym, ap, subst, arith}
 use Rattle.std.proofs.lemmas.Bool.{cases_Bool, cases_lt}
 use Rattle.std.proofs.lemmas.List.{get_or_default}
 use Rattle.std.proofs.lemmas.List.Elements.{Contains-get_or}
@@ -9,13 +9,8 @@ use Rattle.numbered_walks.specs.declared.span.Span.{Span}
 use Rattle.numbered_walks.specs.Ordered.{IsOrdered, is_in}
 use Rattle.numbered_walks.specs.Tables.{nth}
 use Rattle.numbered_walks.proofs.Members.{header_in, member_header, member_last, is_member}
-use Rattle.numbered_walks.proofs.Nesting.{same_header}
+use Rattle.numbered_walks.proofs.Nesting.{cond_le, same_header}
 use Rattle.longest_walk.specs.Ways.{depth_at, holds, InTree, level_in, start_of}
-
-pick : (x y : Bool) → (x ≡ true → y ≡ true) → cond {A = ℕ} x 1 0 ≤ cond {A = ℕ} y 1 0
-pick true y up = rw (up refl) (omega arith)
-pick false true up = omega arith
-pick false false up = omega arith
 
 module _ (exit : ℕ) (edges : List NumberedEdge) (spans : List Span) (order : IsOrdered exit edges spans) where
   -- what holds the header of an instance holds that of an instance inside it
@@ -34,7 +29,7 @@ module _ (exit : ℕ) (edges : List NumberedEdge) (spans : List Span) (order : I
   pub deeper : (s t : Span) → Contains spans s → Contains spans t → is_in s t.header ≡ true → s.header < t.header → depth_at spans s.header + 1 ≤ depth_at spans t.header
   deeper s t s_in t_in inside later =
       let up : All (λ j. cond {A = ℕ} (is_in j s.header) 1 0 ≤ cond {A = ℕ} (is_in j t.header) 1 0) spans =
-      λ k d lt. pick (is_in (get_or spans k d) s.header) (is_in (get_or spans k d) t.header) (holds_inner s t (get_or spans k d) s_in (Contains-get_or spans k d lt) inside) in
+      λ k d lt. cond_le (is_in (get_or spans k d) s.header) (is_in (get_or spans k d) t.header) (holds_inner s t (get_or spans k d) s_in (Contains-get_or spans k d lt) inside) in
       let outside : is_in t s.header ≡ false = ⊎_elim (λ yes. absurd (omega (arith, member_header t s.header yes))) (λ out. out) (cases_Bool (is_in t s.header)) in
       let here : cond {A = ℕ} (is_in t s.header) 1 0 + 1 ≤ cond {A = ℕ} (is_in t t.header) 1 0 = rw (outside, header_in exit edges spans order t t_in) (omega arith) in
       sum_by-le_contains (λ j. cond (is_in j s.header) 1 0) (λ j. cond (is_in j t.header) 1 0) 1 spans t t_in up here

@@ -6,6 +6,7 @@ use Rattle.std.proofs.lemmas.List.Sums.{sum_by-cons, count_by_more_no, sum_by-ta
 use Rattle.std.proofs.lemmas.List.{get_or_default, get_or_append_left, length-map}
 use Rattle.std.proofs.lemmas.List.Elements.{filter_more}
 use Rattle.std.proofs.Math.Seq.{get_or-append_seam, take-length}
+use Rattle.numbered_walks.proofs.Nesting.{cond_le}
 use Rattle.loop_bounds.specs.declared.extents.Extent.{Extent}
 use Rattle.loop_bounds.specs.Extents.{AreExtents, AreParents, IsParent, IsWithin, IsInnermost, extent_at, parent_at, is_within}
 use Rattle.loop_bounds.specs.Layout.{AreChains, AreShallow, chain_above, depth_at, headers_in, items_of}
@@ -162,13 +163,19 @@ IsLow extents limit = (k : ℕ) → k < limit → depth_at (take (k + 1) extents
 pub chain_depth : (rank : ℕ → ℕ) (extents : List Extent) (p : ℕ) → length (headers_in rank extents p) ≡ depth_at extents p
 chain_depth rank extents p = length-map (holders extents p) (λ (s : Extent). rank s.header) ∙ length-filter (λ s. is_within s p) extents
 
+-- the chain of an extent has the headers of those around its first position, as many as it is deep
+pub record IsChain (rank : ℕ → ℕ) (extents : List Extent) (k : ℕ) (chain : List ℕ) : Type 0 where
+  pub headers_are : chain ≡ headers_in rank (take (k + 1) extents) (first_of extents k)
+  pub depth_is : length chain ≡ depth_at (take (k + 1) extents) (first_of extents k)
+
+pub is_chain : (rank : ℕ → ℕ) (extents : List Extent) (parents : List (Option ℕ)) (chains : List (List ℕ)) (k : ℕ) (chain : List ℕ) → AreExtents extents → AreParents extents parents (length extents) → k < length extents → AreChains rank extents chains k
+    → chain ≡ chain_above chains (parent_at parents k) ++ rank (extent_at extents k).header ∷ [] → IsChain rank extents k chain
+is_chain rank extents parents chains k chain all known inside deep made =
+    let is = made ∙ chain_here rank extents parents chains k all known inside deep in
+    record { headers_are = is; depth_is = ap length is ∙ chain_depth rank (take (k + 1) extents) (first_of extents k) }
+
 pub count_cons : {X : Type 0} (f : X → Bool) (x : X) (xs : List X) → count_by f (x ∷ xs) ≡ cond {A = ℕ} (f x) 1 0 + count_by f xs
 count_cons f x xs = sum_by-cons (λ y. cond {A = ℕ} (f y) 1 0) x xs
-
-cond_le : (a b : Bool) → (a ≡ true → b ≡ true) → cond {A = ℕ} a 1 0 ≤ cond {A = ℕ} b 1 0
-cond_le true b up = rw (up refl) (omega arith)
-cond_le false true up = omega arith
-cond_le false false up = omega arith
 
 count_le : {X : Type 0} (f g : X → Bool) (xs : List X) → ((j : ℕ) (d : X) → j < length xs → f (get_or xs j d) ≡ true → g (get_or xs j d) ≡ true) → count_by f xs ≤ count_by g xs
 count_le f g [] up = omega arith

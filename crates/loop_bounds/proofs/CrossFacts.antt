@@ -24,6 +24,9 @@ use Rattle.loop_bounds.proofs.InPlaces.{found_has}
 use Rattle.loop_bounds.proofs.Positions.{listed_length, place_numbers}
 use Rattle.loop_bounds.proofs.Within.{from_in, in_from, out_from}
 
+pub index_of : (extents : List Extent) (s : Extent) (has : Contains extents s) → extent_at extents has.0 ≡ s
+index_of extents s has = get_or_default extents has.0 _ s has.1 ∙ has.2
+
 module _ (flow : Flow) (loops : List Loop) (listed : List Place) (found : List Found) (extents : List Extent) (well_formed : IsWellFormed flow) (listed_is : IsListed flow.places listed) (all_are : (i : Instance) → Contains (map found_instance found) i → IsInstance flow loops i) (extents_of : AreExtentsOf listed found extents) where
   abbrev instance_at : Extent → Instance
   instance_at s = found_instance (get_or found s.instance no_instance)
@@ -89,9 +92,6 @@ module _ (flow : Flow) (loops : List Loop) (listed : List Place) (found : List F
   within : (i : Instance) (s : Extent) → Contains extents s → instance_at s ≡ i → (p : Place) (n : ℕ) → n ≤ exit → place_at listed n ≡ p → is_member i p ≡ is_within s n
   within i s has is p n le at = ap (is_member i) (sym at) ∙ ap (λ (j : Instance). is_member j (place_at listed n)) (sym is) ∙ member s has n le
 
-  index_of : (s : Extent) → (has : Contains extents s) → extent_at extents has.0 ≡ s
-  index_of s has = get_or_default extents has.0 _ s has.1 ∙ has.2
-
   own_number : (i j : Instance) (s t : Extent) → Contains extents s → Contains extents t → instance_at s ≡ i → instance_at t ≡ j → HasOwn flow i j → (p : ℕ) × (is_within s p ≡ true) × (is_within t p ≡ false)
   own_number i j s t s_has t_has s_is t_is own =
       let n = numbers.number own.place own.has in
@@ -112,7 +112,7 @@ module _ (flow : Flow) (loops : List Loop) (listed : List Place) (found : List F
         other = (t.1).0;
         one_in = (s.1).1;
         other_in = (t.1).1;
-        cross = rw (index_of s.0 s.1, index_of t.0 t.1) (record {
+        cross = rw (index_of extents s.0 s.1, index_of extents t.0 t.1) (record {
           shared = n.0;
           in_first = in_from s.0 n.0 (sym (within c.one s.0 s.1 s.2 c.shared n.0 (omega arith) n.2) ∙ c.in_one);
           in_second = in_from t.0 n.0 (sym (within c.other t.0 t.1 t.2 c.shared n.0 (omega arith) n.2) ∙ c.in_other);

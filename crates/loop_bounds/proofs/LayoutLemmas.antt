@@ -20,7 +20,7 @@ use Rattle.loop_bounds.specs.Extents.{extent_at}
 use Rattle.loop_bounds.specs.Keys.{is_before}
 use Rattle.loop_bounds.specs.Layout.{AreIndexes, AreKeyed, AreMoved, AreNumbers, AreParted, ArePlaced, ArePositions, AreSpans, IsLaidOut, IsShown, by_keys, kept_key}
 use Rattle.loop_bounds.proofs.KeyLemmas.{before_is}
-use Rattle.loop_bounds.proofs.Moved.{IsOnce, once_moved}
+use Rattle.loop_bounds.proofs.Moved.{IsOnce, once_moved, some_of}
 use Rattle.flow_graph.specs.declared.places.Place.{Place}
 use Rattle.flow_graph.specs.Places.{place_at}
 
@@ -89,10 +89,6 @@ positions_more keyed order i n so_far is =
 
 pub keys_rank : (chains : List (List ℕ)) → IsStrictWeakOrder (λ j k. is_lt (by_keys chains j k))
 keys_rank chains = ranks_by nat_list_cmp_total (kept_key chains)
-
-some_of : {X : Type 0} (xs : List X) → 0 < length xs → X
-some_of [] lt = absurd (omega arith)
-some_of (x ∷ xs) lt = x
 
 module _ (key : ℕ → List ℕ) (chains : List (List ℕ)) (exit : ℕ) (keyed moved : List Keyed) (order : List ℕ) (keys : AreKeyed key chains exit keyed) (perm : IsPermutation keyed moved) (sorted : IsSortedBy (λ j k. is_lt (by_keys chains j k)) moved) (positions : ArePositions moved order (length moved)) where
   len : length moved ≡ exit

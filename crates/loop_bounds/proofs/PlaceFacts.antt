@@ -143,9 +143,6 @@ module _ (flow : Flow) (loops : List Loop) (positions : HandlerPositions) (well_
   pub within : (i : Instance) (s : Extent) → Contains positions.extents.items s → found_instance (get_or positions.found.items s.instance no_instance) ≡ i → (p : Place) (n : ℕ) → n ≤ length flow.places → place_at positions.listed.items n ≡ p → is_member i p ≡ is_within s n
   within i s has is p n le at = ap (is_member i) (sym at) ∙ ap (λ (j : Instance). is_member j (place_of n)) (sym is) ∙ member s has n le
 
-  index_of : (s : Extent) → (has : Contains extents s) → extent_at extents has.0 ≡ s
-  index_of s has = get_or_default extents has.0 _ s has.1 ∙ has.2
-
   -- ## Entries
 
   pub entry_in : positions.entry < length flow.places
@@ -199,7 +196,7 @@ module _ (flow : Flow) (loops : List Loop) (positions : HandlerPositions) (well_
   entered_right right =
       let at : (e from : ℕ) → EntersRight extents from e → (s : Extent) → Contains extents s → (IsWithin s from → ⊥) → is_within s e ≡ true → e ≡ s.header =
       λ e from enters s has out inside.
-      let is : extent_at extents has.0 ≡ s = index_of s has in
+      let is : extent_at extents has.0 ≡ s = cross.index_of extents s has in
       enters has.0 has.1 (subst (λ (x : Extent). IsWithin x e) (sym is) (in_from s e inside)) (λ h. out (subst (λ (x : Extent). IsWithin x from) is h)) ∙ ap (λ (x : Extent). x.header) is in
       record {
         entered = λ e has s s_has out inside. at e.to e.from (subst (λ (x : NumberedEdge). EntersRight extents x.from x.to) has.2 (right.along has.0 e has.1)) s s_has (out_from s e.from out) inside;

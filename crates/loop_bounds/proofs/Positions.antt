@@ -51,7 +51,7 @@ position_found listed p r sorted = found_at by_key (λ q. tied_itself nat_list_c
 
 -- ## The places of a flow graph
 
-not_less : (a b : Ordering) → a ≡ ordering_reverse b → b ≡ Less → is_lt a ≡ false
+pub not_less : (a b : Ordering) → a ≡ ordering_reverse b → b ≡ Less → is_lt a ≡ false
 not_less a b is less = ap is_lt (is ∙ ap ordering_reverse less)
 
 pub sorted : (places : List Place) → IsStrictlySortedBy place_cmp places → IsSorted place_cmp places

@@ -4,6 +4,7 @@ mod ProfileRuleLemmas
 mod PriceTableLemmas
 mod KeyFaults
 mod MachineValueLemmas
+mod OnceLemmas
 mod PutWordLemmas
 mod MachineRuleLemmas
 mod FaultTableLemmas

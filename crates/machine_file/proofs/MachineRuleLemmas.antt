@@ -10,12 +10,12 @@ use Rattle.memc.specs.Memory.{shift_of_size}
 use Rattle.memc.specs.declared.spots.PageSize.{PageSize}
 use Rattle.memc.specs.declared.spots.PageSize.TheVariants.{K4}
 use Rattle.toml_reading.specs.Documents.{are_distinct, has_only_keys, tables_at}
-use Rattle.toml_reading.specs.Lowest.{AtKey, AtKeyOr, IsListOf, IsNumber, KeysFault, ListFault, entries_at, numbers_at}
+use Rattle.toml_reading.specs.Lowest.{AtKey, AtKeyOr, IsListOf, IsNumber, KeysFault, ListFault, entries_at}
 use Rattle.toml_reading.specs.Readings.{both, seen}
-use Rattle.toml_reading.proofs.LowestLemmas.{Judges, and_then_judged, joint, judged_as, judged_one, one_test, optional_judged, required_judged, seen_judged, two_tests}
+use Rattle.toml_reading.proofs.LowestLemmas.{Judges, and_then_judged, joint, judged_as, judged_one, optional_judged, required_judged, seen_judged, two_tests}
 use Rattle.toml_reading.proofs.LowestParts.{entries_state, keys_judged, number_or_judged, number_read, numbers_read, some_weaker, tables_judged}
 use Rattle.machine_file.specs.MachineFaults.{machine_faults, number_of}
-use Rattle.machine_file.specs.MachineFile.{Read, are_single, controller_in, controller_of, event_at, events_in, flags_at, flags_in, is_mappable, machine_in, mapped, mode_at, mode_in, once, page_at, pages_in, pc_at, pc_in, processor_in, processor_of, registers_at, registers_in, schedule_in, schedule_of, set_flags, size_at, size_in, stated_of, put_words_in}
+use Rattle.machine_file.specs.MachineFile.{Read, are_single, controller_in, controller_of, event_at, events_in, flags_at, flags_in, is_mappable, machine_in, mapped, mode_at, mode_in, page_at, pages_in, pc_at, pc_in, processor_in, processor_of, registers_at, registers_in, schedule_in, schedule_of, set_flags, size_at, size_in, stated_of, put_words_in}
 use Rattle.machine_file.specs.MachineFaultRules.{IsPageTwice, IsStepTwice, IsUnmappable, are_below, page_numbers}
 use Rattle.machine_file.specs.MachineRules.{AreFlags, AreRegisters, IsAddress, IsEvent, IsNamed, IsPage, IsSize, IsWord, StatesController, StatesMachine, StatesProcessor, StatesSchedule}
 use Rattle.machine_file.specs.Names.{file_keys, map_keys, named_mode}
@@ -27,6 +27,7 @@ use Rattle.machine_file.specs.declared.machine_faults.MachineFileFault.TheVarian
 use Rattle.machine_file.specs.declared.pages.MappedPage.{MappedPage}
 use Rattle.machine_file.proofs.MachineValueLemmas.{address_judged, event_judged, event_low, flags_judged, named_judged, page_judged, page_low, registers_judged, size_judged, size_low, list_low, some_low}
 use Rattle.machine_file.proofs.KeyFaults.{AddressFault, EventFault, FlagsFault, HasKeyFault, NameFault, PageFault, RegistersFault, SizeFault, UpToFault, WordFault}
+use Rattle.machine_file.proofs.OnceLemmas.{once_judged}
 use Rattle.machine_file.proofs.PutWordLemmas.{WordTwiceFault, WordsFault, WordsStates, words_judged}
 
 -- ## The processor
@@ -328,49 +329,21 @@ module _ (ms : Members) where
   abbrev StepFault : MachineFileFault → Type 0
   StepFault f = IsStepTwice ms × (f ≡ Twice)
 
-  step_numbers : (events : List (ℕ × Event)) → EventStates events
-      → numbers_at (codes "step") (entries_at (codes "event") ms) ≡ keys_of events
-  step_numbers events s =
-      numbers_read
-      IsEvent
-      (codes "step")
-      (λ (e : ℕ × Event). e.0)
-      (λ d e h. number_read 65535 e.0 (codes "step") d (some_weaker _ _ (λ t x. x.1.0) (as_table d) h))
-      (entries_at (codes "event") ms)
-      events
-      (entries_state IsEvent (codes "event") ms events s)
-
-  once_iff : (events : List (ℕ × Event)) → EventStates events
-      → are_distinct (keys_of events) ≡ false ↔ IsStepTwice ms
-  once_iff events s = (
-    λ e. ap are_distinct (step_numbers events s) ∙ e,
-    λ e. ap are_distinct (sym (step_numbers events s)) ∙ e,
-  )
-
-  events_higher : (x y : MachineFileFault) → EventsFault x → StepFault y → number_of x ≤ number_of y
-  events_higher x y h late =
-      let low = some_low x _ (list_low x EventFault (event_low x)) (get_member (codes "event") ms) h in
-      let r : number_of y ≡ 6 = ap number_of late.1 in
-      omega (arith, low, r)
-
   abbrev OnceStates : List (ℕ × Event) → Type 0
   OnceStates events = EventStates events × (are_distinct (keys_of events) ≡ true)
 
-  abbrev Once : List (ℕ × Event) → List (ℕ × Event) → Type 0
-  Once a b = (b ≡ a) × (are_distinct (keys_of a) ≡ true)
-
   events_judged : Judges machine_faults OnceStates (λ f. EventsFault f ⊎ StepFault f) (events_in ms)
   events_judged =
-      judged_as
-      machine_faults
-      (λ b. (c : List (ℕ × Event)) × EventStates c × Once c b)
-      OnceStates
-      (λ f. EventsFault f ⊎ StepFault f)
-      (λ f. EventsFault f ⊎ StepFault f)
-      (λ b. (λ t. subst OnceStates (sym t.2.0) (t.1, t.2.1), λ w. (b, w.0, (refl, w.1))))
-      (λ f. (λ h. h, λ h. h))
-      (events_in ms)
-      (and_then_judged machine_faults EventStates EventsFault StepFault Once once (λ a s. one_test machine_faults a (are_distinct (keys_of a)) (IsStepTwice ms) (once_iff a s) Twice) events_higher _ (tables_judged machine_faults IsEvent EventFault event_at event_judged (codes "event") ms))
+      once_judged
+      IsEvent
+      EventFault
+      event_at
+      event_judged
+      event_low
+      (codes "step")
+      (λ d e h. number_read 65535 e.0 (codes "step") d (some_weaker _ _ (λ t x. x.1.0) (as_table d) h))
+      (codes "event")
+      ms
 
   abbrev StepsStates : ℕ → Type 0
   StepsStates n = AtKeyOr (codes "steps") ms (n ≡ 65536) (λ d. IsNumber 65536 d n)

@@ -1,5 +1,5 @@
 -- What is read of the words that are put into memory, against what they state and their faults.
-use Rattle.std.proofs.Common.{◌≡◌, ℕ, ℤ, pos, ◌≤◌, ◌⊎◌, ◌↔◌, true, false, List, [], ◌∷◌, codes, Ok, inl, inr, refl, sym, ap, subst, ◌∙◌, arith, All}
+use Rattle.std.proofs.Common.{◌≡◌, ℕ, ℤ, pos, ◌⊎◌, true, List, [], ◌∷◌, codes, Ok, inl, inr, refl, arith, All}
 use Rattle.std.specs.Prelude.{IsTrue}
 use Rattle.std.specs.List.{AllZip}
 use Rattle.std.specs.Map.{keys_of}
@@ -7,21 +7,22 @@ use Rattle.std.proofs.lemmas.List.Elements.{All-cons}
 use Rattle.toml.specs.Data.{Data, Members, as_integer, as_table, get_member}
 use Rattle.loader.specs.Image.{may_hold}
 use Rattle.toml_reading.specs.Documents.{are_distinct, tables_at}
-use Rattle.toml_reading.specs.Lowest.{AtKey, AtKeyOr, IsListOf, ListFault, entries_at, numbers_at}
+use Rattle.toml_reading.specs.Lowest.{AtKey, AtKeyOr, IsListOf, ListFault, entries_at}
 use Rattle.toml_reading.specs.Readings.{both}
 use Rattle.toml_reading.proofs.AddressLemmas.{tested_judged}
-use Rattle.toml_reading.proofs.LowestLemmas.{Judges, and_then_judged, joint, judged_as, judged_value, one_test, required_judged}
-use Rattle.toml_reading.proofs.LowestParts.{entries_state, number_read, numbers_read, some_weaker, table_judged, tables_judged}
-use Rattle.machine_file.specs.MachineFaults.{machine_faults, number_of}
-use Rattle.machine_file.specs.MachineFile.{once, word_address_at, word_address_in, word_address_of, put_word_at, word_in, put_words_in}
+use Rattle.toml_reading.proofs.LowestLemmas.{Judges, joint, judged_value, required_judged}
+use Rattle.toml_reading.proofs.LowestParts.{entries_state, number_read, some_weaker, table_judged, tables_judged}
+use Rattle.machine_file.specs.MachineFaults.{machine_faults}
+use Rattle.machine_file.specs.MachineFile.{word_address_at, word_address_in, word_address_of, put_word_at, word_in, put_words_in}
 use Rattle.machine_file.specs.MachineFaultRules.{IsNoWordAddress, IsWordTwice}
 use Rattle.machine_file.specs.MachineRules.{IsWordAddress, IsPutWord}
 use Rattle.machine_file.specs.Names.{word_keys}
 use Rattle.machine_file.specs.declared.machine_faults.MachineFileFault.{MachineFileFault}
 use Rattle.machine_file.specs.declared.machine_faults.MachineFileFault.TheVariants.{OutOfRange, Twice}
-use Rattle.machine_file.proofs.MachineValueLemmas.{IsLow, Word, list_low, low_at, match_low, needs_low, some_low, table_low, word}
+use Rattle.machine_file.proofs.MachineValueLemmas.{IsLow, Word, low_at, match_low, needs_low, table_low, word}
 use Rattle.machine_file.proofs.FaultTableLemmas.{some_fact}
 use Rattle.machine_file.proofs.KeyFaults.{NeedsWordAddress, WordAddressFault, PutWordFault, PutWordFaults}
+use Rattle.machine_file.proofs.OnceLemmas.{once_judged}
 
 -- ## Addresses
 
@@ -96,48 +97,21 @@ module _ (ms : Members) where
       Judges machine_faults WordsListed WordsFault (tables_at machine_faults put_word_at (get_member (codes "word") ms))
   listed_judged = tables_judged machine_faults IsPutWord PutWordFault put_word_at put_word_judged (codes "word") ms
 
-  word_addresses : (words : List (ℕ × ℕ)) → WordsListed words
-      → numbers_at (codes "at") (entries_at (codes "word") ms) ≡ keys_of words
-  word_addresses words s =
-      numbers_read
-      IsPutWord
-      (codes "at")
-      (λ (e : ℕ × ℕ). e.0)
-      (λ d e h. number_read e.0 e.0 (codes "at") d (some_weaker _ _ (λ t x. some_weaker _ _ (λ v p. some_weaker _ _ (λ z q. (q.0, omega arith)) (as_integer v) p) (get_member (codes "at") t) x.1.0) (as_table d) h))
-      (entries_at (codes "word") ms)
-      words
-      (entries_state IsPutWord (codes "word") ms words s)
-
-  once_iff : (words : List (ℕ × ℕ)) → WordsListed words → are_distinct (keys_of words) ≡ false ↔ IsWordTwice ms
-  once_iff words s = (
-    λ e. ap are_distinct (word_addresses words s) ∙ e,
-    λ e. ap are_distinct (sym (word_addresses words s)) ∙ e,
-  )
-
-  words_higher : (x y : MachineFileFault) → WordsFault x → WordTwiceFault y → number_of x ≤ number_of y
-  words_higher x y h late =
-      let low = some_low x _ (list_low x PutWordFault (put_word_low x)) (get_member (codes "word") ms) h in
-      let r : number_of y ≡ 6 = ap number_of late.1 in
-      omega (arith, low, r)
-
   abbrev pub WordsStates : List (ℕ × ℕ) → Type 0
   WordsStates words = WordsListed words × (are_distinct (keys_of words) ≡ true)
 
-  abbrev Once : List (ℕ × ℕ) → List (ℕ × ℕ) → Type 0
-  Once a b = (b ≡ a) × (are_distinct (keys_of a) ≡ true)
-
   pub words_judged : Judges machine_faults WordsStates (λ f. WordsFault f ⊎ WordTwiceFault f) (put_words_in ms)
   words_judged =
-      judged_as
-      machine_faults
-      (λ b. (c : List (ℕ × ℕ)) × WordsListed c × Once c b)
-      WordsStates
-      (λ f. WordsFault f ⊎ WordTwiceFault f)
-      (λ f. WordsFault f ⊎ WordTwiceFault f)
-      (λ b. (λ t. subst WordsStates (sym t.2.0) (t.1, t.2.1), λ w. (b, w.0, (refl, w.1))))
-      (λ f. (λ h. h, λ h. h))
-      (put_words_in ms)
-      (and_then_judged machine_faults WordsListed WordsFault WordTwiceFault Once once (λ a s. one_test machine_faults a (are_distinct (keys_of a)) (IsWordTwice ms) (once_iff a s) Twice) words_higher _ listed_judged)
+      once_judged
+      IsPutWord
+      PutWordFault
+      put_word_at
+      put_word_judged
+      put_word_low
+      (codes "at")
+      (λ d e h. number_read e.0 e.0 (codes "at") d (some_weaker _ _ (λ t x. some_weaker _ _ (λ v p. some_weaker _ _ (λ z q. (q.0, omega arith)) (as_integer v) p) (get_member (codes "at") t) x.1.0) (as_table d) h))
+      (codes "word")
+      ms
 
 -- ## Where the words stand
 

@@ -5,7 +5,7 @@ use Rattle.std.specs.Cmp.Lexicographic.{slice_cmp}
 use Rattle.std.specs.List.{AllByRecursion, list_all, zip}
 use Rattle.std.specs.Ordering.{match_ordering}
 use Rattle.std.specs.String.{string_cmp}
-use Rattle.std.proofs.lemmas.Bool.{and_parts, false≢true}
+use Rattle.std.proofs.lemmas.Bool.{and_parts, false≢true, not-true}
 use Rattle.std.proofs.lemmas.List.{get_or-map, length-map}
 use Rattle.std.proofs.lemmas.Cmp.{alike_right, nat_list_cmp_total, tied_itself}
 use Rattle.toml.specs.Data.{Data, Members, depth, get_member, member, members_depth, no_members, same_key, table}
@@ -88,14 +88,10 @@ all_differ (k ∷ ks) = list_all (differ k) ks && all_differ ks
 abbrev pub row_keys : List Row → List (List ℕ)
 row_keys rows = map (λ r. r.0) rows
 
-not_true : (b : Bool) → not b ≡ true → b ≡ false
-not_true false h = refl
-not_true true h = absurd (cc)
-
 differ_parts : (k l : List ℕ) → differ k l ≡ true → (same_key k l ≡ false) × (same_key l k ≡ false)
 differ_parts k l h =
     let parts = and_parts (not (same_key k l)) (not (same_key l k)) h in
-    (not_true (same_key k l) parts.0, not_true (same_key l k) parts.1)
+    (not-true (same_key k l) parts.0, not-true (same_key l k) parts.1)
 
 -- a key that is none of the rows' stays as it is
 kept : (k : List ℕ) (rows : List Row) (ms : Members) → list_all (differ k) (row_keys rows) ≡ true

@@ -107,6 +107,16 @@ module _ (exit : ℕ) (edges : List NumberedEdge) (tree : List Span) (c : Tables
   always true n = refl
   always false n = refl
 
+  -- a walk to a number that takes all its rounds costs its total, and keeps the bounds
+  pub reach_costs : (p : ℕ) (r : R.Reach edges tree (λ i. i.bound) (distance_of c) (arrival_of c) (round_of c) None p) → cost_of r.walk ≡ total_of tree c p
+  reach_costs p r =
+      let sums : sum_by (λ i. cond (is_in i p && true) (stay_of c i) 0) tree ≡ sum_by (λ i. cond (is_in i p) (stay_of c i) 0) tree =
+      sum_by-same_all (λ i. cond (is_in i p && true) (stay_of c i) 0) (λ i. cond (is_in i p) (stay_of c i) 0) tree (λ i i_in. always (is_in i p) (stay_of c i)) in
+      omega (arith, r.cost, sums)
+
+  pub reach_keeps : (p : ℕ) (r : R.Reach edges tree (λ i. i.bound) (distance_of c) (arrival_of c) (round_of c) None p) → KeepsBounds tree r.walk
+  reach_keeps p r = λ i i_in. keeps_from_most (is_inside i) (ends_at_header i) i.bound r.walk (r.kept i i_in)
+
   -- a walk to the number that keeps the bounds and costs its total
   pub record WalkTo (p : ℕ) : Type 0 where
     pub walk : List NumberedEdge
@@ -117,14 +127,7 @@ module _ (exit : ℕ) (edges : List NumberedEdge) (tree : List Span) (c : Tables
   pub walk_to : (p : ℕ) → p < exit + 1 → WalkTo p
   walk_to p placed =
       let r : R.Reach edges tree (λ i. i.bound) (distance_of c) (arrival_of c) (round_of c) None p = reached exit edges tree (length tree) (exit + 1) c order pass (omega arith) (λ i. i.bound) (distance_of c) (λ x. refl) (λ x. refl) p placed in
-      let sums : sum_by (λ i. cond (is_in i p && true) (stay_of c i) 0) tree ≡ sum_by (λ i. cond (is_in i p) (stay_of c i) 0) tree =
-      sum_by-same_all (λ i. cond (is_in i p && true) (stay_of c i) 0) (λ i. cond (is_in i p) (stay_of c i) 0) tree (λ i i_in. always (is_in i p) (stay_of c i)) in
-      record {
-        walk = r.walk;
-        leads = r.leads;
-        kept = λ i i_in. keeps_from_most (is_inside i) (ends_at_header i) i.bound r.walk (r.kept i i_in);
-        costs = omega (arith, r.cost, sums);
-      }
+      record { walk = r.walk; leads = r.leads; kept = reach_keeps p r; costs = reach_costs p r }
 
   pub total-exit : total_of tree c exit ≡ c.bound
   total-exit =

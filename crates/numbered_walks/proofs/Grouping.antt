@@ -89,30 +89,31 @@ numbered : (edges : List NumberedEdge) (e : NumberedEdge) (at : Contains edges e
 numbered edges e at = get_or_default edges at.0 (record { from = 0; to = 0; cost = 0 }) e at.1 ∙ at.2
 
 module _ (edges : List NumberedEdge) (groups : List (Vec ℕ Global)) (p : ℕ) (d : Vec ℕ Global) (small : p < length groups) where
-  pub entering_edges : AreGrouped edges (length edges) true groups → (e : NumberedEdge) → Contains (edges_of edges (get_or groups p d).items) e ↔ (Contains edges e × (e.to ≡ p) × (e.from < p))
-  entering_edges all e = (
+  -- the edges of a group, by whether they go up
+  group_edges : (up : Bool) → AreGrouped edges (length edges) up groups → (e : NumberedEdge)
+      → Contains (edges_of edges (get_or groups p d).items) e ↔ (Contains edges e × (e.to ≡ p) × (is_up e ≡ up))
+  group_edges up all e = (
     λ at.
         let by = edge_in edges (get_or groups p d).items e at in
         let known = (all p d small by.0).0 by.1 in
-        subst (λ (x : NumberedEdge). Contains edges x × (x.to ≡ p) × (x.from < p)) by.2
-        (edge_at-in edges by.0 known.0, known.1, omega (arith, known.1, ltb-true (edge_at edges by.0).from (edge_at edges by.0).to known.2)),
+        subst (λ (x : NumberedEdge). Contains edges x × (x.to ≡ p) × (is_up x ≡ up)) by.2 (edge_at-in edges by.0 known.0, known.1, known.2),
     λ known.
         let k = known.0.0 in
         let is : edge_at edges k ≡ e = numbered edges e known.0 in
         subst (λ (x : NumberedEdge). Contains (edges_of edges (get_or groups p d).items) x) is
-        (edge_of edges (get_or groups p d).items k ((all p d small k).1 (known.0.1, ap (λ (x : NumberedEdge). x.to) is ∙ known.1, ap is_up is ∙ lt-ltb e.from e.to (omega (arith, known.1, known.2))))),
+        (edge_of edges (get_or groups p d).items k ((all p d small k).1 (known.0.1, ap (λ (x : NumberedEdge). x.to) is ∙ known.1, ap is_up is ∙ known.2))),
   )
 
+  pub entering_edges : AreGrouped edges (length edges) true groups → (e : NumberedEdge) → Contains (edges_of edges (get_or groups p d).items) e ↔ (Contains edges e × (e.to ≡ p) × (e.from < p))
+  entering_edges all e =
+      let group = group_edges true all e in (
+        λ at. let known = group.0 at in (known.0, known.1, omega (arith, known.1, ltb-true e.from e.to known.2)),
+        λ known. group.1 (known.0, known.1, lt-ltb e.from e.to (omega (arith, known.1, known.2))),
+      )
+
   pub turning_edges : AreGrouped edges (length edges) false groups → (e : NumberedEdge) → Contains (edges_of edges (get_or groups p d).items) e ↔ (Contains edges e × (e.to ≡ p) × (p ≤ e.from))
-  turning_edges all e = (
-    λ at.
-        let by = edge_in edges (get_or groups p d).items e at in
-        let known = (all p d small by.0).0 by.1 in
-        subst (λ (x : NumberedEdge). Contains edges x × (x.to ≡ p) × (p ≤ x.from)) by.2
-        (edge_at-in edges by.0 known.0, known.1, omega (arith, known.1, ltb-false (edge_at edges by.0).from (edge_at edges by.0).to known.2)),
-    λ known.
-        let k = known.0.0 in
-        let is : edge_at edges k ≡ e = numbered edges e known.0 in
-        subst (λ (x : NumberedEdge). Contains (edges_of edges (get_or groups p d).items) x) is
-        (edge_of edges (get_or groups p d).items k ((all p d small k).1 (known.0.1, ap (λ (x : NumberedEdge). x.to) is ∙ known.1, ap is_up is ∙ le-ltb e.from e.to (omega (arith, known.1, known.2))))),
-  )
+  turning_edges all e =
+      let group = group_edges false all e in (
+        λ at. let known = group.0 at in (known.0, known.1, omega (arith, known.1, ltb-false e.from e.to known.2)),
+        λ known. group.1 (known.0, known.1, le-ltb e.from e.to (omega (arith, known.1, known.2))),
+      )

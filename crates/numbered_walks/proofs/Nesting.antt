@@ -47,6 +47,12 @@ only_once f (x ∷ xs) pairs i (suc k) inside at_k =
 header_differs : (j k : Span) → not (eqb j.header k.header) ≡ true → j.header ≢ k.header
 header_differs j k differ same = true≢false (sym differ ∙ rw (eq-eqb j.header k.header same) refl)
 
+-- a test that implies another counts no more than it
+pub cond_le : (a b : Bool) → (a ≡ true → b ≡ true) → cond {A = ℕ} a 1 0 ≤ cond {A = ℕ} b 1 0
+cond_le true b up = rw (up refl) (omega arith)
+cond_le false true up = omega arith
+cond_le false false up = omega arith
+
 module _ (exit : ℕ) (edges : List NumberedEdge) (tree : List Span) (n : IsOrdered exit edges tree) (taken : Span → ℕ) (dist : ℕ → ℕ) (arr rnd : Span → ℕ) where
   record Crossing (j : Span) : Type 0 where
     edge : NumberedEdge
@@ -138,18 +144,13 @@ module _ (exit : ℕ) (edges : List NumberedEdge) (tree : List Span) (n : IsOrde
       and_from (is_in k j.header) (not (eqb j.header k.header)) (is_within k i here i_in one j.header parts.0)
       (rw (ne_eqb j.header k.header (λ same. both_ways (is_in i k.header) (is_apart k i here i_in one) (subst (λ (x : ℕ). is_in i x ≡ true) same parts.0))) refl)
 
-  below_pick : (x y : Bool) → (x ≡ true → y ≡ true) → cond {A = ℕ} x 1 0 ≤ cond {A = ℕ} y 1 0
-  below_pick true y up = rw (up refl) (omega arith)
-  below_pick false true up = omega arith
-  below_pick false false up = omega arith
-
   not_below_itself : (i : Span) → below_in (Some i) i ≡ false
   not_below_itself i = rw (eq-eqb i.header i.header refl) (and_right (is_in i i.header) false refl)
 
   pub level_lower : (c : Option Span) (i : Span) → InTree edges tree taken dist arr rnd c → Contains tree i → below_in c i ≡ true → level (Some i) < level c
   level_lower c i here i_in is_below =
       let up : All (λ j. cond {A = ℕ} (below_in (Some i) j) 1 0 ≤ cond {A = ℕ} (below_in c j) 1 0) tree =
-      λ k d inside. below_pick (below_in (Some i) (get_or tree k d)) (below_in c (get_or tree k d)) (λ yes. below_trans c here i (get_or tree k d) i_in (Contains-get_or tree k d inside) is_below yes) in
+      λ k d inside. cond_le (below_in (Some i) (get_or tree k d)) (below_in c (get_or tree k d)) (λ yes. below_trans c here i (get_or tree k d) i_in (Contains-get_or tree k d inside) is_below yes) in
       let here_more : cond {A = ℕ} (below_in (Some i) i) 1 0 + 1 ≤ cond {A = ℕ} (below_in c i) 1 0 = rw (not_below_itself i, is_below) (omega arith) in
       let more : level (Some i) + 1 ≤ level c = sum_by-le_contains (λ j. cond (below_in (Some i) j) 1 0) (λ j. cond (below_in c j) 1 0) 1 tree i i_in up here_more in
       omega arith

@@ -1,12 +1,12 @@
 -- An edge more, and what the times are.
-use Rattle.std.proofs.Common.{◌≡◌, ◌∙◌, ℕ, zero, suc, ◌+◌, ◌*◌, ◌^◌, ◌<◌, ◌≤◌, Bool, true, false, cond, List, [], ◌∷◌, ◌++◌, length, get_or, refl, sym, ap, subst, arith, add-one}
+use Rattle.std.proofs.Common.{◌≡◌, ◌∙◌, ℕ, ◌+◌, ◌^◌, ◌<◌, ◌≤◌, Bool, true, false, cond, List, [], ◌∷◌, length, get_or, refl, sym, ap, subst, arith}
 use Rattle.std.specs.Prelude.{All, count_by, if◌then◌else◌, sum_by}
 use Rattle.std.specs.BTreeMap.{BTreeMap}
-use Rattle.std.specs.List.{range_with_len}
 use Rattle.std.proofs.lemmas.List.Elements.{All-head, All-tail, All-weaker}
 use Rattle.std.proofs.lemmas.List.{get_or_default}
-use Rattle.std.proofs.lemmas.List.Sums.{sum_by-cons, sum_by_push}
+use Rattle.std.proofs.lemmas.List.Sums.{sum_by-cons}
 use Rattle.explained.specs.Taken.{in_all}
+use Rattle.explained.proofs.TallyLaws.{counts_not, counts_once}
 use Rattle.flow_graph.specs.declared.places.Place.TheVariants.{Exit}
 use Rattle.flow_graph.specs.declared.edges.Edge.{Edge}
 use Rattle.flow_graph.specs.Flow.{Flow, HasEdge, IsWellFormed, edge_shape}
@@ -23,32 +23,13 @@ use Rattle.walk_counts.proofs.NumberLemmas.{known_edge}
 use Rattle.walk_counts.proofs.SumLemmas.{sums_by_number}
 use Rattle.savings.specs.Carried.{Adds, AreTimes, HasAdded, carries_out, done_at, times_by, times_done, times_in}
 
-range_push : (n a : ℕ) → range_with_len a (suc n) ≡ range_with_len a n ++ (a + n) ∷ []
-range_push zero a = ap (λ k. k ∷ []) (omega arith)
-range_push (suc n) a = ap (λ ks. a ∷ ks) (range_push n (a + 1) ∙ ap (λ k. range_with_len (a + 1) n ++ k ∷ []) (omega arith))
-
-in_all_more : (edges walk : List Edge) (i : ℕ) (number : Edge → ℕ) → in_all edges walk (i + 1) number ≡ in_all edges walk i number + occurrences edges walk i * number (step_at edges i)
-in_all_more edges walk i number =
-    let term = λ (k : ℕ). occurrences edges walk k * number (step_at edges k) in
-    ap (λ n. sum_by term (range_with_len 0 n)) (add-one i) ∙ ap (sum_by term) (range_push i 0) ∙ sum_by_push term (range_with_len 0 i) (0 + i) ∙ ap (λ k. sum_by term (range_with_len 0 i) + term k) (omega arith)
-
 -- ## An edge more
 
 module _ (edges walk : List Edge) (i : ℕ) (count : ℕ) (count_is : count ≡ capped (occurrences edges walk i)) (a : ℕ) where
   one : (b : Bool) → carries_out a (step_at edges i) ≡ b
       → (if b then capped (times_by edges walk i a + count) else times_by edges walk i a) ≡ times_by edges walk (i + 1) a
-  one true here =
-      let s = in_all edges walk i (done_at a) in
-      let n = occurrences edges walk i in
-      let once : n * done_at a (step_at edges i) ≡ n = ap (λ b. n * cond b 1 0) here ∙ omega arith in
-      let sum : capped (capped s + capped n) ≡ capped (s + n) = omega arith in
-      ap (λ c. capped (capped s + c)) count_is ∙ sum ∙ ap (λ m. capped (s + m)) (sym once) ∙ ap capped (sym (in_all_more edges walk i (done_at a)))
-  one false apart =
-      let s = in_all edges walk i (done_at a) in
-      let n = occurrences edges walk i in
-      let never : n * done_at a (step_at edges i) ≡ 0 = ap (λ b. n * cond b 1 0) apart ∙ omega arith in
-      let same : s ≡ s + 0 = omega arith in
-      ap capped (same ∙ ap (λ m. s + m) (sym never) ∙ sym (in_all_more edges walk i (done_at a)))
+  one true here = counts_once edges walk i (done_at a) count count_is (ap (λ b. cond b 1 0) here)
+  one false apart = counts_not edges walk i (done_at a) (ap (λ b. cond b 1 0) apart)
 
 pub one_added : (edges walk : List Edge) (i : ℕ) (e : Edge) (count : ℕ) (old new : BTreeMap ℕ ℕ) → i < length edges → e ≡ get_or edges i e
     → count ≡ capped (occurrences edges walk i) → HasAdded edges walk i old → Adds e count old new → HasAdded edges walk (i + 1) new

@@ -3,7 +3,7 @@ use Rattle.std.proofs.Common.{◌≡◌, ◌⊎◌, ◌↔◌, ◌≤◌, ℕ, L
 use Rattle.std.specs.Prelude.{codes}
 use Rattle.std.specs.Map.{keys_of}
 use Rattle.std.specs.Cmp.Derive.{both_true}
-use Rattle.std.proofs.lemmas.Bool.{and_parts, cases_Bool, false≢true}
+use Rattle.std.proofs.lemmas.Bool.{and_parts, cases_Bool, false_from_ne_true, false≢true}
 use Rattle.toml.specs.Data.{Data, Members, as_table, get_member}
 use Rattle.bus_ticks.specs.declared.profile.Class.TheVariants.{Any}
 use Rattle.toml_reading.specs.Documents.{are_distinct, has_only_keys}
@@ -21,7 +21,7 @@ use Rattle.statement.specs.StatementFaults.{number_of, statement_faults}
 use Rattle.statement.specs.declared.faults.StatementFault.{StatementFault}
 use Rattle.statement.specs.declared.faults.StatementFault.TheVariants.{Memory, NotToml, UnknownKey, WrongKind, UnknownLabel, OutOfRange, Twice}
 use Rattle.statement.proofs.RuleLemmas.{address_in_judged, one_address, word_judged}
-use Rattle.statement.proofs.TableLemmas.{access_judged, loop_judged, not_true, six_in_line, target_judged, twice_last}
+use Rattle.statement.proofs.TableLemmas.{access_judged, loop_judged, six_in_line, target_judged, twice_last}
 
 -- ## Faults differ in their numbers
 
@@ -204,7 +204,7 @@ module _ (names : Names) where
   two_of : (ms : Members) (f : StatementFault) → SingleFault ms f → TwoFault ms f
   two_of ms f u = (
     elim (cases_Bool (are_distinct (keys_of u.0.1.0))) [
-      | inl one ↦ inr ((accesses_two ms u.0 u.1).0 (not_true (are_distinct (keys_of u.0.1.1)) (λ e. u.2.0 (one, e))))
+      | inl one ↦ inr ((accesses_two ms u.0 u.1).0 (false_from_ne_true (are_distinct (keys_of u.0.1.1)) (λ e. u.2.0 (one, e))))
       | inr two ↦ inl ((targets_two ms u.0 u.1).0 two)
     ],
     u.2.1,

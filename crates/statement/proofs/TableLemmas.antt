@@ -3,7 +3,7 @@ use Rattle.std.proofs.Common.{◌≡◌, ◌≢◌, ℕ, ℤ, ◌<◌, ◌≤◌
 use Rattle.std.specs.Prelude.{codes}
 use Rattle.std.specs.List.{AllZip}
 use Rattle.std.specs.Cmp.Derive.{both_true}
-use Rattle.std.proofs.lemmas.Bool.{and_parts, eqb-true, false≢true, le-leb, leb-true}
+use Rattle.std.proofs.lemmas.Bool.{and_parts, eqb-true, false_from_ne_true, false≢true, le-leb, leb-true}
 use Rattle.std.proofs.lemmas.List.{nil_from_length}
 use Rattle.std.proofs.lemmas.Option.{none-some}
 use Rattle.toml.specs.Data.{Data, Members, as_integer, get_member}
@@ -24,15 +24,11 @@ use Rattle.statement.specs.declared.faults.StatementFault.{StatementFault}
 use Rattle.statement.specs.declared.faults.StatementFault.TheVariants.{Memory, WrongKind, OutOfRange, Twice}
 use Rattle.statement.specs.declared.stated.Loop.{Loop}
 use Rattle.statement.specs.declared.stated.TargetKind.{TargetKind}
-use Rattle.statement.specs.declared.stated.TargetKind.TheVariants.{Jump, Call, Return, Leave}
+use Rattle.statement.specs.declared.stated.TargetKind.TheVariants.{Return, Leave}
 use Rattle.statement.proofs.RuleLemmas.{address_in_judged, address_judged, one_address, word_in_judged}
 
 cons-nil : {A : Type 0} (x : A) (xs : List A) → x ∷ xs ≡ [] → ⊥
 cons-nil x xs e = cc
-
-pub not_true : (b : Bool) → b ≢ true → b ≡ false
-not_true true n = absurd (n refl)
-not_true false n = refl
 
 -- ## The order of the faults
 
@@ -352,7 +348,7 @@ module _ (names : Names) where
       ))
       (λ f. (λ y. inr y, λ y. elim y [ inl z ↦ absurd (ne z.0) | inr y' ↦ y' ]))
       (and_then (listed_up_to statement_faults 64 (address_at names) ds) once)
-      (widened_judged statement_faults _ (ReadFault ds) (λ f. (c : List ℕ) × AreRead ds c × ((are_distinct c ≢ true) × (f ≡ Twice))) (λ f. StandsTwice (IsAddress names) ds × (f ≡ Twice)) (λ f u. ((not_distinct (IsAddress names) (one_address names) ds u.0 u.1.1).0 (not_true (are_distinct u.0) u.2.0), u.2.1)) (twice_under ds) (and_then (listed_up_to statement_faults 64 (address_at names) ds) once) (once_judged ds))
+      (widened_judged statement_faults _ (ReadFault ds) (λ f. (c : List ℕ) × AreRead ds c × ((are_distinct c ≢ true) × (f ≡ Twice))) (λ f. StandsTwice (IsAddress names) ds × (f ≡ Twice)) (λ f u. ((not_distinct (IsAddress names) (one_address names) ds u.0 u.1.1).0 (false_from_ne_true (are_distinct u.0) u.2.0), u.2.1)) (twice_under ds) (and_then (listed_up_to statement_faults 64 (address_at names) ds) once) (once_judged ds))
 
   by_length :
       (ds : List Data) (b : Bool)
@@ -393,27 +389,20 @@ module _ (names : Names) where
   none_is None = (λ e. refl, λ e. refl)
   none_is (Some d) = (λ e. absurd (false≢true e), λ e. absurd (none-some d (sym e)))
 
+  -- the last rule is that of a jump and of a call
   to_judged :
       (k : TargetKind) (o : Option Data)
       → Judges statement_faults (GoesTo names k o) (ToFault names k o) (destinations names o k)
-  to_judged Jump o =
-      required_judged
-      statement_faults
-      (AreDestinations names)
-      (DestinationsFault names)
-      (destinations_at names)
-      (λ d. listed_judged (items_at d))
-      o
-  to_judged Call o =
-      required_judged
-      statement_faults
-      (AreDestinations names)
-      (DestinationsFault names)
-      (destinations_at names)
-      (λ d. listed_judged (items_at d))
-      o
   to_judged Return o = test_judged statement_faults (o ≡ None) [] WrongKind (is_none o) (none_is o)
   to_judged Leave o = test_judged statement_faults (o ≡ None) [] WrongKind (is_none o) (none_is o)
+  to_judged _ o =
+      required_judged
+      statement_faults
+      (AreDestinations names)
+      (DestinationsFault names)
+      (destinations_at names)
+      (λ d. listed_judged (items_at d))
+      o
 
   directed_judged :
       (k : TargetKind) (o : Option Data)

@@ -1,5 +1,5 @@
 use Rattle.std.proofs.Common.{◌≤◌, ◌+◌, ℕ, List, get_or, length, sym, subst}
-use Rattle.explained.proofs.LinkLaws.{part_fits}
+use Rattle.longest_walk.proofs.PlaceParts.{part_fits}
 use Rattle.explained.proofs.links.part.Goals as goal
 
 pub returns-clause-fits : goal.returns-clause-fits

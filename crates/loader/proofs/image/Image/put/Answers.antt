@@ -9,14 +9,12 @@ pub invariant_of-self-2 : goal.invariant_of-self-2
 invariant_of-self-2 c =
     let a = c.args.address in
     let w = c.args.word in
-    let below = c.move_down.new.below.items in
-    let above = c.move_down.new.above.items in
     let words : Words = c.self.inside.below.items ++ c.self.inside.above.items in
     let allowed : put_fault words a w ≡ None = rw c.self.view_is c.in_ok-runs.ensures.allowed in
     let may = may_put words a w allowed in
-    let same : below ++ above ≡ words = c.in_ok-move_down.ensures.same ∙ c.in_ok-move_up.ensures.same in
-    let put = put_between words below above a w same c.in_ok-move_down.ensures.below c.in_ok-move_down.ensures.above may.free in
-    let new : c.push.new.self.items ++ above ≡ with_word words a w = ap (λ (xs : Words). xs ++ above) c.in_ok-push.ensures.items ∙ put in
+    let new : c.push.new.self.items ++ c.move_down.new.above.items ≡ with_word words a w =
+    put_between words _ _ _ a w (c.in_ok-move_down.ensures.same ∙ c.in_ok-move_up.ensures.same) c.in_ok-move_down.ensures.below
+    c.in_ok-move_down.ensures.above allowed c.in_ok-push.ensures.items in
     let counted : c.in_ok-runs.runs ≡ runs_of (with_word words a w) = rw c.self.view_is c.in_ok-runs.ensures.runs in
     record {
       ascends = subst Ascends (sym new) (Ascends-with_word words _ _ c.self.invariant.ascends may.free);
@@ -29,12 +27,9 @@ invariant_of-self-2 c =
 
 pub returns-clause-ok : goal.returns-clause-ok
 returns-clause-ok c =
-    let a = c.args.address in
-    let w = c.args.word in
-    let below = c.move_down.new.below.items in
-    let above = c.move_down.new.above.items in
     let words : Words = c.self.inside.below.items ++ c.self.inside.above.items in
-    let allowed : put_fault words a w ≡ None = rw c.self.view_is c.in_ok-runs.ensures.allowed in
-    let same : below ++ above ≡ words = c.in_ok-move_down.ensures.same ∙ c.in_ok-move_up.ensures.same in
-    let put = put_between words below above a w same c.in_ok-move_down.ensures.below c.in_ok-move_down.ensures.above (may_put words a w allowed).free in
-    rw (← c.self.view_is) (ap (λ (xs : Words). xs ++ above) c.in_ok-push.ensures.items ∙ put, allowed)
+    let allowed : put_fault words c.args.address c.args.word ≡ None = rw c.self.view_is c.in_ok-runs.ensures.allowed in
+    let new =
+    put_between words _ _ _ _ _ (c.in_ok-move_down.ensures.same ∙ c.in_ok-move_up.ensures.same) c.in_ok-move_down.ensures.below
+    c.in_ok-move_down.ensures.above allowed c.in_ok-push.ensures.items in
+    rw (← c.self.view_is) (new, allowed)
