@@ -1,5 +1,5 @@
 -- A verdict and the refusals of a check, from what is found of the three texts.
-use Rattle.std.proofs.Common.{◌≡◌, ◌≢◌, ◌⊎◌, ◌∙◌, ℕ, List, Option, Result, Err, refl, sym, ap, subst, inl}
+use Rattle.std.proofs.Common.{◌≡◌, ◌⊎◌, ◌∙◌, ℕ, List, Option, Result, Err, refl, sym, ap, subst, inl}
 use Rattle.std.specs.Prelude.{IsErrOf}
 use Rattle.std.specs.Result.{IsErrAnd}
 use Rattle.bus_ticks.specs.declared.profile.Profile.{Profile}
@@ -21,7 +21,7 @@ use Rattle.bound_reports.specs.Check.{IsCheckRefused, IsCheckable, IsJudged}
 use Rattle.report_output.specs.Answers.{Answers}
 use Rattle.report_output.specs.Faults.{of_cert}
 use Rattle.report_output.proofs.AnswerLemmas.{ends_early}
-use Rattle.report_input.specs.Report.{HasLoops, IsHandlerRefused, IsReport, IsTreeOf}
+use Rattle.report_input.specs.Report.{BeforeOutput, HasLoops, IsHandlerRefused, IsReport, IsTreeOf}
 use Rattle.report_output.specs.declared.fault.ReportFault.{ReportFault}
 use Rattle.report_output.specs.declared.fault.ReportFault.TheVariants.{Memory, Device}
 use Rattle.report_output.specs.declared.fault.ReportFault.TheVariants as report_fault
@@ -31,7 +31,7 @@ use Rattle.report_input.proofs.ReportLemmas.{tree_is_greatest}
 -- ## Refusals
 
 -- what refuses a source and a statement up to the loops refuses a check
-pub check_refusal : (source statement text : List ℕ) (profile : Profile) (e : ReportFault) → IsHandlerRefused source statement profile e → (e ≢ Device) × IsCheckRefused source statement text profile e
+pub check_refusal : (source statement text : List ℕ) (profile : Profile) (e : ReportFault) → IsHandlerRefused source statement profile e → BeforeOutput (IsCheckRefused source statement text profile) e
 check_refusal source statement text profile Memory h = (λ e. cc e, tt)
 check_refusal source statement text profile Device h = absurd h
 check_refusal source statement text profile (report_fault.Cert f) h = absurd h
@@ -44,7 +44,7 @@ checkable_refusal source statement text profile e h a = handler_refusals source 
 -- a fault of the text
 pub cert_refusal : (source statement text : List ℕ) (profile : Profile) (st : Stated) (flow : Flow) (f : CertFault) → HasLoops source statement profile st flow
     → ((n : ℕ) → IsErrOf {T = Cert} (Err f) (cert_fault.BadLine n) → HasBadLine text n) → (IsErrOf {T = Cert} (Err f) cert_fault.Truncated → EndsEarly text) → (IsErrOf {T = Cert} (Err f) cert_fault.TrailingBytes → GoesOn text)
-    → (of_cert f ≢ Device) × IsCheckRefused source statement text profile (of_cert f)
+    → BeforeOutput (IsCheckRefused source statement text profile) (of_cert f)
 cert_refusal source statement text profile st flow cert_fault.Memory loops bad early on = (λ e. cc e, tt)
 cert_refusal source statement text profile st flow (cert_fault.BadLine n) loops bad early on = (λ e. cc e, record { stated = st; flow = flow; loops = loops; not_memory = λ e. cc e; holds = bad n refl })
 cert_refusal source statement text profile st flow cert_fault.Truncated loops bad early on = (λ e. cc e, record { stated = st; flow = flow; loops = loops; not_memory = λ e. cc e; holds = early refl })
@@ -96,7 +96,7 @@ report_gets_yes source statement text profile v r j =
 
 -- where nothing is found, before anything was written
 pub ends_unfound : {O T : Type 0} (taken : O → Option (List ℕ)) (failures : O → ℕ) (IsText : T → List ℕ → Type 0) (IsFine : Type 0) (IsFault : ReportFault → Type 0) (old : O) (r : Result T ReportFault) (e : ReportFault)
-    → IsErrAnd r (λ x. x ≡ e) → (e ≢ Device) × IsFault e → (IsFine → e ≡ Memory) → Answers taken failures IsText IsFine IsFault old old r
+    → IsErrAnd r (λ x. x ≡ e) → BeforeOutput IsFault e → (IsFine → e ≡ Memory) → Answers taken failures IsText IsFine IsFault old old r
 ends_unfound taken failures IsText IsFine IsFault old r e is h only =
     ends_early taken failures IsText IsFine IsFault old r e is h
     (λ refused fine. refused_as r e (λ x. (x ≡ Memory) ⊎ (x ≡ Device)) is (inl (only fine)))

@@ -1,10 +1,10 @@
-ghost use Rattle.std.specs.Prelude.{◌≢◌, List, ℕ, IfErr, IfOk, OnOk, option_map};
-ghost use Rattle.bus_ticks.specs.declared.profile.Profile.{Profile};
+ghost use Rattle.std.specs.Prelude.{IfErr, IfOk, OnOk, option_map};
 ghost use Rattle.flow_graph.specs.Flow.{IsWellFormed};
 ghost use Rattle.bound_reports.specs.Bound.{Reports};
 ghost use Rattle.certificate.specs.Lines.{cert_text, said_of};
 ghost use Rattle.report_input.specs.Priced.{Priced};
-ghost use Rattle.report_input.specs.Report.{HasLoops, IsAccepted, IsBoundReport, IsRefused, IsReport, IsTreeOf};
+ghost use Rattle.report_input.specs.Report.{BeforeOutput, IsAccepted, IsBoundReport, IsRefused, IsReport};
+ghost use Rattle.report_input.specs.Report.{IsTreeOf, OfHandler};
 
 use bus_ticks::Profile;
 use cert_check::longest_gets_yes;
@@ -25,8 +25,7 @@ fn read_longest(
     ensures report { IfOk result
         (λ found. IsReport source.now statement.now profile.now (cert_text (said_of found))) }
     ensures accepted { OnOk result (IsAccepted source.now statement.now profile.now) }
-    ensures fault { IfErr result
-        (λ e. (e ≢ ReportFault.Device) × IsRefused source.now statement.now profile.now e) }
+    ensures fault { IfErr result (BeforeOutput (IsRefused source.now statement.now profile.now)) }
 {
     let handler = read_handler(alloc, source, statement, profile)?;
     certified_longest(alloc, &handler)
@@ -36,16 +35,14 @@ fn read_longest(
 fn certified_longest(alloc: Global, handler: &Handler) -> Result<Longest, ReportFault>
     requires formed { IsWellFormed handler.now.graph }
     requires tree { IsTreeOf handler.now.graph handler.now.statement.loops handler.now.tree }
-    ensures report { (source statement : List ℕ) (profile : Profile)
-        → HasLoops source statement profile handler.now.statement handler.now.graph
-        → IfOk result (λ found. IsBoundReport source statement profile handler.now.statement found.bound
-        (cert_text (said_of found))) }
-    ensures accepted { (source statement : List ℕ) (profile : Profile)
-        → HasLoops source statement profile handler.now.statement handler.now.graph
-        → OnOk result (IsAccepted source statement profile) }
-    ensures fault { (source statement : List ℕ) (profile : Profile)
-        → HasLoops source statement profile handler.now.statement handler.now.graph
-        → IfErr result (λ e. (e ≢ ReportFault.Device) × IsRefused source statement profile e) }
+    ensures report { OfHandler handler.now
+        (λ source statement profile. IfOk result
+        (λ found. IsBoundReport source statement profile handler.now.statement found.bound
+        (cert_text (said_of found)))) }
+    ensures accepted { OfHandler handler.now
+        (λ source statement profile. OnOk result (IsAccepted source statement profile)) }
+    ensures fault { OfHandler handler.now
+        (λ source statement profile. IfErr result (BeforeOutput (IsRefused source statement profile))) }
 {
     let found = longest_of(alloc, handler)?;
     run_law();
@@ -64,16 +61,13 @@ pub struct BoundReport {
 pub fn longest_report(alloc: Global, handler: &Handler) -> Result<BoundReport, ReportFault>
     requires formed { IsWellFormed handler.now.graph }
     requires tree { IsTreeOf handler.now.graph handler.now.statement.loops handler.now.tree }
-    ensures report { (source statement : List ℕ) (profile : Profile)
-        → HasLoops source statement profile handler.now.statement handler.now.graph
-        → IfOk result
-        (λ r. IsBoundReport source statement profile handler.now.statement r.bound r.text.items) }
-    ensures accepted { (source statement : List ℕ) (profile : Profile)
-        → HasLoops source statement profile handler.now.statement handler.now.graph
-        → OnOk result (IsAccepted source statement profile) }
-    ensures fault { (source statement : List ℕ) (profile : Profile)
-        → HasLoops source statement profile handler.now.statement handler.now.graph
-        → IfErr result (λ e. (e ≢ ReportFault.Device) × IsRefused source statement profile e) }
+    ensures report { OfHandler handler.now
+        (λ source statement profile. IfOk result
+        (λ r. IsBoundReport source statement profile handler.now.statement r.bound r.text.items)) }
+    ensures accepted { OfHandler handler.now
+        (λ source statement profile. OnOk result (IsAccepted source statement profile)) }
+    ensures fault { OfHandler handler.now
+        (λ source statement profile. IfErr result (BeforeOutput (IsRefused source statement profile))) }
 {
     let found = certified_longest(alloc, handler)?;
     let text = write_cert(alloc, &found)?;

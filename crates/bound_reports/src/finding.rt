@@ -1,6 +1,6 @@
 //! What is found of a certificate, by the handler of a source and a statement.
 
-ghost use Rattle.std.specs.Prelude.{◌≡◌, ◌≢◌, List, ℕ, Option, IfErr, IfOk};
+ghost use Rattle.std.specs.Prelude.{◌≡◌, List, ℕ, Option, IfErr, IfOk};
 ghost use Rattle.bus_ticks.specs.declared.profile.Profile.{Profile};
 ghost use Rattle.cert_check.specs.Columns.{Ascends};
 ghost use Rattle.cert_check.specs.Failing.{IsFirstFailing};
@@ -9,7 +9,7 @@ ghost use Rattle.flow_graph.specs.Flow.{IsWellFormed};
 ghost use Rattle.loop_bounds.specs.Tree.{IsTree};
 ghost use Rattle.bound_reports.specs.Check.{IsCheckRefused, IsCheckable};
 ghost use Rattle.bound_reports.specs.Found.{Finds, FindsRow, FindsVerdict, IsFound};
-ghost use Rattle.report_input.specs.Report.{HasLoops, IsTreeOf};
+ghost use Rattle.report_input.specs.Report.{BeforeOutput, IsTreeOf, OfHandler};
 
 use crate::check::CheckInputs;
 use bus_ticks::Profile;
@@ -68,8 +68,8 @@ pub(crate) fn found_of<F: Finding>(
     ensures found { IfOk result
         (IsFound F.says inputs.entry.source.now inputs.entry.statement.now inputs.entry.cert.now profile.now) }
     ensures fault { IfErr result
-        (λ e. (e ≢ ReportFault.Device) × IsCheckRefused inputs.entry.source.now inputs.entry.statement.now
-        inputs.entry.cert.now profile.now e) }
+        (BeforeOutput (IsCheckRefused inputs.entry.source.now inputs.entry.statement.now inputs.entry.cert.now
+        profile.now)) }
     ensures only { IsCheckable inputs.entry.source.now inputs.entry.statement.now inputs.entry.cert.now
         profile.now → IfErr result (λ e. e ≡ ReportFault.Memory) }
 {
@@ -81,12 +81,11 @@ pub(crate) fn found_of<F: Finding>(
 fn found_on<F: Finding>(alloc: Global, handler: &Handler, cert: &[u8]) -> Result<F, ReportFault>
     requires formed { IsWellFormed handler.now.graph }
     requires tree { IsTreeOf handler.now.graph handler.now.statement.loops handler.now.tree }
-    ensures found { (source statement : List ℕ) (profile : Profile)
-        → HasLoops source statement profile handler.now.statement handler.now.graph
-        → IfOk result (IsFound F.says source statement cert.now profile) }
-    ensures fault { (source statement : List ℕ) (profile : Profile)
-        → HasLoops source statement profile handler.now.statement handler.now.graph
-        → IfErr result (λ e. (e ≢ ReportFault.Device) × IsCheckRefused source statement cert.now profile e) }
+    ensures found { OfHandler handler.now
+        (λ source statement profile. IfOk result (IsFound F.says source statement cert.now profile)) }
+    ensures fault { OfHandler handler.now
+        (λ source statement profile. IfErr result
+        (BeforeOutput (IsCheckRefused source statement cert.now profile))) }
     ensures only { (source statement : List ℕ) (profile : Profile)
         → IsCheckable source statement cert.now profile → IfErr result (λ e. e ≡ ReportFault.Memory) }
 {

@@ -47,7 +47,7 @@ use Rattle.certificate.specs.Walk.{address_of, step_of, to_of}
 use Rattle.certificate.specs.Words.{edge_words, label_words, to_words}
 use Rattle.report_output.specs.Faults.{of_graph, of_statement}
 use Rattle.report_input.specs.Placing.{IsLoaded, IsRunnable}
-use Rattle.report_input.specs.Report.{HasGraph, IsHandlerRefused}
+use Rattle.report_input.specs.Report.{BeforeOutput, HasGraph, IsHandlerRefused}
 use Rattle.report_input.specs.Source.{IsSourceFault, Said, source_of}
 use Rattle.machine_reports.specs.TightReport.{HasNoTightReport, HasTightReport, IsEdgeAt, IsEdgeRefused, IsTightRefused, IsTightReport, TakesEdge, edge_line}
 use Rattle.machine_reports.specs.TightReport.{one_step as step_of_cost}
@@ -258,15 +258,13 @@ module _ (source statement : List ℕ) (n : ℕ) (profile : Profile) (words : Wo
         (subst (λ (p : Profile). IsStarted t.file p t.made.start) is.profile_is t.made.begun);
   }
 
-  abbrev Refused : ReportFault → Type 0
-  Refused e = (e ≢ Device) × IsTightRefused source statement n profile e
-
   edge_refused : (e : ReportFault) → IsEdgeRefused words flow n e → HasNoTightReport source statement n profile e
   unfolding graph
   edge_refused e r = record { stated = st; flow = flow; graph = graph; refused = r }
 
   -- why the edge has no report
-  pub edge_refusal : (e : ReportFault) → (e ≡ Memory) ⊎ IsEdgeRefused words flow n e → Refused e
+  pub edge_refusal : (e : ReportFault) → (e ≡ Memory) ⊎ IsEdgeRefused words flow n e
+      → BeforeOutput (IsTightRefused source statement n profile) e
   edge_refusal Memory r = (λ d. cc d, tt)
   edge_refusal report_fault.NoSuchEdge (inr r) = (λ d. cc d, edge_refused report_fault.NoSuchEdge r)
   edge_refusal (report_fault.NotFree a) (inr r) = (λ d. cc d, edge_refused (report_fault.NotFree a) r)
@@ -276,7 +274,7 @@ module _ (source statement : List ℕ) (n : ℕ) (profile : Profile) (words : Wo
 
 module _ (source statement : List ℕ) (n : ℕ) (profile : Profile) where
   abbrev IsRefusal : ReportFault → Type 0
-  IsRefusal e = (e ≢ Device) × IsTightRefused source statement n profile e
+  IsRefusal = BeforeOutput (IsTightRefused source statement n profile)
 
   -- the refusals of the source, the statement and the graph are those of any handler
   pub source_refused : (e : ReportFault) → IsSourceFault source e → IsRefusal e

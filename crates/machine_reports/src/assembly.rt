@@ -1,6 +1,7 @@
-ghost use Rattle.std.specs.Prelude.{◌≡◌, ◌≢◌, IfErr, IfOk, string_bytes};
+ghost use Rattle.std.specs.Prelude.{◌≡◌, IfErr, IfOk, string_bytes};
 ghost use Rattle.report_output.specs.Answers.{Answers};
 ghost use Rattle.machine_reports.specs.Assembly.{IsAsmReport, IsSource, IsSourceRefused, IsWritten, size_text};
+ghost use Rattle.report_input.specs.Report.{BeforeOutput};
 
 use loader::{Image, write_image};
 use report_input::read_source;
@@ -26,7 +27,7 @@ pub fn size_line(alloc: Global, image: &Image) -> Result<String, AllocError>
 // The file and the report of a source's image.
 pub fn image_written(alloc: Global, source: &[u8]) -> Result<Written, ReportFault>
     ensures is { IfOk result (λ w. IsWritten source.now w.bytes.items (string_bytes w.line)) }
-    ensures fault { IfErr result (λ e. (e ≢ ReportFault.Device) × IsSourceRefused source.now e) }
+    ensures fault { IfErr result (BeforeOutput (IsSourceRefused source.now)) }
     ensures only { IsSource source.now → IfErr result (λ e. e ≡ ReportFault.Memory) }
 {
     let image = read_source(alloc, source)?.image;

@@ -1,8 +1,9 @@
-ghost use Rattle.std.specs.Prelude.{◌≡◌, ◌≢◌, IfErr, IfOk, option_map};
+ghost use Rattle.std.specs.Prelude.{◌≡◌, IfErr, IfOk, option_map};
 ghost use Rattle.report_output.specs.Answers.{Answers};
 ghost use Rattle.machine_reports.specs.Debug.{IsDebugReport};
 ghost use Rattle.report_input.specs.Placing.{IsRunRefused, IsRunnable};
 ghost use Rattle.report_input.specs.Priced.{Priced};
+ghost use Rattle.report_input.specs.Report.{BeforeOutput};
 
 use bus_ticks::Profile;
 use debugger::converse;
@@ -28,8 +29,7 @@ fn session_text(
         (λ text. IsDebugReport inputs.entry.source.now inputs.entry.machine.now inputs.entry.commands.now
         profile text.items) }
     ensures fault { IfErr result
-        (λ e. (e ≢ ReportFault.Device)
-        × IsRunRefused inputs.entry.source.now inputs.entry.machine.now profile e) }
+        (BeforeOutput (IsRunRefused inputs.entry.source.now inputs.entry.machine.now profile)) }
     ensures only { IsRunnable inputs.entry.source.now inputs.entry.machine.now profile
         → IfErr result (λ e. e ≡ ReportFault.Memory) }
 {

@@ -1,7 +1,8 @@
-ghost use Rattle.std.specs.Prelude.{◌≡◌, ◌≢◌, IfErr, IfOk};
+ghost use Rattle.std.specs.Prelude.{◌≡◌, IfErr, IfOk};
 ghost use Rattle.report_output.specs.Answers.{Answers};
 ghost use Rattle.machine_reports.specs.Assembly.{IsSource, IsSourceRefused};
 ghost use Rattle.machine_reports.specs.ListReport.{AreRows, IsListReport};
+ghost use Rattle.report_input.specs.Report.{BeforeOutput};
 ghost use Rattle.report_input.specs.Source.{IsSourceFault};
 
 use crate::assembly::size_line;
@@ -29,7 +30,7 @@ fn rows_of(alloc: Global, source: &[u8], image: &Image) -> Result<Vec<u8>, Repor
 // The report of a source.
 fn list_text(alloc: Global, source: &[u8]) -> Result<Vec<u8>, ReportFault>
     ensures is { IfOk result (λ text. IsListReport source.now text.items) }
-    ensures fault { IfErr result (λ e. (e ≢ ReportFault.Device) × IsSourceRefused source.now e) }
+    ensures fault { IfErr result (BeforeOutput (IsSourceRefused source.now)) }
     ensures only { IsSource source.now → IfErr result (λ e. e ≡ ReportFault.Memory) }
 {
     let image = read_source(alloc, source)?.image;

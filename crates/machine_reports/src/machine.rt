@@ -1,4 +1,4 @@
-ghost use Rattle.std.specs.Prelude.{◌≡◌, ◌≢◌, ◌++◌, List, ℕ, IfErr, IfOk, OnOk, option_map};
+ghost use Rattle.std.specs.Prelude.{◌≡◌, ◌++◌, List, ℕ, IfErr, IfOk, OnOk, option_map};
 ghost use Rattle.std.specs.Prelude.{string_bytes};
 ghost use Rattle.bus_ticks.specs.declared.profile.Profile.{Profile};
 ghost use Rattle.arm2_exec.specs.Run.{Runs};
@@ -7,6 +7,7 @@ ghost use Rattle.report_input.specs.Placing.{IsPlaced, IsRunRefused, IsRunnable}
 ghost use Rattle.machine_reports.specs.Machine.{Front, IsMachineReport, ReportsRun, ShowsRegisters};
 ghost use Rattle.machine_reports.specs.Machine.{ShowsSteps, end_text};
 ghost use Rattle.report_input.specs.Priced.{Priced};
+ghost use Rattle.report_input.specs.Report.{BeforeOutput};
 
 use arm2_effect::address_of;
 use arm2_exec::{Input, Machine, Ran, Reg};
@@ -89,8 +90,7 @@ fn report_of<F: Front>(
 ) -> Result<Shown, ReportFault>
     ensures shown { IfOk result
         (λ s. IsMachineReport F.shows source.now machine.now profile s.done (string_bytes s.text)) }
-    ensures fault { IfErr result
-        (λ e. (e ≢ ReportFault.Device) × IsRunRefused source.now machine.now profile e) }
+    ensures fault { IfErr result (BeforeOutput (IsRunRefused source.now machine.now profile)) }
     ensures only { IsRunnable source.now machine.now profile → IfErr result (λ e. e ≡ ReportFault.Memory) }
 {
     let mut placed = place(alloc, source, machine, profile)?;

@@ -3,7 +3,8 @@ ghost use Rattle.loader.specs.Labels.{address_of};
 ghost use Rattle.flow_graph.specs.Graph.{IsBuildFault, IsFlowGraph};
 ghost use Rattle.flow_graph.specs.declared.faults.BuildFault.{BuildFault};
 ghost use Rattle.statement.specs.Statement.{IsStatement};
-ghost use Rattle.report_input.specs.Source.{source_of};
+ghost use Rattle.report_input.specs.Report.{BeforeOutput};
+ghost use Rattle.report_input.specs.Source.{Says};
 ghost use Rattle.machine_reports.specs.TightReport.{IsTightRefused};
 
 use assembler::Assembly;
@@ -32,10 +33,8 @@ pub fn read_graph(
     ensures allowed { IfOk result
         (λ g. (fault : BuildFault) → fault ≢ BuildFault.Memory
         → IsBuildFault said.now.image g.statement profile.now fault → ⊥) }
-    ensures fault { (source : List ℕ) (number : ℕ)
-        → source_of source ≡ Ok (said.now.image, address_of said.now.labels)
-        → IfErr result (λ fault. (fault ≢ ReportFault.Device)
-        × IsTightRefused source text.now number profile.now fault) }
+    ensures fault { (source : List ℕ) (number : ℕ) → Says source said.now
+        → IfErr result (BeforeOutput (IsTightRefused source text.now number profile.now)) }
 {
     let statement = read_statement(alloc, text, &said.labels)?;
     let graph = build(alloc, &said.image, &statement, profile)?;

@@ -1,12 +1,13 @@
 //! A machine file whose machine takes an edge of a handler's flow graph at exactly its price.
 
-ghost use Rattle.std.specs.Prelude.{◌≡◌, ◌≢◌, ◌⊎◌, ◌++◌, ◌<◌, ◌≤◌, ℕ, [], All, IfErr, IfOk, IfSome, IsNone};
+ghost use Rattle.std.specs.Prelude.{◌≡◌, ◌⊎◌, ◌++◌, ◌<◌, ◌≤◌, ℕ, [], All, IfErr, IfOk, IfSome, IsNone};
 ghost use Rattle.std.specs.Prelude.{OnOk, length, option_map, string_bytes};
 ghost use Rattle.loader.specs.Planned.{AreOf, IsFitted};
 ghost use Rattle.flow_graph.specs.Flow.{Flow};
 ghost use Rattle.flow_graph.specs.Free.{IsFree};
 ghost use Rattle.flow_graph.specs.Graph.{IsFlowGraph};
 ghost use Rattle.report_input.specs.Priced.{Priced};
+ghost use Rattle.report_input.specs.Report.{BeforeOutput};
 ghost use Rattle.machine_reports.specs.TightReport.{IsEdgeAt, IsEdgeRefused, IsTightRefused, IsTightReport};
 ghost use Rattle.machine_reports.specs.TightReport.{ReportsTight, edge_line};
 ghost use Rattle.machine_reports.specs.TightText.{HasTightFile, IsEdgeFile, IsEdgeText};
@@ -124,8 +125,8 @@ fn tight_text(
 ) -> Result<String, ReportFault>
     ensures report { IfOk result
         (λ text. IsTightReport source.now statement.now number profile.now (string_bytes text)) }
-    ensures fault { IfErr result (λ fault. (fault ≢ ReportFault.Device)
-        × IsTightRefused source.now statement.now number profile.now fault) }
+    ensures fault { IfErr result
+        (BeforeOutput (IsTightRefused source.now statement.now number profile.now)) }
 {
     let said = read_source(alloc, source)?;
     let handler = read_graph(alloc, &said, statement, profile)?;

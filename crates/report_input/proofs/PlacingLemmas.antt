@@ -23,6 +23,7 @@ use Rattle.machine_file.specs.declared.machine_faults.MachineFileFault.TheVarian
 use Rattle.machine_file.specs.declared.pages.MappedPage.{MappedPage}
 use Rattle.report_output.specs.Faults.{of_load, of_machine_file}
 use Rattle.report_input.specs.Placing.{IsFileRefused, IsRunRefused, IsRunnable, IsStated, LacksPage}
+use Rattle.report_input.specs.Report.{BeforeOutput}
 use Rattle.report_input.specs.Source.{IsSourceFault, Said, source_of}
 use Rattle.statement.specs.Statement.{Names}
 use Rattle.report_output.specs.declared.fault.ReportFault.{ReportFault}
@@ -123,11 +124,11 @@ module _ (source machine : List ℕ) (profile : Profile) where
   runnable_refusals e a r = absurd r
 
   -- .. for lack of memory alone where the output has not failed
-  pub runnable_memory : (e : ReportFault) → (e ≢ Device) × IsRunRefused source machine profile e → IsRunnable source machine profile → e ≡ OfMemory
+  pub runnable_memory : (e : ReportFault) → BeforeOutput (IsRunRefused source machine profile) e → IsRunnable source machine profile → e ≡ OfMemory
   runnable_memory e h a = ⊎_elim (λ m. m) (λ d. absurd (h.0 d)) (runnable_refusals e a h.1)
 
   abbrev pub Refused : ReportFault → Type 0
-  Refused e = (e ≢ Device) × IsRunRefused source machine profile e
+  Refused = BeforeOutput (IsRunRefused source machine profile)
 
   pub source_refuses : (e : ReportFault) → IsSourceFault source e → Refused e
   source_refuses OfMemory h = (λ e. cc e, tt)

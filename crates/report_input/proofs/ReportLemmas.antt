@@ -27,7 +27,7 @@ use Rattle.certificate.proofs.LongestLaws.{longest_is_spelled}
 use Rattle.cert_check.proofs.OtherTree.{longest_by_other}
 use Rattle.report_output.specs.Faults.{of_walk}
 use Rattle.report_input.specs.Keeping.{BoundsRuns}
-use Rattle.report_input.specs.Report.{HasLoops, IsAccepted, IsBoundReport, IsGreatestWalk, IsHandlerRefused, IsRefused, IsReport, IsTreeOf, IsWalkRefusal}
+use Rattle.report_input.specs.Report.{BeforeOutput, HasLoops, IsAccepted, IsBoundReport, IsGreatestWalk, IsHandlerRefused, IsRefused, IsReport, IsTreeOf, IsWalkRefusal}
 use Rattle.report_output.specs.declared.fault.ReportFault.{ReportFault}
 use Rattle.report_output.specs.declared.fault.ReportFault.TheVariants.{Memory, Walk, Device}
 use Rattle.report_output.specs.declared.fault.ReportFault.TheVariants as report_fault
@@ -46,13 +46,13 @@ accepted_refusals source statement profile (Walk f) a r =
 accepted_refusals source statement profile e a r = inl (handler_refusals source statement profile a.stated a.flow e a.loops r)
 
 -- the same of an answer
-pub only_memory : {T : Type 0} (source statement : List ℕ) (profile : Profile) (r : Result T ReportFault) → IfErr r (λ e. (e ≢ Device) × IsRefused source statement profile e)
+pub only_memory : {T : Type 0} (source statement : List ℕ) (profile : Profile) (r : Result T ReportFault) → IfErr r (BeforeOutput (IsRefused source statement profile))
     → IsAccepted source statement profile → IfErr r (λ e. (e ≡ Memory) ⊎ (e ≡ Device))
 only_memory source statement profile (Ok x) h a = tt
 only_memory source statement profile (Err e) h a = accepted_refusals source statement profile e a h.1
 
 -- what refuses a source and a statement up to the loops refuses their report
-pub report_refusal : (source statement : List ℕ) (profile : Profile) (e : ReportFault) → IsHandlerRefused source statement profile e → (e ≢ Device) × IsRefused source statement profile e
+pub report_refusal : (source statement : List ℕ) (profile : Profile) (e : ReportFault) → IsHandlerRefused source statement profile e → BeforeOutput (IsRefused source statement profile) e
 report_refusal source statement profile Memory h = (λ e. cc e, tt)
 report_refusal source statement profile Device h = absurd h
 report_refusal source statement profile (Walk f) h = absurd h
@@ -140,7 +140,7 @@ module _ (source statement : List ℕ) (profile : Profile) (st : Stated) (flow :
   reported_bound l text law formed is allowed judged e = record { report = reported l text law formed is allowed judged e; stated_is = refl; bound_is = refl }
 
   -- a refusal of the walk
-  pub walk_refusal : (f : WalkFault) → IsWalkFault flow tree f → (of_walk f ≢ Device) × IsRefused source statement profile (of_walk f)
+  pub walk_refusal : (f : WalkFault) → IsWalkFault flow tree f → BeforeOutput (IsRefused source statement profile) (of_walk f)
   walk_refusal walk_fault.Memory h = (λ e. cc e, tt)
   walk_refusal walk_fault.NoCompleteWalk h =
       (λ e. cc e, record { stated = st; flow = flow; loops = loops; not_memory = λ e. cc e; holds = fault_here flow st.loops tree of.instances walk_fault.NoCompleteWalk h })

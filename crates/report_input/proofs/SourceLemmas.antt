@@ -1,5 +1,7 @@
 -- What reading a source tells.
 use Rattle.std.proofs.Common.{◌≡◌, ◌∙◌, ◌⊎◌, ℕ, Bool, true, false, List, Result, Ok, Err, ap, cond, inl, inr, sym}
+use Rattle.std.specs.Prelude.{IfErr}
+use Rattle.std.specs.Result.{IsErrAnd}
 use Rattle.loader.specs.Image.{Words}
 use Rattle.loader.specs.ImageBytes.{image_read}
 use Rattle.loader.specs.declared.reading.ReadFault.{ReadFault}
@@ -12,6 +14,8 @@ use Rattle.assembler.specs.declared.fault.AsmFault.{AsmFault}
 use Rattle.assembler.specs.declared.fault.AsmFault.TheVariants as asm_fault
 use Rattle.report_output.specs.Faults.{of_image, of_source}
 use Rattle.report_input.specs.Source.{IsSourceFault, is_image, no_names, said_by_image, said_by_text, source_of}
+use Rattle.report_output.specs.declared.fault.ReportFault.{ReportFault}
+use Rattle.report_input.proofs.HandlerLemmas.{refused_as}
 
 said_image : (source : List ℕ) → is_image source ≡ true → source_of source ≡ said_by_image (image_read source)
 unfolding source_of
@@ -51,3 +55,8 @@ image_fault source f is (inr h) = said_image source is ∙ ap said_by_image h
 pub text_fault : (source : List ℕ) (f : AsmFault) → is_image source ≡ false → FaultedAt f (assembled source) → IsSourceFault source (of_source f)
 text_fault source asm_fault.Memory is h = tt
 text_fault source (asm_fault.Line fault line) is h = said_text source is ∙ ap said_by_text h
+
+-- the same of an answer by a `?`
+pub text_refused : {T : Type 0} (source : List ℕ) (f : AsmFault) (r : Result T ReportFault) → IsErrAnd r (λ e. e ≡ of_source f) → is_image source ≡ false → FaultedAt f (assembled source)
+    → IfErr r (IsSourceFault source)
+text_refused source f r answered is h = refused_as r (of_source f) (IsSourceFault source) answered (text_fault source f is h)

@@ -32,6 +32,7 @@ use Rattle.cert_check.specs.Verdict.{IsVerdict}
 use Rattle.cert_check.specs.declared.verdict.Verdict.TheVariants.{Yes}
 use Rattle.report_input.specs.Keeping.{BoundsRuns}
 use Rattle.report_input.specs.Source.{source_of}
+use Rattle.report_input.specs.declared.handler.Handler.{Handler}
 use Rattle.report_output.specs.declared.fault.ReportFault.{ReportFault}
 use Rattle.report_output.specs.declared.fault.ReportFault.TheVariants as report_fault
 
@@ -66,6 +67,12 @@ pub record HasLoops (source statement : List ℕ) (profile : Profile) (stated : 
     (flow : Flow) : Type 0 where
   pub graph : HasGraph source statement profile stated flow
   pub no_fault : (f : NestFault) → f ≢ nest_fault.Memory → Applies flow stated.loops f → ⊥
+
+-- it holds of each source, statement and profile that have this handler
+abbrev pub OfHandler : Handler → (List ℕ → List ℕ → Profile → Type 0) → Type 0
+OfHandler handler Holds =
+    (source statement : List ℕ) (profile : Profile)
+    → HasLoops source statement profile handler.statement handler.graph → Holds source statement profile
 
 -- the tree has exactly the instances of the stated loops
 pub record IsTreeOf (flow : Flow) (loops : List Loop) (tree : Tree) : Type 0 where
@@ -157,3 +164,7 @@ abbrev pub IsRefused : List ℕ → List ℕ → Profile → ReportFault → Typ
 IsRefused source statement profile (report_fault.Walk fault) = IsWalkRefused source statement profile fault
 IsRefused source statement profile report_fault.Device = Unit {0}
 IsRefused source statement profile fault = IsHandlerRefused source statement profile fault
+
+-- a fault that is answered before anything is written, so not the output's
+abbrev pub BeforeOutput : (ReportFault → Type 0) → ReportFault → Type 0
+BeforeOutput IsFault fault = (fault ≢ report_fault.Device) × IsFault fault

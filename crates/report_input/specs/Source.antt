@@ -3,9 +3,11 @@ use Rattle.std.specs.Prelude.{◌≡◌, ℕ, Bool, List, None, Result, Ok, Err,
 use Rattle.std.specs.List.{starts_with}
 use Rattle.loader.specs.Image.{Words}
 use Rattle.loader.specs.ImageBytes.{image_read, magic}
+use Rattle.loader.specs.Labels.{address_of}
 use Rattle.loader.specs.declared.reading.ReadFault.{ReadFault}
 use Rattle.statement.specs.Statement.{Names}
 use Rattle.assembler.specs.Sweeps.{assembled}
+use Rattle.assembler.specs.declared.assembly.Assembly.{Assembly}
 use Rattle.assembler.specs.declared.fault.AsmFault.TheVariants.{Line}
 use Rattle.assembler.specs.declared.fault.Fault.{Fault}
 use Rattle.report_output.specs.declared.fault.ReportFault.{ReportFault}
@@ -34,6 +36,10 @@ said_by_text (Err fault) = Err (Source (Line fault.0 fault.1))
 unfoldable pub source_of : List ℕ → Result Said ReportFault
 source_of source =
     if is_image source then said_by_image (image_read source) else said_by_text (assembled source)
+
+-- the source has these words and labels
+abbrev pub Says : List ℕ → Assembly → Type 0
+Says source said = source_of source ≡ Ok (said.image, address_of said.labels)
 
 -- when each refusal of a source is answered; an allocation may fail whatever it says
 abbrev pub IsSourceFault : List ℕ → ReportFault → Type 0

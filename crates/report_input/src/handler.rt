@@ -1,5 +1,4 @@
 ghost use Rattle.std.specs.Prelude.{◌≡◌, ◌≢◌, List, ℕ, Ok, IfErr, IfOk, OnOk, option_map};
-ghost use Rattle.bus_ticks.specs.declared.profile.Profile.{Profile};
 ghost use Rattle.loader.specs.Labels.{address_of};
 ghost use Rattle.flow_graph.specs.Flow.{IsWellFormed};
 ghost use Rattle.longest_walk.specs.Longest.{IsLongest, IsWalkFault};
@@ -7,8 +6,9 @@ ghost use Rattle.loop_bounds.specs.Bounds.{IsGreatestCost};
 ghost use Rattle.numbered_walks.specs.declared.fault.WalkFault.{WalkFault};
 ghost use Rattle.statement.specs.Statement.{IsStatement};
 ghost use Rattle.report_input.specs.Priced.{HasNoProfile, IsProfile};
-ghost use Rattle.report_input.specs.Report.{HasLoops, IsHandlerRefused, IsRefused, IsTreeOf};
-ghost use Rattle.report_input.specs.Source.{IsSourceFault, source_of};
+ghost use Rattle.report_input.specs.Report.{BeforeOutput, HasLoops, IsHandlerRefused, IsRefused};
+ghost use Rattle.report_input.specs.Report.{IsTreeOf, OfHandler};
+ghost use Rattle.report_input.specs.Source.{IsSourceFault, Says};
 
 use assembler::{Assembly, assemble};
 use bus_ticks::Profile;
@@ -37,7 +37,7 @@ pub fn profile_of(alloc: Global, file: Option<&[u8]>) -> Result<Profile, ReportF
 /// The words and the labels of a source: of an image where it begins as one, which has no labels, else of a
 /// text.
 pub fn read_source(alloc: Global, source: &[u8]) -> Result<Assembly, ReportFault>
-    ensures said { IfOk result (λ a. source_of source.now ≡ Ok (a.image, address_of a.labels)) }
+    ensures said { IfOk result (Says source.now) }
     ensures fault { IfErr result (IsSourceFault source.now) }
 {
     if source.starts_with(&MAGIC) {
@@ -71,8 +71,7 @@ pub fn said_handler(
     statement: &[u8],
     profile: &Profile,
 ) -> Result<SaidHandler, ReportFault>
-    ensures said { IfOk result
-        (λ r. source_of source.now ≡ Ok (r.said.image, address_of r.said.labels)) }
+    ensures said { IfOk result (λ r. Says source.now r.said) }
     ensures loops { IfOk result
         (λ r. HasLoops source.now statement.now profile.now r.handler.statement r.handler.graph) }
     ensures formed { IfOk result (λ r. IsWellFormed r.handler.graph) }
@@ -108,11 +107,11 @@ pub fn handler_of(
     statement: &[u8],
     profile: &Profile,
 ) -> Result<Handler, ReportFault>
-    ensures loops { (source : List ℕ) → source_of source ≡ Ok (said.now.image, address_of said.now.labels)
+    ensures loops { (source : List ℕ) → Says source said.now
         → IfOk result (λ h. HasLoops source statement.now profile.now h.statement h.graph) }
     ensures formed { IfOk result (λ h. IsWellFormed h.graph) }
     ensures tree { IfOk result (λ h. IsTreeOf h.graph h.statement.loops h.tree) }
-    ensures fault { (source : List ℕ) → source_of source ≡ Ok (said.now.image, address_of said.now.labels)
+    ensures fault { (source : List ℕ) → Says source said.now
         → IfErr result (IsHandlerRefused source statement.now profile.now) }
 {
     let statement = read_statement(alloc, statement, &said.labels)?;
@@ -126,15 +125,13 @@ pub fn stated_handler(
     statement: Statement,
     profile: &Profile,
 ) -> Result<Handler, ReportFault>
-    ensures loops { (source text : List ℕ)
-        → source_of source ≡ Ok (said.now.image, address_of said.now.labels)
+    ensures loops { (source text : List ℕ) → Says source said.now
         → IsStatement text (address_of said.now.labels) (Ok statement)
         → IfOk result (λ h. HasLoops source text profile.now h.statement h.graph) }
     ensures formed { IfOk result (λ h. IsWellFormed h.graph) }
     ensures tree { IfOk result (λ h. IsTreeOf h.graph h.statement.loops h.tree) }
     ensures same { IfOk result (λ h. h.statement ≡ statement) }
-    ensures fault { (source text : List ℕ)
-        → source_of source ≡ Ok (said.now.image, address_of said.now.labels)
+    ensures fault { (source text : List ℕ) → Says source said.now
         → IsStatement text (address_of said.now.labels) (Ok statement)
         → IfErr result (IsHandlerRefused source text profile.now) }
 {
@@ -156,9 +153,8 @@ pub fn longest_of(alloc: Global, handler: &Handler) -> Result<Longest, ReportFau
     ensures allowed { OnOk result
         ((fault : WalkFault) → fault ≢ WalkFault.Memory → IsWalkFault handler.now.graph handler.now.tree fault
         → ⊥) }
-    ensures fault { (source statement : List ℕ) (profile : Profile)
-        → HasLoops source statement profile handler.now.statement handler.now.graph
-        → IfErr result (λ e. (e ≢ ReportFault.Device) × IsRefused source statement profile e) }
+    ensures fault { OfHandler handler.now
+        (λ source statement profile. IfErr result (BeforeOutput (IsRefused source statement profile))) }
 {
     let found = longest(alloc, &handler.graph, &handler.tree)?;
     Ok(found)

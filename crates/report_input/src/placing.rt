@@ -1,9 +1,9 @@
-ghost use Rattle.std.specs.Prelude.{◌≡◌, ◌≢◌, ◌⊎◌, List, ℕ, Ok, IfErr, IfOk, OnOk, false};
+ghost use Rattle.std.specs.Prelude.{◌≡◌, ◌⊎◌, List, ℕ, IfErr, IfOk, OnOk, false};
 ghost use Rattle.bus_ticks.specs.declared.profile.Profile.{Profile};
-ghost use Rattle.loader.specs.Labels.{address_of};
 ghost use Rattle.loader.specs.Loading.{lacks_page, put_words};
 ghost use Rattle.report_input.specs.Placing.{IsPlaced, IsRunRefused, IsRunnable, IsStated, LacksPage};
-ghost use Rattle.report_input.specs.Source.{source_of};
+ghost use Rattle.report_input.specs.Report.{BeforeOutput};
+ghost use Rattle.report_input.specs.Source.{Says};
 
 use crate::handler::read_source;
 use arm2_exec::Machine;
@@ -29,8 +29,7 @@ pub fn place(
     profile: Profile,
 ) -> Result<Placed, ReportFault>
     ensures placed { IfOk result (λ p. IsPlaced source.now machine.now profile p.file p.machine) }
-    ensures fault { IfErr result
-        (λ e. (e ≢ ReportFault.Device) × IsRunRefused source.now machine.now profile e) }
+    ensures fault { IfErr result (BeforeOutput (IsRunRefused source.now machine.now profile)) }
     ensures only { IsRunnable source.now machine.now profile → IfErr result (λ e. e ≡ ReportFault.Memory) }
 {
     let said = read_source(alloc, source)?;
@@ -44,10 +43,10 @@ pub fn place_image(
     machine: &[u8],
     profile: Profile,
 ) -> Result<Placed, ReportFault>
-    ensures placed { (source : List ℕ) → source_of source ≡ Ok (said.now.image, address_of said.now.labels)
+    ensures placed { (source : List ℕ) → Says source said.now
         → IfOk result (λ p. IsPlaced source machine.now profile p.file p.machine) }
-    ensures fault { (source : List ℕ) → source_of source ≡ Ok (said.now.image, address_of said.now.labels)
-        → IfErr result (λ e. (e ≢ ReportFault.Device) × IsRunRefused source machine.now profile e) }
+    ensures fault { (source : List ℕ) → Says source said.now
+        → IfErr result (BeforeOutput (IsRunRefused source machine.now profile)) }
 {
     let file = read_machine(alloc, machine)?;
     let machine = loaded(alloc, &said.image, &file, profile)?;
@@ -82,7 +81,7 @@ fn loaded(
     ensures loaded { (source machine : List ℕ) → IsStated source machine image.now file.now
         → IfOk result (λ m. IsPlaced source machine profile file.now m) }
     ensures fault { (source machine : List ℕ) → IsStated source machine image.now file.now
-        → IfErr result (λ e. (e ≢ ReportFault.Device) × IsRunRefused source machine profile e) }
+        → IfErr result (BeforeOutput (IsRunRefused source machine profile)) }
 {
     let mut machine = file.machine(alloc, profile)?;
     put_all(alloc, &mut machine, image, file)?;

@@ -1,12 +1,11 @@
-use Rattle.std.proofs.Common.{◌≢◌, List, ℕ, subst, sym}
-use Rattle.report_input.specs.Report.{IsBoundReport, IsRefused}
-use Rattle.report_output.specs.declared.fault.ReportFault.TheVariants.{Device}
+use Rattle.std.proofs.Common.{List, ℕ, subst, sym}
+use Rattle.report_input.specs.Report.{BeforeOutput, IsBoundReport, IsRefused}
 use Rattle.report_input.proofs.HandlerLemmas.{refused_as}
 use Rattle.bound_reports.proofs.bound.longest_report.Goals as goal
 
 pub returns-in_err-found-clause-fault : goal.returns-in_err-found-clause-fault
 returns-in_err-found-clause-fault c = λ source statement profile loops.
-    refused_as c.from_residual.result c.in_err-found.field-0.0 (λ e. (e ≢ Device) × IsRefused source statement profile e) c.from_residual.ensures.1
+    refused_as c.from_residual.result c.in_err-found.field-0.0 (BeforeOutput (IsRefused source statement profile)) c.from_residual.ensures.1
     (c.in_err-found.ensures.fault source statement profile loops)
 
 pub returns-clause-report : goal.returns-clause-report

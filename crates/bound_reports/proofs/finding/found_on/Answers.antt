@@ -1,8 +1,9 @@
-use Rattle.std.proofs.Common.{◌≡◌, ◌≢◌, refl}
+use Rattle.std.proofs.Common.{◌≡◌, refl}
 use Rattle.bound_reports.specs.Check.{IsCheckRefused}
 use Rattle.report_output.specs.Faults.{of_cert}
-use Rattle.report_output.specs.declared.fault.ReportFault.TheVariants.{Device, Memory}
+use Rattle.report_output.specs.declared.fault.ReportFault.TheVariants.{Memory}
 use Rattle.bound_reports.proofs.CheckLemmas.{cert_refusal, readable_refusal}
+use Rattle.report_input.specs.Report.{BeforeOutput}
 use Rattle.report_input.proofs.HandlerLemmas.{refused_as}
 use Rattle.bound_reports.proofs.finding.found_on.Goals as goal
 
@@ -10,7 +11,7 @@ pub returns-in_err-read-clause-fault : goal.returns-in_err-read-clause-fault
 returns-in_err-read-clause-fault g c = λ source statement profile loops.
     let h = c.args.handler.now in
     let f = c.in_err-read.field-0.0 in
-    refused_as c.from_residual.result (of_cert f) (λ e. (e ≢ Device) × IsCheckRefused source statement c.args.cert.now profile e) c.from_residual.ensures.1
+    refused_as c.from_residual.result (of_cert f) (BeforeOutput (IsCheckRefused source statement c.args.cert.now profile)) c.from_residual.ensures.1
     (cert_refusal source statement c.args.cert.now profile h.statement h.graph f loops
     c.in_err-read.ensures.bad_line c.in_err-read.ensures.truncated c.in_err-read.ensures.trailing)
 

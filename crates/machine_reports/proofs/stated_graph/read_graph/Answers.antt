@@ -1,8 +1,8 @@
-use Rattle.std.proofs.Common.{◌≢◌, rules}
+use Rattle.std.proofs.Common.{rules}
 use Rattle.loader.specs.Labels.{address_of}
 use Rattle.report_output.specs.Faults.{of_graph, of_statement}
 use Rattle.machine_reports.specs.TightReport.{IsTightRefused}
-use Rattle.report_output.specs.declared.fault.ReportFault.TheVariants.{Device}
+use Rattle.report_input.specs.Report.{BeforeOutput}
 use Rattle.report_input.proofs.HandlerLemmas.{graph_refusal, refused_as, statement_refusal}
 use Rattle.machine_reports.proofs.TightLemmas.{graph_refused, statement_refused}
 use Rattle.machine_reports.proofs.stated_graph.read_graph.Goals as goal
@@ -13,7 +13,7 @@ returns-in_err-statement-clause-fault c = λ source number is.
     let statement = c.args.text.now in
     let profile = c.args.profile.now in
     let f = c.in_err-statement.field-0.0 in
-    refused_as c.from_residual.result (of_statement f) (λ e. (e ≢ Device) × IsTightRefused source statement number profile e) c.from_residual.ensures.1
+    refused_as c.from_residual.result (of_statement f) (BeforeOutput (IsTightRefused source statement number profile)) c.from_residual.ensures.1
     (statement_refused source statement number profile f (statement_refusal source statement profile said.image (address_of said.labels) is f (search rules)))
 
 pub returns-in_err-graph-clause-fault : goal.returns-in_err-graph-clause-fault
@@ -23,7 +23,7 @@ returns-in_err-graph-clause-fault c = λ source number is.
     let profile = c.args.profile.now in
     let read = c.in_ok-statement.ensures (λ e. cc e) in
     let f = c.in_err-graph.field-0.0 in
-    refused_as c.from_residual-in_err-graph.result (of_graph f) (λ e. (e ≢ Device) × IsTightRefused source statement number profile e) c.from_residual-in_err-graph.ensures.1
+    refused_as c.from_residual-in_err-graph.result (of_graph f) (BeforeOutput (IsTightRefused source statement number profile)) c.from_residual-in_err-graph.ensures.1
     (graph_refused source statement number profile f (graph_refusal source statement profile said.image (address_of said.labels) is c.in_ok-statement.statement read f (search rules)))
 
 pub returns-clause-statement : goal.returns-clause-statement

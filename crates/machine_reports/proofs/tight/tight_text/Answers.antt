@@ -1,9 +1,8 @@
-use Rattle.std.proofs.Common.{◌≢◌}
 use Rattle.std.proofs.lemmas.Result.{IfErr-weaker, IfOk-weaker}
 use Rattle.std.specs.Prelude.{string_bytes}
 use Rattle.loader.specs.Labels.{address_of}
 use Rattle.machine_reports.specs.TightReport.{IsTightRefused}
-use Rattle.report_output.specs.declared.fault.ReportFault.TheVariants.{Device}
+use Rattle.report_input.specs.Report.{BeforeOutput}
 use Rattle.report_input.proofs.HandlerLemmas.{refused_as}
 use Rattle.machine_reports.proofs.TightLemmas.{edge_refusal, source_refused, tight_reported}
 use Rattle.machine_reports.proofs.tight.tight_text.Goals as goal
@@ -14,7 +13,7 @@ returns-in_err-said-clause-fault c =
     let statement = c.args.statement.now in
     let profile = c.args.profile.now in
     let e = c.in_err-said.field-0.0 in
-    refused_as c.from_residual.result e (λ x. (x ≢ Device) × IsTightRefused source statement c.args.number profile x) c.from_residual.ensures.1
+    refused_as c.from_residual.result e (BeforeOutput (IsTightRefused source statement c.args.number profile)) c.from_residual.ensures.1
     (source_refused source statement c.args.number profile e c.in_err-said.ensures.fault)
 
 pub returns-in_err-handler-clause-fault : goal.returns-in_err-handler-clause-fault
@@ -22,7 +21,7 @@ returns-in_err-handler-clause-fault c =
     let source = c.args.source.now in
     let statement = c.args.statement.now in
     let profile = c.args.profile.now in
-    refused_as c.from_residual-in_err-handler.result c.in_err-handler.field-0.0 (λ x. (x ≢ Device) × IsTightRefused source statement c.args.number profile x) c.from_residual-in_err-handler.ensures.1
+    refused_as c.from_residual-in_err-handler.result c.in_err-handler.field-0.0 (BeforeOutput (IsTightRefused source statement c.args.number profile)) c.from_residual-in_err-handler.ensures.1
     (c.in_err-handler.ensures.fault source c.args.number c.in_ok-said.ensures.said)
 
 pub returns-clause-report : goal.returns-clause-report

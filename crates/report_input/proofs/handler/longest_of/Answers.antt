@@ -1,7 +1,5 @@
-use Rattle.std.proofs.Common.{◌≢◌}
 use Rattle.report_output.specs.Faults.{of_walk}
-use Rattle.report_input.specs.Report.{IsRefused}
-use Rattle.report_output.specs.declared.fault.ReportFault.TheVariants.{Device}
+use Rattle.report_input.specs.Report.{BeforeOutput, IsRefused}
 use Rattle.report_input.proofs.HandlerLemmas.{refused_as}
 use Rattle.report_input.proofs.ReportLemmas.{tree_is_greatest, walk_refusal}
 use Rattle.report_input.proofs.handler.longest_of.Goals as goal
@@ -10,7 +8,7 @@ pub returns-in_err-found-clause-fault : goal.returns-in_err-found-clause-fault
 returns-in_err-found-clause-fault c = λ source statement profile loops.
     let h = c.args.handler.now in
     let f = c.in_err-found.field-0.0 in
-    refused_as c.from_residual.result (of_walk f) (λ e. (e ≢ Device) × IsRefused source statement profile e) c.from_residual.ensures.1
+    refused_as c.from_residual.result (of_walk f) (BeforeOutput (IsRefused source statement profile)) c.from_residual.ensures.1
     (walk_refusal source statement profile h.statement h.graph h.tree loops c.requires f c.in_err-found.ensures.fault)
 
 pub returns-clause-greatest : goal.returns-clause-greatest

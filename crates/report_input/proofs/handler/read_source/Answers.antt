@@ -1,9 +1,9 @@
 use Rattle.std.proofs.Common.{◌≡◌, true, false, rules, ap}
 use Rattle.loader.specs.Labels.{address_of}
-use Rattle.report_output.specs.Faults.{of_image, of_source}
+use Rattle.report_output.specs.Faults.{of_image}
 use Rattle.report_input.specs.Source.{IsSourceFault, is_image}
 use Rattle.report_input.proofs.HandlerLemmas.{refused_as}
-use Rattle.report_input.proofs.SourceLemmas.{image_fault, image_said, text_fault, text_said}
+use Rattle.report_input.proofs.SourceLemmas.{image_fault, image_said, text_refused, text_said}
 use Rattle.report_input.proofs.handler.read_source.Goals as goal
 
 pub returns-in_err-image-clause-fault : goal.returns-in_err-image-clause-fault
@@ -19,9 +19,7 @@ returns-then-starts_with-clause-said c =
 
 pub returns-in_err-assembly-clause-fault : goal.returns-in_err-assembly-clause-fault
 returns-in_err-assembly-clause-fault c =
-    let is : is_image c.args.source.now ≡ false = search rules in
-    let f = c.in_err-assembly.field-0.0 in
-    refused_as c.from_residual-in_err-assembly.result (of_source f) (IsSourceFault c.args.source.now) c.from_residual-in_err-assembly.ensures.1 (text_fault c.args.source.now f is c.in_err-assembly.ensures.fault)
+    text_refused c.args.source.now c.in_err-assembly.field-0.0 c.from_residual-in_err-assembly.result c.from_residual-in_err-assembly.ensures.1 (search rules) c.in_err-assembly.ensures.fault
 
 pub returns-clause-said : goal.returns-clause-said
 returns-clause-said c =
