@@ -51,7 +51,8 @@ impl Decoded {
     /// Decodes the word, unless the address has it already.
     #[inline(always)]
     pub(crate) fn keep(&mut self, address: u32, word: u32)
-        ensures { (other : Row) → (slice_index_or self.new.rows.items (address / 4 % 1024) other).word ≡ word }
+        ensures { (other : Row)
+            → (slice_index_or self.new.rows.items (address / 4 % 1024) other).word ≡ word }
     {
         if self.rows[place_of(address)].word != word {
             self.decode_at(address, word);
@@ -60,7 +61,8 @@ impl Decoded {
 
     #[inline(never)]
     fn decode_at(&mut self, address: u32, word: u32)
-        ensures { (other : Row) → (slice_index_or self.new.rows.items (address / 4 % 1024) other).word ≡ word }
+        ensures { (other : Row)
+            → (slice_index_or self.new.rows.items (address / 4 % 1024) other).word ≡ word }
     {
         self.rows[place_of(address)] = row_of(word);
     }

@@ -23,7 +23,8 @@ Finds T = Flow → Tree → Cert → T → Type 0
 -- the verdict, and what Yes means
 pub record FindsVerdict (flow : Flow) (tree : Tree) (cert : Cert) (verdict : Verdict) : Type 0 where
   pub verdict_is : IsVerdict flow tree cert verdict
-  pub greatest : verdict ≡ Yes → IsGreatest edge_shape (HasEdge flow) (KeepsTree tree) flow.entry Exit cert.bound
+  pub greatest : verdict ≡ Yes
+      → IsGreatest edge_shape (HasEdge flow) (KeepsTree tree) flow.entry Exit cert.bound
 
 -- what fails first, if anything does
 abbrev pub FindsRow : Finds (Option FailingRow)

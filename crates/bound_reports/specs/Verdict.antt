@@ -9,8 +9,8 @@ use Rattle.report_output.specs.Answers.{Answers}
 use Rattle.report_output.specs.declared.fault.ReportFault.{ReportFault}
 use Rattle.bound_reports.specs.Check.{IsCheckRefused, IsCheckable, IsJudged, verdict_line}
 
--- the verdict on the text is judged, and this fails for its objection in the certificate that the text spells;
--- nothing where it is Yes
+-- the verdict on the text is judged, and this fails for its objection in the certificate that the text
+-- spells; nothing where it is Yes
 pub record IsExplained (source statement text : List ℕ) (profile : Profile)
     (row : Option FailingRow) : Type 0 where
   pub judged : IsJudged source statement text profile (verdict_of row)

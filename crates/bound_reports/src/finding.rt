@@ -66,7 +66,8 @@ pub(crate) fn found_of<F: Finding>(
     profile: &Profile,
 ) -> Result<F, ReportFault>
     ensures found { IfOk result
-        (IsFound F.says inputs.entry.source.now inputs.entry.statement.now inputs.entry.cert.now profile.now) }
+        (IsFound F.says inputs.entry.source.now inputs.entry.statement.now inputs.entry.cert.now
+        profile.now) }
     ensures fault { IfErr result
         (BeforeOutput (IsCheckRefused inputs.entry.source.now inputs.entry.statement.now inputs.entry.cert.now
         profile.now)) }

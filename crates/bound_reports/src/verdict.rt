@@ -36,9 +36,9 @@ fn is_yes(row: &Option<FailingRow>) -> bool
     }
 }
 
-/// Judges the text of a certificate as [`check_report`](crate::check_report) does, and writes the same line and
-/// then, where that is `no`, what fails in the certificate: a place or a loop without a row, a row too many, the
-/// edge whose row does not hold with what it asks for, or where the walk goes wrong.
+/// Judges the text of a certificate as [`check_report`](crate::check_report) does, and writes the same line
+/// and then, where that is `no`, what fails in the certificate: a place or a loop without a row, a row too
+/// many, the edge whose row does not hold with what it asks for, or where the walk goes wrong.
 ///
 /// # Errors
 ///

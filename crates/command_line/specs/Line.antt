@@ -85,7 +85,8 @@ abbrev pub certificate_rule : Rule
 certificate_rule =
     record (new_rule (codes "certificate")) { long = Some (codes "certificate"); value_names = 1 }
 
--- `explain SOURCE STATEMENT`, with a cycle profile, the most ticks that are wanted, DMA bursts, and a certificate
+-- `explain SOURCE STATEMENT`, with a cycle profile, the most ticks that are wanted, DMA bursts, and a
+-- certificate
 abbrev pub explain_command : App
 explain_command =
     with_rule

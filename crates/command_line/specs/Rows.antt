@@ -4,7 +4,8 @@ use Rattle.std.specs.Borrow.{Bor}
 use Rattle.std.specs.Str.{bytes_eq}
 use Rattle.clap.specs.Walk.{Row, Rule, Text}
 use Rattle.clap.specs.Simple.{App, new_app, new_rule, with_rule, with_subcommand}
-use Rattle.command_line.specs.Line.{Asked, asked_asm, asked_bound, asked_check, asked_draft, asked_explain, asked_follow, asked_list, asked_visits}
+use Rattle.command_line.specs.Line.{Asked, asked_asm, asked_bound, asked_check, asked_draft}
+use Rattle.command_line.specs.Line.{asked_explain, asked_follow, asked_list, asked_visits}
 use Rattle.command_line.specs.Line.{debug, graph, names_in, numbered, run, trace, wanted}
 use Rattle.command_line.specs.declared.rows.ArgumentRow.{ArgumentRow}
 use Rattle.command_line.specs.declared.rows.CommandRow.{CommandRow}

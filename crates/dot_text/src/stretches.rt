@@ -3,7 +3,8 @@ ghost use Rattle.std.specs.List.{list_all};
 ghost use Rattle.flow_graph.specs.Flow.{IsWellFormed};
 ghost use Rattle.loop_bounds.specs.Tree.{IsTree};
 ghost use Rattle.numbered_walks.specs.Ordered.{is_in};
-ghost use Rattle.dot_text.specs.Stretches.{AreTables, CanDraw, calls_in, edge_ticks, end_edge, first_edge, goes_on};
+ghost use Rattle.dot_text.specs.Stretches.{AreTables, CanDraw, calls_in, edge_ticks};
+ghost use Rattle.dot_text.specs.Stretches.{end_edge, first_edge, goes_on};
 ghost use Rattle.dot_text.specs.Stretches.{leads_on, loops_of, passes, stays_inside, stretch_ticks, ticks};
 
 use crate::tables::Drawn;

@@ -52,8 +52,8 @@ impl<'a> Search<'a> {
         }
     }
 
-    // Searches a routine that was not come to before. Each turn takes a step or goes back up, of which there are
-    // far fewer than turns. No address is on the path before, so that the first step is none back.
+    // Searches a routine that was not come to before. Each turn takes a step or goes back up, of which there
+    // are far fewer than turns. No address is on the path before, so that the first step is none back.
     fn search(&mut self, routine: u32) -> Result<(), AllocError> {
         self.step(routine, routine, routine)?;
         for _ in 0..u32::MAX {

@@ -21,7 +21,8 @@ pub struct FoundTarget {
 // Takes an address whose word writes R15 and does not look like a return.
 fn keep_target(found: &mut Vec<FoundTarget>, image: &Image, at: u32) -> Result<(), AllocError>
     ensures kept { OnOk result
-        (Keeps (HasShape is_odd_writer image.now) at (addresses_of found.old.items) (addresses_of found.new.items)) }
+        (Keeps (HasShape is_odd_writer image.now) at (addresses_of found.old.items)
+        (addresses_of found.new.items)) }
     ensures tables { OnOk result
         (All (HasTable image.now) found.old.items → All (HasTable image.now) found.new.items) }
 {

@@ -1,5 +1,5 @@
--- What the rows of a table are made of. No part of the table: it stands here since clauses of private functions
--- cite it.
+-- What the rows of a table are made of. No part of the table: it stands here since clauses of private
+-- functions cite it.
 use Rattle.std.specs.Prelude.{◌≡◌, ℕ, List}
 use Rattle.std.specs.BTreeMap.{get}
 use Rattle.std.specs.Ordering.{nat_cmp}

@@ -32,7 +32,8 @@ fn put_line(out: &mut Vec<u8>, columns: Columns, line: NumberedLine<'_>) -> Resu
 
 // A line has a row if it has words.
 impl LineRows for Costing {
-    ghost rows = { λ c. line_rows (get nat_cmp c.tally.by_address) (get nat_cmp c.latest) (get nat_cmp c.prices) c.bound };
+    ghost rows = { λ c. line_rows (get nat_cmp c.tally.by_address) (get nat_cmp c.latest)
+        (get nat_cmp c.prices) c.bound };
 
     fn put(
         &self,

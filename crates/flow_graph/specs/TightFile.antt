@@ -1,6 +1,6 @@
--- The machine file of a machine that takes an edge at its price. Our own choice among such machines: SVC mode,
--- pages of 32 KB, both interrupts masked, one register and at most one word in memory that is put after the
--- image's.
+-- The machine file of a machine that takes an edge at its price. Our own choice among such machines: SVC
+-- mode, pages of 32 KB, both interrupts masked, one register and at most one word in memory that is put after
+-- the image's.
 use Rattle.std.specs.Prelude.{◌≡◌, ◌<◌, ◌^◌, ◌⊎◌, ℕ, true, false, [], ◌∷◌, replicate, slice_set, map, All}
 use Rattle.std.specs.Prelude.{List, Option, Contains}
 use Rattle.std.specs.Prelude.{Some, None, IfSome}
@@ -178,8 +178,8 @@ pub record IsPlaced (profile : Profile) (f : file.Stated) (word : ℕ × ℕ) (s
 
 -- ## What is returned
 
--- such a file, and a machine and an input that take the edge: the file's machine, with the image's word at the
--- edge's place and then with the words of the file, and the input of the file's step
+-- such a file, and a machine and an input that take the edge: the file's machine, with the image's word at
+-- the edge's place and then with the words of the file, and the input of the file's step
 pub record IsTightAt (words : Words) (st : Stated) (profile : Profile) (e : Edge) (t : Tight) : Type 0 where
   pub takes : IsTight words st profile e t.machine t.input
   pub file : IsTightFile words st profile e t.file

@@ -403,8 +403,8 @@ fn tight_edge(
 
 /// A machine and an input whose one step takes an edge at exactly its price: in SVC mode it executes the
 /// image's word at the edge's place, moves only words of the stated classes, has the edge's label and leads
-/// to its target. The edge is that of the number, from 0, in the order of the graph's edges; the graph is that
-/// of the image and the statement, and has an edge of the number.
+/// to its target. The edge is that of the number, from 0, in the order of the graph's edges; the graph is
+/// that of the image and the statement, and has an edge of the number.
 ///
 /// # Errors
 ///

@@ -4,7 +4,8 @@ ghost use Rattle.std.specs.List.Sorted.{IsPermutation, IsStrictlySortedBy};
 ghost use Rattle.flow_graph.specs.Places.{place_cmp, place_at};
 ghost use Rattle.loop_bounds.specs.InPositions.{HasKeys};
 ghost use Rattle.loop_bounds.specs.Layout.{AreNumbers, IsLaidOut, ArePlaced, AreMoved, Moves};
-ghost use Rattle.loop_bounds.specs.Layout.{IsShown, AreShown, AreKeyed, by_keys, chain_above, items_of, key_in};
+ghost use Rattle.loop_bounds.specs.Layout.{IsShown, AreShown, AreKeyed, by_keys};
+ghost use Rattle.loop_bounds.specs.Layout.{chain_above, items_of, key_in};
 ghost use Rattle.loop_bounds.specs.Keys.{IsListed};
 
 use crate::extents::Extent;
@@ -18,8 +19,8 @@ use numbered_walks::{NumberedEdge, Span};
 use std::alloc::{AllocError, Global};
 use std::cmp::{Ordering, Reverse};
 
-/// A position by its key: the ranks of the headers of the extents that hold it, the outermost first, which are
-/// the chain of the innermost one, and its own rank.
+/// A position by its key: the ranks of the headers of the extents that hold it, the outermost first, which
+/// are the chain of the innermost one, and its own rank.
 #[derive(Clone, Copy)]
 pub(crate) struct Keyed {
     pub inner: Option<usize>,

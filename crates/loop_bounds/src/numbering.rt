@@ -72,8 +72,8 @@ fn index_of(places: &[Place], place: &Place) -> usize
     places.binary_search(place).unwrap_or(places.len())
 }
 
-/// The position of a place among the graph's places. It is looked for at another one first, since where no place
-/// is inside a call its position by key is the same.
+/// The position of a place among the graph's places. It is looked for at another one first, since where no
+/// place is inside a call its position by key is the same.
 pub(crate) fn index_near(places: &[Place], place: &Place, near: usize) -> usize
     requires ordered { IsStrictlySortedBy place_cmp places.now }
     requires known { Contains places.now place.now }

@@ -1,6 +1,7 @@
 ghost use Rattle.std.specs.Prelude.{◌≡◌, IfErr, IfOk, string_bytes};
 ghost use Rattle.report_output.specs.Answers.{Answers};
-ghost use Rattle.machine_reports.specs.Assembly.{IsAsmReport, IsSource, IsSourceRefused, IsWritten, size_text};
+ghost use Rattle.machine_reports.specs.Assembly.{IsAsmReport, IsSource, IsSourceRefused};
+ghost use Rattle.machine_reports.specs.Assembly.{IsWritten, size_text};
 ghost use Rattle.report_input.specs.Report.{BeforeOutput};
 
 use loader::{Image, write_image};

@@ -1,5 +1,5 @@
-//! Reports of a source and of its machine: size, listing, runs, traces, sessions, and the machine that takes an
-//! edge of a flow graph at its price.
+//! Reports of a source and of its machine: size, listing, runs, traces, sessions, and the machine that takes
+//! an edge of a flow graph at its price.
 #![tactic(auto)]
 
 mod assembly;

@@ -92,7 +92,8 @@ pub record IsRun (m : Memory) (address words : ℕ) (user store : Bool) (place :
   pub fitted : place + 4 * words ≤ 128 * 2 ^ m.shift
   pub each : (i : ℕ) → i < words → located m (word_address address i) user store ≡ Ok (Ram (place + 4 * i))
 
--- why words are no run: the first lies past logical RAM, or they reach past its page, or its access is refused
+-- why words are no run: the first lies past logical RAM, or they reach past its page, or its access is
+-- refused
 abbrev pub HasNoRun : Memory → (address words : ℕ) → (user store : Bool) → Type 0
 HasNoRun m address words user store =
     (0x2000000 ≤ address)

@@ -26,4 +26,5 @@ module _ {O : Type 0} (taken : O → Option (List ℕ)) (failures : O → ℕ) w
   -- whatever was on its way, now it is that with these bytes after it
   abbrev pub Adds : (old : O) (before : Held) (new : O) (after : Held) → List ℕ → Type 0
   Adds old before new after bytes =
-      (start : O) (text : List ℕ) → IsOnTheWay start old before text → IsOnTheWay start new after (text ++ bytes)
+      (start : O) (text : List ℕ) → IsOnTheWay start old before text
+      → IsOnTheWay start new after (text ++ bytes)

@@ -1,4 +1,5 @@
-//! Where bytes are written: outputs that count their failures, and pages that hold bytes back on their way to one.
+//! Where bytes are written: outputs that count their failures, and pages that hold bytes back on their way to
+//! one.
 #![tactic(auto)]
 
 mod output;

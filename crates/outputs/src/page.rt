@@ -9,8 +9,8 @@ use std::marker::Model;
 /// The most bytes that a page holds back.
 const PAGE_ROOM: usize = 4096;
 
-/// Bytes on their way to an output, up to 4096 of which are held back, so that many short texts are one write.
-/// It takes no memory. Once the output failed, nothing more is handed to it.
+/// Bytes on their way to an output, up to 4096 of which are held back, so that many short texts are one
+/// write. It takes no memory. Once the output failed, nothing more is handed to it.
 #[derive(Drop)]
 pub struct Page {
     room: [u8; PAGE_ROOM],

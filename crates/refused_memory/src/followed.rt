@@ -24,7 +24,8 @@ const SOURCE: &[u8] = b" ORG 0\n MOV R0,#3\nagain STR R0,[R1,#&100]\n SUBS R0,R0
 const STATEMENT: &[u8] = b"entry = 0\n\
     [[loop]]\nheader = \"again\"\nfirst = \"again\"\nlast = \"turn\"\nbound = 2\n";
 
-/// The steps until it returns, and their ticks: 1, three rounds of 10, of which the last one is 3 less, and 4.
+/// The steps until it returns, and their ticks: 1, three rounds of 10, of which the last one is 3 less, and
+/// 4.
 const KEPT: (u64, u128) = (11, 32);
 
 /// R15, the count, and the word where it is stored, before the run and after it.

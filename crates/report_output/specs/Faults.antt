@@ -20,7 +20,8 @@ use Rattle.numbered_walks.specs.declared.fault.WalkFault.TheVariants as walk_fau
 use Rattle.certificate.specs.declared.fault.CertFault.{CertFault}
 use Rattle.certificate.specs.declared.fault.CertFault.TheVariants as cert_fault
 use Rattle.report_output.specs.declared.fault.ReportFault.{ReportFault}
-use Rattle.report_output.specs.declared.fault.ReportFault.TheVariants.{Memory, Source, Image, Statement, Graph}
+use Rattle.report_output.specs.declared.fault.ReportFault.TheVariants.{Memory, Source, Image}
+use Rattle.report_output.specs.declared.fault.ReportFault.TheVariants.{Statement, Graph}
 use Rattle.report_output.specs.declared.fault.ReportFault.TheVariants.{Loops, Walk, MachineFile, Load, Cert}
 use Rattle.report_output.specs.declared.fault.ReportFault.TheVariants.{Profile}
 

@@ -1,9 +1,10 @@
-//! Runs loops on the machine and prints their steps and ticks, so that steps a second can be timed from outside.
+//! Runs loops on the machine and prints their steps and ticks, so that steps a second can be timed from
+//! outside.
 //!
 //!     speed [LOOP [STEPS]]
 //!
-//! LOOP is the name of a loop; all of them run where none is named. STEPS is at most 4294967295, or else 4096.
-//! The status is 0, 2 where there is no such loop or number, and 3 where a loop was not run.
+//! LOOP is the name of a loop; all of them run where none is named. STEPS is at most 4294967295, or else
+//! 4096. The status is 0, 2 where there is no such loop or number, and 3 where a loop was not run.
 #![tactic(auto)]
 
 mod loops;

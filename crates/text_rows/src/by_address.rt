@@ -23,8 +23,8 @@ fn put_line<'a>(
     Ok(())
 }
 
-/// The lines of a source by the addresses of their words. `placed` says where the lines stand, in their order. An
-/// error says that an allocation failed.
+/// The lines of a source by the addresses of their words. `placed` says where the lines stand, in their
+/// order. An error says that an allocation failed.
 pub fn lines_by_address<'a>(
     alloc: Global,
     source: &'a [u8],

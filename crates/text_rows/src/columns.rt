@@ -25,8 +25,8 @@ pub fn put_decimal(out: &mut Vec<u8>, number: u64) -> Result<(), AllocError>
     put(out, buffer.format(number).as_bytes())
 }
 
-/// Adds a text that ends so many columns on, up to 36; a longer text has no blank in front. An error says that an
-/// allocation failed.
+/// Adds a text that ends so many columns on, up to 36; a longer text has no blank in front. An error says
+/// that an allocation failed.
 pub fn put_right(out: &mut Vec<u8>, text: &[u8], width: usize) -> Result<(), AllocError>
     requires { width ≤ 36 }
     ensures { OnOk result (out.new.items ≡ out.old.items ++ in_columns width text.now) }
@@ -71,8 +71,8 @@ fn cut_at(text: &[u8], most: usize) -> usize
     most
 }
 
-/// Ends a row that has so many columns with a text, of which it adds as much as there is room for up to column
-/// 80. No character of UTF-8 is parted. An error says that an allocation failed.
+/// Ends a row that has so many columns with a text, of which it adds as much as there is room for up to
+/// column 80. No character of UTF-8 is parted. An error says that an allocation failed.
 pub fn put_cut_row(out: &mut Vec<u8>, used: usize, text: &[u8]) -> Result<(), AllocError>
     ensures { OnOk result (out.new.items ≡ out.old.items ++ cut_row used text.now) }
 {

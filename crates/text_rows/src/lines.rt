@@ -25,8 +25,8 @@ pub trait LineRows {
             ≡ out.old.items ++ rows self.now line.entry.number line.entry.text.now placed) };
 }
 
-/// Adds the rows of a source's lines, numbered from 1. `placed` says where the lines stand, in their order; the
-/// rows end with the lines, or with the places. An error says that an allocation failed.
+/// Adds the rows of a source's lines, numbered from 1. `placed` says where the lines stand, in their order;
+/// the rows end with the lines, or with the places. An error says that an allocation failed.
 pub fn put_line_rows<R: LineRows>(
     out: &mut Vec<u8>,
     source: &[u8],

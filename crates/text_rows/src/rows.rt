@@ -43,8 +43,8 @@ pub fn put_address_row(out: &mut Vec<u8>, at: u32) -> Result<(), AllocError>
     put(out, b"\n")
 }
 
-/// Adds the row of a line's word to a row that has `used` columns: its address, the number of the line, and as much
-/// of the line's text as there is room for up to column 80. An error says that an allocation failed.
+/// Adds the row of a line's word to a row that has `used` columns: its address, the number of the line, and
+/// as much of the line's text as there is room for up to column 80. An error says that an allocation failed.
 pub fn put_named_row(
     out: &mut Vec<u8>,
     used: usize,
@@ -62,8 +62,9 @@ pub fn put_named_row(
     put_cut_row(out, used.saturating_add(out.len() - begun), line.text)
 }
 
-/// Adds the row of an image's word to a row that has `used` columns: its address, the word, and as much of the line
-/// that [`disassemble`] shows as there is room for up to column 80. An error says that an allocation failed.
+/// Adds the row of an image's word to a row that has `used` columns: its address, the word, and as much of
+/// the line that [`disassemble`] shows as there is room for up to column 80. An error says that an allocation
+/// failed.
 pub fn put_shown_row(out: &mut Vec<u8>, used: usize, at: u32, word: u32) -> Result<(), AllocError>
     ensures { OnOk result (Appends (IsShownRow used (at, word)) out.old.items out.new.items) }
 {

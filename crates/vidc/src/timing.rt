@@ -4,8 +4,8 @@ ghost use Rattle.vidc.specs.Video.{raster_of};
 use crate::PixelRate;
 use crate::frame::{raster, rasters};
 
-/// The registers that make the frame, and the times that follow from them, which each step asks for: in sixths
-/// of a tick.
+/// The registers that make the frame, and the times that follow from them, which each step asks for: in
+/// sixths of a tick.
 #[derive(Clone, Copy)]
 pub struct Timing {
     // Values of ten bits.

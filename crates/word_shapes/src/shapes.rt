@@ -1,6 +1,7 @@
 ghost use Rattle.std.specs.Prelude.{◌≡◌};
 ghost use Rattle.arm2_effect.specs.Operations.{is_transfer};
-ghost use Rattle.word_shapes.specs.Shapes.{copies_link, data_writes_pc, is_add, is_always, is_link, is_lsl_by};
+ghost use Rattle.word_shapes.specs.Shapes.{copies_link, data_writes_pc, is_add};
+ghost use Rattle.word_shapes.specs.Shapes.{is_always, is_link, is_lsl_by};
 ghost use Rattle.word_shapes.specs.Shapes.{is_move, is_never, is_odd_writer, is_return, is_stack};
 ghost use Rattle.word_shapes.specs.Shapes.{is_subtraction, is_table_jump, is_way_back, subtracts_from_link};
 ghost use Rattle.word_shapes.specs.Shapes.{writes_pc};
