@@ -16,10 +16,9 @@ use Rattle.longest_walk.specs.declared.folded.Longest.{Longest}
 use Rattle.numbered_walks.specs.declared.fault.WalkFault.{WalkFault}
 use Rattle.numbered_walks.specs.declared.fault.WalkFault.TheVariants as walk_fault
 use Rattle.author_reports.specs.ExplainReport.{IsExplanation, IsTextOf, IsTotal}
-use Rattle.report_input.specs.Report.{HasLoops, IsRefused, IsTreeOf}
+use Rattle.report_input.specs.Report.{BeforeOutput, HasLoops, IsRefused, IsTreeOf}
 use Rattle.report_input.specs.Source.{IsSourceFault, source_of}
 use Rattle.report_output.specs.declared.fault.ReportFault.{ReportFault}
-use Rattle.report_output.specs.declared.fault.ReportFault.TheVariants.{Device}
 use Rattle.report_input.proofs.HandlerLemmas.{source_refusal}
 use Rattle.report_input.proofs.ReportLemmas.{accepted, report_refusal, tree_is_greatest}
 use Rattle.author_reports.proofs.SaidLemmas.{same_words}
@@ -59,5 +58,5 @@ module _ (source statement : List ℕ) (profile : Profile) (words : Words) (name
   }
 
 -- a fault of the source refuses the explanation
-pub source_unexplained : (source statement : List ℕ) (profile : Profile) (e : ReportFault) → IsSourceFault source e → (e ≢ Device) × IsRefused source statement profile e
+pub source_unexplained : (source statement : List ℕ) (profile : Profile) (e : ReportFault) → IsSourceFault source e → BeforeOutput (IsRefused source statement profile) e
 source_unexplained source statement profile e h = report_refusal source statement profile e (source_refusal source statement profile e h)

@@ -32,7 +32,7 @@ use Rattle.author_reports.specs.FollowText.{has_word}
 use Rattle.author_reports.specs.FollowWork.{HasAllPlaces, IsJudgedRun, Tells}
 use Rattle.report_input.specs.Keeping.{KeepsStatement, TakesAtMost}
 use Rattle.report_input.specs.Placing.{IsPlaced, IsRunRefused}
-use Rattle.report_input.specs.Report.{HasLoops, IsAccepted, IsRefused, IsTreeOf}
+use Rattle.report_input.specs.Report.{BeforeOutput, HasLoops, IsAccepted, IsRefused, IsTreeOf}
 use Rattle.report_input.specs.Source.{source_of}
 use Rattle.report_output.specs.declared.fault.ReportFault.{ReportFault}
 use Rattle.report_output.specs.declared.fault.ReportFault.TheVariants.{Memory, Source, Image, MachineFile, Load, Device}
@@ -173,7 +173,7 @@ module _ (source statement machine : List ℕ) (profile : Profile) (words : Word
 
 module _ (source statement machine : List ℕ) (profile : Profile) where
   abbrev pub Refused : ReportFault → Type 0
-  Refused e = (e ≢ Device) × IsFollowRefused source statement machine profile e
+  Refused = BeforeOutput (IsFollowRefused source statement machine profile)
 
   -- of the handler
   handler_refuses : (e : ReportFault) → IsRefused source statement profile e → IsFollowRefused source statement machine profile e
@@ -181,7 +181,7 @@ module _ (source statement machine : List ℕ) (profile : Profile) where
   handler_refuses (Load f) h = absurd h
   handler_refuses e h = h
 
-  pub handler_refused : (e : ReportFault) → (e ≢ Device) × IsRefused source statement profile e → Refused e
+  pub handler_refused : (e : ReportFault) → BeforeOutput (IsRefused source statement profile) e → Refused e
   handler_refused e h = (h.0, handler_refuses e h.1)
 
   -- of the machine
@@ -194,7 +194,7 @@ module _ (source statement machine : List ℕ) (profile : Profile) where
   machine_refuses (Load f) a h = (a, h)
   machine_refuses e a h = absurd h
 
-  pub machine_refused : (e : ReportFault) → IsAccepted source statement profile → (e ≢ Device) × IsRunRefused source machine profile e → Refused e
+  pub machine_refused : (e : ReportFault) → IsAccepted source statement profile → BeforeOutput (IsRunRefused source machine profile) e → Refused e
   machine_refused e a h = (h.0, machine_refuses e a h.1)
 
   -- what can be followed is refused for lack of memory alone, or as the output fails

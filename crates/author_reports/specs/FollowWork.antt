@@ -1,5 +1,6 @@
 -- What the parts of a report on a followed run leave to each other.
 use Rattle.std.specs.Prelude.{◌≡◌, ℕ, Bool, true, false, List, ◌++◌, length, Option}
+use Rattle.bus_ticks.specs.declared.profile.Profile.{Profile}
 use Rattle.loader.specs.Image.{Words}
 use Rattle.statement.specs.Stated as statement
 use Rattle.arm2_exec.specs.State.{State}
@@ -15,8 +16,10 @@ use Rattle.kept_runs.specs.declared.following.Followed.TheVariants.{Kept, Straye
 use Rattle.machine_file.specs.Inputs.{AreInputs}
 use Rattle.machine_file.specs.Stated.{Stated}
 use Rattle.author_reports.specs.Differences.{IsTable, told_at}
-use Rattle.author_reports.specs.FollowReport.{TellsRun}
+use Rattle.author_reports.specs.FollowReport.{IsFollowRefused, IsFollowReport, TellsRun}
 use Rattle.author_reports.specs.FollowText.{IsLineAt, kept_text, strayed_text, why_text}
+use Rattle.author_reports.specs.declared.follow.FollowedRun.{FollowedRun}
+use Rattle.report_output.specs.declared.fault.ReportFault.{ReportFault}
 
 -- the answer on a run that is kept: its ticks, and where it and the walk differ, whatever its steps are, by
 -- numbers that are told up to 2^64 - 1
@@ -48,3 +51,13 @@ pub record IsJudgedRun (words : Words) (st : statement.Stated) (flow : Flow) (tr
   pub inputs : List Input
   pub inputs_are : AreInputs file.schedule inputs
   pub tells : TellsRun words st flow.profile flow state inputs source tree longest kept text
+
+-- whether a run keeps its statement by a profile, and the report that says so
+abbrev pub IsReportOn : FollowedRun → Profile → (kept : Bool) → (text : List ℕ) → Type 0
+IsReportOn run profile kept text =
+    IsFollowReport run.source.now run.statement.now run.machine.now profile kept text
+
+-- when each refusal of a run by a profile is answered
+abbrev pub IsRefusalOf : FollowedRun → Profile → ReportFault → Type 0
+IsRefusalOf run profile fault =
+    IsFollowRefused run.source.now run.statement.now run.machine.now profile fault

@@ -1,10 +1,11 @@
 //! What has to be stated of a handler.
 
-ghost use Rattle.std.specs.Prelude.{◌≡◌, ◌≢◌, IfErr, IfOk};
+ghost use Rattle.std.specs.Prelude.{◌≡◌, IfErr, IfOk};
 ghost use Rattle.loader.specs.Labels.{address_of};
 ghost use Rattle.report_output.specs.Answers.{Answers};
 ghost use Rattle.author_reports.specs.DraftReport.{IsDraftRefused, IsDraftReport, IsDraftable};
 ghost use Rattle.author_reports.specs.DraftReport.{address_in, entry_of};
+ghost use Rattle.report_input.specs.Report.{BeforeOutput};
 ghost use Rattle.report_input.specs.Source.{IsSourceFault};
 ghost use Rattle.drafting.specs.Draft.{IsDraft};
 
@@ -65,7 +66,7 @@ fn draft_text(
 
 fn source_draft(alloc: Global, source: &[u8], entry: &[u8]) -> Result<Vec<u8>, ReportFault>
     ensures draft { IfOk result (λ text. IsDraftReport source.now entry.now text.items) }
-    ensures fault { IfErr result (λ e. (e ≢ ReportFault.Device) × IsDraftRefused source.now entry.now e) }
+    ensures fault { IfErr result (BeforeOutput (IsDraftRefused source.now entry.now)) }
     ensures only { IsDraftable source.now entry.now → IfErr result (λ e. e ≡ ReportFault.Memory) }
 {
     let said = read_source(alloc, source)?;

@@ -1,6 +1,6 @@
 //! Where the ticks of a handler's greatest run time go.
 
-ghost use Rattle.std.specs.Prelude.{◌≡◌, ◌≢◌, Ok, IfErr, IfOk, option_map};
+ghost use Rattle.std.specs.Prelude.{◌≡◌, Ok, IfErr, IfOk, option_map};
 ghost use Rattle.bus_ticks.specs.declared.profile.Profile.{Profile};
 ghost use Rattle.explained.specs.Starts.{latest_at};
 ghost use Rattle.flow_graph.specs.Flow.{IsWellFormed};
@@ -9,7 +9,7 @@ ghost use Rattle.assembler.specs.Placed.{ArePlaced};
 ghost use Rattle.author_reports.specs.ExplainReport.{Explains, IsExplanation, IsImageText, IsSourceText};
 ghost use Rattle.author_reports.specs.ExplainReport.{IsTextOf, is_enough};
 ghost use Rattle.report_input.specs.Priced.{Priced};
-ghost use Rattle.report_input.specs.Report.{HasLoops, IsRefused, IsTreeOf};
+ghost use Rattle.report_input.specs.Report.{BeforeOutput, HasLoops, IsRefused, IsTreeOf};
 ghost use Rattle.report_input.specs.Source.{IsSourceFault, source_of};
 
 use assembler::{PlacedLine, placed_lines};
@@ -158,8 +158,8 @@ fn explanation_of(
         → source_of explained.entry.source.now ≡ Ok (image.now, names)
         → HasLoops explained.entry.source.now explained.entry.statement.now profile.now
         handler.now.statement handler.now.graph
-        → IfErr result (λ e. (e ≢ ReportFault.Device)
-        × IsRefused explained.entry.source.now explained.entry.statement.now profile.now e) }
+        → IfErr result
+        (BeforeOutput (IsRefused explained.entry.source.now explained.entry.statement.now profile.now)) }
 {
     let found = longest_of(alloc, handler)?;
     let starts = worst_starts(alloc, &handler.graph, &handler.tree)?;
@@ -195,8 +195,7 @@ fn source_explanation(
         (λ e. IsExplanation explained.entry.source.now explained.entry.statement.now explained.entry.bursts
         profile.now e.bound e.text.items) }
     ensures fault { IfErr result
-        (λ e. (e ≢ ReportFault.Device)
-        × IsRefused explained.entry.source.now explained.entry.statement.now profile.now e) }
+        (BeforeOutput (IsRefused explained.entry.source.now explained.entry.statement.now profile.now)) }
 {
     let read = said_handler(alloc, explained.source, explained.statement, profile)?;
     explanation_of(alloc, explained, profile, &read.said.image, &read.handler)

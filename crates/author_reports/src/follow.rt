@@ -1,18 +1,18 @@
 //! Whether a machine's run keeps the statement of its handler.
 
-ghost use Rattle.std.specs.Prelude.{◌≡◌, ◌≢◌, ℕ, Ok, IfErr, IfOk, Option, length, option_map};
+ghost use Rattle.std.specs.Prelude.{◌≡◌, ℕ, IfErr, IfOk, Option, length, option_map};
 ghost use Rattle.flow_graph.specs.Flow.{IsWellFormed};
 ghost use Rattle.flow_graph.specs.Graph.{IsFlowGraph};
 ghost use Rattle.kept_runs.specs.Judging.{IsMachineFor};
-ghost use Rattle.loader.specs.Labels.{address_of};
 ghost use Rattle.longest_walk.specs.Longest.{IsLongest};
 ghost use Rattle.loop_bounds.specs.Bounds.{IsGreatestCost};
-ghost use Rattle.author_reports.specs.FollowReport.{FollowsRun, IsFollowRefused, IsFollowReport};
+ghost use Rattle.author_reports.specs.FollowReport.{FollowsRun};
 ghost use Rattle.author_reports.specs.FollowText.{IsLineAt, strayed_text, why_text};
-ghost use Rattle.author_reports.specs.FollowWork.{HasAllPlaces, IsJudgedRun, Tells, TellsKeptRun};
+ghost use Rattle.author_reports.specs.FollowWork.{HasAllPlaces, IsJudgedRun, IsRefusalOf, IsReportOn};
+ghost use Rattle.author_reports.specs.FollowWork.{Tells, TellsKeptRun};
 ghost use Rattle.report_input.specs.Priced.{Priced};
-ghost use Rattle.report_input.specs.Report.{HasLoops, IsTreeOf};
-ghost use Rattle.report_input.specs.Source.{IsSourceFault, source_of};
+ghost use Rattle.report_input.specs.Report.{BeforeOutput, HasLoops, IsTreeOf};
+ghost use Rattle.report_input.specs.Source.{IsSourceFault, Says};
 
 use crate::differences::{Words, differences};
 use crate::follow_text::{kept_text, line_of, strayed_text, why_text};
@@ -178,16 +178,12 @@ fn handler_run(
     handler: &Handler,
     profile: &Profile,
 ) -> Result<Judged, ReportFault>
-    requires said { source_of run.source.now ≡ Ok (said.now.image, address_of said.now.labels) }
+    requires said { Says run.source.now said.now }
     requires loops { HasLoops run.source.now run.statement.now profile.now handler.now.statement
         handler.now.graph }
     requires tree { IsTreeOf handler.now.graph handler.now.statement.loops handler.now.tree }
-    ensures judged { IfOk result
-        (λ j. IsFollowReport run.entry.source.now run.entry.statement.now run.entry.machine.now profile.now
-        j.kept j.text.items) }
-    ensures fault { IfErr result
-        (λ e. (e ≢ ReportFault.Device) × IsFollowRefused run.entry.source.now run.entry.statement.now
-        run.entry.machine.now profile.now e) }
+    ensures judged { IfOk result (λ j. IsReportOn run.entry profile.now j.kept j.text.items) }
+    ensures fault { IfErr result (BeforeOutput (IsRefusalOf run.entry profile.now)) }
 {
     let longest = longest_of(alloc, handler)?;
     let mut placed = place_image(alloc, said, run.machine, *profile)?;
@@ -202,12 +198,8 @@ fn handler_run(
 }
 
 fn source_run(alloc: Global, run: FollowedRun<'_>, profile: &Profile) -> Result<Judged, ReportFault>
-    ensures judged { IfOk result
-        (λ j. IsFollowReport run.entry.source.now run.entry.statement.now run.entry.machine.now profile.now
-        j.kept j.text.items) }
-    ensures fault { IfErr result
-        (λ e. (e ≢ ReportFault.Device) × IsFollowRefused run.entry.source.now run.entry.statement.now
-        run.entry.machine.now profile.now e) }
+    ensures judged { IfOk result (λ j. IsReportOn run.entry profile.now j.kept j.text.items) }
+    ensures fault { IfErr result (BeforeOutput (IsRefusalOf run.entry profile.now)) }
 {
     let read = said_handler(alloc, run.source, run.statement, profile)?;
     handler_run(alloc, run, &read.said, &read.handler, profile)

@@ -1,12 +1,12 @@
 //! The drawing of a handler's flow graph, with what its greatest run time takes.
 
-ghost use Rattle.std.specs.Prelude.{◌≡◌, ◌≢◌, ℕ, List, Ok, IfErr, IfOk, option_map};
+ghost use Rattle.std.specs.Prelude.{◌≡◌, ℕ, List, Ok, IfErr, IfOk, option_map};
 ghost use Rattle.bus_ticks.specs.declared.profile.Profile.{Profile};
 ghost use Rattle.flow_graph.specs.Flow.{IsWellFormed};
 ghost use Rattle.statement.specs.Statement.{Names};
 ghost use Rattle.author_reports.specs.GraphReport.{AreLabelsOf, Draws, IsGraphReport};
 ghost use Rattle.report_input.specs.Priced.{Priced};
-ghost use Rattle.report_input.specs.Report.{HasLoops, IsRefused, IsTreeOf};
+ghost use Rattle.report_input.specs.Report.{BeforeOutput, HasLoops, IsRefused, IsTreeOf};
 ghost use Rattle.report_input.specs.Source.{IsSourceFault, source_of};
 
 use assembler::placed_lines;
@@ -56,7 +56,7 @@ fn drawing_of(
     ensures fault { (statement : List ℕ) (profile : Profile) (names : Names)
         → source_of source.now ≡ Ok (image.now, names)
         → HasLoops source.now statement profile handler.now.statement handler.now.graph
-        → IfErr result (λ e. (e ≢ ReportFault.Device) × IsRefused source.now statement profile e) }
+        → IfErr result (BeforeOutput (IsRefused source.now statement profile)) }
 {
     let found = longest_of(alloc, handler)?;
     places_are_drawn_once();
@@ -74,8 +74,7 @@ fn source_drawing(
 ) -> Result<Vec<u8>, ReportFault>
     ensures draws { IfOk result
         (λ text. IsGraphReport source.now statement.now profile.now text.items) }
-    ensures fault { IfErr result
-        (λ e. (e ≢ ReportFault.Device) × IsRefused source.now statement.now profile.now e) }
+    ensures fault { IfErr result (BeforeOutput (IsRefused source.now statement.now profile.now)) }
 {
     let read = said_handler(alloc, source, statement, profile)?;
     drawing_of(alloc, source, &read.said.image, &read.handler)

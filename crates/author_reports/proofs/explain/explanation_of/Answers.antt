@@ -1,10 +1,9 @@
-use Rattle.std.proofs.Common.{◌≢◌, subst, sym}
+use Rattle.std.proofs.Common.{subst, sym}
 use Rattle.explained.specs.Starts.{latest_at}
 use Rattle.longest_walk.specs.Starts.{AreWorstStarts}
 use Rattle.report_output.specs.Faults.{of_walk}
 use Rattle.author_reports.specs.ExplainReport.{IsTotal}
-use Rattle.report_input.specs.Report.{IsRefused}
-use Rattle.report_output.specs.declared.fault.ReportFault.TheVariants.{Device}
+use Rattle.report_input.specs.Report.{BeforeOutput, IsRefused}
 use Rattle.author_reports.proofs.ExplainLemmas.{bound_fits, explained, source_unexplained}
 use Rattle.report_input.proofs.HandlerLemmas.{refused_as}
 use Rattle.report_input.proofs.ReportLemmas.{walk_refusal}
@@ -14,7 +13,7 @@ use Rattle.author_reports.proofs.explain.explanation_of.Goals as goal
 pub returns-in_err-found-clause-fault : goal.returns-in_err-found-clause-fault
 returns-in_err-found-clause-fault c = λ names said loops.
     let x = c.args.explained in
-    refused_as c.from_residual.result c.in_err-found.field-0.0 (λ e. (e ≢ Device) × IsRefused x.source.now x.statement.now c.args.profile.now e) c.from_residual.ensures.1
+    refused_as c.from_residual.result c.in_err-found.field-0.0 (BeforeOutput (IsRefused x.source.now x.statement.now c.args.profile.now)) c.from_residual.ensures.1
     (c.in_err-found.ensures.fault x.source.now x.statement.now c.args.profile.now loops)
 
 pub returns-in_err-starts-clause-fault : goal.returns-in_err-starts-clause-fault
@@ -24,7 +23,7 @@ returns-in_err-starts-clause-fault c = λ names said loops.
     let profile = c.args.profile.now in
     let h = c.args.handler.now in
     let f = c.in_err-starts.field-0.0 in
-    refused_as c.from_residual-in_err-starts.result (of_walk f) (λ e. (e ≢ Device) × IsRefused source statement profile e) c.from_residual-in_err-starts.ensures.1
+    refused_as c.from_residual-in_err-starts.result (of_walk f) (BeforeOutput (IsRefused source statement profile)) c.from_residual-in_err-starts.ensures.1
     (walk_refusal source statement profile h.statement h.graph h.tree loops c.requires.tree f c.in_err-starts.ensures.fault)
 
 pub returns-in_err-text-clause-fault : goal.returns-in_err-text-clause-fault
@@ -33,7 +32,7 @@ returns-in_err-text-clause-fault c = λ names said loops.
     let statement = c.args.explained.statement.now in
     let profile = c.args.profile.now in
     let e = c.in_err-text.field-0.0 in
-    refused_as c.from_residual-in_err-text.result e (λ e. (e ≢ Device) × IsRefused source statement profile e) c.from_residual-in_err-text.ensures.1
+    refused_as c.from_residual-in_err-text.result e (BeforeOutput (IsRefused source statement profile)) c.from_residual-in_err-text.ensures.1
     (source_unexplained source statement profile e c.in_err-text.ensures.fault)
 
 pub returns-clause-explains : goal.returns-clause-explains

@@ -1,7 +1,5 @@
-use Rattle.std.proofs.Common.{◌≢◌}
 use Rattle.loader.specs.Labels.{address_of}
-use Rattle.report_input.specs.Report.{IsRefused}
-use Rattle.report_output.specs.declared.fault.ReportFault.TheVariants.{Device}
+use Rattle.report_input.specs.Report.{BeforeOutput, IsRefused}
 use Rattle.report_input.proofs.HandlerLemmas.{refused_as}
 use Rattle.report_input.proofs.ReportLemmas.{report_refusal}
 use Rattle.author_reports.proofs.explain.source_explanation.Goals as goal
@@ -11,7 +9,7 @@ returns-in_err-read-clause-fault c =
     let x = c.args.explained in
     let profile = c.args.profile.now in
     let e = c.in_err-read.field-0.0 in
-    refused_as c.from_residual.result e (λ e. (e ≢ Device) × IsRefused x.source.now x.statement.now profile e) c.from_residual.ensures.1
+    refused_as c.from_residual.result e (BeforeOutput (IsRefused x.source.now x.statement.now profile)) c.from_residual.ensures.1
     (report_refusal x.source.now x.statement.now profile e c.in_err-read.ensures.fault)
 
 pub returns-clause-explains : goal.returns-clause-explains

@@ -1,8 +1,7 @@
-use Rattle.std.proofs.Common.{◌≢◌, ℕ, List, Vec, subst, sym}
+use Rattle.std.proofs.Common.{ℕ, List, Vec, subst, sym}
 use Rattle.std.specs.Global.{Global}
 use Rattle.author_reports.specs.GraphReport.{AreLabelsOf}
-use Rattle.report_input.specs.Report.{IsRefused}
-use Rattle.report_output.specs.declared.fault.ReportFault.TheVariants.{Device}
+use Rattle.report_input.specs.Report.{BeforeOutput, IsRefused}
 use Rattle.author_reports.proofs.ExplainLemmas.{bound_fits, source_unexplained}
 use Rattle.author_reports.proofs.GraphLemmas.{drawn}
 use Rattle.report_input.proofs.HandlerLemmas.{refused_as}
@@ -10,13 +9,13 @@ use Rattle.author_reports.proofs.graph.drawing_of.Goals as goal
 
 pub returns-in_err-found-clause-fault : goal.returns-in_err-found-clause-fault
 returns-in_err-found-clause-fault c = λ statement profile names said loops.
-    refused_as c.from_residual.result c.in_err-found.field-0.0 (λ e. (e ≢ Device) × IsRefused c.args.source.now statement profile e) c.from_residual.ensures.1
+    refused_as c.from_residual.result c.in_err-found.field-0.0 (BeforeOutput (IsRefused c.args.source.now statement profile)) c.from_residual.ensures.1
     (c.in_err-found.ensures.fault c.args.source.now statement profile loops)
 
 pub returns-in_err-labels-clause-fault : goal.returns-in_err-labels-clause-fault
 returns-in_err-labels-clause-fault c = λ statement profile names said loops.
     let e = c.in_err-labels.field-0.0 in
-    refused_as c.from_residual-in_err-labels.result e (λ e. (e ≢ Device) × IsRefused c.args.source.now statement profile e) c.from_residual-in_err-labels.ensures.1
+    refused_as c.from_residual-in_err-labels.result e (BeforeOutput (IsRefused c.args.source.now statement profile)) c.from_residual-in_err-labels.ensures.1
     (source_unexplained c.args.source.now statement profile e c.in_err-labels.ensures.fault)
 
 pub returns-clause-draws : goal.returns-clause-draws

@@ -1,7 +1,5 @@
-use Rattle.std.proofs.Common.{◌≢◌}
 use Rattle.loader.specs.Labels.{address_of}
-use Rattle.report_input.specs.Report.{IsRefused}
-use Rattle.report_output.specs.declared.fault.ReportFault.TheVariants.{Device}
+use Rattle.report_input.specs.Report.{BeforeOutput, IsRefused}
 use Rattle.report_input.proofs.HandlerLemmas.{refused_as}
 use Rattle.report_input.proofs.ReportLemmas.{report_refusal}
 use Rattle.author_reports.proofs.graph.source_drawing.Goals as goal
@@ -11,7 +9,7 @@ returns-in_err-read-clause-fault c =
     let source = c.args.source.now in
     let statement = c.args.statement.now in
     let e = c.in_err-read.field-0.0 in
-    refused_as c.from_residual.result e (λ e. (e ≢ Device) × IsRefused source statement c.args.profile.now e) c.from_residual.ensures.1
+    refused_as c.from_residual.result e (BeforeOutput (IsRefused source statement c.args.profile.now)) c.from_residual.ensures.1
     (report_refusal source statement c.args.profile.now e c.in_err-read.ensures.fault)
 
 pub returns-clause-draws : goal.returns-clause-draws
