@@ -14,7 +14,7 @@ use Rattle.loop_bounds.specs.Bounds.{IsGreatestCost}
 use Rattle.longest_walk.specs.Visits.{visits_bound}
 use Rattle.numbered_walks.specs.declared.fault.WalkFault.TheVariants as walk_fault
 use Rattle.report_output.specs.Faults.{of_statement}
-use Rattle.report_input.specs.Report.{IsRefused, IsReport}
+use Rattle.report_input.specs.Report.{BeforeOutput, IsRefused, IsReport}
 use Rattle.report_input.specs.Source.{Said, source_of}
 use Rattle.arcwcet.specs.VisitsReport.{AreAccepted, AreRefused, EntersElsewhere, HasBound, HasFiqBound, HaveReports, IsFiqRefused, IsVisitsReport, summary, total_of}
 use Rattle.report_output.specs.declared.fault.ReportFault.{ReportFault}
@@ -51,7 +51,7 @@ one_bound source statement profile text other r s =
 
 module _ (source fiq : List ℕ) (profile : Profile) where
   -- where its entry is right, or not read, the refusals are those of any handler
-  pub fiq_refusal : (e : ReportFault) → (EntersElsewhere source fiq → ⊥) → (e ≢ Device) × IsRefused source fiq profile e → (e ≢ Device) × IsFiqRefused source fiq profile e
+  pub fiq_refusal : (e : ReportFault) → (EntersElsewhere source fiq → ⊥) → BeforeOutput (IsRefused source fiq profile) e → BeforeOutput (IsFiqRefused source fiq profile) e
   fiq_refusal Memory right r = (λ e. cc e, tt)
   fiq_refusal NotFiqEntry right r = absurd r.1
   fiq_refusal report_fault.NoSuchEdge right r = absurd r.1
@@ -61,8 +61,8 @@ module _ (source fiq : List ℕ) (profile : Profile) where
   fiq_refusal e right r = (λ e. cc e, (r.1, right))
 
   -- the same of an answer
-  pub fiq_answer : {T : Type 0} (r : Result T ReportFault) → (EntersElsewhere source fiq → ⊥) → IfErr r (λ e. (e ≢ Device) × IsRefused source fiq profile e)
-      → IfErr r (λ e. (e ≢ Device) × IsFiqRefused source fiq profile e)
+  pub fiq_answer : {T : Type 0} (r : Result T ReportFault) → (EntersElsewhere source fiq → ⊥) → IfErr r (BeforeOutput (IsRefused source fiq profile))
+      → IfErr r (BeforeOutput (IsFiqRefused source fiq profile))
   fiq_answer (Ok x) right h = tt
   fiq_answer (Err e) right h = fiq_refusal e right h
 
@@ -82,11 +82,11 @@ module _ (source fiq : List ℕ) (profile : Profile) where
         let both : Ok other.stated ≡ Err f = same_statement fiq other.names names (Ok other.stated) (Err f) (ap (λ (s : Said). s.1) same_said) other.statement_is is in
         absurd (cc both)
 
-    refused_reading : (f : StatementFault) → f ≢ statement_fault.Memory → (f ≢ statement_fault.Memory → IsStatement fiq names (Err f)) → (of_statement f ≢ Device) × IsFiqRefused source fiq profile (of_statement f)
+    refused_reading : (f : StatementFault) → f ≢ statement_fault.Memory → (f ≢ statement_fault.Memory → IsStatement fiq names (Err f)) → BeforeOutput (IsFiqRefused source fiq profile) (of_statement f)
     refused_reading f other h =
         fiq_refusal (of_statement f) (enters_nowhere f (h other)) (report_refusal source fiq profile (of_statement f) (statement_refusal source fiq profile words names said f h))
 
-    pub fiq_statement_refusal : (f : StatementFault) → (f ≢ statement_fault.Memory → IsStatement fiq names (Err f)) → (of_statement f ≢ Device) × IsFiqRefused source fiq profile (of_statement f)
+    pub fiq_statement_refusal : (f : StatementFault) → (f ≢ statement_fault.Memory → IsStatement fiq names (Err f)) → BeforeOutput (IsFiqRefused source fiq profile) (of_statement f)
     fiq_statement_refusal statement_fault.Memory h = (λ e. cc e, tt)
     fiq_statement_refusal f h = refused_reading f (λ e. cc e) h
 
@@ -123,7 +123,7 @@ module _ (source irq fiq : List ℕ) (profile : Profile) where
 
     -- why the texts cannot be joined
     pub joined_refusal : (k : ℕ) (e : ReportFault) → (e ≡ Memory) ⊎ ((e ≡ Walk walk_fault.BoundTooLarge) × (2 ^ 63 ≤ visits_bound profile b c k))
-        → (e ≢ Device) × AreRefused source irq fiq k profile e
+        → BeforeOutput (AreRefused source irq fiq k profile) e
     joined_refusal k e (inl memory) = (λ d. cc (memory, d), subst (AreRefused source irq fiq k profile) (sym memory) (inl tt))
     joined_refusal k e (inr large) =
         (λ d. cc (large.0, d), inr (inr (large.0, (both_reports, subst (λ n. 2 ^ 63 ≤ n) (sym (total_is k)) large.1))))
@@ -155,7 +155,7 @@ module _ (source irq fiq : List ℕ) (profile : Profile) where
       absurd (omega (arith, same, a.1, r.1.1))
 
   -- the same of an answer
-  pub only_starved : {T : Type 0} (k : ℕ) (r : Result T ReportFault) → IfErr r (λ e. (e ≢ Device) × AreRefused source irq fiq k profile e)
+  pub only_starved : {T : Type 0} (k : ℕ) (r : Result T ReportFault) → IfErr r (BeforeOutput (AreRefused source irq fiq k profile))
       → AreAccepted source irq fiq k profile → IfErr r (λ e. (e ≡ Memory) ⊎ (e ≡ Device))
   only_starved k (Ok x) h a = tt
   only_starved k (Err e) h a = visits_refusals k e a h.1

@@ -31,6 +31,22 @@ fn placed_in(alloc: Global, source: &[u8]) -> Result<Vec<PlacedLine>, ReportFaul
     Ok(placed)
 }
 
+// The words of a source that was read, with their lines, by where those stand.
+fn source_words<'a>(
+    alloc: Global,
+    source: &'a [u8],
+    said: &'a Assembly,
+    placed: &'a [PlacedLine],
+) -> Result<Words<'a>, AllocError> {
+    let program = Program {
+        source,
+        placed,
+        image: &said.image,
+        labels: &said.labels,
+    };
+    words_of(alloc, &program)
+}
+
 // Of loops that are refused, the places that show why.
 fn loops_text(
     alloc: Global,
@@ -78,13 +94,7 @@ fn nest_text(
     fault: NestFault,
 ) -> Result<Vec<u8>, ReportFault> {
     let placed = placed_in(alloc, explained.source)?;
-    let program = Program {
-        source: explained.source,
-        placed: &placed,
-        image: &said.image,
-        labels: &said.labels,
-    };
-    let words = words_of(alloc, &program)?;
+    let words = source_words(alloc, explained.source, said, &placed)?;
     let text = loops_text(alloc, &words, stated, fault)?;
     Ok(text)
 }
@@ -163,13 +173,7 @@ fn build_text(
 ) -> Result<Vec<u8>, ReportFault> {
     let statement = read_statement(alloc, explained.statement, &said.labels)?;
     let placed = placed_in(alloc, explained.source)?;
-    let program = Program {
-        source: explained.source,
-        placed: &placed,
-        image: &said.image,
-        labels: &said.labels,
-    };
-    let words = words_of(alloc, &program)?;
+    let words = source_words(alloc, explained.source, said, &placed)?;
     let text = graph_text(alloc, &words, &statement, profile, fault)?;
     Ok(text)
 }

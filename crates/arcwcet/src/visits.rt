@@ -1,11 +1,10 @@
-ghost use Rattle.std.specs.Prelude.{◌≡◌, ◌≢◌, ◌⊎◌, ◌++◌, ◌≤◌, ◌<◌, ◌^◌, List, ℕ, Ok, IfErr, IfOk};
+ghost use Rattle.std.specs.Prelude.{◌≡◌, ◌⊎◌, ◌++◌, ◌≤◌, ◌<◌, ◌^◌, List, ℕ, IfErr, IfOk};
 ghost use Rattle.std.specs.Prelude.{OnOk, option_map};
-ghost use Rattle.loader.specs.Labels.{address_of};
 ghost use Rattle.flow_graph.specs.Flow.{IsWellFormed};
 ghost use Rattle.longest_walk.specs.Visits.{visits_bound};
 ghost use Rattle.report_input.specs.Priced.{Priced};
-ghost use Rattle.report_input.specs.Report.{HasLoops, IsRefused, IsTreeOf};
-ghost use Rattle.report_input.specs.Source.{source_of};
+ghost use Rattle.report_input.specs.Report.{BeforeOutput, HasLoops, IsRefused, IsTreeOf};
+ghost use Rattle.report_input.specs.Source.{Says};
 ghost use Rattle.arcwcet.specs.VisitsReport.{AreRefused, HasBound, HasFiqBound, IsFiqRefused};
 ghost use Rattle.arcwcet.specs.VisitsReport.{IsVisitsReport, ReportsVisits, summary};
 
@@ -37,13 +36,13 @@ fn fiq_handler(
     statement: &[u8],
     profile: &Profile,
 ) -> Result<Handler, ReportFault>
-    ensures loops { (source : List ℕ) → source_of source ≡ Ok (said.now.image, address_of said.now.labels)
+    ensures loops { (source : List ℕ) → Says source said.now
         → IfOk result (λ h. HasLoops source statement.now profile.now h.statement h.graph) }
     ensures formed { IfOk result (λ h. IsWellFormed h.graph) }
     ensures tree { IfOk result (λ h. IsTreeOf h.graph h.statement.loops h.tree) }
     ensures entry { IfOk result (λ h. h.statement.entry ≡ 0x1C) }
-    ensures fault { (source : List ℕ) → source_of source ≡ Ok (said.now.image, address_of said.now.labels)
-        → IfErr result (λ e. (e ≢ ReportFault.Device) × IsFiqRefused source statement.now profile.now e) }
+    ensures fault { (source : List ℕ) → Says source said.now
+        → IfErr result (BeforeOutput (IsFiqRefused source statement.now profile.now)) }
 {
     let statement = read_statement(alloc, statement, &said.labels)?;
     if statement.entry() != FIQ_VECTOR {
@@ -59,10 +58,10 @@ fn irq_report(
     statement: &[u8],
     profile: &Profile,
 ) -> Result<BoundReport, ReportFault>
-    ensures report { (source : List ℕ) → source_of source ≡ Ok (said.now.image, address_of said.now.labels)
+    ensures report { (source : List ℕ) → Says source said.now
         → IfOk result (λ r. HasBound source statement.now profile.now r.bound r.text.items) }
-    ensures fault { (source : List ℕ) → source_of source ≡ Ok (said.now.image, address_of said.now.labels)
-        → IfErr result (λ e. (e ≢ ReportFault.Device) × IsRefused source statement.now profile.now e) }
+    ensures fault { (source : List ℕ) → Says source said.now
+        → IfErr result (BeforeOutput (IsRefused source statement.now profile.now)) }
 {
     let handler = handler_of(alloc, said, statement, profile)?;
     longest_report(alloc, &handler)
@@ -75,39 +74,13 @@ fn fiq_report(
     statement: &[u8],
     profile: &Profile,
 ) -> Result<BoundReport, ReportFault>
-    ensures report { (source : List ℕ) → source_of source ≡ Ok (said.now.image, address_of said.now.labels)
+    ensures report { (source : List ℕ) → Says source said.now
         → IfOk result (λ r. HasFiqBound source statement.now profile.now r.bound r.text.items) }
-    ensures fault { (source : List ℕ) → source_of source ≡ Ok (said.now.image, address_of said.now.labels)
-        → IfErr result (λ e. (e ≢ ReportFault.Device) × IsFiqRefused source statement.now profile.now e) }
+    ensures fault { (source : List ℕ) → Says source said.now
+        → IfErr result (BeforeOutput (IsFiqRefused source statement.now profile.now)) }
 {
     let handler = fiq_handler(alloc, said, statement, profile)?;
     longest_report(alloc, &handler)
-}
-
-// The lines before the reports.
-fn summary(
-    alloc: Global,
-    profile: &Profile,
-    visits: u32,
-    irq: &BoundReport,
-    fiq: &BoundReport,
-) -> Result<Vec<u8>, ReportFault>
-    ensures text { IfOk result (λ v. v.items ≡ summary profile.now irq.now.bound fiq.now.bound visits) }
-    ensures small { OnOk result (visits_bound profile.now irq.now.bound fiq.now.bound visits < 2 ^ 63) }
-    ensures fault { IfErr result (λ e. (e ≡ ReportFault.Memory)
-        ⊎ ((e ≡ ReportFault.Walk WalkFault.BoundTooLarge)
-        × (2 ^ 63 ≤ visits_bound profile.now irq.now.bound fiq.now.bound visits))) }
-{
-    let total = visits_bound(profile, irq.bound, fiq.bound, visits)?;
-    let entry = fiq_entry(profile);
-    let (irq, fiq) = (irq.bound, fiq.bound);
-    let mut text = String::new(alloc);
-    write!(
-        text,
-        "arcwcet visits\nvisits {visits}\nirq {irq}\nfiq {fiq}\n"
-    )?;
-    write!(text, "entry {entry}\ntotal {total}\n")?;
-    Ok(text.into_bytes())
 }
 
 // The summary and both reports.
@@ -125,7 +98,16 @@ fn joined_text(
         ⊎ ((e ≡ ReportFault.Walk WalkFault.BoundTooLarge)
         × (2 ^ 63 ≤ visits_bound profile.now irq.now.bound fiq.now.bound visits))) }
 {
-    let mut text = summary(alloc, profile, visits, irq, fiq)?;
+    let total = visits_bound(profile, irq.bound, fiq.bound, visits)?;
+    let entry = fiq_entry(profile);
+    let (irq_bound, fiq_bound) = (irq.bound, fiq.bound);
+    let mut lines = String::new(alloc);
+    write!(
+        lines,
+        "arcwcet visits\nvisits {visits}\nirq {irq_bound}\nfiq {fiq_bound}\n"
+    )?;
+    write!(lines, "entry {entry}\ntotal {total}\n")?;
+    let mut text = lines.into_bytes();
     text.extend_from_slice(&irq.text)?;
     text.extend_from_slice(&fiq.text)?;
     Ok(text)
@@ -138,12 +120,13 @@ fn visits_text(
     asked: Visited<'_>,
     profile: &Profile,
 ) -> Result<Vec<u8>, ReportFault>
-    ensures report { (source : List ℕ) → source_of source ≡ Ok (said.now.image, address_of said.now.labels)
+    ensures report { (source : List ℕ) → Says source said.now
         → IfOk result (λ v. IsVisitsReport source asked.entry.irq.now asked.entry.fiq.now asked.entry.visits
         profile.now v.items) }
-    ensures fault { (source : List ℕ) → source_of source ≡ Ok (said.now.image, address_of said.now.labels)
-        → IfErr result (λ e. (e ≢ ReportFault.Device)
-        × AreRefused source asked.entry.irq.now asked.entry.fiq.now asked.entry.visits profile.now e) }
+    ensures fault { (source : List ℕ) → Says source said.now
+        → IfErr result
+        (BeforeOutput (AreRefused source asked.entry.irq.now asked.entry.fiq.now asked.entry.visits
+        profile.now)) }
 {
     let irq = irq_report(alloc, said, asked.irq, profile)?;
     let fiq = fiq_report(alloc, said, asked.fiq, profile)?;
@@ -159,8 +142,9 @@ fn read_visits(
 ) -> Result<Vec<u8>, ReportFault>
     ensures report { IfOk result (λ v. IsVisitsReport source.now asked.entry.irq.now asked.entry.fiq.now
         asked.entry.visits profile.now v.items) }
-    ensures fault { IfErr result (λ e. (e ≢ ReportFault.Device)
-        × AreRefused source.now asked.entry.irq.now asked.entry.fiq.now asked.entry.visits profile.now e) }
+    ensures fault { IfErr result
+        (BeforeOutput (AreRefused source.now asked.entry.irq.now asked.entry.fiq.now asked.entry.visits
+        profile.now)) }
 {
     let said = read_source(alloc, source)?;
     visits_text(alloc, &said, asked, profile)
