@@ -95,7 +95,7 @@ class Command:
 
 def sample(name):
     """The files of a sample handler."""
-    return {it.name: it.read_bytes() for it in (TOP / "crates/handlers/data" / name).iterdir()}
+    return {it.name: it.read_bytes() for it in (TOP / "crates/cases/data/handlers" / name).iterdir()}
 
 
 def profile():
@@ -157,7 +157,7 @@ def priced(bench, words, files):
 
 def cases():
     """The cases: each one's name, its words, the files that they name, and all that its folder holds."""
-    for folder in sorted((TOP / "crates/cases/data").iterdir()):
+    for folder in sorted(it.parent for it in (TOP / "crates/cases/data").glob("*/args")):
         held = {it.name: it.read_bytes() for it in folder.iterdir()}
         words = held["args"].decode().splitlines()
         # The file of that name in the folder is what is to be written.

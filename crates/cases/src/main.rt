@@ -1,60 +1,22 @@
-//! Judges the program `arcwcet` by the cases in `data/`: a line for each, in the order of their names, with
-//! `ok` or the first difference, and a line of counts. It fails where a case does. A case is a folder with
-//!
-//! - `args`: the words after the program's name, a word a line; those that name files name files of the
-//!   folder;
-//! - the files that the words name, and in `stdin` the standard input, else it is empty;
-//! - `stdout`: all that is printed, or `stdout.front`: what it begins with; neither: nothing is printed;
-//! - `stderr`: all of standard error, or `stderr.any`: it is not looked at; neither: there is nothing;
-//! - `status`: the exit status on a line; no such file: 0;
-//! - the image that `asm` writes, byte for byte, and no such file where `asm` refuses: it is kept in memory;
-//! - `note`, if there is more to say: what the case shows. It is not read.
-//!
-//! A new case is a folder and its line in `stdout`, which lists all, so that none goes missing.
+//! Judges the program `arcwcet` by what lies in `data/`: the cases, commands over the system's own files and
+//! streams, one of them where the disc is full, and the sample handlers. It fails where one of them does.
 #![tactic(auto)]
 
-mod case;
-mod case_store;
-mod difference;
-mod judging;
-mod wanted;
+mod cases;
+mod handlers;
+mod host;
 
-use judging::judge;
+use cases::judge_cases;
+use handlers::judge_handlers;
+use host::run_commands;
+use std::io;
 use std::process::ExitCode;
-use std::rt::Files;
-use std::{fs, io};
-
-/// The names of the folders, in their order.
-fn case_names<R: Files + AllocGlobal + Clone + Drop>(rt: &R) -> io::Result<Vec<String>> {
-    let mut names = Vec::new(rt.alloc());
-    for entry in fs::read_dir(rt, ".")? {
-        let entry = entry?;
-        if entry.file_type()?.is_dir() {
-            names.push(String::from_str(rt.alloc(), entry.file_name())?)?;
-        }
-    }
-    names.sort()?;
-    Ok(names)
-}
 
 fn main(rt: HostRuntime) -> io::Result<ExitCode> {
-    let names = case_names(&rt)?;
-    let mut failed = 0u64;
-    for name in &names {
-        match judge(&rt, name.as_str()) {
-            Ok(None) => println!(rt; "{name}: ok")?,
-            Ok(Some(difference)) => {
-                println!(rt; "{name}: {difference}")?;
-                failed = failed.saturating_add(1);
-            }
-            Err(fault) => {
-                println!(rt; "{name}: {fault}")?;
-                failed = failed.saturating_add(1);
-            }
-        }
-    }
-    println!(rt; "{} cases, {failed} failed", names.len())?;
-    Ok(if failed == 0 {
+    let cases_passed = judge_cases(&rt)?;
+    run_commands(&rt)?;
+    let handlers_passed = judge_handlers(&rt)?;
+    Ok(if cases_passed && handlers_passed {
         ExitCode::SUCCESS
     } else {
         ExitCode::FAILURE

@@ -1,0 +1,34 @@
+/// A sample handler.
+#[derive(Clone, Copy)]
+pub(crate) struct Sample {
+    /// Its folder in `data/handlers/`.
+    pub(crate) folder: &'static str,
+    /// For a handler that FIQ interrupts, how often it does so in the run; `fiq.toml` is FIQ's statement.
+    pub(crate) visits: Option<u32>,
+}
+
+fn alone(folder: &'static str) -> Sample {
+    Sample {
+        folder,
+        visits: None,
+    }
+}
+
+/// All samples.
+pub(crate) fn samples() -> [Sample; 10] {
+    [
+        alone("floppy"),
+        alone("econet"),
+        alone("podule_block"),
+        alone("timer"),
+        alone("vsync"),
+        alone("keyboard"),
+        alone("serial"),
+        alone("dispatch"),
+        alone("sound"),
+        Sample {
+            folder: "podule_and_floppy",
+            visits: Some(2),
+        },
+    ]
+}
