@@ -127,8 +127,8 @@ impl Read for Bytes {
 }
 
 /// Whether that is the program's answer to the words, and so much of the input is left.
-fn is_told(alloc: Global, words: &[String], row: &Row) -> Result<bool, ReportFault> {
-    let (_, [source, second, profile], (byte, left, fails, unread), told) = row;
+fn is_answered(alloc: Global, words: &[String], row: &Row) -> Result<bool, ReportFault> {
+    let (_, [source, second, profile], (byte, left, fails, unread), wanted) = row;
     let mut files = Files {
         source: *source,
         second: *second,
@@ -143,14 +143,14 @@ fn is_told(alloc: Global, words: &[String], row: &Row) -> Result<bool, ReportFau
     let mut err = MemoryOutput::with_room(alloc, 0)?;
     let status = program(alloc, words, &mut files, &mut input, &mut out, &mut err);
     let answer = (status, out.bytes(), err.bytes());
-    Ok(answer == *told && input.left == *unread)
+    Ok(answer == *wanted && input.left == *unread)
 }
 
 /// The number of the first row whose answer is another.
 fn first_wrong(alloc: Global, rows: &[Row]) -> Result<Option<usize>, ReportFault> {
     for (number, row) in rows.iter().enumerate() {
         let words = line(alloc, row.0)?;
-        if !is_told(alloc, &words, row)? {
+        if !is_answered(alloc, &words, row)? {
             return Ok(Some(number));
         }
     }

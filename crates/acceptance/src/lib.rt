@@ -4,9 +4,11 @@
 #![tactic(auto)]
 
 #[cfg(test)]
+mod answers;
+#[cfg(test)]
 mod certificates;
 #[cfg(test)]
-mod cuts;
+mod cut_inputs;
 #[cfg(test)]
 mod enumeration;
 #[cfg(test)]
@@ -22,12 +24,10 @@ mod limits;
 #[cfg(test)]
 mod numbers;
 #[cfg(test)]
-mod odd;
+mod odd_inputs;
 #[cfg(test)]
 mod reports;
 #[cfg(test)]
 mod tight;
-#[cfg(test)]
-mod told;
 #[cfg(test)]
 mod writers;

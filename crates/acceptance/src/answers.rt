@@ -57,14 +57,14 @@ fn read(alloc: Global, input: Input, bytes: &[u8]) -> Result<bool, ReportFault> 
 }
 
 /// Whether a report says that of the bytes as that input.
-pub(crate) fn is_told(
+pub(crate) fn is_answer(
     alloc: Global,
     input: Input,
     bytes: &[u8],
-    told: &str,
+    answer: &str,
 ) -> Result<bool, AllocError> {
     match read(alloc, input, bytes) {
-        Ok(is_right) => Ok(is_right && told == TAKEN),
-        Err(fault) => Ok(format!(in alloc; "{fault}")?.as_str() == told),
+        Ok(is_right) => Ok(is_right && answer == TAKEN),
+        Err(fault) => Ok(format!(in alloc; "{fault}")?.as_str() == answer),
     }
 }

@@ -1,6 +1,6 @@
 //! Inputs that are deep, long or no text.
 
-use crate::told::{Input, TAKEN, is_told};
+use crate::answers::{Input, TAKEN, is_answer};
 use std::alloc::{AllocError, Global};
 use std::test::Fail;
 
@@ -86,16 +86,16 @@ fn bytes_of(alloc: Global, front: &[u8], text: Text) -> Result<Vec<u8>, AllocErr
 }
 
 /// Whether reports say that of a text as each format, after a key of it or by itself.
-fn are_told(
+fn are_answers(
     alloc: Global,
     text: Text,
     has_key: bool,
-    told: &[&str; 3],
+    answers: &[&str; 3],
 ) -> Result<bool, AllocError> {
-    for ((input, key), told) in FORMATS.iter().zip(told.iter()) {
+    for ((input, key), answer) in FORMATS.iter().zip(answers.iter()) {
         let front = if has_key { *key } else { b"".as_slice() };
         let bytes = bytes_of(alloc, front, text)?;
-        if !is_told(alloc, *input, &bytes, told)? {
+        if !is_answer(alloc, *input, &bytes, answer)? {
             return Ok(false);
         }
     }
@@ -107,8 +107,8 @@ fn first_wrong_value(
     alloc: Global,
     rows: &[(Text, [&str; 3])],
 ) -> Result<Option<usize>, AllocError> {
-    for (number, (text, told)) in rows.iter().enumerate() {
-        if !are_told(alloc, text, true, told)? {
+    for (number, (text, answers)) in rows.iter().enumerate() {
+        if !are_answers(alloc, text, true, answers)? {
             return Ok(Some(number));
         }
     }
@@ -117,8 +117,8 @@ fn first_wrong_value(
 
 /// The same of documents.
 fn first_wrong_document(alloc: Global, rows: &[(Text, &str)]) -> Result<Option<usize>, AllocError> {
-    for (number, (text, told)) in rows.iter().enumerate() {
-        if !are_told(alloc, text, false, &[*told; 3])? {
+    for (number, (text, answer)) in rows.iter().enumerate() {
+        if !are_answers(alloc, text, false, &[*answer; 3])? {
             return Ok(Some(number));
         }
     }
@@ -127,9 +127,9 @@ fn first_wrong_document(alloc: Global, rows: &[(Text, &str)]) -> Result<Option<u
 
 /// The same of sources.
 fn first_wrong_source(alloc: Global, rows: &[(Text, &str)]) -> Result<Option<usize>, AllocError> {
-    for (number, (text, told)) in rows.iter().enumerate() {
+    for (number, (text, answer)) in rows.iter().enumerate() {
         let bytes = bytes_of(alloc, b"", text)?;
-        if !is_told(alloc, Input::Source, &bytes, told)? {
+        if !is_answer(alloc, Input::Source, &bytes, answer)? {
             return Ok(Some(number));
         }
     }

@@ -1,6 +1,6 @@
 //! Inputs that are cut at each byte, and the bytes of an image changed in turn.
 
-use crate::told::{Input, TAKEN, is_told};
+use crate::answers::{Input, TAKEN, is_answer};
 use samples::countdown::{CERTIFICATE, IMAGE, MACHINE, STATEMENT};
 use samples::lone_return;
 use std::alloc::{AllocError, Global};
@@ -163,10 +163,10 @@ fn row_at<T: Copy>(rows: &[(usize, T)], at: usize) -> Option<T> {
 fn first_wrong_cut(alloc: Global, cut: &Cut) -> Result<Option<usize>, AllocError> {
     let (input, bytes, rows) = cut;
     for length in 0..=bytes.len() {
-        let Some(told) = row_at(rows, length) else {
+        let Some(answer) = row_at(rows, length) else {
             return Ok(Some(length));
         };
-        if !is_told(alloc, *input, &bytes[..length], told)? {
+        if !is_answer(alloc, *input, &bytes[..length], answer)? {
             return Ok(Some(length));
         }
     }
@@ -174,13 +174,13 @@ fn first_wrong_cut(alloc: Global, cut: &Cut) -> Result<Option<usize>, AllocError
 }
 
 /// Whether the reports say the right things of the image with that byte changed.
-fn are_told(alloc: Global, at: usize, wanted: &[&str; 3]) -> Result<bool, AllocError> {
-    for (value, told) in VALUES.iter().zip(wanted.iter()) {
+fn are_answers(alloc: Global, at: usize, wanted: &[&str; 3]) -> Result<bool, AllocError> {
+    for (value, answer) in VALUES.iter().zip(wanted.iter()) {
         let mut image = IMAGE;
         if let Some(byte) = image.get_mut(at) {
             *byte = *value;
         }
-        if !is_told(alloc, Input::Source, &image, told)? {
+        if !is_answer(alloc, Input::Source, &image, answer)? {
             return Ok(false);
         }
     }
@@ -195,7 +195,7 @@ fn cut_and_changed_inputs(rt: HostRuntime) -> Result<(), Fail> {
     }
     for at in 0..IMAGE.len() {
         let is_right = match row_at(&CHANGES, at) {
-            Some(wanted) => are_told(alloc, at, &wanted)?,
+            Some(wanted) => are_answers(alloc, at, &wanted)?,
             None => false,
         };
         assert!(rt; is_right, "byte {at}");
