@@ -46,9 +46,7 @@ fn part(graph: &Graph, tree: &LoopTree, number: usize) -> (usize, usize)
     requires known { number < length graph.now.places }
     ensures { IsPartOf graph.now (place_in graph.now tree.now number) result.0 result.1 }
 {
-    let place = tree.order()[number];
-    let firsts = graph.firsts();
-    (firsts[place], firsts[place + 1])
+    graph.edge_range(tree.order()[number])
 }
 
 // Which edge of the graph the line names at the place of the number.

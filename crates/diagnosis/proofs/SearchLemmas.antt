@@ -1,5 +1,5 @@
 -- The search for a cycle, step by step.
-use Rattle.std.proofs.Common.{◌≡◌, ◌⊎◌, ℕ, ◌+◌, ◌-◌, ◌<◌, ◌≤◌, zero, suc, List, [], ◌∷◌, ◌++◌, length, get_or, set, replicate, sum_by, refl, sym, ap, ◌∙◌, subst, inl, inr, ⊎_elim, Result, arith, add-one}
+use Rattle.std.proofs.Common.{◌≡◌, ◌⊎◌, ℕ, ◌+◌, ◌<◌, ◌≤◌, zero, suc, List, [], ◌∷◌, ◌++◌, length, get_or, set, replicate, sum_by, refl, sym, ap, ◌∙◌, subst, inl, inr, ⊎_elim, Result, arith}
 use Rattle.std.specs.Prelude.{Contains}
 use Rattle.std.specs.List.Sorted.{IsBinarySearchResult, IsSearchInRange, IsStrictlySortedBy}
 use Rattle.std.specs.Result.{result_unwrap_or}
@@ -14,9 +14,9 @@ use Rattle.flow_graph.specs.declared.edges.Edge.{Edge}
 use Rattle.flow_graph.specs.Flow.{Flow, HasEdge, IsWellFormed, edge_shape}
 use Rattle.flow_graph.specs.Places.{place_at, place_cmp}
 use Rattle.flow_graph.specs.Search.{by_order}
+use Rattle.flow_graph.proofs.Firsts.{owner}
 use Rattle.statement.specs.declared.stated.Loop.{Loop}
 use Rattle.loop_bounds.specs.Nest.{HasUnboundedCycle, IsPlainEdge}
-use Rattle.loop_bounds.proofs.Grouped.{rises_to}
 use Rattle.loop_bounds.proofs.Positions.{index_found, index_inside, places_once}
 use Rattle.diagnosis.specs.Cycles.{AreMarks, IsCleared, IsClosed, IsIdle, IsOn, IsOpen, IsPath, IsPathTo, LeadToCleared}
 use Rattle.diagnosis.specs.declared.search.Search.{Search}
@@ -31,15 +31,6 @@ abbrev begun_marks : ℕ → List ℕ
 begun_marks n = replicate (n + 1) 2
 
 -- ## The parts of a list
-
--- an edge that stands before the part of a place belongs to an earlier place
-owner : (flow : Flow) → IsWellFormed flow → (u k : ℕ) → u ≤ length flow.places → k < get_or flow.firsts u 0 → (v : ℕ) × (v < u) × (get_or flow.firsts v 0 ≤ k) × (k < get_or flow.firsts (v + 1) 0)
-owner flow well_formed zero k le below = let z : get_or flow.firsts 0 0 ≡ 0 = well_formed.first_zero in absurd (omega arith)
-owner flow well_formed (suc u) k le below =
-    ⊎_elim
-    (λ (l : k < get_or flow.firsts u 0). let w = owner flow well_formed u k (omega arith) l in let m : w.0 < u = w.1 in (w.0, omega arith, w.2, w.3))
-    (λ (m : get_or flow.firsts u 0 ≤ k). (u, omega arith, m, subst (λ (n : ℕ). k < get_or flow.firsts n 0) (sym (add-one u)) below))
-    (cases_lt k (get_or flow.firsts u 0))
 
 one : {X : Type 0} (x y : X) → Contains (x ∷ []) y → x ≡ y
 one x y (zero, lt, is) = is
@@ -233,16 +224,13 @@ module _ (flow : Flow) (loops : List Loop) where
         }
 
   module _ (well_formed : IsWellFormed flow) (v : ℕ) (v_in : v < length flow.places) where
-    pub part_fits : get_or flow.firsts (v + 1) 0 ≤ length flow.edges
-    part_fits = rises_to flow.firsts (length flow.places) (length flow.edges) well_formed.rising well_formed.last_all (length flow.places - (v + 1)) (v + 1) (omega (arith, v_in))
-
     -- what holds of the edges in the part of a place holds of all that leave it
     pub whole_part : (P : Edge → Type 0) → ((k : ℕ) (e : Edge) → get_or flow.firsts v 0 ≤ k → k < get_or flow.firsts (v + 1) 0 → get_or flow.edges k e ≡ e → P e)
         → (e : Edge) → HasEdge flow e → e.from ≡ place_at flow.places v → P e
     whole_part P each e has from =
         let k = has.0 in
         let all : get_or flow.firsts (length flow.places) 0 ≡ length flow.edges = well_formed.last_all in
-        let w = owner flow well_formed (length flow.places) k (omega arith) (omega (arith, has.1, all)) in
+        let w = owner flow.firsts well_formed.first_zero (length flow.places) k (omega (arith, has.1, all)) in
         let is : w.0 ≡ v = places_once flow.places well_formed.ordered w.0 v Exit w.1 v_in (sym (well_formed.part w.0 k e w.1 w.2 w.3) ∙ ap (λ (x : Edge). x.from) has.2 ∙ from) in
         each k e (subst (λ (n : ℕ). get_or flow.firsts n 0 ≤ k) is w.2) (subst (λ (n : ℕ). k < get_or flow.firsts (n + 1) 0) is w.3) has.2
 

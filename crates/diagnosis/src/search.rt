@@ -1,5 +1,5 @@
 ghost use Rattle.std.specs.Prelude.{◌≡◌, ◌+◌, ◌<◌, ◌≤◌, ◌⊎◌, Contains, IfNone, IfOk, IfSome, List};
-ghost use Rattle.std.specs.Prelude.{[], MatchBool, OnOk, length, replicate, slice_index, slice_set, true};
+ghost use Rattle.std.specs.Prelude.{[], MatchBool, OnOk, length, replicate, slice_set, true};
 ghost use Rattle.flow_graph.specs.declared.places.Place.TheVariants.{Exit};
 ghost use Rattle.flow_graph.specs.Flow.{Flow, HasEdge, IsWellFormed};
 ghost use Rattle.flow_graph.specs.Places.{place_at};
@@ -55,18 +55,6 @@ fn open_end(graph: &Graph, loops: &[Loop], marks: &[u8], edge: &Edge) -> Option<
     Some(to)
 }
 
-// Where the edges of the place of an index begin and end.
-fn part(graph: &Graph, at: usize) -> (usize, usize)
-    requires { at < length graph.now.places }
-    ensures first { result.0 ≡ slice_index graph.now.firsts at }
-    ensures end { result.1 ≡ slice_index graph.now.firsts (at + 1) }
-    ensures fits { result.1 ≤ length graph.now.edges }
-    ensures well_formed { IsWellFormed graph.now }
-{
-    let firsts = graph.firsts();
-    (firsts[at], firsts[at + 1])
-}
-
 // The first such edge of the place of an index, and the index of the place where it ends.
 fn next_of(graph: &Graph, loops: &[Loop], marks: &[u8], at: usize) -> Option<(Edge, usize)>
     requires inside { at < length graph.now.places }
@@ -77,7 +65,7 @@ fn next_of(graph: &Graph, loops: &[Loop], marks: &[u8], at: usize) -> Option<(Ed
         (LeadToCleared graph.now loops.now marks.now (place_at graph.now.places at)) }
     ensures well_formed { IsWellFormed graph.now }
 {
-    let (first, end) = part(graph, at);
+    let (first, end) = graph.edge_range(at);
     for number in first..end {
         let edge = &graph.edges()[number];
         if let Some(to) = open_end(graph, loops, marks, edge) {

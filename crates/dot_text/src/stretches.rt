@@ -1,6 +1,5 @@
 ghost use Rattle.std.specs.Prelude.{◌≡◌, ◌<◌, ◌≤◌, ◌+◌, length, slice_index};
 ghost use Rattle.std.specs.List.{list_all};
-ghost use Rattle.flow_graph.specs.Flow.{IsWellFormed};
 ghost use Rattle.loop_bounds.specs.Tree.{IsTree};
 ghost use Rattle.numbered_walks.specs.Ordered.{is_in};
 ghost use Rattle.dot_text.specs.Stretches.{AreTables, CanDraw, calls_in, edge_ticks};
@@ -28,9 +27,7 @@ pub(crate) fn part(drawn: Drawn<'_>, number: usize) -> (usize, usize)
     ensures order { result.0 ≤ result.1 }
     ensures fits { result.1 ≤ length drawn.entry.graph.now.edges }
 {
-    let firsts = drawn.graph.firsts();
-    let place = drawn.tree.order()[number];
-    (firsts[place], firsts[place + 1])
+    drawn.graph.edge_range(drawn.tree.order()[number])
 }
 
 /// The calls inside of which the place of a number is.

@@ -28,7 +28,8 @@ use Rattle.loader.specs.Image.{Words}
 use Rattle.loop_bounds.proofs.Positions.{known}
 use Rattle.longest_walk.specs.Built.{step_at}
 use Rattle.longest_walk.proofs.CarryWalks.{no_edge}
-use Rattle.longest_walk.proofs.PlaceParts.{part_fits, part_of}
+use Rattle.flow_graph.proofs.Firsts.{part_fits}
+use Rattle.longest_walk.proofs.PlaceParts.{part_of}
 use Rattle.word_shapes.specs.Words.{HasInstr, HasShape}
 use Rattle.explained.specs.Links.{AreLostLinks, IsLost, KeepsLink, MayReturnByLink, after_call, kept_along, may_return_by_link, place_after, writes_link}
 use Rattle.explained.specs.Losing.{Adds, ByEdge, Grows, IsAfter, IsFound, IsKeptTo}

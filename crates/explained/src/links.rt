@@ -1,5 +1,4 @@
-ghost use Rattle.std.specs.Prelude.{◌≡◌, ◌↔◌, ◌+◌, ◌<◌, ◌≤◌, ℕ, true, Contains, IfOk, IsTrue, OnOk};
-ghost use Rattle.std.specs.Prelude.{length, slice_index};
+ghost use Rattle.std.specs.Prelude.{◌≡◌, ◌↔◌, ◌+◌, ◌<◌, ℕ, true, Contains, IfOk, IsTrue, OnOk};
 ghost use Rattle.std.specs.BTreeSet.{contains};
 ghost use Rattle.std.specs.Ordering.{nat_cmp};
 ghost use Rattle.arm2_effect.specs.ProgramCounter.{ahead_of};
@@ -154,25 +153,13 @@ fn has_place(graph: &Graph, place: &Place) -> bool
     graph.places().binary_search(place).is_ok()
 }
 
-// Where the edges of the place of an index begin and end.
-fn part(graph: &Graph, at: usize) -> (usize, usize)
-    requires { at < length graph.now.places }
-    ensures first { result.0 ≡ slice_index graph.now.firsts at }
-    ensures end { result.1 ≡ slice_index graph.now.firsts (at + 1) }
-    ensures rises { result.0 ≤ result.1 }
-    ensures fits { result.1 ≤ length graph.now.edges }
-{
-    let firsts = graph.firsts();
-    (firsts[at], firsts[at + 1])
-}
-
 // The edges that leave a place.
 fn edges_from<'a>(graph: &'a Graph, place: &Place) -> &'a [Edge]
     ensures { (e : Edge) → Contains result.now e ↔ (HasEdge graph.now e × (e.from ≡ place.now)) }
 {
     match graph.places().binary_search(place) {
         Ok(at) => {
-            let (first, end) = part(graph, at);
+            let (first, end) = graph.edge_range(at);
             &graph.edges()[first..end]
         }
         Err(_) => &[],

@@ -10,6 +10,7 @@ pub mod BuildLemmas
 mod FaultyLemmas
 pub mod TurnLemmas
 pub mod FlowLemmas
+pub mod Firsts
 pub mod Unique
 pub mod StepRegisters
 pub mod StepTicks

@@ -1,4 +1,4 @@
-ghost use Rattle.std.specs.Prelude.{◌≡◌};
+ghost use Rattle.std.specs.Prelude.{◌≡◌, ◌<◌, ◌≤◌, ◌+◌, length, slice_index};
 ghost use Rattle.flow_graph.specs.Flow.{IsWellFormed};
 
 use crate::edges::Edge;
@@ -60,6 +60,19 @@ impl Graph {
         ensures well_formed { IsWellFormed self.now }
     {
         &self.firsts
+    }
+
+    /// Where the edges that leave a place begin and end in `edges`, by the index of the place in `places`.
+    pub fn edge_range(&self, place: usize) -> (usize, usize)
+        requires { place < length self.now.places }
+        ensures first { result.0 ≡ slice_index self.now.firsts place }
+        ensures end { result.1 ≡ slice_index self.now.firsts (place + 1) }
+        ensures rises { result.0 ≤ result.1 }
+        ensures fits { result.1 ≤ length self.now.edges }
+        ensures well_formed { IsWellFormed self.now }
+    {
+        let firsts = self.firsts();
+        (firsts[place], firsts[place + 1])
     }
 
     /// The profile by which the edges are priced.

@@ -42,8 +42,7 @@ fn part(graph: &Graph, place: usize) -> (usize, usize)
     requires { place < length graph.now.places }
     ensures { IsPartOf graph.now (place_at graph.now.places place) result.0 result.1 }
 {
-    let firsts = graph.firsts();
-    (firsts[place], firsts[place + 1])
+    graph.edge_range(place)
 }
 
 /// An edge of the place by the label and to the address, by its index in the graph's edges. It takes time

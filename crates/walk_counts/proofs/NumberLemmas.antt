@@ -21,7 +21,8 @@ use Rattle.flow_graph.proofs.PlaceLemmas.{by_order_exact, place_exact, place_tot
 use Rattle.loop_bounds.proofs.Positions.{known}
 use Rattle.longest_walk.specs.Built.{step_at}
 use Rattle.longest_walk.proofs.CarryWalks.{no_edge}
-use Rattle.longest_walk.proofs.PlaceParts.{part_fits, part_of}
+use Rattle.flow_graph.proofs.Firsts.{part_fits}
+use Rattle.longest_walk.proofs.PlaceParts.{part_of}
 use Rattle.walk_counts.specs.Counts.{is_same, is_same_label, is_same_place, number_of}
 
 -- ## The same edge

@@ -1,5 +1,4 @@
-ghost use Rattle.std.specs.Prelude.{◌≡◌, ◌+◌, ◌<◌, ◌≤◌, MatchOption, length, slice_index};
-ghost use Rattle.flow_graph.specs.Flow.{IsWellFormed};
+ghost use Rattle.std.specs.Prelude.{◌≡◌, ◌<◌, ◌≤◌, MatchOption, length};
 ghost use Rattle.flow_graph.specs.Places.{place_at, place_cmp};
 ghost use Rattle.walk_counts.specs.Counts.{is_same, is_same_label, is_same_place, number_of};
 
@@ -32,18 +31,6 @@ fn same_edge(edge: &Edge, other: &Edge) -> bool
         && edge.cost == other.cost
 }
 
-// Where the edges of the place with the number begin and end.
-fn part(graph: &Graph, place: usize) -> (usize, usize)
-    requires { place < length graph.now.places }
-    ensures first { result.0 ≡ slice_index graph.now.firsts place }
-    ensures end { result.1 ≡ slice_index graph.now.firsts (place + 1) }
-    ensures fits { result.1 ≤ length graph.now.edges }
-    ensures well_formed { IsWellFormed graph.now }
-{
-    let firsts = graph.firsts();
-    (firsts[place], firsts[place + 1])
-}
-
 // The number of an edge among those of the place with the number, which it leaves.
 fn number_at(graph: &Graph, place: usize, edge: &Edge) -> Option<usize>
     requires known { place < length graph.now.places }
@@ -51,7 +38,7 @@ fn number_at(graph: &Graph, place: usize, edge: &Edge) -> Option<usize>
     ensures { MatchOption result (length graph.now.edges ≤ number_of graph.now.edges edge.now)
         (λ k. (k ≡ number_of graph.now.edges edge.now) × (k < length graph.now.edges)) }
 {
-    let (first, end) = part(graph, place);
+    let (first, end) = graph.edge_range(place);
     for number in first..end {
         if same_edge(edge, &graph.edges()[number]) {
             return Some(number);

@@ -7,7 +7,7 @@ pub returns-in-Ok : goal.returns-in-Ok
 returns-in-Ok c =
     let flow = c.args.graph.now in
     let well = c.places.ensures.well_formed in
-    leaving_found flow well c.edges.result.now c.part-first.result.0 c.part-first.result.1 c.in-Ok.at c.args.place.now c.edges.ensures.value c.part-first.ensures.first c.part-first.ensures.end
+    leaving_found flow well c.edges.result.now c.edge_range-first.result.0 c.edge_range-first.result.1 c.in-Ok.at c.args.place.now c.edges.ensures.value c.edge_range-first.ensures.first c.edge_range-first.ensures.end
     (subst (λ (ps : List Place). c.in-Ok.at < length ps) c.places.ensures.value c.in-Ok.ensures.bound)
     (index_is flow well c.places.result.now c.args.place.now c.in-Ok.at c.places.ensures.value c.in-Ok.ensures.position)
 

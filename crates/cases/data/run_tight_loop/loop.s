@@ -1,0 +1,2 @@
+again   SUBS  R0,R0,#1
+        B     again

@@ -1,8 +1,0 @@
-use Rattle.std.proofs.Common.{◌≤◌, ◌+◌, ℕ, List, get_or, length, sym, subst}
-use Rattle.longest_walk.proofs.PlaceParts.{part_fits}
-use Rattle.walk_counts.proofs.numbers.part.Goals as goal
-
-pub returns-clause-fits : goal.returns-clause-fits
-returns-clause-fits c =
-    subst (λ (fs : List ℕ). get_or fs (c.args.place + 1) 0 ≤ length c.args.graph.now.edges) (sym c.firsts-firsts.ensures.value)
-    (part_fits c.args.graph.now c.firsts-firsts.ensures.well_formed c.args.place c.requires)
