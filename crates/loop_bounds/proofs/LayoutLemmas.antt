@@ -259,7 +259,7 @@ parted_more found closing instances spans i f so_far lt named is =
           (cases_eq k i);
     }
 
-take_none : {X : Type 0} (xs : List X) → take 0 xs ≡ []
+pub take_none : {X : Type 0} (xs : List X) → take 0 xs ≡ []
 take_none [] = refl
 take_none (x ∷ xs) = refl
 

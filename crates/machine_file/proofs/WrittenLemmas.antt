@@ -16,6 +16,7 @@ use Rattle.memc.specs.declared.spots.PageSize.{PageSize}
 use Rattle.memc.specs.declared.spots.PageSize.TheVariants.{K4}
 use Rattle.toml_reading.specs.Documents.{is_one_of, list_of}
 use Rattle.toml_reading.specs.Lowest.{AtKey, AtKeyOr, IsListOf, IsNumber}
+use Rattle.toml_reading.proofs.ReadingLemmas.{list_of-items_of}
 use Rattle.machine_file.specs.MachineFile.{IsMachineFile, has, is_letter, is_mappable, is_single, machine_in, set_flags}
 use Rattle.machine_file.specs.MachineRules.{AreFlags, AreRegisters, IsAddress, IsEvent, IsNamed, IsPage, IsPutWord, IsSize, IsWord, IsWordAddress, StatesMachine}
 use Rattle.machine_file.specs.Names.{file_keys, map_keys, name_of, named_mode, named_registers, register_keys, word_keys}
@@ -229,16 +230,12 @@ put_words_stated (w ∷ ws) held small = (
   put_words_stated ws (λ k d lt. held (suc k) d (omega (arith, lt))) (λ k d lt. small (suc k) d (omega (arith, lt))),
 )
 
-list_of_items : (ds : List Data) → list_of (items_of ds) ≡ ds
-list_of_items [] = refl
-list_of_items (d ∷ ds) = ap (λ es. d ∷ es) (list_of_items ds)
-
 module _ {A : Type 0} (States : Data → A → Type 0) (data_of : A → Data) (key : List ℕ) (ms : Members) where
   listed_stated : (xs : List A) → get_member key ms ≡ listed (map data_of xs) → AllZip States (map data_of xs) xs
       → AtKeyOr key ms (xs ≡ []) (λ d. IsListOf States d xs)
   listed_stated [] there h = rw there refl
   listed_stated (x ∷ xs) there h =
-      rw there (h.0, subst (λ ds. AllZip States ds xs) (sym (list_of_items (map data_of xs))) h.1)
+      rw there (h.0, subst (λ ds. AllZip States ds xs) (sym (list_of-items_of (map data_of xs))) h.1)
 
 -- ## The file
 
