@@ -1,4 +1,4 @@
--- Block transfers (VL86C010 data sheet, block data transfer; our own profile where it is silent).
+-- Block transfers (VL86C010 data sheet, block data transfer, where it speaks).
 use Rattle.std.specs.Prelude.{ℕ, ◌+◌, ◌-◌, ◌*◌, ◌/◌, ◌%◌, ◌^◌, Bool, not, ◌&&◌, nat_lt, if◌then◌else◌, List}
 use Rattle.std.specs.Prelude.{[], ◌∷◌, length, Result, Ok, Err}
 use Rattle.arm2_decode.specs.declared.instr.Block.{Block}

@@ -1,5 +1,5 @@
--- How an instruction is spelled at an address (our own source format, over the VL86C010 data
--- sheet's assembler syntax: one spelling of each word).
+-- How an instruction is spelled at an address (over the VL86C010 data sheet's assembler syntax: one spelling
+-- of each word).
 use Rattle.std.specs.Prelude.{◌≡◌, ℕ, zero, suc, ◌+◌, ◌-◌, ◌*◌, ◌/◌, ◌%◌, ◌^◌, ◌==◌, ◌&&◌, not, nat_lt, Bool}
 use Rattle.std.specs.Prelude.{true, false, List, [], ◌∷◌, ◌++◌, codes, decimal, Option, Some, None, Result}
 use Rattle.std.specs.Prelude.{Ok, Err, if◌then◌else◌}

@@ -1,4 +1,4 @@
--- Where a run that keeps its statement and a greatest walk differ. Our own format.
+-- Where a run that keeps its statement and a greatest walk differ.
 use Rattle.std.specs.Prelude.{◌≡◌, ℕ, ◌+◌, ◌==◌, ◌&&◌, Bool, true, false, cond}
 use Rattle.std.specs.Prelude.{if◌then◌else◌, List}
 use Rattle.std.specs.Prelude.{[], ◌++◌, codes, decimal, count_by, length, sum_by, unwrap_or}

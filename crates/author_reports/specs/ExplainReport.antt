@@ -1,4 +1,4 @@
--- Where the ticks of a handler's greatest run time go. Our own format.
+-- Where the ticks of a handler's greatest run time go.
 use Rattle.std.specs.Prelude.{◌≡◌, ℕ, Bool, true, false, nat_le, List, ◌++◌, Option, Some, None}
 use Rattle.std.specs.Prelude.{Result}
 use Rattle.bus_ticks.specs.declared.profile.Profile.{Profile}

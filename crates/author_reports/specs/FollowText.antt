@@ -1,4 +1,4 @@
--- What is printed of a run that is judged by a statement. Our own format.
+-- What is printed of a run that is judged by a statement.
 use Rattle.std.specs.Prelude.{◌≡◌, ℕ, ◌+◌, ◌*◌, ◌-◌, ◌<◌, Bool, true, false, ◌&&◌, if◌then◌else◌}
 use Rattle.std.specs.Prelude.{nat_eq, nat_le, nat_lt, List, [], ◌++◌, length, codes, decimal}
 use Rattle.std.specs.Prelude.{slice_index_or}

@@ -1,4 +1,4 @@
--- The drawing of a handler's flow graph, with what its greatest run time takes. Our own format.
+-- The drawing of a handler's flow graph, with what its greatest run time takes.
 use Rattle.std.specs.Prelude.{◌≡◌, ℕ, true, false, List, Option, Result, Vec}
 use Rattle.std.specs.Global.{Global}
 use Rattle.bus_ticks.specs.declared.profile.Profile.{Profile}

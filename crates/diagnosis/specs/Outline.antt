@@ -1,6 +1,6 @@
--- The tables and the values of a statement's text, line by line, as its words tell. Our own reading: it takes
--- each key and each text in quotes to end on its line, as they do in the statements that we print. What it
--- comes to for plain lines is said by `PlainLines`.
+-- The tables and the values of a statement's text, line by line, as its words say. Each key and each text in
+-- quotes is taken to end on its line, as they do in the statements that we print. What that amounts to for
+-- plain lines is said by `PlainLines`.
 use Rattle.std.specs.Prelude.{◌==◌, ◌&&◌, ◌||◌, ◌+◌, not, zero, suc, Bool, true, false, ℕ}
 use Rattle.std.specs.Prelude.{List, [], ◌∷◌, ◌++◌, length, take, drop, map}
 use Rattle.std.specs.Prelude.{Option, Some, None, if◌then◌else◌}

@@ -1,5 +1,5 @@
 -- What is named of a statement that is refused: first what is wrong with the whole, and then the values and
--- the tables that have the fault, in the order of the text, twenty at most. Our own format.
+-- the tables that have the fault, in the order of the text, twenty at most.
 use Rattle.std.specs.Prelude.{◌≡◌, ◌≤◌, ◌⊎◌, ◌==◌, ◌&&◌, ◌||◌, ◌%◌, ◌+◌, ◌^◌, not, nat_lt}
 use Rattle.std.specs.Prelude.{zero, suc, Bool, true, false, ℕ}
 use Rattle.std.specs.Prelude.{List, [], ◌∷◌, ◌++◌, length, take, drop, codes, decimal, count_by}

@@ -1,5 +1,5 @@
--- Rows of places: the address, and its line of the source or its word. Our own format, which is that of the
--- assumptions that explain lists.
+-- Rows of places: the address, and its line of the source or its word, as in the assumptions that explain
+-- lists.
 use Rattle.std.specs.Prelude.{◌≡◌, ℕ, List, [], Option, Some, None}
 use Rattle.flow_graph.specs.declared.places.Place.{Place}
 use Rattle.flow_graph.specs.declared.places.Place.TheVariants.{At, Exit}

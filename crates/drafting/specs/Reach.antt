@@ -1,5 +1,5 @@
--- Where control goes from the words of a handler, as far as they show it. Source: the VL86C010 data sheet,
--- and our own choice of shapes.
+-- Where control goes from the words of a handler, as far as they show it (VL86C010 data sheet, but for the
+-- choice of shapes).
 use Rattle.std.specs.Prelude.{◌≡◌, ◌⊎◌, ◌↔◌, ℕ, ◌+◌, ◌-◌, ◌*◌, ◌^◌, ◌<◌, ◌≤◌, true, false}
 use Rattle.std.specs.Prelude.{if◌then◌else◌, List, length, Contains, Some}
 use Rattle.arm2_decode.specs.Table.{IsUnallocated, Means}

@@ -1,4 +1,4 @@
--- Returns by an R14 that a call has overwritten. Our own rules; what writes R14 is the VL86C010 data sheet's.
+-- Returns by an R14 that a call has overwritten. What writes R14 is the VL86C010 data sheet's.
 use Rattle.std.specs.Prelude.{◌≡◌, ◌↔◌, ℕ, ◌/◌, ◌%◌, ◌^◌, Bool, true, false, not, ◌&&◌, ◌||◌, ◌==◌, nat_lt}
 use Rattle.std.specs.Prelude.{if◌then◌else◌, List, length, Contains, Option, Some, None}
 use Rattle.std.specs.List.Sorted.{IsStrictlySortedBy}

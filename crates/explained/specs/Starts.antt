@@ -1,4 +1,4 @@
--- When words begin at the latest. Our own rules.
+-- When words begin at the latest.
 use Rattle.std.specs.Prelude.{◌≡◌, ℕ, ◌≤◌, true, max, if◌then◌else◌, List, map, filter, fold, Option}
 use Rattle.std.specs.Prelude.{Some, None}
 use Rattle.std.specs.List.{zip}

@@ -1,4 +1,4 @@
--- The table of a bound. Our own format.
+-- The table of a bound.
 use Rattle.std.specs.Prelude.{◌≡◌, ℕ, Bool, ◌==◌, if◌then◌else◌, List, [], ◌++◌, codes}
 use Rattle.std.specs.Prelude.{decimal, sum_by, Option, Some, None, is_some}
 use Rattle.std.specs.List.{list_any}

@@ -1,4 +1,4 @@
--- What the report of a listing prints. Our own format.
+-- What the report of a listing prints.
 use Rattle.std.specs.Prelude.{◌≡◌, ◌++◌, ℕ, List, true, false}
 use Rattle.loader.specs.Image.{Words}
 use Rattle.asm_text.specs.Source.{lines_of}
