@@ -48,6 +48,7 @@ pub struct HostStore<'a, R: Files> {
 }
 
 impl<'a, R: Files> HostStore<'a, R> {
+    /// The files that a runtime reaches.
     pub fn new(rt: &'a R) -> Self {
         HostStore { rt }
     }

@@ -25,8 +25,8 @@ impl Registers {
         self.read(mode_of(r15), register)
     }
 
-    /// A register where it is shifted: R15 gives all its bits, with its address so many bytes
-    /// ahead.
+    // A register where it is shifted: R15 gives all its bits, with its address so many bytes
+    // ahead.
     #[inline(always)]
     fn operand(&self, register: Register, bytes: u32) -> u32
         requires words { bytes % 4 ≡ 0 }

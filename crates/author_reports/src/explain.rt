@@ -48,7 +48,7 @@ struct BurstWalk<'w, 'p> {
     bursts: Bursts,
 }
 
-/// A bound, in ticks, and the text that explains it.
+// A bound, in ticks, and the text that explains it.
 #[derive(Drop)]
 struct Explanation {
     bound: u64,

@@ -23,10 +23,10 @@ use std::alloc::Global;
 use std::marker::Model;
 use trace_text::{LINE_ROOM, write_registers, write_ticks};
 
-/// The most breakpoints.
+// The most breakpoints.
 const BREAKS: usize = 16;
 
-/// The most words that `mem` and `dis` show.
+// The most words that `mem` and `dis` show.
 const WORDS: usize = 16;
 
 /// A machine that is stepped by commands, with its breakpoints, the inputs of its next step, and the sums of
@@ -65,7 +65,7 @@ impl Session {
         Session::with_port(machine, 0)
     }
 
-    // A session with a word for the port.
+    /// A session with a word for the port.
     pub(crate) fn with_port(machine: Machine, port: u32) -> Session
         ensures { result ≡ begun machine port }
     {

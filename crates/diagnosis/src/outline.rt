@@ -40,7 +40,7 @@ pub(crate) enum Entry<'a> {
     End,
 }
 
-// Of a table at hand.
+/// The table at hand, by the name of its list and its last key.
 #[derive(Clone, Copy)]
 pub(crate) struct Spot<'a> {
     // the name of its list
@@ -49,7 +49,7 @@ pub(crate) struct Spot<'a> {
     key: &'a [u8],
 }
 
-// What was read of a statement's text.
+/// What was read of a statement's text.
 #[derive(Drop)]
 pub(crate) struct Reader<'a> {
     at: Spot<'a>,

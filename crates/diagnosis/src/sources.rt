@@ -10,7 +10,7 @@ use assembler::{AsmFault, Fault, assemble};
 use std::alloc::{AllocError, Global};
 use text_rows::{put, put_decimal};
 
-/// How many faults of a source are named at most.
+// How many faults of a source are named at most.
 const MOST_LINES: usize = 20;
 
 /// A line that cannot be assembled.

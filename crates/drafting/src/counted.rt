@@ -6,10 +6,10 @@ use arm2_decode::{Cond, DataImmediate, Opcode, Operation, Register};
 use loader::Image;
 use word_shapes::instr_at;
 
-/// How many words before a loop are looked at for the one that sets its counter.
+// How many words before a loop are looked at for the one that sets its counter.
 const WORDS_BEFORE: u32 = 16;
 
-/// The most rounds of a stated loop.
+// The most rounds of a stated loop.
 const MOST_TURNS: u32 = 1_048_576;
 
 /// The number of an immediate operand.

@@ -6,7 +6,7 @@ use crate::reach::{Reached, pairs_at};
 use loader::Image;
 use std::alloc::{AllocError, Global};
 
-/// The most loops of a statement.
+// The most loops of a statement.
 const MOST_LOOPS: usize = 256;
 
 /// The loops, outer ones before those inside them, and the addresses to which cycles turn back that no loop

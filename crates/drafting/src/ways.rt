@@ -12,7 +12,7 @@ use loader::Image;
 use std::alloc::AllocError;
 use word_shapes::{is_always, is_never, is_table_jump_at, is_way_back_at};
 
-/// The most destinations of a target.
+// The most destinations of a target.
 const MOST_BRANCHES: u32 = 64;
 
 /// The address so many bytes on, which wraps at [`SPACE_END`].

@@ -22,7 +22,7 @@ use std::marker::Model;
 use toml::Table;
 use toml_reading::{check, document, only_keys, pair};
 
-/// The keys of the file.
+// The keys of the file.
 const FILE_KEYS: &[&str] = &[
     "pc",
     "pages",

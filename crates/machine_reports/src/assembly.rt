@@ -25,7 +25,7 @@ pub fn size_line(alloc: Global, image: &Image) -> Result<String, AllocError>
     format!(in alloc; "words {words} segments {segments}\n")
 }
 
-// The file and the report of a source's image.
+/// The file and the report of a source's image.
 pub fn image_written(alloc: Global, source: &[u8]) -> Result<Written, ReportFault>
     ensures is { IfOk result (λ w. IsWritten source.now w.bytes.items (string_bytes w.line)) }
     ensures fault { IfErr result (BeforeOutput (IsSourceRefused source.now)) }

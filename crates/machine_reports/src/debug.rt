@@ -11,7 +11,7 @@ use report_input::{place, profile_of};
 use report_output::{Output, ReportFault, print_answer};
 use std::alloc::Global;
 
-/// The bytes of a source, a machine file and a session's commands.
+// The bytes of a source, a machine file and a session's commands.
 #[derive(Clone, Copy)]
 struct SessionInputs<'a> {
     source: &'a [u8],

@@ -15,7 +15,7 @@ use running::{debug, run};
 use std::process::ExitCode;
 use std::{env, io};
 
-/// The steps where no number is given.
+// The steps where no number is given.
 const FEW: u32 = 4096;
 
 // The steps that a word asks for.

@@ -83,7 +83,7 @@ pub(crate) fn run(alloc: Global, which: Loop, steps: u32) -> Result<String, Unru
     Ok(format!(in alloc; "steps {steps} ticks {ticks}")?)
 }
 
-/// The most steps of one command of the debugger.
+// The most steps of one command of the debugger.
 const MOST: u32 = 65_536;
 
 // The commands for so many steps, and for the ticks that they took.

@@ -39,14 +39,14 @@ impl From<ReportFault> for Unjudged {
     }
 }
 
-/// The greatest run time of a handler, in ticks, and whether the checker accepts all certificates of it.
+// The greatest run time of a handler, in ticks, and whether the checker accepts all certificates of it.
 #[derive(Clone, Copy)]
 struct Bounded {
     ticks: u64,
     accepted: bool,
 }
 
-/// What a run of a handler took.
+// What a run of a handler took.
 #[derive(Clone, Copy)]
 struct Run {
     finished: bool,
