@@ -10,7 +10,7 @@ use loop_bounds::nest;
 use std::alloc::{AllocError, Global};
 use std::test::Fail;
 
-// A loop as a statement gives it: header, first, last and bound.
+// A loop as a statement states it: header, first, last and bound.
 type Stated = (u32, u32, u32, u32);
 
 // The words of a handler before its return.

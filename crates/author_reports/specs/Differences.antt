@@ -102,7 +102,7 @@ pub record IsTable (source : List ℕ) (words : Words) (compared : ℕ → Compa
 
 -- ## Tallies
 
--- the same, told up to 2^64 - 1
+-- the same, counted up to 2^64 - 1
 abbrev pub told_at : Flow → List Pass → List Edge → ℕ → Compared
 told_at flow passes walk a =
     record {

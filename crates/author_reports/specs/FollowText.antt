@@ -86,7 +86,7 @@ strayed_text steps at line why =
 
 -- ## The line
 
--- a word of the line stands at the address
+-- a word of the line is at the address
 abbrev pub has_word : (address : ℕ) → PlacedLine → Bool
 has_word address line = nat_le line.at address && nat_lt address (line.at + 4 * line.words)
 

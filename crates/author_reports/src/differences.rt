@@ -33,7 +33,7 @@ const IMAGE_HEADING: &[u8] = b"              run            bound
   passes    ticks  passes    ticks   address      word  text
 ";
 
-// How often an address is passed, and the ticks there, each told up to 2^64 - 1.
+// How often an address is passed, and the ticks there, each counted up to 2^64 - 1.
 #[derive(Clone, Copy)]
 struct Numbers {
     passes: u64,

@@ -32,7 +32,7 @@ begun_marks n = replicate (n + 1) 2
 
 -- ## The parts of a list
 
--- an edge that stands before the part of a place belongs to an earlier place
+-- an edge that is before the part of a place belongs to an earlier place
 owner : (flow : Flow) → IsWellFormed flow → (u k : ℕ) → u ≤ length flow.places → k < get_or flow.firsts u 0 → (v : ℕ) × (v < u) × (get_or flow.firsts v 0 ≤ k) × (k < get_or flow.firsts (v + 1) 0)
 owner flow well_formed zero k le below = let z : get_or flow.firsts 0 0 ≡ 0 = well_formed.first_zero in absurd (omega arith)
 owner flow well_formed (suc u) k le below =

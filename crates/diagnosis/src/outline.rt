@@ -157,7 +157,7 @@ impl<'a> Reader<'a> {
     }
 }
 
-// The bare word that stands first.
+// The bare word at the front.
 fn bare_word(text: &[u8]) -> &[u8]
     ensures { result.now ≡ bare_word text.now }
 {
@@ -183,7 +183,7 @@ fn header_of(line: usize, text: &[u8]) -> Option<Section<'_>>
     }
 }
 
-/// The tables and values of a statement's text, as its words tell.
+/// The tables and values of a statement's text, as its words say.
 ///
 /// # Errors
 ///

@@ -86,7 +86,7 @@ fn needed_keys(list: &[u8]) -> &'static [&'static [u8]]
     &[]
 }
 
-// Adds a value as it stands in the text.
+// Adds a value as it is in the text.
 fn put_word(out: &mut Vec<u8>, value: Word<'_>) -> Result<(), AllocError>
     ensures { OnOk result (out.new.items ≡ out.old.items ++ value_text (value_of value.entry)) }
 {
@@ -449,7 +449,7 @@ impl Report {
         }
     }
 
-    // Adds what a table wants, or that it stands in single brackets.
+    // Adds what a table wants, or that it is in single brackets.
     #[tactic(auto, using(crate::proofs::RefusedLemmas::adds_both))]
     fn put_kinds(&mut self, alloc: Global, table: &OpenTable<'_>) -> Result<(), AllocError>
         ensures { OnOk result
@@ -573,7 +573,7 @@ impl Report {
         Ok(())
     }
 
-    // Adds the values whose address stands before them.
+    // Adds the values whose address an earlier one has.
     #[tactic(auto, unfolding(crate::specs::Refused::twice_rows))]
     fn put_twice(&mut self, asked: &Asked<'_>, entries: &[Entry<'_>]) -> Result<(), AllocError>
         ensures { OnOk result
@@ -669,7 +669,7 @@ fn rows_text(asked: &Asked<'_>, text: &[u8]) -> Result<Vec<u8>, AllocError>
     Ok(report.text)
 }
 
-// The rows of the values whose address stands twice.
+// The rows of the values whose address occurs twice.
 #[tactic(auto, using(crate::proofs::RefusedLemmas::all_added))]
 fn twice_text(asked: &Asked<'_>, text: &[u8]) -> Result<Vec<u8>, AllocError>
     ensures { IfOk result

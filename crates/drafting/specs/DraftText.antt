@@ -41,7 +41,7 @@ abbrev pub words_from : ℕ → ℕ → List ℕ
 words_from at zero = []
 words_from at (suc more) = at ∷ words_from (ahead_of at 4) more
 
--- ## What stands at the addresses
+-- ## What is at the addresses
 
 module _ (lines : Lines) where
   -- a key and an address, that many columns in

@@ -47,7 +47,7 @@ fn may_write(image: &Image, at: u32, register: Register) -> bool {
     }
 }
 
-// The number that a register has where control comes to an address straight on.
+// The number that a register has where control reaches an address straight on.
 fn set_before(image: &Image, reach: &Reached, at: u32, register: Register) -> Option<u32> {
     let mut at = at;
     for _ in 0..WORDS_BEFORE {

@@ -35,7 +35,7 @@ Begins place start old new = (a : ℕ) → new a ≡ (if is_at a place then late
 
 -- ## Walks
 
--- a walk from the entry that keeps the bounds of the loops comes to the address after so many ticks
+-- a walk from the entry that keeps the bounds of the loops reaches the address after so many ticks
 pub record ComesAt (flow : Flow) (tree : Tree) (a n : ℕ) : Type 0 where
   pub place : Place
   pub there : is_at a place ≡ true

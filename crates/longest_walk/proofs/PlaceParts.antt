@@ -1,4 +1,4 @@
--- The edges of a place stand from one number to another.
+-- The edges of a place lie from one number to another.
 use Rattle.std.proofs.Common.{◌≡◌, ◌∙◌, ℕ, zero, suc, ◌+◌, ◌-◌, ◌<◌, ◌≤◌, length, get_or, ⊎_elim, sym, subst, arith, add-one}
 use Rattle.std.proofs.lemmas.Bool.{cases_lt}
 use Rattle.flow_graph.specs.declared.places.Place.TheVariants.{Exit}
@@ -11,7 +11,7 @@ use Rattle.longest_walk.specs.Parts.{IsPartOf}
 use Rattle.longest_walk.proofs.CarryWalks.{no_edge}
 
 module _ (flow : Flow) (well : IsWellFormed flow) where
-  -- an edge that stands before the part of a place belongs to an earlier place
+  -- an edge that is before the part of a place belongs to an earlier place
   owner : (u k : ℕ) → u ≤ length flow.places → k < get_or flow.firsts u 0 → (v : ℕ) × (v < u) × (get_or flow.firsts v 0 ≤ k) × (k < get_or flow.firsts (v + 1) 0)
   owner zero k le below = let z : get_or flow.firsts 0 0 ≡ 0 = well.first_zero in absurd (omega arith)
   owner (suc u) k le below =
@@ -21,7 +21,7 @@ module _ (flow : Flow) (well : IsWellFormed flow) where
       (cases_lt k (get_or flow.firsts u 0))
 
   module _ (v : ℕ) (v_in : v < length flow.places) where
-    -- an edge that leaves the place stands in its part
+    -- an edge that leaves the place is in its part
     pub part_of : (k : ℕ) → k < length flow.edges → (step_at flow.edges k).from ≡ place_at flow.places v → (get_or flow.firsts v 0 ≤ k) × (k < get_or flow.firsts (v + 1) 0)
     part_of k k_in from_is =
         let all : get_or flow.firsts (length flow.places) 0 ≡ length flow.edges = well.last_all in

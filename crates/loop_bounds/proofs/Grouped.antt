@@ -1,4 +1,4 @@
--- Edges that stand node by node.
+-- Edges that are listed node by node.
 use Rattle.std.proofs.Common.{◌≡◌, ℕ, zero, suc, ◌+◌, ◌-◌, ◌<◌, ◌≤◌, List, length, get_or, ⊎_elim, sym, ap, ◌∙◌, subst, arith, add-one}
 use Rattle.std.specs.Prelude.{Contains}
 use Rattle.std.proofs.lemmas.List.{get_or_default}
@@ -21,7 +21,7 @@ rises_to firsts n top rising last (suc steps) v is =
     omega arith
 
 module _ (firsts : List ℕ) (edges : List NumberedEdge) (grouped : IsGrouped firsts edges) where
-  -- an edge that stands before the part of a node belongs to an earlier node
+  -- an edge that is before the part of a node belongs to an earlier node
   owner : (u k : ℕ) → u ≤ exit_of firsts → k < get_or firsts u 0 → (v : ℕ) × (v < u) × (get_or firsts v 0 ≤ k) × (k < get_or firsts (v + 1) 0)
   owner zero k le below = let z : get_or firsts 0 0 ≡ 0 = grouped.first_zero in absurd (omega arith)
   owner (suc u) k le below =
@@ -33,7 +33,7 @@ module _ (firsts : List ℕ) (edges : List NumberedEdge) (grouped : IsGrouped fi
   pub firsts_inside : (v : ℕ) → v ≤ exit_of firsts → get_or firsts v 0 ≤ length edges
   firsts_inside v le = rises_to firsts (exit_of firsts) (length edges) grouped.rising grouped.last_all (exit_of firsts - v) v (omega arith)
 
-  -- each edge stands in the part of the node that it leaves
+  -- each edge is in the part of the node that it leaves
   pub edge_at : (k : ℕ) (d : NumberedEdge) → k < length edges → ((get_or edges k d).from < exit_of firsts) × (get_or firsts (get_or edges k d).from 0 ≤ k) × (k < get_or firsts ((get_or edges k d).from + 1) 0)
   edge_at k d lt =
       let w = owner (exit_of firsts) k (omega arith) (let all : get_or firsts (exit_of firsts) 0 ≡ length edges = grouped.last_all in omega arith) in

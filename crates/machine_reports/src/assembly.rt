@@ -9,14 +9,14 @@ use report_input::read_source;
 use report_output::{Output, ReportFault, print_answer};
 use std::alloc::{AllocError, Global};
 
-/// A source's image as bytes, and the line that tells its size.
+/// A source's image as bytes, and the line that says its size.
 #[derive(Drop)]
 pub struct Written {
     pub bytes: Vec<u8>,
     pub line: String,
 }
 
-/// The line that tells an image's size.
+/// The line that says an image's size.
 pub fn size_line(alloc: Global, image: &Image) -> Result<String, AllocError>
     ensures { IfOk result (λ line. string_bytes line ≡ size_text image.now) }
 {

@@ -18,7 +18,7 @@ const LOOSE_ROWS: &[u8] = b"  00008000     1  start LDR R0,[R1]
   00008008     3   STR R0,[R3]
 ";
 
-/// A call that tells what a bound takes for granted of its handler. None changes a value.
+/// A call that returns what a bound takes for granted of its handler. None changes a value.
 #[derive(Clone, Copy)]
 pub(crate) enum AssumedCall {
     Addresses,

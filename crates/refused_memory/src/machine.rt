@@ -72,7 +72,7 @@ impl NewCall {
     }
 }
 
-/// A word put into ROM where another stands.
+/// A word put into ROM where another is.
 #[derive(Drop)]
 pub(crate) struct AddRom {
     memc: Memc,

@@ -23,7 +23,7 @@ const PROFILE: &[u8] = b"n = 3\ns = 1\nquad = 2\nrom = [5, 4, 3, 2]\nio = [8, 6,
 // The profile's numbers, in the order of its fields.
 const NUMBERS: [u32; 15] = [3, 1, 2, 5, 4, 3, 2, 8, 6, 5, 10, 2, 2, 1, 8];
 
-// Where R14 of IRQ mode stands among the registers.
+// Where R14 of IRQ mode is among the registers.
 const R14_IRQ: usize = 23;
 
 const RETURN: u32 = 0x1010;

@@ -117,7 +117,7 @@ const EDGE_LINE: &[u8] = b"# edge 800C do exit 9\n";
 // What a run of the edge ends with.
 const EDGE_TICKS: &[u8] = b"ticks 9 elapsed 9\n";
 
-// What stands under the table where bursts are asked for: 50 ticks, and 6 for each of 3 bursts, or of the 13
+// What is under the table where bursts are asked for: 50 ticks, and 6 for each of 3 bursts, or of the 13
 // that come within 130 ticks. A return to a device's address costs 6 ticks where one to anywhere costs 8.
 const UNDER_TABLE: &[u8] = b"with 3 bursts 68 ticks, 8.500 microseconds at 8 MHz
 with a burst every 10 ticks 128 ticks, 16.000 microseconds at 8 MHz
@@ -169,8 +169,8 @@ pub(crate) enum Report {
 }
 
 impl Report {
-    // What is written; of a tight edge's report what stands before the machine file, and of an explanation
-    // what stands before the lines of bursts.
+    // What is written; of a tight edge's report what is before the machine file, and of an explanation
+    // what is before the lines of bursts.
     fn text(self) -> &'static [u8] {
         match self {
             Report::Asm => b"words 4 segments 1\n",

@@ -47,7 +47,7 @@ abbrev pub is_lsl : Shift → Bool
 is_lsl shift.Lsl = true
 is_lsl _ = false
 
--- the operand is shifted to the left by so many bits; by none, it is the register as it stands
+-- the operand is shifted to the left by so many bits; by none, it is the register as it is
 abbrev pub is_lsl_by : ℕ → DataRegister → Bool
 is_lsl_by amount x = is_lsl x.shift && (x.amount == amount)
 
