@@ -93,8 +93,7 @@ impl Session {
     ///   passed meanwhile, bursts and all; each stays at 2^128 - 1.
     /// - `mem A N`, `dis A N`: 1 to 16 words of RAM or ROM from an address, as a privileged load finds them.
     /// - `burst N`, 0 to 65,535: DMA bursts in the next step alone. `line NAME on` and `off`, `port N`: IOC's
-    ///   interrupt lines, by their names in machine files, and the port's word from the next step
-    ///   on.
+    ///   interrupt lines, by their names in machine files, and the port's word from the next step on.
     ///
     /// A refused command, also one that memory refuses, leaves the session as it was.
     ///
