@@ -39,7 +39,7 @@ fn explained(alloc: Global, statement: &[u8], out: &mut MemoryOutput) -> Result<
     explain_report(alloc, explained, None, out)
 }
 
-/// Reads the bytes as that input.
+// Reads the bytes as that input.
 fn read(alloc: Global, input: Input, bytes: &[u8]) -> Result<bool, ReportFault> {
     let mut out = MemoryOutput::with_room(alloc, 0)?;
     match input {

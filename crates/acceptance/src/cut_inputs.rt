@@ -9,7 +9,7 @@ use std::test::Fail;
 const PROFILE: &[u8] = b"n=3\ns=1\nquad=2\nrom=[5,4,3,2]\nio=[8,6,5,10]\ncontrol=2\nunfitted=2\n\
     internal=1\nburst=8\n";
 
-/// What a report says of an input, by the length of the front that is left: each row up to so many bytes.
+// What a report says of an input, by the length of the front that is left: each row up to so many bytes.
 type Fronts = &'static [(usize, &'static str)];
 
 type Cut = (Input, &'static [u8], Fronts);
@@ -120,10 +120,10 @@ const CUTS: [Cut; 11] = [
     ),
 ];
 
-/// What a byte of the image is made.
+// What a byte of the image is made.
 const VALUES: [u8; 3] = [0x00, 0x7F, 0xFF];
 
-/// What a report says of the image with a byte made each of these: each row up to so many bytes in front.
+// What a report says of the image with a byte made each of these: each row up to so many bytes in front.
 const CHANGES: [(usize, [&str; 3]); 10] = [
     // What begins an image, in front of a text that is none.
     (
@@ -149,7 +149,7 @@ const CHANGES: [(usize, [&str; 3]); 10] = [
     (35, [TAKEN, TAKEN, TAKEN]),
 ];
 
-/// The first row that goes so far.
+// The first row that goes so far.
 fn row_at<T: Copy>(rows: &[(usize, T)], at: usize) -> Option<T> {
     for (most, row) in rows {
         if at <= *most {
@@ -159,7 +159,7 @@ fn row_at<T: Copy>(rows: &[(usize, T)], at: usize) -> Option<T> {
     None
 }
 
-/// The length at which a report says something else of an input, if there is one.
+// The length at which a report says something else of an input, if there is one.
 fn first_wrong_cut(alloc: Global, cut: &Cut) -> Result<Option<usize>, AllocError> {
     let (input, bytes, rows) = cut;
     for length in 0..=bytes.len() {
@@ -173,7 +173,7 @@ fn first_wrong_cut(alloc: Global, cut: &Cut) -> Result<Option<usize>, AllocError
     Ok(None)
 }
 
-/// Whether the reports say the right things of the image with that byte changed.
+// Whether the reports say the right things of the image with that byte changed.
 fn are_answers(alloc: Global, at: usize, wanted: &[&str; 3]) -> Result<bool, AllocError> {
     for (value, answer) in VALUES.iter().zip(wanted.iter()) {
         let mut image = IMAGE;

@@ -10,10 +10,10 @@ use loop_bounds::nest;
 use std::alloc::{AllocError, Global};
 use std::test::Fail;
 
-/// A loop as a statement gives it: header, first, last and bound.
+// A loop as a statement states it: header, first, last and bound.
 type Stated = (u32, u32, u32, u32);
 
-/// The words of a handler before its return.
+// The words of a handler before its return.
 const WORDS: u32 = 8;
 
 // A branch from one word of the handler to another, where flags say so.
@@ -80,7 +80,7 @@ fn after(rounds: [u32; 3], edge: &Edge, loops: &[Stated]) -> Option<[u32; 3]> {
     Some(new)
 }
 
-/// A walk's end, the rounds of the stays that go on there, and the walk's cost.
+// A walk's end, the rounds of the stays that go on there, and the walk's cost.
 #[derive(Clone, Copy)]
 struct Reached {
     place: Place,
@@ -152,7 +152,7 @@ fn enumerated(alloc: Global, graph: &Graph, loops: &[Stated]) -> Result<Option<u
     Ok(None)
 }
 
-/// A statement of the entry 8000 and these loops.
+// A statement of the entry 8000 and these loops.
 fn statement_of(alloc: Global, loops: &[Stated]) -> Result<String, AllocError> {
     let mut text = String::from_str(alloc, "entry = 0x8000\n")?;
     for (header, first, last, bound) in loops {

@@ -10,14 +10,14 @@ use std::alloc::Global;
 use std::process::Abort;
 use std::test::Fail;
 
-/// How an output fails.
+// How an output fails.
 #[derive(Clone, Copy)]
 enum Failure {
     TakesNothing,
     Error,
 }
 
-/// Takes at most `step` bytes a write and `left` bytes in all, and then fails.
+// Takes at most `step` bytes a write and `left` bytes in all, and then fails.
 #[derive(Drop)]
 struct Narrow {
     bytes: Vec<u8>,
@@ -66,7 +66,7 @@ impl Output for Narrow {
     }
 }
 
-/// Whether outputs take the whole of the text.
+// Whether outputs take the whole of the text.
 fn take_all(alloc: Global, text: &[u8]) -> Result<bool, Fail> {
     let mut memory = MemoryOutput::with_room(alloc, 3)?;
     write_whole(&mut memory, text)?;
@@ -75,7 +75,7 @@ fn take_all(alloc: Global, text: &[u8]) -> Result<bool, Fail> {
     Ok(memory.bytes() == text && slow.bytes.as_slice() == text && slow.failures == 0)
 }
 
-/// How many bytes an output takes a write, and how it fails.
+// How many bytes an output takes a write, and how it fails.
 #[derive(Clone, Copy)]
 struct Kind(usize, Failure);
 
@@ -113,7 +113,7 @@ fn reports_at_each_cut(rt: HostRuntime) -> Result<(), Fail> {
     Ok(())
 }
 
-/// Runs the program on an output of each room up to the report's length.
+// Runs the program on an output of each room up to the report's length.
 fn program_at_cuts(
     rt: &impl Abort,
     alloc: Global,

@@ -7,7 +7,7 @@ use samples::{branch, call_twice, countdown, nested_countdown};
 use std::alloc::{AllocError, Global};
 use std::test::Fail;
 
-/// A source, its statement and its certificate.
+// A source, its statement and its certificate.
 type Handler = (&'static [u8], &'static [u8], &'static [u8]);
 
 const HANDLERS: [Handler; 4] = [
@@ -29,10 +29,10 @@ const HANDLERS: [Handler; 4] = [
     ),
 ];
 
-/// How many forgeries are made of each certificate.
+// How many forgeries are made of each certificate.
 const FORGERIES: u32 = 2000;
 
-/// The verdicts No. There is none for other prices, which no changed line brings in.
+// The verdicts No. There is none for other prices, which no changed line brings in.
 const OBJECTIONS: [&[u8]; 9] = [
     b"no: MissingPlace\n",
     b"no: ExtraPlace\n",
@@ -103,7 +103,7 @@ fn forged(alloc: Global, numbers: &mut Numbers, text: &[u8]) -> Result<Vec<u8>, 
     Ok(forged)
 }
 
-/// What the checker answers to a certificate.
+// What the checker answers to a certificate.
 #[derive(Clone, Copy)]
 enum Answer {
     Yes,
@@ -132,7 +132,7 @@ fn bound_line(text: &[u8]) -> Option<&[u8]> {
     text.split_inclusive(|byte| *byte == b'\n').nth(1)
 }
 
-/// How often the checker answers what, and the first forgery to which its answer is wrong.
+// How often the checker answers what, and the first forgery to which its answer is wrong.
 #[derive(Clone, Copy, Debug)]
 struct Answers {
     yes: u32,

@@ -20,7 +20,7 @@ const ENTRY: File = (b"entry = 0x8000 #", 0);
 
 const LONG_ENTRY: File = (b"entry = 0x8000 #", LIMIT);
 
-/// By the numbers of the first cycle profile.
+// By the numbers of the first cycle profile.
 const LONG_PROFILE: File = (
     b"n=2\ns=1\nquad=2\nrom=[4,3,2,2]\nio=[8,6,5,10]\ncontrol=2\nunfitted=2\ninternal=1\nburst=6#",
     LIMIT,
@@ -37,7 +37,7 @@ const TOO_LONG: File = (b"#", LIMIT + 1);
 
 const NONE: File = (b"", 0);
 
-/// A status, and what standard output and standard error then hold.
+// A status, and what standard output and standard error then hold.
 type Told = (u8, &'static [u8], &'static [u8]);
 
 const CERTIFICATE: Told = (
@@ -54,8 +54,8 @@ const REFUSED: Told = (1, b"", b"refused: InputTooLong\n");
 
 const DEVICE: Told = (4, b"", b"refused: Device\n");
 
-/// A byte, how often it appears in standard input, how that fails then in place of its end, and how much of
-/// it the program leaves.
+// A byte, how often it appears in standard input, how that fails then in place of its end, and how much of
+// it the program leaves.
 type Input = (u8, usize, Option<ErrorKind>, usize);
 
 const NOTHING: Input = (b'\n', 0, None, 0);
@@ -69,7 +69,7 @@ const FAILS_LATER: Input = (b'\n', 4096, Some(ErrorKind::Other), 0);
 // An interrupted read has failed; it is not tried again.
 const INTERRUPTED: Input = (b'\n', 8192, Some(ErrorKind::Interrupted), 0);
 
-/// A byte more than the limit is read.
+// A byte more than the limit is read.
 const ENDLESS: Input = (b'\n', usize::MAX, None, usize::MAX - LIMIT - 1);
 
 const BOUND: &[&str] = &["bound"];
@@ -82,7 +82,7 @@ const ASM: &[&str] = &["asm"];
 
 const DEBUG: &[&str] = &["debug"];
 
-/// A command with its options; the files `source`, `second` and `profile`; its input, and the answer.
+// A command with its options; the files `source`, `second` and `profile`; its input, and the answer.
 type Row = (&'static [&'static str], [File; 3], Input, Told);
 
 const ROWS: [Row; 15] = [
@@ -104,7 +104,7 @@ const ROWS: [Row; 15] = [
     (DEBUG, [NO_SOURCE, MACHINE, NONE], ENDLESS, REFUSED),
 ];
 
-/// A reader of one byte so many times, which then ends or fails.
+// A reader of one byte so many times, which then ends or fails.
 #[derive(Drop)]
 struct Bytes {
     byte: u8,
@@ -126,7 +126,7 @@ impl Read for Bytes {
     }
 }
 
-/// Whether that is the program's answer to the words, and so much of the input is left.
+// Whether that is the program's answer to the words, and so much of the input is left.
 fn is_answered(alloc: Global, words: &[String], row: &Row) -> Result<bool, ReportFault> {
     let (_, [source, second, profile], (byte, left, fails, unread), wanted) = row;
     let mut files = Files {
@@ -146,7 +146,7 @@ fn is_answered(alloc: Global, words: &[String], row: &Row) -> Result<bool, Repor
     Ok(answer == *wanted && input.left == *unread)
 }
 
-/// The number of the first row whose answer is another.
+// The number of the first row whose answer is another.
 fn first_wrong(alloc: Global, rows: &[Row]) -> Result<Option<usize>, ReportFault> {
     for (number, row) in rows.iter().enumerate() {
         let words = line(alloc, row.0)?;

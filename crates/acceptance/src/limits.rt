@@ -7,7 +7,7 @@ use std::test::Fail;
 
 const HEAD: &[u8] = b"arcwcet certificate 1\nbound 20488\nstep 8000 do 8004 1\n";
 
-/// `MOV R0,#3` so many times from 8000 on, and a return.
+// `MOV R0,#3` so many times from 8000 on, and a return.
 fn straight_code(alloc: Global, words: u32) -> Result<String, AllocError> {
     let mut source = String::new(alloc);
     for _ in 0..words {

@@ -4,18 +4,18 @@ use crate::answers::{Input, TAKEN, is_answer};
 use std::alloc::{AllocError, Global};
 use std::test::Fail;
 
-/// Parts, and how often each of them appears.
+// Parts, and how often each of them appears.
 type Text = &'static [(&'static [u8], usize)];
 
-/// The documents of TOML, and a key of each.
+// The documents of TOML, and a key of each.
 const FORMATS: [(Input, &[u8]); 3] = [
     (Input::Statement, b"entry = "),
     (Input::Machine, b"pc = "),
     (Input::Profile, b"n = "),
 ];
 
-/// What follows a key of each format in turn, and what a report says of it. TOML's reader takes lists and
-/// inline tables up to 80 deep, and no integer of more than 64 bits.
+// What follows a key of each format in turn, and what a report says of it. TOML's reader takes lists and
+// inline tables up to 80 deep, and no integer of more than 64 bits.
 const VALUES: [(Text, [&str; 3]); 13] = [
     (&[(b"[", 80), (b"]", 80)], ["WrongKind"; 3]),
     (&[(b"[", 81), (b"]", 81)], ["NotToml"; 3]),
@@ -39,7 +39,7 @@ const VALUES: [(Text, [&str; 3]); 13] = [
     (&[(b"\"\0\"", 1)], ["NotToml"; 3]),
 ];
 
-/// Whole documents, and what a report says of each in all formats.
+// Whole documents, and what a report says of each in all formats.
 const DOCUMENTS: [(Text, &str); 11] = [
     (&[(b"a", 1), (b".a", 79), (b" = 1\n", 1)], "UnknownKey"),
     (&[(b"a", 1), (b".a", 80), (b" = 1\n", 1)], "NotToml"),
@@ -85,7 +85,7 @@ fn bytes_of(alloc: Global, front: &[u8], text: Text) -> Result<Vec<u8>, AllocErr
     Ok(bytes)
 }
 
-/// Whether reports say that of a text as each format, after a key of it or by itself.
+// Whether reports say that of a text as each format, after a key of it or by itself.
 fn are_answers(
     alloc: Global,
     text: Text,
@@ -102,7 +102,7 @@ fn are_answers(
     Ok(true)
 }
 
-/// The number of the first value of which a report says something else.
+// The number of the first value of which a report says something else.
 fn first_wrong_value(
     alloc: Global,
     rows: &[(Text, [&str; 3])],
@@ -115,7 +115,7 @@ fn first_wrong_value(
     Ok(None)
 }
 
-/// The same of documents.
+// The same of documents.
 fn first_wrong_document(alloc: Global, rows: &[(Text, &str)]) -> Result<Option<usize>, AllocError> {
     for (number, (text, answer)) in rows.iter().enumerate() {
         if !are_answers(alloc, text, false, &[*answer; 3])? {
@@ -125,7 +125,7 @@ fn first_wrong_document(alloc: Global, rows: &[(Text, &str)]) -> Result<Option<u
     Ok(None)
 }
 
-/// The same of sources.
+// The same of sources.
 fn first_wrong_source(alloc: Global, rows: &[(Text, &str)]) -> Result<Option<usize>, AllocError> {
     for (number, (text, answer)) in rows.iter().enumerate() {
         let bytes = bytes_of(alloc, b"", text)?;

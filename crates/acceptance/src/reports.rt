@@ -8,7 +8,7 @@ use arcwcet::{
 use samples::lone_return::{CERTIFICATE, SOURCE, STATEMENT};
 use std::alloc::{AllocError, Global};
 
-/// It returns to user mode.
+// It returns to user mode.
 const MACHINE: &[u8] = b"pc = 0x1C\nmode = \"irq\"\nsteps = 1\n[registers]\nr14_irq = 0x1010\n";
 
 const SESSION: &[u8] = b"step\nfrob\n";
@@ -19,7 +19,7 @@ const LINES: &[u8] = b"                         1   ORG &1C
 0000001C  E25EF004       2   SUBS PC,R14,#4
 ";
 
-/// Its bound is exactly as much as it may be.
+// Its bound is exactly as much as it may be.
 const EXPLAINED: Explained<'static> = Explained {
     source: SOURCE,
     statement: STATEMENT,
@@ -30,7 +30,7 @@ const EXPLAINED: Explained<'static> = Explained {
     },
 };
 
-/// What `visits` prints above both certificates.
+// What `visits` prints above both certificates.
 const SUMMARY: &[u8] = b"arcwcet visits\nvisits 1\nirq 9\nfiq 9\nentry 8\ntotal 26\n";
 
 const TABLE: &[u8] = b"passes  each  ticks  share latest priced as line  text

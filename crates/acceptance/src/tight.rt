@@ -5,7 +5,7 @@ use samples::countdown::{SOURCE, STATEMENT};
 use std::alloc::Global;
 use std::test::Fail;
 
-/// The number of an edge, the line that shows it, and what its run ends with.
+// The number of an edge, the line that shows it, and what its run ends with.
 type Row = (u32, &'static str, &'static str);
 
 const EDGES: [Row; 5] = [
@@ -16,7 +16,7 @@ const EDGES: [Row; 5] = [
     (4, "# edge 800C do exit 9\n", "ticks 9 elapsed 9\n"),
 ];
 
-/// Whether the edge's report begins with the row's line, and that of its run ends with the row's end.
+// Whether the edge's report begins with the row's line, and that of its run ends with the row's end.
 fn runs_so(alloc: Global, row: &Row) -> Result<bool, ReportFault> {
     let (number, line, end) = row;
     let mut file = MemoryOutput::with_room(alloc, 0)?;

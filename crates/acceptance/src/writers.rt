@@ -7,7 +7,7 @@ use std::io;
 use std::io::{ErrorKind, Write};
 use std::test::Fail;
 
-/// Takes at most `step` bytes a write and `left` bytes in all, and then none, or fails.
+// Takes at most `step` bytes a write and `left` bytes in all, and then none, or fails.
 #[derive(Drop)]
 struct Writer {
     bytes: Vec<u8>,
@@ -49,8 +49,8 @@ impl Write for Writer {
     }
 }
 
-/// What a writer takes of a slice at most, how it fails once it is full, the answer to `abc`, and what the
-/// writer has then.
+// What a writer takes of a slice at most, how it fails once it is full, the answer to `abc`, and what the
+// writer has then.
 type Row = (
     usize,
     Option<ErrorKind>,
@@ -76,7 +76,7 @@ const ROWS: [Row; 5] = [
     ),
 ];
 
-/// Whether that is the output's answer, and its writer has those bytes.
+// Whether that is the output's answer, and its writer has those bytes.
 fn writes(alloc: Global, row: &Row) -> bool {
     let (left, fails, answer, bytes) = row;
     let mut writer = Writer::new(alloc, 9, *left, *fails);
@@ -84,8 +84,8 @@ fn writes(alloc: Global, row: &Row) -> bool {
     found == *answer && writer.bytes.as_slice() == *bytes
 }
 
-/// How many bytes a writer takes a write, and how it fails once it is full. An interrupted write has failed;
-/// it is not tried again.
+// How many bytes a writer takes a write, and how it fails once it is full. An interrupted write has failed;
+// it is not tried again.
 #[derive(Clone, Copy)]
 struct Kind(usize, Option<ErrorKind>);
 

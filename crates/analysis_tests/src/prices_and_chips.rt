@@ -123,7 +123,7 @@ fn visits_overflow(rt: HostRuntime) {
     assert!(rt; totals == wanted);
 }
 
-// A shift and its amount, a value and the carry, and the value and the carry that come of them.
+// A shift and its amount, a value and the carry, and the value and the carry that they yield.
 type ShiftRow = (Shift, u32, u32, bool, u32, bool);
 
 static IN_THE_WORD: [ShiftRow; 9] = [

@@ -8,7 +8,7 @@ use std::alloc::{AllocError, Global};
 use std::rc::Rc;
 use std::test::*;
 
-/// By another profile, with a list of calls, the greatest bound, and no walk.
+// By another profile, with a list of calls, the greatest bound, and no walk.
 const OTHER_PROFILE: &[u8] = b"arcwcet certificate 2
 profile 3 1 2 5 4 3 2 8 6 5 10 2 2 1 8
 bound 9223372036854775807
@@ -167,7 +167,7 @@ fn push_countdown(alloc: Global, longest: &mut Longest) -> Result<(), Fail> {
     Ok(push_rows(alloc, &mut longest.potentials)?)
 }
 
-/// The greatest walk of the countdown, and its rows.
+// The greatest walk of the countdown, and its rows.
 fn countdown_walk(alloc: Global) -> Result<Longest, Fail> {
     let mut longest = Longest {
         bound: 25,

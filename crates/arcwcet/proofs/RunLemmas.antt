@@ -1,4 +1,4 @@
--- What a run of a command did, from what its reads and its call gave.
+-- What a run of a command did, from what its reads and its call returned.
 use Rattle.std.proofs.Common.{◌≡◌, ◌≢◌, ◌∙◌, ◌≤◌, ℕ, Bool, true, false, List, [], ◌∷◌, length, Option, Some, None, Result, Ok, Err, refl, sym, ap, subst, inl, inr, arith}
 use Rattle.std.specs.Io.KnownBytes.{Consumes, IsAtEnd}
 use Rattle.bus_ticks.specs.declared.profile.Profile.{Profile}
@@ -16,7 +16,7 @@ use Rattle.report_output.specs.declared.fault.ReportFault.TheVariants as report_
 use Rattle.arcwcet.specs.declared.fault.StoreFault.{StoreFault}
 use Rattle.arcwcet.specs.declared.fault.StoreFault.TheVariants as store_fault
 
--- how a fault is told
+-- how a fault is reported
 data Told (fault : ReportFault) : Type 0 where
   of_memory : fault ≡ Memory → Told fault
   of_device : fault ≡ Device → Told fault
@@ -282,7 +282,7 @@ module _ {O : Type 0} (taken : O → Option (List ℕ)) (failures : O → ℕ) (
       subst (λ (r : Result Bool ReportFault). Tells taken failures (Plain Is) IsFault before after r) (sym is)
       (told_answer (Plain Is) IsFault (Plain Is) IsFine IsFault (λ x text t. t) (λ fault t. t) (answered result) (answers_plain Is IsFine IsFault result h))
 
--- the files in front of which a cycle profile's may stand
+-- the files in front of which a cycle profile's may be
 pub of_two : (Is : Option (List ℕ) → List ℕ → List ℕ → Type 0) (file : Option (List ℕ)) (a b : List ℕ) → Is file a b → OfTwo Is (in_front file (a ∷ b ∷ []))
 of_two Is None a b h = h
 of_two Is (Some f) a b h = h

@@ -19,11 +19,11 @@ two_of n = in_front n.profile (n.first ∷ n.second ∷ [])
 abbrev pub three_of : FileNames → (third : List ℕ) → Texts
 three_of n third = in_front n.profile (n.first ∷ n.second ∷ third ∷ [])
 
--- how a store is read: what it was, a name, what the read gives, and the store after it
+-- how a store is read: what it was, a name, what the read returns, and the store after it
 abbrev pub Reading : Type 0 → Type 1
 Reading S = S → List ℕ → Result (List ℕ) StoreFault → S → Type 0
 
--- how a store is written: what it was, a name, bytes, what the write gives, and the store after it
+-- how a store is written: what it was, a name, bytes, what the write returns, and the store after it
 abbrev pub Writing : Type 0 → Type 1
 Writing S = S → List ℕ → List ℕ → Result (Unit {0}) StoreFault → S → Type 0
 

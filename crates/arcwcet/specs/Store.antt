@@ -1,4 +1,4 @@
--- What reading from a store gives.
+-- What reading from a store returns.
 use Rattle.std.specs.Prelude.{ℕ, List, Vec, Result, Ok, Err}
 use Rattle.std.specs.declared.alloc.Global.{Global}
 use Rattle.arcwcet.specs.declared.fault.StoreFault.{StoreFault}

@@ -84,7 +84,7 @@ pub fn program<S: Store, I: Read, O: Output, E: Output>(
     obey(alloc, asked, store, input, out, err)
 }
 
-/// `asm`: reads the source, writes the image's file, and prints its size.
+// `asm`: reads the source, writes the image's file, and prints its size.
 fn run_asm<S: Store, O: Output, E: Output>(
     alloc: Global,
     names: AsmNames<'_>,
@@ -113,7 +113,7 @@ fn run_asm<S: Store, O: Output, E: Output>(
     }
 }
 
-/// Reads a source and prints the report of it.
+// Reads a source and prints the report of it.
 fn run_source<S: Store, O: Output, E: Output>(
     alloc: Global,
     report: SourceReport<'_>,
@@ -133,7 +133,7 @@ fn run_source<S: Store, O: Output, E: Output>(
     answer_status(answer, err)
 }
 
-/// Reads a source and a second file and prints the report of them.
+// Reads a source and a second file and prints the report of them.
 fn run_pair<S: Store, O: Output, E: Output>(
     alloc: Global,
     report: PairReport<'_>,
@@ -153,8 +153,8 @@ fn run_pair<S: Store, O: Output, E: Output>(
     answer_status(answer, err)
 }
 
-/// Reads a source, a statement and a third file and prints the report of them; where a certificate is to be
-/// explained, also which file was not read.
+// Reads a source, a statement and a third file and prints the report of them; where a certificate is to be
+// explained, also which file was not read.
 fn run_triple<S: Store, O: Output, E: Output>(
     alloc: Global,
     report: TripleReport<'_>,
@@ -180,7 +180,7 @@ fn run_triple<S: Store, O: Output, E: Output>(
     answer_status(answer, err)
 }
 
-/// `debug`: reads the files, and standard input to its end, and prints the session of these commands.
+// `debug`: reads the files, and standard input to its end, and prints the session of these commands.
 fn run_debug<S: Store, I: Read, O: Output, E: Output>(
     alloc: Global,
     names: Names<'_>,
@@ -213,7 +213,7 @@ fn run_debug<S: Store, I: Read, O: Output, E: Output>(
     answer_status(answered(done), err)
 }
 
-/// `explain`: reads the files and prints the explanation, or which file was not read.
+// `explain`: reads the files and prints the explanation, or which file was not read.
 fn run_explain<S: Store, O: Output, E: Output>(
     alloc: Global,
     names: ExplainNames<'_>,

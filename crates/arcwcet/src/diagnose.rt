@@ -22,7 +22,7 @@ use report_input::{profile_of, read_source};
 use report_output::{Output, ReportFault, write_whole};
 use std::alloc::{AllocError, Global};
 
-// Where the lines of a source stand. An image has none.
+// Where the lines of a source are placed. An image has none.
 fn placed_in(alloc: Global, source: &[u8]) -> Result<Vec<PlacedLine>, ReportFault> {
     if source.starts_with(&MAGIC) {
         return Ok(Vec::new(alloc));
@@ -31,7 +31,7 @@ fn placed_in(alloc: Global, source: &[u8]) -> Result<Vec<PlacedLine>, ReportFaul
     Ok(placed)
 }
 
-// The words of a source that was read, with their lines, by where those stand.
+// The words of a source that was read, with their lines, by where those are placed.
 fn source_words<'a>(
     alloc: Global,
     source: &'a [u8],

@@ -1,6 +1,6 @@
 use thiserror::Error;
 
-/// Why a store gave or took no file, or a reader not all that it had left.
+/// Why a store read or wrote no file, or a reader did not return all that it had left.
 #[derive(Clone, Copy, Debug, PartialEq, Eq, Drop, Error)]
 pub enum StoreFault {
     /// An allocation failed.

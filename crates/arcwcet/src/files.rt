@@ -18,7 +18,7 @@ use std::{fs, io};
 
 /// Where the program's files lie.
 pub trait Store {
-    /// What a read of a name may give, and the store after it; the default says nothing.
+    /// What a read of a name may return, and the store after it; the default says nothing.
     ghost read_gives: { Reading Self } = { λ _ _ _ _. Unit {0} };
 
     /// The file's bytes, of which there are at most 16,777,216.
@@ -26,7 +26,7 @@ pub trait Store {
         ensures gives { read_gives self.old name.now (bytes_read result) self.new }
         ensures limit { IfOk result (λ v. vec_len v ≤ 16777216) };
 
-    /// What a write of bytes to a name may give, and the store after it; the default says nothing.
+    /// What a write of bytes to a name may return, and the store after it; the default says nothing.
     ghost write_gives: { Writing Self } = { λ _ _ _ _ _. Unit {0} };
 
     /// Makes the bytes the file's. The only refusal is `Device`.
@@ -48,6 +48,7 @@ pub struct HostStore<'a, R: Files> {
 }
 
 impl<'a, R: Files> HostStore<'a, R> {
+    /// The files that a runtime reaches.
     pub fn new(rt: &'a R) -> Self {
         HostStore { rt }
     }
@@ -219,7 +220,7 @@ fn read_if_named<'a, S: Store>(
     }
 }
 
-/// Reads the profile's file first, and then the other two, and tells which was not read.
+/// Reads the profile's file first, and then the other two, and says which was not read.
 pub(crate) fn read_two_files<'a, S: Store>(
     alloc: Global,
     names: Names<'a>,
@@ -265,7 +266,7 @@ impl ThreeFiles {
     }
 }
 
-/// Reads the profile's file first, and then the other three, and tells which was not read.
+/// Reads the profile's file first, and then the other three, and says which was not read.
 pub(crate) fn read_three_files<'a, S: Store>(
     alloc: Global,
     names: Names<'a>,

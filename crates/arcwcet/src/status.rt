@@ -8,7 +8,7 @@ use report_output::{Output, ReportFault, write_whole};
 use std::fmt;
 use std::fmt::Write;
 
-/// An output as a formatter's writer, which takes no memory.
+// An output as a formatter's writer, which takes no memory.
 #[derive(Drop)]
 struct Text<'a, O: Output> {
     out: &'a mut O,

@@ -18,10 +18,10 @@ use report_output::{Output, ReportFault, print_answer};
 use std::alloc::Global;
 use std::fmt::Write;
 
-/// Where FIQ's handler begins.
+// Where FIQ's handler begins.
 const FIQ_VECTOR: u32 = 0x1C;
 
-/// The statement of an interrupt handler, that of FIQ's handler, and how often FIQ interrupts it at most.
+// The statement of an interrupt handler, that of FIQ's handler, and how often FIQ interrupts it at most.
 #[derive(Clone, Copy)]
 struct Visited<'a> {
     irq: &'a [u8],

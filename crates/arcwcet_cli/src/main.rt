@@ -6,7 +6,7 @@ use std::process::ExitCode;
 use std::rt::Env;
 use std::{env, io};
 
-/// Why there are no words.
+// Why there are no words.
 #[derive(Clone, Copy)]
 enum WordsFault {
     Memory,

@@ -1,5 +1,5 @@
--- Which words are unallocated, by the numbers in their fields: the number of the first bar that they meet, or
--- 0 (our own choice, after the warnings of the VL86C010 data sheet).
+-- Which words are unallocated, by the numbers in their fields: the number of the first bar that they meet,
+-- or 0 (after the warnings of the VL86C010 data sheet).
 use Rattle.std.specs.Prelude.{ℕ, ◌/◌, Bool, true, false, ◌&&◌, ◌||◌, ◌==◌, if◌then◌else◌}
 
 -- a bit as a number

@@ -1,5 +1,5 @@
--- The table of instruction words (VL86C010 data sheet, instruction formats). Which words are undefined
--- and which unallocated is our own choice.
+-- The table of instruction words (VL86C010 data sheet, instruction formats, but for which words are
+-- undefined and which unallocated).
 use Rattle.std.specs.Prelude.{ℕ, ◌+◌, ◌*◌, ◌^◌, ◌≤◌, ◌≡◌, Bool, true, not, ◌&&◌, ◌==◌, if◌then◌else◌, List}
 use Rattle.std.specs.Prelude.{[], ◌∷◌, map}
 use Rattle.std.specs.Prelude.{bit_and}

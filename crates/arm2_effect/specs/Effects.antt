@@ -1,5 +1,5 @@
--- What a step does, and what it costs (our own cycle profile, shaped on the N, S and I cycles of the VL86C010
--- data sheet).
+-- What a step does, and what it costs (a cycle profile shaped on the N, S and I cycles of the VL86C010 data
+-- sheet).
 use Rattle.std.specs.Prelude.{◌≡◌, ℕ, ◌*◌, ◌/◌, Bool, true, false, List, [], ◌∷◌, map, sum}
 use Rattle.bus_ticks.specs.declared.profile.Profile.{Profile}
 use Rattle.bus_ticks.specs.declared.profile.RomTimes.{RomTimes}

@@ -23,12 +23,12 @@ shifted_of s = record { value = word_of s.bits; carry = s.carry }
 abbrev pub current_in : Register → List ℕ → ℕ
 current_in register regs = register_in (mode_of (r15_in regs)) (register_number register) regs
 
--- A register as the first operand, or as a base: R15 gives its address bits alone, so many bytes ahead.
+-- A register as the first operand, or as a base: of R15 the address bits alone, so many bytes ahead.
 abbrev pub first_of : ℕ → Register → List ℕ → ℕ
 first_of by register regs =
     if is_pc register then ahead_of (address_of (r15_in regs)) by else current_in register regs
 
--- A register where it is shifted: R15 gives all its bits, with its address so many bytes ahead.
+-- A register where it is shifted: of R15 all bits, with the address so many bytes ahead.
 abbrev pub operand_of : ℕ → Register → List ℕ → ℕ
 operand_of by register regs =
     if is_pc register then r15_ahead (r15_in regs) by else current_in register regs

@@ -1,5 +1,5 @@
--- What each instruction does that is no load or store (VL86C010 data sheet, instruction set; our own rule: a
--- multiply keeps C).
+-- What each instruction does that is no load or store (VL86C010 data sheet, instruction set, but for C,
+-- which a multiply keeps).
 use Rattle.std.specs.Prelude.{ℕ, ◌+◌, ◌*◌, ◌%◌, ◌^◌, nat_lt, zero, suc, ◌-◌, Bool, true, false}
 use Rattle.std.specs.Prelude.{if◌then◌else◌, List, [], ◌∷◌}
 use Rattle.arm2_decode.specs.Names.{is_compare, is_pc, register_number}
@@ -108,7 +108,7 @@ cycles_from (suc left) m number =
 abbrev pub cycles_of : ℕ → ℕ
 cycles_of number = cycles_from 15 1 number
 
--- the low 32 bits of the product; C and V stay (C by our own choice)
+-- the low 32 bits of the product; C and V stay (C by choice)
 abbrev pub product_of : Multiply → List ℕ → Outcome
 product_of x regs =
     record {

@@ -44,7 +44,7 @@ macro_rules! entry {
     };
 }
 
-/// Where an exception leads.
+// Where an exception leads.
 fn entry_of(vector: Vector) -> Entry
     ensures entry { result ≡ entry_at vector }
     ensures below { result.address < 32 }

@@ -45,7 +45,7 @@ impl Registers {
         }
     }
 
-    /// MUL and MLA.
+    // MUL and MLA.
     #[tactic(auto, unfolding(crate::specs::Operations::multiply_effect))]
     #[inline(never)]
     fn multiply(&mut self, prices: &Prices, multiply: &Multiply) -> Done
@@ -60,7 +60,7 @@ impl Registers {
         done.delayed(prices.internal(cycles(multiplier)))
     }
 
-    /// B and BL.
+    // B and BL.
     #[tactic(auto, unfolding(crate::specs::Operations::branch_effect))]
     #[inline(always)]
     fn branch(&mut self, prices: &Prices, branch: &Branch) -> Done

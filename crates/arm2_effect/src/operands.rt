@@ -10,8 +10,7 @@ use arm2_decode::{Register, Shift};
 use shifter::{Shifted, rotate_imm, shift_imm, shift_reg};
 
 impl Registers {
-    /// A register as the first operand, or as a base: R15 gives its address bits alone, so many
-    /// bytes ahead.
+    /// A register as the first operand, or as a base: of R15 the address bits alone, so many bytes ahead.
     #[inline(always)]
     pub fn first(&self, register: Register, bytes: u32) -> u32
         requires words { bytes % 4 ≡ 0 }
@@ -25,8 +24,7 @@ impl Registers {
         self.read(mode_of(r15), register)
     }
 
-    /// A register where it is shifted: R15 gives all its bits, with its address so many bytes
-    /// ahead.
+    // A register where it is shifted: of R15 all bits, with the address so many bytes ahead.
     #[inline(always)]
     fn operand(&self, register: Register, bytes: u32) -> u32
         requires words { bytes % 4 ≡ 0 }

@@ -1,5 +1,5 @@
--- What a step keeps that takes an exception (VL86C010 data sheet, exceptions; our own rule: an aborted
--- transfer moves no word and writes back no base), and where it is taken.
+-- What a step keeps that takes an exception, and where it is taken (VL86C010 data sheet, exceptions, but for
+-- an aborted transfer, which moves no word and writes back no base).
 use Rattle.std.specs.Prelude.{◌≡◌, ◌≢◌, ◌+◌, ◌*◌}
 use Rattle.bus_ticks.specs.Worst.{Access}
 use Rattle.arm2_effect.specs.declared.exceptions.Vector.{Vector}

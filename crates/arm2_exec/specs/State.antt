@@ -1,5 +1,4 @@
--- The machine's state. Source: the VL86C010 data sheet for the registers; our own profile for memory, devices
--- and prices, and for what a reset leaves as it was.
+-- The machine's state (the registers by the VL86C010 data sheet, but for what a reset leaves as it was).
 use Rattle.std.specs.Prelude.{◌≡◌, ◌++◌, ◌∷◌, [], ℕ, List, slice_index, slice_set, replicate}
 use Rattle.bus_ticks.specs.declared.profile.Profile.{Profile}
 use Rattle.arm2_effect.specs.declared.modes.Reg.{Reg}

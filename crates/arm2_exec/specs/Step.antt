@@ -1,5 +1,5 @@
--- A step of the machine (VL86C010 data sheet, instruction set and exceptions; our own profile for the order
--- of its parts, for a fetch among the devices, for what stops the machine, and for the ticks).
+-- A step of the machine (VL86C010 data sheet, instruction set and exceptions, but for the order of its
+-- parts, a fetch among the devices, what stops the machine, and the ticks).
 use Rattle.std.specs.Prelude.{◌≡◌, ◌⊎◌, ℕ, ◌+◌, ◌*◌, ◌==◌, ◌&&◌, not, false}
 use Rattle.std.specs.Prelude.{if◌then◌else◌, Option, Some, None, Result, Ok, Err, List}
 use Rattle.arm2_decode.specs.Conditions.{condition_holds}

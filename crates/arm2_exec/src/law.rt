@@ -11,7 +11,7 @@ use arm2_effect::{Kind, Vector};
 /// exception's mode.
 ///
 /// So a transfer that is reported as aborted, or as one whose address is past memory, has moved no word and
-/// written back no base. The devices have what any step gives them, the lines and the time. It does nothing.
+/// written back no base. The devices get what they get in any step, the lines and the time. It does nothing.
 pub fn exceptions_keep_the_rest()
     ensures { (s : State) → (i : Input) → (told : Stepped) → (after : State) → (vector : Vector)
         → Step s i told after → told.kind ≡ Kind.Taken vector → KeepsTheRest vector s i told after }

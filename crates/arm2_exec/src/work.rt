@@ -22,7 +22,7 @@ pub(crate) struct Made {
     pub(crate) word: Option<u32>,
 }
 
-// The interrupt that is due: FIQ, or else IRQ, each unless R15 masks it.
+/// The interrupt that is due: FIQ, or else IRQ, each unless R15 masks it.
 #[inline(always)]
 pub(crate) fn interrupt(ioc: &Ioc, r15: u32) -> Option<Vector>
     ensures { result ≡ interrupt_of ioc.now r15 }
@@ -40,7 +40,7 @@ pub(crate) fn interrupt(ioc: &Ioc, r15: u32) -> Option<Vector>
     None
 }
 
-// The word at the address in R15, if the mode may fetch one there.
+/// The word at the address in R15, if the mode may fetch one there.
 #[inline(always)]
 pub(crate) fn fetch(memc: &Memc, r15: u32) -> Option<u32>
     ensures { result ≡ fetched memc.now r15 }
@@ -113,7 +113,7 @@ fn obey(
     }
 }
 
-// What a step does before time passes: an interrupt, or the word at the address.
+/// What a step does before time passes: an interrupt, or the word at the address.
 #[inline(always)]
 pub(crate) fn work(
     registers: &mut Registers,
@@ -139,7 +139,7 @@ pub(crate) fn work(
     Made { done, word }
 }
 
-// Lets time pass for the devices.
+/// Lets time pass for the devices.
 #[inline(always)]
 pub(crate) fn elapse(bus: &mut Bus, ticks: u32)
     ensures { bus.new ≡ elapsed ticks bus.old }

@@ -1,4 +1,4 @@
--- Where registers stand among the 27, and what one of them holds after others were written.
+-- Where registers are among the 27, and what one of them holds after others were written.
 use Rattle.std.proofs.Common.{◌≡◌, ◌≢◌, ℕ, ◌<◌, ◌==◌, Bool, true, false, not, ◌&&◌, cond, List, [], ◌∷◌, length, refl, sym, ◌∙◌, ap, arith, inl, inr}
 use Rattle.std.specs.Prelude.{slice_index, slice_set, filter}
 use Rattle.std.specs.List.{list_any}
@@ -15,7 +15,7 @@ use Rattle.arm2_effect.specs.ProgramCounter.{r15_ahead}
 use Rattle.arm2_transfer.specs.Words.{all_registers}
 use Rattle.arm2_transfer.specs.Registers.{given, loaded_r15, passed, with_base, with_loaded}
 
--- ## Where a register stands
+-- ## Where a register is
 
 pub below_15 : (r : Register) → register_number r ≢ 15 → register_number r < 15
 below_15 r h = omega (arith, register_fits r, h)
@@ -32,14 +32,14 @@ pub slot_of_r15 : (mode : Mode) → slot_of mode 15 ≡ 26
 slot_of_r15 User = refl
 slot_of_r15 _ = refl
 
--- the place of a mode's register, and whether a register stands at a place
+-- the place of a mode's register, and whether a register is at a place
 abbrev pub place : Mode → Register → ℕ
 place mode r = slot_of mode (register_number r)
 
 abbrev pub stands_at : Mode → ℕ → Register → Bool
 stands_at mode s r = place mode r == s
 
--- a base stands before R15
+-- a base is before R15
 pub base_slot : (mode : Mode) (rn : Register) → register_number rn ≢ 15 → place mode rn < 26
 base_slot mode rn other = slot_below mode (register_number rn) (below_15 rn other)
 
@@ -104,7 +104,7 @@ module _ (mode : Mode) (s : ℕ) (register : Register) (regs : List ℕ) (low : 
         (omega (arith, long, length-set regs (place mode register) word))
   ]
 
-  -- what a register gives to a store: one that stands at the place, and another once the place was written
+  -- what a store takes from a register: from one that is at the place, and from another once the place was written
   pub given_here : stands_at mode s register ≡ true → given mode register regs ≡ slice_index regs s
   given_here here =
       cond-false (is_pc register) _ _ (no_r15 mode s register low here)
@@ -150,7 +150,7 @@ module _ (mode : Mode) (rn : Register) (base : ℕ) (regs : List ℕ) (low : pla
   based_long true = omega (arith, long, length-set regs (place mode rn) base)
   based_long false = long
 
--- ## No two registers of a mode stand at one place
+-- ## No two registers of a mode are at one place
 
 abbrev Apart : Mode → List Register → Type 0
 Apart mode [] = Unit {0}
@@ -196,7 +196,7 @@ apart_filtered mode kept (x ∷ xs) all =
     (none_filtered (stands_at mode (place mode x)) kept xs all.0)
     (apart_filtered mode kept xs all.1)
 
--- after a register that stands at a place, no other of the list does
+-- after a register that is at a place, no other of the list is
 abbrev pub AtMostOne : Mode → ℕ → List Register → Type 0
 AtMostOne mode s [] = Unit {0}
 AtMostOne mode s (r ∷ rest) =

@@ -14,7 +14,7 @@ ticks_of-append p rom xs ys =
     let parts = sum_by-append f xs ys in
     omega (arith, sum-map f (xs ++ ys), parts, sum-map f xs, sum-map f ys)
 
--- a word of a block stands at a multiple of 4
+-- a word of a block is at a multiple of 4
 word_address-aligned : (address i : ℕ) → word_address address i / 4 * 4 ≡ word_address address i
 word_address-aligned address i = omega arith
 

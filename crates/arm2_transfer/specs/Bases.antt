@@ -1,6 +1,6 @@
 -- What a load or a store that is carried out leaves in its base register, and the word that a store writes
--- for it (VL86C010 data sheet, single data transfer and block data transfer; our own rule where it is silent:
--- a single store writes the old base, and only the register of the base's own bank counts as a block's base).
+-- for it (VL86C010 data sheet, single data transfer and block data transfer; it is silent on two rules: a
+-- single store writes the old base, and only the register of the base's own bank counts as a block's base).
 use Rattle.std.specs.Prelude.{◌≡◌, ℕ, ◌+◌, ◌*◌, ◌==◌, Bool, true, false, not, ◌&&◌, List, [], ◌∷◌, length, Ok}
 use Rattle.std.specs.List.{list_any, position_or_len}
 use Rattle.bus_ticks.specs.Prices.{word_address}

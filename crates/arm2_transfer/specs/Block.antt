@@ -1,4 +1,4 @@
--- Block transfers (VL86C010 data sheet, block data transfer; our own profile where it is silent).
+-- Block transfers (VL86C010 data sheet, block data transfer, where it speaks).
 use Rattle.std.specs.Prelude.{ℕ, ◌+◌, ◌-◌, ◌*◌, ◌/◌, ◌%◌, ◌^◌, Bool, not, ◌&&◌, nat_lt, if◌then◌else◌, List}
 use Rattle.std.specs.Prelude.{[], ◌∷◌, length, Result, Ok, Err}
 use Rattle.arm2_decode.specs.declared.instr.Block.{Block}
@@ -34,13 +34,13 @@ span_of x base k = record { lowest = lowest_of x base k; words = k; base = moved
 abbrev pub mode_for : Block → Mode → Mode
 mode_for x mode = if x.user && not (x.load && is_listed x.list R15) then User else mode
 
--- the words of some moves, given by the registers of a mode
+-- the words of some moves, from the registers of a mode
 abbrev pub all_put : Mode → List ℕ → List Move → Bus → Bus
 all_put mode regs [] bus = bus
 all_put mode regs (move ∷ rest) bus =
     all_put mode regs rest (put move.spot (given mode move.register regs) bus)
 
--- the words of a store: the registers before the base is written back give the first of them, and those after
+-- the words of a store: the registers before the base is written back have the first of them, and those after
 -- it the others. So a base that is the lowest is stored as it was, and a later one as it becomes
 unfoldable pub block_put : Mode → (before after : List ℕ) → List Move → Bus → Bus
 block_put mode before after [] bus = bus

@@ -1,5 +1,5 @@
--- What the words of a transfer do to memory and to the devices behind it (VL86C010 data sheet for bytes and
--- for the rotation of a load; our own profile for what devices take and give, and for the port).
+-- What the words of a transfer do to memory and to the devices (VL86C010 data sheet for bytes and for the
+-- rotation of a load, not for what devices take and return, nor for the port).
 use Rattle.std.specs.Prelude.{ℕ, ◌*◌, ◌%◌, ◌^◌, Bool, if◌then◌else◌, slice_index, slice_set}
 use Rattle.std.specs.Int.{w32, to_le_bytes, from_le_bytes, rotate_right}
 use Rattle.memc.specs.declared.spots.Spot.{Spot}

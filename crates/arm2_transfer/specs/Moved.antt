@@ -1,4 +1,4 @@
--- What a whole transfer does, and what it costs (VL86C010 data sheet, instruction cycles; our own are the
+-- What a whole transfer does, and what it costs (VL86C010 data sheet, instruction cycles, but for the
 -- prices, what an aborted transfer leaves and costs, and what stops the machine).
 use Rattle.std.specs.Prelude.{◌≡◌, ℕ, zero, suc, ◌==◌, Bool, true, false, if◌then◌else◌, List, [], ◌∷◌, ◌++◌}
 use Rattle.bus_ticks.specs.declared.profile.Profile.{Profile}

@@ -1,5 +1,5 @@
--- What any instruction does whose condition holds (VL86C010 data sheet; our own rules where the definitions
--- of its kind say so).
+-- What any instruction does whose condition holds (VL86C010 data sheet, but where the definitions of its
+-- kind say otherwise).
 use Rattle.std.specs.Prelude.{ℕ, List}
 use Rattle.arm2_decode.specs.declared.instr.Operation.{Operation}
 use Rattle.arm2_decode.specs.declared.instr.Operation.TheVariants.{SingleImmediate, SingleRegister, Block}

@@ -1,5 +1,4 @@
--- What a load or a store does to the registers (VL86C010 data sheet, data transfer; our own profile where it
--- is silent).
+-- What a load or a store does to the registers (VL86C010 data sheet, data transfer, where it speaks).
 use Rattle.std.specs.Prelude.{ℕ, ◌+◌, ◌-◌, ◌%◌, ◌^◌, Bool, true, false, if◌then◌else◌, List}
 use Rattle.arm2_decode.specs.declared.names.Register.{Register}
 use Rattle.arm2_decode.specs.Names.{is_pc, register_number}

@@ -1,5 +1,5 @@
--- Single transfers (VL86C010 data sheet, single data transfer; our own profile for what a store of the base
--- and the address exception do).
+-- Single transfers (VL86C010 data sheet, single data transfer, but for what a store of the base and the
+-- address exception do).
 use Rattle.std.specs.Prelude.{ℕ, ◌^◌, Bool, false, not, ◌&&◌, ◌||◌, nat_lt, if◌then◌else◌, List, Result, Ok}
 use Rattle.std.specs.Prelude.{Err}
 use Rattle.memc.specs.Memory.{located}

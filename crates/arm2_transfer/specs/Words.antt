@@ -1,7 +1,6 @@
 -- The words of a block: their registers, their addresses, and what the memory controller says of them all
--- together (VL86C010 data sheet, block data transfer; our own profile where it is silent: all words are
--- located before the first is moved, an abort comes before an unsupported write, and the addresses wrap at 2
--- ^ 26).
+-- together (VL86C010 data sheet, block data transfer; it is silent on three rules: all words are located
+-- before the first is moved, an abort comes before an unsupported write, and the addresses wrap at 2^26).
 use Rattle.std.specs.Prelude.{ℕ, ◌+◌, ◌/◌, ◌%◌, ◌^◌, ◌==◌, Bool, true, false, if◌then◌else◌, List, [], ◌∷◌}
 use Rattle.std.specs.Prelude.{filter, All, Result, Ok, Err}
 use Rattle.std.specs.List.{list_any}

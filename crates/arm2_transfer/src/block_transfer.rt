@@ -96,7 +96,7 @@ fn accesses(block: PlacedBlock, from: u32) -> Accesses
     }
 }
 
-// The words are stored and the base is written back: after the first word, which is given by the registers as
+// The words are stored and the base is written back: after the first word, which is that of the registers as
 // they were.
 #[tactic(auto, unfolding(crate::specs::Block::block_put))]
 fn put_block(registers: &mut Registers, bus: &mut Bus, block: PlacedBlock, moves: &[Move])

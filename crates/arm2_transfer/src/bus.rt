@@ -15,7 +15,7 @@ pub struct Bus {
     pub vidc: Vidc,
 }
 
-// A word is stored at a spot that MEMC located.
+/// A word is stored at a spot that MEMC located.
 #[inline(always)]
 pub(crate) fn put(bus: &mut Bus, spot: Spot, word: u32)
     requires { Fits bus.old.memc.shift spot }
@@ -32,7 +32,7 @@ pub(crate) fn put(bus: &mut Bus, spot: Spot, word: u32)
     }
 }
 
-// The word at a spot that MEMC located for a load.
+/// The word at a spot that MEMC located for a load.
 #[inline(always)]
 pub(crate) fn see(bus: &Bus, port: u32, spot: Spot) -> u32
     requires { Fits bus.now.memc.shift spot }
@@ -71,7 +71,7 @@ fn put_byte(bus: &mut Bus, spot: Spot, address: u32, byte: u8)
     }
 }
 
-// A word, or its lowest byte, is stored at a spot that MEMC located for the address.
+/// A word, or its lowest byte, is stored at a spot that MEMC located for the address.
 #[inline(always)]
 pub(crate) fn put_single(bus: &mut Bus, byte: bool, spot: Spot, address: u32, value: u32)
     requires { Fits bus.old.memc.shift spot }
@@ -84,7 +84,7 @@ pub(crate) fn put_single(bus: &mut Bus, byte: bool, spot: Spot, address: u32, va
     }
 }
 
-// What a load makes of the word that it sees.
+/// What a load makes of the word that it sees.
 #[inline(always)]
 pub(crate) fn make(byte: bool, address: u32, word: u32) -> u32
     ensures { result ≡ made_of byte address word }

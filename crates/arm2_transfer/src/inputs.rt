@@ -1,6 +1,6 @@
 use arm2_effect::Prices;
 
-/// What a transfer is given besides the state of the machine.
+/// What a transfer takes besides the state of the machine.
 #[derive(Clone, Copy)]
 pub struct Inputs {
     /// The word that a load sees among the devices where IOC has no register.

@@ -9,7 +9,7 @@ use crate::words::TransferFault;
 use arm2_effect::{Done, Prices, Registers, Vector, Why, ahead};
 use bus_ticks::{fetch_n, transfer};
 
-/// What comes of a transfer none of whose words is moved.
+/// What a transfer does none of whose words is moved.
 #[tactic(auto, unfolding(arm2_effect::specs::Effects::stopped))]
 #[inline(never)]
 pub(crate) fn refuse(

@@ -30,7 +30,7 @@ pub fn execute(
     carry_out(registers, bus, &Inputs { port, prices }, operation)
 }
 
-/// The same, with what it is given in one place.
+/// The same, with what it takes in one place.
 #[inline(always)]
 pub fn carry_out(
     registers: &mut Registers,

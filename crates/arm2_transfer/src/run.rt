@@ -1,4 +1,4 @@
-// Blocks whose words lie one after another in RAM, at places that MEMC located at once.
+//! Blocks whose words lie one after another in RAM, at places that MEMC located at once.
 
 ghost use Rattle.std.specs.Prelude.{◌≡◌, ℕ, ◌+◌, ◌*◌, ◌<◌, ◌≤◌, ◌^◌, length};
 ghost use Rattle.arm2_transfer.specs.Words.{registers_in, moves_along};

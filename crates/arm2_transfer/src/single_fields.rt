@@ -27,7 +27,7 @@ impl Single {
     ghost use Rattle.std.specs.Prelude.{◌≡◌};
     ghost use Rattle.arm2_transfer.specs.Single.{address_for, has_user_rights, base_after};
 
-    // The address, of 32 bits.
+    /// The address, of 32 bits.
     pub(crate) fn address(self, base: u32) -> u32
         ensures { result ≡ address_for self base }
     {
@@ -38,14 +38,14 @@ impl Single {
         }
     }
 
-    // Whether the access has the rights of User.
+    /// Whether the access has the rights of User.
     pub(crate) fn has_user_rights(self, mode: Mode) -> bool
         ensures { result ≡ has_user_rights self mode }
     {
         is_user(mode) || self.write_back && !self.before
     }
 
-    // R15 goes on, and the moved base is written back where it is.
+    /// R15 goes on, and the moved base is written back where it is.
     pub(crate) fn write_base(self, registers: &mut Registers, base: u32)
         ensures { registers.new ≡ base_after self base registers.old }
     {

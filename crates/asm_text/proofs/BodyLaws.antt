@@ -60,7 +60,7 @@ text_line line n is h =
 no_text_line : (line : List ℕ) (n : ℕ) → n ≡ in_text line → first_passes in_body (drop n line) ≡ true → is_text_line line ≡ false
 no_text_line line n is h = rw (both_stop is_text in_body line (rw is at h)) refl
 
--- what stands after the text: nothing, a comment, or a byte that is neither
+-- what follows the text: nothing, a comment, or a byte that is neither
 pub nothing_after : (line after : List ℕ) (n : ℕ) → n ≡ in_text line → after ≡ drop n line → length after < 1 → (is_text_line line ≡ true) × (take n line ≡ body line)
 nothing_after line [] n is rest none = let t = text_line line n is (ap (first_passes in_body) (sym rest)) in (t.0 ∙ ap (list_all is_comment_text) (sym rest), t.1)
 nothing_after line (b ∷ bs) n is rest none = absurd (omega arith)

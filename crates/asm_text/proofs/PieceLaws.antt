@@ -34,7 +34,7 @@ at_sign b ps h k l = rw (h, k, l) refl
 pub at_comma : (ps : List Piece) → byte_before 44 ps ≡ Comma ∷ without_gap ps
 at_comma ps = refl
 
--- ---- what stands first
+-- ---- what comes first
 
 pub first_no_gap : (bs : List ℕ) → first_blank bs ≡ false → starts_gap (pieces bs) ≡ false
 unfolding pieces

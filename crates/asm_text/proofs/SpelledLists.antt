@@ -36,7 +36,7 @@ pub listed_more : {A : Type 0} (spells : A → List Piece → Type 0) (a : A) (m
 listed_more spells a [] first rest h k = absurd k
 listed_more spells a (b ∷ more) first rest h k = (first, rest, refl, h, k)
 
--- ---- what is left of a list of registers, by what stands before it
+-- ---- what is left of a list of registers, by what is before it
 
 -- runs, and the brace that ends them
 Runs : ℕ → ℕ × List Piece → List Piece → Type 0
@@ -142,7 +142,7 @@ left_is (p ∷ ps) place.After list f e = ended_is list p ps f (λ m. left_is ps
 
 -- ---- and back
 
--- what stands after a run: a comma (false), or the brace
+-- what follows a run: a comma (false), or the brace
 ends : Bool → Piece
 ends false = Comma
 ends true = Sign CloseBrace
@@ -278,7 +278,7 @@ target_again (Label d) ps h = rw (h.0, label_no_number d h.1, h.1) refl
 
 -- ---- values
 
--- what is left of a list of values, by what stands before it
+-- what is left of a list of values, by what is before it
 
 Rest : List Target → List Piece → Type 0
 Rest vs ps = ((ps ≡ []) × (vs ≡ [])) ⊎ ((qs : List Piece) × (ps ≡ Comma ∷ qs) × Listed SpellsTarget vs qs)

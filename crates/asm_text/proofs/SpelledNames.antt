@@ -143,7 +143,7 @@ whole_number n ps h = ap (λ (qs : List Piece). all_read (number_first qs)) (sym
 
 -- ---- names
 
--- no name stands twice
+-- no name occurs twice
 abbrev once : {A : Type 0} → List (List ℕ × A) → Bool
 once [] = true
 once (e ∷ es) = is_none (found es e.0) && once es

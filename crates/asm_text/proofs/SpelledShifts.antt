@@ -29,7 +29,7 @@ use Rattle.asm_text.proofs.SpelledNames.{and_then_is, front_number, front_regist
 
 -- ---- shifts
 
--- what was read, and how its pieces stand in front of the rest
+-- what was read, and its pieces in front of the rest
 abbrev pub FrontShift : List Piece → Shifting × List Piece → Type 0
 FrontShift ps f = (a : List Piece) × (ps ≡ a ++ f.1) × SpellsShift f.0 a
 
@@ -71,7 +71,7 @@ front_shift (shifting.Amount (amount.By s n)) a rest h none = rw (h.2, shift_aga
 front_shift (shifting.Amount amount.Rrx) a rest h none = rw h.1 (rrx_first h.0 rest (rrx_again h.0 h.2) none)
 front_shift (shifting.Register s r) a rest h none = rw (h.2, shift_again h.0 s h.3, register_again h.1 r h.4) refl
 
--- ---- what stands after a register
+-- ---- what follows a register
 
 abbrev pub FrontShifting : List Piece → Shifting × List Piece → Type 0
 FrontShifting ps f = (a : List Piece) × (ps ≡ a ++ f.1) × SpellsShifting f.0 a

@@ -1,4 +1,4 @@
--- After the word of a line that is spelled stands a blank or nothing.
+-- After the word of a line that is spelled comes a blank or nothing.
 use Rattle.std.proofs.Common.{◌≡◌, ◌+◌, ◌<◌, ℕ, suc, Bool, true, false, List, [], ◌∷◌, ◌++◌, length, Option, Some, None, refl, arith}
 use Rattle.std.specs.List.{list_all, prefix_len}
 use Rattle.std.proofs.lemmas.Bool.{and_parts}
@@ -60,7 +60,7 @@ word_first name ps text (after, is, some, names, (gap, rest, gap_is, more, blank
     let stops : first_passes is_name after ≡ false = rw gap_is (gap_no_name gap rest more blanks) in
     rw (is, past_front is_name name after names stops) ends
 
--- after blanks and a name stands a blank or nothing
+-- after blanks and a name comes a blank or nothing
 abbrev pub WordAfter : List ℕ → Type 0
 WordAfter text = begins_blank_or_ends (past is_name (past is_blank text)) ≡ true
 

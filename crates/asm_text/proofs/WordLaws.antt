@@ -240,7 +240,7 @@ same_as_mapped : (f : ℕ → ℕ) (text : List ℕ) → list_all (λ b. b == f 
 same_as_mapped f [] = refl
 same_as_mapped f (b ∷ text) = ap (λ rest. (b == f b) && rest) (same_as_mapped f text)
 
--- a text in upper case spells what it says as it stands
+-- a text in upper case spells what it says as it is
 pub upper_spells : (text : List ℕ) → list_all (λ b. b == to_ascii_uppercase b) text ≡ true → word_of text ≡ spelled_word_of text
 upper_spells text all =
     let equal : bytes_eq text (upper text) ≡ true = sym (same_as_mapped to_ascii_uppercase text) ∙ all in

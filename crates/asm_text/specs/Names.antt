@@ -1,5 +1,4 @@
--- The parts of a word and their names, in upper case (our own source format, over the VL86C010 data sheet's
--- assembler syntax).
+-- The parts of a word and their names, in upper case (over the VL86C010 data sheet's assembler syntax).
 use Rattle.std.specs.Prelude.{ℕ, List, [], ◌∷◌, codes, Bool, true, false, Option}
 use Rattle.std.specs.List.{find}
 use Rattle.std.specs.Str.{bytes_eq}

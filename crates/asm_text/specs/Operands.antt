@@ -1,5 +1,4 @@
--- Operands, by the pieces that spell them (our own source format, over the VL86C010 data sheet's assembler
--- syntax).
+-- Operands, by the pieces that spell them (over the VL86C010 data sheet's assembler syntax).
 use Rattle.std.specs.Prelude.{ℕ, ◌+◌, ◌-◌, ◌^◌, nat_le, Bool, true, false, List, [], ◌∷◌, Option, Some, None}
 use Rattle.std.specs.Prelude.{option_map, option_and_then, if◌then◌else◌, bit_or}
 use Rattle.arm2_decode.specs.declared.names.Opcode.{Opcode}

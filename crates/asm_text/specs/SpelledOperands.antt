@@ -1,5 +1,5 @@
--- How operands are spelled, from what they mean to their pieces (our own source format, over the VL86C010
--- data sheet's assembler syntax).
+-- How operands are spelled, from what they mean to their pieces (over the VL86C010 data sheet's assembler
+-- syntax).
 use Rattle.std.specs.Prelude.{◌≡◌, ◌⊎◌, ◌+◌, ◌-◌, ◌^◌, ◌<◌, ◌≤◌, ℕ, Bool, true, false, not, List, [], ◌∷◌}
 use Rattle.std.specs.Prelude.{◌++◌, codes, length, map, bit_or}
 use Rattle.std.specs.Char.{is_digit}

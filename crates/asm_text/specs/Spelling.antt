@@ -1,5 +1,4 @@
--- How a line is spelled, from what it says to its text (our own source format, over the VL86C010 data sheet's
--- assembler syntax).
+-- How a line is spelled, from what it says to its text (over the VL86C010 data sheet's assembler syntax).
 use Rattle.std.specs.Prelude.{◌≡◌, ◌⊎◌, ◌==◌, not, ℕ, Bool, true, false, List, [], ◌∷◌, ◌++◌, Option, Some}
 use Rattle.std.specs.Prelude.{None}
 use Rattle.std.specs.List.{list_all}

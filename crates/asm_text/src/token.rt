@@ -8,7 +8,7 @@ ghost use Rattle.asm_text.specs.Statements.{word_ends};
 
 use std::alloc::{AllocError, Global};
 
-/// How many pieces most lines have at most.
+// How many pieces most lines have at most.
 const USUAL: usize = 16;
 
 /// A byte that is no letter, digit, `_`, blank or comma.

@@ -126,7 +126,7 @@ exact_moved s n taken four h = record {
   words = h.words;
 }
 
--- ---- words that stand where they may
+-- ---- words that are where they may be
 
 pub may_four : (a : ℕ) → may_hold a ≡ true → a % 4 ≡ 0
 may_four a h = (may_parts a h).0

@@ -196,7 +196,7 @@ filled_lines names (line ∷ lines) (n ∷ new) image out h e =
     let rest = filled_lines names lines new (put_words image (words_from line.at one.0)) out h.1 one.2 in
     (one.0 ∷ rest.0, (are_words names line.said line.at p.1 one.0 p.3 one.1, rest.1), rest.2 ∙ sym (fold_append image (words_from line.at one.0) (words_at lines rest.0)))
 
--- ---- where they stand
+-- ---- where they are
 
 map_append : (xs ys : List Item) → map (λ i. i.at) (xs ++ ys) ≡ map (λ i. i.at) xs ++ map (λ i. i.at) ys
 map_append [] ys = refl

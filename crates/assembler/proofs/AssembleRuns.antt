@@ -138,7 +138,7 @@ runs_more (e ∷ rest) at w q h none =
           rw high (omega (arith, deeper, begins_one (Some e.0) at))
     ]
 
--- ---- what stands where
+-- ---- what is where
 
 pub put_there : (image : Words) (at w : ℕ) → word_of image at ≡ None → word_of (with_word image at w) at ≡ Some w
 put_there [] at w none = let e : (at == at) ≡ true = grind (arith, nat_tests) in rw e refl

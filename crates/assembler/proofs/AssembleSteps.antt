@@ -1,4 +1,4 @@
--- What a line of the first sweep does: its words stand next, and its ORG is free.
+-- What a line of the first sweep does: its words come next, and its ORG is free.
 use Rattle.std.proofs.Common.{◌≡◌, ◌≢◌, ◌+◌, ◌*◌, ◌≤◌, ℕ, suc, Bool, true, false, not, ◌&&◌, ◌||◌, ◌==◌, List, [], ◌∷◌, ◌++◌, length, map, Option, Some, None, Result, Ok, Err, refl, sym, ap, subst, ◌∙◌, inl, inr, ◌⊎◌, arith, append_assoc}
 use Rattle.std.specs.Prelude.{nat_le, nat_lt, is_some, unwrap_or, if◌then◌else◌}
 use Rattle.std.proofs.lemmas.List.{length-append}
@@ -225,7 +225,7 @@ org_free s n taken e h =
 
 -- ---- a line
 
--- what stands at an address, by what a line says
+-- what is at an address, by what a line says
 unfoldable pub Pends : Option Said → ℕ → List Pending → Type 0
 Pends (Some (Codes c)) at ps = (w : ℕ) × (ps ≡ Fixed w ∷ []) × (encoded c at ≡ Ok w)
 Pends (Some (Refers r (Number n))) at ps = (w : ℕ) × (ps ≡ Fixed w ∷ []) × (encoded (refer r at n) at ≡ Ok w)

@@ -1,4 +1,4 @@
--- Where the lines of a source stand.
+-- Where the lines of a source are placed.
 use Rattle.std.proofs.Common.{◌≡◌, ◌+◌, ◌-◌, ◌*◌, ◌≤◌, ◌^◌, ℕ, List, [], ◌∷◌, ◌++◌, length, map, Option, Some, None, Result, Ok, Err, refl, sym, ap, subst, ◌∙◌, inl, inr, arith, append-nil, append_assoc}
 use Rattle.std.proofs.lemmas.List.{length-append, length-map}
 use Rattle.std.specs.Prelude.{IfErr, IsErrAnd}
@@ -82,7 +82,7 @@ pub record Found (lines : List (List ℕ)) (placed : List PlacedLine) : Type 0 w
   pub read : AreRead lines said
   pub places : AllZip IsPlaced (laid said) placed
 
--- whatever the lines from here on say and wherever they stand, all lines are those so far and these
+-- whatever the lines from here on say and wherever they are placed, all lines are those so far and these
 pub record SoFar (lines rest : List (List ℕ)) (at : ℕ) (placed : List PlacedLine) : Type 0 where
   pub whole : (later : List Parsed) → (more : List PlacedLine) → AreRead rest later
       → AllZip IsPlaced (laid_from at later) more → Found lines (placed ++ more)

@@ -320,7 +320,7 @@ pass_or_stop texts s k before (line ∷ lines) h =
           ]
     ]
 
--- what the first sweep gives for a line that stops it
+-- what the first sweep returns for a line that stops it
 pub stops_swept : Texts
     → (s : State) (k : ℕ) (before : List Parsed) (line : List ℕ) (after : List (List ℕ)) (fault : Fault)
     → Front s k before → IsLowest (HasFault before line) fault

@@ -170,13 +170,13 @@ suffix_lettered : (s : Suffix) → Lettered (suffix_name s)
 suffix_lettered suffix.Bare = refl
 suffix_lettered _ = refl
 
--- the statement of a word and what stands after its blank
+-- the statement of a word and what follows its blank
 word_said : (w rest : List ℕ) (is : Word) → Lettered w → 0 < length w → word_of w ≡ Some is → heard (pieces (w ++ 32 ∷ rest)) ≡ with_label None (after_word is (gap_before (pieces rest)))
 word_said w rest is letters some spelled =
     ap heard (pieces-run w (32 ∷ rest) (letters_named w letters) some (first_no_run (32 ∷ rest) refl) ∙ ap (λ (ps : List Piece). Run w ∷ ps) (blank_pieces rest))
     ∙ ap (λ (o : Option Word). with_label None (with_word o (gap_before (pieces rest)))) (upper_spelled w (letters_upper w letters) ∙ spelled)
 
--- a word's text with what stands after it
+-- a word's text with what follows it
 word_split : (a b d rest : List ℕ) → (a ++ (b ++ (d ++ codes " "))) ++ rest ≡ (a ++ (b ++ d)) ++ 32 ∷ rest
 word_split a b d rest =
     append_assoc a (b ++ (d ++ codes " ")) rest
@@ -319,7 +319,7 @@ operation_line c (operation.Branch x) at = branch_line x.link c _
 operation_line c (operation.Swi x) at = coded_line head.Swi c suffix.Bare (decimal x.comment) refl refl
 operation_line c _ at = refl
 
--- ---- what gives the word is an instruction or a branch
+-- ---- what assembles to the word is an instruction or a branch
 
 branch_back : (u : Use) (r : Result ℕ Fault) (w : ℕ) → is_branch u ≡ true → r ≡ Ok w → target_word u r ≡ Some w
 branch_back (use_of.Branch link) r w h e = ap (target_word (use_of.Branch link)) e

@@ -1,4 +1,4 @@
--- A DCD line gives its word; a line that is read again.
+-- A DCD line assembles to its word; a line that is read again.
 use Rattle.std.proofs.Common.{◌≡◌, ℕ, zero, suc, ◌*◌, ◌/◌, ◌%◌, ◌^◌, ◌<◌, ◌≤◌, true, ltb, List, [], ◌∷◌, ◌++◌, length, Option, Some, None, Result, Ok, Err, codes, refl, sym, ap, subst, ◌∙◌, length-append, arith}
 use Rattle.std.specs.Prelude.{decimal}
 use Rattle.std.proofs.lemmas.Fmt.{length-decimal-le}
@@ -34,7 +34,7 @@ use Rattle.asm_text.specs.declared.syntax.Use.TheVariants as use_of
 use Rattle.assembler.specs.ShownLines.{GivesBack, IsShown, numbered, shown_line as spelling, target_word, word_given}
 use Rattle.assembler.specs.Shown.{Gives, hex_line}
 
--- ---- what gives a word back is a line of it
+-- ---- what assembles back to a word is a line of it
 
 abbrev ok_by : Option ℕ → Result ℕ Fault
 ok_by None = Err NotText
@@ -124,7 +124,7 @@ spelling_by at (Err u) = []
 pub same_spelling : (a i : Instr) (at : ℕ) (r : Result Instr Unallocated) → r ≡ Ok a → r ≡ Ok i → spelling a at ≡ spelling i at
 same_spelling a i at r p q = ap (spelling_by at) (sym p ∙ q)
 
--- a spelling that gives its word back is the line
+-- a spelling that assembles back to its word is the line
 pub spelled_shown : (word at : ℕ) (line : List ℕ) (instr : Instr) → ((i : Instr) → Means word i → spelling instr at ≡ spelling i at) → Means word instr
     → line ≡ spelling instr at → GivesBack line at word → IsShown word at line
 spelled_shown word at line instr only means is back = record {

@@ -50,7 +50,7 @@ in_range fits word = if fits then word else Err OutOfRange
 abbrev pub is_byte_by : ℕ → ℕ → Bool
 is_byte_by n k = nat_lt (rotate_left w32 n (2 * k)) 256
 
--- the lowest rotation from 0 to 15 that gives a number
+-- the lowest rotation from 0 to 15 that yields a number
 abbrev pub rotation_of : ℕ → Option ℕ
 rotation_of n = find (is_byte_by n) (range_with_len 0 16)
 

@@ -1,5 +1,5 @@
--- How an instruction is spelled at an address (our own source format, over the VL86C010 data
--- sheet's assembler syntax: one spelling of each word).
+-- How an instruction is spelled at an address (over the VL86C010 data sheet's assembler syntax: one spelling
+-- of each word).
 use Rattle.std.specs.Prelude.{◌≡◌, ℕ, zero, suc, ◌+◌, ◌-◌, ◌*◌, ◌/◌, ◌%◌, ◌^◌, ◌==◌, ◌&&◌, not, nat_lt, Bool}
 use Rattle.std.specs.Prelude.{true, false, List, [], ◌∷◌, ◌++◌, codes, decimal, Option, Some, None, Result}
 use Rattle.std.specs.Prelude.{Ok, Err, if◌then◌else◌}
@@ -115,7 +115,7 @@ data_register_shift_text c x =
     data_front c x.opcode x.sets_flags x.rn x.rd
     ++ (register_text x.rm ++ (shift_text x.shift ++ register_text x.rs))
 
--- the number that the byte gives, in decimal
+-- the number that the byte is, in decimal
 abbrev pub data_immediate_text : Cond → DataImmediate → List ℕ
 data_immediate_text c x =
     data_front c x.opcode x.sets_flags x.rn x.rd
@@ -276,14 +276,14 @@ operation_text c _ at = []
 abbrev pub shown_line : Instr → ℕ → List ℕ
 shown_line i at = operation_text i.cond i.operation at
 
--- the line gives its word; it is the stated spelling where the word is an instruction and the spelling gives
--- the word back, and a DCD line where there is no such spelling
+-- the line assembles to its word; it is the stated spelling where the word is an instruction and the
+-- spelling assembles to the word, and a DCD line where there is no such spelling
 pub record IsShown (word at : ℕ) (line : List ℕ) : Type 0 where
   pub gives : Gives line at word
   pub spelled : (i : Instr) → Means word i → Gives (shown_line i at) at word → line ≡ shown_line i at
   pub dcd : ((i : Instr) → Means word i → Gives (shown_line i at) at word → ⊥) → line ≡ hex_line word
 
--- ---- what the code tries of a spelling; a spelling that gives its word passes
+-- ---- what the code tries of a spelling; a spelling that assembles to its word passes
 
 abbrev pub target_word : Use → Result ℕ Fault → Option ℕ
 target_word (use_of.Branch link) (Ok word) = Some word

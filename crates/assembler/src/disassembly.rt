@@ -36,7 +36,7 @@ fn shown_word(shown: Shown, at: u32) -> Option<u32>
     }
 }
 
-// The word that a text that may be shown gives at an address.
+// The word that a text that may be shown assembles to at an address.
 fn given_word(text: &[u8], at: u32) -> Option<u32>
     ensures found { IfSome result (λ word. GivesBack text.now at word) }
     ensures only { (word : ℕ) → is_shown_text text.now ≡ true → GivesBack text.now at word
@@ -48,7 +48,7 @@ fn given_word(text: &[u8], at: u32) -> Option<u32>
     }
 }
 
-// Whether a text that may be shown gives a word at an address.
+// Whether a text that may be shown assembles to a word at an address.
 fn gives(text: &[u8], at: u32, word: u32) -> bool
     ensures yes { result ≡ true → GivesBack text.now at word }
     ensures no { is_shown_text text.now ≡ true → GivesBack text.now at word → result ≡ true }

@@ -26,7 +26,7 @@ fn word_of(cond: Cond, operation: Operation) -> u32
     encode(&Instr { cond, operation })
 }
 
-// The lowest rotation that gives a number: to the left by twice as many places it is a byte.
+// The lowest rotation that yields a number: to the left by twice as many places it is a byte.
 #[tactic(auto, using(crate::proofs::CodeLaws::rotation_on, crate::proofs::CodeLaws::rotation_here))]
 fn rotation(n: u32) -> Option<u32>
     ensures value { result ≡ rotation_of n }

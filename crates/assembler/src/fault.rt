@@ -16,7 +16,7 @@ pub enum Fault {
     /// Operands that do not belong to the word, or a number of 2^32 or more.
     #[error("BadOperand")]
     BadOperand,
-    /// No byte that is rotated by an even number of places gives the immediate operand.
+    /// No byte that is rotated by an even number of places is the immediate operand.
     #[error("ImmediateNotRotated")]
     ImmediateNotRotated,
     /// A branch of less than -2^25 or more than 2^25 - 4 bytes from the address two words on.

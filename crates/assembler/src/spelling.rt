@@ -572,7 +572,7 @@ fn block(cond: Cond, x: Block) -> Line
     line
 }
 
-// Where the branch wraps, the line does not give the word.
+// Where the branch wraps, the line does not assemble to the word.
 fn branch_target(at: u32, offset: u32) -> u64
     requires { offset < 2 ^ 24 }
     ensures target { result ≡ target_of at offset }

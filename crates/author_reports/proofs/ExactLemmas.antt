@@ -1,4 +1,4 @@
--- The numbers of a kept run and of a greatest walk are at most the bound, and so told as they are.
+-- The numbers of a kept run and of a greatest walk are at most the bound, and so printed as they are.
 use Rattle.std.proofs.Common.{◌≡◌, ◌∙◌, ℕ, ◌+◌, ◌^◌, ◌<◌, ◌≤◌, Bool, true, false, cond, List, [], ◌∷◌, length, Some, None, ⊎_elim, refl, sym, ap, subst, arith}
 use Rattle.std.specs.Prelude.{Option, if◌then◌else◌, sum_by}
 use Rattle.std.proofs.lemmas.Bool.{cases_Bool, true≢false}

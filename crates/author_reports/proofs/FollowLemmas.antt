@@ -74,7 +74,7 @@ module _ (words : Words) (st : Stated) (flow : Flow) (tree : Tree) (of : IsTreeO
   none_keeps : KeepsNone words st flow tree s inputs → NoneKeeps words st flow.profile flow s inputs
   none_keeps none steps keeps = none steps (by_tree (take steps inputs) keeps)
 
-  -- what is told of a followed run
+  -- what is said of a followed run
   pub told : IsWellFormed flow → StepCost → RunLaw → IsLongest flow tree longest → IsGreatestCost flow st.loops longest.bound → (after : State) (followed : Followed) (kept : Bool) (text : List ℕ)
       → IsFollowed words st flow tree s inputs after followed → Tells source words st flow longest followed kept text → TellsRun words st flow.profile flow s inputs source tree longest kept text
   told well cost law longest_is greatest after (Kept steps ticks by_place) kept text is tells =
@@ -105,7 +105,7 @@ module _ (words : Words) (st : Stated) (flow : Flow) (tree : Tree) (of : IsTreeO
         text_is = tells.1.2;
       })
 
--- a kept run is told of each place
+-- what is said of a kept run is said of each place
 pub all_places : (words : Words) (st : Stated) (flow : Flow) (tree : Tree) (s : State) (inputs : List Input) (after : State) (followed : Followed)
     → IsFollowed words st flow tree s inputs after followed → HasAllPlaces flow followed
 all_places words st flow tree s inputs after (Kept steps ticks by_place) is = is.tally_is.whole

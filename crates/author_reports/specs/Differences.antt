@@ -1,4 +1,4 @@
--- Where a run that keeps its statement and a greatest walk differ. Our own format.
+-- Where a run that keeps its statement and a greatest walk differ.
 use Rattle.std.specs.Prelude.{◌≡◌, ℕ, ◌+◌, ◌==◌, ◌&&◌, Bool, true, false, cond}
 use Rattle.std.specs.Prelude.{if◌then◌else◌, List}
 use Rattle.std.specs.Prelude.{[], ◌++◌, codes, decimal, count_by, length, sum_by, unwrap_or}
@@ -102,7 +102,7 @@ pub record IsTable (source : List ℕ) (words : Words) (compared : ℕ → Compa
 
 -- ## Tallies
 
--- the same, told up to 2^64 - 1
+-- the same, counted up to 2^64 - 1
 abbrev pub told_at : Flow → List Pass → List Edge → ℕ → Compared
 told_at flow passes walk a =
     record {

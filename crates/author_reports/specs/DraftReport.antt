@@ -1,4 +1,4 @@
--- What has to be stated of a handler. Our own format.
+-- What has to be stated of a handler.
 use Rattle.std.specs.Prelude.{◌≡◌, ◌==◌, ◌%◌, ◌&&◌, ℕ, nat_lt, if◌then◌else◌, List, Option, Some, None, Ok}
 use Rattle.std.specs.Prelude.{option_and_then}
 use Rattle.asm_text.specs.Numbers.{run_number}

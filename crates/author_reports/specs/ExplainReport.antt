@@ -1,4 +1,4 @@
--- Where the ticks of a handler's greatest run time go. Our own format.
+-- Where the ticks of a handler's greatest run time go.
 use Rattle.std.specs.Prelude.{◌≡◌, ℕ, Bool, true, false, nat_le, List, ◌++◌, Option, Some, None}
 use Rattle.std.specs.Prelude.{Result}
 use Rattle.bus_ticks.specs.declared.profile.Profile.{Profile}
@@ -27,7 +27,7 @@ use Rattle.report_output.specs.declared.fault.ReportFault.{ReportFault}
 
 -- ## The explanation
 
--- by the lines of a text, each where it stands: the table, then what bursts add to the bound, then what is
+-- by the lines of a text, each where it is placed: the table, then what bursts add to the bound, then what is
 -- taken for granted, then the entries of the statement without effect, and then what better entries would
 -- save
 pub record IsSourceText (source : List ℕ) (words : Words) (stated : Stated) (flow : Flow)

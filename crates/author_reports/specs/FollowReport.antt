@@ -1,4 +1,4 @@
--- Whether a machine's run keeps the statement of its handler, and where it does not. Our own format.
+-- Whether a machine's run keeps the statement of its handler, and where it does not.
 use Rattle.std.specs.Prelude.{◌≡◌, ℕ, ◌≤◌, Bool, true, false, List, ◌++◌, length, take, Option, Result}
 use Rattle.bus_ticks.specs.declared.profile.Profile.{Profile}
 use Rattle.loader.specs.Image.{Words}

@@ -1,4 +1,4 @@
--- What is printed of a run that is judged by a statement. Our own format.
+-- What is printed of a run that is judged by a statement.
 use Rattle.std.specs.Prelude.{◌≡◌, ℕ, ◌+◌, ◌*◌, ◌-◌, ◌<◌, Bool, true, false, ◌&&◌, if◌then◌else◌}
 use Rattle.std.specs.Prelude.{nat_eq, nat_le, nat_lt, List, [], ◌++◌, length, codes, decimal}
 use Rattle.std.specs.Prelude.{slice_index_or}
@@ -86,7 +86,7 @@ strayed_text steps at line why =
 
 -- ## The line
 
--- a word of the line stands at the address
+-- a word of the line is at the address
 abbrev pub has_word : (address : ℕ) → PlacedLine → Bool
 has_word address line = nat_le line.at address && nat_lt address (line.at + 4 * line.words)
 

@@ -22,7 +22,7 @@ use Rattle.author_reports.specs.declared.follow.FollowedRun.{FollowedRun}
 use Rattle.report_output.specs.declared.fault.ReportFault.{ReportFault}
 
 -- the answer on a run that is kept: its ticks, and where it and the walk differ, whatever its steps are, by
--- numbers that are told up to 2^64 - 1
+-- numbers that are counted up to 2^64 - 1
 pub record TellsKeptRun (source : List ℕ) (words : Words) (flow : Flow) (longest : Longest) (ticks : ℕ)
     (by_place : List Passed) (text : List ℕ) : Type 0 where
   pub table : List ℕ
@@ -30,12 +30,12 @@ pub record TellsKeptRun (source : List ℕ) (words : Words) (flow : Flow) (longe
       → IsTable source words (told_at flow passes (unfolded longest.walk)) table
   pub text_is : text ≡ kept_text ticks longest.bound ++ table
 
--- what is told of a kept run is told of each place
+-- what is said of a kept run is said of each place
 abbrev pub HasAllPlaces : Flow → Followed → Type 0
 HasAllPlaces flow (Kept steps ticks by_place) = length by_place.items ≡ length flow.places
 HasAllPlaces flow (Strayed steps at why) = Unit {0}
 
--- the answer on what a followed run came to
+-- the answer on the outcome of a followed run
 abbrev pub Tells : (source : List ℕ) → Words → statement.Stated → Flow → Longest → Followed → Bool
     → List ℕ → Type 0
 Tells source words st flow longest (Kept steps ticks by_place) kept text =

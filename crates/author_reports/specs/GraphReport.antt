@@ -1,4 +1,4 @@
--- The drawing of a handler's flow graph, with what its greatest run time takes. Our own format.
+-- The drawing of a handler's flow graph, with what its greatest run time takes.
 use Rattle.std.specs.Prelude.{◌≡◌, ℕ, true, false, List, Option, Result, Vec}
 use Rattle.std.specs.Global.{Global}
 use Rattle.bus_ticks.specs.declared.profile.Profile.{Profile}
@@ -18,7 +18,7 @@ use Rattle.report_input.specs.Report.{IsAccepted, IsRefused, IsTreeOf}
 use Rattle.report_input.specs.Source.{is_image}
 use Rattle.report_output.specs.declared.fault.ReportFault.{ReportFault}
 
--- the lines of a text, each where it stands
+-- the lines of a text, each where it is placed
 pub record AreLineLabels (source : List ℕ) (places : List Place) (labels : List (Vec ℕ Global)) : Type 0 where
   pub placed : List PlacedLine
   pub are_placed : ArePlaced source placed

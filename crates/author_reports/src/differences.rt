@@ -33,27 +33,27 @@ const IMAGE_HEADING: &[u8] = b"              run            bound
   passes    ticks  passes    ticks   address      word  text
 ";
 
-/// How often an address is passed, and the ticks there, each told up to 2^64 - 1.
+// How often an address is passed, and the ticks there, each counted up to 2^64 - 1.
 #[derive(Clone, Copy)]
 struct Numbers {
     passes: u64,
     ticks: u64,
 }
 
-/// What a run and a greatest walk do at an address.
+// What a run and a greatest walk do at an address.
 #[derive(Clone, Copy)]
 struct Compared {
     run: Numbers,
     bound: Numbers,
 }
 
-/// What a run does at each address.
+// What a run does at each address.
 #[derive(Drop)]
 struct RunTally {
     by_address: BTreeMap<u32, Numbers>,
 }
 
-/// What a run and a greatest walk do at each address.
+// What a run and a greatest walk do at each address.
 #[derive(Clone, Copy)]
 struct Tallies<'a> {
     run: &'a RunTally,

@@ -35,7 +35,7 @@ pub struct Explained<'a> {
     pub statement: &'a [u8],
     /// The most ticks that its bound, without bursts, may have to be enough; for `None` any bound is.
     pub at_most: Option<u32>,
-    /// The DMA bursts with which its bound is told too.
+    /// The DMA bursts with which its bound is printed too.
     pub bursts: Bursts,
 }
 
@@ -48,7 +48,7 @@ struct BurstWalk<'w, 'p> {
     bursts: Bursts,
 }
 
-/// A bound, in ticks, and the text that explains it.
+// A bound, in ticks, and the text that explains it.
 #[derive(Drop)]
 struct Explanation {
     bound: u64,
@@ -88,7 +88,7 @@ fn image_text(
     Ok(text)
 }
 
-// The explanation by the lines of a text, which stand so.
+// The explanation by the lines of a text, which are placed so.
 fn placed_text(
     alloc: Global,
     source: &[u8],

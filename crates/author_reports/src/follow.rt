@@ -38,14 +38,14 @@ pub struct FollowedRun<'a> {
     pub machine: &'a [u8],
 }
 
-/// Whether a run keeps the statement, and the text that says so.
+// Whether a run keeps the statement, and the text that says so.
 #[derive(Drop)]
 struct Judged {
     kept: bool,
     text: Vec<u8>,
 }
 
-/// A handler that was read, with its source and its greatest walk.
+// A handler that was read, with its source and its greatest walk.
 #[derive(Clone, Copy)]
 struct Bounded<'a> {
     source: &'a [u8],

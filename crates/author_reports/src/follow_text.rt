@@ -151,7 +151,7 @@ pub(crate) fn strayed_text(
     format!(in alloc; "step {steps}, {at:X}{line}: {why}\n")
 }
 
-// Whether a word of the line stands at the address.
+// Whether a word of the line is at the address.
 fn has_word(line: &PlacedLine, address: u32) -> bool
     ensures { result ≡ has_word address line.now }
 {

@@ -166,7 +166,7 @@ ram_above p store k b h =
     above_sum p.n p.s (p.quad - p.s) k (suc k - 1) ((first + k) / 4 - first / 4) ((suc k + 2) / 4) _
     (ram_block p b.rom store b.address k (p.quad - p.s) (split_quad p) h.each) (omega arith) (omega arith)
 
--- from 12 on, words 1, 5, 9 and 13 stand at multiples of 16
+-- from 12 on, words 1, 5, 9 and 13 are at multiples of 16
 pub ram_block_at : (p : Profile) (base k : ℕ) (store : Bool) (rom : RomTimes) → base % 16 ≡ 0
     → base + 12 + 4 * suc k ≤ 0x3000000
     → IsDearestBlock p Ram (suc k) store (record { address = base + 12; rom = rom })

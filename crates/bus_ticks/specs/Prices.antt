@@ -1,5 +1,5 @@
--- The prices of accesses, in ticks of the 8 MHz processor (our own cycle profile, shaped on the N and S
--- cycles of the VL86C010 data sheet).
+-- The prices of accesses, in ticks of the 8 MHz processor (a cycle profile shaped on the N and S cycles of
+-- the VL86C010 data sheet).
 use Rattle.std.specs.Prelude.{ℕ, zero, suc, ◌+◌, ◌*◌, ◌/◌, ◌%◌, Bool, nat_lt, ◌==◌, if◌then◌else◌}
 use Rattle.bus_ticks.specs.declared.space.TheConstants.{IO_START, ROM_START, SPACE_END}
 use Rattle.bus_ticks.specs.declared.profile.Profile.{Profile}

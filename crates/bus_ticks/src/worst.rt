@@ -9,12 +9,14 @@ use crate::prices::{class_of, ram_following};
 use crate::profile::{Class, Profile};
 use crate::space::SPACE_END;
 
+/// The greatest of four numbers.
 pub fn greatest_of(a: u32, b: u32, c: u32, d: u32) -> u32
     ensures { result ≡ greatest a b c d }
 {
     a.max(b).max(c.max(d))
 }
 
+/// The ticks of an access to ROM at its dearest time field.
 pub fn worst_rom_ticks(profile: &Profile) -> u32
     ensures { result ≡ worst_rom profile.now }
 {
@@ -97,7 +99,7 @@ pub fn worst_transfer(profile: &Profile, class: Class, words: u32, store: bool) 
     worst_block_ticks(profile, class, words, store)
 }
 
-// The greatest price as a number.
+/// The greatest price of leaving to an address of the class, as a number.
 pub fn worst_leave_ticks(profile: &Profile, class: Class) -> u32
     ensures { result ≡ worst_leave_of profile.now class }
 {

@@ -22,10 +22,10 @@ use judging::judge;
 use std::rt::Files;
 use std::{fs, io};
 
-/// The one folder that is no case: that of the sample handlers.
+// The one folder that is no case: that of the sample handlers.
 const HANDLERS: &str = "handlers";
 
-/// The names of the folders, in their order.
+// The names of the folders, in their order.
 fn case_names<R: Files + AllocGlobal + Clone + Drop>(rt: &R) -> io::Result<Vec<String>> {
     let mut names = Vec::new(rt.alloc());
     for entry in fs::read_dir(rt, ".")? {

@@ -8,7 +8,7 @@ use full_disc::FullDisc;
 use std::alloc::{AllocError, Global};
 use std::{fs, io};
 
-/// Each as its words after the program's name: the image that `asm` writes is what the others read.
+// Each as its words after the program's name: the image that `asm` writes is what the others read.
 const COMMANDS: [&str; 6] = [
     "asm countdown.s countdown.image",
     "bound countdown.image statement.toml",
@@ -18,7 +18,7 @@ const COMMANDS: [&str; 6] = [
     "bound missing.s statement.toml",
 ];
 
-/// What is run where the disc is full.
+// What is run where the disc is full.
 const CUT: &str = "asm countdown.s cut.image";
 
 const IMAGES: [&str; 2] = ["countdown.image", "cut.image"];

@@ -32,7 +32,7 @@ take_more items i item rest lt at =
     ∙ ap (λ (xs : List CertItem). xs ++ rest) (sym (take-suc items i item lt) ∙ ap (λ (n : ℕ). take n items) (sym (add-one i)))
 
 module _ (flow : Flow) (tree : Tree) (index : Index) (within : Span) (levels : ℕ) (items : List CertItem) where
-  -- what following other lines from here comes to, it comes to with the first lines before them
+  -- what following other lines from here yields, it yields with the first lines before them
   abbrev pub Fronts : ℕ → Walker → Walker → Type 0
   Fronts i x y =
       (new : Walker) (rest : List CertItem) (b : Bool) → Follows flow tree index within levels (length rest) (followed flow rest) y new b

@@ -1,4 +1,4 @@
--- A line that shows an edge of the flow graph names that edge where it stands.
+-- A line that shows an edge of the flow graph names that edge where the walk is.
 use Rattle.std.proofs.Common.{◌≡◌, ◌∙◌, true, Some, refl, sym, ap, subst}
 use Rattle.std.specs.Prelude.{Contains, ◌&&◌, ◌==◌}
 use Rattle.std.proofs.lemmas.Bool.{and_parts, eq-eqb, eqb-true}

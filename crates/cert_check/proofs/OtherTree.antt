@@ -1,5 +1,5 @@
 -- Two trees of a graph with the same instances have the same greatest walks: what is asked of a walk and of its numbers
--- asks for the instances, in whatever order they stand.
+-- asks for the instances, in whatever order they are.
 use Rattle.std.proofs.Common.{◌≡◌, ◌∙◌, ◌↔◌, ℕ, ◌+◌, ◌*◌, ◌^◌, ◌<◌, ◌≤◌, true, cond, List, length, get_or, map, sum_by, Contains, Option, Some, None, refl, sym, ap, subst, arith}
 use Rattle.std.specs.List.{find}
 use Rattle.std.specs.Option.{IfSome}

@@ -36,7 +36,7 @@ module _ (places : List Place) (p : Place) (ascending : IsSorted place_cmp place
   told_by (Ok i) range found = (λ yes. (i, range, place_exact (get_or places i p) p (found p)), λ has. refl)
   told_by (Err i) range found = (λ yes. absurd (false≢true yes), λ has. absurd (not_missed i has found))
 
-  -- the search tells whether a place is there
+  -- the search says whether a place is there
   pub told : (r : Result ℕ ℕ) → IsSearchInRange r (length places) → IsBinarySearchResult (λ y. by_order y p) places r → IsTrue (is_ok r) ↔ Contains places p
   told r range found = told_by r range (subst (λ R. IsBinarySearchResult (λ y. R y p) places r) by_place found)
 

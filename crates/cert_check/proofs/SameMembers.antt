@@ -1,4 +1,4 @@
--- Lists with the same elements, none of which stands twice: their sums are the same, and so is what is found in them.
+-- Lists with the same elements, none of which occurs twice: their sums are the same, and so is what is found in them.
 use Rattle.std.proofs.Common.{◌≡◌, ◌≢◌, ◌∙◌, ℕ, ◌+◌, ◌-◌, suc, ◌<◌, ◌≤◌, Bool, true, List, [], ◌∷◌, length, get_or, sum_by, AllPairs, Contains, Option, Some, None, ⊎_elim, refl, sym, ap, arith}
 use Rattle.std.specs.List.{find, remove}
 use Rattle.std.proofs.lemmas.Bool.{cases_lt}
@@ -12,13 +12,13 @@ use Rattle.longest_walk.proofs.CarryFind.{find_known}
 abbrev pub Within : {X : Type 0} → List X → List X → Type 0
 Within {X} xs ys = (x : X) → Contains xs x → Contains ys x
 
--- no element stands twice
+-- no element occurs twice
 abbrev pub Differ : {X : Type 0} → List X → Type 0
 Differ {X} xs = AllPairs (λ (x : X) (y : X). x ≢ y) xs
 
 -- ## Sums
 
--- without its first element, the rest stands in what is left of the other list
+-- without its first element, the rest is in what is left of the other list
 rest_within : {X : Type 0} (x : X) (xs ys : List X) (k : ℕ) → k < length ys → get_or ys k x ≡ x → Differ (x ∷ xs) → Within (x ∷ xs) ys → Within xs (remove ys k)
 rest_within x xs ys k lt at differ inside y has =
     let h : Contains ys y = inside y (suc has.0, omega (arith, has.1), has.2) in

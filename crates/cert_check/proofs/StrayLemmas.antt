@@ -1,4 +1,4 @@
--- Where a certificate's walk fails, from what following its lines told.
+-- Where a certificate's walk fails, from what following its lines showed.
 use Rattle.std.proofs.Common.{◌≡◌, ◌≢◌, ◌∙◌, ℕ, ◌+◌, ◌<◌, ◌≤◌, ◌^◌, List, length, take, Some, None, inl, inr, refl, sym, ap, subst, arith}
 use Rattle.std.proofs.lemmas.Bool.{eq-eqb}
 use Rattle.walks.specs.Walk.{Leads}

@@ -1,4 +1,4 @@
--- What following lines comes to: in a row, along one edge, and in a repeat.
+-- What following lines yields: in a row, along one edge, and in a repeat.
 use Rattle.std.proofs.Common.{◌≡◌, ◌≢◌, ◌∙◌, ℕ, suc, ◌+◌, ◌<◌, ◌≤◌, Bool, true, false, List, [], ◌∷◌, ◌++◌, length, get_or, map, All, Contains, Option, Some, Vec, option_and_then, refl, sym, ap, subst, arith, add-one, append_assoc, append-nil, drop, drop-cons, length-append}
 use Rattle.std.specs.Prelude.{option_map}
 use Rattle.std.proofs.lemmas.List.{drop_all, map-append}

@@ -37,7 +37,7 @@ first_holds : (a b c d e : Bool) → (a && b && c && d && e) ≡ true → a ≡ 
 first_holds true b c d e is = refl
 first_holds false b c d e is = is
 
--- a line names an edge where it stands
+-- a line names an edge where the walk is
 pub named_from : (p : Place) (line : StepLine) (e : Edge) → is_named p line e ≡ true → e.from ≡ p
 named_from (At calls a) line e is = sym (at_place calls a e.from (first_holds (is_at calls a e.from) _ _ _ _ is))
 named_from Exit line e is = absurd (false≢true is)

@@ -1,4 +1,4 @@
--- What following a line comes to: one edge, or a repeat.
+-- What following a line yields: one edge, or a repeat.
 use Rattle.std.proofs.Common.{◌≡◌, ◌≢◌, ◌∙◌, ℕ, ◌+◌, ◌-◌, ◌<◌, ◌≤◌, true, false, List, [], ◌∷◌, length, get_or, All, Contains, Option, Some, None, Vec, refl, sym, ap, subst, arith}
 use Rattle.std.specs.Prelude.{option_map}
 use Rattle.std.proofs.Math.ListN.{length-set}
@@ -127,7 +127,7 @@ module _ (flow : Flow) (tree : Tree) (index : Index) (well : IsWellFormed flow) 
 
   -- ## A repeat
 
-  -- the walk may go on inside the instance that begins where it stands
+  -- the walk may go on inside the instance that begins where it is
   pub inside_ready : (span : Span) → header_at index.headers.items x.number ≡ Some span → CanFollow flow tree index span x
   inside_ready span is =
       let known = can.indexed.headers.known x.number span is in

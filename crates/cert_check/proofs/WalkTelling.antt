@@ -1,4 +1,4 @@
--- What is told of a walk, with an edge more, and with the rounds of a repeat in place of one.
+-- What is said of a walk, with an edge more, and with the rounds of a repeat in place of one.
 use Rattle.std.proofs.Common.{◌≡◌, ◌≢◌, ◌∙◌, ℕ, zero, suc, ◌+◌, ◌-◌, ◌*◌, ◌<◌, ◌≤◌, ◌^◌, min, max, Bool, true, false, cond, ◌&&◌, List, [], ◌∷◌, ◌++◌, length, get_or, slice_set, All, Contains, Option, Some, None, ◌⊎◌, inl, inr, ⊎_elim, refl, sym, ap, subst, arith, append-nil, get_or-set_same, get_or-set_other}
 use Rattle.std.proofs.lemmas.Bool.{and_from, cases_Bool, cases_eq, cases_lt, le-ltb, lt-ltb, ne_eqb}
 use Rattle.std.specs.Option.{option_or}
@@ -113,7 +113,7 @@ module _ (exit : ℕ) (edges : List NumberedEdge) (spans : List Span) (order : I
       (λ outer. outer)
       (order.nested s r s_in r_in r.header here (header_in exit edges spans order r r_in))
 
-  -- how stays change from one walk to another, when the walker comes to a number
+  -- how stays change from one walk to another, when the walker reaches a number
   pub record Changes (from to : ℕ) (v w : List NumberedEdge) : Type 0 where
     pub there : (s : Span) → Contains spans s → s.header ≡ to → most_in s w ≡ max (most_in s v) (turns_at_end s w)
     pub elsewhere : (s : Span) → Contains spans s → s.header ≢ to → most_in s w ≡ most_in s v

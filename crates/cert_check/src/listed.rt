@@ -15,7 +15,7 @@ use flow_graph::{Graph, Place};
 use loop_bounds::LoopTree;
 use std::alloc::{AllocError, Global};
 
-// The first place that is wanted and not given.
+// The first place that is wanted and not there.
 fn first_without(wanted: &[Place], given: &[Place]) -> Option<Place>
     requires ascending { IsSorted place_cmp given.now }
     ensures { MatchOption result (HasAll wanted.now given.now)

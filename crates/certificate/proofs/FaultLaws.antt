@@ -94,7 +94,7 @@ all_after : (xs ys : List Line) → AllByRecursion LineFits (xs ++ ys) → AllBy
 all_after [] ys f = f
 all_after (x ∷ xs) ys f = all_after xs ys f.1
 
--- lines that have not come to the last begin a certificate
+-- lines that have not reached the last begin a certificate
 are_first : (lines : List Line) (to : Reached) → Follow lines to → to.stage ≢ s.Done → AreFirst lines
 are_first lines to follow going =
     let c = complete_at to.stage to.nest going in

@@ -22,7 +22,7 @@ pub join_whole : (mark : ℕ) (w : List ℕ) (ws : List (List ℕ)) → Lacks ma
 join_whole mark w [] lacks = refl
 join_whole mark w (v ∷ ws) lacks = absurd (Lacks-middle mark w (join_with_byte mark (v ∷ ws)) lacks)
 
--- what a cut at the first such byte gives
+-- what a cut at the first such byte yields
 pub record Cut (mark : ℕ) (w : List ℕ) (ws : List (List ℕ)) (first after : List ℕ) : Type 0 where
   pub first_is : first ≡ w
   pub next : List ℕ

@@ -12,7 +12,7 @@ use Rattle.certificate.specs.Words.{Lacks}
 hex_is_IsNumeral : (n : ℕ) → n < 2 ^ 26 → IsNumeral 16 (hex n) × (digits_value 16 (hex n) ≡ n)
 hex_is_IsNumeral n h = digits_is_IsNumeral 16 true (omega arith) (omega arith) n (omega arith)
 
--- a byte that is no hex digit stands in no numeral
+-- a byte that is no hex digit is in no numeral
 digits_lack : (base c : ℕ) (ds : List ℕ) → base ≤ digit_value c → AllDigits base ds → Lacks c ds
 digits_lack base c [] h d k lt = absurd (omega arith)
 digits_lack base c (x ∷ ds) h d zero lt = λ e. let low : digit_value c < base = subst (λ (y : ℕ). digit_value y < base) e d.0 in omega arith
@@ -60,7 +60,7 @@ one_end (a ∷ xs) (b ∷ ys) x y e =
 pub hex_some : (n : ℕ) → n < 2 ^ 26 → 0 < length (hex n)
 hex_some n h = (hex_is_IsNumeral n h).0.0
 
--- what may stand after a front of a number
+-- what may follow a front of a number
 pub record GoesOn (whole front byte : ℕ) : Type 0 where
   pub some : 0 < front
   pub small : front * 16 ≤ whole
@@ -95,7 +95,7 @@ hex_front (suc k) m n b bs le p q e =
         let deeper = again view.0 (omega arith) (omega arith) parts.0 in
         record { some = deeper.some; small = omega (arith, deeper.small); digit = deeper.digit; digit_small = deeper.digit_small; byte_is = deeper.byte_is }
 
--- a front of a number, and what stands after it in the word
+-- a front of a number, and what follows it in the word
 pub hex_inside : (m n k : ℕ) (word : List ℕ) → m < 2 ^ 26 → n < 2 ^ 26 → word ≡ hex m → hex n ≡ take k word → k < length word → GoesOn m n (get_or word k 0)
 hex_inside m n k word p q is front lt =
     let parted : take k word ++ drop k word ≡ word = take-append-drop k word in

@@ -21,7 +21,7 @@ use Rattle.certificate.proofs.FieldLaws.{decimal-end, decimal_first, hex-end, he
 use Rattle.certificate.proofs.NumberLaws.{decimal_is_one}
 use Rattle.certificate.proofs.PriceLaws.{one_prices, profile_small}
 
--- ## No line feed stands in a line
+-- ## No line feed is in a line
 
 -- a field, a blank and the rest
 field-end : (field rest : List ℕ) → Lacks 10 field → Lacks 10 rest → Lacks 10 (field ++ 32 ∷ rest)

@@ -21,7 +21,7 @@ use crate::walk::StepLine;
 use bus_ticks::Profile;
 use longest_walk::{InstanceRow, PlaceRow};
 
-/// How often the body of a repeat is taken at most.
+// How often the body of a repeat is taken at most.
 const MOST_TURNS: u64 = 1_048_576;
 
 fn title_at(words: &[u8]) -> Option<Version>
@@ -122,7 +122,7 @@ fn price_at(word: &[u8]) -> Option<u32>
     Some(number as u32)
 }
 
-/// The fifteen numbers below 256 that the words spell, parted by blanks.
+// The fifteen numbers below 256 that the words spell, parted by blanks.
 fn prices_at(words: &[u8]) -> Option<[u32; 15]>
     ensures { MatchOption result
         ((ns : List ℕ) → length ns ≡ 15 → All (λ n. n < 256) ns
@@ -155,7 +155,7 @@ fn profile_at(words: &[u8]) -> Option<[u32; 15]>
     }
 }
 
-/// What the words of a line of a walk say.
+// What the words of a line of a walk say.
 fn walk_line_at(words: &[u8]) -> Option<WalkLine>
     ensures { MatchOption result ((w : WalkLine) → WalkFits w → words.now ≡ walk_words w → ⊥)
         (λ w. WalkFits w × (words.now ≡ walk_words w)) }
@@ -172,7 +172,7 @@ fn walk_line_at(words: &[u8]) -> Option<WalkLine>
     None
 }
 
-/// What the words of a row say.
+// What the words of a row say.
 fn row_at(words: &[u8]) -> Option<Line>
     ensures { MatchOption result
         (((r : PlaceRow) → PlaceFits r → words.now ≡ place_words r → ⊥)
@@ -188,7 +188,7 @@ fn row_at(words: &[u8]) -> Option<Line>
     None
 }
 
-/// What the words of a line before the walk say.
+// What the words of a line before the walk say.
 fn head_at(words: &[u8]) -> Option<Line>
     ensures { MatchOption result
         (((v : Version) → words.now ≡ title_words v → ⊥)

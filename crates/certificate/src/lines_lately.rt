@@ -13,10 +13,10 @@ use crate::walk::{StepLine, To};
 use flow_graph::{Edge, Label, Place};
 use outputs::{Output, Page};
 
-/// The most bytes of an edge's line.
+// The most bytes of an edge's line.
 const EDGE_ROOM: usize = 56;
 
-/// An edge as a certificate names it, and its line.
+// An edge as a certificate names it, and its line.
 #[derive(Clone, Copy)]
 struct Printed {
     step: StepLine,

@@ -27,7 +27,7 @@ pub(crate) fn decimal_at(word: &[u8]) -> Option<u64>
     }
 }
 
-/// The value of an upper-case hex digit.
+// The value of an upper-case hex digit.
 fn digit_at(byte: u8) -> Option<u32>
     ensures { MatchOption result ((d : ℕ) → d < 16 → byte ≡ hex_digit d → ⊥)
         (λ d. (d < 16) × (byte ≡ hex_digit d)) }

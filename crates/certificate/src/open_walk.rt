@@ -6,7 +6,7 @@ use crate::line::WalkLine;
 use crate::walk::{CertItem, CertWalk};
 use std::alloc::{AllocError, Global};
 
-/// How many repeats are inside one another at most.
+// How many repeats are inside one another at most.
 const DEEPEST: usize = 16;
 
 /// A repeat that has not ended: the items before it, and how often its body is taken.

@@ -15,7 +15,7 @@ use flow_graph::Label;
 /// How many lines are kept: two for each place in 4 KB, which an address names by its bits 11 to 2.
 pub(crate) const ROWS: usize = 2048;
 
-/// The words of a line, and the step that they say.
+// The words of a line, and the step that they say.
 #[derive(Clone, Copy)]
 struct Known<'a> {
     words: &'a [u8],

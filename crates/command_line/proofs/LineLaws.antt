@@ -1,4 +1,4 @@
--- From what clap's calls give to what a line asks for.
+-- From what clap's calls return to what a line asks for.
 use Rattle.std.proofs.Common.{◌≡◌, ◌∙◌, ℕ, Bool, true, false, List, [], ◌∷◌, Option, Some, None, Result, Ok, Err, refl, sym, ap, inl, inr, subst, arith}
 use Rattle.std.specs.Prelude.{option_and_then, if◌then◌else◌}
 use Rattle.std.specs.Result.{result_ok}
@@ -71,7 +71,7 @@ number_parsed t (Err e) h = go (is_unsigned_in 0 most_number t) refl
 abbrev pub ReadsU32 : Text → Result ℕ ParseIntError → Type 0
 ReadsU32 t r = ParsesUnsigned 32 10 t r × ExplainsUnsignedError 10 t r × HasUnsignedDigitsIfOk t r
 
--- what `get_one` gives is the number that the text writes
+-- what `get_one` returns is the number that the text writes
 pub number_read : (o : Option Text) (r : Option ℕ) → (o ≡ None → r ≡ None) → ((t : Text) → o ≡ Some t → ReadsOne ReadsU32 t r)
     → r ≡ option_and_then number_in o
 number_read None r none value = none refl

@@ -40,7 +40,7 @@ fn command<'a>(alloc: Global, row: &CommandRow) -> Result<Command<'a>, AllocErro
     Ok(command)
 }
 
-/// A command with those of the rows.
+// A command with those of the rows.
 fn with_commands<'a>(
     alloc: Global,
     outer: Command<'a>,

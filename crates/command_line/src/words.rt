@@ -20,7 +20,7 @@ use clap::error::ErrorKind;
 use clap::{ArgMatches, Error};
 use std::alloc::Global;
 
-/// The source's name and another argument, where both are given.
+// The source's name and another argument, where both are given.
 fn source_and<'a>(values: &ArgMatches<'a>, id: &str) -> Option<(&'a str, &'a str)>
     ensures { option_map (λ p. (p.0.now, p.1.now)) result
         ≡ source_and id.now (rows_of (found_of values.now)) }
@@ -30,7 +30,7 @@ fn source_and<'a>(values: &ArgMatches<'a>, id: &str) -> Option<(&'a str, &'a str
     Some((source, other))
 }
 
-/// The names of a profile's file, if there is one, and of two others.
+// The names of a profile's file, if there is one, and of two others.
 fn names_in<'a>(values: &ArgMatches<'a>, second: &str) -> Option<Names<'a>>
     ensures { option_map names_of result ≡ names_in second.now (rows_of (found_of values.now)) }
 {
@@ -43,7 +43,7 @@ fn names_in<'a>(values: &ArgMatches<'a>, second: &str) -> Option<Names<'a>>
     })
 }
 
-/// The names of a handler's files and another argument, where all are given.
+// The names of a handler's files and another argument, where all are given.
 fn handler_and<'a>(values: &ArgMatches<'a>, id: &str) -> Option<(Names<'a>, &'a str)>
     ensures { option_map (λ p. (names_of p.0, p.1.now)) result
         ≡ handler_and id.now (rows_of (found_of values.now)) }
@@ -53,7 +53,7 @@ fn handler_and<'a>(values: &ArgMatches<'a>, id: &str) -> Option<(Names<'a>, &'a 
     Some((handler, other))
 }
 
-/// The request for a source's image: none where the image would be written over its source.
+// The request for a source's image: none where the image would be written over its source.
 fn asm_request<'a>(source: &'a str, image: &'a str) -> Option<Request<'a>>
     ensures { option_map asked_of result ≡ asm_of (source.now, image.now) }
 {
@@ -64,7 +64,7 @@ fn asm_request<'a>(source: &'a str, image: &'a str) -> Option<Request<'a>>
     }
 }
 
-/// What `asm` is asked with.
+// What `asm` is asked with.
 fn asm_in<'a>(values: &ArgMatches<'a>) -> Option<Request<'a>>
     ensures { option_map asked_of result ≡ asked_asm (rows_of (found_of values.now)) }
 {
@@ -72,7 +72,7 @@ fn asm_in<'a>(values: &ArgMatches<'a>) -> Option<Request<'a>>
     asm_request(source, image)
 }
 
-/// What `list` is asked with.
+// What `list` is asked with.
 fn list_in<'a>(values: &ArgMatches<'a>) -> Option<Request<'a>>
     ensures { option_map asked_of result ≡ asked_list (rows_of (found_of values.now)) }
 {
@@ -80,7 +80,7 @@ fn list_in<'a>(values: &ArgMatches<'a>) -> Option<Request<'a>>
     Some(Request::List(source))
 }
 
-/// What `draft` is asked with.
+// What `draft` is asked with.
 fn draft_in<'a>(values: &ArgMatches<'a>) -> Option<Request<'a>>
     ensures { option_map asked_of result ≡ asked_draft (rows_of (found_of values.now)) }
 {
@@ -88,14 +88,14 @@ fn draft_in<'a>(values: &ArgMatches<'a>) -> Option<Request<'a>>
     Some(Request::Draft(DraftNames { source, entry }))
 }
 
-/// The number of an option or of an argument.
+// The number of an option or of an argument.
 fn number_at(values: &ArgMatches<'_>, id: &str) -> Option<u32>
     ensures { result ≡ number_at id.now (rows_of (found_of values.now)) }
 {
     values.get_one(id)
 }
 
-/// What `bound` is asked with.
+// What `bound` is asked with.
 fn bound_in<'a>(values: &ArgMatches<'a>) -> Option<Request<'a>>
     ensures { option_map asked_of result ≡ asked_bound (rows_of (found_of values.now)) }
 {
@@ -106,7 +106,7 @@ fn bound_in<'a>(values: &ArgMatches<'a>) -> Option<Request<'a>>
     }
 }
 
-/// What `explain` is asked with.
+// What `explain` is asked with.
 fn explain_in<'a>(values: &ArgMatches<'a>) -> Option<Request<'a>>
     ensures { option_map asked_of result ≡ asked_explain (rows_of (found_of values.now)) }
 {
@@ -122,7 +122,7 @@ fn explain_in<'a>(values: &ArgMatches<'a>) -> Option<Request<'a>>
     }))
 }
 
-/// What `check` is asked with.
+// What `check` is asked with.
 fn check_in<'a>(values: &ArgMatches<'a>) -> Option<Request<'a>>
     ensures { option_map asked_of result ≡ asked_check (rows_of (found_of values.now)) }
 {
@@ -130,7 +130,7 @@ fn check_in<'a>(values: &ArgMatches<'a>) -> Option<Request<'a>>
     Some(Request::Check(CheckNames { handler, cert }))
 }
 
-/// What `follow` is asked with.
+// What `follow` is asked with.
 fn follow_in<'a>(values: &ArgMatches<'a>) -> Option<Request<'a>>
     ensures { option_map asked_of result ≡ asked_follow (rows_of (found_of values.now)) }
 {
@@ -138,7 +138,7 @@ fn follow_in<'a>(values: &ArgMatches<'a>) -> Option<Request<'a>>
     Some(Request::Follow(FollowNames { handler, machine }))
 }
 
-/// What `visits` is asked with.
+// What `visits` is asked with.
 fn visits_in<'a>(values: &ArgMatches<'a>) -> Option<Request<'a>>
     ensures { option_map asked_of result ≡ asked_visits (rows_of (found_of values.now)) }
 {
@@ -151,7 +151,7 @@ fn visits_in<'a>(values: &ArgMatches<'a>) -> Option<Request<'a>>
     }))
 }
 
-/// What a command asks for.
+// What a command asks for.
 fn asked<'a>(kind: &Kind, values: &ArgMatches<'a>) -> Option<Request<'a>>
     ensures { option_map asked_of result ≡ asked_as kind.now (rows_of (found_of values.now)) }
 {
@@ -177,7 +177,7 @@ fn first_row<'a, 'b>(rows: &'a [(&'b str, Kind)], name: &str) -> Option<&'a (&'b
     rows.iter().find(|row| name == row.0)
 }
 
-/// What the first row of a name says.
+// What the first row of a name says.
 fn kind_in<'a>(rows: &'a [(&str, Kind)], name: &str) -> Option<&'a Kind>
     ensures { (values : List Row) → option_and_then (λ kind. asked_as kind.now values) result
         ≡ first_asked rows.now name.now values }
@@ -188,7 +188,7 @@ fn kind_in<'a>(rows: &'a [(&str, Kind)], name: &str) -> Option<&'a Kind>
     }
 }
 
-/// What the name of a command asks for.
+// What the name of a command asks for.
 fn kind_named(name: &str) -> Option<&'static Kind>
     ensures { (values : List Row) → option_and_then (λ kind. asked_as kind.now values) result
         ≡ asked_by (name.now, values) }
@@ -196,7 +196,7 @@ fn kind_named(name: &str) -> Option<&'static Kind>
     kind_in(&KINDS, name)
 }
 
-/// What the matches ask for.
+// What the matches ask for.
 fn request_in<'a>(matches: &ArgMatches<'a>) -> Option<Request<'a>>
     ensures { option_map asked_of result ≡ option_and_then asked_by (subcommand_rows_of matches.now) }
 {

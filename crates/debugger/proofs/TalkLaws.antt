@@ -37,7 +37,7 @@ talk_quits start lines now left text line rest so_far at_hand quits =
     told_end start lines now left text so_far
     (subst (λ (ls : List (List ℕ)). Converses now ls []) (sym at_hand) (subst P (sym quits) refl))
 
--- a line is told
+-- a line is answered
 pub talk_goes : (start : SessionState) (lines : List (List ℕ)) (now next : SessionState)
     (left : List (List ℕ)) (old new line : List ℕ) (rest : List (List ℕ))
     → TalkSoFar start lines now left old → left ≡ line ∷ rest → is_quit line ≡ false

@@ -77,7 +77,7 @@ unadded ran why = λ k. record {
   stopped = why;
 }
 
--- the run ends where it stands
+-- the run ends where it is
 ended : (breaks : List ℕ) (start : State) (inputs : List Input) (now : State) (left : List Input)
     (ran : Ran) (last : Option Traced) (why : Option Why)
     → SoFar breaks start inputs now left ran last → Watches breaks now left [] (at_rest why) now
@@ -178,7 +178,7 @@ module _ (breaks : List ℕ) (start : State) (inputs : List Input) (now next : S
       going = still_going;
     }
 
-    -- it came to a breakpoint
+    -- it reached a breakpoint
     pub run_breaks : is_break breaks next ≡ true → Done breaks start inputs told (Some (as_shown traced)) next
     run_breaks at =
         let Up : Bool → Type 0 =

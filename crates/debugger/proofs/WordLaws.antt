@@ -31,7 +31,7 @@ words_skip (b ∷ bs) = elim (cases_Bool (is_blank b)) [
   | inr h ↦ rw h refl
 ]
 
--- after them stands a word, or nothing
+-- after them comes a word, or nothing
 pub starts_after : (text : List ℕ) → 0 < length (drop (prefix_len is_blank text) text)
     → starts_word (drop (prefix_len is_blank text) text) ≡ true
 starts_after [] some = absurd (omega arith)

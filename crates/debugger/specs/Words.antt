@@ -1,5 +1,4 @@
--- The words of a command line and its numbers (our own format; the numbers are those of the assembler's
--- source).
+-- The words of a command line and its numbers, which are those of the assembler's source.
 use Rattle.std.specs.Prelude.{◌==◌, ℕ, not, Bool, true, false, List, [], ◌∷◌, Option, if◌then◌else◌}
 use Rattle.asm_text.specs.Numbers.{number_by, run_number}
 use Rattle.asm_text.specs.Pieces.{is_blank}

@@ -1,4 +1,4 @@
-// Bytes put into room that was taken before, so no allocation can fail.
+//! Bytes put into room that was taken before, so no allocation can fail.
 
 ghost use Rattle.std.specs.Prelude.{◌≡◌, ◌++◌, ◌+◌, ◌≤◌, length, vec_capacity};
 ghost use Rattle.assembler.specs.ShownLines.{IsShown};

@@ -10,7 +10,7 @@ use crate::words::{first_word, read_number};
 use bitflags::Flags;
 use ioc::Lines;
 
-/// The first address past memory.
+// The first address past memory.
 const END: u32 = 0x400_0000;
 
 fn number_in(low: u32, high: u32, word: &[u8]) -> Result<u32, DebugFault>

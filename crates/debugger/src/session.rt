@@ -23,10 +23,10 @@ use std::alloc::Global;
 use std::marker::Model;
 use trace_text::{LINE_ROOM, write_registers, write_ticks};
 
-/// The most breakpoints.
+// The most breakpoints.
 const BREAKS: usize = 16;
 
-/// The most words that `mem` and `dis` show.
+// The most words that `mem` and `dis` show.
 const WORDS: usize = 16;
 
 /// A machine that is stepped by commands, with its breakpoints, the inputs of its next step, and the sums of
@@ -65,7 +65,7 @@ impl Session {
         Session::with_port(machine, 0)
     }
 
-    // A session with a word for the port.
+    /// A session with a word for the port.
     pub(crate) fn with_port(machine: Machine, port: u32) -> Session
         ensures { result ≡ begun machine port }
     {
@@ -93,8 +93,7 @@ impl Session {
     ///   passed meanwhile, bursts and all; each stays at 2^128 - 1.
     /// - `mem A N`, `dis A N`: 1 to 16 words of RAM or ROM from an address, as a privileged load finds them.
     /// - `burst N`, 0 to 65,535: DMA bursts in the next step alone. `line NAME on` and `off`, `port N`: IOC's
-    ///   interrupt lines, by the names that a machine file gives them, and the port's word from the next step
-    ///   on.
+    ///   interrupt lines, by their names in machine files, and the port's word from the next step on.
     ///
     /// A refused command, also one that memory refuses, leaves the session as it was.
     ///

@@ -1,4 +1,4 @@
-// What a run counts, step by step: in few bits, since each step adds to it.
+//! What a run counts, step by step: in few bits, since each step adds to it.
 
 ghost use Rattle.std.specs.Prelude.{◌≡◌, ◌+◌, ◌<◌, ◌^◌, ℕ, None, Some};
 ghost use Rattle.arm2_exec.specs.Run.{at_rest};

@@ -52,7 +52,7 @@ all_added rows a b adds =
 pub full : (old : List ℕ) (left : ℕ) (xs ys : List Row) → left ≡ 0 → old ++ shown left xs ≡ old ++ shown left ys
 full old left xs ys is = ap (λ t. old ++ t) (ap (λ n. shown n xs) is ∙ (no_room xs ∙ (sym (no_room ys) ∙ ap (λ n. shown n ys) (sym is))))
 
--- rows are added that stand first
+-- rows are added that come first
 pub adds_first : (rows rest whole : List Row) (a b : Report) → Adds rows a b → whole ≡ rows ++ rest → (more : List Row) → b.text.items ++ shown b.left (rest ++ more) ≡ a.text.items ++ shown a.left (whole ++ more)
 adds_first rows rest whole a b adds is more = adds.same (rest ++ more) ∙ ap (λ r. a.text.items ++ shown a.left r) (sym (append_assoc rows rest more) ∙ ap (λ w. w ++ more) (sym is))
 
@@ -60,7 +60,7 @@ one_row : (names : Names) (before items : List Item) (i : Item) → twice_rows n
 unfolding twice_rows
 one_row names before items i = refl
 
--- the row of the entry at an index, if its address stands before it
+-- the row of the entry at an index, if an earlier one has its address
 pub twice_more : (names : Names) (before : List Item) (entries : List Entry) (k : ℕ) (d : Entry) (holds : Bool) → k < length entries → holds ≡ is_twice names before (item_of (get_or entries k d))
     → twice_rows names before (map item_of (drop k entries)) ≡ item_row_if holds (item_of (get_or entries k d)) ++ twice_rows names (item_of (get_or entries k d) ∷ before) (map item_of (drop (k + 1) entries))
 twice_more names before entries k d holds inside told =

@@ -1,4 +1,4 @@
--- Addresses that were come to.
+-- The addresses so far.
 use Rattle.std.proofs.Common.{◌≡◌, ◌||◌, ◌⊎◌, inl, inr, ℕ, false, List, [], ◌∷◌, Option, codes, refl, sym, ap, ◌∙◌}
 use Rattle.std.specs.BTreeSet.{BTreeSet, contains}
 use Rattle.std.specs.BTreeMap.{is_at as is_key}

@@ -1,5 +1,5 @@
--- The lines of a source that cannot be assembled. Our own rule: each is what the assembler refuses once only
--- the labels stand of the lines that were found before it.
+-- The lines of a source that cannot be assembled: each is what the assembler refuses once only the labels
+-- are left of the lines that were found before it.
 use Rattle.std.specs.Prelude.{◌≡◌, ◌⊎◌, ◌<◌, ◌-◌, ◌+◌, ◌==◌, ℕ, Bool, true, false, List, [], ◌∷◌, ◌++◌}
 use Rattle.std.specs.Prelude.{Result, Ok, Err, if◌then◌else◌, IsPermutation, IsSortedByKey}
 use Rattle.std.specs.List.Sorted.{IsStableByKey}

@@ -42,7 +42,7 @@ numbered_at lines at = option_map numbered (line_at lines at)
 abbrev pub is_in_word : ℕ → Bool
 is_in_word b = not (b == 32 || (b == 9 || b == 59))
 
--- what stands in the first column, up to a blank or a comment
+-- what is in the first column, up to a blank or a comment
 abbrev pub first_word : List ℕ → List ℕ
 first_word text = take (prefix_len is_in_word text) text
 
@@ -73,7 +73,7 @@ words_of names number before (text ∷ lines) (p ∷ placed) =
     words_from p.at p.words (record { number = number; label = label_of names text before p.at; text = text })
     ++ words_of names (number + 1) (label_of names text before p.at) lines placed
 
--- the words of all lines and no others; where two stand at one address, the later
+-- the words of all lines and no others; where two are at one address, the later
 abbrev pub AreLinesOf : Names → (source : List ℕ) → List PlacedLine → BTreeMap ℕ SourceLine → Type 0
 AreLinesOf names source placed lines =
     (at : ℕ) → numbered_at lines at

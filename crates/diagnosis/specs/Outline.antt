@@ -1,6 +1,6 @@
--- The tables and the values of a statement's text, line by line, as its words tell. Our own reading: it takes
--- each key and each text in quotes to end on its line, as they do in the statements that we print. What it
--- comes to for plain lines is said by `PlainLines`.
+-- The tables and the values of a statement's text, line by line, as its words say. Each key and each text in
+-- quotes is taken to end on its line, as they do in the statements that we print. What that amounts to for
+-- plain lines is said by `PlainLines`.
 use Rattle.std.specs.Prelude.{◌==◌, ◌&&◌, ◌||◌, ◌+◌, not, zero, suc, Bool, true, false, ℕ}
 use Rattle.std.specs.Prelude.{List, [], ◌∷◌, ◌++◌, length, take, drop, map}
 use Rattle.std.specs.Prelude.{Option, Some, None, if◌then◌else◌}
@@ -22,7 +22,7 @@ use Rattle.diagnosis.specs.declared.tokens.Word.TheVariants as word
 abbrev pub is_blank : ℕ → Bool
 is_blank b = b == 32 || b == 9
 
--- what stands between words: a blank, a CR, = , [ or ]
+-- what is between words: a blank, a CR, = , [ or ]
 abbrev pub is_gap : ℕ → Bool
 is_gap b = is_blank b || (b == 13 || (b == 61 || (b == 44 || (b == 91 || b == 93))))
 
@@ -42,7 +42,7 @@ abbrev pub text_of : Value → List ℕ
 text_of (Bare w) = w
 text_of (Quoted quote w) = w
 
--- a brace, a key, a value, or what stands between them
+-- a brace, a key, a value, or what is between them
 pub data Piece : Type 0 where
   Gap : Piece
   Opens : Piece
@@ -50,7 +50,7 @@ pub data Piece : Type 0 where
   Key : List ℕ → Piece
   Told : Value → Piece
 
--- how many bytes stand before the quote that ends a text; between two " a quote after \ does not
+-- how many bytes are before the quote that ends a text; between two " a quote after \ does not
 unfoldable pub quoted_len : (quote : ℕ) → (escaped : Bool) → List ℕ → ℕ
 quoted_len quote escaped [] = 0
 quoted_len quote escaped (b ∷ bs) =
@@ -64,11 +64,11 @@ starts_equals (b ∷ bs) = b == 61
 abbrev pub past_blanks : List ℕ → List ℕ
 past_blanks text = drop (prefix_len is_blank text) text
 
--- a word is a key where = stands next, else a value
+-- a word is a key where = comes next, else a value
 abbrev pub told : Value → List ℕ → Piece
 told value after = if starts_equals (past_blanks after) then Key (text_of value) else Told value
 
--- with what stands after it
+-- with what follows it
 abbrev pub word_at : Value → List ℕ → Piece × List ℕ
 word_at value after = (told value after, after)
 
@@ -81,7 +81,7 @@ quoted_at quote rest =
     (Quoted quote (take (quoted_len quote false rest) rest))
     (drop (quoted_len quote false rest + 1) rest)
 
--- what a byte begins, and what stands after that; # begins a comment
+-- what a byte begins, and what follows that; # begins a comment
 abbrev pub piece_at : ℕ → List ℕ → Piece × List ℕ
 piece_at b rest =
     if b == 35 then (Gap, [])
@@ -221,7 +221,7 @@ piece_of token.Closes = Closes
 piece_of (token.Key w) = Key w.now
 piece_of (token.Told w) = Told (value_of w)
 
--- with what stands after it
+-- with what follows it
 abbrev pub in_pieces : Token × Bor (List ℕ) → Piece × List ℕ
 in_pieces f = (piece_of f.0, f.1.now)
 

@@ -1,5 +1,5 @@
 -- What is named of a statement that is refused: first what is wrong with the whole, and then the values and
--- the tables that have the fault, in the order of the text, twenty at most. Our own format.
+-- the tables that have the fault, in the order of the text, twenty at most.
 use Rattle.std.specs.Prelude.{◌≡◌, ◌≤◌, ◌⊎◌, ◌==◌, ◌&&◌, ◌||◌, ◌%◌, ◌+◌, ◌^◌, not, nat_lt}
 use Rattle.std.specs.Prelude.{zero, suc, Bool, true, false, ℕ}
 use Rattle.std.specs.Prelude.{List, [], ◌∷◌, ◌++◌, length, take, drop, codes, decimal, count_by}
@@ -40,7 +40,7 @@ shown zero rows = []
 shown (suc n) [] = []
 shown (suc n) (row ∷ rows) = row_text row ++ shown n rows
 
--- a value as it stands in the text
+-- a value as it is in the text
 abbrev pub value_text : Value → List ℕ
 value_text (Bare w) = w
 value_text (Quoted quote w) = quote ∷ [] ++ (w ++ quote ∷ [])
@@ -89,7 +89,7 @@ takes_address key = is_among address_keys key
 
 -- ## Values
 
--- a digit, or a sign and a digit, stands first
+-- a digit, or a sign and a digit, comes first
 abbrev pub starts_digit : List ℕ → Bool
 starts_digit [] = false
 starts_digit (b ∷ bs) = is_digit b 10
@@ -197,7 +197,7 @@ target_rows t items =
     then row_if (wants_to (value_at (codes "kind") items)) (table_row t (codes " has no to") [])
     else row_if (wants_no_to (value_at (codes "kind") items)) (table_row t (codes " may have no to") [])
 
--- what the table wants, or that it stands in single brackets
+-- what the table wants, or that it is in single brackets
 abbrev pub kind_rows : Table → List Item → List Row
 kind_rows t items =
     if t.is_listed then missing_rows t items (needed_keys t.name) ++ target_rows t items
@@ -336,7 +336,7 @@ whole_rows _ items = []
 abbrev pub all_rows : Names → StatementFault → List Item → List Row
 all_rows names fault items = whole_rows fault items ++ rows names fault items
 
--- ## Of an address that stands twice, by the items before, the nearest of them first
+-- ## Of an address that occurs twice, by the items before, the nearest of them first
 
 -- the address of a value at the key in a table of the list
 abbrev pub address_as : Names → (list key : List ℕ) → Item → Option ℕ
@@ -421,7 +421,7 @@ pub record Adds (rows : List Row) (old new : Report) : Type 0 where
   pub same : (more : List Row)
       → new.text.items ++ shown new.left more ≡ old.text.items ++ shown old.left (rows ++ more)
 
--- ## Addresses come to, which clauses of private calls speak of
+-- ## Addresses so far, which clauses of private calls speak of
 
 -- of the items before: the addresses of targets and of accesses, and the destinations of the table at hand
 pub record AreTaken (names : Names) (before : List Item) (taken : Taken) : Type 0 where

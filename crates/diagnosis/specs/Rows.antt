@@ -1,5 +1,5 @@
--- Rows of places: the address, and its line of the source or its word. Our own format, which is that of the
--- assumptions that explain lists.
+-- Rows of places: the address, and its line of the source or its word, as in the assumptions that explain
+-- lists.
 use Rattle.std.specs.Prelude.{◌≡◌, ℕ, List, [], Option, Some, None}
 use Rattle.flow_graph.specs.declared.places.Place.{Place}
 use Rattle.flow_graph.specs.declared.places.Place.TheVariants.{At, Exit}
@@ -24,7 +24,7 @@ abbrev pub IsLineRow : Held → ℕ → Option SourceLine → List ℕ → Type 
 IsLineRow image at (Some line) row = row ≡ source_row at line
 IsLineRow image at None row = IsImageRow at (word_of image at) row
 
--- the row of what stands at an address
+-- the row of what is at an address
 abbrev pub IsRow : Words → ℕ → List ℕ → Type 0
 IsRow words at = IsLineRow words.image.now at (line_at words.lines at)
 

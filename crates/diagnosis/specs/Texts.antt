@@ -1,4 +1,4 @@
--- What is printed of a cycle and of an entry. Our own format.
+-- What is printed of a cycle and of an entry.
 use Rattle.std.specs.Prelude.{◌≡◌, ℕ, List, [], ◌∷◌, ◌++◌, codes, decimal, length, map, Option, Some, None}
 use Rattle.std.specs.BTreeMap.{BTreeMap}
 use Rattle.assembler.specs.declared.fault.Fault.{Fault}

@@ -1,6 +1,5 @@
 //! What the one line of a refusal has no room for: a cycle that no loop bounds, an edge that enters a loop
-//! elsewhere than at its header, how a place without edges is come to, and the lines of the source where they
-//! stand.
+//! elsewhere than at its header, how a place without edges is reached, and where these are in the source.
 #![tactic(auto)]
 
 mod crossings;

@@ -9,7 +9,7 @@ use loop_bounds::Found;
 use std::alloc::{AllocError, Global};
 use std::cmp::Reverse;
 
-/// In how many instances of loops a place may be.
+// In how many instances of loops a place may be.
 const MOST_INSTANCES: usize = 16;
 
 /// A place that is in more than sixteen instances of loops, and those.

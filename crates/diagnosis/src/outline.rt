@@ -40,7 +40,7 @@ pub(crate) enum Entry<'a> {
     End,
 }
 
-// Of a table at hand.
+/// The table at hand, by the name of its list and its last key.
 #[derive(Clone, Copy)]
 pub(crate) struct Spot<'a> {
     // the name of its list
@@ -49,7 +49,7 @@ pub(crate) struct Spot<'a> {
     key: &'a [u8],
 }
 
-// What was read of a statement's text.
+/// What was read of a statement's text.
 #[derive(Drop)]
 pub(crate) struct Reader<'a> {
     at: Spot<'a>,
@@ -157,7 +157,7 @@ impl<'a> Reader<'a> {
     }
 }
 
-// The bare word that stands first.
+// The bare word at the front.
 fn bare_word(text: &[u8]) -> &[u8]
     ensures { result.now ≡ bare_word text.now }
 {
@@ -183,7 +183,7 @@ fn header_of(line: usize, text: &[u8]) -> Option<Section<'_>>
     }
 }
 
-/// The tables and values of a statement's text, as its words tell.
+/// The tables and values of a statement's text, as its words say.
 ///
 /// # Errors
 ///

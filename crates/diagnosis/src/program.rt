@@ -6,7 +6,7 @@ use loader::{Image, Labels};
 pub struct Program<'a> {
     /// The source's bytes.
     pub source: &'a [u8],
-    /// Where each of its lines stands, in their order. An image has no lines.
+    /// Where each of its lines is placed, in their order. An image has no lines.
     pub placed: &'a [PlacedLine],
     /// Its words.
     pub image: &'a Image,

@@ -22,7 +22,7 @@ fn address_as(labels: &Labels, list: &[u8], key: &[u8], pair: &Pair<'_>) -> Opti
     None
 }
 
-// Adds the address, if there is one, and tells whether it was there.
+// Adds the address, if there is one, and says whether it was there.
 fn add(set: &mut BTreeSet<u32>, address: Option<u32>) -> Result<bool, AllocError>
     ensures known { IfOk result (λ known. known ≡ passes (contains nat_cmp set.old) address) }
     ensures added { OnOk result
@@ -37,7 +37,7 @@ fn add(set: &mut BTreeSet<u32>, address: Option<u32>) -> Result<bool, AllocError
     }
 }
 
-/// The addresses that a statement's text has come to.
+/// The addresses that a statement's text has had so far.
 #[derive(Drop)]
 pub(crate) struct Taken {
     /// Those of targets.
@@ -59,7 +59,7 @@ impl Taken {
         }
     }
 
-    // Takes a value, and tells whether its address was taken.
+    // Takes a value, and says whether its address was taken.
     fn take_value(&mut self, labels: &Labels, pair: &Pair<'_>) -> Result<bool, AllocError>
         ensures twice { (before : List Item) → AreTaken labels.now before self.old
             → IfOk result (λ twice. twice ≡ is_twice labels.now before (States (stated_of pair.now))) }
@@ -75,7 +75,7 @@ impl Taken {
         Ok(by_target | (by_access | by_destination))
     }
 
-    /// Takes an entry, and tells whether it is a value whose address was taken.
+    /// Takes an entry, and says whether it is a value whose address was taken.
     pub(crate) fn take(&mut self, labels: &Labels, entry: &Entry<'_>) -> Result<bool, AllocError>
         ensures twice { (before : List Item) → AreTaken labels.now before self.old
             → IfOk result (λ twice. twice ≡ is_twice labels.now before (item_of entry.now)) }

@@ -47,7 +47,7 @@ fn put_image_row(out: &mut Vec<u8>, at: u32, word: Option<u32>) -> Result<(), Al
 }
 
 impl Words<'_> {
-    /// Adds the row of what stands at an address: the address, and the number and the text of its line, or
+    /// Adds the row of what is at an address: the address, and the number and the text of its line, or
     /// the word and the line that the disassembler shows. It ends at column 80.
     pub(crate) fn put_row(&self, out: &mut Vec<u8>, at: u32) -> Result<(), AllocError>
         ensures { OnOk result (Appends (IsRow self.now at) out.old.items out.new.items) }

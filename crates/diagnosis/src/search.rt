@@ -25,7 +25,7 @@ pub(crate) struct Search {
     at: usize,
 }
 
-// The index of a place among the graph's; that of Exit stands after them.
+// The index of a place among the graph's; that of Exit comes after them.
 fn index_of(graph: &Graph, place: &Place) -> usize
     requires { (place.now ≡ Exit) ⊎ Contains graph.now.places place.now }
     ensures number { place_at graph.now.places result ≡ place.now }

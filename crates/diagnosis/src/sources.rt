@@ -10,7 +10,7 @@ use assembler::{AsmFault, Fault, assemble};
 use std::alloc::{AllocError, Global};
 use text_rows::{put, put_decimal};
 
-/// How many faults of a source are named at most.
+// How many faults of a source are named at most.
 const MOST_LINES: usize = 20;
 
 /// A line that cannot be assembled.
@@ -119,7 +119,7 @@ fn faults_of(alloc: Global, source: &[u8]) -> Result<Vec<FaultyLine>, AllocError
 }
 
 /// Why a source cannot be assembled: its faults, at most twenty, by their lines. The first that the assembler
-/// answers is found first, and each further one once of the lines found before it only the labels stand:
+/// answers is found first, and each further one once of the lines found before it only the labels are left:
 /// their labels serve the other lines, and a line whose label is at fault too is named again. Nothing is
 /// looked for after TooLong.
 ///

@@ -25,7 +25,7 @@ use loader::Labels;
 use std::alloc::{AllocError, Global};
 use text_rows::{put, put_decimal};
 
-/// How many lines are named at most.
+// How many lines are named at most.
 const MOST_LINES: usize = 20;
 
 const NO_ENTRY: &[u8] = b"the statement has no entry";
@@ -37,7 +37,7 @@ pub(crate) struct OpenTable<'a> {
     rest: &'a [Entry<'a>],
 }
 
-// What is printed of the lines of a statement's text, and how many more may be named.
+/// What is printed of the lines of a statement's text, and how many more may be named.
 #[derive(Drop)]
 pub(crate) struct Report {
     text: Vec<u8>,
@@ -86,7 +86,7 @@ fn needed_keys(list: &[u8]) -> &'static [&'static [u8]]
     &[]
 }
 
-// Adds a value as it stands in the text.
+// Adds a value as it is in the text.
 fn put_word(out: &mut Vec<u8>, value: Word<'_>) -> Result<(), AllocError>
     ensures { OnOk result (out.new.items ≡ out.old.items ++ value_text (value_of value.entry)) }
 {
@@ -154,7 +154,7 @@ fn put_line(out: &mut Vec<u8>, line: usize, text: &[u8]) -> Result<(), AllocErro
     put(out, b"\n")
 }
 
-// The name of a list, how many tables of it a statement may have, and what is said of the next one.
+/// The name of a list, how many tables of it a statement may have, and what is said of the next one.
 pub(crate) struct Limit {
     list: &'static [u8],
     most: usize,
@@ -179,7 +179,7 @@ const ACCESSES: Limit = Limit {
     words: b" comes after the 4096 accesses that a statement may have",
 };
 
-/// How many destinations a target may have.
+// How many destinations a target may have.
 const MOST_DESTINATIONS: usize = 64;
 
 // The first table of the list after so many.
@@ -244,7 +244,7 @@ fn value_at<'a>(entries: &[Entry<'a>], key: &[u8]) -> Option<Word<'a>>
     None
 }
 
-// What is looked for.
+/// What is looked for.
 #[derive(Clone, Copy)]
 pub(crate) struct Asked<'a> {
     alloc: Global,
@@ -449,7 +449,7 @@ impl Report {
         }
     }
 
-    // Adds what a table wants, or that it stands in single brackets.
+    // Adds what a table wants, or that it is in single brackets.
     #[tactic(auto, using(crate::proofs::RefusedLemmas::adds_both))]
     fn put_kinds(&mut self, alloc: Global, table: &OpenTable<'_>) -> Result<(), AllocError>
         ensures { OnOk result
@@ -573,7 +573,7 @@ impl Report {
         Ok(())
     }
 
-    // Adds the values whose address stands before them.
+    // Adds the values whose address an earlier one has.
     #[tactic(auto, unfolding(crate::specs::Refused::twice_rows))]
     fn put_twice(&mut self, asked: &Asked<'_>, entries: &[Entry<'_>]) -> Result<(), AllocError>
         ensures { OnOk result
@@ -669,7 +669,7 @@ fn rows_text(asked: &Asked<'_>, text: &[u8]) -> Result<Vec<u8>, AllocError>
     Ok(report.text)
 }
 
-// The rows of the values whose address stands twice.
+// The rows of the values whose address occurs twice.
 #[tactic(auto, using(crate::proofs::RefusedLemmas::all_added))]
 fn twice_text(asked: &Asked<'_>, text: &[u8]) -> Result<Vec<u8>, AllocError>
     ensures { IfOk result

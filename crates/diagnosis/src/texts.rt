@@ -211,7 +211,7 @@ pub fn crossing_text(
     Ok(out)
 }
 
-// What stands above a place in so many loops.
+// The text above a place in so many loops.
 fn in_loops(alloc: Global, count: usize) -> Result<Vec<u8>, AllocError>
     ensures { IfOk result (λ text. text.items ≡ in_loops count) }
 {
@@ -302,7 +302,7 @@ fn row_text(alloc: Global, words: &Words<'_>, place: &Place) -> Result<Vec<u8>, 
 }
 
 /// Why a place has no edges: the nine calls that are one inside another, the word that leads to a place where
-/// none stands, or else the word of the place.
+/// there is none, or else the word of the place.
 ///
 /// # Errors
 ///

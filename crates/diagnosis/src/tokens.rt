@@ -10,14 +10,14 @@ ghost use Rattle.diagnosis.specs.Outline.{starts_equals, text_of, told, value_of
 pub(crate) enum Word<'a> {
     /// A bare one.
     Bare(&'a [u8]),
-    /// A text, and the quote that stands before and after it.
+    /// A text, and the quote that is before and after it.
     Quoted(u8, &'a [u8]),
 }
 
 /// A part of a line of a statement's text.
 #[derive(Clone, Copy)]
 pub(crate) enum Token<'a> {
-    /// What stands between the others: a blank, a mark, or a comment.
+    /// What is between the others: a blank, a mark, or a comment.
     Gap,
     /// `{`.
     Opens,
@@ -67,7 +67,7 @@ fn bare_len(text: &[u8]) -> usize
     text.iter().take_while(|byte| is_bare(**byte)).count()
 }
 
-/// What stands after the blanks at the front.
+/// What follows the blanks at the front.
 pub(crate) fn past_blanks(text: &[u8]) -> &[u8]
     ensures { result.now ≡ past_blanks text.now }
 {
@@ -81,7 +81,7 @@ pub(crate) fn bare_front(text: &[u8]) -> &[u8]
     &text[..bare_len(text)]
 }
 
-// How many bytes stand before the quote that ends a text, or before the line's end.
+// How many bytes are before the quote that ends a text, or before the line's end.
 #[tactic(auto, unfolding(crate::specs::Outline::quoted_len))]
 fn quoted_len(quote: u8, text: &[u8]) -> usize
     ensures len { result ≡ quoted_len quote false text.now }
@@ -99,7 +99,7 @@ fn quoted_len(quote: u8, text: &[u8]) -> usize
     len
 }
 
-// What stands after the first bytes, if there are more.
+// What follows the first bytes, if there are more.
 fn after(text: &[u8], len: usize) -> &[u8]
     ensures { result.now ≡ drop len text.now }
 {
@@ -134,7 +134,7 @@ fn told<'a>(word: Word<'a>, after: &[u8]) -> Token<'a>
     Token::Told(word)
 }
 
-// The token of a text in quotes, behind its first quote, and what stands after it.
+// The token of a text in quotes, after its first quote, and what follows it.
 fn quoted_at(quote: u8, rest: &[u8]) -> (Token<'_>, &[u8])
     ensures { in_pieces result ≡ quoted_at quote rest.now }
 {
@@ -143,7 +143,7 @@ fn quoted_at(quote: u8, rest: &[u8]) -> (Token<'_>, &[u8])
     (told(Word::Quoted(quote, &rest[..len]), after), after)
 }
 
-// The token of a bare word, and what stands after it.
+// The token of a bare word, and what follows it.
 fn bare_at(text: &[u8]) -> (Token<'_>, &[u8])
     ensures { in_pieces result ≡ bare_at text.now }
 {
@@ -152,7 +152,7 @@ fn bare_at(text: &[u8]) -> (Token<'_>, &[u8])
     (told(Word::Bare(&text[..len]), after), after)
 }
 
-/// The first token of a line's text, and what stands after it, or None at its end.
+/// The first token of a line's text, and what follows it, or None at its end.
 pub(crate) fn next_token(text: &[u8]) -> Option<(Token<'_>, &[u8])>
     ensures { option_map in_pieces result ≡ first_piece text.now }
 {

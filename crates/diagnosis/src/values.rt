@@ -11,7 +11,7 @@ use asm_text::read_number;
 use bus_ticks::SPACE_END;
 use loader::Labels;
 
-/// The highest bound of a loop.
+// The highest bound of a loop.
 const MOST_ROUNDS: u32 = 1_048_576;
 
 /// Whether the word is one of those.

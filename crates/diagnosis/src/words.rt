@@ -45,7 +45,7 @@ fn word_len(text: &[u8]) -> usize
     text.iter().take_while(|b| is_in_word(**b)).count()
 }
 
-/// What stands in the first column, up to a blank or a comment.
+/// What is in the first column, up to a blank or a comment.
 pub(crate) fn first_word(text: &[u8]) -> &[u8]
     ensures { result.now ≡ first_word text.now }
 {
@@ -130,7 +130,7 @@ fn lines_of<'a>(
     Ok(lines)
 }
 
-/// The lines of the words. The label of a word may also stand alone in a line before.
+/// The lines of the words. The label of a word may also be alone in a line before.
 ///
 /// # Errors
 ///

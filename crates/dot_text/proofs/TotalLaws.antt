@@ -87,9 +87,9 @@ module _ (at : ℕ → ℕ) (n : ℕ) (inside : (k : ℕ) → k < n → at k < n
       moved : (k : ℕ) → k < n → (j : ℕ) → k ≡ j → at j < n
       moved k lt j is = inside j (omega (arith, lt, is))
 
--- ## Sums told up to a greatest number
+-- ## Sums counted up to a greatest number
 
--- at most, and told up to the greatest number the same
+-- at most, and counted up to the greatest number the same
 abbrev Tells : ℕ → ℕ → Type 0
 Tells m n = (m ≤ n) × (capped m ≡ capped n)
 

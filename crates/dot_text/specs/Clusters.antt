@@ -1,5 +1,5 @@
 -- Clusters of a drawing: one for each list of calls, and one for each instance of a loop. A cluster that is
--- named again is the same one. Our own choice of what the DOT language offers (Graphviz).
+-- named again is the same one (a choice of what the DOT language of Graphviz offers).
 use Rattle.std.specs.Prelude.{ℕ, ◌+◌, max, min, List, [], ◌∷◌, ◌++◌, length, take, replicate, reverse}
 use Rattle.std.specs.Prelude.{slice_index, codes, decimal}
 use Rattle.std.specs.List.{flat_map}

@@ -12,7 +12,7 @@ use Rattle.drafting.specs.declared.words.Way.TheVariants as way
 use Rattle.loader.specs.Image.{Words, word_of}
 use borrow.Author.Count.{below_more, below_none}
 
--- one of the first so many places of the table behind a word
+-- one of the first so many places of the table after a word
 abbrev pub IsPlaceBelow : ℕ → ℕ → ℕ → Type 0
 IsPlaceBelow at n a = (k : ℕ) × (k < n) × (a ≡ words_on at k)
 
@@ -76,7 +76,7 @@ module _ (words : Words) (at : ℕ) where
     (λ place. place.few),
   )
 
-  -- the places of the table behind a word are all others to which it leads
+  -- the places of the table after a word are all others to which it leads
   pub places_lead : (count n : ℕ) → HasPlaces words at count → count ≤ n → n ≤ count → (to : ℕ)
       → IsPlaceBelow at n to ↔ LeadsAway words at way.Writer to
   places_lead count n has all few to = (

@@ -1,4 +1,4 @@
--- The text of a draft, of what was found. Our own format.
+-- The text of a draft, of what was found.
 use Rattle.std.specs.Prelude.{ℕ, zero, suc, ◌*◌, ◌==◌, if◌then◌else◌, List, [], ◌∷◌, ◌++◌, length}
 use Rattle.std.specs.Prelude.{replicate}
 use Rattle.std.specs.Prelude.{codes, decimal, Option, Some, None}
@@ -41,7 +41,7 @@ abbrev pub words_from : ℕ → ℕ → List ℕ
 words_from at zero = []
 words_from at (suc more) = at ∷ words_from (ahead_of at 4) more
 
--- ## What stands at the addresses
+-- ## What is at the addresses
 
 module _ (lines : Lines) where
   -- a key and an address, that many columns in

@@ -1,4 +1,4 @@
--- What the search for addresses does at each step. No part of what a draft is: it stands here since clauses
+-- What the search for addresses does at each step. No part of what a draft is: it is here since clauses
 -- of private functions cite it, and a clause may cite definitions of specs/ alone.
 use Rattle.std.specs.Prelude.{◌≡◌, ◌⊎◌, ℕ, ◌<◌, ◌≤◌, List, [], ◌∷◌, ◌++◌, length, Contains, IsTrue, ◌↔◌}
 use Rattle.std.specs.BTreeSet.{BTreeSet, contains, btree_set_len}

@@ -1,5 +1,5 @@
--- Where control goes from the words of a handler, as far as they show it. Source: the VL86C010 data sheet,
--- and our own choice of shapes.
+-- Where control goes from the words of a handler, as far as they show it (VL86C010 data sheet, but for the
+-- choice of shapes).
 use Rattle.std.specs.Prelude.{◌≡◌, ◌⊎◌, ◌↔◌, ℕ, ◌+◌, ◌-◌, ◌*◌, ◌^◌, ◌<◌, ◌≤◌, true, false}
 use Rattle.std.specs.Prelude.{if◌then◌else◌, List, length, Contains, Some}
 use Rattle.arm2_decode.specs.Table.{IsUnallocated, Means}
@@ -53,7 +53,7 @@ next_of at = ahead_of at 4
 abbrev pub before : ℕ → ℕ
 before at = ahead_of at (2 ^ 26 - 4)
 
--- so many words from 8 bytes on: where a branch leads, and where the places of a table stand
+-- so many words from 8 bytes on: where a branch leads, and where the places of a table are
 abbrev pub words_on : ℕ → ℕ → ℕ
 words_on at count = ahead_of (at + 8) (4 * count)
 
@@ -70,7 +70,7 @@ module _ (words : Words) where
     pub stands : word_of words at ≡ Some word
     pub shows : IsReading word r
 
-  -- a branch without link stands there, which is always carried out
+  -- a branch without link is there, which is always carried out
   pub record IsBranchAt (at : ℕ) : Type 0 where
     pub reading : Reading
     pub has : HasReading at reading
@@ -78,7 +78,7 @@ module _ (words : Words) where
     pub offset : ℕ
     pub branches : reading.way ≡ way.Branch offset
 
-  -- a jump into a table of branches stands there
+  -- a jump into a table of branches is there
   abbrev pub JumpsIntoTable : ℕ → Type 0
   JumpsIntoTable at = HasShape is_table_jump words at
 
@@ -86,7 +86,7 @@ module _ (words : Words) where
   abbrev pub KeepsWayBack : ℕ → Type 0
   KeepsWayBack at = HasShape is_way_back words (before at)
 
-  -- a place of the table behind a jump, from 0 on: up to it all are branches, and a table has 64 at most
+  -- a place of the table after a jump, from 0 on: up to it all are branches, and a table has 64 at most
   pub record IsTablePlace (at n : ℕ) : Type 0 where
     pub jumps : JumpsIntoTable at
     pub few : n < 64
@@ -96,7 +96,7 @@ module _ (words : Words) where
   abbrev pub HasPlaces : ℕ → ℕ → Type 0
   HasPlaces at count = (n : ℕ) → (n < count) ↔ IsTablePlace at n
 
-  -- control comes to the next word past one that is carried out: at once, or back from where that one leads
+  -- control reaches the next word past one that is carried out: at once, or back from where that one leads
   abbrev pub ComesPast : ℕ → Way → Type 0
   ComesPast at way.On = Unit {0}
   ComesPast at (way.Call offset) = Unit {0}
@@ -128,7 +128,7 @@ module _ (words : Words) where
   abbrev pub CallsTo : ℕ → ℕ → Type 0
   CallsTo at to = (r : Reading) × HasReading at r × (is_never r.cond ≡ false) × Calls at r.way to
 
-  -- a word stands there, and by it control may go to the other address
+  -- a word is there, and by it control may go to the other address
   abbrev pub LeadsTo : ℕ → ℕ → Type 0
   LeadsTo at to = StepsTo at to ⊎ CallsTo at to
 

@@ -23,7 +23,7 @@ impl Constants {
         self.words[register.number() as usize]
     }
 
-    // What an operation with an immediate operand gives.
+    // The result of an operation with an immediate operand.
     fn given(&self, x: &DataImmediate, at: u32) -> Option<u32> {
         let operand = immediate(x);
         if x.opcode == Opcode::Mov {

@@ -6,10 +6,10 @@ use arm2_decode::{Cond, DataImmediate, Opcode, Operation, Register};
 use loader::Image;
 use word_shapes::instr_at;
 
-/// How many words before a loop are looked at for the one that sets its counter.
+// How many words before a loop are looked at for the one that sets its counter.
 const WORDS_BEFORE: u32 = 16;
 
-/// The most rounds of a stated loop.
+// The most rounds of a stated loop.
 const MOST_TURNS: u32 = 1_048_576;
 
 /// The number of an immediate operand.
@@ -47,7 +47,7 @@ fn may_write(image: &Image, at: u32, register: Register) -> bool {
     }
 }
 
-// The number that a register has where control comes to an address straight on.
+// The number that a register has where control reaches an address straight on.
 fn set_before(image: &Image, reach: &Reached, at: u32, register: Register) -> Option<u32> {
     let mut at = at;
     for _ in 0..WORDS_BEFORE {

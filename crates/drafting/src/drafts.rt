@@ -88,7 +88,7 @@ fn text_of(
     Ok(out)
 }
 
-// The draft, where the lines stand by their addresses.
+// The draft, where the lines are found by their addresses.
 fn draft_by_lines(
     alloc: Global,
     program: &Program,

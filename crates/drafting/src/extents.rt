@@ -78,7 +78,7 @@ pub(crate) fn natural_loop(
     }))
 }
 
-// Whether two addresses were come to in one routine.
+// Whether two addresses were reached in one routine.
 fn are_of_one(descent: &Descent, one: u32, other: u32) -> bool {
     descent.routines.get(&one) == descent.routines.get(&other)
 }

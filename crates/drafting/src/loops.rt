@@ -6,7 +6,7 @@ use crate::reach::{Reached, pairs_at};
 use loader::Image;
 use std::alloc::{AllocError, Global};
 
-/// The most loops of a statement.
+// The most loops of a statement.
 const MOST_LOOPS: usize = 256;
 
 /// The loops, outer ones before those inside them, and the addresses to which cycles turn back that no loop
@@ -37,7 +37,7 @@ fn widen(loops: &mut [FoundLoop], inner: &FoundLoop) -> u32 {
     depth
 }
 
-// Finds how many loops lie around each, of loops of which the outer ones stand first. One that ends inside a
+// Finds how many loops lie around each, of loops of which the outer ones come first. One that ends inside a
 // later one is made to hold it.
 fn nest(loops: &mut [FoundLoop]) {
     for next in 0..loops.len() {
@@ -48,7 +48,7 @@ fn nest(loops: &mut [FoundLoop]) {
 }
 
 impl Loops {
-    // Adds the loop of a header to others, as far as its members tell, or its cycle.
+    // Adds the loop of a header to others, as far as its members show, or its cycle.
     fn add_natural(
         &mut self,
         natural: &mut Vec<FoundLoop>,
@@ -70,7 +70,7 @@ impl Loops {
         Ok(())
     }
 
-    // The loops, as far as their members tell. Adds the other cycles.
+    // The loops, as far as their members show. Adds the other cycles.
     fn natural_loops(
         &mut self,
         alloc: Global,

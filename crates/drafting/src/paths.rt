@@ -2,7 +2,7 @@ use crate::reach::{Reached, pairs_at};
 use std::alloc::{AllocError, Global};
 use std::collections::{BTreeMap, BTreeSet};
 
-/// The routine in which a search came to each address, and the steps that lead back to an address on the
+/// The routine in which a search reached each address, and the steps that lead back to an address on the
 /// path by which the search came: each by where it ends and where it comes from.
 #[derive(Drop)]
 pub(crate) struct Descent {
@@ -15,14 +15,14 @@ pub(crate) struct Descent {
 struct Search<'a> {
     leaving: &'a [(u32, u32)],
     descent: Descent,
-    // The addresses that were come to and are no longer on the path.
+    // The addresses that were reached and are no longer on the path.
     left: BTreeSet<u32>,
     // The addresses on the path, each with its steps that are not yet taken.
     path: Vec<(u32, &'a [(u32, u32)])>,
 }
 
 impl<'a> Search<'a> {
-    // Takes a step: goes down to an address that was not come to before.
+    // Takes a step: goes down to an address that was not reached before.
     fn step(&mut self, from: u32, to: u32, routine: u32) -> Result<(), AllocError> {
         if !self.descent.routines.contains_key(&to) {
             self.descent.routines.insert(to, routine)?;
@@ -52,7 +52,7 @@ impl<'a> Search<'a> {
         }
     }
 
-    // Searches a routine that was not come to before. Each turn takes a step or goes back up, of which there
+    // Searches a routine that was not reached before. Each turn takes a step or goes back up, of which there
     // are far fewer than turns. No address is on the path before, so that the first step is none back.
     fn search(&mut self, routine: u32) -> Result<(), AllocError> {
         self.step(routine, routine, routine)?;

@@ -7,7 +7,7 @@ use asm_text::hex8;
 use std::alloc::AllocError;
 use text_rows::{put, put_decimal, put_labelled};
 
-/// The most columns of a row that ends in a comment.
+// The most columns of a row that ends in a comment.
 const COLUMNS: usize = 80;
 
 /// Adds an address in eight hexadecimal digits.

@@ -21,7 +21,7 @@ pub(crate) struct SourceLine<'a> {
 /// The lines by the addresses of their first words.
 pub(crate) type SourceLines<'a> = BTreeMap<u32, SourceLine<'a>>;
 
-// How many bytes stand in front of the first of some others, or all.
+// How many bytes are in front of the first of some others, or all.
 fn len_before(text: &[u8], ends: &[u8]) -> usize
     ensures { result ≤ length text.now }
 {
@@ -33,12 +33,12 @@ fn len_before(text: &[u8], ends: &[u8]) -> usize
     text.len()
 }
 
-// What stands in the first column, up to a blank or a comment.
+// What is in the first column, up to a blank or a comment.
 fn first_word(text: &[u8]) -> &[u8] {
     &text[..len_before(text, b" \t;")]
 }
 
-// What stands in front of a comment, without the blanks at its end.
+// What is in front of a comment, without the blanks at its end.
 fn without_comment(text: &[u8]) -> &[u8] {
     text[..len_before(text, b";")].trim_ascii_end()
 }
@@ -83,7 +83,7 @@ fn add_line<'a>(
     Ok(())
 }
 
-// Adds the lines that have words. A label may also stand alone in a line before.
+// Adds the lines that have words. A label may also be alone in a line before.
 fn add_lines<'a>(lines: &mut SourceLines<'a>, program: &Program<'a>) -> Result<(), AllocError>
     ensures { OnOk result
         (AreNamed program.now.labels.now (lines_of lines.old)

@@ -29,7 +29,7 @@ struct Table {
     branches: u32,
 }
 
-/// What stands at the addresses.
+/// What is at the addresses.
 #[derive(Drop)]
 pub struct Sheet<'s, 'a> {
     pub lines: &'s SourceLines<'a>,
@@ -43,7 +43,7 @@ impl<'a> Sheet<'_, 'a> {
         self.lines.get(&at).copied()
     }
 
-    // Adds a key with an address, beside the line that stands there.
+    // Adds a key with an address, beside the line that is there.
     fn put_place(
         &self,
         out: &mut Vec<u8>,
@@ -75,7 +75,7 @@ impl<'a> Sheet<'_, 'a> {
         end_row(out, start, self.line(at))
     }
 
-    // Adds an address between two texts, beside the line that stands there.
+    // Adds an address between two texts, beside the line that is there.
     fn put_element(
         &self,
         out: &mut Vec<u8>,

@@ -12,7 +12,7 @@ use loader::Image;
 use std::alloc::AllocError;
 use word_shapes::{is_always, is_never, is_table_jump_at, is_way_back_at};
 
-/// The most destinations of a target.
+// The most destinations of a target.
 const MOST_BRANCHES: u32 = 64;
 
 /// The address so many bytes on, which wraps at [`SPACE_END`].
@@ -30,7 +30,7 @@ pub(crate) fn before(address: u32) -> u32
     ahead_of(address, SPACE_END - 4)
 }
 
-// The address so many words from 8 bytes on: where a branch leads, and where the places of a table stand.
+// The address so many words from 8 bytes on: where a branch leads, and where the places of a table are.
 fn words_on(at: u32, count: u32) -> u32
     ensures { result ≡ words_on at count }
 {
@@ -47,7 +47,7 @@ fn is_branch(image: &Image, at: u32) -> bool
     }
 }
 
-/// How many branches stand behind a word that jumps into them, from the second word after it on.
+/// How many branches follow a word that jumps into them, from the second word after it on.
 pub(crate) fn table_len(image: &Image, at: u32) -> u32
     ensures { HasPlaces image.now at result }
 {
@@ -62,7 +62,7 @@ pub(crate) fn table_len(image: &Image, at: u32) -> u32
     MOST_BRANCHES
 }
 
-// Adds the addresses of the branches of the table behind a word.
+// Adds the addresses of the branches of the table after a word.
 fn push_table(out: &mut Vec<u32>, image: &Image, at: u32) -> Result<(), AllocError>
     ensures { OnOk result (Gains (LeadsAway image.now at Writer) out.old.items out.new.items) }
 {

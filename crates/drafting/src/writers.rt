@@ -14,7 +14,7 @@ use word_shapes::is_odd_writer_at;
 #[derive(Clone, Copy)]
 pub struct FoundTarget {
     pub at: u32,
-    /// How many branches stand from 8 bytes on, where it jumps into them.
+    /// How many branches there are from 8 bytes on, where it jumps into them.
     pub branches: u32,
 }
 

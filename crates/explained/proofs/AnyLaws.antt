@@ -8,7 +8,7 @@ use Rattle.std.proofs.lemmas.List.{take_all}
 use Rattle.std.proofs.lemmas.List.Folds.{list_any_more}
 
 module _ {X : Type 0} (p : ℕ → X → Bool) (xs : List X) where
-  -- of the first so many elements one passes the test of each number exactly where that is told
+  -- of the first so many elements one passes the test of each number exactly where `told` says so
   abbrev pub AreTold : (ℕ → Bool) → ℕ → Type 0
   AreTold told k = (a : ℕ) → (told a ≡ true) ↔ (list_any (p a) (take k xs) ≡ true)
 

@@ -16,7 +16,7 @@ use Rattle.explained.specs.declared.leaving.EdgeKind.TheVariants.{LeadsOut}
 use Rattle.explained.specs.declared.pricing.Pricing.{Pricing}
 
 module _ (words : Words) (st : Stated) (leaving : ℕ → Bool) where
-  -- it is told of the first places
+  -- it is said of the first places
   pub record AreTold (places : List Place) (priced : ℕ → Option Pricing) : Type 0 where
     pub reached : (a : ℕ) → is_reached places a ≡ true → (p : Pricing) × (priced a ≡ Some p) × IsPricedBy words st leaving a p
     pub other : (a : ℕ) → is_reached places a ≡ false → priced a ≡ None

@@ -34,7 +34,7 @@ use Rattle.text_rows.specs.Lines.{addresses}
 use Rattle.explained.specs.Table.{words_of}
 use Rattle.explained.specs.Taken.{AreOnWords, StandOnce, is_at}
 
--- how often an address stands in a list
+-- how often an address is in a list
 abbrev times : ℕ → List ℕ → ℕ
 times b all = count_by (λ a. b == a) all
 
@@ -59,7 +59,7 @@ one_else b x is = ap (λ t. cond {A = ℕ} t 1 0) is
 
 -- ## Words
 
--- a word more stands once more
+-- a word that is added is there once more
 put_once : (b : ℕ) (words : Words) (a w : ℕ) → times b (ats (with_word words a w)) ≡ one b a + times b (ats words)
 put_once b [] a w = first b a []
 put_once b (e ∷ rest) a w =
@@ -163,7 +163,7 @@ same_lines reads before (line ∷ lines) (p ∷ said) (q ∷ other) a b =
 exactly : (n m : ℕ) → 1 ≤ n → n ≡ m → m ≤ 1 → m ≡ 1
 exactly n m some same few = omega (arith, some, same, few)
 
--- what stands once at each word holds each place once
+-- what is once at each word holds each place once
 stand : (words : Words) (flow_places : List Place) (all : List ℕ) → AreOnWords words flow_places → ((b : ℕ) → times b (ats words) ≡ times b all) → ((b : ℕ) → times b all ≤ 1)
     → (p : Place) → (p ≡ Exit → ⊥) → Contains flow_places p → count_by (λ a. is_at a p) all ≡ 1
 stand words flow_places all on same few Exit not_exit has = absurd (not_exit refl)

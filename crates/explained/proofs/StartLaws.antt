@@ -24,7 +24,7 @@ module _ (places : List Place) (starts : List ℕ) where
   abbrev front_at : ℕ → ℕ → List ℕ
   front_at k a = map (λ (e : Place × ℕ). e.1) (filter (λ (e : Place × ℕ). is_at a e.0) (take k (zip places starts)))
 
-  -- their greatest starts are told
+  -- `told` says the greatest of them
   abbrev pub AreTold : ℕ → (ℕ → Option ℕ) → Type 0
   AreTold k told = (a : ℕ) → told a ≡ greatest_of (front_at k a)
 

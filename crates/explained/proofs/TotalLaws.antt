@@ -137,7 +137,7 @@ module _ (flow : Flow) (walk : List Edge) (well : IsWellFormed flow) (on : All (
       (λ never. ap (λ b. ticks_of (if b then Some (taken_of flow.edges walk (length flow.edges) a) else None)) never ∙ sym (none_leaves a never))
       (cases_Bool (is_reached flow.places a))
 
-  -- the ticks at addresses at which each place stands once
+  -- the ticks at addresses at which each place is once
   all_ticks : (all : List ℕ) → StandOnce flow.places all → sum_by (λ a. ticks_of (taken_at flow walk a)) all ≡ cost_of edge_shape walk
   all_ticks all once =
       (λ i. sum_by (λ a. ticks_of_walk a i) all) ∙ exchanged cost_at all walk

@@ -1,4 +1,4 @@
--- The columns of the table of a bound. Our own format.
+-- The columns of the table of a bound.
 use Rattle.std.specs.Prelude.{ℕ, ◌*◌, ◌/◌, ◌%◌, max, List, ◌++◌, codes, decimal}
 use Rattle.text_rows.specs.Columns.{in_columns}
 

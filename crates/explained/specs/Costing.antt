@@ -1,4 +1,4 @@
--- What the rows of a table are made of. No part of the table: it stands here since clauses of private
+-- What the rows of a table are made of. No part of the table: it is here since clauses of private
 -- functions cite it.
 use Rattle.std.specs.Prelude.{◌≡◌, ℕ, List}
 use Rattle.std.specs.BTreeMap.{get}

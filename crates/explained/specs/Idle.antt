@@ -1,4 +1,4 @@
--- The entries of a statement without effect on a bound. Our own rules, and our own format.
+-- The entries of a statement without effect on a bound.
 use Rattle.std.specs.Prelude.{◌≡◌, ℕ, Bool, true, false, List, [], ◌++◌, codes}
 use Rattle.std.specs.List.{list_any}
 use Rattle.std.specs.Map.{keys_of}

@@ -1,4 +1,4 @@
--- Returns by an R14 that a call has overwritten. Our own rules; what writes R14 is the VL86C010 data sheet's.
+-- Returns by an R14 that a call has overwritten. What writes R14 is the VL86C010 data sheet's.
 use Rattle.std.specs.Prelude.{◌≡◌, ◌↔◌, ℕ, ◌/◌, ◌%◌, ◌^◌, Bool, true, false, not, ◌&&◌, ◌||◌, ◌==◌, nat_lt}
 use Rattle.std.specs.Prelude.{if◌then◌else◌, List, length, Contains, Option, Some, None}
 use Rattle.std.specs.List.Sorted.{IsStrictlySortedBy}
@@ -62,7 +62,7 @@ returns_by_link o = writes_pc o && (is_return o && not (is_transfer o))
 abbrev pub may_return_by_link : Instr → Bool
 may_return_by_link i = not (is_never i.cond) && returns_by_link i.operation
 
--- such an instruction stands at the address
+-- such an instruction is at the address
 pub record MayReturnByLink (image : Words) (a : ℕ) : Type 0 where
   pub instr : Instr
   pub there : HasInstr image a instr

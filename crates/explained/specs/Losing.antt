@@ -1,4 +1,4 @@
--- What the search for places where R14 is lost does at each step. No part of what is told: it stands here
+-- What the search for places where R14 is lost does at each step. No part of what is reported: it is here
 -- since clauses of private functions cite it.
 use Rattle.std.specs.Prelude.{◌≡◌, ◌⊎◌, ◌↔◌, List, [], ◌∷◌, ◌++◌, length, Contains, IsTrue, Some}
 use Rattle.std.specs.BTreeSet.{BTreeSet, contains, btree_set_len}

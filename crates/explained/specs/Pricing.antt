@@ -1,4 +1,4 @@
--- What the price of a word takes for granted. Our own rules, and our own format.
+-- What the price of a word takes for granted.
 use Rattle.std.specs.Prelude.{◌≡◌, ℕ, true, false, if◌then◌else◌, List, [], ◌++◌, codes, Option, Some, None}
 use Rattle.arm2_decode.specs.declared.instr.Instr.{Instr}
 use Rattle.arm2_decode.specs.declared.instr.Operation.{Operation}
@@ -48,7 +48,7 @@ pub record IsPricing (words : Words) (st : Stated) (flow : Flow) (a : ℕ) (p : 
   pub granted : IsGranted words st a p.granted
   pub leave : p.leave ≡ (if is_left_on LeadsOut flow.edges a then Some st.leave else None)
 
--- so it is told of each address where the graph has a place, and of no other
+-- so it is said of each address where the graph has a place, and of no other
 pub record ArePriced (words : Words) (st : Stated) (flow : Flow) (priced : ℕ → Option Pricing) : Type 0 where
   pub reached : (a : ℕ) → is_reached flow.places a ≡ true
       → (p : Pricing) × (priced a ≡ Some p) × IsPricing words st flow a p

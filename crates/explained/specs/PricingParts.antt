@@ -1,4 +1,4 @@
--- What is told of prices at each step. No part of the table: it stands here since clauses of private
+-- What is said of prices at each step. No part of the table: it is here since clauses of private
 -- functions cite it.
 use Rattle.std.specs.Prelude.{◌≡◌, ℕ, Bool, true, false, if◌then◌else◌, Option, Some, None}
 use Rattle.flow_graph.specs.declared.places.Place.{Place}
@@ -13,7 +13,7 @@ pub record IsPricedBy (words : Words) (st : Stated) (leaving : ℕ → Bool) (a 
   pub granted : IsGranted words st a p.granted
   pub leave : p.leave ≡ (if leaving a then Some st.leave else None)
 
--- it is told of the place's address too
+-- it is said of the place's address too
 pub record Prices (words : Words) (st : Stated) (leaving : ℕ → Bool) (place : Place)
     (old new : ℕ → Option Pricing) : Type 0 where
   pub here : (a : ℕ) → is_at a place ≡ true

@@ -1,4 +1,4 @@
--- When words begin at the latest. Our own rules.
+-- When words begin at the latest.
 use Rattle.std.specs.Prelude.{◌≡◌, ℕ, ◌≤◌, true, max, if◌then◌else◌, List, map, filter, fold, Option}
 use Rattle.std.specs.Prelude.{Some, None}
 use Rattle.std.specs.List.{zip}
@@ -35,7 +35,7 @@ Begins place start old new = (a : ℕ) → new a ≡ (if is_at a place then late
 
 -- ## Walks
 
--- a walk from the entry that keeps the bounds of the loops comes to the address after so many ticks
+-- a walk from the entry that keeps the bounds of the loops reaches the address after so many ticks
 pub record ComesAt (flow : Flow) (tree : Tree) (a n : ℕ) : Type 0 where
   pub place : Place
   pub there : is_at a place ≡ true

@@ -1,4 +1,4 @@
--- The table of a bound. Our own format.
+-- The table of a bound.
 use Rattle.std.specs.Prelude.{◌≡◌, ℕ, Bool, ◌==◌, if◌then◌else◌, List, [], ◌++◌, codes}
 use Rattle.std.specs.Prelude.{decimal, sum_by, Option, Some, None, is_some}
 use Rattle.std.specs.List.{list_any}
@@ -68,7 +68,7 @@ module _ (taken : ℕ → Option Taken) where
 
 -- ## Rows
 
--- the ticks of a pass: one number, or from the least to the greatest; nothing is told where the walk never
+-- the ticks of a pass: one number, or from the least to the greatest; nothing is said where the walk never
 -- passes
 abbrev pub each_text : Option Costs → List ℕ
 each_text None = codes "-"
@@ -132,7 +132,7 @@ heading = codes "passes  each  ticks  share latest priced as line  text\n"
 abbrev pub table_end : (total bound : ℕ) → List ℕ
 table_end total bound = total_row total bound ++ bound_line bound
 
--- of a source whose lines stand so
+-- of a source whose lines are placed so
 abbrev pub source_table : (ℕ → Option Taken) → (latest : ℕ → Option ℕ) → (ℕ → Option Pricing) → ℕ → List ℕ
     → List PlacedLine → List ℕ
 source_table taken latest priced bound source placed =

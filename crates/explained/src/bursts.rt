@@ -99,7 +99,7 @@ fn put_every_line(
 /// What DMA bursts add to a bound in ticks, by the profile's price of a burst: a line with the ticks of the
 /// bound and so many bursts, and a line with those where a burst comes every so many ticks. The latter are
 /// the bound and the fewest bursts after which none comes before the end; where bursts come so often that
-/// there is no end, the line says so. No line stands for a number that is not given.
+/// there is no end, the line says so. A number that is not given has no line.
 ///
 /// # Errors
 ///

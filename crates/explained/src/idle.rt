@@ -164,7 +164,7 @@ fn idle_rows(alloc: Global, handler: StatedGraph<'_>) -> Result<Vec<u8>, AllocEr
 }
 
 /// The entries of a statement that have no effect on the bound: loops in which nothing turns back, targets
-/// of words that are never carried out, and accesses of words that never load or store. Each is told by the
+/// of words that are never carried out, and accesses of words that never load or store. Each is named by the
 /// address that it names, a loop by its header's, in the order of the statement. Nothing where each entry
 /// has an effect.
 ///

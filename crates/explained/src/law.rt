@@ -43,7 +43,7 @@ pub fn numbers_are_of_the_walk()
         })) }
 {}
 
-/// States that the ticks of all rows are what the walk costs, if each place of the graph stands at one word
+/// States that the ticks of all rows are what the walk costs, if each place of the graph is at one word
 /// of the lines, or of the image. It does nothing.
 pub fn totals_are_the_bound()
     ensures source { (flow : Flow) (tree : Tree) (cost : ℕ) (items : List Item) (placed : List PlacedLine)
@@ -56,8 +56,8 @@ pub fn totals_are_the_bound()
         → image_ticks (taken_at flow (unfolded items)) words ≡ cost }
 {}
 
-/// States that each place of a graph that is not refused stands at one word: of the lines of a source that is
-/// assembled, each where it stands, and of an image that is read. It does nothing.
+/// States that each place of a graph that is not refused is at one word: of the lines of a source that is
+/// assembled, each where it is placed, and of an image that is read. It does nothing.
 pub fn places_stand_once()
     ensures words { (words : Words) (stated : Stated) (profile : Profile) (flow : Flow)
         → IsFlowGraph words stated profile flow

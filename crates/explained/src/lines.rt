@@ -16,7 +16,7 @@ use std::alloc::{AllocError, Global};
 use std::collections::BTreeMap;
 use text_rows::{put, put_number, put_right};
 
-/// What stands in the columns of a row.
+/// What is in the columns of a row.
 #[derive(Clone, Copy)]
 pub(crate) struct Columns {
     /// What the walk takes there; None where the graph has no place.
@@ -62,7 +62,7 @@ impl Costing {
         })
     }
 
-    /// What stands in the columns of a row: what is taken there, and what is told of the word at an address.
+    /// What is in the columns of a row: what is taken there, and what is said of the word at an address.
     pub(crate) fn columns(&self, taken: Option<Taken>, at: u32) -> Columns
         ensures taken { result.taken ≡ taken }
         ensures latest { result.latest ≡ get nat_cmp self.now.latest at }

@@ -38,7 +38,7 @@ impl WordRows for Named<'_> {
 }
 
 /// The rows of those of a source's words that are named: the address of each, and the number and the text of
-/// its line. The named addresses ascend, and `placed` says where the lines stand, in their order.
+/// its line. The named addresses ascend, and `placed` says where the lines are, in their order.
 ///
 /// # Errors
 ///

@@ -94,7 +94,7 @@ fn pricing_at(handler: StatedGraph<'_>, leaving: &BTreeSet<u32>, at: u32) -> Pri
     }
 }
 
-// Tells it of a place's address.
+// Puts what is said of the price at a place's address.
 fn put_pricing_of(
     prices: &mut BTreeMap<u32, Pricing>,
     handler: StatedGraph<'_>,

@@ -32,14 +32,14 @@ pub struct StatedGraph<'a> {
     pub graph: &'a Graph,
 }
 
-// A source, and where its lines stand.
+// A source, and where its lines are.
 #[derive(Clone, Copy)]
 struct StoodLines<'a> {
     source: &'a [u8],
     placed: &'a [PlacedLine],
 }
 
-// What stands above the rows of words of which that is assumed.
+// The text above the rows of words of which that is assumed.
 fn heading(what: Assumption) -> &'static [u8]
     ensures { result.now ≡ heading_of what }
 {
@@ -139,10 +139,10 @@ fn image_lost(alloc: Global, handler: StatedGraph<'_>) -> Result<Vec<u8>, AllocE
 
 /// What a bound takes for granted of the words that its handler reaches, by the lines of its source: those
 /// that count as returns but do not look like returns, those that return by R14 after a call has overwritten
-/// it, and then the loads and stores of which no class is stated. Nothing stands for either where there are
+/// it, and then the loads and stores of which no class is stated. Neither has any text where there are
 /// none.
 ///
-/// `placed` says where the lines stand, in their order.
+/// `placed` says where the lines are, in their order.
 ///
 /// # Errors
 ///
@@ -168,7 +168,7 @@ pub fn source_assumptions(
 
 /// What a bound takes for granted of the words that its handler reaches, by an image's words: those that
 /// count as returns but do not look like returns, those that return by R14 after a call has overwritten it,
-/// and then the loads and stores of which no class is stated. Nothing stands for either where there are none.
+/// and then the loads and stores of which no class is stated. Neither has any text where there are none.
 ///
 /// # Errors
 ///

@@ -79,7 +79,7 @@ fn source_ticks(tally: &Tally, placed: &[PlacedLine]) -> u64
 /// most cycles (m = 16), and that of a way out of the handler the class of the addresses to which it leaves,
 /// after `>`.
 ///
-/// `placed` says where the lines stand, in their order; the rows end with the lines, or with the places.
+/// `placed` says where the lines are, in their order; the rows end with the lines, or with the places.
 /// Where no place of the graph is on a line, the row says so in place of the numbers.
 ///
 /// # Errors

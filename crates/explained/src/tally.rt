@@ -18,8 +18,8 @@ pub struct Costs {
     pub greatest: u32,
 }
 
-/// How often a walk passes an instruction, and what that costs in ticks, each told up to 2^64 - 1; and what
-/// it costs each time, unless the walk never passes it.
+/// How often a walk passes an instruction, and what that costs in ticks, each counted up to 2^64 - 1; and
+/// what it costs each time, unless the walk never passes it.
 #[derive(Clone, Copy)]
 pub struct Taken {
     pub passes: u64,

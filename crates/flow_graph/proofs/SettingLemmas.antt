@@ -44,7 +44,7 @@ located_vidc m a low high =
     past a 0x2000000 _ _ (omega arith) ∙ past a 0x3000000 _ _ (omega arith) ∙ past a 0x3400000 _ _ low
     ∙ before a 0x3600000 _ _ high
 
--- no register of IOC stands below 3200000
+-- no register of IOC is below 3200000
 no_register : (a : ℕ) → a < 0x3200000 → is_register a ≡ false
 no_register a h = ne_eqb (a / 0x80) 0x64000 (λ e. omega (arith, e, h))
 
@@ -53,7 +53,7 @@ in_rom a h = past a 0x3000000 Ram _ (omega arith) ∙ past a 0x3400000 Io Rom h
 
 -- ## Where transfers start
 
--- the words of a transfer stand one after another
+-- the words of a transfer lie one after another
 pub next_word : (lowest i : ℕ) → lowest % 4 ≡ 0 → lowest + 4 * i < 2 ^ 26 → word_address lowest i ≡ lowest + 4 * i
 next_word lowest i whole below = omega (arith, whole, below)
 

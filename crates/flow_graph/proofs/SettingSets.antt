@@ -132,7 +132,7 @@ module _ (aim : Aim) (st : Stated) (to : Place) (s : State) (i : Input) (class_i
     target = λ pc. leads st aim.profile to aim.target _ (gives_target load loads_pc words lowest base some may has pc) target;
   }
 
--- what is put into memory stands apart, and the base is no program counter
+-- what is put into memory lies apart, and the base is no program counter
 module _ (aim : Aim) (words lowest : ℕ) (base : Held) (some : 1 ≤ words) where
   abbrev Apart : Setting → Type 0
   Apart setting = IfSome setting.word (λ e. IsData aim.spare aim.address e.0)
@@ -175,7 +175,7 @@ single_sets aim x lowest base rn user may at =
       );
     }
 
--- the word of a single transfer stands at its address
+-- the word of a single transfer is at its address
 pub single_sets_at : (aim : Aim) (x : SingleImmediate) (lowest base : ℕ) → IsTrue (is_free_operation (operation.SingleImmediate x)) → MayStart aim x.load 1 lowest → address_for (of_immediate x) base ≡ lowest
     → Sets aim (operation.SingleImmediate x) (transfer_setting aim (record { register = x.rn; word = base }) (x.load && is_pc x.rd) lowest)
 single_sets_at aim x lowest base free may at =

@@ -41,16 +41,16 @@ module _ {K : Type 0} {R : K → K → Ordering} (total : IsTotalOrder R) where
   tail_apart : (x : K) (xs : List K) (z : K) → IsStrictlySortedBy R (x ∷ xs) → Contains xs z → x ≡ z → ⊥
   tail_apart x xs z s h e = not_below_itself x z e (above_head x xs z s h)
 
-  -- what stands above the head of a list that has it stands in the tail
+  -- what is above the head of a list that has it is in the tail
   in_tail : (y : K) (ys : List K) (z : K) → R y z ≡ Less → Contains (y ∷ ys) z → Contains ys z
   in_tail y ys z below h = ⊎_elim (λ e. absurd (not_below_itself y z e below)) (λ w. w) (cons_cases y ys z h)
 
-  -- all members stand above what is below the head
+  -- all members are above what is below the head
   all_above : (y x : K) (xs : List K) (z : K) → IsStrictlySortedBy R (x ∷ xs) → R y x ≡ Less → Contains (x ∷ xs) z → R y z ≡ Less
   all_above y x xs z s below h =
       ⊎_elim (λ e. subst (λ w. R y w ≡ Less) e below) (λ w. total.trans y x z below (above_head x xs z s w)) (cons_cases x xs z h)
 
-  -- a list whose members all stand in another is not longer
+  -- a list whose members are all in another is not longer
   pub length_within : (xs ys : List K) → IsStrictlySortedBy R xs → IsStrictlySortedBy R ys → ((z : K) → Contains xs z → Contains ys z) → length xs ≤ length ys
   length_within [] ys s t within = omega arith
   length_within (x ∷ xs) [] s t within = absurd (no_member x (within x (here x xs)))

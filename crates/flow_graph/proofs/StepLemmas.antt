@@ -51,7 +51,7 @@ use Rattle.flow_graph.proofs.StepRegisters.{word_address_of}
 use Rattle.flow_graph.proofs.StepTicks.{Costs}
 use Rattle.flow_graph.proofs.WorkLemmas.{action_fits}
 
--- ## What a plain step tells
+-- ## What a plain step reports
 
 pub record TellsPlain (s : State) (m : Moved) (told : Stepped) : Type 0 where
   pub kind : m.kind ≡ ended.Plain

@@ -24,7 +24,7 @@ use Rattle.flow_graph.specs.declared.kinds.Work.{Work}
 use Rattle.flow_graph.specs.declared.kinds.Work.TheVariants as work
 use Rattle.flow_graph.proofs.SortedLemmas.{there}
 
--- the first words of a transfer stand among its accesses
+-- the first words of a transfer are among its accesses
 pub words_there : (store : Bool) (address k i : ℕ) → i < k → Contains (words_at store address k) (Word store (i == 0) (word_address address i))
 unfolding words_at
 words_there store address zero i h = absurd (omega arith)

@@ -1,4 +1,4 @@
--- What the registers hold of a machine that stands at a word, with both interrupts masked.
+-- What the registers hold of a machine that is at a word, with both interrupts masked.
 use Rattle.std.proofs.Common.{◌≡◌, ℕ, ◌/◌, ◌%◌, ◌^◌, ◌<◌, ◌==◌, ◌&&◌, not, Bool, true, false, cond, None}
 use Rattle.std.proofs.Common.{Some, refl, ap, ◌∙◌, arith}
 use Rattle.arm2_decode.specs.Allowed.{bit_of}

@@ -47,7 +47,7 @@ use Rattle.flow_graph.proofs.TightState.{at_address, flags_are, in_svc, no_inter
 use Rattle.flow_graph.proofs.TightTicks.{transfers_in}
 use Rattle.flow_graph.proofs.WorkLemmas.{action_fits}
 
--- ## What the step tells
+-- ## What the step reports
 
 kind_told : (stops : Bool) (s : State) (m : Moved) → (answer_by stops s m).kind ≡ m.kind
 kind_told true s m = refl

@@ -26,7 +26,7 @@ use Rattle.flow_graph.proofs.StepTicks.{jump_price}
 
 -- ## Words of the class
 
--- a word of a transfer stands at an address of the class
+-- a word of a transfer is at an address of the class
 abbrev pub IsIn : Class → Access → Type 0
 IsIn class (FetchN x) = Unit {0}
 IsIn class (FetchS x) = Unit {0}

@@ -1,4 +1,4 @@
--- Lists of call addresses (our own format: at most eight, since calls nest no deeper in a handler).
+-- Lists of call addresses (at most eight, since calls nest no deeper in a handler).
 use Rattle.std.specs.Prelude.{◌≡◌, ℕ, ◌-◌, ◌≤◌, ◌<◌, ◌^◌, List, ◌++◌, length, take, replicate, All}
 use Rattle.flow_graph.specs.declared.call_list.Calls.TheInside.{Inside}
 

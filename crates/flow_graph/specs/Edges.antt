@@ -1,6 +1,6 @@
--- The edges of a place, and their costs in ticks. Source: our own cycle profile, with each access at its
--- dearest; where a word leads is the VL86C010 data sheet's; of a word that writes R15 the author states it,
--- and where nothing is stated it returns, by our own rule.
+-- The edges of a place, and their costs in ticks, with each access at its dearest. Where a word leads is the
+-- VL86C010 data sheet's; of a word that writes R15 the author states it, and where nothing is stated it
+-- returns.
 use Rattle.std.specs.Prelude.{◌≡◌, ℕ, ◌+◌, ◌-◌, ◌*◌, true, false, cond, nat_eq, nat_lt, List, []}
 use Rattle.std.specs.Prelude.{◌∷◌, ◌++◌, length, take, map, slice_index, Option, Some, None, Contains}
 use Rattle.arm2_effect.specs.ProgramCounter.{ahead_of}

@@ -1,4 +1,4 @@
--- A place for whose word a handler has no flow graph. Our own rule.
+-- A place for whose word a handler has no flow graph.
 use Rattle.std.specs.Prelude.{◌≡◌, ◌⊎◌, List, Contains, Option, Some, None}
 use Rattle.bus_ticks.specs.declared.profile.Profile.{Profile}
 use Rattle.loader.specs.Image.{Words}

@@ -1,5 +1,5 @@
--- What a word does: to the flow of control, and besides its fetches. Source: the VL86C010 data sheet, by the
--- table of instruction words; our own cycle profile for the cycles, with a multiply at its most.
+-- What a word does: to the flow of control, and besides its fetches (VL86C010 data sheet, by the table of
+-- instruction words, but for the cycles, of which a multiply has its most).
 use Rattle.std.specs.Prelude.{◌≡◌, ℕ, ◌≤◌, Bool, true, false, not, nat_le, count_ones, ◌&&◌}
 use Rattle.std.specs.Prelude.{if◌then◌else◌, ◌⊎◌}
 use Rattle.arm2_decode.specs.Names.{is_compare, is_pc}

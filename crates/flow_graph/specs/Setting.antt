@@ -67,7 +67,7 @@ IsDataOf Io spare address at = Unit {0}
 IsDataOf Any spare address at = Unit {0}
 
 -- a transfer that starts there costs the most of its class, and with pages of 32 KB each of its words has a
--- spot; of a load, one from where a word can be given
+-- spot; of a load, one from where a word can be loaded
 pub record MayStart (aim : Aim) (load : Bool) (words lowest : ℕ) : Type 0 where
   pub whole : lowest % 4 ≡ 0
   pub below : lowest < 2 ^ 26

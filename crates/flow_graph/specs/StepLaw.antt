@@ -1,4 +1,4 @@
--- The machine's steps against the edges of the flow graph (our own cycle profile, shaped on the VL86C010 data
+-- The machine's steps against the edges of the flow graph (by a cycle profile shaped on the VL86C010 data
 -- sheet).
 use Rattle.std.specs.Prelude.{◌≡◌, ◌≢◌, ℕ, ◌+◌, ◌*◌, ◌≤◌, Bool, true, if◌then◌else◌, List, [], ◌∷◌, length}
 use Rattle.std.specs.Prelude.{sum_by, Contains, ◌⊎◌}

@@ -1,5 +1,5 @@
--- A machine whose one step takes an edge at exactly its price (our own cycle profile). That there is one for
--- each free edge makes the prices of these edges real: none of them is more than some step costs.
+-- A machine whose one step takes an edge at exactly its price. That there is one for each free edge makes
+-- the prices of these edges real: none of them is more than some step costs.
 use Rattle.std.specs.Prelude.{◌≡◌, false}
 use Rattle.bus_ticks.specs.declared.profile.Profile.{Profile}
 use Rattle.loader.specs.Image.{Words}

@@ -1,6 +1,6 @@
--- The machine file of a machine that takes an edge at its price. Our own choice among such machines: SVC
--- mode, pages of 32 KB, both interrupts masked, one register and at most one word in memory that is put after
--- the image's.
+-- The machine file of a machine that takes an edge at its price. Of such machines we choose this: SVC mode,
+-- pages of 32 KB, both interrupts masked, one register and at most one word in memory that is put after the
+-- image's.
 use Rattle.std.specs.Prelude.{◌≡◌, ◌<◌, ◌^◌, ◌⊎◌, ℕ, true, false, [], ◌∷◌, replicate, slice_set, map, All}
 use Rattle.std.specs.Prelude.{List, Option, Contains}
 use Rattle.std.specs.Prelude.{Some, None, IfSome}

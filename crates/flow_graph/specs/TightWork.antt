@@ -1,5 +1,5 @@
--- How a machine is set so that its one step pays an edge's price. Sources: our own cycle profile, and the
--- VL86C010 data sheet for what each instruction does.
+-- How a machine is set so that its one step pays an edge's price (VL86C010 data sheet for what each
+-- instruction does).
 use Rattle.std.specs.Prelude.{◌≡◌, ◌⊎◌, ◌<◌, ◌%◌, ◌-◌, ◌^◌, ℕ, Bool, false, not, ◌&&◌, IsTrue}
 use Rattle.std.specs.Prelude.{List, Some, Ok, count_ones, length}
 use Rattle.bus_ticks.specs.declared.profile.Class.{Class}

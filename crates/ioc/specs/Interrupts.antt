@@ -1,5 +1,5 @@
--- IOC as a source of interrupts (our own profile, shaped on the VL86C410 data sheet): three banks of status
--- and mask bits, IRQ A, IRQ B and FIQ. All lines but A2 are levels; A2 is latched where it becomes active.
+-- IOC as a source of interrupts (shaped on the VL86C410 data sheet): three banks of status and mask bits,
+-- IRQ A, IRQ B and FIQ. All lines but A2 are levels; A2 is latched where it becomes active.
 use Rattle.std.specs.Prelude.{ℕ, ◌+◌, ◌*◌, ◌/◌, ◌%◌, Bool, true, false, ◌==◌, ◌&&◌, ◌||◌, not, if◌then◌else◌}
 use Rattle.std.specs.Int.RustNames.{bit_and}
 use Rattle.ioc.specs.declared.timers.Timer.{Timer}

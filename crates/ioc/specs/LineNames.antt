@@ -1,4 +1,4 @@
--- The names of the interrupt lines, each with its bit (our own; the bits are those of IOC's lines).
+-- The names of the interrupt lines, each with its bit, which is that of IOC's lines.
 use Rattle.std.specs.Prelude.{ℕ, List, [], ◌∷◌, codes, Option, option_map}
 use Rattle.bitflags.specs.Sets.{find_name}
 use Rattle.ioc.specs.declared.lines.Lines.{Lines}

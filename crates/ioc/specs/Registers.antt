@@ -1,7 +1,7 @@
--- IOC's registers by their offsets (our own profile, shaped on the VL86C410 data sheet). Ours alone: which
--- addresses are registers'; that a write to offset 14 clears every latched request whatever its byte (the
--- chip clears those whose bit in the byte is 1); that writes to 24 and 34 do nothing; that elsewhere a read
--- returns 0 and a write does nothing.
+-- IOC's registers by their offsets (shaped on the VL86C410 data sheet). Ours alone: which addresses are
+-- registers'; that a write to offset 14 clears every latched request whatever its byte (the chip clears
+-- those whose bit in the byte is 1); that writes to 24 and 34 do nothing; that elsewhere a read returns 0
+-- and a write does nothing.
 use Rattle.std.specs.Prelude.{ℕ, ◌+◌, ◌*◌, ◌/◌, ◌%◌, Bool, false, ◌==◌, if◌then◌else◌}
 use Rattle.std.specs.Int.RustNames.{bit_and}
 use Rattle.ioc.specs.declared.timers.Timer.{Timer}

@@ -1,6 +1,6 @@
--- The timers, one tick of the 8 MHz processor after the other (our own profile, shaped on the VL86C410 data
--- sheet's 2 MHz timers that count down and load their latch). Both share one phase, and a timer with a count
--- or a latch of 0 rests.
+-- The timers, one tick of the 8 MHz processor after the other (shaped on the VL86C410 data sheet's 2 MHz
+-- timers that count down and load their latch). Both share one phase, and a timer with a count or a latch of
+-- 0 rests.
 use Rattle.std.specs.Prelude.{ℕ, zero, suc, ◌+◌, ◌-◌, true, ◌==◌, ◌||◌, if◌then◌else◌}
 use Rattle.ioc.specs.declared.timers.Timer.{Timer}
 use Rattle.ioc.specs.declared.timers.Timers.{Timers}

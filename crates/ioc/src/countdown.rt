@@ -1,4 +1,4 @@
-// The timers of a machine that steps: most ticks only count down to the next that may raise a request.
+//! The timers of a machine that steps: most ticks only count down to the next that may raise a request.
 
 ghost use Rattle.std.specs.Prelude.{◌≡◌, ◌<◌};
 ghost use Rattle.ioc.specs.Timers.{ticked};

@@ -1,4 +1,4 @@
-// The lines that come in, by names and bits of our own.
+//! The lines that come in, by names and bits of our own.
 
 ghost use Rattle.std.specs.Prelude.{⊤, [], ◌∷◌, codes};
 

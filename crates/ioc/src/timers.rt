@@ -1,4 +1,4 @@
-// The two timers: each fourth tick is a decrement of both.
+//! The two timers: each fourth tick is a decrement of both.
 
 ghost use Rattle.std.specs.Prelude.{◌≡◌, ◌<◌, ◌≤◌, ℕ};
 ghost use Rattle.ioc.specs.Timers.{after_decrements, ticked};
@@ -23,7 +23,7 @@ pub struct Timers {
 }
 
 impl Timers {
-    // So many ticks on, in constant time.
+    /// So many ticks on, in constant time.
     #[inline(always)]
     pub(crate) fn advance(&mut self, ticks: u32)
         requires { self.old.phase < 4 }
@@ -41,7 +41,7 @@ impl Timers {
 }
 
 impl Timer {
-    // All 0, and no request.
+    /// All 0, and no request.
     pub(crate) fn new() -> Timer
         ensures { result ≡ still }
     {
@@ -53,8 +53,8 @@ impl Timer {
         }
     }
 
-    // How many decrements there are up to the one that raises the request, at most 65,536: as many of a timer
-    // that rests.
+    /// How many decrements there are up to the one that raises the request, at most 65,536: as many of a
+    /// timer that rests.
     pub(crate) fn counts_left(self) -> u32
         ensures some { 1 ≤ result }
         ensures most { result ≤ 65536 }
@@ -90,7 +90,7 @@ impl Timer {
         }
     }
 
-    // With a new low byte of the latch.
+    /// With a new low byte of the latch.
     pub(crate) fn with_low(self, byte: u8) -> Timer
         ensures { result ≡ with_low byte self }
     {
@@ -100,7 +100,7 @@ impl Timer {
         }
     }
 
-    // With a new high byte of the latch.
+    /// With a new high byte of the latch.
     pub(crate) fn with_high(self, byte: u8) -> Timer
         ensures { result ≡ with_high byte self }
     {
@@ -110,7 +110,7 @@ impl Timer {
         }
     }
 
-    // With the latch as the count.
+    /// With the latch as the count.
     pub(crate) fn started(self) -> Timer
         ensures { result ≡ started self }
     {
@@ -120,7 +120,7 @@ impl Timer {
         }
     }
 
-    // With the count as the output.
+    /// With the count as the output.
     pub(crate) fn sampled(self) -> Timer
         ensures { result ≡ sampled self }
     {
@@ -130,7 +130,7 @@ impl Timer {
         }
     }
 
-    // Without a request.
+    /// Without a request.
     pub(crate) fn cleared(self) -> Timer
         ensures { result ≡ cleared self }
     {

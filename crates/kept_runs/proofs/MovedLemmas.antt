@@ -74,7 +74,7 @@ module _ (class : Class) where
       (All-from_recursion (IsIn class) (FetchN (ahead_of a 8) ∷ []) (tt, tt))
       (words_in class true x k each)
 
--- the list has the element right behind these
+-- the list has the element right after these
 abbrev IsSplitAt : (all before : List effect.Access) → effect.Access → Type 0
 IsSplitAt all before x = (after : List effect.Access) × (all ≡ before ++ x ∷ after)
 
@@ -86,7 +86,7 @@ split_within front words tail before x at =
     let behind = split_behind front words before x at in
     (behind.0 ++ tail, ap (λ ws. ws ++ tail) behind.1 ∙ append_assoc (front ++ before) (x ∷ behind.0) tail)
 
--- the words of a transfer stand in their order
+-- the words of a transfer are in their order
 words_split : (store : Bool) (address k i : ℕ) → i < k → IsSplitAt (words_at store address k) (words_at store address i) (Word store (i == 0) (word_address address i))
 unfolding words_at
 words_split store address zero i h = absurd (omega arith)
@@ -129,7 +129,7 @@ all_loaded_long psr mode r bus port (move ∷ rest) regs =
 -- ## What is done
 
 -- Where a step ends as other instructions do: its words are of the class where none of the transfer's is of
--- another; each of the transfer's that is of another is among its words, and the first is told; and there are
+-- another; each of the transfer's that is of another is among its words, and the first is named; and there are
 -- as many registers.
 pub record Moves (class : Class) (regs : List ℕ) (t : Option Transfer) (m : Moved) : Type 0 where
   pub in_class : m.kind ≡ Plain → HasNoOther class t → TransfersIn class m.accesses

@@ -28,7 +28,7 @@ regs_by : (stops : Bool) (s a : State) → stops ≡ false → (cond stops s a).
 regs_by true s a is = absurd (false≢true (sym is))
 regs_by false s a is = refl
 
--- a step that does not stop goes where it tells
+-- a step that does not stop goes where it says
 pub lands : (s : State) (i : Input) (told : Stepped) (after : State) → Step s i told after → told.kind ≡ ended.Plain → told.to ≡ address_in after.regs
 unfolding state_after
 lands s i told after step plain =

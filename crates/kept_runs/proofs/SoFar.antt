@@ -75,7 +75,7 @@ no_exit : (p : Place) (c : List ℕ) (a : ℕ) → p ≡ At c a → p ≡ Exit �
 no_exit p c a at exit = let both : At c a ≡ Exit = sym at ∙ exit in cc
 
 module _ (words : Words) (st : Stated) (flow : Flow) (tree : Tree) where
-  -- how the rest of a walk goes on from where the run stands
+  -- how the rest of a walk goes on from where the run is
   pub record GoesOn (numbers : List ℕ) (x : Follower) (now : State) (left : List Input) (walk : List Edge) : Type 0 where
     pub rest : List Edge
     pub count : ℕ
@@ -153,7 +153,7 @@ module _ (words : Words) (st : Stated) (flow : Flow) (tree : Tree) (well : IsWel
     };
   }
 
-  -- the machine stands at the entry
+  -- the machine is at the entry
   pub can_begin : (x : Follower) → IsMachineFor flow start → address_in start.regs ≡ st.entry → {exit : ℕ} → IsFresh exit x → exit ≡ length flow.places → CanGo flow tree x start
   can_begin x machine at {exit = exit} fresh same =
       let some : 0 < length flow.places = t.ordered.some in
@@ -420,7 +420,7 @@ module _ (words : Words) (st : Stated) (flow : Flow) (tree : Tree) (well : IsWel
         only = λ m walk complete follows. goes_on walk (has_next m walk complete follows);
       }
 
-      -- where it stands inside the handler, it may go on
+      -- where it is inside the handler, it may go on
       at_place : (p : Place) → (step_at flow.edges goes.edge).to ≡ p → IsPlaceOf st goes.told.to p → (p ≡ Exit → ⊥) → IsPlaceFor p after
       at_place (At calls a) is to other = (calls, ap (λ (b : ℕ). At calls b) (to ∙ lands now i goes.told after goes.next.is_edge_of.executes.step goes.next.is_edge_of.executes.plain))
       at_place Exit is to other = absurd (other refl)
@@ -483,7 +483,7 @@ module _ (words : Words) (st : Stated) (flow : Flow) (tree : Tree) (well : IsWel
         is = (omega (arith, count, past, few), (place_in flow tree x.number, comes_to n x now so_far can few));
       }
 
-  -- the machine does not stand at the entry
+  -- the machine is not at the entry
   none_there : (address_in start.regs ≡ st.entry → ⊥) → KeepsNone words st flow tree start inputs
   none_there other m keeps = by_walk keeps.walk (take m inputs) keeps.complete keeps.follows
     where

@@ -1,4 +1,4 @@
--- What is told of a walk, with an edge more.
+-- What is said of a walk, with an edge more.
 use Rattle.std.proofs.Common.{◌≡◌, ◌≢◌, ◌∙◌, ℕ, ◌+◌, ◌<◌, ◌≤◌, max, Bool, true, false, cond, List, [], ◌∷◌, ◌++◌, length, get_or, slice_set, Contains, Option, Some, None, ⊎_elim, refl, sym, ap, subst, arith, get_or-set_same, get_or-set_other}
 use Rattle.std.proofs.lemmas.Bool.{cases_Bool, cases_eq}
 use Rattle.walks.proofs.Joins as J

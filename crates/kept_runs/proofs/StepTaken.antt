@@ -40,7 +40,7 @@ turned_length None e turns = refl
 turned_length (Some s) e turns = length-set turns e.to _
 
 module _ (words : Words) (st : Stated) (flow : Flow) (tree : Tree) (well : IsWellFormed flow) (t : IsTree flow tree) (x : Follower) (s : State) (can : CanGo flow tree x s) where
-  -- the index of the place where the run stands
+  -- the index of the place where the run is
   abbrev pub index : ℕ
   index = get_or tree.order x.number 0
 
@@ -62,7 +62,7 @@ module _ (words : Words) (st : Stated) (flow : Flow) (tree : Tree) (well : IsWel
   pub in_tree : (k : ℕ) → k < length flow.edges → Contains tree.edges (edge_at tree.edges k)
   in_tree k lt = Contains-get_or tree.edges k no_number (omega (arith, lt, t.numbered.same))
 
-  -- an edge leaves where the run stands, as places and as numbers
+  -- an edge leaves where the run is, as places and as numbers
   pub leaves_number : (k : ℕ) → k < length flow.edges → (step_at flow.edges k).from ≡ place_in flow tree x.number → (edge_at tree.edges k).from ≡ x.number
   leaves_number k lt from =
       let n = numbers k lt in

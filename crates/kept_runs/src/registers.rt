@@ -21,7 +21,7 @@ pub(crate) fn current(machine: &Machine, register: Register) -> u32
     machine.get(banked(mode, register.number()))
 }
 
-/// The base of a single transfer: R15 gives its address bits alone, two words on.
+/// The base of a single transfer: of R15 the address bits alone, two words on.
 pub(crate) fn base(machine: &Machine, register: Register) -> u32
     ensures { result ≡ first_of 8 register machine.now.regs }
 {
@@ -31,7 +31,7 @@ pub(crate) fn base(machine: &Machine, register: Register) -> u32
     current(machine, register)
 }
 
-// A register where it is shifted: R15 gives all its bits, with its address two words on.
+// A register where it is shifted: of R15 all bits, with the address two words on.
 fn operand(machine: &Machine, register: Register) -> u32
     ensures { result ≡ operand_of 8 register machine.now.regs }
 {

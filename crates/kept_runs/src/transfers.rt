@@ -110,7 +110,7 @@ pub(crate) fn covers(class: Class, own: Class) -> bool
     }
 }
 
-/// The first word that is of another class than the one stated, if one is.
+// The first word that is of another class than the one stated, if one is.
 fn other_word(class: Class, transfer: &Transfer) -> Option<Access>
     requires below { transfer.now.address < 2 ^ 26 }
     requires few { transfer.now.words ≤ 16 }

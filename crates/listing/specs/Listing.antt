@@ -1,4 +1,4 @@
--- The rows of a listing. Our own format.
+-- The rows of a listing.
 use Rattle.std.specs.Prelude.{◌≡◌, ℕ, zero, suc, ◌+◌, List, ◌++◌}
 use Rattle.std.specs.Prelude.{codes, decimal, Option, Some}
 use Rattle.asm_text.specs.Hex.{hex8}
@@ -35,7 +35,7 @@ rows_beside image n text at (suc more) =
 abbrev pub line_rows : Words → (n : ℕ) → (text : List ℕ) → PlacedLine → List ℕ
 line_rows image n text p = rows_beside image n text p.at p.words
 
--- the rows of lines, each where it stands, with numbers from one on
+-- the rows of lines, each where it is placed, with numbers from one on
 abbrev pub source_rows : Words → ℕ → List (List ℕ) → List PlacedLine → List ℕ
 source_rows image = rows_by_line (line_rows image)
 

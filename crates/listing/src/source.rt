@@ -50,7 +50,7 @@ impl LineRows for Beside<'_> {
 /// The lines of a source beside the words of its image: a row for each line, with the address and the word
 /// of its first word, if it has one, its number from 1 and its text; below it a row for each further word.
 ///
-/// `placed` says where the lines stand, in their order; the rows end with the lines, or with the places. The
+/// `placed` says where the lines are, in their order; the rows end with the lines, or with the places. The
 /// text is bytes, since a comment may be other than UTF-8. A row ends at column 80, and a longer text is cut
 /// there: the source has all of it. A byte counts as a column. Dashes stand for a word that the image lacks.
 ///

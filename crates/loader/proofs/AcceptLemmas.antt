@@ -20,7 +20,7 @@ use Rattle.loader.proofs.SegmentLemmas.{length_numbers}
 abbrev pub AreBytes : List ℕ → Type 0
 AreBytes bytes = (k : ℕ) → get_or bytes k 0 < 256
 
--- what stands past the end counts as 0
+-- what is past the end counts as 0
 past : (bytes : List ℕ) (k : ℕ) → length bytes ≤ k → get_or bytes k 0 ≡ 0
 past [] k le = refl
 past (b ∷ bytes) zero le = absurd (omega (arith, le))

@@ -167,7 +167,7 @@ bytes_append [] ys all more k = more k
 bytes_append (x ∷ xs) ys all more zero = all 0
 bytes_append (x ∷ xs) ys all more (suc k) = bytes_append xs ys (λ i. all (suc i)) more k
 
--- what stands after the bytes of a count that are there, before 0s
+-- what follows the bytes of a count that are there, before 0s
 record Rest (bytes : List ℕ) : Type 0 where
   next : List ℕ
   short : length next ≤ 1

@@ -50,7 +50,7 @@ all_fitted words = (
 
 -- ## The words of a list
 
--- those after a word stand elsewhere
+-- those after a word are elsewhere
 after_word : (e : ℕ × ℕ) (rest some : Words) → AllByRecursion (λ f. e.0 < f.0) some
     → AllByRecursion (λ f. word_of rest f.0 ≡ Some f.1) some
     → AllByRecursion (λ f. word_of (e ∷ rest) f.0 ≡ Some f.1) some

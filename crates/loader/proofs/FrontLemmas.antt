@@ -58,7 +58,7 @@ few_to_come (suc left) before words bytes few e =
     let later = few_to_come left _ words (drop (8 + 4 * head_count bytes) bytes) (omega (arith, len, most)) whole.later in
     omega (arith, later, len, some)
 
--- ## Numbers of which the front stands
+-- ## Numbers of which the front is there
 
 module _ (more : List ℕ) where
   number_less : (bytes : List ℕ) → little_number 4 bytes ≤ little_number 4 (bytes ++ more)
@@ -127,7 +127,7 @@ count_some bytes short = elim (cases_lt 0 (head_count bytes)) [
 
 -- ## The front of one segment
 
--- where a segment can stand, fewer words of it can
+-- where a segment can be, fewer words of it can
 fewer_stand : (words : Words) (a n m : ℕ) → CanStand words a n → 0 < m → m ≤ n → CanStand words a m
 fewer_stand words a n m can some le =
     let few = can.few in

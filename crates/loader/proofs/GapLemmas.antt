@@ -189,7 +189,7 @@ split_last (x ∷ y ∷ rest) e is =
     let m : length (x ∷ y ∷ rest) - 1 ≡ suc (length (y ∷ rest) - 1) = omega arith in
     rw m (ap (λ (ws : Words). x ∷ ws) (split_last (y ∷ rest) e (rw m at is)))
 
--- the last word, unless it stands below
+-- the last word, unless it is below
 pub last_not_below : (ws : Words) (a : ℕ) (o : Option (ℕ × ℕ)) → o ≡ slice_get ws (length ws - 1) → list_all (λ e. nat_lt e.0 a) (option_to_list o) ≡ false
     → MatchOption o (Below a ws) (λ e. ws ≡ take (length ws - 1) ws ++ e ∷ [])
 last_not_below ws a None is test = absurd cc

@@ -1,4 +1,4 @@
--- What loads give where an image's words are put into memory whose pages lie as a plan says.
+-- What loads return where an image's words are put into memory whose pages lie as a plan says.
 use Rattle.std.proofs.Common.{◌∷◌, [], ◌↔◌, ◌≡◌, ◌≢◌, ◌∙◌, ℕ, ◌+◌, ◌-◌, ◌*◌, ◌/◌, ◌%◌, ◌^◌, ◌<◌, ◌≤◌, ◌⊎◌, inl, inr, Bool, true, false, cond, List, map, get_or, Option, Some, None, Result, Ok, Err, refl, sym, ap, subst, arith}
 use Rattle.std.specs.Prelude.{IsSome, is_some, nat_le, All}
 use Rattle.std.specs.List.{AllByRecursion, Contains}
@@ -231,7 +231,7 @@ keep_rom words m a w four at same is =
     let before = rom_word m.rom a in
     rom_gives words m a w four at (ap (λ (es : List (ℕ × ℕ)). last_word es a before) (rom_entries m words) ∙ last_kept (rom_of m) words a w before same is)
 
--- ## Words of the image are given
+-- ## Words of the image are loaded
 
 same_ram : (image words : Words) (pages : List PlacedPage) (spare : ℕ) (m : Memory) (a w k : ℕ) → IsPlanned image pages spare m → AreOf image words → word_of image a ≡ Some w → Where m a k → AreSame (ram_of m) k w words
 same_ram image words pages spare m a w k h of is here = recursion_from_All (λ (e : ℕ × ℕ). ram_of m e.0 ≡ Some k → e.1 ≡ w) words (λ i d lt at.
@@ -312,7 +312,7 @@ no_ok s r e = cc
 pub gives_at : (m : Memory) (a w : ℕ) (spot : Spot) → GivesWord m a w → spot_of m a ≡ Ok spot → word_at m spot ≡ w
 gives_at m a w spot g at = subst (λ (s : Spot). word_at m s ≡ w) (same_ok g.spot spot (sym g.leads ∙ at)) g.gives
 
--- an address that gives a word leads somewhere
+-- an address that yields a word leads somewhere
 given_fits : (m : Memory) (a w : ℕ) → m.shift ≡ 15 → GivesWord m a w → IsFitted a
 given_fits m a w size g = elim (cases_lt a 0x2400000) [
   | inl below ↦ inl below

@@ -36,7 +36,7 @@ has_put words a w none =
     let back : a ≡ a + 4 - 4 = omega arith in
     subst (λ (b : ℕ). has (with_word words a w) b ≡ 1) back (ap (λ o. cond {A = ℕ} (is_some o) 1 0) (word_of_here words a w none))
 
--- of the words of a segment, only the first may begin a run: not where a word stands before it
+-- of the words of a segment, only the first may begin a run: not where a word is before it
 grown_from : (words : Words) (a runs : ℕ) (ws : List ℕ) → a % 4 ≡ 0 → Ascends words → MayStand words → 1 ≤ has words (a - 4) + runs
     → IsFree words a (a + 4 * length ws) → MayHold a (a + 4 * length ws) → IsGrown words (with_words words a ws) (length ws) runs
 grown_from words a runs [] a4 up stand before free may = record { ascends = up; may_stand = stand; long = omega arith; few = omega arith }
@@ -59,7 +59,7 @@ may_hold_all words a n can = λ b low high b4.
     let a4 = can.aligned in
     may_within a (a + 4 * n) b (lies_in a (a + 4 * n) can.lies) b4 low (omega (arith, a4, b4, high))
 
--- a segment that can stand begins at most one run
+-- a segment that fits begins at most one run
 pub grown : (words : Words) (a : ℕ) (ws : List ℕ) → CanStand words a (length ws) → Ascends words → MayStand words → IsGrown words (with_words words a ws) (length ws) 1
 grown words a ws can up stand =
     grown_from words a 1 ws can.aligned up stand (omega arith)
@@ -162,7 +162,7 @@ one_stands words a stand short may none =
 pub low_holds : (a : ℕ) → a % 4 ≡ 0 → a ≤ 1500000 → IsTrue (may_hold a)
 low_holds a a4 low = grind (arith, nat_tests, a4, low)
 
--- words after which so many segments can stand
+-- words after which so many segments fit
 pub record HasRoom (left : ℕ) (words : Words) : Type 0 where
   pub ascends : Ascends words
   pub may_stand : MayStand words
@@ -174,7 +174,7 @@ room_after left words new n room more =
     let few = more.few in
     record { ascends = more.ascends; may_stand = more.may_stand; runs = omega (arith, runs, few) }
 
--- segments that can stand after words
+-- segments that fit after words
 pub record Fill (left : ℕ) (before : Words) : Type 0 where
   pub segments : List Segment
   pub count : length segments ≡ left

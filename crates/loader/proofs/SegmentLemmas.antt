@@ -49,7 +49,7 @@ pub with_words_more : (words : Words) (a : ℕ) (ws : List ℕ) (w : ℕ) → wi
 with_words_more words a [] w = ap (λ (b : ℕ). with_word words b w) (omega arith)
 with_words_more words a (v ∷ ws) w = with_words_more (with_word words a v) (a + 4) ws w ∙ ap (λ (b : ℕ). with_word (with_words (with_word words a v) (a + 4) ws) b w) (omega arith)
 
--- ## Where a segment can stand
+-- ## Where a segment can be
 
 pub record CanStand (words : Words) (address count : ℕ) : Type 0 where
   pub aligned : address % 4 ≡ 0
@@ -177,7 +177,7 @@ never_else : (o : Option ImageFault) (f : ImageFault) → o ≡ None → (f ≡ 
 never_else o f none other (inl memory) = other memory
 never_else o f none other (inr some) = absurd (cc (none, some))
 
--- nothing but memory stands against the next word
+-- nothing but memory keeps the next word out
 pub not_refused : (old now : Words) (address count next w : ℕ) (bytes : List ℕ) (f : ImageFault) → segment_fault old address count ≡ None → runs_of old ≤ 15 → next < count → AreWhole now
     → IsPartly old address count bytes next now → (f ≡ image.Memory → ⊥) → (f ≡ image.Memory) ⊎ (put_fault now (address + 4 * next) w ≡ Some f) → ⊥
 not_refused old now address count next w bytes f allowed room lt whole partly = never_else _ f (can_put old now address count next w bytes (can_stand old address count allowed) room lt whole partly)

@@ -17,7 +17,7 @@ use Rattle.loader.proofs.CutLemmas.{same_fault}
 use Rattle.loader.proofs.SegmentLemmas.{length_numbers, no_other_fault}
 use Rattle.loader.proofs.SpellLemmas.{begun, counted, segment_read}
 
--- ## What stands after an image's bytes is trailing
+-- ## What follows an image's bytes is trailing
 
 segments_then : (segments : List Segment) (before : Words) (rest : List ℕ) → CanFollow before segments → AllByRecursion (λ s. AreNumbers s.words) segments
     → segments_read (length segments) before (flat_map segment_bytes segments ++ rest) ≡ segments_read 0 (with_segments before segments) rest
@@ -44,7 +44,7 @@ passed_trailing bytes pass =
     ∙ segments_then segments [] pass.after spell.follow spell.numbers
     ∙ trailing (with_segments [] segments) pass.after pass.some
 
--- ## Trailing bytes stand after an image's
+-- ## Trailing bytes follow an image's
 
 record Passes (left : ℕ) (before : Words) (bytes : List ℕ) : Type 0 where
   segments : List Segment

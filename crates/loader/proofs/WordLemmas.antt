@@ -50,7 +50,7 @@ Ascends-with_word (e ∷ rest) a w up none = elim (cases_lt a e.0) [
 pub MayStand-with_word : (words : Words) (a w : ℕ) → MayStand words → IsTrue (may_hold a) → MayStand (with_word words a w)
 MayStand-with_word words a w all here = all_with_word (λ e. IsTrue (may_hold e.0)) words a w all here
 
--- a word stands where one may
+-- a word is where one may be
 pub held : (words : Words) (a : ℕ) → MayStand words → IsSome (word_of words a) → IsTrue (may_hold a)
 held [] a all some = absurd (cc)
 held (e ∷ rest) a all some = elim (cases_eq e.0 a) [
@@ -64,7 +64,7 @@ held (e ∷ rest) a all some = elim (cases_eq e.0 a) [
 abbrev pub Quads : Words → Type 0
 Quads words = AllByRecursion (λ e. e.0 % 4 ≡ 0) words
 
--- 1 where a word stands at the address
+-- 1 where a word is at the address
 abbrev pub has : Words → ℕ → ℕ
 has words a = cond {A = ℕ} (is_some (word_of words a)) 1 0
 
@@ -91,7 +91,7 @@ left_one p a h none = elim (cases_eq a (p + 4)) [
   | inr other ↦ rw (ne_eqb a (p + 4) other) (omega arith)
 ]
 
--- the first word above an address stands 4 after it, or begins a run
+-- the first word above an address is 4 after it, or begins a run
 right_one : (a : ℕ) (e : ℕ × ℕ) (rest : Words) → a % 4 ≡ 0 → e.0 % 4 ≡ 0 → a < e.0 → Ascends (e ∷ rest) → has (e ∷ rest) (a + 4) + begins (Some a) e.0 ≡ 1
 right_one a e rest a4 e4 lt up = elim (cases_eq e.0 (a + 4)) [
   | inl same ↦

@@ -63,7 +63,7 @@ all_back : (P : ℕ × ℕ → Type 0) (front back : Words) → AllByRecursion P
 all_back P [] back all = all
 all_back P (e ∷ front) back all = all_back P front back all.1
 
--- all before an entry of ascending words stand below it
+-- all before an entry of ascending words are below it
 below_next : (before more : Words) (f : ℕ × ℕ) → Ascends (before ++ f ∷ more) → AllByRecursion (λ e. e.0 < f.0) before
 below_next [] more f up = tt
 below_next (e ∷ before) more f up = ((all_back (λ g. e.0 < g.0) before (f ∷ more) up.0).0, below_next before more f up.1)
@@ -85,7 +85,7 @@ words_last before a (w ∷ ws) all =
     ∙ words_last (before ++ (a, w) ∷ []) (a + 4) ws (below_further before a w all)
     ∙ append_assoc before ((a, w) ∷ []) (entries_from (a + 4) ws)
 
--- ## Where a run stands
+-- ## Where a run lies
 
 run_lies : (a w : ℕ) (ws : List ℕ) → MayStand (entries_from a (w ∷ ws)) → Lies a (a + 4 * suc (length ws))
 run_lies a w [] all = lies_one a all.0

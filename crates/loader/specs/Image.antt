@@ -1,5 +1,5 @@
--- An image: which words are at which addresses. Source: our own image format and our own
--- memory map, shaped on the VL86C110 data sheet's, with I/O from 3000000 to 33FFFFF.
+-- An image: which words are at which addresses (memory map shaped on the VL86C110 data sheet's, with I/O
+-- from 3000000 to 33FFFFF).
 use Rattle.std.specs.Prelude.{ℕ, ◌+◌, ◌%◌, Bool, ◌&&◌, ◌||◌, ◌==◌, not, nat_lt, nat_le, if◌then◌else◌, List}
 use Rattle.std.specs.Prelude.{[], ◌∷◌, length, Option, Some, None, is_some}
 use Rattle.bus_ticks.specs.declared.space.TheConstants.{IO_START, ROM_START, SPACE_END}

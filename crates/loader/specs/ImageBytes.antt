@@ -1,4 +1,4 @@
--- Images as bytes. Source: our own image format. Every number has 32 bits, the lowest byte first.
+-- Images as bytes. Every number has 32 bits, the lowest byte first.
 use Rattle.std.specs.Prelude.{ℕ, zero, suc, ◌+◌, ◌*◌, ◌%◌, ◌==◌, ◌&&◌, ◌||◌, not, nat_lt, nat_le}
 use Rattle.std.specs.Prelude.{if◌then◌else◌, Bool, List, [], ◌∷◌, ◌++◌, length, drop, take, flat_map, codes}
 use Rattle.std.specs.Prelude.{Option, Some, None, is_some, Result, Ok, Err}

@@ -1,5 +1,4 @@
--- Labels: which names stand for which addresses. Source: our own source format, in which a name stands for
--- one address.
+-- Labels: which names stand for which addresses. A name stands for one address.
 use Rattle.std.specs.Prelude.{ℕ, List, Option}
 use Rattle.std.specs.Map.{lookup}
 use Rattle.std.specs.Str.{bytes_eq}

@@ -1,6 +1,6 @@
--- What memory holds once words are put into it. Source: our own: each word goes where a privileged load of
--- its address reads, and the words go in the order of their list, so that of two that lead to one place the
--- later one stays. An image's words go in the order of their addresses.
+-- What memory holds once words are put into it: each word goes where a privileged load of its address reads,
+-- and the words go in the order of their list, so that of two that lead to one place the later one stays. An
+-- image's words go in the order of their addresses.
 use Rattle.std.specs.Prelude.{◌≡◌, ℕ, suc, ◌/◌, Bool, true, false, ◌||◌, List, [], ◌∷◌, Result, Ok, Err}
 use Rattle.arm2_exec.specs.State.{State}
 use Rattle.loader.specs.Image.{Words}

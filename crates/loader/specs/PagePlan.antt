@@ -1,6 +1,6 @@
 -- A plan of pages for an image: on which physical page of 32 KB each logical page with words of it lies.
--- Source: our own. Pages are numbered by their addresses, of 32,768 bytes each: the pages 0 to 1023 are
--- logical, and the page 1024 + p, which begins at 2000000 + 32768 * p, is the physical page p.
+-- Pages are numbered by their addresses, of 32,768 bytes each: the pages 0 to 1023 are logical, and the page
+-- 1024 + p, which begins at 2000000 + 32768 * p, is the physical page p.
 use Rattle.std.specs.Prelude.{◌≡◌, ◌<◌, ◌≤◌, ◌↔◌, ◌+◌, ◌/◌, ◌^◌, ℕ, Bool, IsSome, List, length, map}
 use Rattle.std.specs.Prelude.{All, nat_eq, nat_lt, not}
 use Rattle.std.specs.List.{Contains, list_any}

@@ -1,4 +1,4 @@
--- Memory whose logical pages lie as a plan says, and the words that are put there. Source: our own.
+-- Memory whose logical pages lie as a plan says, and the words that are put there.
 use Rattle.std.specs.Prelude.{◌≡◌, ◌<◌, ◌≤◌, ◌⊎◌, ◌+◌, ◌*◌, ◌%◌, ◌^◌, ℕ, Some, List, All}
 use Rattle.bus_ticks.specs.declared.space.TheConstants.{IO_START, ROM_START, SPACE_END}
 use Rattle.loader.specs.Image.{Words, word_of}

@@ -1,4 +1,4 @@
--- The segments that spell an image. Source: our own image format.
+-- The segments that spell an image.
 use Rattle.std.specs.Prelude.{◌≡◌, ◌<◌, ◌≤◌, ◌^◌, ℕ, List, [], ◌∷◌, ◌++◌, length, None}
 use Rattle.std.specs.List.{AllByRecursion}
 use Rattle.loader.specs.Image.{Words}

@@ -1,4 +1,4 @@
-// Words by ascending addresses in two parts, those below a place and those above it.
+//! Words by ascending addresses in two parts, those below a place and those above it.
 ghost use Rattle.std.specs.Prelude.{◌≡◌, ◌∷◌, ◌++◌, ◌-◌, ◌<◌, ◌≤◌, [], MatchOption, OnOk, length, take, drop};
 ghost use Rattle.std.specs.Prelude.{nat_lt, slice_get};
 ghost use Rattle.std.specs.List.{AllByRecursion, list_all};

@@ -19,7 +19,7 @@ use std::collections::VecDeque;
 use std::marker::Model;
 use thiserror::Error;
 
-/// Bytes of a page of 32 KB.
+// Bytes of a page of 32 KB.
 const PAGE_BYTES: u32 = 32_768;
 
 /// Why an image does not take a word.
@@ -181,7 +181,7 @@ impl Image {
         are_fitted(&self.below) && above_is_fitted(&self.above)
     }
 
-    // What every image keeps.
+    /// What every image keeps.
     pub(crate) fn whole(&self)
         ensures { AreWhole self.now }
     {
@@ -211,7 +211,7 @@ impl Image {
             .collect(alloc)
     }
 
-    // The pages of 32 KB on which words lie, by number.
+    /// The pages of 32 KB on which words lie, by number.
     pub(crate) fn held_pages(&self, alloc: Global) -> Result<Vec<u32>, AllocError>
         ensures { IfOk result (λ pages. AreHeld self.now pages.items) }
     {
@@ -221,7 +221,7 @@ impl Image {
         Ok(pages)
     }
 
-    // The number of words.
+    /// The number of words.
     pub(crate) fn held(&self) -> usize
         ensures held { result ≡ length self.now }
         ensures few { length self.now ≤ MOST_WORDS }

@@ -8,7 +8,7 @@ ghost use Rattle.loader.specs.PagePlan.{Ascend, IsPagePlan, is_logical, is_unnam
 use crate::image::Image;
 use std::alloc::{AllocError, Global};
 
-/// Logical pages of 32 KB are numbered below this, and the page of this number plus p is the physical page p.
+// Logical pages of 32 KB are numbered below this, and the page of this number plus p is the physical page p.
 const LOGICAL_PAGES: u32 = 1024;
 
 const PHYSICAL_PAGES: u32 = 128;

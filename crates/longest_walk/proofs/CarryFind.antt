@@ -1,4 +1,4 @@
--- Which row is found for a place, and which span stands where.
+-- Which row is found for a place, and which span is where.
 use Rattle.std.proofs.Common.{◌≡◌, ◌≢◌, ℕ, zero, suc, ◌<◌, Bool, true, false, cond, eqb, List, [], ◌∷◌, length, get_or, map, AllPairs, Contains, Some, refl, sym, ap, ◌∙◌, subst, arith}
 use Rattle.std.specs.List.{find}
 use Rattle.std.specs.Cmp.Lexicographic.{pointwise}
@@ -12,7 +12,7 @@ use Rattle.longest_walk.specs.Rows.{is_at}
 
 -- ## Finding
 
--- where the span with this header stands
+-- where the span with this header is
 abbrev pub index_of : List Span → ℕ → ℕ
 index_of [] h = 0
 index_of (s ∷ spans) h = cond (eqb s.header h) 0 (suc (index_of spans h))

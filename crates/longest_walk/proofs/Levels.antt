@@ -40,7 +40,7 @@ module _ (exit : ℕ) (edges : List NumberedEdge) (spans : List Span) (order : I
       let more : sum_by (λ (j : Span). 0) spans + 1 ≤ depth_at spans s.header = sum_by-le_contains (λ j. 0) (λ j. cond (is_in j s.header) 1 0) 1 spans s s_in (λ k d lt. omega arith) here in
       omega arith
 
-  -- an instance inside a context stands below it
+  -- an instance inside a context is below it
   pub level_below : (context : Option Span) → InTree spans context → (s : Span) → Contains spans s → holds context s.header ≡ true → start_of context < s.header → level_in spans context ≤ depth_at spans s.header
   level_below None here s s_in inside later = deep_some s s_in
   level_below (Some t) here s s_in inside later = deeper t s here s_in inside later

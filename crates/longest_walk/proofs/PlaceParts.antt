@@ -1,4 +1,4 @@
--- The edges of a place stand from one number to another.
+-- The edges of a place lie from one number to another.
 use Rattle.std.proofs.Common.{◌≡◌, ◌∙◌, ℕ, ◌+◌, ◌<◌, ◌≤◌, length, get_or, sym, subst, arith}
 use Rattle.flow_graph.specs.declared.places.Place.TheVariants.{Exit}
 use Rattle.flow_graph.specs.Flow.{Flow, IsWellFormed}
@@ -11,7 +11,7 @@ use Rattle.longest_walk.proofs.CarryWalks.{no_edge}
 
 module _ (flow : Flow) (well : IsWellFormed flow) where
   module _ (v : ℕ) (v_in : v < length flow.places) where
-    -- an edge that leaves the place stands in its part
+    -- an edge that leaves the place is in its part
     pub part_of : (k : ℕ) → k < length flow.edges → (step_at flow.edges k).from ≡ place_at flow.places v → (get_or flow.firsts v 0 ≤ k) × (k < get_or flow.firsts (v + 1) 0)
     part_of k k_in from_is =
         let all : get_or flow.firsts (length flow.places) 0 ≡ length flow.edges = well.last_all in

@@ -1,4 +1,4 @@
--- The edges of a list that stand in no repeat: each begins at a later number than the one before it.
+-- The edges of a list that are in no repeat: each begins at a later number than the one before it.
 use Rattle.std.proofs.Common.{◌≡◌, ◌≢◌, ◌∙◌, ℕ, ◌+◌, ◌≤◌, List, [], ◌∷◌, ◌++◌, Option, None, Some, flat_map, refl, sym, ap, subst, arith, append-nil}
 use Rattle.std.proofs.lemmas.List.{map-append}
 use Rattle.std.proofs.lemmas.List.Concat.{flat_map-append}

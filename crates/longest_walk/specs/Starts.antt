@@ -1,4 +1,4 @@
--- The worst times until places begin. Our own definition.
+-- The worst times until places begin.
 use Rattle.std.specs.Prelude.{ℕ, List}
 use Rattle.std.specs.List.{AllZip}
 use Rattle.walks.specs.Greatest.{IsGreatest}

@@ -60,7 +60,7 @@ pub(crate) fn add_way(
     Ok(())
 }
 
-// One round of the span's instance, whose last edge is given.
+// One round of the span's instance, which ends with the given edge.
 fn one_round(
     alloc: Global,
     search: Search<'_>,

@@ -54,7 +54,7 @@ pub(crate) fn last_turn(search: Search<'_>, span: &Span) -> Option<usize>
     turning_edge(numbered(search), search.tables, span)
 }
 
-/// Where the walks of a context begin: at the header of an instance, or at the entry.
+// Where the walks of a context begin: at the header of an instance, or at the entry.
 fn start(context: Option<Span>) -> usize
     ensures { result ≡ start_of context }
 {

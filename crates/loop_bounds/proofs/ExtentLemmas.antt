@@ -40,7 +40,7 @@ up_from extents limit p k (Some d) up here ended begun =
 pub climb_step : (extents : List Extent) (parents : List (Option ℕ)) (limit p k : ℕ) → AreParents extents parents limit → ((j : ℕ) → j < limit → first_of extents j ≤ p) → IsOpen extents limit p (Some k) → end_of extents k ≤ p → IsOpen extents limit p (parent_at parents k)
 climb_step extents parents limit p k known begun here ended = up_from extents limit p k (parent_at parents k) (known k here.0) here ended (begun k here.0)
 
--- a parent stands before
+-- a parent comes before
 pub lower : (extents : List Extent) (k : ℕ) (o : Option ℕ) → IsParent extents k o → height o < height (Some k)
 lower extents k None up = omega arith
 lower extents k (Some d) up = let d_lt : d < k = up.opened.0 in omega arith

@@ -1,4 +1,4 @@
--- Edges that stand node by node.
+-- Edges that are listed node by node.
 use Rattle.std.proofs.Common.{◌≡◌, ℕ, ◌+◌, ◌-◌, ◌<◌, ◌≤◌, List, length, get_or, sym, subst, arith}
 use Rattle.std.specs.Prelude.{Contains}
 use Rattle.std.proofs.lemmas.List.{get_or_default}
@@ -13,7 +13,7 @@ module _ (firsts : List ℕ) (edges : List NumberedEdge) (grouped : IsGrouped fi
   pub firsts_inside : (v : ℕ) → v ≤ exit_of firsts → get_or firsts v 0 ≤ length edges
   firsts_inside v le = rises_to firsts (exit_of firsts) (length edges) grouped.rising grouped.last_all (exit_of firsts - v) v (omega arith)
 
-  -- each edge stands in the part of the node that it leaves
+  -- each edge is in the part of the node that it leaves
   pub edge_at : (k : ℕ) (d : NumberedEdge) → k < length edges → ((get_or edges k d).from < exit_of firsts) × (get_or firsts (get_or edges k d).from 0 ≤ k) × (k < get_or firsts ((get_or edges k d).from + 1) 0)
   edge_at k d lt =
       let w = owner firsts grouped.first_zero (exit_of firsts) k (let all : get_or firsts (exit_of firsts) 0 ≡ length edges = grouped.last_all in omega arith) in

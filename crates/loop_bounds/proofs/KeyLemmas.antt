@@ -1,4 +1,4 @@
--- Keys of places: how they compare, and where they stand.
+-- Keys of places: how they compare, and where they are.
 use Rattle.std.proofs.Common.{◌≡◌, ℕ, zero, suc, ◌+◌, ◌<◌, ◌≤◌, ◌⊎◌, Bool, true, false, eqb, ltb, Option, Some, None, List, [], ◌∷◌, ◌++◌, length, take, get_or, sym, refl, ap, ◌∙◌, inl, inr, ⊎_elim, arith}
 use Rattle.std.specs.Prelude.{not, ◌&&◌, ◌||◌}
 use Rattle.std.specs.Cmp.{IsStrictWeakOrder}
@@ -103,7 +103,7 @@ one_or_other x y a b xs ys ih h k = ⊎_elim
     apart)
     (cases_order x y)
 
--- of two lists one stands before the other, or they are one
+-- of two lists one comes before the other, or they are one
 pub same_by_order : (x y : List ℕ) → is_before x y ≡ false → is_before y x ≡ false → x ≡ y
 same_by_order [] [] h k = refl
 same_by_order [] (y ∷ ys) h k = cc
@@ -176,7 +176,7 @@ not_empty : (c : List ℕ) (a : ℕ) → [] ≡ c ++ a ∷ [] → ⊥
 not_empty [] a e = cc
 not_empty (x ∷ c) a e = cc
 
--- the key tells the place
+-- the key determines the place
 pub same_key : (p q : Place) → key_of p ≡ key_of q → p ≡ q
 same_key (At c a) (At d b) e = let h = one_key c d a b e in (λ i. At (h.0 i) (h.1 i))
 same_key (At c a) Exit e = absurd (not_empty c a (sym e))

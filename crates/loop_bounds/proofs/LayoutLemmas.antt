@@ -1,4 +1,4 @@
--- The order of positions by key, and the numbers that it gives to edges and extents.
+-- The order of positions by key, and the numbers that it assigns to edges and extents.
 use Rattle.std.proofs.Common.{◌≡◌, ℕ, ◌+◌, ◌-◌, ◌<◌, ◌≤◌, List, [], ◌∷◌, ◌++◌, Option, Some, None, IfSome, length, map, get_or, set, take, drop, sym, refl, ap, ◌∙◌, ⊎_elim, arith, length-append}
 use Rattle.std.specs.Prelude.{Contains, MatchOption, EachIndex}
 use Rattle.std.specs.Option.{unwrap_or}
@@ -97,7 +97,7 @@ module _ (key : ℕ → List ℕ) (chains : List (List ℕ)) (exit : ℕ) (keyed
   order_len : length order ≡ exit
   order_len = positions.same ∙ len
 
-  -- each stands at its position in the one list
+  -- each is at its position in the one list
   home : (n : ℕ) (d : Keyed) → n < exit → ((get_or moved n d).position < exit) × (get_or keyed (get_or moved n d).position (get_or moved n d) ≡ get_or moved n d) × (kept_key chains (get_or moved n d) ≡ key (get_or moved n d).position)
   home n d lt =
       let x : Keyed = get_or moved n d in

@@ -1,4 +1,4 @@
--- Lists in another order, each of whose elements stands once.
+-- Lists in another order, each of whose elements occurs once.
 use Rattle.std.proofs.Common.{◌≡◌, ◌≢◌, ℕ, ◌<◌, ◌⊎◌, List, [], ◌∷◌, length, map, get_or, sym, ap, ◌∙◌, inl, inr, refl, arith}
 use Rattle.std.specs.List.{swap}
 use Rattle.std.specs.List.Sorted.{IsPermutation}
@@ -7,7 +7,7 @@ use Rattle.std.proofs.lemmas.List.Edits.{Swapped, swapped_from_swap, length-swap
 use Rattle.std.proofs.lemmas.List.Sorted.{IsPermutation-keeps, IsPermutation-map}
 use Rattle.std.proofs.lemmas.List.{length-map, get_or-map}
 
--- no element stands twice
+-- no element occurs twice
 abbrev pub IsOnce : {X : Type 0} → List X → Type 0
 IsOnce {X} xs = (i j : ℕ) (d : X) → i < length xs → j < length xs → get_or xs i d ≡ get_or xs j d → i ≡ j
 

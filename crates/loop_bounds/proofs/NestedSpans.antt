@@ -52,7 +52,7 @@ ascending_more xs n y le sorted below i j d ij inside =
     (cut xs n y i d le (omega arith)))
     (cut xs n y j d le inside)
 
--- the span at `inner` lies in the span at `outer`, and none stands between
+-- the span at `inner` lies in the span at `outer`, and none is between
 abbrev pub IsDirectlyIn : List Span → ℕ → ℕ → Type 0
 IsDirectlyIn spans outer inner = (inner < length spans) × HoldsSpan spans outer inner × ((m : ℕ) → m < length spans → HoldsSpan spans m inner → HoldsSpan spans outer m → ⊥)
 

@@ -109,7 +109,7 @@ index_below places p (Err i) ordered has range found = absurd (not_missed place_
 pub index_inside : (places : List Place) (p : Place) (r : Result ℕ ℕ) → IsStrictlySortedBy place_cmp places → Contains places p → IsSearchInRange r (length places) → IsBinarySearchResult (λ y. by_order y p) places r → result_unwrap_or r (length places) < length places
 index_inside places p r ordered has range found = index_below places p r ordered has range (subst (λ R. IsBinarySearchResult (λ y. R y p) places r) by_place found)
 
--- the search tells whether a place is there
+-- the search says whether a place is there
 known_at : (places : List Place) (p : Place) (r : Result ℕ ℕ) → IsStrictlySortedBy place_cmp places → IsSearchInRange r (length places) → IsBinarySearchResult (λ y. place_cmp y p) places r → (is_ok r ≡ true → Contains places p) × (is_ok r ≡ false → Contains places p → ⊥)
 known_at places p (Ok i) ordered range found = (
   (λ h. (i, range, place_exact (get_or places i p) p (found p))),

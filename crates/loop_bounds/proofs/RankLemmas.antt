@@ -1,4 +1,4 @@
--- An order of positions in which each edge but the back edges goes up, and the members of an extent stand together.
+-- An order of positions in which each edge but the back edges goes up, and the members of an extent are together.
 use Rattle.std.proofs.Common.{◌≡◌, ℕ, zero, suc, ◌<◌, ◌≤◌, ◌⊎◌, ◌&&◌, true, false, eqb, ltb, List, [], ◌∷◌, AllPairs, Contains, sym, refl, ap, ◌∙◌, subst, inl, inr, ⊎_elim, arith}
 use Rattle.std.proofs.lemmas.Bool.{cases_Bool, both_ways, and_parts, or_parts, ltb-false, eq-eqb, eqb-true, lt-ltb, le-ltb}
 use Rattle.walks.specs.Walk.{Leads, IsReached}
@@ -45,7 +45,7 @@ is_back_any (s ∷ extents) e = ⊎_elim
     (cases_Bool (is_back_of e s))
 
 module _ (edges : List NumberedEdge) (entry exit : ℕ) (extents : List Extent) (ok : IsEnteredRight edges entry extents) (differ : (s t : Extent) → Contains extents s → Contains extents t → s.header ≡ t.header → s ≡ t) where
-  -- how a walk comes to a place: by a forward edge, or it has been there, or in the instance of which it is the header
+  -- how a walk reaches a place: by a forward edge, or it has been there, or in the instance of which it is the header
   comes : (q p : ℕ) (walk : List NumberedEdge) → Leads number_shape (Contains edges) q walk p → Forward edges extents p ⊎ ((q ≡ p) ⊎ ((s : Extent) × Contains extents s × (p ≡ s.header) × (is_within s q ≡ true)))
   comes q p [] is = inr (inl is)
   comes q p (e ∷ walk) (in_graph, starts, leads) = ⊎_elim
@@ -193,7 +193,7 @@ module _ (edges : List NumberedEdge) (entry exit : ℕ) (extents : List Extent) 
         (cases_Bool (is_within s e.to)))
         (cases_Bool (is_within s e.from))
 
-    -- ## Members stand together
+    -- ## Members are together
 
     held_by : (s : Extent) (rest : List Extent) → HoldLater (s ∷ rest) → (i : Extent) → Contains (s ∷ rest) i → (x : ℕ) → is_within s x ≡ true → is_within i x ≡ true → (y : ℕ) → is_within i y ≡ true → is_within s y ≡ true
     held_by s rest nested i at x s_x i_x y i_y = ⊎_elim
@@ -301,6 +301,6 @@ module _ (edges : List NumberedEdge) (entry exit : ℕ) (extents : List Extent) 
       pub edges_go_up : HoldLater extents → (e : NumberedEdge) → Contains edges e → (IsBack extents e → ⊥) → is_before (key extents e.from) (key extents e.to) ≡ true
       edges_go_up nested = key_up extents (λ s at. at) nested
 
-      -- the members of an extent stand together
+      -- the members of an extent are together
       pub members_together : HoldLater extents → (i : Extent) → Contains extents i → (p r x : ℕ) → x < exit → is_within i p ≡ true → is_within i r ≡ true → is_before (key extents x) (key extents p) ≡ false → is_before (key extents r) (key extents x) ≡ false → is_within i x ≡ true
       members_together nested = together extents (λ s at. at) nested

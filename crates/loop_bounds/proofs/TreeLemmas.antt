@@ -64,7 +64,7 @@ module _ (edges : List NumberedEdge) (entry exit : ℕ) (extents : List Extent) 
   pub order_in : (n : ℕ) → n < exit → get_or order n 0 < exit
   order_in n lt = plan.laid.inside n lt
 
-  -- a key that stands before another has the smaller number
+  -- a key that comes before another has the smaller number
   smaller : (p q : ℕ) → p < exit → q < exit → is_before (key_in rank extents p) (key_in rank extents q) ≡ true → new p < new q
   smaller p q plt qlt h =
       let a = number_back p plt in

@@ -1,5 +1,5 @@
--- Numbered nodes and their edges. The nodes are the numbers from 0 to that of the exit, which no edge
--- leaves. Our own form of the flow graph, for searches in linear time.
+-- Numbered nodes and their edges, for searches of the flow graph in linear time. The nodes are the numbers
+-- from 0 to that of the exit, which no edge leaves.
 use Rattle.std.specs.Prelude.{◌≡◌, ℕ, ◌+◌, ◌-◌, ◌<◌, ◌≤◌, List, length, slice_index, slice_index_or}
 use Rattle.numbered_walks.specs.declared.span.NumberedEdge.{NumberedEdge}
 

@@ -1,4 +1,4 @@
--- Orders of numbered nodes in which every edge leads to an earlier node. Our own profile.
+-- Orders of numbered nodes in which every edge leads to an earlier node.
 use Rattle.std.specs.Prelude.{◌≡◌, ℕ, ◌<◌, List, length, Contains, slice_index}
 use Rattle.numbered_walks.specs.declared.span.NumberedEdge.{NumberedEdge}
 use Rattle.loop_bounds.specs.declared.fault.NestFault.{NestFault}

@@ -11,7 +11,7 @@ use crate::ranks::ranks;
 use numbered_walks::NumberedEdge;
 use std::alloc::{AllocError, Global};
 
-/// In how many instances a place may lie.
+// In how many instances a place may lie.
 const MOST_INSTANCES: usize = 16;
 
 // The chain, if there is one, and then the rank.

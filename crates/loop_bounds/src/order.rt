@@ -7,7 +7,7 @@ use crate::fault::NestFault;
 use numbered_walks::NumberedEdge;
 use std::alloc::Global;
 
-/// How far the search is at a node.
+// How far the search is at a node.
 #[derive(Clone, Copy, PartialEq, Eq)]
 enum Colour {
     /// Not met.

@@ -8,7 +8,7 @@ use Rattle.ioc.specs.declared.lines.Lines.{Lines}
 use Rattle.machine_file.specs.Inputs.{IsInput, IsLast, bursts_of_step, lines_of_step, port_of_step}
 use Rattle.machine_file.specs.Stated.{Schedule}
 
--- ## What was given last
+-- ## What was stated last
 
 module _ {A : Type 0} (given : ℕ → Option A) (start : A) where
   pub last_none : IsLast given start 0 start

@@ -72,7 +72,7 @@ all_at p [] k d h lt = absurd (omega arith)
 all_at p (x ∷ xs) zero d h lt = (and_parts (p x) (list_all p xs) h).0
 all_at p (x ∷ xs) (suc k) d h lt = all_at p xs k d (and_parts (p x) (list_all p xs) h).1 (omega arith)
 
--- a number of a page that stands once is that of no earlier page
+-- a number of a page that occurs once is that of no earlier page
 once_before : (f : MappedPage → ℕ) (xs : List MappedPage) (k : ℕ) (d : MappedPage) → k < length xs → are_distinct (map f xs) ≡ true → list_any (nat_eq (f (slice_index_or xs k d))) (map f (take k xs)) ≡ false
 once_before f xs k d lt once = by_case (cases_Bool (list_any (nat_eq x) (map f (take k xs))))
   where

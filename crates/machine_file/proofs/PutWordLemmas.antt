@@ -113,7 +113,7 @@ module _ (ms : Members) where
       (codes "word")
       ms
 
--- ## Where the words stand
+-- ## Where the words are
 
 word_address_held : (d : Data) (word : ℕ × ℕ) → IsPutWord d word → IsTrue (may_hold word.0)
 word_address_held d word h =

@@ -1,4 +1,4 @@
--- What stands in a table that is built row by row.
+-- What is in a table that is built row by row.
 use Rattle.std.proofs.Common.{◌≡◌, ℕ, zero, suc, ◌+◌, ◌≤◌, ◌<◌, ◌&&◌, ◌↔◌, not, IsTrue, Bool, true, false, List, [], ◌∷◌, length, map, take, get_or, Option, Some, None, Ordering, Less, Equal, Greater, String, Global, Bor, string_bytes, nat_cmp, is_eq, refl, sym, ap, ◌∙◌, arith}
 use Rattle.std.specs.BTreeMap.{insert_entry}
 use Rattle.std.specs.Cmp.Lexicographic.{slice_cmp}

@@ -65,7 +65,7 @@ abbrev flags : Bool → Bool → Bool → Bool → Bool → Bool → PsrFlags
 flags n z c v i f =
     record { negative = n; zero = z; carry = c; overflow = v; irq_masked = i; fiq_masked = f }
 
--- the letters of the flags set them, are letters and stand once
+-- the letters of the flags set them, are letters and occur once
 abbrev are_right : List ℕ → PsrFlags → Bool
 are_right text f =
     (((((((same (has text 78) f.negative && same (has text 90) f.zero) && same (has text 67) f.carry)

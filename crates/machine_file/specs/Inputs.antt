@@ -21,7 +21,7 @@ lines_of_step s k = option_and_then (λ e. e.lines) (event_of_step s k)
 abbrev pub port_of_step : Schedule → ℕ → Option ℕ
 port_of_step s k = option_and_then (λ e. e.port) (event_of_step s k)
 
--- what the last step before `end` that gives something gives, or else `start`
+-- what the last step before `end` that states something states, or else `start`
 abbrev pub IsLast : {A : Type 0} → (ℕ → Option A) → A → ℕ → A → Type 0
 IsLast given start end value =
     ((k : ℕ) × (k < end) × (given k ≡ Some value) × ((j : ℕ) → k < j → j < end → given j ≡ None))

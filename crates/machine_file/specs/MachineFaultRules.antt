@@ -1,5 +1,4 @@
--- Which faults a machine file has, over all its tables. Source: our own format of machine files, over the
--- documents of TOML, and our own memory map.
+-- Which faults a machine file has, in all its tables (over the documents of TOML).
 use Rattle.std.specs.Prelude.{◌≡◌, ◌≢◌, ◌⊎◌, ◌-◌, ◌^◌, ⊤, ℕ, ℤ, pos, Bool, true, false, List, [], ◌∷◌, codes}
 use Rattle.std.specs.Prelude.{map, Any, nat_lt, None, IsSomeAnd, IsTrue, MatchOption}
 use Rattle.std.specs.List.{list_all}

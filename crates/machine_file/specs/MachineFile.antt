@@ -1,5 +1,5 @@
--- Which machine a text states, and its faults, of which the lowest over the whole text is answered. Source:
--- our own format of machine files, over the documents of TOML.
+-- Which machine a text states, and its faults, of which the lowest over the whole text is answered (over the
+-- documents of TOML).
 use Rattle.std.specs.Prelude.{◌==◌, ◌&&◌, not, ◌-◌, ◌^◌, ℕ, ℤ, pos, negsuc, Bool, List, map, fold}
 use Rattle.std.specs.Prelude.{replicate, codes, count_by, nat_lt, nat_le, if◌then◌else◌, Option, Some, None}
 use Rattle.std.specs.Prelude.{Ok, Err}

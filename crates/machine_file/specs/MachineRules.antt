@@ -1,5 +1,4 @@
--- What a machine file states, key by key. Source: our own format of machine files, over the
--- documents of TOML.
+-- What a machine file states, key by key (over the documents of TOML).
 use Rattle.std.specs.Prelude.{◌≡◌, ◌-◌, ◌^◌, ℕ, pos, true, List, [], codes, replicate, Option}
 use Rattle.std.specs.Prelude.{Some, None, IsSomeAnd, IsTrue}
 use Rattle.std.specs.List.{AllZip, list_all}

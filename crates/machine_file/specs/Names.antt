@@ -1,4 +1,4 @@
--- The names in machine files, and the keys of their tables (our own format).
+-- The names in machine files, and the keys of their tables.
 use Rattle.std.specs.Prelude.{ℕ, List, [], ◌∷◌, map, codes, Option, Some, None, if◌then◌else◌}
 use Rattle.std.specs.Str.{bytes_eq}
 use Rattle.arm2_effect.specs.declared.modes.Mode.{Mode}

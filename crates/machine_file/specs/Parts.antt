@@ -1,4 +1,4 @@
--- Which machine file is built from parts. Source: our own format of machine files.
+-- Which machine file is built from parts.
 use Rattle.std.specs.Prelude.{◌≡◌, ◌≤◌, ◌<◌, ◌^◌, true, [], All, IsTrue, Ok, Err, length}
 use Rattle.std.specs.List.{list_all}
 use Rattle.std.specs.Map.{keys_of}

@@ -1,5 +1,5 @@
--- Which cycle profile a text states, and its faults, of which the lowest over the whole text is answered.
--- Source: our own format of cycle profile files, over the documents of TOML.
+-- Which cycle profile a text states, and its faults, of which the lowest over the whole text is answered
+-- (over the documents of TOML).
 use Rattle.std.specs.Prelude.{◌≡◌, ◌⊎◌, ◌-◌, ◌^◌, ℕ, List, [], ◌∷◌, codes, Ok, Err}
 use Rattle.toml.specs.Data.{Data, Members, get_member}
 use Rattle.bus_ticks.specs.Ranges.{AreInRange, AreOrdered}

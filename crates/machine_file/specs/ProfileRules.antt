@@ -1,5 +1,4 @@
--- What a cycle profile file states, key by key, and which faults it has. Source: our own
--- format of cycle profile files, over the documents of TOML.
+-- What a cycle profile file states, key by key, and which faults it has (over the documents of TOML).
 use Rattle.std.specs.Prelude.{◌≡◌, ◌≢◌, ◌⊎◌, ◌-◌, ◌^◌, ⊤, ℕ, true, false, List, [], ◌∷◌, length, codes, Any}
 use Rattle.std.specs.Prelude.{None, IsSomeAnd, MatchOption}
 use Rattle.toml.specs.Data.{Data, Members, as_integer, get_member}

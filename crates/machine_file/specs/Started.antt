@@ -1,5 +1,5 @@
 -- The machine that a file states, before words are put into its memory: as it is after a reset, but for what
--- the file states (our own; R15 by the VL86C010 data sheet).
+-- the file states (R15 by the VL86C010 data sheet).
 use Rattle.std.specs.Prelude.{◌≡◌, ◌+◌, ◌*◌, ◌^◌, ◌<◌, ◌≤◌, ◌==◌, ◌++◌, ℕ, List, [], ◌∷◌, length, All}
 use Rattle.std.specs.Prelude.{if◌then◌else◌, Option, Some, None}
 use Rattle.arm2_decode.specs.Allowed.{bit_of}

@@ -1,4 +1,4 @@
--- The document that states a machine. Source: our own format of machine files, over the documents of TOML.
+-- The document that states a machine (over the documents of TOML).
 use Rattle.std.specs.Prelude.{◌==◌, ◌++◌, ℕ, pos, Bool, List, [], ◌∷◌, map, fold, codes, if◌then◌else◌}
 use Rattle.std.specs.Prelude.{Option, Some, None}
 use Rattle.std.specs.Cmp.Lexicographic.{slice_cmp}

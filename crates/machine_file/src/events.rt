@@ -21,7 +21,7 @@ use toml_reading::{
     tables, value_at,
 };
 
-/// The keys of an event's table.
+// The keys of an event's table.
 const EVENT_KEYS: &[&str] = &["step", "bursts", "lines", "port"];
 
 /// What comes from outside from a step on.

@@ -19,7 +19,7 @@ pub struct PsrFlags {
     pub fiq_masked: bool,
 }
 
-/// Their letters.
+// Their letters.
 const LETTERS: &[u8] = b"NZCVIF";
 
 fn times(letter: u8, text: &[u8]) -> usize

@@ -22,7 +22,7 @@ use std::marker::Model;
 use toml::Table;
 use toml_reading::{check, document, only_keys, pair};
 
-/// The keys of the file.
+// The keys of the file.
 const FILE_KEYS: &[&str] = &[
     "pc",
     "pages",
@@ -164,7 +164,7 @@ fn given(alloc: Global, table: &Table) -> Result<Read<Given>, AllocError>
     Ok(pair(schedule, read_words(alloc, table)?))
 }
 
-// The memory controller, and what is given to the machine.
+// The memory controller, the schedule of the inputs, and the words.
 fn surroundings(alloc: Global, table: &Table) -> Result<Read<(Controller, Given)>, AllocError>
     ensures { IfOk result
         (λ parts. parts

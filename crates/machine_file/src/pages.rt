@@ -18,7 +18,7 @@ use toml_reading::{
     value_at,
 };
 
-/// The keys of a mapped page's table.
+// The keys of a mapped page's table.
 const MAP_KEYS: &[&str] = &["logical", "physical", "level"];
 
 /// A logical page on a physical page, both by number, with its level of protection.

@@ -21,7 +21,7 @@ type Four = ((u32, u32), (u32, u32));
 
 type Parts = (((u32, (u32, u32)), (Four, Four)), Four);
 
-/// The keys of a profile file.
+// The keys of a profile file.
 const KEYS: &[&str] = &[
     "n", "s", "quad", "rom", "io", "control", "unfitted", "internal", "burst",
 ];

@@ -16,7 +16,7 @@ use toml_reading::{
     Entry, are_all_distinct, check, only_keys, pair, required_number, tables, value_at,
 };
 
-/// The keys of the table of a word that is put into memory.
+// The keys of the table of a word that is put into memory.
 const WORD_KEYS: &[&str] = &["at", "value"];
 
 fn word_address_numbered(number: i64) -> Read<u32>
@@ -92,7 +92,7 @@ impl Model for PutWords {
         × (are_distinct (keys_of w.words.items) ≡ true) };
 }
 
-// Whether no address is in the list twice.
+/// Whether no address is in the list twice.
 pub(crate) fn have_own_addresses(alloc: Global, words: &[(u32, u32)]) -> Result<bool, AllocError>
     ensures { IfOk result (λ test. test ≡ are_distinct (keys_of words.now)) }
 {

@@ -1,4 +1,4 @@
--- What the report of a listing prints. Our own format.
+-- What the report of a listing prints.
 use Rattle.std.specs.Prelude.{◌≡◌, ◌++◌, ℕ, List, true, false}
 use Rattle.loader.specs.Image.{Words}
 use Rattle.asm_text.specs.Source.{lines_of}
@@ -8,7 +8,7 @@ use Rattle.listing.specs.Listing.{AreWordRows, source_rows}
 use Rattle.machine_reports.specs.Assembly.{HasWords, size_text}
 use Rattle.report_input.specs.Source.{is_image}
 
--- the rows of a text's lines, each where it stands
+-- the rows of a text's lines, each where it is placed
 pub record AreLineRows (source : List ℕ) (words : Words) (rows : List ℕ) : Type 0 where
   pub placed : List PlacedLine
   pub are_placed : ArePlaced source placed

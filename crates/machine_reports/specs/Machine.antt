@@ -24,7 +24,7 @@ stopped_text (Some why) r15 = stop_text why (address_of r15)
 abbrev pub end_text : Ran → State → List ℕ
 end_text ran after = stopped_text ran.stopped (r15_in after.regs) ++ ticks_text ran.ticks ran.elapsed
 
--- what stands in front of a report's end: of the machine before the run, its inputs, and the machine after it
+-- what is in front of a report's end: of the machine before the run, its inputs, and the machine after it
 abbrev pub Front : Type 1
 Front = State → List Input → State → List ℕ → Type 0
 

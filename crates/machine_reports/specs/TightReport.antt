@@ -1,5 +1,5 @@
 -- The report of an edge: a machine file whose machine takes the edge at exactly its price, run by the same
--- source. And which edges have none (our own).
+-- source. And which edges have none.
 use Rattle.std.specs.Prelude.{◌≡◌, ◌<◌, ◌≤◌, ◌++◌, ℕ, List, [], ◌∷◌, length, codes, slice_index_or, All}
 use Rattle.std.specs.Prelude.{Option, None, Result}
 use Rattle.bus_ticks.specs.declared.profile.Profile.{Profile}

@@ -1,4 +1,4 @@
--- The text of an edge's report (our own): what the clauses of private functions cite.
+-- The text of an edge's report: what the clauses of private functions cite.
 use Rattle.std.specs.Prelude.{◌≡◌, ◌++◌, ℕ, List, Ok}
 use Rattle.bus_ticks.specs.declared.profile.Profile.{Profile}
 use Rattle.arm2_exec.specs.State.{State}

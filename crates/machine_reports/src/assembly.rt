@@ -9,14 +9,14 @@ use report_input::read_source;
 use report_output::{Output, ReportFault, print_answer};
 use std::alloc::{AllocError, Global};
 
-/// A source's image as bytes, and the line that tells its size.
+/// A source's image as bytes, and the line that says its size.
 #[derive(Drop)]
 pub struct Written {
     pub bytes: Vec<u8>,
     pub line: String,
 }
 
-/// The line that tells an image's size.
+/// The line that says an image's size.
 pub fn size_line(alloc: Global, image: &Image) -> Result<String, AllocError>
     ensures { IfOk result (λ line. string_bytes line ≡ size_text image.now) }
 {
@@ -25,7 +25,7 @@ pub fn size_line(alloc: Global, image: &Image) -> Result<String, AllocError>
     format!(in alloc; "words {words} segments {segments}\n")
 }
 
-// The file and the report of a source's image.
+/// The file and the report of a source's image.
 pub fn image_written(alloc: Global, source: &[u8]) -> Result<Written, ReportFault>
     ensures is { IfOk result (λ w. IsWritten source.now w.bytes.items (string_bytes w.line)) }
     ensures fault { IfErr result (BeforeOutput (IsSourceRefused source.now)) }

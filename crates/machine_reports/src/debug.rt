@@ -11,7 +11,7 @@ use report_input::{place, profile_of};
 use report_output::{Output, ReportFault, print_answer};
 use std::alloc::Global;
 
-/// The bytes of a source, a machine file and a session's commands.
+// The bytes of a source, a machine file and a session's commands.
 #[derive(Clone, Copy)]
 struct SessionInputs<'a> {
     source: &'a [u8],
@@ -41,8 +41,8 @@ fn session_text(
 
 /// Writes a session of the debugger on the machine of a source and a machine file, by a cycle profile's file
 /// or the first profile: the answers to the commands, a line each, up to their end or `quit`. A command's
-/// refusal stands in its place as `refused: NAME`, and the session goes on. The port begins with the file's
-/// word; its `steps` and events are not used.
+/// refusal is printed in its place as `refused: NAME`, and the session goes on. The port begins with the
+/// file's word; its `steps` and events are not used.
 ///
 /// Nothing is written until the session has ended. Of several faults the first in the order of the work is
 /// answered: profile, source, machine file, load. After any but `Device` nothing was written.

@@ -17,7 +17,7 @@ use report_output::{Output, ReportFault, print_answer};
 use std::alloc::{AllocError, Global};
 use trace_text::{write_registers, write_run, write_stop, write_ticks};
 
-/// A report's text, and whether the run did all its steps.
+// A report's text, and whether the run did all its steps.
 #[derive(Drop)]
 struct Shown {
     text: String,

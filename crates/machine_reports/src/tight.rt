@@ -134,7 +134,7 @@ fn tight_text(
 }
 
 /// Writes a machine file whose machine takes an edge of the handler's flow graph in one step, at exactly the
-/// cost, in ticks, that the graph gives the edge by a cycle profile's file or the first profile. The edge is
+/// cost, in ticks, that the edge has in the graph by a cycle profile's file or the first profile. The edge is
 /// that of the number, from 0, in the order of the graph's edges; a comment in front of the file shows it, as
 /// `# edge ADDRESS skip|do TO COST`. [`run_report`](crate::run_report) of the same source, file and profile
 /// reports a run of one step of that cost.
@@ -143,7 +143,7 @@ fn tight_text(
 ///
 /// The first in the order of the work: profile, source, statement, graph; `NoSuchEdge`, `NotFree` with the
 /// address that the edge leaves ([`is_free`](flow_graph::is_free) says which edges are free), and `Load` with
-/// `NoPage` where a word of the image stands from 2400000 to 2FFFFFF. The handler's loops are not looked at.
+/// `NoPage` where a word of the image lies from 2400000 to 2FFFFFF. The handler's loops are not looked at.
 /// After any but `Device` nothing was written.
 pub fn tight_report<O: Output>(
     alloc: Global,

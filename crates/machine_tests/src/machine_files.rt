@@ -187,7 +187,7 @@ fn refusal(alloc: Global, text: &[u8]) -> Option<MachineFileFault> {
     read_machine(alloc, text).err()
 }
 
-/// The number of the first text that is refused in another way, or not.
+// The number of the first text that is refused in another way, or not.
 fn first_wrong(alloc: Global, rows: &[(&[u8], MachineFileFault)]) -> Option<usize> {
     for (number, (text, fault)) in rows.iter().enumerate() {
         if refusal(alloc, text) != Some(*fault) {

@@ -171,7 +171,7 @@ static WORDS: [(&str, u32); 162] = [
     (" DCD 12345678", 0x00BC_614E),
 ];
 
-/// The word that a source has at an address, or none where it is refused.
+// The word that a source has at an address, or none where it is refused.
 fn word_of(alloc: Global, source: &[u8], at: u32) -> Option<u32> {
     match assemble(alloc, source) {
         Ok(said) => {
@@ -183,21 +183,21 @@ fn word_of(alloc: Global, source: &[u8], at: u32) -> Option<u32> {
     }
 }
 
-/// A line at an address, that which is shown for a word there.
+// A line at an address, that which is shown for a word there.
 fn line_of(alloc: Global, word: u32, at: u32) -> Result<Vec<u8>, AllocError> {
     let mut source = Vec::from_slice(alloc, format!(in alloc; " ORG {at}\n ")?.as_bytes())?;
     source.extend_from_slice(disassemble(word, at).items())?;
     Ok(source)
 }
 
-/// Whether the word is assembled back from what is shown for it.
+// Whether the word is assembled back from what is shown for it.
 fn comes_back(alloc: Global, word: u32, at: u32) -> Result<bool, AllocError> {
     let source = line_of(alloc, word, at)?;
     Ok(word_of(alloc, &source, at) == Some(word))
 }
 
-/// Whether the word comes back at some addresses, and so do words of which one bit is another, which are
-/// other instructions or none.
+// Whether the word comes back at some addresses, and so do words of which one bit is another, which are
+// other instructions or none.
 fn all_come_back(alloc: Global, word: u32) -> Result<bool, AllocError> {
     for at in [0u32, 0x1C, 0x8000, 0x2FF_FFFC, 0x3FF_FFFC] {
         for changed in [
@@ -211,13 +211,13 @@ fn all_come_back(alloc: Global, word: u32) -> Result<bool, AllocError> {
     Ok(true)
 }
 
-/// Whether the line has that word at 8000, which is not lost.
+// Whether the line has that word at 8000, which is not lost.
 fn is_right(alloc: Global, line: &str, word: u32) -> Result<bool, AllocError> {
     let has_word = word_of(alloc, line.as_bytes(), 0x8000) == Some(word);
     Ok(has_word && all_come_back(alloc, word)?)
 }
 
-/// The number of the first line that has another word at 8000, or whose word is lost.
+// The number of the first line that has another word at 8000, or whose word is lost.
 fn first_wrong(alloc: Global, lines: &[(&str, u32)]) -> Result<Option<usize>, AllocError> {
     for (number, (line, word)) in lines.iter().enumerate() {
         if !is_right(alloc, line, *word)? {
@@ -234,7 +234,7 @@ fn lines_and_their_words(rt: HostRuntime) -> Result<(), Fail> {
     Ok(())
 }
 
-/// A word that looks random and does not come back at the address, if there is one among a hundred.
+// A word that looks random and does not come back at the address, if there is one among a hundred.
 fn first_lost(alloc: Global, at: u32) -> Result<Option<u32>, AllocError> {
     let mut word = 0x1234_5678u32;
     for _ in 0..100 {
@@ -254,7 +254,7 @@ fn lines_are_assembled_back(rt: HostRuntime) -> Result<(), Fail> {
     Ok(())
 }
 
-/// How many words a source has, or why it is refused.
+// How many words a source has, or why it is refused.
 fn words_of(alloc: Global, source: &[u8]) -> Result<u32, AsmFault> {
     let said = assemble(alloc, source)?;
     let words = said.image.words();
@@ -262,7 +262,7 @@ fn words_of(alloc: Global, source: &[u8]) -> Result<u32, AsmFault> {
     Ok(words)
 }
 
-/// The same of so many lines that are a word each.
+// The same of so many lines that are a word each.
 fn words_of_lines(alloc: Global, lines: usize) -> Result<Result<u32, AsmFault>, AllocError> {
     let source = b" DCD 0\n".repeat(alloc, lines)?;
     Ok(words_of(alloc, &source))

@@ -76,7 +76,7 @@ fn timer(machine: &mut Machine) -> u32 {
     machine.ioc().read(0x320_0040)
 }
 
-// Timer 0 gets latch 2. VIDC's registers, of 2 pixels to a raster and 2 rasters, give a flyback each 4 ticks.
+// Timer 0 gets latch 2. VIDC's registers, of 2 pixels to a raster and 2 rasters, make a flyback each 4 ticks.
 fn set_up(machine: &mut Machine) {
     machine.ioc_mut().write(0x320_0040, 0x2_0000);
     machine.ioc_mut().write(0x320_0048, 0);

@@ -1,4 +1,4 @@
--- Words on one page: each stands where the first does, further on by as much as its address.
+-- Words on one page: each lies where the first does, further on by as much as its address.
 use Rattle.std.proofs.Common.{◌≡◌, ℕ, ◌+◌, ◌-◌, ◌*◌, ◌/◌, ◌%◌, ◌^◌, ◌<◌, ◌≤◌, Bool, true, false, cond, Option, Some, None, Result, Ok, Err, length, refl, sym, ◌∙◌, ap, arith}
 use Rattle.std.proofs.Math.Nat.{div-add-mod, mul_assoc, mul_comm, pow-le-pow_right}
 use Rattle.std.proofs.lemmas.Bool.{lt-ltb}
@@ -17,7 +17,7 @@ pub size_bounds : (shift : ℕ) → 12 ≤ shift → shift ≤ 15 → (4096 ≤ 
 size_bounds shift least most =
     rw (one_shl shift 32 (omega arith)) (pow-le-pow_right {n = 2} (omega arith) {i = 12} {j = shift} least, pow-le-pow_right {n = 2} (omega arith) {i = shift} {j = 15} most)
 
--- word i from an address on, where it stands no further than the address's page
+-- word i from an address on, where it lies no further than the address's page
 record IsWithin (size address i : ℕ) : Type 0 where
   page : word_address address i / size ≡ address / size
   place : word_address address i % size / 4 * 4 ≡ address % size / 4 * 4 + 4 * i

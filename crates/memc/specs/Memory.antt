@@ -1,7 +1,7 @@
--- The memory controller as plain maps: what answers at an address, who may use it, and what each call leaves.
--- Source: our own profile. Its memory map, levels, control fields and translator write with pages of 4 KB are
--- shaped on the data sheet of the VL86C110 (MEMC); what is refused, ROM without words and loads of physical
--- RAM are ours alone.
+-- The memory controller as plain maps: what answers at an address, who may use it, and what each call
+-- leaves. Its memory map, levels, control fields and translator write with pages of 4 KB are shaped on the
+-- data sheet of the VL86C110 (MEMC); what is refused, ROM without words and loads of physical RAM are ours
+-- alone.
 use Rattle.std.specs.Prelude.{◌≡◌, ℕ, ◌+◌, ◌-◌, ◌*◌, ◌/◌, ◌%◌, ◌^◌, ◌<◌, ◌≤◌, ◌⊎◌, Bool, ◌==◌, ◌&&◌, ◌||◌}
 use Rattle.std.specs.Prelude.{not, nat_lt, nat_le, if◌then◌else◌, Option, Some, None, Result, Ok, Err, List}
 use Rattle.std.specs.Prelude.{[], ◌∷◌, slice_index, slice_set}

@@ -1,5 +1,5 @@
--- RAM and its page map as plain maps: from physical place to word, and from logical page to physical page and
--- level. Source: our own profile, shaped on the data sheet of the VL86C110 (MEMC).
+-- RAM and its page map as plain maps: from physical place to word, and from logical page to physical page
+-- and level (shaped on the data sheet of the VL86C110, MEMC).
 use Rattle.std.specs.Prelude.{◌≡◌, ℕ, ◌+◌, ◌*◌, ◌/◌, ◌%◌, ◌^◌, ◌<◌, ◌≤◌, ◌==◌, if◌then◌else◌, Option, Some}
 use Rattle.std.specs.Prelude.{None, List, length, map, slice_index_or, slice_set, All}
 use Rattle.memc.specs.declared.pages.Entry.{Entry}

@@ -13,15 +13,15 @@ use std::alloc::Global;
 use std::collections::BTreeMap;
 use std::marker::Model;
 
-/// Where physical RAM and, for stores, the DMA and control range and the translator begin.
+// Where physical RAM and, for stores, the DMA and control range and the translator begin.
 const PHYSICAL_RAM: u32 = 0x200_0000;
 
 const DMA_AND_CONTROL: u32 = 0x360_0000;
 
 const TRANSLATOR: u32 = 0x380_0000;
 
-/// What a store to the control range sets, but the page size. The fields of the video and sound DMA have no
-/// effect.
+// What a store to the control range sets, but the page size. The fields of the video and sound DMA have no
+// effect.
 #[derive(Clone, Copy)]
 struct ControlFields {
     rom_times: RomTimes,

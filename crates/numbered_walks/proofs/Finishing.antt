@@ -1,4 +1,4 @@
--- The numbers at the end of the pass meet the rows and give the greatest bound.
+-- The numbers at the end of the pass meet the rows and yield the greatest bound.
 use Rattle.std.proofs.Common.{◌≡◌, ℕ, ◌+◌, ◌^◌, ◌<◌, ◌≤◌, Bool, true, false, cond, not, ◌&&◌, eqb, List, [], ◌∷◌, ◌++◌, ◌⊎◌, ⊎_elim, inl, inr, length, get_or, slice_index, Option, Some, None, All, Contains, sum_by, refl, sym, ap, ◌∙◌, subst, arith}
 use Rattle.std.specs.List.{find}
 use Rattle.std.specs.Option.{IfSome}
@@ -232,7 +232,7 @@ with_bound edges tree k q b c pass = record {
   round_attained = pass.round_attained;
 }
 
--- what the pass found, bounded by what stands at Exit
+-- what the pass found, bounded by what is at Exit
 pub record IsClosed (exit : ℕ) (edges : List NumberedEdge) (tree : List Span) (c : Tables) : Type 0 where
   pub passed : IsPassed edges tree (length tree) (exit + 1) c
   pub closes : c.bound ≡ distance_of c exit

@@ -123,7 +123,7 @@ module _ (exit : ℕ) (edges : List NumberedEdge) (tree : List Span) (c : Tables
       (λ differ. places p (omega arith) placed)
       (cases_eq p q)
 
-  -- an instance that a back edge of another leaves stands before it
+  -- an instance that a back edge of another leaves comes before it
   left_before : (m n : ℕ) → m < length tree → n < length tree → (e : NumberedEdge) → e.to ≡ (nth tree n).header → e.to ≤ e.from → e.from ≤ (nth tree n).last → is_left e (nth tree m) ≡ true → (m < n) × ((nth tree m).last ≤ (nth tree n).last)
   left_before m n m_below n_below e to_header back low is =
       let i = nth tree m in

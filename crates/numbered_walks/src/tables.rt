@@ -12,7 +12,7 @@ pub struct Tables {
     pub bound: u64,
     /// The greatest cost, in ticks, from the last header that was entered and is not left; 0 at a header.
     pub distances: Vec<u64>,
-    /// At a header the greatest cost, in ticks, of coming to it from outside; else 0.
+    /// At a header the greatest cost, in ticks, of reaching it from outside; else 0.
     pub arrivals: Vec<u64>,
     /// At a header the greatest cost of a round, in ticks; 0 with no back edge or a bound of 0.
     pub rounds: Vec<u64>,

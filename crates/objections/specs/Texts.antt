@@ -1,4 +1,4 @@
--- What is printed of what fails in a certificate. Our own format.
+-- What is printed of what fails in a certificate.
 use Rattle.std.specs.Prelude.{ℕ, ◌∷◌, ◌++◌, ◌^◌, List, codes, cond, decimal, nat_lt}
 use Rattle.asm_text.specs.Hex.{hex}
 use Rattle.flow_graph.specs.declared.edges.Edge.{Edge}

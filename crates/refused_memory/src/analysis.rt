@@ -12,7 +12,7 @@ use loop_bounds::{LoopTree, NestFault, nest};
 use samples::nested_countdown::{SOURCE, STATEMENT};
 use std::alloc::Global;
 
-/// An edge of the nested countdown: the branch that turns its inner loop, which takes 4 ticks.
+// An edge of the nested countdown: the branch that turns its inner loop, which takes 4 ticks.
 const EDGE: usize = 4;
 
 /// A call on the nested countdown. None changes a value.

@@ -6,7 +6,7 @@ use explained::{Assumption, assumed, named_lines};
 use flow_graph::Graph;
 use std::alloc::Global;
 
-/// Transfers for which no class is stated. The second may write R15, and no target is stated for it.
+// Transfers for which no class is stated. The second may write R15, and no target is stated for it.
 const SOURCE: &[u8] = b"start LDR R0,[R1]\n LDREQ PC,[R2]\n STR R0,[R3]\n MOV PC,R14\n";
 
 const STATEMENT: &[u8] = b"entry = \"start\"\n";
@@ -18,7 +18,7 @@ const LOOSE_ROWS: &[u8] = b"  00008000     1  start LDR R0,[R1]
   00008008     3   STR R0,[R3]
 ";
 
-/// A call that tells what a bound takes for granted of its handler. None changes a value.
+/// A call that returns what a bound takes for granted of its handler. None changes a value.
 #[derive(Clone, Copy)]
 pub(crate) enum AssumedCall {
     Addresses,

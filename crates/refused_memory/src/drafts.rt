@@ -4,7 +4,7 @@ use assembler::{Assembly, assemble, placed_lines};
 use drafting::{Program, draft};
 use std::alloc::Global;
 
-/// A byte of a device, a loop that is counted, and a jump through a table that is none.
+// A byte of a device, a loop that is counted, and a jump through a table that is none.
 const SOURCE: &[u8] = b"start MOV R1,#&3200000\nread LDRB R0,[R1]\n MOV R2,#3\n\
     again SUBS R2,R2,#1\nturn BNE again\njump ADD PC,PC,R0,LSL #2\n DCD 0\n MUL R2,R3,R4\n";
 

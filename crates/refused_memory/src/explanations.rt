@@ -22,7 +22,7 @@ pub(crate) const NESTED_LINES: &[u8] = b"passes  each  ticks  share latest price
 bound 50 ticks, 6.250 microseconds at 8 MHz
 ";
 
-/// The same by its words.
+// The same by its words.
 const NESTED_WORDS: &[u8] = b"passes  each  ticks  share latest priced as   address  text
      1     1      1   2.0%      0            00008000  MOV R1,#2
      2     1      2   4.0%     22            00008004  MOV R0,#3
@@ -35,10 +35,10 @@ const NESTED_WORDS: &[u8] = b"passes  each  ticks  share latest priced as   addr
 bound 50 ticks, 6.250 microseconds at 8 MHz
 ";
 
-/// The worst starts of its places, in ticks.
+// The worst starts of its places, in ticks.
 const NESTED_STARTS: [u64; 7] = [0, 22, 35, 37, 38, 39, 40];
 
-/// How often its greatest walk takes each edge: of a branch first the one that goes on.
+// How often its greatest walk takes each edge: of a branch first the one that goes on.
 const NESTED_COUNTS: [u64; 9] = [1, 2, 6, 2, 4, 2, 1, 1, 1];
 
 /// A call that explains the bound of the nested countdown, or counts the edges of its walk. None changes a

@@ -17,18 +17,18 @@ use loop_bounds::{LoopTree, nest};
 use memc::PageSize;
 use std::alloc::Global;
 
-/// A countdown from 3 at the address of a machine that was reset. It stores the count, and returns to 0.
+// A countdown from 3 at the address of a machine that was reset. It stores the count, and returns to 0.
 const SOURCE: &[u8] = b" ORG 0\n MOV R0,#3\nagain STR R0,[R1,#&100]\n SUBS R0,R0,#1\n\
     turn BNE again\n MOV PC,R14\n";
 
 const STATEMENT: &[u8] = b"entry = 0\n\
     [[loop]]\nheader = \"again\"\nfirst = \"again\"\nlast = \"turn\"\nbound = 2\n";
 
-/// The steps until it returns, and their ticks: 1, three rounds of 10, of which the last one is 3 less, and
-/// 4.
+// The steps until it returns, and their ticks: 1, three rounds of 10, of which the last one is 3 less, and
+// 4.
 const KEPT: (u64, u128) = (11, 32);
 
-/// R15, the count, and the word where it is stored, before the run and after it.
+// R15, the count, and the word where it is stored, before the run and after it.
 const BEFORE: [Option<u32>; 3] = [Some(0x0C00_0003), Some(0), Some(0)];
 
 const AFTER: [Option<u32>; 3] = [Some(0x6C00_0003), Some(0), Some(1)];

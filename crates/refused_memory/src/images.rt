@@ -12,7 +12,7 @@ use memc::PageSize;
 use samples::countdown::{IMAGE, SOURCE};
 use std::alloc::Global;
 
-/// Words in RAM, by a logical and a physical address, and in ROM.
+// Words in RAM, by a logical and a physical address, and in ROM.
 const SCATTERED: &[u8] =
     b" ORG &8000\n DCD 1\n ORG &2000010\n DCD 2\n ORG &3800000\n DCD &12345678\n";
 

@@ -4,10 +4,10 @@ use assembler::{AsmFault, Assembly, PlacedLine, assemble, placed_lines};
 use listing::{list_image, list_source};
 use std::alloc::Global;
 
-/// A line of three words, lines without a word, and one in a second segment.
+// A line of three words, lines without a word, and one in a second segment.
 const LINES: &[u8] = b" DCD 1,&FFFFFFFF,end\n; nothing\nend\n ORG &9000\nhere B here\n";
 
-/// The address of each line, and how many words it has.
+// The address of each line, and how many words it has.
 const PLACES: [(u32, usize); 5] = [
     (0x8000, 3),
     (0x800C, 0),
@@ -25,7 +25,7 @@ const SOURCE_ROWS: &[u8] = b"00008000  00000001       1   DCD 1,&FFFFFFFF,end
 00009000  EAFFFFFE       5  here B here
 ";
 
-/// The word FFFFFFFF is an SWI that is passed over.
+// The word FFFFFFFF is an SWI that is passed over.
 const IMAGE_ROWS: &[u8] = b"00008000  00000001  ANDEQ R0,R0,R1
 00008004  FFFFFFFF  SWINV 16777215
 00008008  0000800C  ANDEQ R8,R0,R12

@@ -5,10 +5,10 @@ use bus_ticks::Profile;
 use memc::{Memc, MemcFault, PageSize, Spot};
 use std::alloc::Global;
 
-/// An address in ROM, and the word that is put there.
+// An address in ROM, and the word that is put there.
 const ADDED: (u32, u32) = (0x380_0000, 0x1234_5678);
 
-/// A word that ROM has before.
+// A word that ROM has before.
 const THERE: (u32, u32) = (0x340_0000, 1);
 
 /// The word that a privileged load finds in RAM or ROM.
@@ -72,7 +72,7 @@ impl NewCall {
     }
 }
 
-/// A word put into ROM where another stands.
+/// A word put into ROM where another is.
 #[derive(Drop)]
 pub(crate) struct AddRom {
     memc: Memc,

@@ -20,10 +20,10 @@ const MACHINE: &[u8] = b"pc = 0x8000\nmode = \"irq\"\npages = 32\nsteps = 3\n\
 const PROFILE: &[u8] = b"n = 3\ns = 1\nquad = 2\nrom = [5, 4, 3, 2]\nio = [8, 6, 5, 10]\n\
     control = 2\nunfitted = 2\ninternal = 1\nburst = 8\n";
 
-/// The profile's numbers, in the order of its fields.
+// The profile's numbers, in the order of its fields.
 const NUMBERS: [u32; 15] = [3, 1, 2, 5, 4, 3, 2, 8, 6, 5, 10, 2, 2, 1, 8];
 
-/// Where R14 of IRQ mode stands among the registers.
+// Where R14 of IRQ mode is among the registers.
 const R14_IRQ: usize = 23;
 
 const RETURN: u32 = 0x1010;

@@ -1,5 +1,5 @@
 //! Makes each public call that takes memory, and prints a line for each. Where a call is refused for memory,
-//! what it changes has to be as it was before, and the same call made again has to give the right answer.
+//! what it changes has to be as it was before, and the same call made again has to return the right answer.
 //! An argument names the one call to be made.
 //!
 //! The status is 0 where each answer is right, also where that was at the second time; 1 where one is wrong,

@@ -4,7 +4,7 @@ use arcwcet::{MemoryOutput, ReportFault, Store, StoreFault, program, read_limite
 use samples::{countdown, nested_countdown};
 use std::alloc::{AllocError, Global};
 
-/// The status for lack of memory.
+// The status for lack of memory.
 const NO_MEMORY: u8 = 3;
 
 /// What the program is asked for.
@@ -44,7 +44,7 @@ impl Line {
     }
 }
 
-/// The files that the words name. Of the one that is written it only knows whether it is the image.
+// The files that the words name. Of the one that is written it only knows whether it is the image.
 #[derive(Drop)]
 struct Files {
     written: Option<bool>,

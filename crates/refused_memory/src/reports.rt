@@ -69,7 +69,7 @@ refused: BadNumber
 refused: NoPage
 ";
 
-/// A handler of FIQ that returns at once, and the countdown.
+// A handler of FIQ that returns at once, and the countdown.
 const TWO_HANDLERS: &[u8] = b" ORG &1C\nfiq SUBS PC,R14,#4\n ORG &8000\n\
     start MOV R0,#3\nagain SUBS R0,R0,#1\nturn BNE again\n SUBS PC,R14,#4\n";
 
@@ -109,16 +109,16 @@ place - 1C 0
 stop
 ";
 
-/// The edge of the countdown's return, and the line of its report that shows it.
+// The edge of the countdown's return, and the line of its report that shows it.
 const EDGE: u32 = 4;
 
 const EDGE_LINE: &[u8] = b"# edge 800C do exit 9\n";
 
-/// What a run of the edge ends with.
+// What a run of the edge ends with.
 const EDGE_TICKS: &[u8] = b"ticks 9 elapsed 9\n";
 
-/// What stands under the table where bursts are asked for: 50 ticks, and 6 for each of 3 bursts, or of the 13
-/// that come within 130 ticks. A return to a device's address costs 6 ticks where one to anywhere costs 8.
+// What is under the table where bursts are asked for: 50 ticks, and 6 for each of 3 bursts, or of the 13
+// that come within 130 ticks. A return to a device's address costs 6 ticks where one to anywhere costs 8.
 const UNDER_TABLE: &[u8] = b"with 3 bursts 68 ticks, 8.500 microseconds at 8 MHz
 with a burst every 10 ticks 128 ticks, 16.000 microseconds at 8 MHz
 
@@ -126,14 +126,14 @@ What would save most, in ticks at most (state only what is true):
         2   leave io for any
 ";
 
-/// A return to RAM costs 4 ticks, and one to anywhere 8.
+// A return to RAM costs 4 ticks, and one to anywhere 8.
 const FOLLOWED: &[u8] = b"kept: 21 ticks, 4 less than the bound
               run            bound
   passes    ticks  passes    ticks   address  line  text
        1        5       1        9  0000800C     4   SUBS PC,R14,#4
 ";
 
-/// Its bound is exactly as much as it may be.
+// Its bound is exactly as much as it may be.
 const EXPLAINED: Explained<'static> = Explained {
     source: nested_countdown::SOURCE,
     statement: nested_countdown::STATEMENT,
@@ -169,8 +169,8 @@ pub(crate) enum Report {
 }
 
 impl Report {
-    // What is written; of a tight edge's report what stands before the machine file, and of an explanation
-    // what stands before the lines of bursts.
+    // What is written; of a tight edge's report what is before the machine file, and of an explanation
+    // what is before the lines of bursts.
     fn text(self) -> &'static [u8] {
         match self {
             Report::Asm => b"words 4 segments 1\n",

@@ -9,14 +9,14 @@ use memc::PageSize;
 use std::alloc::Global;
 use std::str;
 
-/// A loop whose round takes 1 and 4 ticks.
+// A loop whose round takes 1 and 4 ticks.
 const LOOP: &[u8] = b"round ADD R0,R0,#1\n B round\n";
 
 const ADD: &str = "00008000 E2800001 1 ADD R0,R0,#1";
 
 const BRANCH: &str = "00008004 EAFFFFFD 4 B &8000";
 
-/// SVC mode at 8000, with both interrupts masked.
+// SVC mode at 8000, with both interrupts masked.
 const REGISTERS: &[u8] = b"R0=00000000 R1=00000000 R2=00000000 R3=00000000
 R4=00000000 R5=00000000 R6=00000000 R7=00000000
 R8=00000000 R9=00000000 R10=00000000 R11=00000000
@@ -25,7 +25,7 @@ R12=00000000 R13=00000000 R14=00000000 R15=0C008003
 
 const NO_TICKS: &[u8] = b"ticks 0 elapsed 0\n";
 
-/// 512 rounds, and 7 bursts of 6 ticks in the first step alone.
+// 512 rounds, and 7 bursts of 6 ticks in the first step alone.
 const ALL_TICKS: &[u8] = b"ticks 2560 elapsed 2602\n";
 
 const BREAKS: &[u8] = b"00009000\n";

@@ -7,7 +7,7 @@ const WRONG: u8 = 1;
 
 const NO_SUCH_CALL: u8 = 2;
 
-/// What the calls so far came to.
+/// The outcomes of the calls so far.
 #[derive(Clone, Copy)]
 pub(crate) struct Tally {
     has_any: bool,

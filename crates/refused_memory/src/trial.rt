@@ -26,7 +26,7 @@ impl Answer {
         }
     }
 
-    /// The answer of a call that gave a value, which is let go.
+    /// The answer of a call that returned a value, which is dropped.
     pub(crate) fn of_value<T: Drop>(is_right: bool, value: T) -> Answer {
         drop(value);
         Answer::of(is_right)
@@ -52,8 +52,8 @@ impl Answer {
 
 /// A call that takes memory, with what it changes.
 ///
-/// An error of either method says why what stands beside the call could not be had: what the call is made
-/// with, or what its answer is compared with.
+/// An error of either method says why what the call needs could not be had: what the call is made with, or
+/// what its answer is compared with.
 pub(crate) trait Trial {
     /// Makes the call, and compares its answer with the right one.
     fn make(&mut self, alloc: Global) -> Result<Answer, ReportFault>;
@@ -62,20 +62,20 @@ pub(crate) trait Trial {
     fn is_unchanged(&mut self, alloc: Global) -> Result<bool, ReportFault>;
 }
 
-/// What a call that is made again after a refusal came to.
+/// The outcome of a call that is made again after a refusal.
 #[derive(Clone, Copy)]
 pub(crate) enum Outcome {
     Right,
     Wrong,
-    /// Memory was refused, and the call made again gave the right answer.
+    /// Memory was refused, and the call made again returned the right answer.
     RightAgain,
-    /// Memory was refused, and the call made again gave a wrong answer.
+    /// Memory was refused, and the call made again returned a wrong answer.
     WrongAgain,
     /// Memory was refused twice.
     RefusedAgain,
     /// Memory was refused, and what the call changes was not as before.
     Changed,
-    /// What stands beside the call could not be had.
+    /// What the call needs could not be had.
     Unmade(ReportFault),
 }
 

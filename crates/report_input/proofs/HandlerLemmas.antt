@@ -63,7 +63,7 @@ graph_there source statement profile words names st flow said read allowed is = 
   graph_is = is;
 }
 
--- a refusal of the loops tells what applies
+-- a refusal of the loops says what applies
 applies : (flow : Flow) (loops : List Loop) (f : NestFault) → IsNestFault flow loops f → Applies flow loops f
 applies flow loops nest_fault.Memory h = h
 applies flow loops nest_fault.LoopsCross h = h

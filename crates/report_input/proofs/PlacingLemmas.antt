@@ -54,7 +54,7 @@ same_entry [] c d i h k =
     ]
 same_entry (p ∷ ps) c d i h k = h i ∙ sym (k i)
 
--- the part of a memory that tells where a load goes
+-- the part of a memory that says where a load goes
 abbrev plain : ℕ → Pages → ControlFields → Memory
 plain shift pages control = record { shift = shift; paged = record { words = []; pages = pages }; control = control; rom = [] }
 

@@ -1,4 +1,4 @@
--- What reading a source tells.
+-- What reading a source reports.
 use Rattle.std.proofs.Common.{◌≡◌, ◌∙◌, ◌⊎◌, ℕ, Bool, true, false, List, Result, Ok, Err, ap, cond, inl, inr, sym}
 use Rattle.std.specs.Prelude.{IfErr}
 use Rattle.std.specs.Result.{IsErrAnd}

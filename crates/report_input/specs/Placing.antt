@@ -76,8 +76,8 @@ pub record IsLoadRefused (source machine : List ℕ) (profile : Profile) (fault 
   pub fault_is : fault ≡ NoPage
   pub lacks : LacksPage start words file
 
--- when each refusal is answered: the first in the order of the work. A growth is refused, and an output
--- fails, whatever the texts
+-- when each refusal is answered: the first in the order of the work. An allocation may fail, and an
+-- output, whatever the texts
 abbrev pub IsRunRefused : List ℕ → List ℕ → Profile → ReportFault → Type 0
 IsRunRefused source machine profile report_fault.Memory = Unit {0}
 IsRunRefused source machine profile report_fault.Device = Unit {0}

@@ -27,7 +27,7 @@ abbrev pub said_by_image : Result Words ReadFault → Result Said ReportFault
 said_by_image (Ok words) = Ok (words, no_names)
 said_by_image (Err fault) = Err (Image fault)
 
--- a fault tells its line
+-- a fault with its line
 abbrev pub said_by_text : Result Said (Fault × ℕ) → Result Said ReportFault
 said_by_text (Ok said) = Ok said
 said_by_text (Err fault) = Err (Source (Line fault.0 fault.1))

@@ -23,7 +23,7 @@ pub record FailsWithin (IsText : List ℕ → Type 0) (old new : Option (List �
 abbrev pub OfSome : {T : Type 0} → (T → List ℕ → Type 0) → List ℕ → Type 0
 OfSome {T} IsText text = (x : T) × IsText x text
 
--- the answer to what a call is given, with the output before it and after it: Ok only with a text of that
+-- the answer to what a call gets, with the output before it and after it: Ok only with a text of that
 -- answer, for what is accepted; for what is accepted no refusal but Memory and Device; each refusal where it
 -- holds; and nothing written before a refusal other than Device
 pub record Answers {O T : Type 0} (taken : O → Option (List ℕ)) (failures : O → ℕ)

@@ -138,7 +138,7 @@ module _ (p : ClassPrices) where
 
 -- ## Edges
 
--- the class that stands first is the stated one
+-- the class that comes first is the stated one
 first_class : (st : Stated) (a : ℕ) (class : Class) → class_of (with_access st a class) a ≡ class
 first_class st a class = ap (λ b. unwrap_or (if b then Some class else lookup (eqb a) st.accesses) Any) (eq-eqb a a refl)
 

@@ -1,4 +1,4 @@
--- What the next better entry of a statement takes off a price, in ticks. Our own rules.
+-- What the next better entry of a statement takes off a price, in ticks.
 use Rattle.std.specs.Prelude.{◌≢◌, ℕ, ◌-◌, ◌*◌, ◌<◌, ◌≤◌, ◌==◌, max, nat_lt, count_ones, if◌then◌else◌}
 use Rattle.std.specs.Prelude.{Option, Some, None}
 use Rattle.arm2_decode.specs.declared.instr.Operation.{Operation}

@@ -1,4 +1,4 @@
--- What better entries of a statement would save, as text. Our own format.
+-- What better entries of a statement would save, as text.
 use Rattle.std.specs.Prelude.{◌≡◌, ℕ, List, ◌++◌, codes, decimal, length, Option, Some, None}
 use Rattle.assembler.specs.declared.placed_line.PlacedLine.{PlacedLine}
 use Rattle.text_rows.specs.ByAddress.{line_of}

@@ -1,5 +1,5 @@
--- Shifts of a list of 32 bits, the lowest first, and the cycles of a multiply (VL86C010 data sheet, barrel
--- shifter; our own cycle profile for the multiply).
+-- Shifts of a list of 32 bits, the lowest first (VL86C010 data sheet, barrel shifter), and the cycles of a
+-- multiply.
 use Rattle.std.specs.Prelude.{ℕ, ◌-◌, ◌*◌, ◌%◌, ◌^◌, ◌≡◌, ◌==◌, ◌<◌, ◌≤◌, Bool, false, if◌then◌else◌, List}
 use Rattle.std.specs.Prelude.{[], ◌∷◌, ◌++◌, take, drop, replicate, slice_index_or}
 use Rattle.arm2_decode.specs.declared.names.Shift.{Shift as Kind}

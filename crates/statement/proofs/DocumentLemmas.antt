@@ -210,7 +210,7 @@ module _ (names : Names) where
     u.2.1,
   )
 
-  -- two entries of one address are told of, or a fault that is no higher
+  -- two entries of one address are reported, or a fault that is no higher
   two_under :
       (ms : Members) (f : StatementFault)
       → TwoFault ms f

@@ -155,7 +155,7 @@ module _ (names : Names) where
   bound_low None g h = at_most g WrongKind h (omega arith)
   bound_low (Some d) g h = number_low (as_integer d) g h
 
-  -- a header outside first to last is told of, or a fault of the bound that is no higher
+  -- a header outside first to last is reported, or a fault of the bound that is no higher
   misplaced_under :
       (ms : Members) (f : StatementFault)
       → IsMisplaced names ms × (f ≡ OutOfRange)
@@ -313,7 +313,7 @@ module _ (names : Names) where
       (listed_up_to statement_faults 64 (address_at names) ds)
       (read_judged ds)
 
-  -- addresses of which one stands twice are told of, or a fault of theirs, which is no higher
+  -- addresses of which one occurs twice are reported, or a fault of theirs, which is no higher
   twice_under :
       (ds : List Data) (f : StatementFault)
       → StandsTwice (IsAddress names) ds × (f ≡ Twice)

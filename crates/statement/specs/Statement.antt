@@ -1,5 +1,5 @@
--- Which statement a text states, and its faults, of which the lowest over the whole text is answered. Source:
--- our own statement format, over the documents of TOML.
+-- Which statement a text states, and its faults, of which the lowest over the whole text is answered (over
+-- the documents of TOML).
 use Rattle.std.specs.Prelude.{◌&&◌, ◌==◌, ℕ, ℤ, pos, List, [], ◌∷◌, length, codes, is_none, Option, Some}
 use Rattle.std.specs.Prelude.{None, Ok, Err, nat_le, if◌then◌else◌}
 use Rattle.std.specs.Map.{keys_of}

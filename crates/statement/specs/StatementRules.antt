@@ -1,5 +1,4 @@
--- What a document states of a handler and which faults it has, key by key. Source: our own
--- statement format, over the documents of TOML.
+-- What a document states of a handler and which faults it has, key by key (over the documents of TOML).
 use Rattle.std.specs.Prelude.{◌≡◌, ◌≢◌, ◌≤◌, ◌⊎◌, ℕ, pos, true, List, [], codes, Option, Some}
 use Rattle.std.specs.Prelude.{None, IsSomeAnd, MatchOption}
 use Rattle.std.specs.Map.{keys_of}

@@ -15,10 +15,10 @@ use std::alloc::{AllocError, Global};
 use toml::Table;
 use toml_reading::{by_number, check, document, only_keys, pair, tables_up_to, value_at};
 
-/// The keys of the statement.
+// The keys of the statement.
 const STATEMENT_KEYS: &[&str] = &["entry", "leave", "loop", "target", "access"];
 
-/// The most loops, targets and accesses of a statement.
+// The most loops, targets and accesses of a statement.
 const MOST_LOOPS: usize = 256;
 
 const MOST_TARGETS: usize = 1024;

@@ -1,5 +1,5 @@
--- Texts in columns, for a terminal of 80 columns. Our own format. A byte is a column: a character of UTF-8
--- that has more of them takes no more room than that.
+-- Texts in columns, for a terminal of 80 columns. A byte is a column: a character of UTF-8 that has more of
+-- them takes no more room than that.
 use Rattle.std.specs.Prelude.{ℕ, zero, suc, ◌-◌, ◌&&◌, nat_le}
 use Rattle.std.specs.Prelude.{nat_lt, Bool, if◌then◌else◌, List, ◌++◌, length}
 use Rattle.std.specs.Prelude.{replicate, slice_index_or, take, codes}

@@ -2,7 +2,7 @@
 use Rattle.std.specs.Prelude.{ℕ, zero, suc, ◌+◌, List, [], ◌∷◌, ◌++◌}
 use Rattle.assembler.specs.declared.placed_line.PlacedLine.{PlacedLine}
 
--- the rows of lines, each where it stands, with numbers from one on
+-- the rows of lines, each where it is placed, with numbers from one on
 abbrev pub rows_by_line : (ℕ → List ℕ → PlacedLine → List ℕ) → ℕ → List (List ℕ) → List PlacedLine → List ℕ
 rows_by_line rows n (text ∷ lines) (p ∷ placed) = rows n text p ++ rows_by_line rows (n + 1) lines placed
 rows_by_line rows n _ _ = []

@@ -23,7 +23,7 @@ fn put_line<'a>(
     Ok(())
 }
 
-/// The lines of a source by the addresses of their words. `placed` says where the lines stand, in their
+/// The lines of a source by the addresses of their words. `placed` says where the lines are, in their
 /// order. An error says that an allocation failed.
 pub fn lines_by_address<'a>(
     alloc: Global,

@@ -10,7 +10,7 @@ use std::alloc::AllocError;
 
 /// The rows of a text, line by line of a source.
 pub trait LineRows {
-    /// Those of a line, by its number, its text and where it stands.
+    /// Those of a line, by its number, its text and where it is placed.
     ghost rows: { Self → ℕ → List ℕ → PlacedLine → List ℕ };
 
     /// Adds the rows of a line. An error says that an allocation failed.
@@ -25,7 +25,7 @@ pub trait LineRows {
             ≡ out.old.items ++ rows self.now line.entry.number line.entry.text.now placed) };
 }
 
-/// Adds the rows of a source's lines, numbered from 1. `placed` says where the lines stand, in their order;
+/// Adds the rows of a source's lines, numbered from 1. `placed` says where the lines are, in their order;
 /// the rows end with the lines, or with the places. An error says that an allocation failed.
 pub fn put_line_rows<R: LineRows>(
     out: &mut Vec<u8>,

@@ -18,7 +18,7 @@ eqb-sym x y = elim (cases_Bool (eqb x y)) [
   ]
 ]
 
--- the number stands after the list
+-- the number comes after the list
 has_last : (xs ys : List ℕ) (x y : ℕ) → eqb y x ≡ true → list_any (nat_eq y) (xs ++ x ∷ ys) ≡ true
 has_last [] ys x y same = rw same refl
 has_last (z ∷ xs) ys x y same = rw (has_last xs ys x y same) (or-true (eqb y z))

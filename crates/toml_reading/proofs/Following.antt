@@ -69,7 +69,7 @@ module _ {F A B : Type 0} (fs : Faults F) (S : A → Type 0) (T : A → B → Ty
     record { has = inl h.1.has; least = λ o y. elim y [ inl z ↦ h.1.least o z | inr u ↦ absurd (h.0 u.0 u.1) ] },
   )
 
-  -- the faults of the second reading are told of the one value that is stated
+  -- the faults of the second reading are reported of the one value that is stated
   pub then_judged :
       (r : Reading F A)
       → Judges fs S H r

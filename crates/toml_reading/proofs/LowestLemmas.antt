@@ -4,7 +4,7 @@ use Rattle.std.proofs.lemmas.Bool.{leb-true, leb-false, true≢false, false≢tr
 use Rattle.toml_reading.specs.Lowest.{IsLowest, IsOnly}
 use Rattle.toml_reading.specs.Readings.{Faults, Reading, and_then, both, checked, lower, optional, required, seen}
 
--- what a reading tells: all that is stated and no fault, or that nothing is stated and the lowest fault
+-- what a reading reports: all that is stated and no fault, or that nothing is stated and the lowest fault
 abbrev pub Told : {F A : Type 0} → Faults F → (A → Type 0) → (F → Type 0) → Reading F A → Type 0
 Told fs S H (Ok a) = IsOnly S a × ((f : _) → ¬ H f)
 Told fs S H (Err g) = ((a : _) → ¬ S a) × IsLowest fs H g
@@ -17,7 +17,7 @@ pub one_by_rank : {F : Type 0} (fs : Faults F) (at : ℕ → F) → ((f : F) →
     → fs.rank f ≡ fs.rank g → f ≡ g
 one_by_rank fs at back f g e = sym (back f) ∙ ap at e ∙ back g
 
--- ## What a reading gives
+-- ## What a reading returns
 
 ok_of : {F A : Type 0} → A → Reading F A → A
 ok_of a (Ok b) = b
@@ -53,11 +53,11 @@ module _ {F A : Type 0} (fs : Faults F) (S : A → Type 0) (H : F → Type 0) wh
       subst_fault : (g f : F) → g ≡ f → IsLowest fs H g → IsLowest fs H f
       subst_fault g f e l = rw e at l
 
-  -- the value that a reading gives is the one that is stated
+  -- the value that a reading returns is the one that is stated
   pub judged_value : (r : Reading F A) → Judges fs S H r → (a : A) → r ≡ Ok a ↔ S a
   judged_value r h a = told_value r a h.told
 
-  -- the fault that a reading gives is the lowest, where faults differ in rank
+  -- the fault that a reading returns is the lowest, where faults differ in rank
   pub judged_fault : ((f g : F) → fs.rank f ≡ fs.rank g → f ≡ g) → (r : Reading F A) → Judges fs S H r
       → (f : F) → r ≡ Err f ↔ IsLowest fs H f
   judged_fault one r h f = told_fault one r f h.told
@@ -91,7 +91,7 @@ module _ {F A : Type 0} (fs : Faults F) (S T : A → Type 0) (H K : F → Type 0
   told_as (Err g) h =
       (λ a t. h.0 a ((values a).1 t), record { has = (faults g).0 h.1.has; least = λ o k. h.1.least o ((faults o).1 k) })
 
-  -- the same told otherwise
+  -- the same said otherwise
   pub judged_as : (r : Reading F A) → Judges fs S H r → Judges fs T K r
   judged_as r h = record { told = told_as r h.told }
 
@@ -137,7 +137,7 @@ module _ {F A : Type 0} (fs : Faults F) (a : A) (m : Bool) (U : Type 0) (u : m �
       },
     )
 
-    -- a value with two tests, of which the first that fails is told
+    -- a value with two tests, of which the first that fails is reported
     pub two_tests : Judges fs (λ x. (x ≡ a) × (m ≡ true) × (n ≡ true)) (λ f. (U × (f ≡ d)) ⊎ (W × (f ≡ e))) (cond m (cond n (Ok a) (Err e)) (Err d))
     two_tests = record { told = two_tests_told m n refl refl }
 
@@ -238,7 +238,7 @@ joint {fs = fs} {S = S} {T = T} {H = H} {K = K} {a = a} {b = b} h k = both_judge
 
 -- ## What is read from a value that was read
 
--- Late are the faults of the second reading, told of what stands there even where there is nothing to read it from; those of
+-- Late are the faults of the second reading, reported of what is there even where there is nothing to read it from; those of
 -- the first are no higher
 module _ {F A B : Type 0} (fs : Faults F) (S : A → Type 0) (H Late : F → Type 0) (T : A → B → Type 0)
     (f : A → Reading F B) (then_judged : (a : A) → S a → Judges fs (T a) Late (f a))

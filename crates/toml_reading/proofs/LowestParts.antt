@@ -160,7 +160,7 @@ module _ {F A : Type 0} (fs : Faults F) (S : List A → Type 0) (T : A → Type 
 
 module _ {F A X : Type 0} (fs : Faults F) (T : X → A → Type 0) (K : X → F → Type 0)
     (reads : X → Reading F A) (each : (x : X) → Judges fs (T x) (K x) (reads x)) where
-  -- what stands in front, and what each of the rest states
+  -- what is in front, and what each of the rest states
   abbrev Together : (List A → Type 0) → List X → List A → Type 0
   Together S ds xs = (ys : List A) × (zs : List A) × S ys × AllZip T ds zs × (xs ≡ ys ++ zs)
 

@@ -1,4 +1,4 @@
--- Values of a list that stand twice, and the numbers that are read of them.
+-- Values of a list that occur twice, and the numbers that are read of them.
 use Rattle.std.proofs.Common.{◌≡◌, ℕ, ◌↔◌, ◌≤◌, true, false, not, eqb, nat_eq, List, [], ◌∷◌, length, Option, Some, None, Any, IsSomeAnd, MatchOption, inl, inr, refl, sym, ap, subst, ◌∙◌}
 use Rattle.std.specs.List.{AllZip, list_any}
 use Rattle.std.specs.Map.{keys_of}

@@ -29,13 +29,13 @@ goes_none : (k : Kind) (text : List ℕ) (goes_on : Type 0) → ((w : Why) → k
 goes_none k text goes_on not_stopped more =
     subst (λ (why : Option Why). Goes why text goes_on) (sym (goes k not_stopped)) more
 
--- ---- what was told, whatever follows
+-- ---- what was printed, whatever follows
 
 abbrev pub ToldSoFar : State → List Input → State → List Input → List ℕ → Type 0
 ToldSoFar start inputs now left text =
     (more : List ℕ) → TracesRun now left more → TracesRun start inputs (text ++ more)
 
--- nothing more is told
+-- nothing more is printed
 told_whole : (start : State) (inputs : List Input) (now : State) (left : List Input) (old new : List ℕ)
     → Adds (ToldSoFar start inputs now left) old new → TracesRun now left []
     → Adds (TracesRun start inputs) old new

@@ -9,10 +9,10 @@ use crate::trace::LINE_ROOM;
 use arrayvec::ArrayString;
 use assembler::disassemble;
 
-/// How many words are kept: one for each place in 256 bytes.
+// How many words are kept: one for each place in 256 bytes.
 const ROWS: usize = 64;
 
-/// The line of a word at an address.
+// The line of a word at an address.
 #[derive(Clone, Copy)]
 struct Shown {
     word: u32,

@@ -1,6 +1,6 @@
--- VIDC by four of its registers (our own profile, shaped on the VL86C310 data sheet): horizontal cycle,
--- vertical cycle, vertical display end and control. Ours alone: which words are taken, where a frame begins
--- again, and that nothing moves before both cycle registers were written.
+-- VIDC by four of its registers (shaped on the VL86C310 data sheet): horizontal cycle, vertical cycle,
+-- vertical display end and control. Ours alone: which words are taken, where a frame begins again, and that
+-- nothing moves before both cycle registers were written.
 use Rattle.std.specs.Prelude.{ℕ, ◌+◌, ◌*◌, ◌/◌, ◌%◌, Bool, true, false, ◌==◌, ◌&&◌, if◌then◌else◌}
 use Rattle.vidc.specs.declared.PixelRate.{PixelRate}
 use Rattle.vidc.specs.declared.PixelRate.TheVariants.{Mhz8, Mhz12, Mhz16, Mhz24}

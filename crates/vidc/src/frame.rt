@@ -1,4 +1,4 @@
-// The position in a frame: times in sixths of a tick, `ticks` in whole ticks.
+//! The position in a frame: times in sixths of a tick, `ticks` in whole ticks.
 
 ghost use Rattle.std.specs.Prelude.{◌≡◌, ◌≤◌, ◌<◌, ◌+◌, ◌-◌, ◌*◌, ◌%◌, ◌^◌};
 ghost use Rattle.vidc.specs.Frame.{arrivals, position_after};
@@ -6,7 +6,7 @@ ghost use Rattle.vidc.specs.Video.{raster_of};
 
 use crate::PixelRate;
 
-// What a raster takes.
+/// What a raster takes.
 pub(crate) fn raster(horizontal_cycle: u32, rate: PixelRate) -> u32
     requires { horizontal_cycle < 0x400 }
     ensures raster { result ≡ raster_of horizontal_cycle rate }
@@ -22,7 +22,7 @@ pub(crate) fn raster(horizontal_cycle: u32, rate: PixelRate) -> u32
     }
 }
 
-// What so many rasters take.
+/// What so many rasters take.
 pub(crate) fn rasters(raster: u32, count: u32) -> u32
     requires raster { raster ≤ 0x3000 }
     requires count { count ≤ 0x400 }
@@ -32,7 +32,7 @@ pub(crate) fn rasters(raster: u32, count: u32) -> u32
     raster * count
 }
 
-// The position so many ticks after another.
+/// The position so many ticks after another.
 #[inline(always)]
 pub(crate) fn position_after(ticks: u32, frame: u32, from: u32) -> u32
     requires { from < frame }
@@ -59,7 +59,7 @@ fn since(frame: u32, mark: u32, from: u32) -> u32
     from - mark
 }
 
-// How often the position reaches a mark while so many ticks pass.
+/// How often the position reaches a mark while so many ticks pass.
 pub(crate) fn arrivals(ticks: u32, frame: u32, mark: u32, from: u32) -> u32
     requires frame { 8 ≤ frame }
     requires mark { mark < frame }
@@ -73,7 +73,7 @@ pub(crate) fn arrivals(ticks: u32, frame: u32, mark: u32, from: u32) -> u32
     (reached / frame as u64) as u32
 }
 
-// The same, where the frame does not end meanwhile.
+/// The same, where the frame does not end meanwhile.
 #[inline(always)]
 pub(crate) fn arrivals_within(ticks: u32, frame: u32, mark: u32, from: u32) -> u32
     requires { from + ticks * 6 < frame }

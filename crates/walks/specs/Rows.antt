@@ -1,4 +1,4 @@
--- The rows of a certificate: what each edge asks of the numbers at its ends (our own certificate format).
+-- The rows of a certificate: what each edge asks of the numbers at its ends.
 use Rattle.std.specs.Prelude.{◌≡◌, ℕ, ◌+◌, ◌*◌, ◌^◌, ◌<◌, ◌≤◌, Bool, false, cond, nat_eq, not, ◌&&◌, List}
 use Rattle.std.specs.Prelude.{sum_by, Contains, Option, Some, None, IfSome}
 use Rattle.std.specs.List.{find}

@@ -1,5 +1,5 @@
--- Shapes of words. Source: the VL86C010 data sheet, by the table of instruction words; which shapes are
--- returns, jumps into tables of branches and ways back is our own choice.
+-- Shapes of words (VL86C010 data sheet, by the table of instruction words, but for which shapes are returns,
+-- jumps into tables of branches and ways back).
 use Rattle.std.specs.Prelude.{ℕ, Bool, true, false, not, ◌&&◌, ◌||◌, ◌==◌, nat_le}
 use Rattle.arm2_decode.specs.Names.{is_compare, is_pc, register_number}
 use Rattle.arm2_decode.specs.declared.instr.DataRegister.{DataRegister}
@@ -47,7 +47,7 @@ abbrev pub is_lsl : Shift → Bool
 is_lsl shift.Lsl = true
 is_lsl _ = false
 
--- the operand is shifted to the left by so many bits; by none, it is the register as it stands
+-- the operand is shifted to the left by so many bits; by none, it is the register as it is
 abbrev pub is_lsl_by : ℕ → DataRegister → Bool
 is_lsl_by amount x = is_lsl x.shift && (x.amount == amount)
 

@@ -49,7 +49,7 @@ pub(crate) struct Case {
     pub(crate) image: Option<Vec<u8>>,
 }
 
-/// The program's name, and the lines of the text.
+// The program's name, and the lines of the text.
 fn words_of(alloc: Global, text: &str) -> Result<Vec<String>, AllocError> {
     let mut words = Vec::new(alloc);
     words.push(String::from_str(alloc, "arcwcet")?)?;
@@ -59,12 +59,12 @@ fn words_of(alloc: Global, text: &str) -> Result<Vec<String>, AllocError> {
     Ok(words)
 }
 
-/// The number on a line.
+// The number on a line.
 fn number(line: &[u8]) -> Option<u8> {
     str::from_utf8(line).ok()?.trim_end().parse().ok()
 }
 
-/// The files of a case's folder.
+// The files of a case's folder.
 #[derive(Drop)]
 struct Folder<'a, R: Files> {
     rt: &'a R,
@@ -81,7 +81,7 @@ impl<R: Files + AllocGlobal> Folder<'_, R> {
         }
     }
 
-    /// What a stream is to hold, by its file or that with `.front` or `.any` after its name.
+    // What a stream is to hold, by its file or that with `.front` or `.any` after its name.
     fn wanted(&self, file: &str) -> Result<Wanted, CaseFault> {
         let alloc = self.rt.alloc();
         if let Some(bytes) = self.read_if_any(file)? {
@@ -115,7 +115,7 @@ impl<R: Files + AllocGlobal> Folder<'_, R> {
         }
     }
 
-    /// The image that `asm SOURCE IMAGE` is to write.
+    // The image that `asm SOURCE IMAGE` is to write.
     fn image(&self, words: &[String]) -> Result<Option<Vec<u8>>, CaseFault> {
         match words {
             [_, command, _, image] if command.as_str() == "asm" => self.read_if_any(image.as_str()),

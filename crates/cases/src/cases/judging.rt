@@ -5,7 +5,7 @@ use crate::cases::wanted::first_difference;
 use arcwcet::{MemoryOutput, program};
 use std::rt::Files;
 
-/// The results of a run of the program.
+// The results of a run of the program.
 #[derive(Clone, Copy)]
 struct Found<'a> {
     status: u8,
@@ -14,7 +14,7 @@ struct Found<'a> {
     image: &'a Option<Vec<u8>>,
 }
 
-/// The first difference, where there is one.
+// The first difference, where there is one.
 fn difference(case: &Case, found: Found<'_>) -> Option<Difference> {
     if found.status != case.status {
         return Some(Difference::Status {

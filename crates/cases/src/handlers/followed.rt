@@ -3,7 +3,7 @@ use arcwcet::{FollowedRun, MemoryOutput, follow_report};
 use std::alloc::Global;
 use std::str;
 
-/// What `follow` tells of a handler's run.
+/// What `follow` says of a handler's run.
 #[derive(Clone, Copy)]
 pub(crate) enum Followed {
     /// It keeps the statement.
@@ -19,7 +19,8 @@ pub(crate) enum Followed {
 }
 
 impl Followed {
-    /// Whether the run that is told took so many ticks, of a bound. One that starts elsewhere is not told.
+    /// Whether `follow` says that the run took so many ticks, of a bound. Of one that starts elsewhere it
+    /// says no ticks.
     pub(crate) fn fits(self, ticks: u64, bound: u64) -> bool {
         match self {
             Followed::Kept { ticks: told, less } => told == ticks

@@ -39,14 +39,14 @@ impl From<ReportFault> for Unjudged {
     }
 }
 
-/// The greatest run time of a handler, in ticks, and whether the checker accepts all certificates of it.
+// The greatest run time of a handler, in ticks, and whether the checker accepts all certificates of it.
 #[derive(Clone, Copy)]
 struct Bounded {
     ticks: u64,
     accepted: bool,
 }
 
-/// What a run of a handler took.
+// What a run of a handler took.
 #[derive(Clone, Copy)]
 struct Run {
     finished: bool,
@@ -66,7 +66,7 @@ pub(crate) struct Judgement {
 }
 
 impl Judgement {
-    /// Whether each certificate was accepted, the run kept the bound, `follow` told its ticks or that it
+    /// Whether each certificate was accepted, the run kept the bound, `follow` printed its ticks or that it
     /// starts elsewhere than at the entry, and each free edge takes its cost.
     pub(crate) fn holds(&self) -> bool {
         self.bound.accepted
@@ -132,13 +132,13 @@ pub(crate) fn number_after(line: &str, word: &str) -> Option<u64> {
     None
 }
 
-// The number that a line of a text gives after a word; lines are counted from 0.
+// The number in a line of a text after a word; lines are counted from 0.
 fn number_in(text: &[u8], line: usize, word: &str) -> Option<u64> {
     let text = str::from_utf8(text).ok()?;
     number_after(text.lines().nth(line)?, word)
 }
 
-/// The ticks and the elapsed ticks of a run's report, which its last line gives.
+/// The ticks and the elapsed ticks of a run's report, which its last line says.
 pub(crate) fn ticks_of(report: &[u8]) -> Option<(u64, u64)> {
     let text = str::from_utf8(report).ok()?;
     let line = text.lines().last()?;

@@ -5,7 +5,7 @@ use std::fs::{File, Files, Metadata, OpenFile, OpenOptions};
 use std::io;
 use std::io::{ErrorKind, Read, Seek, SeekFrom, Write};
 
-/// How many bytes each file takes.
+// How many bytes each file takes.
 const ROOM: usize = 20;
 
 /// A file of the system that takes so many bytes, and then fails.

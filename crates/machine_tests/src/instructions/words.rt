@@ -4,7 +4,7 @@
 /// A word, and its fields.
 pub type Row = (u32, [u32; 11]);
 
-// accumulate, sets_flags, rd, rn, rs, rm
+/// accumulate, sets_flags, rd, rn, rs, rm
 pub static MULTIPLY: [Row; 19] = [
     (0xE0012394, [14, 0, 0, 1, 2, 3, 4, 0, 0, 0, 0]),
     (0x00012394, [0, 0, 0, 1, 2, 3, 4, 0, 0, 0, 0]),
@@ -27,7 +27,7 @@ pub static MULTIPLY: [Row; 19] = [
     (0xE03EEE9D, [14, 1, 1, 14, 14, 14, 13, 0, 0, 0, 0]),
 ];
 
-// opcode, sets_flags, rn, rd, amount, shift, rm
+/// opcode, sets_flags, rn, rd, amount, shift, rm
 pub static DATA_REGISTER: [Row; 40] = [
     (0xE0800000, [14, 4, 0, 0, 0, 0, 0, 0, 0, 0, 0]),
     (0x00800000, [0, 4, 0, 0, 0, 0, 0, 0, 0, 0, 0]),
@@ -71,7 +71,7 @@ pub static DATA_REGISTER: [Row; 40] = [
     (0xE08FF100, [14, 4, 0, 15, 15, 2, 0, 0, 0, 0, 0]),
 ];
 
-// opcode, sets_flags, rn, rd, rs, shift, rm
+/// opcode, sets_flags, rn, rd, rs, shift, rm
 pub static DATA_REGISTER_SHIFT: [Row; 33] = [
     (0xE0800110, [14, 4, 0, 0, 0, 1, 0, 0, 0, 0, 0]),
     (0x00800110, [0, 4, 0, 0, 0, 1, 0, 0, 0, 0, 0]),
@@ -108,7 +108,7 @@ pub static DATA_REGISTER_SHIFT: [Row; 33] = [
     (0xE1EFFE7F, [14, 15, 0, 15, 15, 14, 3, 15, 0, 0, 0]),
 ];
 
-// opcode, sets_flags, rn, rd, rotation, value
+/// opcode, sets_flags, rn, rd, rotation, value
 pub static DATA_IMMEDIATE: [Row; 49] = [
     (0xE2800000, [14, 4, 0, 0, 0, 0, 0, 0, 0, 0, 0]),
     (0x02800000, [0, 4, 0, 0, 0, 0, 0, 0, 0, 0, 0]),
@@ -161,7 +161,7 @@ pub static DATA_IMMEDIATE: [Row; 49] = [
     (0xE25EF004, [14, 2, 1, 14, 15, 0, 4, 0, 0, 0, 0]),
 ];
 
-// before, up, byte, write_back, load, rn, rd, offset
+/// before, up, byte, write_back, load, rn, rd, offset
 pub static SINGLE_IMMEDIATE: [Row; 23] = [
     (0xE5012000, [14, 1, 0, 0, 0, 0, 1, 2, 0, 0, 0]),
     (0x05012000, [0, 1, 0, 0, 0, 0, 1, 2, 0, 0, 0]),
@@ -188,7 +188,7 @@ pub static SINGLE_IMMEDIATE: [Row; 23] = [
     (0xE590F000, [14, 1, 1, 0, 0, 1, 0, 15, 0, 0, 0]),
 ];
 
-// before, up, byte, write_back, load, rn, rd, amount, shift, rm
+/// before, up, byte, write_back, load, rn, rd, amount, shift, rm
 pub static SINGLE_REGISTER: [Row; 25] = [
     (0xE7012000, [14, 1, 0, 0, 0, 0, 1, 2, 0, 0, 0]),
     (0x07012000, [0, 1, 0, 0, 0, 0, 1, 2, 0, 0, 0]),
@@ -217,7 +217,7 @@ pub static SINGLE_REGISTER: [Row; 25] = [
     (0xE79F0FA1, [14, 1, 1, 0, 0, 1, 15, 0, 31, 1, 1]),
 ];
 
-// before, up, user, write_back, load, rn, list
+/// before, up, user, write_back, load, rn, list
 pub static BLOCK: [Row; 15] = [
     (0xE8010001, [14, 0, 0, 0, 0, 0, 1, 1, 0, 0, 0]),
     (0x08010001, [0, 0, 0, 0, 0, 0, 1, 1, 0, 0, 0]),
@@ -236,7 +236,7 @@ pub static BLOCK: [Row; 15] = [
     (0xE8BD000F, [14, 0, 1, 0, 1, 1, 13, 15, 0, 0, 0]),
 ];
 
-// link, offset
+/// link, offset
 pub static BRANCH: [Row; 22] = [
     (0xEA000000, [14, 0, 0, 0, 0, 0, 0, 0, 0, 0, 0]),
     (0x0A000000, [0, 0, 0, 0, 0, 0, 0, 0, 0, 0, 0]),
@@ -262,7 +262,7 @@ pub static BRANCH: [Row; 22] = [
     (0xEAFFFFFE, [14, 0, 16777214, 0, 0, 0, 0, 0, 0, 0, 0]),
 ];
 
-// comment
+/// comment
 pub static SWI: [Row; 6] = [
     (0xEF000000, [14, 0, 0, 0, 0, 0, 0, 0, 0, 0, 0]),
     (0x0F000000, [0, 0, 0, 0, 0, 0, 0, 0, 0, 0, 0]),
@@ -272,7 +272,7 @@ pub static SWI: [Row; 6] = [
     (0xEFFFFFFF, [14, 16777215, 0, 0, 0, 0, 0, 0, 0, 0, 0]),
 ];
 
-// high, low
+/// high, low
 pub static UNDEFINED_TRANSFER: [Row; 9] = [
     (0xE6000010, [14, 0, 0, 0, 0, 0, 0, 0, 0, 0, 0]),
     (0x06000010, [0, 0, 0, 0, 0, 0, 0, 0, 0, 0, 0]),
@@ -285,7 +285,7 @@ pub static UNDEFINED_TRANSFER: [Row; 9] = [
     (0xE600001F, [14, 0, 15, 0, 0, 0, 0, 0, 0, 0, 0]),
 ];
 
-// bits
+/// bits
 pub static COPROCESSOR_TRANSFER: [Row; 6] = [
     (0xEC000000, [14, 0, 0, 0, 0, 0, 0, 0, 0, 0, 0]),
     (0x0C000000, [0, 0, 0, 0, 0, 0, 0, 0, 0, 0, 0]),
@@ -295,7 +295,7 @@ pub static COPROCESSOR_TRANSFER: [Row; 6] = [
     (0xEDFFFFFF, [14, 33554431, 0, 0, 0, 0, 0, 0, 0, 0, 0]),
 ];
 
-// bits
+/// bits
 pub static COPROCESSOR: [Row; 6] = [
     (0xEE000000, [14, 0, 0, 0, 0, 0, 0, 0, 0, 0, 0]),
     (0x0E000000, [0, 0, 0, 0, 0, 0, 0, 0, 0, 0, 0]),
@@ -305,7 +305,7 @@ pub static COPROCESSOR: [Row; 6] = [
     (0xEEFFFFFF, [14, 16777215, 0, 0, 0, 0, 0, 0, 0, 0, 0]),
 ];
 
-// the number of why
+/// the number of why
 pub static UNALLOCATED: [(u32, [u32; 2]); 95] = [
     (0xE1010002, [14, 1]),
     (0xE0000190, [14, 3]),

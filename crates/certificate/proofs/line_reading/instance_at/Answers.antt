@@ -7,7 +7,7 @@ use Rattle.certificate.proofs.CutLaws.{one_cut}
 use Rattle.certificate.proofs.FieldLaws.{decimal_first, from_none, hex_first, list-blank, no_word, other_word}
 use Rattle.certificate.proofs.line_reading.instance_at.Goals as goal
 
--- what stands after the line's name
+-- what follows the line's name
 fields : (words rest : List ℕ) (r : InstanceRow) → words ≡ codes "instance " ++ rest → words ≡ instance_words r
     → rest ≡ list_words r.list ++ 32 ∷ (hex r.header ++ 32 ∷ (decimal r.arrival ++ 32 ∷ decimal r.round))
 fields words rest r is e = ap (drop 9) (sym is ∙ e)

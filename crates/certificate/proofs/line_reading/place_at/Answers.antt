@@ -7,7 +7,7 @@ use Rattle.certificate.proofs.CutLaws.{one_cut}
 use Rattle.certificate.proofs.FieldLaws.{from_none, hex_first, list-blank, no_word, other_word}
 use Rattle.certificate.proofs.line_reading.place_at.Goals as goal
 
--- what stands after the line's name
+-- what follows the line's name
 fields : (words rest : List ℕ) (r : PlaceRow) → words ≡ codes "place " ++ rest → words ≡ place_words r
     → rest ≡ list_words r.list ++ 32 ∷ (hex r.address ++ 32 ∷ decimal r.distance)
 fields words rest r is e = ap (drop 6) (sym is ∙ e)
