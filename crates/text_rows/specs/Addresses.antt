@@ -1,6 +1,7 @@
 -- Addresses as a statement has them.
-use Rattle.std.specs.Prelude.{ℕ, ◌==◌, if◌then◌else◌, List, [], ◌∷◌, ◌++◌, length, codes}
+use Rattle.std.specs.Prelude.{◌≡◌, ◌⊎◌, ℕ, ◌==◌, if◌then◌else◌, List, [], ◌∷◌, ◌++◌, length, codes, Some}
 use Rattle.asm_text.specs.Hex.{hex8}
+use Rattle.loader.specs.Labels.{Names, address_of}
 
 -- a number of TOML
 abbrev pub number_text : ℕ → List ℕ
@@ -9,6 +10,10 @@ number_text at = codes "0x" ++ hex8 at
 -- a label in quotes
 abbrev pub quoted : List ℕ → List ℕ
 quoted label = 34 ∷ [] ++ (label ++ 34 ∷ [])
+
+-- the label is none, or stands for the address
+abbrev pub IsNamed : Names → ℕ → List ℕ → Type 0
+IsNamed names at label = (label ≡ []) ⊎ (address_of names label ≡ Some at)
 
 -- by its label, or where it has none by its number
 abbrev pub labelled : List ℕ → ℕ → List ℕ
