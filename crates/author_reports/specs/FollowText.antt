@@ -5,11 +5,11 @@ use Rattle.std.specs.Prelude.{slice_index_or}
 use Rattle.std.specs.Prelude.{Contains, Option, Some, None, MatchOption}
 use Rattle.bus_ticks.specs.Prices.{class_at}
 use Rattle.bus_ticks.specs.declared.profile.Class.{Class}
-use Rattle.bus_ticks.specs.declared.profile.Class.TheVariants.{Any, Ram, Rom, Io}
 use Rattle.asm_text.specs.Hex.{hex}
 use Rattle.assembler.specs.Placed.{ArePlaced}
 use Rattle.assembler.specs.declared.placed_line.PlacedLine.{PlacedLine}
 use Rattle.statement.specs.Stated.{Stated, class_of}
+use Rattle.text_rows.specs.Addresses.{class_name}
 use Rattle.trace_text.specs.TraceText.{exception_name, why_name}
 use Rattle.kept_runs.specs.declared.following.Unkept.{Unkept}
 use Rattle.kept_runs.specs.declared.following.Unkept.TheVariants as unkept
@@ -30,12 +30,6 @@ kept_text ticks bound =
     codes "kept: " ++ (decimal ticks ++ (codes " ticks, " ++ (less_text ticks bound ++ codes "\n")))
 
 -- ## Why a step does not
-
-abbrev pub class_name : Class → List ℕ
-class_name Ram = codes "ram"
-class_name Rom = codes "rom"
-class_name Io = codes "io"
-class_name Any = codes "any"
 
 abbrev pub access_name : (store : Bool) → List ℕ
 access_name true = codes "stored to "

@@ -23,6 +23,7 @@ use std::collections::BTreeMap;
 use text_rows::{
     NumberedLine, WordRows, put, put_named_row, put_number, put_shown_row, put_word_rows, section,
 };
+use walk_counts::capped_sum;
 
 // The names of the columns, of a text's rows and of an image's.
 const HEADING: &[u8] = b"              run            bound
@@ -65,12 +66,6 @@ struct Tallies<'a> {
 pub(crate) struct Words<'a> {
     pub(crate) source: &'a [u8],
     pub(crate) image: &'a Image,
-}
-
-fn capped_sum(sum: u64, more: u64) -> u64
-    ensures { result ≡ capped (sum + more) }
-{
-    sum.saturating_add(more)
 }
 
 fn capped_ticks(ticks: u64, more: u128) -> u64

@@ -3,7 +3,7 @@
 ghost use Rattle.std.specs.Prelude.{◌≡◌, IfErr, IfOk, MatchOption, string_bytes};
 ghost use Rattle.bus_ticks.specs.Prices.{class_at};
 ghost use Rattle.author_reports.specs.FollowText.{HasNoLine, IsLine, IsLineAt, access_name, access_text};
-ghost use Rattle.author_reports.specs.FollowText.{class_name, has_word, kept_text, less_text, line_text};
+ghost use Rattle.author_reports.specs.FollowText.{has_word, kept_text, less_text, line_text};
 ghost use Rattle.author_reports.specs.FollowText.{stray_text, strayed_text, times_text, turned_text};
 ghost use Rattle.author_reports.specs.FollowText.{why_text};
 ghost use Rattle.report_input.specs.Source.{IsSourceFault};
@@ -15,6 +15,7 @@ use kept_runs::{Access, Stray, Unkept};
 use loader::MAGIC;
 use report_output::ReportFault;
 use std::alloc::{AllocError, Global};
+use text_rows::class_name;
 use trace_text::{exception_name, why_name};
 
 // How much less than the bound the ticks are.
@@ -35,17 +36,6 @@ pub(crate) fn kept_text(alloc: Global, ticks: u128, bound: u64) -> Result<String
 {
     let less = less_text(alloc, ticks, bound)?;
     format!(in alloc; "kept: {ticks} ticks, {less}\n")
-}
-
-fn class_name(class: Class) -> &'static str
-    ensures { result.now ≡ class_name class }
-{
-    match class {
-        Class::Ram => "ram",
-        Class::Rom => "rom",
-        Class::Io => "io",
-        Class::Any => "any",
-    }
 }
 
 // The class of a word's address.

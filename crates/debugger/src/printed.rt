@@ -7,7 +7,7 @@ ghost use Rattle.trace_text.specs.TraceText.{Adds, IsTraceLine};
 
 use arm2_exec::Traced;
 use assembler::disassemble;
-use trace_text::{hex_word, trace_line};
+use trace_text::{LINE_ROOM, hex_word, trace_line};
 
 /// Adds a text.
 pub(crate) fn put(out: &mut Vec<u8>, text: &[u8])
@@ -44,9 +44,9 @@ pub(crate) fn put_shown(out: &mut Vec<u8>, word: u32, at: u32)
 
 /// Adds the line of a step.
 pub(crate) fn put_trace(out: &mut Vec<u8>, traced: &Traced)
-    requires { length out.old.items + 94 ≤ vec_capacity out.old }
+    requires { length out.old.items + LINE_ROOM ≤ vec_capacity out.old }
     ensures text { Adds (IsTraceLine traced.now) out.old.items out.new.items }
-    ensures len { length out.new.items ≤ length out.old.items + 94 }
+    ensures len { length out.new.items ≤ length out.old.items + LINE_ROOM }
     ensures room { vec_capacity out.old ≤ vec_capacity out.new }
 {
     let line = trace_line(traced);

@@ -8,10 +8,8 @@ use crate::command::Command;
 use crate::fault::DebugFault;
 use crate::words::{first_word, read_number};
 use bitflags::Flags;
+use bus_ticks::SPACE_END;
 use ioc::Lines;
-
-// The first address past memory.
-const END: u32 = 0x400_0000;
 
 fn number_in(low: u32, high: u32, word: &[u8]) -> Result<u32, DebugFault>
     ensures number { result ≡ number_in low high word.now }
@@ -30,7 +28,7 @@ fn address_of(count: u32, word: &[u8]) -> Result<u32, DebugFault>
     ensures bound { IfOk result (λ a. a + 4 * count ≤ 2 ^ 26) }
 {
     match read_number(word) {
-        Some(a) if a % 4 == 0 && a <= END - 4 * count => Ok(a),
+        Some(a) if a % 4 == 0 && a <= SPACE_END - 4 * count => Ok(a),
         _ => Err(DebugFault::BadNumber),
     }
 }

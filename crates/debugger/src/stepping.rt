@@ -11,6 +11,7 @@ use crate::printed::put_trace;
 use crate::tally::Tally;
 use arm2_effect::address_of;
 use arm2_exec::{Input, Kind, Machine, Ran, Reg, Stepped, Traced};
+use trace_text::LINE_ROOM;
 
 /// What a run reports, and the last of its steps, as its line shows it.
 #[derive(Clone, Copy)]
@@ -50,7 +51,7 @@ fn advance(machine: &mut Machine, input: &mut Input, ran: &mut Tally) -> Option<
 /// Steps a machine up to so many times, up to a step that is stopped, and adds the lines of its steps in room
 /// that was taken. The bursts of the first input are those of the first step alone.
 pub(crate) fn put_steps(out: &mut Vec<u8>, machine: &mut Machine, first: Input, steps: u32) -> Ran
-    requires { length out.old.items + steps * 94 ≤ vec_capacity out.old }
+    requires { length out.old.items + steps * LINE_ROOM ≤ vec_capacity out.old }
     ensures runs { Runs machine.old (inputs_of first steps) result machine.new }
     ensures text { Adds (TracesRun machine.old (inputs_of first steps)) out.old.items out.new.items }
 {

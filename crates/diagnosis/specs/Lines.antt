@@ -1,5 +1,5 @@
 -- The lines of words.
-use Rattle.std.specs.Prelude.{◌≡◌, ◌⊎◌, ◌==◌, ◌||◌, ◌+◌, ◌%◌, ◌^◌, not, zero, suc, Bool, false, ℕ}
+use Rattle.std.specs.Prelude.{◌≡◌, ◌==◌, ◌||◌, ◌+◌, ◌%◌, ◌^◌, not, zero, suc, Bool, false, ℕ}
 use Rattle.std.specs.Prelude.{List, [], ◌∷◌, ◌++◌, length, take}
 use Rattle.std.specs.Prelude.{Option, None, Some, option_map, if◌then◌else◌, nat_eq}
 use Rattle.std.specs.BTreeMap.{BTreeMap, get}
@@ -9,17 +9,14 @@ use Rattle.std.specs.Ordering.{nat_cmp}
 use Rattle.asm_text.specs.Source.{lines_of}
 use Rattle.assembler.specs.declared.placed_line.PlacedLine.{PlacedLine}
 use Rattle.loader.specs.Labels.{Names, address_of}
+use Rattle.text_rows.specs.Addresses.{IsNamed}
 use Rattle.diagnosis.specs.declared.words.SourceLine.{SourceLine}
 
 -- the line of the word at an address
 abbrev pub line_at : BTreeMap ℕ SourceLine → ℕ → Option SourceLine
 line_at lines at = get nat_cmp lines at
 
--- the label is none, or stands for the address
-abbrev pub IsNamed : Names → ℕ → List ℕ → Type 0
-IsNamed names at label = (label ≡ []) ⊎ (address_of names label ≡ Some at)
-
--- so is each line's
+-- each line's label is none, or stands for the address
 abbrev pub AreNamed : Names → BTreeMap ℕ SourceLine → Type 0
 AreNamed names lines =
     (at : ℕ) (line : SourceLine) → line_at lines at ≡ Some line → IsNamed names at line.label.now

@@ -1,5 +1,5 @@
 -- What is printed of a cycle and of an entry.
-use Rattle.std.specs.Prelude.{◌≡◌, ℕ, List, [], ◌∷◌, ◌++◌, codes, decimal, length, map, Option, Some, None}
+use Rattle.std.specs.Prelude.{◌≡◌, ℕ, List, [], ◌++◌, codes, decimal, length, map, Option, Some, None}
 use Rattle.std.specs.BTreeMap.{BTreeMap}
 use Rattle.assembler.specs.declared.fault.Fault.{Fault}
 use Rattle.assembler.specs.declared.fault.Fault.TheVariants.{NotText, UnknownWord, BadOperand}
@@ -10,7 +10,7 @@ use Rattle.flow_graph.specs.declared.faults.BuildFault.{BuildFault}
 use Rattle.flow_graph.specs.declared.faults.BuildFault.TheVariants as build
 use Rattle.flow_graph.specs.declared.faulty.FaultyPlace.{FaultyPlace}
 use Rattle.flow_graph.specs.declared.places.Place.{Place}
-use Rattle.flow_graph.specs.declared.places.Place.TheVariants.{At, Exit}
+use Rattle.loop_bounds.specs.Keys.{key_of}
 use Rattle.loop_bounds.specs.declared.loop_instances.Found.{Found}
 use Rattle.statement.specs.declared.stated.Loop.{Loop}
 use Rattle.text_rows.specs.Rows.{AreRows}
@@ -131,14 +131,10 @@ nine = codes "Nine calls, each inside the one before it; eight is the most:\n"
 abbrev pub leads : List ℕ
 leads = codes "No word stands there. This leads to it:\n"
 
--- the addresses of the calls that a place is inside of, the outermost first, and then its own
-abbrev pub chain_of : Place → List ℕ
-chain_of (At calls address) = calls ++ address ∷ []
-chain_of Exit = []
-
+-- the calls that a place is inside of, the outermost first, and then its own word
 abbrev pub IsChainText : Words → Place → List ℕ → Type 0
 IsChainText words place text =
-    (rows : List ℕ) × AreRows (IsRow words) (chain_of place) rows × (text ≡ nine ++ rows)
+    (rows : List ℕ) × AreRows (IsRow words) (key_of place) rows × (text ≡ nine ++ rows)
 
 -- the word where the edge begins; nothing where the handler begins at the place
 abbrev pub IsLeadText : Words → Option Edge → List ℕ → Type 0

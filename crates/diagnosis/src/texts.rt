@@ -1,9 +1,10 @@
 ghost use Rattle.std.specs.Prelude.{◌≡◌, ◌++◌, [], IfOk, OnOk};
+ghost use Rattle.loop_bounds.specs.Keys.{key_of};
 ghost use Rattle.text_rows.specs.Rows.{Appends, AreRows};
 ghost use Rattle.diagnosis.specs.Rows.{IsRow};
 ghost use Rattle.diagnosis.specs.Texts.{IsCycleText, IsEntryFront, IsEntryText, IsStartRow, IsUnder};
 ghost use Rattle.diagnosis.specs.Texts.{IsChainText, IsFaultText, IsLeadText, IsRowText, addresses_text};
-ghost use Rattle.diagnosis.specs.Texts.{IsCrossingText, chain_of, key_text, loop_text, shared_text};
+ghost use Rattle.diagnosis.specs.Texts.{IsCrossingText, key_text, loop_text, shared_text};
 ghost use Rattle.diagnosis.specs.Texts.{IsDeepText, headers_of, in_loops, stated_text, two_loops};
 
 use crate::crossings::Crossing;
@@ -259,7 +260,7 @@ fn put_rows(out: &mut Vec<u8>, words: &Words<'_>, named: &[u32]) -> Result<(), A
 
 // The addresses of the calls that a place is inside of, and then its own; none of Exit.
 fn chain_of(alloc: Global, place: &Place) -> Result<Vec<u32>, AllocError>
-    ensures { IfOk result (λ chain. chain.items ≡ chain_of place.now) }
+    ensures { IfOk result (λ chain. chain.items ≡ key_of place.now) }
 {
     match place {
         Place::At(calls, address) => {

@@ -2,8 +2,9 @@ ghost use Rattle.std.specs.Prelude.{◌≡◌, ◌≤◌, ℕ, [], IfOk, OnOk, l
 ghost use Rattle.std.specs.List.{prefix_len};
 ghost use Rattle.std.specs.Map.{update_all};
 ghost use Rattle.loader.specs.Labels.{Names};
-ghost use Rattle.diagnosis.specs.Lines.{AreLinesOf, AreNamed, IsNamed, first_word, is_in_word, label_of};
-ghost use Rattle.diagnosis.specs.Lines.{name_of, numbered, numbered_at, words_from};
+ghost use Rattle.text_rows.specs.Addresses.{IsNamed};
+ghost use Rattle.diagnosis.specs.Lines.{AreLinesOf, AreNamed, first_word, is_in_word, label_of, name_of};
+ghost use Rattle.diagnosis.specs.Lines.{numbered, numbered_at, words_from};
 
 use crate::program::Program;
 use asm_text::first_line;

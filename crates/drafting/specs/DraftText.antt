@@ -6,7 +6,7 @@ use Rattle.std.specs.List.{flat_map}
 use Rattle.asm_text.specs.Hex.{hex8}
 use Rattle.arm2_effect.specs.ProgramCounter.{ahead_of}
 use Rattle.bus_ticks.specs.declared.profile.Class.{Class}
-use Rattle.bus_ticks.specs.declared.profile.Class.TheVariants.{Any, Ram, Rom, Io}
+use Rattle.text_rows.specs.Addresses.{class_name}
 use Rattle.drafting.specs.Named.{Lines}
 use Rattle.drafting.specs.Rows.{name_text, row}
 use Rattle.drafting.specs.declared.ends.End.{End}
@@ -14,15 +14,9 @@ use Rattle.drafting.specs.declared.ends.End.TheVariants.{NoWord, Unallocated, Tr
 use Rattle.drafting.specs.declared.found_loop.FoundLoop.{FoundLoop}
 use Rattle.drafting.specs.declared.writers.FoundTarget.{FoundTarget}
 
-abbrev pub class_word : Class → List ℕ
-class_word Any = codes "any"
-class_word Ram = codes "ram"
-class_word Rom = codes "rom"
-class_word Io = codes "io"
-
 -- the end of an access
 abbrev pub class_text : Class → List ℕ
-class_text class = codes ", class = \"" ++ (class_word class ++ codes "\"},")
+class_text class = codes ", class = \"" ++ (class_name class ++ codes "\"},")
 
 -- what a draft says of an end
 abbrev pub end_words : End → List ℕ

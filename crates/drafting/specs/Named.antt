@@ -1,8 +1,9 @@
 -- The line of an address.
-use Rattle.std.specs.Prelude.{◌≡◌, ◌⊎◌, ℕ, List, [], Option, Some}
+use Rattle.std.specs.Prelude.{◌≡◌, ℕ, Option, Some}
 use Rattle.std.specs.BTreeMap.{BTreeMap, get}
 use Rattle.std.specs.Ordering.{nat_cmp}
-use Rattle.loader.specs.Labels.{Names, address_of}
+use Rattle.loader.specs.Labels.{Names}
+use Rattle.text_rows.specs.Addresses.{IsNamed}
 use Rattle.drafting.specs.declared.source_lines.SourceLine.{SourceLine}
 
 -- the line of the word at each address
@@ -13,11 +14,7 @@ Lines = ℕ → Option SourceLine
 abbrev pub lines_of : BTreeMap ℕ SourceLine → Lines
 lines_of table at = get nat_cmp table at
 
--- the label is none, or stands for the address
-abbrev pub IsNamed : Names → ℕ → List ℕ → Type 0
-IsNamed names at label = (label ≡ []) ⊎ (address_of names label ≡ Some at)
-
--- so is each line's
+-- each line's label is none, or stands for the address
 abbrev pub AreNamed : Names → Lines → Type 0
 AreNamed names lines =
     (at : ℕ) (line : SourceLine) → lines at ≡ Some line → IsNamed names at line.label.now

@@ -1,5 +1,6 @@
 ghost use Rattle.std.specs.Prelude.{◌≡◌, ◌≤◌, ◌⊎◌, [], length, IfOk, OnOk, Some};
-ghost use Rattle.drafting.specs.Named.{AreNamed, IsNamed, lines_of};
+ghost use Rattle.text_rows.specs.Addresses.{IsNamed};
+ghost use Rattle.drafting.specs.Named.{AreNamed, lines_of};
 
 use crate::assembled::Program;
 use asm_text::first_line;

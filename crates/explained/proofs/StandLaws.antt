@@ -146,9 +146,6 @@ same_places (line ∷ lines) (p ∷ placed) h =
 abbrev pub Reads : Type 0
 Reads = (line : List ℕ) (p : Parsed) → Spells p line → line_of line ≡ Ok p
 
-one_meaning : (p q : Parsed) (r : Result Parsed TextFault) → r ≡ Ok p → r ≡ Ok q → p ≡ q
-one_meaning p q r e k = let same : ◌≡◌ {A = Result Parsed TextFault} (Ok p) (Ok q) = sym e ∙ k in cc
-
 same_lines : Reads → (before : List Parsed) (lines : List (List ℕ)) (said other : List Parsed) → ArePassed before lines said → AllZip (λ line p. Spells p line) lines other → said ≡ other
 same_lines reads before [] [] [] a b = refl
 same_lines reads before [] (p ∷ said) other a b = absurd a
@@ -156,7 +153,8 @@ same_lines reads before [] [] (q ∷ other) a b = absurd b
 same_lines reads before (line ∷ lines) [] other a b = absurd a
 same_lines reads before (line ∷ lines) (p ∷ said) [] a b = absurd b
 same_lines reads before (line ∷ lines) (p ∷ said) (q ∷ other) a b =
-    let here : p ≡ q = one_meaning p q (line_of line) (reads line p a.0) (reads line q b.0) in
+    let same : ◌≡◌ {A = Result Parsed TextFault} (Ok p) (Ok q) = sym (reads line p a.0) ∙ reads line q b.0 in
+    let here : p ≡ q = cc in
     let later : said ≡ other = same_lines reads (before ++ p ∷ []) lines said other a.2 b.1 in
     rw (here, later) refl
 

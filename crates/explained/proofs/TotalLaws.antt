@@ -1,10 +1,9 @@
 -- The numbers of a walk of the graph are exact, and add up to what it costs.
-use Rattle.std.proofs.Common.{◌≡◌, ◌∙◌, refl, ℕ, ◌-◌, ◌*◌, ◌^◌, ◌<◌, ◌≤◌, Bool, true, false, cond, List, [], ◌∷◌, length, flat_map, map, Option, Some, None, ⊎_elim, sym, ap, subst, arith}
+use Rattle.std.proofs.Common.{◌≡◌, ◌∙◌, refl, ℕ, ◌-◌, ◌*◌, ◌^◌, ◌<◌, ◌≤◌, Bool, true, false, cond, List, length, flat_map, map, Option, Some, None, ⊎_elim, sym, ap, subst, arith}
 use Rattle.std.specs.Prelude.{◌↔◌, ◌&&◌, ◌==◌, All, Contains, if◌then◌else◌, is_some, nat_lt, sum_by}
 use Rattle.std.proofs.lemmas.Bool.{and_parts, both_ways, cases_Bool, eq-eqb, eqb-true, lt-ltb, ltb-true}
-use Rattle.std.proofs.lemmas.List.Elements.{All-contains, All-contains_itself, All-head, All-tail, All-weaker}
+use Rattle.std.proofs.lemmas.List.Elements.{All-contains, All-contains_itself, All-weaker}
 use Rattle.std.proofs.lemmas.List.Folds.{list_any_at, list_any_none}
-use Rattle.std.proofs.lemmas.List.Sums.{sum_by-cons}
 use Rattle.assembler.specs.declared.placed_line.PlacedLine.{PlacedLine}
 use Rattle.flow_graph.specs.declared.places.Place.TheVariants.{Exit}
 use Rattle.flow_graph.specs.declared.edges.Edge.{Edge}
@@ -15,6 +14,7 @@ use Rattle.longest_walk.specs.Built.{step_at}
 use Rattle.longest_walk.specs.Folded.{unfolded}
 use Rattle.longest_walk.specs.Longest.{IsWalkOf}
 use Rattle.longest_walk.specs.declared.folded.Item.{Item}
+use Rattle.walks.proofs.SumLe.{sum_by-le_all}
 use Rattle.walks.specs.Walk.{cost_of}
 use Rattle.walk_counts.specs.Counts.{capped, number_of, occurrences}
 use Rattle.walk_counts.proofs.CountLemmas.{along}
@@ -28,12 +28,6 @@ use Rattle.explained.proofs.RangeLaws.{HasCost, IsRange, is_counted, range_is, s
 use Rattle.explained.proofs.SumLaws.{capped_sums, counted_sum, exchanged, same_terms, sum-flat_map, sum-map_terms}
 use Rattle.explained.proofs.TallyLaws.{reached, same_taken}
 
-at_most : {X : Type 0} (f g : X → ℕ) (xs : List X) → All (λ x. f x ≤ g x) xs → sum_by f xs ≤ sum_by g xs
-at_most f g [] all = omega arith
-at_most f g (x ∷ xs) all =
-    let here : f x ≤ g x = All-head (λ y. f y ≤ g y) x xs all in
-    omega (arith, sum_by-cons f x xs, sum_by-cons g x xs, at_most f g xs (All-tail (λ y. f y ≤ g y) x xs all))
-
 module _ (flow : Flow) (walk : List Edge) (well : IsWellFormed flow) (on : All (HasEdge flow) walk) (fits : cost_of edge_shape walk < 2 ^ 64) where
   -- what is added up over the graph's edges is added up over the walk
   all_of_walk : (number : Edge → ℕ) → in_all flow.edges walk (length flow.edges) number ≡ sum_by number walk
@@ -46,7 +40,7 @@ module _ (flow : Flow) (walk : List Edge) (well : IsWellFormed flow) (on : All (
   part_of_cost number part =
       let is = all_of_walk number in
       let le : sum_by number walk ≤ sum_by (λ e. e.cost) walk =
-      at_most number (λ e. e.cost) walk (All-weaker (HasEdge flow) (λ e. number e ≤ e.cost) (λ e has. part e (well.costs_some e has)) walk on) in
+      sum_by-le_all number (λ e. e.cost) walk (All-weaker (HasEdge flow) (λ e. number e ≤ e.cost) (λ e has. part e (well.costs_some e has)) walk on) in
       let small : capped (sum_by number walk) ≡ sum_by number walk = omega arith in
       ap capped is ∙ small
 

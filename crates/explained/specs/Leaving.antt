@@ -4,8 +4,7 @@ use Rattle.std.specs.List.{list_any}
 use Rattle.flow_graph.specs.declared.edges.Edge.{Edge}
 use Rattle.flow_graph.specs.declared.edges.Label.{Label}
 use Rattle.flow_graph.specs.declared.edges.Label.TheVariants.{Do, Skip}
-use Rattle.flow_graph.specs.declared.places.Place.{Place}
-use Rattle.flow_graph.specs.declared.places.Place.TheVariants.{At, Exit}
+use Rattle.longest_walk.specs.Rows.{is_exit}
 use Rattle.explained.specs.Taken.{is_at}
 use Rattle.explained.specs.declared.leaving.EdgeKind.{EdgeKind}
 use Rattle.explained.specs.declared.leaving.EdgeKind.TheVariants.{CarriesOut, LeadsOut}
@@ -14,11 +13,6 @@ use Rattle.explained.specs.declared.leaving.EdgeKind.TheVariants.{CarriesOut, Le
 abbrev pub is_done : Label → Bool
 is_done Do = true
 is_done Skip = false
-
--- outside the handler
-abbrev pub is_exit : Place → Bool
-is_exit (At calls a) = false
-is_exit Exit = true
 
 -- an edge on which its word is carried out, or one that leads out of the handler
 abbrev pub is_of : EdgeKind → Edge → Bool

@@ -4,10 +4,10 @@ use Rattle.arm2_decode.specs.declared.instr.Instr.{Instr}
 use Rattle.arm2_decode.specs.declared.instr.Operation.{Operation}
 use Rattle.arm2_decode.specs.declared.instr.Operation.TheVariants as operation
 use Rattle.bus_ticks.specs.declared.profile.Class.{Class}
-use Rattle.bus_ticks.specs.declared.profile.Class.TheVariants.{Any, Ram, Rom, Io}
 use Rattle.flow_graph.specs.Flow.{Flow}
 use Rattle.loader.specs.Image.{Words}
 use Rattle.statement.specs.Stated.{Stated, class_of}
+use Rattle.text_rows.specs.Addresses.{class_name}
 use Rattle.word_shapes.specs.Shapes.{is_never}
 use Rattle.word_shapes.specs.Words.{HasInstr}
 use Rattle.explained.specs.Leaving.{is_left_on}
@@ -55,12 +55,6 @@ pub record ArePriced (words : Words) (st : Stated) (flow : Flow) (priced : ℕ �
   pub other : (a : ℕ) → is_reached flow.places a ≡ false → priced a ≡ None
 
 -- ## Texts
-
-abbrev pub class_name : Class → List ℕ
-class_name Any = codes "any"
-class_name Ram = codes "ram"
-class_name Rom = codes "rom"
-class_name Io = codes "io"
 
 abbrev pub granted_text : Granted → List ℕ
 granted_text Nothing = []

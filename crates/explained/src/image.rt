@@ -10,10 +10,11 @@ use crate::columns::{IMAGE_HEADING, put_end};
 use crate::lines::{Columns, Costing, put_columns, ticks_at};
 use crate::sections::StatedGraph;
 use crate::starts::TimedWalk;
-use crate::tally::{Tally, capped_sum};
+use crate::tally::Tally;
 use assembler::disassemble;
 use std::alloc::{AllocError, Global};
 use text_rows::{put, put_address, put_cut_row};
+use walk_counts::capped_sum;
 
 // Adds the row of a word whose line this is.
 fn put_line(out: &mut Vec<u8>, columns: Columns, at: u32, line: &[u8]) -> Result<(), AllocError>

@@ -28,7 +28,6 @@ pub use law::{
 };
 pub use links::lost_links;
 pub use named::named_lines;
-pub use pricing::class_name;
 pub use sections::{StatedGraph, image_assumptions, source_assumptions};
 pub use source::source_table;
 pub use starts::TimedWalk;

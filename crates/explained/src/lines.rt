@@ -10,11 +10,12 @@ use crate::columns::put_ticks;
 use crate::pricing::{Pricing, priced, put_pricing};
 use crate::sections::StatedGraph;
 use crate::starts::{TimedWalk, latest_starts};
-use crate::tally::{Costs, Taken, Tally, capped_sum};
+use crate::tally::{Costs, Taken, Tally};
 use assembler::PlacedLine;
 use std::alloc::{AllocError, Global};
 use std::collections::BTreeMap;
 use text_rows::{put, put_number, put_right};
+use walk_counts::capped_sum;
 
 /// What is in the columns of a row.
 #[derive(Clone, Copy)]

@@ -3,7 +3,7 @@ ghost use Rattle.std.specs.BTreeMap.{get};
 ghost use Rattle.std.specs.BTreeSet.{contains};
 ghost use Rattle.std.specs.Ordering.{nat_cmp};
 ghost use Rattle.text_rows.specs.Columns.{in_columns};
-ghost use Rattle.explained.specs.Pricing.{ArePriced, IsGranted, class_name, both_text, granted_text};
+ghost use Rattle.explained.specs.Pricing.{ArePriced, IsGranted, both_text, granted_text};
 ghost use Rattle.explained.specs.Pricing.{instr_granted, leave_text, operation_granted, pricing_text};
 ghost use Rattle.explained.specs.PricingParts.{Prices, IsPricedBy};
 
@@ -15,7 +15,7 @@ use flow_graph::{Place, Statement};
 use loader::Image;
 use std::alloc::{AllocError, Global};
 use std::collections::{BTreeMap, BTreeSet};
-use text_rows::{put, put_right};
+use text_rows::{class_name, put, put_right};
 use word_shapes::{instr_at, is_never};
 
 /// What the price of an instruction takes for granted of what it does besides its fetches.
@@ -130,25 +130,13 @@ pub(crate) fn priced(
     Ok(prices)
 }
 
-/// The name of a class as a statement has it.
-pub fn class_name(class: Class) -> &'static [u8]
-    ensures { result.now ≡ class_name class }
-{
-    match class {
-        Class::Any => b"any",
-        Class::Ram => b"ram",
-        Class::Rom => b"rom",
-        Class::Io => b"io",
-    }
-}
-
 fn granted_text(granted: Granted) -> &'static [u8]
     ensures { result.now ≡ granted_text granted }
 {
     match granted {
         Granted::Nothing => b"",
         Granted::Multiplier => b"m = 16",
-        Granted::Access(class) => class_name(class),
+        Granted::Access(class) => class_name(class).as_bytes(),
     }
 }
 
@@ -160,11 +148,11 @@ fn leave_text(alloc: Global, granted: Granted, class: Class) -> Result<Vec<u8>, 
         Granted::Nothing => put(&mut out, b"> ")?,
         Granted::Multiplier => put(&mut out, b"m = 16 > ")?,
         Granted::Access(access) => {
-            put(&mut out, class_name(access))?;
+            put(&mut out, class_name(access).as_bytes())?;
             put(&mut out, b" > ")?;
         }
     }
-    put(&mut out, class_name(class))?;
+    put(&mut out, class_name(class).as_bytes())?;
     Ok(out)
 }
 

@@ -9,10 +9,11 @@ use crate::columns::{HEADING, put_end};
 use crate::lines::{Columns, Costing, line_taken, put_columns, ticks_in};
 use crate::sections::StatedGraph;
 use crate::starts::TimedWalk;
-use crate::tally::{Tally, capped_sum};
+use crate::tally::Tally;
 use assembler::PlacedLine;
 use std::alloc::{AllocError, Global};
 use text_rows::{LineRows, NumberedLine, put, put_cut_row, put_line_rows, put_number};
+use walk_counts::capped_sum;
 
 // Adds the row of a line.
 fn put_line(out: &mut Vec<u8>, columns: Columns, line: NumberedLine<'_>) -> Result<(), AllocError>

@@ -1,15 +1,14 @@
-ghost use Rattle.std.specs.Prelude.{◌≡◌, ◌+◌, ◌*◌, ℕ, IfOk, OnOk};
+ghost use Rattle.std.specs.Prelude.{◌≡◌, ℕ, IfOk, OnOk};
 ghost use Rattle.std.specs.BTreeMap.{get};
 ghost use Rattle.std.specs.Ordering.{nat_cmp};
 ghost use Rattle.longest_walk.specs.Folded.{unfolded};
-ghost use Rattle.walk_counts.specs.Counts.{capped};
 ghost use Rattle.explained.specs.Taken.{Adds, IsTally, Puts, Starts, more, widened};
 
 use flow_graph::{Edge, Graph, Place};
 use longest_walk::FoldedWalk;
 use std::alloc::{AllocError, Global};
 use std::collections::BTreeMap;
-use walk_counts::edge_counts;
+use walk_counts::{capped_product, capped_sum, edge_counts};
 
 /// The least and the greatest cost in ticks of the edges that a walk takes from an instruction.
 #[derive(Clone, Copy)]
@@ -31,18 +30,6 @@ pub struct Taken {
 #[derive(Drop)]
 pub struct Tally {
     by_address: BTreeMap<u32, Taken>,
-}
-
-pub(crate) fn capped_sum(sum: u64, more: u64) -> u64
-    ensures { result ≡ capped (sum + more) }
-{
-    sum.saturating_add(more)
-}
-
-fn capped_product(count: u64, cost: u32) -> u64
-    ensures { result ≡ capped (count * cost) }
-{
-    count.saturating_mul(u64::from(cost))
 }
 
 // A cost more.

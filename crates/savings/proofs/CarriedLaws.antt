@@ -1,10 +1,9 @@
 -- An edge more, and what the times are.
-use Rattle.std.proofs.Common.{◌≡◌, ◌∙◌, ℕ, ◌+◌, ◌^◌, ◌<◌, ◌≤◌, Bool, true, false, cond, List, [], ◌∷◌, length, get_or, refl, sym, ap, subst, arith}
-use Rattle.std.specs.Prelude.{All, count_by, if◌then◌else◌, sum_by}
+use Rattle.std.proofs.Common.{◌≡◌, ◌∙◌, ℕ, ◌+◌, ◌^◌, ◌<◌, ◌≤◌, Bool, true, false, cond, List, length, get_or, refl, sym, ap, subst, arith}
+use Rattle.std.specs.Prelude.{All, count_by, if◌then◌else◌}
 use Rattle.std.specs.BTreeMap.{BTreeMap}
-use Rattle.std.proofs.lemmas.List.Elements.{All-head, All-tail, All-weaker}
+use Rattle.std.proofs.lemmas.List.Elements.{All-weaker}
 use Rattle.std.proofs.lemmas.List.{get_or_default}
-use Rattle.std.proofs.lemmas.List.Sums.{sum_by-cons}
 use Rattle.explained.specs.Taken.{in_all}
 use Rattle.explained.proofs.TallyLaws.{counts_not, counts_once}
 use Rattle.flow_graph.specs.declared.places.Place.TheVariants.{Exit}
@@ -16,6 +15,7 @@ use Rattle.longest_walk.specs.Folded.{unfolded}
 use Rattle.longest_walk.specs.Longest.{IsWalkOf}
 use Rattle.longest_walk.specs.declared.folded.Item.{Item}
 use Rattle.longest_walk.proofs.CarryWalks.{no_edge}
+use Rattle.walks.proofs.SumLe.{sum_by-le_all}
 use Rattle.walks.specs.Walk.{cost_of}
 use Rattle.walk_counts.specs.Counts.{capped, number_of, occurrences}
 use Rattle.walk_counts.proofs.CountLemmas.{along}
@@ -48,12 +48,6 @@ none_added edges walk times none = none
 
 -- ## The times of a walk
 
-at_most : {X : Type 0} (f g : X → ℕ) (xs : List X) → All (λ x. f x ≤ g x) xs → sum_by f xs ≤ sum_by g xs
-at_most f g [] all = omega arith
-at_most f g (x ∷ xs) all =
-    let here : f x ≤ g x = All-head (λ y. f y ≤ g y) x xs all in
-    omega (arith, sum_by-cons f x xs, sum_by-cons g x xs, at_most f g xs (All-tail (λ y. f y ≤ g y) x xs all))
-
 within : (b : Bool) (cost : ℕ) → 0 < cost → cond b 1 0 ≤ cost
 within true cost some = omega arith
 within false cost some = omega arith
@@ -67,7 +61,7 @@ module _ (flow : Flow) (walk : List Edge) (well : IsWellFormed flow) (on : All (
 
   few : count_by (carries_out a) walk ≤ cost_of edge_shape walk
   few =
-      at_most (done_at a) (λ e. e.cost) walk
+      sum_by-le_all (done_at a) (λ e. e.cost) walk
       (All-weaker (HasEdge flow) (λ e. done_at a e ≤ e.cost) (λ e has. within (carries_out a e) e.cost (well.costs_some e has)) walk on)
 
   pub times_are : cost_of edge_shape walk < 2 ^ 64 → times_done flow.edges walk a ≡ count_by (carries_out a) walk

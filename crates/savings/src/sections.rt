@@ -10,13 +10,13 @@ ghost use Rattle.text_rows.specs.ByAddress.{line_at};
 use crate::found::{Saving, Subject, savings};
 use crate::gains::Refinement;
 use assembler::PlacedLine;
-use explained::{StatedGraph, class_name};
+use explained::StatedGraph;
 use longest_walk::Longest;
 use std::alloc::{AllocError, Global};
 use std::collections::BTreeMap;
 use text_rows::{
-    NumberedLine, lines_by_address, put, put_address_row, put_named_row, put_number, put_right,
-    put_shown_row, section,
+    NumberedLine, class_name, lines_by_address, put, put_address_row, put_named_row, put_number,
+    put_right, put_shown_row, section,
 };
 
 const HEADING: &[u8] = b"\nWhat would save most, in ticks at most (state only what is true):\n";
@@ -28,9 +28,9 @@ fn put_refinement(out: &mut Vec<u8>, refinement: Refinement) -> Result<(), Alloc
     match refinement {
         Refinement::Multiplier => put(out, b"m = 15"),
         Refinement::Addresses(change) => {
-            put(out, class_name(change.better))?;
+            put(out, class_name(change.better).as_bytes())?;
             put(out, b" for ")?;
-            put(out, class_name(change.present))
+            put(out, class_name(change.present).as_bytes())
         }
     }
 }

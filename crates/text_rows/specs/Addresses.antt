@@ -1,6 +1,9 @@
--- Addresses as a statement has them.
-use Rattle.std.specs.Prelude.{ℕ, ◌==◌, if◌then◌else◌, List, [], ◌∷◌, ◌++◌, length, codes}
+-- Addresses and their classes as a statement has them.
+use Rattle.std.specs.Prelude.{◌≡◌, ◌⊎◌, ℕ, ◌==◌, if◌then◌else◌, List, [], ◌∷◌, ◌++◌, length, codes, Some}
 use Rattle.asm_text.specs.Hex.{hex8}
+use Rattle.bus_ticks.specs.declared.profile.Class.{Class}
+use Rattle.bus_ticks.specs.declared.profile.Class.TheVariants.{Any, Ram, Rom, Io}
+use Rattle.loader.specs.Labels.{Names, address_of}
 
 -- a number of TOML
 abbrev pub number_text : ℕ → List ℕ
@@ -10,6 +13,16 @@ number_text at = codes "0x" ++ hex8 at
 abbrev pub quoted : List ℕ → List ℕ
 quoted label = 34 ∷ [] ++ (label ++ 34 ∷ [])
 
+-- the label is none, or stands for the address
+abbrev pub IsNamed : Names → ℕ → List ℕ → Type 0
+IsNamed names at label = (label ≡ []) ⊎ (address_of names label ≡ Some at)
+
 -- by its label, or where it has none by its number
 abbrev pub labelled : List ℕ → ℕ → List ℕ
 labelled label at = if length label == 0 then number_text at else quoted label
+
+abbrev pub class_name : Class → List ℕ
+class_name Any = codes "any"
+class_name Ram = codes "ram"
+class_name Rom = codes "rom"
+class_name Io = codes "io"

@@ -7,7 +7,7 @@ mod columns;
 mod lines;
 mod rows;
 
-pub use addresses::{put_labelled, put_quoted};
+pub use addresses::{class_name, put_labelled, put_quoted};
 pub use by_address::lines_by_address;
 pub use columns::{put, put_cut_row, put_decimal, put_number, put_right};
 pub use lines::{LineRows, WordRows, put_line_rows, put_word_rows};

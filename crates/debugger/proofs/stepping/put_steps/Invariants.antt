@@ -1,6 +1,7 @@
 use Rattle.std.proofs.Common.{◌≡◌, ◌+◌, ◌-◌, ◌*◌, ◌≤◌, None, length, vec_capacity}
 use Rattle.arm2_exec.proofs.RunLemmas.{SoFar}
 use Rattle.trace_text.specs.TraceText.{Adds}
+use Rattle.trace_text.specs.declared.trace.TheConstants.{LINE_ROOM}
 use Rattle.trace_text.proofs.RunLaws.{ToldSoFar}
 use Rattle.debugger.specs.Stepping.{IsWithin}
 use Rattle.debugger.specs.Watching.{inputs_of}
@@ -12,5 +13,5 @@ invariant-loop-made l =
     (inputs_of l.input (l.steps - l.made))
     × Adds (ToldSoFar l.initial.machine (inputs_of l.initial.input l.steps) l.machine
     (inputs_of l.input (l.steps - l.made))) l.initial.out.items l.out.items
-    × (length l.out.items + (l.steps - l.made) * 94 ≤ vec_capacity l.out) × (l.ran.stopped ≡ None)
+    × (length l.out.items + (l.steps - l.made) * LINE_ROOM ≤ vec_capacity l.out) × (l.ran.stopped ≡ None)
     × IsWithin l.made l.ran

@@ -1,7 +1,8 @@
 use Rattle.std.proofs.Common.{◌≡◌, ◌-◌, ℕ, eqb}
 use Rattle.std.specs.Map.{update_all}
 use Rattle.loader.specs.Labels.{Names}
-use Rattle.diagnosis.specs.Lines.{AreNamed, IsNamed, numbered, numbered_at, words_from}
+use Rattle.text_rows.specs.Addresses.{IsNamed}
+use Rattle.diagnosis.specs.Lines.{AreNamed, numbered, numbered_at, words_from}
 use Rattle.diagnosis.proofs.words.add_words.Given as goal
 
 abbrev pub invariant-loop : goal.invariant-loop
