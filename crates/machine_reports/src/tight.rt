@@ -63,7 +63,6 @@ fn tight_file(
         (HasTightFile image.now handler.now.statement handler.now.graph.profile edge.now) }
     ensures fault { IfErr result (λ fault. fault ≡ ReportFault.Memory) }
 {
-    let _edge = edge;
     let number = number as usize;
     match tight_state(alloc, image, &handler.statement, &handler.graph, number) {
         Ok(tight) => Ok(tight.file),
