@@ -7,7 +7,7 @@ const WRONG: u8 = 1;
 
 const NO_SUCH_CALL: u8 = 2;
 
-/// What the calls so far came to.
+/// How the calls so far ended.
 #[derive(Clone, Copy)]
 pub(crate) struct Tally {
     has_any: bool,

@@ -62,7 +62,7 @@ pub(crate) trait Trial {
     fn is_unchanged(&mut self, alloc: Global) -> Result<bool, ReportFault>;
 }
 
-/// What a call that is made again after a refusal came to.
+/// How a call that is made again after a refusal ended.
 #[derive(Clone, Copy)]
 pub(crate) enum Outcome {
     Right,
