@@ -14,7 +14,7 @@ use thiserror::Error;
 
 /// Why a loop was not run.
 #[derive(Clone, Copy, Debug, Drop, Error)]
-pub(crate) enum Unrun {
+pub(crate) enum LoopFault {
     #[error("out of memory")]
     Memory,
     #[error("{0}")]
@@ -23,38 +23,38 @@ pub(crate) enum Unrun {
     Load(LoadFault),
 }
 
-impl From<AllocError> for Unrun {
-    fn from(_: AllocError) -> Unrun {
-        Unrun::Memory
+impl From<AllocError> for LoopFault {
+    fn from(_: AllocError) -> LoopFault {
+        LoopFault::Memory
     }
 }
 
-impl From<MachineFault> for Unrun {
-    fn from(_: MachineFault) -> Unrun {
-        Unrun::Memory
+impl From<MachineFault> for LoopFault {
+    fn from(_: MachineFault) -> LoopFault {
+        LoopFault::Memory
     }
 }
 
-impl From<DebugFault> for Unrun {
-    fn from(_: DebugFault) -> Unrun {
-        Unrun::Memory
+impl From<DebugFault> for LoopFault {
+    fn from(_: DebugFault) -> LoopFault {
+        LoopFault::Memory
     }
 }
 
-impl From<AsmFault> for Unrun {
-    fn from(fault: AsmFault) -> Unrun {
-        Unrun::Source(fault)
+impl From<AsmFault> for LoopFault {
+    fn from(fault: AsmFault) -> LoopFault {
+        LoopFault::Source(fault)
     }
 }
 
-impl From<LoadFault> for Unrun {
-    fn from(fault: LoadFault) -> Unrun {
-        Unrun::Load(fault)
+impl From<LoadFault> for LoopFault {
+    fn from(fault: LoadFault) -> LoopFault {
+        LoopFault::Load(fault)
     }
 }
 
 // A machine in supervisor mode at the loop's first word, with both interrupts masked.
-fn machine_at(alloc: Global, which: Loop) -> Result<Machine, Unrun> {
+fn machine_at(alloc: Global, which: Loop) -> Result<Machine, LoopFault> {
     let assembly = assemble(alloc, which.source().as_bytes())?;
     let mut machine = Machine::new(alloc, PageSize::K32, Profile::one())?;
     load(alloc, &mut machine, &assembly.image)?;
@@ -77,7 +77,7 @@ fn ticks_of(machine: &mut Machine, steps: u32) -> u64 {
 }
 
 /// Runs so many steps of a loop, and answers a text of their number and their ticks.
-pub(crate) fn run(alloc: Global, which: Loop, steps: u32) -> Result<String, Unrun> {
+pub(crate) fn run(alloc: Global, which: Loop, steps: u32) -> Result<String, LoopFault> {
     let mut machine = machine_at(alloc, which)?;
     let ticks = ticks_of(&mut machine, steps);
     Ok(format!(in alloc; "steps {steps} ticks {ticks}")?)
@@ -100,7 +100,7 @@ fn commands(alloc: Global, steps: u32) -> Result<String, AllocError> {
 }
 
 /// The same by the debugger's command `run`: what it prints of the ticks.
-pub(crate) fn debug(alloc: Global, which: Loop, steps: u32) -> Result<String, Unrun> {
+pub(crate) fn debug(alloc: Global, which: Loop, steps: u32) -> Result<String, LoopFault> {
     let machine = machine_at(alloc, which)?;
     let answers = converse(alloc, machine, 0, commands(alloc, steps)?.as_bytes())?;
     let mut shown = String::new(alloc);
