@@ -2,9 +2,10 @@
 //! of all walks that keep the bounds, unrolled.
 
 use crate::numbers::Numbers;
+use assembler::assemble;
 use bus_ticks::Profile;
 use flow_graph::{Edge, Graph, Place, build, read_statement};
-use loader::{Image, Labels};
+use loader::Labels;
 use longest_walk::longest;
 use loop_bounds::nest;
 use std::alloc::{AllocError, Global};
@@ -13,42 +14,46 @@ use std::test::Fail;
 // A loop as a statement states it: header, first, last and bound.
 type Stated = (u32, u32, u32, u32);
 
-// The words of a handler before its return.
-const WORDS: u32 = 8;
+// How many instructions a handler has before its return.
+const LENGTH: u32 = 8;
 
-// A branch from one word of the handler to another, where flags say so.
-fn branch(from: u32, to: u32) -> u32 {
-    0x1A00_0000 | (to.wrapping_sub(from).wrapping_sub(2) & 0x00FF_FFFF)
+// The address of an instruction of the handler.
+fn address_at(number: u32) -> u32 {
+    number.wrapping_mul(4).wrapping_add(0x8000)
 }
 
-// Words that cost different numbers of ticks, with up to three loops and some branches forward.
-fn handler(alloc: Global, numbers: &mut Numbers) -> Result<(Vec<u32>, Vec<Stated>), AllocError> {
-    let mut words = Vec::new(alloc);
-    for at in 0..WORDS {
-        let word = match numbers.below(4) {
-            0 => 0xE250_0001,
-            1 => 0xE002_0493,
-            2 => branch(
-                at,
-                at.wrapping_add(2).wrapping_add(numbers.below(2)).min(WORDS),
-            ),
-            _ => 0xE3A0_0003,
+// A branch to an instruction of the handler, where flags say so.
+fn branch(alloc: Global, to: u32) -> Result<String, AllocError> {
+    format!(in alloc; " BNE &{:X}\n", address_at(to))
+}
+
+// Instructions that cost different numbers of ticks, with up to three loops and some branches forward.
+fn handler(alloc: Global, numbers: &mut Numbers) -> Result<(Vec<String>, Vec<Stated>), AllocError> {
+    let mut lines = Vec::new(alloc);
+    for at in 0..LENGTH {
+        let line = match numbers.below(4) {
+            0 => String::from_str(alloc, " SUBS R0,R0,#1\n")?,
+            1 => String::from_str(alloc, " MUL R2,R3,R4\n")?,
+            2 => {
+                let to = at.wrapping_add(2).wrapping_add(numbers.below(2));
+                branch(alloc, to.min(LENGTH))?
+            }
+            _ => String::from_str(alloc, " MOV R0,#3\n")?,
         };
-        words.push(word)?;
+        lines.push(line)?;
     }
-    words.push(0xE25E_F004)?;
+    lines.push(String::from_str(alloc, " SUBS PC,R14,#4\n")?)?;
     let mut loops = Vec::new(alloc);
     for _ in 0..numbers.below(4) {
-        let header = numbers.below(WORDS);
-        let last = header.wrapping_add(numbers.below(WORDS.wrapping_sub(header)));
-        if let Some(word) = words.get_mut(last as usize) {
-            *word = branch(last, header);
+        let header = numbers.below(LENGTH);
+        let last = header.wrapping_add(numbers.below(LENGTH.wrapping_sub(header)));
+        if let Some(line) = lines.get_mut(last as usize) {
+            *line = branch(alloc, header)?;
         }
-        let first = 0x8000u32.wrapping_add(header.wrapping_mul(4));
-        let end = 0x8000u32.wrapping_add(last.wrapping_mul(4));
-        loops.push((first, first, end, numbers.below(3)))?;
+        let first = address_at(header);
+        loops.push((first, first, address_at(last), numbers.below(3)))?;
     }
-    Ok((words, loops))
+    Ok((lines, loops))
 }
 
 fn address_of(place: &Place) -> Option<u32> {
@@ -165,13 +170,12 @@ fn statement_of(alloc: Global, loops: &[Stated]) -> Result<String, AllocError> {
 }
 
 // Whether the handler has a tree of loops and both ways agree on its bound; none where it has no tree.
-fn agrees(alloc: Global, words: &[u32], loops: &[Stated]) -> Result<Option<bool>, Fail> {
-    let mut image = Image::new(alloc);
-    let mut address = 0x8000u32;
-    for word in words {
-        image.put(alloc, address, *word)?;
-        address = address.wrapping_add(4);
+fn agrees(alloc: Global, lines: &[String], loops: &[Stated]) -> Result<Option<bool>, Fail> {
+    let mut source = String::new(alloc);
+    for line in lines {
+        source.push_str(line.as_str())?;
     }
+    let image = assemble(alloc, source.as_bytes())?.image;
     let text = statement_of(alloc, loops)?;
     let statement = read_statement(alloc, text.as_bytes(), &Labels::new(alloc))?;
     let graph = build(alloc, &image, &statement, &Profile::one())?;
@@ -191,8 +195,8 @@ fn folded_and_unrolled_agree(rt: HostRuntime) -> Result<(), Fail> {
     let mut numbers = Numbers::new(2);
     let mut compared = 0u32;
     for number in 0..1000u32 {
-        let (words, loops) = handler(alloc, &mut numbers)?;
-        if let Some(same) = agrees(alloc, &words, &loops)? {
+        let (lines, loops) = handler(alloc, &mut numbers)?;
+        if let Some(same) = agrees(alloc, &lines, &loops)? {
             assert!(rt; same, "handler {number}");
             compared = compared.saturating_add(1);
         }

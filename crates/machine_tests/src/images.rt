@@ -1,9 +1,10 @@
+use crate::memory::word;
 use arm2_exec::Machine;
 use bus_ticks::Profile;
 use loader::{
     Image, ImageFault, LabelFault, Labels, LoadFault, ReadFault, load, put_words, read_image,
 };
-use memc::{Memc, PageSize, Spot};
+use memc::PageSize;
 use std::alloc::Global;
 use std::test::Fail;
 
@@ -91,15 +92,6 @@ fn images_cut(rt: HostRuntime) {
         b"BRC2IMG1\x01\0\0\0\0\x80\0\0\x01\0\0\0\x03\0\xA0\xE3",
     );
     assert!(rt; refused == Some(ReadFault::BadMagic));
-}
-
-// The word that a privileged load returns.
-fn word(memc: &Memc, address: u32) -> Option<u32> {
-    match memc.locate(address % 0x400_0000, false, false) {
-        Ok(Spot::Ram(place)) => Some(memc.load(Spot::Ram(place))),
-        Ok(Spot::Rom(address)) => Some(memc.load(Spot::Rom(address))),
-        _ => None,
-    }
 }
 
 fn words(machine: &Machine, addresses: [u32; 2]) -> [Option<u32>; 2] {

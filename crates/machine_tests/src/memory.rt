@@ -2,8 +2,8 @@ use bus_ticks::RomTimes;
 use memc::{MapFault, Memc, PageSize, Refused, Spot};
 use std::test::Fail;
 
-// The word that a privileged load returns, or none where the load is refused or goes to a device.
-fn word(memc: &Memc, address: u32) -> Option<u32> {
+/// The word that a privileged load returns, or none where the load is refused or goes to a device.
+pub(crate) fn word(memc: &Memc, address: u32) -> Option<u32> {
     match memc.locate(address % 0x400_0000, false, false) {
         Ok(Spot::Ram(place)) => Some(memc.load(Spot::Ram(place))),
         Ok(Spot::Rom(address)) => Some(memc.load(Spot::Rom(address))),

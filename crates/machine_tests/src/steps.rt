@@ -83,7 +83,6 @@ fn set_up(machine: &mut Machine) {
     for word in [0x8000_0000, 0xA000_4000, 0xB000_0000, 0xE000_0000] {
         machine.vidc_mut().write(word);
     }
-    let _vidc = machine.vidc();
 }
 
 // Two steps, with a burst in the first. Timer 0 requests in the second step.
