@@ -12,7 +12,7 @@ use std::test::Fail;
 
 // How an output fails.
 #[derive(Clone, Copy)]
-enum Failure {
+enum WriteFault {
     TakesNothing,
     Error,
 }
@@ -24,17 +24,17 @@ struct Narrow {
     failures: u64,
     step: usize,
     left: usize,
-    failure: Failure,
+    fault: WriteFault,
 }
 
 impl Narrow {
-    fn new(alloc: Global, step: usize, left: usize, failure: Failure) -> Narrow {
+    fn new(alloc: Global, step: usize, left: usize, fault: WriteFault) -> Narrow {
         Narrow {
             bytes: Vec::new(alloc),
             failures: 0,
             step,
             left,
-            failure,
+            fault,
         }
     }
 }
@@ -48,9 +48,9 @@ impl Output for Narrow {
         let n = bytes.len().min(self.step).min(self.left);
         if n == 0 && !bytes.is_empty() {
             self.failures = self.failures.saturating_add(1);
-            return match self.failure {
-                Failure::TakesNothing => Ok(0),
-                Failure::Error => Err(OutputFault::Failed),
+            return match self.fault {
+                WriteFault::TakesNothing => Ok(0),
+                WriteFault::Error => Err(OutputFault::Failed),
             };
         }
         match self.bytes.extend_from_slice(&bytes[..n]) {
@@ -70,26 +70,26 @@ impl Output for Narrow {
 fn take_all(alloc: Global, text: &[u8]) -> Result<bool, Fail> {
     let mut memory = MemoryOutput::with_room(alloc, 3)?;
     write_whole(&mut memory, text)?;
-    let mut slow = Narrow::new(alloc, 1, 9, Failure::Error);
+    let mut slow = Narrow::new(alloc, 1, 9, WriteFault::Error);
     write_whole(&mut slow, text)?;
     Ok(memory.bytes() == text && slow.bytes.as_slice() == text && slow.failures == 0)
 }
 
 // How many bytes an output takes a write, and how it fails.
 #[derive(Clone, Copy)]
-struct Kind(usize, Failure);
+struct Kind(usize, WriteFault);
 
 const KINDS: [Kind; 3] = [
-    Kind(1, Failure::TakesNothing),
-    Kind(7, Failure::TakesNothing),
-    Kind(7, Failure::Error),
+    Kind(1, WriteFault::TakesNothing),
+    Kind(7, WriteFault::TakesNothing),
+    Kind(7, WriteFault::Error),
 ];
 
 impl Cut for Kind {
     // It writes no more once it has failed.
     fn is_cut(&self, alloc: Global, report: Report, text: &[u8], room: usize) -> bool {
-        let Kind(step, failure) = *self;
-        let mut out = Narrow::new(alloc, step, room, failure);
+        let Kind(step, fault) = *self;
+        let mut out = Narrow::new(alloc, step, room, fault);
         let found = report.print(alloc, &mut out);
         let (answer, front) = on_room(text, room);
         let failures = u64::from(room < text.len());
@@ -122,9 +122,9 @@ fn program_at_cuts(
 ) -> Result<(), Fail> {
     for left in 0..=report.len() {
         let status = if left < report.len() { 4 } else { 0 };
-        let mut out = Narrow::new(alloc, 7, left, Failure::TakesNothing);
+        let mut out = Narrow::new(alloc, 7, left, WriteFault::TakesNothing);
         // What standard error takes changes no status.
-        let mut err = Narrow::new(alloc, 1, 0, Failure::Error);
+        let mut err = Narrow::new(alloc, 1, 0, WriteFault::Error);
         let mut files = Files {
             source: (SOURCE, 0),
             second: (STATEMENT, 0),

@@ -42,7 +42,13 @@ type Told = (u8, &'static [u8], &'static [u8]);
 
 const CERTIFICATE: Told = (
     0,
-    b"arcwcet certificate 1\nbound 9\nstep 8000 do exit 9\nclose\nplace - 8000 0\nstop\n",
+    b"arcwcet certificate 1
+bound 9
+step 8000 do exit 9
+close
+place - 8000 0
+stop
+",
     b"",
 );
 

@@ -4,5 +4,10 @@ pub const SOURCE: &[u8] = b" ORG &1C\n SUBS PC,R14,#4\n";
 
 pub const STATEMENT: &[u8] = b"entry = 0x1C\n";
 
-pub const CERTIFICATE: &[u8] =
-    b"arcwcet certificate 1\nbound 9\nstep 1C do exit 9\nclose\nplace - 1C 0\nstop\n";
+pub const CERTIFICATE: &[u8] = b"arcwcet certificate 1
+bound 9
+step 1C do exit 9
+close
+place - 1C 0
+stop
+";

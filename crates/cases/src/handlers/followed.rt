@@ -1,4 +1,4 @@
-use crate::handlers::judgement::{Files, Unjudged, number_after};
+use crate::handlers::judgement::{Files, HandlerFault, number_after};
 use arcwcet::{FollowedRun, MemoryOutput, follow_report};
 use std::alloc::Global;
 use std::str;
@@ -52,7 +52,7 @@ fn kept_in(line: &str) -> Option<Followed> {
 }
 
 /// Follows a handler's run.
-pub(crate) fn follow_run(alloc: Global, files: &Files) -> Result<Followed, Unjudged> {
+pub(crate) fn follow_run(alloc: Global, files: &Files) -> Result<Followed, HandlerFault> {
     let run = FollowedRun {
         source: &files.source,
         statement: &files.statement,
@@ -60,10 +60,10 @@ pub(crate) fn follow_run(alloc: Global, files: &Files) -> Result<Followed, Unjud
     };
     let mut told = MemoryOutput::with_room(alloc, 0)?;
     let kept = follow_report(alloc, run, None, &mut told)?;
-    let text = str::from_utf8(told.bytes()).map_err(|_| Unjudged::Text)?;
-    let line = text.lines().next().ok_or(Unjudged::Text)?;
+    let text = str::from_utf8(told.bytes()).map_err(|_| HandlerFault::Text)?;
+    let line = text.lines().next().ok_or(HandlerFault::Text)?;
     if kept {
-        return kept_in(line).ok_or(Unjudged::Text);
+        return kept_in(line).ok_or(HandlerFault::Text);
     }
     Ok(if line.contains("not the entry") {
         Followed::StartsElsewhere

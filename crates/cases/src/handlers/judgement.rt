@@ -12,7 +12,7 @@ use thiserror::Error;
 
 /// Why a handler was not judged.
 #[derive(Clone, Copy, Debug, Drop, Error)]
-pub(crate) enum Unjudged {
+pub(crate) enum HandlerFault {
     #[error("unread: {0}")]
     Files(StoreFault),
     #[error("refused: {0}")]
@@ -21,21 +21,21 @@ pub(crate) enum Unjudged {
     Text,
 }
 
-impl From<AllocError> for Unjudged {
-    fn from(_refused: AllocError) -> Unjudged {
-        Unjudged::Report(ReportFault::Memory)
+impl From<AllocError> for HandlerFault {
+    fn from(_refused: AllocError) -> HandlerFault {
+        HandlerFault::Report(ReportFault::Memory)
     }
 }
 
-impl From<StoreFault> for Unjudged {
-    fn from(fault: StoreFault) -> Unjudged {
-        Unjudged::Files(fault)
+impl From<StoreFault> for HandlerFault {
+    fn from(fault: StoreFault) -> HandlerFault {
+        HandlerFault::Files(fault)
     }
 }
 
-impl From<ReportFault> for Unjudged {
-    fn from(fault: ReportFault) -> Unjudged {
-        Unjudged::Report(fault)
+impl From<ReportFault> for HandlerFault {
+    fn from(fault: ReportFault) -> HandlerFault {
+        HandlerFault::Report(fault)
     }
 }
 
@@ -107,12 +107,12 @@ fn read_file<S: Store>(
     store: &mut S,
     folder: &str,
     name: &str,
-) -> Result<Vec<u8>, Unjudged> {
+) -> Result<Vec<u8>, HandlerFault> {
     let path = format!(in alloc; "handlers/{folder}/{name}")?;
     Ok(store.read(alloc, path.as_str())?)
 }
 
-fn read_files<S: Store>(alloc: Global, store: &mut S, folder: &str) -> Result<Files, Unjudged> {
+fn read_files<S: Store>(alloc: Global, store: &mut S, folder: &str) -> Result<Files, HandlerFault> {
     Ok(Files {
         source: read_file(alloc, store, folder, "handler.s")?,
         statement: read_file(alloc, store, folder, "handler.toml")?,
@@ -150,17 +150,17 @@ fn is_accepted(
     files: &Files,
     statement: &[u8],
     cert: &[u8],
-) -> Result<bool, Unjudged> {
+) -> Result<bool, HandlerFault> {
     let mut verdict = MemoryOutput::with_room(alloc, 0)?;
     Ok(check_report(alloc, &files.source, statement, cert, None, &mut verdict)?)
 }
 
 // By `bound`.
-fn bounded_alone(alloc: Global, files: &Files) -> Result<Bounded, Unjudged> {
+fn bounded_alone(alloc: Global, files: &Files) -> Result<Bounded, HandlerFault> {
     let mut cert = MemoryOutput::with_room(alloc, 0)?;
     bound_report(alloc, &files.source, &files.statement, None, &mut cert)?;
     Ok(Bounded {
-        ticks: number_in(cert.bytes(), 1, "bound").ok_or(Unjudged::Text)?,
+        ticks: number_in(cert.bytes(), 1, "bound").ok_or(HandlerFault::Text)?,
         accepted: is_accepted(alloc, files, &files.statement, cert.bytes())?,
     })
 }
@@ -179,7 +179,7 @@ fn bounded_with_visits(
     files: &Files,
     fiq: &[u8],
     visits: u32,
-) -> Result<Bounded, Unjudged> {
+) -> Result<Bounded, HandlerFault> {
     let mut report = MemoryOutput::with_room(alloc, 0)?;
     visits_report(
         alloc,
@@ -190,18 +190,18 @@ fn bounded_with_visits(
         None,
         &mut report,
     )?;
-    let (of_irq, of_fiq) = certificates_of(report.bytes()).ok_or(Unjudged::Text)?;
+    let (of_irq, of_fiq) = certificates_of(report.bytes()).ok_or(HandlerFault::Text)?;
     Ok(Bounded {
-        ticks: number_in(report.bytes(), 5, "total").ok_or(Unjudged::Text)?,
+        ticks: number_in(report.bytes(), 5, "total").ok_or(HandlerFault::Text)?,
         accepted: is_accepted(alloc, files, &files.statement, of_irq.as_bytes())?
             && is_accepted(alloc, files, fiq, of_fiq.as_bytes())?,
     })
 }
 
-fn run_of(alloc: Global, files: &Files) -> Result<Run, Unjudged> {
+fn run_of(alloc: Global, files: &Files) -> Result<Run, HandlerFault> {
     let mut report = MemoryOutput::with_room(alloc, 0)?;
     let finished = run_report(alloc, &files.source, &files.machine, None, &mut report)?;
-    let (ticks, elapsed) = ticks_of(report.bytes()).ok_or(Unjudged::Text)?;
+    let (ticks, elapsed) = ticks_of(report.bytes()).ok_or(HandlerFault::Text)?;
     Ok(Run {
         finished,
         ticks,
@@ -214,7 +214,7 @@ pub(crate) fn judge<S: Store>(
     alloc: Global,
     store: &mut S,
     sample: Sample,
-) -> Result<Judgement, Unjudged> {
+) -> Result<Judgement, HandlerFault> {
     let files = read_files(alloc, store, sample.folder)?;
     let bound = match sample.visits {
         None => bounded_alone(alloc, &files)?,

@@ -1,4 +1,4 @@
-use crate::handlers::judgement::{Files, Unjudged, ticks_of};
+use crate::handlers::judgement::{Files, HandlerFault, ticks_of};
 use arcwcet::{MemoryOutput, ReportFault, run_report, tight_report};
 use std::alloc::Global;
 use std::str;
@@ -24,10 +24,10 @@ fn runs_exactly(
     files: &Files,
     file: &[u8],
     profile: Option<&[u8]>,
-) -> Result<bool, Unjudged> {
+) -> Result<bool, HandlerFault> {
     let mut report = MemoryOutput::with_room(alloc, 0)?;
     let finished = run_report(alloc, &files.source, file, profile, &mut report)?;
-    let cost = cost_in(file).ok_or(Unjudged::Text)?;
+    let cost = cost_in(file).ok_or(HandlerFault::Text)?;
     Ok(finished && ticks_of(report.bytes()) == Some((cost, cost)))
 }
 
@@ -36,7 +36,7 @@ pub(crate) fn edges_of(
     alloc: Global,
     files: &Files,
     profile: Option<&[u8]>,
-) -> Result<Edges, Unjudged> {
+) -> Result<Edges, HandlerFault> {
     let mut edges = Edges {
         all: 0,
         free: 0,
