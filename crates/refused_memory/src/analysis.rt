@@ -31,12 +31,12 @@ pub(crate) struct Stated {
     pub(crate) statement: Statement,
 }
 
-/// The handler of a source and a statement.
-pub(crate) fn handler_of(
-    alloc: Global,
-    source: &[u8],
-    statement: &[u8],
-) -> Result<Stated, ReportFault> {
+/// A call on a handler.
+pub(crate) trait HandlerCall: Copy {
+    fn on(self, alloc: Global, handler: &Stated) -> Result<Answer, ReportFault>;
+}
+
+fn handler_of(alloc: Global, source: &[u8], statement: &[u8]) -> Result<Stated, ReportFault> {
     let said = assemble(alloc, source)?;
     match read_statement(alloc, statement, &said.labels) {
         Ok(statement) => Ok(Stated {
@@ -50,9 +50,22 @@ pub(crate) fn handler_of(
     }
 }
 
-/// The nested countdown.
-pub(crate) fn nested(alloc: Global) -> Result<Stated, ReportFault> {
-    handler_of(alloc, SOURCE, STATEMENT)
+/// Makes a call on the handler of a source and a statement.
+pub(crate) fn on_handler<C: HandlerCall>(
+    alloc: Global,
+    source: &[u8],
+    statement: &[u8],
+    call: C,
+) -> Result<Answer, ReportFault> {
+    let handler = handler_of(alloc, source, statement)?;
+    let answer = call.on(alloc, &handler);
+    drop(handler);
+    answer
+}
+
+/// Makes a call on the nested countdown.
+pub(crate) fn on_nested<C: HandlerCall>(alloc: Global, call: C) -> Result<Answer, ReportFault> {
+    on_handler(alloc, SOURCE, STATEMENT, call)
 }
 
 fn is_nested_graph(graph: &Graph) -> bool {
@@ -168,20 +181,15 @@ impl AnalysisCall {
         drop(graph);
         answer
     }
+}
 
+impl HandlerCall for AnalysisCall {
     fn on(self, alloc: Global, handler: &Stated) -> Result<Answer, ReportFault> {
         match self {
             AnalysisCall::Build => Ok(built(alloc, handler)),
             AnalysisCall::Tight => tight(alloc, handler),
             AnalysisCall::Nest | AnalysisCall::Longest => self.on_graph(alloc, handler),
         }
-    }
-
-    pub(crate) fn made(self, alloc: Global) -> Result<Answer, ReportFault> {
-        let handler = nested(alloc)?;
-        let answer = self.on(alloc, &handler);
-        drop(handler);
-        answer
     }
 }
 

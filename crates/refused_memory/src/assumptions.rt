@@ -1,4 +1,4 @@
-use crate::analysis::{Stated, graph_of, handler_of};
+use crate::analysis::{HandlerCall, Stated, graph_of, on_handler};
 use crate::trial::Answer;
 use arcwcet::ReportFault;
 use assembler::placed_lines;
@@ -41,7 +41,7 @@ fn rows(alloc: Global, handler: &Stated, graph: &Graph) -> Result<Answer, Report
     Ok(Answer::of_text(made, LOOSE_ROWS))
 }
 
-impl AssumedCall {
+impl HandlerCall for AssumedCall {
     fn on(self, alloc: Global, handler: &Stated) -> Result<Answer, ReportFault> {
         let graph = graph_of(alloc, handler)?;
         let answer = match self {
@@ -51,11 +51,10 @@ impl AssumedCall {
         drop(graph);
         answer
     }
+}
 
+impl AssumedCall {
     pub(crate) fn made(self, alloc: Global) -> Result<Answer, ReportFault> {
-        let handler = handler_of(alloc, SOURCE, STATEMENT)?;
-        let answer = self.on(alloc, &handler);
-        drop(handler);
-        answer
+        on_handler(alloc, SOURCE, STATEMENT, self)
     }
 }

@@ -1,4 +1,4 @@
-use crate::analysis::{AnalysisCall, PushItems};
+use crate::analysis::{AnalysisCall, PushItems, on_nested};
 use crate::assumptions::AssumedCall;
 use crate::certificates::CertificateCall;
 use crate::drafts::Drafted;
@@ -43,9 +43,9 @@ impl Trial for Pure {
             Pure::Image(call) => call.made(alloc),
             Pure::Source(call) => call.made(alloc),
             Pure::Listing(call) => call.made(alloc),
-            Pure::Analysis(call) => call.made(alloc),
+            Pure::Analysis(call) => on_nested(alloc, call),
             Pure::Certificate(call) => call.made(alloc),
-            Pure::Explained(call) => call.made(alloc),
+            Pure::Explained(call) => on_nested(alloc, call),
             Pure::Assumed(call) => call.made(alloc),
             Pure::Draft => Drafted.made(alloc),
             Pure::Follow => Follow.made(alloc),

@@ -1,4 +1,4 @@
-use crate::analysis::{Stated, graph_of, nested, walk_of};
+use crate::analysis::{HandlerCall, Stated, graph_of, on_nested, walk_of};
 use crate::trial::Answer;
 use arcwcet::ReportFault;
 use cert_check::{CheckFault, Verdict, check};
@@ -76,21 +76,20 @@ fn checked(alloc: Global, handler: &Stated) -> Result<Answer, ReportFault> {
     answer
 }
 
-impl CertificateCall {
-    fn on_handler(self, alloc: Global) -> Result<Answer, ReportFault> {
-        let handler = nested(alloc)?;
-        let answer = match self {
-            CertificateCall::Check => checked(alloc, &handler),
-            _ => written(alloc, &handler),
-        };
-        drop(handler);
-        answer
+impl HandlerCall for CertificateCall {
+    fn on(self, alloc: Global, handler: &Stated) -> Result<Answer, ReportFault> {
+        match self {
+            CertificateCall::Check => checked(alloc, handler),
+            _ => written(alloc, handler),
+        }
     }
+}
 
+impl CertificateCall {
     pub(crate) fn made(self, alloc: Global) -> Result<Answer, ReportFault> {
         match self {
             CertificateCall::Read => Ok(read(alloc)),
-            CertificateCall::Write | CertificateCall::Check => self.on_handler(alloc),
+            CertificateCall::Write | CertificateCall::Check => on_nested(alloc, self),
         }
     }
 }

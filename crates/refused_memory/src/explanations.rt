@@ -1,4 +1,4 @@
-use crate::analysis::{Stated, graph_of, nested, walk_of};
+use crate::analysis::{HandlerCall, Stated, graph_of, walk_of};
 use crate::trial::Answer;
 use arcwcet::ReportFault;
 use assembler::placed_lines;
@@ -97,18 +97,13 @@ impl ExplainedCall {
         drop(found);
         answer
     }
+}
 
+impl HandlerCall for ExplainedCall {
     fn on(self, alloc: Global, handler: &Stated) -> Result<Answer, ReportFault> {
         let graph = graph_of(alloc, handler)?;
         let answer = self.on_graph(alloc, handler, &graph);
         drop(graph);
-        answer
-    }
-
-    pub(crate) fn made(self, alloc: Global) -> Result<Answer, ReportFault> {
-        let handler = nested(alloc)?;
-        let answer = self.on(alloc, &handler);
-        drop(handler);
         answer
     }
 }

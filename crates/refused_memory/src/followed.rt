@@ -2,7 +2,7 @@ ghost use Rattle.std.specs.Prelude.{◌≡◌, IfOk, length};
 ghost use Rattle.kept_runs.specs.Judging.{IsMachineFor};
 ghost use Rattle.kept_runs.specs.Keeping.{IsHandler};
 
-use crate::analysis::{Stated, handler_of};
+use crate::analysis::{HandlerCall, Stated, on_handler};
 use crate::machine::word_in;
 use crate::trial::Answer;
 use arcwcet::ReportFault;
@@ -101,26 +101,25 @@ fn followed(
     Ok(answer)
 }
 
-// Each call compares the machine that it was refused.
-impl Follow {
-    pub(crate) fn made(self, alloc: Global) -> Result<Answer, ReportFault> {
-        let handler = handler_of(alloc, SOURCE, STATEMENT)?;
-        let answer = on_handler(alloc, &handler);
-        drop(handler);
+impl HandlerCall for Follow {
+    fn on(self, alloc: Global, handler: &Stated) -> Result<Answer, ReportFault> {
+        let graph = build(alloc, &handler.image, &handler.statement, &Profile::one())?;
+        let answer = match nest(alloc, &graph, &handler.statement) {
+            Ok(tree) => {
+                let answer = followed(alloc, handler, &graph, &tree);
+                drop(tree);
+                answer
+            }
+            Err(fault) => Err(fault.into()),
+        };
+        drop(graph);
         answer
     }
 }
 
-fn on_handler(alloc: Global, handler: &Stated) -> Result<Answer, ReportFault> {
-    let graph = build(alloc, &handler.image, &handler.statement, &Profile::one())?;
-    let answer = match nest(alloc, &graph, &handler.statement) {
-        Ok(tree) => {
-            let answer = followed(alloc, handler, &graph, &tree);
-            drop(tree);
-            answer
-        }
-        Err(fault) => Err(fault.into()),
-    };
-    drop(graph);
-    answer
+// Each call compares the machine that it was refused.
+impl Follow {
+    pub(crate) fn made(self, alloc: Global) -> Result<Answer, ReportFault> {
+        on_handler(alloc, SOURCE, STATEMENT, self)
+    }
 }
