@@ -4,12 +4,12 @@ ghost use Rattle.std.specs.Prelude.{◌≡◌};
 ghost use Rattle.arcwcet.specs.Run.{answer_status};
 
 use crate::status::{answer_status, report_status};
-use assembler::{Assembly, PlacedLine, placed_lines};
+use assembler::{Assembly, PlacedLine, Program, placed_lines};
 use author_reports::Explained;
 use bus_ticks::Profile;
 use diagnosis::{
-    Program, Words, crossing_text, cycle_text, deep_place, deep_text, entry_text, extent_of,
-    faulty_lines, faulty_text, loops_that_cross, mid_entry, place_text, shared_header, shared_text,
+    Words, crossing_text, cycle_text, deep_place, deep_text, entry_text, extent_of, faulty_lines,
+    faulty_text, loops_that_cross, mid_entry, place_text, shared_header, shared_text,
     statement_text, unbounded_cycle, word_text, words_of,
 };
 use flow_graph::{

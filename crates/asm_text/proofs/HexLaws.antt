@@ -59,7 +59,7 @@ hex_step n le small =
     ∙ spell_enough 62 63 (n / 16) (hex_digit (n % 16) ∷ []) (omega arith) (omega arith)
     ∙ spell-append 64 (n / 16) (hex_digit (n % 16) ∷ [])
 
-hex_length : (k n : ℕ) → n < 16 ^ suc k → n < 2 ^ 64 → length (hex n) ≤ suc k
+pub hex_length : (k n : ℕ) → n < 16 ^ suc k → n < 2 ^ 64 → length (hex n) ≤ suc k
 hex_length zero n lt small = rw (hex_one n (omega arith)) (omega arith)
 hex_length (suc k) n lt small =
     elim (cases_lt n 16) [

@@ -5,6 +5,7 @@ use Rattle.std.specs.Char.{is_ascii_lowercase, to_ascii_uppercase}
 use Rattle.std.specs.List.{list_all}
 use Rattle.std.proofs.lemmas.Bool.{and_parts}
 use Rattle.std.proofs.lemmas.Bool.Decides.{nat_tests}
+use Rattle.asm_text.proofs.WordLaws.{same_bytes}
 use Rattle.asm_text.specs.Pieces.{Piece, Run, Comma, Sign, Gap, gap_before, is_blank, is_name, mark_of, name_before, pieces, without_gap}
 use Rattle.asm_text.specs.Said.{Target, Number, Said, Codes, Refers, Orgs, Lists}
 use Rattle.asm_text.specs.declared.printed_lines.Shown.{Shown}
@@ -16,7 +17,6 @@ use Rattle.asm_text.specs.Shown.{is_shown, is_shown_text, is_upper, parsed_shown
 use Rattle.asm_text.specs.Statements.{Parsed, body_len, body_says, is_text, line_of, or_bad, parsed, statement_of, with_label}
 use Rattle.asm_text.specs.Words.{is_one_case, spelled_word_of, upper, word_of}
 use Rattle.asm_text.proofs.SpelledLines.{body_is, body_said}
-use Rattle.asm_text.proofs.SpelledNames.{same_bytes}
 
 upper_byte : (b : ℕ) → not (is_ascii_lowercase b) ≡ true → to_ascii_uppercase b ≡ b
 upper_byte b h = grind (arith, nat_tests)

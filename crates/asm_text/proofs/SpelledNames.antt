@@ -1,5 +1,5 @@
 -- Numbers and names are read as they are spelled.
-use Rattle.std.proofs.Common.{◌≡◌, ◌<◌, ◌^◌, ℕ, zero, suc, Bool, true, false, ◌==◌, ◌&&◌, List, [], ◌∷◌, ◌++◌, length, Option, Some, None, codes, refl, sym, ap, subst, ◌∙◌, inl, inr, ◌⊎◌, arith, eqb-true, get_or}
+use Rattle.std.proofs.Common.{◌≡◌, ◌<◌, ◌^◌, ℕ, zero, suc, Bool, true, ◌==◌, ◌&&◌, List, [], ◌∷◌, ◌++◌, length, Option, Some, None, codes, refl, sym, ap, subst, ◌∙◌, inl, inr, ◌⊎◌, arith, eqb-true, get_or}
 use Rattle.std.specs.Prelude.{nat_lt, is_none, option_map, option_and_then}
 use Rattle.std.specs.Char.{is_digit}
 use Rattle.std.specs.List.{Contains, list_all}
@@ -8,7 +8,6 @@ use Rattle.std.specs.Str.Parse.{digits_value}
 use Rattle.std.proofs.lemmas.Bool.{and_parts, cases_Bool}
 use Rattle.std.proofs.lemmas.Bool.Decides.{nat_tests}
 use Rattle.std.proofs.lemmas.List.{append-nil}
-use Rattle.std.proofs.lemmas.Slice.Eq.{bytes_eq-Decides}
 use Rattle.std.proofs.lemmas.Option.{none-some}
 use Rattle.arm2_decode.specs.declared.names.Register.{Register}
 use Rattle.arm2_decode.specs.declared.names.Shift.{Shift}
@@ -18,7 +17,7 @@ use Rattle.asm_text.specs.Operands.{alone, all_read}
 use Rattle.asm_text.specs.Registers.{found, in_both_cases, is_rrx, register_comma_first, register_first, register_names, register_of, shift_names, shift_of}
 use Rattle.asm_text.specs.SpelledOperands.{IsDigits, IsNumber, IsRegister, IsRrx, IsShift, SpellsNumber}
 use Rattle.asm_text.specs.declared.token.Mark.TheVariants.{Ampersand}
-use Rattle.asm_text.proofs.WordLaws.{chosen, equal_bytes, some_is}
+use Rattle.asm_text.proofs.WordLaws.{chosen, equal_bytes, false_true, same_bytes, some_is}
 
 -- ---- what an option came from
 
@@ -41,12 +40,6 @@ alone_is a (p ∷ ps) b e = absurd (none-some b e)
 pub whole_is : {A : Type 0} (o : Option (A × List Piece)) (a : A) → all_read o ≡ Some a → o ≡ Some (a, [])
 whole_is None a e = absurd (none-some a e)
 whole_is (Some f) a e = let k = alone_is f.0 f.1 a e in ap Some (rw (← k.0, ← k.1) refl)
-
-pub same_bytes : (text : List ℕ) → bytes_eq text text ≡ true
-same_bytes text = (bytes_eq-Decides text text).1 refl
-
-false_true : {A : Type 0} → false ≡ true → A
-false_true e = absurd cc
 
 -- ---- digits
 

@@ -29,6 +29,12 @@ some_is x y e = cc
 pub equal_bytes : (xs ys : List ℕ) → bytes_eq xs ys ≡ true → xs ≡ ys
 equal_bytes xs ys e = (bytes_eq-Decides xs ys).0 e
 
+pub same_bytes : (text : List ℕ) → bytes_eq text text ≡ true
+same_bytes text = (bytes_eq-Decides text text).1 refl
+
+pub false_true : {A : Type 0} → false ≡ true → A
+false_true e = absurd cc
+
 -- what the text names has that name
 pub named_is : {A : Type 0} (name : A → List ℕ) (all : List A) (text : List ℕ) (a : A) → named name all text ≡ Some a → text ≡ name a
 named_is name [] text a e = absurd cc

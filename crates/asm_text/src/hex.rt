@@ -1,5 +1,7 @@
 ghost use Rattle.std.specs.Prelude.{◌≡◌, ◌<◌};
-ghost use Rattle.asm_text.specs.Hex.{hex8, hex_digit};
+ghost use Rattle.asm_text.specs.Hex.{hex, hex8, hex_digit};
+
+use arrayvec::ArrayVec;
 
 /// The upper-case hexadecimal digit of a number below 16.
 pub fn hex_digit(n: u32) -> u8
@@ -8,6 +10,20 @@ pub fn hex_digit(n: u32) -> u8
 {
     let n = n as u8;
     if n < 10 { b'0' + n } else { b'A' - 10 + n }
+}
+
+/// A number in upper-case hexadecimal, without leading zeros.
+pub fn hex_text(number: u64) -> ArrayVec<u8, 16>
+    ensures { result.items ≡ hex number }
+{
+    if number < 16 {
+        let mut text = ArrayVec::new();
+        text.push(hex_digit(number as u32));
+        return text;
+    }
+    let mut text = hex_text(number / 16);
+    text.push(hex_digit((number % 16) as u32));
+    text
 }
 
 /// A word in eight upper-case hexadecimal digits, the highest first.

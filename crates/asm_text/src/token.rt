@@ -67,7 +67,8 @@ fn read_mark(b: u8) -> Mark
     }
 }
 
-fn is_blank_byte(b: u8) -> bool
+/// Whether a byte is a space or a tab.
+pub fn is_blank(b: u8) -> bool
     ensures { result ≡ is_blank b }
 {
     b == b' ' || b == b'\t'
@@ -83,7 +84,7 @@ fn blanks_len(text: &[u8]) -> usize
     ensures len { result ≡ prefix_len is_blank text.now }
     ensures within { result ≤ length text.now }
 {
-    text.iter().take_while(|b| is_blank_byte(**b)).count()
+    text.iter().take_while(|b| is_blank(**b)).count()
 }
 
 fn name_len(text: &[u8]) -> usize
@@ -100,7 +101,8 @@ fn tail(text: &[u8]) -> &[u8]
     &text[1..]
 }
 
-fn after_blanks(text: &[u8]) -> &[u8]
+/// What follows the blanks at the front of a text.
+pub fn after_blanks(text: &[u8]) -> &[u8]
     ensures rest { result.now ≡ drop (prefix_len is_blank text.now) text.now }
     ensures within { length result.now ≤ length text.now }
 {
@@ -118,7 +120,7 @@ fn begins_blank_or_ends(text: &[u8]) -> bool
 {
     match text {
         [] => true,
-        [b, ..] => is_blank_byte(*b),
+        [b, ..] => is_blank(*b),
     }
 }
 

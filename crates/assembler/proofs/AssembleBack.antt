@@ -7,10 +7,11 @@ use Rattle.std.proofs.lemmas.Bool.Decides.{nat_tests}
 use Rattle.std.proofs.lemmas.List.{length-append}
 use Rattle.loader.specs.Image.{lies_in_memory, may_hold}
 use Rattle.loader.proofs.PlaceLemmas.{Lies, lies_in, lies_more, lies_one, may_parts}
+use Rattle.asm_text.proofs.WordLaws.{false_true}
 use Rattle.assembler.specs.Assembles.{places_from}
 use Rattle.assembler.specs.Sweeps.{Pending, State, closed_with, moved, open_has, overlaps, placed}
 use Rattle.assembler.proofs.AssembleSteps.{InSegments, put_all}
-use Rattle.assembler.proofs.AssembleBasics.{all_more, false_true}
+use Rattle.assembler.proofs.AssembleBasics.{all_more}
 use Rattle.std.proofs.lemmas.List.{append-nil}
 
 -- ---- addresses in a list

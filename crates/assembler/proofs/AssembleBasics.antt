@@ -3,15 +3,10 @@ use Rattle.std.proofs.Common.{◌≡◌, ◌+◌, ℕ, zero, suc, true, false, L
 use Rattle.std.specs.Prelude.{nat_lt}
 use Rattle.std.proofs.lemmas.Bool.{cases_Bool}
 use Rattle.std.specs.List.{AllByRecursion}
-use Rattle.std.specs.Str.{bytes_eq}
-use Rattle.std.proofs.lemmas.Slice.Eq.{bytes_eq-Decides}
 use Rattle.loader.specs.Image.{Words, with_word}
 use Rattle.asm_text.specs.Said.{Target}
 use Rattle.assembler.specs.Assembles.{places_from}
 use Rattle.assembler.specs.Sweeps.{State, labelled, value_pending}
-
-pub false_true : {A : Type 0} → false ≡ true → A
-false_true e = absurd cc
 
 pub all_map : {A : Type 0} (P Q : A → Type 0) (xs : List A) → ((x : A) → P x → Q x) → AllByRecursion P xs → AllByRecursion Q xs
 all_map P Q [] f h = tt
@@ -32,9 +27,6 @@ all_both P Q R (x ∷ xs) f h k = (f x h.0 k.0, all_both P Q R xs f h.1 k.1)
 pub all_true : {A : Type 0} (P : A → Type 0) (xs : List A) → ((x : A) → P x) → AllByRecursion P xs
 all_true P [] f = tt
 all_true P (x ∷ xs) f = (f x, all_true P xs f)
-
-pub same_bytes : (text : List ℕ) → bytes_eq text text ≡ true
-same_bytes text = (bytes_eq-Decides text text).1 refl
 
 pub one_more : (image : Words) (at w : ℕ) → length (with_word image at w) ≡ suc (length image)
 one_more [] at w = refl

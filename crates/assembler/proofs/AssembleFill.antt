@@ -4,7 +4,7 @@ use Rattle.std.specs.Prelude.{is_some, nat_le, nat_lt, flat_map}
 use Rattle.std.specs.List.{AllByRecursion, AllZip, fold}
 use Rattle.std.proofs.lemmas.Bool.Decides.{nat_tests}
 use Rattle.std.proofs.lemmas.Bool.{not-false, or_parts}
-use Rattle.asm_text.proofs.WordLaws.{chosen}
+use Rattle.asm_text.proofs.WordLaws.{chosen, false_true}
 use Rattle.loader.specs.Image.{Words, may_hold, put_fault, runs_of, with_word, word_of}
 use Rattle.loader.specs.declared.image.ImageFault.{ImageFault}
 use Rattle.loader.specs.declared.image.ImageFault.TheVariants as image_fault
@@ -15,7 +15,7 @@ use Rattle.assembler.specs.Sweeps.{Fixed, Waits, Item, Names, Pending, filled, f
 use Rattle.assembler.specs.declared.fault.Fault.{Fault}
 use Rattle.assembler.proofs.AssembleSteps.{Pends, items_at}
 use Rattle.assembler.proofs.AssembleSweep.{NewItems, flat}
-use Rattle.assembler.proofs.AssembleBasics.{all_map, false_true, one_more}
+use Rattle.assembler.proofs.AssembleBasics.{all_map, one_more}
 
 -- ---- one word put
 

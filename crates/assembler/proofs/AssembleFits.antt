@@ -7,10 +7,11 @@ use Rattle.std.specs.Prelude.{flat_map, if◌then◌else◌, nat_le, nat_lt}
 use Rattle.loader.specs.Image.{Words, may_hold, put_fault, runs_of, with_word, word_of}
 use Rattle.asm_text.specs.Said.{Said, Orgs}
 use Rattle.asm_text.specs.Statements.{Parsed}
+use Rattle.asm_text.proofs.WordLaws.{false_true}
 use Rattle.assembler.specs.Assembles.{Laid, Once, address_after, is_open, laid_from, places, places_from, segments, word_count}
 use Rattle.assembler.proofs.AssembleAll.{apart_both, once_parts}
 use Rattle.assembler.proofs.AssembleBack.{Apart, In, may_four, in_first, in_last}
-use Rattle.assembler.proofs.AssembleBasics.{all_parts, count_places, false_true, one_more}
+use Rattle.assembler.proofs.AssembleBasics.{all_parts, count_places, one_more}
 use Rattle.assembler.proofs.AssembleRuns.{Ascending, ascending_put, put_elsewhere, put_there, runs_more, runs_same}
 
 -- ---- what has been put so far

@@ -13,9 +13,9 @@ use Rattle.assembler.specs.Faults.{lower}
 use Rattle.assembler.specs.Sweeps.{Pending, Fixed, Waits, Item, State, all_placed, around_fault, closed_with, is_17th, label_fault, labelled, moved, open_has, org_fault, overlaps, pending_step, pending_unless, place_fault, placed, said_step, unless, value_pending, word_pending}
 use Rattle.assembler.specs.declared.fault.Fault.{Fault}
 use Rattle.assembler.specs.declared.fault.Fault.TheVariants.{OutOfRange, TooLong}
-use Rattle.assembler.proofs.AssembleBasics.{all_map, all_more, count_map, false_true, labelled_at}
+use Rattle.assembler.proofs.AssembleBasics.{all_map, all_more, count_map, labelled_at}
 use Rattle.std.proofs.lemmas.List.{append-nil}
-use Rattle.asm_text.proofs.WordLaws.{chosen}
+use Rattle.asm_text.proofs.WordLaws.{chosen, false_true}
 
 -- ---- small facts
 

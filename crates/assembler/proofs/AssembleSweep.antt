@@ -11,9 +11,9 @@ use Rattle.assembler.specs.Sweeps.{Item, Names, Pending, State, label_fault, lab
 use Rattle.assembler.specs.declared.fault.Fault.{Fault}
 use Rattle.assembler.specs.declared.fault.Fault.TheVariants.{LabelTwice}
 use Rattle.assembler.proofs.AssembleSteps.{Covers, Pends, Step, items_at, said_is, segments_in}
-use Rattle.assembler.proofs.AssembleBasics.{all_map, false_true, same_bytes}
+use Rattle.assembler.proofs.AssembleBasics.{all_map}
 use Rattle.std.proofs.lemmas.List.{append-nil}
-use Rattle.asm_text.proofs.WordLaws.{chosen, equal_bytes}
+use Rattle.asm_text.proofs.WordLaws.{chosen, equal_bytes, false_true, same_bytes}
 
 nothing : {A B : Type 0} (a : A) → None ≡ Some a → B
 nothing a e = absurd cc

@@ -1,7 +1,7 @@
 pub mod CodeLaws
 pub mod SweepLaws
 pub mod ShownLaws
-mod PutLaws
+pub mod PutLaws
 mod ListedLaws
 pub mod ByteLaws
 mod SayLaws

@@ -8,6 +8,7 @@ use Rattle.std.proofs.lemmas.List.{append-nil, length-append}
 use Rattle.loader.specs.Image.{may_hold}
 use Rattle.asm_text.specs.Said.{Number, Label, Said, Codes, Refers, Orgs, Lists}
 use Rattle.asm_text.specs.Statements.{Parsed}
+use Rattle.asm_text.proofs.WordLaws.{false_true}
 use Rattle.assembler.specs.Assembles.{Laid, Once, address_after, is_open, label_at, labels_of, laid, laid_from, places, places_from, segments, word_count}
 use Rattle.assembler.specs.Codes.{encoded, refer, use_fault}
 use Rattle.assembler.specs.Faults.{lower}
@@ -16,7 +17,7 @@ use Rattle.assembler.specs.Sweeps.{Waits, Item, Pending, State, all_placed, arou
 use Rattle.assembler.specs.declared.fault.Fault.{Fault}
 use Rattle.assembler.specs.declared.fault.Fault.TheVariants.{LabelTwice, OutOfRange, TooLong}
 use Rattle.assembler.proofs.AssembleBack.{Exact, exact_moved, exact_put, may_four}
-use Rattle.assembler.proofs.AssembleBasics.{count_map, count_places, false_true, labelled_at}
+use Rattle.assembler.proofs.AssembleBasics.{count_map, count_places, labelled_at}
 use Rattle.assembler.proofs.AssembleReady.{NotEmpty, exact_labelled}
 use Rattle.assembler.proofs.AssembleSteps.{Covers, Pends, items_at, pending_is, put_all, segments_in, unless_is, values_put}
 use Rattle.assembler.proofs.RefuseLeast.{IsLeast, failed, least_both, least_guard, least_none, least_option, least_result, least_same}

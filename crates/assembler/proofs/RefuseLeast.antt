@@ -3,11 +3,11 @@ use Rattle.std.proofs.Common.{◌≡◌, ◌≤◌, ◌==◌, ℕ, Bool, true, f
 use Rattle.std.proofs.lemmas.Bool.{cases_Bool}
 use Rattle.std.specs.Prelude.{nat_lt, if◌then◌else◌}
 use Rattle.std.proofs.lemmas.Bool.Decides.{nat_tests}
+use Rattle.asm_text.proofs.WordLaws.{false_true}
 use Rattle.assembler.specs.Faults.{lower, number}
 use Rattle.assembler.specs.Refusals.{IsLowest}
 use Rattle.assembler.specs.declared.fault.Fault.{Fault}
 use Rattle.assembler.specs.declared.fault.Fault.TheVariants.{NotText, UnknownWord, BadOperand, ImmediateNotRotated, BranchTooFar, LabelTwice, LabelMissing, OutOfRange, Unallocated, TooLong}
-use Rattle.assembler.proofs.AssembleBasics.{false_true}
 
 -- the lowest fault of those that hold, or none does
 unfoldable pub IsLeast : (Fault → Type 0) → Option Fault → Type 0

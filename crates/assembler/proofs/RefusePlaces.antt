@@ -6,12 +6,12 @@ use Rattle.std.proofs.lemmas.Bool.{and_parts, cases_Bool, or_parts, not-false, o
 use Rattle.std.proofs.lemmas.Bool.Decides.{nat_tests}
 use Rattle.loader.specs.Image.{lies_in_memory, may_hold}
 use Rattle.loader.proofs.PlaceLemmas.{may_within}
+use Rattle.asm_text.proofs.WordLaws.{false_true}
 use Rattle.assembler.specs.Assembles.{places_from}
 use Rattle.assembler.specs.Faults.{lower}
 use Rattle.assembler.specs.Sweeps.{State, is_17th, open_has, org_fault, overlaps, place_fault}
 use Rattle.assembler.specs.declared.fault.Fault.TheVariants.{OutOfRange, TooLong}
 use Rattle.assembler.proofs.AssembleBack.{Apart, Exact, In, in_memory_all, may_four, no_overlap}
-use Rattle.assembler.proofs.AssembleBasics.{false_true}
 use Rattle.assembler.proofs.AssembleSteps.{Covers, InSegments}
 use Rattle.assembler.proofs.RefuseLeast.{IsLeast, guard, least_both, least_guard}
 

@@ -18,13 +18,13 @@ use Rattle.asm_text.specs.declared.statement.TextFault.{TextFault}
 use Rattle.asm_text.specs.declared.statement.TextFault.TheVariants as text_fault
 use Rattle.asm_text.proofs.PieceLaws.{first_name, first_no_run, first_passes, pieces-blanks, pieces-gap, pieces-run, pieces_spaced, pieces_written, prefix_all}
 use Rattle.asm_text.proofs.WordEnds.{WordAfter, blank_no_name, blanks_no_name, gap_no_name, name_no_gap, past_front, blanks_alone}
-use Rattle.asm_text.proofs.WordLaws.{spelled_again, spelled_is}
+use Rattle.asm_text.proofs.WordLaws.{false_true, spelled_again, spelled_is}
 use Rattle.assembler.specs.Faults.{number}
 use Rattle.assembler.specs.Refusals.{BeginsLine, BeginsStatement, HasStrayByte, IsUnreadable}
 use Rattle.assembler.specs.Sweeps.{line_fault}
 use Rattle.assembler.specs.declared.fault.Fault.{Fault}
 use Rattle.assembler.specs.declared.fault.Fault.TheVariants.{NotText, UnknownWord, BadOperand}
-use Rattle.assembler.proofs.AssembleBasics.{false_true}
+use Rattle.assembler.proofs.PutLaws.{all_append}
 use Rattle.assembler.proofs.RefuseLeast.{IsLeast}
 
 -- ---- stray bytes
@@ -36,12 +36,6 @@ all_front : (p : ℕ → Bool) (xs ys : List ℕ) → list_all p (xs ++ ys) ≡ 
 all_front p [] ys h = refl
 all_front p (x ∷ xs) ys h =
     let k = and_parts (p x) (list_all p (xs ++ ys)) h in rw (k.0, all_front p xs ys k.1) refl
-
-all_append : (p : ℕ → Bool) (xs ys : List ℕ) → list_all p xs ≡ true → list_all p ys ≡ true
-    → list_all p (xs ++ ys) ≡ true
-all_append p [] ys h k = k
-all_append p (x ∷ xs) ys h k =
-    let m = and_parts (p x) (list_all p xs) h in rw (m.0, all_append p xs ys m.1 k) refl
 
 all_more : (p q : ℕ → Bool) (xs : List ℕ) → ((x : ℕ) → p x ≡ true → q x ≡ true) → list_all p xs ≡ true
     → list_all q xs ≡ true

@@ -47,6 +47,7 @@ use Rattle.asm_text.specs.Words.{IsCond, branch_name, word_of}
 use Rattle.asm_text.proofs.PieceLaws.{comma_step, first_no_run, pieces-run, sign_step}
 use Rattle.asm_text.proofs.ShownLaws.{blank_line, upper_spelled, blank_pieces}
 use Rattle.asm_text.proofs.WordLaws.{word_again}
+use Rattle.assembler.proofs.PutLaws.{all_append}
 use Rattle.assembler.specs.ShownLines.{GivesBack, shown_line as spelling, target_word, word_given, block_name, block_suffix, comma_register, compare_front, compare_text, cond_text, data_front, factors_text, flags_text, is_user, load_name, move_front, operation_text, register_text, three_front, transfer_front, transfer_suffix, word_text}
 
 -- ---- what is said
@@ -131,12 +132,6 @@ is_letter b = is_name b && not (is_ascii_lowercase b)
 abbrev Lettered : List ℕ → Type 0
 Lettered text = list_all is_letter text ≡ true
 
-all_both : (p : ℕ → Bool) (xs ys : List ℕ) → list_all p xs ≡ true → list_all p ys ≡ true → list_all p (xs ++ ys) ≡ true
-all_both p [] ys h k = k
-all_both p (x ∷ xs) ys h k =
-    let a = and_parts (p x) (list_all p xs) h in
-    rw (a.0, all_both p xs ys a.1 k) refl
-
 letters_named : (text : List ℕ) → Lettered text → list_all is_name text ≡ true
 letters_named [] h = refl
 letters_named (b ∷ bs) h =
@@ -187,7 +182,7 @@ plain_said_by : (h : Head) (c : Cond) (s : Suffix) (rest : List ℕ) → may_hav
     → heard (pieces (word_text (head_name h) c (suffix_name s) ++ rest)) ≡ with_label None (after_word (word.Plain h c s) (gap_before (pieces rest)))
 plain_said_by h c s rest may =
     let text = head_name h ++ (cond_text c ++ suffix_name s) in
-    let letters = all_both is_letter (head_name h) (cond_text c ++ suffix_name s) (head_lettered h).0 (all_both is_letter (cond_text c) (suffix_name s) (cond_lettered c) (suffix_lettered s)) in
+    let letters = all_append is_letter (head_name h) (cond_text c ++ suffix_name s) (head_lettered h).0 (all_append is_letter (cond_text c) (suffix_name s) (cond_lettered c) (suffix_lettered s)) in
     ap (λ (l : List ℕ). heard (pieces l)) (word_split (head_name h) (cond_text c) (suffix_name s) rest)
     ∙ word_said text rest (word.Plain h c s) letters (omega (arith, (head_lettered h).1, length-append (head_name h) (cond_text c ++ suffix_name s))) (word_again text (word.Plain h c s) (cond_text c, cond_is c, may, refl))
 
@@ -243,7 +238,7 @@ digits_named (suc k) n acc h =
 
 register_named : (r : Register) → list_all is_name (register_text r) ≡ true
 unfolding digits
-register_named r = all_both is_name (codes "R") (decimal (register_number r)) refl (digits_named 64 (register_number r) [] refl)
+register_named r = all_append is_name (codes "R") (decimal (register_number r)) refl (digits_named 64 (register_number r) [] refl)
 
 bracketed : (d : Register) (more : List ℕ) → pieces (register_text d ++ (codes ",[" ++ more)) ≡ Run (register_text d) ∷ Comma ∷ Sign OpenBracket ∷ pieces more
 bracketed d more =
@@ -293,7 +288,7 @@ branch_lettered false = (refl, omega arith)
 branch_line : (link : Bool) (c : Cond) (rest : List ℕ) → Plain (word_text (branch_name link) c [] ++ rest)
 branch_line link c rest =
     let text = branch_name link ++ (cond_text c ++ []) in
-    let letters = all_both is_letter (branch_name link) (cond_text c ++ []) (branch_lettered link).0 (all_both is_letter (cond_text c) [] (cond_lettered c) refl) in
+    let letters = all_append is_letter (branch_name link) (cond_text c ++ []) (branch_lettered link).0 (all_append is_letter (cond_text c) [] (cond_lettered c) refl) in
     let is = word_again text (word.Branch link c) (cond_text c, cond_is c, ap (λ (l : List ℕ). branch_name link ++ l) (append-nil (cond_text c))) in
     ap plain_of (ap (λ (l : List ℕ). heard (pieces l)) (word_split (branch_name link) (cond_text c) [] rest)
     ∙ word_said text rest (word.Branch link c) letters (omega (arith, (branch_lettered link).1, length-append (branch_name link) (cond_text c ++ []))) is)

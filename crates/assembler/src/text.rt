@@ -1,7 +1,7 @@
 ghost use Rattle.std.specs.Prelude.{◌≡◌, ◌+◌, ◌<◌, ◌≤◌, ◌++◌, ◌∷◌, [], decimal, length};
 ghost use Rattle.asm_text.specs.Hex.{hex};
 
-use asm_text::hex_digit;
+use asm_text::hex_text;
 use itoa::Buffer;
 use std::marker::Model;
 
@@ -79,16 +79,10 @@ impl Line {
     }
 
     /// Adds a number in upper-case hexadecimal, without leading zeros.
-    #[tactic(auto, using(asm_text::proofs::HexLaws::hex_one))]
     pub(crate) fn push_hex(&mut self, n: u64)
         requires { length self.old + length (hex n) ≤ 64 }
         ensures { self.new ≡ self.old ++ hex n }
     {
-        if n < 16 {
-            self.put(hex_digit(n as u32));
-            return;
-        }
-        self.push_hex(n / 16);
-        self.put(hex_digit((n % 16) as u32));
+        self.put_all(hex_text(n).as_slice());
     }
 }

@@ -10,9 +10,9 @@ ghost use Rattle.report_input.specs.Source.{IsSourceFault};
 ghost use Rattle.drafting.specs.Draft.{IsDraft};
 
 use asm_text::read_number;
-use assembler::{Assembly, placed_lines};
+use assembler::{Assembly, Program, placed_lines};
 use bus_ticks::SPACE_END;
-use drafting::{Program, draft};
+use drafting::draft;
 use loader::{Labels, MAGIC};
 use report_input::read_source;
 use report_output::{Output, ReportFault, print_answer};

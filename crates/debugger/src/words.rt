@@ -3,20 +3,7 @@ ghost use Rattle.std.specs.List.{prefix_len};
 ghost use Rattle.asm_text.specs.Pieces.{is_blank};
 ghost use Rattle.debugger.specs.Words.{number_of, words_of};
 
-use asm_text::read_hex;
-
-fn is_blank(b: u8) -> bool
-    ensures { result ≡ is_blank b }
-{
-    b == b' ' || b == b'\t'
-}
-
-fn blank_len(text: &[u8]) -> usize
-    ensures len { result ≡ prefix_len is_blank text.now }
-    ensures within { result ≤ length text.now }
-{
-    text.iter().take_while(|b| is_blank(**b)).count()
-}
+use asm_text::{after_blanks, is_blank, read_hex};
 
 fn word_len(text: &[u8]) -> usize
     ensures len { result ≡ prefix_len (λ b. not (is_blank b)) text.now }
@@ -25,18 +12,12 @@ fn word_len(text: &[u8]) -> usize
     text.iter().take_while(|b| !is_blank(**b)).count()
 }
 
-fn without_blanks(text: &[u8]) -> &[u8]
-    ensures { result.now ≡ drop (prefix_len is_blank text.now) text.now }
-{
-    &text[blank_len(text)..]
-}
-
 /// The first word of a line, and what follows it. None where there is no word.
 pub(crate) fn first_word(line: &[u8]) -> Option<(&[u8], &[u8])>
     ensures { MatchOption result (words_of line.now ≡ [])
         (λ f. words_of line.now ≡ f.0.now ∷ words_of f.1.now) }
 {
-    let text = without_blanks(line);
+    let text = after_blanks(line);
     if text.is_empty() {
         return None;
     }

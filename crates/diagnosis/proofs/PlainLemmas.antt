@@ -6,8 +6,9 @@ use Rattle.std.proofs.Math.Seq.{drop-append-add, drop-append_seam, take-append_s
 use Rattle.std.proofs.lemmas.Bool.{and_from, and_parts}
 use Rattle.std.proofs.lemmas.List.{length-append}
 use Rattle.std.proofs.lemmas.List.Folds.{list_all-append}
+use Rattle.asm_text.specs.Pieces.{is_blank}
 use Rattle.asm_text.specs.Source.{in_front, lines_of}
-use Rattle.diagnosis.specs.Outline.{Bare, Begins, Gap, Key, Piece, Quoted, Reading, Stated, States, Table, Told, Value, all_taken, bare_at, begun, first_piece, header_of, is_bare, is_blank, is_gap, is_quote, keyed, line_read, lines_read, past_blanks, piece_at, pieces, quoted_len, taken, told, valued, word_at}
+use Rattle.diagnosis.specs.Outline.{Bare, Begins, Gap, Key, Piece, Quoted, Reading, Stated, States, Table, Told, Value, all_taken, bare_at, begun, first_piece, header_of, is_bare, is_gap, is_quote, keyed, line_read, lines_read, past_blanks, piece_at, pieces, quoted_len, taken, told, valued, word_at}
 use Rattle.diagnosis.specs.PlainLines.{ArePlain, Heading, IsPlainValue, PlainLine, Setting, is_plain, is_quotable, items_from, line_text, lines_text}
 use Rattle.diagnosis.specs.Refused.{value_text}
 use Rattle.diagnosis.proofs.OutlineLemmas.{after_first, one_piece}

@@ -1,16 +1,11 @@
 -- Rows one after another.
-use Rattle.std.proofs.Common.{◌≡◌, ◌<◌, ◌-◌, ◌+◌, ◌||◌, ◌++◌, zero, suc, ℕ, Bool, List, [], ◌∷◌, length, get_or, drop, map, refl, sym, ap, ◌∙◌, append_assoc, append-nil, arith}
-use Rattle.std.specs.List.{list_any}
+use Rattle.std.proofs.Common.{◌≡◌, ◌<◌, ◌-◌, ◌+◌, ◌++◌, zero, suc, ℕ, Bool, List, [], ◌∷◌, length, get_or, drop, map, refl, sym, ap, ◌∙◌, append_assoc, append-nil, arith}
 use Rattle.std.proofs.lemmas.List.{drop_more}
 use Rattle.loader.specs.Labels.{Names}
 use Rattle.diagnosis.specs.Outline.{Item, item_of}
 use Rattle.diagnosis.specs.Refused.{Adds, Row, is_twice, item_row_if, row_text, shown, twice_rows}
 use Rattle.diagnosis.specs.declared.outline.Entry.{Entry}
 use Rattle.diagnosis.specs.declared.statements.Report.{Report}
-
-pub list_any-map : {A B : Type 0} (test : B → Bool) (f : A → B) (xs : List A) → list_any (λ x. test (f x)) xs ≡ list_any test (map f xs)
-list_any-map test f [] = refl
-list_any-map test f (x ∷ xs) = ap (λ b. test (f x) || b) (list_any-map test f xs)
 
 shown_more : (n : ℕ) (row : Row) (more : List Row) → shown (suc n) (row ∷ more) ≡ row_text row ++ shown n more
 unfolding shown

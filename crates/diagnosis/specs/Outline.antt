@@ -6,6 +6,7 @@ use Rattle.std.specs.Prelude.{List, [], ◌∷◌, ◌++◌, length, take, drop,
 use Rattle.std.specs.Prelude.{Option, Some, None, if◌then◌else◌}
 use Rattle.std.specs.Borrow.{Bor}
 use Rattle.std.specs.List.{prefix_len}
+use Rattle.asm_text.specs.Pieces.{is_blank}
 use Rattle.asm_text.specs.Source.{lines_of}
 use Rattle.diagnosis.specs.declared.outline.Entry.{Entry}
 use Rattle.diagnosis.specs.declared.outline.Entry.TheVariants as entry
@@ -18,9 +19,6 @@ use Rattle.diagnosis.specs.declared.tokens.Word.{Word}
 use Rattle.diagnosis.specs.declared.tokens.Word.TheVariants as word
 
 -- ## The words of a line
-
-abbrev pub is_blank : ℕ → Bool
-is_blank b = b == 32 || b == 9
 
 -- what is between words: a blank, a CR, = , [ or ]
 abbrev pub is_gap : ℕ → Bool

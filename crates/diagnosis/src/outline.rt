@@ -3,7 +3,7 @@ ghost use Rattle.diagnosis.specs.Outline.{begun, header_of, item_of, items_of, l
 ghost use Rattle.diagnosis.specs.Outline.{all_taken, bare_word, closed, opened, pieces, reading_of};
 ghost use Rattle.diagnosis.specs.Outline.{table_of, taken, value_of, valued};
 
-use crate::tokens::{Token, Word, bare_front, next_token, past_blanks};
+use crate::tokens::{Token, Word, bare_front, next_token};
 use asm_text::first_line;
 use std::alloc::{AllocError, Global};
 
@@ -161,14 +161,14 @@ impl<'a> Reader<'a> {
 fn bare_word(text: &[u8]) -> &[u8]
     ensures { result.now ≡ bare_word text.now }
 {
-    bare_front(past_blanks(text))
+    bare_front(after_blanks(text))
 }
 
 // The table that a line begins, if it begins one.
 fn header_of(line: usize, text: &[u8]) -> Option<Section<'_>>
     ensures { option_map table_of result ≡ header_of line text.now }
 {
-    match past_blanks(text) {
+    match after_blanks(text) {
         [b'[', b'[', rest @ ..] => Some(Section {
             line,
             name: bare_word(rest),

@@ -1,9 +1,10 @@
 ghost use Rattle.std.specs.Prelude.{◌≡◌, ◌≤◌, drop, false, length, option_map, take};
 ghost use Rattle.std.specs.List.{prefix_len};
-ghost use Rattle.diagnosis.specs.Outline.{bare_at, first_piece, in_pieces, is_bare, is_blank, is_gap};
-ghost use Rattle.diagnosis.specs.Outline.{is_quote};
-ghost use Rattle.diagnosis.specs.Outline.{past_blanks, piece_of, quoted_at, quoted_len};
+ghost use Rattle.diagnosis.specs.Outline.{bare_at, first_piece, in_pieces, is_bare, is_gap, is_quote};
+ghost use Rattle.diagnosis.specs.Outline.{piece_of, quoted_at, quoted_len};
 ghost use Rattle.diagnosis.specs.Outline.{starts_equals, text_of, told, value_of};
+
+use asm_text::{after_blanks, is_blank};
 
 /// A word of a statement's text.
 #[derive(Clone, Copy)]
@@ -29,12 +30,6 @@ pub(crate) enum Token<'a> {
     Told(Word<'a>),
 }
 
-fn is_blank(byte: u8) -> bool
-    ensures { result ≡ is_blank byte }
-{
-    byte == b' ' || byte == b'\t'
-}
-
 fn is_gap(byte: u8) -> bool
     ensures { result ≡ is_gap byte }
 {
@@ -53,25 +48,11 @@ fn is_bare(byte: u8) -> bool
     !(is_gap(byte) || is_quote(byte) || byte == b'{' || byte == b'}' || byte == b'#')
 }
 
-fn blanks_len(text: &[u8]) -> usize
-    ensures len { result ≡ prefix_len is_blank text.now }
-    ensures within { result ≤ length text.now }
-{
-    text.iter().take_while(|byte| is_blank(**byte)).count()
-}
-
 fn bare_len(text: &[u8]) -> usize
     ensures len { result ≡ prefix_len is_bare text.now }
     ensures within { result ≤ length text.now }
 {
     text.iter().take_while(|byte| is_bare(**byte)).count()
-}
-
-/// What follows the blanks at the front.
-pub(crate) fn past_blanks(text: &[u8]) -> &[u8]
-    ensures { result.now ≡ past_blanks text.now }
-{
-    &text[blanks_len(text)..]
 }
 
 /// The bare word at the front.
@@ -128,7 +109,7 @@ fn text_of<'a>(word: Word<'a>) -> &'a [u8]
 fn told<'a>(word: Word<'a>, after: &[u8]) -> Token<'a>
     ensures { piece_of result ≡ told (value_of word.entry) after.now }
 {
-    if starts_equals(past_blanks(after)) {
+    if starts_equals(after_blanks(after)) {
         return Token::Key(text_of(word));
     }
     Token::Told(word)

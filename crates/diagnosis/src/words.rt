@@ -6,9 +6,8 @@ ghost use Rattle.text_rows.specs.Addresses.{IsNamed};
 ghost use Rattle.diagnosis.specs.Lines.{AreLinesOf, AreNamed, first_word, is_in_word, label_of, name_of};
 ghost use Rattle.diagnosis.specs.Lines.{numbered, numbered_at, words_from};
 
-use crate::program::Program;
 use asm_text::first_line;
-use assembler::PlacedLine;
+use assembler::{PlacedLine, Program};
 use loader::{Image, Labels};
 use std::alloc::{AllocError, Global};
 use std::collections::BTreeMap;

@@ -6,6 +6,7 @@ use Rattle.std.proofs.Math.ListN.{drop_of_length-le}
 use Rattle.std.proofs.lemmas.List.{drop_more}
 use Rattle.std.proofs.lemmas.List.Concat.{flat_map-cons}
 use Rattle.std.proofs.lemmas.List.Sums.{sum_by-cons}
+use Rattle.assembler.proofs.PutLaws.{joined, three}
 use Rattle.walk_counts.specs.Counts.{capped}
 use Rattle.walk_counts.proofs.SumLemmas.{capped_more}
 use Rattle.dot_text.specs.Stretches.{between}
@@ -23,13 +24,6 @@ between_none n end le =
     ap (range_with_len n) is
 
 -- ## Texts
-
--- two pieces, one after the other
-pub joined : (old mid new a b : List ℕ) → mid ≡ old ++ a → new ≡ mid ++ b → new ≡ old ++ (a ++ b)
-joined old mid new a b one two = two ∙ ap (λ xs. xs ++ b) one ∙ append_assoc old a b
-
-pub three : {m1 m2 new : List ℕ} (old p1 p2 p3 : List ℕ) → m1 ≡ old ++ p1 → m2 ≡ m1 ++ p2 → new ≡ m2 ++ p3 → new ≡ old ++ (p1 ++ (p2 ++ p3))
-three {m1} {m2} {new} old p1 p2 p3 e1 e2 e3 = joined old m1 new p1 (p2 ++ p3) e1 (joined m1 m2 new p2 p3 e2 e3)
 
 pub four : {m1 m2 m3 new : List ℕ} (old p1 p2 p3 p4 : List ℕ) → m1 ≡ old ++ p1 → m2 ≡ m1 ++ p2 → m3 ≡ m2 ++ p3 → new ≡ m3 ++ p4 → new ≡ old ++ (p1 ++ (p2 ++ (p3 ++ p4)))
 four {m1} {m2} {m3} {new} old p1 p2 p3 p4 e1 e2 e3 e4 = joined old m1 new p1 (p2 ++ (p3 ++ p4)) e1 (three m1 p2 p3 p4 e2 e3 e4)

@@ -7,13 +7,13 @@ ghost use Rattle.drafting.specs.Named.{AreNamed, lines_of};
 ghost use Rattle.drafting.specs.Reach.{AreReached};
 
 use crate::accesses::find_accesses;
-use crate::assembled::Program;
 use crate::ends::{End, find_ends};
 use crate::loops::{Loops, find_loops};
 use crate::reach::{Reached, reach};
 use crate::source_lines::{SourceLines, lines_by_address};
 use crate::statement_text::Sheet;
 use crate::writers::{FoundTarget, find_targets};
+use assembler::Program;
 use bus_ticks::Class;
 use loader::Image;
 use std::alloc::{AllocError, Global};

@@ -2,7 +2,6 @@
 #![tactic(auto)]
 
 mod accesses;
-mod assembled;
 mod constants;
 mod counted;
 mod drafts;
@@ -19,5 +18,4 @@ mod ways;
 mod words;
 mod writers;
 
-pub use assembled::Program;
 pub use drafts::draft;

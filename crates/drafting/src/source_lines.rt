@@ -2,9 +2,8 @@ ghost use Rattle.std.specs.Prelude.{◌≡◌, ◌≤◌, ◌⊎◌, [], length,
 ghost use Rattle.text_rows.specs.Addresses.{IsNamed};
 ghost use Rattle.drafting.specs.Named.{AreNamed, lines_of};
 
-use crate::assembled::Program;
 use asm_text::first_line;
-use assembler::PlacedLine;
+use assembler::{PlacedLine, Program};
 use std::alloc::{AllocError, Global};
 use std::collections::BTreeMap;
 

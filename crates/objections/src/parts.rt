@@ -5,21 +5,16 @@ ghost use Rattle.asm_text.specs.Hex.{hex};
 ghost use Rattle.certificate.specs.Words.{label_words, list_words};
 ghost use Rattle.objections.specs.Texts.{edge_lines, place_line, place_name};
 
-use asm_text::hex_digit;
+use asm_text::hex_text;
 use flow_graph::{Calls, Edge, Label, Place};
 use std::alloc::AllocError;
 use text_rows::{put, put_decimal};
 
 // Adds a number in upper-case hexadecimal.
-#[tactic(auto, using(asm_text::proofs::HexLaws::hex_one))]
 fn put_hex(out: &mut Vec<u8>, number: u32) -> Result<(), AllocError>
     ensures { OnOk result (out.new.items ≡ out.old.items ++ hex number) }
 {
-    if number < 16 {
-        return put(out, &[hex_digit(number)]);
-    }
-    put_hex(out, number / 16)?;
-    put(out, &[hex_digit(number % 16)])
+    put(out, hex_text(u64::from(number)).as_slice())
 }
 
 // Adds addresses of calls, as a certificate has them.

@@ -1,7 +1,7 @@
 use crate::trial::Answer;
 use arcwcet::ReportFault;
-use assembler::{Assembly, assemble, placed_lines};
-use drafting::{Program, draft};
+use assembler::{Assembly, Program, assemble, placed_lines};
+use drafting::draft;
 use std::alloc::Global;
 
 // A byte of a device, a loop that is counted, and a jump through a table that is none.

@@ -1,6 +1,6 @@
 use Rattle.std.proofs.Common.{◌∙◌}
 use Rattle.std.specs.Str.{bytes_eq}
-use Rattle.diagnosis.proofs.RefusedLemmas.{list_any-map}
+use Rattle.toml_reading.proofs.KeyLemmas.{list_any-map}
 use Rattle.diagnosis.proofs.values.is_among.Goals as goal
 
 pub returns : goal.returns

@@ -1,8 +1,9 @@
 use Rattle.std.proofs.Common.{◌∙◌, ◌++◌, ℕ, List, ap, length, replicate}
 use Rattle.numbered_walks.specs.declared.span.Span.{Span}
 use Rattle.std.proofs.lemmas.Result.{on_ok_weaker}
+use Rattle.assembler.proofs.PutLaws.{joined}
 use Rattle.dot_text.specs.Stretches.{calls_in, loops_of}
-use Rattle.dot_text.proofs.DrawLaws.{as_many, joined}
+use Rattle.dot_text.proofs.DrawLaws.{as_many}
 use Rattle.dot_text.proofs.clusters.put_closed.Goals as goal
 
 pub returns : goal.returns

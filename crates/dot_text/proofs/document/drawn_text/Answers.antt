@@ -1,7 +1,7 @@
 use Rattle.std.proofs.Common.{◌∙◌, ◌++◌, ap, codes, flat_map, length}
 use Rattle.std.specs.List.{range_with_len}
+use Rattle.assembler.proofs.PutLaws.{three}
 use Rattle.dot_text.specs.Text.{ended, name}
-use Rattle.dot_text.proofs.DrawLaws.{three}
 use Rattle.dot_text.proofs.document.drawn_text.Goals as goal
 
 pub returns : goal.returns

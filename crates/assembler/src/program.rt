@@ -1,4 +1,4 @@
-use assembler::PlacedLine;
+use crate::placed_line::PlacedLine;
 use loader::{Image, Labels};
 
 /// A source with what the assembler made of it.
